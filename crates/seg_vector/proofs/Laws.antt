@@ -1,4 +1,4 @@
 -- The laws of vectors for other crates.
 
 -- a vector of texts stands where a call was refused and gave back what it had taken
-pub use Rattle.seg_vector.proofs.TextsRestored.{texts-restored}
+pub use Rattle.seg_vector.proofs.TextsLaid.{texts-restored}

@@ -1,28 +1,34 @@
--- An array and texts that are laid out beside all that a heap holds, one after another.
-use Rattle.std.proofs.Common.{◌≡◌, ◌≢◌, refl, sym, ap, subst, ◌∙◌, inl, ℕ, zero, suc, ◌+◌, ◌*◌, ◌<◌, ◌≤◌, Option, Some, None, List, [], ◌∷◌, ◌++◌, append-nil, append_assoc, arith, length, length-append, drop, map, slice_index_or, Bor, ◌%◌}
+-- Other texts for a vector, laid out beside those that it has.
+use Rattle.std.proofs.Common.{◌≡◌, ◌≢◌, refl, sym, ap, subst, ◌∙◌, inl, ℕ, zero, suc, ◌+◌, ◌*◌, ◌<◌, ◌≤◌, Option, Some, None, List, [], ◌∷◌, ◌++◌, append-nil, append_assoc, arith, length, length-append, drop, map, slice_index_or, Bor, ◌%◌, inr, if◌then◌else◌, false, ◌==◌, Ok}
 use Rattle.std.specs.Prelude.{IfSome, IsTrue, option_map, option_to_list}
 use Rattle.std.specs.List.{AllByRecursion}
 use Rattle.std.proofs.lemmas.Grind.{flat_map-append}
+use Rattle.std.proofs.lemmas.Bool.{ne_eqb}
+use Rattle.std.proofs.lemmas.List.{drop_all}
 use Rattle.raw_region.specs.Memory.{Memory, Cut, bytes_of, word_at}
 use Rattle.raw_region.specs.Format.{current}
 use Rattle.offset_link.specs.Link.{link_at}
-use Rattle.best_fit.specs.Exchange.{exchanged, inserted, without_all}
+use Rattle.best_fit.specs.Exchange.{exchanged, inserted, without_all, IsRestored, SameBlockBut, IsExchanged}
 use Rattle.best_fit.specs.Extents.{Extent, LiveSet, handle}
 use Rattle.best_fit.specs.Fit as fit
-use Rattle.best_fit.specs.Fit.{others, place, resized}
-use Rattle.best_fit.specs.Heap.{IsChanged, IsHeap, SameBlock, extent_at, has_room, live_of}
-use Rattle.best_fit.proofs.Laws.{Differs, IsFound, IsFresh, IsNone, IsRoomy, all-found-in, all-in-use, changed-live, exchange-next, exchange-order, exchange-same, exchanged-live, found-room, kept, laid-heap, last-first, live-rises, others-past, rising-insert, rising-others, roomy, spread-refl}
-use Rattle.seg_vector.specs.TextLists.{AreLaid, AreLaidUpTo}
-use Rattle.seg_vector.specs.TextParts.{AreSameElements, IsServed, IsSwapped, IsTextNotPlaced, IsTextPlaced}
-use Rattle.seg_vector.specs.TextsCalls.{AreOthers, placed_text, placed_texts, text_blocks, with_text}
+use Rattle.best_fit.specs.Fit.{others, resized, place}
+use Rattle.best_fit.specs.Heap.{IsChanged, IsHeap, SameBlock, extent_at, has_room, live_of, IsAllocated, IsRefused, IsReleased, is_live_in}
+use Rattle.best_fit.proofs.Laws.{Differs, IsFound, IsNone, all-found-in, all-in-use, changed-live, exchange-next, exchange-order, exchange-same, exchanged-live, found-room, kept, laid-heap, last-first, live-rises, others-past, rising-insert, rising-others, roomy, spread-refl, exchange-released, exchange-taken, keeps-refl, place-serves, too_long, kept-beside}
+use Rattle.block_tags.specs.declared.tile.Role.TheVariants.{Storage}
+use Rattle.best_fit.specs.Table.{Table, no_table}
+use Rattle.seg_vector.specs.TextLists.{AreLaid, AreLaidUpTo, AreLaidOut, AreNotLaidOut}
+use Rattle.seg_vector.specs.TextParts.{AreSameElements, IsServed, IsSwapped, IsTextNotPlaced, IsTextPlaced, AreHeldElements}
+use Rattle.seg_vector.specs.TextsCalls.{AreOthers, placed_text, placed_texts, text_blocks, with_text, all_texts, new_array, AreTextsAssigned, AssignsTexts, IsTexts, IsTextsNow, ReleasesTexts}
 use Rattle.seg_vector.specs.Vector.{AreTextLinks, IsOwnedText, OwnedText}
-use Rattle.seg_vector.proofs.ArrayLinks.{element-in, links-join, links-moved}
-use Rattle.seg_vector.proofs.Carrying.{element-beside, element-trans}
-use Rattle.seg_vector.proofs.TextGrowth.{all-kept}
-use Rattle.seg_vector.proofs.TextPlaces.{come-even}
-use Rattle.seg_vector.proofs.TextPuts.{same-loose}
-use Rattle.seg_vector.proofs.TextRuns.{block-written}
-use Rattle.seg_vector.proofs.TextsChanged.{all-join, all-split}
+use Rattle.seg_vector.proofs.TextBlocks.{element-in, links-join, links-moved, element-beside, element-trans, block-written, all-join, all-split, found-live, even-block, AreHeadWords, own_blocks, texts-own, run-begin, run-swapped, IsHead, len-written, own-head, texts-between}
+use Rattle.seg_vector.proofs.TextGrowth.{all-kept, same-loose, run-none, new-table}
+use Rattle.seg_vector.proofs.TextCalls.{come-even, texts-still, run-others}
+use Rattle.seg_vector.proofs.Storage.{serves-full, table}
+use Rattle.seg_vector.specs.declared.places.Place.{Place}
+use Rattle.seg_vector.specs.Standing.{place_at}
+use Rattle.seg_vector.proofs.Fewer.{changed-both, head-exchanged}
+
+-- ---- an array and texts that are laid out beside all that a heap holds, one after another
 
 -- ---- blocks that came
 
@@ -31,18 +37,21 @@ pub record AreCome (b : Cut) (come : List Extent) : Type 0 where
   pub found : AllByRecursion (IsFound (live_of b.bytes).extents) come
   pub others : AreOthers come
 
-pub are-come : (a b : Cut) (gone come : List Extent) → IsSwapped a b gone come → AreCome b come
-are-come a b gone come x =
-    let l : LiveSet = live_of a.bytes in
-    let rest : List Extent = without_all gone l.extents in
-    let is : (live_of b.bytes).extents ≡ inserted come rest = ap (λ (k : LiveSet). k.extents) (exchanged-live a b 0 0 gone come current x) in
+pub are-come : {a b : Cut} {gone come : List Extent} → IsSwapped a b gone come → AreCome b come
+are-come {a} {b} {gone} {come} x =
+    let l = live_of a.bytes in
+    let rest = without_all gone l.extents in
+    let is : (live_of b.bytes).extents ≡ inserted come rest = ap (λ (k : LiveSet). k.extents)
+    (exchanged-live a b 0 0 gone come _ x) in
     record {
-      heap = laid-heap b.bytes (exchanged l gone come) x.live;
-      found = subst (λ (zs : List Extent). AllByRecursion (IsFound zs) come) (sym is) (all-found-in come rest (live-rises (exchanged l gone come) x.live.proper));
+      heap = laid-heap _ _ x.live;
+      found = subst (λ (zs : List Extent). AllByRecursion (IsFound zs) come) (sym is)
+          (all-found-in come rest (live-rises (exchanged l gone come) x.live.proper));
       others = rising-others come rest (live-rises (exchanged l gone come) x.live.proper);
     }
 
-none-of-one : (y : Extent) (xs : List Extent) → AllByRecursion (λ (w : Extent). handle y ≢ handle w) xs → AllByRecursion (λ (w : Extent). IsNone (handle w) (y ∷ [])) xs
+none-of-one : (y : Extent) (xs : List Extent) → AllByRecursion (λ (w : Extent). handle y ≢ handle w) xs
+    → AllByRecursion (λ (w : Extent). IsNone (handle w) (y ∷ [])) xs
 none-of-one y [] d = tt
 none-of-one y (x ∷ xs) d = (((λ f. d.0 (sym f)), tt), none-of-one y xs d.1)
 
@@ -51,34 +60,42 @@ none-of-none [] = tt
 none-of-none (x ∷ xs) = (tt, none-of-none xs)
 
 -- texts stay where their blocks do
-pub owned-same : (m m' : Memory) (qs : List OwnedText) → AllByRecursion (SameBlock m m') (text_blocks qs) → AllByRecursion IsServed qs → AllByRecursion (IsOwnedText m) qs → AllByRecursion (IsOwnedText m') qs
+pub owned-same : (m m' : Memory) (qs : List OwnedText) → AllByRecursion (SameBlock m m') (text_blocks qs)
+    → AllByRecursion IsServed qs → AllByRecursion (IsOwnedText m) qs → AllByRecursion (IsOwnedText m') qs
 owned-same m m' [] k s w = tt
 owned-same m m' (q ∷ qs) k s w =
     let both = all-split (SameBlock m m') (option_to_list q.extent) (text_blocks qs) k in
     (same-loose m m' q.bytes q.extent both.0 s.0 w.0, owned-same m m' qs both.1 s.1 w.1)
 
-pub blocks-more : (qs : List OwnedText) (q : OwnedText) → text_blocks (qs ++ (q ∷ [])) ≡ text_blocks qs ++ option_to_list q.extent
-blocks-more qs q = flat_map-append (λ (w : OwnedText). option_to_list w.extent) qs (q ∷ []) ∙ ap (λ (xs : List Extent). text_blocks qs ++ xs) (append-nil (option_to_list q.extent))
+pub blocks-more : (qs : List OwnedText) (q : OwnedText)
+    → text_blocks (qs ++ (q ∷ [])) ≡ text_blocks qs ++ option_to_list q.extent
+blocks-more qs q = flat_map-append (λ (w : OwnedText). option_to_list w.extent) qs (q ∷ [])
+    ∙ ap (λ (xs : List Extent). text_blocks qs ++ xs) (append-nil (option_to_list q.extent))
 
 -- ---- the live set
 
 others-none : (y : Extent) (zs : List Extent) → Differs y zs → others (handle y) zs ≡ zs
 others-none y [] d = refl
-others-none y (z ∷ zs) d = others-past (handle y) z zs (λ e. d.0 (omega (arith, e))) ∙ ap (λ (ws : List Extent). z ∷ ws) (others-none y zs d.1)
+others-none y (z ∷ zs) d = others-past (handle y) z zs (λ e. d.0 (omega (arith, e)))
+    ∙ ap (λ (ws : List Extent). z ∷ ws) (others-none y zs d.1)
 
 -- a block that is new is put in among the others
-pub came-alone : (a b : Cut) (x : Extent) → IsSwapped a b [] (x ∷ []) → live_of b.bytes ≡ resized (live_of a.bytes) x
-came-alone a b x s =
-    let l : LiveSet = live_of a.bytes in
-    let f : IsFresh 128 x l.extents = rising-insert 128 x l.extents (live-rises (exchanged l [] (x ∷ [])) s.live.proper) in
-    exchanged-live a b 0 0 [] (x ∷ []) current s ∙ ap (λ (zs : List Extent). let k : LiveSet = record l { extents = fit.insert x zs } in k) (sym (others-none x l.extents f.differs))
+pub came-alone : {a b : Cut} {x : Extent} → IsSwapped a b [] (x ∷ []) → live_of b.bytes ≡ resized (live_of a.bytes) x
+came-alone {a} {b} {x} s =
+    let l = live_of a.bytes in
+    let f = rising-insert 128 x l.extents (live-rises (exchanged l [] (x ∷ [])) s.live.proper) in
+    exchanged-live a b 0 0 [] _ _ s
+    ∙ ap (λ (zs : List Extent). let k : LiveSet = record l { extents = fit.insert x zs } in k)
+    (sym (others-none x l.extents f.differs))
 
-with-text_in : (a b : Cut) (bytes : List ℕ) (o : Option Extent) → IsSwapped a b [] (option_to_list o) → live_of b.bytes ≡ with_text (live_of a.bytes) (record { bytes = bytes; extent = o })
-with-text_in a b bytes None s = exchanged-live a b 0 0 [] [] current s
-with-text_in a b bytes (Some x) s = came-alone a b x s
+with-text_in : {a b : Cut} (bytes : List ℕ) (o : Option Extent) → IsSwapped a b [] (option_to_list o)
+    → live_of b.bytes ≡ with_text (live_of a.bytes) (record { bytes = bytes; extent = o })
+with-text_in {a} {b} bytes None s = exchanged-live a b 0 0 [] [] _ s
+with-text_in bytes (Some x) s = came-alone s
 
-with-text-live : (a b : Cut) (q : OwnedText) → IsSwapped a b [] (option_to_list q.extent) → live_of b.bytes ≡ with_text (live_of a.bytes) q
-with-text-live a b q s = with-text_in a b q.bytes q.extent s
+with-text-live : {a b : Cut} (q : OwnedText) → IsSwapped a b [] (option_to_list q.extent)
+    → live_of b.bytes ≡ with_text (live_of a.bytes) q
+with-text-live q s = with-text_in q.bytes q.extent s
 
 -- ---- what is asked for
 
@@ -87,137 +104,540 @@ none-before None = refl
 none-before (Some qs) = refl
 
 one-before : (ps : List OwnedText) (q : OwnedText) (o : Option (List OwnedText))
-    → option_map (λ (qs : List OwnedText). ps ++ qs) (option_map (λ (qs : List OwnedText). q ∷ qs) o) ≡ option_map (λ (qs : List OwnedText). (ps ++ (q ∷ [])) ++ qs) o
+    → option_map (λ (qs : List OwnedText). ps ++ qs) (option_map (λ (qs : List OwnedText). q ∷ qs) o) ≡ option_map
+    (λ (qs : List OwnedText). (ps ++ (q ∷ [])) ++ qs) o
 one-before ps q None = refl
 one-before ps q (Some qs) = ap (λ (xs : List OwnedText). Some xs) (sym (append_assoc ps (q ∷ []) qs))
 
 abbrev placed_after : LiveSet → List (List ℕ) → Option OwnedText → Option (List OwnedText)
-placed_after l more o = elim o [ None ↦ None | Some q ↦ option_map (λ (qs : List OwnedText). q ∷ qs) (placed_texts (with_text l q) more) ]
+placed_after l more o =
+    elim o [ None ↦ None | Some q ↦ option_map (λ (qs : List OwnedText). q ∷ qs) (placed_texts (with_text l q) more) ]
 
-placed-one : (l k : LiveSet) (bytes : List ℕ) (more : List (List ℕ)) (q : OwnedText) → placed_text l bytes ≡ Some q → k ≡ with_text l q
+placed-one : (l k : LiveSet) (bytes : List ℕ) (more : List (List ℕ)) {q : OwnedText} → placed_text l bytes ≡ Some q
+    → k ≡ with_text l q
     → placed_texts l (bytes ∷ more) ≡ option_map (λ (qs : List OwnedText). q ∷ qs) (placed_texts k more)
-placed-one l k bytes more q e f = ap (placed_after l more) e ∙ ap (λ s. option_map (λ (qs : List OwnedText). q ∷ qs) (placed_texts s more)) (sym f)
+placed-one l k bytes more {q} e f = ap (placed_after l more) e
+    ∙ ap (λ s. option_map (λ (qs : List OwnedText). q ∷ qs) (placed_texts s more)) (sym f)
 
-placed-stops : (l : LiveSet) (bytes : List ℕ) (more : List (List ℕ)) → placed_text l bytes ≡ None → placed_texts l (bytes ∷ more) ≡ None
+placed-stops : (l : LiveSet) (bytes : List ℕ) (more : List (List ℕ)) → placed_text l bytes ≡ None
+    → placed_texts l (bytes ∷ more) ≡ None
 placed-stops l bytes more e = ap (placed_after l more) e
 
 -- ---- one after another
 
-pub laid-begin : (c : Cut) (y : Extent) (more : List (List ℕ)) → IsHeap current c.bytes → extent_at (live_of c.bytes) (handle y) ≡ Some y → AreLaid c c y 0 more
-laid-begin c y more heap found =
-    let l : LiveSet = live_of c.bytes in
+pub laid-begin : (c : Cut) {y : Extent} (more : List (List ℕ)) → IsHeap current c.bytes
+    → extent_at (live_of c.bytes) (handle y) ≡ Some y → AreLaid c c y 0 more
+laid-begin c {y} more heap found =
+    let l = live_of c.bytes in
     record {
       texts = [];
       long = refl;
       placed = none-before (placed_texts l more);
-      change = exchange-same current c 0 0 (y ∷ []) (without_all (y ∷ []) l.extents) heap (all-in-use (y ∷ []) l.extents (live-rises l heap.proper) (tt, tt) (found, tt)).is;
+      change = exchange-same _ c 0 0 (y ∷ []) (without_all (y ∷ []) l.extents) heap
+          (all-in-use (y ∷ []) l.extents (live-rises l heap.proper) (tt, tt) (found, tt)).is;
       links = tt;
       owned = tt;
       served = tt;
     }
 
 -- a text was placed: all blocks that came since the first
-beside-text : (old now mid : Cut) (y : Extent) (tb oq : List Extent) → IsSwapped old now (y ∷ []) (y ∷ tb) → IsSwapped now mid [] oq → IsSwapped old mid (y ∷ []) (y ∷ (tb ++ oq))
-beside-text old now mid y tb oq p q =
-    exchange-order current old mid 0 0 (y ∷ []) (oq ++ (y ∷ tb)) (y ∷ (tb ++ oq)) (last-first oq (y ∷ tb))
-    (exchange-next current old now mid 0 0 (y ∷ []) (y ∷ tb) [] (y ∷ tb) oq (spread-refl (y ∷ tb)) p q)
+beside-text : {old now mid : Cut} {y : Extent} {tb oq : List Extent} → IsSwapped old now (y ∷ []) (y ∷ tb)
+    → IsSwapped now mid [] oq → IsSwapped old mid (y ∷ []) (y ∷ (tb ++ oq))
+beside-text {old} {now} {mid} {y} {tb} {oq} p q =
+    exchange-order _ old mid 0 0 _ _ _ (last-first oq (y ∷ tb))
+    (exchange-next _ old now mid 0 0 _ _ [] (y ∷ tb) oq (spread-refl (y ∷ tb)) p q)
 
-laid-links : (now mid new : Cut) (y : Extent) (i n : ℕ) (ps : List OwnedText) (q : OwnedText) → length ps ≡ i → i < n → 16 * n + 16 ≤ y.len → SameBlock (bytes_of now.bytes) (bytes_of mid.bytes) y
-    → IsChanged current mid new (handle y + 16 * i) 16 → link_at (bytes_of new.bytes) (handle y + 16 * i) ≡ option_map handle q.extent → word_at (bytes_of new.bytes) (handle y + 16 * i + 8) ≡ length q.bytes
+laid-links : (now : Cut) {mid new : Cut} {y : Extent} (i n : ℕ) (ps : List OwnedText) (q : OwnedText) → length ps ≡ i
+    → i < n → 16 * n + 16 ≤ y.len → SameBlock (bytes_of now.bytes) (bytes_of mid.bytes) y
+    → IsChanged current mid new (handle y + 16 * i) 16 → link_at (bytes_of new.bytes) (handle y + 16 * i) ≡ option_map
+    handle q.extent → word_at (bytes_of new.bytes) (handle y + 16 * i + 8) ≡ length q.bytes
     → AreTextLinks (bytes_of now.bytes) (handle y) ps → AreTextLinks (bytes_of new.bytes) (handle y) (ps ++ (q ∷ []))
-laid-links now mid new y i n ps q long below big stays c link len l =
+laid-links now {new} {y} i n ps q long below big stays c link len l =
     let same : AreSameElements (bytes_of now.bytes) (bytes_of new.bytes) (handle y) (handle y) (length ps) = λ j f.
-    element-trans (bytes_of now.bytes) (bytes_of mid.bytes) (bytes_of new.bytes) (handle y + 16 * j) (handle y + 16 * j) (handle y + 16 * j)
-    (element-in (bytes_of now.bytes) (bytes_of mid.bytes) y (handle y + 16 * j) stays (omega arith) (omega (arith, f, long, below, big)))
-    (element-beside (bytes_of mid.bytes) (bytes_of new.bytes) (handle y + 16 * i) 16 (handle y + 16 * j) c.rest (inl (omega (arith, f, long)))) in
-    links-join (bytes_of new.bytes) (handle y) ps (q ∷ []) (links-moved (bytes_of now.bytes) (bytes_of new.bytes) (handle y) (handle y) ps l same)
+    element-trans
+    (element-in (handle y + 16 * j) stays (omega arith) (omega (arith, f, long, below, big)))
+    (element-beside (handle y + 16 * j) c.rest (inl (omega (arith, f, long)))) in
+    links-join (bytes_of new.bytes) (handle y) ps (q ∷ [])
+    (links-moved (bytes_of now.bytes) (bytes_of new.bytes) (handle y) (handle y) ps l same)
     (subst (λ k. AreTextLinks (bytes_of new.bytes) (handle y + 16 * k) (q ∷ [])) (sym long) (link, len, tt))
 
-pub laid-next : (old now mid new : Cut) (y : Extent) (i n : ℕ) (bytes : List ℕ) (more : List (List ℕ)) (block : Option ℕ) → AreLaid old now y i more → drop i more ≡ bytes ∷ drop (i + 1) more → i < n → 16 * n + 16 ≤ y.len
-    → IsTextPlaced now mid bytes block → IsChanged current mid new (handle y + 16 * i) 16 → link_at (bytes_of new.bytes) (handle y + 16 * i) ≡ block → word_at (bytes_of new.bytes) (handle y + 16 * i + 8) ≡ length bytes
+pub laid-next : {old now mid new : Cut} {y : Extent} {i : ℕ} (n : ℕ) {bytes : List ℕ} {more : List (List ℕ)}
+    {block : Option ℕ} → AreLaid old now y i more → drop i more ≡ bytes ∷ drop (i + 1) more → i < n
+    → 16 * n + 16 ≤ y.len
+    → IsTextPlaced now mid bytes block → IsChanged current mid new (handle y + 16 * i) 16
+    → link_at (bytes_of new.bytes) (handle y + 16 * i) ≡ block → word_at (bytes_of new.bytes) (handle y + 16 * i + 8)
+    ≡ length bytes
     → AreLaid old new y (i + 1) more
-laid-next old now mid new y i n bytes more block a split below big pl c link len =
-    let q : OwnedText = pl.text in
-    let oq : List Extent = option_to_list q.extent in
-    let tb : List Extent = text_blocks a.texts in
-    let rest : List (List ℕ) = drop (i + 1) more in
-    let here : AreCome now (y ∷ tb) = are-come old now (y ∷ []) (y ∷ tb) a.change in
-    let x1 : IsSwapped old mid (y ∷ []) (y ∷ (tb ++ oq)) = beside-text old now mid y tb oq a.change pl.change in
-    let there : AreCome mid (y ∷ (tb ++ oq)) = are-come old mid (y ∷ []) (y ∷ (tb ++ oq)) x1 in
-    let x2 : IsSwapped mid new (y ∷ []) (y ∷ []) = block-written mid new y (handle y + 16 * i) 16 (16 * n) there.heap there.found.0 c (omega arith) (omega (arith, below)) big in
-    let x3 : IsSwapped old new (y ∷ []) (y ∷ (tb ++ oq)) = exchange-next current old mid new 0 0 (y ∷ []) (y ∷ (tb ++ oq)) (y ∷ []) (tb ++ oq) (y ∷ []) (spread-refl (y ∷ (tb ++ oq))) x1 x2 in
-    let blocks : text_blocks (a.texts ++ (q ∷ [])) ≡ tb ++ oq = blocks-more a.texts q in
-    let served : AllByRecursion IsServed (a.texts ++ (q ∷ [])) = all-join IsServed a.texts (q ∷ []) a.served (pl.served, tt) in
-    let first : AllByRecursion (IsOwnedText (bytes_of mid.bytes)) a.texts =
-    owned-same (bytes_of now.bytes) (bytes_of mid.bytes) a.texts (all-kept now mid [] oq tb here.heap pl.change here.found.1 (none-of-none tb)) a.served a.owned in
-    let stay : AllByRecursion (SameBlock (bytes_of mid.bytes) (bytes_of new.bytes)) (text_blocks (a.texts ++ (q ∷ []))) =
-    subst (AllByRecursion (SameBlock (bytes_of mid.bytes) (bytes_of new.bytes))) (sym blocks) (all-kept mid new (y ∷ []) (y ∷ []) (tb ++ oq) there.heap x2 there.found.1 (none-of-one y (tb ++ oq) there.others.0)) in
-    let live : live_of new.bytes ≡ with_text (live_of now.bytes) q = changed-live current mid new (handle y + 16 * i) 16 c ∙ with-text-live now mid q pl.change in
+laid-next {old} {now} {mid} {new} {y} {i} n {bytes} {more} a split below big pl c link len =
+    let q = pl.text in
+    let oq = option_to_list q.extent in
+    let tb = text_blocks a.texts in
+    let rest = drop (i + 1) more in
+    let here = are-come a.change in
+    let x1 = beside-text a.change pl.change in
+    let there = are-come x1 in
+    let x2 = block-written (16 * n) there.heap there.found.0 c (omega arith) (omega (arith, below)) big in
+    let x3 = exchange-next _ old mid new 0 0 _ _ _ (tb ++ oq) _ (spread-refl (y ∷ (tb ++ oq))) x1 x2 in
+    let blocks = blocks-more a.texts q in
+    let served = all-join IsServed a.texts (q ∷ []) a.served (pl.served, tt) in
+    let first = owned-same (bytes_of now.bytes) (bytes_of mid.bytes) a.texts
+    (all-kept tb here.heap pl.change here.found.1 (none-of-none tb)) a.served a.owned in
+    let stay : AllByRecursion (SameBlock (bytes_of mid.bytes) (bytes_of new.bytes))
+    (text_blocks (a.texts ++ (q ∷ []))) =
+    subst (AllByRecursion (SameBlock (bytes_of mid.bytes) (bytes_of new.bytes))) (sym blocks)
+    (all-kept (tb ++ oq) there.heap x2 there.found.1 (none-of-one y (tb ++ oq) there.others.0)) in
+    let live : live_of new.bytes ≡ with_text (live_of now.bytes) q = changed-live _ mid new _ 16 c ∙ with-text-live q
+    pl.change in
     record {
       texts = a.texts ++ (q ∷ []);
       long = omega (arith, length-append a.texts (q ∷ []), a.long);
       placed = a.placed
           ∙ ap (λ xs. option_map (λ (qs : List OwnedText). a.texts ++ qs) (placed_texts (live_of now.bytes) xs)) split
-          ∙ ap (option_map (λ (qs : List OwnedText). a.texts ++ qs)) (placed-one (live_of now.bytes) (live_of new.bytes) bytes rest q pl.placed live)
+          ∙ ap (option_map (λ (qs : List OwnedText). a.texts ++ qs))
+          (placed-one (live_of now.bytes) (live_of new.bytes) bytes rest pl.placed live)
           ∙ one-before a.texts q (placed_texts (live_of new.bytes) rest);
       change = subst (λ (xs : List Extent). IsSwapped old new (y ∷ []) (y ∷ xs)) (sym blocks) x3;
-      links = laid-links now mid new y i n a.texts q a.long below big (kept now mid (handle y) y [] oq current here.heap pl.change here.found.0 tt) c (link ∙ pl.at) (len ∙ ap length (sym pl.same)) a.links;
-      owned = owned-same (bytes_of mid.bytes) (bytes_of new.bytes) (a.texts ++ (q ∷ [])) stay served (all-join (IsOwnedText (bytes_of mid.bytes)) a.texts (q ∷ []) first (pl.owned, tt));
+      links = laid-links now i n a.texts q a.long below big
+          (kept now mid (handle y) y [] oq _ here.heap pl.change here.found.0 tt) c (link ∙ pl.at)
+          (len ∙ ap length (sym pl.same)) a.links;
+      owned = owned-same (bytes_of mid.bytes) (bytes_of new.bytes) (a.texts ++ (q ∷ [])) stay served
+          (all-join (IsOwnedText (bytes_of mid.bytes)) a.texts (q ∷ []) first (pl.owned, tt));
       served = served;
     }
 
 -- ---- it ends
 
-pub laid-stops : (old now new : Cut) (y : Extent) (i : ℕ) (bytes : List ℕ) (more : List (List ℕ)) → AreLaid old now y i more → drop i more ≡ bytes ∷ drop (i + 1) more → i ≤ length more → IsTextNotPlaced now new bytes
+pub laid-stops : {old now new : Cut} {y : Extent} {i : ℕ} {bytes : List ℕ} {more : List (List ℕ)}
+    → AreLaid old now y i more → drop i more ≡ bytes ∷ drop (i + 1) more → i ≤ length more
+    → IsTextNotPlaced now new bytes
     → AreLaidUpTo old new y i more
-laid-stops old now new y i bytes more a split within r =
+laid-stops {old} {now} {y} {i} {bytes} {more} a split within r =
     subst (λ (c : Cut). AreLaidUpTo old c y i more) (sym r.same) (record {
       laid = a;
       within = within;
-      stopped = λ f. ap (placed_texts (live_of now.bytes)) split ∙ placed-stops (live_of now.bytes) bytes (drop (i + 1) more) r.none;
+      stopped = λ f. ap (placed_texts (live_of now.bytes)) split ∙ placed-stops (live_of now.bytes) bytes
+          (drop (i + 1) more) r.none;
     })
 
-pub laid-all : (old now : Cut) (y : Extent) (i n : ℕ) (more : List (List ℕ)) → AreLaid old now y i more → i ≡ n → n ≡ length more → AreLaidUpTo old now y n more
-laid-all old now y i n more a e f = record { laid = subst (λ k. AreLaid old now y k more) e a; within = omega (arith, f); stopped = λ g. absurd (omega (arith, f, g)) }
+pub laid-all : {old now : Cut} {y : Extent} {i : ℕ} (n : ℕ) {more : List (List ℕ)} → AreLaid old now y i more → i ≡ n
+    → n ≡ length more → AreLaidUpTo old now y n more
+laid-all {old} {now} {y} n {more} a e f =
+    record {
+      laid = subst (λ k. AreLaid old now y k more) e a;
+      within = omega (arith, f);
+      stopped = λ g. absurd
+          (omega (arith, f, g));
+    }
 
-pub drop-next : (xs : List (Bor (List ℕ))) (i : ℕ) (d : Bor (List ℕ)) → i < length xs → drop i (map (λ t. t.now) xs) ≡ (slice_index_or xs i d).now ∷ drop (i + 1) (map (λ t. t.now) xs)
-drop-next xs i d f = let count : suc i ≡ i + 1 = omega arith in at xs i d f ∙ ap (λ k. (slice_index_or xs i d).now ∷ drop k (map (λ t. t.now) xs)) count
+pub drop-next : (xs : List (Bor (List ℕ))) (i : ℕ) (d : Bor (List ℕ)) → i < length xs
+    → drop i (map (λ t. t.now) xs) ≡ (slice_index_or xs i d).now ∷ drop (i + 1) (map (λ t. t.now) xs)
+drop-next xs i d f = let count : suc i ≡ i + 1 = omega arith in at xs i d f
+    ∙ ap (λ k. (slice_index_or xs i d).now ∷ drop k (map (λ t. t.now) xs)) count
   where
-    at : (xs : List (Bor (List ℕ))) (i : ℕ) (d : Bor (List ℕ)) → i < length xs → drop i (map (λ t. t.now) xs) ≡ (slice_index_or xs i d).now ∷ drop (suc i) (map (λ t. t.now) xs)
+    at : (xs : List (Bor (List ℕ))) (i : ℕ) (d : Bor (List ℕ)) → i < length xs
+        → drop i (map (λ t. t.now) xs) ≡ (slice_index_or xs i d).now ∷ drop (suc i) (map (λ t. t.now) xs)
     at [] i d f = absurd (omega (arith, f))
     at (y ∷ ys) zero d f = refl
     at (y ∷ ys) (suc i) d f = at ys i d (omega (arith, f))
 
 -- ---- what the calls of a step need
 
-pub laid-heap-of : (old now : Cut) (y : Extent) (i : ℕ) (more : List (List ℕ)) → AreLaid old now y i more → IsHeap current now.bytes
-laid-heap-of old now y i more a = (are-come old now (y ∷ []) (y ∷ text_blocks a.texts) a.change).heap
+pub laid-heap-of : {old now : Cut} {y : Extent} {i : ℕ} {more : List (List ℕ)} → AreLaid old now y i more
+    → IsHeap current now.bytes
+laid-heap-of a = (are-come a.change).heap
 
-pub text-heap : (a b : Cut) (bytes : List ℕ) (block : Option ℕ) → IsTextPlaced a b bytes block → IsHeap current b.bytes
-text-heap a b bytes block pl = (are-come a b [] (option_to_list pl.text.extent) pl.change).heap
+pub text-heap : {a b : Cut} {bytes : List ℕ} {block : Option ℕ} → IsTextPlaced a b bytes block → IsHeap current b.bytes
+text-heap pl = (are-come pl.change).heap
 
-pub text-even : (a b : Cut) (bytes : List ℕ) (block : Option ℕ) → IsTextPlaced a b bytes block → IfSome block (λ target. target % 16 ≡ 0)
-text-even a b bytes block pl = subst (λ o. IfSome o (λ target. target % 16 ≡ 0)) (sym pl.at) (come-even a b pl.text.extent pl.change)
+pub text-even : {a b : Cut} {bytes : List ℕ} {block : Option ℕ} → IsTextPlaced a b bytes block
+    → IfSome block (λ target. target % 16 ≡ 0)
+text-even pl = subst (λ o. IfSome o (λ target. target % 16 ≡ 0)) (sym pl.at) (come-even pl.text.extent pl.change)
 
-pub laid-room : (old now mid : Cut) (y : Extent) (i n array : ℕ) (bytes : List ℕ) (more : List (List ℕ)) (block : Option ℕ) → handle y ≡ array → AreLaid old now y i more → IsTextPlaced now mid bytes block → i < n → 16 * n + 16 ≤ y.len
+pub laid-room : {old now mid : Cut} {y : Extent} {i : ℕ} (n array : ℕ) {bytes : List ℕ} {more : List (List ℕ)}
+    {block : Option ℕ} → handle y ≡ array → AreLaid old now y i more → IsTextPlaced now mid bytes block → i < n
+    → 16 * n + 16 ≤ y.len
     → IsTrue (has_room (live_of mid.bytes) array (16 * i + 16))
-laid-room old now mid y i n array bytes more block at a pl below big =
-    let come : List Extent = y ∷ (text_blocks a.texts ++ option_to_list pl.text.extent) in
-    let there : AreCome mid come = are-come old mid (y ∷ []) come (beside-text old now mid y (text_blocks a.texts) (option_to_list pl.text.extent) a.change pl.change) in
-    subst (λ k. IsTrue (has_room (live_of mid.bytes) k (16 * i + 16))) at (found-room (live_of mid.bytes) (handle y) (16 * i + 16) y there.found.0 (omega (arith, below, big)))
+laid-room {mid} {y} {i} n array at a pl below big =
+    let there = are-come (beside-text a.change pl.change) in
+    subst (λ k. IsTrue (has_room (live_of mid.bytes) k (16 * i + 16))) at
+    (found-room (live_of mid.bytes) (handle y) (16 * i + 16) y there.found.0 (omega (arith, below, big)))
 
-pub found-big : (c : Cut) (array n : ℕ) (y : Extent) → IsHeap current c.bytes → IsTrue (has_room (live_of c.bytes) array n) → extent_at (live_of c.bytes) array ≡ Some y → n + 16 ≤ y.len
-found-big c array n y heap room found =
-    let r : IsRoomy (live_of c.bytes) array n = roomy c array n heap room in
-    let same : r.extent ≡ y = same-extent r.extent y (sym r.found ∙ found) in
+pub found-big : (c : Cut) (array n : ℕ) {y : Extent} → IsHeap current c.bytes
+    → IsTrue (has_room (live_of c.bytes) array n) → extent_at (live_of c.bytes) array ≡ Some y → n + 16 ≤ y.len
+found-big c array n {y} heap room found =
+    let r = roomy c array n heap room in
+    let same = same-extent r.extent y (sym r.found ∙ found) in
     subst (λ (x : Extent). n + 16 ≤ x.len) same r.room
   where
     same-extent : (a b : Extent) → Some a ≡ Some b → a ≡ b
     same-extent a b e = cc
 
-pub laid-put : (old now mid new : Cut) (y : Extent) (i n array : ℕ) (bytes : List ℕ) (more : List (List ℕ)) (block : Option ℕ) → handle y ≡ array → AreLaid old now y i more → drop i more ≡ bytes ∷ drop (i + 1) more → i < n → 16 * n + 16 ≤ y.len
-    → IsTextPlaced now mid bytes block → IsChanged current mid new (array + 16 * i) 16 → link_at (bytes_of new.bytes) (array + 16 * i) ≡ block → word_at (bytes_of new.bytes) (array + 16 * i + 8) ≡ length bytes
+pub laid-put : {old now mid new : Cut} {y : Extent} {i : ℕ} (n array : ℕ) {bytes : List ℕ} {more : List (List ℕ)}
+    {block : Option ℕ} → handle y ≡ array → AreLaid old now y i more → drop i more ≡ bytes ∷ drop (i + 1) more → i < n
+    → 16 * n + 16 ≤ y.len
+    → IsTextPlaced now mid bytes block → IsChanged current mid new (array + 16 * i) 16
+    → link_at (bytes_of new.bytes) (array + 16 * i) ≡ block → word_at (bytes_of new.bytes) (array + 16 * i + 8)
+    ≡ length bytes
     → AreLaid old new y (i + 1) more
-laid-put old now mid new y i n array bytes more block at a split below big pl c link len =
-    laid-next old now mid new y i n bytes more block a split below big pl (subst (λ k. IsChanged current mid new (k + 16 * i) 16) (sym at) c) (subst (λ k. link_at (bytes_of new.bytes) (k + 16 * i) ≡ block) (sym at) link)
+laid-put {mid} {new} {i} n array {bytes} {block} at a split below big pl c link len =
+    laid-next {new = new} n a split below big pl (subst (λ k. IsChanged current mid new (k + 16 * i) 16) (sym at) c)
+    (subst (λ k. link_at (bytes_of new.bytes) (k + 16 * i) ≡ block) (sym at) link)
     (subst (λ k. word_at (bytes_of new.bytes) (k + 16 * i + 8) ≡ length bytes) (sym at) len)
+
+-- ---- an array that was taken into use, and the texts that are laid out in it: all of them, or none once it is given
+-- up
+
+-- ---- what is asked for
+
+pub new-array : (l : LiveSet) (n : ℕ) → 0 < n → new_array l n ≡ option_map (λ (x : Extent). table n (Some x))
+    (place l (16 * n) Storage)
+new-array l n f = ap (λ b. if b then Some no_table else option_map (λ (x : Extent). table n (Some x))
+    (place l (16 * n) Storage)) (ne_eqb n 0 (λ e. omega (arith, e, f)))
+
+abbrev texts_after : LiveSet → List (List ℕ) → Option Table → Option (List OwnedText)
+texts_after l more o = elim o [
+  | None ↦ None
+  | Some u ↦ placed_texts (elim u.extent [ None ↦ l | Some x ↦ resized l x ])
+      more
+]
+
+no-array : (l : LiveSet) (more : List (List ℕ)) → 0 < length more → place l (16 * length more) Storage ≡ None
+    → all_texts l more ≡ None
+no-array l more f e =
+    ap (texts_after l more)
+    (new-array l (length more) f ∙ ap (option_map (λ (x : Extent). table (length more) (Some x))) e)
+
+in-array : (l : LiveSet) (more : List (List ℕ)) {y : Extent} → 0 < length more
+    → place l (16 * length more) Storage ≡ Some y → all_texts l more ≡ placed_texts (resized l y) more
+in-array l more f e =
+    ap (texts_after l more)
+    (new-array l (length more) f ∙ ap (option_map (λ (x : Extent). table (length more) (Some x))) e)
+
+-- an array that fits has space
+pub fitted : (l : LiveSet) (more : List (List ℕ)) {y : Extent} → 0 < length more
+    → place l (16 * length more) Storage ≡ Some y → new_array l (length more) ≡ None → ⊥
+fitted l more {y} f e none =
+    let some : new_array l (length more) ≡ Some (table (length more) (Some y)) = new-array l (length more) f
+    ∙ ap (option_map (λ (x : Extent). table (length more) (Some x))) e in
+    let both = sym some ∙ none in cc
+
+-- ---- nothing is laid out
+
+unchanged : (c : Cut) (more : List (List ℕ)) → IsHeap current c.bytes → all_texts (live_of c.bytes) more ≡ None
+    → AreNotLaidOut c c more
+unchanged c more heap e =
+    record {
+      none = e;
+      restored = record { laid = heap; keeps = keeps-refl c (live_of c.bytes).extents };
+      first = λ none. refl;
+    }
+
+pub out-of-reach : (c : Cut) (n : ℕ) (more : List (List ℕ)) → IsHeap current c.bytes → n ≡ length more → 1073741824 < n
+    → AreNotLaidOut c c more
+out-of-reach c n more heap e f =
+    unchanged c more heap
+    (no-array (live_of c.bytes) more (omega (arith, e, f))
+    (too_long c (16 * length more) Storage heap (omega (arith, e, f))))
+
+pub no-space : {old new : Cut} (n : ℕ) (more : List (List ℕ)) → IsHeap current old.bytes → 0 < n → n ≡ length more
+    → IsRefused old new (16 * n) Storage → AreNotLaidOut old new more
+no-space {old} n more heap some e r =
+    subst (λ (c : Cut). AreNotLaidOut old c more) (sym r.same)
+    (unchanged old more heap (no-array (live_of old.bytes) more (omega (arith, e, some))
+    (subst (λ k. place (live_of old.bytes) (16 * k) Storage ≡ None) e r.none)))
+
+-- ---- the array
+
+pub record IsArrayTaken (old mid : Cut) (n g : ℕ) : Type 0 where
+  pub block : Extent
+  pub placed : place (live_of old.bytes) (16 * n) Storage ≡ Some block
+  pub at : handle block ≡ g
+  pub change : IsSwapped old mid [] (block ∷ [])
+  pub heap : IsHeap current mid.bytes
+  pub found : extent_at (live_of mid.bytes) g ≡ Some block
+  pub big : 16 * n + 16 ≤ block.len
+  pub room : IsTrue (has_room (live_of mid.bytes) g (16 * n))
+
+pub array-taken : {old mid : Cut} (n : ℕ) {g : ℕ} → IsAllocated current old mid (16 * n) Storage g
+    → IsArrayTaken old mid n g
+array-taken {old} {mid} n {g} a =
+    let y = a.extent in
+    let x = exchange-taken _ old mid _ _ g 0 0 a in
+    let come = are-come x in
+    let big = serves-full y (16 * n) (place-serves (live_of old.bytes) (16 * n) Storage y a.placed) in
+    record {
+      block = y;
+      placed = a.placed;
+      at = sym a.at;
+      change = x;
+      heap = come.heap;
+      found = ap (λ k. extent_at (live_of mid.bytes) k) a.at ∙ come.found.0;
+      big = big;
+      room = subst (λ k. IsTrue (has_room (live_of mid.bytes) k (16 * n))) (sym a.at)
+          (found-room (live_of mid.bytes) (handle y) (16 * n) y come.found.0 big);
+    }
+
+-- ---- all texts
+
+all-placed : (ps : List OwnedText) (l : LiveSet) (rest : List (List ℕ)) → rest ≡ []
+    → option_map (λ (qs : List OwnedText). ps ++ qs) (placed_texts l rest) ≡ Some ps
+all-placed ps l rest e = ap (λ xs. option_map (λ (qs : List OwnedText). ps ++ qs) (placed_texts l xs)) e
+    ∙ ap (λ (xs : List OwnedText). Some xs) (append-nil ps)
+
+pub laid-out : {old mid new : Cut} {n k g : ℕ} {more : List (List ℕ)} → (t : IsArrayTaken old mid n g)
+    → n ≡ length more → AreLaidUpTo mid new t.block k more → k ≡ n → AreLaidOut old new more g
+laid-out {old} {mid} {new} {k} {more} t e w all =
+    let a = w.laid in
+    let y = t.block in
+    let count : k ≡ length more = all ∙ e in
+    record {
+      block = y;
+      at = sym t.at;
+      fit = subst (λ i. place (live_of old.bytes) (16 * i) Storage ≡ Some y) e t.placed;
+      texts = a.texts;
+      long = a.long ∙ count;
+      placed = ap (λ (l : LiveSet). placed_texts l more) (sym (came-alone t.change)) ∙ a.placed ∙ all-placed a.texts
+          (live_of new.bytes) (drop k more) (drop_all k more (omega (arith, count)));
+      change = subst (IsSwapped old new []) (append-nil (y ∷ text_blocks a.texts))
+          (exchange-next _ old mid new 0 0 [] _ _ [] _ (spread-refl (y ∷ [])) t.change a.change);
+      links = a.links;
+      owned = a.owned;
+      served = a.served;
+    }
+
+-- ---- not all of them
+
+not-this : (y : Extent) (xs : List Extent) → AllByRecursion (λ (w : Extent). handle y ≢ handle w) xs
+    → AllByRecursion (λ (w : Extent). handle w ≢ handle y) xs
+not-this y [] d = tt
+not-this y (x ∷ xs) d = ((λ f. d.0 (sym f)), not-this y xs d.1)
+
+pub laid-held : {old mid new : Cut} {n k g : ℕ} {more : List (List ℕ)} → (t : IsArrayTaken old mid n g)
+    → n ≡ length more → (w : AreLaidUpTo mid new t.block k more) → AreHeldElements new.bytes g k w.laid.texts
+laid-held {new} {k} t e w =
+    let y = t.block in
+    let tb = text_blocks w.laid.texts in
+    let come = are-come w.laid.change in
+    subst (λ h. AreHeldElements new.bytes h k w.laid.texts) t.at (record {
+      heap = come.heap;
+      room = found-room (live_of new.bytes) (handle y) (16 * k) y come.found.0 (omega (arith, e, w.within, t.big));
+      long = w.laid.long;
+      links = w.laid.links;
+      live = come.found.1;
+      apart = not-this y tb come.others.0;
+      others = come.others.1;
+    })
+
+-- the array alone is in use still
+array-alone : {old mid new left : Cut} {n k g : ℕ} {more : List (List ℕ)} → (t : IsArrayTaken old mid n g)
+    → (w : AreLaidUpTo mid new t.block k more) → IsSwapped new left (text_blocks w.laid.texts) []
+    → IsSwapped old left [] (t.block ∷ [])
+array-alone {old} {mid} {new} {left} t w x =
+    let y = t.block in
+    let tb = text_blocks w.laid.texts in
+    let back = exchange-next _ mid new left 0 0 _ _ tb (y ∷ []) [] (last-first (y ∷ []) tb) w.laid.change x in
+    exchange-next _ old mid left 0 0 [] _ _ [] _ (spread-refl (y ∷ [])) t.change back
+
+pub array-live : {old mid new left : Cut} {n k g : ℕ} {more : List (List ℕ)} → (t : IsArrayTaken old mid n g)
+    → (w : AreLaidUpTo mid new t.block k more) → IsSwapped new left (text_blocks w.laid.texts) []
+    → IsTrue (is_live_in (live_of left.bytes) g)
+array-live {left} t w x =
+    let come = are-come (array-alone t w x) in
+    subst (λ h. IsTrue (is_live_in (live_of left.bytes) h)) t.at
+    (found-live (handle t.block) (live_of left.bytes).extents come.found.0)
+
+same-of : (m m' : Memory) (xs : List Extent) → AllByRecursion (SameBlockBut m m' 0 0) xs
+    → AllByRecursion (SameBlock m m') xs
+same-of m m' [] s = tt
+same-of m m' (x ∷ xs) s = (
+  record { payload = record { at = λ k f g. s.0.payload k f g (inr (omega arith)) }; colour = s.0.colour },
+  same-of
+      m m' xs s.1,
+)
+
+-- nothing is exchanged
+swapped-back : {old new : Cut} → IsSwapped old new [] [] → IsRestored current old new
+swapped-back {old} {new} x = record {
+  laid = x.live;
+  keeps = record {
+    place = x.place;
+    front = x.front;
+    behind = x.behind;
+    blocks = same-of (bytes_of old.bytes)
+        (bytes_of new.bytes) (live_of old.bytes).extents x.blocks;
+  };
+}
+
+pub taken-off : {old mid new left last : Cut} {n k g : ℕ} {more : List (List ℕ)} → (t : IsArrayTaken old mid n g)
+    → n ≡ length more → 0 < n → (w : AreLaidUpTo mid new t.block k more) → k ≢ n
+    → IsSwapped new left (text_blocks w.laid.texts) []
+    → IsReleased current left last g → AreNotLaidOut old last more
+taken-off {old} {mid} {new} {left} {last} {n} {k} {more} t e some w short x r =
+    let y = t.block in
+    let a = w.laid in
+    let alone = array-alone t w x in
+    let gone = exchange-released current left last y 0 0 (subst (IsReleased current left last) (sym t.at) r) in
+    let fit : place (live_of old.bytes) (16 * length more) Storage ≡ Some y =
+    subst (λ i. place (live_of old.bytes) (16 * i) Storage ≡ Some y) e t.placed in
+    record {
+      none = in-array (live_of old.bytes) more (omega (arith, e, some)) fit
+          ∙ ap (λ (l : LiveSet). placed_texts l more) (sym (came-alone t.change))
+          ∙ a.placed
+          ∙ ap (option_map (λ (qs : List OwnedText). a.texts ++ qs))
+          (w.stopped (below k n (length more) short e w.within));
+      restored = swapped-back (exchange-next _ old left last 0 0 [] _ _ [] [] (spread-refl (y ∷ [])) alone gone);
+      first = λ none. absurd (fitted (live_of old.bytes) more (omega (arith, e, some)) fit none);
+    }
+  where
+    below : (k n m : ℕ) → k ≢ n → n ≡ m → k ≤ m → k < m
+    below k n m d e f = grind arith
+
+-- ---- a vector of texts that are laid out beside those that it had, which are released then
+
+-- ---- blocks that stay where the vector's own ones are released and its words are written
+
+across : (xs ys : List Extent) → AreOthers (xs ++ ys) → AllByRecursion (λ (x : Extent). IsNone (handle x) ys) xs
+across [] ys d = tt
+across (x ∷ xs) ys d = ((all-split (λ (z : Extent). handle x ≢ handle z) xs ys d.0).1, across xs ys d.1)
+
+all-beside : {a b : Cut} {p : Place} {gone come : List Extent} (xs : List Extent) → IsHeap current a.bytes → IsHead a p
+    → IsExchanged current a b (place_at p) 24 gone come → AllByRecursion (IsFound (live_of a.bytes).extents) xs
+    → IsNone p.handle xs
+    → AllByRecursion (λ (x : Extent). IsNone (handle x) gone) xs
+    → AllByRecursion (SameBlock (bytes_of a.bytes) (bytes_of b.bytes)) xs
+all-beside [] heap w e f n d = tt
+all-beside {a} {b} {p} {gone} {come} (x ∷ xs) heap w e f n d =
+    let here = w.here in
+    let big : p.at + 24 + 16 ≤ w.block.len = w.big in (
+      kept-beside a b _ 24 p.handle (handle x) _ x gone come _ heap e w.found (omega (arith, here))
+          (omega (arith, here, big)) n.0 f.0 d.0,
+      all-beside xs heap w e f.1 n.1 d.1,
+    )
+
+-- ---- the blocks that came stand beside those of the vector
+
+record IsBesideOwn (old now : Cut) (p : Place) (ps : List OwnedText) (t : Table) (come : List Extent) : Type 0 where
+  heap : IsHeap current now.bytes
+  head : IsHead now p
+  change : IsExchanged current old now (place_at p) 24 (own_blocks ps t) (come ++ own_blocks ps t)
+  found : AllByRecursion (IsFound (live_of now.bytes).extents) come
+  none : IsNone p.handle come
+  others : AllByRecursion (λ (x : Extent). IsNone (handle x) (own_blocks ps t)) come
+
+beside-own : {old now : Cut} {p : Place} {ps : List OwnedText} {t : Table} {come : List Extent}
+    → IsTexts old.bytes p ps t → IsExchanged current old now 0 0 [] come → IsBesideOwn old now p ps t come
+beside-own {old} {now} {p} {ps} {t} {come} s x =
+    let own = own_blocks ps t in
+    let w = texts-own old s in
+    let r0 = run-begin old [] ps [] (sym (append-nil ps)) s in
+    let r1 = run-swapped own (spread-refl own) r0 x tt in
+    record {
+      heap = r1.heap;
+      head = r1.head;
+      change = r1.change;
+      found = (are-come x).found;
+      none = (all-split (λ (z : Extent). p.handle ≢ handle z) come own (run-none (own-head w) w.none r1)).0;
+      others = across come own (run-others r1);
+    }
+
+-- ---- the vector afterwards
+
+assigned-at : {old now rel new : Cut} {p : Place} {ps : List OwnedText} {t : Table} {g n : ℕ} {more : List (List ℕ)}
+    → IsTexts old.bytes p ps t → (w : AreLaidOut old now more g) → n ≡ length more → 0 < n
+    → IsTextsNow now rel p (own_blocks ps t) [] [] no_table → IsChanged current rel new (place_at p) 24
+    → AreHeadWords (bytes_of new.bytes) (place_at p) n (table n (Some w.block)) → AreTextsAssigned old new p ps t more
+assigned-at {old} {now} {rel} {new} {p} {ps} {t} {n} {more} s w e some x c words =
+    let at = place_at p in
+    let own = own_blocks ps t in
+    let y = w.block in
+    let qs = w.texts in
+    let come : List Extent = y ∷ text_blocks qs in
+    let u = table n (Some y) in
+    let b = beside-own s w.change in
+    let e2 = head-exchanged p x.texts.heap x.texts.room c in
+    let e12 = exchange-next _ now rel new at 24 own [] [] [] [] (spread-refl []) x.change e2 in
+    let all = exchange-next _ old now new at 24 own _ own come [] (last-first come own) b.change e12 in
+    let stay = all-beside come b.heap b.head e12 b.found b.none b.others in
+    let serves_all = place-serves (live_of old.bytes) (16 * n) Storage y
+    (subst (λ k. place (live_of old.bytes) (16 * k) Storage ≡ Some y) (sym e) w.fit) in
+    let big = serves-full y (16 * n) serves_all in
+    let long : length qs ≡ n = w.long ∙ sym e in
+    let same : AreSameElements (bytes_of now.bytes) (bytes_of new.bytes) (handle y) (handle y) (length qs) = λ j f.
+    element-in (handle y + 16 * j) stay.0 (omega arith) (omega (arith, f, long, big)) in
+    let links = links-moved (bytes_of now.bytes) (bytes_of new.bytes) (handle y) (handle y) qs w.links same in
+    let owned = owned-same (bytes_of now.bytes) (bytes_of new.bytes) qs stay.1 w.served w.owned in
+    record {
+      table = table (length more) (Some y);
+      array = new-array (live_of old.bytes) (length more) (omega (arith, e, some))
+          ∙ ap (option_map (λ (x : Extent). table (length more) (Some x))) w.fit;
+      texts = qs;
+      placed = w.placed;
+      now = subst (λ k. IsTextsNow old new p own come qs (table k (Some y))) e
+          (texts-between qs [] ps qs [] {u = u} (sym (append-nil ps)) (sym (append-nil qs)) refl refl s all
+          (new-table n y some serves_all) (omega (arith, long))
+          (subst (λ k. AreHeadWords (bytes_of new.bytes) at k u) (sym long) words) links owned w.served);
+    }
+
+pub laid-still : {old now : Cut} {p : Place} {ps : List OwnedText} {t : Table} {g : ℕ} {more : List (List ℕ)}
+    → IsTexts old.bytes p ps t → AreLaidOut old now more g → IsTexts now.bytes p ps t
+laid-still s w = texts-still s w.change
+
+-- as the calls say it
+pub assigned : {old now rel led new : Cut} {p : Place} {ps : List OwnedText} {t : Table} {g : ℕ} (n : ℕ)
+    {more : List (List ℕ)} → IsTexts old.bytes p ps t → (w : AreLaidOut old now more g) → n ≡ length more → 0 < n
+    → ReleasesTexts now rel p
+    → IsChanged current rel led (place_at p) 24 → link_at (bytes_of led.bytes) (place_at p) ≡ Some g
+    → word_at (bytes_of led.bytes) (place_at p + 16) ≡ n
+    → IsChanged current led new (p.handle + (p.at + 8)) 8 → word_at (bytes_of new.bytes) (p.handle + (p.at + 8)) ≡ n
+    → AreTextsAssigned old new p ps t more
+assigned {rel} {led} {new} {p} {ps} {t} n s w e some r c link capacity d word =
+    let at : p.handle + (p.at + 8) ≡ place_at p + 8 = omega arith in
+    let u = table n (Some w.block) in
+    let d' : IsChanged current led new (place_at p + 8) 8 = subst (λ k. IsChanged current led new k 8) at d in
+    let both = changed-both (place_at p) 24 c d' (omega arith) (omega arith) (omega arith) (omega arith) in
+    let before : AreHeadWords (bytes_of led.bytes) (place_at p) (word_at (bytes_of led.bytes) (place_at p + 8)) u =
+    record { link = link ∙ ap (λ k. Some k) w.at; len_word = refl; capacity = capacity } in
+    let words = len-written n d'.rest (subst (λ k. word_at (bytes_of new.bytes) k ≡ n) at word) before in
+    assigned-at s w e some (r ps t (laid-still s w)) both words
+
+pub laid-even : {old now : Cut} {g : ℕ} {more : List (List ℕ)} → AreLaidOut old now more g → g % 16 ≡ 0
+laid-even {now} w =
+    let come = are-come w.change in
+    subst (λ k. k % 16 ≡ 0) (sym w.at) (even-block (live_of now.bytes) (Some w.block) come.heap.proper
+    (come.found.0, tt))
+
+-- ---- what the call answers
+
+pub assigns-some : (old new : Cut) (p : Place) (more : List (List ℕ)) → 0 < length more
+    → ((ps : List OwnedText) (t : Table) → IsTexts old.bytes p ps t → AreTextsAssigned old new p ps t more)
+    → AssignsTexts old new p more (Ok tt)
+assigns-some old new p [] f a = absurd (omega (arith, f))
+assigns-some old new p (x ∷ xs) f a = a
+
+pub some-texts : (n : ℕ) → false ≡ (n == 0) → 0 < n
+some-texts zero e = absurd (cc)
+some-texts (suc n) e = omega arith
+
+-- ---- a vector of texts stands where the same blocks are in use as before, with the same bytes
+
+still-of : (m m' : Memory) (xs : List Extent) → AllByRecursion (SameBlock m m') xs
+    → AllByRecursion (SameBlockBut m m' 0 0) xs
+still-of m m' [] s = tt
+still-of m m' (x ∷ xs) s = (
+  record { payload = λ k f g h. s.0.payload.at k f g; colour = s.0.colour },
+  still-of m m' xs
+      s.1,
+)
+
+nothing-swapped : {a b : Cut} → IsRestored current a b → IsSwapped a b [] []
+nothing-swapped {a} {b} r = record {
+  live = r.laid;
+  place = r.keeps.place;
+  front = r.keeps.front;
+  behind = r.keeps.behind;
+  blocks = still-of (bytes_of a.bytes) (bytes_of b.bytes) (live_of a.bytes).extents r.keeps.blocks;
+}
+
+pub texts-restored : {a b : Cut} {p : Place} {ps : List OwnedText} {t : Table} → IsTexts a.bytes p ps t
+    → IsRestored current a b → IsTexts b.bytes p ps t
+texts-restored s r = texts-still s (nothing-swapped r)

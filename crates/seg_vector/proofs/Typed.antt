@@ -1,12 +1,13 @@
--- Vectors of values, from what is known of their bytes.
-use Rattle.std.proofs.Common.{◌≡◌, refl, sym, ap, subst, ◌∙◌, ℕ, suc, ◌+◌, ◌-◌, ◌*◌, ◌<◌, ◌≤◌, max, Bool, true, false, if◌then◌else◌, List, [], ◌∷◌, ◌++◌, length, length-append, append-nil, append_assoc, take, drop, arith}
-use Rattle.std.specs.Prelude.{IsTrue, Some, flat_map, insert, nat_le, remove, slice_get, slice_set, option_to_list}
+-- Vectors of values and texts, from what is known of their bytes.
+use Rattle.std.proofs.Common.{◌≡◌, refl, sym, ap, subst, ◌∙◌, ℕ, zero, suc, ◌+◌, ◌*◌, ◌<◌, Bool, true, List, [], ◌∷◌, ◌++◌, length, take, drop, append_assoc, arith, ◌-◌, ◌≤◌, max, false, if◌then◌else◌, length-append, append-nil}
+use Rattle.std.specs.Prelude.{IsTrue, Some, flat_map, insert, remove, slice_get, slice_set, nat_le, option_to_list}
 use Rattle.std.specs.List.{list_all}
-use Rattle.std.proofs.lemmas.Bool.{and_from, leb-true}
-use Rattle.std.proofs.lemmas.List.{length-set, length-take}
+use Rattle.std.proofs.lemmas.Bool.{and_from, and_parts, leb-true}
 use Rattle.std.proofs.lemmas.List.Concat.{flat_map-append}
+use Rattle.std.proofs.Math.Seq.{take-append-add, drop-append-add, take-append_seam}
+use Rattle.std.proofs.lemmas.List.{length-set, length-take}
 use Rattle.std.proofs.lemmas.List.Edits.{length-insert, length-remove}
-use Rattle.raw_region.specs.Memory.{Cut, bytes_of, part, patched, word_at}
+use Rattle.raw_region.specs.Memory.{part, patched, Cut, bytes_of, word_at}
 use Rattle.raw_region.specs.Format.{current}
 use Rattle.best_fit.specs.Exchange.{IsExchanged}
 use Rattle.best_fit.specs.Heap.{IsChanged, IsHeap, has_room, live_of}
@@ -18,73 +19,259 @@ use Rattle.seg_vector.specs.Standing.{Appends, IsAppended, IsGrown, IsNotGrown, 
 use Rattle.seg_vector.specs.TextCalls.{IsText, IsTextGrown, IsTextNow}
 use Rattle.seg_vector.specs.Vector.{capacity_for_text}
 use Rattle.seg_vector.specs.VectorCalls.{IsVector, IsVectorGrown, IsVectorNow, IsWithoutSpace, Starts}
-use Rattle.seg_vector.proofs.Append.{at-least}
-use Rattle.seg_vector.proofs.Emptying.{head-exchanged}
-use Rattle.seg_vector.proofs.Extending.{unchanged-rewritten}
-use Rattle.seg_vector.proofs.Lists.{all-both, all-insert, all-remove, all-set, all-take, flat-element, flat-insert, flat-remove, flat-set, flat-take, set-pieces}
-use Rattle.seg_vector.proofs.Pushing.{capacity-bytes, exchange-then}
+use Rattle.seg_vector.proofs.Storage.{at-least, unchanged-rewritten, capacity-bytes, exchange-then}
+use Rattle.seg_vector.proofs.Fewer.{head-exchanged}
+
+-- ---- the spellings of the elements of a list, one after another
+
+-- the first elements have the first bytes
+pub flat-take : {T : Type 0} → (size : ℕ) (test : T → Bool) (sp : T → List ℕ) (n : ℕ) (xs : List T)
+    → ((x : T) → test x ≡ true → length (sp x) ≡ size) → IsTrue (list_all test xs)
+    → take (size * n) (flat_map sp xs) ≡ flat_map sp (take n xs)
+flat-take size test sp zero xs spells v = let none : size * 0 ≡ 0 = omega arith in ap (λ k. take k (flat_map sp xs))
+    none
+flat-take size test sp (suc n) [] spells v = take-nil (size * suc n)
+  where
+    take-nil : (k : ℕ) → take k (flat_map sp []) ≡ []
+    take-nil zero = refl
+    take-nil (suc k) = refl
+flat-take size test sp (suc n) (x ∷ xs) spells v =
+    let both = and_parts (test x) (list_all test xs) v in
+    let long = spells x both.0 in
+    let step : size * suc n ≡ size + size * n = omega arith in
+    let split : size * suc n ≡ length (sp x) + size * n = omega (arith, step, long) in
+    ap (λ k. take k (sp x ++ flat_map sp xs)) split ∙ take-append-add (sp x) (flat_map sp xs) (size * n)
+    ∙ ap (λ bs. sp x ++ bs) (flat-take size test sp n xs spells both.1)
+
+-- and the others the others
+pub flat-drop : {T : Type 0} → (size : ℕ) (test : T → Bool) (sp : T → List ℕ) (n : ℕ) (xs : List T)
+    → ((x : T) → test x ≡ true → length (sp x) ≡ size) → IsTrue (list_all test xs)
+    → drop (size * n) (flat_map sp xs) ≡ flat_map sp (drop n xs)
+flat-drop size test sp zero xs spells v = let none : size * 0 ≡ 0 = omega arith in ap (λ k. drop k (flat_map sp xs))
+    none
+flat-drop size test sp (suc n) [] spells v = drop-nil (size * suc n)
+  where
+    drop-nil : (k : ℕ) → drop k (flat_map sp []) ≡ []
+    drop-nil zero = refl
+    drop-nil (suc k) = refl
+flat-drop size test sp (suc n) (x ∷ xs) spells v =
+    let both = and_parts (test x) (list_all test xs) v in
+    let long = spells x both.0 in
+    let step : size * suc n ≡ size + size * n = omega arith in
+    let split : size * suc n ≡ length (sp x) + size * n = omega (arith, step, long) in
+    ap (λ k. drop k (sp x ++ flat_map sp xs)) split ∙ drop-append-add (sp x) (flat_map sp xs) (size * n) ∙ flat-drop
+    size test sp n xs spells both.1
+
+-- ---- what holds of each
+
+pub all-take : {T : Type 0} → (test : T → Bool) (n : ℕ) (xs : List T) → IsTrue (list_all test xs)
+    → IsTrue (list_all test (take n xs))
+all-take test zero xs v = refl
+all-take test (suc n) [] v = refl
+all-take test (suc n) (x ∷ xs) v = let both = and_parts (test x) (list_all test xs) v in and_from (test x)
+    (list_all test (take n xs)) both.0 (all-take test n xs both.1)
+
+pub all-drop : {T : Type 0} → (test : T → Bool) (n : ℕ) (xs : List T) → IsTrue (list_all test xs)
+    → IsTrue (list_all test (drop n xs))
+all-drop test zero xs v = v
+all-drop test (suc n) [] v = refl
+all-drop test (suc n) (x ∷ xs) v = all-drop test n xs (and_parts (test x) (list_all test xs) v).1
+
+pub all-both : {T : Type 0} → (test : T → Bool) (xs ys : List T) → IsTrue (list_all test xs)
+    → IsTrue (list_all test ys) → IsTrue (list_all test (xs ++ ys))
+all-both test [] ys v w = w
+all-both test (x ∷ xs) ys v w = let both = and_parts (test x) (list_all test xs) v in and_from (test x)
+    (list_all test (xs ++ ys)) both.0 (all-both test xs ys both.1 w)
+
+pub all-at : {T : Type 0} → (test : T → Bool) (xs : List T) (i : ℕ) {x : T} → IsTrue (list_all test xs)
+    → slice_get xs i ≡ Some x → test x ≡ true
+all-at test [] i v e = absurd (cc)
+all-at test (y ∷ ys) zero {x} v e = let same : y ≡ x = cc in subst (λ z. test z ≡ true) same
+    (and_parts (test y) (list_all test ys) v).0
+all-at test (y ∷ ys) (suc i) v e = all-at test ys i (and_parts (test y) (list_all test ys) v).1 e
+
+-- ---- one element
+
+pub has-element : {T : Type 0} → (xs : List T) (i : ℕ) → i < length xs → (x : T) × (slice_get xs i ≡ Some x)
+has-element [] i f = absurd (omega arith)
+has-element (x ∷ xs) zero f = (x, refl)
+has-element (x ∷ xs) (suc i) f = has-element xs i (omega arith)
+
+flat-first : {T : Type 0} → (size : ℕ) (test : T → Bool) (sp : T → List ℕ) (xs : List T) (i : ℕ) {x : T}
+    → ((x : T) → test x ≡ true → length (sp x) ≡ size) → IsTrue (list_all test xs)
+    → slice_get xs i ≡ Some x → take size (flat_map sp (drop i xs)) ≡ sp x
+flat-first size test sp [] i spells v e = absurd (cc)
+flat-first size test sp (y ∷ ys) zero {x} spells v e =
+    let same : y ≡ x = cc in
+    let long = spells y (and_parts (test y) (list_all test ys) v).0 in
+    ap (λ k. take k (sp y ++ flat_map sp ys)) (sym long) ∙ take-append_seam (sp y) (flat_map sp ys) ∙ ap sp same
+flat-first size test sp (y ∷ ys) (suc i) spells v e = flat-first size test sp ys i spells
+    (and_parts (test y) (list_all test ys) v).1 e
+
+-- its bytes
+pub flat-element : {T : Type 0} → (size : ℕ) (test : T → Bool) (sp : T → List ℕ) (xs : List T) (i : ℕ) {x : T}
+    → ((x : T) → test x ≡ true → length (sp x) ≡ size) → IsTrue (list_all test xs)
+    → slice_get xs i ≡ Some x → part (flat_map sp xs) (size * i) size ≡ sp x
+flat-element size test sp xs i spells v e = ap (take size) (flat-drop size test sp i xs spells v) ∙ flat-first size
+    test sp xs i spells v e
+
+pub set-pieces : {T : Type 0} → (xs : List T) (i : ℕ) (y : T) → i < length xs
+    → slice_set xs i y ≡ take i xs ++ (y ∷ drop (suc i) xs)
+set-pieces [] i y f = absurd (omega arith)
+set-pieces (x ∷ xs) zero y f = refl
+set-pieces (x ∷ xs) (suc i) y f = ap (λ l. x ∷ l) (set-pieces xs i y (omega arith))
+
+pub all-set : {T : Type 0} → (test : T → Bool) (xs : List T) (i : ℕ) (y : T) → i < length xs
+    → IsTrue (list_all test xs) → test y ≡ true → IsTrue (list_all test (slice_set xs i y))
+all-set test xs i y f v e =
+    subst (λ l. IsTrue (list_all test l)) (sym (set-pieces xs i y f))
+    (all-both test (take i xs) (y ∷ drop (suc i) xs) (all-take test i xs v)
+    (and_from (test y) (list_all test (drop (suc i) xs)) e (all-drop test (suc i) xs v)))
+
+-- another one in its place
+pub flat-set : {T : Type 0} → (size : ℕ) (test : T → Bool) (sp : T → List ℕ) (xs : List T) (i : ℕ) (y : T)
+    → ((x : T) → test x ≡ true → length (sp x) ≡ size) → IsTrue (list_all test xs)
+    → i < length xs → test y ≡ true → patched (flat_map sp xs) (size * i) (sp y) ≡ flat_map sp (slice_set xs i y)
+flat-set size test sp xs i y spells v f e =
+    let fs = flat_map sp xs in
+    let front = flat-take size test sp i xs spells v in
+    let long = spells y e in
+    let step : size * suc i ≡ size * i + size = omega arith in
+    let behind : size * i + length (sp y) ≡ size * suc i = omega (arith, step, long) in
+    let back : drop (size * i + length (sp y)) fs ≡ flat_map sp (drop (suc i) xs) = ap (λ k. drop k fs) behind
+    ∙ flat-drop size test sp (suc i) xs spells v in
+    let both : (take (size * i) fs ++ sp y) ++ drop (size * i + length (sp y)) fs ≡ (flat_map sp (take i xs) ++ sp y)
+    ++ flat_map sp (drop (suc i) xs) = λ j. (front j ++ sp y) ++ back j in
+    both ∙ append_assoc (flat_map sp (take i xs)) (sp y) (flat_map sp (drop (suc i) xs))
+    ∙ sym (flat_map-append sp (take i xs) (y ∷ drop (suc i) xs)) ∙ sym (ap (flat_map sp) (set-pieces xs i y f))
+
+-- one more
+pub flat-insert : {T : Type 0} → (size : ℕ) (test : T → Bool) (sp : T → List ℕ) (xs : List T) (i : ℕ) (y : T)
+    → ((x : T) → test x ≡ true → length (sp x) ≡ size) → IsTrue (list_all test xs)
+    → take (size * i) (flat_map sp xs) ++ (sp y ++ drop (size * i) (flat_map sp xs)) ≡ flat_map sp (insert xs i y)
+flat-insert size test sp xs i y spells v =
+    let front = flat-take size test sp i xs spells v in
+    let back = flat-drop size test sp i xs spells v in
+    let both : take (size * i) (flat_map sp xs) ++ (sp y ++ drop (size * i) (flat_map sp xs)) ≡ flat_map sp (take i xs)
+    ++ (sp y ++ flat_map sp (drop i xs)) = λ j. front j ++ (sp y ++ back j) in
+    both ∙ sym (flat_map-append sp (take i xs) (y ∷ drop i xs))
+
+pub all-insert : {T : Type 0} → (test : T → Bool) (xs : List T) (i : ℕ) (y : T) → IsTrue (list_all test xs)
+    → test y ≡ true → IsTrue (list_all test (insert xs i y))
+all-insert test xs i y v e = all-both test (take i xs) (y ∷ drop i xs) (all-take test i xs v)
+    (and_from (test y) (list_all test (drop i xs)) e (all-drop test i xs v))
+
+-- one less
+pub flat-remove : {T : Type 0} → (size : ℕ) (test : T → Bool) (sp : T → List ℕ) (xs : List T) (i : ℕ)
+    → ((x : T) → test x ≡ true → length (sp x) ≡ size) → IsTrue (list_all test xs)
+    → take (size * i) (flat_map sp xs) ++ drop (size * i + size) (flat_map sp xs) ≡ flat_map sp (remove xs i)
+flat-remove size test sp xs i spells v =
+    let front = flat-take size test sp i xs spells v in
+    let step : size * i + size ≡ size * suc i = omega arith in
+    let back : drop (size * i + size) (flat_map sp xs) ≡ flat_map sp (drop (suc i) xs) =
+    ap (λ k. drop k (flat_map sp xs)) step ∙ flat-drop size test sp (suc i) xs spells v in
+    let both : take (size * i) (flat_map sp xs) ++ drop (size * i + size) (flat_map sp xs) ≡ flat_map sp (take i xs)
+    ++ flat_map sp (drop (suc i) xs) = λ j. front j ++ back j in
+    both ∙ sym (flat_map-append sp (take i xs) (drop (suc i) xs))
+
+pub all-remove : {T : Type 0} → (test : T → Bool) (xs : List T) (i : ℕ) → IsTrue (list_all test xs)
+    → IsTrue (list_all test (remove xs i))
+all-remove test xs i v = all-both test (take i xs) (drop (suc i) xs) (all-take test i xs v) (all-drop test (suc i) xs v)
+
+-- ---- vectors of values, from what is known of their bytes
 
 -- what stands has so many elements, and they are these values
-pub vector-of : {T : Type 0} → (size : ℕ) (test : T → Bool) (sp : T → List ℕ) (b : List ℕ) (p : Place) (n : ℕ) (t : Table) (bytes : List ℕ) (ys : List T) → Stands b p size n t bytes
+pub vector-of : {T : Type 0} → {size : ℕ} (test : T → Bool) (sp : T → List ℕ) {b : List ℕ} {p : Place} {n : ℕ}
+    {t : Table} {bytes : List ℕ} (ys : List T) → Stands b p size n t bytes
     → n ≡ length ys → bytes ≡ flat_map sp ys → IsTrue (list_all test ys) → IsVector size test sp b p ys t
-vector-of size test sp b p n t bytes ys s e f v =
-    record { stands = subst (λ k. Stands b p size k t (flat_map sp ys)) e (subst (λ bs. Stands b p size n t bs) f s); values = v }
+vector-of {size} test sp {b} {p} {n} {t} ys s e f v =
+    record {
+      stands = subst (λ k. Stands b p size k t (flat_map sp ys)) e (subst (λ bs. Stands b p size n t bs) f s);
+      values = v;
+    }
 
-pub vector-now : {T : Type 0} → (size : ℕ) (test : T → Bool) (sp : T → List ℕ) (old new : Cut) (p : Place) (n : ℕ) (t : Table) (bytes : List ℕ) (ys : List T) → IsRewritten old new p size n t bytes
+pub vector-now : {T : Type 0} → {size : ℕ} (test : T → Bool) (sp : T → List ℕ) {old new : Cut} {p : Place} {n : ℕ}
+    {t : Table} {bytes : List ℕ} (ys : List T) → IsRewritten old new p size n t bytes
     → n ≡ length ys → bytes ≡ flat_map sp ys → IsTrue (list_all test ys) → IsVectorNow size test sp old new p t ys t
-vector-now size test sp old new p n t bytes ys r e f v = record { change = r.change; vector = vector-of size test sp new.bytes p n t bytes ys r.stands e f v }
+vector-now test sp ys r e f v = record { change = r.change; vector = vector-of test sp ys r.stands e f v }
 
 -- one change after another, in the storage that came
-pub now-then : {T : Type 0} → (size : ℕ) (test : T → Bool) (sp : T → List ℕ) (old mid new : Cut) (p : Place) (t u : Table) (ys : List T) → IsExchanged current old mid (place_at p) 24 (option_to_list t.extent) (option_to_list u.extent)
+pub now-then : {T : Type 0} → {size : ℕ} {test : T → Bool} {sp : T → List ℕ} {old mid new : Cut} {p : Place}
+    (t : Table) {u : Table} {ys : List T} → IsExchanged current old mid (place_at p) 24 (option_to_list t.extent)
+    (option_to_list u.extent)
     → IsVectorNow size test sp mid new p u ys u → IsVectorNow size test sp old new p t ys u
-now-then size test sp old mid new p t u ys c w = record { change = exchange-then old mid new (place_at p) 24 (option_to_list t.extent) (option_to_list u.extent) c w.change; vector = w.vector }
+now-then t c w = record { change = exchange-then c w.change; vector = w.vector }
 
 -- the storage is grown, and the values stay
-pub vector-grown : {T : Type 0} → (size : ℕ) (test : T → Bool) (sp : T → List ℕ) (old new : Cut) (p : Place) (n : ℕ) (t : Table) (xs : List T) → IsVector size test sp old.bytes p xs t
+pub vector-grown : {T : Type 0} → {size : ℕ} {test : T → Bool} {sp : T → List ℕ} {old new : Cut} {p : Place} {n : ℕ}
+    {t : Table} {xs : List T} → IsVector size test sp old.bytes p xs t
     → IsGrown old new p size n (length xs) t (flat_map sp xs) → IsVectorGrown size test sp old new p t n xs
-vector-grown size test sp old new p n t xs v g =
-    record { table = g.table; grown = g.grown; now = record { change = g.change; vector = record { stands = g.stands; values = v.values } } }
+vector-grown v g =
+    record {
+      table = g.table;
+      grown = g.grown;
+      now = record
+          { change = g.change; vector = record { stands = g.stands; values = v.values } };
+    }
 
 -- the storage is grown, and then there are other values in it
-pub grown-then : {T : Type 0} → (size : ℕ) (test : T → Bool) (sp : T → List ℕ) (old mid new : Cut) (p : Place) (n : ℕ) (t : Table) (xs ys : List T) → (g : IsGrown old mid p size n (length xs) t (flat_map sp xs))
+pub grown-then : {T : Type 0} → {size : ℕ} {test : T → Bool} {sp : T → List ℕ} {old mid new : Cut} {p : Place} {n : ℕ}
+    {t : Table} (xs : List T) {ys : List T} → (g : IsGrown old mid p size n (length xs) t (flat_map sp xs))
     → IsVectorNow size test sp mid new p g.table ys g.table → IsVectorGrown size test sp old new p t n ys
-grown-then size test sp old mid new p n t xs ys g w = record { table = g.table; grown = g.grown; now = now-then size test sp old mid new p t g.table ys g.change w }
+grown-then {t} xs g w = record { table = g.table; grown = g.grown; now = now-then t g.change w }
 
 -- ---- the same of texts
 
-pub text-now : (old new : Cut) (p : Place) (n : ℕ) (t : Table) (bytes ys : List ℕ) → IsRewritten old new p 1 n t bytes → n ≡ length ys → bytes ≡ ys → IsTextNow old new p t ys t
-text-now old new p n t bytes ys r e f = record { change = r.change; text = subst (λ k. Stands new.bytes p 1 k t ys) e (subst (λ bs. Stands new.bytes p 1 n t bs) f r.stands) }
+pub text-now : {old new : Cut} {p : Place} {n : ℕ} {t : Table} {bytes : List ℕ} (ys : List ℕ)
+    → IsRewritten old new p 1 n t bytes → n ≡ length ys → bytes ≡ ys → IsTextNow old new p t ys t
+text-now {new} {p} {n} {t} ys r e f =
+    record {
+      change = r.change;
+      text = subst (λ k. Stands new.bytes p 1 k t ys) e
+          (subst (λ bs. Stands new.bytes p 1 n t bs) f r.stands);
+    }
 
-pub text-then : (old mid new : Cut) (p : Place) (t u : Table) (ys : List ℕ) → IsExchanged current old mid (place_at p) 24 (option_to_list t.extent) (option_to_list u.extent)
+pub text-then : {old mid new : Cut} {p : Place} (t : Table) {u : Table} {ys : List ℕ}
+    → IsExchanged current old mid (place_at p) 24 (option_to_list t.extent) (option_to_list u.extent)
     → IsTextNow mid new p u ys u → IsTextNow old new p t ys u
-text-then old mid new p t u ys c w = record { change = exchange-then old mid new (place_at p) 24 (option_to_list t.extent) (option_to_list u.extent) c w.change; text = w.text }
+text-then t c w = record { change = exchange-then c w.change; text = w.text }
 
-pub text-grown : (old new : Cut) (p : Place) (n : ℕ) (t : Table) (bytes : List ℕ) → IsGrown old new p 1 n (length bytes) t bytes → IsTextGrown old new p t n bytes
-text-grown old new p n t bytes g = record { table = g.table; grown = g.grown; now = record { change = g.change; text = g.stands } }
+pub text-grown : {old new : Cut} {p : Place} {n : ℕ} {t : Table} {bytes : List ℕ}
+    → IsGrown old new p 1 n (length bytes) t bytes → IsTextGrown old new p t n bytes
+text-grown g = record { table = g.table; grown = g.grown; now = record { change = g.change; text = g.stands } }
 
-pub text-grown-then : (old mid new : Cut) (p : Place) (n : ℕ) (t : Table) (bytes ys : List ℕ) → (g : IsGrown old mid p 1 n (length bytes) t bytes) → IsTextNow mid new p g.table ys g.table → IsTextGrown old new p t n ys
-text-grown-then old mid new p n t bytes ys g w = record { table = g.table; grown = g.grown; now = text-then old mid new p t g.table ys g.change w }
+pub text-grown-then : {old mid new : Cut} {p : Place} {n : ℕ} {t : Table} {bytes ys : List ℕ}
+    → (g : IsGrown old mid p 1 n (length bytes) t bytes) → IsTextNow mid new p g.table ys g.table
+    → IsTextGrown old new p t n ys
+text-grown-then {t} g w = record { table = g.table; grown = g.grown; now = text-then t g.change w }
 
 -- ---- a vector without a place
 
-pub vector-started : {T : Type 0} → (size : ℕ) (test : T → Bool) (sp : T → List ℕ) (old new : Cut) (p : Place) → IsHeap current old.bytes → IsTrue (has_room (live_of old.bytes) p.handle (p.at + 24))
+pub vector-started : {T : Type 0} → {size : ℕ} (test : T → Bool) (sp : T → List ℕ) {old new : Cut} {p : Place}
+    → IsHeap current old.bytes → IsTrue (has_room (live_of old.bytes) p.handle (p.at + 24))
     → IsChanged current old new (place_at p) 24 → Stands new.bytes p size 0 no_table [] → Starts size test sp old new p
-vector-started size test sp old new p heap r c s = record { change = head-exchanged old new p heap r c; vector = record { stands = s; values = refl } }
+vector-started test sp {p} heap r c s =
+    record { change = head-exchanged p heap r c; vector = record { stands = s; values = refl } }
 
-pub text-started : (old new : Cut) (p : Place) → IsHeap current old.bytes → IsTrue (has_room (live_of old.bytes) p.handle (p.at + 24))
-    → IsChanged current old new (place_at p) 24 → Stands new.bytes p 1 0 no_table [] → IsTextNow old new p no_table [] no_table
-text-started old new p heap r c s = record { change = head-exchanged old new p heap r c; text = s }
+pub text-started : {old new : Cut} {p : Place} → IsHeap current old.bytes
+    → IsTrue (has_room (live_of old.bytes) p.handle (p.at + 24))
+    → IsChanged current old new (place_at p) 24 → Stands new.bytes p 1 0 no_table []
+    → IsTextNow old new p no_table [] no_table
+text-started {p} heap r c s = record { change = head-exchanged p heap r c; text = s }
 
 -- ---- what the calls on bytes do, for vectors. Their element size is the type's.
 
 -- what is done where the storage is grown, or cannot be
 abbrev pub HasGrown : Cut → Cut → Place → ℕ → ℕ → Type 0
-HasGrown old mid p k n = (len : ℕ) (t : Table) (bytes : List ℕ) → Stands old.bytes p k len t bytes → IsGrown old mid p k n len t bytes
+HasGrown old mid p k n = (len : ℕ) (t : Table) (bytes : List ℕ) → Stands old.bytes p k len t bytes
+    → IsGrown old mid p k n len t bytes
 
 abbrev pub HasNotGrown : Cut → Cut → Place → ℕ → ℕ → Type 0
-HasNotGrown old mid p k n = (len : ℕ) (t : Table) (bytes : List ℕ) → Stands old.bytes p k len t bytes → IsNotGrown old mid k n t
+HasNotGrown old mid p k n = (len : ℕ) (t : Table) (bytes : List ℕ) → Stands old.bytes p k len t bytes
+    → IsNotGrown old mid k n t
 
-module _ {T : Type 0} (size : ℕ) (test : T → Bool) (sp : T → List ℕ) (old mid : Cut) (p : Place) (k : ℕ) (xs : List T) (t : Table) (e : k ≡ size) (v : IsVector size test sp old.bytes p xs t) where
+module _ {T : Type 0} {size : ℕ} {test : T → Bool} {sp : T → List ℕ} (old mid : Cut) {p : Place} {k : ℕ} {xs : List T}
+    {t : Table} (e : k ≡ size) (v : IsVector size test sp old.bytes p xs t) where
   stands-at : Stands old.bytes p k (length xs) t (flat_map sp xs)
   stands-at = subst (λ j. Stands old.bytes p j (length xs) t (flat_map sp xs)) (sym e) v.stands
 
@@ -93,81 +280,113 @@ module _ {T : Type 0} (size : ℕ) (test : T → Bool) (sp : T → List ℕ) (ol
 
   pub small-capacity : 1 ≤ size → t.capacity < 1073741824
   small-capacity some =
-      let few : size * t.capacity < 1073741824 = capacity-bytes old p size (length xs) t (flat_map sp xs) v.stands.heap v.stands in
-      let least : t.capacity ≤ size * t.capacity = at-least size t.capacity some in
+      let few = capacity-bytes old v.stands.heap v.stands in
+      let least = at-least size t.capacity some in
       omega (arith, few, least)
 
   pub grown-of : (n m : ℕ) → n ≡ m → HasGrown old mid p k n → IsGrown old mid p size m (length xs) t (flat_map sp xs)
   grown-of n m f h =
-      subst (λ j. IsGrown old mid p size j (length xs) t (flat_map sp xs)) f (subst (λ j. IsGrown old mid p j n (length xs) t (flat_map sp xs)) e (h (length xs) t (flat_map sp xs) stands-at))
+      subst (λ j. IsGrown old mid p size j (length xs) t (flat_map sp xs)) f
+      (subst (λ j. IsGrown old mid p j n (length xs) t (flat_map sp xs)) e
+      (h (length xs) t (flat_map sp xs) stands-at))
 
   pub without-space : (n m : ℕ) → n ≡ m → HasNotGrown old mid p k n → IsWithoutSpace old mid size m t NoSpace
   without-space n m f h =
-      let r : IsNotGrown old mid size m t = subst (λ j. IsNotGrown old mid size j t) f (subst (λ j. IsNotGrown old mid j n t) e (h (length xs) t (flat_map sp xs) stands-at)) in
+      let r : IsNotGrown old mid size m t = subst (λ j. IsNotGrown old mid size j t) f
+      (subst (λ j. IsNotGrown old mid j n t) e (h (length xs) t (flat_map sp xs) stands-at)) in
       record { refusal = refl; none = r.none; same = r.same }
 
-  pub cut-now : (n : ℕ) → ((x : T) → test x ≡ true → length (sp x) ≡ size) → n ≤ length xs → Truncates old mid p k n → IsVectorNow size test sp old mid p t (take n xs) t
+  pub cut-now : (n : ℕ) → ((x : T) → test x ≡ true → length (sp x) ≡ size) → n ≤ length xs → Truncates old mid p k n
+      → IsVectorNow size test sp old mid p t (take n xs) t
   cut-now n spells f h =
-      let r : IsRewritten old mid p size n t (take (size * n) (flat_map sp xs)) = subst (λ j. IsRewritten old mid p j n t (take (j * n) (flat_map sp xs))) e (h (length xs) t (flat_map sp xs) stands-at) in
-      vector-now size test sp old mid p n t (take (size * n) (flat_map sp xs)) (take n xs) r (omega (arith, length-take n xs, f)) (flat-take size test sp n xs spells v.values) (all-take test n xs v.values)
+      let r : IsRewritten old mid p size n t (take (size * n) (flat_map sp xs)) =
+      subst (λ j. IsRewritten old mid p j n t (take (j * n) (flat_map sp xs))) e
+      (h (length xs) t (flat_map sp xs) stands-at) in
+      vector-now test sp (take n xs) r (omega (arith, length-take n xs, f))
+      (flat-take size test sp n xs spells v.values) (all-take test n xs v.values)
 
-  pub set-now : (i : ℕ) (y : T) → ((x : T) → test x ≡ true → length (sp x) ≡ size) → i < length xs → test y ≡ true → Overwrites old mid p k i (sp y) → IsVectorNow size test sp old mid p t (slice_set xs i y) t
+  pub set-now : (i : ℕ) (y : T) → ((x : T) → test x ≡ true → length (sp x) ≡ size) → i < length xs → test y ≡ true
+      → Overwrites old mid p k i (sp y) → IsVectorNow size test sp old mid p t (slice_set xs i y) t
   set-now i y spells f good h =
       let r : IsRewritten old mid p size (length xs) t (patched (flat_map sp xs) (size * i) (sp y)) =
-      subst (λ j. IsRewritten old mid p j (length xs) t (patched (flat_map sp xs) (j * i) (sp y))) e (h (length xs) t (flat_map sp xs) stands-at) in
-      vector-now size test sp old mid p (length xs) t (patched (flat_map sp xs) (size * i) (sp y)) (slice_set xs i y) r (sym (length-set xs i y)) (flat-set size test sp xs i y spells v.values f good) (all-set test xs i y f v.values good)
+      subst (λ j. IsRewritten old mid p j (length xs) t (patched (flat_map sp xs) (j * i) (sp y))) e
+      (h (length xs) t (flat_map sp xs) stands-at) in
+      vector-now test sp (slice_set xs i y) r (sym (length-set xs i y))
+      (flat-set size test sp xs i y spells v.values f good) (all-set test xs i y f v.values good)
 
-  pub appended-now : (y : T) → test y ≡ true → Appends old mid p k (sp y) → IsVectorNow size test sp old mid p t (xs ++ y ∷ []) t
+  pub appended-now : (y : T) → test y ≡ true → Appends old mid p k (sp y)
+      → IsVectorNow size test sp old mid p t (xs ++ y ∷ []) t
   appended-now y good h =
-      let r = subst (λ j. IsAppended old mid p j (length xs) t (flat_map sp xs) (sp y)) e (h (length xs) t (flat_map sp xs) stands-at) in
-      let one : flat_map sp (y ∷ []) ≡ sp y = append-nil (sp y) in
-      let last : IsTrue (list_all test (y ∷ [])) = and_from (test y) true good refl in
+      let r = subst (λ j. IsAppended old mid p j (length xs) t (flat_map sp xs) (sp y)) e
+      (h (length xs) t (flat_map sp xs) stands-at) in
+      let one = append-nil (sp y) in
+      let last = and_from (test y) true good refl in
       record {
         change = r.change;
-        vector = vector-of size test sp mid.bytes p (length xs + 1) t (flat_map sp xs ++ sp y) (xs ++ y ∷ []) r.stands (sym (length-append xs (y ∷ [])))
-            (ap (λ bs. flat_map sp xs ++ bs) (sym one) ∙ sym (flat_map-append sp xs (y ∷ []))) (all-both test xs (y ∷ []) v.values last);
+        vector = vector-of test sp (xs ++ y ∷ []) r.stands (sym (length-append xs (y ∷ [])))
+            (ap (λ bs. flat_map sp xs ++ bs) (sym one) ∙ sym (flat_map-append sp xs (y ∷ [])))
+            (all-both test xs (y ∷ []) v.values last);
       }
 
-  pub inserted-now : (i : ℕ) (y : T) → ((x : T) → test x ≡ true → length (sp x) ≡ size) → i ≤ length xs → test y ≡ true → Inserts old mid p k i (sp y) → IsVectorNow size test sp old mid p t (insert xs i y) t
+  pub inserted-now : (i : ℕ) (y : T) → ((x : T) → test x ≡ true → length (sp x) ≡ size) → i ≤ length xs → test y ≡ true
+      → Inserts old mid p k i (sp y) → IsVectorNow size test sp old mid p t (insert xs i y) t
   inserted-now i y spells f good h =
       let bytes : List ℕ = take (size * i) (flat_map sp xs) ++ (sp y ++ drop (size * i) (flat_map sp xs)) in
       let r : IsRewritten old mid p size (length xs + 1) t bytes =
-      subst (λ j. IsRewritten old mid p j (length xs + 1) t (take (j * i) (flat_map sp xs) ++ (sp y ++ drop (j * i) (flat_map sp xs)))) e (h (length xs) t (flat_map sp xs) stands-at) in
-      vector-now size test sp old mid p (length xs + 1) t bytes (insert xs i y) r (sym (length-insert xs i y f)) (flat-insert size test sp xs i y spells v.values) (all-insert test xs i y v.values good)
+      subst (λ j. IsRewritten old mid p j (length xs + 1) t
+      (take (j * i) (flat_map sp xs) ++ (sp y ++ drop (j * i) (flat_map sp xs)))) e
+      (h (length xs) t (flat_map sp xs) stands-at) in
+      vector-now test sp (insert xs i y) r (sym (length-insert xs i y f))
+      (flat-insert size test sp xs i y spells v.values) (all-insert test xs i y v.values good)
 
-  pub erased-now : (i : ℕ) → ((x : T) → test x ≡ true → length (sp x) ≡ size) → i < length xs → Erases old mid p k i → IsVectorNow size test sp old mid p t (remove xs i) t
+  pub erased-now : (i : ℕ) → ((x : T) → test x ≡ true → length (sp x) ≡ size) → i < length xs → Erases old mid p k i
+      → IsVectorNow size test sp old mid p t (remove xs i) t
   erased-now i spells f h =
       let bytes : List ℕ = take (size * i) (flat_map sp xs) ++ drop (size * i + size) (flat_map sp xs) in
       let r : IsRewritten old mid p size (length xs - 1) t bytes =
-      subst (λ j. IsRewritten old mid p j (length xs - 1) t (take (j * i) (flat_map sp xs) ++ drop (j * i + j) (flat_map sp xs))) e (h (length xs) t (flat_map sp xs) stands-at) in
-      vector-now size test sp old mid p (length xs - 1) t bytes (remove xs i) r (omega (arith, length-remove xs i f)) (flat-remove size test sp xs i spells v.values) (all-remove test xs i v.values)
+      subst (λ j. IsRewritten old mid p j (length xs - 1) t
+      (take (j * i) (flat_map sp xs) ++ drop (j * i + j) (flat_map sp xs))) e
+      (h (length xs) t (flat_map sp xs) stands-at) in
+      vector-now test sp (remove xs i) r (omega (arith, length-remove xs i f))
+      (flat-remove size test sp xs i spells v.values) (all-remove test xs i v.values)
 
-  pub fitted-now : Fits old mid p k → IsVectorNow size test sp old mid p t xs (cut_table (live_of old.bytes) size (length xs) t)
+  pub fitted-now : Fits old mid p k
+      → IsVectorNow size test sp old mid p t xs (cut_table (live_of old.bytes) size (length xs) t)
   fitted-now h =
-      let r : IsFitted old mid p size (length xs) t (flat_map sp xs) = subst (λ j. IsFitted old mid p j (length xs) t (flat_map sp xs)) e (h (length xs) t (flat_map sp xs) stands-at) in
+      let r : IsFitted old mid p size (length xs) t (flat_map sp xs) =
+      subst (λ j. IsFitted old mid p j (length xs) t (flat_map sp xs)) e
+      (h (length xs) t (flat_map sp xs) stands-at) in
       record { change = r.change; vector = record { stands = r.stands; values = v.values } }
 
-  pub released-now : GivesBack old mid p k → let none : List T = [] in IsVectorNow size test sp old mid p t none no_table
+  pub released-now : GivesBack old mid p k → let none : List T = [] in IsVectorNow size test sp old mid p t none
+      no_table
   released-now h =
-      let r : IsGivenBack old mid p size t = subst (λ j. IsGivenBack old mid p j t) e (h (length xs) t (flat_map sp xs) stands-at) in
+      let r : IsGivenBack old mid p size t = subst (λ j. IsGivenBack old mid p j t) e
+      (h (length xs) t (flat_map sp xs) stands-at) in
       record { change = r.change; vector = record { stands = r.stands; values = refl } }
 
 -- nothing is done
-pub unchanged-now : {T : Type 0} → (size : ℕ) (test : T → Bool) (sp : T → List ℕ) (c : Cut) (p : Place) (xs ys : List T) (t : Table) → IsVector size test sp c.bytes p xs t → xs ≡ ys → IsVectorNow size test sp c c p t ys t
-unchanged-now {T} size test sp c p xs ys t v e =
+pub unchanged-now : {T : Type 0} → {size : ℕ} {test : T → Bool} {sp : T → List ℕ} (c : Cut) {p : Place} {xs : List T}
+    (ys : List T) {t : Table} → IsVector size test sp c.bytes p xs t → xs ≡ ys → IsVectorNow size test sp c c p t ys t
+unchanged-now {T} {size} {test} {sp} c {p} {xs} ys {t} v e =
     subst (λ (zs : List T). IsVectorNow size test sp c c p t zs t) e
-    (let r : IsRewritten c c p size (length xs) t (flat_map sp xs) = unchanged-rewritten c p size (length xs) t (flat_map sp xs) v.stands in record { change = r.change; vector = v })
+    (let r : IsRewritten c c p size (length xs) t (flat_map sp xs) = unchanged-rewritten c v.stands in record
+    { change = r.change; vector = v })
 
 -- a place that is free
-pub has-space : {T : Type 0} → (size : ℕ) (test : T → Bool) (sp : T → List ℕ) (b : List ℕ) (p : Place) (xs : List T) (t : Table) → IsVector size test sp b p xs t → length xs < t.capacity
+pub has-space : {T : Type 0} → {size : ℕ} {test : T → Bool} {sp : T → List ℕ} {b : List ℕ} {p : Place} {xs : List T}
+    {t : Table} → IsVector size test sp b p xs t → length xs < t.capacity
     → word_at (bytes_of b) (p.handle + p.at + 8) < word_at (bytes_of b) (p.handle + p.at + 16)
-has-space size test sp b p xs t v f = omega (arith, f, v.stands.words.len_word, v.stands.words.capacity)
+has-space v f = omega (arith, f, v.stands.words.len_word, v.stands.words.capacity)
 
 -- the bytes of an element are those of its value
-pub element-spells : {T : Type 0} → (size : ℕ) (test : T → Bool) (sp : T → List ℕ) (old mid : Cut) (p : Place) (k : ℕ) (xs : List T) (t : Table) → k ≡ size → IsVector size test sp old.bytes p xs t
-    → (i : ℕ) (x : T) (out : List ℕ) → ((x : T) → test x ≡ true → length (sp x) ≡ size) → slice_get xs i ≡ Some x → ReadsOne old.bytes p k i out → out ≡ sp x
-element-spells size test sp old mid p k xs t e v i x out spells f h =
-    h (length xs) t (flat_map sp xs) (subst (λ j. Stands old.bytes p j (length xs) t (flat_map sp xs)) (sym e) v.stands) ∙ ap (λ j. part (flat_map sp xs) (j * i) j) e ∙ flat-element size test sp xs i x spells v.values f
+pub element-spells : {T : Type 0} → {size : ℕ} {test : T → Bool} {sp : T → List ℕ} (old : Cut) {p : Place} {k : ℕ}
+    {xs : List T} {t : Table} → k ≡ size → IsVector size test sp old.bytes p xs t
+    → (i : ℕ) {x : T} (out : List ℕ) → ((x : T) → test x ≡ true → length (sp x) ≡ size) → slice_get xs i ≡ Some x
+    → ReadsOne old.bytes p k i out → out ≡ sp x
+element-spells {size = size} {test} {sp} old {p} {k} {xs} {t} e v i out spells f h =
+    h (length xs) t (flat_map sp xs) (subst (λ j. Stands old.bytes p j (length xs) t (flat_map sp xs)) (sym e)
+    v.stands) ∙ ap (λ j. part (flat_map sp xs) (j * i) j) e ∙ flat-element size test sp xs i spells v.values f
 
 -- ---- what the calls on bytes do, for texts
 
@@ -179,9 +398,9 @@ wanted-bytes n c = wanted-if n c (nat_le n c) refl
     wanted-if n c true e = leb-true n c e
     wanted-if n c false e = grind arith
 
-module _ (old mid : Cut) (p : Place) (bytes : List ℕ) (t : Table) (v : IsText old.bytes p bytes t) where
+module _ (old mid : Cut) {p : Place} {bytes : List ℕ} {t : Table} (v : IsText old.bytes p bytes t) where
   pub few-places : t.capacity < 1073741824
-  few-places = let few : 1 * t.capacity < 1073741824 = capacity-bytes old p 1 (length bytes) t bytes v.heap v in omega (arith, few)
+  few-places = let few : 1 * t.capacity < 1073741824 = capacity-bytes old v.heap v in omega (arith, few)
 
   pub text-without-space : (n m : ℕ) → n ≡ m → HasNotGrown old mid p 1 n → IsWithoutSpace old mid 1 m t NoSpace
   text-without-space n m f h =
@@ -192,26 +411,33 @@ module _ (old mid : Cut) (p : Place) (bytes : List ℕ) (t : Table) (v : IsText 
   text-grown-of n m f h = subst (λ j. IsGrown old mid p 1 j (length bytes) t bytes) f (h (length bytes) t bytes v)
 
   pub text-cleared : Truncates old mid p 1 0 → IsTextNow old mid p t [] t
-  text-cleared h = text-now old mid p 0 t [] [] (h (length bytes) t bytes v) refl refl
+  text-cleared h = text-now [] (h (length bytes) t bytes v) refl refl
 
-  pub text-set : (i x : ℕ) → i < length bytes → Overwrites old mid p 1 i (x ∷ []) → IsTextNow old mid p t (slice_set bytes i x) t
+  pub text-set : (i x : ℕ) → i < length bytes → Overwrites old mid p 1 i (x ∷ [])
+      → IsTextNow old mid p t (slice_set bytes i x) t
   text-set i x f h =
       let at : 1 * i ≡ i = omega arith in
       let next : i + 1 ≡ suc i = omega arith in
-      let r : IsRewritten old mid p 1 (length bytes) t (patched bytes i (x ∷ [])) = subst (λ j. IsRewritten old mid p 1 (length bytes) t (patched bytes j (x ∷ []))) at (h (length bytes) t bytes v) in
-      let is : patched bytes i (x ∷ []) ≡ slice_set bytes i x =
-      append_assoc (take i bytes) (x ∷ []) (drop (i + 1) bytes) ∙ ap (λ k. take i bytes ++ (x ∷ drop k bytes)) next ∙ sym (set-pieces bytes i x f) in
-      text-now old mid p (length bytes) t (patched bytes i (x ∷ [])) (slice_set bytes i x) r (sym (length-set bytes i x)) is
+      let r : IsRewritten old mid p 1 (length bytes) t (patched bytes i (x ∷ [])) =
+      subst (λ j. IsRewritten old mid p 1 (length bytes) t (patched bytes j (x ∷ []))) at
+      (h (length bytes) t bytes v) in
+      let is : patched bytes i (x ∷ []) ≡ slice_set bytes i x = append_assoc (take i bytes) (x ∷ [])
+      (drop (i + 1) bytes) ∙ ap (λ k. take i bytes ++ (x ∷ drop k bytes)) next ∙ sym (set-pieces bytes i x f) in
+      text-now (slice_set bytes i x) r (sym (length-set bytes i x)) is
 
   pub text-extended : (more : List ℕ) → Extends old mid p more → IsTextNow old mid p t (bytes ++ more) t
-  text-extended more h = text-now old mid p (length bytes + length more) t (bytes ++ more) (bytes ++ more) (h (length bytes) t bytes v) (sym (length-append bytes more)) refl
+  text-extended more h = text-now (bytes ++ more) (h (length bytes) t bytes v) (sym (length-append bytes more)) refl
 
   pub text-fitted : Fits old mid p 1 → IsTextNow old mid p t bytes (cut_table (live_of old.bytes) 1 (length bytes) t)
-  text-fitted h = let r : IsFitted old mid p 1 (length bytes) t bytes = h (length bytes) t bytes v in record { change = r.change; text = r.stands }
+  text-fitted h = let r : IsFitted old mid p 1 (length bytes) t bytes = h (length bytes) t bytes v in record
+      { change = r.change; text = r.stands }
 
   pub text-released : GivesBack old mid p 1 → IsTextNow old mid p t [] no_table
-  text-released h = let r : IsGivenBack old mid p 1 t = h (length bytes) t bytes v in record { change = r.change; text = r.stands }
+  text-released h = let r : IsGivenBack old mid p 1 t = h (length bytes) t bytes v in record
+      { change = r.change; text = r.stands }
 
   -- places for bytes behind the last one
-  pub text-space : (more : List ℕ) → length bytes + length more ≤ t.capacity → word_at (bytes_of old.bytes) (p.handle + p.at + 8) + length more ≤ word_at (bytes_of old.bytes) (p.handle + p.at + 16)
+  pub text-space : (more : List ℕ) → length bytes + length more ≤ t.capacity
+      → word_at (bytes_of old.bytes) (p.handle + p.at + 8) + length more ≤ word_at (bytes_of old.bytes)
+      (p.handle + p.at + 16)
   text-space more f = omega (arith, f, v.words.len_word, v.words.capacity)

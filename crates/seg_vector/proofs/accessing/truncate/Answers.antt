@@ -4,19 +4,20 @@ use Rattle.raw_region.specs.Format.{current}
 use Rattle.raw_region.specs.Memory.{bytes_of, word_at}
 use Rattle.best_fit.specs.Heap.{IsChanged, live_of}
 use Rattle.best_fit.proofs.Laws.{room-less}
-use Rattle.seg_vector.proofs.Growth.{room-small}
-use Rattle.seg_vector.proofs.Rewriting.{truncated}
+use Rattle.seg_vector.proofs.Storage.{len-room, place-small, room-small, truncated}
 use Rattle.seg_vector.proofs.accessing.truncate.Goals as goal
 
 pub overflow_add-place : goal.overflow_add-place
-overflow_add-place c = let small : c.args.place.at + 24 < 1073741824 = room-small c.args.heap.now c.args.place.handle (c.args.place.at + 24) c.requires.stands.1.1.1.heap c.requires.stands.1.1.1.room in omega arith
+overflow_add-place c = let small = place-small c.args.place c.requires.stands.1.1.1.heap
+    c.requires.stands.1.1.1.room in omega arith
 
 pub set_word-requires : goal.set_word-requires
-set_word-requires c = room-less (live_of c.args.heap.now.bytes) c.args.place.handle (c.args.place.at + 24) (c.args.place.at + 8 + 8) (omega arith) c.requires.stands.1.1.1.room
+set_word-requires c = len-room c.args.heap.now.bytes c.args.place c.requires.stands.1.1.1.room
 
 pub returns : goal.returns
 returns c len t bytes s =
     let at : c.args.place.handle + (c.args.place.at + 8) ≡ c.args.place.handle + c.args.place.at + 8 = omega arith in
-    truncated c.args.heap.now c.set_word.new.self c.args.place c.args.each len c.args.n t bytes s (omega (arith, c.requires.fewer, s.words.len_word))
+    truncated {old = c.args.heap.now} {new = c.set_word.new.self} c.args.n s
+    (omega (arith, c.requires.fewer, s.words.len_word))
     (subst (λ k. IsChanged current c.args.heap.now c.set_word.new.self k 8) at c.set_word.ensures.change)
     (subst (λ k. word_at (bytes_of c.set_word.new.self.bytes) k ≡ c.args.n) at c.set_word.ensures.word)

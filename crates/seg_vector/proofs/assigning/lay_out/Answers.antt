@@ -1,53 +1,55 @@
 -- The array is taken into use, and then the texts; or all is given back.
 use Rattle.std.proofs.Common.{sym, length, map}
 use Rattle.std.proofs.lemmas.List.{length-map}
-use Rattle.seg_vector.proofs.TextsLaidOut.{array-live, array-taken, laid-held, laid-out, no-space, out-of-reach, taken-off}
+use Rattle.seg_vector.proofs.TextsLaid.{array-live, array-taken, laid-held, laid-out, no-space, out-of-reach, taken-off}
 use Rattle.seg_vector.proofs.assigning.lay_out.Goals as goal
 
 pub returns-then-n-gt-LIMIT : goal.returns-then-n-gt-LIMIT
 returns-then-n-gt-LIMIT c =
-    out-of-reach c.args.heap.now (length c.args.texts.now) (map (λ text. text.now) c.args.texts.now) c.requires.heap (sym (length-map c.args.texts.now (λ text. text.now))) c.if-n-gt-LIMIT.true
+    out-of-reach c.args.heap.now (length c.args.texts.now) (map (λ text. text.now) c.args.texts.now) c.requires.heap
+    (sym (length-map c.args.texts.now (λ text. text.now))) c.if-n-gt-LIMIT.true
 
 pub place_texts-placed-requires-clause-heap : goal.place_texts-placed-requires-clause-heap
-place_texts-placed-requires-clause-heap c = (array-taken c.args.heap.now c.allocate.new.self (length c.args.texts.now) c.in-Ok.array c.in-Ok.ensures.answer).heap
+place_texts-placed-requires-clause-heap c = (array-taken (length c.args.texts.now) c.in-Ok.ensures.answer).heap
 
 pub place_texts-placed-requires-clause-room : goal.place_texts-placed-requires-clause-room
-place_texts-placed-requires-clause-room c = (array-taken c.args.heap.now c.allocate.new.self (length c.args.texts.now) c.in-Ok.array c.in-Ok.ensures.answer).room
+place_texts-placed-requires-clause-room c = (array-taken (length c.args.texts.now) c.in-Ok.ensures.answer).room
 
 pub returns-then-placed-n : goal.returns-then-placed-n
 returns-then-placed-n c =
     let n = length c.args.texts.now in
-    let t = array-taken c.args.heap.now c.allocate.new.self n c.in-Ok.array c.in-Ok.ensures.answer in
-    laid-out c.args.heap.now c.allocate.new.self c.place_texts-placed.new.heap n c.place_texts-placed.result c.in-Ok.array (map (λ text. text.now) c.args.texts.now) t (sym (length-map c.args.texts.now (λ text. text.now)))
+    let t = array-taken n c.in-Ok.ensures.answer in
+    laid-out t (sym (length-map c.args.texts.now (λ text. text.now)))
     (c.place_texts-placed.ensures t.block t.at t.found) c.if-placed-n.true
 
 pub release_texts-requires : goal.release_texts-requires
 release_texts-requires c =
     let n = length c.args.texts.now in
-    let t = array-taken c.args.heap.now c.allocate.new.self n c.in-Ok.array c.in-Ok.ensures.answer in
+    let t = array-taken n c.in-Ok.ensures.answer in
     let w = c.place_texts-placed.ensures t.block t.at t.found in
-    (w.laid.texts, laid-held c.args.heap.now c.allocate.new.self c.place_texts-placed.new.heap n c.place_texts-placed.result c.in-Ok.array (map (λ text. text.now) c.args.texts.now) t (sym (length-map c.args.texts.now (λ text. text.now))) w)
+    (w.laid.texts, laid-held t (sym (length-map c.args.texts.now (λ text. text.now))) w)
 
 pub deallocate-requires : goal.deallocate-requires
 deallocate-requires c =
     let n = length c.args.texts.now in
     let more = map (λ text. text.now) c.args.texts.now in
-    let t = array-taken c.args.heap.now c.allocate.new.self n c.in-Ok.array c.in-Ok.ensures.answer in
+    let t = array-taken n c.in-Ok.ensures.answer in
     let w = c.place_texts-placed.ensures t.block t.at t.found in
-    let h = laid-held c.args.heap.now c.allocate.new.self c.place_texts-placed.new.heap n c.place_texts-placed.result c.in-Ok.array more t (sym (length-map c.args.texts.now (λ text. text.now))) w in
-    array-live c.args.heap.now c.allocate.new.self c.place_texts-placed.new.heap c.release_texts.new.heap n c.place_texts-placed.result c.in-Ok.array more t w (c.release_texts.ensures w.laid.texts h)
+    let h = laid-held t (sym (length-map c.args.texts.now (λ text. text.now))) w in
+    array-live t w (c.release_texts.ensures w.laid.texts h)
 
 pub returns-in-Err : goal.returns-in-Err
 returns-in-Err c =
-    no-space c.args.heap.now c.allocate.new.self (length c.args.texts.now) (map (λ text. text.now) c.args.texts.now) c.requires.heap c.requires.some (sym (length-map c.args.texts.now (λ text. text.now))) c.in-Err.ensures.answer
+    no-space (length c.args.texts.now) (map (λ text. text.now) c.args.texts.now) c.requires.heap c.requires.some
+    (sym (length-map c.args.texts.now (λ text. text.now))) c.in-Err.ensures.answer
 
 pub returns-else-placed-n : goal.returns-else-placed-n
 returns-else-placed-n c =
     let n = length c.args.texts.now in
     let more = map (λ text. text.now) c.args.texts.now in
     let e = sym (length-map c.args.texts.now (λ text. text.now)) in
-    let t = array-taken c.args.heap.now c.allocate.new.self n c.in-Ok.array c.in-Ok.ensures.answer in
+    let t = array-taken n c.in-Ok.ensures.answer in
     let w = c.place_texts-placed.ensures t.block t.at t.found in
-    let h = laid-held c.args.heap.now c.allocate.new.self c.place_texts-placed.new.heap n c.place_texts-placed.result c.in-Ok.array more t e w in
-    taken-off c.args.heap.now c.allocate.new.self c.place_texts-placed.new.heap c.release_texts.new.heap c.deallocate.new.self n c.place_texts-placed.result c.in-Ok.array more t e c.requires.some w c.if-placed-n.false
+    let h = laid-held t e w in
+    taken-off t e c.requires.some w c.if-placed-n.false
     (c.release_texts.ensures w.laid.texts h) c.deallocate.ensures.released

@@ -8,38 +8,42 @@ use Rattle.seg_vector.proofs.assigning.place_texts.Goals as goal
 
 pub loop-i-init : goal.loop-i-init
 loop-i-init c y at found =
-    laid-begin c.args.heap.now y (map (λ text. text.now) c.args.texts.now) c.requires.heap (ap (λ k. extent_at (live_of c.args.heap.now.bytes) k) at ∙ found)
+    laid-begin c.args.heap.now (map (λ text. text.now) c.args.texts.now) c.requires.heap
+    (ap (λ k. extent_at (live_of c.args.heap.now.bytes) k) at ∙ found)
 
 pub place_text-requires : goal.place_text-requires
 place_text-requires c =
     let r = roomy c.args.heap.now c.args.array (16 * length c.args.texts.now) c.requires.heap c.requires.room in
-    laid-heap-of c.args.heap.now c.loop-i.heap r.extent c.loop-i.i (map (λ text. text.now) c.args.texts.now) (c.loop-i.invariant r.extent r.at r.found)
+    laid-heap-of (c.loop-i.invariant r.extent r.at r.found)
 
 pub returns-in-Err : goal.returns-in-Err
 returns-in-Err c y at found =
-    laid-stops c.args.heap.now c.loop-i.heap c.place_text.new.heap y c.loop-i.i _ (map (λ text. text.now) c.args.texts.now) (c.loop-i.invariant y at found) (drop-next c.args.texts.now c.loop-i.i _ c.loop-i-test.true)
+    laid-stops (c.loop-i.invariant y at found) (drop-next c.args.texts.now c.loop-i.i _ c.loop-i-test.true)
     (omega (arith, c.loop-i-test.true, length-map c.args.texts.now (λ text. text.now))) c.in-Err.ensures
 
 pub put_element-requires-clause-heap : goal.put_element-requires-clause-heap
-put_element-requires-clause-heap c = text-heap c.loop-i.heap c.place_text.new.heap _ c.in-Ok.block c.in-Ok.ensures
+put_element-requires-clause-heap c = text-heap c.in-Ok.ensures
 
 pub put_element-requires-clause-room : goal.put_element-requires-clause-room
 put_element-requires-clause-room c =
     let r = roomy c.args.heap.now c.args.array (16 * length c.args.texts.now) c.requires.heap c.requires.room in
-    laid-room c.args.heap.now c.loop-i.heap c.place_text.new.heap r.extent c.loop-i.i (length c.args.texts.now) c.args.array _ (map (λ text. text.now) c.args.texts.now) c.in-Ok.block r.at (c.loop-i.invariant r.extent r.at r.found) c.in-Ok.ensures
+    laid-room (length c.args.texts.now) c.args.array r.at (c.loop-i.invariant r.extent r.at r.found) c.in-Ok.ensures
     c.loop-i-test.true r.room
 
 pub put_element-requires-clause-target : goal.put_element-requires-clause-target
-put_element-requires-clause-target c = text-even c.loop-i.heap c.place_text.new.heap _ c.in-Ok.block c.in-Ok.ensures
+put_element-requires-clause-target c = text-even c.in-Ok.ensures
 
 pub loop-i-preserved : goal.loop-i-preserved
 loop-i-preserved c y at found =
     let r = roomy c.args.heap.now c.args.array (16 * length c.args.texts.now) c.requires.heap c.requires.room in
-    laid-put c.args.heap.now c.loop-i.heap c.place_text.new.heap c.put_element.new.heap y c.loop-i.i (length c.args.texts.now) c.args.array _ (map (λ text. text.now) c.args.texts.now) c.in-Ok.block at (c.loop-i.invariant y at found)
-    (drop-next c.args.texts.now c.loop-i.i _ c.loop-i-test.true) c.loop-i-test.true (found-big c.args.heap.now c.args.array (16 * length c.args.texts.now) y c.requires.heap c.requires.room found) c.in-Ok.ensures
+    laid-put (length c.args.texts.now) c.args.array at (c.loop-i.invariant y at found)
+    (drop-next c.args.texts.now c.loop-i.i _ c.loop-i-test.true) c.loop-i-test.true
+    (found-big c.args.heap.now c.args.array (16 * length c.args.texts.now) c.requires.heap c.requires.room found)
+    c.in-Ok.ensures
     c.put_element.ensures.change c.put_element.ensures.link c.put_element.ensures.len_word
 
 pub returns : goal.returns
 returns c y at found =
     let all : c.loop-i.i ≡ length c.args.texts.now = omega (arith, c.loop-i-test.false, c.loop-i.auto.i-end) in
-    laid-all c.args.heap.now c.loop-i.heap y c.loop-i.i (length c.args.texts.now) (map (λ text. text.now) c.args.texts.now) (c.loop-i.invariant y at found) all (sym (length-map c.args.texts.now (λ text. text.now)))
+    laid-all (length c.args.texts.now) (c.loop-i.invariant y at found) all
+    (sym (length-map c.args.texts.now (λ text. text.now)))

@@ -4,48 +4,63 @@ use Rattle.raw_region.specs.Format.{current}
 use Rattle.raw_region.specs.Memory.{bytes_of, read, word_at}
 use Rattle.best_fit.specs.Heap.{IsChanged, live_of}
 use Rattle.best_fit.proofs.Laws.{changed-room, room-less}
-use Rattle.seg_vector.proofs.Growth.{len-read, room-small}
-use Rattle.seg_vector.proofs.Shifts.{erase-fits, erased}
+use Rattle.seg_vector.proofs.Storage.{erase-fits, erased, len-read, len-room, link-room, place-small, room-small}
 use Rattle.seg_vector.proofs.moving.erase_element.Goals as goal
 
 pub overflow_add-place : goal.overflow_add-place
-overflow_add-place c = let small : c.args.place.at + 24 < 1073741824 = room-small c.args.heap.now c.args.place.handle (c.args.place.at + 24) c.requires.stands.1.1.1.heap c.requires.stands.1.1.1.room in omega arith
+overflow_add-place c = let small = place-small c.args.place c.requires.stands.1.1.1.heap
+    c.requires.stands.1.1.1.room in omega arith
 
 pub overflow_add-place-in-Some : goal.overflow_add-place-in-Some
-overflow_add-place-in-Some c = let small : c.args.place.at + 24 < 1073741824 = room-small c.args.heap.now c.args.place.handle (c.args.place.at + 24) c.requires.stands.1.1.1.heap c.requires.stands.1.1.1.room in omega arith
+overflow_add-place-in-Some c = let small = place-small c.args.place c.requires.stands.1.1.1.heap
+    c.requires.stands.1.1.1.room in omega arith
 
 pub word-len-requires : goal.word-len-requires
-word-len-requires c = room-less (live_of c.args.heap.now.bytes) c.args.place.handle (c.args.place.at + 24) (c.args.place.at + 8 + 8) (omega arith) c.requires.stands.1.1.1.room
+word-len-requires c = len-room c.args.heap.now.bytes c.args.place c.requires.stands.1.1.1.room
 
 pub link-requires-clause-room : goal.link-requires-clause-room
-link-requires-clause-room c = room-less (live_of c.args.heap.now.bytes) c.args.place.handle (c.args.place.at + 24) (c.args.place.at + 8) (omega arith) c.requires.stands.1.1.1.room
+link-requires-clause-room c = link-room c.args.heap.now.bytes c.args.place c.requires.stands.1.1.1.room
 
 pub overflow_mul-from : goal.overflow_mul-from
-overflow_mul-from c = let small = (erase-fits c.args.heap.now c.args.place c.args.each c.requires.stands.0 c.word-len.result c.in-Some.storage c.args.index c.requires.stands.1.0 c.requires.stands.1.1.0 c.requires.stands.1.1.1 c.word-len.ensures c.requires.inside (sym c.link.ensures ∙ c.in-Some.is)).small in omega (arith, small)
+overflow_mul-from c = let small = (erase-fits c.args.heap.now c.word-len.result c.args.index c.requires.stands.1.1.1
+    c.word-len.ensures c.requires.inside (sym c.link.ensures ∙ c.in-Some.is)).small in omega (arith, small)
 
 pub overflow_mul-behind : goal.overflow_mul-behind
-overflow_mul-behind c = let small = (erase-fits c.args.heap.now c.args.place c.args.each c.requires.stands.0 c.word-len.result c.in-Some.storage c.args.index c.requires.stands.1.0 c.requires.stands.1.1.0 c.requires.stands.1.1.1 c.word-len.ensures c.requires.inside (sym c.link.ensures ∙ c.in-Some.is)).small in omega (arith, small)
+overflow_mul-behind c = let small = (erase-fits c.args.heap.now c.word-len.result c.args.index c.requires.stands.1.1.1
+    c.word-len.ensures c.requires.inside (sym c.link.ensures ∙ c.in-Some.is)).small in omega (arith, small)
 
 pub overflow_add-from : goal.overflow_add-from
-overflow_add-from c = let small = (erase-fits c.args.heap.now c.args.place c.args.each c.requires.stands.0 c.word-len.result c.in-Some.storage c.args.index c.requires.stands.1.0 c.requires.stands.1.1.0 c.requires.stands.1.1.1 c.word-len.ensures c.requires.inside (sym c.link.ensures ∙ c.in-Some.is)).small in omega (arith, small)
+overflow_add-from c = let small = (erase-fits c.args.heap.now c.word-len.result c.args.index c.requires.stands.1.1.1
+    c.word-len.ensures c.requires.inside (sym c.link.ensures ∙ c.in-Some.is)).small in omega (arith, small)
 
 pub copy-requires-clause-source : goal.copy-requires-clause-source
-copy-requires-clause-source c = (erase-fits c.args.heap.now c.args.place c.args.each c.requires.stands.0 c.word-len.result c.in-Some.storage c.args.index c.requires.stands.1.0 c.requires.stands.1.1.0 c.requires.stands.1.1.1 c.word-len.ensures c.requires.inside (sym c.link.ensures ∙ c.in-Some.is)).room
+copy-requires-clause-source c = (erase-fits c.args.heap.now c.word-len.result c.args.index c.requires.stands.1.1.1
+    c.word-len.ensures c.requires.inside (sym c.link.ensures ∙ c.in-Some.is)).room
 
 pub copy-requires-clause-target : goal.copy-requires-clause-target
-copy-requires-clause-target c = room-less (live_of c.args.heap.now.bytes) c.in-Some.storage (c.args.each * c.args.index + c.args.each + c.args.each * (c.word-len.result - c.args.index - 1)) (c.args.each * c.args.index + c.args.each * (c.word-len.result - c.args.index - 1)) (omega arith) (erase-fits c.args.heap.now c.args.place c.args.each c.requires.stands.0 c.word-len.result c.in-Some.storage c.args.index c.requires.stands.1.0 c.requires.stands.1.1.0 c.requires.stands.1.1.1 c.word-len.ensures c.requires.inside (sym c.link.ensures ∙ c.in-Some.is)).room
+copy-requires-clause-target c = room-less (live_of c.args.heap.now.bytes) c.in-Some.storage
+    (c.args.each * c.args.index + c.args.each + c.args.each * (c.word-len.result - c.args.index - 1))
+    (c.args.each * c.args.index + c.args.each * (c.word-len.result - c.args.index - 1)) (omega arith)
+    (erase-fits c.args.heap.now c.word-len.result c.args.index c.requires.stands.1.1.1 c.word-len.ensures
+    c.requires.inside (sym c.link.ensures ∙ c.in-Some.is)).room
 
 pub set_word-requires : goal.set_word-requires
 set_word-requires c =
-    changed-room current c.args.heap.now c.copy.new.self (c.in-Some.storage + c.args.each * c.args.index) (c.args.each * (c.word-len.result - c.args.index - 1)) c.args.place.handle (c.args.place.at + 8 + 8) c.copy.ensures.change
-    (room-less (live_of c.args.heap.now.bytes) c.args.place.handle (c.args.place.at + 24) (c.args.place.at + 8 + 8) (omega arith) c.requires.stands.1.1.1.room)
+    changed-room _ _ _ _ _ c.args.place.handle (c.args.place.at + 8 + 8) c.copy.ensures.change
+    (len-room c.args.heap.now.bytes c.args.place c.requires.stands.1.1.1.room)
 
 pub returns-in-Some : goal.returns-in-Some
 returns-in-Some c len t bytes s =
-    let is : c.word-len.result ≡ len = len-read c.args.heap.now.bytes c.args.place c.args.each len c.word-len.result t bytes s c.word-len.ensures in
+    let is = len-read c.word-len.result s c.word-len.ensures in
     let at : c.args.place.handle + (c.args.place.at + 8) ≡ c.args.place.handle + c.args.place.at + 8 = omega arith in
-    erased c.args.heap.now c.copy.new.self c.set_word.new.self c.args.place c.args.each len c.in-Some.storage c.args.index t bytes s (omega (arith, c.requires.inside, s.words.len_word)) (sym c.link.ensures ∙ c.in-Some.is)
-    (subst (λ k. IsChanged current c.args.heap.now c.copy.new.self (c.in-Some.storage + c.args.each * c.args.index) (c.args.each * (k - c.args.index - 1))) is c.copy.ensures.change)
-    (subst (λ k. read (bytes_of c.copy.new.self.bytes) (c.in-Some.storage + c.args.each * c.args.index) (c.args.each * (k - c.args.index - 1)) ≡ read (bytes_of c.args.heap.now.bytes) (c.in-Some.storage + (c.args.each * c.args.index + c.args.each)) (c.args.each * (k - c.args.index - 1))) is c.copy.ensures.content)
+    erased {old = c.args.heap.now} {s1 = c.copy.new.self} {new = c.set_word.new.self} c.args.index s
+    (omega (arith, c.requires.inside, s.words.len_word)) (sym c.link.ensures ∙ c.in-Some.is)
+    (subst (λ k. IsChanged current c.args.heap.now c.copy.new.self (c.in-Some.storage + c.args.each * c.args.index)
+    (c.args.each * (k - c.args.index - 1))) is c.copy.ensures.change)
+    (subst (λ k. read (bytes_of c.copy.new.self.bytes) (c.in-Some.storage + c.args.each * c.args.index)
+    (c.args.each * (k - c.args.index - 1)) ≡ read (bytes_of c.args.heap.now.bytes)
+    (c.in-Some.storage + (c.args.each * c.args.index + c.args.each)) (c.args.each * (k - c.args.index - 1))) is
+    c.copy.ensures.content)
     (subst (λ k. IsChanged current c.copy.new.self c.set_word.new.self k 8) at c.set_word.ensures.change)
-    (subst (λ k. word_at (bytes_of c.set_word.new.self.bytes) k ≡ len - 1) at (c.set_word.ensures.word ∙ ap (λ k. k - 1) is))
+    (subst (λ k. word_at (bytes_of c.set_word.new.self.bytes) k ≡ len - 1) at
+    (c.set_word.ensures.word ∙ ap (λ k. k - 1) is))

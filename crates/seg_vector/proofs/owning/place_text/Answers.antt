@@ -1,16 +1,15 @@
 -- The block holds the text.
 use Rattle.std.proofs.Common.{◌+◌, arith, length}
-use Rattle.raw_region.specs.Format.{current}
-use Rattle.block_tags.specs.declared.tile.Role.TheVariants.{Storage}
 use Rattle.best_fit.proofs.Laws.{allocated-room}
-use Rattle.seg_vector.proofs.TextPlaces.{placed-empty, placed-some}
+use Rattle.seg_vector.proofs.TextCalls.{placed-empty, placed-some}
 use Rattle.seg_vector.proofs.owning.place_text.Goals as goal
 
 pub returns-then-len-eq0 : goal.returns-then-len-eq0
 returns-then-len-eq0 c = placed-empty c.args.heap.now c.args.text.now c.requires (omega (arith, c.if-len-eq0.true))
 
 pub write-requires : goal.write-requires
-write-requires c = allocated-room current c.args.heap.now c.allocate.new.self (length c.args.text.now) Storage c.in-Ok.block (0 + length c.args.text.now) c.in-Ok.ensures.answer (omega arith)
+write-requires c = allocated-room _ _ _ _ _ _ (0 + length c.args.text.now) c.in-Ok.ensures.answer (omega arith)
 
 pub returns-in-Ok : goal.returns-in-Ok
-returns-in-Ok c = placed-some c.args.heap.now c.allocate.new.self c.write.new.self c.args.text.now c.in-Ok.block (omega (arith, c.if-len-eq0.false)) c.in-Ok.ensures.answer c.write.ensures.change c.write.ensures.content
+returns-in-Ok c = placed-some c.args.text.now (omega (arith, c.if-len-eq0.false)) c.in-Ok.ensures.answer
+    c.write.ensures.change c.write.ensures.content

@@ -2,18 +2,20 @@
 use Rattle.std.proofs.Common.{◌+◌, ◌∙◌, sym, arith}
 use Rattle.best_fit.specs.Heap.{live_of}
 use Rattle.best_fit.proofs.Laws.{room-less}
-use Rattle.seg_vector.proofs.Emptying.{none-left}
-use Rattle.seg_vector.proofs.TextReleases.{element-live, released-none, released-some}
+use Rattle.seg_vector.proofs.Fewer.{none-left}
+use Rattle.seg_vector.proofs.TextBlocks.{element-live, released-none, released-some}
 use Rattle.seg_vector.proofs.owning.release_text.Goals as goal
 
 pub link-requires-clause-room : goal.link-requires-clause-room
-link-requires-clause-room c = room-less (live_of c.args.heap.now.bytes) c.args.array (c.args.at + 16) (c.args.at + 8) (omega arith) c.requires.1.room
+link-requires-clause-room c = room-less (live_of c.args.heap.now.bytes) c.args.array (c.args.at + 16) (c.args.at + 8)
+    (omega arith) c.requires.1.room
 
 pub deallocate-requires : goal.deallocate-requires
-deallocate-requires c = element-live c.args.heap.now.bytes c.args.array c.args.at c.in-Some.text c.requires.0 c.requires.1 (sym c.link.ensures ∙ c.in-Some.is)
+deallocate-requires c = element-live c.requires.1 (sym c.link.ensures ∙ c.in-Some.is)
 
 pub returns-in-Some : goal.returns-in-Some
-returns-in-Some c q s = released-some c.args.heap.now c.deallocate.new.self c.args.array c.args.at c.in-Some.text q s (sym c.link.ensures ∙ c.in-Some.is) c.deallocate.ensures.released
+returns-in-Some c q s = released-some s (sym c.link.ensures ∙ c.in-Some.is) c.deallocate.ensures.released
 
 pub returns-in_default : goal.returns-in_default
-returns-in_default c q s = released-none c.args.heap.now c.args.array c.args.at q s (sym c.link.ensures ∙ none-left c.link.result c.in_default.not-Some)
+returns-in_default c q s = released-none c.args.heap.now s
+    (sym c.link.ensures ∙ none-left c.link.result c.in_default.not-Some)

@@ -1,16 +1,15 @@
 -- The next text is released, and those behind it are left.
-use Rattle.std.proofs.Common.{◌*◌, ◌<◌, arith}
-use Rattle.seg_vector.proofs.Growth.{room-small}
-use Rattle.seg_vector.proofs.ReadTexts.{text-found}
-use Rattle.seg_vector.proofs.TextReleases.{element-left, releases-begin, releases-end, releases-next}
+use Rattle.std.proofs.Common.{◌*◌, arith}
+use Rattle.seg_vector.proofs.Storage.{room-small}
+use Rattle.seg_vector.proofs.TextBlocks.{text-found, element-left, releases-begin, releases-end, releases-next}
 use Rattle.seg_vector.proofs.owning.release_texts.Goals as goal
 
 pub loop-i-init : goal.loop-i-init
-loop-i-init c ps s = releases-begin c.args.heap.now c.args.array c.args.n ps s
+loop-i-init c ps s = releases-begin c.args.heap.now s
 
 pub overflow_mul-i : goal.overflow_mul-i
 overflow_mul-i c =
-    let small : 16 * c.args.n < 1073741824 = room-small c.args.heap.now c.args.array (16 * c.args.n) c.requires.1.heap c.requires.1.room in
+    let small = room-small c.args.heap.now c.args.array (16 * c.args.n) c.requires.1.heap c.requires.1.room in
     omega (arith, small, c.loop-i-test.true)
 
 pub release_text-requires : goal.release_text-requires
@@ -18,14 +17,14 @@ release_text-requires c =
     let ps = c.requires.0 in
     let s = c.requires.1 in
     let q = text-found ps c.loop-i.i (omega (arith, c.loop-i-test.true, s.long)) in
-    (q.0, element-left c.args.heap.now c.loop-i.heap c.args.array c.args.n c.loop-i.i ps q.0 s q.1 (c.loop-i.invariant ps s))
+    (q.0, element-left c.loop-i.i s q.1 (c.loop-i.invariant ps s))
 
 pub loop-i-preserved : goal.loop-i-preserved
 loop-i-preserved c ps s =
     let q = text-found ps c.loop-i.i (omega (arith, c.loop-i-test.true, s.long)) in
     let x = c.loop-i.invariant ps s in
-    releases-next c.args.heap.now c.loop-i.heap c.release_text.new.heap c.loop-i.i ps q.0 q.1 x
-    (c.release_text.ensures q.0 (element-left c.args.heap.now c.loop-i.heap c.args.array c.args.n c.loop-i.i ps q.0 s q.1 x))
+    releases-next c.loop-i.i ps q.1 x
+    (c.release_text.ensures q.0 (element-left c.loop-i.i s q.1 x))
 
 pub returns : goal.returns
-returns c ps s = releases-end c.args.heap.now c.loop-i.heap c.loop-i.i ps (omega (arith, c.loop-i-test.false, s.long)) (c.loop-i.invariant ps s)
+returns c ps s = releases-end c.loop-i.i ps (omega (arith, c.loop-i-test.false, s.long)) (c.loop-i.invariant ps s)

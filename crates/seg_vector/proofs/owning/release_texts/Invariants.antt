@@ -6,4 +6,5 @@ use Rattle.seg_vector.specs.Vector.{OwnedText}
 use Rattle.seg_vector.proofs.owning.release_texts.Given as goal
 
 abbrev pub invariant-loop-i : goal.invariant-loop-i
-invariant-loop-i l = (ps : List OwnedText) → AreHeldElements l.fn.heap.bytes l.array l.n ps → IsSwapped l.fn.heap l.heap (text_blocks ps) (text_blocks (drop l.i ps))
+invariant-loop-i l = (ps : List OwnedText) → AreHeldElements l.fn.heap.bytes l.array l.n ps
+    → IsSwapped l.fn.heap l.heap (text_blocks ps) (text_blocks (drop l.i ps))

@@ -5,105 +5,122 @@ use Rattle.raw_region.specs.Memory.{bytes_of}
 use Rattle.best_fit.specs.Heap.{IsChanged, has_room, live_of}
 use Rattle.best_fit.proofs.Laws.{changed-room, laid-heap, room-less}
 use Rattle.seg_vector.specs.TextParts.{AreSameElements}
-use Rattle.seg_vector.proofs.Growth.{room-small}
-use Rattle.seg_vector.proofs.Rewriting.{live-if}
-use Rattle.seg_vector.proofs.TextGrowth.{adopt-none, adopt-other, adopt-same}
-use Rattle.seg_vector.proofs.TextReady.{ready, ready-even, ready-new, since-link, since-len}
-use Rattle.seg_vector.proofs.TextSteps.{head-room}
+use Rattle.seg_vector.proofs.Storage.{len-room, link-room, live-if, place-small, room-small}
+use Rattle.seg_vector.proofs.TextGrowth.{adopt-none, adopt-other, adopt-same, ready, ready-even, ready-new, since-link, since-len}
+use Rattle.seg_vector.proofs.TextBlocks.{head-room}
 use Rattle.seg_vector.proofs.text_arrays.adopt.Goals as goal
 
 pub overflow_add-place : goal.overflow_add-place
 overflow_add-place c =
-    let q = ready c.args.heap.now c.args.place c.args.array c.args.n c.requires in
-    let small : c.args.place.at + 24 < 1073741824 = room-small c.args.heap.now c.args.place.handle (c.args.place.at + 24) q.run.heap (head-room c.args.heap.now c.args.place q.run.head) in
+    let q = ready c.requires in
+    let small = place-small c.args.place q.run.heap (head-room q.run.head) in
     omega arith
 
 pub word-len-requires : goal.word-len-requires
 word-len-requires c =
-    room-less (live_of c.args.heap.now.bytes) c.args.place.handle (c.args.place.at + 24) (c.args.place.at + 8 + 8) (omega arith) (head-room c.args.heap.now c.args.place (ready c.args.heap.now c.args.place c.args.array c.args.n c.requires).run.head)
+    len-room c.args.heap.now.bytes c.args.place (head-room (ready c.requires).run.head)
 
 pub link-requires-clause-whole : goal.link-requires-clause-whole
 link-requires-clause-whole c = c.requires.texts.aligned
 
 pub link-requires-clause-room : goal.link-requires-clause-room
 link-requires-clause-room c =
-    room-less (live_of c.args.heap.now.bytes) c.args.place.handle (c.args.place.at + 24) (c.args.place.at + 8) (omega arith) (head-room c.args.heap.now c.args.place (ready c.args.heap.now c.args.place c.args.array c.args.n c.requires).run.head)
+    link-room c.args.heap.now.bytes c.args.place (head-room (ready c.requires).run.head)
 
 pub point_to-requires-clause-heap : goal.point_to-requires-clause-heap
-point_to-requires-clause-heap c = (ready c.args.heap.now c.args.place c.args.array c.args.n c.requires).run.heap
+point_to-requires-clause-heap c = (ready c.requires).run.heap
 
 pub point_to-requires-clause-room : goal.point_to-requires-clause-room
-point_to-requires-clause-room c = head-room c.args.heap.now c.args.place (ready c.args.heap.now c.args.place c.args.array c.args.n c.requires).run.head
+point_to-requires-clause-room c = head-room (ready c.requires).run.head
 
 pub point_to-requires-clause-even : goal.point_to-requires-clause-even
-point_to-requires-clause-even c = ready-even c.args.heap.now c.args.place c.args.array c.args.n c.requires
+point_to-requires-clause-even c = ready-even c.requires
 
 pub point_to-requires-then-old-array-clause-heap : goal.point_to-requires-then-old-array-clause-heap
-point_to-requires-then-old-array-clause-heap c = (ready c.args.heap.now c.args.place c.args.array c.args.n c.requires).run.heap
+point_to-requires-then-old-array-clause-heap c = (ready c.requires).run.heap
 
 pub point_to-requires-then-old-array-clause-room : goal.point_to-requires-then-old-array-clause-room
-point_to-requires-then-old-array-clause-room c = head-room c.args.heap.now c.args.place (ready c.args.heap.now c.args.place c.args.array c.args.n c.requires).run.head
+point_to-requires-then-old-array-clause-room c = head-room (ready c.requires).run.head
 
 pub point_to-requires-then-old-array-clause-even : goal.point_to-requires-then-old-array-clause-even
-point_to-requires-then-old-array-clause-even c = ready-even c.args.heap.now c.args.place c.args.array c.args.n c.requires
+point_to-requires-then-old-array-clause-even c = ready-even c.requires
 
 pub carry_down-requires-clause-heap : goal.carry_down-requires-clause-heap
-carry_down-requires-clause-heap c = (ready c.args.heap.now c.args.place c.args.array c.args.n c.requires).run.heap
+carry_down-requires-clause-heap c = (ready c.requires).run.heap
 
 pub carry_down-requires-clause-source : goal.carry_down-requires-clause-source
 carry_down-requires-clause-source c =
-    let w = ready-new c.args.heap.now c.args.place c.args.array c.in-Some.old c.args.n c.requires (sym c.link.ensures ∙ c.in-Some.is) c.if-old-array.false in
-    subst (λ k. IsTrue (has_room (live_of c.args.heap.now.bytes) c.in-Some.old (0 + 16 * k))) (sym (since-len c.args.heap.now c.args.place c.args.array c.args.n c.word-len.result c.requires c.word-len.ensures)) w.source
+    let w = ready-new c.requires (sym c.link.ensures ∙ c.in-Some.is) c.if-old-array.false in
+    subst (λ k. IsTrue (has_room (live_of c.args.heap.now.bytes) c.in-Some.old (0 + 16 * k)))
+    (sym (since-len c.word-len.result c.requires c.word-len.ensures)) w.source
 
 pub carry_down-requires-clause-target : goal.carry_down-requires-clause-target
 carry_down-requires-clause-target c =
-    let w = ready-new c.args.heap.now c.args.place c.args.array c.in-Some.old c.args.n c.requires (sym c.link.ensures ∙ c.in-Some.is) c.if-old-array.false in
-    subst (λ k. IsTrue (has_room (live_of c.args.heap.now.bytes) c.args.array (0 + 16 * k))) (sym (since-len c.args.heap.now c.args.place c.args.array c.args.n c.word-len.result c.requires c.word-len.ensures)) w.target
+    let w = ready-new c.requires (sym c.link.ensures ∙ c.in-Some.is) c.if-old-array.false in
+    subst (λ k. IsTrue (has_room (live_of c.args.heap.now.bytes) c.args.array (0 + 16 * k)))
+    (sym (since-len c.word-len.result c.requires c.word-len.ensures)) w.target
 
 pub carry_down-requires-clause-even : goal.carry_down-requires-clause-even
 carry_down-requires-clause-even c j f =
-    let w = ready-new c.args.heap.now c.args.place c.args.array c.in-Some.old c.args.n c.requires (sym c.link.ensures ∙ c.in-Some.is) c.if-old-array.false in
-    w.even j (subst (λ k. j < k) (since-len c.args.heap.now c.args.place c.args.array c.args.n c.word-len.result c.requires c.word-len.ensures) f)
+    let w = ready-new c.requires (sym c.link.ensures ∙ c.in-Some.is) c.if-old-array.false in
+    w.even j (subst (λ k. j < k) (since-len c.word-len.result c.requires c.word-len.ensures) f)
 
 pub carry_down-requires-clause-apart : goal.carry_down-requires-clause-apart
 carry_down-requires-clause-apart c =
-    let w = ready-new c.args.heap.now c.args.place c.args.array c.in-Some.old c.args.n c.requires (sym c.link.ensures ∙ c.in-Some.is) c.if-old-array.false in
-    subst (λ k. (c.args.array + 0 ≤ c.in-Some.old + 0) ⊎ (c.in-Some.old + 0 + 16 * k ≤ c.args.array + 0)) (sym (since-len c.args.heap.now c.args.place c.args.array c.args.n c.word-len.result c.requires c.word-len.ensures)) w.apart
+    let w = ready-new c.requires (sym c.link.ensures ∙ c.in-Some.is) c.if-old-array.false in
+    subst (λ k. (c.args.array + 0 ≤ c.in-Some.old + 0) ⊎ (c.in-Some.old + 0 + 16 * k ≤ c.args.array + 0))
+    (sym (since-len c.word-len.result c.requires c.word-len.ensures)) w.apart
 
 pub point_to-requires-else-old-array-clause-heap : goal.point_to-requires-else-old-array-clause-heap
-point_to-requires-else-old-array-clause-heap c = laid-heap c.carry_down.new.heap.bytes (live_of c.args.heap.now.bytes) c.carry_down.ensures.change.live
+point_to-requires-else-old-array-clause-heap c = laid-heap _ _ c.carry_down.ensures.change.live
 
 pub point_to-requires-else-old-array-clause-room : goal.point_to-requires-else-old-array-clause-room
 point_to-requires-else-old-array-clause-room c =
-    changed-room current c.args.heap.now c.carry_down.new.heap (c.args.array + 0) (16 * c.word-len.result) c.args.place.handle (c.args.place.at + 24) c.carry_down.ensures.change
-    (head-room c.args.heap.now c.args.place (ready c.args.heap.now c.args.place c.args.array c.args.n c.requires).run.head)
+    changed-room _ _ _ _ _ c.args.place.handle (c.args.place.at + 24) c.carry_down.ensures.change
+    (head-room (ready c.requires).run.head)
 
 pub point_to-requires-else-old-array-clause-even : goal.point_to-requires-else-old-array-clause-even
-point_to-requires-else-old-array-clause-even c = ready-even c.args.heap.now c.args.place c.args.array c.args.n c.requires
+point_to-requires-else-old-array-clause-even c = ready-even c.requires
 
 pub deallocate-requires : goal.deallocate-requires
 deallocate-requires c =
-    let w = ready-new c.args.heap.now c.args.place c.args.array c.in-Some.old c.args.n c.requires (sym c.link.ensures ∙ c.in-Some.is) c.if-old-array.false in
+    let w = ready-new c.requires (sym c.link.ensures ∙ c.in-Some.is) c.if-old-array.false in
     live-if c.in-Some.old (0 + 16 * length c.requires.ps) (live_of c.point_to-else-old-array.new.heap.bytes).extents
-    (changed-room current c.carry_down.new.heap c.point_to-else-old-array.new.heap (c.args.place.handle + c.args.place.at) 24 c.in-Some.old (0 + 16 * length c.requires.ps) c.point_to-else-old-array.ensures.change
-    (changed-room current c.args.heap.now c.carry_down.new.heap (c.args.array + 0) (16 * c.word-len.result) c.in-Some.old (0 + 16 * length c.requires.ps) c.carry_down.ensures.change w.source))
+    (changed-room _ _ _ _ 24 c.in-Some.old (0 + 16 * length c.requires.ps) c.point_to-else-old-array.ensures.change
+    (changed-room _ _ _ _ _ c.in-Some.old (0 + 16 * length c.requires.ps) c.carry_down.ensures.change w.source))
 
 pub returns-in-None : goal.returns-in-None
 returns-in-None c first mid ps t loose s more a since =
-    adopt-none first mid c.args.heap.now c.point_to.new.heap c.args.place ps t c.args.array c.args.n loose s more a since (since-link first mid c.args.heap.now c.args.place ps t c.args.array c.args.n loose s more a since ∙ sym c.link.ensures ∙ c.in-None.is)
+    adopt-none c.args.n s more a since (since-link c.args.n s more a since ∙ sym c.link.ensures ∙ c.in-None.is)
     c.point_to.ensures.change c.point_to.ensures.link c.point_to.ensures.len_word c.point_to.ensures.capacity
 
 pub returns-then-old-array : goal.returns-then-old-array
 returns-then-old-array c first mid ps t loose s more a since =
-    adopt-same first mid c.args.heap.now c.point_to-then-old-array.new.heap c.args.place ps t c.args.array c.args.n loose s more a since
-    (since-link first mid c.args.heap.now c.args.place ps t c.args.array c.args.n loose s more a since ∙ sym c.link.ensures ∙ c.in-Some.is ∙ ap (λ k. Some k) c.if-old-array.true)
-    c.point_to-then-old-array.ensures.change c.point_to-then-old-array.ensures.link c.point_to-then-old-array.ensures.len_word c.point_to-then-old-array.ensures.capacity
+    adopt-same c.args.n s more a since (since-link c.args.n s more a since ∙ sym c.link.ensures ∙ c.in-Some.is
+    ∙ ap (λ k. Some k) c.if-old-array.true) c.point_to-then-old-array.ensures.change
+    c.point_to-then-old-array.ensures.link c.point_to-then-old-array.ensures.len_word
+    c.point_to-then-old-array.ensures.capacity
 
 pub returns-else-old-array : goal.returns-else-old-array
 returns-else-old-array c first mid ps t loose s more a since =
-    let n = since-len c.args.heap.now c.args.place c.args.array c.args.n c.word-len.result (record { first = first; mid = mid; ps = ps; t = t; loose = loose; texts = s; more = more; asked = a; since = since }) c.word-len.ensures in
-    adopt-other first mid c.args.heap.now c.carry_down.new.heap c.point_to-else-old-array.new.heap c.deallocate.new.self c.args.place ps t c.args.array c.in-Some.old c.args.n loose s more a since
-    (since-link first mid c.args.heap.now c.args.place ps t c.args.array c.args.n loose s more a since ∙ sym c.link.ensures ∙ c.in-Some.is) c.if-old-array.false
-    (subst (λ k. IsChanged current c.args.heap.now c.carry_down.new.heap (c.args.array + 0) (16 * k)) n c.carry_down.ensures.change)
-    (subst (AreSameElements (bytes_of c.args.heap.now.bytes) (bytes_of c.carry_down.new.heap.bytes) (c.in-Some.old + 0) (c.args.array + 0)) n c.carry_down.ensures.carried)
-    c.point_to-else-old-array.ensures.change c.point_to-else-old-array.ensures.link c.point_to-else-old-array.ensures.len_word c.point_to-else-old-array.ensures.capacity c.deallocate.ensures.released
+    let n = since-len {now = c.args.heap.now} {p = c.args.place} {g = c.args.array} {n = c.args.n} c.word-len.result
+    (record {
+      first = first;
+      mid = mid;
+      ps = ps;
+      t = t;
+      loose = loose;
+      texts = s;
+      more = more;
+      asked = a;
+      since = since;
+    }) c.word-len.ensures in
+    adopt-other c.args.n s more a since (since-link c.args.n s more a since ∙ sym c.link.ensures ∙ c.in-Some.is)
+    c.if-old-array.false
+    (subst (λ k. IsChanged current c.args.heap.now c.carry_down.new.heap (c.args.array + 0) (16 * k)) n
+    c.carry_down.ensures.change)
+    (subst (AreSameElements (bytes_of c.args.heap.now.bytes) (bytes_of c.carry_down.new.heap.bytes)
+    (c.in-Some.old + 0) (c.args.array + 0)) n c.carry_down.ensures.carried)
+    c.point_to-else-old-array.ensures.change c.point_to-else-old-array.ensures.link
+    c.point_to-else-old-array.ensures.len_word c.point_to-else-old-array.ensures.capacity
+    c.deallocate.ensures.released

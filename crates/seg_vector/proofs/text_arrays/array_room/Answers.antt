@@ -2,21 +2,22 @@
 use Rattle.std.proofs.Common.{refl, sym, ◌∙◌, ◌+◌, ◌*◌, arith, length}
 use Rattle.best_fit.specs.Heap.{live_of}
 use Rattle.best_fit.proofs.Laws.{room-less}
-use Rattle.seg_vector.proofs.Rewriting.{live-if}
-use Rattle.seg_vector.proofs.TextUndone.{room-none, room-some}
-use Rattle.seg_vector.proofs.TextsEmptied.{held-elements}
+use Rattle.seg_vector.proofs.Storage.{link-room, live-if}
+use Rattle.seg_vector.proofs.TextGrowth.{room-none, room-some}
+use Rattle.seg_vector.proofs.TextCalls.{held-elements}
 use Rattle.seg_vector.proofs.text_arrays.array_room.Goals as goal
 
 pub link-requires-clause-room : goal.link-requires-clause-room
-link-requires-clause-room c = room-less (live_of c.args.heap.now.bytes) c.args.place.handle (c.args.place.at + 24) (c.args.place.at + 8) (omega arith) c.requires.1.1.room
+link-requires-clause-room c = link-room c.args.heap.now.bytes c.args.place c.requires.1.1.room
 
 pub room-requires : goal.room-requires
 room-requires c =
     let ps = c.requires.0 in
-    live-if c.in-Some.array (16 * length ps) (live_of c.args.heap.now.bytes).extents (held-elements c.args.heap.now.bytes c.args.place ps c.in-Some.array (length ps) c.requires.1.0 c.requires.1.1 (sym c.link.ensures ∙ c.in-Some.is) refl).room
+    live-if c.in-Some.array (16 * length ps) (live_of c.args.heap.now.bytes).extents
+    (held-elements (length ps) c.requires.1.1 (sym c.link.ensures ∙ c.in-Some.is) refl).room
 
 pub returns-in-None : goal.returns-in-None
-returns-in-None c ps t s = room-none c.args.heap.now.bytes c.args.place ps t s (sym c.link.ensures ∙ c.in-None.is)
+returns-in-None c ps t s = room-none s (sym c.link.ensures ∙ c.in-None.is)
 
 pub returns-in-Some : goal.returns-in-Some
-returns-in-Some c ps t s = room-some c.args.heap.now.bytes c.args.place ps t c.in-Some.array c.room.result s (sym c.link.ensures ∙ c.in-Some.is) c.room.ensures
+returns-in-Some c ps t s = room-some s (sym c.link.ensures ∙ c.in-Some.is) c.room.ensures

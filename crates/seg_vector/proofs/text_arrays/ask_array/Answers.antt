@@ -2,26 +2,28 @@
 use Rattle.std.proofs.Common.{sym, ◌∙◌, ◌+◌, ◌*◌, arith, refl, length}
 use Rattle.best_fit.specs.Heap.{live_of}
 use Rattle.best_fit.proofs.Laws.{room-less}
-use Rattle.seg_vector.proofs.Rewriting.{live-if}
+use Rattle.seg_vector.proofs.Storage.{link-room, live-if}
 use Rattle.seg_vector.proofs.TextGrowth.{asked-beside, asked-none, asked-wide}
-use Rattle.seg_vector.proofs.TextsEmptied.{held-elements}
+use Rattle.seg_vector.proofs.TextCalls.{held-elements}
 use Rattle.seg_vector.proofs.text_arrays.ask_array.Goals as goal
 
 pub link-requires-clause-room : goal.link-requires-clause-room
-link-requires-clause-room c = room-less (live_of c.args.heap.now.bytes) c.args.place.handle (c.args.place.at + 24) (c.args.place.at + 8) (omega arith) c.requires.texts.1.1.room
+link-requires-clause-room c = link-room c.args.heap.now.bytes c.args.place c.requires.texts.1.1.room
 
 pub widen-requires-clause-live : goal.widen-requires-clause-live
 widen-requires-clause-live c =
     let ps = c.requires.texts.0 in
     live-if c.in-Some.array (16 * length ps) (live_of c.args.heap.now.bytes).extents
-    (held-elements c.args.heap.now.bytes c.args.place ps c.in-Some.array (length ps) c.requires.texts.1.0 c.requires.texts.1.1 (sym c.link.ensures ∙ c.in-Some.is) refl).room
+    (held-elements (length ps) c.requires.texts.1.1 (sym c.link.ensures ∙ c.in-Some.is) refl).room
 
 pub returns-in-None : goal.returns-in-None
-returns-in-None c ps t s = asked-none c.args.heap.now c.allocate.new.self c.args.place ps t (16 * c.args.n) c.allocate.result s (sym c.link.ensures ∙ c.in-None.is) c.allocate.ensures.answer
+returns-in-None c ps t s = asked-none c.args.heap.now c.allocate.new.self (16 * c.args.n) c.allocate.result s
+    (sym c.link.ensures ∙ c.in-None.is) c.allocate.ensures.answer
 
 pub returns-then-widen : goal.returns-then-widen
-returns-then-widen c ps t s = asked-wide c.args.heap.now c.widen.new.heap c.args.place ps t c.in-Some.array (16 * c.args.n) s (sym c.link.ensures ∙ c.in-Some.is) (c.widen.ensures.wide c.if-widen.true)
+returns-then-widen c ps t s = asked-wide s (sym c.link.ensures ∙ c.in-Some.is) (c.widen.ensures.wide c.if-widen.true)
 
 pub returns-else-widen : goal.returns-else-widen
 returns-else-widen c ps t s =
-    asked-beside c.args.heap.now c.widen.new.heap c.allocate-else-widen.new.self c.args.place ps t c.in-Some.array (16 * c.args.n) c.allocate-else-widen.result s (sym c.link.ensures ∙ c.in-Some.is) (c.widen.ensures.not c.if-widen.false) c.allocate-else-widen.ensures.answer
+    asked-beside c.allocate-else-widen.new.self c.allocate-else-widen.result s (sym c.link.ensures ∙ c.in-Some.is)
+    (c.widen.ensures.not c.if-widen.false) c.allocate-else-widen.ensures.answer

@@ -1,9 +1,9 @@
 -- The block is shortened again, or given back.
-use Rattle.std.proofs.Common.{sym, ap, ◌∙◌, ◌+◌, ◌*◌, Some, arith}
+use Rattle.std.proofs.Common.{sym, ap, ◌∙◌, ◌+◌, Some, arith}
 use Rattle.best_fit.specs.Heap.{live_of}
 use Rattle.best_fit.proofs.Laws.{room-less}
-use Rattle.seg_vector.proofs.TextSteps.{head-room}
-use Rattle.seg_vector.proofs.TextUndone.{asked-link, asked-live, asked-run, undone-none, undone-other, undone-same}
+use Rattle.seg_vector.proofs.TextBlocks.{head-room}
+use Rattle.seg_vector.proofs.TextGrowth.{asked-link, asked-live, asked-run, undone-none, undone-other, undone-same}
 use Rattle.seg_vector.proofs.text_arrays.give_up.Goals as goal
 
 pub link-requires-clause-whole : goal.link-requires-clause-whole
@@ -11,28 +11,29 @@ link-requires-clause-whole c = c.requires.texts.aligned
 
 pub link-requires-clause-room : goal.link-requires-clause-room
 link-requires-clause-room c =
-    room-less (live_of c.args.heap.now.bytes) c.args.place.handle (c.args.place.at + 24) (c.args.place.at + 8) (omega arith)
-    (head-room c.args.heap.now c.args.place (asked-run c.requires.first c.args.heap.now c.args.place c.requires.ps c.requires.t c.args.array c.requires.n c.requires.texts c.requires.asked).run.head)
+    room-less (live_of c.args.heap.now.bytes) c.args.place.handle (c.args.place.at + 24) (c.args.place.at + 8)
+    (omega arith)
+    (head-room (asked-run c.requires.n c.requires.texts c.requires.asked).run.head)
 
 pub deallocate-requires : goal.deallocate-requires
-deallocate-requires c = asked-live c.requires.first c.args.heap.now c.args.place c.requires.ps c.requires.t c.args.array c.requires.n c.requires.texts c.requires.asked
+deallocate-requires c = asked-live c.requires.n c.requires.texts c.requires.asked
 
 pub deallocate-requires-else-old-array : goal.deallocate-requires-else-old-array
-deallocate-requires-else-old-array c = asked-live c.requires.first c.args.heap.now c.args.place c.requires.ps c.requires.t c.args.array c.requires.n c.requires.texts c.requires.asked
+deallocate-requires-else-old-array c = asked-live c.requires.n c.requires.texts c.requires.asked
 
 pub shrink_in_place-requires : goal.shrink_in_place-requires
-shrink_in_place-requires c = asked-live c.requires.first c.args.heap.now c.args.place c.requires.ps c.requires.t c.args.array c.requires.n c.requires.texts c.requires.asked
+shrink_in_place-requires c = asked-live c.requires.n c.requires.texts c.requires.asked
 
 pub returns-in-None : goal.returns-in-None
 returns-in-None c first ps t n s a e =
-    undone-none first c.args.heap.now c.deallocate.new.self c.args.place ps t c.args.array (16 * n) s a (asked-link first c.args.heap.now c.args.place ps t c.args.array n s a ∙ sym c.link.ensures ∙ c.in-None.is) c.deallocate.ensures.released
+    undone-none s a (asked-link n s a ∙ sym c.link.ensures ∙ c.in-None.is) c.deallocate.ensures.released
 
 pub returns-then-old-array : goal.returns-then-old-array
 returns-then-old-array c first ps t n s a e =
-    undone-same first c.args.heap.now c.shrink_in_place.new.self c.args.place ps t c.args.array (16 * n) c.args.room s a
-    (asked-link first c.args.heap.now c.args.place ps t c.args.array n s a ∙ sym c.link.ensures ∙ c.in-Some.is ∙ ap (λ k. Some k) c.if-old-array.true) e c.shrink_in_place.ensures.shortened
+    undone-same s a (asked-link n s a ∙ sym c.link.ensures ∙ c.in-Some.is ∙ ap (λ k. Some k) c.if-old-array.true) e
+    c.shrink_in_place.ensures.shortened
 
 pub returns-else-old-array : goal.returns-else-old-array
 returns-else-old-array c first ps t n s a e =
-    undone-other first c.args.heap.now c.deallocate-else-old-array.new.self c.args.place ps t c.args.array c.in-Some.old (16 * n) s a
-    (asked-link first c.args.heap.now c.args.place ps t c.args.array n s a ∙ sym c.link.ensures ∙ c.in-Some.is) c.if-old-array.false c.deallocate-else-old-array.ensures.released
+    undone-other s a (asked-link n s a ∙ sym c.link.ensures ∙ c.in-Some.is) c.if-old-array.false
+    c.deallocate-else-old-array.ensures.released

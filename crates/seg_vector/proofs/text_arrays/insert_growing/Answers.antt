@@ -2,16 +2,16 @@
 use Rattle.std.proofs.Common.{sym, ap, subst, ◌*◌, length}
 use Rattle.raw_region.specs.Memory.{Cut}
 use Rattle.seg_vector.specs.TextParts.{IsAsked}
-use Rattle.seg_vector.proofs.TextInserts.{growing-err, growing-none, growing-ok, growing-ready, more-places, small-wanted}
-use Rattle.seg_vector.proofs.TextReserves.{asked-heap}
-use Rattle.seg_vector.proofs.text_arrays.insert_growing.Goals as goal
+use Rattle.seg_vector.proofs.TextGrowth.{growing-err, growing-none, growing-ok, growing-ready, more-places, small-wanted, asked-heap}
 use Rattle.std.specs.Prelude.{option_to_list}
+use Rattle.seg_vector.proofs.text_arrays.insert_growing.Goals as goal
 
 pub ask_array-requires-clause-small : goal.ask_array-requires-clause-small
-ask_array-requires-clause-small c = small-wanted c.args.heap.now c.args.place c.requires.ps c.requires.t c.args.n c.requires.texts c.requires.full c.requires.wanted
+ask_array-requires-clause-small c = small-wanted c.args.heap.now c.args.n c.requires.texts c.requires.full
+    c.requires.wanted
 
 pub place_text-requires : goal.place_text-requires
-place_text-requires c = asked-heap c.args.heap.now c.ask_array.new.heap c.requires.t.extent (16 * c.args.n) c.in-Ok.array (c.in-Ok.ensures c.requires.ps c.requires.t c.requires.texts)
+place_text-requires c = asked-heap (c.in-Ok.ensures c.requires.ps c.requires.t c.requires.texts)
 
 pub give_up-requires : goal.give_up-requires
 give_up-requires c =
@@ -22,7 +22,8 @@ give_up-requires c =
       t = r.t;
       n = c.args.n;
       texts = r.texts;
-      asked = subst (λ (k : Cut). IsAsked c.args.heap.now k r.t.extent (16 * c.args.n) c.in-Ok.array) (sym c.in-Err-place_text.ensures.same) (c.in-Ok.ensures r.ps r.t r.texts);
+      asked = subst (λ (k : Cut). IsAsked c.args.heap.now k r.t.extent (16 * c.args.n) c.in-Ok.array)
+          (sym c.in-Err-place_text.ensures.same) (c.in-Ok.ensures r.ps r.t r.texts);
       was = c.array_room-room.ensures r.ps r.t r.texts;
     }
 
@@ -36,7 +37,7 @@ adopt-requires c =
       t = r.t;
       loose = option_to_list c.in-Ok-place_text.ensures.text.extent;
       texts = r.texts;
-      more = (more-places c.args.heap.now c.args.place r.ps r.t c.args.n r.texts r.full r.wanted).0;
+      more = (more-places c.args.heap.now c.args.n r.texts r.full r.wanted).0;
       asked = c.in-Ok.ensures r.ps r.t r.texts;
       since = c.in-Ok-place_text.ensures.change;
     }
@@ -45,8 +46,9 @@ pub put_in-requires : goal.put_in-requires
 put_in-requires c =
     let r = c.requires in
     let pl = c.in-Ok-place_text.ensures in
-    let both = more-places c.args.heap.now c.args.place r.ps r.t c.args.n r.texts r.full r.wanted in
-    let ad = c.adopt.ensures c.args.heap.now c.ask_array.new.heap r.ps r.t (option_to_list pl.text.extent) r.texts both.0 (c.in-Ok.ensures r.ps r.t r.texts) pl.change in
+    let both = more-places c.args.heap.now c.args.n r.texts r.full r.wanted in
+    let ad = c.adopt.ensures c.args.heap.now c.ask_array.new.heap r.ps r.t (option_to_list pl.text.extent) r.texts
+    both.0 (c.in-Ok.ensures r.ps r.t r.texts) pl.change in
     record {
       first = c.args.heap.now;
       ps = r.ps;
@@ -54,29 +56,33 @@ put_in-requires c =
       y = ad.array;
       m = c.args.n;
       z = pl.text;
-      ready = growing-ready c.args.heap.now c.ask_array.new.heap c.place_text.new.heap c.adopt.new.heap c.args.place r.ps r.t c.in-Ok.array c.args.n c.args.text.now c.in-Ok-place_text.block r.texts both.1 pl ad;
+      ready = growing-ready r.texts both.1 pl ad;
       inside = r.inside;
       at = pl.at;
     }
 
 pub returns-in-Err : goal.returns-in-Err
 returns-in-Err c ps t s inside full wanted =
-    growing-none c.args.heap.now c.ask_array.new.heap c.args.place ps t c.args.n c.args.text.now s (more-places c.args.heap.now c.args.place ps t c.args.n s full wanted).0 wanted (c.in-Err.ensures ps t s)
+    growing-none c.args.n c.args.text.now s (more-places c.args.heap.now c.args.n s full wanted).0 wanted
+    (c.in-Err.ensures ps t s)
 
 pub returns-in-Err-place_text : goal.returns-in-Err-place_text
 returns-in-Err-place_text c ps t s inside full wanted =
     let a = c.in-Ok.ensures ps t s in
     let asked : IsAsked c.args.heap.now c.place_text.new.heap t.extent (16 * c.args.n) c.in-Ok.array =
-    subst (λ (k : Cut). IsAsked c.args.heap.now k t.extent (16 * c.args.n) c.in-Ok.array) (sym c.in-Err-place_text.ensures.same) a in
-    growing-err c.args.heap.now c.ask_array.new.heap c.place_text.new.heap c.give_up.new.heap ps t c.in-Ok.array c.args.n c.args.text.now (more-places c.args.heap.now c.args.place ps t c.args.n s full wanted).0 wanted full a c.in-Err-place_text.ensures
+    subst (λ (k : Cut). IsAsked c.args.heap.now k t.extent (16 * c.args.n) c.in-Ok.array)
+    (sym c.in-Err-place_text.ensures.same) a in
+    growing-err ps t c.args.n (more-places c.args.heap.now c.args.n s full wanted).0 wanted full a
+    c.in-Err-place_text.ensures
     (c.give_up.ensures c.args.heap.now ps t c.args.n s asked (c.array_room-room.ensures ps t s))
 
 pub returns-in-Ok-place_text : goal.returns-in-Ok-place_text
 returns-in-Ok-place_text c ps t s inside full wanted =
     let pl = c.in-Ok-place_text.ensures in
     let a = c.in-Ok.ensures ps t s in
-    let both = more-places c.args.heap.now c.args.place ps t c.args.n s full wanted in
-    let ad = c.adopt.ensures c.args.heap.now c.ask_array.new.heap ps t (option_to_list pl.text.extent) s both.0 a pl.change in
-    let ready = growing-ready c.args.heap.now c.ask_array.new.heap c.place_text.new.heap c.adopt.new.heap c.args.place ps t c.in-Ok.array c.args.n c.args.text.now c.in-Ok-place_text.block s both.1 pl ad in
-    growing-ok c.args.heap.now c.ask_array.new.heap c.place_text.new.heap c.adopt.new.heap c.put_in.new.heap c.args.place ps t c.in-Ok.array c.args.n c.args.index c.args.text.now c.in-Ok-place_text.block both.0 wanted a pl ad
+    let both = more-places c.args.heap.now c.args.n s full wanted in
+    let ad = c.adopt.ensures c.args.heap.now c.ask_array.new.heap ps t (option_to_list pl.text.extent) s both.0 a
+    pl.change in
+    let ready = growing-ready s both.1 pl ad in
+    growing-ok c.args.index both.0 wanted a pl ad
     (c.put_in.ensures c.args.heap.now ps t ad.array c.args.n pl.text ready inside pl.at (ap length (sym pl.same)))

@@ -1,39 +1,40 @@
 -- A link, and the word of the capacity.
 use Rattle.std.proofs.Common.{◌≡◌, subst, ◌∙◌, inl, inr, ◌+◌, ◌<◌, arith}
-use Rattle.raw_region.specs.Format.{current}
 use Rattle.raw_region.specs.Memory.{bytes_of, word_at}
 use Rattle.raw_region.proofs.Laws.{SameBut-word}
 use Rattle.offset_link.proofs.Laws.{SameBut-link}
 use Rattle.best_fit.specs.Heap.{live_of}
 use Rattle.best_fit.proofs.Laws.{changed-room, room-less}
-use Rattle.seg_vector.proofs.Emptying.{changed-both}
-use Rattle.seg_vector.proofs.Growth.{room-small}
+use Rattle.seg_vector.proofs.Fewer.{changed-both}
+use Rattle.seg_vector.proofs.Storage.{capacity-room, link-room, place-small, room-small}
 use Rattle.seg_vector.proofs.text_arrays.point_to.Goals as goal
 
 pub set_link-requires-clause-room : goal.set_link-requires-clause-room
-set_link-requires-clause-room c = room-less (live_of c.args.heap.now.bytes) c.args.place.handle (c.args.place.at + 24) (c.args.place.at + 8) (omega arith) c.requires.room
+set_link-requires-clause-room c = link-room c.args.heap.now.bytes c.args.place c.requires.room
 
 pub overflow_add-place : goal.overflow_add-place
-overflow_add-place c = let small : c.args.place.at + 24 < 1073741824 = room-small c.args.heap.now c.args.place.handle (c.args.place.at + 24) c.requires.heap c.requires.room in omega arith
+overflow_add-place c = let small = place-small c.args.place c.requires.heap c.requires.room in omega arith
 
 pub set_word-requires : goal.set_word-requires
 set_word-requires c =
-    changed-room current c.args.heap.now c.set_link.new.self (c.args.place.handle + c.args.place.at) 8 c.args.place.handle (c.args.place.at + 16 + 8) c.set_link.ensures.change
-    (room-less (live_of c.args.heap.now.bytes) c.args.place.handle (c.args.place.at + 24) (c.args.place.at + 16 + 8) (omega arith) c.requires.room)
+    changed-room _ _ _ _ 8 c.args.place.handle (c.args.place.at + 16 + 8) c.set_link.ensures.change
+    (capacity-room c.args.heap.now.bytes c.args.place c.requires.room)
 
 pub returns-clause-change : goal.returns-clause-change
 returns-clause-change c =
-    changed-both c.args.heap.now c.set_link.new.self c.set_word.new.self (c.args.place.handle + c.args.place.at) 8 (c.args.place.handle + (c.args.place.at + 16)) 8 (c.args.place.handle + c.args.place.at) 24
+    changed-both (c.args.place.handle + c.args.place.at) 24
     c.set_link.ensures.change c.set_word.ensures.change (omega arith) (omega arith) (omega arith) (omega arith)
 
 pub returns-clause-link : goal.returns-clause-link
 returns-clause-link c =
-    SameBut-link (bytes_of c.set_link.new.self.bytes) (bytes_of c.set_word.new.self.bytes) (c.args.place.handle + (c.args.place.at + 16)) 8 (c.args.place.handle + c.args.place.at) c.set_word.ensures.change.rest (inl (omega arith)) ∙ c.set_link.ensures.leads
+    SameBut-link _ _ _ 8 (c.args.place.handle + c.args.place.at) c.set_word.ensures.change.rest (inl (omega arith))
+    ∙ c.set_link.ensures.leads
 
 pub returns-clause-len_word : goal.returns-clause-len_word
 returns-clause-len_word c =
-    SameBut-word (bytes_of c.set_link.new.self.bytes) (bytes_of c.set_word.new.self.bytes) (c.args.place.handle + (c.args.place.at + 16)) 8 (c.args.place.handle + c.args.place.at + 8) c.set_word.ensures.change.rest (inl (omega arith))
-    ∙ SameBut-word (bytes_of c.args.heap.now.bytes) (bytes_of c.set_link.new.self.bytes) (c.args.place.handle + c.args.place.at) 8 (c.args.place.handle + c.args.place.at + 8) c.set_link.ensures.change.rest (inr (omega arith))
+    SameBut-word _ _ _ 8 (c.args.place.handle + c.args.place.at + 8) c.set_word.ensures.change.rest (inl (omega arith))
+    ∙ SameBut-word _ _ _ 8 (c.args.place.handle + c.args.place.at + 8) c.set_link.ensures.change.rest
+    (inr (omega arith))
 
 pub returns-clause-capacity : goal.returns-clause-capacity
 returns-clause-capacity c =

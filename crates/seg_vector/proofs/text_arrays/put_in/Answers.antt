@@ -1,103 +1,105 @@
 -- Those behind move up, the element is written, and then the length.
-use Rattle.std.proofs.Common.{◌≡◌, sym, ◌∙◌, ◌+◌, ◌-◌, ◌*◌, ◌<◌, arith, length}
-use Rattle.raw_region.specs.Format.{current}
+use Rattle.std.proofs.Common.{◌≡◌, sym, ◌∙◌, ◌+◌, ◌-◌, ◌*◌, arith, length}
 use Rattle.raw_region.specs.Memory.{bytes_of}
 use Rattle.best_fit.specs.Heap.{live_of}
 use Rattle.best_fit.proofs.Laws.{changed-room, laid-heap, room-less}
-use Rattle.seg_vector.proofs.Emptying.{none-left}
-use Rattle.seg_vector.proofs.Growth.{room-small}
-use Rattle.seg_vector.proofs.HeldArrays.{even-from}
-use Rattle.seg_vector.proofs.TextPuts.{put-by, put-even, put-place, put-run}
-use Rattle.seg_vector.proofs.TextSteps.{head-room}
+use Rattle.seg_vector.proofs.Fewer.{none-left}
+use Rattle.seg_vector.proofs.Storage.{len-room, link-room, place-small, room-small}
+use Rattle.seg_vector.proofs.TextBlocks.{even-from, head-room}
+use Rattle.seg_vector.proofs.TextGrowth.{put-by, put-even, put-place, put-run}
 use Rattle.seg_vector.proofs.text_arrays.put_in.Goals as goal
 
 pub overflow_add-place : goal.overflow_add-place
 overflow_add-place c =
     let w = c.requires.ready in
-    let q = put-run c.requires.first c.args.heap.now c.args.place c.requires.ps c.requires.t c.requires.y c.requires.m c.requires.z w in
-    let small : c.args.place.at + 24 < 1073741824 = room-small c.args.heap.now c.args.place.handle (c.args.place.at + 24) q.heap (head-room c.args.heap.now c.args.place q.head) in
+    let q = put-run w in
+    let small = place-small c.args.place q.heap (head-room q.head) in
     omega arith
 
 pub word-len-requires : goal.word-len-requires
 word-len-requires c =
-    let q = put-run c.requires.first c.args.heap.now c.args.place c.requires.ps c.requires.t c.requires.y c.requires.m c.requires.z c.requires.ready in
-    room-less (live_of c.args.heap.now.bytes) c.args.place.handle (c.args.place.at + 24) (c.args.place.at + 8 + 8) (omega arith) (head-room c.args.heap.now c.args.place q.head)
+    let q = put-run c.requires.ready in
+    len-room c.args.heap.now.bytes c.args.place (head-room q.head)
 
 pub link-requires-clause-whole : goal.link-requires-clause-whole
 link-requires-clause-whole c = c.requires.ready.texts.aligned
 
 pub link-requires-clause-room : goal.link-requires-clause-room
 link-requires-clause-room c =
-    let q = put-run c.requires.first c.args.heap.now c.args.place c.requires.ps c.requires.t c.requires.y c.requires.m c.requires.z c.requires.ready in
-    room-less (live_of c.args.heap.now.bytes) c.args.place.handle (c.args.place.at + 24) (c.args.place.at + 8) (omega arith) (head-room c.args.heap.now c.args.place q.head)
+    let q = put-run c.requires.ready in
+    link-room c.args.heap.now.bytes c.args.place (head-room q.head)
 
 pub overflow_mul-index : goal.overflow_mul-index
 overflow_mul-index c =
-    let w = put-place c.args.heap.now c.args.place c.in-Some.array c.args.index c.args.text c.args.text_len c.requires (sym c.link.ensures ∙ c.in-Some.is) in
-    let small : 16 * length c.requires.ps + 16 < 1073741824 = room-small c.args.heap.now c.in-Some.array (16 * length c.requires.ps + 16) w.heap w.room in
+    let w = put-place c.requires (sym c.link.ensures ∙ c.in-Some.is) in
+    let small = room-small c.args.heap.now c.in-Some.array (16 * length c.requires.ps + 16) w.heap w.room in
     omega (arith, small, w.inside)
 
 pub overflow_mul-index-in-Some : goal.overflow_mul-index-in-Some
 overflow_mul-index-in-Some c =
-    let w = put-place c.args.heap.now c.args.place c.in-Some.array c.args.index c.args.text c.args.text_len c.requires (sym c.link.ensures ∙ c.in-Some.is) in
-    let small : 16 * length c.requires.ps + 16 < 1073741824 = room-small c.args.heap.now c.in-Some.array (16 * length c.requires.ps + 16) w.heap w.room in
+    let w = put-place c.requires (sym c.link.ensures ∙ c.in-Some.is) in
+    let small = room-small c.args.heap.now c.in-Some.array (16 * length c.requires.ps + 16) w.heap w.room in
     omega (arith, small, w.inside)
 
 pub overflow_sub-len : goal.overflow_sub-len
 overflow_sub-len c =
-    let w = put-place c.args.heap.now c.args.place c.in-Some.array c.args.index c.args.text c.args.text_len c.requires (sym c.link.ensures ∙ c.in-Some.is) in
+    let w = put-place c.requires (sym c.link.ensures ∙ c.in-Some.is) in
     omega (arith, w.inside, w.count, c.word-len.ensures)
 
 pub carry_up-requires-clause-heap : goal.carry_up-requires-clause-heap
-carry_up-requires-clause-heap c = (put-place c.args.heap.now c.args.place c.in-Some.array c.args.index c.args.text c.args.text_len c.requires (sym c.link.ensures ∙ c.in-Some.is)).heap
+carry_up-requires-clause-heap c = (put-place c.requires (sym c.link.ensures ∙ c.in-Some.is)).heap
 
 pub carry_up-requires-clause-room : goal.carry_up-requires-clause-room
 carry_up-requires-clause-room c =
-    let w = put-place c.args.heap.now c.args.place c.in-Some.array c.args.index c.args.text c.args.text_len c.requires (sym c.link.ensures ∙ c.in-Some.is) in
+    let w = put-place c.requires (sym c.link.ensures ∙ c.in-Some.is) in
     let n : c.word-len.result ≡ length c.requires.ps = c.word-len.ensures ∙ w.count in
-    room-less (live_of c.args.heap.now.bytes) c.in-Some.array (16 * length c.requires.ps + 16) (16 * c.args.index + 16 * (c.word-len.result - c.args.index) + 16) (omega (arith, n, w.inside)) w.room
+    room-less (live_of c.args.heap.now.bytes) c.in-Some.array (16 * length c.requires.ps + 16)
+    (16 * c.args.index + 16 * (c.word-len.result - c.args.index) + 16) (omega (arith, n, w.inside)) w.room
 
 pub carry_up-requires-clause-even : goal.carry_up-requires-clause-even
 carry_up-requires-clause-even c =
-    let w = put-place c.args.heap.now c.args.place c.in-Some.array c.args.index c.args.text c.args.text_len c.requires (sym c.link.ensures ∙ c.in-Some.is) in
+    let w = put-place c.requires (sym c.link.ensures ∙ c.in-Some.is) in
     let n : c.word-len.result ≡ length c.requires.ps = c.word-len.ensures ∙ w.count in
-    even-from (bytes_of c.args.heap.now.bytes) c.in-Some.array (c.in-Some.array + 16 * c.args.index) c.args.index (c.word-len.result - c.args.index) (length c.requires.ps) w.even (omega arith) (omega (arith, n, w.inside))
+    even-from (bytes_of c.args.heap.now.bytes) c.in-Some.array (c.in-Some.array + 16 * c.args.index) c.args.index
+    (c.word-len.result - c.args.index) (length c.requires.ps) w.even (omega arith) (omega (arith, n, w.inside))
 
 pub put_element-requires-clause-heap : goal.put_element-requires-clause-heap
-put_element-requires-clause-heap c = laid-heap c.carry_up.new.heap.bytes (live_of c.args.heap.now.bytes) c.carry_up.ensures.change.live
+put_element-requires-clause-heap c = laid-heap _ _ c.carry_up.ensures.change.live
 
 pub put_element-requires-clause-room : goal.put_element-requires-clause-room
 put_element-requires-clause-room c =
-    let w = put-place c.args.heap.now c.args.place c.in-Some.array c.args.index c.args.text c.args.text_len c.requires (sym c.link.ensures ∙ c.in-Some.is) in
-    changed-room current c.args.heap.now c.carry_up.new.heap (c.in-Some.array + 16 * c.args.index + 16) (16 * (c.word-len.result - c.args.index)) c.in-Some.array (16 * c.args.index + 16) c.carry_up.ensures.change
-    (room-less (live_of c.args.heap.now.bytes) c.in-Some.array (16 * length c.requires.ps + 16) (16 * c.args.index + 16) (omega (arith, w.inside)) w.room)
+    let w = put-place c.requires (sym c.link.ensures ∙ c.in-Some.is) in
+    changed-room _ _ _ _ _ c.in-Some.array (16 * c.args.index + 16) c.carry_up.ensures.change
+    (room-less (live_of c.args.heap.now.bytes) c.in-Some.array (16 * length c.requires.ps + 16)
+    (16 * c.args.index + 16) (omega (arith, w.inside)) w.room)
 
 pub put_element-requires-clause-target : goal.put_element-requires-clause-target
-put_element-requires-clause-target c = put-even c.args.heap.now c.args.place c.args.index c.args.text c.args.text_len c.requires
+put_element-requires-clause-target c = put-even c.requires
 
 pub overflow_add-len : goal.overflow_add-len
 overflow_add-len c =
-    let w = put-place c.args.heap.now c.args.place c.in-Some.array c.args.index c.args.text c.args.text_len c.requires (sym c.link.ensures ∙ c.in-Some.is) in
-    let small : 16 * length c.requires.ps + 16 < 1073741824 = room-small c.args.heap.now c.in-Some.array (16 * length c.requires.ps + 16) w.heap w.room in
+    let w = put-place c.requires (sym c.link.ensures ∙ c.in-Some.is) in
+    let small = room-small c.args.heap.now c.in-Some.array (16 * length c.requires.ps + 16) w.heap w.room in
     omega (arith, small, w.count, c.word-len.ensures)
 
 pub overflow_add-place-in-Some : goal.overflow_add-place-in-Some
 overflow_add-place-in-Some c =
-    let q = put-run c.requires.first c.args.heap.now c.args.place c.requires.ps c.requires.t c.requires.y c.requires.m c.requires.z c.requires.ready in
-    let small : c.args.place.at + 24 < 1073741824 = room-small c.args.heap.now c.args.place.handle (c.args.place.at + 24) q.heap (head-room c.args.heap.now c.args.place q.head) in
+    let q = put-run c.requires.ready in
+    let small = place-small c.args.place q.heap (head-room q.head) in
     omega arith
 
 pub set_word-requires : goal.set_word-requires
 set_word-requires c =
-    let q = put-run c.requires.first c.args.heap.now c.args.place c.requires.ps c.requires.t c.requires.y c.requires.m c.requires.z c.requires.ready in
-    changed-room current c.carry_up.new.heap c.put_element.new.heap (c.in-Some.array + 16 * c.args.index) 16 c.args.place.handle (c.args.place.at + 8 + 8) c.put_element.ensures.change
-    (changed-room current c.args.heap.now c.carry_up.new.heap (c.in-Some.array + 16 * c.args.index + 16) (16 * (c.word-len.result - c.args.index)) c.args.place.handle (c.args.place.at + 8 + 8) c.carry_up.ensures.change
-    (room-less (live_of c.args.heap.now.bytes) c.args.place.handle (c.args.place.at + 24) (c.args.place.at + 8 + 8) (omega arith) (head-room c.args.heap.now c.args.place q.head)))
+    let q = put-run c.requires.ready in
+    changed-room _ _ _ _ 16 c.args.place.handle (c.args.place.at + 8 + 8) c.put_element.ensures.change
+    (changed-room _ _ _ _ _ c.args.place.handle (c.args.place.at + 8 + 8) c.carry_up.ensures.change
+    (len-room c.args.heap.now.bytes c.args.place (head-room q.head)))
 
 pub returns-in-Some : goal.returns-in-Some
 returns-in-Some c first ps t y m z r inside at len =
-    put-by first c.args.heap.now c.carry_up.new.heap c.put_element.new.heap c.set_word.new.self c.args.place ps t y m z c.args.index c.in-Some.array c.word-len.result c.args.text_len c.args.text r inside at len
-    (sym c.link.ensures ∙ c.in-Some.is) c.word-len.ensures c.carry_up.ensures.change c.carry_up.ensures.carried c.put_element.ensures.change c.put_element.ensures.link c.put_element.ensures.len_word
+    put-by c.args.index c.word-len.result c.args.text_len c.args.text r inside at len
+    (sym c.link.ensures ∙ c.in-Some.is) c.word-len.ensures c.carry_up.ensures.change c.carry_up.ensures.carried
+    c.put_element.ensures.change c.put_element.ensures.link c.put_element.ensures.len_word
     c.set_word.ensures.change c.set_word.ensures.word
 
 pub returns-in_default : goal.returns-in_default

@@ -3,7 +3,7 @@ use Rattle.std.proofs.Common.{◌+◌, ◌-◌, ◌*◌}
 use Rattle.raw_region.specs.Format.{current}
 use Rattle.raw_region.specs.Memory.{bytes_of}
 use Rattle.best_fit.specs.Heap.{IsChanged}
-use Rattle.seg_vector.proofs.Carrying.{AreUp}
+use Rattle.seg_vector.proofs.TextBlocks.{AreUp}
 use Rattle.seg_vector.proofs.text_elements.carry_up.Given as goal
 
 abbrev pub invariant-loop-i : goal.invariant-loop-i

@@ -3,37 +3,47 @@ use Rattle.std.proofs.Common.{◌≡◌, sym, ap, ◌∙◌, ◌+◌, ◌<◌, a
 use Rattle.raw_region.specs.Memory.{bytes_of, word_at}
 use Rattle.best_fit.specs.Heap.{live_of}
 use Rattle.best_fit.proofs.Laws.{room-less}
-use Rattle.seg_vector.proofs.Growth.{room-small}
-use Rattle.seg_vector.proofs.ReadTexts.{block-front, block-live, empty-text, text-block}
+use Rattle.seg_vector.proofs.Storage.{room-small}
+use Rattle.seg_vector.proofs.TextBlocks.{block-front, block-live, empty-text, text-block}
 use Rattle.seg_vector.proofs.texts.text_at.Goals as goal
 
 pub link-requires : goal.link-requires
-link-requires c = record { whole = c.requires.1.aligned; room = room-less (live_of c.args.heap.now.bytes) c.args.array (c.args.at + 16) (c.args.at + 8) (omega arith) c.requires.1.room }
+link-requires c = record {
+  whole = c.requires.1.aligned;
+  room = room-less (live_of c.args.heap.now.bytes) c.args.array
+      (c.args.at + 16) (c.args.at + 8) (omega arith) c.requires.1.room;
+}
 
 pub overflow_add-at : goal.overflow_add-at
-overflow_add-at c = let small : c.args.at + 16 < 1073741824 = room-small c.args.heap.now c.args.array (c.args.at + 16) c.requires.1.heap c.requires.1.room in omega arith
+overflow_add-at c = let small : c.args.at + 16 < 1073741824 = room-small c.args.heap.now c.args.array (c.args.at + 16)
+    c.requires.1.heap c.requires.1.room in omega arith
 
 pub word-len-requires : goal.word-len-requires
-word-len-requires c = room-less (live_of c.args.heap.now.bytes) c.args.array (c.args.at + 16) (c.args.at + 8 + 8) (omega arith) c.requires.1.room
+word-len-requires c = room-less (live_of c.args.heap.now.bytes) c.args.array (c.args.at + 16) (c.args.at + 8 + 8)
+    (omega arith) c.requires.1.room
 
 pub block-requires : goal.block-requires
-block-requires c = block-live c.args.heap.now.bytes c.in-Some.text (c.requires.0).bytes (text-block c.args.heap.now.bytes c.args.array c.args.at c.in-Some.text c.requires.0 c.requires.1 (sym c.link.ensures ∙ c.in-Some.is))
+block-requires c = block-live (text-block c.requires.1 (sym c.link.ensures ∙ c.in-Some.is))
 
 pub returns-in-None : goal.returns-in-None
-returns-in-None c q s = sym (empty-text c.args.heap.now.bytes c.args.array c.args.at q s (sym c.link.ensures ∙ c.in-None.is))
+returns-in-None c q s = sym (empty-text s (sym c.link.ensures ∙ c.in-None.is))
 
 pub returns-in-Some : goal.returns-in-Some
 returns-in-Some c q s =
     let at : c.args.array + (c.args.at + 8) ≡ c.args.array + c.args.at + 8 = omega arith in
-    let is : c.word-len.result ≡ length q.bytes = c.word-len.ensures ∙ ap (λ k. word_at (bytes_of c.args.heap.now.bytes) k) at ∙ s.len_word in
-    ap (λ n. take n c.block.result.now) is ∙ block-front c.args.heap.now c.in-Some.text q.bytes c.block.result.now s.heap (text-block c.args.heap.now.bytes c.args.array c.args.at c.in-Some.text q s (sym c.link.ensures ∙ c.in-Some.is)) c.block.ensures
+    let is : c.word-len.result ≡ length q.bytes = c.word-len.ensures
+    ∙ ap (λ k. word_at (bytes_of c.args.heap.now.bytes) k) at ∙ s.len_word in
+    ap (λ n. take n c.block.result.now) is ∙ block-front c.args.heap.now c.block.result.now s.heap
+    (text-block s (sym c.link.ensures ∙ c.in-Some.is)) c.block.ensures
 
 pub slice_bounds-result-end-in-Some : goal.slice_bounds-result-end-in-Some
 slice_bounds-result-end-in-Some c =
     let q = c.requires.0 in
     let s = c.requires.1 in
     let at : c.args.array + (c.args.at + 8) ≡ c.args.array + c.args.at + 8 = omega arith in
-    let is : c.word-len.result ≡ length q.bytes = c.word-len.ensures ∙ ap (λ k. word_at (bytes_of c.args.heap.now.bytes) k) at ∙ s.len_word in
+    let is : c.word-len.result ≡ length q.bytes = c.word-len.ensures
+    ∙ ap (λ k. word_at (bytes_of c.args.heap.now.bytes) k) at ∙ s.len_word in
     let front : take c.word-len.result c.block.result.now ≡ q.bytes = ap (λ n. take n c.block.result.now) is
-    ∙ block-front c.args.heap.now c.in-Some.text q.bytes c.block.result.now s.heap (text-block c.args.heap.now.bytes c.args.array c.args.at c.in-Some.text q s (sym c.link.ensures ∙ c.in-Some.is)) c.block.ensures in
+    ∙ block-front c.args.heap.now c.block.result.now s.heap (text-block s (sym c.link.ensures ∙ c.in-Some.is))
+    c.block.ensures in
     sym (ap length front ∙ sym is)

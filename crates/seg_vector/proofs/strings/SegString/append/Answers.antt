@@ -1,9 +1,8 @@
 -- The storage grows, and then the bytes are put in behind the others.
-use Rattle.std.proofs.Common.{◌≡◌, ◌∙◌, ◌+◌, ◌≤◌, ◌++◌, arith, length, length-append, refl}
+use Rattle.std.proofs.Common.{◌≡◌, ◌∙◌, ◌+◌, ◌++◌, arith, length, length-append, refl}
 use Rattle.best_fit.specs.Heap.{live_of}
 use Rattle.seg_vector.specs.Vector.{capacity_for_text}
-use Rattle.seg_vector.proofs.Extending.{too-many}
-use Rattle.seg_vector.proofs.Pushing.{table-places}
+use Rattle.seg_vector.proofs.Storage.{too-many, table-places}
 use Rattle.seg_vector.proofs.Typed.{few-places, text-extended, text-grown-of, text-grown-then, text-space, text-without-space, wanted-bytes}
 use Rattle.seg_vector.proofs.strings.SegString.append.Goals as goal
 
@@ -12,14 +11,15 @@ overflow_add-needed c =
     let bytes = c.requires.0 in
     let t = c.requires.1.0 in
     let v = c.requires.1.1 in
-    let few = few-places c.args.heap.now c.args.heap.now c.args.self.place bytes t v in
+    let few = few-places c.args.heap.now c.args.heap.now v in
     omega (arith, few, v.fits, c.len.ensures bytes t v, c.if-more-gt-LIMIT.false)
 
 pub returns-then-more-gt-LIMIT : goal.returns-then-more-gt-LIMIT
 returns-then-more-gt-LIMIT c bytes t v =
     let n = capacity_for_text (length (bytes ++ c.args.bytes.now)) t.capacity in
-    let enough : length (bytes ++ c.args.bytes.now) ≤ n = wanted-bytes (length (bytes ++ c.args.bytes.now)) t.capacity in
-    let r = too-many c.args.heap.now c.args.self.place 1 n (length bytes) t bytes v (omega arith) (omega (arith, enough, length-append bytes c.args.bytes.now, c.if-more-gt-LIMIT.true)) in
+    let enough = wanted-bytes (length (bytes ++ c.args.bytes.now)) t.capacity in
+    let r = too-many c.args.heap.now n v (omega arith)
+    (omega (arith, enough, length-append bytes c.args.bytes.now, c.if-more-gt-LIMIT.true)) in
     record { refusal = refl; none = r.none; same = r.same }
 
 pub capacity_for_text-wanted-requires : goal.capacity_for_text-wanted-requires
@@ -27,7 +27,7 @@ capacity_for_text-wanted-requires c =
     let bytes = c.requires.0 in
     let t = c.requires.1.0 in
     let v = c.requires.1.1 in
-    let few = few-places c.args.heap.now c.args.heap.now c.args.self.place bytes t v in
+    let few = few-places c.args.heap.now c.args.heap.now v in
     omega (arith, few, c.capacity.ensures bytes t v)
 
 pub extend-requires-clause-stands : goal.extend-requires-clause-stands
@@ -35,9 +35,14 @@ extend-requires-clause-stands c =
     let bytes = c.requires.0 in
     let t = c.requires.1.0 in
     let v = c.requires.1.1 in
-    let needed : c.len.result + length c.args.bytes.now ≡ length (bytes ++ c.args.bytes.now) = omega (arith, c.len.ensures bytes t v, length-append bytes c.args.bytes.now) in
-    let wanted : c.capacity_for_text-wanted.result ≡ capacity_for_text (length (bytes ++ c.args.bytes.now)) t.capacity = c.capacity_for_text-wanted.ensures ∙ (λ i. capacity_for_text (needed i) (c.capacity.ensures bytes t v i)) in
-    let grown = text-grown-of c.args.heap.now c.reserve.new.heap c.args.self.place bytes t v c.capacity_for_text-wanted.result (capacity_for_text (length (bytes ++ c.args.bytes.now)) t.capacity) wanted (λ n u bs s. c.in-Ok.ensures n u bs s) in
+    let needed : c.len.result + length c.args.bytes.now ≡ length (bytes ++ c.args.bytes.now) =
+    omega (arith, c.len.ensures bytes t v, length-append bytes c.args.bytes.now) in
+    let wanted : c.capacity_for_text-wanted.result ≡ capacity_for_text (length (bytes ++ c.args.bytes.now))
+    t.capacity = c.capacity_for_text-wanted.ensures
+    ∙ (λ i. capacity_for_text (needed i) (c.capacity.ensures bytes t v i)) in
+    let grown = text-grown-of c.args.heap.now c.reserve.new.heap v c.capacity_for_text-wanted.result
+    (capacity_for_text (length (bytes ++ c.args.bytes.now)) t.capacity) wanted
+    (λ n u bs s. c.in-Ok.ensures n u bs s) in
     (length bytes, (grown.table, (bytes, grown.stands)))
 
 pub extend-requires-clause-space : goal.extend-requires-clause-space
@@ -45,23 +50,40 @@ extend-requires-clause-space c =
     let bytes = c.requires.0 in
     let t = c.requires.1.0 in
     let v = c.requires.1.1 in
-    let needed : c.len.result + length c.args.bytes.now ≡ length (bytes ++ c.args.bytes.now) = omega (arith, c.len.ensures bytes t v, length-append bytes c.args.bytes.now) in
-    let wanted : c.capacity_for_text-wanted.result ≡ capacity_for_text (length (bytes ++ c.args.bytes.now)) t.capacity = c.capacity_for_text-wanted.ensures ∙ (λ i. capacity_for_text (needed i) (c.capacity.ensures bytes t v i)) in
-    let grown = text-grown-of c.args.heap.now c.reserve.new.heap c.args.self.place bytes t v c.capacity_for_text-wanted.result (capacity_for_text (length (bytes ++ c.args.bytes.now)) t.capacity) wanted (λ n u bs s. c.in-Ok.ensures n u bs s) in
-    let places : capacity_for_text (length (bytes ++ c.args.bytes.now)) t.capacity ≤ grown.table.capacity = table-places (live_of c.args.heap.now.bytes) 1 (capacity_for_text (length (bytes ++ c.args.bytes.now)) t.capacity) t grown.table grown.grown in
-    let enough : length (bytes ++ c.args.bytes.now) ≤ capacity_for_text (length (bytes ++ c.args.bytes.now)) t.capacity = wanted-bytes (length (bytes ++ c.args.bytes.now)) t.capacity in
-    text-space c.reserve.new.heap c.reserve.new.heap c.args.self.place bytes grown.table grown.stands c.args.bytes.now (omega (arith, places, enough, length-append bytes c.args.bytes.now))
+    let needed : c.len.result + length c.args.bytes.now ≡ length (bytes ++ c.args.bytes.now) =
+    omega (arith, c.len.ensures bytes t v, length-append bytes c.args.bytes.now) in
+    let wanted : c.capacity_for_text-wanted.result ≡ capacity_for_text (length (bytes ++ c.args.bytes.now))
+    t.capacity = c.capacity_for_text-wanted.ensures
+    ∙ (λ i. capacity_for_text (needed i) (c.capacity.ensures bytes t v i)) in
+    let grown = text-grown-of c.args.heap.now c.reserve.new.heap v c.capacity_for_text-wanted.result
+    (capacity_for_text (length (bytes ++ c.args.bytes.now)) t.capacity) wanted
+    (λ n u bs s. c.in-Ok.ensures n u bs s) in
+    let places = table-places (live_of c.args.heap.now.bytes) 1
+    (capacity_for_text (length (bytes ++ c.args.bytes.now)) t.capacity) t grown.grown in
+    let enough = wanted-bytes (length (bytes ++ c.args.bytes.now)) t.capacity in
+    text-space c.reserve.new.heap c.reserve.new.heap grown.stands c.args.bytes.now
+    (omega (arith, places, enough, length-append bytes c.args.bytes.now))
 
 pub returns-in-Err : goal.returns-in-Err
 returns-in-Err c bytes t v =
-    let needed : c.len.result + length c.args.bytes.now ≡ length (bytes ++ c.args.bytes.now) = omega (arith, c.len.ensures bytes t v, length-append bytes c.args.bytes.now) in
-    let wanted : c.capacity_for_text-wanted.result ≡ capacity_for_text (length (bytes ++ c.args.bytes.now)) t.capacity = c.capacity_for_text-wanted.ensures ∙ (λ i. capacity_for_text (needed i) (c.capacity.ensures bytes t v i)) in
-    text-without-space c.args.heap.now c.reserve.new.heap c.args.self.place bytes t v c.capacity_for_text-wanted.result (capacity_for_text (length (bytes ++ c.args.bytes.now)) t.capacity) wanted (λ n u bs s. c.in-Err.ensures n u bs s)
+    let needed : c.len.result + length c.args.bytes.now ≡ length (bytes ++ c.args.bytes.now) =
+    omega (arith, c.len.ensures bytes t v, length-append bytes c.args.bytes.now) in
+    let wanted : c.capacity_for_text-wanted.result ≡ capacity_for_text (length (bytes ++ c.args.bytes.now))
+    t.capacity = c.capacity_for_text-wanted.ensures
+    ∙ (λ i. capacity_for_text (needed i) (c.capacity.ensures bytes t v i)) in
+    text-without-space c.args.heap.now c.reserve.new.heap v c.capacity_for_text-wanted.result
+    (capacity_for_text (length (bytes ++ c.args.bytes.now)) t.capacity) wanted
+    (λ n u bs s. c.in-Err.ensures n u bs s)
 
 pub returns-in-Ok : goal.returns-in-Ok
 returns-in-Ok c bytes t v =
-    let needed : c.len.result + length c.args.bytes.now ≡ length (bytes ++ c.args.bytes.now) = omega (arith, c.len.ensures bytes t v, length-append bytes c.args.bytes.now) in
-    let wanted : c.capacity_for_text-wanted.result ≡ capacity_for_text (length (bytes ++ c.args.bytes.now)) t.capacity = c.capacity_for_text-wanted.ensures ∙ (λ i. capacity_for_text (needed i) (c.capacity.ensures bytes t v i)) in
-    let grown = text-grown-of c.args.heap.now c.reserve.new.heap c.args.self.place bytes t v c.capacity_for_text-wanted.result (capacity_for_text (length (bytes ++ c.args.bytes.now)) t.capacity) wanted (λ n u bs s. c.in-Ok.ensures n u bs s) in
-    text-grown-then c.args.heap.now c.reserve.new.heap c.extend.new.heap c.args.self.place (capacity_for_text (length (bytes ++ c.args.bytes.now)) t.capacity) t bytes (bytes ++ c.args.bytes.now) grown
-    (text-extended c.reserve.new.heap c.extend.new.heap c.args.self.place bytes grown.table grown.stands c.args.bytes.now c.extend.ensures)
+    let needed : c.len.result + length c.args.bytes.now ≡ length (bytes ++ c.args.bytes.now) =
+    omega (arith, c.len.ensures bytes t v, length-append bytes c.args.bytes.now) in
+    let wanted : c.capacity_for_text-wanted.result ≡ capacity_for_text (length (bytes ++ c.args.bytes.now))
+    t.capacity = c.capacity_for_text-wanted.ensures
+    ∙ (λ i. capacity_for_text (needed i) (c.capacity.ensures bytes t v i)) in
+    let grown = text-grown-of c.args.heap.now c.reserve.new.heap v c.capacity_for_text-wanted.result
+    (capacity_for_text (length (bytes ++ c.args.bytes.now)) t.capacity) wanted
+    (λ n u bs s. c.in-Ok.ensures n u bs s) in
+    text-grown-then grown
+    (text-extended c.reserve.new.heap c.extend.new.heap grown.stands c.args.bytes.now c.extend.ensures)

@@ -1,10 +1,10 @@
 -- The word is that of the container.
-use Rattle.std.proofs.Common.{◌+◌, ◌<◌, arith, length}
-use Rattle.seg_vector.proofs.Growth.{capacity-read, room-small}
+use Rattle.std.proofs.Common.{◌+◌, ◌<◌, arith}
+use Rattle.seg_vector.proofs.Storage.{capacity-read, place-small, room-small}
 use Rattle.seg_vector.proofs.strings.SegString.capacity.Goals as goal
 
 pub overflow_add-self : goal.overflow_add-self
-overflow_add-self c = let small : c.args.self.place.at + 24 < 1073741824 = room-small c.args.heap.now c.args.self.place.handle (c.args.self.place.at + 24) c.requires.1.1.heap c.requires.1.1.room in omega arith
+overflow_add-self c = let small = place-small c.args.self.place c.requires.1.1.heap c.requires.1.1.room in omega arith
 
 pub returns : goal.returns
-returns c bytes t v = capacity-read c.args.heap.now.bytes c.args.self.place 1 (length bytes) c.word.result t bytes v c.word.ensures
+returns c bytes t v = capacity-read c.word.result v c.word.ensures

@@ -3,4 +3,4 @@ use Rattle.seg_vector.proofs.Typed.{text-cleared}
 use Rattle.seg_vector.proofs.strings.SegString.clear.Goals as goal
 
 pub returns : goal.returns
-returns c bytes t v = text-cleared c.args.heap.now c.truncate.new.heap c.args.self.place bytes t v c.truncate.ensures
+returns c bytes t v = text-cleared c.args.heap.now c.truncate.new.heap v c.truncate.ensures

@@ -3,4 +3,4 @@ use Rattle.seg_vector.proofs.Typed.{text-started}
 use Rattle.seg_vector.proofs.strings.SegString.new.Goals as goal
 
 pub returns-clause-text : goal.returns-clause-text
-returns-clause-text c = text-started c.args.heap.now c.start.new.heap c.args.place c.requires.heap c.requires.room c.start.ensures.change (c.start.ensures.stands 1)
+returns-clause-text c = text-started c.requires.heap c.requires.room c.start.ensures.change (c.start.ensures.stands 1)

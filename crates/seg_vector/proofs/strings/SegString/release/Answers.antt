@@ -3,4 +3,4 @@ use Rattle.seg_vector.proofs.Typed.{text-released}
 use Rattle.seg_vector.proofs.strings.SegString.release.Goals as goal
 
 pub returns : goal.returns
-returns c bytes t v = text-released c.args.heap.now c.give_back.new.heap c.args.self.place bytes t v c.give_back.ensures
+returns c bytes t v = text-released c.args.heap.now c.give_back.new.heap v c.give_back.ensures

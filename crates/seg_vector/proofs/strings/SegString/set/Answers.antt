@@ -6,4 +6,4 @@ use Rattle.seg_vector.proofs.strings.SegString.set.Goals as goal
 pub returns : goal.returns
 returns c bytes t v =
     let inside : c.args.index < length bytes = omega (arith, c.if-index-len.false, c.len.ensures bytes t v) in
-    (inside, text-set c.args.heap.now c.set_element.new.heap c.args.self.place bytes t v c.args.index c.args.byte inside c.set_element.ensures)
+    (inside, text-set c.args.heap.now c.set_element.new.heap v c.args.index c.args.byte inside c.set_element.ensures)

@@ -3,4 +3,4 @@ use Rattle.seg_vector.proofs.Typed.{text-fitted}
 use Rattle.seg_vector.proofs.strings.SegString.shrink.Goals as goal
 
 pub returns : goal.returns
-returns c bytes t v = text-fitted c.args.heap.now c.fit.new.heap c.args.self.place bytes t v c.fit.ensures
+returns c bytes t v = text-fitted c.args.heap.now c.fit.new.heap v c.fit.ensures

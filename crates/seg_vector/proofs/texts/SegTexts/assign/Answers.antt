@@ -1,59 +1,60 @@
 -- Other texts are laid out, then those before are released, and then the words are written.
-use Rattle.std.proofs.Common.{◌≡◌, sym, ap, ◌∙◌, ◌+◌, ◌<◌, arith, length, map}
+use Rattle.std.proofs.Common.{sym, ap, ◌∙◌, ◌+◌, ◌<◌, arith, length, map}
 use Rattle.std.proofs.lemmas.List.{length-map}
-use Rattle.raw_region.specs.Format.{current}
 use Rattle.best_fit.specs.Heap.{live_of}
 use Rattle.best_fit.proofs.Laws.{changed-room, room-less}
 use Rattle.seg_vector.specs.TextsCalls.{new_array}
-use Rattle.seg_vector.proofs.Growth.{room-small}
-use Rattle.seg_vector.proofs.TextsAssigned.{assigned, assigns-some, laid-even, laid-still, some-texts}
-use Rattle.seg_vector.proofs.TextsLaidOut.{fitted}
+use Rattle.seg_vector.proofs.Storage.{len-room, place-small, room-small}
+use Rattle.seg_vector.proofs.TextsLaid.{assigned, assigns-some, laid-even, laid-still, some-texts, fitted}
 use Rattle.seg_vector.proofs.texts.SegTexts.assign.Goals as goal
 
 pub release-requires : goal.release-requires
 release-requires c =
     let s = c.requires.1.1 in
-    (c.requires.0, (c.requires.1.0, laid-still c.args.heap.now c.lay_out.new.heap c.args.self.place c.requires.0 c.requires.1.0 c.in-Ok.array (map (λ text. text.now) c.args.texts.now) s c.in-Ok.ensures))
+    (c.requires.0, (c.requires.1.0, laid-still s c.in-Ok.ensures))
 
 pub point_to-requires-clause-heap : goal.point_to-requires-clause-heap
 point_to-requires-clause-heap c =
-    let still = laid-still c.args.heap.now c.lay_out.new.heap c.args.self.place c.requires.0 c.requires.1.0 c.in-Ok.array (map (λ text. text.now) c.args.texts.now) c.requires.1.1 c.in-Ok.ensures in
+    let still = laid-still c.requires.1.1 c.in-Ok.ensures in
     (c.release.ensures c.requires.0 c.requires.1.0 still).texts.heap
 
 pub point_to-requires-clause-room : goal.point_to-requires-clause-room
 point_to-requires-clause-room c =
-    let still = laid-still c.args.heap.now c.lay_out.new.heap c.args.self.place c.requires.0 c.requires.1.0 c.in-Ok.array (map (λ text. text.now) c.args.texts.now) c.requires.1.1 c.in-Ok.ensures in
+    let still = laid-still c.requires.1.1 c.in-Ok.ensures in
     (c.release.ensures c.requires.0 c.requires.1.0 still).texts.room
 
 pub point_to-requires-clause-even : goal.point_to-requires-clause-even
-point_to-requires-clause-even c = laid-even c.args.heap.now c.lay_out.new.heap c.in-Ok.array (map (λ text. text.now) c.args.texts.now) c.in-Ok.ensures
+point_to-requires-clause-even c = laid-even c.in-Ok.ensures
 
 pub overflow_add-self : goal.overflow_add-self
-overflow_add-self c = let small : c.args.self.place.at + 24 < 1073741824 = room-small c.args.heap.now c.args.self.place.handle (c.args.self.place.at + 24) c.requires.1.1.heap c.requires.1.1.room in omega arith
+overflow_add-self c = let small = place-small c.args.self.place c.requires.1.1.heap c.requires.1.1.room in omega arith
 
 pub set_word-requires : goal.set_word-requires
 set_word-requires c =
-    let still = laid-still c.args.heap.now c.lay_out.new.heap c.args.self.place c.requires.0 c.requires.1.0 c.in-Ok.array (map (λ text. text.now) c.args.texts.now) c.requires.1.1 c.in-Ok.ensures in
-    changed-room current c.release.new.heap c.point_to.new.heap (c.args.self.place.handle + c.args.self.place.at) 24 c.args.self.place.handle (c.args.self.place.at + 8 + 8) c.point_to.ensures.change
-    (room-less (live_of c.release.new.heap.bytes) c.args.self.place.handle (c.args.self.place.at + 24) (c.args.self.place.at + 8 + 8) (omega arith) (c.release.ensures c.requires.0 c.requires.1.0 still).texts.room)
+    let still = laid-still c.requires.1.1 c.in-Ok.ensures in
+    changed-room _ _ _ _ 24 c.args.self.place.handle (c.args.self.place.at + 8 + 8) c.point_to.ensures.change
+    (len-room c.release.new.heap.bytes c.args.self.place
+    (c.release.ensures c.requires.0 c.requires.1.0 still).texts.room)
 
 pub returns-in-Ok-clause-assigned : goal.returns-in-Ok-clause-assigned
 returns-in-Ok-clause-assigned c =
     let more = map (λ text. text.now) c.args.texts.now in
-    let long : length more ≡ length c.args.texts.now = length-map c.args.texts.now (λ text. text.now) in
-    let some : 0 < length c.args.texts.now = some-texts (length c.args.texts.now) c.if-is_empty.ensures in
+    let long = length-map c.args.texts.now (λ text. text.now) in
+    let some = some-texts (length c.args.texts.now) c.if-is_empty.ensures in
     assigns-some c.args.heap.now c.set_word.new.self c.args.self.place more (omega (arith, long, some))
-    (λ ps t s. assigned c.args.heap.now c.lay_out.new.heap c.release.new.heap c.point_to.new.heap c.set_word.new.self c.args.self.place ps t c.in-Ok.array (length c.args.texts.now) more s c.in-Ok.ensures (sym long) some c.release.ensures
-    c.point_to.ensures.change c.point_to.ensures.link c.point_to.ensures.capacity c.set_word.ensures.change c.set_word.ensures.word)
+    (λ ps t s. assigned (length c.args.texts.now) s c.in-Ok.ensures (sym long) some c.release.ensures
+    c.point_to.ensures.change c.point_to.ensures.link c.point_to.ensures.capacity c.set_word.ensures.change
+    c.set_word.ensures.word)
 
 pub returns-in-Ok-clause-first : goal.returns-in-Ok-clause-first
 returns-in-Ok-clause-first c = λ none.
     let more = map (λ text. text.now) c.args.texts.now in
-    let long : length more ≡ length c.args.texts.now = length-map c.args.texts.now (λ text. text.now) in
-    let some : 0 < length c.args.texts.now = some-texts (length c.args.texts.now) c.if-is_empty.ensures in
-    absurd (fitted (live_of c.args.heap.now.bytes) more c.in-Ok.ensures.block (omega (arith, long, some)) c.in-Ok.ensures.fit (ap (new_array (live_of c.args.heap.now.bytes)) long ∙ none))
+    let long = length-map c.args.texts.now (λ text. text.now) in
+    let some = some-texts (length c.args.texts.now) c.if-is_empty.ensures in
+    absurd (fitted (live_of c.args.heap.now.bytes) more (omega (arith, long, some)) c.in-Ok.ensures.fit
+    (ap (new_array (live_of c.args.heap.now.bytes)) long ∙ none))
 
 pub returns-in-Err-clause-first : goal.returns-in-Err-clause-first
 returns-in-Err-clause-first c = λ none.
-    let long : length (map (λ text. text.now) c.args.texts.now) ≡ length c.args.texts.now = length-map c.args.texts.now (λ text. text.now) in
+    let long = length-map c.args.texts.now (λ text. text.now) in
     c.in-Err.ensures.first (ap (new_array (live_of c.args.heap.now.bytes)) long ∙ none)

@@ -1,13 +1,14 @@
 -- The word is that of the vector.
 use Rattle.std.proofs.Common.{◌≡◌, ap, ◌∙◌, ◌+◌, ◌<◌, arith}
 use Rattle.raw_region.specs.Memory.{bytes_of, word_at}
-use Rattle.seg_vector.proofs.Growth.{room-small}
+use Rattle.seg_vector.proofs.Storage.{place-small, room-small}
 use Rattle.seg_vector.proofs.texts.SegTexts.capacity.Goals as goal
 
 pub overflow_add-self : goal.overflow_add-self
-overflow_add-self c = let small : c.args.self.place.at + 24 < 1073741824 = room-small c.args.heap.now c.args.self.place.handle (c.args.self.place.at + 24) c.requires.1.1.heap c.requires.1.1.room in omega arith
+overflow_add-self c = let small = place-small c.args.self.place c.requires.1.1.heap c.requires.1.1.room in omega arith
 
 pub returns : goal.returns
 returns c ps t s =
-    let at : c.args.self.place.handle + (c.args.self.place.at + 16) ≡ c.args.self.place.handle + c.args.self.place.at + 16 = omega arith in
+    let at : c.args.self.place.handle + (c.args.self.place.at + 16) ≡ c.args.self.place.handle + c.args.self.place.at
+    + 16 = omega arith in
     c.word.ensures ∙ ap (λ k. word_at (bytes_of c.args.heap.now.bytes) k) at ∙ s.words.capacity

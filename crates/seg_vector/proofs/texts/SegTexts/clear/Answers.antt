@@ -4,23 +4,25 @@ use Rattle.raw_region.specs.Format.{current}
 use Rattle.raw_region.specs.Memory.{bytes_of, word_at}
 use Rattle.best_fit.specs.Heap.{IsChanged, live_of}
 use Rattle.best_fit.proofs.Laws.{room-less}
-use Rattle.seg_vector.proofs.Growth.{room-small}
-use Rattle.seg_vector.proofs.TextSteps.{head-room}
-use Rattle.seg_vector.proofs.TextsEmptied.{cleared, head-after}
+use Rattle.seg_vector.proofs.Storage.{place-small, room-small}
+use Rattle.seg_vector.proofs.TextBlocks.{head-room}
+use Rattle.seg_vector.proofs.TextCalls.{cleared, head-after}
 use Rattle.seg_vector.proofs.texts.SegTexts.clear.Goals as goal
 
 pub overflow_add-self : goal.overflow_add-self
-overflow_add-self c = let small : c.args.self.place.at + 24 < 1073741824 = room-small c.args.heap.now c.args.self.place.handle (c.args.self.place.at + 24) c.requires.1.1.heap c.requires.1.1.room in omega arith
+overflow_add-self c = let small = place-small c.args.self.place c.requires.1.1.heap c.requires.1.1.room in omega arith
 
 pub set_word-requires : goal.set_word-requires
 set_word-requires c =
     let x = c.release_all.ensures c.requires.0 c.requires.1.0 c.requires.1.1 in
-    room-less (live_of c.release_all.new.heap.bytes) c.args.self.place.handle (c.args.self.place.at + 24) (c.args.self.place.at + 8 + 8) (omega arith)
-    (head-room c.release_all.new.heap c.args.self.place (head-after c.args.heap.now c.release_all.new.heap c.args.self.place c.requires.0 c.requires.1.0 c.requires.1.1 x))
+    room-less (live_of c.release_all.new.heap.bytes) c.args.self.place.handle (c.args.self.place.at + 24)
+    (c.args.self.place.at + 8 + 8) (omega arith)
+    (head-room (head-after c.requires.1.1 x))
 
 pub returns : goal.returns
 returns c ps t s =
-    let at : c.args.self.place.handle + (c.args.self.place.at + 8) ≡ c.args.self.place.handle + c.args.self.place.at + 8 = omega arith in
-    cleared c.args.heap.now c.release_all.new.heap c.set_word.new.self c.args.self.place ps t s (c.release_all.ensures ps t s)
+    let at : c.args.self.place.handle + (c.args.self.place.at + 8) ≡ c.args.self.place.handle + c.args.self.place.at
+    + 8 = omega arith in
+    cleared {new = c.set_word.new.self} s (c.release_all.ensures ps t s)
     (subst (λ k. IsChanged current c.release_all.new.heap c.set_word.new.self k 8) at c.set_word.ensures.change)
     (subst (λ k. word_at (bytes_of c.set_word.new.self.bytes) k ≡ 0) at c.set_word.ensures.word)

@@ -1,39 +1,35 @@
 -- The block of the text is released, those behind it move down, and then the length is written.
-use Rattle.std.proofs.Common.{◌≡◌, refl, sym, ◌∙◌, ◌+◌, ◌-◌, ◌*◌, ◌<◌, arith, length}
-use Rattle.raw_region.specs.Format.{current}
+use Rattle.std.proofs.Common.{refl, sym, ◌∙◌, ◌+◌, ◌-◌, ◌*◌, ◌<◌, arith, length}
 use Rattle.raw_region.specs.Memory.{bytes_of}
 use Rattle.best_fit.specs.Heap.{live_of}
 use Rattle.best_fit.proofs.Laws.{changed-room, room-less}
-use Rattle.seg_vector.proofs.Growth.{room-small}
-use Rattle.seg_vector.proofs.HeldArrays.{even-from}
-use Rattle.seg_vector.proofs.ReadTexts.{no-array, text-found}
-use Rattle.seg_vector.proofs.TextErasures.{IsLeft, erased-by, left}
-use Rattle.seg_vector.proofs.TextSteps.{head-room}
-use Rattle.seg_vector.proofs.TextsEmptied.{held-elements}
+use Rattle.seg_vector.proofs.Storage.{link-room, place-small, room-small}
+use Rattle.seg_vector.proofs.TextBlocks.{even-from, no-array, text-found, head-room}
+use Rattle.seg_vector.proofs.TextCalls.{erased-by, left, held-elements}
 use Rattle.seg_vector.proofs.texts.SegTexts.erase.Goals as goal
 
 pub link-requires-clause-room : goal.link-requires-clause-room
-link-requires-clause-room c = room-less (live_of c.args.heap.now.bytes) c.args.self.place.handle (c.args.self.place.at + 24) (c.args.self.place.at + 8) (omega arith) c.requires.1.1.room
+link-requires-clause-room c = link-room c.args.heap.now.bytes c.args.self.place c.requires.1.1.room
 
 pub unreachable-requires : goal.unreachable-requires
 unreachable-requires c =
-    let none : length c.requires.0 ≡ 0 = no-array c.args.heap.now c.args.self.place c.requires.0 c.requires.1.0 c.requires.1.1 (sym c.link.ensures ∙ c.in-None.is) in
+    let none = no-array c.args.heap.now c.requires.1.1 (sym c.link.ensures ∙ c.in-None.is) in
     omega (arith, none, c.len-len.ensures c.requires.0 c.requires.1.0 c.requires.1.1, c.if-index-len.false)
 
 pub overflow_mul-at : goal.overflow_mul-at
 overflow_mul-at c =
     let ps = c.requires.0 in
     let s = c.requires.1.1 in
-    let h = held-elements c.args.heap.now.bytes c.args.self.place ps c.in-Some.array (length ps) c.requires.1.0 s (sym c.link.ensures ∙ c.in-Some.is) refl in
-    let small : 16 * length ps < 1073741824 = room-small c.args.heap.now c.in-Some.array (16 * length ps) h.heap h.room in
+    let h = held-elements (length ps) s (sym c.link.ensures ∙ c.in-Some.is) refl in
+    let small = room-small c.args.heap.now c.in-Some.array (16 * length ps) h.heap h.room in
     omega (arith, small, c.if-index-len.false, c.len-len.ensures ps c.requires.1.0 s)
 
 pub overflow_add-at : goal.overflow_add-at
 overflow_add-at c =
     let ps = c.requires.0 in
     let s = c.requires.1.1 in
-    let h = held-elements c.args.heap.now.bytes c.args.self.place ps c.in-Some.array (length ps) c.requires.1.0 s (sym c.link.ensures ∙ c.in-Some.is) refl in
-    let small : 16 * length ps < 1073741824 = room-small c.args.heap.now c.in-Some.array (16 * length ps) h.heap h.room in
+    let h = held-elements (length ps) s (sym c.link.ensures ∙ c.in-Some.is) refl in
+    let small = room-small c.args.heap.now c.in-Some.array (16 * length ps) h.heap h.room in
     omega (arith, small, c.if-index-len.false, c.len-len.ensures ps c.requires.1.0 s)
 
 pub release_text-requires : goal.release_text-requires
@@ -41,15 +37,14 @@ release_text-requires c =
     let ps = c.requires.0 in
     let s = c.requires.1.1 in
     let q = text-found ps c.args.index (omega (arith, c.if-index-len.false, c.len-len.ensures ps c.requires.1.0 s)) in
-    (q.0, (left c.args.heap.now c.args.heap.now c.args.self.place ps c.in-Some.array c.args.index c.requires.1.0 q.0 s q.1 (sym c.link.ensures ∙ c.in-Some.is)).element)
+    (q.0, (left c.args.heap.now c.args.heap.now c.args.index s q.1 (sym c.link.ensures ∙ c.in-Some.is)).element)
 
 pub carry_down-requires-clause-heap : goal.carry_down-requires-clause-heap
 carry_down-requires-clause-heap c =
     let ps = c.requires.0 in
     let s = c.requires.1.1 in
     let q = text-found ps c.args.index (omega (arith, c.if-index-len.false, c.len-len.ensures ps c.requires.1.0 s)) in
-    let w : IsLeft c.args.heap.now c.release_text.new.heap c.args.self.place ps c.in-Some.array c.args.index q.0 =
-    left c.args.heap.now c.release_text.new.heap c.args.self.place ps c.in-Some.array c.args.index c.requires.1.0 q.0 s q.1 (sym c.link.ensures ∙ c.in-Some.is) in
+    let w = left c.args.heap.now c.release_text.new.heap c.args.index s q.1 (sym c.link.ensures ∙ c.in-Some.is) in
     (w.after (c.release_text.ensures q.0 w.element)).0.heap
 
 pub carry_down-requires-clause-source : goal.carry_down-requires-clause-source
@@ -58,9 +53,10 @@ carry_down-requires-clause-source c =
     let s = c.requires.1.1 in
     let n = c.len-len.ensures ps c.requires.1.0 s in
     let q = text-found ps c.args.index (omega (arith, c.if-index-len.false, n)) in
-    let w : IsLeft c.args.heap.now c.release_text.new.heap c.args.self.place ps c.in-Some.array c.args.index q.0 =
-    left c.args.heap.now c.release_text.new.heap c.args.self.place ps c.in-Some.array c.args.index c.requires.1.0 q.0 s q.1 (sym c.link.ensures ∙ c.in-Some.is) in
-    room-less (live_of c.release_text.new.heap.bytes) c.in-Some.array (16 * length ps) (16 * c.args.index + 16 + 16 * (c.len-len.result - c.args.index - 1)) (omega (arith, c.if-index-len.false, n)) (w.after (c.release_text.ensures q.0 w.element)).0.room
+    let w = left c.args.heap.now c.release_text.new.heap c.args.index s q.1 (sym c.link.ensures ∙ c.in-Some.is) in
+    room-less (live_of c.release_text.new.heap.bytes) c.in-Some.array (16 * length ps)
+    (16 * c.args.index + 16 + 16 * (c.len-len.result - c.args.index - 1)) (omega (arith, c.if-index-len.false, n))
+    (w.after (c.release_text.ensures q.0 w.element)).0.room
 
 pub carry_down-requires-clause-target : goal.carry_down-requires-clause-target
 carry_down-requires-clause-target c =
@@ -68,9 +64,10 @@ carry_down-requires-clause-target c =
     let s = c.requires.1.1 in
     let n = c.len-len.ensures ps c.requires.1.0 s in
     let q = text-found ps c.args.index (omega (arith, c.if-index-len.false, n)) in
-    let w : IsLeft c.args.heap.now c.release_text.new.heap c.args.self.place ps c.in-Some.array c.args.index q.0 =
-    left c.args.heap.now c.release_text.new.heap c.args.self.place ps c.in-Some.array c.args.index c.requires.1.0 q.0 s q.1 (sym c.link.ensures ∙ c.in-Some.is) in
-    room-less (live_of c.release_text.new.heap.bytes) c.in-Some.array (16 * length ps) (16 * c.args.index + 16 * (c.len-len.result - c.args.index - 1)) (omega (arith, c.if-index-len.false, n)) (w.after (c.release_text.ensures q.0 w.element)).0.room
+    let w = left c.args.heap.now c.release_text.new.heap c.args.index s q.1 (sym c.link.ensures ∙ c.in-Some.is) in
+    room-less (live_of c.release_text.new.heap.bytes) c.in-Some.array (16 * length ps)
+    (16 * c.args.index + 16 * (c.len-len.result - c.args.index - 1)) (omega (arith, c.if-index-len.false, n))
+    (w.after (c.release_text.ensures q.0 w.element)).0.room
 
 pub carry_down-requires-clause-even : goal.carry_down-requires-clause-even
 carry_down-requires-clause-even c =
@@ -78,34 +75,34 @@ carry_down-requires-clause-even c =
     let s = c.requires.1.1 in
     let n = c.len-len.ensures ps c.requires.1.0 s in
     let q = text-found ps c.args.index (omega (arith, c.if-index-len.false, n)) in
-    let w : IsLeft c.args.heap.now c.release_text.new.heap c.args.self.place ps c.in-Some.array c.args.index q.0 =
-    left c.args.heap.now c.release_text.new.heap c.args.self.place ps c.in-Some.array c.args.index c.requires.1.0 q.0 s q.1 (sym c.link.ensures ∙ c.in-Some.is) in
-    even-from (bytes_of c.release_text.new.heap.bytes) c.in-Some.array (c.in-Some.array + (16 * c.args.index + 16)) (c.args.index + 1) (c.len-len.result - c.args.index - 1) (length ps)
+    let w = left c.args.heap.now c.release_text.new.heap c.args.index s q.1 (sym c.link.ensures ∙ c.in-Some.is) in
+    even-from (bytes_of c.release_text.new.heap.bytes) c.in-Some.array (c.in-Some.array + (16 * c.args.index + 16))
+    (c.args.index + 1) (c.len-len.result - c.args.index - 1) (length ps)
     (w.after (c.release_text.ensures q.0 w.element)).0.even (omega arith) (omega (arith, c.if-index-len.false, n))
 
 pub overflow_add-self : goal.overflow_add-self
-overflow_add-self c = let small : c.args.self.place.at + 24 < 1073741824 = room-small c.args.heap.now c.args.self.place.handle (c.args.self.place.at + 24) c.requires.1.1.heap c.requires.1.1.room in omega arith
+overflow_add-self c = let small = place-small c.args.self.place c.requires.1.1.heap c.requires.1.1.room in omega arith
 
 pub set_word-requires : goal.set_word-requires
 set_word-requires c =
     let ps = c.requires.0 in
     let s = c.requires.1.1 in
     let q = text-found ps c.args.index (omega (arith, c.if-index-len.false, c.len-len.ensures ps c.requires.1.0 s)) in
-    let w : IsLeft c.args.heap.now c.release_text.new.heap c.args.self.place ps c.in-Some.array c.args.index q.0 =
-    left c.args.heap.now c.release_text.new.heap c.args.self.place ps c.in-Some.array c.args.index c.requires.1.0 q.0 s q.1 (sym c.link.ensures ∙ c.in-Some.is) in
-    changed-room current c.release_text.new.heap c.carry_down.new.heap (c.in-Some.array + 16 * c.args.index) (16 * (c.len-len.result - c.args.index - 1)) c.args.self.place.handle (c.args.self.place.at + 8 + 8) c.carry_down.ensures.change
-    (room-less (live_of c.release_text.new.heap.bytes) c.args.self.place.handle (c.args.self.place.at + 24) (c.args.self.place.at + 8 + 8) (omega arith)
-    (head-room c.release_text.new.heap c.args.self.place (w.after (c.release_text.ensures q.0 w.element)).1))
+    let w = left c.args.heap.now c.release_text.new.heap c.args.index s q.1 (sym c.link.ensures ∙ c.in-Some.is) in
+    changed-room _ _ _ _ _ c.args.self.place.handle (c.args.self.place.at + 8 + 8) c.carry_down.ensures.change
+    (room-less (live_of c.release_text.new.heap.bytes) c.args.self.place.handle (c.args.self.place.at + 24)
+    (c.args.self.place.at + 8 + 8) (omega arith)
+    (head-room (w.after (c.release_text.ensures q.0 w.element)).1))
 
 pub returns : goal.returns
 returns c ps t s =
     let n = c.len-len.ensures ps t s in
     let q = text-found ps c.args.index (omega (arith, c.if-index-len.false, n)) in
-    let w : IsLeft c.args.heap.now c.release_text.new.heap c.args.self.place ps c.in-Some.array c.args.index q.0 =
-    left c.args.heap.now c.release_text.new.heap c.args.self.place ps c.in-Some.array c.args.index t q.0 s q.1 (sym c.link.ensures ∙ c.in-Some.is) in
+    let w = left c.args.heap.now c.release_text.new.heap c.args.index s q.1 (sym c.link.ensures ∙ c.in-Some.is) in
     record {
       before = q.0;
       found = q.1;
-      now = erased-by c.args.heap.now c.release_text.new.heap c.carry_down.new.heap c.set_word.new.self c.args.self.place ps c.in-Some.array c.args.index c.len-len.result t q.0 s q.1 (sym c.link.ensures ∙ c.in-Some.is) n
-          (c.release_text.ensures q.0 w.element) c.carry_down.ensures.change c.carry_down.ensures.carried c.set_word.ensures.change c.set_word.ensures.word;
+      now = erased-by c.args.index c.len-len.result s q.1 (sym c.link.ensures ∙ c.in-Some.is) n
+          (c.release_text.ensures q.0 w.element) c.carry_down.ensures.change c.carry_down.ensures.carried
+          c.set_word.ensures.change c.set_word.ensures.word;
     }

@@ -1,40 +1,42 @@
 -- The element is in the array.
-use Rattle.std.proofs.Common.{◌≡◌, sym, ap, ◌∙◌, ◌+◌, ◌*◌, ◌<◌, arith, length}
+use Rattle.std.proofs.Common.{sym, ap, ◌∙◌, ◌+◌, ◌*◌, ◌<◌, arith, length}
 use Rattle.std.specs.Prelude.{Some, option_map}
 use Rattle.best_fit.specs.Heap.{live_of}
 use Rattle.best_fit.proofs.Laws.{room-less}
 use Rattle.seg_vector.specs.Vector.{OwnedText}
-use Rattle.seg_vector.proofs.Growth.{room-small}
-use Rattle.seg_vector.proofs.ReadTexts.{element-of, no-array, text-found}
+use Rattle.seg_vector.proofs.Storage.{link-room, room-small}
+use Rattle.seg_vector.proofs.TextBlocks.{element-of, no-array, text-found}
 use Rattle.seg_vector.proofs.texts.SegTexts.get.Goals as goal
 
 pub link-requires-clause-room : goal.link-requires-clause-room
-link-requires-clause-room c = room-less (live_of c.args.heap.now.bytes) c.args.self.place.handle (c.args.self.place.at + 24) (c.args.self.place.at + 8) (omega arith) c.requires.1.1.room
+link-requires-clause-room c = link-room c.args.heap.now.bytes c.args.self.place c.requires.1.1.room
 
 pub unreachable-requires : goal.unreachable-requires
 unreachable-requires c =
-    let none : length c.requires.0 ≡ 0 = no-array c.args.heap.now c.args.self.place c.requires.0 c.requires.1.0 c.requires.1.1 (sym c.link.ensures ∙ c.in-None.is) in
+    let none = no-array c.args.heap.now c.requires.1.1 (sym c.link.ensures ∙ c.in-None.is) in
     omega (arith, none, c.len.ensures c.requires.0 c.requires.1.0 c.requires.1.1, c.if-index-len.false)
 
 pub overflow_mul-index : goal.overflow_mul-index
 overflow_mul-index c =
     let s = c.requires.1.1 in
-    let inside : c.args.index < length c.requires.0 = omega (arith, c.if-index-len.false, c.len.ensures c.requires.0 c.requires.1.0 s) in
+    let inside : c.args.index < length c.requires.0 =
+    omega (arith, c.if-index-len.false, c.len.ensures c.requires.0 c.requires.1.0 s) in
     let q = text-found c.requires.0 c.args.index inside in
-    let e = element-of c.args.heap.now c.args.self.place c.requires.0 c.requires.1.0 c.in-Some.array c.args.index q.0 s (sym c.link.ensures ∙ c.in-Some.is) q.1 in
-    let small : 16 * c.args.index + 16 < 1073741824 = room-small c.args.heap.now c.in-Some.array (16 * c.args.index + 16) e.heap e.room in
+    let e = element-of c.args.heap.now c.args.index s (sym c.link.ensures ∙ c.in-Some.is) q.1 in
+    let small = room-small c.args.heap.now c.in-Some.array (16 * c.args.index + 16) e.heap e.room in
     omega (arith, small)
 
 pub text_at-requires : goal.text_at-requires
 text_at-requires c =
     let s = c.requires.1.1 in
-    let inside : c.args.index < length c.requires.0 = omega (arith, c.if-index-len.false, c.len.ensures c.requires.0 c.requires.1.0 s) in
+    let inside : c.args.index < length c.requires.0 =
+    omega (arith, c.if-index-len.false, c.len.ensures c.requires.0 c.requires.1.0 s) in
     let q = text-found c.requires.0 c.args.index inside in
-    (q.0, element-of c.args.heap.now c.args.self.place c.requires.0 c.requires.1.0 c.in-Some.array c.args.index q.0 s (sym c.link.ensures ∙ c.in-Some.is) q.1)
+    (q.0, element-of c.args.heap.now c.args.index s (sym c.link.ensures ∙ c.in-Some.is) q.1)
 
 pub returns : goal.returns
 returns c ps t s =
     let inside : c.args.index < length ps = omega (arith, c.if-index-len.false, c.len.ensures ps t s) in
     let q = text-found ps c.args.index inside in
-    let e = element-of c.args.heap.now c.args.self.place ps t c.in-Some.array c.args.index q.0 s (sym c.link.ensures ∙ c.in-Some.is) q.1 in
+    let e = element-of c.args.heap.now c.args.index s (sym c.link.ensures ∙ c.in-Some.is) q.1 in
     ap (option_map (λ (q : OwnedText). q.bytes)) q.1 ∙ ap (λ bs. Some bs) (sym (c.text_at.ensures q.0 e))

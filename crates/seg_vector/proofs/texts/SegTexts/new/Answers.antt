@@ -1,6 +1,7 @@
 -- The words are those of a vector without a place.
-use Rattle.seg_vector.proofs.ReadTexts.{texts-started}
+use Rattle.seg_vector.proofs.TextBlocks.{texts-started}
 use Rattle.seg_vector.proofs.texts.SegTexts.new.Goals as goal
 
 pub returns-clause-texts : goal.returns-clause-texts
-returns-clause-texts c = texts-started c.args.heap.now c.start.new.heap c.args.place c.requires.heap c.requires.room c.start.ensures.change (c.start.ensures.stands 16)
+returns-clause-texts c = texts-started c.requires.heap c.requires.room c.start.ensures.change
+    (c.start.ensures.stands 16)

@@ -1,14 +1,14 @@
 -- The texts are released, and then the array is given back.
 use Rattle.std.proofs.Common.{[]}
-use Rattle.seg_vector.proofs.TextsEmptied.{given-up-all, stands-none}
+use Rattle.seg_vector.proofs.TextCalls.{given-up-all, stands-none}
 use Rattle.seg_vector.proofs.texts.SegTexts.release.Goals as goal
 
 pub give_back-requires : goal.give_back-requires
 give_back-requires c =
     let x = c.clear.ensures c.requires.0 c.requires.1.0 c.requires.1.1 in
-    (0, (c.requires.1.0, ([], stands-none c.clear.new.heap.bytes c.args.self.place c.requires.1.0 x.texts)))
+    (0, (c.requires.1.0, ([], stands-none x.texts)))
 
 pub returns : goal.returns
 returns c ps t s =
     let x = c.clear.ensures ps t s in
-    given-up-all c.args.heap.now c.clear.new.heap c.give_back.new.heap c.args.self.place t _ x (c.give_back.ensures 0 t [] (stands-none c.clear.new.heap.bytes c.args.self.place t x.texts))
+    given-up-all x (c.give_back.ensures 0 t [] (stands-none x.texts))

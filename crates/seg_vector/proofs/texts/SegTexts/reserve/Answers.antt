@@ -1,15 +1,16 @@
 -- Nothing is asked for, or an array, which the vector has then.
-use Rattle.std.proofs.Common.{refl, ◌<◌, ◌*◌, arith, []}
+use Rattle.std.proofs.Common.{refl, ◌<◌, arith, []}
 use Rattle.best_fit.specs.Heap.{live_of}
-use Rattle.seg_vector.proofs.TextGrowth.{not-grown}
-use Rattle.seg_vector.proofs.TextReserves.{asked-alone, reserved, reserved-same, too-many-texts}
+use Rattle.seg_vector.proofs.TextGrowth.{not-grown, asked-alone, reserved, reserved-same, too-many-texts}
 use Rattle.seg_vector.proofs.texts.SegTexts.reserve.Goals as goal
 
 pub returns-then-n-capacity-clause-reserved : goal.returns-then-n-capacity-clause-reserved
-returns-then-n-capacity-clause-reserved c ps t s = reserved-same c.args.heap.now c.args.self.place ps t c.args.n s (omega (arith, c.if-n-capacity.true, c.capacity.ensures ps t s))
+returns-then-n-capacity-clause-reserved c ps t s = reserved-same c.args.heap.now c.args.n s
+    (omega (arith, c.if-n-capacity.true, c.capacity.ensures ps t s))
 
 pub returns-then-n-gt-LIMIT-clause-reserved : goal.returns-then-n-gt-LIMIT-clause-reserved
-returns-then-n-gt-LIMIT-clause-reserved c ps t s = record { refusal = refl; none = too-many-texts c.args.heap.now c.args.self.place ps t c.args.n s c.if-n-gt-LIMIT.true; same = refl }
+returns-then-n-gt-LIMIT-clause-reserved c ps t s =
+    record { refusal = refl; none = too-many-texts c.args.heap.now c.args.n s c.if-n-gt-LIMIT.true; same = refl }
 
 pub adopt-requires : goal.adopt-requires
 adopt-requires c =
@@ -26,29 +27,37 @@ adopt-requires c =
       texts = s;
       more = omega (arith, c.if-n-capacity.false, c.capacity.ensures ps t s);
       asked = a;
-      since = asked-alone c.args.heap.now c.ask_array.new.heap t.extent (16 * c.args.n) c.in-Ok.array a;
+      since = asked-alone a;
     }
 
 pub returns-in-Err-clause-reserved : goal.returns-in-Err-clause-reserved
 returns-in-Err-clause-reserved c ps t s =
     let e = c.in-Err.ensures ps t s in
-    record { refusal = refl; none = not-grown (live_of c.args.heap.now.bytes) c.args.n t (omega (arith, c.if-n-capacity.false, c.capacity.ensures ps t s)) e.none; same = e.same }
+    record {
+      refusal = refl;
+      none = not-grown (live_of c.args.heap.now.bytes) c.args.n t
+          (omega (arith, c.if-n-capacity.false, c.capacity.ensures ps t s)) e.none;
+      same = e.same;
+    }
 
 pub returns-in-Ok-clause-reserved : goal.returns-in-Ok-clause-reserved
 returns-in-Ok-clause-reserved c ps t s =
     let more : t.capacity < c.args.n = omega (arith, c.if-n-capacity.false, c.capacity.ensures ps t s) in
     let a = c.in-Ok.ensures ps t s in
-    reserved c.args.heap.now c.ask_array.new.heap c.adopt.new.heap c.args.self.place ps t c.in-Ok.array c.args.n s more
-    (c.adopt.ensures c.args.heap.now c.ask_array.new.heap ps t [] s more a (asked-alone c.args.heap.now c.ask_array.new.heap t.extent (16 * c.args.n) c.in-Ok.array a))
+    reserved s more
+    (c.adopt.ensures c.args.heap.now c.ask_array.new.heap ps t [] s more a (asked-alone a))
 
 pub returns-then-n-capacity-clause-enough : goal.returns-then-n-capacity-clause-enough
 returns-then-n-capacity-clause-enough c = λ ps t s less. (refl, refl)
 
 pub returns-then-n-gt-LIMIT-clause-enough : goal.returns-then-n-gt-LIMIT-clause-enough
-returns-then-n-gt-LIMIT-clause-enough c = λ ps t s less. absurd (omega (arith, less, c.if-n-capacity.false, c.capacity.ensures ps t s))
+returns-then-n-gt-LIMIT-clause-enough c =
+    λ ps t s less. absurd (omega (arith, less, c.if-n-capacity.false, c.capacity.ensures ps t s))
 
 pub returns-in-Err-clause-enough : goal.returns-in-Err-clause-enough
-returns-in-Err-clause-enough c = λ ps t s less. absurd (omega (arith, less, c.if-n-capacity.false, c.capacity.ensures ps t s))
+returns-in-Err-clause-enough c =
+    λ ps t s less. absurd (omega (arith, less, c.if-n-capacity.false, c.capacity.ensures ps t s))
 
 pub returns-in-Ok-clause-enough : goal.returns-in-Ok-clause-enough
-returns-in-Ok-clause-enough c = λ ps t s less. absurd (omega (arith, less, c.if-n-capacity.false, c.capacity.ensures ps t s))
+returns-in-Ok-clause-enough c =
+    λ ps t s less. absurd (omega (arith, less, c.if-n-capacity.false, c.capacity.ensures ps t s))

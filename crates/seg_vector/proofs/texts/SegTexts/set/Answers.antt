@@ -1,20 +1,29 @@
 -- The text is placed, and then its element is written.
-use Rattle.std.proofs.Common.{◌≡◌, refl, sym, subst, ◌%◌, arith, length}
+use Rattle.std.proofs.Common.{◌≡◌, refl, sym, subst, ◌%◌, arith}
 use Rattle.std.specs.Prelude.{IfSome}
-use Rattle.seg_vector.proofs.ReadTexts.{text-found}
-use Rattle.seg_vector.proofs.TextPlaces.{come-even, texts-still}
-use Rattle.seg_vector.proofs.TextSets.{text-set}
+use Rattle.seg_vector.proofs.TextBlocks.{text-found}
+use Rattle.seg_vector.proofs.TextCalls.{come-even, texts-still, text-set}
 use Rattle.seg_vector.proofs.texts.SegTexts.set.Goals as goal
 
 pub replace_text-requires-clause-texts : goal.replace_text-requires-clause-texts
 replace_text-requires-clause-texts c =
     let ps = c.requires.0 in
-    let t = c.requires.1.0 in
-    (ps, (t, (texts-still c.args.heap.now c.place_text.new.heap c.args.self.place ps t _ c.requires.1.1 c.in-Ok.ensures.change, omega (arith, c.if-index-len.false, c.len.ensures ps t c.requires.1.1))))
+    let t = c.requires.1.0 in (
+      ps,
+      (
+        t,
+        (
+          texts-still c.requires.1.1 c.in-Ok.ensures.change,
+          omega
+              (arith, c.if-index-len.false, c.len.ensures ps t c.requires.1.1),
+        ),
+      ),
+    )
 
 pub replace_text-requires-clause-target : goal.replace_text-requires-clause-target
 replace_text-requires-clause-target c =
-    subst (λ o. IfSome o (λ target. target % 16 ≡ 0)) (sym c.in-Ok.ensures.at) (come-even c.args.heap.now c.place_text.new.heap c.in-Ok.ensures.text.extent c.in-Ok.ensures.change)
+    subst (λ o. IfSome o (λ target. target % 16 ≡ 0)) (sym c.in-Ok.ensures.at)
+    (come-even c.in-Ok.ensures.text.extent c.in-Ok.ensures.change)
 
 pub returns-in-Ok : goal.returns-in-Ok
 returns-in-Ok c ps t s =
@@ -24,6 +33,6 @@ returns-in-Ok c ps t s =
       found = q.1;
       text = c.in-Ok.ensures.text;
       placed = c.in-Ok.ensures.placed;
-      now = text-set c.args.heap.now c.place_text.new.heap c.replace_text.new.heap c.args.self.place ps t c.args.index (length c.args.text.now) q.0 c.args.text.now c.in-Ok.block s q.1 c.in-Ok.ensures
-          (c.replace_text.ensures ps t q.0 (texts-still c.args.heap.now c.place_text.new.heap c.args.self.place ps t _ s c.in-Ok.ensures.change) q.1) refl;
+      now = text-set s q.1 c.in-Ok.ensures (c.replace_text.ensures ps t q.0 (texts-still s c.in-Ok.ensures.change) q.1)
+          refl;
     }

@@ -1,15 +1,15 @@
 -- A vector of texts is a container of elements of 16 bytes.
 use Rattle.std.proofs.Common.{length}
 use Rattle.raw_region.specs.Memory.{bytes_of}
-use Rattle.seg_vector.proofs.TextsShrunk.{raw, shrunk, texts-stand}
+use Rattle.seg_vector.proofs.TextCalls.{raw, shrunk, texts-stand}
 use Rattle.seg_vector.proofs.texts.SegTexts.shrink.Goals as goal
 
 pub fit-requires-clause-stands : goal.fit-requires-clause-stands
 fit-requires-clause-stands c =
     let ps = c.requires.0 in
     let t = c.requires.1.0 in
-    (length ps, (t, (raw (bytes_of c.args.heap.now.bytes) (length ps) t.extent, texts-stand c.args.heap.now.bytes c.args.self.place ps t c.requires.1.1)))
+    (length ps, (t, (raw (bytes_of c.args.heap.now.bytes) (length ps) t.extent, texts-stand c.requires.1.1)))
 
 pub returns : goal.returns
 returns c ps t s =
-    shrunk c.args.heap.now c.fit.new.heap c.args.self.place ps t s (c.fit.ensures (length ps) t (raw (bytes_of c.args.heap.now.bytes) (length ps) t.extent) (texts-stand c.args.heap.now.bytes c.args.self.place ps t s))
+    shrunk s (c.fit.ensures (length ps) t (raw (bytes_of c.args.heap.now.bytes) (length ps) t.extent) (texts-stand s))

@@ -4,4 +4,5 @@ use Rattle.seg_vector.proofs.Typed.{cut-now}
 use Rattle.seg_vector.proofs.vectors.SegVec.clear.Goals as goal
 
 pub returns : goal.returns
-returns g c xs t v = cut-now g.T.Plain.SIZE g.T.Plain.is_value g.T.Plain.spelling c.args.heap.now c.truncate.new.heap c.args.self.place c.SIZE.result xs t c.SIZE.ensures v 0 g.met.T.Plain.spells (omega arith) c.truncate.ensures
+returns g c xs t v = cut-now c.args.heap.now c.truncate.new.heap c.SIZE.ensures v 0 g.met.T.Plain.spells (omega arith)
+    c.truncate.ensures

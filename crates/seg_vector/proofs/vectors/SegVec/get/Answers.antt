@@ -1,35 +1,47 @@
 -- The bytes of an element spell its value, and no other.
-use Rattle.std.proofs.Common.{◌≡◌, sym, ap, ◌∙◌, ◌<◌, arith, length}
+use Rattle.std.proofs.Common.{sym, ap, ◌∙◌, ◌<◌, arith, length}
 use Rattle.std.specs.Prelude.{Some}
-use Rattle.seg_vector.proofs.Lists.{all-at, has-element}
-use Rattle.seg_vector.proofs.Typed.{is-standing, element-spells}
+use Rattle.seg_vector.proofs.Typed.{all-at, has-element, is-standing, element-spells}
 use Rattle.seg_vector.proofs.vectors.SegVec.get.Goals as goal
 
 pub element-requires-clause-stands : goal.element-requires-clause-stands
-element-requires-clause-stands g c = is-standing g.T.Plain.SIZE g.T.Plain.is_value g.T.Plain.spelling c.args.heap.now c.args.heap.now c.args.self.place c.SIZE.result c.requires.0 c.requires.1.0 c.SIZE.ensures c.requires.1.1
+element-requires-clause-stands g c = is-standing c.args.heap.now c.args.heap.now c.SIZE.ensures c.requires.1.1
 
 pub element-requires-clause-inside : goal.element-requires-clause-inside
-element-requires-clause-inside g c = omega (arith, c.if-index-len.false, c.len.ensures c.requires.0 c.requires.1.0 c.requires.1.1, c.requires.1.1.stands.words.len_word)
+element-requires-clause-inside g c =
+    omega (
+      arith,
+      c.if-index-len.false,
+      c.len.ensures c.requires.0 c.requires.1.0 c.requires.1.1,
+      c.requires.1.1.stands.words.len_word,
+    )
 
 pub read-requires : goal.read-requires
 read-requires g c =
     let v = c.requires.1.1 in
-    let inside : c.args.index < length c.requires.0 = omega (arith, c.if-index-len.false, c.len.ensures c.requires.0 c.requires.1.0 v) in
+    let inside : c.args.index < length c.requires.0 =
+    omega (arith, c.if-index-len.false, c.len.ensures c.requires.0 c.requires.1.0 v) in
     let some = has-element c.requires.0 c.args.index inside in
-    let is : c.element.result.now ≡ g.T.Plain.spelling some.0 = element-spells g.T.Plain.SIZE g.T.Plain.is_value g.T.Plain.spelling c.args.heap.now c.args.heap.now c.args.self.place c.SIZE.result c.requires.0 c.requires.1.0 c.SIZE.ensures v c.args.index some.0 c.element.result.now g.met.T.Plain.spells some.1 c.element.ensures in
-    ap length is ∙ g.met.T.Plain.spells some.0 (all-at g.T.Plain.is_value c.requires.0 c.args.index some.0 v.values some.1)
+    let is = element-spells c.args.heap.now c.SIZE.ensures v c.args.index c.element.result.now g.met.T.Plain.spells
+    some.1 c.element.ensures in
+    ap length is ∙ g.met.T.Plain.spells some.0 (all-at g.T.Plain.is_value c.requires.0 c.args.index v.values some.1)
 
 pub unreachable-requires : goal.unreachable-requires
 unreachable-requires g c =
     let v = c.requires.1.1 in
-    let inside : c.args.index < length c.requires.0 = omega (arith, c.if-index-len.false, c.len.ensures c.requires.0 c.requires.1.0 v) in
+    let inside : c.args.index < length c.requires.0 =
+    omega (arith, c.if-index-len.false, c.len.ensures c.requires.0 c.requires.1.0 v) in
     let some = has-element c.requires.0 c.args.index inside in
-    let is : c.element.result.now ≡ g.T.Plain.spelling some.0 = element-spells g.T.Plain.SIZE g.T.Plain.is_value g.T.Plain.spelling c.args.heap.now c.args.heap.now c.args.self.place c.SIZE.result c.requires.0 c.requires.1.0 c.SIZE.ensures v c.args.index some.0 c.element.result.now g.met.T.Plain.spells some.1 c.element.ensures in
-    c.in-None.ensures some.0 (all-at g.T.Plain.is_value c.requires.0 c.args.index some.0 v.values some.1) (sym is)
+    let is = element-spells c.args.heap.now c.SIZE.ensures v c.args.index c.element.result.now g.met.T.Plain.spells
+    some.1 c.element.ensures in
+    c.in-None.ensures some.0 (all-at g.T.Plain.is_value c.requires.0 c.args.index v.values some.1) (sym is)
 
 pub returns : goal.returns
 returns g c xs t v =
     let inside : c.args.index < length xs = omega (arith, c.if-index-len.false, c.len.ensures xs t v) in
     let some = has-element xs c.args.index inside in
-    let is : c.element.result.now ≡ g.T.Plain.spelling some.0 = element-spells g.T.Plain.SIZE g.T.Plain.is_value g.T.Plain.spelling c.args.heap.now c.args.heap.now c.args.self.place c.SIZE.result xs t c.SIZE.ensures v c.args.index some.0 c.element.result.now g.met.T.Plain.spells some.1 c.element.ensures in
-    some.1 ∙ ap (λ x. Some x) (g.met.T.Plain.differs some.0 c.in-Some.value (all-at g.T.Plain.is_value xs c.args.index some.0 v.values some.1) c.in-Some.ensures.0 (sym is ∙ sym c.in-Some.ensures.1))
+    let is = element-spells c.args.heap.now c.SIZE.ensures v c.args.index c.element.result.now g.met.T.Plain.spells
+    some.1 c.element.ensures in
+    some.1 ∙ ap (λ x. Some x)
+    (g.met.T.Plain.differs some.0 c.in-Some.value (all-at g.T.Plain.is_value xs c.args.index v.values some.1)
+    c.in-Some.ensures.0 (sym is ∙ sym c.in-Some.ensures.1))

@@ -1,16 +1,16 @@
 -- The word is that of the container.
-use Rattle.std.proofs.Common.{◌+◌, ◌<◌, arith, length}
-use Rattle.std.specs.Prelude.{flat_map}
+use Rattle.std.proofs.Common.{◌+◌, ◌<◌, arith}
 use Rattle.best_fit.specs.Heap.{live_of}
 use Rattle.best_fit.proofs.Laws.{room-less}
-use Rattle.seg_vector.proofs.Growth.{len-read, room-small}
+use Rattle.seg_vector.proofs.Storage.{len-read, len-room, place-small, room-small}
 use Rattle.seg_vector.proofs.vectors.SegVec.len.Goals as goal
 
 pub overflow_add-self : goal.overflow_add-self
-overflow_add-self g c = let small : c.args.self.place.at + 24 < 1073741824 = room-small c.args.heap.now c.args.self.place.handle (c.args.self.place.at + 24) c.requires.1.1.stands.heap c.requires.1.1.stands.room in omega arith
+overflow_add-self g c = let small = place-small c.args.self.place c.requires.1.1.stands.heap
+    c.requires.1.1.stands.room in omega arith
 
 pub word-requires : goal.word-requires
-word-requires g c = room-less (live_of c.args.heap.now.bytes) c.args.self.place.handle (c.args.self.place.at + 24) (c.args.self.place.at + 8 + 8) (omega arith) c.requires.1.1.stands.room
+word-requires g c = len-room c.args.heap.now.bytes c.args.self.place c.requires.1.1.stands.room
 
 pub returns : goal.returns
-returns g c xs t v = len-read c.args.heap.now.bytes c.args.self.place g.T.Plain.SIZE (length xs) c.word.result t (flat_map g.T.Plain.spelling xs) v.stands c.word.ensures
+returns g c xs t v = len-read c.word.result v.stands c.word.ensures

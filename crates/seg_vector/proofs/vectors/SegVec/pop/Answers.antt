@@ -9,6 +9,8 @@ pub returns-in-Ok : goal.returns-in-Ok
 returns-in-Ok g c xs t v =
     let is : c.len-len.result ≡ length xs = c.len-len.ensures xs t v in (
       subst (λ n. slice_get xs (n - 1) ≡ Some c.in-Ok.value) is (c.in-Ok.ensures xs t v),
-      subst (λ n. IsVectorNow g.T.Plain.SIZE g.T.Plain.is_value g.T.Plain.spelling c.args.heap.now c.truncate.new.heap c.args.self.place t (take (n - 1) xs) t) is
-          (cut-now g.T.Plain.SIZE g.T.Plain.is_value g.T.Plain.spelling c.args.heap.now c.truncate.new.heap c.args.self.place c.SIZE.result xs t c.SIZE.ensures v (c.len-len.result - 1) g.met.T.Plain.spells (omega (arith, is)) c.truncate.ensures),
+      subst (λ n. IsVectorNow g.T.Plain.SIZE g.T.Plain.is_value g.T.Plain.spelling c.args.heap.now c.truncate.new.heap
+          c.args.self.place t (take (n - 1) xs) t) is
+          (cut-now c.args.heap.now c.truncate.new.heap c.SIZE.ensures v (c.len-len.result - 1) g.met.T.Plain.spells
+          (omega (arith, is)) c.truncate.ensures),
     )

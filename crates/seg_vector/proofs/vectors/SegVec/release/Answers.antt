@@ -3,4 +3,4 @@ use Rattle.seg_vector.proofs.Typed.{released-now}
 use Rattle.seg_vector.proofs.vectors.SegVec.release.Goals as goal
 
 pub returns : goal.returns
-returns g c xs t v = released-now g.T.Plain.SIZE g.T.Plain.is_value g.T.Plain.spelling c.args.heap.now c.give_back.new.heap c.args.self.place c.SIZE.result xs t c.SIZE.ensures v c.give_back.ensures
+returns g c xs t v = released-now c.args.heap.now c.give_back.new.heap c.SIZE.ensures v c.give_back.ensures

@@ -5,5 +5,8 @@ use Rattle.seg_vector.proofs.vectors.SegVec.set.Goals as goal
 
 pub returns : goal.returns
 returns g c xs t v =
-    let inside : c.args.index < length xs = omega (arith, c.if-index-len.false, c.len.ensures xs t v) in
-    (inside, set-now g.T.Plain.SIZE g.T.Plain.is_value g.T.Plain.spelling c.args.heap.now c.overwrite_value.new.heap c.args.self.place g.T.Plain.SIZE xs t refl v c.args.index c.args.value g.met.T.Plain.spells inside c.overwrite_value.ensures.value c.overwrite_value.ensures.written)
+    let inside : c.args.index < length xs = omega (arith, c.if-index-len.false, c.len.ensures xs t v) in (
+      inside,
+      set-now c.args.heap.now c.overwrite_value.new.heap refl v c.args.index c.args.value g.met.T.Plain.spells
+          inside c.overwrite_value.ensures.value c.overwrite_value.ensures.written,
+    )

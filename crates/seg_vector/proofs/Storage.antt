@@ -1,0 +1,1152 @@
+-- The storage of a container that stands at a place: regrown, written in, and read.
+use Rattle.std.proofs.Common.{◌≡◌, ◌≢◌, refl, sym, ap, subst, ◌∙◌, inl, inr, ℕ, ◌+◌, ◌*◌, ◌%◌, ◌<◌, ◌≤◌, Bool, true, false, Option, Some, None, List, [], ◌∷◌, length, arith, if◌then◌else◌, cond, ◌⊎◌, ◌==◌, zero, suc, ◌++◌, length-append, max, ◌-◌, take, drop, ◌&&◌, append-nil}
+use Rattle.std.specs.Prelude.{IsTrue, IfSome, nat_lt, option_map, option_to_list, find, nat_le, ◌==◌, ◌&&◌}
+use Rattle.std.specs.List.{AllByRecursion, list_any}
+use Rattle.std.proofs.lemmas.Bool.{eqb-true, and_from, and_parts, leb-true, le-leb, lt-leb, lt-ltb, ltb-true, or_cases, or_left, or_right, eq-eqb}
+use Rattle.std.proofs.lemmas.List.{length-take, length-drop, drop_at, take-take}
+use Rattle.raw_region.specs.Memory.{Memory, Cut, SameBut, Has, bytes_of, read, word_at, patched}
+use Rattle.raw_region.proofs.Laws.{SameBut-word_below, SameBut-word_above, SameBut-wider, read-part}
+use Rattle.offset_link.specs.Link.{link_at, target_of}
+use Rattle.block_tags.specs.declared.tile.Role.TheVariants.{Storage}
+use Rattle.raw_region.specs.Format.{current}
+use Rattle.best_fit.specs.Exchange.{CarriesOver, IsGivenRoom, IsNotGivenRoom, block_of, exchanged, without_all, SameBlockBut, IsExchanged, inserted}
+use Rattle.best_fit.specs.Extents.{Extent, LiveSet, handle, holds, is_proper, end_of, is_block, is_hole, proper_from}
+use Rattle.best_fit.specs.Fit.{insert, others, regrow, resized, longer, place, is_extent}
+use Rattle.best_fit.specs.Heap.{IsChanged, IsHeap, LaysOut, SameBlock, Keeps, extent_at, has_room, live_of, is_live_in, payload_at}
+use Rattle.best_fit.specs.Table.{Table, is_table, serves, same_role, table_link}
+use Rattle.best_fit.proofs.Laws.{Differs, Rising, IsAmong, IsSound, among, all_of-insert, exchange-back, found-less, found-more, found-new, found-room, in_use-alone, keeps-all, live-rises, live-sound, read-same, rising-insert, written-keeps, word-same, room_block, laid-heap, roomy, all-same-but, changed-live, exchanged-written, regrown-live, regrow-serves, in_use-all, same-trans, but-trans, written-but, lay_out_one, without-inserted, block_payload, room-less, IfSome_is, all_keep_proper, legal_size, too_long}
+use Rattle.block_tags.specs.Format.{is_legal_size}
+use Rattle.seg_vector.specs.declared.places.Place.{Place}
+use Rattle.seg_vector.specs.Standing.{IsGrown, IsNotGrown, IsOwnBlock, Stands, place_at, IsAppended}
+use Rattle.seg_vector.specs.Vector.{IsStorage, grown_table, capacity_for_one}
+use Rattle.seg_vector.specs.Elements.{IsRewritten}
+
+-- ---- the storage of a container that stands at a place is regrown
+
+abbrev pub table : ℕ → Option Extent → Table
+table c o = record { capacity = c; extent = o }
+
+-- ---- what an option leads to, and how long a block is
+
+pub none-some : {A B : Type 0} {o : Option A} {x : A} → o ≡ None → o ≡ Some x → B
+none-some e f = absurd (cc)
+
+pub same-some : {A : Type 0} {x y : A} → Some x ≡ Some y → x ≡ y
+same-some e = cc
+
+pub serves-full : (x : Extent) (n : ℕ) → IsTrue (serves x Storage n) → n + 16 ≤ x.len
+serves-full x n t = leb-true (n + 16) x.len (and_parts (same_role x.role Storage) (holds x n) t).1
+
+pub table-full : (each c : ℕ) (x : Extent) → IsTrue (is_table Storage each (table c (Some x))) → each * c + 16 ≤ x.len
+table-full each c x t = serves-full x (each * c) (and_parts (nat_lt 0 c) (serves x Storage (each * c)) t).1
+
+-- ---- what stands
+
+-- products
+pub more-times : (each m n : ℕ) → m ≤ n → each * m ≤ each * n
+more-times each m n f = grind arith
+
+-- the storage of a table holds its elements
+storage-room : (l : LiveSet) (h each len c : ℕ) (o : Option Extent) → IsTrue (is_table Storage each (table c o))
+    → len ≤ c → IsOwnBlock l h o → IfSome (option_map handle o) (λ g. IsTrue (has_room l g (each * len)))
+storage-room l h each len c None t f own = tt
+storage-room l h each len c (Some x) t f own =
+    let both = and_parts (nat_lt 0 c) (serves x Storage (each * c)) t in
+    let two = and_parts (same_role x.role Storage) (holds x (each * c)) both.1 in
+    let big = leb-true (each * c + 16) x.len two.1 in
+    let less = more-times each len c f in
+    found-room l (handle x) (each * len) x own.0 (omega (arith, big, less))
+
+pub stands-room : {b : List ℕ} {p : Place} {each len : ℕ} {t : Table} {bytes : List ℕ} → Stands b p each len t bytes
+    → IfSome (table_link t) (λ g. IsTrue (has_room (live_of b) g (each * len)))
+stands-room {b} {p} {each} {len} {t} s = storage-room (live_of b) p.handle each len t.capacity t.extent s.table s.fits
+    s.own
+
+-- its link leads to its block
+own-block : (l : LiveSet) (h : ℕ) (o : Option Extent) → IsOwnBlock l h o → block_of l (option_map handle o) ≡ o
+own-block l h None own = refl
+own-block l h (Some x) own = own.0
+
+pub stands-block : {b : List ℕ} {p : Place} {each len : ℕ} {t : Table} {bytes : List ℕ} → Stands b p each len t bytes
+    → block_of (live_of b) (table_link t) ≡ t.extent
+stands-block {b} {p} {t} s = own-block (live_of b) p.handle t.extent s.own
+
+-- ---- the table
+
+grown-same : (l : LiveSet) (each n : ℕ) (t : Table) → n ≤ t.capacity → grown_table l each n t ≡ Some t
+unfolding grown_table
+grown-same l each n t f =
+    ap (λ b. if b then Some t else option_map (λ x. table n (Some x)) (regrow l t.extent (each * n)))
+    (le-leb n t.capacity f)
+
+grown-more : (l : LiveSet) (each n : ℕ) (t : Table) → t.capacity < n
+    → grown_table l each n t ≡ option_map (λ x. table n (Some x)) (regrow l t.extent (each * n))
+unfolding grown_table
+grown-more l each n t f =
+    ap (λ b. if b then Some t else option_map (λ x. table n (Some x)) (regrow l t.extent (each * n)))
+    (lt-leb n t.capacity f)
+
+-- there is no space
+pub grows-nothing : {old new : Cut} (each n : ℕ) (t : Table) → t.capacity < n
+    → IsNotGivenRoom old new t.extent (each * n) → IsNotGrown old new each n t
+grows-nothing {old} each n t f p =
+    record {
+      none = grown-more (live_of old.bytes) each n t f ∙ ap (option_map (λ x. table n (Some x))) p.none;
+      same = p.same;
+    }
+
+-- where there are so many places there is no such refusal
+pub not-refused : {old new : Cut} {each n : ℕ} {t : Table} → n ≤ t.capacity → IsNotGrown old new each n t → ⊥
+not-refused {old} {each} {n} {t} f r = let none = sym (grown-same (live_of old.bytes) each n t f) ∙ r.none in cc
+
+-- ---- nothing to do
+
+pub back : (l : LiveSet) (h : ℕ) (o : Option Extent) → IsTrue (is_proper l) → IsOwnBlock l h o
+    → exchanged l (option_to_list o) (option_to_list o) ≡ l
+back l h None p own = refl
+back l h (Some x) p own = exchange-back l (handle x) x p own.0
+
+pub grows-not : (c : Cut) {p : Place} {each : ℕ} (n : ℕ) {len : ℕ} {t : Table} {bytes : List ℕ}
+    → IsHeap current c.bytes → n ≤ t.capacity → Stands c.bytes p each len t bytes → IsGrown c c p each n len t bytes
+grows-not c {p} {each} n {t} heap f s =
+    let l = live_of c.bytes in
+    let k = keeps-all c (without_all (option_to_list t.extent) l.extents) in
+    record {
+      table = t;
+      grown = grown-same l each n t f;
+      change = record {
+        live = subst (LaysOut current c.bytes) (sym (back l p.handle t.extent heap.proper s.own)) heap;
+        place = k.place;
+        front = k.front;
+        behind = k.behind;
+        blocks = all-same-but (bytes_of c.bytes) (bytes_of c.bytes) (place_at p) 24
+            (without_all (option_to_list t.extent) l.extents) k.blocks;
+      };
+      stands = s;
+      enough = λ less. refl;
+    }
+
+-- ---- the block of the container, once the storage is regrown
+
+-- it is among those that stay
+stays-found : (l : LiveSet) (h : ℕ) {x : Extent} (o : Option Extent) → IsOwnBlock l h o → extent_at l h ≡ Some x
+    → find (λ (w : Extent). handle w == h) (without_all (option_to_list o) l.extents) ≡ Some x
+stays-found l h None own e = e
+stays-found l h {x} (Some z) own e = found-less h (handle z) x l.extents (λ f. own.1 (sym f)) e
+
+record IsStill (l : LiveSet) (h : ℕ) (x y : Extent) (rest : List Extent) : Type 0 where
+  other : handle y ≢ h
+  found : find (λ (w : Extent). handle w == h) (insert y rest) ≡ Some x
+  differs : Differs y rest
+  among : IsAmong h x rest
+
+still : (l : LiveSet) (h : ℕ) {x : Extent} (y : Extent) (rest : List Extent) → Rising 128 (insert y rest)
+    → find (λ (w : Extent). handle w == h) rest ≡ Some x → IsStill l h x y rest
+still l h {x} y rest r e =
+    let fresh = rising-insert 128 y rest r in
+    let a = among 128 h x rest fresh.rest e in
+    let both = all_of-insert (λ (z : Extent). y.offset ≢ z.offset) x (others h rest)
+    (subst (Differs y) a.is fresh.differs) in
+    let at = a.at in
+    let other : handle y ≢ h = λ f. both.0 (omega (arith, f, at)) in
+    record { other = other; found = found-more h y x rest other e; differs = fresh.differs; among = a }
+
+all-found-if : (P : Extent → Type 0) (h : ℕ) {x : Extent} (z : Extent) (zs : List Extent)
+    → (find (λ (w : Extent). handle w == h) zs ≡ Some x → AllByRecursion P zs → P x) → (b : Bool)
+    → cond b (Some z) (find (λ (w : Extent). handle w == h) zs) ≡ Some x → AllByRecursion P (z ∷ zs) → P x
+all-found-if P h {x} z zs k true e a = let same : z ≡ x = cc in subst P same a.0
+all-found-if P h z zs k false e a = k e a.1
+
+-- what holds of each holds of one that is found
+pub all-found : (P : Extent → Type 0) (h : ℕ) {x : Extent} (zs : List Extent)
+    → find (λ (w : Extent). handle w == h) zs ≡ Some x → AllByRecursion P zs → P x
+all-found P h [] e a = absurd (cc)
+all-found P h {x} (z ∷ zs) e a = all-found-if P h z zs (all-found P h {x = x} zs) (handle z == h) e a
+
+-- a block that came begins at a multiple of 16
+pub come-aligned : {old mid : Cut} {o : Option Extent} {n used g : ℕ} → IsGivenRoom current old mid o n used g
+    → g % 16 ≡ 0
+come-aligned {old} {o} {g} r =
+    let y = r.extent in
+    let rest = without_all (option_to_list o) (live_of old.bytes).extents in
+    let sound =
+    (all_of-insert IsSound y rest (live-sound (exchanged (live_of old.bytes) (option_to_list o) (y ∷ []))
+    r.change.live.proper)).0 in
+    let at = r.at in
+    let even = sound.aligned in
+    omega (arith, at, even)
+
+-- the container's own block is there still
+pub mid-room : {old mid : Cut} {p : Place} {each : ℕ} (n : ℕ) {len g : ℕ} {t : Table} {bytes : List ℕ}
+    → IsHeap current old.bytes → Stands old.bytes p each len t bytes
+    → IsGivenRoom current old mid t.extent (each * n) (each * len) g
+    → IsTrue (has_room (live_of mid.bytes) p.handle (p.at + 24))
+mid-room {old} {mid} {p} n {t} heap s r =
+    let l = live_of old.bytes in
+    let y = r.extent in
+    let gone = option_to_list t.extent in
+    let q = roomy old p.handle (p.at + 24) heap s.room in
+    let kept = stays-found l p.handle t.extent s.own q.found in
+    let k = still l p.handle y (without_all gone l.extents)
+    (live-rises (exchanged l gone (y ∷ [])) r.change.live.proper) kept in
+    subst (λ l. IsTrue (has_room l p.handle (p.at + 24))) (sym (regrown-live old mid gone y r.change))
+    (found-room (exchanged l gone (y ∷ [])) p.handle (p.at + 24) _ k.found q.room)
+
+-- ---- the words
+
+target-same : (m m' : Memory) (at : ℕ) → word_at m' at ≡ word_at m at → link_at m' at ≡ link_at m at
+target-same m m' at e = ap (target_of at) e
+
+both-but : {a b c : Memory} {at : ℕ} → SameBut a b at 8 → SameBut b c (at + 16) 8 → SameBut a c at 24
+both-but {at} p q = record { at = λ k f. q.at k (outer k f) ∙ p.at k (inner k f) }
+  where
+    outer : (k : ℕ) → (k < at) ⊎ (at + 24 ≤ k) → (k < at + 16) ⊎ (at + 16 + 8 ≤ k)
+    outer k (inl f) = inl (omega arith)
+    outer k (inr f) = inr (omega arith)
+
+    inner : (k : ℕ) → (k < at) ⊎ (at + 24 ≤ k) → (k < at) ⊎ (at + 8 ≤ k)
+    inner k (inl f) = inl f
+    inner k (inr f) = inr (omega arith)
+
+-- the link and the capacity are written
+pub both-changed : {mid s1 new : Cut} {at : ℕ} → IsChanged current mid s1 at 8 → IsChanged current s1 new (at + 16) 8
+    → IsChanged current mid new at 24
+both-changed {mid} {s1} {new} {at} p q = record {
+  place = record { before = q.place.before ∙ p.place.before; after = q.place.after ∙ p.place.after };
+  live = subst (LaysOut current new.bytes) (changed-live _ mid s1 at 8 p) q.live;
+  rest = both-but p.rest q.rest;
+}
+
+-- ---- the bytes of the elements
+
+pub no-bytes : (bytes : List ℕ) → length bytes ≡ 0 → bytes ≡ []
+no-bytes [] e = refl
+no-bytes (b ∷ bs) e = absurd (omega (arith, e))
+
+carried-storage : (m m' : Memory) (each len c : ℕ) (o : Option Extent) (y : Extent) (bytes : List ℕ)
+    → IsTrue (is_table Storage each (table c o)) → len ≤ c → length bytes ≡ each * len
+    → IsStorage m (table c o) bytes → CarriesOver m m' o y (each * len) → Has m' (handle y) bytes
+carried-storage m m' each len c None y bytes t f e h k =
+    let none = eqb-true c 0 t in
+    let short : len ≡ 0 = omega (arith, f, none) in
+    let a : each * len ≡ each * 0 = ap (λ n. each * n) short in
+    let b : each * 0 ≡ 0 = omega arith in
+    let empty = no-bytes bytes (e ∙ a ∙ b) in
+    subst (λ (bs : List ℕ). Has m' (handle y) bs) (sym empty) refl
+carried-storage m m' each len c (Some x) y bytes t f e h k = ap (read m' (handle y)) e ∙ k ∙ ap (read m (handle x))
+    (sym e) ∙ h
+
+pub storage-role : (each c : ℕ) (o : Option Extent) → IsTrue (is_table Storage each (table c o))
+    → IfSome o (λ x. IsTrue (same_role x.role Storage))
+storage-role each c None t = tt
+storage-role each c (Some x) t =
+    (and_parts (same_role x.role Storage) (holds x (each * c))
+    (and_parts (nat_lt 0 c) (serves x Storage (each * c)) t).1).0
+
+-- ---- the container with more places
+
+pub grows-more : {old mid s1 new : Cut} {p : Place} {each : ℕ} (n : ℕ) {len g : ℕ} {t : Table} {bytes : List ℕ}
+    → IsHeap current old.bytes → t.capacity < n → Stands old.bytes p each len t bytes
+    → IsGivenRoom current old mid t.extent (each * n) (each * len) g → IsChanged current mid s1 (place_at p) 8
+    → link_at (bytes_of s1.bytes) (place_at p) ≡ Some g
+    → IsChanged current s1 new (place_at p + 16) 8 → word_at (bytes_of new.bytes) (place_at p + 16) ≡ n
+    → IsGrown old new p each n len t bytes
+grows-more {old} {mid} {s1} {new} {p} {each} n {len} {g} {t} {bytes} heap more s r c1 link c2 word =
+    let l = live_of old.bytes in
+    let m = bytes_of old.bytes in
+    let mi = bytes_of mid.bytes in
+    let ms = bytes_of s1.bytes in
+    let m' = bytes_of new.bytes in
+    let at = place_at p in
+    let y = r.extent in
+    let g_is = r.at in
+    let gone = option_to_list t.extent in
+    let rest = without_all gone l.extents in
+    let q = roomy old p.handle (p.at + 24) heap s.room in
+    let x = q.extent in
+    let here = q.at in
+    let big = q.room in
+    let kept = stays-found l p.handle t.extent s.own q.found in
+    let k = still l p.handle y rest (live-rises (exchanged l gone (y ∷ [])) r.change.live.proper) kept in
+    let c = both-changed c1 c2 in
+    let e = exchanged-written old mid new gone y x p.handle at 24 r.change k.found c (omega (arith, here))
+    (omega (arith, here, big)) in
+    let own =
+    (all_of-insert (SameBlock m mi) x (others p.handle rest)
+    (subst (AllByRecursion (SameBlock m mi)) k.among.is r.change.keeps.blocks)).0 in
+    let now = regrown-live old mid gone y r.change in
+    let after : live_of new.bytes ≡ exchanged l gone (y ∷ []) = changed-live _ mid new at 24 c ∙ now in
+    let others_stay : Keeps mid new (others p.handle (insert y rest)) = written-keeps mid new x _ at 24
+    (in_use-alone (exchanged l gone (y ∷ [])) p.handle x r.change.live.proper k.found) c.place c.rest
+    (omega (arith, here)) (omega (arith, here, big)) in
+    let new_found = found-new y rest k.differs in
+    let still_found = found-less (handle y) p.handle y (insert y rest) k.other new_found in
+    let new_stays = all-found (SameBlock mi m') (handle y) (others p.handle (insert y rest)) still_found
+    others_stay.blocks in
+    let serving = regrow-serves l t.extent y (each * n) (storage-role each t.capacity t.extent s.table) r.regrown in
+    let long = serves-full y (each * n) serving in
+    let less = more-times each len n (omega (arith, s.fits, more)) in
+    let stored = carried-storage m mi each len t.capacity t.extent y bytes s.table s.fits s.long s.words.storage
+    r.carried in
+    let total = s.long in
+    record {
+      table = table n (Some y);
+      grown = grown-more l each n t more ∙ ap (option_map (λ x. table n (Some x))) r.regrown;
+      change = e;
+      stands = record {
+        heap = laid-heap _ _ e.live;
+        words = record {
+          link = target-same ms m' at (SameBut-word_below ms m' (at + 16) 8 at c2.rest (omega arith)) ∙ link
+              ∙ ap (λ k. Some k) g_is;
+          len_word = SameBut-word_below ms m' (at + 16) 8 (at + 8) c2.rest (omega arith) ∙ SameBut-word_above mi ms at
+              8 (at + 8) c1.rest (omega arith)
+              ∙ word-same m mi _ _ (at + 8) own.payload (omega (arith, here)) (omega (arith, here, big))
+              ∙ s.words.len_word;
+          capacity = word;
+          storage = read-same mi m' _ _ (handle y) (length bytes) new_stays.payload (omega arith)
+              (omega (arith, long, less, total)) ∙ stored;
+        };
+        aligned = s.aligned;
+        room = subst (λ l. IsTrue (has_room l p.handle (p.at + 24))) (sym after)
+            (found-room (exchanged l gone (y ∷ [])) p.handle (p.at + 24) x k.found big);
+        table = and_from (nat_lt 0 n) (serves y Storage (each * n)) (lt-ltb 0 n (omega (arith, more))) serving;
+        fits = omega (arith, s.fits, more);
+        long = s.long;
+        own = (ap (λ l. extent_at l (handle y)) after ∙ new_found, k.other);
+      };
+      enough = λ less. absurd (omega (arith, less, more));
+    }
+
+-- ---- what the calls of the heap say of the container
+
+-- a block has fewer bytes than a segment
+pub room-small : (c : Cut) (h n : ℕ) → IsHeap current c.bytes → IsTrue (has_room (live_of c.bytes) h n) → n < 1073741824
+room-small c h n heap t =
+    let r = room_block c h n heap t in
+    let b = r.block in let enough = r.enough in let ends = b.inside in let size = b.size in
+    omega arith
+
+pub place-small : {b : List ℕ} (p : Place) → IsHeap current b → IsTrue (has_room (live_of b) p.handle (p.at + 24))
+    → p.at + 24 < 1073741824
+place-small {b} p heap room = room-small (record { before = []; bytes = b; after = [] }) p.handle (p.at + 24) heap room
+
+-- each of the three words is within its block
+pub link-room : (b : List ℕ) (p : Place) → IsTrue (has_room (live_of b) p.handle (p.at + 24))
+    → IsTrue (has_room (live_of b) p.handle (p.at + 8))
+link-room b p room = room-less (live_of b) p.handle (p.at + 24) (p.at + 8) (omega arith) room
+
+pub len-room : (b : List ℕ) (p : Place) → IsTrue (has_room (live_of b) p.handle (p.at + 24))
+    → IsTrue (has_room (live_of b) p.handle (p.at + 8 + 8))
+len-room b p room = room-less (live_of b) p.handle (p.at + 24) (p.at + 8 + 8) (omega arith) room
+
+pub capacity-room : (b : List ℕ) (p : Place) → IsTrue (has_room (live_of b) p.handle (p.at + 24))
+    → IsTrue (has_room (live_of b) p.handle (p.at + 16 + 8))
+capacity-room b p room = room-less (live_of b) p.handle (p.at + 24) (p.at + 16 + 8) (omega arith) room
+
+pub len-read : {b : List ℕ} {p : Place} {each len : ℕ} (k : ℕ) {t : Table} {bytes : List ℕ}
+    → Stands b p each len t bytes → k ≡ word_at (bytes_of b) (p.handle + (p.at + 8)) → k ≡ len
+len-read {b} k s e = e ∙ ap (word_at (bytes_of b)) (omega arith) ∙ s.words.len_word
+
+pub capacity-read : {b : List ℕ} {p : Place} {each len : ℕ} (k : ℕ) {t : Table} {bytes : List ℕ}
+    → Stands b p each len t bytes → k ≡ word_at (bytes_of b) (p.handle + (p.at + 16)) → k ≡ t.capacity
+capacity-read {b} k s e = e ∙ ap (word_at (bytes_of b)) (omega arith) ∙ s.words.capacity
+
+pub storage-read : {b : List ℕ} {p : Place} {each len : ℕ} (k : ℕ) {t : Table} {bytes : List ℕ} (storage : Option ℕ)
+    → Stands b p each len t bytes → storage ≡ link_at (bytes_of b) (p.handle + p.at)
+    → k ≡ word_at (bytes_of b) (p.handle + (p.at + 8))
+    → IfSome storage (λ g. IsTrue (has_room (live_of b) g (each * k)))
+storage-read {b} {each} k {t} storage s e f =
+    subst (λ o. IfSome o (λ g. IsTrue (has_room (live_of b) g (each * k)))) (sym (e ∙ s.words.link))
+    (subst (λ k. IfSome (table_link t) (λ g. IsTrue (has_room (live_of b) g (each * k)))) (sym (len-read k s f))
+    (stands-room s))
+
+pub given-of : {old mid : Cut} {p : Place} {each : ℕ} (n : ℕ) {len : ℕ} (k : ℕ) {g : ℕ} {t : Table} {bytes : List ℕ}
+    (storage : Option ℕ) → Stands old.bytes p each len t bytes
+    → storage ≡ link_at (bytes_of old.bytes) (p.handle + p.at)
+    → k ≡ word_at (bytes_of old.bytes) (p.handle + (p.at + 8))
+    → IsGivenRoom current old mid (block_of (live_of old.bytes) storage) (each * n) (each * k) g
+    → IsGivenRoom current old mid t.extent (each * n) (each * len) g
+given-of {old} {mid} {each} n {len} k {g} storage s e f r =
+    subst (λ o. IsGivenRoom current old mid o (each * n) (each * len) g)
+    (ap (block_of (live_of old.bytes)) (e ∙ s.words.link) ∙ stands-block s)
+    (subst (λ k. IsGivenRoom current old mid (block_of (live_of old.bytes) storage) (each * n) (each * k) g)
+    (len-read k s f) r)
+
+pub not_given-of : {old mid : Cut} {p : Place} {each : ℕ} (n : ℕ) {len : ℕ} {t : Table} {bytes : List ℕ}
+    (storage : Option ℕ) → Stands old.bytes p each len t bytes
+    → storage ≡ link_at (bytes_of old.bytes) (p.handle + p.at)
+    → IsNotGivenRoom old mid (block_of (live_of old.bytes) storage) (each * n)
+    → IsNotGivenRoom old mid t.extent (each * n)
+not_given-of {old} {mid} {each} n storage s e r =
+    subst (λ o. IsNotGivenRoom old mid o (each * n)) (ap (block_of (live_of old.bytes)) (e ∙ s.words.link)
+    ∙ stands-block s) r
+
+-- ---- an element is written behind the last one
+
+pub read-append : (m : Memory) (at a b : ℕ) → read m at (a + b) ≡ read m at a ++ read m (at + a) b
+read-append m at zero b = let e1 : 0 + b ≡ b = omega arith in let e2 : at ≡ at + 0 = omega arith in ap (read m at) e1
+    ∙ ap (λ k. read m k b) e2
+read-append m at (suc a) b =
+    let e1 : suc a + b ≡ suc (a + b) = omega arith in
+    let e2 : at + 1 + a ≡ at + suc a = omega arith in
+    ap (read m at) e1 ∙ ap (λ ws. m at ∷ ws) (read-append m (at + 1) a b ∙ ap (λ k. read m (at + 1) a ++ read m k b) e2)
+
+pub Has-append : (m : Memory) (at : ℕ) (xs ys : List ℕ) → Has m at xs → Has m (at + length xs) ys → Has m at (xs ++ ys)
+Has-append m at xs ys h k = ap (read m at) (length-append xs ys) ∙ read-append m at (length xs) (length ys)
+    ∙ (λ i. h i ++ k i)
+
+-- ---- bytes of the storage and the length are written
+
+pub rewritten : {old s1 new : Cut} {p : Place} {each len c g : ℕ} (from : ℕ) {n : ℕ} (len2 : ℕ) {o : Option Extent}
+    {bytes : List ℕ} (bytes2 : List ℕ) → Stands old.bytes p each len (table c o) bytes
+    → link_at (bytes_of old.bytes) (place_at p) ≡ Some g → IsChanged current old s1 (g + from) n → from + n ≤ each * c
+    → len2 ≤ c → length bytes2 ≡ each * len2 → Has (bytes_of s1.bytes) g bytes2
+    → IsChanged current s1 new (place_at p + 8) 8 → word_at (bytes_of new.bytes) (place_at p + 8) ≡ len2
+    → IsRewritten old new p each len2 (table c o) bytes2
+rewritten from len2 {o = None} bytes2 s link c1 within fits long content c2 word =
+    none-some s.words.link link
+rewritten {old} {s1} {new} {p} {each} {c} from {n} len2 {o = Some x} bytes2 s link c1 within fits long content c2 word =
+    let heap = s.heap in
+    let l = live_of old.bytes in
+    let m = bytes_of old.bytes in
+    let ms = bytes_of s1.bytes in
+    let m' = bytes_of new.bytes in
+    let at = place_at p in
+    let h = p.handle in
+    let g_is = same-some (sym s.words.link ∙ link) in
+    let found = s.own.0 in
+    let full = table-full each c x s.table in
+    let less = more-times each len2 c fits in
+    let q = roomy old h (p.at + 24) heap s.room in
+    let v = q.extent in
+    let here = q.at in
+    let big = q.room in
+    let one = changed-live _ old s1 _ n c1 in
+    let two : live_of new.bytes ≡ l = changed-live _ s1 new _ 8 c2 ∙ one in
+    let alone = in_use-alone l (handle x) x heap.proper found in
+    let k1 = written-keeps old s1 x _ _ n alone c1.place c1.rest (omega (arith, g_is))
+    (omega (arith, g_is, full, within)) in
+    let c3 : IsChanged current s1 new at 24 =
+    record {
+      place = c2.place;
+      live = c2.live;
+      rest = SameBut-wider ms m' (at + 8) 8 at 24 c2.rest (omega arith)
+          (omega arith);
+    } in
+    let all = written-but s1 new l h at 24 v heap.proper q.found c3 (omega (arith, here)) (omega (arith, here, big)) in
+    let k2 = written-keeps s1 new v _ at 24 (in_use-alone l h v heap.proper q.found) c3.place c3.rest
+    (omega (arith, here)) (omega (arith, here, big)) in
+    let own = all-found (SameBlock m ms) h (others (handle x) l.extents)
+    (found-less h (handle x) v l.extents (λ e. s.own.1 (sym e)) q.found) k1.blocks in
+    let stays = all-found (SameBlock ms m') (handle x) (others h l.extents)
+    (found-less (handle x) h x l.extents s.own.1 found) k2.blocks in
+    let whole : Has ms (handle x) bytes2 = subst (λ k. Has ms k bytes2) (sym g_is) content in
+    record {
+      change = record {
+        live = subst (LaysOut current new.bytes) (one ∙ sym (back l h (Some x) heap.proper s.own)) c2.live;
+        place = record { before = c2.place.before ∙ c1.place.before; after = c2.place.after ∙ c1.place.after };
+        front = same-trans m ms m' 0 24 k1.front k2.front;
+        behind = same-trans m ms m' 32 128 k1.behind k2.behind;
+        blocks = but-trans m ms m' at 24 (others (handle x) l.extents) k1.blocks
+            (in_use-all (SameBlockBut ms m' at 24) l (handle x) x heap.proper found all).1;
+      };
+      stands = record {
+        heap = laid-heap _ _ c2.live;
+        words = record {
+          link = ap (target_of at) (SameBut-word_below ms m' (at + 8) 8 at c2.rest (omega arith) ∙ word-same m ms _ _
+              at own.payload (omega (arith, here)) (omega (arith, here, big))) ∙ s.words.link;
+          len_word = word;
+          capacity = SameBut-word_above ms m' (at + 8) 8 (at + 16) c2.rest (omega arith) ∙ word-same m ms _ _ (at + 16)
+              own.payload (omega (arith, here)) (omega (arith, here, big)) ∙ s.words.capacity;
+          storage = read-same ms m' _ _ (handle x) (length bytes2) stays.payload (omega arith)
+              (omega (arith, long, full, less)) ∙ whole;
+        };
+        aligned = s.aligned;
+        room = subst (λ l. IsTrue (has_room l h (p.at + 24))) (sym two) s.room;
+        table = s.table;
+        fits = fits;
+        long = long;
+        own = (ap (λ l. extent_at l (handle x)) two ∙ found, s.own.1);
+      };
+    }
+
+-- the bytes and the length are written
+pub appended : {old s1 new : Cut} {p : Place} {each len c g : ℕ} {o : Option Extent} {bytes : List ℕ} (more : List ℕ)
+    → len < c → Stands old.bytes p each len (table c o) bytes
+    → length more ≡ each → link_at (bytes_of old.bytes) (place_at p) ≡ Some g
+    → IsChanged current old s1 (g + each * len) (length more) → Has (bytes_of s1.bytes) (g + each * len) more
+    → IsChanged current s1 new (place_at p + 8) 8 → word_at (bytes_of new.bytes) (place_at p + 8) ≡ len + 1
+    → IsAppended old new p each len (table c o) bytes more
+appended {o = None} more f s long link c1 content c2 word =
+    none-some s.words.link link
+appended {old} {s1} {each} {len} {c} {g} {o = Some x} {bytes} more f s long link c1 content c2 word =
+    let m = bytes_of old.bytes in
+    let ms = bytes_of s1.bytes in
+    let g_is = same-some (sym s.words.link ∙ link) in
+    let within = more-times each (len + 1) c (omega arith) in
+    let step : each * (len + 1) ≡ each * len + each = omega arith in
+    let total = s.long in
+    let sum = length-append bytes more in
+    let front : Has ms g bytes = read-same m ms g (g + each * len) g (length bytes)
+    (record { at = λ k a b. c1.rest.at k (inl (omega arith)) }) (omega arith) (omega (arith, total))
+    ∙ subst (λ k. Has m k bytes) g_is s.words.storage in
+    let back_ : Has ms (g + length bytes) more = subst (λ k. Has ms k more) (omega (arith, total)) content in
+    let r = rewritten (each * len) (len + 1) (bytes ++ more) s link c1 (omega (arith, long, within, step)) (omega arith)
+    (omega (arith, sum, total, long, step)) (Has-append ms g bytes more front back_) c2 word in
+    record { change = r.change; stands = r.stands }
+
+-- there is room for one more
+append-room_in : {b : List ℕ} {p : Place} {each len c g : ℕ} {o : Option Extent} {bytes : List ℕ}
+    → Stands b p each len (table c o) bytes → len < c → link_at (bytes_of b) (place_at p) ≡ Some g
+    → IsTrue (has_room (live_of b) g (each * len + each))
+append-room_in {o = None} s f link =
+    none-some s.words.link link
+append-room_in {b} {each} {len} {c} {o = Some x} s f link =
+    let g_is = same-some (sym s.words.link ∙ link) in
+    let full = table-full each c x s.table in
+    let within = more-times each (len + 1) c (omega arith) in
+    let step : each * (len + 1) ≡ each * len + each = omega arith in
+    subst (λ k. IsTrue (has_room (live_of b) k (each * len + each))) g_is
+    (found-room (live_of b) (handle x) (each * len + each) x s.own.0 (omega (arith, full, within, step)))
+
+pub append-room : {b : List ℕ} {p : Place} {each len : ℕ} (wl : ℕ) {g : ℕ} {t : Table} {bytes : List ℕ}
+    → Stands b p each len t bytes → wl ≡ len → wl < t.capacity → link_at (bytes_of b) (place_at p) ≡ Some g
+    → IsTrue (has_room (live_of b) g (each * wl + each))
+append-room {b} {each} wl {g} s e f link =
+    subst (λ k. IsTrue (has_room (live_of b) g (each * k + each))) (sym e) (append-room_in s (omega (arith, e, f)) link)
+
+pub at-least : (each n : ℕ) → 1 ≤ each → n ≤ each * n
+at-least each n f = grind arith
+
+-- a length below a capacity has storage
+has-storage : {b : List ℕ} {p : Place} {each len c : ℕ} {o : Option Extent} {bytes : List ℕ}
+    → Stands b p each len (table c o) bytes → len < c → link_at (bytes_of b) (place_at p) ≡ None → ⊥
+has-storage {c} {o = None} s f link = let none : c ≡ 0 = eqb-true c 0 s.table in omega arith
+has-storage {o = Some x} s f link = none-some link s.words.link
+
+-- ---- a value is put behind the last one, in storage that has a place for it
+
+-- ---- one change after another
+
+pub but-but : (a b c : Memory) (from n : ℕ) (xs : List Extent) → AllByRecursion (SameBlockBut a b from n) xs
+    → AllByRecursion (SameBlockBut b c from n) xs → AllByRecursion (SameBlockBut a c from n) xs
+but-but a b c from n [] p q = tt
+but-but a b c from n (x ∷ xs) p q = (
+  record { payload = λ k f g h. q.0.payload k f g h ∙ p.0.payload k f g h; colour = q.0.colour ∙ p.0.colour },
+  but-but a b c from n xs p.1 q.1,
+)
+
+-- blocks exchanged, and then those that came written in
+pub exchange-then : {old mid new : Cut} {from n : ℕ} {gone come : List Extent}
+    → IsExchanged current old mid from n gone come → IsExchanged current mid new from n come come
+    → IsExchanged current old new from n gone come
+exchange-then {old} {mid} {new} {from} {n} {gone} {come} p q =
+    let l = live_of old.bytes in
+    let rest = without_all gone l.extents in
+    let now = lay_out_one current mid.bytes (exchanged l gone come) p.live in
+    let out = without-inserted 128 come rest (live-rises (exchanged l gone come) p.live.proper) in
+    record {
+      live = subst (LaysOut current new.bytes) (ap (λ (s : LiveSet). exchanged s come come) now
+          ∙ ap (λ xs. let s : LiveSet = record l { extents = inserted come xs } in s) out) q.live;
+      place = record { before = q.place.before ∙ p.place.before; after = q.place.after ∙ p.place.after };
+      front = same-trans _ _ _ 0 24 p.front q.front;
+      behind = same-trans _ _ _ 32 128 p.behind q.behind;
+      blocks = but-but (bytes_of old.bytes) (bytes_of mid.bytes) (bytes_of new.bytes) from n rest p.blocks
+          (subst (AllByRecursion (SameBlockBut (bytes_of mid.bytes) (bytes_of new.bytes) from n))
+          (ap (λ (s : LiveSet). without_all come s.extents) now ∙ out) q.blocks);
+    }
+
+-- ---- places
+
+-- a container has fewer bytes than a segment
+pub capacity-bytes : (c : Cut) {p : Place} {each len n : ℕ} {o : Option Extent} {bytes : List ℕ}
+    → IsHeap current c.bytes → Stands c.bytes p each len (table n o) bytes → each * n < 1073741824
+capacity-bytes c {each} {n} {o = None} heap s =
+    let none = eqb-true n 0 s.table in
+    let e : each * n ≡ each * 0 = ap (λ k. each * k) none in
+    omega (arith, e)
+capacity-bytes c {each} {n} {o = Some x} heap s =
+    let full = table-full each n x s.table in
+    room-small c (handle x) (each * n) heap (found-room (live_of c.bytes) (handle x) (each * n) x s.own.0 full)
+
+wanted-if : (b : Bool) (len capacity : ℕ) → nat_lt len capacity ≡ b → len ≤ capacity
+    → (len < (if b then capacity else max 4 (2 * capacity)))
+    × ((if b then capacity else max 4 (2 * capacity)) ≤ 2 * capacity + 4)
+wanted-if true len capacity e f = let less : len < capacity = ltb-true len capacity e in (omega arith, omega arith)
+wanted-if false len capacity e f = (grind arith, grind arith)
+
+pub wanted-places : (len capacity : ℕ) → len ≤ capacity
+    → (len < capacity_for_one len capacity) × (capacity_for_one len capacity ≤ 2 * capacity + 4)
+wanted-places len capacity f = wanted-if (nat_lt len capacity) len capacity refl f
+
+table-if : (l : LiveSet) (n : ℕ) (t : Table) {u : Table} (b : Bool) (r : Option Extent) → nat_le n t.capacity ≡ b
+    → (if b then Some t else option_map (λ x. table n (Some x)) r) ≡ Some u → n ≤ u.capacity
+table-if l n t {u} true r e f = let same : t ≡ u = cc in subst (λ (v : Table). n ≤ v.capacity) same
+    (leb-true n t.capacity e)
+table-if l n t false None e f = absurd (cc)
+table-if l n t {u} false (Some x) e f = let same : table n (Some x) ≡ u = cc in subst (λ (v : Table). n ≤ v.capacity)
+    same (omega arith)
+
+pub table-places : (l : LiveSet) (each n : ℕ) (t : Table) {u : Table} → grown_table l each n t ≡ Some u → n ≤ u.capacity
+unfolding grown_table
+table-places l each n t e = table-if l n t (nat_le n t.capacity) (regrow l t.extent (each * n)) refl e
+
+-- the place for it
+pub has-place : {old mid : Cut} {p : Place} {each len n : ℕ} {t : Table} {bytes : List ℕ} → len < n
+    → IsGrown old mid p each n len t bytes
+    → word_at (bytes_of mid.bytes) (p.handle + p.at + 8) < word_at (bytes_of mid.bytes) (p.handle + p.at + 16)
+has-place {old} {each} {n} {t} f g =
+    let places = table-places (live_of old.bytes) each n t g.grown in
+    omega (arith, places, f, g.stands.words.len_word, g.stands.words.capacity)
+
+-- ---- bytes of the storage that are read, written over, or left out at the end
+
+-- ---- bytes that memory has
+
+pub length-read : (m : Memory) (at n : ℕ) → length (read m at n) ≡ n
+length-read m at zero = refl
+length-read m at (suc n) = ap (λ k. suc k) (length-read m (at + 1) n)
+
+read-take : (m : Memory) (at k n : ℕ) → k ≤ n → take k (read m at n) ≡ read m at k
+read-take m at zero n f = refl
+read-take m at (suc k) zero f = absurd (omega arith)
+read-take m at (suc k) (suc n) f = ap (λ ws. m at ∷ ws) (read-take m (at + 1) k n (omega arith))
+
+read-drop : (m : Memory) (at k n : ℕ) → drop k (read m at (k + n)) ≡ read m (at + k) n
+read-drop m at k n = ap (drop k) (read-append m at k n) ∙ drop_at (read m at k) (read m (at + k) n) k
+    (length-read m at k)
+
+pub Has-take : (m : Memory) (at k : ℕ) (bytes : List ℕ) → k ≤ length bytes → Has m at bytes → Has m at (take k bytes)
+Has-take m at k bytes f h =
+    let e : length (take k bytes) ≡ k = omega (arith, length-take k bytes, f) in
+    ap (read m at) e ∙ sym (read-take m at k (length bytes) f) ∙ ap (take k) h
+
+pub Has-drop : (m : Memory) (at k : ℕ) (bytes : List ℕ) → k ≤ length bytes → Has m at bytes
+    → Has m (at + k) (drop k bytes)
+Has-drop m at k bytes f h =
+    let e : length (drop k bytes) ≡ length bytes - k = omega (arith, length-drop k bytes) in
+    let sum : k + (length bytes - k) ≡ length bytes = omega (arith, f) in
+    ap (read m (at + k)) e ∙ sym (read-drop m at k (length bytes - k)) ∙ ap (drop k) (ap (read m at) sum ∙ h)
+
+-- bytes beside those that are written
+pub Has-beside : {m m' : Memory} {from n : ℕ} (at : ℕ) (bytes : List ℕ) → SameBut m m' from n
+    → (at + length bytes ≤ from) ⊎ (from + n ≤ at) → Has m at bytes → Has m' at bytes
+Has-beside {m} {m'} at bytes s (inl f) h = read-same m m' at (at + length bytes) at (length bytes)
+    (record { at = λ k a b. s.at k (inl (omega (arith, f, b))) }) (omega arith) (omega arith) ∙ h
+Has-beside {m} {m'} at bytes s (inr f) h = read-same m m' at (at + length bytes) at (length bytes)
+    (record { at = λ k a b. s.at k (inr (omega (arith, f, a))) }) (omega arith) (omega arith) ∙ h
+
+Has-patched : {m m' : Memory} (g from : ℕ) (bytes more : List ℕ) → from + length more ≤ length bytes
+    → SameBut m m' (g + from) (length more) → Has m g bytes → Has m' (g + from) more
+    → Has m' g (patched bytes from more)
+Has-patched {m} {m'} g from bytes more f s h k =
+    let n : ℕ = from + length more in
+    let short : length (take from bytes) ≡ from = omega (arith, length-take from bytes, f) in
+    let both : length (take from bytes ++ more) ≡ n = omega (arith, length-append (take from bytes) more, short) in
+    let a = Has-beside g (take from bytes) s (inl (omega (arith, short)))
+    (Has-take m g from bytes (omega (arith, f)) h) in
+    let b : Has m' (g + length (take from bytes)) more = subst (λ j. Has m' (g + j) more) (sym short) k in
+    let c = Has-beside (g + n) (drop n bytes) s (inr (omega arith)) (Has-drop m g n bytes f h) in
+    Has-append m' g (take from bytes ++ more) (drop n bytes) (Has-append m' g (take from bytes) more a b)
+    (subst (λ j. Has m' (g + j) (drop n bytes)) (sym both) c)
+
+-- ---- no write
+
+unchanged : (c : Cut) (from n : ℕ) → IsHeap current c.bytes → IsChanged current c c from n
+unchanged c from n heap = record {
+  place = record { before = refl; after = refl };
+  live = heap;
+  rest = record
+      { at = λ k f. refl };
+}
+
+-- ---- the storage is written in, and the length stays
+
+len-stays : {old new : Cut} {p : Place} {each len c g : ℕ} (from : ℕ) {n : ℕ} {o : Option Extent} {bytes : List ℕ}
+    → Stands old.bytes p each len (table c o) bytes
+    → link_at (bytes_of old.bytes) (place_at p) ≡ Some g → IsChanged current old new (g + from) n → from + n ≤ each * c
+    → word_at (bytes_of new.bytes) (place_at p + 8) ≡ len
+len-stays from {o = None} s link c1 within =
+    none-some s.words.link link
+len-stays {old} {new} {p} {each} {c} from {n} {o = Some x} s link c1 within =
+    let heap = s.heap in
+    let l = live_of old.bytes in
+    let m = bytes_of old.bytes in
+    let ms = bytes_of new.bytes in
+    let at = place_at p in
+    let h = p.handle in
+    let g_is = same-some (sym s.words.link ∙ link) in
+    let found = s.own.0 in
+    let full = table-full each c x s.table in
+    let q = roomy old h (p.at + 24) heap s.room in
+    let v = q.extent in
+    let here = q.at in
+    let big = q.room in
+    let alone = in_use-alone l (handle x) x heap.proper found in
+    let k1 = written-keeps old new x _ _ n alone c1.place c1.rest (omega (arith, g_is))
+    (omega (arith, g_is, full, within)) in
+    let own = all-found (SameBlock m ms) h (others (handle x) l.extents)
+    (found-less h (handle x) v l.extents (λ e. s.own.1 (sym e)) q.found) k1.blocks in
+    word-same m ms _ _ (at + 8) own.payload (omega (arith, here)) (omega (arith, here, big)) ∙ s.words.len_word
+
+-- what the storage has, of a container with a block
+pub storage-has : {b : List ℕ} {p : Place} {each len c g : ℕ} {o : Option Extent} {bytes : List ℕ}
+    → Stands b p each len (table c o) bytes → link_at (bytes_of b) (place_at p) ≡ Some g → Has (bytes_of b) g bytes
+storage-has {o = None} s link =
+    none-some s.words.link link
+storage-has {b} {o = Some x} {bytes} s link =
+    let g_is = same-some (sym s.words.link ∙ link) in
+    subst (λ k. Has (bytes_of b) k bytes) g_is s.words.storage
+
+length-patch : (bytes : List ℕ) (from : ℕ) (more : List ℕ) → from + length more ≤ length bytes
+    → length (patched bytes from more) ≡ length bytes
+length-patch bytes from more f =
+    omega (
+      arith,
+      length-append (take from bytes ++ more) (drop (from + length more) bytes),
+      length-append
+          (take from bytes) more,
+      length-take from bytes,
+      length-drop (from + length more) bytes,
+      f,
+    )
+
+-- an element is written over
+pub overwritten : {old new : Cut} {p : Place} {each len g : ℕ} (i : ℕ) {t : Table} {bytes : List ℕ} (more : List ℕ)
+    → Stands old.bytes p each len t bytes → i < len → length more ≡ each
+    → link_at (bytes_of old.bytes) (place_at p) ≡ Some g → IsChanged current old new (g + each * i) (length more)
+    → Has (bytes_of new.bytes) (g + each * i) more
+    → IsRewritten old new p each len t (patched bytes (each * i) more)
+overwritten {new} {p} {each} {len} {g} i {t} {bytes} more s f e link c1 content =
+    let within = more-times each (i + 1) len (omega (arith, f)) in
+    let step : each * (i + 1) ≡ each * i + each = omega arith in
+    let less = more-times each len t.capacity s.fits in
+    let total = s.long in
+    let inside : each * i + length more ≤ length bytes = omega (arith, within, step, total, e) in
+    rewritten (each * i) len (patched bytes (each * i) more) s link c1 (omega (arith, inside, total, less)) s.fits
+    (length-patch bytes (each * i) more inside ∙ s.long)
+    (Has-patched g (each * i) bytes more inside c1.rest (storage-has s link) content)
+    (unchanged new (place_at p + 8) 8 (laid-heap _ _ c1.live))
+    (len-stays (each * i) s link c1 (omega (arith, inside, total, less)))
+
+-- ---- elements are left out at the end
+
+take-none : (k : ℕ) (bytes : List ℕ) → bytes ≡ [] → take k bytes ≡ []
+take-none zero bytes e = refl
+take-none (suc k) [] e = refl
+take-none (suc k) (b ∷ bs) e = absurd (cc)
+
+truncated_in : {old new : Cut} {p : Place} {each len c : ℕ} (n : ℕ) {o : Option Extent} {bytes : List ℕ}
+    → Stands old.bytes p each len (table c o) bytes → n ≤ len
+    → length (take (each * n) bytes) ≡ each * n → each * n ≤ length bytes
+    → IsChanged current old new (place_at p + 8) 8 → word_at (bytes_of new.bytes) (place_at p + 8) ≡ n
+    → IsRewritten old new p each n (table c o) (take (each * n) bytes)
+truncated_in {old} {new} {p} {each} {len} {c} n {o = None} {bytes} s f long enough c2 word =
+    let heap = s.heap in
+    let l = live_of old.bytes in
+    let m = bytes_of old.bytes in
+    let m' = bytes_of new.bytes in
+    let at = place_at p in
+    let h = p.handle in
+    let q = roomy old h (p.at + 24) heap s.room in
+    let v = q.extent in
+    let here = q.at in
+    let big = q.room in
+    let two = changed-live _ old new _ 8 c2 in
+    let c3 : IsChanged current old new at 24 =
+    record {
+      place = c2.place;
+      live = c2.live;
+      rest = SameBut-wider m m' (at + 8) 8 at 24 c2.rest (omega arith)
+          (omega arith);
+    } in
+    let all = written-but old new l h at 24 v heap.proper q.found c3 (omega (arith, here)) (omega (arith, here, big)) in
+    let k2 = written-keeps old new v _ at 24 (in_use-alone l h v heap.proper q.found) c3.place c3.rest
+    (omega (arith, here)) (omega (arith, here, big)) in
+    let empty = s.words.storage in
+    let few = s.fits in
+    record {
+      change = record { live = c2.live; place = c2.place; front = k2.front; behind = k2.behind; blocks = all };
+      stands = record {
+        heap = laid-heap _ _ c2.live;
+        words = record {
+          link = ap (target_of at) (SameBut-word_below m m' (at + 8) 8 at c2.rest (omega arith)) ∙ s.words.link;
+          len_word = word;
+          capacity = SameBut-word_above m m' (at + 8) 8 (at + 16) c2.rest (omega arith) ∙ s.words.capacity;
+          storage = take-none (each * n) bytes empty;
+        };
+        aligned = s.aligned;
+        room = subst (λ l. IsTrue (has_room l h (p.at + 24))) (sym two) s.room;
+        table = s.table;
+        fits = omega (arith, f, few);
+        long = long;
+        own = tt;
+      };
+    }
+truncated_in {old} {each} {len} {c} n {o = Some x} {bytes} s f long enough c2 word =
+    let few = s.fits in
+    rewritten 0 n (take (each * n) bytes) s s.words.link (unchanged old (handle x + 0) 0 s.heap) (omega arith)
+    (omega (arith, f, few)) long
+    (Has-take (bytes_of old.bytes) (handle x) (each * n) bytes enough s.words.storage) c2 word
+
+pub truncated : {old new : Cut} {p : Place} {each len : ℕ} (n : ℕ) {t : Table} {bytes : List ℕ}
+    → Stands old.bytes p each len t bytes → n ≤ len
+    → IsChanged current old new (place_at p + 8) 8 → word_at (bytes_of new.bytes) (place_at p + 8) ≡ n
+    → IsRewritten old new p each n t (take (each * n) bytes)
+truncated {each} {len} n {bytes} s f c2 word =
+    let less = more-times each n len f in
+    let total = s.long in
+    truncated_in n s f (omega (arith, length-take (each * n) bytes, total, less)) (omega (arith, total, less)) c2 word
+
+-- ---- what the calls of the heap ask for
+
+storage-room_in : {b : List ℕ} {p : Place} {each len c g : ℕ} {o : Option Extent} {bytes : List ℕ}
+    → Stands b p each len (table c o) bytes → link_at (bytes_of b) (place_at p) ≡ Some g
+    → IsTrue (has_room (live_of b) g (each * c))
+storage-room_in {o = None} s link =
+    none-some s.words.link link
+storage-room_in {b} {each} {c} {o = Some x} s link =
+    let g_is = same-some (sym s.words.link ∙ link) in
+    let full = table-full each c x s.table in
+    subst (λ k. IsTrue (has_room (live_of b) k (each * c))) g_is
+    (found-room (live_of b) (handle x) (each * c) x s.own.0 full)
+
+-- the storage has room for as many bytes as the elements have, and for as many as there are places
+pub some-room : {b : List ℕ} {p : Place} {each len g : ℕ} (n : ℕ) {t : Table} {bytes : List ℕ}
+    → Stands b p each len t bytes → link_at (bytes_of b) (place_at p) ≡ Some g → n ≤ each * t.capacity
+    → IsTrue (has_room (live_of b) g n)
+some-room {b} {each} {g} n {t} s link f = room-less (live_of b) g (each * t.capacity) n f (storage-room_in s link)
+
+-- so its block is in use
+pub live-if : (h n : ℕ) (xs : List Extent) → IsTrue (list_any (λ (x : Extent). (handle x == h) && holds x n) xs)
+    → IsTrue (list_any (λ (x : Extent). handle x == h) xs)
+live-if h n [] t = t
+live-if h n (x ∷ xs) t =
+    elim (or_cases ((handle x == h) && holds x n) (list_any (λ (y : Extent). (handle y == h) && holds y n) xs) t) [
+      | inl e ↦ or_left (handle x == h) (list_any (λ (y : Extent). handle y == h) xs)
+          (and_parts (handle x == h) (holds x n) e).0
+      | inr e ↦ or_right (handle x == h) (list_any (λ (y : Extent). handle y == h) xs) (live-if h n xs e)
+    ]
+
+pub storage-live : {b : List ℕ} {p : Place} {each len g : ℕ} {t : Table} {bytes : List ℕ} → Stands b p each len t bytes
+    → link_at (bytes_of b) (place_at p) ≡ Some g → IsTrue (is_live_in (live_of b) g)
+storage-live {b} {each} {g} {t} s link = live-if g (each * t.capacity) (live_of b).extents (storage-room_in s link)
+
+pub elements-fit : {b : List ℕ} {p : Place} {each len : ℕ} (n : ℕ) {t : Table} {bytes : List ℕ}
+    → Stands b p each len t bytes → n ≤ len → each * n ≤ each * t.capacity
+elements-fit {each} {len} n {t} s f = let few : len ≤ t.capacity = s.fits in more-times each n t.capacity
+    (omega (arith, f, few))
+
+pub element-fits : {b : List ℕ} {p : Place} {each len : ℕ} (i : ℕ) {t : Table} {bytes : List ℕ}
+    → Stands b p each len t bytes → i < len → each * i + each ≤ each * t.capacity
+element-fits {each} i {t} s f =
+    let within = elements-fit (i + 1) s (omega (arith, f)) in
+    let step : each * (i + 1) ≡ each * i + each = omega arith in
+    omega (arith, within, step)
+
+-- ---- the bytes of all elements
+
+pub read-all : (c : Cut) {p : Place} {each len : ℕ} (k : ℕ) {g : ℕ} {t : Table} {bytes : List ℕ} (out : List ℕ)
+    → Stands c.bytes p each len t bytes → k ≡ len → link_at (bytes_of c.bytes) (place_at p) ≡ Some g
+    → out ≡ payload_at c.bytes (live_of c.bytes) g → take (each * k) out ≡ bytes
+read-all c {each} {len} k {g} out s is link e =
+    let n : ℕ = each * len in
+    let r = room_block c g n s.heap (some-room n s link (elements-fit len s (omega arith))) in
+    let b = r.block in
+    let enough = r.enough in
+    let ends = b.inside in
+    let at = b.at in
+    ap (λ j. take (each * j) out) is ∙ ap (take n) (e ∙ block_payload c g b) ∙ take-take n (b.tile.len - 16)
+    (drop g c.bytes) (omega (arith, enough))
+    ∙ sym (read-part c.bytes g n (omega (arith, enough, ends, at))) ∙ ap (read (bytes_of c.bytes) g) (sym s.long)
+    ∙ storage-has s link
+
+-- ---- bytes behind the last one, and requests that no heap meets
+
+-- ---- no extent is as long as a heap may be
+
+ends : (from : ℕ) (xs : List Extent) (to : ℕ) → to < 1073741824 → IsTrue (proper_from from xs to)
+    → (from ≤ to) × AllByRecursion (λ (x : Extent). x.len < 1073741824) xs
+ends from [] to f h = (hole-order from to h, tt)
+  where
+    hole-order : (a b : ℕ) → IsTrue (is_hole a b) → a ≤ b
+    hole-order a b h = grind arith
+ends from (x ∷ xs) to f h =
+    let two = and_parts (is_hole from x.offset && is_block x) (proper_from (end_of x) xs to) h in
+    let front = and_parts (is_hole from x.offset) (is_block x) two.0 in
+    let rest = ends (end_of x) xs to f two.1 in
+    let above = hole-order from x.offset front.0 in
+    let below = rest.0 in
+    (omega (arith, above, below), (omega (arith, below, f), rest.1))
+  where
+    hole-order : (a b : ℕ) → IsTrue (is_hole a b) → a ≤ b
+    hole-order a b h = grind arith
+
+short-extents : (l : LiveSet) → IsTrue (is_proper l) → AllByRecursion (λ (x : Extent). x.len < 1073741824) l.extents
+unfolding is_proper
+short-extents l p =
+    let two = and_parts (is_legal_size l.size) (proper_from 128 l.extents (l.size - 16)) p in
+    let high = (legal_size l.size two.0).high in
+    let low = (legal_size l.size two.0).low in
+    (ends 128 l.extents (l.size - 16) (omega (arith, high, low)) two.1).1
+
+regrow-longer : (l : LiveSet) (x : Extent) {y : Extent} (n : ℕ) → holds x n ≡ false → longer l x n ≡ Some y
+    → regrow l (Some x) n ≡ Some y
+unfolding regrow
+regrow-longer l x {y} n e f = λ i. if e i then Some x else elim (f i) as (λ _. Option Extent)
+    [ Some y ↦ Some y | None ↦ place l n Storage ]
+
+regrow-placed : (l : LiveSet) (x : Extent) (n : ℕ) → holds x n ≡ false → longer l x n ≡ None
+    → regrow l (Some x) n ≡ place l n Storage
+unfolding regrow
+regrow-placed l x n e f = λ i. if e i then Some x else elim (f i) as (λ _. Option Extent)
+    [ Some y ↦ Some y | None ↦ place l n Storage ]
+
+regrow-new : (l : LiveSet) (n : ℕ) → regrow l None n ≡ place l n Storage
+unfolding regrow
+regrow-new l n = refl
+
+none-by : (l : LiveSet) {x : Extent} (n : ℕ) (o : Option Extent) → IsTrue (is_proper l)
+    → extent_at l (handle x) ≡ Some x → IsTrue (same_role x.role Storage) → 1073741824 < n → holds x n ≡ false
+    → longer l x n ≡ o → place l n Storage ≡ None → regrow l (Some x) n ≡ None
+none-by l {x} n None p found role f e is none = regrow-placed l x n e is ∙ none
+none-by l {x} n (Some y) p found role f e is none =
+    let here : IsTrue (is_extent l x) =
+    subst (λ (o : Option Extent). IsTrue (elim o as (λ _. Bool) [ None ↦ false | Some z ↦ z.len == x.len ]))
+    (sym found) (eq-eqb x.len x.len refl) in
+    let proper = IfSome_is (λ z. IsTrue (is_proper (resized l z))) (longer l x n) y is
+    ((all_keep_proper l p).longer x n here) in
+    let less = (all_of-insert (λ (z : Extent). z.len < 1073741824) y (others (handle y) l.extents)
+    (short-extents (resized l y) proper)).0 in
+    let serving = regrow-serves l (Some x) y n role (regrow-longer l x n e is) in
+    let long = serves-full y n serving in
+    absurd (omega (arith, less, long, f))
+
+no-regrow : (c : Cut) (p : Place) (each k n : ℕ) (o : Option Extent) → IsHeap current c.bytes
+    → IsTrue (is_table Storage each (table k o)) → IsOwnBlock (live_of c.bytes) p.handle o → 1073741824 < n
+    → regrow (live_of c.bytes) o n ≡ None
+no-regrow c p each k n None heap t own f = regrow-new (live_of c.bytes) n ∙ too_long c n Storage heap f
+no-regrow c p each k n (Some x) heap t own f =
+    let l = live_of c.bytes in
+    let less = (in_use-all (λ (z : Extent). z.len < 1073741824) l (handle x) x heap.proper own.0
+    (short-extents l heap.proper)).0 in
+    none-by l n (longer l x n) heap.proper own.0 (storage-role each k (Some x) t) f
+    (lt-leb (n + 16) x.len (omega (arith, less, f))) refl (too_long c n Storage heap f)
+
+pub too-many : (c : Cut) {p : Place} {each : ℕ} (n : ℕ) {len : ℕ} {t : Table} {bytes : List ℕ}
+    → Stands c.bytes p each len t bytes → 1 ≤ each → 1073741824 < n → IsNotGrown c c each n t
+too-many c {p} {each} n {t} s some f =
+    let few = capacity-bytes c s.heap s in
+    let least = at-least each t.capacity some in
+    let more = at-least each n some in
+    let r : IsNotGivenRoom c c t.extent (each * n) =
+    record {
+      none = no-regrow c p each t.capacity (each * n) t.extent s.heap s.table s.own
+          (omega (arith, more, f));
+      same = refl;
+    } in
+    grows-nothing each n t (omega (arith, few, least, f)) r
+
+-- ---- bytes more
+
+pub unchanged-rewritten : (c : Cut) {p : Place} {each len : ℕ} {t : Table} {bytes : List ℕ}
+    → Stands c.bytes p each len t bytes → IsRewritten c c p each len t bytes
+unchanged-rewritten c {p} {t} s =
+    let l = live_of c.bytes in
+    let rest = without_all (option_to_list t.extent) l.extents in
+    let k = keeps-all c rest in
+    record {
+      change = record {
+        live = subst (LaysOut current c.bytes) (sym (back l p.handle t.extent s.heap.proper s.own)) s.heap;
+        place = k.place;
+        front = k.front;
+        behind = k.behind;
+        blocks = all-same-but (bytes_of c.bytes) (bytes_of c.bytes) (place_at p) 24 rest k.blocks;
+      };
+      stands = s;
+    }
+
+pub extended : {old s1 new : Cut} {p : Place} {len g : ℕ} {t : Table} {bytes : List ℕ} (more : List ℕ)
+    → Stands old.bytes p 1 len t bytes → len + length more ≤ t.capacity
+    → link_at (bytes_of old.bytes) (place_at p) ≡ Some g
+    → IsChanged current old s1 (g + len) (length more) → Has (bytes_of s1.bytes) (g + len) more
+    → IsChanged current s1 new (place_at p + 8) 8 → word_at (bytes_of new.bytes) (place_at p + 8) ≡ len + length more
+    → IsRewritten old new p 1 (len + length more) t (bytes ++ more)
+extended {old} {s1} {len} {g} {bytes} more s f link c1 content c2 word =
+    let m = bytes_of old.bytes in
+    let ms = bytes_of s1.bytes in
+    let total = s.long in
+    let sum = length-append bytes more in
+    let has = storage-has s link in
+    let front : Has ms g bytes = read-same m ms g (g + len) g (length bytes)
+    (record { at = λ k a b. c1.rest.at k (inl (omega arith)) }) (omega arith) (omega (arith, total)) ∙ has in
+    let behind : Has ms (g + length bytes) more = subst (λ k. Has ms k more) (omega (arith, total)) content in
+    rewritten len (len + length more) (bytes ++ more) s link c1 (omega (arith, f)) f (omega (arith, sum, total))
+    (Has-append ms g bytes more front behind) c2 word
+
+pub extended-not : (c : Cut) {p : Place} {len k : ℕ} {o : Option Extent} {bytes : List ℕ} (more : List ℕ)
+    → Stands c.bytes p 1 len (table k o) bytes → len + length more ≤ k → link_at (bytes_of c.bytes) (place_at p) ≡ None
+    → IsRewritten c c p 1 (len + length more) (table k o) (bytes ++ more)
+extended-not c {p} {len} {k} {o = None} {bytes} more s f link =
+    let none = eqb-true k 0 s.table in
+    let empty = no-bytes more (omega (arith, f, none)) in
+    subst (λ (ws : List ℕ). IsRewritten c c p 1 (len + length ws) (table k None) (bytes ++ ws)) (sym empty)
+    (subst (λ j. IsRewritten c c p 1 j (table k None) (bytes ++ [])) (let e : len ≡ len + 0 = omega arith in e)
+    (subst (λ (ws : List ℕ). IsRewritten c c p 1 len (table k None) ws) (sym (append-nil bytes))
+    (unchanged-rewritten c s)))
+extended-not c {o = Some x} more s f link =
+    none-some link s.words.link
+
+-- ---- elements move up or down in the storage
+
+-- ---- how many bytes there are before and behind an element
+
+record Pieces (each len i : ℕ) (bytes : List ℕ) : Type 0 where
+  front : length (take (each * i) bytes) ≡ each * i
+  back : length (drop (each * i) bytes) ≡ each * (len - i)
+  sum : each * i + each * (len - i) ≡ each * len
+
+pieces : (each len i : ℕ) (bytes : List ℕ) → i ≤ len → length bytes ≡ each * len → Pieces each len i bytes
+pieces each len i bytes f e =
+    let whole : i + (len - i) ≡ len = omega (arith, f) in
+    let split : each * (i + (len - i)) ≡ each * i + each * (len - i) = omega arith in
+    let sum : each * i + each * (len - i) ≡ each * len = sym split ∙ ap (λ k. each * k) whole in
+    record {
+      front = omega (arith, length-take (each * i) bytes, sum, e);
+      back = omega
+          (arith, length-drop (each * i) bytes, sum, e);
+      sum = sum;
+    }
+
+-- ---- an element is left out
+
+pub erased : {old s1 new : Cut} {p : Place} {each len g : ℕ} (i : ℕ) {t : Table} {bytes : List ℕ}
+    → Stands old.bytes p each len t bytes → i < len → link_at (bytes_of old.bytes) (place_at p) ≡ Some g
+    → IsChanged current old s1 (g + each * i) (each * (len - i - 1))
+    → read (bytes_of s1.bytes) (g + each * i) (each * (len - i - 1)) ≡ read (bytes_of old.bytes)
+    (g + (each * i + each)) (each * (len - i - 1))
+    → IsChanged current s1 new (place_at p + 8) 8 → word_at (bytes_of new.bytes) (place_at p + 8) ≡ len - 1
+    → IsRewritten old new p each (len - 1) t (take (each * i) bytes ++ drop (each * i + each) bytes)
+erased {old} {s1} {each} {len} {g} i {t} {bytes} s f link c1 moved c2 word =
+    let m = bytes_of old.bytes in
+    let ms = bytes_of s1.bytes in
+    let k : ℕ = each * i + each in
+    let n : ℕ = each * (len - i - 1) in
+    let front = take (each * i) bytes in
+    let back = drop k bytes in
+    let has = storage-has s link in
+    let total = s.long in
+    let a = pieces each len i bytes (omega (arith, f)) s.long in
+    let before = a.front in
+    let whole : (i + 1) + (len - i - 1) ≡ len = omega (arith, f) in
+    let split : each * ((i + 1) + (len - i - 1)) ≡ each * i + each + each * (len - i - 1) = omega arith in
+    let sum : k + n ≡ each * len = sym split ∙ ap (λ j. each * j) whole in
+    let behind : length back ≡ n = omega (arith, length-drop k bytes, total, sum) in
+    let less = more-times each len t.capacity s.fits in
+    let shorter : each * (len - 1) ≡ each * i + n =
+    ap (λ j. each * j) (let e : len - 1 ≡ i + (len - i - 1) = omega (arith, f) in e)
+    ∙ (let e : each * (i + (len - i - 1)) ≡ each * i + each * (len - i - 1) = omega arith in e) in
+    let one = Has-beside g front c1.rest (inl (omega (arith, before)))
+    (Has-take m g (each * i) bytes (omega (arith, total, sum)) has) in
+    let rest = Has-drop m g k bytes (omega (arith, total, sum)) has in
+    let two : Has ms (g + each * i) back = ap (read ms (g + each * i)) behind ∙ moved ∙ ap (read m (g + k))
+    (sym behind) ∙ rest in
+    rewritten (each * i) (len - 1) (front ++ back) s link c1 (omega (arith, sum, less)) (omega (arith, s.fits))
+    (omega (arith, length-append front back, before, behind, shorter))
+    (Has-append ms g front back one (subst (λ j. Has ms (g + j) back) (sym before) two)) c2 word
+
+-- ---- an element is put in
+
+both-within : {a b c : Memory} {from one n : ℕ} → SameBut a b (from + one) n → SameBut b c from one
+    → SameBut a c from (one + n)
+both-within {from} {one} {n} p q = record { at = λ k f. q.at k (outer k f) ∙ p.at k (inner k f) }
+  where
+    outer : (k : ℕ) → (k < from) ⊎ (from + (one + n) ≤ k) → (k < from) ⊎ (from + one ≤ k)
+    outer k (inl f) = inl f
+    outer k (inr f) = inr (omega (arith, f))
+
+    inner : (k : ℕ) → (k < from) ⊎ (from + (one + n) ≤ k) → (k < from + one) ⊎ (from + one + n ≤ k)
+    inner k (inl f) = inl (omega (arith, f))
+    inner k (inr f) = inr (omega (arith, f))
+
+pub put_in : {old s1 s2 new : Cut} {p : Place} {each len g : ℕ} (i : ℕ) {t : Table} {bytes : List ℕ} (more : List ℕ)
+    → Stands old.bytes p each len t bytes → i ≤ len → len < t.capacity → length more ≡ each
+    → link_at (bytes_of old.bytes) (place_at p) ≡ Some g
+    → IsChanged current old s1 (g + each * i + each) (each * (len - i))
+    → read (bytes_of s1.bytes) (g + each * i + each) (each * (len - i)) ≡ read (bytes_of old.bytes) (g + each * i)
+    (each * (len - i))
+    → IsChanged current s1 s2 (g + each * i) each → Has (bytes_of s2.bytes) (g + each * i) more
+    → IsChanged current s2 new (place_at p + 8) 8 → word_at (bytes_of new.bytes) (place_at p + 8) ≡ len + 1
+    → IsRewritten old new p each (len + 1) t (take (each * i) bytes ++ (more ++ drop (each * i) bytes))
+put_in {old} {s1} {s2} {each} {len} {g} i {t} {bytes} more s f room e link c1 moved c2 content c3 word =
+    let m = bytes_of old.bytes in
+    let m1 = bytes_of s1.bytes in
+    let ms = bytes_of s2.bytes in
+    let n : ℕ = each * (len - i) in
+    let front = take (each * i) bytes in
+    let back = drop (each * i) bytes in
+    let has = storage-has s link in
+    let total = s.long in
+    let a = pieces each len i bytes f s.long in
+    let before = a.front in
+    let behind = a.back in
+    let sum = a.sum in
+    let step : each * (len + 1) ≡ each * len + each = omega arith in
+    let less = more-times each (len + 1) t.capacity (omega (arith, room)) in
+    let c : IsChanged current old s2 (g + each * i) (each + n) = record {
+      place = record { before = c2.place.before ∙ c1.place.before; after = c2.place.after ∙ c1.place.after };
+      live = subst (LaysOut current s2.bytes) (changed-live _ old s1 _ n c1) c2.live;
+      rest = both-within c1.rest c2.rest;
+    } in
+    let one = Has-beside g front c.rest (inl (omega (arith, before)))
+    (Has-take m g (each * i) bytes (omega (arith, total, sum)) has) in
+    let rest = Has-drop m g (each * i) bytes (omega (arith, total, sum)) has in
+    let up : Has m1 (g + each * i + each) back = ap (read m1 (g + each * i + each)) behind ∙ moved
+    ∙ ap (read m (g + each * i)) (sym behind) ∙ rest in
+    let two = Has-beside (g + each * i + each) back c2.rest (inr (omega arith)) up in
+    let three = Has-append ms (g + each * i) more back content
+    (subst (λ j. Has ms (g + each * i + j) back) (sym e) two) in
+    rewritten (each * i) (len + 1) (front ++ (more ++ back)) s link c (omega (arith, sum, less, step))
+    (omega (arith, room))
+    (omega (arith, length-append front (more ++ back), length-append more back, before, behind, e, sum, step))
+    (Has-append ms g front (more ++ back) one (subst (λ j. Has ms (g + j) (more ++ back)) (sym before) three)) c3
+    word
+
+-- ---- what the calls of the heap ask for
+
+-- the storage has room for an element, those before it and n bytes behind it
+pub record Fitting (l : LiveSet) (each i n g : ℕ) : Type 0 where
+  pub small : each * i + each + n < 1073741824
+  pub room : IsTrue (has_room l g (each * i + each + n))
+
+fitting : (c : Cut) {p : Place} {each len g : ℕ} (i n j : ℕ) {t : Table} {bytes : List ℕ}
+    → Stands c.bytes p each len t bytes → link_at (bytes_of c.bytes) (place_at p) ≡ Some g → j ≤ t.capacity
+    → each * i + each + n ≡ each * j → Fitting (live_of c.bytes) each i n g
+fitting c {each} {g} i n j {t} s link f e =
+    let less = more-times each j t.capacity f in
+    let room = some-room (each * i + each + n) s link (omega (arith, e, less)) in
+    record { small = room-small c g (each * i + each + n) s.heap room; room = room }
+
+pub erase-fits : (c : Cut) {p : Place} {each len : ℕ} (k : ℕ) {g : ℕ} (i : ℕ) {t : Table} {bytes : List ℕ}
+    → Stands c.bytes p each len t bytes → k ≡ word_at (bytes_of c.bytes) (p.handle + (p.at + 8))
+    → i < word_at (bytes_of c.bytes) (p.handle + p.at + 8) → link_at (bytes_of c.bytes) (place_at p) ≡ Some g
+    → Fitting (live_of c.bytes) each i (each * (k - i - 1)) g
+erase-fits c {each} {len} k i s e inside link =
+    let is = len-read k s e in
+    let below : i < len = omega (arith, inside, s.words.len_word) in
+    let whole : (i + 1) + (k - i - 1) ≡ len = omega (arith, below, is) in
+    let split : each * ((i + 1) + (k - i - 1)) ≡ each * i + each + each * (k - i - 1) = omega arith in
+    fitting c i (each * (k - i - 1)) len s link s.fits (sym split ∙ ap (λ j. each * j) whole)
+
+pub insert-fits : (c : Cut) {p : Place} {each len : ℕ} (k : ℕ) {g : ℕ} (i : ℕ) {t : Table} {bytes : List ℕ}
+    → Stands c.bytes p each len t bytes → k ≡ word_at (bytes_of c.bytes) (p.handle + (p.at + 8))
+    → i ≤ word_at (bytes_of c.bytes) (p.handle + p.at + 8) → word_at (bytes_of c.bytes) (p.handle + p.at + 8) < word_at
+    (bytes_of c.bytes) (p.handle + p.at + 16)
+    → link_at (bytes_of c.bytes) (place_at p) ≡ Some g → Fitting (live_of c.bytes) each i (each * (k - i)) g
+insert-fits c {each} {len} k i {t} s e inside space link =
+    let is = len-read k s e in
+    let below : i ≤ len = omega (arith, inside, s.words.len_word) in
+    let room : len < t.capacity = omega (arith, space, s.words.len_word, s.words.capacity) in
+    let whole : (i + 1) + (k - i) ≡ len + 1 = omega (arith, below, is) in
+    let split : each * ((i + 1) + (k - i)) ≡ each * i + each + each * (k - i) = omega arith in
+    fitting c i (each * (k - i)) (len + 1) s link (omega (arith, room)) (sym split ∙ ap (λ j. each * j) whole)

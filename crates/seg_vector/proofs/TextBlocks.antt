@@ -1,0 +1,978 @@
+-- The blocks of a vector of texts, its array and those of its texts, among the other blocks of a heap, and through the
+-- steps of a call.
+use Rattle.std.proofs.Common.{◌≡◌, ◌≢◌, sym, ap, subst, ◌∙◌, ℕ, ◌+◌, ◌%◌, ◌≤◌, Option, Some, None, List, [], ◌∷◌, ◌++◌, ◌==◌, append_assoc, length, arith, inl, inr, refl, zero, suc, ◌-◌, ◌*◌, ◌<◌, take, drop, Bool, true, false, cond, ◌⊎◌}
+use Rattle.std.specs.Prelude.{IsTrue, find, option_to_list, option_map, slice_get, IfSome}
+use Rattle.std.specs.List.{AllByRecursion, list_any}
+use Rattle.std.proofs.lemmas.Grind.{flat_map-append}
+use Rattle.std.proofs.lemmas.List.{take-take, drop_all}
+use Rattle.std.proofs.lemmas.Option.{slice_get_within}
+use Rattle.std.proofs.lemmas.Bool.{or_left, or_right}
+use Rattle.raw_region.specs.Memory.{Memory, Cut, bytes_of, word_at, Same, SameBut, Has}
+use Rattle.raw_region.specs.Format.{current}
+use Rattle.block_tags.specs.declared.tile.Role.TheVariants.{Storage}
+use Rattle.offset_link.specs.Link.{link_at, target_of}
+use Rattle.best_fit.specs.Exchange.{inserted, without_all, IsExchanged, SameBlockBut, exchanged}
+use Rattle.best_fit.specs.Extents.{Extent, LiveSet, handle, end_of, is_proper}
+use Rattle.best_fit.specs.Heap.{IsHeap, extent_at, live_of, SameBlock, IsChanged, has_room, is_live_in, payload_at, IsReleased}
+use Rattle.best_fit.specs.Table.{Table, is_table, table_link, no_table}
+use Rattle.best_fit.proofs.Laws.{IsFound, IsNone, Rising, SameSpread, all-found-in, all-in-use, found-inserted, found-none, found-room, live-rises, middle-first, rising-others, roomy, spread-behind, all_of-inserted, but-apart, exchanged-live, found-without, inserted-append, laid-heap, without-inserted, IsRoomy, changed-live, kept, kept-found, word-same, block_payload, room_block, exchange-next, exchange-released, exchange-same, spread-refl, exchange-wide, exchange-written, kept-beside, IsSound, live-sound}
+use Rattle.raw_region.proofs.Laws.{Has-same, SameBut-wider, SameBut-word, read-part}
+use Rattle.offset_link.proofs.Laws.{SameBut-link}
+use Rattle.seg_vector.specs.declared.places.Place.{Place}
+use Rattle.seg_vector.specs.Standing.{IsOwnBlock, place_at, Stands}
+use Rattle.seg_vector.specs.TextParts.{IsServed, IsSwapped, AreHeldElements, IsHeldElement, AreSameElements, IsSameElement, AreEvenLinks}
+use Rattle.seg_vector.specs.TextsCalls.{IsHeldText, IsTexts, text_blocks, IsTextsNow, IsTextElement}
+use Rattle.seg_vector.specs.Vector.{AreInArray, IsOwnedText, OwnedText, AreTextLinks}
+use Rattle.seg_vector.proofs.Storage.{serves-full, none-some, same-some, table-full, live-if, all-found}
+use Rattle.seg_vector.proofs.Fewer.{head-exchanged, changed-both}
+
+-- ---- the blocks of a vector of texts, its array and those of its texts, among the other blocks of a heap
+
+abbrev pub own_blocks : List OwnedText → Table → List Extent
+own_blocks ps t = option_to_list t.extent ++ text_blocks ps
+
+-- ---- all of them are in use
+
+found-head : (l : LiveSet) (bytes : List ℕ) (o : Option Extent) (xs : List Extent)
+    → IsHeldText l (record { bytes = bytes; extent = o }) → AllByRecursion (IsFound l.extents) xs
+    → AllByRecursion (IsFound l.extents) (option_to_list o ++ xs)
+found-head l bytes None xs h f = f
+found-head l bytes (Some x) xs h f = (h.0, f)
+
+pub found-texts : (l : LiveSet) (ps : List OwnedText) → AllByRecursion (IsHeldText l) ps
+    → AllByRecursion (IsFound l.extents) (text_blocks ps)
+found-texts l [] h = tt
+found-texts l (q ∷ qs) h = found-head l q.bytes q.extent (text_blocks qs) h.0 (found-texts l qs h.1)
+
+found-array : (l : LiveSet) (h : ℕ) (o : Option Extent) (xs : List Extent) → IsOwnBlock l h o
+    → AllByRecursion (IsFound l.extents) xs → AllByRecursion (IsFound l.extents) (option_to_list o ++ xs)
+found-array l h None xs own f = f
+found-array l h (Some x) xs own f = (own.0, f)
+
+pub none-of : (h : ℕ) (xs : List Extent) → AllByRecursion (λ (x : Extent). handle x ≢ h) xs → IsNone h xs
+none-of h [] n = tt
+none-of h (x ∷ xs) n = ((λ e. n.0 (sym e)), none-of h xs n.1)
+
+none-array : (l : LiveSet) (h : ℕ) (o : Option Extent) (xs : List Extent) → IsOwnBlock l h o → IsNone h xs
+    → IsNone h (option_to_list o ++ xs)
+none-array l h None xs own n = n
+none-array l h (Some x) xs own n = ((λ e. own.1 (sym e)), n)
+
+-- The block in which the vector stands, which is none of these; and these are put in among the others.
+pub record AreOwn (c : Cut) (p : Place) (own : List Extent) : Type 0 where
+  pub head : Extent
+  pub found : extent_at (live_of c.bytes) p.handle ≡ Some head
+  pub here : handle head ≡ p.handle
+  pub big : p.at + 24 + 16 ≤ head.len
+  pub none : IsNone p.handle own
+  pub is : (live_of c.bytes).extents ≡ inserted own (without_all own (live_of c.bytes).extents)
+
+pub texts-own : (c : Cut) {p : Place} {ps : List OwnedText} {t : Table} → IsTexts c.bytes p ps t
+    → AreOwn c p (own_blocks ps t)
+texts-own c {p} {ps} {t} s =
+    let l = live_of c.bytes in
+    let q = roomy c p.handle (p.at + 24) s.heap s.room in
+    let found = found-array l p.handle t.extent (text_blocks ps) s.own (found-texts l ps s.held) in
+    let i = all-in-use (own_blocks ps t) l.extents (live-rises l s.heap.proper) s.others found in
+    record {
+      head = q.extent;
+      found = q.found;
+      here = q.at;
+      big = q.room;
+      none = none-array l p.handle t.extent (text_blocks ps) s.own (none-of p.handle (text_blocks ps) s.apart);
+      is = i.is;
+    }
+
+-- ---- a vector of texts out of its parts
+
+-- its three words
+pub record AreHeadWords (m : Memory) (at n : ℕ) (t : Table) : Type 0 where
+  pub link : link_at m at ≡ table_link t
+  pub len_word : word_at m (at + 8) ≡ n
+  pub capacity : word_at m (at + 16) ≡ t.capacity
+
+held-head : (l : LiveSet) (bytes : List ℕ) (o : Option Extent) (xs : List Extent)
+    → IsServed (record { bytes = bytes; extent = o }) → AllByRecursion (IsFound l.extents) (option_to_list o ++ xs)
+    → IsHeldText l (record { bytes = bytes; extent = o }) × AllByRecursion (IsFound l.extents) xs
+held-head l bytes None xs s f = (s, f)
+held-head l bytes (Some x) xs s f = ((f.0, s.0, s.1), f.1)
+
+held-texts : (l : LiveSet) (ps : List OwnedText) → AllByRecursion IsServed ps
+    → AllByRecursion (IsFound l.extents) (text_blocks ps) → AllByRecursion (IsHeldText l) ps
+held-texts l [] s f = tt
+held-texts l (q ∷ qs) s f = let both = held-head l q.bytes q.extent (text_blocks qs) s.0 f in
+    (both.0, held-texts l qs s.1 both.1)
+
+own-array : (l : LiveSet) (h : ℕ) (o : Option Extent) (xs : List Extent)
+    → AllByRecursion (IsFound l.extents) (option_to_list o ++ xs) → IsNone h (option_to_list o ++ xs)
+    → IsOwnBlock l h o × (AllByRecursion (IsFound l.extents) xs × IsNone h xs)
+own-array l h None xs f n = (tt, (f, n))
+own-array l h (Some x) xs f n = ((f.0, (λ e. n.0 (sym e))), (f.1, n.1))
+
+of-none : (h : ℕ) (xs : List Extent) → IsNone h xs → AllByRecursion (λ (x : Extent). handle x ≢ h) xs
+of-none h [] n = tt
+of-none h (x ∷ xs) n = ((λ e. n.0 (sym e)), of-none h xs n.1)
+
+pub texts-made : (b : List ℕ) (p : Place) (ps : List OwnedText) {t : Table} {head : Extent} (rest : List Extent)
+    → IsHeap current b → (live_of b).extents ≡ inserted (own_blocks ps t) rest
+    → find (λ (w : Extent). handle w == p.handle) rest ≡ Some head → p.at + 24 + 16 ≤ head.len → p.at % 8 ≡ 0
+    → IsTrue (is_table Storage 16 t) → length ps ≤ t.capacity
+    → AreHeadWords (bytes_of b) (place_at p) (length ps) t → AreInArray (bytes_of b) t ps
+    → AllByRecursion (IsOwnedText (bytes_of b)) ps → AllByRecursion IsServed ps → IsTexts b p ps t
+texts-made b p ps {t} {head} rest heap is found big even table fits words array texts served =
+    let l = live_of b in
+    let own = own_blocks ps t in
+    let up : Rising 128 (inserted own rest) = subst (Rising 128) is (live-rises l heap.proper) in
+    let all : AllByRecursion (IsFound l.extents) own = subst (λ (zs : List Extent). AllByRecursion (IsFound zs) own)
+    (sym is) (all-found-in own rest up) in
+    let none = found-none p.handle head own rest up found in
+    let parts = own-array l p.handle t.extent (text_blocks ps) all none in
+    let there : extent_at l p.handle ≡ Some head =
+    ap (λ (zs : List Extent). find (λ (w : Extent). handle w == p.handle) zs) is ∙ found-inserted p.handle head own
+    rest none found in
+    record {
+      heap = heap;
+      words = record {
+        link = words.link;
+        len_word = words.len_word;
+        capacity = words.capacity;
+        array = array;
+        texts = texts;
+      };
+      aligned = even;
+      room = found-room l p.handle (p.at + 24) head there big;
+      table = table;
+      fits = fits;
+      own = parts.0;
+      held = held-texts l ps served parts.1.0;
+      apart = of-none p.handle (text_blocks ps) parts.1.1;
+      others = rising-others own rest up;
+    }
+
+-- ---- texts between others
+
+blocks-append : (xs ys : List OwnedText) → text_blocks (xs ++ ys) ≡ text_blocks xs ++ text_blocks ys
+blocks-append xs ys = flat_map-append (λ (q : OwnedText). option_to_list q.extent) xs ys
+
+pub blocks-three : (xs ys ws : List OwnedText) → text_blocks (xs ++ (ys ++ ws)) ≡ text_blocks xs
+    ++ (text_blocks ys ++ text_blocks ws)
+blocks-three xs ys ws = blocks-append xs (ys ++ ws) ∙ ap (λ zs. text_blocks xs ++ zs) (blocks-append ys ws)
+
+-- those of an array and of texts between others: these first
+pub own-between : (a m b : List OwnedText) (t : Table)
+    → SameSpread (own_blocks (a ++ (m ++ b)) t)
+    ((option_to_list t.extent ++ text_blocks m) ++ (text_blocks a ++ text_blocks b))
+own-between a m b t =
+    let arr = option_to_list t.extent in
+    let ta = text_blocks a in
+    let tm = text_blocks m in
+    let tb = text_blocks b in
+    let p = spread-behind arr _ _ (middle-first ta tm tb) in
+    subst (SameSpread (own_blocks (a ++ (m ++ b)) t)) (sym (append_assoc arr tm (ta ++ tb)))
+    (subst (λ (xs : List Extent). SameSpread (arr ++ xs) (arr ++ (tm ++ (ta ++ tb)))) (sym (blocks-three a m b)) p)
+
+-- the other way round
+pub between-own : (a m b : List OwnedText) (t : Table)
+    → SameSpread ((option_to_list t.extent ++ text_blocks m) ++ (text_blocks a ++ text_blocks b))
+    (own_blocks (a ++ (m ++ b)) t)
+between-own a m b t =
+    let arr = option_to_list t.extent in
+    let ta = text_blocks a in
+    let tm = text_blocks m in
+    let tb = text_blocks b in
+    let p = spread-behind arr _ _ (middle-first tm ta tb) in
+    subst (λ (xs : List Extent). SameSpread xs (own_blocks (a ++ (m ++ b)) t)) (sym (append_assoc arr tm (ta ++ tb)))
+    (subst (λ (xs : List Extent). SameSpread (arr ++ (tm ++ (ta ++ tb))) (arr ++ xs)) (sym (blocks-three a m b)) p)
+
+-- ---- a vector of texts of which some are gone and others came: the texts before and behind them stay
+
+-- ---- lists in parts
+
+pub all-split : {A : Type 0} → (P : A → Type 0) (xs ys : List A) → AllByRecursion P (xs ++ ys)
+    → AllByRecursion P xs × AllByRecursion P ys
+all-split P [] ys a = (tt, a)
+all-split P (x ∷ xs) ys a = let both = all-split P xs ys a.1 in ((a.0, both.0), both.1)
+
+pub all-join : {A : Type 0} → (P : A → Type 0) (xs ys : List A) → AllByRecursion P xs → AllByRecursion P ys
+    → AllByRecursion P (xs ++ ys)
+all-join P [] ys a b = b
+all-join P (x ∷ xs) ys a b = (a.0, all-join P xs ys a.1 b)
+
+-- ---- the texts that stay
+
+pub record IsStaying (l : LiveSet) (m m' : Memory) (h from : ℕ) (x : Extent) : Type 0 where
+  pub found : extent_at l (handle x) ≡ Some x
+  pub other : h ≢ handle x
+  pub but : SameBlockBut m m' from 24 x
+
+staying : (l : LiveSet) (m m' : Memory) (h from : ℕ) (xs : List Extent) → AllByRecursion (IsFound l.extents) xs
+    → AllByRecursion (λ (x : Extent). handle x ≢ h) xs → AllByRecursion (SameBlockBut m m' from 24) xs
+    → AllByRecursion (IsStaying l m m' h from) xs
+staying l m m' h from [] f n s = tt
+staying l m m' h from (x ∷ xs) f n s =
+    (record { found = f.0; other = λ e. n.0 (sym e); but = s.0 }, staying l m m' h from xs f.1 n.1 s.1)
+
+same-staying : {old : Cut} (new : Cut) {p : Place} {own : List Extent} {x : Extent} → IsHeap current old.bytes
+    → AreOwn old p own → IsStaying (live_of old.bytes) (bytes_of old.bytes) (bytes_of new.bytes) p.handle (place_at p) x
+    → SameBlock (bytes_of old.bytes) (bytes_of new.bytes) x
+same-staying {old} new {p} {x} heap o s =
+    let here = o.here in
+    let big = o.big in
+    but-apart (live_of old.bytes) _ _ _ 24 p.handle (handle x) _ x heap.proper o.found (omega (arith, here))
+    (omega (arith, here, big)) s.other s.found s.but
+
+kept-head : {old : Cut} (new : Cut) {p : Place} {own : List Extent} (bytes : List ℕ) (o : Option Extent)
+    (xs : List Extent) → IsHeap current old.bytes → AreOwn old p own
+    → IsOwnedText (bytes_of old.bytes) (record { bytes = bytes; extent = o })
+    → IsHeldText (live_of old.bytes) (record { bytes = bytes; extent = o })
+    → AllByRecursion (IsStaying (live_of old.bytes) (bytes_of old.bytes) (bytes_of new.bytes) p.handle (place_at p))
+    (option_to_list o ++ xs)
+    → IsOwnedText (bytes_of new.bytes) (record { bytes = bytes; extent = o }) × AllByRecursion
+    (IsStaying (live_of old.bytes) (bytes_of old.bytes) (bytes_of new.bytes) p.handle (place_at p)) xs
+kept-head new bytes None xs heap w t h s = (t, s)
+kept-head {old} new bytes (Some x) xs heap w t h s =
+    let b = same-staying new heap w s.0 in
+    let full = serves-full x (length bytes) h.2 in
+    (Has-same _ _ _ _ (handle x) bytes b.payload (omega arith) (omega (arith, full)) t, s.1)
+
+kept-texts : {old : Cut} (new : Cut) {p : Place} {own : List Extent} (qs : List OwnedText) → IsHeap current old.bytes
+    → AreOwn old p own → AllByRecursion (IsOwnedText (bytes_of old.bytes)) qs
+    → AllByRecursion (IsHeldText (live_of old.bytes)) qs
+    → AllByRecursion (IsStaying (live_of old.bytes) (bytes_of old.bytes) (bytes_of new.bytes) p.handle (place_at p))
+    (text_blocks qs) → AllByRecursion (IsOwnedText (bytes_of new.bytes)) qs
+kept-texts new [] heap w t h s = tt
+kept-texts new (q ∷ qs) heap w t h s =
+    let both = kept-head new q.bytes q.extent (text_blocks qs) heap w t.0 h.0 s in
+    (both.0, kept-texts new qs heap w t.1 h.1 both.1)
+
+served-head : (l : LiveSet) (bytes : List ℕ) (o : Option Extent) → IsHeldText l (record { bytes = bytes; extent = o })
+    → IsServed (record { bytes = bytes; extent = o })
+served-head l bytes None h = h
+served-head l bytes (Some x) h = (h.1, h.2)
+
+pub served-texts : (l : LiveSet) (qs : List OwnedText) → AllByRecursion (IsHeldText l) qs → AllByRecursion IsServed qs
+served-texts l [] h = tt
+served-texts l (q ∷ qs) h = (served-head l q.bytes q.extent h.0, served-texts l qs h.1)
+
+-- ---- the vector afterwards
+
+pub texts-changed : {old new : Cut} {p : Place} (a m m' b : List OwnedText) {t u : Table}
+    → IsTexts old.bytes p (a ++ (m ++ b)) t
+    → IsExchanged current old new (place_at p) 24 (option_to_list t.extent ++ text_blocks m)
+    (option_to_list u.extent ++ text_blocks m')
+    → IsTrue (is_table Storage 16 u) → length (a ++ (m' ++ b)) ≤ u.capacity
+    → AreHeadWords (bytes_of new.bytes) (place_at p) (length (a ++ (m' ++ b))) u
+    → AreInArray (bytes_of new.bytes) u (a ++ (m' ++ b)) → AllByRecursion (IsOwnedText (bytes_of new.bytes)) m'
+    → AllByRecursion IsServed m'
+    → IsTextsNow old new p (option_to_list t.extent ++ text_blocks m) (option_to_list u.extent ++ text_blocks m')
+    (a ++ (m' ++ b)) u
+texts-changed {old} {new} {p} a m m' b {t} {u} s x table fits words array texts served =
+    let l = live_of old.bytes in
+    let M = bytes_of old.bytes in
+    let M' = bytes_of new.bytes in
+    let own = own_blocks (a ++ (m ++ b)) t in
+    let w = texts-own old s in
+    let rest = without_all own l.extents in
+    let gone : List Extent = option_to_list t.extent ++ text_blocks m in
+    let come : List Extent = option_to_list u.extent ++ text_blocks m' in
+    let same : List Extent = text_blocks a ++ text_blocks b in
+    let up : Rising 128 (inserted own rest) = subst (Rising 128) w.is (live-rises l s.heap.proper) in
+    let parts : l.extents ≡ inserted gone (inserted same rest) = w.is ∙ (own-between a m b t).same rest up
+    ∙ inserted-append gone same rest in
+    let stay : without_all gone l.extents ≡ inserted same rest = ap (without_all gone) parts ∙ without-inserted 128
+    gone (inserted same rest) (subst (Rising 128) parts (live-rises l s.heap.proper)) in
+    let heap = laid-heap _ _ x.live in
+    let now : (live_of new.bytes).extents ≡ inserted (come ++ same) rest = ap (λ (k : LiveSet). k.extents)
+    (exchanged-live old new _ 24 gone come _ x) ∙ ap (inserted come) stay ∙ sym (inserted-append come same rest) in
+    let is : (live_of new.bytes).extents ≡ inserted (own_blocks (a ++ (m' ++ b)) u) rest =
+    now ∙ (between-own a m' b u).same rest (subst (Rising 128) now (live-rises (live_of new.bytes) heap.proper)) in
+    let blocks = all-split (SameBlockBut M M' (place_at p) 24) (text_blocks a) (text_blocks b)
+    (all_of-inserted (SameBlockBut M M' (place_at p) 24) same rest
+    (subst (AllByRecursion (SameBlockBut M M' (place_at p) 24)) stay x.blocks)).0 in
+    let held = all-split (IsHeldText l) a (m ++ b) s.held in
+    let held_b = (all-split (IsHeldText l) m b held.1).1 in
+    let owned = all-split (IsOwnedText M) a (m ++ b) s.words.texts in
+    let owned_b = (all-split (IsOwnedText M) m b owned.1).1 in
+    let apart = all-split (λ (z : Extent). handle z ≢ p.handle) (text_blocks a) (text_blocks m ++ text_blocks b)
+    (subst (AllByRecursion (λ (z : Extent). handle z ≢ p.handle)) (blocks-three a m b) s.apart) in
+    let apart_b = (all-split (λ (z : Extent). handle z ≢ p.handle) (text_blocks m) (text_blocks b) apart.1).1 in
+    let ta = kept-texts new a s.heap w owned.0 held.0
+    (staying l M M' p.handle (place_at p) (text_blocks a) (found-texts l a held.0) apart.0 blocks.0) in
+    let tb = kept-texts new b s.heap w owned_b held_b
+    (staying l M M' p.handle (place_at p) (text_blocks b) (found-texts l b held_b) apart_b blocks.1) in
+    let all = all-join (IsOwnedText M') a (m' ++ b) ta (all-join (IsOwnedText M') m' b texts tb) in
+    let good = all-join IsServed a (m' ++ b) (served-texts l a held.0)
+    (all-join IsServed m' b served (served-texts l b held_b)) in
+    record {
+      change = x;
+      texts = texts-made new.bytes p (a ++ (m' ++ b)) rest heap is
+          (found-without p.handle _ own l.extents w.none w.found) w.big s.aligned table fits words array all good;
+    }
+
+-- ---- the head of a vector of texts, its three words and the block that they stand in, through the steps of a call;
+-- and the change
+-- that all of them come to.
+
+-- ---- the head
+
+pub record IsHead (c : Cut) (p : Place) : Type 0 where
+  pub block : Extent
+  pub found : extent_at (live_of c.bytes) p.handle ≡ Some block
+  pub here : handle block ≡ p.handle
+  pub big : p.at + 24 + 16 ≤ block.len
+
+pub own-head : {c : Cut} {p : Place} {own : List Extent} → AreOwn c p own → IsHead c p
+own-head w = record { block = w.head; found = w.found; here = w.here; big = w.big }
+
+pub room-head : (c : Cut) (p : Place) → IsHeap current c.bytes
+    → IsTrue (has_room (live_of c.bytes) p.handle (p.at + 24)) → IsHead c p
+room-head c p heap t = let q : IsRoomy (live_of c.bytes) p.handle (p.at + 24) = roomy c p.handle (p.at + 24) heap t in
+    record { block = q.extent; found = q.found; here = q.at; big = q.room }
+
+pub head-room : {c : Cut} {p : Place} → IsHead c p → IsTrue (has_room (live_of c.bytes) p.handle (p.at + 24))
+head-room {c} {p} w = found-room (live_of c.bytes) p.handle (p.at + 24) _ w.found w.big
+
+-- it stays where other blocks are exchanged
+pub head-kept : {a b : Cut} {p : Place} {from n : ℕ} {gone come : List Extent} → IsHead a p
+    → IsExchanged current a b from n gone come → IsNone p.handle gone → IsHead b p
+head-kept {a} {b} {p} {from} {n} {gone} {come} w x d =
+    record {
+      block = w.block;
+      found = kept-found a b from n p.handle _ gone come _ x w.found d;
+      here = w.here;
+      big = w.big;
+    }
+
+pub head-changed : {a b : Cut} {p : Place} {from n : ℕ} → IsHead a p → IsChanged current a b from n → IsHead b p
+head-changed {a} {b} {p} {from} {n} w c =
+    record {
+      block = w.block;
+      found = ap (λ (l : LiveSet). extent_at l p.handle) (changed-live _ a b from n c)
+          ∙ w.found;
+      here = w.here;
+      big = w.big;
+    }
+
+-- ---- its words
+
+pub words-same : {m m' : Memory} {from to at n : ℕ} {t : Table} → Same m m' from to → from ≤ at → at + 24 ≤ to
+    → AreHeadWords m at n t → AreHeadWords m' at n t
+words-same {m} {m'} {from} {to} {at} s f g w = record {
+  link = ap (target_of at) (word-same m m' from to at s f (omega arith)) ∙ w.link;
+  len_word = word-same m m' from to (at + 8) s (omega arith) (omega arith) ∙ w.len_word;
+  capacity = word-same m m' from to (at + 16) s (omega arith) (omega arith) ∙ w.capacity;
+}
+
+pub words-kept : {a b : Cut} {p : Place} {n : ℕ} {t : Table} {gone come : List Extent} → IsHeap current a.bytes
+    → IsHead a p → IsSwapped a b gone come → IsNone p.handle gone
+    → AreHeadWords (bytes_of a.bytes) (place_at p) n t → AreHeadWords (bytes_of b.bytes) (place_at p) n t
+words-kept {a} {b} {p} {gone} {come} heap w x d h =
+    let s = kept a b p.handle _ gone come _ heap x w.found d in
+    let here = w.here in
+    let big = w.big in
+    words-same s.payload (omega (arith, here)) (omega (arith, here, big)) h
+
+-- another length is written
+pub len-written : {m m' : Memory} {at n : ℕ} (k : ℕ) {t : Table} → SameBut m m' (at + 8) 8 → word_at m' (at + 8) ≡ k
+    → AreHeadWords m at n t → AreHeadWords m' at k t
+len-written {m} {m'} {at} k s e w = record {
+  link = SameBut-link m m' _ 8 at s (inl (omega arith)) ∙ w.link;
+  len_word = e;
+  capacity = SameBut-word m m' _ 8 (at + 16) s (inr (omega arith)) ∙ w.capacity;
+}
+
+-- n bytes of the three words
+pub head-wider : {a b : Cut} (p : Place) {from n : ℕ} → IsChanged current a b from n → place_at p ≤ from
+    → from + n ≤ place_at p + 24 → IsChanged current a b (place_at p) 24
+head-wider {a} {b} p {from} {n} c f g =
+    record {
+      place = c.place;
+      live = c.live;
+      rest = SameBut-wider (bytes_of a.bytes) (bytes_of b.bytes) from n
+          (place_at p) 24 c.rest f g;
+    }
+
+-- ---- the change that all steps come to
+
+pub texts-between : {old new : Cut} {p : Place} {ps : List OwnedText} (qs a m m' b : List OwnedText) {t u : Table}
+    {gone come : List Extent} → ps ≡ a ++ (m ++ b) → qs ≡ a ++ (m' ++ b)
+    → gone ≡ option_to_list t.extent ++ text_blocks m → come ≡ option_to_list u.extent ++ text_blocks m'
+    → IsTexts old.bytes p ps t → IsExchanged current old new (place_at p) 24 gone come
+    → IsTrue (is_table Storage 16 u) → length qs ≤ u.capacity → AreHeadWords (bytes_of new.bytes) (place_at p)
+    (length qs) u
+    → AreInArray (bytes_of new.bytes) u qs → AllByRecursion (IsOwnedText (bytes_of new.bytes)) m'
+    → AllByRecursion IsServed m' → IsTextsNow old new p gone come qs u
+texts-between {old} {new} {p} qs a m m' b {t} {u} {gone} e f g h s x table fits words array texts served =
+    let r = texts-changed {old = old} {new = new} {p = p} a m m' b {t = t} {u = u}
+    (subst (λ (xs : List OwnedText). IsTexts old.bytes p xs t) e s)
+    (subst (λ (xs : List Extent). IsExchanged current old new (place_at p) 24 xs
+    (option_to_list u.extent ++ text_blocks m')) g (subst (IsExchanged current old new (place_at p) 24 gone) h x))
+    table
+    (subst (λ (xs : List OwnedText). length xs ≤ u.capacity) f fits)
+    (subst (λ (xs : List OwnedText). AreHeadWords (bytes_of new.bytes) (place_at p) (length xs) u) f words)
+    (subst (AreInArray (bytes_of new.bytes) u) f array) texts served in
+    record { change = x; texts = subst (λ (xs : List OwnedText). IsTexts new.bytes p xs u) (sym f) r.texts }
+
+-- ---- the texts of a vector of texts are read
+
+-- ---- without a place
+
+pub texts-started : {old new : Cut} {p : Place} → IsHeap current old.bytes
+    → IsTrue (has_room (live_of old.bytes) p.handle (p.at + 24)) → IsChanged current old new (place_at p) 24
+    → Stands new.bytes p 16 0 no_table []
+    → IsTextsNow old new p [] [] [] no_table
+texts-started {p} heap r c s = record {
+  change = head-exchanged p heap r c;
+  texts = record {
+    heap = s.heap;
+    words = record {
+      link = s.words.link;
+      len_word = s.words.len_word;
+      capacity = s.words.capacity;
+      array = refl;
+      texts = tt;
+    };
+    aligned = s.aligned;
+    room = s.room;
+    table = s.table;
+    fits = s.fits;
+    own = tt;
+    held = tt;
+    apart = tt;
+    others = tt;
+  };
+}
+
+-- ---- one of many
+
+pub each-at : (P : OwnedText → Type 0) (ps : List OwnedText) (i : ℕ) {q : OwnedText} → AllByRecursion P ps
+    → slice_get ps i ≡ Some q → P q
+each-at P [] i a e = absurd (cc)
+each-at P (x ∷ xs) zero {q} a e = let same : x ≡ q = cc in subst P same a.0
+each-at P (x ∷ xs) (suc i) a e = each-at P xs i a.1 e
+
+pub text-found : (ps : List OwnedText) (i : ℕ) → i < length ps → (q : OwnedText) × (slice_get ps i ≡ Some q)
+text-found [] i f = absurd (omega arith)
+text-found (x ∷ xs) zero f = (x, refl)
+text-found (x ∷ xs) (suc i) f = text-found xs i (omega arith)
+
+pub links-at : (m : Memory) (at : ℕ) (ps : List OwnedText) (i : ℕ) {q : OwnedText} → AreTextLinks m at ps
+    → slice_get ps i ≡ Some q
+    → (link_at m (at + 16 * i) ≡ option_map handle q.extent) × (word_at m (at + 16 * i + 8) ≡ length q.bytes)
+links-at m at [] i a e = absurd (cc)
+links-at m at (x ∷ xs) zero {q} a e =
+    let same : x ≡ q = cc in
+    let here : at ≡ at + 16 * 0 = omega arith in (
+      subst (λ k. link_at m k ≡ option_map handle q.extent) here
+          (subst (λ (y : OwnedText). link_at m at ≡ option_map handle y.extent) same a.0),
+      subst (λ k. word_at m (k + 8) ≡ length q.bytes) here
+          (subst (λ (y : OwnedText). word_at m (at + 8) ≡ length y.bytes) same a.1),
+    )
+links-at m at (x ∷ xs) (suc i) {q} a e =
+    let r = links-at m (at + 16) xs i a.2 e in
+    let here : at + 16 + 16 * i ≡ at + 16 * suc i = omega arith in (
+      subst (λ k. link_at m k ≡ option_map handle q.extent) here r.0,
+      subst (λ k. word_at m (k + 8) ≡ length q.bytes)
+          here r.1,
+    )
+
+-- ---- the element of a text
+
+pub element-of : (c : Cut) {p : Place} {ps : List OwnedText} {k g : ℕ} (i : ℕ) {o : Option Extent} {q : OwnedText}
+    → IsTexts c.bytes p ps (record { capacity = k; extent = o }) → link_at (bytes_of c.bytes) (place_at p) ≡ Some g
+    → slice_get ps i ≡ Some q → IsTextElement c.bytes g (16 * i) q
+element-of c i {o = None} s link e =
+    none-some s.words.link link
+element-of c {ps} {k} i {o = Some x} {q} s link e =
+    let g_is = same-some (sym s.words.link ∙ link) in
+    let full = table-full 16 k x s.table in
+    let below = slice_get_within ps i q e in
+    let r = links-at (bytes_of c.bytes) (handle x) ps i s.words.array e in
+    record {
+      heap = s.heap;
+      aligned = omega arith;
+      room = subst (λ h. IsTrue (has_room (live_of c.bytes) h (16 * i + 16))) g_is
+          (found-room (live_of c.bytes) (handle x) (16 * i + 16) x s.own.0 (omega (arith, full, below, s.fits)));
+      link = subst (λ h. link_at (bytes_of c.bytes) (h + 16 * i) ≡ option_map handle q.extent) g_is r.0;
+      len_word = subst (λ h. word_at (bytes_of c.bytes) (h + 16 * i + 8) ≡ length q.bytes) g_is r.1;
+      owned = each-at (IsOwnedText (bytes_of c.bytes)) ps i s.words.texts e;
+      held = each-at (IsHeldText (live_of c.bytes)) ps i s.held e;
+    }
+
+-- texts have an array
+no-array-in : (c : Cut) {p : Place} {ps : List OwnedText} {k : ℕ} {o : Option Extent}
+    → IsTexts c.bytes p ps (record { capacity = k; extent = o }) → link_at (bytes_of c.bytes) (place_at p) ≡ None
+    → ps ≡ []
+no-array-in c {o = None} s link = s.words.array
+no-array-in c {o = Some x} s link = none-some link s.words.link
+
+pub no-array : (c : Cut) {p : Place} {ps : List OwnedText} {t : Table} → IsTexts c.bytes p ps t
+    → link_at (bytes_of c.bytes) (place_at p) ≡ None → length ps ≡ 0
+no-array c s link = ap length (no-array-in c s link)
+
+-- ---- its bytes
+
+pub empty-text : {b : List ℕ} {array at : ℕ} {bytes : List ℕ} {o : Option Extent}
+    → IsTextElement b array at (record { bytes = bytes; extent = o }) → link_at (bytes_of b) (array + at) ≡ None
+    → bytes ≡ []
+empty-text {o = None} s link = s.owned
+empty-text {o = Some x} s link = none-some link s.link
+
+-- the block of a text has room for it, and begins with it
+pub record IsTextBlock (b : List ℕ) (g : ℕ) (bytes : List ℕ) : Type 0 where
+  pub room : IsTrue (has_room (live_of b) g (length bytes))
+  pub content : Has (bytes_of b) g bytes
+
+pub text-block : {b : List ℕ} {array at g : ℕ} {bytes : List ℕ} {o : Option Extent}
+    → IsTextElement b array at (record { bytes = bytes; extent = o }) → link_at (bytes_of b) (array + at) ≡ Some g
+    → IsTextBlock b g bytes
+text-block {o = None} s link = none-some s.link link
+text-block {b} {bytes} {o = Some x} s link =
+    let g_is = same-some (sym s.link ∙ link) in
+    let full = serves-full x (length bytes) s.held.2 in
+    subst (λ h. IsTextBlock b h bytes) g_is
+    (record { room = found-room (live_of b) (handle x) (length bytes) x s.held.0 full; content = s.owned })
+
+pub block-live : {b : List ℕ} {g : ℕ} {bytes : List ℕ} → IsTextBlock b g bytes → IsTrue (is_live_in (live_of b) g)
+block-live {b} {g} {bytes} t = live-if g (length bytes) (live_of b).extents t.room
+
+pub block-front : (c : Cut) {g : ℕ} {bytes : List ℕ} (out : List ℕ) → IsHeap current c.bytes
+    → IsTextBlock c.bytes g bytes → out ≡ payload_at c.bytes (live_of c.bytes) g → take (length bytes) out ≡ bytes
+block-front c {g} {bytes} out heap t e =
+    let n = length bytes in
+    let r = room_block c g n heap t.room in
+    let b = r.block in
+    let enough = r.enough in
+    let inside = b.inside in
+    let at = b.at in
+    ap (take n) (e ∙ block_payload c g b) ∙ take-take n (b.tile.len - 16) (drop g c.bytes) (omega (arith, enough))
+    ∙ sym (read-part c.bytes g n (omega (arith, enough, inside, at))) ∙ t.content
+
+-- ---- the blocks of texts are given back, one after another
+
+-- ---- one
+
+found-live-if : (h : ℕ) {x : Extent} (z : Extent) (zs : List Extent)
+    → (find (λ (w : Extent). handle w == h) zs ≡ Some x → IsTrue (list_any (λ (w : Extent). handle w == h) zs))
+    → (b : Bool) → (handle z == h) ≡ b
+    → cond b (Some z) (find (λ (w : Extent). handle w == h) zs) ≡ Some x
+    → IsTrue (list_any (λ (w : Extent). handle w == h) (z ∷ zs))
+found-live-if h z zs k true e f = or_left (handle z == h) (list_any (λ (w : Extent). handle w == h) zs) e
+found-live-if h z zs k false e f = or_right (handle z == h) (list_any (λ (w : Extent). handle w == h) zs) (k f)
+
+-- a block that is found is in use
+pub found-live : (h : ℕ) {x : Extent} (zs : List Extent) → find (λ (w : Extent). handle w == h) zs ≡ Some x
+    → IsTrue (list_any (λ (w : Extent). handle w == h) zs)
+found-live h [] e = absurd (cc)
+found-live h {x} (z ∷ zs) e = found-live-if h z zs (found-live h {x = x} zs) (handle z == h) refl e
+
+pub element-live : {b : List ℕ} {array at g : ℕ} {bytes : List ℕ} {o : Option Extent}
+    → IsHeldElement b array at (record { bytes = bytes; extent = o }) → link_at (bytes_of b) (array + at) ≡ Some g
+    → IsTrue (is_live_in (live_of b) g)
+element-live {o = None} s link = none-some s.link link
+element-live {b} {o = Some x} s link =
+    let g_is = same-some (sym s.link ∙ link) in
+    subst (λ k. IsTrue (is_live_in (live_of b) k)) g_is (found-live (handle x) (live_of b).extents s.live.0)
+
+pub released-some : {old new : Cut} {array at g : ℕ} {bytes : List ℕ} {o : Option Extent}
+    → IsHeldElement old.bytes array at (record { bytes = bytes; extent = o })
+    → link_at (bytes_of old.bytes) (array + at) ≡ Some g → IsReleased current old new g
+    → IsSwapped old new (option_to_list o) []
+released-some {o = None} s link r = none-some s.link link
+released-some {old} {new} {o = Some x} s link r =
+    let g_is = same-some (sym link ∙ s.link) in
+    exchange-released current old new x 0 0 (subst (IsReleased current old new) g_is r)
+
+-- nothing is exchanged
+pub swapped-none : (c : Cut) → IsHeap current c.bytes → IsSwapped c c [] []
+swapped-none c heap = exchange-same _ c 0 0 [] (live_of c.bytes).extents heap refl
+
+pub released-none : (old : Cut) {array at : ℕ} {bytes : List ℕ} {o : Option Extent}
+    → IsHeldElement old.bytes array at (record { bytes = bytes; extent = o })
+    → link_at (bytes_of old.bytes) (array + at) ≡ None
+    → IsSwapped old old (option_to_list o) []
+released-none old {o = None} s link = swapped-none old s.heap
+released-none old {o = Some x} s link = none-some link s.link
+
+-- ---- one after another
+
+pub drop-at : (ps : List OwnedText) (i : ℕ) {q : OwnedText} → slice_get ps i ≡ Some q → drop i ps ≡ q ∷ drop (suc i) ps
+drop-at [] i e = absurd (cc)
+drop-at (x ∷ xs) zero {q} e = let same : x ≡ q = cc in ap (λ (y : OwnedText). y ∷ xs) same
+drop-at (x ∷ xs) (suc i) e = drop-at xs i e
+
+pub releases-begin : (c : Cut) {array n : ℕ} {ps : List OwnedText} → AreHeldElements c.bytes array n ps
+    → IsSwapped c c (text_blocks ps) (text_blocks ps)
+releases-begin c {ps} s =
+    let i = all-in-use (text_blocks ps) (live_of c.bytes).extents (live-rises (live_of c.bytes) s.heap.proper) s.others
+    s.live in
+    exchange-same _ c 0 0 (text_blocks ps) (without_all (text_blocks ps) (live_of c.bytes).extents) s.heap i.is
+
+pub element-left : {old now : Cut} {array n : ℕ} (i : ℕ) {ps : List OwnedText} {q : OwnedText}
+    → AreHeldElements old.bytes array n ps → slice_get ps i ≡ Some q
+    → IsSwapped old now (text_blocks ps) (text_blocks (drop i ps)) → IsHeldElement now.bytes array (16 * i) q
+element-left {old} {now} {array} {n} i {ps} {q} s e x =
+    let l = live_of old.bytes in
+    let gone = text_blocks ps in
+    let come = text_blocks (drop i ps) in
+    let rest = without_all gone l.extents in
+    let none = none-of array gone s.apart in
+    let r = roomy old array (16 * n) s.heap s.room in
+    let at = r.at in
+    let big = r.room in
+    let below = slice_get_within ps i q e in
+    let within : i < n = omega (arith, below, s.long) in
+    let stays = kept old now array _ gone come _ s.heap x r.found none in
+    let now_is : (live_of now.bytes).extents ≡ inserted come rest = ap (λ (k : LiveSet). k.extents)
+    (exchanged-live old now 0 0 gone come _ x) in
+    let all : AllByRecursion (IsFound (live_of now.bytes).extents) come =
+    subst (λ (zs : List Extent). AllByRecursion (IsFound zs) come) (sym now_is)
+    (all-found-in come rest (live-rises (exchanged l gone come) x.live.proper)) in
+    let first : AllByRecursion (IsFound (live_of now.bytes).extents)
+    (option_to_list q.extent ++ text_blocks (drop (suc i) ps)) =
+    subst (λ (xs : List OwnedText). AllByRecursion (IsFound (live_of now.bytes).extents) (text_blocks xs))
+    (drop-at ps i e) all in
+    record {
+      heap = laid-heap _ _ x.live;
+      aligned = omega arith;
+      room = found-room (live_of now.bytes) array (16 * i + 16) _
+          (kept-found old now 0 0 array _ gone come _ x r.found none) (omega (arith, big, within));
+      link = ap (target_of (array + 16 * i)) (word-same _ _ _ _ (array + 16 * i) stays.payload (omega (arith, at))
+          (omega (arith, at, big, within)))
+          ∙ (links-at (bytes_of old.bytes) array ps i s.links e).0;
+      live = (all-split (IsFound (live_of now.bytes).extents) (option_to_list q.extent) (text_blocks (drop (suc i) ps))
+          first).0;
+    }
+
+pub releases-next : {old now new : Cut} (i : ℕ) (ps : List OwnedText) {q : OwnedText} → slice_get ps i ≡ Some q
+    → IsSwapped old now (text_blocks ps) (text_blocks (drop i ps))
+    → IsSwapped now new (option_to_list q.extent) []
+    → IsSwapped old new (text_blocks ps) (text_blocks (drop (i + 1) ps))
+releases-next {old} {now} {new} i ps {q} e x y =
+    let count : suc i ≡ i + 1 = omega arith in
+    let left = text_blocks (drop (suc i) ps) in
+    let spread : SameSpread (text_blocks (drop i ps)) (option_to_list q.extent ++ left) =
+    subst (λ (xs : List OwnedText). SameSpread (text_blocks xs) (option_to_list q.extent ++ left))
+    (sym (drop-at ps i e)) (spread-refl (option_to_list q.extent ++ left)) in
+    subst (λ k. IsSwapped old new (text_blocks ps) (text_blocks (drop k ps))) count
+    (exchange-next _ old now new 0 0 _ _ _ left [] spread x y)
+
+pub releases-end : {old new : Cut} (i : ℕ) (ps : List OwnedText) → length ps ≤ i
+    → IsSwapped old new (text_blocks ps) (text_blocks (drop i ps)) → IsSwapped old new (text_blocks ps) []
+releases-end {old} {new} i ps f x =
+    subst (λ (xs : List OwnedText). IsSwapped old new (text_blocks ps) (text_blocks xs)) (drop_all i ps f) x
+
+-- ---- the elements of the array of a vector of texts, as a list: in parts, and put elsewhere
+
+pub element-in : {m m' : Memory} {x : Extent} (at : ℕ) → SameBlock m m' x → handle x ≤ at → at + 16 ≤ end_of x
+    → IsSameElement m m' at at
+element-in {m} {m'} at s f g = record {
+  link = ap (target_of at) (word-same m m' _ _ at s.payload f (omega (arith, g)));
+  len_word = word-same m m' _ _ (at + 8) s.payload (omega (arith, f)) (omega (arith, g));
+}
+
+later : (m m' : Memory) (a b n : ℕ) → AreSameElements m m' a b (suc n) → AreSameElements m m' (a + 16) (b + 16) n
+later m m' a b n s j f =
+    let p : a + 16 * suc j ≡ a + 16 + 16 * j = omega arith in
+    let q : b + 16 * suc j ≡ b + 16 + 16 * j = omega arith in
+    subst (λ k. IsSameElement m m' k (b + 16 + 16 * j)) p
+    (subst (IsSameElement m m' (a + 16 * suc j)) q (s (suc j) (omega arith)))
+
+-- elements that are put elsewhere
+pub links-moved : (m m' : Memory) (a b : ℕ) (ps : List OwnedText) → AreTextLinks m a ps
+    → AreSameElements m m' a b (length ps) → AreTextLinks m' b ps
+links-moved m m' a b [] l s = tt
+links-moved m m' a b (q ∷ qs) l s =
+    let p : a + 16 * 0 ≡ a = omega arith in
+    let r : b + 16 * 0 ≡ b = omega arith in
+    let e : IsSameElement m m' a b = subst (λ k. IsSameElement m m' k b) p
+    (subst (IsSameElement m m' (a + 16 * 0)) r (s 0 (omega arith))) in
+    (e.link ∙ l.0, e.len_word ∙ l.1, links-moved m m' (a + 16) (b + 16) qs l.2 (later m m' a b (length qs) s))
+
+pub links-split : (m : Memory) (at : ℕ) (xs ys : List OwnedText) → AreTextLinks m at (xs ++ ys)
+    → AreTextLinks m at xs × AreTextLinks m (at + 16 * length xs) ys
+links-split m at [] ys l = let e : at ≡ at + 16 * 0 = omega arith in (tt, subst (λ k. AreTextLinks m k ys) e l)
+links-split m at (x ∷ xs) ys l =
+    let r = links-split m (at + 16) xs ys l.2 in
+    let e : at + 16 + 16 * length xs ≡ at + 16 * suc (length xs) = omega arith in
+    ((l.0, l.1, r.0), subst (λ k. AreTextLinks m k ys) e r.1)
+
+pub links-join : (m : Memory) (at : ℕ) (xs ys : List OwnedText) → AreTextLinks m at xs
+    → AreTextLinks m (at + 16 * length xs) ys → AreTextLinks m at (xs ++ ys)
+links-join m at [] ys l r = let e : at + 16 * 0 ≡ at = omega arith in subst (λ k. AreTextLinks m k ys) e r
+links-join m at (x ∷ xs) ys l r =
+    let e : at + 16 * suc (length xs) ≡ at + 16 + 16 * length xs = omega arith in
+    (l.0, l.1, links-join m (at + 16) xs ys l.2 (subst (λ k. AreTextLinks m k ys) e r))
+
+-- ---- a call on a vector of texts, step by step: what has changed so far, and the vector's head
+
+-- Some blocks are gone so far and others came, and the head has these words.
+pub record IsRun (old now : Cut) (p : Place) (gone come : List Extent) (n : ℕ) (t : Table) : Type 0 where
+  pub change : IsExchanged current old now (place_at p) 24 gone come
+  pub heap : IsHeap current now.bytes
+  pub head : IsHead now p
+  pub words : AreHeadWords (bytes_of now.bytes) (place_at p) n t
+
+-- ---- it begins
+
+-- the array and some texts among the others
+pub own-parts : (c : Cut) {p : Place} (a m b : List OwnedText) {t : Table} → IsTexts c.bytes p (a ++ (m ++ b)) t
+    → (live_of c.bytes).extents ≡ inserted (option_to_list t.extent ++ text_blocks m)
+    (inserted (text_blocks a ++ text_blocks b) (without_all (own_blocks (a ++ (m ++ b)) t) (live_of c.bytes).extents))
+own-parts c {p} a m b {t} s =
+    let own = own_blocks (a ++ (m ++ b)) t in
+    let w = texts-own c s in
+    let rest = without_all own (live_of c.bytes).extents in
+    w.is ∙ (own-between a m b t).same rest (subst (Rising 128) w.is (live-rises (live_of c.bytes) s.heap.proper))
+    ∙ inserted-append (option_to_list t.extent ++ text_blocks m) (text_blocks a ++ text_blocks b) rest
+
+pub run-begin : (c : Cut) {p : Place} {ps : List OwnedText} (a m b : List OwnedText) {t : Table} → ps ≡ a ++ (m ++ b)
+    → IsTexts c.bytes p ps t
+    → IsRun c c p (option_to_list t.extent ++ text_blocks m) (option_to_list t.extent ++ text_blocks m) (length ps) t
+run-begin c {p} a m b {t} e s =
+    let v : IsTexts c.bytes p (a ++ (m ++ b)) t = subst (λ (xs : List OwnedText). IsTexts c.bytes p xs t) e s in
+    record {
+      change = exchange-same _ c (place_at p) 24 (option_to_list t.extent ++ text_blocks m)
+          (inserted (text_blocks a ++ text_blocks b)
+          (without_all (own_blocks (a ++ (m ++ b)) t) (live_of c.bytes).extents)) s.heap (own-parts c a m b v);
+      heap = s.heap;
+      head = own-head (texts-own c s);
+      words = record { link = s.words.link; len_word = s.words.len_word; capacity = s.words.capacity };
+    }
+
+-- ---- it goes on
+
+-- blocks are exchanged, not the head's
+pub run-swapped : {old a b : Cut} {p : Place} {gone come again : List Extent} (left : List Extent) {more : List Extent}
+    {n : ℕ} {t : Table} → SameSpread come (again ++ left) → IsRun old a p gone come n t → IsSwapped a b again more
+    → IsNone p.handle again → IsRun old b p gone (more ++ left) n t
+run-swapped {old} {a} {b} {p} {gone} {come} left {more} spread r x none = record {
+  change = exchange-next _ old a b _ 24 gone come _ left more spread r.change
+      (exchange-wide _ a b (place_at p) 24 _ more x);
+  heap = laid-heap _ _ x.live;
+  head = head-kept r.head x none;
+  words = words-kept r.heap r.head x none r.words;
+}
+
+-- the words of the head are written
+pub run-headed : {old a b : Cut} {p : Place} {gone come : List Extent} {n k : ℕ} {t u : Table}
+    → IsRun old a p gone come n t → IsChanged current a b (place_at p) 24
+    → AreHeadWords (bytes_of b.bytes) (place_at p) k u → IsRun old b p gone come k u
+run-headed {old} {a} {b} {p} {gone} {come} r c w = record {
+  change = exchange-next _ old a b _ 24 gone come [] come [] (record { same = λ zs r. refl }) r.change
+      (head-exchanged p r.heap (head-room r.head) c);
+  heap = laid-heap _ _ c.live;
+  head = head-changed r.head c;
+  words = w;
+}
+
+-- ---- the array
+
+-- bytes written in a block
+pub block-written : {a b : Cut} {x : Extent} {from n : ℕ} (k : ℕ) → IsHeap current a.bytes
+    → extent_at (live_of a.bytes) (handle x) ≡ Some x → IsChanged current a b from n → handle x ≤ from
+    → from + n ≤ handle x + k → k + 16 ≤ x.len
+    → IsSwapped a b (x ∷ []) (x ∷ [])
+block-written {a} {b} {x} {from} {n} k heap found c low high fits =
+    let l = live_of a.bytes in
+    let i = all-in-use (x ∷ []) l.extents (live-rises l heap.proper) (tt, tt) (found, tt) in
+    exchange-written _ a b x (without_all (x ∷ []) l.extents) k from n 0 0 heap i.is
+    (found-room l (handle x) k x found fits) c low high
+
+-- the blocks that came are in use
+pub run-found : {old now : Cut} {p : Place} {gone come : List Extent} {n : ℕ} {t : Table}
+    → IsRun old now p gone come n t → AllByRecursion (IsFound (live_of now.bytes).extents) come
+run-found {old} {now} {gone} {come} r =
+    let l = live_of old.bytes in
+    let rest = without_all gone l.extents in
+    let is : (live_of now.bytes).extents ≡ inserted come rest = ap (λ (k : LiveSet). k.extents)
+    (exchanged-live old now _ 24 gone come _ r.change) in
+    subst (λ (zs : List Extent). AllByRecursion (IsFound zs) come) (sym is)
+    (all-found-in come rest (live-rises (exchanged l gone come) r.change.live.proper))
+
+-- a block stays where the head's words are written
+pub beside-head : {a b : Cut} {p : Place} (h : ℕ) {x : Extent} → IsHeap current a.bytes → IsHead a p
+    → IsChanged current a b (place_at p) 24 → extent_at (live_of a.bytes) h ≡ Some x → p.handle ≢ h
+    → SameBlock (bytes_of a.bytes) (bytes_of b.bytes) x
+beside-head {a} {b} {p} h {x} heap w c found other =
+    let here = w.here in
+    let big = w.big in
+    kept-beside a b _ 24 p.handle h _ x [] [] _ heap (head-exchanged p heap (head-room w) c) w.found
+    (omega (arith, here)) (omega (arith, here, big)) other found tt
+
+-- ---- the block of an array, and what its links lead to
+
+-- what holds of all blocks of texts holds of that of one
+pub one-of : (P : Extent → Type 0) (ps : List OwnedText) (i : ℕ) {q : OwnedText} → AllByRecursion P (text_blocks ps)
+    → slice_get ps i ≡ Some q → AllByRecursion P (option_to_list q.extent)
+one-of P [] i a e = absurd (cc)
+one-of P (y ∷ ys) zero {q} a e =
+    let same : y ≡ q = cc in
+    subst (λ (z : OwnedText). AllByRecursion P (option_to_list z.extent)) same
+    (all-split P (option_to_list y.extent) (text_blocks ys) a).0
+one-of P (y ∷ ys) (suc i) a e = one-of P ys i (all-split P (option_to_list y.extent) (text_blocks ys) a).1 e
+
+pub held-element : (c : Cut) {array n : ℕ} (i : ℕ) {ps : List OwnedText} {q : OwnedText}
+    → AreHeldElements c.bytes array n ps → slice_get ps i ≡ Some q → IsHeldElement c.bytes array (16 * i) q
+held-element c {array} {n} i {ps} {q} s e =
+    let r = roomy c array (16 * n) s.heap s.room in
+    let big = r.room in
+    let below = slice_get_within ps i q e in
+    record {
+      heap = s.heap;
+      aligned = omega arith;
+      room = found-room (live_of c.bytes) array (16 * i + 16) _ r.found (omega (arith, big, below, s.long));
+      link = (links-at (bytes_of c.bytes) array ps i s.links e).0;
+      live = one-of (IsFound (live_of c.bytes).extents) ps i s.live e;
+    }
+
+-- ---- links lead to multiples of 16
+
+pub even-block : (l : LiveSet) (o : Option Extent) → IsTrue (is_proper l)
+    → AllByRecursion (IsFound l.extents) (option_to_list o) → IfSome (option_map handle o) (λ target. target % 16 ≡ 0)
+even-block l None p f = tt
+even-block l (Some x) p f =
+    let s = all-found IsSound (handle x) l.extents f.0 (live-sound l p) in
+    let even = s.aligned in
+    omega (arith, even)
+
+pub even-held : (c : Cut) {array n : ℕ} {ps : List OwnedText} → AreHeldElements c.bytes array n ps
+    → AreEvenLinks (bytes_of c.bytes) array n
+even-held c {array} {ps} s j f =
+    let q = text-found ps j (omega (arith, f, s.long)) in
+    subst (λ o. IfSome o (λ target. target % 16 ≡ 0)) (sym (links-at (bytes_of c.bytes) array ps j s.links q.1).0)
+    (even-block (live_of c.bytes) q.0.extent s.heap.proper (one-of (IsFound (live_of c.bytes).extents) ps j s.live q.1))
+
+pub even-from : (m : Memory) (a b i k n : ℕ) → AreEvenLinks m a n → b ≡ a + 16 * i → i + k ≤ n → AreEvenLinks m b k
+even-from m a b i k n e is f j g =
+    let at : a + 16 * (i + j) ≡ b + 16 * j = omega (arith, is) in
+    subst (λ w. IfSome (link_at m w) (λ target. target % 16 ≡ 0)) at (e (i + j) (omega arith))
+
+-- ---- the array, once other blocks are exchanged
+
+pub record IsArrayLeft (c : Cut) (array n : ℕ) : Type 0 where
+  pub heap : IsHeap current c.bytes
+  pub room : IsTrue (has_room (live_of c.bytes) array (16 * n))
+  pub even : AreEvenLinks (bytes_of c.bytes) array n
+
+pub array-left : {old new : Cut} {array n : ℕ} {ps : List OwnedText} {gone come : List Extent}
+    → AreHeldElements old.bytes array n ps → IsSwapped old new gone come → IsNone array gone → IsArrayLeft new array n
+array-left {old} {new} {array} {n} {gone} {come} s x none =
+    let r = roomy old array (16 * n) s.heap s.room in
+    let at = r.at in
+    let big = r.room in
+    let stays = kept old new array _ gone come _ s.heap x r.found none in
+    let even = even-held old s in
+    record {
+      heap = laid-heap _ _ x.live;
+      room = found-room (live_of new.bytes) array (16 * n) _
+          (kept-found old new 0 0 array _ gone come _ x r.found none) big;
+      even = λ j f. subst (λ o. IfSome o (λ target. target % 16 ≡ 0))
+          (sym (element-in (array + 16 * j) stays (omega (arith, at)) (omega (arith, at, big, f))).link) (even j f);
+    }
+
+-- ---- elements of the array of a vector of texts, put elsewhere one after another
+
+pub unchanged : (c : Cut) (from n : ℕ) → IsHeap current c.bytes → IsChanged current c c from n
+unchanged c from n heap = record {
+  place = record { before = refl; after = refl };
+  live = heap;
+  rest = record
+      { at = λ k f. refl };
+}
+
+-- an element beside what is written
+pub element-beside : {m m' : Memory} {from n : ℕ} (at : ℕ) → SameBut m m' from n → (at + 16 ≤ from) ⊎ (from + n ≤ at)
+    → IsSameElement m m' at at
+element-beside {m} {m'} {from} {n} at s (inl f) =
+    record {
+      link = SameBut-link m m' from n at s (inl (omega arith));
+      len_word = SameBut-word m m' from n (at + 8) s
+          (inl (omega arith));
+    }
+element-beside {m} {m'} {from} {n} at s (inr f) =
+    record {
+      link = SameBut-link m m' from n at s (inr (omega arith));
+      len_word = SameBut-word m m' from n (at + 8) s
+          (inr (omega arith));
+    }
+
+pub element-trans : {m m' m'' : Memory} {a b c : ℕ} → IsSameElement m m' a b → IsSameElement m' m'' b c
+    → IsSameElement m m'' a c
+element-trans p q = record { link = q.link ∙ p.link; len_word = q.len_word ∙ p.len_word }
+
+-- ---- the first one first
+
+below-or : (j i : ℕ) → j < i + 1 → (j < i) ⊎ (j ≡ i)
+below-or j i f = grind arith
+
+pub source-stays : {old now : Cut} (a : ℕ) {b : ℕ} (i n : ℕ) → IsChanged current old now b (16 * i)
+    → (b ≤ a) ⊎ (a + 16 * n ≤ b) → i < n → IsSameElement (bytes_of old.bytes) (bytes_of now.bytes) (a + 16 * i)
+    (a + 16 * i)
+source-stays a i n c (inl f) below = element-beside (a + 16 * i) c.rest (inr (omega arith))
+source-stays a i n c (inr f) below = element-beside (a + 16 * i) c.rest (inl (omega arith))
+
+pub carried-changed : {old now new : Cut} {b : ℕ} (i : ℕ) → IsChanged current old now b (16 * i)
+    → IsChanged current now new (b + 16 * i) 16 → IsChanged current old new b (16 * (i + 1))
+carried-changed {b} i c d = changed-both b (16 * (i + 1)) c d (omega arith) (omega arith) (omega arith) (omega arith)
+
+carried-at : (old : Cut) {now new : Cut} (a b i n j : ℕ) → AreSameElements (bytes_of old.bytes) (bytes_of now.bytes) a
+    b i → IsChanged current now new (b + 16 * i) 16
+    → IsSameElement (bytes_of old.bytes) (bytes_of new.bytes) (a + 16 * i) (b + 16 * i) → (j < i) ⊎ (j ≡ i)
+    → IsSameElement (bytes_of old.bytes) (bytes_of new.bytes) (a + 16 * j) (b + 16 * j)
+carried-at old a b i n j s d e (inl f) =
+    element-trans (s j f)
+    (element-beside (b + 16 * j) d.rest (inl (omega arith)))
+carried-at old {new} a b i n j s d e (inr f) =
+    subst (λ k. IsSameElement (bytes_of old.bytes) (bytes_of new.bytes) (a + 16 * k) (b + 16 * k)) (sym f) e
+
+pub carried-next : {old now new : Cut} (a : ℕ) {b : ℕ} (i n : ℕ)
+    → AreSameElements (bytes_of old.bytes) (bytes_of now.bytes) a b i → IsChanged current old now b (16 * i)
+    → (b ≤ a) ⊎ (a + 16 * n ≤ b) → i < n
+    → IsChanged current now new (b + 16 * i) 16 → IsSameElement (bytes_of now.bytes) (bytes_of new.bytes) (a + 16 * i)
+    (b + 16 * i) → AreSameElements (bytes_of old.bytes) (bytes_of new.bytes) a b (i + 1)
+carried-next {old} a {b} i n s c apart below d e j under =
+    carried-at old a b i n j s d
+    (element-trans (source-stays a i n c apart below) e) (below-or j i under)
+
+pub even-now : {m m' : Memory} (a n i : ℕ) → AreEvenLinks m a n → i < n → IsSameElement m m' (a + 16 * i) (a + 16 * i)
+    → IfSome (link_at m' (a + 16 * i)) (λ target. target % 16 ≡ 0)
+even-now a n i e f s = subst (λ o. IfSome o (λ target. target % 16 ≡ 0)) (sym s.link) (e i f)
+
+-- ---- the last one first
+
+-- those from k on have moved up
+abbrev pub AreUp : Memory → Memory → ℕ → ℕ → ℕ → Type 0
+AreUp m m' a k n = (j : ℕ) → k ≤ j → j < n → IsSameElement m m' (a + 16 * j) (a + 16 + 16 * j)
+
+pub up-source : {old now : Cut} (a k i n : ℕ) → k + (i + 1) ≡ n → IsChanged current old now (a + 16 + 16 * (n - i))
+    (16 * i) → IsSameElement (bytes_of old.bytes) (bytes_of now.bytes) (a + 16 * k) (a + 16 * k)
+up-source a k i n e c = element-beside (a + 16 * k) c.rest (inl (omega arith))
+
+pub up-changed : {old now new : Cut} (a k i n : ℕ) → k + (i + 1) ≡ n
+    → IsChanged current old now (a + 16 + 16 * (n - i)) (16 * i) → IsChanged current now new (a + 16 + 16 * k) 16
+    → IsChanged current old new (a + 16 + 16 * (n - (i + 1))) (16 * (i + 1))
+up-changed a k i n e c d =
+    changed-both (a + 16 + 16 * (n - (i + 1))) (16 * (i + 1)) c d (omega arith) (omega arith) (omega arith)
+    (omega arith)
+
+from-or : (k j : ℕ) → k ≤ j → (k + 1 ≤ j) ⊎ (j ≡ k)
+from-or k j f = grind arith
+
+up-at : (old : Cut) {now new : Cut} (a k i n j : ℕ) → k + (i + 1) ≡ n → AreUp (bytes_of old.bytes) (bytes_of now.bytes)
+    a (n - i) n → IsChanged current now new (a + 16 + 16 * k) 16
+    → IsSameElement (bytes_of old.bytes) (bytes_of new.bytes) (a + 16 * k) (a + 16 + 16 * k) → j < n
+    → (k + 1 ≤ j) ⊎ (j ≡ k) → IsSameElement (bytes_of old.bytes) (bytes_of new.bytes) (a + 16 * j) (a + 16 + 16 * j)
+up-at old a k i n j is s d e below (inl f) =
+    element-trans (s j (omega arith) below)
+    (element-beside (a + 16 + 16 * j) d.rest (inr (omega arith)))
+up-at old {new} a k i n j is s d e below (inr f) =
+    subst (λ w. IsSameElement (bytes_of old.bytes) (bytes_of new.bytes) (a + 16 * w) (a + 16 + 16 * w)) (sym f) e
+
+pub up-next : {old now new : Cut} (a k i n : ℕ) → k + (i + 1) ≡ n → AreUp (bytes_of old.bytes) (bytes_of now.bytes) a
+    (n - i) n → IsChanged current old now (a + 16 + 16 * (n - i)) (16 * i)
+    → IsChanged current now new (a + 16 + 16 * k) 16 → IsSameElement (bytes_of now.bytes) (bytes_of new.bytes)
+    (a + 16 * k) (a + 16 + 16 * k) → AreUp (bytes_of old.bytes) (bytes_of new.bytes) a (n - (i + 1)) n
+up-next {old} a k i n is s c d e j low below =
+    up-at old a k i n j is s d
+    (element-trans (up-source a k i n is c) e) below (from-or k j (omega (arith, is, low)))

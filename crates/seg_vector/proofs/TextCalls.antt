@@ -1,0 +1,749 @@
+-- A vector of texts without texts, with one less or another one, or cut; and a text in a block of its own.
+use Rattle.std.proofs.Common.{◌≡◌, ◌≢◌, refl, sym, ap, subst, ◌∙◌, ℕ, ◌+◌, ◌*◌, Option, Some, None, List, [], ◌∷◌, ◌++◌, append-nil, arith, length, inl, inr, ◌⊎◌, suc, ◌-◌, ◌<◌, ◌≤◌, length-append, take, drop, zero, ◌%◌, if◌then◌else◌, append_assoc}
+use Rattle.std.specs.Prelude.{option_to_list, IsTrue, nat_lt, remove, slice_get, IfSome, ⊤, option_map, slice_set}
+use Rattle.std.specs.List.{AllByRecursion}
+use Rattle.std.proofs.lemmas.Bool.{and_parts, leb-true, eq-eqb, ne_eqb}
+use Rattle.std.proofs.lemmas.List.{length-drop, length-take, take-append-drop}
+use Rattle.std.proofs.lemmas.Option.{slice_get_within}
+use Rattle.raw_region.specs.Memory.{Memory, Cut, bytes_of, word_at, Has, Same, read}
+use Rattle.raw_region.specs.Format.{current}
+use Rattle.offset_link.specs.Link.{link_at, target_of}
+use Rattle.best_fit.specs.Exchange.{without_all, exchanged, inserted}
+use Rattle.best_fit.specs.Extents.{Extent, handle, end_of, holds, LiveSet}
+use Rattle.best_fit.specs.Heap.{IsChanged, live_of, SameBlock, IsAllocated, IsHeap, IsRefused}
+use Rattle.best_fit.specs.Table.{Table, no_table, same_role, serves, cut_table, is_table}
+use Rattle.best_fit.proofs.Laws.{SameSpread, exchange-next, exchange-same, exchange-wide, found-room, laid-heap, last-first, spread-refl, IsNone, kept, shorter-IsShorter, word-same, IsFound, all-found-in, allocated-room, exchange-taken, exchanged-live, kept-found, live-rises, place-serves, still_allocated, SameBlock-trans, rising-others}
+use Rattle.block_tags.specs.declared.tile.Role.TheVariants.{Storage}
+use Rattle.best_fit.specs.Fit.{shorter, place}
+use Rattle.raw_region.proofs.Laws.{Has-same}
+use Rattle.seg_vector.specs.declared.places.Place.{Place}
+use Rattle.seg_vector.specs.Elements.{IsGivenBack, IsFitted}
+use Rattle.seg_vector.specs.Standing.{Stands, place_at, IsOwnBlock}
+use Rattle.seg_vector.specs.TextParts.{AreHeldElements, IsSwapped, AreSameElements, IsHeldElement, IsTextNotPlaced, IsTextPlaced, IsServed, IsTextReplaced}
+use Rattle.seg_vector.specs.TextsCalls.{IsTexts, IsTextsNow, text_blocks, IsHeldText, placed_text, AreOthers}
+use Rattle.seg_vector.specs.Vector.{AreInArray, IsStorage, OwnedText, AreTextLinks, IsOwnedText}
+use Rattle.seg_vector.proofs.Storage.{none-some, same-some, table, table-full, length-read, serves-full}
+use Rattle.seg_vector.proofs.Fewer.{head-exchanged, cut-some}
+use Rattle.seg_vector.proofs.TextBlocks.{AreHeadWords, found-texts, own_blocks, texts-own, no-array, swapped-none, IsHead, head-kept, head-room, head-wider, len-written, own-head, texts-between, words-kept, all-split, element-in, links-join, links-moved, links-split, element-beside, element-trans, none-of, IsArrayLeft, array-left, held-element, one-of, drop-at, IsRun, beside-head, block-written, run-begin, run-found, run-headed, run-swapped, room-head, even-block}
+
+-- ---- a vector of texts without texts, and then without an array
+
+-- ---- the elements of the array
+
+flipped : (h : ℕ) (xs : List Extent) → AllByRecursion (λ (y : Extent). h ≢ handle y) xs
+    → AllByRecursion (λ (y : Extent). handle y ≢ h) xs
+flipped h [] n = tt
+flipped h (x ∷ xs) n = ((λ e. n.0 (sym e)), flipped h xs n.1)
+
+pub held-elements : {b : List ℕ} {p : Place} {ps : List OwnedText} {c g : ℕ} (n : ℕ) {o : Option Extent}
+    → IsTexts b p ps (table c o) → link_at (bytes_of b) (place_at p) ≡ Some g → n ≡ length ps → AreHeldElements b g n ps
+held-elements n {o = None} s link e = none-some s.words.link link
+held-elements {b} {ps} {c} n {o = Some x} s link e =
+    let g_is = same-some (sym s.words.link ∙ link) in
+    let full = table-full 16 c x s.table in
+    let fits = s.fits in
+    subst (λ h. AreHeldElements b h n ps) g_is (record {
+      heap = s.heap;
+      room = found-room (live_of b) (handle x) (16 * n) x s.own.0 (omega (arith, full, fits, e));
+      long = sym e;
+      links = s.words.array;
+      live = found-texts (live_of b) ps s.held;
+      apart = flipped (handle x) (text_blocks ps) s.others.0;
+      others = s.others.1;
+    })
+
+-- without an array there is none
+nothing : (ps : List OwnedText) → length ps ≡ 0 → ps ≡ []
+nothing [] e = refl
+nothing (q ∷ qs) e = absurd (omega (arith, e))
+
+pub released-nothing : (c : Cut) {p : Place} {ps : List OwnedText} {t : Table} → IsTexts c.bytes p ps t
+    → link_at (bytes_of c.bytes) (place_at p) ≡ None → IsSwapped c c (text_blocks ps) []
+released-nothing c {ps} s link =
+    let none = nothing ps (no-array c s link) in
+    subst (λ (qs : List OwnedText). IsSwapped c c (text_blocks qs) []) (sym none) (swapped-none c s.heap)
+
+-- ---- no text
+
+pub no-links : (m : Memory) (c : ℕ) (o : Option Extent) → AreInArray m (table c o) []
+no-links m c None = refl
+no-links m c (Some x) = tt
+
+pub cleared : {old mid new : Cut} {p : Place} {ps : List OwnedText} {t : Table} → IsTexts old.bytes p ps t
+    → IsSwapped old mid (text_blocks ps) [] → IsChanged current mid new (place_at p + 8) 8
+    → word_at (bytes_of new.bytes) (place_at p + 8) ≡ 0
+    → IsTextsNow old new p (option_to_list t.extent ++ text_blocks ps) (option_to_list t.extent) [] t
+cleared {old} {mid} {new} {p} {ps} {t} s x c word =
+    let l = live_of old.bytes in
+    let at = place_at p in
+    let arr = option_to_list t.extent in
+    let tb = text_blocks ps in
+    let own = own_blocks ps t in
+    let w = texts-own old s in
+    let h = own-head w in
+    let none = (all-split (λ (z : Extent). p.handle ≢ handle z) arr tb w.none).1 in
+    let e0 = exchange-same _ old at 24 own (without_all own l.extents) s.heap w.is in
+    let e1 = exchange-next _ old old mid at 24 own own tb arr [] (last-first arr tb) e0
+    (exchange-wide _ old mid at 24 tb [] x) in
+    let heap = laid-heap _ _ x.live in
+    let hm = head-kept h x none in
+    let e2 = head-exchanged p heap (head-room hm) (head-wider p c (omega arith) (omega arith)) in
+    let e3 = exchange-next _ old mid new at 24 own arr [] arr [] (spread-refl arr) e1 e2 in
+    let was : AreHeadWords (bytes_of old.bytes) at (length ps) t =
+    record { link = s.words.link; len_word = s.words.len_word; capacity = s.words.capacity } in
+    let words = len-written 0 c.rest word (words-kept s.heap h x none was) in
+    texts-between [] [] ps [] [] (sym (append-nil ps)) refl refl (sym (append-nil arr)) s e3 s.table (omega arith)
+    words (no-links (bytes_of new.bytes) t.capacity t.extent) tt tt
+
+-- ---- no array
+
+no-bytes-stored : (m : Memory) (c : ℕ) (o : Option Extent) → IsStorage m (table c o) []
+no-bytes-stored m c None = refl
+no-bytes-stored m c (Some x) = refl
+
+pub stands-none : {b : List ℕ} {p : Place} {t : Table} → IsTexts b p [] t → Stands b p 16 0 t []
+stands-none {b} {t} s = record {
+  heap = s.heap;
+  words = record {
+    link = s.words.link;
+    len_word = s.words.len_word;
+    capacity = s.words.capacity;
+    storage = no-bytes-stored (bytes_of b) t.capacity t.extent;
+  };
+  aligned = s.aligned;
+  room = s.room;
+  table = s.table;
+  fits = omega arith;
+  long = omega arith;
+  own = s.own;
+}
+
+pub none-stands : {b : List ℕ} {p : Place} → Stands b p 16 0 no_table [] → IsTexts b p [] no_table
+none-stands s = record {
+  heap = s.heap;
+  words = record {
+    link = s.words.link;
+    len_word = s.words.len_word;
+    capacity = s.words.capacity;
+    array = refl;
+    texts = tt;
+  };
+  aligned = s.aligned;
+  room = s.room;
+  table = s.table;
+  fits = s.fits;
+  own = tt;
+  held = tt;
+  apart = tt;
+  others = tt;
+}
+
+pub given-up-all : {old mid new : Cut} {p : Place} {t : Table} {gone : List Extent}
+    → IsTextsNow old mid p gone (option_to_list t.extent) [] t → IsGivenBack mid new p 16 t
+    → IsTextsNow old new p gone [] [] no_table
+given-up-all {old} {mid} {new} {t} {gone} x g =
+    let arr = option_to_list t.extent in
+    let spread : SameSpread arr (arr ++ []) = subst (SameSpread arr) (sym (append-nil arr)) (spread-refl arr) in
+    record {
+      change = exchange-next _ old mid new _ 24 gone arr arr [] [] spread x.change g.change;
+      texts = none-stands
+          g.stands;
+    }
+
+-- ---- the word
+
+pub texts-len : {b : List ℕ} {p : Place} {ps : List OwnedText} (k : ℕ) {t : Table} → IsTexts b p ps t
+    → k ≡ word_at (bytes_of b) (p.handle + (p.at + 8)) → k ≡ length ps
+texts-len {b} k s e = e ∙ ap (word_at (bytes_of b)) (omega arith) ∙ s.words.len_word
+
+pub head-after : {old mid : Cut} {p : Place} {ps : List OwnedText} {t : Table} → IsTexts old.bytes p ps t
+    → IsSwapped old mid (text_blocks ps) [] → IsHead mid p
+head-after {old} {p} {ps} {t} s x =
+    let w = texts-own old s in
+    head-kept (own-head w) x (all-split (λ (z : Extent). p.handle ≢ handle z) (option_to_list t.extent)
+    (text_blocks ps) w.none).1
+
+-- ---- a text is left out: its block is given back, and the elements behind it move down
+
+-- ---- the list around one text
+
+pub around : (ps : List OwnedText) (i : ℕ) {q : OwnedText} → slice_get ps i ≡ Some q
+    → ps ≡ take i ps ++ (q ∷ drop (suc i) ps)
+around ps i e = sym (take-append-drop i ps) ∙ ap (λ (ys : List OwnedText). take i ps ++ ys) (drop-at ps i e)
+
+-- its block is not the array's, nor that of the head
+pub record IsApartFrom (p : Place) (x : Extent) (q : OwnedText) : Type 0 where
+  pub array : IsNone (handle x) (option_to_list q.extent)
+  pub head : IsNone p.handle (option_to_list q.extent)
+
+pub text-apart : {b : List ℕ} {p : Place} {ps : List OwnedText} {c : ℕ} (i : ℕ) {x : Extent} {q : OwnedText}
+    → IsTexts b p ps (table c (Some x)) → slice_get ps i ≡ Some q → IsApartFrom p x q
+text-apart {p} {ps} i {x} s e = record {
+  array = one-of (λ (y : Extent). handle x ≢ handle y) ps i s.others.0 e;
+  head = one-of (λ (y : Extent). p.handle ≢ handle y) ps i (none-of p.handle (text_blocks ps) s.apart) e;
+}
+
+-- the array holds as many elements as it has places for
+pub array-full : (c : ℕ) (x : Extent) → IsTrue (nat_lt 0 c) × IsTrue (serves x Storage (16 * c)) → 16 * c + 16 ≤ x.len
+array-full c x both = leb-true (16 * c + 16) x.len (and_parts (same_role x.role Storage) (holds x (16 * c)) both.1).1
+
+-- ---- the elements afterwards
+
+-- three steps: of the first and the last the array is kept, and in the second elements move from `a` to `b`
+pub elements-through : {m0 m1 m2 m3 : Memory} {x : Extent} (a b n : ℕ) → SameBlock m0 m1 x
+    → AreSameElements m1 m2 a b n → SameBlock m2 m3 x → handle x ≤ a → a + 16 * n ≤ end_of x → handle x ≤ b
+    → b + 16 * n ≤ end_of x
+    → AreSameElements m0 m3 a b n
+elements-through a b n k1 s k2 f1 f2 g1 g2 j h =
+    element-trans
+    (element-trans (element-in (a + 16 * j) k1 (omega (arith, f1)) (omega (arith, f2, h))) (s j h))
+    (element-in (b + 16 * j) k2 (omega (arith, g1)) (omega (arith, g2, h)))
+
+-- elements beside those that are written
+pub elements-beside : (m m' : Memory) {old new : Cut} {from k : ℕ} (a n : ℕ) → IsChanged current old new from k
+    → (a + 16 * n ≤ from) ⊎ (from + k ≤ a) → AreSameElements (bytes_of old.bytes) (bytes_of new.bytes) a a n
+elements-beside m m' a n c (inl f) j h = element-beside (a + 16 * j) c.rest (inl (omega (arith, f, h)))
+elements-beside m m' a n c (inr f) j h = element-beside (a + 16 * j) c.rest (inr (omega (arith, f)))
+
+erased-links : (m0 m3 : Memory) (g i : ℕ) (ps : List OwnedText) {q : OwnedText} → slice_get ps i ≡ Some q
+    → AreTextLinks m0 g ps → AreSameElements m0 m3 g g i
+    → AreSameElements m0 m3 (g + 16 * i + 16) (g + 16 * i) (length ps - i - 1) → AreTextLinks m3 g (remove ps i)
+erased-links m0 m3 g i ps {q} e l front back =
+    let below = slice_get_within ps i q e in
+    let fl : length (take i ps) ≡ i = omega (arith, length-take i ps, below) in
+    let bl : length (drop (suc i) ps) ≡ length ps - i - 1 = omega (arith, length-drop (suc i) ps, below) in
+    let parts = links-split m0 g (take i ps) (q ∷ drop (suc i) ps) (subst (AreTextLinks m0 g) (around ps i e) l) in
+    let behind : AreTextLinks m0 (g + 16 * i + 16) (drop (suc i) ps) =
+    subst (λ k. AreTextLinks m0 (g + 16 * k + 16) (drop (suc i) ps)) fl parts.1.2 in
+    let a = links-moved m0 m3 g g (take i ps) parts.0 (subst (AreSameElements m0 m3 g g) (sym fl) front) in
+    let b = links-moved m0 m3 (g + 16 * i + 16) (g + 16 * i) (drop (suc i) ps) behind
+    (subst (AreSameElements m0 m3 (g + 16 * i + 16) (g + 16 * i)) (sym bl) back) in
+    links-join m3 g (take i ps) (drop (suc i) ps) a (subst (λ k. AreTextLinks m3 (g + 16 * k) (drop (suc i) ps))
+    (sym fl) b)
+
+-- ---- the vector afterwards
+
+pub removed-length : (ps : List OwnedText) (i : ℕ) {q : OwnedText} → slice_get ps i ≡ Some q
+    → length (remove ps i) ≡ length ps - 1
+removed-length ps i {q} e = let below : i < length ps = slice_get_within ps i q e in omega
+    (arith, length-append (take i ps) (drop (suc i) ps), length-take i ps, length-drop (suc i) ps, below)
+
+pub erased : {s0 s1 s2 s3 : Cut} {p : Place} {ps : List OwnedText} {c g : ℕ} (i : ℕ) {o : Option Extent}
+    {q : OwnedText} → IsTexts s0.bytes p ps (table c o) → slice_get ps i ≡ Some q
+    → link_at (bytes_of s0.bytes) (place_at p) ≡ Some g
+    → IsSwapped s0 s1 (option_to_list q.extent) [] → IsChanged current s1 s2 (g + 16 * i) (16 * (length ps - i - 1))
+    → AreSameElements (bytes_of s1.bytes) (bytes_of s2.bytes) (g + 16 * i + 16) (g + 16 * i) (length ps - i - 1)
+    → IsChanged current s2 s3 (place_at p + 8) 8 → word_at (bytes_of s3.bytes) (place_at p + 8) ≡ length ps - 1
+    → IsTextsNow s0 s3 p (option_to_list o ++ option_to_list q.extent) (option_to_list o) (remove ps i) (table c o)
+erased i {o = None} s e link x1 c2 m2 c3 word = none-some s.words.link link
+erased {s0} {s1} {s2} {s3} {p} {ps} {c} i {o = Some x} {q} s e link x1 c2 m2 c3 word =
+    let t = table c (Some x) in
+    let at = place_at p in
+    let n : ℕ = length ps - i - 1 in
+    let eq = option_to_list q.extent in
+    let gone : List Extent = x ∷ eq in
+    let g_is = same-some (sym link ∙ s.words.link) in
+    let below = slice_get_within ps i q e in
+    let fits = s.fits in
+    let full = table-full 16 c x s.table in
+    let apart = text-apart i s e in
+    let one = append-nil eq in
+    let r0 : IsRun s0 s0 p gone gone (length ps) t =
+    subst (λ (xs : List Extent). IsRun s0 s0 p (x ∷ xs) (x ∷ xs) (length ps) t) one
+    (run-begin s0 (take i ps) (q ∷ []) (drop (suc i) ps) (around ps i e) s) in
+    let r1 = run-swapped (x ∷ []) (last-first (x ∷ []) eq) r0 x1 apart.head in
+    let found1 = (run-found r1).0 in
+    let c2' : IsChanged current s1 s2 (handle x + 16 * i) (16 * n) =
+    subst (λ k. IsChanged current s1 s2 (k + 16 * i) (16 * n)) g_is c2 in
+    let x2 = block-written (16 * c) r1.heap found1 c2' (omega arith) (omega (arith, below, fits)) full in
+    let other : p.handle ≢ handle x = λ f. s.own.1 (sym f) in
+    let r2 = run-swapped [] (spread-refl (x ∷ [])) r1 x2 (other, tt) in
+    let found2 = (run-found r2).0 in
+    let c3' = head-wider p c3 (omega arith) (omega arith) in
+    let r3 = run-headed r2 c3' (len-written (length ps - 1) c3.rest word r2.words) in
+    let k1 = kept s0 s1 (handle x) x eq [] _ s.heap x1 s.own.0 apart.array in
+    let k3 = beside-head (handle x) r2.heap r2.head c3' found2 other in
+    let front : AreSameElements (bytes_of s0.bytes) (bytes_of s3.bytes) (handle x) (handle x) i =
+    elements-through (handle x) (handle x) i k1
+    (elements-beside (bytes_of s1.bytes) (bytes_of s2.bytes) (handle x) i c2' (inl (omega arith))) k3 (omega arith)
+    (omega (arith, full, fits, below)) (omega arith) (omega (arith, full, fits, below)) in
+    let moved : AreSameElements (bytes_of s1.bytes) (bytes_of s2.bytes) (handle x + 16 * i + 16) (handle x + 16 * i)
+    n = subst (λ k. AreSameElements (bytes_of s1.bytes) (bytes_of s2.bytes) (k + 16 * i + 16) (k + 16 * i) n) g_is
+    m2 in
+    let back : AreSameElements (bytes_of s0.bytes) (bytes_of s3.bytes) (handle x + 16 * i + 16) (handle x + 16 * i) n =
+    elements-through (handle x + 16 * i + 16) (handle x + 16 * i) n k1 moved k3
+    (omega arith) (omega (arith, full, fits, below)) (omega arith) (omega (arith, full, fits, below)) in
+    let links = erased-links (bytes_of s0.bytes) (bytes_of s3.bytes) (handle x) i ps e s.words.array front back in
+    let len = removed-length ps i e in
+    texts-between (remove ps i) (take i ps) (q ∷ []) [] (drop (suc i) ps) {u = t} (around ps i e) refl
+    (ap (λ (xs : List Extent). x ∷ xs) (sym one)) refl s r3.change s.table (omega (arith, len, fits))
+    (subst (λ k. AreHeadWords (bytes_of s3.bytes) at k t) (sym len) r3.words) links tt tt
+
+-- ---- once the block of the text is released
+
+pub record IsLeft (s0 s1 : Cut) (p : Place) (ps : List OwnedText) (g i : ℕ) (q : OwnedText) : Type 0 where
+  pub found : slice_get ps i ≡ Some q
+  pub element : IsHeldElement s0.bytes g (16 * i) q
+  pub after : IsSwapped s0 s1 (option_to_list q.extent) [] → IsArrayLeft s1 g (length ps) × IsHead s1 p
+
+pub left : (s0 s1 : Cut) {p : Place} {ps : List OwnedText} {c g : ℕ} (i : ℕ) {o : Option Extent} {q : OwnedText}
+    → IsTexts s0.bytes p ps (table c o) → slice_get ps i ≡ Some q → link_at (bytes_of s0.bytes) (place_at p) ≡ Some g
+    → IsLeft s0 s1 p ps g i q
+left s0 s1 i {o = None} s e link = none-some s.words.link link
+left s0 s1 {p} {ps} {g} i {o = Some x} {q} s e link =
+    let g_is = same-some (sym s.words.link ∙ link) in
+    let apart = text-apart i s e in
+    let held = held-elements (length ps) s link refl in
+    record {
+      found = e;
+      element = held-element s0 i held e;
+      after = λ y. (
+        array-left held y (subst (λ k. IsNone k (option_to_list q.extent)) g_is apart.array),
+        head-kept
+            (room-head s0 p s.heap s.room) y apart.head,
+      );
+    }
+
+-- as the calls say it
+pub erased-by : {s0 s1 s2 s3 : Cut} {p : Place} {ps : List OwnedText} {g : ℕ} (i n : ℕ) {t : Table} {q : OwnedText}
+    → IsTexts s0.bytes p ps t → slice_get ps i ≡ Some q → link_at (bytes_of s0.bytes) (place_at p) ≡ Some g
+    → n ≡ length ps
+    → IsSwapped s0 s1 (option_to_list q.extent) [] → IsChanged current s1 s2 (g + 16 * i) (16 * (n - i - 1))
+    → AreSameElements (bytes_of s1.bytes) (bytes_of s2.bytes) (g + (16 * i + 16)) (g + 16 * i) (n - i - 1)
+    → IsChanged current s2 s3 (p.handle + (p.at + 8)) 8 → word_at (bytes_of s3.bytes) (p.handle + (p.at + 8)) ≡ n - 1
+    → IsTextsNow s0 s3 p (option_to_list t.extent ++ option_to_list q.extent) (option_to_list t.extent) (remove ps i) t
+erased-by {s1} {s2} {s3} {p} {ps} {g} i n s e link is x1 c2 m2 c3 word =
+    let up : g + (16 * i + 16) ≡ g + 16 * i + 16 = omega arith in
+    let at : p.handle + (p.at + 8) ≡ p.handle + p.at + 8 = omega arith in
+    erased {s2 = s2} {s3 = s3} i s e link x1 (subst (λ k. IsChanged current s1 s2 (g + 16 * i) (16 * (k - i - 1))) is
+    c2) (subst (λ k. AreSameElements (bytes_of s1.bytes) (bytes_of s2.bytes) k (g + 16 * i) (length ps - i - 1)) up
+    (subst (λ k. AreSameElements (bytes_of s1.bytes) (bytes_of s2.bytes) (g + (16 * i + 16)) (g + 16 * i)
+    (k - i - 1)) is m2)) (subst (λ k. IsChanged current s2 s3 k 8) at c3)
+    (subst (λ k. word_at (bytes_of s3.bytes) k ≡ length ps - 1) at (word ∙ ap (λ k. k - 1) is))
+
+-- ---- the array of a vector of texts is cut where it stands
+
+-- ---- the array as bytes
+
+abbrev pub raw : Memory → ℕ → Option Extent → List ℕ
+raw m n None = []
+raw m n (Some x) = read m (handle x) (16 * n)
+
+raw-storage : (m : Memory) (n c : ℕ) (o : Option Extent) → IsStorage m (table c o) (raw m n o)
+raw-storage m n c None = refl
+raw-storage m n c (Some x) = ap (read m (handle x)) (length-read m (handle x) (16 * n))
+
+raw-long : (m : Memory) (c : ℕ) (o : Option Extent) (ps : List OwnedText) → AreInArray m (table c o) ps
+    → length (raw m (length ps) o) ≡ 16 * length ps
+raw-long m c None ps a = let none : length ps ≡ 0 = ap length a in omega (arith, none)
+raw-long m c (Some x) ps a = length-read m (handle x) (16 * length ps)
+
+pub texts-stand : {b : List ℕ} {p : Place} {ps : List OwnedText} {t : Table} → IsTexts b p ps t
+    → Stands b p 16 (length ps) t (raw (bytes_of b) (length ps) t.extent)
+texts-stand {b} {ps} {t} s = record {
+  heap = s.heap;
+  words = record {
+    link = s.words.link;
+    len_word = s.words.len_word;
+    capacity = s.words.capacity;
+    storage = raw-storage
+        (bytes_of b) (length ps) t.capacity t.extent;
+  };
+  aligned = s.aligned;
+  room = s.room;
+  table = s.table;
+  fits = s.fits;
+  long = raw-long (bytes_of b) t.capacity t.extent ps s.words.array;
+  own = s.own;
+}
+
+-- ---- the same bytes are the same elements
+
+read-at : (m m' : Memory) (at n j : ℕ) → read m' at n ≡ read m at n → j < n → m' (at + j) ≡ m (at + j)
+read-at m m' at zero j e f = absurd (omega arith)
+read-at m m' at (suc n) zero e f =
+    let here : at ≡ at + 0 = omega arith in
+    let first : m' at ≡ m at = cc in
+    subst (λ k. m' k ≡ m k) here first
+read-at m m' at (suc n) (suc j) e f =
+    let there : at + 1 + j ≡ at + suc j = omega arith in
+    let rest : read m' (at + 1) n ≡ read m (at + 1) n = cc in
+    subst (λ k. m' k ≡ m k) there (read-at m m' (at + 1) n j rest (omega arith))
+
+read-spread : (m m' : Memory) (at n : ℕ) → read m' at n ≡ read m at n → Same m m' at (at + n)
+read-spread m m' at n e = record {
+  at = λ k f g. let is : at + (k - at) ≡ k = omega arith in subst (λ w. m' w ≡ m w) is
+      (read-at m m' at n (k - at) e (omega arith));
+}
+
+pub same-elements : {m m' : Memory} {at : ℕ} (n : ℕ) → Same m m' at (at + 16 * n) → AreSameElements m m' at at n
+same-elements {m} {m'} {at} n s j f = record {
+  link = ap (target_of (at + 16 * j)) (word-same m m' at _ (at + 16 * j) s (omega arith) (omega arith));
+  len_word = word-same m m' at _ (at + 16 * j + 8) s (omega arith) (omega arith);
+}
+
+-- ---- the vector afterwards
+
+cut-links : (l : LiveSet) (m m' : Memory) (ps : List OwnedText) (c : ℕ) (o : Option Extent)
+    → AreInArray m (table c o) ps → IsStorage m' (cut_table l 16 (length ps) (table c o)) (raw m (length ps) o)
+    → AreInArray m' (cut_table l 16 (length ps) (table c o)) ps
+cut-links l m m' [] c o a h = let u : Table = cut_table l 16 0 (table c o) in no-links m' u.capacity u.extent
+cut-links l m m' (q ∷ qs) c None a h = absurd (cc)
+cut-links l m m' (q ∷ qs) c (Some x) a h =
+    let n = length (q ∷ qs) in
+    let y = shorter l x (16 * n) in
+    let cut = cut-some l 16 n c x (omega arith) in
+    let begins : handle y ≡ handle x = ap (λ (z : Extent). handle z) (shorter-IsShorter l x (16 * n)).same in
+    let has : Has m' (handle y) (read m (handle x) (16 * n)) =
+    subst (λ (u : Table). IsStorage m' u (read m (handle x) (16 * n))) cut h in
+    let is : read m' (handle x) (16 * n) ≡ read m (handle x) (16 * n) =
+    ap (read m' (handle x)) (sym (length-read m (handle x) (16 * n)))
+    ∙ subst (λ k. Has m' k (read m (handle x) (16 * n))) begins has in
+    let links = links-moved m m' (handle x) (handle x) (q ∷ qs) a
+    (same-elements n (read-spread m m' (handle x) (16 * n) is)) in
+    subst (λ (u : Table). AreInArray m' u (q ∷ qs)) (sym cut)
+    (subst (λ k. AreInArray m' (table n (Some (record y { offset = k }))) (q ∷ qs))
+    (sym (ap (λ (z : Extent). z.offset) (shorter-IsShorter l x (16 * n)).same)) links)
+
+pub shrunk : {old new : Cut} {p : Place} {ps : List OwnedText} {t : Table} → IsTexts old.bytes p ps t
+    → IsFitted old new p 16 (length ps) t (raw (bytes_of old.bytes) (length ps) t.extent)
+    → IsTextsNow old new p (option_to_list t.extent)
+    (option_to_list (cut_table (live_of old.bytes) 16 (length ps) t).extent) ps
+    (cut_table (live_of old.bytes) 16 (length ps) t)
+shrunk {old} {new} {ps} {t} s f =
+    let u = cut_table (live_of old.bytes) 16 (length ps) t in
+    let arr = option_to_list t.extent in
+    let arr' = option_to_list u.extent in
+    let w = f.stands in
+    texts-between ps [] [] [] ps {u = u} refl refl (sym (append-nil arr)) (sym (append-nil arr')) s f.change w.table
+    w.fits
+    (record { link = w.words.link; len_word = w.words.len_word; capacity = w.words.capacity })
+    (cut-links (live_of old.bytes) (bytes_of old.bytes) (bytes_of new.bytes) ps t.capacity t.extent s.words.array
+    w.words.storage) tt tt
+
+-- ---- a text in a block of its own, beside all that there was
+
+-- ---- what is asked for
+
+empty-placed : (l : LiveSet) (bytes : List ℕ) → length bytes ≡ 0
+    → placed_text l bytes ≡ Some (record { bytes = bytes; extent = None })
+empty-placed l bytes e =
+    ap (λ b. if b then Some (let q : OwnedText = record { bytes = bytes; extent = None } in q) else option_map
+    (λ (x : Extent). let q : OwnedText = record { bytes = bytes; extent = Some x } in q)
+    (place l (length bytes) Storage)) (eq-eqb (length bytes) 0 e)
+
+some-placed : (l : LiveSet) (bytes : List ℕ) → 0 < length bytes
+    → placed_text l bytes ≡ option_map
+    (λ (x : Extent). let q : OwnedText = record { bytes = bytes; extent = Some x } in q)
+    (place l (length bytes) Storage)
+some-placed l bytes f =
+    ap (λ b. if b then Some (let q : OwnedText = record { bytes = bytes; extent = None } in q) else option_map
+    (λ (x : Extent). let q : OwnedText = record { bytes = bytes; extent = Some x } in q)
+    (place l (length bytes) Storage)) (ne_eqb (length bytes) 0 (λ e. omega (arith, e, f)))
+
+no-byte : (bytes : List ℕ) → length bytes ≡ 0 → bytes ≡ []
+no-byte [] e = refl
+no-byte (b ∷ bs) e = absurd (omega (arith, e))
+
+pub placed-empty : (c : Cut) (bytes : List ℕ) → IsHeap current c.bytes → length bytes ≡ 0 → IsTextPlaced c c bytes None
+placed-empty c bytes heap e = record {
+  text = record { bytes = bytes; extent = None };
+  placed = empty-placed (live_of c.bytes) bytes e;
+  same = refl;
+  at = refl;
+  change = swapped-none c heap;
+  owned = no-byte bytes e;
+  served = no-byte bytes e;
+}
+
+pub placed-some : {old mid new : Cut} (bytes : List ℕ) {h : ℕ} → 0 < length bytes
+    → (a : IsAllocated current old mid (length bytes) Storage h) → IsChanged current mid new (h + 0) (length bytes)
+    → Has (bytes_of new.bytes) (h + 0) bytes
+    → IsTextPlaced old new bytes (Some h)
+placed-some {old} {mid} {new} bytes {h} f a c has =
+    let zero_at : h + 0 ≡ h = omega arith in
+    let b = still_allocated _ old mid new _ _ h 0 _ a c
+    (allocated-room _ old mid _ _ h (0 + length bytes) a (omega arith)) in
+    let x = b.extent in
+    let at = b.at in
+    record {
+      text = record { bytes = bytes; extent = Some x };
+      placed = some-placed (live_of old.bytes) bytes f
+          ∙ ap (option_map (λ (x : Extent). let q : OwnedText = record { bytes = bytes; extent = Some x } in q))
+          b.placed;
+      same = refl;
+      at = ap (λ k. Some k) at;
+      change = exchange-taken _ old new _ _ h 0 0 b;
+      owned = subst (λ k. Has (bytes_of new.bytes) k bytes) (zero_at ∙ at) has;
+      served = (f, place-serves (live_of old.bytes) (length bytes) Storage x b.placed);
+    }
+
+-- ---- the vector beside it
+
+still-head : {a b : Cut} (bytes : List ℕ) (o : Option Extent) {come : List Extent} → IsHeap current a.bytes
+    → IsSwapped a b [] come → IsOwnedText (bytes_of a.bytes) (record { bytes = bytes; extent = o })
+    → IsHeldText (live_of a.bytes) (record { bytes = bytes; extent = o })
+    → IsOwnedText (bytes_of b.bytes) (record { bytes = bytes; extent = o }) × IsHeldText (live_of b.bytes)
+    (record { bytes = bytes; extent = o })
+still-head bytes None heap x w h = (w, h)
+still-head {a} {b} bytes (Some y) {come} heap x w h =
+    let s = kept a b (handle y) y [] come _ heap x h.0 tt in
+    let full = serves-full y (length bytes) h.2 in (
+      Has-same _ _ _ _ (handle y) bytes s.payload (omega arith) (omega (arith, full)) w,
+      (kept-found a b 0 0 (handle y) y [] come _ x h.0 tt, h.1, h.2),
+    )
+
+still-texts : {a b : Cut} (qs : List OwnedText) {come : List Extent} → IsHeap current a.bytes → IsSwapped a b [] come
+    → AllByRecursion (IsOwnedText (bytes_of a.bytes)) qs → AllByRecursion (IsHeldText (live_of a.bytes)) qs
+    → AllByRecursion (IsOwnedText (bytes_of b.bytes)) qs × AllByRecursion (IsHeldText (live_of b.bytes)) qs
+still-texts [] heap x w h = (tt, tt)
+still-texts (q ∷ qs) heap x w h =
+    let one = still-head q.bytes q.extent heap x w.0 h.0 in
+    let more = still-texts qs heap x w.1 h.1 in
+    ((one.0, more.0), (one.1, more.1))
+
+-- an array has room for its places
+abbrev IfFull : ℕ → Option Extent → Type 0
+IfFull c None = ⊤
+IfFull c (Some x) = 16 * c + 16 ≤ x.len
+
+full-table : (c : ℕ) (o : Option Extent) → IsTrue (is_table Storage 16 (table c o)) → IfFull c o
+full-table c None t = tt
+full-table c (Some x) t = table-full 16 c x t
+
+still-array : {a b : Cut} (h c : ℕ) (o : Option Extent) (ps : List OwnedText) {come : List Extent}
+    → IsHeap current a.bytes → IsSwapped a b [] come → IsOwnBlock (live_of a.bytes) h o → IfFull c o → length ps ≤ c
+    → AreInArray (bytes_of a.bytes) (table c o) ps → AreInArray (bytes_of b.bytes) (table c o) ps × IsOwnBlock
+    (live_of b.bytes) h o
+still-array h c None ps heap x own full fits l = (l, tt)
+still-array {a} {b} h c (Some y) ps {come} heap x own full fits l =
+    let s = kept a b (handle y) y [] come _ heap x own.0 tt in
+    let same : AreSameElements (bytes_of a.bytes) (bytes_of b.bytes) (handle y) (handle y) (length ps) =
+    λ j f. element-in (handle y + 16 * j) s (omega arith) (omega (arith, f, fits, full)) in (
+      links-moved (bytes_of a.bytes) (bytes_of b.bytes) (handle y) (handle y) ps l same,
+      (kept-found a b 0 0 (handle y) y [] come _ x own.0 tt, own.1),
+    )
+
+pub texts-still : {a b : Cut} {p : Place} {ps : List OwnedText} {t : Table} {come : List Extent}
+    → IsTexts a.bytes p ps t → IsSwapped a b [] come → IsTexts b.bytes p ps t
+texts-still {a} {b} {p} {ps} {t} s x =
+    let w = room-head a p s.heap s.room in
+    let words = words-kept {n = (length ps)} {t = t} s.heap w x tt
+    (record { link = s.words.link; len_word = s.words.len_word; capacity = s.words.capacity }) in
+    let arr = still-array p.handle t.capacity t.extent ps s.heap x s.own (full-table t.capacity t.extent s.table)
+    s.fits s.words.array in
+    let more = still-texts ps s.heap x s.words.texts s.held in
+    record {
+      heap = laid-heap _ _ x.live;
+      words = record {
+        link = words.link;
+        len_word = words.len_word;
+        capacity = words.capacity;
+        array = arr.0;
+        texts = more.0;
+      };
+      aligned = s.aligned;
+      room = head-room (head-kept w x tt);
+      table = s.table;
+      fits = s.fits;
+      own = arr.1;
+      held = more.1;
+      apart = s.apart;
+      others = s.others;
+    }
+
+-- the block of a text begins at a multiple of 16
+pub come-even : {a b : Cut} (o : Option Extent) → IsSwapped a b [] (option_to_list o)
+    → IfSome (option_map handle o) (λ target. target % 16 ≡ 0)
+come-even {a} {b} o x =
+    let come = option_to_list o in
+    let l = live_of a.bytes in
+    let is : (live_of b.bytes).extents ≡ inserted come l.extents = ap (λ (k : LiveSet). k.extents)
+    (exchanged-live a b 0 0 [] come _ x) in
+    let heap = laid-heap _ _ x.live in
+    even-block (live_of b.bytes) o heap.proper (subst (λ (zs : List Extent). AllByRecursion (IsFound zs) come) (sym is)
+    (all-found-in come l.extents (live-rises (exchanged l [] come) x.live.proper)))
+
+-- ---- a text in the place of another one: its block was taken into use before the other is given back
+
+pub set-around : (ps : List OwnedText) (i : ℕ) (z : OwnedText) → i < length ps
+    → slice_set ps i z ≡ take i ps ++ (z ∷ drop (suc i) ps)
+set-around [] i z f = absurd (omega arith)
+set-around (x ∷ xs) zero z f = refl
+set-around (x ∷ xs) (suc i) z f = ap (λ (ys : List OwnedText). x ∷ ys) (set-around xs i z (omega arith))
+
+-- no two of the blocks that came are one
+pub run-others : {old now : Cut} {p : Place} {gone come : List Extent} {n : ℕ} {t : Table}
+    → IsRun old now p gone come n t → AreOthers come
+run-others {old} {gone} {come} r = rising-others come (without_all gone (live_of old.bytes).extents)
+    (live-rises (exchanged (live_of old.bytes) gone come) r.change.live.proper)
+
+-- ---- the text that was placed
+
+pub loose-kept : {a b : Cut} (bytes : List ℕ) (o : Option Extent) {gone come : List Extent} → IsHeap current a.bytes
+    → IsSwapped a b gone come → AllByRecursion (IsFound (live_of a.bytes).extents) (option_to_list o)
+    → AllByRecursion (λ (y : Extent). AllByRecursion (λ (z : Extent). handle y ≢ handle z) gone) (option_to_list o)
+    → IsServed (record { bytes = bytes; extent = o })
+    → IsOwnedText (bytes_of a.bytes) (record { bytes = bytes; extent = o })
+    → IsOwnedText (bytes_of b.bytes) (record { bytes = bytes; extent = o }) × AllByRecursion
+    (IsFound (live_of b.bytes).extents) (option_to_list o)
+loose-kept bytes None heap x f n s w = (w, tt)
+loose-kept {a} {b} bytes (Some y) {gone} {come} heap x f n s w =
+    let k = kept a b (handle y) y gone come _ heap x f.0 n.0 in
+    let full = serves-full y (length bytes) s.1 in (
+      Has-same _ _ _ _ (handle y) bytes k.payload (omega arith) (omega (arith, full)) w,
+      (kept-found a b 0 0 (handle y) y gone come _ x f.0 n.0, tt),
+    )
+
+-- its block is none of those behind it
+pub others-front : (o : Option Extent) (xs : List Extent) → AreOthers (option_to_list o ++ xs)
+    → AllByRecursion (λ (y : Extent). AllByRecursion (λ (z : Extent). handle y ≢ handle z) xs) (option_to_list o)
+others-front None xs d = tt
+others-front (Some y) xs d = (d.0, tt)
+
+-- ---- the elements
+
+set-links : (m0 m3 : Memory) (g i : ℕ) (ps : List OwnedText) {q : OwnedText} (z : OwnedText) → slice_get ps i ≡ Some q
+    → AreTextLinks m0 g ps → AreSameElements m0 m3 g g i
+    → AreSameElements m0 m3 (g + 16 * i + 16) (g + 16 * i + 16) (length ps - i - 1)
+    → link_at m3 (g + 16 * i) ≡ option_map handle z.extent → word_at m3 (g + 16 * i + 8) ≡ length z.bytes
+    → AreTextLinks m3 g (take i ps ++ (z ∷ drop (suc i) ps))
+set-links m0 m3 g i ps {q} z e l front back link len =
+    let below = slice_get_within ps i q e in
+    let fl : length (take i ps) ≡ i = omega (arith, length-take i ps, below) in
+    let bl : length (drop (suc i) ps) ≡ length ps - i - 1 = omega (arith, length-drop (suc i) ps, below) in
+    let parts = links-split m0 g (take i ps) (q ∷ drop (suc i) ps) (subst (AreTextLinks m0 g) (around ps i e) l) in
+    let behind : AreTextLinks m0 (g + 16 * i + 16) (drop (suc i) ps) =
+    subst (λ k. AreTextLinks m0 (g + 16 * k + 16) (drop (suc i) ps)) fl parts.1.2 in
+    let a = links-moved m0 m3 g g (take i ps) parts.0 (subst (AreSameElements m0 m3 g g) (sym fl) front) in
+    let b = links-moved m0 m3 (g + 16 * i + 16) (g + 16 * i + 16) (drop (suc i) ps) behind
+    (subst (AreSameElements m0 m3 (g + 16 * i + 16) (g + 16 * i + 16)) (sym bl) back) in
+    links-join m3 g (take i ps) (z ∷ drop (suc i) ps) a
+    (subst (λ k. AreTextLinks m3 (g + 16 * k) (z ∷ drop (suc i) ps)) (sym fl) (link, len, b))
+
+-- ---- the vector afterwards
+
+set_in : {s0 s1 s3 : Cut} {p : Place} {ps : List OwnedText} {c i len : ℕ} {x : Extent} {q : OwnedText} {bytes : List ℕ}
+    {block : Option ℕ} → IsTexts s0.bytes p ps (table c (Some x)) → slice_get ps i ≡ Some q
+    → (pl : IsTextPlaced s0 s1 bytes block) → (rep : IsTextReplaced s1 s3 p (table c (Some x)) i q block len)
+    → len ≡ length bytes → rep.array ≡ x
+    → IsTextsNow s0 s3 p (x ∷ option_to_list q.extent) (x ∷ option_to_list pl.text.extent) (slice_set ps i pl.text)
+    (table c (Some x))
+set_in {s0} {s1} {s3} {p} {ps} {c} {i} {len} {x} {q} {block} s e pl rep len_is array_is =
+    let t = table c (Some x) in
+    let z = pl.text in
+    let n = length ps in
+    let mid = rep.mid in
+    let eb = option_to_list q.extent in
+    let ez = option_to_list z.extent in
+    let gone : List Extent = x ∷ eb in
+    let below = slice_get_within ps i q e in
+    let fits = s.fits in
+    let full = table-full 16 c x s.table in
+    let apart = text-apart i s e in
+    let other : p.handle ≢ handle x = λ f. s.own.1 (sym f) in
+    let one = append-nil eb in
+    let r0 : IsRun s0 s0 p gone gone n t = subst (λ (xs : List Extent). IsRun s0 s0 p (x ∷ xs) (x ∷ xs) n t) one
+    (run-begin s0 (take i ps) (q ∷ []) (drop (suc i) ps) (around ps i e) s) in
+    let r1 = run-swapped gone (spread-refl gone) r0 pl.change tt in
+    let spread : SameSpread (ez ++ gone) (eb ++ (ez ++ (x ∷ []))) =
+    subst (λ (xs : List Extent). SameSpread xs (eb ++ (ez ++ (x ∷ [])))) (append_assoc ez (x ∷ []) eb)
+    (last-first (ez ++ (x ∷ [])) eb) in
+    let r2 = run-swapped (ez ++ (x ∷ [])) spread r1 rep.released apart.head in
+    let found1 = (all-split (IsFound (live_of s1.bytes).extents) ez gone (run-found r1)) in
+    let found2 = (all-split (IsFound (live_of mid.bytes).extents) ez (x ∷ []) (run-found r2)) in
+    let c3 : IsChanged current mid s3 (handle x + 16 * i) 16 =
+    subst (λ (y : Extent). IsChanged current mid s3 (handle y + 16 * i) 16) array_is rep.written in
+    let w3 = block-written (16 * c) r2.heap found2.1.0 c3 (omega arith) (omega (arith, below, fits)) full in
+    let r3 = run-swapped ez (last-first ez (x ∷ [])) r2 w3 (other, tt) in
+    let k1 = kept s0 s1 (handle x) x [] ez _ s.heap pl.change s.own.0 tt in
+    let k2 = kept s1 mid (handle x) x eb [] _ r1.heap rep.released found1.1.0 apart.array in
+    let k = SameBlock-trans _ _ _ x k1 k2 in
+    let front : AreSameElements (bytes_of s0.bytes) (bytes_of s3.bytes) (handle x) (handle x) i = λ j f.
+    element-trans
+    (element-in (handle x + 16 * j) k (omega arith) (omega (arith, f, below, fits, full)))
+    (element-beside (handle x + 16 * j) c3.rest (inl (omega (arith, f)))) in
+    let back : AreSameElements (bytes_of s0.bytes) (bytes_of s3.bytes) (handle x + 16 * i + 16)
+    (handle x + 16 * i + 16) (n - i - 1) = λ j f.
+    element-trans
+    (element-in (handle x + 16 * i + 16 + 16 * j) k (omega arith) (omega (arith, f, below, fits, full)))
+    (element-beside (handle x + 16 * i + 16 + 16 * j) c3.rest (inr (omega arith))) in
+    let link : link_at (bytes_of s3.bytes) (handle x + 16 * i) ≡ option_map handle z.extent =
+    subst (λ (y : Extent). link_at (bytes_of s3.bytes) (handle y + 16 * i) ≡ block) array_is rep.link ∙ pl.at in
+    let word : word_at (bytes_of s3.bytes) (handle x + 16 * i + 8) ≡ length z.bytes =
+    subst (λ (y : Extent). word_at (bytes_of s3.bytes) (handle y + 16 * i + 8) ≡ len) array_is rep.len_word
+    ∙ len_is ∙ ap (λ (bs : List ℕ). length bs) (sym pl.same) in
+    let qs_is = set-around ps i z below in
+    let links = set-links (bytes_of s0.bytes) (bytes_of s3.bytes) (handle x) i ps z e s.words.array front back link
+    word in
+    let len_qs : length (take i ps ++ (z ∷ drop (suc i) ps)) ≡ n =
+    omega (
+      arith,
+      length-append (take i ps) (z ∷ drop (suc i) ps),
+      length-take i ps,
+      length-drop (suc i) ps,
+      below,
+    ) in
+    let len_set : length (slice_set ps i z) ≡ n = ap (λ (xs : List OwnedText). length xs) qs_is ∙ len_qs in
+    let apart1 = others-front z.extent gone (run-others r1) in
+    let t2 = loose-kept z.bytes z.extent r1.heap rep.released found1.0 (only-back z.extent x eb apart1) pl.served
+    pl.owned in
+    let t3 = loose-kept z.bytes z.extent r2.heap w3 found2.0 (only-front z.extent x eb apart1) pl.served t2.0 in
+    texts-between (slice_set ps i z) (take i ps) (q ∷ []) (z ∷ []) (drop (suc i) ps) {u = t} (around ps i e) qs_is
+    (ap (λ (xs : List Extent). x ∷ xs) (sym one))
+    (ap (λ (xs : List Extent). x ∷ xs) (sym (append-nil ez))) s r3.change s.table (omega (arith, len_set, fits))
+    (subst (λ w. AreHeadWords (bytes_of s3.bytes) (place_at p) w t) (sym len_set) r3.words)
+    (subst (AreTextLinks (bytes_of s3.bytes) (handle x)) (sym qs_is) links) (t3.0, tt) (pl.served, tt)
+  where
+    only-back : (o : Option Extent) (x : Extent) (xs : List Extent)
+        → AllByRecursion (λ (y : Extent). AllByRecursion (λ (z : Extent). handle y ≢ handle z) (x ∷ xs))
+        (option_to_list o)
+        → AllByRecursion (λ (y : Extent). AllByRecursion (λ (z : Extent). handle y ≢ handle z) xs) (option_to_list o)
+    only-back None x xs d = tt
+    only-back (Some y) x xs d = (d.0.1, tt)
+
+    only-front : (o : Option Extent) (x : Extent) (xs : List Extent)
+        → AllByRecursion (λ (y : Extent). AllByRecursion (λ (z : Extent). handle y ≢ handle z) (x ∷ xs))
+        (option_to_list o)
+        → AllByRecursion (λ (y : Extent). AllByRecursion (λ (z : Extent). handle y ≢ handle z) (x ∷ []))
+        (option_to_list o)
+    only-front None x xs d = tt
+    only-front (Some y) x xs d = ((d.0.0, tt), tt)
+
+set_by : {s0 s1 s3 : Cut} {p : Place} {ps : List OwnedText} {c i len : ℕ} {o : Option Extent} {q : OwnedText}
+    {bytes : List ℕ} {block : Option ℕ} → IsTexts s0.bytes p ps (table c o) → slice_get ps i ≡ Some q
+    → (pl : IsTextPlaced s0 s1 bytes block) → (rep : IsTextReplaced s1 s3 p (table c o) i q block len)
+    → len ≡ length bytes
+    → IsTextsNow s0 s3 p (option_to_list o ++ option_to_list q.extent)
+    (option_to_list o ++ option_to_list pl.text.extent) (slice_set ps i pl.text) (table c o)
+set_by {o = None} s e pl rep len_is = let no : None ≡ Some rep.array = rep.extent in absurd (cc)
+set_by {o = Some x} s e pl rep len_is = let is : Some x ≡ Some rep.array = rep.extent in let same : rep.array ≡ x =
+    cc in set_in s e pl rep len_is same
+
+pub text-set : {s0 s1 s3 : Cut} {p : Place} {ps : List OwnedText} {t : Table} {i len : ℕ} {q : OwnedText}
+    {bytes : List ℕ} {block : Option ℕ} → IsTexts s0.bytes p ps t → slice_get ps i ≡ Some q
+    → (pl : IsTextPlaced s0 s1 bytes block) → (rep : IsTextReplaced s1 s3 p t i q block len) → len ≡ length bytes
+    → IsTextsNow s0 s3 p (option_to_list t.extent ++ option_to_list q.extent)
+    (option_to_list t.extent ++ option_to_list pl.text.extent) (slice_set ps i pl.text) t
+text-set s e pl rep len_is = set_by s e pl rep len_is
+
+-- ---- the element is written once the old text is released
+
+pub text-replaced : {s1 mid s3 : Cut} {p : Place} {ps : List OwnedText} {c g : ℕ} (i len : ℕ) {o : Option Extent}
+    (q : OwnedText) (block : Option ℕ) → IsTexts s1.bytes p ps (table c o)
+    → link_at (bytes_of s1.bytes) (place_at p) ≡ Some g
+    → IsSwapped s1 mid (option_to_list q.extent) [] → IsChanged current mid s3 (g + 16 * i) 16
+    → link_at (bytes_of s3.bytes) (g + 16 * i) ≡ block → word_at (bytes_of s3.bytes) (g + 16 * i + 8) ≡ len
+    → IsTextReplaced s1 s3 p (table c o) i q block len
+text-replaced i len {o = None} q block s link x c3 l w = none-some s.words.link link
+text-replaced {mid} {s3} i len {o = Some x} q block s link y c3 l w =
+    let g_is = same-some (sym link ∙ s.words.link) in
+    record {
+      mid = mid;
+      array = x;
+      extent = refl;
+      released = y;
+      written = subst (λ k. IsChanged current mid s3 (k + 16 * i) 16) g_is c3;
+      link = subst (λ k. link_at (bytes_of s3.bytes) (k + 16 * i) ≡ block) g_is l;
+      len_word = subst (λ k. word_at (bytes_of s3.bytes) (k + 16 * i + 8) ≡ len) g_is w;
+    }

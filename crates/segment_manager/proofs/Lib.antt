@@ -58,7 +58,6 @@ mod MapBlocks
 mod MapSteps
 mod MapCalls
 mod MapAnswers
-mod MapExamples
 mod MapWalks
 mod PairWalks
 mod MapLists

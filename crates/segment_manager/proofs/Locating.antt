@@ -11,6 +11,8 @@ use Rattle.seg_types.specs.Names.{Key, ByHandle}
 use Rattle.seg_types.specs.Commands as asked
 use Rattle.seg_types.specs.Commands.{Command, is_changing}
 use Rattle.segment_manager.specs.declared.head.Head.{Head}
+use Rattle.segment_manager.specs.declared.storages.Change.{Change}
+use Rattle.segment_manager.specs.declared.storages.Change.TheVariants.{Clear, Reserve, Shrink}
 use Rattle.segment_manager.specs.declared.targets.Object.{Object as Located}
 use Rattle.segment_manager.specs.Answers.{Answer}
 use Rattle.segment_manager.specs.Calls.{kind_at}
@@ -24,6 +26,7 @@ use Rattle.segment_manager.specs.Plan.{Plan, Refuse, perform, with}
 use Rattle.segment_manager.specs.Standing.{IsHeadOf, StandsAt}
 use Rattle.segment_manager.specs.State.{Answers, IsReplyOfKind, IsStep, IsStepOfKind, Moves, State, StandsFor}
 use Rattle.segment_manager.specs.Step.{effect, is_read_only, step, step_of_kind}
+use Rattle.segment_manager.specs.Stored.{HasEnough, command_of}
 use Rattle.segment_manager.proofs.AnyStorage.{measures-kind, of_kind-steps}
 use Rattle.segment_manager.proofs.Bridge.{by-handle}
 use Rattle.segment_manager.proofs.Here.{IsHere, here}
@@ -164,10 +167,25 @@ module _ (old : State) (key : Key) (o : Located) (l : IsLocated old key o) where
       (told-by_key (λ d q. elim q as (λ _. Result (ℕ × ℕ) Refusal) [ None ↦ Err NotFound | Some p ↦ sizes_of_kind p kind ]) r m)
 
   -- what is left as it is where there are so many places
-  pub places-by_key : (new : State) (n : ℕ) → KeepsWhere old new (HasPlaces (ByHandle o.handle) n) → KeepsWhere old new (HasPlaces key n)
+  places-by_key : (new : State) (n : ℕ) → KeepsWhere old new (HasPlaces (ByHandle o.handle) n) → KeepsWhere old new (HasPlaces key n)
   places-by_key new n m = λ d k p. m d k (record {
     len = p.len;
     capacity = p.capacity;
     says = ap (λ (r : Option Object). elim r as (λ _. Result (ℕ × ℕ) Refusal) [ None ↦ Err NotFound | Some q ↦ sizes_of q.value ]) (same d k) ∙ p.says;
     enough = p.enough;
   })
+
+  -- ---- the same of what is done with storage, whichever change it is
+
+  pub located-changes : (change : Change) (new : State) (kind : Kind) (answer : Answer) → o.kind ≡ kind
+      → IsStepOfKind old new (ByHandle o.handle) kind (command_of change (ByHandle o.handle)) answer
+      → IsStep old new (command_of change key) answer
+  located-changes (Reserve n) new kind answer is m = located-steps new kind (asked.Reserve key n) answer is m
+  located-changes Shrink new kind answer is m = located-steps new kind (asked.Shrink key) answer is m
+  located-changes Clear new kind answer is m = located-steps new kind (asked.Clear key) answer is m
+
+  pub enough-by_key : (change : Change) (new : State) → KeepsWhere old new (HasEnough change (ByHandle o.handle))
+      → KeepsWhere old new (HasEnough change key)
+  enough-by_key (Reserve n) new m = places-by_key new n m
+  enough-by_key Shrink new m = λ d k e. absurd e
+  enough-by_key Clear new m = λ d k e. absurd e

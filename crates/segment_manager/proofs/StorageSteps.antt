@@ -14,12 +14,15 @@ use Rattle.seg_types.specs.Names.{Key}
 use Rattle.seg_types.specs.Commands as asked
 use Rattle.seg_types.specs.Commands.{Command, is_changing}
 use Rattle.seg_vector.specs.declared.places.Place.{Place}
+use Rattle.segment_manager.specs.declared.storages.Change.{Change}
+use Rattle.segment_manager.specs.declared.storages.Change.TheVariants.{Clear, Reserve, Shrink}
 use Rattle.segment_manager.specs.Answers.{Answer, Done, Refused}
 use Rattle.segment_manager.specs.Contents.{HasNoRoom, IsBytes, IsBytesGrown, IsBytesNow, IsNumbers, IsNumbersGrown, IsNumbersNow, container_at}
 use Rattle.segment_manager.specs.Directory.{Value, Numbers, Elements, Bytes, Pairs, Object, Directory, kind_of, live, object_at}
 use Rattle.segment_manager.specs.Plan.{Refuse, Reply, perform, with, with_capacity}
 use Rattle.segment_manager.specs.State.{Answers, IsReplyOfKind, IsSegment, IsStep, IsStepOfKind, State, StandsFor}
 use Rattle.segment_manager.specs.Step.{changed, effect, is_read_only, storage_of, with_items, with_table}
+use Rattle.segment_manager.specs.Stored.{command_of}
 use Rattle.segment_manager.proofs.Calling.{denotes-live}
 use Rattle.segment_manager.proofs.ContentPlans.{clear-plan, clear-refused, reserve-plan, reserve-refused, shrink-plan, shrink-refused}
 use Rattle.segment_manager.proofs.Refilled.{finds-no_container, refused-steps}
@@ -132,31 +135,30 @@ no-storage v h = absurd (cc)
 abbrev HasNoStorage : State → Key → Type 0
 HasNoStorage s key = (d : Directory) → StandsFor s.cut.bytes d → (o : Object) × ((object_at d key ≡ Some o) × (has_storage (kind_of o.value) ≡ false))
 
-pub reserves-other : (s : State) (key : Key) (n : ℕ) → is_read_only s.mode ≡ false → HasNoStorage s key → IsStep s s (asked.Reserve key n) (Refused WrongKind)
-reserves-other s key n writing each =
-    refused-steps s (asked.Reserve key n) WrongKind writing
-    (λ d l. let x = each d l in ap (perform d (live d)) (reserve-refused d key x.0 x.1.0 n WrongKind (no-storage x.0.value x.1.1)))
+change-refused : (change : Change) (d : Directory) (key : Key) (o : Object) → object_at d key ≡ Some o → storage_of o.value ≡ Err WrongKind
+    → effect d (command_of change key) ≡ Refuse WrongKind
+change-refused (Reserve n) d key o e f = reserve-refused d key o e n WrongKind f
+change-refused Shrink d key o e f = shrink-refused d key o e WrongKind f
+change-refused Clear d key o e f = clear-refused d key o e WrongKind f
 
-pub shrinks-other : (s : State) (key : Key) → is_read_only s.mode ≡ false → HasNoStorage s key → IsStep s s (asked.Shrink key) (Refused WrongKind)
-shrinks-other s key writing each =
-    refused-steps s (asked.Shrink key) WrongKind writing
-    (λ d l. let x = each d l in ap (perform d (live d)) (shrink-refused d key x.0 x.1.0 WrongKind (no-storage x.0.value x.1.1)))
-
-pub clears-other : (s : State) (key : Key) → is_read_only s.mode ≡ false → HasNoStorage s key → IsStep s s (asked.Clear key) (Refused WrongKind)
-clears-other s key writing each =
-    refused-steps s (asked.Clear key) WrongKind writing
-    (λ d l. let x = each d l in ap (perform d (live d)) (clear-refused d key x.0 x.1.0 WrongKind (no-storage x.0.value x.1.1)))
+pub change-other : (change : Change) (s : State) (key : Key) → is_read_only s.mode ≡ false → HasNoStorage s key
+    → IsStep s s (command_of change key) (Refused WrongKind)
+change-other change s key writing each =
+    refused-steps s (command_of change key) WrongKind writing
+    (λ d l. let x = each d l in ap (perform d (live d)) (change-refused change d key x.0 x.1.0 (no-storage x.0.value x.1.1)))
 
 -- no object has the key
-module _ (d : Directory) (key : Key) (e : object_at d key ≡ None) where
-  pub reserve-nowhere : (n : ℕ) → effect d (asked.Reserve key n) ≡ Refuse NotFound
-  reserve-nowhere n = with-not_found d key (λ o. with (storage_of o.value) (λ (each, len, t). with_capacity each n t (λ u. Reply Done (changed d o (with_table o.value u))))) e
+pub change-nowhere : (change : Change) (d : Directory) (key : Key) → object_at d key ≡ None
+    → effect d (command_of change key) ≡ Refuse NotFound
+change-nowhere (Reserve n) d key e = with-not_found d key _ e
+change-nowhere Shrink d key e = with-not_found d key _ e
+change-nowhere Clear d key e = with-not_found d key _ e
 
-  pub shrink-nowhere : effect d (asked.Shrink key) ≡ Refuse NotFound
-  shrink-nowhere = with-not_found d key (λ o. with (storage_of o.value) (λ (each, len, t). Reply Done (changed d o (with_table o.value (cut_table (live d) each len t))))) e
-
-  pub clear-nowhere : effect d (asked.Clear key) ≡ Refuse NotFound
-  clear-nowhere = with-not_found d key (λ o. with (storage_of o.value) (λ s. Reply Done (changed d o (with_items o.value [])))) e
+-- a segment that is open for reading refuses each
+pub change-changes : (change : Change) (key : Key) → is_changing (command_of change key) ≡ true
+change-changes (Reserve n) key = refl
+change-changes Shrink key = refl
+change-changes Clear key = refl
 
 -- ---- calls that read
 

@@ -3,10 +3,13 @@ use Rattle.std.specs.Prelude.{◌≡◌, ℕ, false, Result, Ok, OnErr}
 use Rattle.raw_region.specs.Memory.{Cut}
 use Rattle.seg_types.specs.declared.kinds.Kind.{Kind}
 use Rattle.seg_types.specs.declared.refusals.Refusal.{Refusal}
+use Rattle.seg_types.specs.Commands as asked
 use Rattle.seg_types.specs.Commands.{Command}
 use Rattle.seg_types.specs.Names.{Key}
 use Rattle.seg_vector.specs.declared.places.Place.{Place}
 use Rattle.segment_manager.specs.declared.modes.Mode.{Mode}
+use Rattle.segment_manager.specs.declared.storages.Change.{Change}
+use Rattle.segment_manager.specs.declared.storages.Change.TheVariants.{Clear, Reserve, Shrink}
 use Rattle.segment_manager.specs.Contents.{container_at, sizes_at_kind}
 use Rattle.segment_manager.specs.Directory.{Directory}
 use Rattle.segment_manager.specs.Keeping.{HasPlaces}
@@ -40,6 +43,20 @@ pub record ChangesStorage (old new : State) (key : Key) (kind : Kind) (command :
   pub step : IsStepOfKind old new key kind command (done_answer result)
   pub refused : OnErr result (new ≡ old)
 
--- nothing changes where it has so many places
-abbrev pub KeepsPlaces : Cut → Cut → Kind → Place → ℕ → Type 0
-KeepsPlaces old new kind p n = (key : Key) → StandsThere old kind p key → (d : Directory) → StandsFor old.bytes d → HasPlaces key n d → new ≡ old
+-- nothing changes where this holds of it
+abbrev pub KeepsThere : Cut → Cut → Kind → Place → (Key → Directory → Type 0) → Type 0
+KeepsThere old new kind p holds = (key : Key) → StandsThere old kind p key → (d : Directory) → StandsFor old.bytes d → holds key d → new ≡ old
+
+-- ---- what is done with storage
+
+-- the command of a key
+abbrev pub command_of : Change → Key → Command
+command_of (Reserve n) key = asked.Reserve key n
+command_of Shrink key = asked.Shrink key
+command_of Clear key = asked.Clear key
+
+-- the vector or string of the key has what is asked for
+abbrev pub HasEnough : Change → Key → Directory → Type 0
+HasEnough (Reserve n) key d = HasPlaces key n d
+HasEnough Shrink key d = ⊥
+HasEnough Clear key d = ⊥

@@ -6,13 +6,14 @@ ghost use Rattle.segment_manager.specs.Contents.{sizes_at, sizes_at_kind};
 ghost use Rattle.segment_manager.specs.Keeping.{HasPlaces, KeepsWhere};
 ghost use Rattle.segment_manager.specs.State.{Answers, IsStep, done_answer};
 ghost use Rattle.segment_manager.specs.Step.{is_read_only};
-ghost use Rattle.segment_manager.specs.Stored.{ChangesStorage};
+ghost use Rattle.segment_manager.specs.Stored.{ChangesStorage, HasContainer, HasEnough, KeepsThere, StepsThere, command_of};
 
 use crate::segment::Segment;
-use crate::storages::Stored;
+use crate::storages::{Change, Stored};
 use crate::targets::{Object, Target, locate};
+use best_fit::Heap;
 use seg_types::{Kind, Refusal, ScalarKind};
-use seg_vector::{SegString, SegTexts, SegVec};
+use seg_vector::{Place, SegString, SegTexts, SegVec};
 
 /// Where the number of pairs stands in a map of any kinds.
 const PAIRS: u64 = 8;
@@ -99,52 +100,7 @@ impl Segment {
         ensures refused { OnErr result (self.new ≡ self.old) }
         ensures enough { KeepsWhere self.old self.new (HasPlaces (O.key key.now) n) }
     {
-        if self.is_read_only() {
-            return Err(Refusal::ReadOnly);
-        }
-        match locate(self, key) {
-            Err(why) => Err(why),
-            Ok(object) => match object.kind {
-                Kind::Text => self.reserve_stored::<SegString, Object>(&object, n),
-                Kind::Texts => self.reserve_stored::<SegTexts, Object>(&object, n),
-                Kind::Vector(element) => self.reserve_elements(&object, element, n),
-                _ => Err(Refusal::WrongKind),
-            },
-        }
-    }
-
-    /// The same of a vector of scalars of a kind, in a segment that may be changed.
-    fn reserve_elements<O: Target>(
-        &mut self,
-        key: &O,
-        kind: ScalarKind,
-        n: u64,
-    ) -> Result<(), Refusal>
-        requires target { O.stands key.now self.old }
-        requires writing { is_read_only self.old.mode ≡ false }
-        ensures change { ChangesStorage self.old self.new (O.key key.now) (VectorOf kind) (Reserve (O.key key.now) n) result }
-        ensures enough { KeepsWhere self.old self.new (HasPlaces (O.key key.now) n) }
-    {
-        match kind {
-            ScalarKind::Bool => self.reserve_stored::<SegVec<bool>, O>(key, n),
-            ScalarKind::U8 => self.reserve_stored::<SegVec<u8>, O>(key, n),
-            ScalarKind::I32 => self.reserve_stored::<SegVec<i32>, O>(key, n),
-            ScalarKind::I64 => self.reserve_stored::<SegVec<i64>, O>(key, n),
-            ScalarKind::U64 => self.reserve_stored::<SegVec<u64>, O>(key, n),
-        }
-    }
-
-    /// The same of what has storage.
-    fn reserve_stored<S: Stored, O: Target>(&mut self, key: &O, n: u64) -> Result<(), Refusal>
-        requires target { O.stands key.now self.old }
-        requires writing { is_read_only self.old.mode ≡ false }
-        ensures change { ChangesStorage self.old self.new (O.key key.now) S.kind (Reserve (O.key key.now) n) result }
-        ensures enough { KeepsWhere self.old self.new (HasPlaces (O.key key.now) n) }
-    {
-        match self.find_container(key, S::kind()) {
-            Err(why) => Err(why),
-            Ok(place) => S::reserve(&mut self.heap, place, n),
-        }
+        self.change_storage(key, Change::Reserve(n))
     }
 
     /// Gives back the places of the vector or string of a key that have no element.
@@ -160,48 +116,7 @@ impl Segment {
         ensures step { IsStep self.old self.new (Shrink (O.key key.now)) (done_answer result) }
         ensures refused { OnErr result (self.new ≡ self.old) }
     {
-        if self.is_read_only() {
-            return Err(Refusal::ReadOnly);
-        }
-        match locate(self, key) {
-            Err(why) => Err(why),
-            Ok(object) => match object.kind {
-                Kind::Text => self.shrink_stored::<SegString, Object>(&object),
-                Kind::Texts => self.shrink_stored::<SegTexts, Object>(&object),
-                Kind::Vector(element) => self.shrink_elements(&object, element),
-                _ => Err(Refusal::WrongKind),
-            },
-        }
-    }
-
-    /// The same of a vector of scalars of a kind, in a segment that may be changed.
-    fn shrink_elements<O: Target>(&mut self, key: &O, kind: ScalarKind) -> Result<(), Refusal>
-        requires target { O.stands key.now self.old }
-        requires writing { is_read_only self.old.mode ≡ false }
-        ensures { ChangesStorage self.old self.new (O.key key.now) (VectorOf kind) (Shrink (O.key key.now)) result }
-    {
-        match kind {
-            ScalarKind::Bool => self.shrink_stored::<SegVec<bool>, O>(key),
-            ScalarKind::U8 => self.shrink_stored::<SegVec<u8>, O>(key),
-            ScalarKind::I32 => self.shrink_stored::<SegVec<i32>, O>(key),
-            ScalarKind::I64 => self.shrink_stored::<SegVec<i64>, O>(key),
-            ScalarKind::U64 => self.shrink_stored::<SegVec<u64>, O>(key),
-        }
-    }
-
-    /// The same of what has storage.
-    fn shrink_stored<S: Stored, O: Target>(&mut self, key: &O) -> Result<(), Refusal>
-        requires target { O.stands key.now self.old }
-        requires writing { is_read_only self.old.mode ≡ false }
-        ensures { ChangesStorage self.old self.new (O.key key.now) S.kind (Shrink (O.key key.now)) result }
-    {
-        match self.find_container(key, S::kind()) {
-            Err(why) => Err(why),
-            Ok(place) => {
-                S::shrink(&mut self.heap, place);
-                Ok(())
-            }
-        }
+        self.change_storage(key, Change::Shrink)
     }
 
     /// Takes all elements out of the vector or string of a key. The places stay.
@@ -217,47 +132,88 @@ impl Segment {
         ensures step { IsStep self.old self.new (Clear (O.key key.now)) (done_answer result) }
         ensures refused { OnErr result (self.new ≡ self.old) }
     {
+        self.change_storage(key, Change::Clear)
+    }
+
+    /// Changes the storage of the vector or string of a key. It is inlined, so the change costs no test.
+    #[inline(always)]
+    fn change_storage<O: Target>(&mut self, key: &O, change: Change) -> Result<(), Refusal>
+        requires { O.stands key.now self.old }
+        ensures step { IsStep self.old self.new (command_of change (O.key key.now)) (done_answer result) }
+        ensures refused { OnErr result (self.new ≡ self.old) }
+        ensures enough { KeepsWhere self.old self.new (HasEnough change (O.key key.now)) }
+    {
         if self.is_read_only() {
             return Err(Refusal::ReadOnly);
         }
         match locate(self, key) {
             Err(why) => Err(why),
             Ok(object) => match object.kind {
-                Kind::Text => self.clear_stored::<SegString, Object>(&object),
-                Kind::Texts => self.clear_stored::<SegTexts, Object>(&object),
-                Kind::Vector(element) => self.clear_elements(&object, element),
+                Kind::Text => self.change_stored::<SegString, Object>(&object, change),
+                Kind::Texts => self.change_stored::<SegTexts, Object>(&object, change),
+                Kind::Vector(element) => self.change_elements(&object, element, change),
                 _ => Err(Refusal::WrongKind),
             },
         }
     }
 
     /// The same of a vector of scalars of a kind, in a segment that may be changed.
-    fn clear_elements<O: Target>(&mut self, key: &O, kind: ScalarKind) -> Result<(), Refusal>
+    #[inline(always)]
+    fn change_elements<O: Target>(
+        &mut self,
+        key: &O,
+        kind: ScalarKind,
+        change: Change,
+    ) -> Result<(), Refusal>
         requires target { O.stands key.now self.old }
         requires writing { is_read_only self.old.mode ≡ false }
-        ensures { ChangesStorage self.old self.new (O.key key.now) (VectorOf kind) (Clear (O.key key.now)) result }
+        ensures change { ChangesStorage self.old self.new (O.key key.now) (VectorOf kind) (command_of change (O.key key.now)) result }
+        ensures enough { KeepsWhere self.old self.new (HasEnough change (O.key key.now)) }
     {
         match kind {
-            ScalarKind::Bool => self.clear_stored::<SegVec<bool>, O>(key),
-            ScalarKind::U8 => self.clear_stored::<SegVec<u8>, O>(key),
-            ScalarKind::I32 => self.clear_stored::<SegVec<i32>, O>(key),
-            ScalarKind::I64 => self.clear_stored::<SegVec<i64>, O>(key),
-            ScalarKind::U64 => self.clear_stored::<SegVec<u64>, O>(key),
+            ScalarKind::Bool => self.change_stored::<SegVec<bool>, O>(key, change),
+            ScalarKind::U8 => self.change_stored::<SegVec<u8>, O>(key, change),
+            ScalarKind::I32 => self.change_stored::<SegVec<i32>, O>(key, change),
+            ScalarKind::I64 => self.change_stored::<SegVec<i64>, O>(key, change),
+            ScalarKind::U64 => self.change_stored::<SegVec<u64>, O>(key, change),
         }
     }
 
     /// The same of what has storage.
-    fn clear_stored<S: Stored, O: Target>(&mut self, key: &O) -> Result<(), Refusal>
+    #[inline(always)]
+    fn change_stored<S: Stored, O: Target>(
+        &mut self,
+        key: &O,
+        change: Change,
+    ) -> Result<(), Refusal>
         requires target { O.stands key.now self.old }
         requires writing { is_read_only self.old.mode ≡ false }
-        ensures { ChangesStorage self.old self.new (O.key key.now) S.kind (Clear (O.key key.now)) result }
+        ensures change { ChangesStorage self.old self.new (O.key key.now) S.kind (command_of change (O.key key.now)) result }
+        ensures enough { KeepsWhere self.old self.new (HasEnough change (O.key key.now)) }
     {
         match self.find_container(key, S::kind()) {
             Err(why) => Err(why),
-            Ok(place) => {
-                S::clear(&mut self.heap, place);
-                Ok(())
-            }
+            Ok(place) => change_there::<S>(&mut self.heap, place, change),
+        }
+    }
+}
+
+/// Changes the storage of a container at a place.
+#[inline(always)]
+fn change_there<S: Stored>(heap: &mut Heap, place: Place, change: Change) -> Result<(), Refusal>
+    requires { HasContainer heap.old S.kind place }
+    ensures change { StepsThere heap.old heap.new S.kind place (command_of change) result }
+    ensures enough { KeepsThere heap.old heap.new S.kind place (HasEnough change) }
+{
+    match change {
+        Change::Reserve(n) => S::reserve(heap, place, n),
+        Change::Shrink => {
+            S::shrink(heap, place);
+            Ok(())
+        }
+        Change::Clear => {
+            S::clear(heap, place);
+            Ok(())
         }
     }
 }

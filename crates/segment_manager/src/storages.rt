@@ -3,11 +3,23 @@ ghost use Rattle.std.specs.Prelude.{◌≡◌, Ok};
 ghost use Rattle.seg_types.specs.declared.kinds.Kind.{Kind as KindOf};
 ghost use Rattle.seg_types.specs.declared.kinds.Kind.TheVariants.{Text as TextKind, Texts as TextsKind, Vector as VectorOf};
 ghost use Rattle.seg_types.specs.Commands.{Clear, Reserve, Shrink};
-ghost use Rattle.segment_manager.specs.Stored.{HasContainer, KeepsPlaces, StepsThere, TellsSizes};
+ghost use Rattle.segment_manager.specs.Keeping.{HasPlaces};
+ghost use Rattle.segment_manager.specs.Stored.{HasContainer, KeepsThere, StepsThere, TellsSizes};
 
 use best_fit::Heap;
 use seg_types::{Kind, Refusal, Scalar};
 use seg_vector::{Place, SegString, SegTexts, SegVec};
+
+/// What is done with the storage of a container.
+#[derive(Clone, Copy, Debug, PartialEq, Eq)]
+pub(crate) enum Change {
+    /// It gets places for so many elements, where it has fewer.
+    Reserve(u64),
+    /// Its places that have no element are given back.
+    Shrink,
+    /// All its elements are taken out. The places stay.
+    Clear,
+}
 
 /// A container with storage of its own, at a place.
 pub(crate) trait Stored {
@@ -31,7 +43,7 @@ pub(crate) trait Stored {
     fn reserve(heap: &mut Heap, place: Place, n: u64) -> Result<(), Refusal>
         requires { HasContainer heap.old kind place }
         ensures change { StepsThere heap.old heap.new kind place (λ key. Reserve key n) result }
-        ensures enough { KeepsPlaces heap.old heap.new kind place n };
+        ensures enough { KeepsThere heap.old heap.new kind place (λ key. HasPlaces key n) };
 
     /// Gives back its places that have no element.
     fn shrink(heap: &mut Heap, place: Place)

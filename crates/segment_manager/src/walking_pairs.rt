@@ -11,6 +11,26 @@ use crate::segment::Segment;
 use crate::targets::Target;
 use seg_types::{Refusal, Scalar, ScalarKind, ScalarValue};
 
+/// A pair that was read, whose key becomes the value of a kind.
+macro_rules! keyed {
+    ($read:expr, $kind:ident) => {
+        match $read? {
+            None => Ok(None),
+            Some((at, value)) => Ok(Some((ScalarValue::$kind(at), value))),
+        }
+    };
+}
+
+/// The same of its value.
+macro_rules! valued {
+    ($read:expr, $kind:ident) => {
+        match $read? {
+            None => Ok(None),
+            Some((at, value)) => Ok(Some((at, ScalarValue::$kind(value)))),
+        }
+    };
+}
+
 impl Segment {
     /// The pair with the least key of the map of a key, a map of the two kinds.
     ///
@@ -28,26 +48,11 @@ impl Segment {
         ensures kinds { AreOfKinds keys values result }
     {
         match keys {
-            ScalarKind::Bool => match self.first_by_key(key, false, values)? {
-                None => Ok(None),
-                Some((truth, value)) => Ok(Some((ScalarValue::Bool(truth), value))),
-            },
-            ScalarKind::U8 => match self.first_by_key(key, 0u8, values)? {
-                None => Ok(None),
-                Some((number, value)) => Ok(Some((ScalarValue::U8(number), value))),
-            },
-            ScalarKind::I32 => match self.first_by_key(key, i32::MIN, values)? {
-                None => Ok(None),
-                Some((number, value)) => Ok(Some((ScalarValue::I32(number), value))),
-            },
-            ScalarKind::I64 => match self.first_by_key(key, i64::MIN, values)? {
-                None => Ok(None),
-                Some((number, value)) => Ok(Some((ScalarValue::I64(number), value))),
-            },
-            ScalarKind::U64 => match self.first_by_key(key, 0u64, values)? {
-                None => Ok(None),
-                Some((number, value)) => Ok(Some((ScalarValue::U64(number), value))),
-            },
+            ScalarKind::Bool => keyed!(self.first_by_key(key, false, values), Bool),
+            ScalarKind::U8 => keyed!(self.first_by_key(key, 0u8, values), U8),
+            ScalarKind::I32 => keyed!(self.first_by_key(key, i32::MIN, values), I32),
+            ScalarKind::I64 => keyed!(self.first_by_key(key, i64::MIN, values), I64),
+            ScalarKind::U64 => keyed!(self.first_by_key(key, 0u64, values), U64),
         }
     }
 
@@ -67,26 +72,11 @@ impl Segment {
         ensures kind { HasValueOf values result }
     {
         match values {
-            ScalarKind::Bool => match self.map_first_from::<K, bool, O>(key, from)? {
-                None => Ok(None),
-                Some((at, truth)) => Ok(Some((at, ScalarValue::Bool(truth)))),
-            },
-            ScalarKind::U8 => match self.map_first_from::<K, u8, O>(key, from)? {
-                None => Ok(None),
-                Some((at, number)) => Ok(Some((at, ScalarValue::U8(number)))),
-            },
-            ScalarKind::I32 => match self.map_first_from::<K, i32, O>(key, from)? {
-                None => Ok(None),
-                Some((at, number)) => Ok(Some((at, ScalarValue::I32(number)))),
-            },
-            ScalarKind::I64 => match self.map_first_from::<K, i64, O>(key, from)? {
-                None => Ok(None),
-                Some((at, number)) => Ok(Some((at, ScalarValue::I64(number)))),
-            },
-            ScalarKind::U64 => match self.map_first_from::<K, u64, O>(key, from)? {
-                None => Ok(None),
-                Some((at, number)) => Ok(Some((at, ScalarValue::U64(number)))),
-            },
+            ScalarKind::Bool => valued!(self.map_first_from::<K, bool, O>(key, from), Bool),
+            ScalarKind::U8 => valued!(self.map_first_from::<K, u8, O>(key, from), U8),
+            ScalarKind::I32 => valued!(self.map_first_from::<K, i32, O>(key, from), I32),
+            ScalarKind::I64 => valued!(self.map_first_from::<K, i64, O>(key, from), I64),
+            ScalarKind::U64 => valued!(self.map_first_from::<K, u64, O>(key, from), U64),
         }
     }
 
@@ -107,26 +97,11 @@ impl Segment {
         ensures kinds { AreOfKinds (kind_of_scalar after) values result }
     {
         match after {
-            ScalarValue::Bool(after) => match self.next_by_key(key, after, values)? {
-                None => Ok(None),
-                Some((truth, value)) => Ok(Some((ScalarValue::Bool(truth), value))),
-            },
-            ScalarValue::U8(after) => match self.next_by_key(key, after, values)? {
-                None => Ok(None),
-                Some((number, value)) => Ok(Some((ScalarValue::U8(number), value))),
-            },
-            ScalarValue::I32(after) => match self.next_by_key(key, after, values)? {
-                None => Ok(None),
-                Some((number, value)) => Ok(Some((ScalarValue::I32(number), value))),
-            },
-            ScalarValue::I64(after) => match self.next_by_key(key, after, values)? {
-                None => Ok(None),
-                Some((number, value)) => Ok(Some((ScalarValue::I64(number), value))),
-            },
-            ScalarValue::U64(after) => match self.next_by_key(key, after, values)? {
-                None => Ok(None),
-                Some((number, value)) => Ok(Some((ScalarValue::U64(number), value))),
-            },
+            ScalarValue::Bool(after) => keyed!(self.next_by_key(key, after, values), Bool),
+            ScalarValue::U8(after) => keyed!(self.next_by_key(key, after, values), U8),
+            ScalarValue::I32(after) => keyed!(self.next_by_key(key, after, values), I32),
+            ScalarValue::I64(after) => keyed!(self.next_by_key(key, after, values), I64),
+            ScalarValue::U64(after) => keyed!(self.next_by_key(key, after, values), U64),
         }
     }
 
@@ -146,26 +121,11 @@ impl Segment {
         ensures kind { HasValueOf values result }
     {
         match values {
-            ScalarKind::Bool => match self.map_next_after::<K, bool, O>(key, after)? {
-                None => Ok(None),
-                Some((at, truth)) => Ok(Some((at, ScalarValue::Bool(truth)))),
-            },
-            ScalarKind::U8 => match self.map_next_after::<K, u8, O>(key, after)? {
-                None => Ok(None),
-                Some((at, number)) => Ok(Some((at, ScalarValue::U8(number)))),
-            },
-            ScalarKind::I32 => match self.map_next_after::<K, i32, O>(key, after)? {
-                None => Ok(None),
-                Some((at, number)) => Ok(Some((at, ScalarValue::I32(number)))),
-            },
-            ScalarKind::I64 => match self.map_next_after::<K, i64, O>(key, after)? {
-                None => Ok(None),
-                Some((at, number)) => Ok(Some((at, ScalarValue::I64(number)))),
-            },
-            ScalarKind::U64 => match self.map_next_after::<K, u64, O>(key, after)? {
-                None => Ok(None),
-                Some((at, number)) => Ok(Some((at, ScalarValue::U64(number)))),
-            },
+            ScalarKind::Bool => valued!(self.map_next_after::<K, bool, O>(key, after), Bool),
+            ScalarKind::U8 => valued!(self.map_next_after::<K, u8, O>(key, after), U8),
+            ScalarKind::I32 => valued!(self.map_next_after::<K, i32, O>(key, after), I32),
+            ScalarKind::I64 => valued!(self.map_next_after::<K, i64, O>(key, after), I64),
+            ScalarKind::U64 => valued!(self.map_next_after::<K, u64, O>(key, after), U64),
         }
     }
 }

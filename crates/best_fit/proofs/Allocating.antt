@@ -1,6 +1,6 @@
 -- A request: the least gap that is long enough is the first of the tree.
 use Rattle.std.proofs.Common.{◌≡◌, refl, sym, ap, subst, ◌∙◌, ℕ, ◌+◌, ◌-◌, ◌^◌, ◌<◌, ◌≤◌, ◌⊎◌, inl, inr, true, false, List, [], ◌∷◌, ◌++◌, length, arith, IsTrue}
-use Rattle.std.specs.Prelude.{Option, Some, None, Result, Ok, Err, map, filter, option_map, if◌then◌else◌}
+use Rattle.std.specs.Prelude.{Option, Some, None, map, filter, option_map, if◌then◌else◌}
 use Rattle.std.proofs.lemmas.Bool.{cases_Bool, and_from, leb-true, lt-leb, cond-true, cond-false}
 use Rattle.std.proofs.lemmas.Int.Digits.{all_below_base_digits_of, length-digits_of-le, length-digits_of_step, number_digits_of, number_lt}
 use Rattle.raw_region.specs.Memory.{Cut, bytes_of}
@@ -20,7 +20,7 @@ use Rattle.best_fit.specs.FreeTree.{IsTreeOf, cells_of, is_red, payloads, sorted
 use Rattle.best_fit.specs.GapNodes.{gap_of, gaps_of, gaps_in, len_in, links_among, plain, tiles_in}
 use Rattle.best_fit.specs.GapLaws.{Good, Good-is_good, is_good-Good}
 use Rattle.best_fit.specs.GapTrees.{AreSome, HasTree, OutOfTree, Regrown, is_long, node_of}
-use Rattle.best_fit.specs.Heap.{Allocates, IsAllocated, IsHeap, Keeps, LaysOut, live_of}
+use Rattle.best_fit.specs.Heap.{IsAllocated, IsHeap, Keeps, LaysOut, live_of}
 use Rattle.best_fit.proofs.Frames.{keeps-trans}
 use Rattle.best_fit.proofs.FreeTrees.{all_gaps, fits_one, in_here}
 use Rattle.best_fit.proofs.GapFacts.{FreeAt, NodeAt, node_at}
@@ -32,7 +32,6 @@ use Rattle.best_fit.proofs.Regrowths.{regrown_keeps, regrown_live, splits_alike}
 use Rattle.best_fit.proofs.Replanting.{closed_more, holds_closed}
 use Rattle.best_fit.proofs.Rows.{Row, unused, used, use_cases, gaps_of-free, gaps_of-used, gaps_of-append}
 use Rattle.best_fit.proofs.Around.{row_reaches}
-use Rattle.best_fit.proofs.Writes.{laid-heap}
 
 -- fewer nodes have no more digits
 pub bits-le : (m n : ℕ) → m ≤ n → bits m ≤ bits n
@@ -222,8 +221,3 @@ met c d e n role wanted node at h is f o r says live black keeps =
       black = subst (λ k. is_red (bytes_of e.bytes) k ≡ false) o black;
       keeps = keeps-trans c d e (live_of c.bytes).extents (regrown_keeps c d (heap-says c h).said says r) (subst (λ (l : LiveSet). Keeps d e l.extents) same keeps);
     }
-
--- a request leaves a heap
-pub allocates-heap : {E : Type 0} → (old new : Cut) (n : ℕ) (role : Role) (r : Result ℕ E) → IsHeap current old.bytes → Allocates current old new n role r → IsHeap current new.bytes
-allocates-heap old new n role (Ok h) heap a = laid-heap new.bytes (added (live_of old.bytes) a.extent) a.live
-allocates-heap old new n role (Err e) heap a = subst (λ (v : Cut). IsHeap current v.bytes) (sym a.same) heap

@@ -33,7 +33,7 @@ use Rattle.best_fit.proofs.Laid.{SaysHeap, gaps-live_in, legal_size, live_in, sa
 use Rattle.best_fit.proofs.Regrowths.{regrown_keeps, regrown_live, step_cell, tree_says, used_stays}
 use Rattle.best_fit.proofs.Rows.{Apart, Apart-is_merged, extents_of, extents_of-free, gaps_of-free, gaps_of-used, used-not_free, gaps_of-append}
 use Rattle.best_fit.proofs.Steps.{In, around_keeps, in_back, step_header}
-use Rattle.best_fit.proofs.Takes.{Taking, taking, taking_fits, taking_stands, taking_used, mid_said, mid_same, new_same, taken_black, taken_header, taken_keeps, taken_says, taken_size, new_extents}
+use Rattle.best_fit.proofs.Takes.{Taking, taking, taking_stands, taking_used, mid_said, mid_same, new_same, taken_black, taken_header, taken_keeps, taken_says, taken_size, new_extents}
 
 -- tags and a tree of all gaps lay out what they say
 pub lays_out : (c : Cut) → SaysHeap c (tiles_in c) → IsTreeOf (bytes_of c.bytes) 24 (payloads (sorted_gaps (gaps_in c))) → LaysOut current c.bytes (live_of c.bytes)
@@ -150,9 +150,6 @@ module _ (c : Cut) (at len : ℕ) (o : OutOfTree c at len) (wanted : ℕ) (role 
     -- what the cut needs
     pub cut_stands : HasTileAt c1 at
     cut_stands = subst (λ k. HasTileAt c1 k) o.offset (taking_stands c1 says1 g1 o.front o.back tiles1 o.free refl wanted role)
-
-    cut_fits : len ≤ 1073741824
-    cut_fits = let f = taking_fits c1 says1 g1 o.front o.back tiles1 o.free refl wanted role in let e = o.len_is in omega arith
 
     -- whether a rest is left
     cut_tile_stands : (ts : List Tile) → SaysTiles c1 ts → tile_in ts at ≡ Some g1

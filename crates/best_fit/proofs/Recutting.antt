@@ -30,7 +30,7 @@ use Rattle.best_fit.proofs.GivingBack.{back_parts, same_rest}
 use Rattle.best_fit.proofs.Laid.{SaysHeap, heap-says, said_row}
 use Rattle.best_fit.proofs.Placed.{lays_out}
 use Rattle.best_fit.proofs.Regrowths.{SplitsAlike, regrown_block, regrown_keeps, regrown_live, splits_alike, tree_says}
-use Rattle.best_fit.proofs.Resizes.{gap_high, gap_is, joins, t_cell, t_cut_at, t_cuts, t_gaps, t_in, t_joins, t_keeps, t_live, t_says, t_stands0, t_stands1, t_still, t_word}
+use Rattle.best_fit.proofs.Resizes.{gap_is, joins, t_cell, t_cut_at, t_cuts, t_gaps, t_in, t_joins, t_keeps, t_live, t_says, t_stands0, t_stands1, t_still, t_word}
 use Rattle.best_fit.proofs.Rows.{Apart-is_merged, extent_of, gaps_of-used, gaps_of-append}
 use Rattle.best_fit.proofs.Steps.{In}
 use Rattle.best_fit.proofs.Writes.{Block}
@@ -133,9 +133,6 @@ module _ (w : Cut) (at : ℕ) (heap : IsHeap current w.bytes) (b : Block w (at +
 
     pub c_stands0 : HasTileAt d at
     c_stands0 = t_stands0 d says_d at s.front' s.tile' s.back' b.role s.list used_d begins_d wanted
-
-    c_high : b.tile.len + gap_after (live_of w.bytes) (extent_of b.tile b.role) ≤ 1073741824
-    c_high = gap_high w heap (at + 16) at b begins wanted
 
     module _ (mid : Cut) (join : (ts : List Tile) → SaysTiles d ts → SaysTiles mid (joined_free_at at ts)) (join_same : (ts : List Tile) → SaysTiles d ts → SameBesideTags d mid ts (joined_free_at at ts)) where
       pub c_stands1 : HasTileAt mid at

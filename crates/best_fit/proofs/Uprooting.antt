@@ -29,10 +29,6 @@ one_gap [] at e l = absurd (no_at at (sym e))
 one_gap (g ∷ []) at e l = record { gap = g; list = refl; offset = same_Some at g.offset e }
 one_gap (g ∷ h ∷ gs) at e l = absurd (omega arith)
 
-pub no_gaps : (gs : List Gap) → None ≡ offset_of gs → gs ≡ []
-no_gaps [] e = refl
-no_gaps (g ∷ gs) e = absurd (no_at g.offset e)
-
 -- the gaps of a tile, or none
 pub option_offset : (o : Option Tile) → gap_offset o ≡ offset_of (gaps_of (of_option o))
 option_offset None = refl

@@ -4,6 +4,9 @@ use Rattle.std.specs.Prelude.{IsTrue, IfSome, nat_le, nat_lt, filter, option_map
 use Rattle.std.proofs.Math.Nat.{min-eq_left}
 use Rattle.std.proofs.lemmas.Bool.{and_from, and_parts, eq-eqb, le-leb, leb-true, ltb-true, lt-leb}
 use Rattle.std.specs.List.{AllByRecursion}
+use Rattle.std.proofs.lemmas.Bool.{both_ways}
+use Rattle.std.proofs.lemmas.Option.{same_Some}
+use Rattle.raw_region.proofs.Laws.{Same-read, Same-trans, SameBut-word}
 use Rattle.raw_region.specs.Memory.{Memory, Cut, SameBut, bytes_of, read}
 use Rattle.block_tags.specs.declared.tile.Role.TheVariants.{Storage}
 use Rattle.raw_region.specs.Format.{current}
@@ -16,7 +19,12 @@ use Rattle.best_fit.specs.Fit.{insert, others, added, released, place, regrow, l
 use Rattle.best_fit.specs.Heap.{Allocates, IsAllocated, IsChanged, IsExtended, IsResized, IsHeap, IsReleased, LaysOut, SameBlock, Keeps, extent_at, has_room, live_of}
 use Rattle.best_fit.proofs.LayOut.{lay_out_one}
 use Rattle.best_fit.proofs.Writes.{Room, room_block}
-use Rattle.best_fit.proofs.Spacing.{all-insert, same-trans, word-same, IsAlone, in_use, in_use-alone, in_use-all, exchange-back, exchange-moved, live-spaced, spaced-insert, all_of-insert, keeps-trans, keeps-of, keeps-all, written-keeps, read-same, room-new, any-more}
+use Rattle.best_fit.proofs.Frames.{keeps-refl, keeps-trans}
+use Rattle.best_fit.proofs.Allocated.{allocated-live, changed-live}
+use Rattle.best_fit.proofs.Order.{AllByRecursion-insert_from}
+use Rattle.best_fit.proofs.Placing.{longer-IsLonger, place-holds}
+use Rattle.best_fit.proofs.Serving.{place-serves}
+use Rattle.best_fit.proofs.Spacing.{IsAlone, in_use, in_use-alone, in_use-all, exchange-back, exchange-moved, live-spaced, spaced-insert, all_of-insert, keeps-of, written-keeps, room-new}
 
 -- the extent of a block with room
 pub record IsRoomy (l : LiveSet) (h n : ℕ) : Type 0 where
@@ -31,13 +39,6 @@ roomy c h n heap t =
     let b = r.block in
     record { extent = record { offset = b.tile.offset; len = b.tile.len; role = b.role }; found = b.extent; at = b.at; room = r.enough }
 
--- the live set once a block is taken
-pub allocated-live : (old mid : Cut) (n h : ℕ) → (a : IsAllocated current old mid n Storage h) → live_of mid.bytes ≡ added (live_of old.bytes) a.extent
-allocated-live old mid n h a = lay_out_one current mid.bytes (added (live_of old.bytes) a.extent) a.live
-
-pub changed-live : (old mid : Cut) (from n : ℕ) → IsChanged current old mid from n → live_of mid.bytes ≡ live_of old.bytes
-changed-live old mid from n c = lay_out_one current mid.bytes (live_of old.bytes) c.live
-
 -- a new block is taken, bytes are copied to it, and the old one is given back
 pub replaced : (s0 s1 s2 s3 : Cut) (h n used g : ℕ) → IsHeap current s0.bytes → IsTrue (has_room (live_of s0.bytes) h used) → used ≤ n
     → (a : IsAllocated current s0 s1 n Storage g) → n + 16 ≤ a.extent.len → IsChanged current s1 s2 g used → read (bytes_of s2.bytes) g used ≡ read (bytes_of s1.bytes) h used
@@ -49,8 +50,8 @@ replaced s0 s1 s2 s3 h n used g heap t f a fits c e r =
     let q : IsRoomy l h used = roomy s0 h used heap t in
     let x : Extent = q.extent in
     let rest : List Extent = others h l.extents in
-    let one : live_of s1.bytes ≡ added l y = allocated-live s0 s1 n g a in
-    let two : live_of s2.bytes ≡ added l y = changed-live s1 s2 g used c ∙ one in
+    let one : live_of s1.bytes ≡ added l y = allocated-live current s0 s1 n Storage g a in
+    let two : live_of s2.bytes ≡ added l y = changed-live current s1 s2 g used c ∙ one in
     let swap : others h (insert y l.extents) ≡ insert y rest = exchange-moved l h x y heap.proper q.found a.live.proper in
     let k3 : Keeps s2 s3 (insert y rest) = subst (Keeps s2 s3) (ap (λ (s : LiveSet). others h s.extents) two ∙ swap) r.keeps in
     let alone : IsAlone 128 y l.extents = spaced-insert 128 y l.extents (live-spaced (added l y) a.live.proper) in
@@ -69,84 +70,21 @@ replaced s0 s1 s2 s3 h n used g heap t f a fits c e r =
       extent = y;
       placed = a.placed;
       at = at;
-      change = λ z found. let same : x ≡ z = some-one x z (sym q.found ∙ found) in
+      change = λ z found. let same : x ≡ z = same_Some _ _ (sym q.found ∙ found) in
           record {
             live = subst (λ (z : Extent). LaysOut current s3.bytes (exchanged l (z ∷ []) (y ∷ []))) same live;
             keeps = subst (λ (z : Extent). Keeps s0 s3 (others (handle z) l.extents)) same (subst (λ k. Keeps s0 s3 (others k l.extents)) (sym here) k);
           };
-      carried = read-same (bytes_of s2.bytes) (bytes_of s3.bytes) (handle y) (end_of y) (handle y) used own.payload (omega arith) (omega arith)
+      carried = Same-read (bytes_of s2.bytes) (bytes_of s3.bytes) (handle y) (end_of y) (handle y) used own.payload (omega arith) (omega arith)
           ∙ ap (λ k. read (bytes_of s2.bytes) k used) (sym at) ∙ e
-          ∙ read-same (bytes_of s0.bytes) (bytes_of s1.bytes) (handle x) (end_of x) h used was.payload (omega arith) (omega arith);
+          ∙ Same-read (bytes_of s0.bytes) (bytes_of s1.bytes) (handle x) (end_of x) h used was.payload (omega arith) (omega arith);
     }
-  where
-    some-one : (a b : Extent) → Some a ≡ Some b → a ≡ b
-    some-one a b e = cc
 
 -- ---- what a request is given
 
-either-passes : (t : Gap → Bool) (c : Bool) (g h : Gap) → t g ≡ true → t h ≡ true → t (if c then g else h) ≡ true
-either-passes t true g h e f = e
-either-passes t false g h e f = f
-
-least-if : (t : Gap → Bool) (g : Gap) (o : Option Gap) → t g ≡ true → IfSome o (λ h. t h ≡ true)
-    → IfSome (elim o as (λ _. Option Gap) [ None ↦ Some g | Some h ↦ Some (if precedes g h then g else h) ]) (λ h. t h ≡ true)
-least-if t g None e f = e
-least-if t g (Some h) e f = either-passes t (precedes g h) g h e f
-
-filtered-if : (t : Gap → Bool) (g : Gap) (gs : List Gap) (c : Bool) → t g ≡ c → IfSome (least gs) (λ h. t h ≡ true) → IfSome (least (cond c (g ∷ gs) gs)) (λ h. t h ≡ true)
-filtered-if t g gs true e f = least-if t g (least gs) e f
-filtered-if t g gs false e f = f
-
--- the least gap of those that pass a test passes it
-least-passes : (t : Gap → Bool) (gs : List Gap) → IfSome (least (filter t gs)) (λ h. t h ≡ true)
-least-passes t [] = tt
-least-passes t (g ∷ gs) = filtered-if t g (filter t gs) (t g) refl (least-passes t gs)
-
--- a fit is long enough
-fit-long : (l : LiveSet) (n : ℕ) → IfSome (fit l n) (λ g. nat_le (room n) g.len ≡ true)
-unfolding fit
-fit-long l n = least-passes (λ g. nat_le (room n) g.len) (gaps l)
-
-no_less : (c : Bool) (a b n : ℕ) → n ≤ a → n ≤ b → n ≤ (if c then a else b)
-no_less true a b n f g = f
-no_less false a b n f g = g
-
--- what is taken of a gap that is long enough holds what was asked for
-share-holds : (available n : ℕ) → room n ≤ available → IsTrue (nat_le (n + 16) (share available (room n)))
-share-holds available n f =
-    le-leb (n + 16) (share available (room n)) (no_less (nat_lt available (room n + 32)) available (room n) (n + 16) (omega arith) (omega arith))
-
-placed-serves : (n : ℕ) (role : Role) (o : Option Gap) → IfSome o (λ g. nat_le (room n) g.len ≡ true)
-    → IfSome (option_map (λ (g : Gap). let x : Extent = record { offset = g.offset; len = share g.len (room n); role = role } in x) o) (λ x. IsTrue (serves x role n))
-placed-serves n role None f = tt
-placed-serves n role (Some g) f =
-    and_from (same_role role role) (nat_le (n + 16) (share g.len (room n))) (eq-eqb (role_bits role) (role_bits role) refl) (share-holds g.len n (leb-true (room n) g.len f))
-
-place-if : (l : LiveSet) (n : ℕ) (role : Role) → IfSome (place l n role) (λ x. IsTrue (serves x role n))
-unfolding place
-place-if l n role = placed-serves n role (fit l n) (fit-long l n)
-
--- the extent that a request takes serves it
-pub place-serves : (l : LiveSet) (n : ℕ) (role : Role) (x : Extent) → place l n role ≡ Some x → IsTrue (serves x role n)
-place-serves l n role x e = subst (λ o. IfSome o (λ x. IsTrue (serves x role n))) e (place-if l n role)
-
 pub allocated-fits : (old mid : Cut) (n h : ℕ) → (a : IsAllocated current old mid n Storage h) → n + 16 ≤ a.extent.len
 allocated-fits old mid n h a =
-    leb-true (n + 16) a.extent.len (and_parts (same_role a.extent.role Storage) (holds a.extent n) (place-serves (live_of old.bytes) n Storage a.extent a.placed)).1
-
--- the room of the other blocks, and of the new one
-pub kept-room : (old mid : Cut) (n g h k : ℕ) → IsAllocated current old mid n Storage g → IsTrue (has_room (live_of old.bytes) h k) → IsTrue (has_room (live_of mid.bytes) h k)
-kept-room old mid n g h k a t =
-    subst (λ l. IsTrue (has_room l h k)) (sym (allocated-live old mid n g a)) (any-more (λ (x : Extent). (handle x == h) && holds x k) a.extent (live_of old.bytes).extents t)
-
-pub new-room : (old mid : Cut) (n g k : ℕ) → k ≤ n → IsAllocated current old mid n Storage g → IsTrue (has_room (live_of mid.bytes) g k)
-new-room old mid n g k f a =
-    let fits : n + 16 ≤ a.extent.len = allocated-fits old mid n g a in
-    subst (λ l. IsTrue (has_room l g k)) (sym (allocated-live old mid n g a))
-    (subst (λ h. IsTrue (has_room (added (live_of old.bytes) a.extent) h k)) (sym a.at) (room-new (live_of old.bytes) a.extent k (omega arith)))
-
-pub changed-room : (old mid : Cut) (from n h k : ℕ) → IsChanged current old mid from n → IsTrue (has_room (live_of old.bytes) h k) → IsTrue (has_room (live_of mid.bytes) h k)
-changed-room old mid from n h k c t = subst (λ l. IsTrue (has_room l h k)) (sym (changed-live old mid from n c)) t
+    leb-true (n + 16) a.extent.len (place-holds (live_of old.bytes) n Storage a.extent a.placed)
 
 -- ---- regrowing
 
@@ -165,28 +103,10 @@ given-same c h n used heap t r e f =
       extent = x;
       regrown = ap (λ b. if b then Some x else elim (longer l x n) as (λ _. Option Extent) [ Some y ↦ Some y | None ↦ place l n Storage ]) (le-leb (n + 16) x.len (omega (arith, long, f, has)));
       at = sym q.at;
-      change = record { live = subst (LaysOut current c.bytes) (sym (exchange-back l h x heap.proper q.found)) heap; keeps = keeps-all c (others (handle x) l.extents) };
+      change = record { live = subst (LaysOut current c.bytes) (sym (exchange-back l h x heap.proper q.found)) heap; keeps = keeps-refl c (others (handle x) l.extents) };
       carried = refl;
     } in
     subst (λ o. IsGivenRoom current c c o n used h) (sym q.found) given
-
--- what is lengthened begins where it began, and is longer
-record IsLonger (x y : Extent) : Type 0 where
-  offset : y.offset ≡ x.offset
-  len : x.len ≤ y.len
-
-longer-if : (x y : Extent) (a r : ℕ) (b : Bool) → (nat_lt x.len r && nat_le r a) ≡ b → (if b then Some (record x { len = share a r }) else None) ≡ Some y → IsLonger x y
-longer-if x y a r false e f = absurd (cc)
-longer-if x y a r true e f =
-    let same : record x { len = share a r } ≡ y = cc in
-    let both = and_parts (nat_lt x.len r) (nat_le r a) e in
-    let long : r ≤ share a r = no_less (nat_lt a (r + 32)) a r r (leb-true r a both.1) (omega arith) in
-    let more : x.len < r = ltb-true x.len r both.0 in
-    record { offset = ap (λ (z : Extent). z.offset) (sym same); len = subst (λ (z : Extent). x.len ≤ z.len) same (omega arith) }
-
-is_longer : (l : LiveSet) (x y : Extent) (n : ℕ) → longer l x n ≡ Some y → IsLonger x y
-unfolding longer
-is_longer l x y n e = longer-if x y (x.len + gap_after l x) (room n) (nat_lt x.len (room n) && nat_le (room n) (x.len + gap_after l x)) refl e
 
 -- a block that has not the room
 record IsShort (c : Cut) (h n used : ℕ) : Type 0 where
@@ -203,66 +123,79 @@ is_short c h n used heap t r e f =
     let has : used + 16 ≤ x.len = q.room in
     record { roomy = q; short = lt-leb (n + 16) x.len (omega (arith, long, f, has)) }
 
-regrow-short : (l : LiveSet) (x : Extent) (n : ℕ) (o : Option Extent) → holds x n ≡ false → longer l x n ≡ o → regrow l (Some x) n ≡ elim o as (λ _. Option Extent) [ Some y ↦ Some y | None ↦ place l n Storage ]
+pub regrow-short : (l : LiveSet) (x : Extent) (n : ℕ) (o : Option Extent) → holds x n ≡ false → longer l x n ≡ o → regrow l (Some x) n ≡ elim o as (λ _. Option Extent) [ Some y ↦ Some y | None ↦ place l n Storage ]
 unfolding regrow
 regrow-short l x n o e f = λ i. if e i then Some x else elim (f i) as (λ _. Option Extent) [ Some y ↦ Some y | None ↦ place l n Storage ]
 
-same-extent : (a b : Extent) → Some a ≡ Some b → a ≡ b
-same-extent a b e = cc
+-- the block that is found is lengthened, where the answer is yes
+pub record IsLengthened (old new : Cut) (x : Extent) (n : ℕ) : Type 0 where
+  pub after : Extent
+  pub longer : longer (live_of old.bytes) x n ≡ Some after
+  pub resized : IsResized current old new x after
 
-extended-if : (old new : Cut) (h n used : ℕ) (result : Bool) → (q : IsShort old h n used) → (e : IsExtended current old new h n result) → result ≡ true → (o : Option Extent)
-    → longer (live_of old.bytes) q.roomy.extent n ≡ o → IsGivenRoom current old new (Some q.roomy.extent) n used h
-extended-if old new h n used result q e t None f =
-    let same : e.extent ≡ q.roomy.extent = same-extent e.extent q.roomy.extent (sym e.found ∙ q.roomy.found) in
-    let fails : result ≡ false = (e.refused (ap (λ x. longer (live_of old.bytes) x n) same ∙ f)).0 in
-    absurd (cc)
-extended-if old new h n used result q e t (Some y) f =
-    let l : LiveSet = live_of old.bytes in
-    let x : Extent = q.roomy.extent in
-    let same : e.extent ≡ x = same-extent e.extent x (sym e.found ∙ q.roomy.found) in
-    let r : IsResized current old new x y = subst (λ x. IsResized current old new x y) same (e.lengthened y (ap (λ x. longer l x n) same ∙ f)).1 in
-    let g : IsLonger x y = is_longer l x y n f in
-    let begins : y.offset ≡ x.offset = g.offset in
-    let long : x.len ≤ y.len = g.len in
-    let at : handle x ≡ h = q.roomy.at in
-    let big : used + 16 ≤ x.len = q.roomy.room in
-    let least : min x.len y.len ≡ x.len = min-eq_left long in
-    record {
-      extent = y;
-      regrown = regrow-short l x n (Some y) q.short f;
-      at = omega (arith, begins, at);
-      change = record {
-        live = subst (LaysOut current new.bytes) (ap (λ k. let s : LiveSet = record l { extents = insert y (others (k + 16) l.extents) } in s) begins) r.live;
-        keeps = r.keeps;
-      };
-      carried = ap (λ k. read (bytes_of new.bytes) (k + 16) used) begins
-          ∙ read-same (bytes_of old.bytes) (bytes_of new.bytes) (handle x) (x.offset + min x.len y.len) (handle x) used r.still.payload (omega arith) (omega (arith, least, big));
+pub lengthened_at : (old new : Cut) (h n : ℕ) (result : Bool) (x : Extent) → extent_at (live_of old.bytes) h ≡ Some x
+    → IsExtended current old new h n result → result ≡ true → IsLengthened old new x n
+lengthened_at old new h n result x found e is = by_or (longer (live_of old.bytes) x n) refl
+  where
+    same : e.extent ≡ x
+    same = same_Some _ _ (sym e.found ∙ found)
+
+    by_or : (o : Option Extent) → longer (live_of old.bytes) x n ≡ o → IsLengthened old new x n
+    by_or None f = absurd (both_ways result (e.refused (ap (λ z. longer (live_of old.bytes) z n) same ∙ f)).0 is)
+    by_or (Some y) f = record {
+      after = y;
+      longer = f;
+      resized = subst (λ z. IsResized current old new z y) same
+          (e.lengthened y (ap (λ z. longer (live_of old.bytes) z n) same ∙ f)).1;
     }
+
+-- and else nothing changes
+pub not_lengthened : (old new : Cut) (h n : ℕ) (result : Bool) (x : Extent) → extent_at (live_of old.bytes) h ≡ Some x
+    → IsExtended current old new h n result → result ≡ false
+    → (longer (live_of old.bytes) x n ≡ None) × (new ≡ old)
+not_lengthened old new h n result x found e was = by_or (longer (live_of old.bytes) x n) refl
+  where
+    same : e.extent ≡ x
+    same = same_Some _ _ (sym e.found ∙ found)
+
+    by_or : (o : Option Extent) → longer (live_of old.bytes) x n ≡ o
+        → (longer (live_of old.bytes) x n ≡ None) × (new ≡ old)
+    by_or None f = (f, (e.refused (ap (λ z. longer (live_of old.bytes) z n) same ∙ f)).1)
+    by_or (Some y) f =
+        absurd (both_ways result was (e.lengthened y (ap (λ z. longer (live_of old.bytes) z n) same ∙ f)).0)
 
 -- a block that was lengthened
 pub given-longer : (old new : Cut) (h n used : ℕ) (result : Bool) → IsHeap current old.bytes → IsTrue (has_room (live_of old.bytes) h used) → (r : ℕ)
     → option_map (λ (x : Extent). x.len - 16) (extent_at (live_of old.bytes) h) ≡ Some r → r < n → IsExtended current old new h n result → result ≡ true
     → IsGivenRoom current old new (extent_at (live_of old.bytes) h) n used h
-given-longer old new h n used result heap t r e f x is =
+given-longer old new h n used result heap t r e f ext is =
     let q : IsShort old h n used = is_short old h n used heap t r e f in
-    subst (λ o. IsGivenRoom current old new o n used h) (sym q.roomy.found) (extended-if old new h n used result q x is (longer (live_of old.bytes) q.roomy.extent n) refl)
-
-not_longer-if : (old new : Cut) (h n used : ℕ) (result : Bool) → (q : IsShort old h n used) → (e : IsExtended current old new h n result) → result ≡ false → (o : Option Extent)
-    → longer (live_of old.bytes) q.roomy.extent n ≡ o → (o ≡ None) × (new ≡ old)
-not_longer-if old new h n used result q e was None f =
-    let same : e.extent ≡ q.roomy.extent = same-extent e.extent q.roomy.extent (sym e.found ∙ q.roomy.found) in
-    (refl, (e.refused (ap (λ x. longer (live_of old.bytes) x n) same ∙ f)).1)
-not_longer-if old new h n used result q e was (Some y) f =
-    let same : e.extent ≡ q.roomy.extent = same-extent e.extent q.roomy.extent (sym e.found ∙ q.roomy.found) in
-    let succeeds : result ≡ true = (e.lengthened y (ap (λ x. longer (live_of old.bytes) x n) same ∙ f)).0 in
-    absurd (cc)
+    let l : LiveSet = live_of old.bytes in
+    let x : Extent = q.roomy.extent in
+    let a = lengthened_at old new h n result x q.roomy.found ext is in
+    let y : Extent = a.after in
+    let g = longer-IsLonger l x y n a.longer in
+    let begins = g.begins in let long = g.more in let at = q.roomy.at in let big = q.roomy.room in
+    subst (λ o. IsGivenRoom current old new o n used h) (sym q.roomy.found) (record {
+      extent = y;
+      regrown = regrow-short l x n (Some y) q.short a.longer;
+      at = omega (arith, begins, at);
+      change = record {
+        live = subst (LaysOut current new.bytes)
+            (ap (λ k. let s : LiveSet = record l { extents = insert y (others (k + 16) l.extents) } in s) begins)
+            a.resized.live;
+        keeps = a.resized.keeps;
+      };
+      carried = ap (λ k. read (bytes_of new.bytes) (k + 16) used) begins
+          ∙ Same-read (bytes_of old.bytes) (bytes_of new.bytes) (handle x) (x.offset + min x.len y.len) (handle x) used
+          a.resized.still.payload (omega arith) (omega arith);
+    })
 
 -- a block that was not lengthened is as it was
 pub not_longer-same : (old new : Cut) (h n used : ℕ) (result : Bool) → IsHeap current old.bytes → IsTrue (has_room (live_of old.bytes) h used) → (r : ℕ)
     → option_map (λ (x : Extent). x.len - 16) (extent_at (live_of old.bytes) h) ≡ Some r → r < n → IsExtended current old new h n result → result ≡ false → new ≡ old
 not_longer-same old new h n used result heap t r e f x was =
-    let q : IsShort old h n used = is_short old h n used heap t r e f in
-    (not_longer-if old new h n used result q x was (longer (live_of old.bytes) q.roomy.extent n) refl).1
+    let q = roomy old h used heap t in (not_lengthened old new h n result q.extent q.found x was).1
 
 given-replaced : {E : Type 0} → (old new : Cut) (h n used : ℕ) (x : Extent) (r : Result ℕ E) → extent_at (live_of old.bytes) h ≡ Some x → handle x ≡ h → holds x n ≡ false → longer (live_of old.bytes) x n ≡ None
     → Replaces current old new h n used r → MatchResult r (IsGivenRoom current old new (Some x) n used) (λ e. IsNotGivenRoom old new (Some x) n)
@@ -281,7 +214,7 @@ pub regrows-replaced : {E : Type 0} → (old mid new : Cut) (h n used : ℕ) (re
     → Replaces current mid new h n used res → Regrows current old new (Some h) n used res
 regrows-replaced old mid new h n used result res heap t r e f x was p =
     let q : IsShort old h n used = is_short old h n used heap t r e f in
-    let both = not_longer-if old mid h n used result q x was (longer (live_of old.bytes) q.roomy.extent n) refl in
+    let both = not_lengthened old mid h n result q.roomy.extent q.roomy.found x was in
     let p' : Replaces current old new h n used res = subst (λ (c : Cut). Replaces current c new h n used res) both.1 p in
     subst (λ o. MatchResult res (IsGivenRoom current old new o n used) (λ e. IsNotGivenRoom old new o n)) (sym q.roomy.found)
     (given-replaced old new h n used q.roomy.extent res q.roomy.found q.roomy.at q.short both.0 p')
@@ -314,7 +247,7 @@ but-trans a b c from n (x ∷ xs) p q =
 own-but : (m m' : Memory) (from n : ℕ) (x : Extent) → SameBut m m' from n → handle x ≤ from → SameBlockBut m m' from n x
 own-but m m' from n x s f = record {
   payload = λ k a b h. s.at k h;
-  colour = ap (λ w. w % 16) (word-same m m' (x.offset + 8) (x.offset + 16) (x.offset + 8) (record { at = λ k a b. s.at k (inl (omega arith)) }) (omega arith) (omega arith));
+  colour = ap (λ w. w % 16) (SameBut-word m m' from n (x.offset + 8) s (inl (omega arith)));
 }
 
 -- all blocks of a heap in which bytes are written in one
@@ -325,7 +258,7 @@ written-but mid new l h from n x p e c f g =
     let m' : Memory = bytes_of new.bytes in
     let k : Keeps mid new (others h l.extents) = written-keeps mid new x (others h l.extents) from n (in_use-alone l h x p e) c.place c.rest f g in
     subst (AllByRecursion (SameBlockBut m m' from n)) (sym (in_use l h x p e).is)
-    (all-insert (SameBlockBut m m' from n) x (others h l.extents) (own-but m m' from n x c.rest f) (all-same-but m m' from n (others h l.extents) k.blocks))
+    (AllByRecursion-insert_from (SameBlockBut m m' from n) x (others h l.extents) (own-but m m' from n x c.rest f) (all-same-but m m' from n (others h l.extents) k.blocks))
 
 -- the heap afterwards
 pub exchanged-written : (old mid new : Cut) (gone : List Extent) (y x : Extent) (h from n : ℕ) → IsRegrown current old mid gone y → extent_at (exchanged (live_of old.bytes) gone (y ∷ [])) h ≡ Some x
@@ -340,24 +273,12 @@ exchanged-written old mid new gone y x h from n r e c f g =
     record {
       live = subst (LaysOut current new.bytes) (regrown-live old mid gone y r) c.live;
       place = record { before = c.place.before ∙ r.keeps.place.before; after = c.place.after ∙ r.keeps.place.after };
-      front = same-trans (bytes_of old.bytes) m m' 0 24 r.keeps.front k.front;
-      behind = same-trans (bytes_of old.bytes) m m' 32 128 r.keeps.behind k.behind;
+      front = Same-trans (bytes_of old.bytes) m m' 0 24 r.keeps.front k.front;
+      behind = Same-trans (bytes_of old.bytes) m m' 32 128 r.keeps.behind k.behind;
       blocks = but-trans (bytes_of old.bytes) m m' from n rest r.keeps.blocks (all_of-insert (SameBlockBut m m' from n) y rest all).1;
     }
 
 -- ---- what regrowing gives
-
-is_longer-role : (l : LiveSet) (x y : Extent) (n : ℕ) → longer l x n ≡ Some y → (y.role ≡ x.role) × (n + 16 ≤ y.len)
-unfolding longer
-is_longer-role l x y n e = role-if x y (x.len + gap_after l x) n (nat_lt x.len (room n) && nat_le (room n) (x.len + gap_after l x)) refl e
-  where
-    role-if : (x y : Extent) (a n : ℕ) (b : Bool) → (nat_lt x.len (room n) && nat_le (room n) a) ≡ b → (if b then Some (record x { len = share a (room n) }) else None) ≡ Some y → (y.role ≡ x.role) × (n + 16 ≤ y.len)
-    role-if x y a n false e f = absurd (cc)
-    role-if x y a n true e f =
-        let same : record x { len = share a (room n) } ≡ y = cc in
-        let both = and_parts (nat_lt x.len (room n)) (nat_le (room n) a) e in
-        let long : IsTrue (nat_le (n + 16) (share a (room n))) = share-holds a n (leb-true (room n) a both.1) in
-        (ap (λ (z : Extent). z.role) (sym same), subst (λ (z : Extent). n + 16 ≤ z.len) same (leb-true (n + 16) (share a (room n)) long))
 
 serves-of : (y : Extent) (n : ℕ) → IsTrue (same_role y.role Storage) → n + 16 ≤ y.len → IsTrue (serves y Storage n)
 serves-of y n e f = and_from (same_role y.role Storage) (holds y n) e (le-leb (n + 16) y.len f)
@@ -366,13 +287,13 @@ regrow-serves-longer : (l : LiveSet) (x y : Extent) (n : ℕ) → IsTrue (same_r
     → IsTrue (serves y Storage n)
 regrow-serves-longer l x y n r None e f = place-serves l n Storage y f
 regrow-serves-longer l x y n r (Some z) e f =
-    let same : z ≡ y = same-extent z y f in
-    let both = is_longer-role l x z n e in
-    subst (λ (w : Extent). IsTrue (serves w Storage n)) same (serves-of z n (subst (λ role. IsTrue (same_role role Storage)) (sym both.0) r) both.1)
+    let g = longer-IsLonger l x z n e in
+    subst (λ (w : Extent). IsTrue (serves w Storage n)) (same_Some _ _ f)
+    (serves-of z n (subst (λ role. IsTrue (same_role role Storage)) (sym g.role) r) g.holds)
 
 regrow-serves-if : (l : LiveSet) (x y : Extent) (n : ℕ) → IsTrue (same_role x.role Storage) → (b : Bool) → holds x n ≡ b
     → (if b then Some x else elim (longer l x n) as (λ _. Option Extent) [ Some y ↦ Some y | None ↦ place l n Storage ]) ≡ Some y → IsTrue (serves y Storage n)
-regrow-serves-if l x y n r true e f = subst (λ (w : Extent). IsTrue (serves w Storage n)) (same-extent x y f) (serves-of x n r (leb-true (n + 16) x.len e))
+regrow-serves-if l x y n r true e f = subst (λ (w : Extent). IsTrue (serves w Storage n)) (same_Some _ _ f) (serves-of x n r (leb-true (n + 16) x.len e))
 regrow-serves-if l x y n r false e f = regrow-serves-longer l x y n r (longer l x n) refl f
 
 -- it serves as storage for so many bytes

@@ -47,7 +47,9 @@ pub use Rattle.best_fit.proofs.Allocating.{bits-le, too_long}
 -- what stays and what is found where blocks are gone and others came
 pub use Rattle.best_fit.proofs.Spacing.{LiesBeside, above, apart-inserted, below, hole-order, insert-inserted, inserted-comm, live-spaced, rising-inserted, rising-weak, spaced-insert}
 unfoldable pub use Rattle.best_fit.proofs.Spacing.{Differs, Rising}
-pub use Rattle.best_fit.proofs.Spacing.{all_of-inserted, among, IsAlone, IsAmong, IsFresh, IsSound, all_of-insert, exchange-back, found-less, found-more, found-new, found-room, in_use-all, in_use-alone, keeps-all, live-rises, live-sound, read-same, rising-insert, room-less, same-trans, without-inserted, word-same, written-keeps}
+pub use Rattle.best_fit.proofs.Spacing.{all_of-inserted, among, IsAlone, IsAmong, IsFresh, IsSound, all_of-insert, exchange-back, found-less, found-more, found-new, found-room, in_use-all, in_use-alone, live-rises, live-sound, rising-insert, room-less, without-inserted, written-keeps}
+pub use Rattle.best_fit.proofs.Frames.{keeps-refl as keeps-all}
+pub use Rattle.raw_region.proofs.Laws.{Same-read as read-same, Same-trans as same-trans, Same-word as word-same}
 pub use Rattle.best_fit.proofs.Writes.{Room}
 pub use Rattle.best_fit.proofs.Exchanges.{IsRoomy, all-same-but, but-trans, exchanged-written, regrow-serves, regrown-live, roomy, written-but}
 -- several exchanges, one after another, and what stays through them

@@ -3,22 +3,15 @@ use Rattle.std.proofs.Common.{◌≡◌, refl, sym, ap, subst, ◌∙◌, ℕ, z
 use Rattle.std.specs.Prelude.{IsTrue, nat_lt, nat_le, ⊤, find}
 use Rattle.std.specs.List.{AllByRecursion, list_any}
 use Rattle.std.proofs.lemmas.Bool.{and_parts, leb-true, eqb-true, eq-eqb, ne_eqb, lt-ltb, le-ltb, le-leb, and_from, or_left, or_right, or_cases}
-use Rattle.raw_region.proofs.Laws.{Same-word}
+use Rattle.raw_region.proofs.Laws.{SameBut-Same, SameBut-word}
 use Rattle.raw_region.specs.Memory.{Memory, Cut, Same, SameBut, SamePlace, read, word_at, bytes_of}
 use Rattle.best_fit.specs.Exchange.{inserted, without_all, exchanged}
 use Rattle.best_fit.specs.Extents.{Extent, LiveSet, handle, end_of, holds, is_hole, is_block, is_proper, proper_from}
 use Rattle.block_tags.specs.Format.{is_legal_size}
 use Rattle.best_fit.specs.Fit.{insert, others, added}
 use Rattle.best_fit.specs.Heap.{SameBlock, Keeps, extent_at, has_room, is_live_in}
-
-first : (a b : Bool) → IsTrue (a && b) → IsTrue a
-first a b h = (and_parts a b h).0
-
-second : (a b : Bool) → IsTrue (a && b) → IsTrue b
-second a b h = (and_parts a b h).1
-
-no_more : (a b : ℕ) → IsTrue (nat_le a b) → a ≤ b
-no_more a b h = leb-true a b h
+use Rattle.best_fit.proofs.Order.{AllByRecursion-insert_from, insert-comm, list_any-insert}
+use Rattle.best_fit.proofs.Proper.{insert-here, insert-past, others-here, others-past, proper_from-IsFirst}
 
 -- ---- what stands nowhere twice
 
@@ -37,11 +30,6 @@ Rising n (x ∷ xs) = (n ≤ x.offset) × Rising (x.offset + 1) xs
 
 -- ---- putting in
 
--- two extents, in either order
-pub insert-comm : (x y : Extent) (zs : List Extent) → x.offset ≢ y.offset → insert x (insert y zs) ≡ insert y (insert x zs)
-insert-comm x y [] n = grind arith
-insert-comm x y (z ∷ zs) n = let ih = insert-comm x y zs n in grind (arith, ih)
-
 -- one extent before or after some others
 pub insert-inserted : (x : Extent) (ys zs : List Extent) → Differs x ys → insert x (inserted ys zs) ≡ inserted ys (insert x zs)
 insert-inserted x [] zs n = refl
@@ -54,21 +42,12 @@ inserted-comm (x ∷ xs) ys zs n = ap (insert x) (inserted-comm xs ys zs n.1) �
 
 -- ---- what holds of each
 
-all-if : (P : Extent → Type 0) (b : Bool) (xs ys : List Extent) → AllByRecursion P xs → AllByRecursion P ys → AllByRecursion P (if b then xs else ys)
-all-if P true xs ys h k = h
-all-if P false xs ys h k = k
-
--- what holds of an extent and of each of the others
-pub all-insert : (P : Extent → Type 0) (x : Extent) (zs : List Extent) → P x → AllByRecursion P zs → AllByRecursion P (insert x zs)
-all-insert P x [] p a = (p, tt)
-all-insert P x (z ∷ zs) p a = all-if P (nat_lt x.offset z.offset) (x ∷ z ∷ zs) (z ∷ insert x zs) (p, a) (a.0, all-insert P x zs p a.1)
-
 all_of-if : (P : Extent → Type 0) (b : Bool) (x z : Extent) (zs ws : List Extent) → (AllByRecursion P ws → P x × AllByRecursion P zs)
     → AllByRecursion P (if b then x ∷ z ∷ zs else z ∷ ws) → P x × AllByRecursion P (z ∷ zs)
 all_of-if P true x z zs ws k h = (h.0, h.1)
 all_of-if P false x z zs ws k h = ((k h.1).0, (h.0, (k h.1).1))
 
--- the other way round
+-- what holds of all with one more holds of that one and of the others
 pub all_of-insert : (P : Extent → Type 0) (x : Extent) (zs : List Extent) → AllByRecursion P (insert x zs) → P x × AllByRecursion P zs
 all_of-insert P x [] h = h
 all_of-insert P x (z ∷ zs) h = all_of-if P (nat_lt x.offset z.offset) x z zs (insert x zs) (all_of-insert P x zs) h
@@ -99,17 +78,14 @@ hole-order a b h = grind arith
 pub proper-rises : (from : ℕ) (xs : List Extent) (to : ℕ) → IsTrue (proper_from from xs to) → Rising from xs
 proper-rises from [] to h = tt
 proper-rises from (x ∷ xs) to h =
-    let front : IsTrue (is_hole from x.offset && is_block x) = first (is_hole from x.offset && is_block x) (proper_from (end_of x) xs to) h in
-    let block : IsTrue (is_block x) = second (is_hole from x.offset) (is_block x) front in
-    let long : 32 ≤ x.len = no_more 32 x.len (second (x.offset % 16 == 0) (nat_le 32 x.len) (first ((x.offset % 16 == 0) && nat_le 32 x.len) (x.len % 16 == 0) block)) in (
-      hole-order from x.offset (first (is_hole from x.offset) (is_block x) front),
-      rising-weak (x.offset + 1) (end_of x) xs (omega arith) (proper-rises (end_of x) xs to (second (is_hole from x.offset && is_block x) (proper_from (end_of x) xs to) h)),
-    )
+    let f = proper_from-IsFirst from x xs to h in
+    let hole = f.hole in let long = f.block.long in
+    (omega arith, rising-weak (x.offset + 1) (end_of x) xs (omega arith) (proper-rises (end_of x) xs to f.rest))
 
 -- the same of a live set
 pub live-rises : (l : LiveSet) → IsTrue (is_proper l) → Rising 128 l.extents
 unfolding is_proper
-live-rises l h = proper-rises 128 l.extents (l.size - 16) (second (is_legal_size l.size) (proper_from 128 l.extents (l.size - 16)) h)
+live-rises l h = proper-rises 128 l.extents (l.size - 16) (and_parts (is_legal_size l.size) _ h).1
 
 -- what is left of what rises rises, and differs from what was put in
 pub record IsFresh (n : ℕ) (x : Extent) (zs : List Extent) : Type 0 where
@@ -160,15 +136,13 @@ Spaced n (x ∷ xs) = (n ≤ x.offset) × Spaced (end_of x) xs
 pub proper-spaced : (from : ℕ) (xs : List Extent) (to : ℕ) → IsTrue (proper_from from xs to) → Spaced from xs
 proper-spaced from [] to h = tt
 proper-spaced from (x ∷ xs) to h =
-    let front : IsTrue (is_hole from x.offset && is_block x) = first (is_hole from x.offset && is_block x) (proper_from (end_of x) xs to) h in (
-      hole-order from x.offset (first (is_hole from x.offset) (is_block x) front),
-      proper-spaced (end_of x) xs to (second (is_hole from x.offset && is_block x) (proper_from (end_of x) xs to) h),
-    )
+    let f = proper_from-IsFirst from x xs to h in let hole = f.hole in
+    (omega arith, proper-spaced (end_of x) xs to f.rest)
 
 -- the same of a live set
 pub live-spaced : (l : LiveSet) → IsTrue (is_proper l) → Spaced 128 l.extents
 unfolding is_proper
-live-spaced l h = proper-spaced 128 l.extents (l.size - 16) (second (is_legal_size l.size) (proper_from 128 l.extents (l.size - 16)) h)
+live-spaced l h = proper-spaced 128 l.extents (l.size - 16) (and_parts (is_legal_size l.size) _ h).1
 
 -- the second ends where the first begins, or before, or the other way round
 pub data LiesBeside (x y : Extent) : Type 0 where
@@ -198,19 +172,13 @@ spaced-insert n x (z ∷ zs) h = alone-if n (nat_lt x.offset z.offset) x z zs (i
 
 -- ---- taking out
 
-others-cons : (h : ℕ) (z : Extent) (zs : List Extent) → handle z ≢ h → others h (z ∷ zs) ≡ z ∷ others h zs
-others-cons h z zs n = ap (λ b. if b then zs else z ∷ others h zs) (ne_eqb (handle z) h n)
-
-others-first : (h : ℕ) (z : Extent) (zs : List Extent) → handle z ≡ h → others h (z ∷ zs) ≡ zs
-others-first h z zs e = ap (λ b. if b then zs else z ∷ others h zs) (eq-eqb (handle z) h e)
-
 others-if : (b : Bool) (x z : Extent) (zs ws : List Extent) → x.offset ≢ z.offset → others (handle x) ws ≡ zs → others (handle x) (if b then x ∷ z ∷ zs else z ∷ ws) ≡ z ∷ zs
-others-if true x z zs ws n e = others-first (handle x) x (z ∷ zs) refl
-others-if false x z zs ws n e = others-cons (handle x) z ws (λ f. n (omega (arith, f))) ∙ ap (λ vs. z ∷ vs) e
+others-if true x z zs ws n e = others-here (handle x) x (z ∷ zs) refl
+others-if false x z zs ws n e = others-past (handle x) z ws (λ f. n (omega (arith, f))) ∙ ap (λ vs. z ∷ vs) e
 
 -- what was put in is what is taken out
 pub others-insert : (x : Extent) (zs : List Extent) → Differs x zs → others (handle x) (insert x zs) ≡ zs
-others-insert x [] n = others-first (handle x) x [] refl
+others-insert x [] n = others-here (handle x) x [] refl
 others-insert x (z ∷ zs) n = others-if (nat_lt x.offset z.offset) x z zs (insert x zs) n.0 (others-insert x zs n.1)
 
 -- what was put in is taken out again
@@ -229,17 +197,13 @@ pub record IsSound (x : Extent) : Type 0 where
 pub proper-sound : (from : ℕ) (xs : List Extent) (to : ℕ) → IsTrue (proper_from from xs to) → AllByRecursion IsSound xs
 proper-sound from [] to h = tt
 proper-sound from (x ∷ xs) to h =
-    let front : IsTrue (is_hole from x.offset && is_block x) = first (is_hole from x.offset && is_block x) (proper_from (end_of x) xs to) h in
-    let block : IsTrue (is_block x) = second (is_hole from x.offset) (is_block x) front in
-    let both : IsTrue ((x.offset % 16 == 0) && nat_le 32 x.len) = first ((x.offset % 16 == 0) && nat_le 32 x.len) (x.len % 16 == 0) block in (
-      record { aligned = eqb-true (x.offset % 16) 0 (first (x.offset % 16 == 0) (nat_le 32 x.len) both); long = no_more 32 x.len (second (x.offset % 16 == 0) (nat_le 32 x.len) both) },
-      proper-sound (end_of x) xs to (second (is_hole from x.offset && is_block x) (proper_from (end_of x) xs to) h),
-    )
+    let f = proper_from-IsFirst from x xs to h in
+    (record { aligned = f.block.offset; long = f.block.long }, proper-sound (end_of x) xs to f.rest)
 
 -- each begins at a multiple of 16
 pub live-sound : (l : LiveSet) → IsTrue (is_proper l) → AllByRecursion IsSound l.extents
 unfolding is_proper
-live-sound l h = proper-sound 128 l.extents (l.size - 16) (second (is_legal_size l.size) (proper_from 128 l.extents (l.size - 16)) h)
+live-sound l h = proper-sound 128 l.extents (l.size - 16) (and_parts (is_legal_size l.size) _ h).1
 
 -- an extent of a handle, among the others
 pub record IsAmong (h : ℕ) (x : Extent) (xs : List Extent) : Type 0 where
@@ -248,10 +212,7 @@ pub record IsAmong (h : ℕ) (x : Extent) (xs : List Extent) : Type 0 where
 
 insert-front : (x : Extent) (zs : List Extent) → Rising (x.offset + 1) zs → insert x zs ≡ x ∷ zs
 insert-front x [] r = refl
-insert-front x (w ∷ ws) r = ap (λ b. if b then x ∷ w ∷ ws else w ∷ insert x ws) (lt-ltb x.offset w.offset (omega (arith, r.0)))
-
-insert-behind : (x z : Extent) (zs : List Extent) → z.offset + 1 ≤ x.offset → insert x (z ∷ zs) ≡ z ∷ insert x zs
-insert-behind x z zs f = ap (λ b. if b then x ∷ z ∷ zs else z ∷ insert x zs) (le-ltb x.offset z.offset (omega arith))
+insert-front x (w ∷ ws) r = insert-here x w ws (omega (arith, r.0))
 
 among-if : (n h : ℕ) (x z : Extent) (zs : List Extent) → Rising n (z ∷ zs) → (find (λ (y : Extent). handle y == h) zs ≡ Some x → IsAmong h x zs) → (b : Bool) → (handle z == h) ≡ b
     → cond b (Some z) (find (λ (y : Extent). handle y == h) zs) ≡ Some x → IsAmong h x (z ∷ zs)
@@ -260,7 +221,7 @@ among-if n h x z zs r k true e f =
     let at : handle z ≡ h = eqb-true (handle z) h e in
     record {
       at = ap handle (sym same) ∙ at;
-      is = sym (insert-front z zs r.1) ∙ ap (λ y. insert y zs) same ∙ ap (insert x) (sym (others-first h z zs at));
+      is = sym (insert-front z zs r.1) ∙ ap (λ y. insert y zs) same ∙ ap (insert x) (sym (others-here h z zs at));
     }
 among-if n h x z zs r k false e f =
     let rest : IsAmong h x zs = k f in
@@ -268,7 +229,7 @@ among-if n h x z zs r k false e f =
     let below : IsFresh (z.offset + 1) x (others h zs) = rising-insert (z.offset + 1) x (others h zs) (subst (Rising (z.offset + 1)) rest.is r.1) in
     record {
       at = rest.at;
-      is = ap (λ ys. z ∷ ys) rest.is ∙ sym (insert-behind x z (others h zs) below.from) ∙ ap (insert x) (sym (others-cons h z zs n'));
+      is = ap (λ ys. z ∷ ys) rest.is ∙ sym (insert-past x z (others h zs) (omega (arith, below.from))) ∙ ap (insert x) (sym (others-past h z zs n'));
     }
 
 pub among : (n h : ℕ) (x : Extent) (xs : List Extent) → Rising n xs → find (λ (y : Extent). handle y == h) xs ≡ Some x → IsAmong h x xs
@@ -304,71 +265,36 @@ exchange-moved l h x y p e q =
     let fresh : Differs x rest = (rising-insert 128 x rest (subst (Rising 128) a.is (live-rises l p))).differs in
     let new : Differs y (insert x rest) = subst (Differs y) a.is (rising-insert 128 y l.extents (live-rises (added l y) q)).differs in
     let both : (y.offset ≢ x.offset) × Differs y rest = all_of-insert (λ (z : Extent). y.offset ≢ z.offset) x rest new in
-    let apart : Differs x (insert y rest) = all-insert (λ (z : Extent). x.offset ≢ z.offset) y rest (λ s. both.0 (sym s)) fresh in
+    let apart : Differs x (insert y rest) = AllByRecursion-insert_from (λ (z : Extent). x.offset ≢ z.offset) y rest (λ s. both.0 (sym s)) fresh in
     ap (λ zs. others h (insert y zs)) a.is ∙ ap (others h) (insert-comm y x rest both.0) ∙ ap (λ k. others k (insert x (insert y rest))) (sym a.at) ∙ others-insert x (insert y rest) apart
 
 -- ---- room
-
-any-more-if : (t : Extent → Bool) (b : Bool) (x z : Extent) (zs ws : List Extent) → (list_any t zs ≡ true → list_any t ws ≡ true) → list_any t (z ∷ zs) ≡ true
-    → list_any t (if b then x ∷ z ∷ zs else z ∷ ws) ≡ true
-any-more-if t true x z zs ws k h = or_right (t x) (list_any t (z ∷ zs)) h
-any-more-if t false x z zs ws k h = elim (or_cases (t z) (list_any t zs) h) [ inl f ↦ or_left (t z) (list_any t ws) f | inr f ↦ or_right (t z) (list_any t ws) (k f) ]
-
-pub any-more : (t : Extent → Bool) (x : Extent) (zs : List Extent) → list_any t zs ≡ true → list_any t (insert x zs) ≡ true
-any-more t x [] h = absurd (cc)
-any-more t x (z ∷ zs) h = any-more-if t (nat_lt x.offset z.offset) x z zs (insert x zs) (any-more t x zs) h
-
-any-new-if : (t : Extent → Bool) (b : Bool) (x z : Extent) (zs ws : List Extent) → t x ≡ true → list_any t ws ≡ true → list_any t (if b then x ∷ z ∷ zs else z ∷ ws) ≡ true
-any-new-if t true x z zs ws h k = or_left (t x) (list_any t (z ∷ zs)) h
-any-new-if t false x z zs ws h k = or_right (t z) (list_any t ws) k
-
-pub any-new : (t : Extent → Bool) (x : Extent) (zs : List Extent) → t x ≡ true → list_any t (insert x zs) ≡ true
-any-new t x [] h = or_left (t x) false h
-any-new t x (z ∷ zs) h = any-new-if t (nat_lt x.offset z.offset) x z zs (insert x zs) h (any-new t x zs h)
 
 any-if : (s t : Extent → Bool) (xs : List Extent) → ((x : Extent) → s x ≡ true → t x ≡ true) → list_any s xs ≡ true → list_any t xs ≡ true
 any-if s t [] k h = absurd (cc)
 any-if s t (x ∷ xs) k h = elim (or_cases (s x) (list_any s xs) h) [ inl f ↦ or_left (t x) (list_any t xs) (k x f) | inr f ↦ or_right (t x) (list_any t xs) (any-if s t xs k f) ]
 
--- a block with room is in use, and has room for less
-pub room-live : (l : LiveSet) (h n : ℕ) → IsTrue (has_room l h n) → IsTrue (is_live_in l h)
-room-live l h n t = any-if (λ (x : Extent). (handle x == h) && holds x n) (λ (x : Extent). handle x == h) l.extents (λ x f. first (handle x == h) (holds x n) f) t
-
+-- a block with room has room for less
 pub room-less : (l : LiveSet) (h n k : ℕ) → k ≤ n → IsTrue (has_room l h n) → IsTrue (has_room l h k)
 room-less l h n k f t =
     any-if (λ (x : Extent). (handle x == h) && holds x n) (λ (x : Extent). (handle x == h) && holds x k) l.extents
-    (λ x g. and_from (handle x == h) (holds x k) (first (handle x == h) (holds x n) g) (le-leb (k + 16) x.len (let r : n + 16 ≤ x.len = no_more (n + 16) x.len (second (handle x == h) (holds x n) g) in omega arith))) t
+    (λ x g. let two = and_parts (handle x == h) (holds x n) g in let r = leb-true (n + 16) x.len two.1 in
+    and_from (handle x == h) (holds x k) two.0 (le-leb (k + 16) x.len (omega arith))) t
 
 -- an extent that is found with its length has the room
 pub room-new : (l : LiveSet) (x : Extent) (n : ℕ) → n + 16 ≤ x.len → IsTrue (has_room (added l x) (handle x) n)
-room-new l x n f = any-new (λ (y : Extent). (handle y == handle x) && holds y n) x l.extents (and_from (handle x == handle x) (holds x n) (eq-eqb (handle x) (handle x) refl) (le-leb (n + 16) x.len f))
+room-new l x n f = list_any-insert (λ (y : Extent). (handle y == handle x) && holds y n) x l.extents (and_from (handle x == handle x) (holds x n) (eq-eqb (handle x) (handle x) refl) (le-leb (n + 16) x.len f))
 
 -- ---- what stays
 
-pub read-same : (m m' : Memory) (from to at n : ℕ) → Same m m' from to → from ≤ at → at + n ≤ to → read m' at n ≡ read m at n
-read-same m m' from to at zero s f g = refl
-read-same m m' from to at (suc n) s f g = λ i. s.at at f (omega arith) i ∷ read-same m m' from to (at + 1) n s (omega arith) (omega arith) i
-
-pub word-same : (m m' : Memory) (from to at : ℕ) → Same m m' from to → from ≤ at → at + 8 ≤ to → word_at m' at ≡ word_at m at
-word-same m m' from to at s f g = Same-word m m' from to at s f g
-
-but-before : (m m' : Memory) (from n a b : ℕ) → SameBut m m' from n → b ≤ from → Same m m' a b
-but-before m m' from n a b s f = record { at = λ k g h. s.at k (inl (omega arith)) }
-
-but-behind : (m m' : Memory) (from n a b : ℕ) → SameBut m m' from n → from + n ≤ a → Same m m' a b
-but-behind m m' from n a b s f = record { at = λ k g h. s.at k (inr (omega arith)) }
-
-same-colour : (m m' : Memory) (at : ℕ) → Same m m' at (at + 8) → word_at m' at % 16 ≡ word_at m at % 16
-same-colour m m' at s = ap (λ w. w % 16) (word-same m m' at (at + 8) at s (omega arith) (omega arith))
-
 beside-same : (m m' : Memory) (x y : Extent) (from n : ℕ) → SameBut m m' from n → handle x ≤ from → from + n ≤ end_of x → LiesBeside x y → SameBlock m m' y
 beside-same m m' x y from n s f g (above h) = record {
-  payload = but-before m m' from n (handle y) (end_of y) s (omega arith);
-  colour = same-colour m m' (y.offset + 8) (but-before m m' from n (y.offset + 8) (y.offset + 8 + 8) s (omega arith));
+  payload = SameBut-Same m m' from n (handle y) (end_of y) s (inl (omega arith));
+  colour = ap (λ w. w % 16) (SameBut-word m m' from n (y.offset + 8) s (inl (omega arith)));
 }
 beside-same m m' x y from n s f g (below h) = record {
-  payload = but-behind m m' from n (handle y) (end_of y) s (omega arith);
-  colour = same-colour m m' (y.offset + 8) (but-behind m m' from n (y.offset + 8) (y.offset + 8 + 8) s (omega arith));
+  payload = SameBut-Same m m' from n (handle y) (end_of y) s (inr (omega arith));
+  colour = ap (λ w. w % 16) (SameBut-word m m' from n (y.offset + 8) s (inr (omega arith)));
 }
 
 all-beside : (m m' : Memory) (x : Extent) (ys : List Extent) (from n : ℕ) → SameBut m m' from n → handle x ≤ from → from + n ≤ end_of x
@@ -383,40 +309,14 @@ written-keeps a b x ys from n alone place s f g =
     let low = alone.from in
     record {
       place = place;
-      front = but-before (bytes_of a.bytes) (bytes_of b.bytes) from n 0 24 s (omega arith);
-      behind = but-before (bytes_of a.bytes) (bytes_of b.bytes) from n 32 128 s (omega arith);
+      front = SameBut-Same (bytes_of a.bytes) (bytes_of b.bytes) from n 0 24 s (inl (omega arith));
+      behind = SameBut-Same (bytes_of a.bytes) (bytes_of b.bytes) from n 32 128 s (inl (omega arith));
       blocks = all-beside (bytes_of a.bytes) (bytes_of b.bytes) x ys from n s f g alone.beside;
     }
-
-pub same-trans : (a b c : Memory) (from to : ℕ) → Same a b from to → Same b c from to → Same a c from to
-same-trans a b c from to p q = record { at = λ k l h. q.at k l h ∙ p.at k l h }
-
-block-trans : (a b c : Memory) (x : Extent) → SameBlock a b x → SameBlock b c x → SameBlock a c x
-block-trans a b c x p q = record { payload = same-trans a b c (handle x) (end_of x) p.payload q.payload; colour = q.colour ∙ p.colour }
-
-blocks-trans : (a b c : Memory) (xs : List Extent) → AllByRecursion (SameBlock a b) xs → AllByRecursion (SameBlock b c) xs → AllByRecursion (SameBlock a c) xs
-blocks-trans a b c [] p q = tt
-blocks-trans a b c (x ∷ xs) p q = (block-trans a b c x p.0 q.0, blocks-trans a b c xs p.1 q.1)
-
--- two changes keep what each keeps
-pub keeps-trans : (a b c : Cut) (xs : List Extent) → Keeps a b xs → Keeps b c xs → Keeps a c xs
-keeps-trans a b c xs p q = record {
-  place = record { before = q.place.before ∙ p.place.before; after = q.place.after ∙ p.place.after };
-  front = same-trans (bytes_of a.bytes) (bytes_of b.bytes) (bytes_of c.bytes) 0 24 p.front q.front;
-  behind = same-trans (bytes_of a.bytes) (bytes_of b.bytes) (bytes_of c.bytes) 32 128 p.behind q.behind;
-  blocks = blocks-trans (bytes_of a.bytes) (bytes_of b.bytes) (bytes_of c.bytes) xs p.blocks q.blocks;
-}
 
 -- what is kept of these blocks
 pub keeps-of : (a b : Cut) (xs ys : List Extent) → Keeps a b xs → (AllByRecursion (SameBlock (bytes_of a.bytes) (bytes_of b.bytes)) xs → AllByRecursion (SameBlock (bytes_of a.bytes) (bytes_of b.bytes)) ys) → Keeps a b ys
 keeps-of a b xs ys k f = record { place = k.place; front = k.front; behind = k.behind; blocks = f k.blocks }
-
-pub keeps-all : (a : Cut) (xs : List Extent) → Keeps a a xs
-keeps-all a xs = record { place = record { before = refl; after = refl }; front = record { at = λ k f g. refl }; behind = record { at = λ k f g. refl }; blocks = blocks-all (bytes_of a.bytes) xs }
-  where
-    blocks-all : (m : Memory) (xs : List Extent) → AllByRecursion (SameBlock m m) xs
-    blocks-all m [] = tt
-    blocks-all m (x ∷ xs) = (record { payload = record { at = λ k f g. refl }; colour = refl }, blocks-all m xs)
 
 -- ---- what is found
 

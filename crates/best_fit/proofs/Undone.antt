@@ -3,6 +3,7 @@ use Rattle.std.proofs.Common.{◌≡◌, refl, sym, ap, subst, ◌∙◌, inl, i
 use Rattle.std.specs.Prelude.{IsTrue, nat_le, nat_lt, option_map}
 use Rattle.std.proofs.lemmas.Bool.{and_parts, eq-eqb, le-leb, leb-true, lt-leb, lt-ltb, ltb-true, or_left, or_right}
 use Rattle.std.specs.List.{AllByRecursion}
+use Rattle.std.proofs.lemmas.Option.{same_Some}
 use Rattle.raw_region.specs.Memory.{Memory, Cut, bytes_of, word_at}
 use Rattle.raw_region.specs.Format.{current}
 use Rattle.block_tags.specs.declared.tile.Role.TheVariants.{Storage}
@@ -15,9 +16,11 @@ use Rattle.best_fit.proofs.Frames.{SameBlock-refl, keeps-refl, keeps-trans}
 use Rattle.best_fit.proofs.LayOut.{lay_out_one}
 use Rattle.block_tags.specs.declared.tile.Role.{Role}
 use Rattle.best_fit.proofs.Lengths.{may_cut, shorter_cut, shorter_same}
-use Rattle.best_fit.proofs.Placing.{IfSome_is}
+use Rattle.best_fit.proofs.Placing.{IfSome_is, longer-IsLonger, share-IsShare}
 use Rattle.best_fit.proofs.Proper.{IsHole, behind, behind-here, behind-past, next_of}
-use Rattle.best_fit.proofs.Spacing.{all-insert, Differs, IsAmong, IsFresh, Rising, found-new, in_use, live-rises, others-insert, rising-insert}
+use Rattle.best_fit.proofs.Exchanges.{lengthened_at, not_lengthened, regrow-short}
+use Rattle.best_fit.proofs.Order.{AllByRecursion-insert_from}
+use Rattle.best_fit.proofs.Spacing.{Differs, IsAmong, IsFresh, Rising, found-new, in_use, live-rises, others-insert, rising-insert}
 
 -- ---- what stands behind a block of another length
 
@@ -76,20 +79,9 @@ may-cut-if live y k gap next at len wanted r joins after (inr big) more (inl all
 may-cut-if live y k gap next at len wanted r joins after (inr big) more (inr part) fits =
     or_left (nat_lt 0 (gap_after live y)) (nat_le (room k + 32) y.len) (lt-ltb 0 (gap_after live y) (let is = part.0 in let left = part.1 in omega arith))
 
-share-or : (available wanted : ℕ) → (share available wanted ≡ available) ⊎ ((share available wanted ≡ wanted) × (wanted + 32 ≤ available))
-share-or available wanted = share-if available wanted (nat_lt available (wanted + 32)) refl
-  where
-    share-if : (available wanted : ℕ) (b : Bool) → nat_lt available (wanted + 32) ≡ b → ((if b then available else wanted) ≡ available) ⊎ (((if b then available else wanted) ≡ wanted) × (wanted + 32 ≤ available))
-    share-if available wanted true e = inl refl
-    share-if available wanted false e = inr (refl, grind arith)
-
 hole-gap : (at next gap : ℕ) → IsHole at next → at + gap ≡ next → (gap ≡ 0) ⊎ (32 ≤ gap)
 hole-gap at next gap (inl e) j = inl (omega arith)
 hole-gap at next gap (inr f) j = inr (omega arith)
-
-share-more : (available wanted len : ℕ) → len < wanted → (share available wanted ≡ available) ⊎ ((share available wanted ≡ wanted) × (wanted + 32 ≤ available)) → wanted ≤ available → len < share available wanted
-share-more available wanted len f (inl e) g = omega (arith, e)
-share-more available wanted len f (inr e) g = omega (arith, e.0)
 
 undo : (l : LiveSet) (h : ℕ) (x : Extent) (n : ℕ) → IsTrue (is_proper l) → IsBlockOf l h x → x.len < room n → room n ≤ x.len + gap_after l x
     → IsTrue (is_proper (resized l (record x { len = share (x.len + gap_after l x) (room n) })))
@@ -107,33 +99,12 @@ undo l h x n p b more fits q =
     let long : 32 ≤ x.len = nb.block.long in
     let whole : x.len % 16 ≡ 0 = nb.block.len in
     let back : room k ≡ x.len = room-back x.len long whole in
-    let shares = share-or (x.len + gap_after l x) (room n) in
-    let grew : x.len < s = share-more (x.len + gap_after l x) (room n) x.len more shares fits in
-    let cuts : may_cut m y k ≡ true = may-cut-if m y k (gap_after l x) (next_to l x) x.offset x.len (room n) back nb.gap after (hole-gap (end_of x) (next_to l x) (gap_after l x) nb.hole nb.gap) more shares fits in
+    let shares = share-IsShare (x.len + gap_after l x) (room n) fits in
+    let grew = shares.enough in
+    let cuts : may_cut m y k ≡ true = may-cut-if m y k (gap_after l x) (next_to l x) x.offset x.len (room n) back nb.gap after (hole-gap (end_of x) (next_to l x) (gap_after l x) nb.hole nb.gap) more shares.left fits in
     shorter_cut m y k (omega (arith, back, grew)) cuts ∙ ap (λ w. let z : Extent = record x { len = w } in z) back
 
 -- ---- the calls
-
-longer-if : (l : LiveSet) (x y : Extent) (n : ℕ) (b : Bool) → (nat_lt x.len (room n) && nat_le (room n) (x.len + gap_after l x)) ≡ b
-    → (if b then Some (let z : Extent = record x { len = share (x.len + gap_after l x) (room n) } in z) else None) ≡ Some y
-    → (let z : Extent = record x { len = share (x.len + gap_after l x) (room n) } in z ≡ y) × ((x.len < room n) × (room n ≤ x.len + gap_after l x))
-longer-if l x y n false e f = absurd (cc)
-longer-if l x y n true e f =
-    let both = and_parts (nat_lt x.len (room n)) (nat_le (room n) (x.len + gap_after l x)) e in
-    let is : record x { len = share (x.len + gap_after l x) (room n) } ≡ y = cc in
-    (is, (ltb-true x.len (room n) both.0, leb-true (room n) (x.len + gap_after l x) both.1))
-
-longer-is : (l : LiveSet) (x y : Extent) (n : ℕ) → longer l x n ≡ Some y
-    → (let z : Extent = record x { len = share (x.len + gap_after l x) (room n) } in z ≡ y) × ((x.len < room n) × (room n ≤ x.len + gap_after l x))
-unfolding longer
-longer-is l x y n e = longer-if l x y n (nat_lt x.len (room n) && nat_le (room n) (x.len + gap_after l x)) refl e
-
-same-extent : (a b : Extent) → Some a ≡ Some b → a ≡ b
-same-extent a b e = cc
-
-regrow-is : (l : LiveSet) (x : Extent) (n : ℕ) (o : Option Extent) → holds x n ≡ false → longer l x n ≡ o → regrow l (Some x) n ≡ elim o as (λ _. Option Extent) [ Some y ↦ Some y | None ↦ place l n Storage ]
-unfolding regrow
-regrow-is l x n o e f = λ i. if e i then Some x else elim (f i) as (λ _. Option Extent) [ Some y ↦ Some y | None ↦ place l n Storage ]
 
 regrow-held : (l : LiveSet) (x : Extent) (n : ℕ) → holds x n ≡ true → regrow l (Some x) n ≡ Some x
 unfolding regrow
@@ -142,40 +113,6 @@ regrow-held l x n e = ap (λ b. if b then Some x else elim (longer l x n) as (λ
 len-is : (x : Extent) (o : Option Extent) (r : ℕ) → o ≡ Some x → option_map (λ (x : Extent). x.len - 16) o ≡ Some r → x.len - 16 ≡ r
 len-is x o r e f = let is : Some (x.len - 16) ≡ Some r = ap (option_map (λ (x : Extent). x.len - 16)) (sym e) ∙ f in cc
 
-wide-longer_in : (old new : Cut) (h n : ℕ) (x y : Extent) → IsHeap current old.bytes → extent_at (live_of old.bytes) h ≡ Some x → holds x n ≡ false → longer (live_of old.bytes) x n ≡ Some y → IsResized current old new x y
-    → IsWidened current old new h n
-wide-longer_in old new h n x y heap found short e r =
-    let l : LiveSet = live_of old.bytes in
-    let b : IsBlockOf l h x = block-of l h x heap.proper found in
-    let parts = longer-is l x y n e in
-    let s : ℕ = share (x.len + gap_after l x) (room n) in
-    let q : IsTrue (is_proper (resized l (record x { len = s }))) = subst (λ (z : Extent). IsTrue (is_proper (resized l z))) (sym parts.0)
-    (IfSome_is (λ (z : Extent). IsTrue (is_proper (resized l z))) (longer l x n) y e (is_proper-longer l x n (is_proper-IsProper l heap.proper) b.extent)) in
-    let grew : x.len < s = share-more (x.len + gap_after l x) (room n) x.len parts.1.0 (share-or (x.len + gap_after l x) (room n)) parts.1.1 in
-    subst (λ (z : Extent). IsResized current old new x z → regrow l (Some x) n ≡ Some z → IsWidened current old new h n) parts.0
-    (λ r' g. record {
-      before = x;
-      after = record x { len = s };
-      found = found;
-      at = b.at;
-      begins = refl;
-      longer = omega (arith, grew);
-      regrown = g;
-      change = r';
-      undone = undo l h x n heap.proper b parts.1.0 parts.1.1 q;
-      back = back-live l h x s b;
-    }) r (regrow-is l x n (Some y) short e)
-
-wide-or : (old new : Cut) (h n : ℕ) (result : Bool) (x : Extent) → IsHeap current old.bytes → extent_at (live_of old.bytes) h ≡ Some x → holds x n ≡ false → IsExtended current old new h n result → result ≡ true → (o : Option Extent)
-    → longer (live_of old.bytes) x n ≡ o → IsWidened current old new h n
-wide-or old new h n result x heap found short e is None f =
-    let same : e.extent ≡ x = same-extent e.extent x (sym e.found ∙ found) in
-    let fails : result ≡ false = (e.refused (ap (λ x. longer (live_of old.bytes) x n) same ∙ f)).0 in
-    absurd (cc)
-wide-or old new h n result x heap found short e is (Some y) f =
-    let same : e.extent ≡ x = same-extent e.extent x (sym e.found ∙ found) in
-    wide-longer_in old new h n x y heap found short f (subst (λ x. IsResized current old new x y) same (e.lengthened y (ap (λ x. longer (live_of old.bytes) x n) same ∙ f)).1)
-
 short-of : (x : Extent) (n r : ℕ) → x.len - 16 ≡ r → r < n → holds x n ≡ false
 short-of x n r e f = lt-leb (n + 16) x.len (omega (arith, e, f))
 
@@ -183,17 +120,38 @@ short-of x n r e f = lt-leb (n + 16) x.len (omega (arith, e, f))
 pub wide-longer : (old new : Cut) (h n : ℕ) (result : Bool) (r : ℕ) → IsHeap current old.bytes → option_map (λ (x : Extent). x.len - 16) (extent_at (live_of old.bytes) h) ≡ Some r → r < n
     → IsExtended current old new h n result → result ≡ true → IsWidened current old new h n
 wide-longer old new h n result r heap f less e is =
-    wide-or old new h n result e.extent heap e.found (short-of e.extent n r (len-is e.extent (extent_at (live_of old.bytes) h) r e.found f) less) e is (longer (live_of old.bytes) e.extent n) refl
-
-not-or : (old new : Cut) (h n : ℕ) (result : Bool) → (e : IsExtended current old new h n result) → holds e.extent n ≡ false → result ≡ false → (o : Option Extent) → longer (live_of old.bytes) e.extent n ≡ o → IsNotWidened old new h n
-not-or old new h n result e short is None f = record { before = e.extent; found = e.found; regrown = regrow-is (live_of old.bytes) e.extent n None short f; same = (e.refused f).1 }
-not-or old new h n result e short is (Some y) f = let succeeds : result ≡ true = (e.lengthened y f).0 in absurd (cc)
+    let l : LiveSet = live_of old.bytes in
+    let x : Extent = e.extent in
+    let b : IsBlockOf l h x = block-of l h x heap.proper e.found in
+    let a = lengthened_at old new h n result x e.found e is in
+    let g = longer-IsLonger l x a.after n a.longer in
+    let s : ℕ = share (x.len + gap_after l x) (room n) in
+    let q : IsTrue (is_proper (resized l (record x { len = s }))) = subst (λ (z : Extent). IsTrue (is_proper (resized l z)))
+    (sym g.same) (IfSome_is (λ (z : Extent). IsTrue (is_proper (resized l z))) (longer l x n) a.after a.longer
+    (is_proper-longer l x n (is_proper-IsProper l heap.proper) b.extent)) in
+    let more : x.len < s = subst (λ (z : Extent). x.len < z.len) (sym g.same) g.more in
+    let short = short-of x n r (len-is x (extent_at l h) r e.found f) less in
+    record {
+      before = x;
+      after = record x { len = s };
+      found = e.found;
+      at = b.at;
+      begins = refl;
+      longer = omega (arith, more);
+      regrown = regrow-short l x n (Some a.after) short a.longer ∙ ap (λ (z : Extent). Some z) (sym g.same);
+      change = subst (λ (z : Extent). IsResized current old new x z) (sym g.same) a.resized;
+      undone = undo l h x n heap.proper b g.short g.fits q;
+      back = back-live l h x s b;
+    }
 
 -- it was not
 pub not-wide : (old new : Cut) (h n : ℕ) (result : Bool) (r : ℕ) → option_map (λ (x : Extent). x.len - 16) (extent_at (live_of old.bytes) h) ≡ Some r → r < n
     → IsExtended current old new h n result → result ≡ false → IsNotWidened old new h n
 not-wide old new h n result r f less e is =
-    not-or old new h n result e (short-of e.extent n r (len-is e.extent (extent_at (live_of old.bytes) h) r e.found f) less) is (longer (live_of old.bytes) e.extent n) refl
+    let l : LiveSet = live_of old.bytes in
+    let no = not_lengthened old new h n result e.extent e.found e is in
+    let short = short-of e.extent n r (len-is e.extent (extent_at l h) r e.found f) less in
+    record { before = e.extent; found = e.found; regrown = regrow-short l e.extent n None short no.0; same = no.1 }
 
 -- it had the room
 wide-held : (c : Cut) (h n : ℕ) (o : Option Extent) (r : ℕ) → IsHeap current c.bytes → extent_at (live_of c.bytes) h ≡ o → option_map (λ (x : Extent). x.len - 16) o ≡ Some r → n ≤ r → IsWidened current c c h n
@@ -245,7 +203,7 @@ widened-back first mid new h n k heap w k_is s =
     let fresh : IsFresh 128 y zs = rising-insert 128 y zs (live-rises (resized l y) w.change.live.proper) in
     let at : handle y ≡ h = w.begins ∙ w.at in
     let there : extent_at (live_of mid.bytes) h ≡ Some y = ap (λ (s : LiveSet). extent_at s h) m_is ∙ ap (λ i. extent_at (resized l y) i) (sym at) ∙ found-new y zs fresh.differs in
-    let same : s.extent ≡ y = same-extent s.extent y (sym s.found ∙ there) in
+    let same : s.extent ≡ y = same_Some _ _ (sym s.found ∙ there) in
     let cut : shorter (live_of mid.bytes) y k ≡ x = ap (λ (s : LiveSet). shorter s y k) m_is ∙ ap (shorter (resized l y) y) k_is ∙ w.undone in
     let r : IsResized current mid new y x = subst (IsResized current mid new y) cut (subst (λ (z : Extent). IsResized current mid new z (shorter (live_of mid.bytes) z k)) same s.shortened) in
     let laid : LaysOut current new.bytes l = subst (LaysOut current new.bytes) (ap (λ (s : LiveSet). resized s x) m_is ∙ w.back) r.live in
@@ -261,7 +219,7 @@ widened-back first mid new h n k heap w k_is s =
         place = k2.place;
         front = k2.front;
         behind = k2.behind;
-        blocks = subst (AllByRecursion (SameBlock (bytes_of first.bytes) (bytes_of new.bytes))) (sym is) (all-insert (SameBlock (bytes_of first.bytes) (bytes_of new.bytes)) x zs own k2.blocks);
+        blocks = subst (AllByRecursion (SameBlock (bytes_of first.bytes) (bytes_of new.bytes))) (sym is) (AllByRecursion-insert_from (SameBlock (bytes_of first.bytes) (bytes_of new.bytes)) x zs own k2.blocks);
       };
     }
 

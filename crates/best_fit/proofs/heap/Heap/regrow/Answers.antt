@@ -6,11 +6,14 @@ use Rattle.raw_region.specs.Format.{current}
 use Rattle.best_fit.specs.Exchange.{Regrows, IsGivenRoom, block_of}
 use Rattle.best_fit.specs.Heap.{IsHeap, has_room, live_of}
 use Rattle.best_fit.proofs.Exchanges.{given-same, given-longer, not_longer-same, regrows-replaced, regrows-none}
-use Rattle.best_fit.proofs.Spacing.{room-live}
+use Rattle.best_fit.proofs.Allocated.{has_room-names}
 use Rattle.best_fit.proofs.heap.Heap.regrow.Goals as goal
 
 pub room-requires : goal.room-requires
-room-requires c = room-live (live_of c.args.self.now.bytes) c.in-Some.handle c.args.used (subst (λ o. IfSome o (λ h. IsTrue (has_room (live_of c.args.self.now.bytes) h c.args.used))) c.in-Some.is c.requires.room)
+room-requires c =
+    has_room-names c.in-Some.handle c.args.used (live_of c.args.self.now.bytes).extents
+    (subst (λ o. IfSome o (λ h. IsTrue (has_room (live_of c.args.self.now.bytes) h c.args.used))) c.in-Some.is
+    c.requires.room)
 
 pub returns-then-room-n : goal.returns-then-room-n
 returns-then-room-n c =
@@ -18,7 +21,10 @@ returns-then-room-n c =
     (given-same c.args.self.now c.in-Some.handle c.args.n c.args.used c.requires.heap (subst (λ o. IfSome o (λ h. IsTrue (has_room (live_of c.args.self.now.bytes) h c.args.used))) c.in-Some.is c.requires.room) c.room.result c.room.ensures c.if-room-n.true)
 
 pub try_extend-requires : goal.try_extend-requires
-try_extend-requires c = room-live (live_of c.args.self.now.bytes) c.in-Some.handle c.args.used (subst (λ o. IfSome o (λ h. IsTrue (has_room (live_of c.args.self.now.bytes) h c.args.used))) c.in-Some.is c.requires.room)
+try_extend-requires c =
+    has_room-names c.in-Some.handle c.args.used (live_of c.args.self.now.bytes).extents
+    (subst (λ o. IfSome o (λ h. IsTrue (has_room (live_of c.args.self.now.bytes) h c.args.used))) c.in-Some.is
+    c.requires.room)
 
 pub returns-then-try_extend : goal.returns-then-try_extend
 returns-then-try_extend c =

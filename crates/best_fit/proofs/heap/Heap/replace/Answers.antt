@@ -3,29 +3,31 @@ use Rattle.std.proofs.Common.{◌≡◌, ◌+◌, subst, arith, IsTrue}
 use Rattle.raw_region.specs.Memory.{bytes_of, read}
 use Rattle.raw_region.specs.Format.{current}
 use Rattle.best_fit.specs.Heap.{IsChanged, has_room, live_of}
-use Rattle.best_fit.proofs.Exchanges.{allocated-fits, changed-room, kept-room, new-room, replaced}
-use Rattle.best_fit.proofs.Spacing.{room-live}
+use Rattle.block_tags.specs.declared.tile.Role.TheVariants.{Storage}
+use Rattle.best_fit.proofs.Allocated.{allocated-room, allocated-room_before, changed-room, has_room-names}
+use Rattle.best_fit.proofs.Exchanges.{allocated-fits, replaced}
 use Rattle.best_fit.proofs.heap.Heap.replace.Goals as goal
 
 pub copy-requires-clause-source : goal.copy-requires-clause-source
 copy-requires-clause-source c =
     let n : c.args.used ≡ 0 + c.args.used = omega arith in
     subst (λ k. IsTrue (has_room (live_of c.allocate.new.self.bytes) c.args.handle k)) n
-    (kept-room c.args.self.now c.allocate.new.self c.args.n c.in_ok-new.new c.args.handle c.args.used c.in_ok-new.ensures.answer c.requires.room)
+    (allocated-room_before current c.args.self.now c.allocate.new.self c.args.n Storage c.in_ok-new.new c.args.handle c.args.used c.in_ok-new.ensures.answer c.requires.room)
 
 pub copy-requires-clause-target : goal.copy-requires-clause-target
 copy-requires-clause-target c =
     let n : c.args.used ≡ 0 + c.args.used = omega arith in
     subst (λ k. IsTrue (has_room (live_of c.allocate.new.self.bytes) c.in_ok-new.new k)) n
-    (new-room c.args.self.now c.allocate.new.self c.args.n c.in_ok-new.new c.args.used c.requires.fits c.in_ok-new.ensures.answer)
+    (allocated-room current c.args.self.now c.allocate.new.self c.args.n Storage c.in_ok-new.new c.args.used
+    c.in_ok-new.ensures.answer c.requires.fits)
 
 pub deallocate-requires : goal.deallocate-requires
 deallocate-requires c =
     let n : c.in_ok-new.new + 0 ≡ c.in_ok-new.new = omega arith in
     let change = subst (λ k. IsChanged current c.allocate.new.self c.copy.new.self k c.args.used) n c.copy.ensures.change in
-    room-live (live_of c.copy.new.self.bytes) c.args.handle c.args.used
-    (changed-room c.allocate.new.self c.copy.new.self c.in_ok-new.new c.args.used c.args.handle c.args.used change
-    (kept-room c.args.self.now c.allocate.new.self c.args.n c.in_ok-new.new c.args.handle c.args.used c.in_ok-new.ensures.answer c.requires.room))
+    has_room-names c.args.handle c.args.used (live_of c.copy.new.self.bytes).extents
+    (changed-room current c.allocate.new.self c.copy.new.self c.in_ok-new.new c.args.used c.args.handle c.args.used change
+    (allocated-room_before current c.args.self.now c.allocate.new.self c.args.n Storage c.in_ok-new.new c.args.handle c.args.used c.in_ok-new.ensures.answer c.requires.room))
 
 pub returns : goal.returns
 returns c =

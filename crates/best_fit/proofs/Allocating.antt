@@ -1,5 +1,6 @@
 -- A request: the least gap that is long enough is the first of the tree.
 use Rattle.std.proofs.Common.{◌≡◌, refl, sym, ap, subst, ◌∙◌, ℕ, ◌+◌, ◌-◌, ◌^◌, ◌<◌, ◌≤◌, ◌⊎◌, inl, inr, true, false, List, [], ◌∷◌, ◌++◌, length, arith, IsTrue}
+use Rattle.std.proofs.lemmas.Option.{none-some, same_Some}
 use Rattle.std.specs.Prelude.{Option, Some, None, map, filter, option_map, if◌then◌else◌}
 use Rattle.std.proofs.lemmas.Bool.{cases_Bool, and_from, leb-true, lt-leb, cond-true, cond-false}
 use Rattle.std.proofs.lemmas.Int.Digits.{all_below_base_digits_of, length-digits_of-le, length-digits_of_step, number_digits_of, number_lt}
@@ -13,7 +14,7 @@ use Rattle.std.specs.Int.Digits.{digits_of}
 use Rattle.std.proofs.lemmas.Option.{same_Some}
 use Rattle.link_tree.specs.Tree.{bits, nodes_of}
 use Rattle.link_tree.specs.Nodes.{is_in, leads}
-use Rattle.link_tree.proofs.Laws.{all_from}
+use Rattle.link_tree.proofs.Laws.{all_from, none_some}
 use Rattle.best_fit.specs.Extents.{Extent, Gap, LiveSet, gaps}
 use Rattle.best_fit.specs.Fit.{added, fit, least, place, precedes, room, share}
 use Rattle.best_fit.specs.FreeTree.{IsTreeOf, cells_of, is_red, payloads, sorted_gaps}
@@ -24,7 +25,7 @@ use Rattle.best_fit.specs.Heap.{IsAllocated, IsHeap, Keeps, LaysOut, live_of}
 use Rattle.best_fit.proofs.Frames.{keeps-trans}
 use Rattle.best_fit.proofs.FreeTrees.{all_gaps, fits_one, in_here}
 use Rattle.best_fit.proofs.GapFacts.{FreeAt, NodeAt, node_at}
-use Rattle.best_fit.proofs.GapOrder.{in_sorted}
+use Rattle.best_fit.proofs.GapOrder.{in_sorted, lesser_of}
 use Rattle.best_fit.proofs.GapSteps.{same_gaps}
 use Rattle.best_fit.proofs.Laid.{heap-gaps, heap-says, legal_size, said_row}
 use Rattle.best_fit.proofs.Placing.{room-IsRoom}
@@ -80,12 +81,6 @@ pub record IsOf (gs : List Gap) (wanted : ℕ) (g : Gap) : Type 0 where
   pub list : gs ≡ xs ++ (g ∷ ys)
   pub enough : is_long wanted g ≡ true
 
-some_gap : (a b : Gap) → Some a ≡ Some b → a ≡ b
-some_gap a b e = cc
-
-no_gap : (b : Gap) → None ≡ Some b → ⊥
-no_gap b e = let o : Option Gap = None in let f : o ≡ Some b = e in cc
-
 of_here : (g h : Gap) (gs : List Gap) (wanted : ℕ) → g ≡ h → is_long wanted g ≡ true → IsOf (g ∷ gs) wanted h
 of_here g h gs wanted e l =
     let P : Gap → Type 0 = λ (k : Gap). IsOf (g ∷ gs) wanted k in
@@ -94,19 +89,16 @@ of_here g h gs wanted e l =
 of_later : (g h : Gap) (gs : List Gap) (wanted : ℕ) → IsOf gs wanted h → IsOf (g ∷ gs) wanted h
 of_later g h gs wanted i = record { xs = g ∷ i.xs; ys = i.ys; list = ap (λ (ks : List Gap). g ∷ ks) i.list; enough = i.enough }
 
-abbrev lesser_of : Gap → Option Gap → Option Gap
-lesser_of g o = elim o [ None ↦ Some g | Some h ↦ Some (if precedes g h then g else h) ]
-
 by_lesser : (g k : Gap) (gs : List Gap) (wanted : ℕ) → is_long wanted g ≡ true → (o : Option Gap) → ((h : Gap) → o ≡ Some h → IsOf gs wanted h) → lesser_of g o ≡ Some k → IsOf (g ∷ gs) wanted k
-by_lesser g k gs wanted l None rest e = of_here g k gs wanted (some_gap g k e) l
+by_lesser g k gs wanted l None rest e = of_here g k gs wanted (same_Some g k e) l
 by_lesser g k gs wanted l (Some h) rest e = by_test (cases_Bool (precedes g h))
   where
     by_test : (precedes g h ≡ true) ⊎ (precedes g h ≡ false) → IsOf (g ∷ gs) wanted k
-    by_test (inl t) = of_here g k gs wanted (sym (cond-true (precedes g h) g h t) ∙ some_gap (if precedes g h then g else h) k e) l
+    by_test (inl t) = of_here g k gs wanted (sym (cond-true (precedes g h) g h t) ∙ same_Some (if precedes g h then g else h) k e) l
     by_test (inr t) = of_later g k gs wanted (rest k (ap (λ (x : Gap). let o : Option Gap = Some x in o) (sym (cond-false (precedes g h) g h t)) ∙ e))
 
 pub least-IsOf : (gs : List Gap) (wanted : ℕ) (k : Gap) → least (filter (is_long wanted) gs) ≡ Some k → IsOf gs wanted k
-least-IsOf [] wanted k e = absurd (no_gap k e)
+least-IsOf [] wanted k e = absurd (none-some k e)
 least-IsOf (g ∷ gs) wanted k e = by_test (least-IsOf gs wanted) (cases_Bool (is_long wanted g))
   where
     by_test : ((h : Gap) → least (filter (is_long wanted) gs) ≡ Some h → IsOf gs wanted h) → (is_long wanted g ≡ true) ⊎ (is_long wanted g ≡ false) → IsOf (g ∷ gs) wanted k
@@ -145,9 +137,6 @@ too_long c n role h l =
 
 -- ---- the gap that is found
 
-no_node : (n : ℕ) → None ≡ Some n → ⊥
-no_node n e = let o : Option ℕ = None in let f : o ≡ Some n = e in cc
-
 pub record Found (c : Cut) (wanted node : ℕ) : Type 0 where
   pub gap : Gap
   pub least_is : least (filter (is_long wanted) (gaps_in c)) ≡ Some gap
@@ -157,7 +146,7 @@ pub record Found (c : Cut) (wanted node : ℕ) : Type 0 where
   pub enough : wanted ≤ gap.len
 
 found_by : (c : Cut) (wanted node : ℕ) → HasTree c (gaps_in c) → (o : Option Gap) → least (filter (is_long wanted) (gaps_in c)) ≡ o → Some node ≡ option_map node_of o → Found c wanted node
-found_by c wanted node h None e f = absurd (no_node node (sym f))
+found_by c wanted node h None e f = absurd (none_some node (sym f))
 found_by c wanted node h (Some g) e f =
     let i = least-IsOf (gaps_in c) wanted g e in
     let is = same_Some node (node_of g) f in
@@ -176,7 +165,7 @@ found c wanted node h e = found_by c wanted node h (least (filter (is_long wante
 
 none_by : (o : Option Gap) → None ≡ option_map node_of o → o ≡ None
 none_by None e = refl
-none_by (Some g) e = absurd (no_node (node_of g) e)
+none_by (Some g) e = absurd (none_some (node_of g) e)
 
 pub none_found : (c : Cut) (wanted : ℕ) → None ≡ option_map node_of (least (filter (is_long wanted) (gaps_in c))) → least (filter (is_long wanted) (gaps_in c)) ≡ None
 none_found c wanted e = none_by (least (filter (is_long wanted) (gaps_in c))) e

@@ -1,8 +1,7 @@
 -- A block that comes in the place of another.
-use Rattle.std.proofs.Common.{◌≡◌, refl, sym, ap, subst, ◌∙◌, inl, ℕ, ◌+◌, ◌-◌, ◌%◌, ◌<◌, ◌≤◌, Bool, true, false, ◌&&◌, ◌==◌, Option, Some, None, List, [], ◌∷◌, arith, if◌then◌else◌, cond}
-use Rattle.std.specs.Prelude.{IsTrue, IfSome, nat_le, nat_lt, filter, option_map, min, Result, Ok, Err, MatchResult}
-use Rattle.std.proofs.Math.Nat.{min-eq_left}
-use Rattle.std.proofs.lemmas.Bool.{and_from, and_parts, eq-eqb, le-leb, leb-true, ltb-true, lt-leb}
+use Rattle.std.proofs.Common.{◌≡◌, refl, sym, ap, subst, ◌∙◌, inl, ℕ, ◌+◌, ◌-◌, ◌%◌, ◌<◌, ◌≤◌, Bool, true, false, Option, Some, None, List, [], ◌∷◌, arith, if◌then◌else◌}
+use Rattle.std.specs.Prelude.{IsTrue, IfSome, option_map, min, Result, Ok, Err, MatchResult}
+use Rattle.std.proofs.lemmas.Bool.{and_from, le-leb, leb-true, lt-leb}
 use Rattle.std.specs.List.{AllByRecursion}
 use Rattle.std.proofs.lemmas.Bool.{both_ways}
 use Rattle.std.proofs.lemmas.Option.{same_Some}
@@ -12,10 +11,8 @@ use Rattle.block_tags.specs.declared.tile.Role.TheVariants.{Storage}
 use Rattle.raw_region.specs.Format.{current}
 use Rattle.best_fit.specs.Exchange.{exchanged, without_all, IsExchanged, SameBlockBut, IsRegrown, IsReplaced, IsGivenRoom, IsNotGivenRoom, Regrows, Replaces}
 use Rattle.best_fit.specs.Table.{serves, same_role}
-use Rattle.block_tags.specs.Tiles.{role_bits}
-use Rattle.block_tags.specs.declared.tile.Role.{Role}
-use Rattle.best_fit.specs.Extents.{Extent, Gap, LiveSet, gaps, handle, end_of, holds, is_proper}
-use Rattle.best_fit.specs.Fit.{insert, others, added, released, place, regrow, longer, fit, least, precedes, room, share, gap_after}
+use Rattle.best_fit.specs.Extents.{Extent, LiveSet, handle, end_of, holds, is_proper}
+use Rattle.best_fit.specs.Fit.{insert, others, added, released, place, regrow, longer}
 use Rattle.best_fit.specs.Heap.{Allocates, IsAllocated, IsChanged, IsExtended, IsResized, IsHeap, IsReleased, LaysOut, SameBlock, Keeps, extent_at, has_room, live_of}
 use Rattle.best_fit.proofs.LayOut.{lay_out_one}
 use Rattle.best_fit.proofs.Writes.{Room, room_block}
@@ -24,7 +21,7 @@ use Rattle.best_fit.proofs.Allocated.{allocated-live, changed-live}
 use Rattle.best_fit.proofs.Order.{AllByRecursion-insert_from}
 use Rattle.best_fit.proofs.Placing.{longer-IsLonger, place-holds}
 use Rattle.best_fit.proofs.Serving.{place-serves}
-use Rattle.best_fit.proofs.Spacing.{IsAlone, in_use, in_use-alone, in_use-all, exchange-back, exchange-moved, live-spaced, spaced-insert, all_of-insert, keeps-of, written-keeps, room-new}
+use Rattle.best_fit.proofs.Spacing.{IsAlone, in_use, in_use-alone, in_use-all, exchange-back, exchange-moved, live-spaced, spaced-insert, all_of-insert, keeps-of, written-keeps}
 
 -- the extent of a block with room
 pub record IsRoomy (l : LiveSet) (h n : ℕ) : Type 0 where

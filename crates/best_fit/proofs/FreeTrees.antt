@@ -17,7 +17,7 @@ use Rattle.offset_link.proofs.Laws.{SameBut-link}
 use Rattle.best_fit.specs.Extents.{Gap}
 use Rattle.best_fit.specs.FreeTree.{cells_of, insert_gap, payloads, sorted_gaps}
 use Rattle.best_fit.specs.GapNodes.{Kept, comes_before, gap_cells, gap_of, gaps_of, gaps_in, is_gap_node, is_kept, kept_of, len_in, links_among, plain, tiles_in}
-use Rattle.best_fit.specs.GapLaws.{Good, GapNode-is_gap_node, Good-is_good, is_good-Good, links_at, cells_at}
+use Rattle.best_fit.specs.GapLaws.{length-payloads, Good, GapNode-is_gap_node, Good-is_good, is_good-Good, links_at, cells_at}
 use Rattle.best_fit.specs.GapTrees.{AreSome, Fits, HasTree, Regrown, Rises}
 use Rattle.best_fit.proofs.GapFacts.{len_in_row, node_at, said_of, apart_of}
 use Rattle.best_fit.proofs.GapOrder.{NoneAt, in_sorted, none_above, sorted-rises}
@@ -60,12 +60,8 @@ length-inserted g [] = omega arith
 length-inserted g (h ∷ hs) = let ih = length-inserted g hs in grind (arith, ih)
 
 pub length-sorted : (hs : List Gap) → length (payloads (sorted_gaps hs)) ≡ length hs
-length-sorted hs = length-map (sorted_gaps hs) ∙ sorts hs
+length-sorted hs = length-payloads (sorted_gaps hs) ∙ sorts hs
   where
-    length-map : (gs : List Gap) → length (payloads gs) ≡ length gs
-    length-map [] = refl
-    length-map (g ∷ gs) = let ih = length-map gs in omega arith
-
     sorts : (gs : List Gap) → length (sorted_gaps gs) ≡ length gs
     sorts [] = refl
     sorts (g ∷ gs) = let ih = sorts gs in let one = length-inserted g (sorted_gaps gs) in omega arith

@@ -235,7 +235,7 @@ first_long gs wanted (h ∷ hs) f =
     (λ t. cond-false (is_long wanted h) (Some (node_of h)) (first_not (is_too_short gs wanted) (payloads hs)) t ∙ ih)
 
 -- the lesser of a gap and another, if there is one
-abbrev lesser_of : Gap → Option Gap → Option Gap
+abbrev pub lesser_of : Gap → Option Gap → Option Gap
 lesser_of g o = elim o [ None ↦ Some g | Some h ↦ Some (if precedes g h then g else h) ]
 
 longer_too : (wanted : ℕ) (g h : Gap) → precedes g h ≡ true → is_long wanted g ≡ true → is_long wanted h ≡ true

@@ -25,7 +25,8 @@ use Rattle.best_fit.proofs.Frames.{blocks-refl}
 use Rattle.best_fit.proofs.GapSteps.{same_gaps}
 use Rattle.best_fit.proofs.Laid.{heap-says, legal_size, said_row}
 use Rattle.best_fit.proofs.Regrowths.{SplitsAlike, regrown_keeps, regrown_live, splits_alike, tree_says}
-use Rattle.best_fit.proofs.Rows.{extents_of, gaps_of-append, gaps_of-free, unused, used, use_cases, unused-free, used-not_free}
+use Rattle.best_fit.proofs.Rows.{gaps_of-append, gaps_of-free, unused, used, use_cases, unused-free, used-not_free}
+use Rattle.best_fit.proofs.Walks.{live_extents}
 use Rattle.best_fit.proofs.Uprooting.{One, one_listed, one_small}
 
 -- ---- there is one
@@ -111,10 +112,6 @@ own_size : (w : Cut) → live_of w.bytes ≡ of_size (live_of w.bytes) (length w
 unfolding live_of
 own_size w = refl
 
-own_extents : (w : Cut) → (live_of w.bytes).extents ≡ extents_of (tiles_in w)
-unfolding live_of
-own_extents w = refl
-
 -- the window ends where it ended
 same_end : (w : Cut) (n : ℕ) → IsHeap current w.bytes → length w.bytes ≡ n → HasEndMoved current w w n
 same_end w n heap e =
@@ -141,5 +138,5 @@ ends_there w o heap e g =
     let says = heap-says w heap in
     let size = legal_size (length w.bytes) says.said.size in let low = size.low in
     let uses : EndsUsed (tiles_in w) = λ t last. no_gap o g t (e ∙ last) in
-    let ends = ap (λ (xs : List Extent). last_end 128 xs) (own_extents w) ∙ ends_used (tiles_in w) (length w.bytes - 16) (said_row w (tiles_in w) says.said) uses in
+    let ends = ap (λ (xs : List Extent). last_end 128 xs) (live_extents w) ∙ ends_used (tiles_in w) (length w.bytes - 16) (said_row w (tiles_in w) says.said) uses in
     same_end w (least_size (live_of w.bytes)) heap (omega arith)

@@ -28,7 +28,8 @@ use Rattle.best_fit.proofs.GapFacts.{NodeAt, in_around, listed_at, node_from, ro
 use Rattle.best_fit.proofs.GapSteps.{kept_round}
 use Rattle.best_fit.proofs.Laid.{SaysHeap, said_row}
 use Rattle.best_fit.proofs.Rows.{Apart, Row, is_merged-Apart, Apart-is_merged, unused, used, use_cases, gaps_of-free, gaps_of-used}
-use Rattle.best_fit.proofs.Turns.{Ended, Passed, Turn, all_gaps_joined, free_if, gaps_past_block, gaps_past_gap}
+use Rattle.best_fit.proofs.Steps.{all_joined}
+use Rattle.best_fit.proofs.Turns.{Ended, Passed, Turn, free_if, gaps_past_block, gaps_past_gap}
 
 -- ---- tags without red gaps are good tags
 
@@ -170,7 +171,7 @@ module _ (old new next : Cut) (tile : Tile) (t : Turn new (Cleared old new) tile
       let row = said_row new ts t.said in
       let front = row_front 128 t.passed (tile ∷ t.back) (length new.bytes - 16) row in
       let ends = (row_back 128 t.passed (tile ∷ t.back) (length new.bytes - 16) row).0 in
-      all_gaps_joined (IsNull (bytes_of next.bytes)) (gaps_of t.passed) (gap_of tile ∷ [])
+      all_joined (IsNull (bytes_of next.bytes)) (gaps_of t.passed) (gap_of tile ∷ [])
       (null_kept (bytes_of new.bytes) (bytes_of next.bytes) 128 t.passed (row_end 128 t.passed) (tile.offset + 16) 16 front (omega arith) same t.holds.null) ((left, right), tt)
 
   pub cleared_gap : Passed next (Cleared old next) tile.offset

@@ -1,7 +1,6 @@
 -- A walk over the tiles of a window that changes on the way: each turn passes one tile.
 use Rattle.std.proofs.Common.{◌≡◌, sym, ap, subst, ◌∙◌, ℕ, ◌-◌, ◌<◌, true, false, List, [], ◌∷◌, ◌++◌, length}
 use Rattle.std.specs.Prelude.{Option, Some, None, is_some}
-use Rattle.std.specs.List.{AllByRecursion}
 use Rattle.std.proofs.lemmas.Bool.{both_ways}
 use Rattle.std.proofs.lemmas.List.{append-nil}
 use Rattle.raw_region.specs.Memory.{Cut}
@@ -102,7 +101,3 @@ gaps_past_block passed t some = elim (use_cases t) [
 
 pub gaps_past_gap : (passed : List Tile) (t : Tile) → t.use_of ≡ None → gaps_of (passed ++ (t ∷ [])) ≡ gaps_of passed ++ (gap_of t ∷ [])
 gaps_past_gap passed t free = gaps_of-append passed (t ∷ []) ∙ ap (λ (gs : List Gap). gaps_of passed ++ gs) (gaps_of-free t [] free)
-
-pub all_gaps_joined : (P : Gap → Type 0) (xs ys : List Gap) → AllByRecursion P xs → AllByRecursion P ys → AllByRecursion P (xs ++ ys)
-all_gaps_joined P [] ys a b = b
-all_gaps_joined P (x ∷ xs) ys a b = (a.0, all_gaps_joined P xs ys a.1 b)

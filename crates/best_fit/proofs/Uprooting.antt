@@ -7,6 +7,7 @@ use Rattle.raw_region.specs.Memory.{Cut}
 use Rattle.block_tags.specs.declared.tile.Tile.{Tile}
 use Rattle.block_tags.specs.Tiles.{is_free}
 use Rattle.link_tree.specs.Nodes.{is_in}
+use Rattle.link_tree.proofs.Laws.{none_some}
 use Rattle.best_fit.specs.Extents.{Gap}
 use Rattle.best_fit.specs.FreeTree.{payloads}
 use Rattle.best_fit.specs.GapNodes.{gaps_of}
@@ -16,16 +17,13 @@ use Rattle.best_fit.proofs.FreeTrees.{in_here}
 use Rattle.best_fit.proofs.GapFacts.{node_at}
 use Rattle.best_fit.proofs.Rows.{unused, used, use_cases, unused-free, used-not_free, gaps_of-free, gaps_of-used}
 
-no_at : (n : ℕ) → None ≡ Some n → ⊥
-no_at n e = let o : Option ℕ = None in let f : o ≡ Some n = e in cc
-
 pub record One (gs : List Gap) (at : ℕ) : Type 0 where
   pub gap : Gap
   pub list : gs ≡ gap ∷ []
   pub offset : at ≡ gap.offset
 
 pub one_gap : (gs : List Gap) (at : ℕ) → Some at ≡ offset_of gs → length gs ≤ 1 → One gs at
-one_gap [] at e l = absurd (no_at at (sym e))
+one_gap [] at e l = absurd (none_some at (sym e))
 one_gap (g ∷ []) at e l = record { gap = g; list = refl; offset = same_Some at g.offset e }
 one_gap (g ∷ h ∷ gs) at e l = absurd (omega arith)
 

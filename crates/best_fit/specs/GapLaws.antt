@@ -1,8 +1,8 @@
 -- The laws of the gaps as nodes.
 use Rattle.std.proofs.Common.{◌≡◌, refl, sym, ap, subst, ℕ, zero, suc, ◌+◌, ◌-◌, ◌/◌, ◌^◌, ◌<◌, ◌≤◌, ◌⊎◌, inl, inr, Bool, true, false, ◌&&◌, ◌||◌, List, [], ◌∷◌, length, arith, nat_lt, ◌==◌, IsTrue}
 use Rattle.std.specs.Prelude.{Option, Some, None}
-use Rattle.std.specs.List.{list_all, cons_option}
-use Rattle.std.proofs.lemmas.Bool.{false≢true, both_ways, cases_Bool, and_parts, and_from, or_cases, or_left, or_right, ltb-true, lt-ltb, eqb-true, eq-eqb, cond-true, cond-false}
+use Rattle.std.specs.List.{cons_option}
+use Rattle.std.proofs.lemmas.Bool.{both_ways, cases_Bool, and_parts, and_from, or_cases, or_left, or_right, ltb-true, lt-ltb, eqb-true, eq-eqb, cond-true, cond-false}
 use Rattle.raw_region.specs.Memory.{Memory, Cut, bytes_of}
 use Rattle.block_tags.specs.declared.tile.Tile.{Tile}
 use Rattle.raw_region.specs.Format.{current}
@@ -10,6 +10,7 @@ use Rattle.block_tags.specs.Format.{is_legal_size}
 use Rattle.block_tags.specs.Tiles.{has_tags, tiles_from, tile_at}
 use Rattle.link_tree.specs.Tree.{Cell}
 use Rattle.link_tree.specs.Nodes.{is_in, leads}
+use Rattle.link_tree.proofs.Laws.{all_at}
 use Rattle.best_fit.specs.Extents.{Gap}
 use Rattle.best_fit.specs.FreeTree.{cells_of, payloads}
 use Rattle.best_fit.specs.GapNodes.{tiles_in, as_gap, gaps_of, gaps_in, len_in, comes_before, is_too_short, links_among, has_links, is_good, is_gap_node, gap_cells, no_cell}
@@ -37,7 +38,7 @@ few_gaps (t ∷ ts) = let rest = few_gaps ts in by_use (as_gap t) (gaps_of ts) (
     by_use None gs n l = omega arith
     by_use (Some g) gs n l = omega arith
 
-length-payloads : (gs : List Gap) → length (payloads gs) ≡ length gs
+pub length-payloads : (gs : List Gap) → length (payloads gs) ≡ length gs
 length-payloads [] = refl
 length-payloads (g ∷ gs) = ap suc (length-payloads gs)
 
@@ -94,14 +95,6 @@ gaps_finite c = by_test (is_good c) refl
     by_test false e = ([], omega arith, λ n h. absurd (both_ways (is_good c) e (Good-is_good c (is_gap_node-GapNode c n h).good)))
 
 -- ---- links lead to nodes
-
-all_step : (p : ℕ → Bool) (m : ℕ) (ns : List ℕ) (n : ℕ) → (list_all p ns ≡ true → is_in n ns ≡ true → p n ≡ true) → ((n == m) ≡ true) ⊎ (is_in n ns ≡ true) → p m ≡ true → list_all p ns ≡ true → p n ≡ true
-all_step p m ns n rest (inl e) here all = subst (λ k. p k ≡ true) (sym (eqb-true n m e)) here
-all_step p m ns n rest (inr i) here all = rest all i
-
-pub all_at : (p : ℕ → Bool) (ns : List ℕ) (n : ℕ) → list_all p ns ≡ true → is_in n ns ≡ true → p n ≡ true
-all_at p [] n a h = absurd (false≢true h)
-all_at p (m ∷ ns) n a h = let two = and_parts (p m) (list_all p ns) a in all_step p m ns n (all_at p ns n) (or_cases (n == m) (is_in n ns) h) two.0 two.1
 
 pub links_at : (c : Cut) (n : ℕ) → GapNode c n → links_among (bytes_of c.bytes) (payloads (gaps_in c)) n ≡ true
 links_at c n g = all_at (links_among (bytes_of c.bytes) (payloads (gaps_in c))) (payloads (gaps_in c)) n g.good.links g.listed

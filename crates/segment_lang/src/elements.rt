@@ -11,10 +11,9 @@ use crate::buffer::Text;
 use crate::commands::Command;
 use crate::keys::key_of;
 use crate::lists::read_literals;
-use crate::literals::{literal_of, quoted_of};
-use crate::numbers::number;
-use crate::readers::{key_and_literal, key_and_number};
-use crate::words::{next_word, only_word, three_words, two_words};
+use crate::literals::quoted_of;
+use crate::readers::{key_and_literal, key_and_number, key_number_literal, only_key};
+use crate::words::{next_word, two_words};
 
 /// A key and a value, of a new last element.
 #[inline(never)]
@@ -30,8 +29,8 @@ pub fn read_push<'a>(bytes: &'a [u8], scratch: &'a mut Text) -> Option<Command<'
 pub fn read_pop<'a>(bytes: &'a [u8], scratch: &'a mut Text) -> Option<Command<'a>>
     ensures { option_map command_of result ≡ of_one (with_key asked.Pop key_of) bytes.now }
 {
-    let word = only_word(bytes)?;
-    Some(Command::Pop(key_of(word, scratch)?))
+    let key = only_key(bytes, scratch)?;
+    Some(Command::Pop(key))
 }
 
 /// A key, a number and a value, of a new element.
@@ -39,10 +38,7 @@ pub fn read_pop<'a>(bytes: &'a [u8], scratch: &'a mut Text) -> Option<Command<'a
 pub fn read_insert<'a>(bytes: &'a [u8], scratch: &'a mut Text) -> Option<Command<'a>>
     ensures { option_map command_of result ≡ of_three (with_key_number_literal asked.Insert) bytes.now }
 {
-    let (key, index, value) = three_words(bytes)?;
-    let key = key_of(key, scratch)?;
-    let index = number(index)?;
-    let value = literal_of(value)?;
+    let (key, index, value) = key_number_literal(bytes, scratch)?;
     Some(Command::Insert { key, index, value })
 }
 
@@ -69,8 +65,8 @@ pub fn read_reserve<'a>(bytes: &'a [u8], scratch: &'a mut Text) -> Option<Comman
 pub fn read_shrink<'a>(bytes: &'a [u8], scratch: &'a mut Text) -> Option<Command<'a>>
     ensures { option_map command_of result ≡ of_one (with_key asked.Shrink key_of) bytes.now }
 {
-    let word = only_word(bytes)?;
-    Some(Command::Shrink(key_of(word, scratch)?))
+    let key = only_key(bytes, scratch)?;
+    Some(Command::Shrink(key))
 }
 
 /// A key, of an object that loses all its elements.
@@ -78,8 +74,8 @@ pub fn read_shrink<'a>(bytes: &'a [u8], scratch: &'a mut Text) -> Option<Command
 pub fn read_clear<'a>(bytes: &'a [u8], scratch: &'a mut Text) -> Option<Command<'a>>
     ensures { option_map command_of result ≡ of_one (with_key asked.Clear key_of) bytes.now }
 {
-    let word = only_word(bytes)?;
-    Some(Command::Clear(key_of(word, scratch)?))
+    let key = only_key(bytes, scratch)?;
+    Some(Command::Clear(key))
 }
 
 /// A key and any number of values, of all new elements.

@@ -34,8 +34,8 @@ pub fn index_key<'a>(word: Word<'a>, scratch: &'a mut Text) -> Option<IndexKey<'
 {
     match word {
         Word::Bare([b'@', kind @ ..]) => Some(IndexKey::Unique(kind_named(kind)?)),
-        Word::Bare(name) => Some(IndexKey::Name(bare_name(name)?)),
-        Word::Text(text) => Some(IndexKey::Name(text.to_name(scratch)?)),
+        Word::Bare(name) => bare_name(name).map(IndexKey::Name),
+        Word::Text(text) => text.to_name(scratch).map(IndexKey::Name),
     }
 }
 
@@ -66,7 +66,7 @@ pub fn new_key_for<'a>(kind: Kind, word: Word<'a>, scratch: &'a mut Text) -> Opt
 {
     match word {
         Word::Bare(word) if is(word, b"-") => Some(NewKey::Anonymous),
-        _ => Some(index_key_for(kind, word, scratch)?.into_new_key()),
+        _ => index_key_for(kind, word, scratch).map(IndexKey::into_new_key),
     }
 }
 
@@ -86,6 +86,6 @@ pub fn key_of<'a>(word: Word<'a>, scratch: &'a mut Text) -> Option<Key<'a>>
 {
     match word {
         Word::Bare([b'#', digits @ ..]) => Some(Key::Handle(number_of(digits)?)),
-        _ => Some(index_key(word, scratch)?.into_key()),
+        _ => index_key(word, scratch).map(IndexKey::into_key),
     }
 }

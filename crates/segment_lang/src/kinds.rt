@@ -102,10 +102,10 @@ pub fn kind_of_word(word: Word<'_>) -> Option<Kind>
     }
 }
 
-/// What stands in front of the first `[`, and what behind it.
-fn split_bracket(word: &[u8]) -> (&[u8], &[u8])
+/// What stands in front of the first `[`, and what is from there on.
+fn split_front(word: &[u8]) -> (&[u8], &[u8])
     ensures front { result.0.now ≡ take_while (λ c. not (c == 0x5B)) word.now }
-    ensures behind { result.1.now ≡ drop (length result.0.now + 1) word.now }
+    ensures rest { result.1.now ≡ drop (length result.0.now) word.now }
 {
     let mut rest = word;
     'front: while let [first, tail @ ..] = rest {
@@ -114,7 +114,15 @@ fn split_bracket(word: &[u8]) -> (&[u8], &[u8])
         }
         rest = tail;
     }
-    let (front, rest) = word.split_at(word.len() - rest.len());
+    word.split_at(word.len() - rest.len())
+}
+
+/// What stands in front of the first `[`, and what behind it.
+fn split_bracket(word: &[u8]) -> (&[u8], &[u8])
+    ensures front { result.0.now ≡ take_while (λ c. not (c == 0x5B)) word.now }
+    ensures behind { result.1.now ≡ drop (length result.0.now + 1) word.now }
+{
+    let (front, rest) = split_front(word);
     match rest {
         [_, behind @ ..] => (front, behind),
         [] => (front, rest),

@@ -81,7 +81,8 @@ pub fn read_destroy<'a>(bytes: &'a [u8], scratch: &'a mut Text) -> Option<Comman
     ensures { option_map command_of result ≡ of_one (with_key asked.Destroy name_key) bytes.now }
 {
     let word = only_word(bytes)?;
-    Some(Command::Destroy(index_key(word, scratch)?))
+    let key = index_key(word, scratch)?;
+    Some(Command::Destroy(key))
 }
 
 /// A handle.
@@ -91,7 +92,18 @@ pub fn read_destroy_ptr(bytes: &[u8]) -> Option<Command<'_>>
         ≡ option_map asked.DestroyPtr (option_and_then handle_of (only_word bytes.now)) }
 {
     let word = only_word(bytes)?;
-    Some(Command::DestroyPtr(handle_of(word)?))
+    let handle = handle_of(word)?;
+    Some(Command::DestroyPtr(handle))
+}
+
+/// A key, whatever it is read for.
+#[inline(always)]
+pub fn only_key<'a>(bytes: &'a [u8], scratch: &'a mut Text) -> Option<Key<'a>>
+    ensures { (f : AskedKey → asked.Command) → option_map (λ key. f (key_seen key)) result
+        ≡ of_one (with_key f key_of) bytes.now }
+{
+    let word = only_word(bytes)?;
+    key_of(word, scratch)
 }
 
 /// A key, of an object that is shown.
@@ -99,8 +111,8 @@ pub fn read_destroy_ptr(bytes: &[u8]) -> Option<Command<'_>>
 pub fn read_show<'a>(bytes: &'a [u8], scratch: &'a mut Text) -> Option<Command<'a>>
     ensures { option_map command_of result ≡ of_one (with_key asked.Show key_of) bytes.now }
 {
-    let word = only_word(bytes)?;
-    Some(Command::Show(key_of(word, scratch)?))
+    let key = only_key(bytes, scratch)?;
+    Some(Command::Show(key))
 }
 
 /// A key, of an object of which is told what it is.
@@ -108,8 +120,8 @@ pub fn read_show<'a>(bytes: &'a [u8], scratch: &'a mut Text) -> Option<Command<'
 pub fn read_info<'a>(bytes: &'a [u8], scratch: &'a mut Text) -> Option<Command<'a>>
     ensures { option_map command_of result ≡ of_one (with_key asked.Info key_of) bytes.now }
 {
-    let word = only_word(bytes)?;
-    Some(Command::Info(key_of(word, scratch)?))
+    let key = only_key(bytes, scratch)?;
+    Some(Command::Info(key))
 }
 
 /// A key and a number, whatever they are read for.
@@ -136,6 +148,23 @@ pub fn key_and_literal<'a>(bytes: &'a [u8], scratch: &'a mut Text) -> Option<(Ke
     Some((key, value))
 }
 
+/// A key, a number and a value, whatever they are read for.
+#[inline(always)]
+pub fn key_number_literal<'a>(
+    bytes: &'a [u8],
+    scratch: &'a mut Text,
+) -> Option<(Key<'a>, u64, Literal<'a>)>
+    ensures { (f : AskedKey → ℕ → asked.Literal → asked.Command)
+        → option_map (λ x. f (key_seen x.0) x.1 (literal_of x.2)) result
+        ≡ of_three (with_key_number_literal f) bytes.now }
+{
+    let (key, index, value) = three_words(bytes)?;
+    let key = key_of(key, scratch)?;
+    let index = number(index)?;
+    let value = literal_of(value)?;
+    Some((key, index, value))
+}
+
 /// A key and a number.
 #[inline(never)]
 pub fn read_get<'a>(bytes: &'a [u8], scratch: &'a mut Text) -> Option<Command<'a>>
@@ -150,11 +179,17 @@ pub fn read_get<'a>(bytes: &'a [u8], scratch: &'a mut Text) -> Option<Command<'a
 pub fn read_set<'a>(bytes: &'a [u8], scratch: &'a mut Text) -> Option<Command<'a>>
     ensures { option_map command_of result ≡ of_three (with_key_number_literal asked.Set) bytes.now }
 {
-    let (key, index, value) = three_words(bytes)?;
-    let key = key_of(key, scratch)?;
-    let index = number(index)?;
-    let value = literal_of(value)?;
+    let (key, index, value) = key_number_literal(bytes, scratch)?;
     Some(Command::Set { key, index, value })
+}
+
+/// A number, whatever it is read for.
+#[inline(always)]
+fn only_number(bytes: &[u8]) -> Option<u64>
+    ensures { (f : ℕ → asked.Command) → option_map f result ≡ of_one (with_number f) bytes.now }
+{
+    let word = only_word(bytes)?;
+    number(word)
 }
 
 /// A number, of entries in the index of names.
@@ -162,8 +197,8 @@ pub fn read_set<'a>(bytes: &'a [u8], scratch: &'a mut Text) -> Option<Command<'a
 pub fn read_reserve_named(bytes: &[u8]) -> Option<Command<'_>>
     ensures { option_map command_of result ≡ of_one (with_number asked.ReserveNamed) bytes.now }
 {
-    let word = only_word(bytes)?;
-    Some(Command::ReserveNamed(number(word)?))
+    let count = only_number(bytes)?;
+    Some(Command::ReserveNamed(count))
 }
 
 /// A number, of entries in the index of unique kinds.
@@ -171,8 +206,8 @@ pub fn read_reserve_named(bytes: &[u8]) -> Option<Command<'_>>
 pub fn read_reserve_unique(bytes: &[u8]) -> Option<Command<'_>>
     ensures { option_map command_of result ≡ of_one (with_number asked.ReserveUnique) bytes.now }
 {
-    let word = only_word(bytes)?;
-    Some(Command::ReserveUnique(number(word)?))
+    let count = only_number(bytes)?;
+    Some(Command::ReserveUnique(count))
 }
 
 /// Whether nothing stands behind a command word.

@@ -1,41 +1,22 @@
 -- The three words of a container are written, and its storage is given back or shortened to its elements.
-use Rattle.std.proofs.Common.{◌≡◌, refl, sym, ap, subst, ◌∙◌, inl, inr, ◌⊎◌, ℕ, ◌+◌, ◌%◌, ◌<◌, ◌≤◌, Option, Some, None, List, [], arith, ◌≢◌, ◌*◌, min, ◌∷◌, length, ◌==◌}
-use Rattle.std.specs.Prelude.{IsTrue, option_map, option_to_list, nat_lt}
-use Rattle.std.specs.List.{AllByRecursion}
-use Rattle.std.proofs.lemmas.Bool.{and_from, and_parts, cond-false, cond-true, eq-eqb, le-leb, leb-true, lt-ltb, ne_eqb}
-use Rattle.raw_region.specs.Memory.{Cut, bytes_of, word_at, Has}
-use Rattle.raw_region.specs.Format.{current}
-use Rattle.raw_region.proofs.Laws.{SameBut-word}
-use Rattle.offset_link.specs.Link.{link_at, target_of}
-use Rattle.offset_link.proofs.Laws.{SameBut-link}
-use Rattle.best_fit.specs.Exchange.{IsExchanged, SameBlockBut}
-use Rattle.best_fit.specs.Extents.{Extent, LiveSet, handle, holds}
-use Rattle.best_fit.specs.Fit.{others, released, insert, resized, shorter}
-use Rattle.best_fit.specs.Heap.{IsChanged, IsHeap, IsReleased, LaysOut, Keeps, SameBlock, extent_at, has_room, live_of, IsResized, IsShortened}
-use Rattle.best_fit.specs.Table.{Table, no_table, cut_table, same_role, serves}
-use Rattle.best_fit.proofs.Laws.{all-same-but, changed-live, found-less, found-room, in_use-all, in_use-alone, laid-heap, lay_out_one, roomy, same-trans, word-same, written-but, written-keeps, found-more, found-new, live-rises, read-same, rising-insert, shorter-IsShorter}
-use Rattle.block_tags.specs.declared.tile.Role.{Role}
-use Rattle.block_tags.specs.declared.tile.Role.TheVariants.{Storage}
-use Rattle.seg_vector.specs.declared.places.Place.{Place}
-use Rattle.seg_vector.specs.Elements.{IsGivenBack, IsFitted}
-use Rattle.seg_vector.specs.Standing.{Stands, place_at}
-use Rattle.seg_vector.proofs.Storage.{all-found, none-some, same-some, table, but-but, more-times, no-bytes}
+use Rattle.seg_vector.proofs.Words.{◌≡◌, refl, sym, ap, subst, ◌∙◌, inl, ℕ, ◌+◌, ◌%◌, ◌≤◌, Option, Some, None, List}
+use Rattle.seg_vector.proofs.Words.{[], arith, ◌≢◌, ◌*◌, min, ◌∷◌, length, ◌==◌, IsTrue, option_map, option_to_list}
+use Rattle.seg_vector.proofs.Words.{nat_lt, and_from, cond-false, cond-true, eq-eqb, le-leb, leb-true, lt-ltb, ne_eqb}
+use Rattle.seg_vector.proofs.Words.{Cut, bytes_of, word_at, Has, current, SameBut-word, link_at, SameBut-link}
+use Rattle.seg_vector.proofs.Words.{IsExchanged, Extent, LiveSet, handle, holds, shorter, IsChanged, IsReleased}
+use Rattle.seg_vector.proofs.Words.{extent_at, has_room, live_of, IsResized, IsShortened, Table, no_table, same_role}
+use Rattle.seg_vector.proofs.Words.{serves, changed-live, laid-heap, read-same, shorter-IsShorter, spread-refl}
+use Rattle.seg_vector.proofs.Words.{exchange-released, exchange-resized, Role, Storage, Place, IsGivenBack, IsFitted}
+use Rattle.seg_vector.proofs.Words.{Stands, place_at}
+use Rattle.best_fit.specs.Table.{cut_table}
+use Rattle.seg_vector.proofs.Runs.{AreHeadWords, IsRun, beside-head, head-wider, none-some, room-head, run-headed}
+use Rattle.seg_vector.proofs.Runs.{run-stands, run-swapped, same-some, stands-run, table, table-full}
+use Rattle.seg_vector.proofs.Storage.{more-times, no-bytes, storage-role}
+use Rattle.best_fit.specs.Fit as fit
 
 -- ---- the three words of a container are written, and its storage is given back
 
 -- ---- one write after another
-
-pub outside : (at len f n k : ℕ) → at ≤ f → f + n ≤ at + len → (k < at) ⊎ (at + len ≤ k) → (k < f) ⊎ (f + n ≤ k)
-outside at len f n k a b (inl h) = inl (omega arith)
-outside at len f n k a b (inr h) = inr (omega arith)
-
-pub changed-both : {a b c : Cut} {f n g k : ℕ} (at len : ℕ) → IsChanged current a b f n → IsChanged current b c g k
-    → at ≤ f → f + n ≤ at + len → at ≤ g → g + k ≤ at + len → IsChanged current a c at len
-changed-both {a} {b} {c} {f} {n} {g} {k} at len p q h1 h2 h3 h4 = record {
-  place = record { before = q.place.before ∙ p.place.before; after = q.place.after ∙ p.place.after };
-  live = subst (LaysOut current c.bytes) (changed-live _ a b f n p) q.live;
-  rest = record { at = λ j w. q.rest.at j (outside at len g k j h3 h4 w) ∙ p.rest.at j (outside at len f n j h1 h2 w) };
-}
 
 -- ---- a container without a place
 
@@ -75,138 +56,32 @@ started {s1} {s2} {new} p each a r c link c2 len c3 cap =
 
 -- ---- the block in which a container stands, once its words are written
 
-pub record IsHeadWritten (old new : Cut) (p : Place) : Type 0 where
-  pub block : Extent
-  pub found : extent_at (live_of old.bytes) p.handle ≡ Some block
-  pub here : handle block ≡ p.handle
-  pub big : p.at + 24 + 16 ≤ block.len
-  pub live : live_of new.bytes ≡ live_of old.bytes
-  pub keeps : Keeps old new (others p.handle (live_of old.bytes).extents)
-  pub blocks : AllByRecursion (SameBlockBut (bytes_of old.bytes) (bytes_of new.bytes) (place_at p) 24)
-      (live_of old.bytes).extents
-
-pub head-written : {old new : Cut} {p : Place} {each len : ℕ} {t : Table} {bytes : List ℕ}
-    → Stands old.bytes p each len t bytes → IsChanged current old new (place_at p) 24 → IsHeadWritten old new p
-head-written {old} {new} {p} s c =
-    let heap = s.heap in
-    let l = live_of old.bytes in
-    let at = place_at p in
-    let h = p.handle in
-    let q = roomy old h (p.at + 24) heap s.room in
-    let v = q.extent in
-    let here = q.at in
-    let big = q.room in
-    record {
-      block = v;
-      found = q.found;
-      here = here;
-      big = big;
-      live = changed-live _ old new at 24 c;
-      keeps = written-keeps old new v _ at 24 (in_use-alone l h v heap.proper q.found) c.place c.rest
-          (omega (arith, here)) (omega (arith, here, big));
-      blocks = written-but old new l h at 24 v heap.proper q.found c (omega (arith, here)) (omega (arith, here, big));
-    }
-
--- no block is gone, and none came
-pub head-exchanged : {old new : Cut} (p : Place) → IsHeap current old.bytes
-    → IsTrue (has_room (live_of old.bytes) p.handle (p.at + 24)) → IsChanged current old new (place_at p) 24
-    → IsExchanged current old new (place_at p) 24 [] []
-head-exchanged {old} {new} p heap room c =
-    let l = live_of old.bytes in
-    let at = place_at p in
-    let h = p.handle in
-    let q = roomy old h (p.at + 24) heap room in
-    let v = q.extent in
-    let here = q.at in
-    let big = q.room in
-    let k = written-keeps old new v _ at 24 (in_use-alone l h v heap.proper q.found) c.place c.rest
-    (omega (arith, here)) (omega (arith, here, big)) in
-    record {
-      live = c.live;
-      place = c.place;
-      front = k.front;
-      behind = k.behind;
-      blocks = written-but old new l h at 24
-          v heap.proper q.found c (omega (arith, here)) (omega (arith, here, big));
-    }
-
 -- ---- the storage is given back
+
+-- the words are those of a container without a place
+emptied : {old mid : Cut} {p : Place} {each len : ℕ} {t : Table} {bytes : List ℕ} → Stands old.bytes p each len t bytes
+    → IsChanged current old mid (place_at p) 24 → Stands mid.bytes p each 0 no_table []
+    → IsRun old mid p (option_to_list t.extent) (option_to_list t.extent) 0 no_table
+emptied {old} s c1 e = run-headed {k = 0} {u = no_table} (stands-run old s) c1
+    (record { link = e.words.link; len_word = e.words.len_word; capacity = e.words.capacity })
 
 pub given-back : {old mid new : Cut} {p : Place} {each len c g : ℕ} {o : Option Extent} {bytes : List ℕ}
     → Stands old.bytes p each len (table c o) bytes → link_at (bytes_of old.bytes) (place_at p) ≡ Some g
     → IsChanged current old mid (place_at p) 24 → Stands mid.bytes p each 0 no_table [] → IsReleased current mid new g
     → IsGivenBack old new p each (table c o)
-given-back {o = None} s link c1 e r =
-    none-some s.words.link link
-given-back {old} {mid} {new} {p} {g} {o = Some x} s link c1 e r =
-    let heap = s.heap in
-    let l = live_of old.bytes in
-    let m = bytes_of old.bytes in
-    let mi = bytes_of mid.bytes in
-    let m' = bytes_of new.bytes in
-    let at = place_at p in
-    let h = p.handle in
+given-back {o = None} s link c1 e r = none-some s.words.link link
+given-back {old} {mid} {new} {o = Some x} s link c1 e r =
     let g_is = same-some (sym link ∙ s.words.link) in
-    let found = s.own.0 in
-    let w = head-written s c1 in
-    let v = w.block in
-    let here = w.here in
-    let big = w.big in
-    let rest = others (handle x) l.extents in
-    let gone : released (live_of mid.bytes) g ≡ released l (handle x) = λ i. released (w.live i) (g_is i) in
-    let laid : LaysOut current new.bytes (released l (handle x)) = subst (LaysOut current new.bytes) gone r.live in
-    let kept : Keeps mid new rest = subst (Keeps mid new) (ap (λ (k : LiveSet). k.extents) gone) r.keeps in
-    let after = lay_out_one current new.bytes (released l (handle x)) laid in
-    let there = found-less h (handle x) v l.extents (λ f. s.own.1 (sym f)) w.found in
-    let own = all-found (SameBlock mi m') h rest there kept.blocks in
-    record {
-      change = record {
-        live = laid;
-        place = record { before = kept.place.before ∙ c1.place.before; after = kept.place.after ∙ c1.place.after };
-        front = same-trans m mi m' 0 24 w.keeps.front kept.front;
-        behind = same-trans m mi m' 32 128 w.keeps.behind kept.behind;
-        blocks = but-but m mi m' at 24 rest (in_use-all (SameBlockBut m mi at 24) l (handle x) x heap.proper found
-            w.blocks).1 (all-same-but mi m' at 24 rest kept.blocks);
-      };
-      stands = record {
-        heap = laid-heap _ _ laid;
-        words = record {
-          link = ap (target_of at) (word-same mi m' _ _ at own.payload (omega (arith, here))
-              (omega (arith, here, big))) ∙ e.words.link;
-          len_word = word-same mi m' _ _ (at + 8) own.payload (omega (arith, here)) (omega (arith, here, big))
-              ∙ e.words.len_word;
-          capacity = word-same mi m' _ _ (at + 16) own.payload (omega (arith, here)) (omega (arith, here, big))
-              ∙ e.words.capacity;
-          storage = refl;
-        };
-        aligned = s.aligned;
-        room = subst (λ l. IsTrue (has_room l h (p.at + 24))) (sym after)
-            (found-room (released l (handle x)) h (p.at + 24) v there big);
-        table = refl;
-        fits = omega arith;
-        long = omega arith;
-        own = tt;
-      };
-    }
+    let gone = exchange-released current mid new x 0 0 (subst (IsReleased current mid new) g_is r) in
+    let run = run-swapped [] (spread-refl (x ∷ [])) (emptied s c1 e) gone ((λ f. s.own.1 (sym f)), tt) in
+    record { change = run.change; stands = run-stands [] s run refl (omega arith) (omega arith) refl }
 
 pub given-nothing : {old new : Cut} {p : Place} {each len c : ℕ} {o : Option Extent} {bytes : List ℕ}
     → Stands old.bytes p each len (table c o) bytes → link_at (bytes_of old.bytes) (place_at p) ≡ None
     → IsChanged current old new (place_at p) 24 → Stands new.bytes p each 0 no_table []
     → IsGivenBack old new p each (table c o)
-given-nothing {old} {new} {p} {o = None} s link c1 e =
-    let w = head-written s c1 in
-    record {
-      change = record {
-        live = c1.live;
-        place = c1.place;
-        front = w.keeps.front;
-        behind = w.keeps.behind;
-        blocks = w.blocks;
-      };
-      stands = e;
-    }
-given-nothing {o = Some x} s link c1 e =
-    none-some link s.words.link
+given-nothing {o = None} s link c1 e = record { change = (emptied s c1 e).change; stands = e }
+given-nothing {o = Some x} s link c1 e = none-some link s.words.link
 
 -- what is none of these is nothing
 pub none-left : (o : Option ℕ) → ((x : ℕ) → o ≡ Some x → ⊥) → o ≡ None
@@ -278,100 +153,55 @@ short l x n role big =
           (subst (λ (r : Role). IsTrue (same_role r Storage)) (sym (ap (λ (z : Extent). z.role) sh.same)) role) enough;
     }
 
-capacity-written : {old mid : Cut} (p : Place) → IsChanged current old mid (place_at p + 16) 8
-    → IsChanged current old mid (place_at p) 24
-capacity-written p c =
-    record {
-      place = c.place;
-      live = c.live;
-      rest = record
-          { at = λ j w. c.rest.at j (outside (place_at p) 24 (place_at p + 16) 8 j (omega arith) (omega arith) w) };
-    }
-
 pub fitted : {old mid new : Cut} {p : Place} {each len c g : ℕ} {o : Option Extent} {bytes : List ℕ} → 1 ≤ len
     → Stands old.bytes p each len (table c o) bytes → link_at (bytes_of old.bytes) (place_at p) ≡ Some g
     → IsChanged current old mid (place_at p + 16) 8 → word_at (bytes_of mid.bytes) (place_at p + 16) ≡ len
     → IsShortened current mid new g (each * len) → IsFitted old new p each len (table c o) bytes
-fitted {o = None} some s link c1 word r =
-    none-some s.words.link link
-fitted {old} {mid} {new} {p} {each} {len} {c} {g} {o = Some x} {bytes} some s link c1 word sh =
-    let heap = s.heap in
+fitted {o = None} some s link c1 word sh = none-some s.words.link link
+fitted {old} {mid} {new} {p} {each} {len} {c} {o = Some x} {bytes} some s link c1 word sh =
     let l = live_of old.bytes in
     let m = bytes_of old.bytes in
     let mi = bytes_of mid.bytes in
     let m' = bytes_of new.bytes in
     let at = place_at p in
-    let h = p.handle in
     let n : ℕ = each * len in
     let y = shorter l x n in
     let g_is = same-some (sym link ∙ s.words.link) in
-    let found = s.own.0 in
-    let c2 = capacity-written p c1 in
-    let w = head-written s c2 in
-    let v = w.block in
-    let here = w.here in
-    let big = w.big in
-    let rest = others (handle x) l.extents in
-    let both = and_parts (nat_lt 0 c) (serves x Storage (each * c)) s.table in
-    let two = and_parts (same_role x.role Storage) (holds x (each * c)) both.1 in
-    let full = leb-true (each * c + 16) x.len two.1 in
+    let other : p.handle ≢ handle x = λ e. s.own.1 (sym e) in
+    let full = table-full each c x s.table in
     let less = more-times each len c s.fits in
-    let q = short l x n two.0 (omega (arith, full, less)) in
-    let begins = q.begins in
-    let shorter_len = q.less in
-    let long = q.long in
-    let r = resized-here {b = mid} {e = new} l {g = (handle x)} {n = n} w.live found
+    let q = short l x n (storage-role each c (Some x) s.table) (omega (arith, full, less)) in
+    let wide = head-wider p c1 (omega arith) (omega arith) in
+    let one = run-headed {k = len} {u = table len (Some x)} (stands-run old s) wide (record {
+      link = SameBut-link m mi (at + 16) 8 at c1.rest (inl (omega arith)) ∙ s.words.link;
+      len_word = SameBut-word m mi (at + 16) 8 (at + 8) c1.rest (inl (omega arith)) ∙ s.words.len_word;
+      capacity = word;
+    }) in
+    let r = resized-here {b = mid} {e = new} l {g = handle x} {n = n} (changed-live current old mid at 24 wide) s.own.0
     (subst (λ k. IsShortened current mid new k n) g_is sh) in
-    let swap : resized (live_of mid.bytes) y ≡ record l { extents = insert y rest } = ap (λ (k : LiveSet). resized k y)
-    w.live ∙ ap (λ k. let u : LiveSet = record l { extents = insert y (others k l.extents) } in u) begins in
-    let laid : LaysOut current new.bytes (record l { extents = insert y rest }) = subst (LaysOut current new.bytes)
-    swap r.live in
-    let after : live_of new.bytes ≡ record l { extents = insert y rest } = lay_out_one current new.bytes
-    (record l { extents = insert y rest }) laid in
-    let kept : Keeps mid new rest = subst (λ (k : LiveSet). Keeps mid new (others (handle x) k.extents)) w.live
-    r.keeps in
-    let fresh = rising-insert 128 y rest (live-rises (record l { extents = insert y rest }) laid.proper) in
-    let there = found-less h (handle x) v l.extents (λ f. s.own.1 (sym f)) w.found in
-    let apart : handle y ≢ h = λ f. s.own.1 (sym begins ∙ f) in
-    let still_there = found-more h y v rest apart there in
-    let own = all-found (SameBlock mi m') h rest there kept.blocks in
-    let k1 = all-found (SameBlock m mi) (handle x) (others h l.extents)
-    (found-less (handle x) h x l.extents s.own.1 found) w.keeps.blocks in
+    let two = run-swapped [] (spread-refl (x ∷ [])) one (exchange-resized current mid new x y 0 0 q.begins r)
+    (other, tt) in
+    let words : AreHeadWords m' at len (table len (Some y)) =
+    record {
+      link = two.words.link ∙ ap (λ k. Some k) (sym q.begins);
+      len_word = two.words.len_word;
+      capacity = two.words.capacity;
+    } in
+    let three : IsRun old new p (x ∷ []) (y ∷ []) len (table len (Some y)) =
+    record { change = two.change; heap = two.heap; head = two.head; words = words } in
+    let k1 = beside-head (handle x) s.heap (room-head old p s.heap s.room) wide s.own.0 other in
     let total = s.long in
-    let least : min x.len y.len ≡ y.len = omega (arith, shorter_len) in
+    let least : min x.len y.len ≡ y.len = omega (arith, q.less) in
     let stored : Has mi (handle x) bytes = read-same m mi _ _ (handle x) (length bytes) k1.payload (omega arith)
     (omega (arith, full, less, total)) ∙ s.words.storage in
     let carried : Has m' (handle x) bytes = read-same mi m' _ _ (handle x) (length bytes) r.still.payload (omega arith)
-    (omega (arith, least, long, total)) ∙ stored in
-    let change : IsExchanged current old new at 24 (x ∷ []) (y ∷ []) = record {
-      live = laid;
-      place = record { before = kept.place.before ∙ c2.place.before; after = kept.place.after ∙ c2.place.after };
-      front = same-trans m mi m' 0 24 w.keeps.front kept.front;
-      behind = same-trans m mi m' 32 128 w.keeps.behind kept.behind;
-      blocks = but-but m mi m' at 24 rest (in_use-all (SameBlockBut m mi at 24) l (handle x) x heap.proper found
-          w.blocks).1 (all-same-but mi m' at 24 rest kept.blocks);
-    } in
-    let stands : Stands new.bytes p each len (table len (Some y)) bytes = record {
-      heap = laid-heap _ _ laid;
-      words = record {
-        link = ap (target_of at) (word-same mi m' _ _ at own.payload (omega (arith, here)) (omega (arith, here, big)))
-            ∙ SameBut-link m mi _ 8 at c1.rest (inl (omega arith)) ∙ s.words.link ∙ ap (λ k. Some k) (sym begins);
-        len_word = word-same mi m' _ _ (at + 8) own.payload (omega (arith, here)) (omega (arith, here, big))
-            ∙ SameBut-word m mi _ 8 (at + 8) c1.rest (inl (omega arith)) ∙ s.words.len_word;
-        capacity = word-same mi m' _ _ (at + 16) own.payload (omega (arith, here)) (omega (arith, here, big)) ∙ word;
-        storage = subst (λ k. Has m' k bytes) (sym begins) carried;
-      };
-      aligned = s.aligned;
-      room = subst (λ l. IsTrue (has_room l h (p.at + 24))) (sym after)
-          (found-room (record l { extents = insert y rest }) h (p.at + 24) v still_there big);
-      table = and_from (nat_lt 0 len) (serves y Storage n) (lt-ltb 0 len (omega (arith, some))) q.serves_it;
-      fits = omega arith;
-      long = s.long;
-      own = (ap (λ l. extent_at l (handle y)) after ∙ found-new y rest fresh.differs, apart);
-    } in
+    (omega (arith, least, q.long, total)) ∙ stored in
+    let serving = and_from (nat_lt 0 len) (serves y Storage n) (lt-ltb 0 len (omega (arith, some))) q.serves_it in
+    let stands = run-stands bytes s three serving (omega arith) s.long
+    (subst (λ k. Has m' k bytes) (sym q.begins) carried) in
     let cut = cut-some l each len c x some in
     record {
       change = subst (λ (u : Table). IsExchanged current old new at 24 (x ∷ []) (option_to_list u.extent)) (sym cut)
-          change;
+          three.change;
       stands = subst (λ (u : Table). Stands new.bytes p each len u bytes) (sym cut) stands;
     }

@@ -1,3 +1,5 @@
+pub mod Words
+pub mod Runs
 pub mod Storage
 pub mod Fewer
 pub mod Typed

@@ -1,44 +1,30 @@
 -- The storage of a container that stands at a place: regrown, written in, and read.
-use Rattle.std.proofs.Common.{◌≡◌, ◌≢◌, refl, sym, ap, subst, ◌∙◌, inl, inr, ℕ, ◌+◌, ◌*◌, ◌%◌, ◌<◌, ◌≤◌, Bool, true, false, Option, Some, None, List, [], ◌∷◌, length, arith, if◌then◌else◌, cond, ◌⊎◌, ◌==◌, zero, suc, ◌++◌, length-append, max, ◌-◌, take, drop, ◌&&◌, append-nil}
-use Rattle.std.specs.Prelude.{IsTrue, IfSome, nat_lt, option_map, option_to_list, find, nat_le, ◌==◌, ◌&&◌}
-use Rattle.std.specs.List.{AllByRecursion, list_any}
-use Rattle.std.proofs.lemmas.Bool.{eqb-true, and_from, and_parts, leb-true, le-leb, lt-leb, lt-ltb, ltb-true, or_cases, or_left, or_right, eq-eqb}
-use Rattle.std.proofs.lemmas.List.{length-take, length-drop, drop_at, take-take}
-use Rattle.raw_region.specs.Memory.{Memory, Cut, SameBut, Has, bytes_of, read, word_at, patched}
-use Rattle.raw_region.proofs.Laws.{SameBut-word_below, SameBut-word_above, SameBut-wider, read-part}
-use Rattle.offset_link.specs.Link.{link_at, target_of}
-use Rattle.block_tags.specs.declared.tile.Role.TheVariants.{Storage}
-use Rattle.raw_region.specs.Format.{current}
-use Rattle.best_fit.specs.Exchange.{CarriesOver, IsGivenRoom, IsNotGivenRoom, block_of, exchanged, without_all, SameBlockBut, IsExchanged, inserted}
-use Rattle.best_fit.specs.Extents.{Extent, LiveSet, handle, holds, is_proper, end_of, is_block, is_hole, proper_from}
-use Rattle.best_fit.specs.Fit.{insert, others, regrow, resized, longer, place, is_extent}
-use Rattle.best_fit.specs.Heap.{IsChanged, IsHeap, LaysOut, SameBlock, Keeps, extent_at, has_room, live_of, is_live_in, payload_at}
-use Rattle.best_fit.specs.Table.{Table, is_table, serves, same_role, table_link}
-use Rattle.best_fit.proofs.Laws.{Differs, Rising, IsAmong, IsSound, among, all_of-insert, exchange-back, found-less, found-more, found-new, found-room, in_use-alone, keeps-all, live-rises, live-sound, read-same, rising-insert, written-keeps, word-same, room_block, laid-heap, roomy, all-same-but, changed-live, exchanged-written, regrown-live, regrow-serves, in_use-all, same-trans, but-trans, written-but, lay_out_one, without-inserted, block_payload, room-less, IfSome_is, all_keep_proper, legal_size, too_long}
-use Rattle.block_tags.specs.Format.{is_legal_size}
-use Rattle.seg_vector.specs.declared.places.Place.{Place}
-use Rattle.seg_vector.specs.Standing.{IsGrown, IsNotGrown, IsOwnBlock, Stands, place_at, IsAppended}
-use Rattle.seg_vector.specs.Vector.{IsStorage, grown_table, capacity_for_one}
-use Rattle.seg_vector.specs.Elements.{IsRewritten}
+use Rattle.seg_vector.proofs.Words.{◌≡◌, refl, sym, ap, subst, ◌∙◌, inl, inr, ℕ, ◌+◌, ◌*◌, ◌%◌, ◌<◌, ◌≤◌, Bool, true}
+use Rattle.seg_vector.proofs.Words.{false, Option, Some, None, List, [], ◌∷◌, length, arith, if◌then◌else◌, cond, ◌⊎◌}
+use Rattle.seg_vector.proofs.Words.{◌==◌, zero, suc, ◌++◌, length-append, max, ◌-◌, take, drop, ◌&&◌, append-nil}
+use Rattle.seg_vector.proofs.Words.{IsTrue, IfSome, nat_lt, option_map, option_to_list, find, nat_le, AllByRecursion}
+use Rattle.seg_vector.proofs.Words.{list_any, eqb-true, and_from, and_parts, leb-true, le-leb, lt-leb, lt-ltb}
+use Rattle.seg_vector.proofs.Words.{ltb-true, or_cases, or_left, or_right, eq-eqb, length-take, length-drop, drop_at}
+use Rattle.seg_vector.proofs.Words.{take-take, Memory, Cut, SameBut, Has, bytes_of, read, word_at, patched, read-part}
+use Rattle.seg_vector.proofs.Words.{SameBut-word, link_at, Storage, current, CarriesOver, IsGivenRoom, IsNotGivenRoom}
+use Rattle.seg_vector.proofs.Words.{block_of, exchanged, without_all, IsExchanged, IsRegrown, Extent, LiveSet, handle}
+use Rattle.seg_vector.proofs.Words.{holds, end_of, is_block, is_hole, proper_from, others, resized, longer, place}
+use Rattle.seg_vector.proofs.Words.{is_extent, shorter, IsChanged, IsHeap, LaysOut, extent_at, has_room, live_of}
+use Rattle.seg_vector.proofs.Words.{is_live_in, payload_at, Table, is_table, serves, same_role, table_link, IsSound}
+use Rattle.seg_vector.proofs.Words.{all_of-insert, found-room, live-sound, read-same, room_block, laid-heap}
+use Rattle.seg_vector.proofs.Words.{all-same-but, changed-live, regrow-serves, in_use-all, block_payload, room-less}
+use Rattle.seg_vector.proofs.Words.{IfSome_is, all_keep_proper, legal_size, too_long, spread-refl, exchange-next}
+use Rattle.seg_vector.proofs.Words.{is_legal_size, Place, IsGrown, IsNotGrown, IsOwnBlock, Stands, place_at}
+use Rattle.seg_vector.proofs.Words.{IsAppended, IsStorage, capacity_for_one, IsRewritten, IsSwapped, SameBut-link}
+use Rattle.best_fit.specs.Extents.{is_proper}
+use Rattle.best_fit.specs.Fit.{regrow}
+use Rattle.seg_vector.specs.Vector.{grown_table}
+use Rattle.seg_vector.proofs.Runs.{IsRun, beside-head, block-written, changed-both, head-room, head-wider, len-written}
+use Rattle.seg_vector.proofs.Runs.{none-some, room-head, run-found, run-headed, run-stands, run-swapped, same-some}
+use Rattle.seg_vector.proofs.Runs.{serves-full, spread-nil, stands-none-of, stands-run, table, table-full}
+use Rattle.best_fit.specs.Fit as fit
 
 -- ---- the storage of a container that stands at a place is regrown
-
-abbrev pub table : ℕ → Option Extent → Table
-table c o = record { capacity = c; extent = o }
-
--- ---- what an option leads to, and how long a block is
-
-pub none-some : {A B : Type 0} {o : Option A} {x : A} → o ≡ None → o ≡ Some x → B
-none-some e f = absurd (cc)
-
-pub same-some : {A : Type 0} {x y : A} → Some x ≡ Some y → x ≡ y
-same-some e = cc
-
-pub serves-full : (x : Extent) (n : ℕ) → IsTrue (serves x Storage n) → n + 16 ≤ x.len
-serves-full x n t = leb-true (n + 16) x.len (and_parts (same_role x.role Storage) (holds x n) t).1
-
-pub table-full : (each c : ℕ) (x : Extent) → IsTrue (is_table Storage each (table c (Some x))) → each * c + 16 ≤ x.len
-table-full each c x t = serves-full x (each * c) (and_parts (nat_lt 0 c) (serves x Storage (each * c)) t).1
 
 -- ---- what stands
 
@@ -73,18 +59,29 @@ stands-block {b} {p} {t} s = own-block (live_of b) p.handle t.extent s.own
 
 -- ---- the table
 
-grown-same : (l : LiveSet) (each n : ℕ) (t : Table) → n ≤ t.capacity → grown_table l each n t ≡ Some t
+pub grown-same : (l : LiveSet) (each n : ℕ) (t : Table) → n ≤ t.capacity → grown_table l each n t ≡ Some t
 unfolding grown_table
 grown-same l each n t f =
     ap (λ b. if b then Some t else option_map (λ x. table n (Some x)) (regrow l t.extent (each * n)))
     (le-leb n t.capacity f)
 
-grown-more : (l : LiveSet) (each n : ℕ) (t : Table) → t.capacity < n
+pub grown-more : (l : LiveSet) (each n : ℕ) (t : Table) → t.capacity < n
     → grown_table l each n t ≡ option_map (λ x. table n (Some x)) (regrow l t.extent (each * n))
 unfolding grown_table
 grown-more l each n t f =
     ap (λ b. if b then Some t else option_map (λ x. table n (Some x)) (regrow l t.extent (each * n)))
     (lt-leb n t.capacity f)
+
+pub grows-not : (c : Cut) {p : Place} {each : ℕ} (n : ℕ) {len : ℕ} {t : Table} {bytes : List ℕ} → n ≤ t.capacity
+    → Stands c.bytes p each len t bytes → IsGrown c c p each n len t bytes
+grows-not c {each} n {t} f s =
+    record {
+      table = t;
+      grown = grown-same (live_of c.bytes) each n t f;
+      change = (stands-run c s).change;
+      stands = s;
+      enough = λ less. refl;
+    }
 
 -- there is no space
 pub grows-nothing : {old new : Cut} (each n : ℕ) (t : Table) → t.capacity < n
@@ -101,55 +98,7 @@ not-refused {old} {each} {n} {t} f r = let none = sym (grown-same (live_of old.b
 
 -- ---- nothing to do
 
-pub back : (l : LiveSet) (h : ℕ) (o : Option Extent) → IsTrue (is_proper l) → IsOwnBlock l h o
-    → exchanged l (option_to_list o) (option_to_list o) ≡ l
-back l h None p own = refl
-back l h (Some x) p own = exchange-back l (handle x) x p own.0
-
-pub grows-not : (c : Cut) {p : Place} {each : ℕ} (n : ℕ) {len : ℕ} {t : Table} {bytes : List ℕ}
-    → IsHeap current c.bytes → n ≤ t.capacity → Stands c.bytes p each len t bytes → IsGrown c c p each n len t bytes
-grows-not c {p} {each} n {t} heap f s =
-    let l = live_of c.bytes in
-    let k = keeps-all c (without_all (option_to_list t.extent) l.extents) in
-    record {
-      table = t;
-      grown = grown-same l each n t f;
-      change = record {
-        live = subst (LaysOut current c.bytes) (sym (back l p.handle t.extent heap.proper s.own)) heap;
-        place = k.place;
-        front = k.front;
-        behind = k.behind;
-        blocks = all-same-but (bytes_of c.bytes) (bytes_of c.bytes) (place_at p) 24
-            (without_all (option_to_list t.extent) l.extents) k.blocks;
-      };
-      stands = s;
-      enough = λ less. refl;
-    }
-
 -- ---- the block of the container, once the storage is regrown
-
--- it is among those that stay
-stays-found : (l : LiveSet) (h : ℕ) {x : Extent} (o : Option Extent) → IsOwnBlock l h o → extent_at l h ≡ Some x
-    → find (λ (w : Extent). handle w == h) (without_all (option_to_list o) l.extents) ≡ Some x
-stays-found l h None own e = e
-stays-found l h {x} (Some z) own e = found-less h (handle z) x l.extents (λ f. own.1 (sym f)) e
-
-record IsStill (l : LiveSet) (h : ℕ) (x y : Extent) (rest : List Extent) : Type 0 where
-  other : handle y ≢ h
-  found : find (λ (w : Extent). handle w == h) (insert y rest) ≡ Some x
-  differs : Differs y rest
-  among : IsAmong h x rest
-
-still : (l : LiveSet) (h : ℕ) {x : Extent} (y : Extent) (rest : List Extent) → Rising 128 (insert y rest)
-    → find (λ (w : Extent). handle w == h) rest ≡ Some x → IsStill l h x y rest
-still l h {x} y rest r e =
-    let fresh = rising-insert 128 y rest r in
-    let a = among 128 h x rest fresh.rest e in
-    let both = all_of-insert (λ (z : Extent). y.offset ≢ z.offset) x (others h rest)
-    (subst (Differs y) a.is fresh.differs) in
-    let at = a.at in
-    let other : handle y ≢ h = λ f. both.0 (omega (arith, f, at)) in
-    record { other = other; found = found-more h y x rest other e; differs = fresh.differs; among = a }
 
 all-found-if : (P : Extent → Type 0) (h : ℕ) {x : Extent} (z : Extent) (zs : List Extent)
     → (find (λ (w : Extent). handle w == h) zs ≡ Some x → AllByRecursion P zs → P x) → (b : Bool)
@@ -176,46 +125,7 @@ come-aligned {old} {o} {g} r =
     let even = sound.aligned in
     omega (arith, at, even)
 
--- the container's own block is there still
-pub mid-room : {old mid : Cut} {p : Place} {each : ℕ} (n : ℕ) {len g : ℕ} {t : Table} {bytes : List ℕ}
-    → IsHeap current old.bytes → Stands old.bytes p each len t bytes
-    → IsGivenRoom current old mid t.extent (each * n) (each * len) g
-    → IsTrue (has_room (live_of mid.bytes) p.handle (p.at + 24))
-mid-room {old} {mid} {p} n {t} heap s r =
-    let l = live_of old.bytes in
-    let y = r.extent in
-    let gone = option_to_list t.extent in
-    let q = roomy old p.handle (p.at + 24) heap s.room in
-    let kept = stays-found l p.handle t.extent s.own q.found in
-    let k = still l p.handle y (without_all gone l.extents)
-    (live-rises (exchanged l gone (y ∷ [])) r.change.live.proper) kept in
-    subst (λ l. IsTrue (has_room l p.handle (p.at + 24))) (sym (regrown-live old mid gone y r.change))
-    (found-room (exchanged l gone (y ∷ [])) p.handle (p.at + 24) _ k.found q.room)
-
 -- ---- the words
-
-target-same : (m m' : Memory) (at : ℕ) → word_at m' at ≡ word_at m at → link_at m' at ≡ link_at m at
-target-same m m' at e = ap (target_of at) e
-
-both-but : {a b c : Memory} {at : ℕ} → SameBut a b at 8 → SameBut b c (at + 16) 8 → SameBut a c at 24
-both-but {at} p q = record { at = λ k f. q.at k (outer k f) ∙ p.at k (inner k f) }
-  where
-    outer : (k : ℕ) → (k < at) ⊎ (at + 24 ≤ k) → (k < at + 16) ⊎ (at + 16 + 8 ≤ k)
-    outer k (inl f) = inl (omega arith)
-    outer k (inr f) = inr (omega arith)
-
-    inner : (k : ℕ) → (k < at) ⊎ (at + 24 ≤ k) → (k < at) ⊎ (at + 8 ≤ k)
-    inner k (inl f) = inl f
-    inner k (inr f) = inr (omega arith)
-
--- the link and the capacity are written
-pub both-changed : {mid s1 new : Cut} {at : ℕ} → IsChanged current mid s1 at 8 → IsChanged current s1 new (at + 16) 8
-    → IsChanged current mid new at 24
-both-changed {mid} {s1} {new} {at} p q = record {
-  place = record { before = q.place.before ∙ p.place.before; after = q.place.after ∙ p.place.after };
-  live = subst (LaysOut current new.bytes) (changed-live _ mid s1 at 8 p) q.live;
-  rest = both-but p.rest q.rest;
-}
 
 -- ---- the bytes of the elements
 
@@ -243,79 +153,69 @@ storage-role each c (Some x) t =
     (and_parts (same_role x.role Storage) (holds x (each * c))
     (and_parts (nat_lt 0 c) (serves x Storage (each * c)) t).1).0
 
--- ---- the container with more places
+regrown-swapped : {old mid : Cut} {gone : List Extent} {y : Extent} → IsRegrown current old mid gone y
+    → IsSwapped old mid gone (y ∷ [])
+regrown-swapped {old} {mid} {gone} r = record {
+  live = r.live;
+  place = r.keeps.place;
+  front = r.keeps.front;
+  behind = r.keeps.behind;
+  blocks = all-same-but (bytes_of old.bytes) (bytes_of mid.bytes) 0 0 (without_all gone (live_of old.bytes).extents)
+      r.keeps.blocks;
+}
+
+pub grown-run : {old mid : Cut} {p : Place} {each len n k g : ℕ} {t : Table} {bytes : List ℕ}
+    → Stands old.bytes p each len t bytes → (r : IsGivenRoom current old mid t.extent n k g)
+    → IsRun old mid p (option_to_list t.extent) (r.extent ∷ []) len t
+grown-run {old} {t} s r =
+    let begun = stands-run old s in
+    run-swapped [] (spread-nil (option_to_list t.extent)) begun (regrown-swapped r.change) (stands-none-of s begun)
+
+-- the container's own block is there still
+pub mid-room : {old mid : Cut} {p : Place} {each len n k g : ℕ} {t : Table} {bytes : List ℕ}
+    → Stands old.bytes p each len t bytes → IsGivenRoom current old mid t.extent n k g
+    → IsTrue (has_room (live_of mid.bytes) p.handle (p.at + 24))
+mid-room s r = head-room (grown-run s r).head
 
 pub grows-more : {old mid s1 new : Cut} {p : Place} {each : ℕ} (n : ℕ) {len g : ℕ} {t : Table} {bytes : List ℕ}
-    → IsHeap current old.bytes → t.capacity < n → Stands old.bytes p each len t bytes
+    → t.capacity < n → Stands old.bytes p each len t bytes
     → IsGivenRoom current old mid t.extent (each * n) (each * len) g → IsChanged current mid s1 (place_at p) 8
     → link_at (bytes_of s1.bytes) (place_at p) ≡ Some g
     → IsChanged current s1 new (place_at p + 16) 8 → word_at (bytes_of new.bytes) (place_at p + 16) ≡ n
     → IsGrown old new p each n len t bytes
-grows-more {old} {mid} {s1} {new} {p} {each} n {len} {g} {t} {bytes} heap more s r c1 link c2 word =
+grows-more {old} {mid} {s1} {new} {p} {each} n {len} {t} {bytes} more s r c1 link c2 word =
     let l = live_of old.bytes in
-    let m = bytes_of old.bytes in
-    let mi = bytes_of mid.bytes in
     let ms = bytes_of s1.bytes in
     let m' = bytes_of new.bytes in
     let at = place_at p in
     let y = r.extent in
-    let g_is = r.at in
-    let gone = option_to_list t.extent in
-    let rest = without_all gone l.extents in
-    let q = roomy old p.handle (p.at + 24) heap s.room in
-    let x = q.extent in
-    let here = q.at in
-    let big = q.room in
-    let kept = stays-found l p.handle t.extent s.own q.found in
-    let k = still l p.handle y rest (live-rises (exchanged l gone (y ∷ [])) r.change.live.proper) kept in
-    let c = both-changed c1 c2 in
-    let e = exchanged-written old mid new gone y x p.handle at 24 r.change k.found c (omega (arith, here))
-    (omega (arith, here, big)) in
-    let own =
-    (all_of-insert (SameBlock m mi) x (others p.handle rest)
-    (subst (AllByRecursion (SameBlock m mi)) k.among.is r.change.keeps.blocks)).0 in
-    let now = regrown-live old mid gone y r.change in
-    let after : live_of new.bytes ≡ exchanged l gone (y ∷ []) = changed-live _ mid new at 24 c ∙ now in
-    let others_stay : Keeps mid new (others p.handle (insert y rest)) = written-keeps mid new x _ at 24
-    (in_use-alone (exchanged l gone (y ∷ [])) p.handle x r.change.live.proper k.found) c.place c.rest
-    (omega (arith, here)) (omega (arith, here, big)) in
-    let new_found = found-new y rest k.differs in
-    let still_found = found-less (handle y) p.handle y (insert y rest) k.other new_found in
-    let new_stays = all-found (SameBlock mi m') (handle y) (others p.handle (insert y rest)) still_found
-    others_stay.blocks in
+    let run = grown-run s r in
+    let c = changed-both at 24 c1 c2 (omega arith) (omega arith) (omega arith) (omega arith) in
+    let done = run-headed {k = len} {u = table n (Some y)} run c (record {
+      link = SameBut-link ms m' (at + 16) 8 at c2.rest (inl (omega arith)) ∙ link ∙ ap (λ k. Some k) r.at;
+      len_word = SameBut-word ms m' (at + 16) 8 (at + 8) c2.rest (inl (omega arith)) ∙ SameBut-word
+          (bytes_of mid.bytes) ms at 8 (at + 8) c1.rest (inr (omega arith)) ∙ run.words.len_word;
+      capacity = word;
+    }) in
     let serving = regrow-serves l t.extent y (each * n) (storage-role each t.capacity t.extent s.table) r.regrown in
     let long = serves-full y (each * n) serving in
     let less = more-times each len n (omega (arith, s.fits, more)) in
-    let stored = carried-storage m mi each len t.capacity t.extent y bytes s.table s.fits s.long s.words.storage
-    r.carried in
+    let stored = carried-storage (bytes_of old.bytes) (bytes_of mid.bytes) each len t.capacity t.extent y bytes s.table
+    s.fits s.long s.words.storage r.carried in
+    let stays = beside-head (handle y) run.heap run.head c (run-found run).0 (stands-none-of s run).0 in
     let total = s.long in
+    let full = and_from (nat_lt 0 n) (serves y Storage (each * n)) (lt-ltb 0 n (omega (arith, more))) serving in
     record {
       table = table n (Some y);
       grown = grown-more l each n t more ∙ ap (option_map (λ x. table n (Some x))) r.regrown;
-      change = e;
-      stands = record {
-        heap = laid-heap _ _ e.live;
-        words = record {
-          link = target-same ms m' at (SameBut-word_below ms m' (at + 16) 8 at c2.rest (omega arith)) ∙ link
-              ∙ ap (λ k. Some k) g_is;
-          len_word = SameBut-word_below ms m' (at + 16) 8 (at + 8) c2.rest (omega arith) ∙ SameBut-word_above mi ms at
-              8 (at + 8) c1.rest (omega arith)
-              ∙ word-same m mi _ _ (at + 8) own.payload (omega (arith, here)) (omega (arith, here, big))
-              ∙ s.words.len_word;
-          capacity = word;
-          storage = read-same mi m' _ _ (handle y) (length bytes) new_stays.payload (omega arith)
-              (omega (arith, long, less, total)) ∙ stored;
-        };
-        aligned = s.aligned;
-        room = subst (λ l. IsTrue (has_room l p.handle (p.at + 24))) (sym after)
-            (found-room (exchanged l gone (y ∷ [])) p.handle (p.at + 24) x k.found big);
-        table = and_from (nat_lt 0 n) (serves y Storage (each * n)) (lt-ltb 0 n (omega (arith, more))) serving;
-        fits = omega (arith, s.fits, more);
-        long = s.long;
-        own = (ap (λ l. extent_at l (handle y)) after ∙ new_found, k.other);
-      };
+      change = done.change;
+      stands = run-stands bytes s done full (omega (arith, s.fits, more)) s.long
+          (read-same _ _ _ _ (handle y) (length bytes) stays.payload (omega arith) (omega (arith, long, less, total))
+          ∙ stored);
       enough = λ less. absurd (omega (arith, less, more));
     }
+
+-- ---- the container with more places
 
 -- ---- what the calls of the heap say of the container
 
@@ -397,77 +297,39 @@ Has-append m at xs ys h k = ap (read m at) (length-append xs ys) ∙ read-append
 
 -- ---- bytes of the storage and the length are written
 
+-- bytes of the storage are written
+written-run : {old new : Cut} {p : Place} {each len c g : ℕ} (from : ℕ) {n : ℕ} {o : Option Extent} {bytes : List ℕ}
+    → Stands old.bytes p each len (table c o) bytes → link_at (bytes_of old.bytes) (place_at p) ≡ Some g
+    → IsChanged current old new (g + from) n → from + n ≤ each * c
+    → IsRun old new p (option_to_list o) (option_to_list o) len (table c o)
+written-run from {o = None} s link c1 within = none-some s.words.link link
+written-run {old} {p} {each} {c} from {o = Some x} s link c1 within =
+    let g_is = same-some (sym s.words.link ∙ link) in
+    let swap = block-written (each * c) s.heap s.own.0 c1 (omega (arith, g_is)) (omega (arith, g_is, within))
+    (table-full each c x s.table) in
+    run-swapped [] (spread-refl (x ∷ [])) (stands-run old s) swap ((λ e. s.own.1 (sym e)), tt)
+
 pub rewritten : {old s1 new : Cut} {p : Place} {each len c g : ℕ} (from : ℕ) {n : ℕ} (len2 : ℕ) {o : Option Extent}
     {bytes : List ℕ} (bytes2 : List ℕ) → Stands old.bytes p each len (table c o) bytes
     → link_at (bytes_of old.bytes) (place_at p) ≡ Some g → IsChanged current old s1 (g + from) n → from + n ≤ each * c
     → len2 ≤ c → length bytes2 ≡ each * len2 → Has (bytes_of s1.bytes) g bytes2
-    → IsChanged current s1 new (place_at p + 8) 8 → word_at (bytes_of new.bytes) (place_at p + 8) ≡ len2
+    → IsChanged current s1 new (p.handle + (p.at + 8)) 8 → word_at (bytes_of new.bytes) (p.handle + (p.at + 8)) ≡ len2
     → IsRewritten old new p each len2 (table c o) bytes2
-rewritten from len2 {o = None} bytes2 s link c1 within fits long content c2 word =
-    none-some s.words.link link
-rewritten {old} {s1} {new} {p} {each} {c} from {n} len2 {o = Some x} bytes2 s link c1 within fits long content c2 word =
-    let heap = s.heap in
-    let l = live_of old.bytes in
-    let m = bytes_of old.bytes in
-    let ms = bytes_of s1.bytes in
-    let m' = bytes_of new.bytes in
-    let at = place_at p in
-    let h = p.handle in
+rewritten from len2 {o = None} bytes2 s link c1 within fits long content c2 word = none-some s.words.link link
+rewritten {s1} {p} {each} {c} from len2 {o = Some x} bytes2 s link c1 within fits long content c2 word =
     let g_is = same-some (sym s.words.link ∙ link) in
-    let found = s.own.0 in
     let full = table-full each c x s.table in
     let less = more-times each len2 c fits in
-    let q = roomy old h (p.at + 24) heap s.room in
-    let v = q.extent in
-    let here = q.at in
-    let big = q.room in
-    let one = changed-live _ old s1 _ n c1 in
-    let two : live_of new.bytes ≡ l = changed-live _ s1 new _ 8 c2 ∙ one in
-    let alone = in_use-alone l (handle x) x heap.proper found in
-    let k1 = written-keeps old s1 x _ _ n alone c1.place c1.rest (omega (arith, g_is))
-    (omega (arith, g_is, full, within)) in
-    let c3 : IsChanged current s1 new at 24 =
+    let one = written-run from s link c1 within in
+    let wide = head-wider p c2 (omega arith) (omega arith) in
+    let two = run-headed one wide (len-written len2 (omega arith) c2.rest word one.words) in
+    let stays = beside-head (handle x) one.heap one.head wide (run-found one).0 (λ e. s.own.1 (sym e)) in
+    let whole : Has (bytes_of s1.bytes) (handle x) bytes2 = subst (λ k. Has (bytes_of s1.bytes) k bytes2) (sym g_is)
+    content in
     record {
-      place = c2.place;
-      live = c2.live;
-      rest = SameBut-wider ms m' (at + 8) 8 at 24 c2.rest (omega arith)
-          (omega arith);
-    } in
-    let all = written-but s1 new l h at 24 v heap.proper q.found c3 (omega (arith, here)) (omega (arith, here, big)) in
-    let k2 = written-keeps s1 new v _ at 24 (in_use-alone l h v heap.proper q.found) c3.place c3.rest
-    (omega (arith, here)) (omega (arith, here, big)) in
-    let own = all-found (SameBlock m ms) h (others (handle x) l.extents)
-    (found-less h (handle x) v l.extents (λ e. s.own.1 (sym e)) q.found) k1.blocks in
-    let stays = all-found (SameBlock ms m') (handle x) (others h l.extents)
-    (found-less (handle x) h x l.extents s.own.1 found) k2.blocks in
-    let whole : Has ms (handle x) bytes2 = subst (λ k. Has ms k bytes2) (sym g_is) content in
-    record {
-      change = record {
-        live = subst (LaysOut current new.bytes) (one ∙ sym (back l h (Some x) heap.proper s.own)) c2.live;
-        place = record { before = c2.place.before ∙ c1.place.before; after = c2.place.after ∙ c1.place.after };
-        front = same-trans m ms m' 0 24 k1.front k2.front;
-        behind = same-trans m ms m' 32 128 k1.behind k2.behind;
-        blocks = but-trans m ms m' at 24 (others (handle x) l.extents) k1.blocks
-            (in_use-all (SameBlockBut ms m' at 24) l (handle x) x heap.proper found all).1;
-      };
-      stands = record {
-        heap = laid-heap _ _ c2.live;
-        words = record {
-          link = ap (target_of at) (SameBut-word_below ms m' (at + 8) 8 at c2.rest (omega arith) ∙ word-same m ms _ _
-              at own.payload (omega (arith, here)) (omega (arith, here, big))) ∙ s.words.link;
-          len_word = word;
-          capacity = SameBut-word_above ms m' (at + 8) 8 (at + 16) c2.rest (omega arith) ∙ word-same m ms _ _ (at + 16)
-              own.payload (omega (arith, here)) (omega (arith, here, big)) ∙ s.words.capacity;
-          storage = read-same ms m' _ _ (handle x) (length bytes2) stays.payload (omega arith)
-              (omega (arith, long, full, less)) ∙ whole;
-        };
-        aligned = s.aligned;
-        room = subst (λ l. IsTrue (has_room l h (p.at + 24))) (sym two) s.room;
-        table = s.table;
-        fits = fits;
-        long = long;
-        own = (ap (λ l. extent_at l (handle x)) two ∙ found, s.own.1);
-      };
+      change = two.change;
+      stands = run-stands bytes2 s two s.table fits long (read-same _ _ _ _ (handle x) (length bytes2) stays.payload
+          (omega arith) (omega (arith, long, full, less)) ∙ whole);
     }
 
 -- the bytes and the length are written
@@ -475,8 +337,8 @@ pub appended : {old s1 new : Cut} {p : Place} {each len c g : ℕ} {o : Option E
     → len < c → Stands old.bytes p each len (table c o) bytes
     → length more ≡ each → link_at (bytes_of old.bytes) (place_at p) ≡ Some g
     → IsChanged current old s1 (g + each * len) (length more) → Has (bytes_of s1.bytes) (g + each * len) more
-    → IsChanged current s1 new (place_at p + 8) 8 → word_at (bytes_of new.bytes) (place_at p + 8) ≡ len + 1
-    → IsAppended old new p each len (table c o) bytes more
+    → IsChanged current s1 new (p.handle + (p.at + 8)) 8 → word_at (bytes_of new.bytes) (p.handle + (p.at + 8)) ≡ len
+    + 1 → IsAppended old new p each len (table c o) bytes more
 appended {o = None} more f s long link c1 content c2 word =
     none-some s.words.link link
 appended {old} {s1} {each} {len} {c} {g} {o = Some x} {bytes} more f s long link c1 content c2 word =
@@ -518,45 +380,19 @@ append-room {b} {each} wl {g} s e f link =
 pub at-least : (each n : ℕ) → 1 ≤ each → n ≤ each * n
 at-least each n f = grind arith
 
--- a length below a capacity has storage
-has-storage : {b : List ℕ} {p : Place} {each len c : ℕ} {o : Option Extent} {bytes : List ℕ}
-    → Stands b p each len (table c o) bytes → len < c → link_at (bytes_of b) (place_at p) ≡ None → ⊥
-has-storage {c} {o = None} s f link = let none : c ≡ 0 = eqb-true c 0 s.table in omega arith
-has-storage {o = Some x} s f link = none-some link s.words.link
-
 -- ---- a value is put behind the last one, in storage that has a place for it
 
 -- ---- one change after another
 
-pub but-but : (a b c : Memory) (from n : ℕ) (xs : List Extent) → AllByRecursion (SameBlockBut a b from n) xs
-    → AllByRecursion (SameBlockBut b c from n) xs → AllByRecursion (SameBlockBut a c from n) xs
-but-but a b c from n [] p q = tt
-but-but a b c from n (x ∷ xs) p q = (
-  record { payload = λ k f g h. q.0.payload k f g h ∙ p.0.payload k f g h; colour = q.0.colour ∙ p.0.colour },
-  but-but a b c from n xs p.1 q.1,
-)
+-- ---- places
 
 -- blocks exchanged, and then those that came written in
 pub exchange-then : {old mid new : Cut} {from n : ℕ} {gone come : List Extent}
     → IsExchanged current old mid from n gone come → IsExchanged current mid new from n come come
     → IsExchanged current old new from n gone come
 exchange-then {old} {mid} {new} {from} {n} {gone} {come} p q =
-    let l = live_of old.bytes in
-    let rest = without_all gone l.extents in
-    let now = lay_out_one current mid.bytes (exchanged l gone come) p.live in
-    let out = without-inserted 128 come rest (live-rises (exchanged l gone come) p.live.proper) in
-    record {
-      live = subst (LaysOut current new.bytes) (ap (λ (s : LiveSet). exchanged s come come) now
-          ∙ ap (λ xs. let s : LiveSet = record l { extents = inserted come xs } in s) out) q.live;
-      place = record { before = q.place.before ∙ p.place.before; after = q.place.after ∙ p.place.after };
-      front = same-trans _ _ _ 0 24 p.front q.front;
-      behind = same-trans _ _ _ 32 128 p.behind q.behind;
-      blocks = but-but (bytes_of old.bytes) (bytes_of mid.bytes) (bytes_of new.bytes) from n rest p.blocks
-          (subst (AllByRecursion (SameBlockBut (bytes_of mid.bytes) (bytes_of new.bytes) from n))
-          (ap (λ (s : LiveSet). without_all come s.extents) now ∙ out) q.blocks);
-    }
-
--- ---- places
+    subst (IsExchanged current old new from n gone) (append-nil come)
+    (exchange-next current old mid new from n gone come come [] come (spread-nil come) p q)
 
 -- a container has fewer bytes than a segment
 pub capacity-bytes : (c : Cut) {p : Place} {each len n : ℕ} {o : Option Extent} {bytes : List ℕ}
@@ -652,42 +488,7 @@ Has-patched {m} {m'} g from bytes more f s h k =
 
 -- ---- no write
 
-unchanged : (c : Cut) (from n : ℕ) → IsHeap current c.bytes → IsChanged current c c from n
-unchanged c from n heap = record {
-  place = record { before = refl; after = refl };
-  live = heap;
-  rest = record
-      { at = λ k f. refl };
-}
-
 -- ---- the storage is written in, and the length stays
-
-len-stays : {old new : Cut} {p : Place} {each len c g : ℕ} (from : ℕ) {n : ℕ} {o : Option Extent} {bytes : List ℕ}
-    → Stands old.bytes p each len (table c o) bytes
-    → link_at (bytes_of old.bytes) (place_at p) ≡ Some g → IsChanged current old new (g + from) n → from + n ≤ each * c
-    → word_at (bytes_of new.bytes) (place_at p + 8) ≡ len
-len-stays from {o = None} s link c1 within =
-    none-some s.words.link link
-len-stays {old} {new} {p} {each} {c} from {n} {o = Some x} s link c1 within =
-    let heap = s.heap in
-    let l = live_of old.bytes in
-    let m = bytes_of old.bytes in
-    let ms = bytes_of new.bytes in
-    let at = place_at p in
-    let h = p.handle in
-    let g_is = same-some (sym s.words.link ∙ link) in
-    let found = s.own.0 in
-    let full = table-full each c x s.table in
-    let q = roomy old h (p.at + 24) heap s.room in
-    let v = q.extent in
-    let here = q.at in
-    let big = q.room in
-    let alone = in_use-alone l (handle x) x heap.proper found in
-    let k1 = written-keeps old new x _ _ n alone c1.place c1.rest (omega (arith, g_is))
-    (omega (arith, g_is, full, within)) in
-    let own = all-found (SameBlock m ms) h (others (handle x) l.extents)
-    (found-less h (handle x) v l.extents (λ e. s.own.1 (sym e)) q.found) k1.blocks in
-    word-same m ms _ _ (at + 8) own.payload (omega (arith, here)) (omega (arith, here, big)) ∙ s.words.len_word
 
 -- what the storage has, of a container with a block
 pub storage-has : {b : List ℕ} {p : Place} {each len c g : ℕ} {o : Option Extent} {bytes : List ℕ}
@@ -697,6 +498,18 @@ storage-has {o = None} s link =
 storage-has {b} {o = Some x} {bytes} s link =
     let g_is = same-some (sym s.words.link ∙ link) in
     subst (λ k. Has (bytes_of b) k bytes) g_is s.words.storage
+
+pub unchanged-rewritten : (c : Cut) {p : Place} {each len : ℕ} {t : Table} {bytes : List ℕ}
+    → Stands c.bytes p each len t bytes → IsRewritten c c p each len t bytes
+unchanged-rewritten c s = record { change = (stands-run c s).change; stands = s }
+
+unchanged : (c : Cut) (from n : ℕ) → IsHeap current c.bytes → IsChanged current c c from n
+unchanged c from n heap = record {
+  place = record { before = refl; after = refl };
+  live = heap;
+  rest = record
+      { at = λ k f. refl };
+}
 
 length-patch : (bytes : List ℕ) (from : ℕ) (more : List ℕ) → from + length more ≤ length bytes
     → length (patched bytes from more) ≡ length bytes
@@ -726,8 +539,9 @@ overwritten {new} {p} {each} {len} {g} i {t} {bytes} more s f e link c1 content 
     rewritten (each * i) len (patched bytes (each * i) more) s link c1 (omega (arith, inside, total, less)) s.fits
     (length-patch bytes (each * i) more inside ∙ s.long)
     (Has-patched g (each * i) bytes more inside c1.rest (storage-has s link) content)
-    (unchanged new (place_at p + 8) 8 (laid-heap _ _ c1.live))
-    (len-stays (each * i) s link c1 (omega (arith, inside, total, less)))
+    (unchanged new (p.handle + (p.at + 8)) 8 (laid-heap _ _ c1.live))
+    (ap (word_at (bytes_of new.bytes)) (omega arith)
+    ∙ (written-run (each * i) s link c1 (omega (arith, inside, total, less))).words.len_word)
 
 -- ---- elements are left out at the end
 
@@ -736,67 +550,35 @@ take-none zero bytes e = refl
 take-none (suc k) [] e = refl
 take-none (suc k) (b ∷ bs) e = absurd (cc)
 
-truncated_in : {old new : Cut} {p : Place} {each len c : ℕ} (n : ℕ) {o : Option Extent} {bytes : List ℕ}
-    → Stands old.bytes p each len (table c o) bytes → n ≤ len
-    → length (take (each * n) bytes) ≡ each * n → each * n ≤ length bytes
-    → IsChanged current old new (place_at p + 8) 8 → word_at (bytes_of new.bytes) (place_at p + 8) ≡ n
-    → IsRewritten old new p each n (table c o) (take (each * n) bytes)
-truncated_in {old} {new} {p} {each} {len} {c} n {o = None} {bytes} s f long enough c2 word =
-    let heap = s.heap in
-    let l = live_of old.bytes in
-    let m = bytes_of old.bytes in
-    let m' = bytes_of new.bytes in
-    let at = place_at p in
-    let h = p.handle in
-    let q = roomy old h (p.at + 24) heap s.room in
-    let v = q.extent in
-    let here = q.at in
-    let big = q.room in
-    let two = changed-live _ old new _ 8 c2 in
-    let c3 : IsChanged current old new at 24 =
-    record {
-      place = c2.place;
-      live = c2.live;
-      rest = SameBut-wider m m' (at + 8) 8 at 24 c2.rest (omega arith)
-          (omega arith);
-    } in
-    let all = written-but old new l h at 24 v heap.proper q.found c3 (omega (arith, here)) (omega (arith, here, big)) in
-    let k2 = written-keeps old new v _ at 24 (in_use-alone l h v heap.proper q.found) c3.place c3.rest
-    (omega (arith, here)) (omega (arith, here, big)) in
-    let empty = s.words.storage in
-    let few = s.fits in
-    record {
-      change = record { live = c2.live; place = c2.place; front = k2.front; behind = k2.behind; blocks = all };
-      stands = record {
-        heap = laid-heap _ _ c2.live;
-        words = record {
-          link = ap (target_of at) (SameBut-word_below m m' (at + 8) 8 at c2.rest (omega arith)) ∙ s.words.link;
-          len_word = word;
-          capacity = SameBut-word_above m m' (at + 8) 8 (at + 16) c2.rest (omega arith) ∙ s.words.capacity;
-          storage = take-none (each * n) bytes empty;
-        };
-        aligned = s.aligned;
-        room = subst (λ l. IsTrue (has_room l h (p.at + 24))) (sym two) s.room;
-        table = s.table;
-        fits = omega (arith, f, few);
-        long = long;
-        own = tt;
-      };
-    }
-truncated_in {old} {each} {len} {c} n {o = Some x} {bytes} s f long enough c2 word =
-    let few = s.fits in
-    rewritten 0 n (take (each * n) bytes) s s.words.link (unchanged old (handle x + 0) 0 s.heap) (omega arith)
-    (omega (arith, f, few)) long
-    (Has-take (bytes_of old.bytes) (handle x) (each * n) bytes enough s.words.storage) c2 word
+cut-storage : {old new : Cut} {p : Place} {each len c : ℕ} (k : ℕ) {o : Option Extent} {bytes : List ℕ}
+    → Stands old.bytes p each len (table c o) bytes → k ≤ length bytes → IsChanged current old new (place_at p) 24
+    → IsStorage (bytes_of new.bytes) (table c o) (take k bytes)
+cut-storage k {o = None} {bytes} s f c2 = take-none k bytes s.words.storage
+cut-storage {old} {new} {p} {each} {len} {c} k {o = Some x} {bytes} s f c2 =
+    let full = table-full each c x s.table in
+    let less = more-times each len c s.fits in
+    let total = s.long in
+    let stays = beside-head (handle x) s.heap (room-head old p s.heap s.room) c2 s.own.0 (λ e. s.own.1 (sym e)) in
+    Has-take (bytes_of new.bytes) (handle x) k bytes f (read-same _ _ _ _ (handle x) (length bytes) stays.payload
+    (omega arith) (omega (arith, full, less, total)) ∙ s.words.storage)
 
 pub truncated : {old new : Cut} {p : Place} {each len : ℕ} (n : ℕ) {t : Table} {bytes : List ℕ}
     → Stands old.bytes p each len t bytes → n ≤ len
-    → IsChanged current old new (place_at p + 8) 8 → word_at (bytes_of new.bytes) (place_at p + 8) ≡ n
+    → IsChanged current old new (p.handle + (p.at + 8)) 8 → word_at (bytes_of new.bytes) (p.handle + (p.at + 8)) ≡ n
     → IsRewritten old new p each n t (take (each * n) bytes)
-truncated {each} {len} n {bytes} s f c2 word =
+truncated {old} {p} {each} {len} n {bytes} s f c2 word =
     let less = more-times each n len f in
     let total = s.long in
-    truncated_in n s f (omega (arith, length-take (each * n) bytes, total, less)) (omega (arith, total, less)) c2 word
+    let fits = s.fits in
+    let one = stands-run old s in
+    let wide = head-wider p c2 (omega arith) (omega arith) in
+    let two = run-headed one wide (len-written n (omega arith) c2.rest word one.words) in
+    let long : length (take (each * n) bytes) ≡ each * n = omega (arith, length-take (each * n) bytes, total, less) in
+    record {
+      change = two.change;
+      stands = run-stands (take (each * n) bytes) s two s.table (omega (arith, f, fits))
+          long (cut-storage (each * n) s (omega (arith, total, less)) wide);
+    }
 
 -- ---- what the calls of the heap ask for
 
@@ -902,7 +684,7 @@ unfolding regrow
 regrow-placed l x n e f = λ i. if e i then Some x else elim (f i) as (λ _. Option Extent)
     [ Some y ↦ Some y | None ↦ place l n Storage ]
 
-regrow-new : (l : LiveSet) (n : ℕ) → regrow l None n ≡ place l n Storage
+pub regrow-new : (l : LiveSet) (n : ℕ) → regrow l None n ≡ place l n Storage
 unfolding regrow
 regrow-new l n = refl
 
@@ -949,28 +731,12 @@ too-many c {p} {each} n {t} s some f =
 
 -- ---- bytes more
 
-pub unchanged-rewritten : (c : Cut) {p : Place} {each len : ℕ} {t : Table} {bytes : List ℕ}
-    → Stands c.bytes p each len t bytes → IsRewritten c c p each len t bytes
-unchanged-rewritten c {p} {t} s =
-    let l = live_of c.bytes in
-    let rest = without_all (option_to_list t.extent) l.extents in
-    let k = keeps-all c rest in
-    record {
-      change = record {
-        live = subst (LaysOut current c.bytes) (sym (back l p.handle t.extent s.heap.proper s.own)) s.heap;
-        place = k.place;
-        front = k.front;
-        behind = k.behind;
-        blocks = all-same-but (bytes_of c.bytes) (bytes_of c.bytes) (place_at p) 24 rest k.blocks;
-      };
-      stands = s;
-    }
-
 pub extended : {old s1 new : Cut} {p : Place} {len g : ℕ} {t : Table} {bytes : List ℕ} (more : List ℕ)
     → Stands old.bytes p 1 len t bytes → len + length more ≤ t.capacity
     → link_at (bytes_of old.bytes) (place_at p) ≡ Some g
     → IsChanged current old s1 (g + len) (length more) → Has (bytes_of s1.bytes) (g + len) more
-    → IsChanged current s1 new (place_at p + 8) 8 → word_at (bytes_of new.bytes) (place_at p + 8) ≡ len + length more
+    → IsChanged current s1 new (p.handle + (p.at + 8)) 8 → word_at (bytes_of new.bytes) (p.handle + (p.at + 8)) ≡ len
+    + length more
     → IsRewritten old new p 1 (len + length more) t (bytes ++ more)
 extended {old} {s1} {len} {g} {bytes} more s f link c1 content c2 word =
     let m = bytes_of old.bytes in
@@ -1025,7 +791,8 @@ pub erased : {old s1 new : Cut} {p : Place} {each len g : ℕ} (i : ℕ) {t : Ta
     → IsChanged current old s1 (g + each * i) (each * (len - i - 1))
     → read (bytes_of s1.bytes) (g + each * i) (each * (len - i - 1)) ≡ read (bytes_of old.bytes)
     (g + (each * i + each)) (each * (len - i - 1))
-    → IsChanged current s1 new (place_at p + 8) 8 → word_at (bytes_of new.bytes) (place_at p + 8) ≡ len - 1
+    → IsChanged current s1 new (p.handle + (p.at + 8)) 8 → word_at (bytes_of new.bytes) (p.handle + (p.at + 8)) ≡ len
+    - 1
     → IsRewritten old new p each (len - 1) t (take (each * i) bytes ++ drop (each * i + each) bytes)
 erased {old} {s1} {each} {len} {g} i {t} {bytes} s f link c1 moved c2 word =
     let m = bytes_of old.bytes in
@@ -1057,26 +824,27 @@ erased {old} {s1} {each} {len} {g} i {t} {bytes} s f link c1 moved c2 word =
 
 -- ---- an element is put in
 
-both-within : {a b c : Memory} {from one n : ℕ} → SameBut a b (from + one) n → SameBut b c from one
+both-within : {a b c : Memory} {from one n at : ℕ} → at ≡ from + one → SameBut a b at n → SameBut b c from one
     → SameBut a c from (one + n)
-both-within {from} {one} {n} p q = record { at = λ k f. q.at k (outer k f) ∙ p.at k (inner k f) }
+both-within {from} {one} {n} {at} e p q = record { at = λ k f. q.at k (outer k f) ∙ p.at k (inner k f) }
   where
     outer : (k : ℕ) → (k < from) ⊎ (from + (one + n) ≤ k) → (k < from) ⊎ (from + one ≤ k)
     outer k (inl f) = inl f
     outer k (inr f) = inr (omega (arith, f))
 
-    inner : (k : ℕ) → (k < from) ⊎ (from + (one + n) ≤ k) → (k < from + one) ⊎ (from + one + n ≤ k)
-    inner k (inl f) = inl (omega (arith, f))
-    inner k (inr f) = inr (omega (arith, f))
+    inner : (k : ℕ) → (k < from) ⊎ (from + (one + n) ≤ k) → (k < at) ⊎ (at + n ≤ k)
+    inner k (inl f) = inl (omega (arith, f, e))
+    inner k (inr f) = inr (omega (arith, f, e))
 
 pub put_in : {old s1 s2 new : Cut} {p : Place} {each len g : ℕ} (i : ℕ) {t : Table} {bytes : List ℕ} (more : List ℕ)
     → Stands old.bytes p each len t bytes → i ≤ len → len < t.capacity → length more ≡ each
     → link_at (bytes_of old.bytes) (place_at p) ≡ Some g
-    → IsChanged current old s1 (g + each * i + each) (each * (len - i))
-    → read (bytes_of s1.bytes) (g + each * i + each) (each * (len - i)) ≡ read (bytes_of old.bytes) (g + each * i)
+    → IsChanged current old s1 (g + (each * i + each)) (each * (len - i))
+    → read (bytes_of s1.bytes) (g + (each * i + each)) (each * (len - i)) ≡ read (bytes_of old.bytes) (g + each * i)
     (each * (len - i))
     → IsChanged current s1 s2 (g + each * i) each → Has (bytes_of s2.bytes) (g + each * i) more
-    → IsChanged current s2 new (place_at p + 8) 8 → word_at (bytes_of new.bytes) (place_at p + 8) ≡ len + 1
+    → IsChanged current s2 new (p.handle + (p.at + 8)) 8 → word_at (bytes_of new.bytes) (p.handle + (p.at + 8)) ≡ len
+    + 1
     → IsRewritten old new p each (len + 1) t (take (each * i) bytes ++ (more ++ drop (each * i) bytes))
 put_in {old} {s1} {s2} {each} {len} {g} i {t} {bytes} more s f room e link c1 moved c2 content c3 word =
     let m = bytes_of old.bytes in
@@ -1096,16 +864,15 @@ put_in {old} {s1} {s2} {each} {len} {g} i {t} {bytes} more s f room e link c1 mo
     let c : IsChanged current old s2 (g + each * i) (each + n) = record {
       place = record { before = c2.place.before ∙ c1.place.before; after = c2.place.after ∙ c1.place.after };
       live = subst (LaysOut current s2.bytes) (changed-live _ old s1 _ n c1) c2.live;
-      rest = both-within c1.rest c2.rest;
+      rest = both-within (omega arith) c1.rest c2.rest;
     } in
     let one = Has-beside g front c.rest (inl (omega (arith, before)))
     (Has-take m g (each * i) bytes (omega (arith, total, sum)) has) in
     let rest = Has-drop m g (each * i) bytes (omega (arith, total, sum)) has in
-    let up : Has m1 (g + each * i + each) back = ap (read m1 (g + each * i + each)) behind ∙ moved
+    let up : Has m1 (g + (each * i + each)) back = ap (read m1 (g + (each * i + each))) behind ∙ moved
     ∙ ap (read m (g + each * i)) (sym behind) ∙ rest in
-    let two = Has-beside (g + each * i + each) back c2.rest (inr (omega arith)) up in
-    let three = Has-append ms (g + each * i) more back content
-    (subst (λ j. Has ms (g + each * i + j) back) (sym e) two) in
+    let two = Has-beside (g + (each * i + each)) back c2.rest (inr (omega arith)) up in
+    let three = Has-append ms (g + each * i) more back content (subst (λ j. Has ms j back) (omega (arith, e)) two) in
     rewritten (each * i) (len + 1) (front ++ (more ++ back)) s link c (omega (arith, sum, less, step))
     (omega (arith, room))
     (omega (arith, length-append front (more ++ back), length-append more back, before, behind, e, sum, step))
@@ -1126,6 +893,10 @@ fitting c {each} {g} i n j {t} s link f e =
     let less = more-times each j t.capacity f in
     let room = some-room (each * i + each + n) s link (omega (arith, e, less)) in
     record { small = room-small c g (each * i + each + n) s.heap room; room = room }
+
+pub part-room : {l : LiveSet} {each i n g : ℕ} (k : ℕ) → k ≤ each * i + each + n → Fitting l each i n g
+    → IsTrue (has_room l g k)
+part-room {l} {each} {i} {n} {g} k f q = room-less l g (each * i + each + n) k f q.room
 
 pub erase-fits : (c : Cut) {p : Place} {each len : ℕ} (k : ℕ) {g : ℕ} (i : ℕ) {t : Table} {bytes : List ℕ}
     → Stands c.bytes p each len t bytes → k ≡ word_at (bytes_of c.bytes) (p.handle + (p.at + 8))

@@ -1,30 +1,27 @@
 -- The blocks of a vector of texts, its array and those of its texts, among the other blocks of a heap, and through the
 -- steps of a call.
-use Rattle.std.proofs.Common.{◌≡◌, ◌≢◌, sym, ap, subst, ◌∙◌, ℕ, ◌+◌, ◌%◌, ◌≤◌, Option, Some, None, List, [], ◌∷◌, ◌++◌, ◌==◌, append_assoc, length, arith, inl, inr, refl, zero, suc, ◌-◌, ◌*◌, ◌<◌, take, drop, Bool, true, false, cond, ◌⊎◌}
-use Rattle.std.specs.Prelude.{IsTrue, find, option_to_list, option_map, slice_get, IfSome}
-use Rattle.std.specs.List.{AllByRecursion, list_any}
-use Rattle.std.proofs.lemmas.Grind.{flat_map-append}
-use Rattle.std.proofs.lemmas.List.{take-take, drop_all}
-use Rattle.std.proofs.lemmas.Option.{slice_get_within}
-use Rattle.std.proofs.lemmas.Bool.{or_left, or_right}
-use Rattle.raw_region.specs.Memory.{Memory, Cut, bytes_of, word_at, Same, SameBut, Has}
-use Rattle.raw_region.specs.Format.{current}
-use Rattle.block_tags.specs.declared.tile.Role.TheVariants.{Storage}
-use Rattle.offset_link.specs.Link.{link_at, target_of}
-use Rattle.best_fit.specs.Exchange.{inserted, without_all, IsExchanged, SameBlockBut, exchanged}
-use Rattle.best_fit.specs.Extents.{Extent, LiveSet, handle, end_of, is_proper}
-use Rattle.best_fit.specs.Heap.{IsHeap, extent_at, live_of, SameBlock, IsChanged, has_room, is_live_in, payload_at, IsReleased}
-use Rattle.best_fit.specs.Table.{Table, is_table, table_link, no_table}
-use Rattle.best_fit.proofs.Laws.{IsFound, IsNone, Rising, SameSpread, all-found-in, all-in-use, found-inserted, found-none, found-room, live-rises, middle-first, rising-others, roomy, spread-behind, all_of-inserted, but-apart, exchanged-live, found-without, inserted-append, laid-heap, without-inserted, IsRoomy, changed-live, kept, kept-found, word-same, block_payload, room_block, exchange-next, exchange-released, exchange-same, spread-refl, exchange-wide, exchange-written, kept-beside, IsSound, live-sound}
-use Rattle.raw_region.proofs.Laws.{Has-same, SameBut-wider, SameBut-word, read-part}
-use Rattle.offset_link.proofs.Laws.{SameBut-link}
-use Rattle.seg_vector.specs.declared.places.Place.{Place}
-use Rattle.seg_vector.specs.Standing.{IsOwnBlock, place_at, Stands}
-use Rattle.seg_vector.specs.TextParts.{IsServed, IsSwapped, AreHeldElements, IsHeldElement, AreSameElements, IsSameElement, AreEvenLinks}
-use Rattle.seg_vector.specs.TextsCalls.{IsHeldText, IsTexts, text_blocks, IsTextsNow, IsTextElement}
-use Rattle.seg_vector.specs.Vector.{AreInArray, IsOwnedText, OwnedText, AreTextLinks}
-use Rattle.seg_vector.proofs.Storage.{serves-full, none-some, same-some, table-full, live-if, all-found}
-use Rattle.seg_vector.proofs.Fewer.{head-exchanged, changed-both}
+use Rattle.seg_vector.proofs.Words.{◌≡◌, ◌≢◌, sym, ap, subst, ◌∙◌, ℕ, ◌+◌, ◌%◌, ◌≤◌, Option, Some, None, List, [], ◌∷◌}
+use Rattle.seg_vector.proofs.Words.{◌++◌, ◌==◌, append_assoc, length, arith, inl, inr, refl, zero, suc, ◌-◌, ◌*◌, ◌<◌}
+use Rattle.seg_vector.proofs.Words.{take, drop, Bool, true, false, cond, ◌⊎◌, IsTrue, find, option_to_list, option_map}
+use Rattle.seg_vector.proofs.Words.{slice_get, IfSome, AllByRecursion, list_any, flat_map-append, take-take, drop_all}
+use Rattle.seg_vector.proofs.Words.{slice_get_within, or_left, or_right, Memory, Cut, bytes_of, word_at, SameBut, Has}
+use Rattle.seg_vector.proofs.Words.{current, Storage, link_at, target_of, inserted, without_all, IsExchanged}
+use Rattle.seg_vector.proofs.Words.{SameBlockBut, exchanged, Extent, LiveSet, handle, end_of, IsHeap, extent_at}
+use Rattle.seg_vector.proofs.Words.{live_of, SameBlock, IsChanged, has_room, is_live_in, payload_at, IsReleased, Table}
+use Rattle.seg_vector.proofs.Words.{is_table, no_table, IsFound, IsNone, Rising, SameSpread, all-found-in, all-in-use}
+use Rattle.seg_vector.proofs.Words.{found-inserted, found-none, found-room, live-rises, middle-first, rising-others}
+use Rattle.seg_vector.proofs.Words.{roomy, spread-behind, all_of-inserted, but-apart, exchanged-live, found-without}
+use Rattle.seg_vector.proofs.Words.{inserted-append, laid-heap, without-inserted, kept, kept-found, word-same}
+use Rattle.seg_vector.proofs.Words.{block_payload, room_block, exchange-next, exchange-released, exchange-same}
+use Rattle.seg_vector.proofs.Words.{spread-refl, IsSound, live-sound, Has-same, SameBut-word, read-part, SameBut-link}
+use Rattle.seg_vector.proofs.Words.{Place, IsOwnBlock, place_at, Stands, IsServed, IsSwapped, AreHeldElements}
+use Rattle.seg_vector.proofs.Words.{IsHeldElement, AreSameElements, IsSameElement, AreEvenLinks, IsHeldText, IsTexts}
+use Rattle.seg_vector.proofs.Words.{text_blocks, IsTextsNow, IsTextElement, AreInArray, IsOwnedText, OwnedText}
+use Rattle.seg_vector.proofs.Words.{AreTextLinks}
+use Rattle.best_fit.specs.Extents.{is_proper}
+use Rattle.seg_vector.proofs.Runs.{AreHeadWords, IsHead, IsRun, changed-both, head-exchanged, none-some, same-some}
+use Rattle.seg_vector.proofs.Runs.{serves-full, table, table-full}
+use Rattle.seg_vector.proofs.Storage.{all-found, live-if}
 
 -- ---- the blocks of a vector of texts, its array and those of its texts, among the other blocks of a heap
 
@@ -84,12 +81,6 @@ texts-own c {p} {ps} {t} s =
     }
 
 -- ---- a vector of texts out of its parts
-
--- its three words
-pub record AreHeadWords (m : Memory) (at n : ℕ) (t : Table) : Type 0 where
-  pub link : link_at m at ≡ table_link t
-  pub len_word : word_at m (at + 8) ≡ n
-  pub capacity : word_at m (at + 16) ≡ t.capacity
 
 held-head : (l : LiveSet) (bytes : List ℕ) (o : Option Extent) (xs : List Extent)
     → IsServed (record { bytes = bytes; extent = o }) → AllByRecursion (IsFound l.extents) (option_to_list o ++ xs)
@@ -315,82 +306,10 @@ texts-changed {old} {new} {p} a m m' b {t} {u} s x table fits words array texts 
 
 -- ---- the head
 
-pub record IsHead (c : Cut) (p : Place) : Type 0 where
-  pub block : Extent
-  pub found : extent_at (live_of c.bytes) p.handle ≡ Some block
-  pub here : handle block ≡ p.handle
-  pub big : p.at + 24 + 16 ≤ block.len
-
 pub own-head : {c : Cut} {p : Place} {own : List Extent} → AreOwn c p own → IsHead c p
 own-head w = record { block = w.head; found = w.found; here = w.here; big = w.big }
 
-pub room-head : (c : Cut) (p : Place) → IsHeap current c.bytes
-    → IsTrue (has_room (live_of c.bytes) p.handle (p.at + 24)) → IsHead c p
-room-head c p heap t = let q : IsRoomy (live_of c.bytes) p.handle (p.at + 24) = roomy c p.handle (p.at + 24) heap t in
-    record { block = q.extent; found = q.found; here = q.at; big = q.room }
-
-pub head-room : {c : Cut} {p : Place} → IsHead c p → IsTrue (has_room (live_of c.bytes) p.handle (p.at + 24))
-head-room {c} {p} w = found-room (live_of c.bytes) p.handle (p.at + 24) _ w.found w.big
-
--- it stays where other blocks are exchanged
-pub head-kept : {a b : Cut} {p : Place} {from n : ℕ} {gone come : List Extent} → IsHead a p
-    → IsExchanged current a b from n gone come → IsNone p.handle gone → IsHead b p
-head-kept {a} {b} {p} {from} {n} {gone} {come} w x d =
-    record {
-      block = w.block;
-      found = kept-found a b from n p.handle _ gone come _ x w.found d;
-      here = w.here;
-      big = w.big;
-    }
-
-pub head-changed : {a b : Cut} {p : Place} {from n : ℕ} → IsHead a p → IsChanged current a b from n → IsHead b p
-head-changed {a} {b} {p} {from} {n} w c =
-    record {
-      block = w.block;
-      found = ap (λ (l : LiveSet). extent_at l p.handle) (changed-live _ a b from n c)
-          ∙ w.found;
-      here = w.here;
-      big = w.big;
-    }
-
 -- ---- its words
-
-pub words-same : {m m' : Memory} {from to at n : ℕ} {t : Table} → Same m m' from to → from ≤ at → at + 24 ≤ to
-    → AreHeadWords m at n t → AreHeadWords m' at n t
-words-same {m} {m'} {from} {to} {at} s f g w = record {
-  link = ap (target_of at) (word-same m m' from to at s f (omega arith)) ∙ w.link;
-  len_word = word-same m m' from to (at + 8) s (omega arith) (omega arith) ∙ w.len_word;
-  capacity = word-same m m' from to (at + 16) s (omega arith) (omega arith) ∙ w.capacity;
-}
-
-pub words-kept : {a b : Cut} {p : Place} {n : ℕ} {t : Table} {gone come : List Extent} → IsHeap current a.bytes
-    → IsHead a p → IsSwapped a b gone come → IsNone p.handle gone
-    → AreHeadWords (bytes_of a.bytes) (place_at p) n t → AreHeadWords (bytes_of b.bytes) (place_at p) n t
-words-kept {a} {b} {p} {gone} {come} heap w x d h =
-    let s = kept a b p.handle _ gone come _ heap x w.found d in
-    let here = w.here in
-    let big = w.big in
-    words-same s.payload (omega (arith, here)) (omega (arith, here, big)) h
-
--- another length is written
-pub len-written : {m m' : Memory} {at n : ℕ} (k : ℕ) {t : Table} → SameBut m m' (at + 8) 8 → word_at m' (at + 8) ≡ k
-    → AreHeadWords m at n t → AreHeadWords m' at k t
-len-written {m} {m'} {at} k s e w = record {
-  link = SameBut-link m m' _ 8 at s (inl (omega arith)) ∙ w.link;
-  len_word = e;
-  capacity = SameBut-word m m' _ 8 (at + 16) s (inr (omega arith)) ∙ w.capacity;
-}
-
--- n bytes of the three words
-pub head-wider : {a b : Cut} (p : Place) {from n : ℕ} → IsChanged current a b from n → place_at p ≤ from
-    → from + n ≤ place_at p + 24 → IsChanged current a b (place_at p) 24
-head-wider {a} {b} p {from} {n} c f g =
-    record {
-      place = c.place;
-      live = c.live;
-      rest = SameBut-wider (bytes_of a.bytes) (bytes_of b.bytes) from n
-          (place_at p) 24 c.rest f g;
-    }
 
 -- ---- the change that all steps come to
 
@@ -706,13 +625,6 @@ links-join m at (x ∷ xs) ys l r =
 
 -- ---- a call on a vector of texts, step by step: what has changed so far, and the vector's head
 
--- Some blocks are gone so far and others came, and the head has these words.
-pub record IsRun (old now : Cut) (p : Place) (gone come : List Extent) (n : ℕ) (t : Table) : Type 0 where
-  pub change : IsExchanged current old now (place_at p) 24 gone come
-  pub heap : IsHeap current now.bytes
-  pub head : IsHead now p
-  pub words : AreHeadWords (bytes_of now.bytes) (place_at p) n t
-
 -- ---- it begins
 
 -- the array and some texts among the others
@@ -742,63 +654,7 @@ run-begin c {p} a m b {t} e s =
 
 -- ---- it goes on
 
--- blocks are exchanged, not the head's
-pub run-swapped : {old a b : Cut} {p : Place} {gone come again : List Extent} (left : List Extent) {more : List Extent}
-    {n : ℕ} {t : Table} → SameSpread come (again ++ left) → IsRun old a p gone come n t → IsSwapped a b again more
-    → IsNone p.handle again → IsRun old b p gone (more ++ left) n t
-run-swapped {old} {a} {b} {p} {gone} {come} left {more} spread r x none = record {
-  change = exchange-next _ old a b _ 24 gone come _ left more spread r.change
-      (exchange-wide _ a b (place_at p) 24 _ more x);
-  heap = laid-heap _ _ x.live;
-  head = head-kept r.head x none;
-  words = words-kept r.heap r.head x none r.words;
-}
-
--- the words of the head are written
-pub run-headed : {old a b : Cut} {p : Place} {gone come : List Extent} {n k : ℕ} {t u : Table}
-    → IsRun old a p gone come n t → IsChanged current a b (place_at p) 24
-    → AreHeadWords (bytes_of b.bytes) (place_at p) k u → IsRun old b p gone come k u
-run-headed {old} {a} {b} {p} {gone} {come} r c w = record {
-  change = exchange-next _ old a b _ 24 gone come [] come [] (record { same = λ zs r. refl }) r.change
-      (head-exchanged p r.heap (head-room r.head) c);
-  heap = laid-heap _ _ c.live;
-  head = head-changed r.head c;
-  words = w;
-}
-
 -- ---- the array
-
--- bytes written in a block
-pub block-written : {a b : Cut} {x : Extent} {from n : ℕ} (k : ℕ) → IsHeap current a.bytes
-    → extent_at (live_of a.bytes) (handle x) ≡ Some x → IsChanged current a b from n → handle x ≤ from
-    → from + n ≤ handle x + k → k + 16 ≤ x.len
-    → IsSwapped a b (x ∷ []) (x ∷ [])
-block-written {a} {b} {x} {from} {n} k heap found c low high fits =
-    let l = live_of a.bytes in
-    let i = all-in-use (x ∷ []) l.extents (live-rises l heap.proper) (tt, tt) (found, tt) in
-    exchange-written _ a b x (without_all (x ∷ []) l.extents) k from n 0 0 heap i.is
-    (found-room l (handle x) k x found fits) c low high
-
--- the blocks that came are in use
-pub run-found : {old now : Cut} {p : Place} {gone come : List Extent} {n : ℕ} {t : Table}
-    → IsRun old now p gone come n t → AllByRecursion (IsFound (live_of now.bytes).extents) come
-run-found {old} {now} {gone} {come} r =
-    let l = live_of old.bytes in
-    let rest = without_all gone l.extents in
-    let is : (live_of now.bytes).extents ≡ inserted come rest = ap (λ (k : LiveSet). k.extents)
-    (exchanged-live old now _ 24 gone come _ r.change) in
-    subst (λ (zs : List Extent). AllByRecursion (IsFound zs) come) (sym is)
-    (all-found-in come rest (live-rises (exchanged l gone come) r.change.live.proper))
-
--- a block stays where the head's words are written
-pub beside-head : {a b : Cut} {p : Place} (h : ℕ) {x : Extent} → IsHeap current a.bytes → IsHead a p
-    → IsChanged current a b (place_at p) 24 → extent_at (live_of a.bytes) h ≡ Some x → p.handle ≢ h
-    → SameBlock (bytes_of a.bytes) (bytes_of b.bytes) x
-beside-head {a} {b} {p} h {x} heap w c found other =
-    let here = w.here in
-    let big = w.big in
-    kept-beside a b _ 24 p.handle h _ x [] [] _ heap (head-exchanged p heap (head-room w) c) w.found
-    (omega (arith, here)) (omega (arith, here, big)) other found tt
 
 -- ---- the block of an array, and what its links lead to
 

@@ -1,30 +1,31 @@
 -- A vector of texts without texts, with one less or another one, or cut; and a text in a block of its own.
-use Rattle.std.proofs.Common.{◌≡◌, ◌≢◌, refl, sym, ap, subst, ◌∙◌, ℕ, ◌+◌, ◌*◌, Option, Some, None, List, [], ◌∷◌, ◌++◌, append-nil, arith, length, inl, inr, ◌⊎◌, suc, ◌-◌, ◌<◌, ◌≤◌, length-append, take, drop, zero, ◌%◌, if◌then◌else◌, append_assoc}
-use Rattle.std.specs.Prelude.{option_to_list, IsTrue, nat_lt, remove, slice_get, IfSome, ⊤, option_map, slice_set}
-use Rattle.std.specs.List.{AllByRecursion}
-use Rattle.std.proofs.lemmas.Bool.{and_parts, leb-true, eq-eqb, ne_eqb}
-use Rattle.std.proofs.lemmas.List.{length-drop, length-take, take-append-drop}
-use Rattle.std.proofs.lemmas.Option.{slice_get_within}
-use Rattle.raw_region.specs.Memory.{Memory, Cut, bytes_of, word_at, Has, Same, read}
-use Rattle.raw_region.specs.Format.{current}
-use Rattle.offset_link.specs.Link.{link_at, target_of}
-use Rattle.best_fit.specs.Exchange.{without_all, exchanged, inserted}
-use Rattle.best_fit.specs.Extents.{Extent, handle, end_of, holds, LiveSet}
-use Rattle.best_fit.specs.Heap.{IsChanged, live_of, SameBlock, IsAllocated, IsHeap, IsRefused}
-use Rattle.best_fit.specs.Table.{Table, no_table, same_role, serves, cut_table, is_table}
-use Rattle.best_fit.proofs.Laws.{SameSpread, exchange-next, exchange-same, exchange-wide, found-room, laid-heap, last-first, spread-refl, IsNone, kept, shorter-IsShorter, word-same, IsFound, all-found-in, allocated-room, exchange-taken, exchanged-live, kept-found, live-rises, place-serves, still_allocated, SameBlock-trans, rising-others}
-use Rattle.block_tags.specs.declared.tile.Role.TheVariants.{Storage}
-use Rattle.best_fit.specs.Fit.{shorter, place}
-use Rattle.raw_region.proofs.Laws.{Has-same}
-use Rattle.seg_vector.specs.declared.places.Place.{Place}
-use Rattle.seg_vector.specs.Elements.{IsGivenBack, IsFitted}
-use Rattle.seg_vector.specs.Standing.{Stands, place_at, IsOwnBlock}
-use Rattle.seg_vector.specs.TextParts.{AreHeldElements, IsSwapped, AreSameElements, IsHeldElement, IsTextNotPlaced, IsTextPlaced, IsServed, IsTextReplaced}
-use Rattle.seg_vector.specs.TextsCalls.{IsTexts, IsTextsNow, text_blocks, IsHeldText, placed_text, AreOthers}
-use Rattle.seg_vector.specs.Vector.{AreInArray, IsStorage, OwnedText, AreTextLinks, IsOwnedText}
-use Rattle.seg_vector.proofs.Storage.{none-some, same-some, table, table-full, length-read, serves-full}
-use Rattle.seg_vector.proofs.Fewer.{head-exchanged, cut-some}
-use Rattle.seg_vector.proofs.TextBlocks.{AreHeadWords, found-texts, own_blocks, texts-own, no-array, swapped-none, IsHead, head-kept, head-room, head-wider, len-written, own-head, texts-between, words-kept, all-split, element-in, links-join, links-moved, links-split, element-beside, element-trans, none-of, IsArrayLeft, array-left, held-element, one-of, drop-at, IsRun, beside-head, block-written, run-begin, run-found, run-headed, run-swapped, room-head, even-block}
+use Rattle.seg_vector.proofs.Words.{◌≡◌, ◌≢◌, refl, sym, ap, subst, ◌∙◌, ℕ, ◌+◌, ◌*◌, Option, Some, None, List, []}
+use Rattle.seg_vector.proofs.Words.{◌∷◌, ◌++◌, append-nil, arith, length, inl, inr, ◌⊎◌, suc, ◌-◌, ◌<◌, ◌≤◌}
+use Rattle.seg_vector.proofs.Words.{length-append, take, drop, zero, ◌%◌, if◌then◌else◌, append_assoc, option_to_list}
+use Rattle.seg_vector.proofs.Words.{IsTrue, nat_lt, remove, slice_get, IfSome, ⊤, option_map, slice_set}
+use Rattle.seg_vector.proofs.Words.{AllByRecursion, and_parts, leb-true, eq-eqb, ne_eqb, length-drop, length-take}
+use Rattle.seg_vector.proofs.Words.{take-append-drop, slice_get_within, Memory, Cut, bytes_of, word_at, Has, Same}
+use Rattle.seg_vector.proofs.Words.{read, current, link_at, target_of, without_all, exchanged, inserted, Extent}
+use Rattle.seg_vector.proofs.Words.{handle, end_of, holds, LiveSet, IsChanged, live_of, SameBlock, IsAllocated, IsHeap}
+use Rattle.seg_vector.proofs.Words.{Table, no_table, same_role, serves, is_table, SameSpread, exchange-next}
+use Rattle.seg_vector.proofs.Words.{exchange-same, exchange-wide, found-room, laid-heap, last-first, spread-refl}
+use Rattle.seg_vector.proofs.Words.{IsNone, kept, shorter-IsShorter, word-same, IsFound, all-found-in, allocated-room}
+use Rattle.seg_vector.proofs.Words.{exchange-taken, exchanged-live, kept-found, live-rises, place-serves}
+use Rattle.seg_vector.proofs.Words.{still_allocated, SameBlock-trans, rising-others, Storage, shorter, place, Has-same}
+use Rattle.seg_vector.proofs.Words.{Place, IsGivenBack, IsFitted, Stands, place_at, IsOwnBlock, AreHeldElements}
+use Rattle.seg_vector.proofs.Words.{IsSwapped, AreSameElements, IsHeldElement, IsTextPlaced, IsServed, IsTextReplaced}
+use Rattle.seg_vector.proofs.Words.{IsTexts, IsTextsNow, text_blocks, IsHeldText, placed_text, AreOthers, AreInArray}
+use Rattle.seg_vector.proofs.Words.{IsStorage, OwnedText, AreTextLinks, IsOwnedText}
+use Rattle.best_fit.specs.Table.{cut_table}
+use Rattle.seg_vector.proofs.Fewer.{cut-some}
+use Rattle.seg_vector.proofs.Runs.{AreHeadWords, IsHead, IsRun, beside-head, block-written, head-exchanged, head-kept}
+use Rattle.seg_vector.proofs.Runs.{head-room, head-wider, len-written, none-some, room-head, run-found, run-headed}
+use Rattle.seg_vector.proofs.Runs.{run-swapped, same-some, serves-full, table, table-full, words-kept}
+use Rattle.seg_vector.proofs.Storage.{length-read}
+use Rattle.seg_vector.proofs.TextBlocks.{IsArrayLeft, all-split, array-left, drop-at, element-beside, element-in}
+use Rattle.seg_vector.proofs.TextBlocks.{element-trans, even-block, found-texts, held-element, links-join, links-moved}
+use Rattle.seg_vector.proofs.TextBlocks.{links-split, no-array, none-of, one-of, own-head, own_blocks, run-begin}
+use Rattle.seg_vector.proofs.TextBlocks.{swapped-none, texts-between, texts-own}
 
 -- ---- a vector of texts without texts, and then without an array
 
@@ -91,7 +92,7 @@ cleared {old} {mid} {new} {p} {ps} {t} s x c word =
     let e3 = exchange-next _ old mid new at 24 own arr [] arr [] (spread-refl arr) e1 e2 in
     let was : AreHeadWords (bytes_of old.bytes) at (length ps) t =
     record { link = s.words.link; len_word = s.words.len_word; capacity = s.words.capacity } in
-    let words = len-written 0 c.rest word (words-kept s.heap h x none was) in
+    let words = len-written 0 refl c.rest word (words-kept s.heap h x none was) in
     texts-between [] [] ps [] [] (sym (append-nil ps)) refl refl (sym (append-nil arr)) s e3 s.table (omega arith)
     words (no-links (bytes_of new.bytes) t.capacity t.extent) tt tt
 
@@ -260,7 +261,7 @@ erased {s0} {s1} {s2} {s3} {p} {ps} {c} i {o = Some x} {q} s e link x1 c2 m2 c3 
     let r2 = run-swapped [] (spread-refl (x ∷ [])) r1 x2 (other, tt) in
     let found2 = (run-found r2).0 in
     let c3' = head-wider p c3 (omega arith) (omega arith) in
-    let r3 = run-headed r2 c3' (len-written (length ps - 1) c3.rest word r2.words) in
+    let r3 = run-headed r2 c3' (len-written (length ps - 1) refl c3.rest word r2.words) in
     let k1 = kept s0 s1 (handle x) x eq [] _ s.heap x1 s.own.0 apart.array in
     let k3 = beside-head (handle x) r2.heap r2.head c3' found2 other in
     let front : AreSameElements (bytes_of s0.bytes) (bytes_of s3.bytes) (handle x) (handle x) i =
@@ -710,22 +711,14 @@ set_in {s0} {s1} {s3} {p} {ps} {c} {i} {len} {x} {q} {block} s e pl rep len_is a
     only-front None x xs d = tt
     only-front (Some y) x xs d = ((d.0.0, tt), tt)
 
-set_by : {s0 s1 s3 : Cut} {p : Place} {ps : List OwnedText} {c i len : ℕ} {o : Option Extent} {q : OwnedText}
+pub text-set : {s0 s1 s3 : Cut} {p : Place} {ps : List OwnedText} {c i len : ℕ} {o : Option Extent} {q : OwnedText}
     {bytes : List ℕ} {block : Option ℕ} → IsTexts s0.bytes p ps (table c o) → slice_get ps i ≡ Some q
     → (pl : IsTextPlaced s0 s1 bytes block) → (rep : IsTextReplaced s1 s3 p (table c o) i q block len)
     → len ≡ length bytes
     → IsTextsNow s0 s3 p (option_to_list o ++ option_to_list q.extent)
     (option_to_list o ++ option_to_list pl.text.extent) (slice_set ps i pl.text) (table c o)
-set_by {o = None} s e pl rep len_is = let no : None ≡ Some rep.array = rep.extent in absurd (cc)
-set_by {o = Some x} s e pl rep len_is = let is : Some x ≡ Some rep.array = rep.extent in let same : rep.array ≡ x =
-    cc in set_in s e pl rep len_is same
-
-pub text-set : {s0 s1 s3 : Cut} {p : Place} {ps : List OwnedText} {t : Table} {i len : ℕ} {q : OwnedText}
-    {bytes : List ℕ} {block : Option ℕ} → IsTexts s0.bytes p ps t → slice_get ps i ≡ Some q
-    → (pl : IsTextPlaced s0 s1 bytes block) → (rep : IsTextReplaced s1 s3 p t i q block len) → len ≡ length bytes
-    → IsTextsNow s0 s3 p (option_to_list t.extent ++ option_to_list q.extent)
-    (option_to_list t.extent ++ option_to_list pl.text.extent) (slice_set ps i pl.text) t
-text-set s e pl rep len_is = set_by s e pl rep len_is
+text-set {o = None} s e pl rep len_is = none-some refl rep.extent
+text-set {o = Some x} s e pl rep len_is = set_in s e pl rep len_is (same-some (sym rep.extent))
 
 -- ---- the element is written once the old text is released
 

@@ -1,37 +1,39 @@
 -- The array of a vector of texts with more places, one text more in it, and what was asked for given up.
-use Rattle.std.proofs.Common.{◌≡◌, ◌≢◌, refl, sym, ap, subst, ◌∙◌, ℕ, ◌+◌, ◌*◌, ◌<◌, ◌≤◌, Option, Some, None, List, [], ◌∷◌, ◌++◌, arith, length, if◌then◌else◌, inl, inr, ◌⊎◌, ◌%◌, append-nil, ◌-◌, length-append, take, drop, Bool, true, false, max}
-use Rattle.std.specs.Prelude.{IsTrue, Result, Ok, Err, MatchResult, option_map, option_to_list, IfSome, nat_lt, insert}
-use Rattle.std.specs.List.{AllByRecursion}
-use Rattle.std.proofs.lemmas.Bool.{lt-leb, and_from, le-leb, lt-ltb, and_parts, eqb-true, le-ltb}
-use Rattle.std.proofs.lemmas.List.{length-drop, length-take, take-append-drop}
-use Rattle.raw_region.specs.Memory.{Memory, Cut, bytes_of, word_at}
-use Rattle.raw_region.specs.Format.{current}
-use Rattle.block_tags.specs.declared.tile.Role.TheVariants.{Storage}
-use Rattle.offset_link.specs.Link.{link_at}
-use Rattle.best_fit.specs.Exchange.{IsNotWidened, IsWidened, without_all, exchanged, IsExchanged, IsRestored}
-use Rattle.best_fit.specs.Extents.{Extent, LiveSet, handle, end_of}
-use Rattle.best_fit.specs.Fit.{place, regrow, added, others, resized}
-use Rattle.best_fit.specs.Heap.{Allocates, IsAllocated, IsChanged, IsHeap, IsReleased, IsResized, SameBlock, extent_at, live_of, has_room, IsShortened, is_live_in}
-use Rattle.best_fit.specs.Table.{Table, serves, is_table}
-use Rattle.best_fit.proofs.Laws.{IsFound, IsNone, SameBlock-trans, exchange-order, exchange-released, exchange-resized, exchange-taken, found-none, found-without, kept, kept-found, last-first, live-rises, middle-first, place-serves, regrow-serves, spread-refl, found-room, two-apart, laid-heap, taken-back, widened-back, Differs, keeps-refl, lay_out_one, others-past, rising-insert}
-use Rattle.raw_region.proofs.Laws.{Has-same}
+use Rattle.seg_vector.proofs.Words.{◌≡◌, ◌≢◌, refl, sym, ap, subst, ◌∙◌, ℕ, ◌+◌, ◌*◌, ◌<◌, ◌≤◌, Option, Some, None}
+use Rattle.seg_vector.proofs.Words.{List, [], ◌∷◌, ◌++◌, arith, length, if◌then◌else◌, inl, inr, ◌⊎◌, ◌%◌, append-nil}
+use Rattle.seg_vector.proofs.Words.{◌-◌, length-append, take, drop, Bool, true, false, max, IsTrue, Result, Ok, Err}
+use Rattle.seg_vector.proofs.Words.{MatchResult, option_map, option_to_list, IfSome, nat_lt, insert, AllByRecursion}
+use Rattle.seg_vector.proofs.Words.{and_from, lt-ltb, and_parts, eqb-true, le-ltb, length-drop, length-take}
+use Rattle.seg_vector.proofs.Words.{take-append-drop, Memory, Cut, bytes_of, word_at, current, Storage, link_at}
+use Rattle.seg_vector.proofs.Words.{IsNotWidened, IsWidened, exchanged, IsExchanged, IsRestored, Extent, LiveSet}
+use Rattle.seg_vector.proofs.Words.{handle, end_of, place, added, others, resized, Allocates, IsAllocated, IsChanged}
+use Rattle.seg_vector.proofs.Words.{IsHeap, IsReleased, IsResized, SameBlock, extent_at, live_of, has_room}
+use Rattle.seg_vector.proofs.Words.{IsShortened, is_live_in, Table, serves, is_table, IsFound, IsNone, SameBlock-trans}
+use Rattle.seg_vector.proofs.Words.{exchange-order, exchange-released, exchange-resized, exchange-taken, found-none}
+use Rattle.seg_vector.proofs.Words.{kept, kept-found, last-first, live-rises, middle-first, place-serves}
+use Rattle.seg_vector.proofs.Words.{regrow-serves, spread-refl, found-room, two-apart, laid-heap, taken-back}
+use Rattle.seg_vector.proofs.Words.{widened-back, Differs, keeps-refl, lay_out_one, others-past, rising-insert}
+use Rattle.seg_vector.proofs.Words.{Has-same, Place, place_at, AreSameElements, IsAdopted, IsAsked, IsNotAsked}
+use Rattle.seg_vector.proofs.Words.{IsSwapped, taken, widened, AreEvenLinks, IsReady, IsPutAsked, IsPutReady, IsServed}
+use Rattle.seg_vector.proofs.Words.{room_of, IsRefusedPut, IsTextNotPlaced, IsTextPlaced, AreOthers, IsTexts}
+use Rattle.seg_vector.proofs.Words.{IsTextsNow, IsStillAtFirst, IsTextPutIn, placed_text, with_array, AreTextLinks}
+use Rattle.seg_vector.proofs.Words.{OwnedText, IsOwnedText, capacity_for_one}
+use Rattle.best_fit.specs.Fit.{regrow}
+use Rattle.seg_vector.specs.Vector.{grown_table}
+use Rattle.seg_vector.proofs.Runs.{AreHeadWords, IsHead, IsRun, beside-head, block-written, head-kept, head-wider}
+use Rattle.seg_vector.proofs.Runs.{len-written, none-some, own-facts, run-found, run-headed, run-none, run-swapped}
+use Rattle.seg_vector.proofs.Runs.{same-some, serves-full, table, table-full}
+use Rattle.seg_vector.proofs.Storage.{capacity-bytes, grown-more, grown-same, regrow-new, storage-role, too-many}
+use Rattle.seg_vector.proofs.TextBlocks.{all-split, element-beside, element-in, element-trans, even-block, even-held}
+use Rattle.seg_vector.proofs.TextBlocks.{found-live, found-texts, links-at, links-join, links-moved, links-split}
+use Rattle.seg_vector.proofs.TextBlocks.{one-of, own-head, run-begin, swapped-none, text-found, texts-between}
+use Rattle.seg_vector.proofs.TextBlocks.{texts-own}
+use Rattle.seg_vector.proofs.TextCalls.{array-full, held-elements, loose-kept, run-others, texts-stand, texts-still}
 use Rattle.best_fit.specs.Fit as fit
-use Rattle.seg_vector.specs.declared.places.Place.{Place}
-use Rattle.seg_vector.specs.Standing.{place_at}
-use Rattle.seg_vector.specs.TextParts.{AreSameElements, IsAdopted, IsAsked, IsNotAsked, IsSwapped, taken, widened, AreEvenLinks, IsReady, IsPutAsked, IsPutReady, IsServed, room_of, IsRefusedPut, IsTextNotPlaced, IsTextPlaced}
-use Rattle.seg_vector.specs.TextsCalls.{AreOthers, IsTexts, IsTextsNow, IsStillAtFirst, IsTextPutIn, placed_text, with_array}
-use Rattle.seg_vector.specs.Vector.{AreTextLinks, OwnedText, grown_table, IsOwnedText, capacity_for_one}
-use Rattle.seg_vector.proofs.TextBlocks.{element-in, links-moved, element-trans, AreHeadWords, texts-own, IsRun, beside-head, block-written, run-begin, run-found, run-headed, run-swapped, IsHead, own-head, all-split, even-block, even-held, swapped-none, texts-between, links-join, links-split, element-beside, one-of, found-texts, links-at, text-found, head-kept, head-wider, len-written, found-live}
-use Rattle.seg_vector.proofs.Storage.{none-some, same-some, serves-full, storage-role, table, table-full, too-many, capacity-bytes}
-use Rattle.seg_vector.proofs.TextCalls.{run-others, held-elements, texts-stand, array-full, loose-kept, texts-still}
 
 -- ---- the array of a vector of texts with more places, once it was asked for
 
 -- ---- it is asked for
-
-regrow-none : (l : LiveSet) (n : ℕ) → regrow l None n ≡ place l n Storage
-unfolding regrow
-regrow-none l n = refl
 
 asked-new : {E : Type 0} → (old new : Cut) (o : Option Extent) (n : ℕ) (r : Result ℕ E)
     → regrow (live_of old.bytes) o n ≡ place (live_of old.bytes) n Storage → Allocates current old new n Storage r
@@ -42,7 +44,7 @@ asked-new old new o n (Err f) e a = record { none = e ∙ a.none; same = a.same 
 pub asked-none : {E : Type 0} → (old new : Cut) {p : Place} {ps : List OwnedText} {c : ℕ} (n : ℕ) {o : Option Extent}
     (r : Result ℕ E) → IsTexts old.bytes p ps (table c o) → link_at (bytes_of old.bytes) (place_at p) ≡ None
     → Allocates current old new n Storage r → MatchResult r (IsAsked old new o n) (λ e. IsNotAsked old new o n)
-asked-none old new n {o = None} r s link a = asked-new old new None n r (regrow-none (live_of old.bytes) n) a
+asked-none old new n {o = None} r s link a = asked-new old new None n r (regrow-new (live_of old.bytes) n) a
 asked-none old new n {o = Some x} r s link a = none-some link s.words.link
 
 -- the block of the array is the one of its handle
@@ -70,27 +72,13 @@ asked-beside {old} new {t} {n} r s link w a =
 
 pub grown-to : (l : LiveSet) (n : ℕ) (t : Table) {y : Extent} → t.capacity < n → regrow l t.extent (16 * n) ≡ Some y
     → grown_table l 16 n t ≡ Some (record { capacity = n; extent = Some y })
-unfolding grown_table
-grown-to l n t f e =
-    ap (λ b. if b then Some t else option_map (λ x. table n (Some x)) (regrow l t.extent (16 * n)))
-    (lt-leb n t.capacity f) ∙ ap (option_map (λ x. table n (Some x))) e
+grown-to l n t f e = grown-more l 16 n t f ∙ ap (option_map (λ x. table n (Some x))) e
 
 pub not-grown : (l : LiveSet) (n : ℕ) (t : Table) → t.capacity < n → regrow l t.extent (16 * n) ≡ None
     → grown_table l 16 n t ≡ None
-unfolding grown_table
-not-grown l n t f e =
-    ap (λ b. if b then Some t else option_map (λ x. table n (Some x)) (regrow l t.extent (16 * n)))
-    (lt-leb n t.capacity f) ∙ ap (option_map (λ x. table n (Some x))) e
+not-grown l n t f e = grown-more l 16 n t f ∙ ap (option_map (λ x. table n (Some x))) e
 
 -- ---- what stays
-
--- none of the blocks that came is the head's
-pub run-none : {first now : Cut} {p : Place} {gone come : List Extent} {n : ℕ} {t : Table} → IsHead first p
-    → IsNone p.handle gone → IsRun first now p gone come n t → IsNone p.handle come
-run-none {first} {p} {gone} {come} w d r =
-    let l = live_of first.bytes in
-    found-none p.handle _ come (without_all gone l.extents) (live-rises (exchanged l gone come) r.change.live.proper)
-    (found-without p.handle _ gone l.extents d w.found)
 
 pub all-beside-head : {a b : Cut} {p : Place} (xs : List Extent) → IsHeap current a.bytes → IsHead a p
     → IsChanged current a b (place_at p) 24 → AllByRecursion (IsFound (live_of a.bytes).extents) xs → IsNone p.handle xs
@@ -111,114 +99,106 @@ pub all-trans : (a b c : Memory) (xs : List Extent) → AllByRecursion (SameBloc
 all-trans a b c [] p q = tt
 all-trans a b c (x ∷ xs) p q = (SameBlock-trans a b c x p.0 q.0, all-trans a b c xs p.1 q.1)
 
--- ---- the words are written, and the elements stand where they are
-
-adopt-pointed : {first old new : Cut} {p : Place} (ps : List OwnedText) {t : Table} (y : Extent) (n : ℕ)
-    (loose : List Extent) → IsHead first p → IsNone p.handle (option_to_list t.extent)
-    → IsRun first old p (option_to_list t.extent) (loose ++ (y ∷ [])) (length ps) t
-    → grown_table (live_of first.bytes) 16 n t ≡ Some (table n (Some y)) → IsTrue (serves y Storage (16 * n))
-    → length ps ≤ n
-    → AreTextLinks (bytes_of old.bytes) (handle y) ps → IsChanged current old new (place_at p) 24
-    → link_at (bytes_of new.bytes) (place_at p) ≡ Some (handle y)
-    → word_at (bytes_of new.bytes) (place_at p + 8) ≡ word_at (bytes_of old.bytes) (place_at p + 8)
-    → word_at (bytes_of new.bytes) (place_at p + 16) ≡ n → IsAdopted first old new p ps t (handle y) n loose
-adopt-pointed {first} {old} {new} {p} ps {t} y n loose head apart r grown serving fits links c link len cap =
-    let gone = option_to_list t.extent in
-    let come : List Extent = loose ++ (y ∷ []) in
-    let u = table n (Some y) in
-    let words : AreHeadWords (bytes_of new.bytes) (place_at p) (length ps) u =
-    record { link = link; len_word = len ∙ r.words.len_word; capacity = cap } in
-    let r3 = run-headed r c words in
-    let found = all-split (IsFound (live_of old.bytes).extents) loose (y ∷ []) (run-found r) in
-    let none = all-split (λ (z : Extent). p.handle ≢ handle z) loose (y ∷ []) (run-none head apart r) in
-    let k = beside-head (handle y) r.heap r.head c found.1.0 none.1.0 in
-    let full = serves-full y (16 * n) serving in
-    record {
-      array = y;
-      at = refl;
-      grown = grown;
-      serves = serving;
-      change = exchange-order _ _ new _ 24 gone come _ (last-first loose (y ∷ [])) r3.change;
-      link = link;
-      len_word = words.len_word;
-      capacity = cap;
-      links = links-moved (bytes_of old.bytes) (bytes_of new.bytes) (handle y) (handle y) ps links
-          (λ j f. element-in (handle y + 16 * j) k (omega arith) (omega (arith, f, fits, full)));
-      stay = all-beside-head loose r.heap r.head c found.0 none.0;
-    }
-
--- lengthened where it stood
-adopt-wide : {first mid old new : Cut} {p : Place} {ps : List OwnedText} {c g : ℕ} (n : ℕ) {x : Extent}
-    {loose : List Extent} → IsTexts first.bytes p ps (table c (Some x)) → c < n
-    → (w : IsWidened current first mid g (16 * n)) → Some x ≡ Some w.before
-    → IsSwapped mid old [] loose → IsChanged current old new (place_at p) 24
-    → link_at (bytes_of new.bytes) (place_at p) ≡ Some g
-    → word_at (bytes_of new.bytes) (place_at p + 8) ≡ word_at (bytes_of old.bytes) (place_at p + 8)
-    → word_at (bytes_of new.bytes) (place_at p + 16) ≡ n → IsAdopted first old new p ps (table c (Some x)) g n loose
-adopt-wide {first} {mid} {old} {new} {p} {ps} {c} {g} n {x} {loose} s more w is since ch link len cap =
-    let t = table c (Some x) in
-    let y = w.after in
-    let same = same-some is in
-    let begins : handle y ≡ handle x = w.begins ∙ ap (λ (z : Extent). handle z) (sym same) in
-    let g_is : g ≡ handle y = sym w.at ∙ sym w.begins in
-    let r : IsResized current first mid x y = subst (λ (z : Extent). IsResized current first mid z y) (sym same)
-    w.change in
-    let grow : regrow (live_of first.bytes) (Some x) (16 * n) ≡ Some y =
-    ap (λ o. regrow (live_of first.bytes) o (16 * n)) is ∙ w.regrown in
-    let other : p.handle ≢ handle x = λ f. s.own.1 (sym f) in
-    let fits = s.fits in
-    let full = table-full 16 c x s.table in
-    let serving = regrow-serves (live_of first.bytes) (Some x) y (16 * n) (storage-role 16 c (Some x) s.table) grow in
-    let big = serves-full y (16 * n) serving in
-    let head = own-head (texts-own first s) in
-    let x1 = exchange-resized _ _ mid x y 0 0 begins r in
-    let r0 = run-begin first [] [] ps refl s in
-    let r1 = run-swapped [] (spread-refl (x ∷ [])) r0 x1 (other, tt) in
-    let r2 = run-swapped (y ∷ []) (spread-refl (y ∷ [])) r1 since tt in
-    let found1 = (run-found r1).0 in
-    let k2 = kept mid old (handle y) y [] _ _ r1.heap since found1 tt in
-    let elements : AreSameElements (bytes_of first.bytes) (bytes_of old.bytes) (handle x) (handle x) (length ps) =
-    λ j f.
-    element-trans
-    (element-in (handle x + 16 * j) r.still (omega arith) (omega (arith, f, fits, full, big, more)))
-    (element-in (handle x + 16 * j) k2 (omega (arith, begins)) (omega (arith, begins, f, fits, big, more))) in
-    let links : AreTextLinks (bytes_of old.bytes) (handle y) ps = subst (λ k. AreTextLinks (bytes_of old.bytes) k ps)
-    (sym begins) (links-moved (bytes_of first.bytes) (bytes_of old.bytes) (handle x) (handle x) ps s.words.array
-    elements) in
-    subst (λ k. IsAdopted first old new p ps t k n loose) (sym g_is)
-    (adopt-pointed ps y n loose head (other, tt) r2 (grown-to (live_of first.bytes) n t more grow) serving
-    (omega (arith, fits, more)) links ch (link ∙ ap (λ k. Some k) g_is) len cap)
-
--- a first one
-adopt-first : {first mid old new : Cut} {p : Place} {ps : List OwnedText} {c g : ℕ} (n : ℕ) {loose : List Extent}
-    → IsTexts first.bytes p ps (table c None) → c < n → (a : IsAllocated current first mid (16 * n) Storage g)
-    → IsSwapped mid old [] loose → IsChanged current old new (place_at p) 24
-    → link_at (bytes_of new.bytes) (place_at p) ≡ Some g
-    → word_at (bytes_of new.bytes) (place_at p + 8) ≡ word_at (bytes_of old.bytes) (place_at p + 8)
-    → word_at (bytes_of new.bytes) (place_at p + 16) ≡ n → IsAdopted first old new p ps (table c None) g n loose
-adopt-first {first} {mid} {old} {new} {p} {ps} {c} {g} n {loose} s more a since ch link len cap =
-    let t = table c None in
-    let y = a.extent in
-    let g_is = a.at in
-    let fits = s.fits in
-    let head = own-head (texts-own first s) in
-    let r0 = run-begin first [] [] ps refl s in
-    let r1 = run-swapped [] (spread-refl []) r0 (exchange-taken _ _ mid _ _ g 0 0 a) tt in
-    let r2 = run-swapped (y ∷ []) (spread-refl (y ∷ [])) r1 since tt in
-    let none = s.words.array in
-    let links : AreTextLinks (bytes_of old.bytes) (handle y) ps = subst (AreTextLinks (bytes_of old.bytes) (handle y))
-    (sym none) tt in
-    subst (λ k. IsAdopted first old new p ps t k n loose) (sym g_is)
-    (adopt-pointed ps y n loose head tt r2
-    (grown-to (live_of first.bytes) n t more (regrow-none (live_of first.bytes) (16 * n) ∙ a.placed))
-    (place-serves (live_of first.bytes) (16 * n) Storage y a.placed) (omega (arith, fits, more))
-    links ch (link ∙ ap (λ k. Some k) g_is) len cap)
-
 pub new-other : {first mid : Cut} {n g : ℕ} (h : ℕ) {x : Extent} → (a : IsAllocated current first mid n Storage g)
     → extent_at (live_of first.bytes) h ≡ Some x → h ≢ handle a.extent
 new-other {first} h {x} a e =
     let l = live_of first.bytes in
     (found-none h x (a.extent ∷ []) l.extents (live-rises (exchanged l [] (a.extent ∷ [])) a.live.proper) e).0
+
+-- ---- the words are written, and the elements stand where they are
+
+-- the array that was asked for is the only one
+pub record IsInPlace (first now : Cut) (p : Place) (ps : List OwnedText) (t : Table) (g n : ℕ)
+    (loose : List Extent) : Type 0 where
+  pub array : Extent
+  pub run : IsRun first now p (option_to_list t.extent) (loose ++ (array ∷ [])) (length ps) t
+  pub at : g ≡ handle array
+  pub grow : regrow (live_of first.bytes) t.extent (16 * n) ≡ Some array
+  pub serving : IsTrue (serves array Storage (16 * n))
+  pub links : AreTextLinks (bytes_of now.bytes) (handle array) ps
+
+-- lengthened where it stood
+wide-place : {first mid now : Cut} {p : Place} {ps : List OwnedText} {c g : ℕ} (n : ℕ) {x : Extent}
+    {loose : List Extent} → IsTexts first.bytes p ps (table c (Some x)) → (w : IsWidened current first mid g (16 * n))
+    → Some x ≡ Some w.before
+    → IsSwapped mid now [] loose → IsInPlace first now p ps (table c (Some x)) g n loose
+wide-place {first} {mid} {now} {p} {ps} {c} n {x} s w is since =
+    let y = w.after in
+    let same : w.before ≡ x = same-some (sym is) in
+    let begins : handle y ≡ handle x = w.begins ∙ ap (λ (z : Extent). handle z) same in
+    let longer : x.len ≤ y.len = subst (λ (z : Extent). z.len ≤ y.len) same w.longer in
+    let r : IsResized current first mid x y = subst (λ (z : Extent). IsResized current first mid z y) same w.change in
+    let grow : regrow (live_of first.bytes) (Some x) (16 * n) ≡ Some y =
+    ap (λ o. regrow (live_of first.bytes) o (16 * n)) is ∙ w.regrown in
+    let fits = s.fits in
+    let full = table-full 16 c x s.table in
+    let one = run-swapped [] (spread-refl (x ∷ [])) (run-begin first [] [] ps refl s)
+    (exchange-resized _ _ mid x y 0 0 begins r) ((λ f. s.own.1 (sym f)), tt) in
+    let k2 = kept mid now (handle y) y [] _ _ one.heap since (run-found one).0 tt in
+    let elements : AreSameElements (bytes_of first.bytes) (bytes_of now.bytes) (handle x) (handle x) (length ps) =
+    λ j f.
+    element-trans (element-in (handle x + 16 * j) r.still (omega arith) (omega (arith, f, fits, full, longer)))
+    (element-in (handle x + 16 * j) k2 (omega (arith, begins)) (omega (arith, begins, f, fits, full, longer))) in
+    record {
+      array = y;
+      run = run-swapped (y ∷ []) (spread-refl (y ∷ [])) one since tt;
+      at = sym w.at ∙ sym w.begins;
+      grow = grow;
+      serving = regrow-serves (live_of first.bytes) (Some x) y (16 * n) (storage-role 16 c (Some x) s.table) grow;
+      links = subst (λ k. AreTextLinks (bytes_of now.bytes) k ps) (sym begins)
+          (links-moved (bytes_of first.bytes) (bytes_of now.bytes) (handle x) (handle x) ps s.words.array elements);
+    }
+
+-- a first one
+first-place : {first mid now : Cut} {p : Place} {ps : List OwnedText} {c g : ℕ} (n : ℕ) {loose : List Extent}
+    → IsTexts first.bytes p ps (table c None) → (a : IsAllocated current first mid (16 * n) Storage g)
+    → IsSwapped mid now [] loose → IsInPlace first now p ps (table c None) g n loose
+first-place {first} {mid} {now} {ps} {g} n s a since =
+    let y = a.extent in
+    let none = s.words.array in
+    let one = run-swapped [] (spread-refl []) (run-begin first [] [] ps refl s) (exchange-taken _ _ mid _ _ g 0 0 a)
+    tt in
+    record {
+      array = y;
+      run = run-swapped (y ∷ []) (spread-refl (y ∷ [])) one since tt;
+      at = a.at;
+      grow = regrow-new (live_of first.bytes) (16 * n) ∙ a.placed;
+      serving = place-serves (live_of first.bytes) (16 * n) Storage y a.placed;
+      links = subst (AreTextLinks (bytes_of now.bytes) (handle y)) (sym none) tt;
+    }
+
+adopt-place : {first old new : Cut} {p : Place} {ps : List OwnedText} {t : Table} {g n : ℕ} {loose : List Extent}
+    → IsTexts first.bytes p ps t → t.capacity < n → IsInPlace first old p ps t g n loose
+    → IsChanged current old new (place_at p) 24 → link_at (bytes_of new.bytes) (place_at p) ≡ Some g
+    → word_at (bytes_of new.bytes) (place_at p + 8) ≡ word_at (bytes_of old.bytes) (place_at p + 8)
+    → word_at (bytes_of new.bytes) (place_at p + 16) ≡ n → IsAdopted first old new p ps t g n loose
+adopt-place {first} {old} {new} {p} {ps} {t} {g} {n} {loose} s more q c link len cap =
+    let y = q.array in
+    let r = q.run in
+    let fits = s.fits in
+    let words : AreHeadWords (bytes_of new.bytes) (place_at p) (length ps) (table n (Some y)) =
+    record { link = link ∙ ap (λ k. Some k) q.at; len_word = len ∙ r.words.len_word; capacity = cap } in
+    let apart = (own-facts (live_of first.bytes) p.handle t.extent s.own).2 in
+    let found = all-split (IsFound (live_of old.bytes).extents) loose (y ∷ []) (run-found r) in
+    let none = all-split (λ (z : Extent). p.handle ≢ handle z) loose (y ∷ [])
+    (run-none (own-head (texts-own first s)) apart r) in
+    let k = beside-head (handle y) r.heap r.head c found.1.0 none.1.0 in
+    let full = serves-full y (16 * n) q.serving in
+    let links = links-moved (bytes_of old.bytes) (bytes_of new.bytes) (handle y) (handle y) ps q.links
+    (λ j f. element-in (handle y + 16 * j) k (omega arith) (omega (arith, f, fits, more, full))) in
+    record {
+      array = y;
+      at = q.at;
+      grown = grown-to (live_of first.bytes) n t more q.grow;
+      serves = q.serving;
+      change = exchange-order _ _ new _ 24 (option_to_list t.extent) (loose ++ (y ∷ [])) _ (last-first loose (y ∷ []))
+          (run-headed r c words).change;
+      link = link;
+      len_word = words.len_word;
+      capacity = cap;
+      links = subst (λ k. AreTextLinks (bytes_of new.bytes) k ps) (sym q.at) links;
+      stay = all-beside-head loose r.heap r.head c found.0 none.0;
+    }
 
 -- without another array
 pub adopt-none : {first mid old new : Cut} {p : Place} {ps : List OwnedText} {c g : ℕ} (n : ℕ) {o : Option Extent}
@@ -230,7 +210,8 @@ pub adopt-none : {first mid old new : Cut} {p : Place} {ps : List OwnedText} {c 
     → word_at (bytes_of new.bytes) (place_at p + 16) ≡ n → IsAdopted first old new p ps (table c o) g n loose
 adopt-none n {o = Some x} s more a since was ch link len cap = none-some was s.words.link
 adopt-none n {o = None} s more (widened w is) since was ch link len cap = absurd (cc)
-adopt-none n {o = None} s more (taken a e) since was ch link len cap = adopt-first n s more a since ch link len cap
+adopt-none n {o = None} s more (taken a e) since was ch link len cap = adopt-place s more (first-place n s a since) ch
+    link len cap
 
 -- the same one
 pub adopt-same : {first mid old new : Cut} {p : Place} {ps : List OwnedText} {c g : ℕ} (n : ℕ) {o : Option Extent}
@@ -241,8 +222,8 @@ pub adopt-same : {first mid old new : Cut} {p : Place} {ps : List OwnedText} {c 
     → word_at (bytes_of new.bytes) (place_at p + 8) ≡ word_at (bytes_of old.bytes) (place_at p + 8)
     → word_at (bytes_of new.bytes) (place_at p + 16) ≡ n → IsAdopted first old new p ps (table c o) g n loose
 adopt-same n {o = None} s more a since was ch link len cap = none-some s.words.link was
-adopt-same n {o = Some x} s more (widened w is) since was ch link len cap = adopt-wide n s more w is since ch link len
-    cap
+adopt-same n {o = Some x} s more (widened w is) since was ch link len cap =
+    adopt-place s more (wide-place n s w is since) ch link len cap
 adopt-same n {o = Some x} s more (taken a e) since was ch link len cap =
     let g_is = same-some (sym s.words.link ∙ was) in
     absurd (new-other (handle x) a s.own.0 (g_is ∙ a.at))
@@ -398,58 +379,25 @@ pub record IsReadyRun (first now : Cut) (p : Place) (ps : List OwnedText) (t : T
   pub found : extent_at (live_of now.bytes) (handle array) ≡ Some array
   pub big : 16 * n + 16 ≤ array.len
 
-ready-wide : {first mid now : Cut} {p : Place} {ps : List OwnedText} {c g : ℕ} (n : ℕ) {x : Extent}
-    {loose : List Extent} → IsTexts first.bytes p ps (table c (Some x)) → (w : IsWidened current first mid g (16 * n))
-    → Some x ≡ Some w.before
-    → IsSwapped mid now [] loose → IsReadyRun first now p ps (table c (Some x)) g n
-ready-wide {first} {mid} {now} {p} {ps} {c} n {x} {loose} s w is since =
-    let y = w.after in
-    let same : x ≡ w.before = cc in
-    let begins : handle y ≡ handle x = w.begins ∙ ap (λ (z : Extent). handle z) (sym same) in
-    let r : IsResized current first mid x y = subst (λ (z : Extent). IsResized current first mid z y) (sym same)
-    w.change in
-    let grow : regrow (live_of first.bytes) (Some x) (16 * n) ≡ Some y =
-    ap (λ o. regrow (live_of first.bytes) o (16 * n)) is ∙ w.regrown in
-    let other : p.handle ≢ handle x = λ f. s.own.1 (sym f) in
-    let r0 = run-begin first [] [] ps refl s in
-    let r1 = run-swapped [] (spread-refl (x ∷ [])) r0 (exchange-resized _ _ mid x y 0 0 begins r) (other, tt) in
-    let r2 = run-swapped (y ∷ []) (spread-refl (y ∷ [])) r1 since tt in
-    record {
-      come = loose ++ (y ∷ []);
-      array = y;
-      run = r2;
-      at = sym w.at ∙ sym w.begins;
-      found = (all-split (IsFound (live_of now.bytes).extents) loose (y ∷ []) (run-found r2)).1.0;
-      big = serves-full y (16 * n) (regrow-serves (live_of first.bytes) (Some x) y (16 * n)
-          (storage-role 16 c (Some x) s.table) grow);
-    }
-
-ready-first : {first mid now : Cut} {p : Place} {ps : List OwnedText} {c g : ℕ} (n : ℕ) {loose : List Extent}
-    → IsTexts first.bytes p ps (table c None) → (a : IsAllocated current first mid (16 * n) Storage g)
-    → IsSwapped mid now [] loose
-    → IsReadyRun first now p ps (table c None) g n
-ready-first {first} {mid} {now} {p} {ps} {c} {g} n {loose} s a since =
-    let y = a.extent in
-    let r0 = run-begin first [] [] ps refl s in
-    let r1 = run-swapped [] (spread-refl []) r0 (exchange-taken _ _ mid _ _ g 0 0 a) tt in
-    let r2 = run-swapped (y ∷ []) (spread-refl (y ∷ [])) r1 since tt in
-    record {
-      come = loose ++ (y ∷ []);
-      array = y;
-      run = r2;
-      at = a.at;
-      found = (all-split (IsFound (live_of now.bytes).extents) loose (y ∷ []) (run-found r2)).1.0;
-      big = serves-full y (16 * n) (place-serves (live_of first.bytes) (16 * n) Storage y a.placed);
-    }
+ready-place : {first now : Cut} {p : Place} {ps : List OwnedText} {t : Table} {g n : ℕ} {loose : List Extent}
+    → IsInPlace first now p ps t g n loose → IsReadyRun first now p ps t g n
+ready-place {now} {n} {loose} q = record {
+  come = loose ++ (q.array ∷ []);
+  array = q.array;
+  run = q.run;
+  at = q.at;
+  found = (all-split (IsFound (live_of now.bytes).extents) loose (q.array ∷ []) (run-found q.run)).1.0;
+  big = serves-full q.array (16 * n) q.serving;
+}
 
 pub ready-in : {first mid now : Cut} {p : Place} {ps : List OwnedText} {c g : ℕ} (n : ℕ) {o : Option Extent}
     {loose : List Extent} → IsTexts first.bytes p ps (table c o) → IsAsked first mid o (16 * n) g
     → IsSwapped mid now [] loose
     → IsReadyRun first now p ps (table c o) g n
 ready-in n {o = None} s (widened w is) since = absurd (cc)
-ready-in n {o = None} s (taken a e) since = ready-first n s a since
-ready-in n {o = Some x} s (widened w is) since = ready-wide n s w is since
-ready-in {first} {now} {p} {ps} {c} n {o = Some x} {loose} s (taken a e) since =
+ready-in n {o = None} s (taken a e) since = ready-place (first-place n s a since)
+ready-in n {o = Some x} s (widened w is) since = ready-place (wide-place n s w is since)
+ready-in {first} n {o = Some x} {loose} s (taken a e) since =
     let b = beside s a since in
     record {
       come = loose ++ (a.extent ∷ x ∷ []);
@@ -576,11 +524,6 @@ reserved {new} {p} {ps} {t} {n} s more a =
           (subst (λ k. AreTextLinks (bytes_of new.bytes) k ps) a.at a.links) tt tt,
     )
 
-pub same-grown : (l : LiveSet) (n : ℕ) (t : Table) → n ≤ t.capacity → grown_table l 16 n t ≡ Some t
-unfolding grown_table
-same-grown l n t f = ap (λ b. if b then Some t else option_map (λ x. table n (Some x)) (regrow l t.extent (16 * n)))
-    (le-leb n t.capacity f)
-
 pub reserved-same : (c : Cut) {p : Place} {ps : List OwnedText} {t : Table} (n : ℕ) → IsTexts c.bytes p ps t
     → n ≤ t.capacity
     → (w : Table) × (grown_table (live_of c.bytes) 16 n t ≡ Some w) × IsTextsNow c c p (option_to_list t.extent)
@@ -590,7 +533,7 @@ reserved-same c {p} {ps} {t} n s f =
     let r = run-begin c [] [] ps refl s in
     let x : IsExchanged current c c (place_at p) 24 arr arr =
     subst (λ (xs : List Extent). IsExchanged current c c (place_at p) 24 xs xs) (append-nil arr) r.change in
-    (t, same-grown (live_of c.bytes) n t f, record { change = x; texts = s })
+    (t, grown-same (live_of c.bytes) 16 n t f, record { change = x; texts = s })
 
 pub too-many-texts : (c : Cut) {p : Place} {ps : List OwnedText} {t : Table} (n : ℕ) → IsTexts c.bytes p ps t
     → 1073741824 < n → grown_table (live_of c.bytes) 16 n t ≡ None
@@ -692,7 +635,7 @@ put_in {first} {now} {b1} {b2} {new} {p} {ps} {t} {y} {m} {z} i r inside c1 m1 c
     let r2 = run-swapped ez (spread-refl come) r1 x2 (none.0, tt) in
     let found2 = run-found r2 in
     let c3' = head-wider p c3 (omega arith) (omega arith) in
-    let r3 = run-headed r2 c3' (len-written (k + 1) c3.rest word r2.words) in
+    let r3 = run-headed r2 c3' (len-written (k + 1) refl c3.rest word r2.words) in
     let y3 = beside-head (handle y) r2.heap r2.head c3' found2.0 none.0 in
     let front : AreSameElements (bytes_of now.bytes) (bytes_of new.bytes) (handle y) (handle y) i = λ j f.
     element-trans
@@ -903,7 +846,7 @@ wanted-same k c f = ap (λ b. if b then c else max 4 (2 * c)) (lt-ltb k c f)
 
 same-grown-one : (l : LiveSet) (ps : List OwnedText) (t : Table) → length ps < t.capacity
     → grown_table l 16 (capacity_for_one (length ps) t.capacity) t ≡ Some t
-same-grown-one l ps t f = ap (λ n. grown_table l 16 n t) (wanted-same (length ps) t.capacity f) ∙ same-grown l
+same-grown-one l ps t f = ap (λ n. grown_table l 16 n t) (wanted-same (length ps) t.capacity f) ∙ grown-same l 16
     t.capacity t (omega arith)
 
 array-is : (l : LiveSet) (t : Table) → with_array l t t ≡ l

@@ -1,32 +1,29 @@
 -- Other texts for a vector, laid out beside those that it has.
-use Rattle.std.proofs.Common.{◌≡◌, ◌≢◌, refl, sym, ap, subst, ◌∙◌, inl, ℕ, zero, suc, ◌+◌, ◌*◌, ◌<◌, ◌≤◌, Option, Some, None, List, [], ◌∷◌, ◌++◌, append-nil, append_assoc, arith, length, length-append, drop, map, slice_index_or, Bor, ◌%◌, inr, if◌then◌else◌, false, ◌==◌, Ok}
-use Rattle.std.specs.Prelude.{IfSome, IsTrue, option_map, option_to_list}
-use Rattle.std.specs.List.{AllByRecursion}
-use Rattle.std.proofs.lemmas.Grind.{flat_map-append}
-use Rattle.std.proofs.lemmas.Bool.{ne_eqb}
-use Rattle.std.proofs.lemmas.List.{drop_all}
-use Rattle.raw_region.specs.Memory.{Memory, Cut, bytes_of, word_at}
-use Rattle.raw_region.specs.Format.{current}
-use Rattle.offset_link.specs.Link.{link_at}
-use Rattle.best_fit.specs.Exchange.{exchanged, inserted, without_all, IsRestored, SameBlockBut, IsExchanged}
-use Rattle.best_fit.specs.Extents.{Extent, LiveSet, handle}
+use Rattle.seg_vector.proofs.Words.{◌≡◌, ◌≢◌, refl, sym, ap, subst, ◌∙◌, inl, ℕ, zero, suc, ◌+◌, ◌*◌, ◌<◌, ◌≤◌, Option}
+use Rattle.seg_vector.proofs.Words.{Some, None, List, [], ◌∷◌, ◌++◌, append-nil, append_assoc, arith, length}
+use Rattle.seg_vector.proofs.Words.{length-append, drop, map, slice_index_or, Bor, ◌%◌, inr, if◌then◌else◌, false}
+use Rattle.seg_vector.proofs.Words.{◌==◌, Ok, IfSome, IsTrue, option_map, option_to_list, AllByRecursion}
+use Rattle.seg_vector.proofs.Words.{flat_map-append, ne_eqb, drop_all, Memory, Cut, bytes_of, word_at, current}
+use Rattle.seg_vector.proofs.Words.{link_at, exchanged, inserted, without_all, IsRestored, SameBlockBut, IsExchanged}
+use Rattle.seg_vector.proofs.Words.{Extent, LiveSet, handle, others, resized, place, IsChanged, IsHeap, SameBlock}
+use Rattle.seg_vector.proofs.Words.{extent_at, has_room, live_of, IsAllocated, IsRefused, IsReleased, is_live_in}
+use Rattle.seg_vector.proofs.Words.{Differs, IsFound, IsNone, all-found-in, all-in-use, changed-live, exchange-next}
+use Rattle.seg_vector.proofs.Words.{exchange-order, exchange-same, exchanged-live, found-room, kept, laid-heap}
+use Rattle.seg_vector.proofs.Words.{last-first, live-rises, others-past, rising-insert, rising-others, roomy}
+use Rattle.seg_vector.proofs.Words.{spread-refl, exchange-released, exchange-taken, keeps-refl, place-serves, too_long}
+use Rattle.seg_vector.proofs.Words.{kept-beside, Storage, Table, no_table, AreLaid, AreLaidUpTo, AreLaidOut}
+use Rattle.seg_vector.proofs.Words.{AreNotLaidOut, AreSameElements, IsServed, IsSwapped, IsTextNotPlaced, IsTextPlaced}
+use Rattle.seg_vector.proofs.Words.{AreHeldElements, AreOthers, placed_text, placed_texts, text_blocks, with_text}
+use Rattle.seg_vector.proofs.Words.{all_texts, new_array, AreTextsAssigned, AssignsTexts, IsTexts, IsTextsNow}
+use Rattle.seg_vector.proofs.Words.{ReleasesTexts, AreTextLinks, IsOwnedText, OwnedText, Place, place_at}
+use Rattle.seg_vector.proofs.Runs.{AreHeadWords, IsHead, block-written, changed-both, head-exchanged, len-written}
+use Rattle.seg_vector.proofs.Runs.{run-none, run-swapped, serves-full, table}
+use Rattle.seg_vector.proofs.TextBlocks.{all-join, all-split, element-beside, element-in, element-trans, even-block}
+use Rattle.seg_vector.proofs.TextBlocks.{found-live, links-join, links-moved, own-head, own_blocks, run-begin}
+use Rattle.seg_vector.proofs.TextBlocks.{texts-between, texts-own}
+use Rattle.seg_vector.proofs.TextCalls.{come-even, run-others, texts-still}
+use Rattle.seg_vector.proofs.TextGrowth.{all-kept, new-table, same-loose}
 use Rattle.best_fit.specs.Fit as fit
-use Rattle.best_fit.specs.Fit.{others, resized, place}
-use Rattle.best_fit.specs.Heap.{IsChanged, IsHeap, SameBlock, extent_at, has_room, live_of, IsAllocated, IsRefused, IsReleased, is_live_in}
-use Rattle.best_fit.proofs.Laws.{Differs, IsFound, IsNone, all-found-in, all-in-use, changed-live, exchange-next, exchange-order, exchange-same, exchanged-live, found-room, kept, laid-heap, last-first, live-rises, others-past, rising-insert, rising-others, roomy, spread-refl, exchange-released, exchange-taken, keeps-refl, place-serves, too_long, kept-beside}
-use Rattle.block_tags.specs.declared.tile.Role.TheVariants.{Storage}
-use Rattle.best_fit.specs.Table.{Table, no_table}
-use Rattle.seg_vector.specs.TextLists.{AreLaid, AreLaidUpTo, AreLaidOut, AreNotLaidOut}
-use Rattle.seg_vector.specs.TextParts.{AreSameElements, IsServed, IsSwapped, IsTextNotPlaced, IsTextPlaced, AreHeldElements}
-use Rattle.seg_vector.specs.TextsCalls.{AreOthers, placed_text, placed_texts, text_blocks, with_text, all_texts, new_array, AreTextsAssigned, AssignsTexts, IsTexts, IsTextsNow, ReleasesTexts}
-use Rattle.seg_vector.specs.Vector.{AreTextLinks, IsOwnedText, OwnedText}
-use Rattle.seg_vector.proofs.TextBlocks.{element-in, links-join, links-moved, element-beside, element-trans, block-written, all-join, all-split, found-live, even-block, AreHeadWords, own_blocks, texts-own, run-begin, run-swapped, IsHead, len-written, own-head, texts-between}
-use Rattle.seg_vector.proofs.TextGrowth.{all-kept, same-loose, run-none, new-table}
-use Rattle.seg_vector.proofs.TextCalls.{come-even, texts-still, run-others}
-use Rattle.seg_vector.proofs.Storage.{serves-full, table}
-use Rattle.seg_vector.specs.declared.places.Place.{Place}
-use Rattle.seg_vector.specs.Standing.{place_at}
-use Rattle.seg_vector.proofs.Fewer.{changed-both, head-exchanged}
 
 -- ---- an array and texts that are laid out beside all that a heap holds, one after another
 
@@ -597,7 +594,7 @@ assigned {rel} {led} {new} {p} {ps} {t} n s w e some r c link capacity d word =
     let both = changed-both (place_at p) 24 c d' (omega arith) (omega arith) (omega arith) (omega arith) in
     let before : AreHeadWords (bytes_of led.bytes) (place_at p) (word_at (bytes_of led.bytes) (place_at p + 8)) u =
     record { link = link ∙ ap (λ k. Some k) w.at; len_word = refl; capacity = capacity } in
-    let words = len-written n d'.rest (subst (λ k. word_at (bytes_of new.bytes) k ≡ n) at word) before in
+    let words = len-written n refl d'.rest (subst (λ k. word_at (bytes_of new.bytes) k ≡ n) at word) before in
     assigned-at s w e some (r ps t (laid-still s w)) both words
 
 pub laid-even : {old now : Cut} {g : ℕ} {more : List (List ℕ)} → AreLaidOut old now more g → g % 16 ≡ 0

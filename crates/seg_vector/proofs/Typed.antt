@@ -1,93 +1,47 @@
 -- Vectors of values and texts, from what is known of their bytes.
-use Rattle.std.proofs.Common.{◌≡◌, refl, sym, ap, subst, ◌∙◌, ℕ, zero, suc, ◌+◌, ◌*◌, ◌<◌, Bool, true, List, [], ◌∷◌, ◌++◌, length, take, drop, append_assoc, arith, ◌-◌, ◌≤◌, max, false, if◌then◌else◌, length-append, append-nil}
-use Rattle.std.specs.Prelude.{IsTrue, Some, flat_map, insert, remove, slice_get, slice_set, nat_le, option_to_list}
-use Rattle.std.specs.List.{list_all}
-use Rattle.std.proofs.lemmas.Bool.{and_from, and_parts, leb-true}
-use Rattle.std.proofs.lemmas.List.Concat.{flat_map-append}
-use Rattle.std.proofs.Math.Seq.{take-append-add, drop-append-add, take-append_seam}
-use Rattle.std.proofs.lemmas.List.{length-set, length-take}
-use Rattle.std.proofs.lemmas.List.Edits.{length-insert, length-remove}
-use Rattle.raw_region.specs.Memory.{part, patched, Cut, bytes_of, word_at}
-use Rattle.raw_region.specs.Format.{current}
-use Rattle.best_fit.specs.Exchange.{IsExchanged}
-use Rattle.best_fit.specs.Heap.{IsChanged, IsHeap, has_room, live_of}
-use Rattle.best_fit.specs.Table.{Table, cut_table, no_table}
-use Rattle.seg_types.specs.declared.refusals.Refusal.TheVariants.{NoSpace}
-use Rattle.seg_vector.specs.declared.places.Place.{Place}
-use Rattle.seg_vector.specs.Elements.{Erases, Extends, Fits, GivesBack, Inserts, IsFitted, IsGivenBack, IsRewritten, Overwrites, ReadsOne, Truncates}
-use Rattle.seg_vector.specs.Standing.{Appends, IsAppended, IsGrown, IsNotGrown, IsStanding, Stands, place_at}
-use Rattle.seg_vector.specs.TextCalls.{IsText, IsTextGrown, IsTextNow}
-use Rattle.seg_vector.specs.Vector.{capacity_for_text}
-use Rattle.seg_vector.specs.VectorCalls.{IsVector, IsVectorGrown, IsVectorNow, IsWithoutSpace, Starts}
-use Rattle.seg_vector.proofs.Storage.{at-least, unchanged-rewritten, capacity-bytes, exchange-then}
-use Rattle.seg_vector.proofs.Fewer.{head-exchanged}
+use Rattle.seg_vector.proofs.Words.{◌≡◌, refl, sym, ap, subst, ◌∙◌, ℕ, zero, suc, ◌+◌, ◌*◌, ◌<◌, Bool, true, List, []}
+use Rattle.seg_vector.proofs.Words.{◌∷◌, ◌++◌, length, take, drop, append_assoc, arith, ◌-◌, ◌≤◌, max, false}
+use Rattle.seg_vector.proofs.Words.{if◌then◌else◌, length-append, append-nil, IsTrue, Some, flat_map, insert, remove}
+use Rattle.seg_vector.proofs.Words.{slice_get, slice_set, nat_le, option_to_list, list_all, and_from, and_parts}
+use Rattle.seg_vector.proofs.Words.{leb-true, list_all-append, take-append-drop, length-set, length-take}
+use Rattle.seg_vector.proofs.Words.{flat_map-append, take-append-add, drop-append-add, take-append_seam, length-insert}
+use Rattle.seg_vector.proofs.Words.{length-remove, part, patched, Cut, bytes_of, word_at, current, IsExchanged}
+use Rattle.seg_vector.proofs.Words.{IsChanged, IsHeap, has_room, live_of, Table, no_table, NoSpace, Place, Erases}
+use Rattle.seg_vector.proofs.Words.{Extends, Fits, GivesBack, Inserts, IsFitted, IsGivenBack, IsRewritten, Overwrites}
+use Rattle.seg_vector.proofs.Words.{ReadsOne, Truncates, Appends, IsAppended, IsGrown, IsNotGrown, IsStanding, Stands}
+use Rattle.seg_vector.proofs.Words.{place_at, IsText, IsTextGrown, IsTextNow, capacity_for_one, capacity_for_text}
+use Rattle.seg_vector.proofs.Words.{IsVector, IsVectorGrown, IsVectorNow, IsWithoutSpace, Starts}
+use Rattle.best_fit.specs.Table.{cut_table}
+use Rattle.seg_vector.proofs.Runs.{head-exchanged, same-some, table}
+use Rattle.seg_vector.proofs.Storage.{at-least, capacity-bytes, exchange-then, unchanged-rewritten}
 
 -- ---- the spellings of the elements of a list, one after another
 
--- the first elements have the first bytes
-pub flat-take : {T : Type 0} → (size : ℕ) (test : T → Bool) (sp : T → List ℕ) (n : ℕ) (xs : List T)
-    → ((x : T) → test x ≡ true → length (sp x) ≡ size) → IsTrue (list_all test xs)
-    → take (size * n) (flat_map sp xs) ≡ flat_map sp (take n xs)
-flat-take size test sp zero xs spells v = let none : size * 0 ≡ 0 = omega arith in ap (λ k. take k (flat_map sp xs))
-    none
-flat-take size test sp (suc n) [] spells v = take-nil (size * suc n)
-  where
-    take-nil : (k : ℕ) → take k (flat_map sp []) ≡ []
-    take-nil zero = refl
-    take-nil (suc k) = refl
-flat-take size test sp (suc n) (x ∷ xs) spells v =
-    let both = and_parts (test x) (list_all test xs) v in
-    let long = spells x both.0 in
-    let step : size * suc n ≡ size + size * n = omega arith in
-    let split : size * suc n ≡ length (sp x) + size * n = omega (arith, step, long) in
-    ap (λ k. take k (sp x ++ flat_map sp xs)) split ∙ take-append-add (sp x) (flat_map sp xs) (size * n)
-    ∙ ap (λ bs. sp x ++ bs) (flat-take size test sp n xs spells both.1)
-
--- and the others the others
-pub flat-drop : {T : Type 0} → (size : ℕ) (test : T → Bool) (sp : T → List ℕ) (n : ℕ) (xs : List T)
-    → ((x : T) → test x ≡ true → length (sp x) ≡ size) → IsTrue (list_all test xs)
-    → drop (size * n) (flat_map sp xs) ≡ flat_map sp (drop n xs)
-flat-drop size test sp zero xs spells v = let none : size * 0 ≡ 0 = omega arith in ap (λ k. drop k (flat_map sp xs))
-    none
-flat-drop size test sp (suc n) [] spells v = drop-nil (size * suc n)
-  where
-    drop-nil : (k : ℕ) → drop k (flat_map sp []) ≡ []
-    drop-nil zero = refl
-    drop-nil (suc k) = refl
-flat-drop size test sp (suc n) (x ∷ xs) spells v =
-    let both = and_parts (test x) (list_all test xs) v in
-    let long = spells x both.0 in
-    let step : size * suc n ≡ size + size * n = omega arith in
-    let split : size * suc n ≡ length (sp x) + size * n = omega (arith, step, long) in
-    ap (λ k. drop k (sp x ++ flat_map sp xs)) split ∙ drop-append-add (sp x) (flat_map sp xs) (size * n) ∙ flat-drop
-    size test sp n xs spells both.1
-
 -- ---- what holds of each
 
-pub all-take : {T : Type 0} → (test : T → Bool) (n : ℕ) (xs : List T) → IsTrue (list_all test xs)
-    → IsTrue (list_all test (take n xs))
-all-take test zero xs v = refl
-all-take test (suc n) [] v = refl
-all-take test (suc n) (x ∷ xs) v = let both = and_parts (test x) (list_all test xs) v in and_from (test x)
-    (list_all test (take n xs)) both.0 (all-take test n xs both.1)
-
-pub all-drop : {T : Type 0} → (test : T → Bool) (n : ℕ) (xs : List T) → IsTrue (list_all test xs)
-    → IsTrue (list_all test (drop n xs))
-all-drop test zero xs v = v
-all-drop test (suc n) [] v = refl
-all-drop test (suc n) (x ∷ xs) v = all-drop test n xs (and_parts (test x) (list_all test xs) v).1
+all-parts : {T : Type 0} → (test : T → Bool) (n : ℕ) (xs : List T) → IsTrue (list_all test xs)
+    → IsTrue (list_all test (take n xs)) × IsTrue (list_all test (drop n xs))
+all-parts test n xs v =
+    and_parts (list_all test (take n xs)) (list_all test (drop n xs))
+    (sym (list_all-append test (take n xs) (drop n xs)) ∙ ap (list_all test) (take-append-drop n xs) ∙ v)
 
 pub all-both : {T : Type 0} → (test : T → Bool) (xs ys : List T) → IsTrue (list_all test xs)
     → IsTrue (list_all test ys) → IsTrue (list_all test (xs ++ ys))
-all-both test [] ys v w = w
-all-both test (x ∷ xs) ys v w = let both = and_parts (test x) (list_all test xs) v in and_from (test x)
-    (list_all test (xs ++ ys)) both.0 (all-both test xs ys both.1 w)
+all-both test xs ys v w = list_all-append test xs ys ∙ and_from (list_all test xs) (list_all test ys) v w
+
+-- other elements in the place of those between the first i and those from j on
+all-edit : {T : Type 0} → (test : T → Bool) (xs : List T) (i j : ℕ) (ys : List T) → IsTrue (list_all test xs)
+    → IsTrue (list_all test ys) → IsTrue (list_all test (take i xs ++ (ys ++ drop j xs)))
+all-edit test xs i j ys v e = all-both test (take i xs) (ys ++ drop j xs) (all-parts test i xs v).0
+    (all-both test ys (drop j xs) e (all-parts test j xs v).1)
+
+all-one : {T : Type 0} → (test : T → Bool) (y : T) → test y ≡ true → IsTrue (list_all test (y ∷ []))
+all-one test y e = and_from (test y) true e refl
 
 pub all-at : {T : Type 0} → (test : T → Bool) (xs : List T) (i : ℕ) {x : T} → IsTrue (list_all test xs)
     → slice_get xs i ≡ Some x → test x ≡ true
 all-at test [] i v e = absurd (cc)
-all-at test (y ∷ ys) zero {x} v e = let same : y ≡ x = cc in subst (λ z. test z ≡ true) same
-    (and_parts (test y) (list_all test ys) v).0
+all-at test (y ∷ ys) zero v e = subst (λ z. test z ≡ true) (same-some e) (and_parts (test y) (list_all test ys) v).0
 all-at test (y ∷ ys) (suc i) v e = all-at test ys i (and_parts (test y) (list_all test ys) v).1 e
 
 -- ---- one element
@@ -97,86 +51,99 @@ has-element [] i f = absurd (omega arith)
 has-element (x ∷ xs) zero f = (x, refl)
 has-element (x ∷ xs) (suc i) f = has-element xs i (omega arith)
 
-flat-first : {T : Type 0} → (size : ℕ) (test : T → Bool) (sp : T → List ℕ) (xs : List T) (i : ℕ) {x : T}
-    → ((x : T) → test x ≡ true → length (sp x) ≡ size) → IsTrue (list_all test xs)
-    → slice_get xs i ≡ Some x → take size (flat_map sp (drop i xs)) ≡ sp x
-flat-first size test sp [] i spells v e = absurd (cc)
-flat-first size test sp (y ∷ ys) zero {x} spells v e =
-    let same : y ≡ x = cc in
-    let long = spells y (and_parts (test y) (list_all test ys) v).0 in
-    ap (λ k. take k (sp y ++ flat_map sp ys)) (sym long) ∙ take-append_seam (sp y) (flat_map sp ys) ∙ ap sp same
-flat-first size test sp (y ∷ ys) (suc i) spells v e = flat-first size test sp ys i spells
-    (and_parts (test y) (list_all test ys) v).1 e
-
--- its bytes
-pub flat-element : {T : Type 0} → (size : ℕ) (test : T → Bool) (sp : T → List ℕ) (xs : List T) (i : ℕ) {x : T}
-    → ((x : T) → test x ≡ true → length (sp x) ≡ size) → IsTrue (list_all test xs)
-    → slice_get xs i ≡ Some x → part (flat_map sp xs) (size * i) size ≡ sp x
-flat-element size test sp xs i spells v e = ap (take size) (flat-drop size test sp i xs spells v) ∙ flat-first size
-    test sp xs i spells v e
-
 pub set-pieces : {T : Type 0} → (xs : List T) (i : ℕ) (y : T) → i < length xs
     → slice_set xs i y ≡ take i xs ++ (y ∷ drop (suc i) xs)
 set-pieces [] i y f = absurd (omega arith)
 set-pieces (x ∷ xs) zero y f = refl
 set-pieces (x ∷ xs) (suc i) y f = ap (λ l. x ∷ l) (set-pieces xs i y (omega arith))
 
-pub all-set : {T : Type 0} → (test : T → Bool) (xs : List T) (i : ℕ) (y : T) → i < length xs
-    → IsTrue (list_all test xs) → test y ≡ true → IsTrue (list_all test (slice_set xs i y))
-all-set test xs i y f v e =
-    subst (λ l. IsTrue (list_all test l)) (sym (set-pieces xs i y f))
-    (all-both test (take i xs) (y ∷ drop (suc i) xs) (all-take test i xs v)
-    (and_from (test y) (list_all test (drop (suc i) xs)) e (all-drop test (suc i) xs v)))
+-- ---- their bytes
 
--- another one in its place
-pub flat-set : {T : Type 0} → (size : ℕ) (test : T → Bool) (sp : T → List ℕ) (xs : List T) (i : ℕ) (y : T)
-    → ((x : T) → test x ≡ true → length (sp x) ≡ size) → IsTrue (list_all test xs)
-    → i < length xs → test y ≡ true → patched (flat_map sp xs) (size * i) (sp y) ≡ flat_map sp (slice_set xs i y)
-flat-set size test sp xs i y spells v f e =
-    let fs = flat_map sp xs in
-    let front = flat-take size test sp i xs spells v in
-    let long = spells y e in
-    let step : size * suc i ≡ size * i + size = omega arith in
-    let behind : size * i + length (sp y) ≡ size * suc i = omega (arith, step, long) in
-    let back : drop (size * i + length (sp y)) fs ≡ flat_map sp (drop (suc i) xs) = ap (λ k. drop k fs) behind
-    ∙ flat-drop size test sp (suc i) xs spells v in
-    let both : (take (size * i) fs ++ sp y) ++ drop (size * i + length (sp y)) fs ≡ (flat_map sp (take i xs) ++ sp y)
-    ++ flat_map sp (drop (suc i) xs) = λ j. (front j ++ sp y) ++ back j in
-    both ∙ append_assoc (flat_map sp (take i xs)) (sp y) (flat_map sp (drop (suc i) xs))
-    ∙ sym (flat_map-append sp (take i xs) (y ∷ drop (suc i) xs)) ∙ sym (ap (flat_map sp) (set-pieces xs i y f))
+take-nil : (k : ℕ) → take k (let none : List ℕ = [] in none) ≡ []
+take-nil zero = refl
+take-nil (suc k) = refl
 
--- one more
-pub flat-insert : {T : Type 0} → (size : ℕ) (test : T → Bool) (sp : T → List ℕ) (xs : List T) (i : ℕ) (y : T)
-    → ((x : T) → test x ≡ true → length (sp x) ≡ size) → IsTrue (list_all test xs)
-    → take (size * i) (flat_map sp xs) ++ (sp y ++ drop (size * i) (flat_map sp xs)) ≡ flat_map sp (insert xs i y)
-flat-insert size test sp xs i y spells v =
-    let front = flat-take size test sp i xs spells v in
-    let back = flat-drop size test sp i xs spells v in
-    let both : take (size * i) (flat_map sp xs) ++ (sp y ++ drop (size * i) (flat_map sp xs)) ≡ flat_map sp (take i xs)
-    ++ (sp y ++ flat_map sp (drop i xs)) = λ j. front j ++ (sp y ++ back j) in
-    both ∙ sym (flat_map-append sp (take i xs) (y ∷ drop i xs))
+drop-nil : (k : ℕ) → drop k (let none : List ℕ = [] in none) ≡ []
+drop-nil zero = refl
+drop-nil (suc k) = refl
 
-pub all-insert : {T : Type 0} → (test : T → Bool) (xs : List T) (i : ℕ) (y : T) → IsTrue (list_all test xs)
-    → test y ≡ true → IsTrue (list_all test (insert xs i y))
-all-insert test xs i y v e = all-both test (take i xs) (y ∷ drop i xs) (all-take test i xs v)
-    (and_from (test y) (list_all test (drop i xs)) e (all-drop test i xs v))
+module _ {T : Type 0} (size : ℕ) (test : T → Bool) (sp : T → List ℕ)
+    (spells : (x : T) → test x ≡ true → length (sp x) ≡ size) where
+  one-more : (n : ℕ) (x : T) → test x ≡ true → size * suc n ≡ length (sp x) + size * n
+  one-more n x e = let step : size * suc n ≡ size + size * n = omega arith in omega (arith, step, spells x e)
 
--- one less
-pub flat-remove : {T : Type 0} → (size : ℕ) (test : T → Bool) (sp : T → List ℕ) (xs : List T) (i : ℕ)
-    → ((x : T) → test x ≡ true → length (sp x) ≡ size) → IsTrue (list_all test xs)
-    → take (size * i) (flat_map sp xs) ++ drop (size * i + size) (flat_map sp xs) ≡ flat_map sp (remove xs i)
-flat-remove size test sp xs i spells v =
-    let front = flat-take size test sp i xs spells v in
-    let step : size * i + size ≡ size * suc i = omega arith in
-    let back : drop (size * i + size) (flat_map sp xs) ≡ flat_map sp (drop (suc i) xs) =
-    ap (λ k. drop k (flat_map sp xs)) step ∙ flat-drop size test sp (suc i) xs spells v in
-    let both : take (size * i) (flat_map sp xs) ++ drop (size * i + size) (flat_map sp xs) ≡ flat_map sp (take i xs)
-    ++ flat_map sp (drop (suc i) xs) = λ j. front j ++ back j in
-    both ∙ sym (flat_map-append sp (take i xs) (drop (suc i) xs))
+  -- the first elements have the first bytes
+  pub flat-take : (n : ℕ) (xs : List T) → IsTrue (list_all test xs) → take (size * n) (flat_map sp xs) ≡ flat_map sp
+      (take n xs)
+  flat-take zero xs v = let none : size * 0 ≡ 0 = omega arith in ap (λ k. take k (flat_map sp xs)) none
+  flat-take (suc n) [] v = take-nil (size * suc n)
+  flat-take (suc n) (x ∷ xs) v =
+      let both = and_parts (test x) (list_all test xs) v in
+      ap (λ k. take k (sp x ++ flat_map sp xs)) (one-more n x both.0) ∙ take-append-add (sp x) (flat_map sp xs)
+      (size * n) ∙ ap (λ bs. sp x ++ bs) (flat-take n xs both.1)
 
-pub all-remove : {T : Type 0} → (test : T → Bool) (xs : List T) (i : ℕ) → IsTrue (list_all test xs)
-    → IsTrue (list_all test (remove xs i))
-all-remove test xs i v = all-both test (take i xs) (drop (suc i) xs) (all-take test i xs v) (all-drop test (suc i) xs v)
+  -- and the others the others
+  flat-drop : (n : ℕ) (xs : List T) → IsTrue (list_all test xs) → drop (size * n) (flat_map sp xs) ≡ flat_map sp
+      (drop n xs)
+  flat-drop zero xs v = let none : size * 0 ≡ 0 = omega arith in ap (λ k. drop k (flat_map sp xs)) none
+  flat-drop (suc n) [] v = drop-nil (size * suc n)
+  flat-drop (suc n) (x ∷ xs) v =
+      let both = and_parts (test x) (list_all test xs) v in
+      ap (λ k. drop k (sp x ++ flat_map sp xs)) (one-more n x both.0) ∙ drop-append-add (sp x) (flat_map sp xs)
+      (size * n) ∙ flat-drop n xs both.1
+
+  flat-first : (xs : List T) (i : ℕ) {x : T} → IsTrue (list_all test xs) → slice_get xs i ≡ Some x
+      → take size (flat_map sp (drop i xs)) ≡ sp x
+  flat-first [] i v e = absurd (cc)
+  flat-first (y ∷ ys) zero v e =
+      let long = spells y (and_parts (test y) (list_all test ys) v).0 in
+      ap (λ k. take k (sp y ++ flat_map sp ys)) (sym long) ∙ take-append_seam (sp y) (flat_map sp ys)
+      ∙ ap sp (same-some e)
+  flat-first (y ∷ ys) (suc i) v e = flat-first ys i (and_parts (test y) (list_all test ys) v).1 e
+
+  -- those of one
+  pub flat-element : (xs : List T) (i : ℕ) {x : T} → IsTrue (list_all test xs) → slice_get xs i ≡ Some x
+      → part (flat_map sp xs) (size * i) size ≡ sp x
+  flat-element xs i v e = ap (take size) (flat-drop i xs v) ∙ flat-first xs i v e
+
+  -- other elements between the first i and those from j on
+  flat-edit : (xs : List T) (i j k : ℕ) (ys : List T) → k ≡ size * j → IsTrue (list_all test xs)
+      → take (size * i) (flat_map sp xs) ++ (flat_map sp ys ++ drop k (flat_map sp xs)) ≡ flat_map sp
+      (take i xs ++ (ys ++ drop j xs))
+  flat-edit xs i j k ys e v =
+      let front = flat-take i xs v in
+      let back : drop k (flat_map sp xs) ≡ flat_map sp (drop j xs) = ap (λ n. drop n (flat_map sp xs)) e ∙ flat-drop j
+      xs v in
+      let both : take (size * i) (flat_map sp xs) ++ (flat_map sp ys ++ drop k (flat_map sp xs)) ≡ flat_map sp
+      (take i xs) ++ (flat_map sp ys ++ flat_map sp (drop j xs)) = λ n. front n ++ (flat_map sp ys ++ back n) in
+      both ∙ ap (λ bs. flat_map sp (take i xs) ++ bs) (sym (flat_map-append sp ys (drop j xs)))
+      ∙ sym (flat_map-append sp (take i xs) (ys ++ drop j xs))
+
+  -- another one in its place
+  pub flat-set : (xs : List T) (i : ℕ) (y : T) → IsTrue (list_all test xs) → i < length xs → test y ≡ true
+      → patched (flat_map sp xs) (size * i) (sp y) ≡ flat_map sp (slice_set xs i y)
+  flat-set xs i y v f e =
+      let fs : List ℕ = flat_map sp xs in
+      let long = spells y e in
+      let step : size * suc i ≡ size * i + size = omega arith in
+      let behind : size * i + length (sp y) ≡ size * suc i = omega (arith, step, long) in
+      append_assoc (take (size * i) fs) (sp y) (drop (size * i + length (sp y)) fs)
+      ∙ ap (λ bs. take (size * i) fs ++ (bs ++ drop (size * i + length (sp y)) fs)) (sym (append-nil (sp y)))
+      ∙ flat-edit xs i (suc i) (size * i + length (sp y)) (y ∷ []) behind v
+      ∙ sym (ap (flat_map sp) (set-pieces xs i y f))
+
+  -- one more
+  pub flat-insert : (xs : List T) (i : ℕ) (y : T) → IsTrue (list_all test xs)
+      → take (size * i) (flat_map sp xs) ++ (sp y ++ drop (size * i) (flat_map sp xs)) ≡ flat_map sp (insert xs i y)
+  flat-insert xs i y v =
+      ap (λ bs. take (size * i) (flat_map sp xs) ++ (bs ++ drop (size * i) (flat_map sp xs))) (sym (append-nil (sp y)))
+      ∙ flat-edit xs i i (size * i) (y ∷ []) refl v
+
+  -- one less
+  pub flat-remove : (xs : List T) (i : ℕ) → IsTrue (list_all test xs)
+      → take (size * i) (flat_map sp xs) ++ drop (size * i + size) (flat_map sp xs) ≡ flat_map sp (remove xs i)
+  flat-remove xs i v = let step : size * i + size ≡ size * suc i = omega arith in flat-edit xs i (suc i)
+      (size * i + size) [] step v
 
 -- ---- vectors of values, from what is known of their bytes
 
@@ -259,6 +226,10 @@ pub text-started : {old new : Cut} {p : Place} → IsHeap current old.bytes
     → IsTextNow old new p no_table [] no_table
 text-started {p} heap r c s = record { change = head-exchanged p heap r c; text = s }
 
+pub wanted-is : {w len capacity n k : ℕ} → w ≡ capacity_for_one len capacity → len ≡ n → capacity ≡ k
+    → w ≡ capacity_for_one n k
+wanted-is e f g = e ∙ (λ i. capacity_for_one (f i) (g i))
+
 -- ---- what the calls on bytes do, for vectors. Their element size is the type's.
 
 -- what is done where the storage is grown, or cannot be
@@ -284,14 +255,14 @@ module _ {T : Type 0} {size : ℕ} {test : T → Bool} {sp : T → List ℕ} (ol
       let least = at-least size t.capacity some in
       omega (arith, few, least)
 
-  pub grown-of : (n m : ℕ) → n ≡ m → HasGrown old mid p k n → IsGrown old mid p size m (length xs) t (flat_map sp xs)
-  grown-of n m f h =
+  pub grown-of : {n m : ℕ} → n ≡ m → HasGrown old mid p k n → IsGrown old mid p size m (length xs) t (flat_map sp xs)
+  grown-of {n = n} f h =
       subst (λ j. IsGrown old mid p size j (length xs) t (flat_map sp xs)) f
       (subst (λ j. IsGrown old mid p j n (length xs) t (flat_map sp xs)) e
       (h (length xs) t (flat_map sp xs) stands-at))
 
-  pub without-space : (n m : ℕ) → n ≡ m → HasNotGrown old mid p k n → IsWithoutSpace old mid size m t NoSpace
-  without-space n m f h =
+  pub without-space : {n m : ℕ} → n ≡ m → HasNotGrown old mid p k n → IsWithoutSpace old mid size m t NoSpace
+  without-space {n = n} {m = m} f h =
       let r : IsNotGrown old mid size m t = subst (λ j. IsNotGrown old mid size j t) f
       (subst (λ j. IsNotGrown old mid j n t) e (h (length xs) t (flat_map sp xs) stands-at)) in
       record { refusal = refl; none = r.none; same = r.same }
@@ -303,7 +274,7 @@ module _ {T : Type 0} {size : ℕ} {test : T → Bool} {sp : T → List ℕ} (ol
       subst (λ j. IsRewritten old mid p j n t (take (j * n) (flat_map sp xs))) e
       (h (length xs) t (flat_map sp xs) stands-at) in
       vector-now test sp (take n xs) r (omega (arith, length-take n xs, f))
-      (flat-take size test sp n xs spells v.values) (all-take test n xs v.values)
+      (flat-take size test sp spells n xs v.values) (all-parts test n xs v.values).0
 
   pub set-now : (i : ℕ) (y : T) → ((x : T) → test x ≡ true → length (sp x) ≡ size) → i < length xs → test y ≡ true
       → Overwrites old mid p k i (sp y) → IsVectorNow size test sp old mid p t (slice_set xs i y) t
@@ -312,7 +283,9 @@ module _ {T : Type 0} {size : ℕ} {test : T → Bool} {sp : T → List ℕ} (ol
       subst (λ j. IsRewritten old mid p j (length xs) t (patched (flat_map sp xs) (j * i) (sp y))) e
       (h (length xs) t (flat_map sp xs) stands-at) in
       vector-now test sp (slice_set xs i y) r (sym (length-set xs i y))
-      (flat-set size test sp xs i y spells v.values f good) (all-set test xs i y f v.values good)
+      (flat-set size test sp spells xs i y v.values f good)
+      (subst (λ l. IsTrue (list_all test l)) (sym (set-pieces xs i y f))
+      (all-edit test xs i (suc i) (y ∷ []) v.values (all-one test y good)))
 
   pub appended-now : (y : T) → test y ≡ true → Appends old mid p k (sp y)
       → IsVectorNow size test sp old mid p t (xs ++ y ∷ []) t
@@ -325,7 +298,7 @@ module _ {T : Type 0} {size : ℕ} {test : T → Bool} {sp : T → List ℕ} (ol
         change = r.change;
         vector = vector-of test sp (xs ++ y ∷ []) r.stands (sym (length-append xs (y ∷ [])))
             (ap (λ bs. flat_map sp xs ++ bs) (sym one) ∙ sym (flat_map-append sp xs (y ∷ [])))
-            (all-both test xs (y ∷ []) v.values last);
+            (all-both test xs (y ∷ []) v.values (all-one test y good));
       }
 
   pub inserted-now : (i : ℕ) (y : T) → ((x : T) → test x ≡ true → length (sp x) ≡ size) → i ≤ length xs → test y ≡ true
@@ -337,7 +310,8 @@ module _ {T : Type 0} {size : ℕ} {test : T → Bool} {sp : T → List ℕ} (ol
       (take (j * i) (flat_map sp xs) ++ (sp y ++ drop (j * i) (flat_map sp xs)))) e
       (h (length xs) t (flat_map sp xs) stands-at) in
       vector-now test sp (insert xs i y) r (sym (length-insert xs i y f))
-      (flat-insert size test sp xs i y spells v.values) (all-insert test xs i y v.values good)
+      (flat-insert size test sp spells xs i y v.values)
+      (all-edit test xs i i (y ∷ []) v.values (all-one test y good))
 
   pub erased-now : (i : ℕ) → ((x : T) → test x ≡ true → length (sp x) ≡ size) → i < length xs → Erases old mid p k i
       → IsVectorNow size test sp old mid p t (remove xs i) t
@@ -348,7 +322,7 @@ module _ {T : Type 0} {size : ℕ} {test : T → Bool} {sp : T → List ℕ} (ol
       (take (j * i) (flat_map sp xs) ++ drop (j * i + j) (flat_map sp xs))) e
       (h (length xs) t (flat_map sp xs) stands-at) in
       vector-now test sp (remove xs i) r (omega (arith, length-remove xs i f))
-      (flat-remove size test sp xs i spells v.values) (all-remove test xs i v.values)
+      (flat-remove size test sp spells xs i v.values) (all-edit test xs i (suc i) [] v.values refl)
 
   pub fitted-now : Fits old mid p k
       → IsVectorNow size test sp old mid p t xs (cut_table (live_of old.bytes) size (length xs) t)
@@ -386,7 +360,7 @@ pub element-spells : {T : Type 0} → {size : ℕ} {test : T → Bool} {sp : T �
     → ReadsOne old.bytes p k i out → out ≡ sp x
 element-spells {size = size} {test} {sp} old {p} {k} {xs} {t} e v i out spells f h =
     h (length xs) t (flat_map sp xs) (subst (λ j. Stands old.bytes p j (length xs) t (flat_map sp xs)) (sym e)
-    v.stands) ∙ ap (λ j. part (flat_map sp xs) (j * i) j) e ∙ flat-element size test sp xs i spells v.values f
+    v.stands) ∙ ap (λ j. part (flat_map sp xs) (j * i) j) e ∙ flat-element size test sp spells xs i v.values f
 
 -- ---- what the calls on bytes do, for texts
 
@@ -398,24 +372,30 @@ wanted-bytes n c = wanted-if n c (nat_le n c) refl
     wanted-if n c true e = leb-true n c e
     wanted-if n c false e = grind arith
 
-module _ (old mid : Cut) {p : Place} {bytes : List ℕ} {t : Table} (v : IsText old.bytes p bytes t) where
-  pub few-places : t.capacity < 1073741824
-  few-places = let few : 1 * t.capacity < 1073741824 = capacity-bytes old v.heap v in omega (arith, few)
+pub text-wanted : {w n capacity k : ℕ} (bytes more : List ℕ) → w ≡ capacity_for_text (n + length more) capacity
+    → n ≡ length bytes → capacity ≡ k → w ≡ capacity_for_text (length (bytes ++ more)) k
+text-wanted {n = n} bytes more e f g =
+    let needed : n + length more ≡ length (bytes ++ more) = omega (arith, f, length-append bytes more) in
+    e ∙ (λ i. capacity_for_text (needed i) (g i))
 
-  pub text-without-space : (n m : ℕ) → n ≡ m → HasNotGrown old mid p 1 n → IsWithoutSpace old mid 1 m t NoSpace
-  text-without-space n m f h =
+module _ (old mid : Cut) {p : Place} {bytes : List ℕ} {t : Table} (v : IsText old.bytes p bytes t) where
+  pub few-bytes : t.capacity < 1073741824
+  few-bytes = let few : 1 * t.capacity < 1073741824 = capacity-bytes old v.heap v in omega (arith, few)
+
+  pub text-without-space : {n m : ℕ} → n ≡ m → HasNotGrown old mid p 1 n → IsWithoutSpace old mid 1 m t NoSpace
+  text-without-space {m = m} f h =
       let r : IsNotGrown old mid 1 m t = subst (λ j. IsNotGrown old mid 1 j t) f (h (length bytes) t bytes v) in
       record { refusal = refl; none = r.none; same = r.same }
 
-  pub text-grown-of : (n m : ℕ) → n ≡ m → HasGrown old mid p 1 n → IsGrown old mid p 1 m (length bytes) t bytes
-  text-grown-of n m f h = subst (λ j. IsGrown old mid p 1 j (length bytes) t bytes) f (h (length bytes) t bytes v)
+  pub text-grown-of : {n m : ℕ} → n ≡ m → HasGrown old mid p 1 n → IsGrown old mid p 1 m (length bytes) t bytes
+  text-grown-of f h = subst (λ j. IsGrown old mid p 1 j (length bytes) t bytes) f (h (length bytes) t bytes v)
 
   pub text-cleared : Truncates old mid p 1 0 → IsTextNow old mid p t [] t
   text-cleared h = text-now [] (h (length bytes) t bytes v) refl refl
 
-  pub text-set : (i x : ℕ) → i < length bytes → Overwrites old mid p 1 i (x ∷ [])
+  pub byte-set : (i x : ℕ) → i < length bytes → Overwrites old mid p 1 i (x ∷ [])
       → IsTextNow old mid p t (slice_set bytes i x) t
-  text-set i x f h =
+  byte-set i x f h =
       let at : 1 * i ≡ i = omega arith in
       let next : i + 1 ≡ suc i = omega arith in
       let r : IsRewritten old mid p 1 (length bytes) t (patched bytes i (x ∷ [])) =

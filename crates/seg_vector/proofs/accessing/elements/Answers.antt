@@ -1,8 +1,7 @@
 -- The elements are the first bytes of the storage.
-use Rattle.std.proofs.Common.{sym, ap, ◌∙◌, ◌+◌, ◌*◌, ◌<◌, arith, length}
-use Rattle.best_fit.specs.Heap.{live_of}
-use Rattle.best_fit.proofs.Laws.{room-less}
-use Rattle.seg_vector.proofs.Storage.{elements-fit, len-read, len-room, link-room, place-small, read-all, room-small, some-room, storage-live}
+use Rattle.seg_vector.proofs.Words.{sym, ap, ◌∙◌, ◌*◌, arith, length}
+use Rattle.seg_vector.proofs.Storage.{elements-fit, len-read, len-room, link-room, place-small, read-all, room-small}
+use Rattle.seg_vector.proofs.Storage.{some-room, storage-live}
 use Rattle.seg_vector.proofs.accessing.elements.Goals as goal
 
 pub overflow_add-place : goal.overflow_add-place

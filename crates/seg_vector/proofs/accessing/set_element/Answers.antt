@@ -1,7 +1,5 @@
 -- The element lies in the storage.
-use Rattle.std.proofs.Common.{sym, subst, ◌∙◌, ◌+◌, ◌*◌, arith, IsTrue}
-use Rattle.best_fit.specs.Heap.{has_room, live_of}
-use Rattle.best_fit.proofs.Laws.{room-less}
+use Rattle.seg_vector.proofs.Words.{sym, subst, ◌∙◌, ◌+◌, ◌*◌, arith, IsTrue, has_room, live_of}
 use Rattle.seg_vector.proofs.Storage.{element-fits, link-room, overwritten, room-small, some-room}
 use Rattle.seg_vector.proofs.accessing.set_element.Goals as goal
 

@@ -1,11 +1,9 @@
 -- The bytes are written, and then the length.
-use Rattle.std.proofs.Common.{◌≡◌, sym, ap, subst, ◌∙◌, ◌+◌, ◌<◌, arith, length}
-use Rattle.raw_region.specs.Format.{current}
-use Rattle.raw_region.specs.Memory.{Has, bytes_of, word_at}
-use Rattle.best_fit.specs.Heap.{IsChanged, live_of}
-use Rattle.best_fit.proofs.Laws.{changed-room, room-less}
-use Rattle.seg_vector.proofs.Storage.{capacity-bytes, extended, extended-not, len-read, len-room, link-room, place-small, room-small, some-room}
+use Rattle.seg_vector.proofs.Words.{sym, ap, subst, ◌∙◌, ◌+◌, arith, length, current, Has, bytes_of, IsChanged}
+use Rattle.seg_vector.proofs.Words.{changed-room}
 use Rattle.seg_vector.proofs.Fewer.{none-left}
+use Rattle.seg_vector.proofs.Storage.{capacity-bytes, extended, extended-not, len-read, len-room, link-room}
+use Rattle.seg_vector.proofs.Storage.{place-small, some-room}
 use Rattle.seg_vector.proofs.appending.extend.Goals as goal
 
 pub overflow_add-place : goal.overflow_add-place
@@ -44,16 +42,13 @@ set_word-requires c =
 pub returns-in-Some : goal.returns-in-Some
 returns-in-Some c len t bytes s =
     let is = len-read c.word-len.result s c.word-len.ensures in
-    let at : c.args.place.handle + (c.args.place.at + 8) ≡ c.args.place.handle + c.args.place.at + 8 = omega arith in
     extended {old = c.args.heap.now} {s1 = c.write.new.self} {new = c.set_word.new.self} c.args.bytes.now s
     (omega (arith, c.requires.space, s.words.len_word, s.words.capacity)) (sym c.link.ensures ∙ c.in-Some.is)
     (subst (λ k. IsChanged current c.args.heap.now c.write.new.self (c.in-Some.storage + k) (length c.args.bytes.now))
     is c.write.ensures.change)
     (subst (λ k. Has (bytes_of c.write.new.self.bytes) (c.in-Some.storage + k) c.args.bytes.now) is
     c.write.ensures.content)
-    (subst (λ k. IsChanged current c.write.new.self c.set_word.new.self k 8) at c.set_word.ensures.change)
-    (subst (λ k. word_at (bytes_of c.set_word.new.self.bytes) k ≡ len + length c.args.bytes.now) at
-    (c.set_word.ensures.word ∙ ap (λ k. k + length c.args.bytes.now) is))
+    c.set_word.ensures.change (c.set_word.ensures.word ∙ ap (λ k. k + length c.args.bytes.now) is)
 
 pub returns-in_default : goal.returns-in_default
 returns-in_default c len t bytes s =

@@ -1,10 +1,8 @@
 -- The element lies in the storage, and the length in the container's own block.
-use Rattle.std.proofs.Common.{◌≡◌, sym, subst, ap, ◌∙◌, ◌+◌, ◌*◌, ◌<◌, arith, IsTrue, length}
-use Rattle.raw_region.specs.Format.{current}
-use Rattle.best_fit.specs.Heap.{IsChanged, has_room, live_of}
-use Rattle.raw_region.specs.Memory.{bytes_of, word_at, Has}
-use Rattle.best_fit.proofs.Laws.{changed-room, room-less}
-use Rattle.seg_vector.proofs.Storage.{append-room, appended, at-least, len-read, len-room, link-room, place-small, room-small}
+use Rattle.seg_vector.proofs.Words.{◌≡◌, sym, subst, ap, ◌∙◌, ◌+◌, ◌*◌, ◌<◌, arith, IsTrue, length, current, IsChanged}
+use Rattle.seg_vector.proofs.Words.{has_room, live_of, bytes_of, Has, changed-room}
+use Rattle.seg_vector.proofs.Storage.{append-room, appended, at-least, len-read, len-room, link-room, place-small}
+use Rattle.seg_vector.proofs.Storage.{room-small}
 use Rattle.seg_vector.proofs.appending.put_last.Goals as goal
 
 pub overflow_add-place : goal.overflow_add-place
@@ -78,13 +76,10 @@ pub returns-in-Some : goal.returns-in-Some
 returns-in-Some c len t bytes s =
     let is = len-read c.word-len.result s c.word-len.ensures in
     let below : len < t.capacity = omega (arith, c.requires.space, s.words.len_word, s.words.capacity) in
-    let at : c.args.place.handle + (c.args.place.at + 8) ≡ c.args.place.handle + c.args.place.at + 8 = omega arith in
     appended {old = c.args.heap.now} {s1 = c.write.new.self} {new = c.set_word.new.self} c.args.bytes.now below s
     c.requires.long (sym c.link.ensures ∙ c.in-Some.is)
     (subst (λ k. IsChanged current c.args.heap.now c.write.new.self (c.in-Some.storage + c.args.each * k)
     (length c.args.bytes.now)) is c.write.ensures.change)
     (subst (λ k. Has (bytes_of c.write.new.self.bytes) (c.in-Some.storage + c.args.each * k) c.args.bytes.now) is
     c.write.ensures.content)
-    (subst (λ k. IsChanged current c.write.new.self c.set_word.new.self k 8) at c.set_word.ensures.change)
-    (subst (λ k. word_at (bytes_of c.set_word.new.self.bytes) k ≡ len + 1) at
-    (c.set_word.ensures.word ∙ ap (λ k. k + 1) is))
+    c.set_word.ensures.change (c.set_word.ensures.word ∙ ap (λ k. k + 1) is)

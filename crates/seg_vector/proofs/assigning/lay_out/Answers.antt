@@ -1,7 +1,7 @@
 -- The array is taken into use, and then the texts; or all is given back.
-use Rattle.std.proofs.Common.{sym, length, map}
-use Rattle.std.proofs.lemmas.List.{length-map}
-use Rattle.seg_vector.proofs.TextsLaid.{array-live, array-taken, laid-held, laid-out, no-space, out-of-reach, taken-off}
+use Rattle.seg_vector.proofs.Words.{sym, length, map, length-map}
+use Rattle.seg_vector.proofs.TextsLaid.{array-live, array-taken, laid-held, laid-out, no-space, out-of-reach}
+use Rattle.seg_vector.proofs.TextsLaid.{taken-off}
 use Rattle.seg_vector.proofs.assigning.lay_out.Goals as goal
 
 pub returns-then-n-gt-LIMIT : goal.returns-then-n-gt-LIMIT

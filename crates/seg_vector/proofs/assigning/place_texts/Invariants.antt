@@ -1,8 +1,5 @@
 -- The texts before the next one are laid out.
-use Rattle.std.proofs.Common.{◌≡◌, map, Some}
-use Rattle.best_fit.specs.Extents.{Extent, handle}
-use Rattle.best_fit.specs.Heap.{extent_at, live_of}
-use Rattle.seg_vector.specs.TextLists.{AreLaid}
+use Rattle.seg_vector.proofs.Words.{◌≡◌, map, Some, Extent, handle, extent_at, live_of, AreLaid}
 use Rattle.seg_vector.proofs.assigning.place_texts.Given as goal
 
 abbrev pub invariant-loop-i : goal.invariant-loop-i

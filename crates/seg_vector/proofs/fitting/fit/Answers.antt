@@ -1,11 +1,9 @@
 -- The capacity is written, and the storage shortened.
-use Rattle.std.proofs.Common.{◌≡◌, sym, subst, ◌∙◌, ◌+◌, ◌*◌, ◌<◌, arith, IsTrue}
-use Rattle.raw_region.specs.Format.{current}
-use Rattle.raw_region.specs.Memory.{bytes_of, word_at}
-use Rattle.best_fit.specs.Heap.{IsChanged, IsShortened, is_live_in, live_of}
-use Rattle.best_fit.proofs.Laws.{changed-live, room-less}
-use Rattle.seg_vector.proofs.Storage.{capacity-bytes, len-read, len-room, link-room, more-times, place-small, room-small, storage-live}
+use Rattle.seg_vector.proofs.Words.{◌≡◌, sym, subst, ◌∙◌, ◌+◌, ◌*◌, arith, IsTrue, current, bytes_of, word_at}
+use Rattle.seg_vector.proofs.Words.{IsChanged, IsShortened, is_live_in, changed-live}
 use Rattle.seg_vector.proofs.Fewer.{fits-nothing, fitted}
+use Rattle.seg_vector.proofs.Storage.{capacity-bytes, len-read, len-room, link-room, more-times, place-small}
+use Rattle.seg_vector.proofs.Storage.{storage-live}
 use Rattle.seg_vector.proofs.fitting.fit.Goals as goal
 
 pub overflow_add-place : goal.overflow_add-place

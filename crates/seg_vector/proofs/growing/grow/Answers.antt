@@ -1,10 +1,8 @@
 -- The storage is regrown, and then the link and the capacity are written.
-use Rattle.std.proofs.Common.{◌≡◌, subst, ◌+◌, ◌<◌, arith, IsTrue}
-use Rattle.raw_region.specs.Format.{current}
-use Rattle.best_fit.specs.Heap.{IsChanged, has_room, live_of}
-use Rattle.raw_region.specs.Memory.{bytes_of, word_at}
-use Rattle.best_fit.proofs.Laws.{changed-room, room-less}
-use Rattle.seg_vector.proofs.Storage.{capacity-read, come-aligned, given-of, grows-more, grows-not, grows-nothing, len-room, link-room, mid-room, not_given-of, place-small, room-small, storage-read}
+use Rattle.seg_vector.proofs.Words.{◌≡◌, subst, ◌+◌, arith, current, IsChanged, bytes_of, word_at, changed-room}
+use Rattle.seg_vector.proofs.Storage.{capacity-read, capacity-room, come-aligned, given-of, grows-more, grows-not}
+use Rattle.seg_vector.proofs.Storage.{grows-nothing, len-room, link-room, mid-room, not_given-of, place-small}
+use Rattle.seg_vector.proofs.Storage.{storage-read}
 use Rattle.seg_vector.proofs.growing.grow.Goals as goal
 
 pub overflow_add-place : goal.overflow_add-place
@@ -30,12 +28,9 @@ regrow-requires-clause-room c =
     storage-read c.word-2.result c.link-storage.result c.requires.stands.1.1.1 c.link-storage.ensures c.word-2.ensures
 
 pub set_link-requires-clause-room : goal.set_link-requires-clause-room
-set_link-requires-clause-room c =
-    room-less (live_of c.regrow.new.self.bytes) c.args.place.handle (c.args.place.at + 24) (c.args.place.at + 8)
-    (omega arith)
-    (mid-room c.args.n c.requires.stands.1.1.1.heap c.requires.stands.1.1.1
-    (given-of c.args.n c.word-2.result c.link-storage.result c.requires.stands.1.1.1 c.link-storage.ensures
-    c.word-2.ensures c.in-Ok.ensures))
+set_link-requires-clause-room c = link-room c.regrow.new.self.bytes c.args.place
+    (mid-room c.requires.stands.1.1.1 (given-of c.args.n c.word-2.result c.link-storage.result c.requires.stands.1.1.1
+    c.link-storage.ensures c.word-2.ensures c.in-Ok.ensures))
 
 pub set_link-requires-clause-target : goal.set_link-requires-clause-target
 set_link-requires-clause-target c =
@@ -45,15 +40,14 @@ set_link-requires-clause-target c =
 pub set_word-requires : goal.set_word-requires
 set_word-requires c =
     changed-room _ _ _ _ 8 c.args.place.handle (c.args.place.at + 16 + 8) c.set_link.ensures.change
-    (subst (λ k. IsTrue (has_room (live_of c.regrow.new.self.bytes) c.args.place.handle k)) (omega arith)
-    (mid-room c.args.n c.requires.stands.1.1.1.heap c.requires.stands.1.1.1
-    (given-of c.args.n c.word-2.result c.link-storage.result c.requires.stands.1.1.1 c.link-storage.ensures
-    c.word-2.ensures c.in-Ok.ensures)))
+    (capacity-room c.regrow.new.self.bytes c.args.place
+    (mid-room c.requires.stands.1.1.1 (given-of c.args.n c.word-2.result c.link-storage.result
+    c.requires.stands.1.1.1 c.link-storage.ensures c.word-2.ensures c.in-Ok.ensures)))
 
 pub returns-then-n-word : goal.returns-then-n-word
 returns-then-n-word c len t bytes s =
     let capacity = capacity-read c.word.result s c.word.ensures in
-    grows-not c.args.heap.now c.args.n c.requires.stands.1.1.1.heap (omega (arith, capacity, c.if-n-word.true)) s
+    grows-not c.args.heap.now c.args.n (omega (arith, capacity, c.if-n-word.true)) s
 
 pub returns-in-Err : goal.returns-in-Err
 returns-in-Err c len t bytes s =
@@ -65,8 +59,7 @@ pub returns-in-Ok : goal.returns-in-Ok
 returns-in-Ok c len t bytes s =
     let capacity = capacity-read c.word.result s c.word.ensures in
     let at : c.args.place.handle + (c.args.place.at + 16) ≡ c.args.place.handle + c.args.place.at + 16 = omega arith in
-    grows-more {new = c.set_word.new.self} c.args.n c.requires.stands.1.1.1.heap
-    (omega (arith, capacity, c.if-n-word.false)) s
+    grows-more {new = c.set_word.new.self} c.args.n (omega (arith, capacity, c.if-n-word.false)) s
     (given-of c.args.n c.word-2.result c.link-storage.result s c.link-storage.ensures c.word-2.ensures c.in-Ok.ensures)
     c.set_link.ensures.change c.set_link.ensures.leads
     (subst (λ k. IsChanged current c.set_link.new.self c.set_word.new.self k 8) at c.set_word.ensures.change)

@@ -1,10 +1,9 @@
 -- Those behind the element move down, and the length is written.
-use Rattle.std.proofs.Common.{◌≡◌, sym, ap, subst, ◌∙◌, ◌+◌, ◌-◌, ◌*◌, ◌<◌, arith}
-use Rattle.raw_region.specs.Format.{current}
-use Rattle.raw_region.specs.Memory.{bytes_of, read, word_at}
-use Rattle.best_fit.specs.Heap.{IsChanged, live_of}
-use Rattle.best_fit.proofs.Laws.{changed-room, room-less}
-use Rattle.seg_vector.proofs.Storage.{erase-fits, erased, len-read, len-room, link-room, place-small, room-small}
+use Rattle.seg_vector.proofs.Words.{take, drop, ◌++◌, ℕ, ◌*◌, ◌+◌, ◌-◌, sym, subst, ◌∙◌, arith, Stands, IsRewritten}
+use Rattle.seg_vector.proofs.Words.{live_of, changed-room}
+use Rattle.seg_vector.proofs.moving.erase_element.Goals.{In-Some}
+use Rattle.seg_vector.proofs.Storage.{Fitting, erase-fits, erased, len-read, len-room, link-room, part-room}
+use Rattle.seg_vector.proofs.Storage.{place-small}
 use Rattle.seg_vector.proofs.moving.erase_element.Goals as goal
 
 pub overflow_add-place : goal.overflow_add-place
@@ -21,28 +20,27 @@ word-len-requires c = len-room c.args.heap.now.bytes c.args.place c.requires.sta
 pub link-requires-clause-room : goal.link-requires-clause-room
 link-requires-clause-room c = link-room c.args.heap.now.bytes c.args.place c.requires.stands.1.1.1.room
 
+fits : (c : In-Some) → Fitting (live_of c.args.heap.now.bytes) c.args.each c.args.index
+    (c.args.each * (c.word-len.result - c.args.index - 1)) c.in-Some.storage
+fits c = erase-fits c.args.heap.now c.word-len.result c.args.index c.requires.stands.1.1.1 c.word-len.ensures
+    c.requires.inside (sym c.link.ensures ∙ c.in-Some.is)
+
 pub overflow_mul-from : goal.overflow_mul-from
-overflow_mul-from c = let small = (erase-fits c.args.heap.now c.word-len.result c.args.index c.requires.stands.1.1.1
-    c.word-len.ensures c.requires.inside (sym c.link.ensures ∙ c.in-Some.is)).small in omega (arith, small)
+overflow_mul-from c = omega (arith, (fits (goal.at.overflow_mul-from c).In-Some).small)
 
 pub overflow_mul-behind : goal.overflow_mul-behind
-overflow_mul-behind c = let small = (erase-fits c.args.heap.now c.word-len.result c.args.index c.requires.stands.1.1.1
-    c.word-len.ensures c.requires.inside (sym c.link.ensures ∙ c.in-Some.is)).small in omega (arith, small)
+overflow_mul-behind c = omega (arith, (fits (goal.at.overflow_mul-behind c).In-Some).small)
 
 pub overflow_add-from : goal.overflow_add-from
-overflow_add-from c = let small = (erase-fits c.args.heap.now c.word-len.result c.args.index c.requires.stands.1.1.1
-    c.word-len.ensures c.requires.inside (sym c.link.ensures ∙ c.in-Some.is)).small in omega (arith, small)
+overflow_add-from c = omega (arith, (fits (goal.at.overflow_add-from c).In-Some).small)
 
 pub copy-requires-clause-source : goal.copy-requires-clause-source
-copy-requires-clause-source c = (erase-fits c.args.heap.now c.word-len.result c.args.index c.requires.stands.1.1.1
-    c.word-len.ensures c.requires.inside (sym c.link.ensures ∙ c.in-Some.is)).room
+copy-requires-clause-source c = (fits (goal.at.copy-requires-clause-source c).In-Some).room
 
 pub copy-requires-clause-target : goal.copy-requires-clause-target
-copy-requires-clause-target c = room-less (live_of c.args.heap.now.bytes) c.in-Some.storage
-    (c.args.each * c.args.index + c.args.each + c.args.each * (c.word-len.result - c.args.index - 1))
-    (c.args.each * c.args.index + c.args.each * (c.word-len.result - c.args.index - 1)) (omega arith)
-    (erase-fits c.args.heap.now c.word-len.result c.args.index c.requires.stands.1.1.1 c.word-len.ensures
-    c.requires.inside (sym c.link.ensures ∙ c.in-Some.is)).room
+copy-requires-clause-target c =
+    part-room (c.args.each * c.args.index + c.args.each * (c.word-len.result - c.args.index - 1)) (omega arith)
+    (fits (goal.at.copy-requires-clause-target c).In-Some)
 
 pub set_word-requires : goal.set_word-requires
 set_word-requires c =
@@ -52,15 +50,10 @@ set_word-requires c =
 pub returns-in-Some : goal.returns-in-Some
 returns-in-Some c len t bytes s =
     let is = len-read c.word-len.result s c.word-len.ensures in
-    let at : c.args.place.handle + (c.args.place.at + 8) ≡ c.args.place.handle + c.args.place.at + 8 = omega arith in
-    erased {old = c.args.heap.now} {s1 = c.copy.new.self} {new = c.set_word.new.self} c.args.index s
-    (omega (arith, c.requires.inside, s.words.len_word)) (sym c.link.ensures ∙ c.in-Some.is)
-    (subst (λ k. IsChanged current c.args.heap.now c.copy.new.self (c.in-Some.storage + c.args.each * c.args.index)
-    (c.args.each * (k - c.args.index - 1))) is c.copy.ensures.change)
-    (subst (λ k. read (bytes_of c.copy.new.self.bytes) (c.in-Some.storage + c.args.each * c.args.index)
-    (c.args.each * (k - c.args.index - 1)) ≡ read (bytes_of c.args.heap.now.bytes)
-    (c.in-Some.storage + (c.args.each * c.args.index + c.args.each)) (c.args.each * (k - c.args.index - 1))) is
-    c.copy.ensures.content)
-    (subst (λ k. IsChanged current c.copy.new.self c.set_word.new.self k 8) at c.set_word.ensures.change)
-    (subst (λ k. word_at (bytes_of c.set_word.new.self.bytes) k ≡ len - 1) at
-    (c.set_word.ensures.word ∙ ap (λ k. k - 1) is))
+    let at : ℕ = c.args.each * c.args.index in
+    let now = subst (λ n. Stands c.args.heap.now.bytes c.args.place c.args.each n t bytes) (sym is) s in
+    subst (λ n. IsRewritten c.args.heap.now c.set_word.new.self c.args.place c.args.each (n - 1) t
+    (take at bytes ++ drop (at + c.args.each) bytes)) is
+    (erased {old = c.args.heap.now} {s1 = c.copy.new.self} {new = c.set_word.new.self} c.args.index now
+    (omega (arith, c.requires.inside, now.words.len_word)) (sym c.link.ensures ∙ c.in-Some.is)
+    c.copy.ensures.change c.copy.ensures.content c.set_word.ensures.change c.set_word.ensures.word)

@@ -1,10 +1,9 @@
 -- Those from the place on move up, the element is written, and then the length.
-use Rattle.std.proofs.Common.{◌≡◌, sym, ap, subst, ◌∙◌, ◌+◌, ◌-◌, ◌*◌, ◌<◌, arith, IsTrue}
-use Rattle.raw_region.specs.Format.{current}
-use Rattle.raw_region.specs.Memory.{bytes_of, read, word_at}
-use Rattle.best_fit.specs.Heap.{IsChanged, has_room, live_of}
-use Rattle.best_fit.proofs.Laws.{changed-room, room-less}
-use Rattle.seg_vector.proofs.Storage.{at-least, capacity-bytes, insert-fits, len-read, len-room, link-room, place-small, put_in, room-small}
+use Rattle.seg_vector.proofs.Words.{take, drop, ◌++◌, ℕ, ◌*◌, ◌+◌, ◌-◌, sym, subst, ◌∙◌, arith, IsTrue, Stands}
+use Rattle.seg_vector.proofs.Words.{IsRewritten, IsChanged, live_of, has_room, current, changed-room}
+use Rattle.seg_vector.proofs.moving.insert_element.Goals.{In-Some}
+use Rattle.seg_vector.proofs.Storage.{Fitting, at-least, capacity-bytes, insert-fits, len-read, len-room, link-room}
+use Rattle.seg_vector.proofs.Storage.{part-room, place-small, put_in}
 use Rattle.seg_vector.proofs.moving.insert_element.Goals as goal
 
 pub overflow_add-place : goal.overflow_add-place
@@ -21,42 +20,34 @@ word-len-requires c = len-room c.args.heap.now.bytes c.args.place c.requires.sta
 pub link-requires-clause-room : goal.link-requires-clause-room
 link-requires-clause-room c = link-room c.args.heap.now.bytes c.args.place c.requires.stands.1.1.1.room
 
+fits : (c : In-Some) → Fitting (live_of c.args.heap.now.bytes) c.args.each c.args.index
+    (c.args.each * (c.word-len.result - c.args.index)) c.in-Some.storage
+fits c = insert-fits c.args.heap.now c.word-len.result c.args.index c.requires.stands.1.1.1 c.word-len.ensures
+    c.requires.inside c.requires.space (sym c.link.ensures ∙ c.in-Some.is)
+
 pub overflow_mul-from : goal.overflow_mul-from
-overflow_mul-from c = let small = (insert-fits c.args.heap.now c.word-len.result c.args.index c.requires.stands.1.1.1
-    c.word-len.ensures c.requires.inside c.requires.space (sym c.link.ensures ∙ c.in-Some.is)).small in omega
-    (arith, small)
+overflow_mul-from c = omega (arith, (fits (goal.at.overflow_mul-from c).In-Some).small)
 
 pub overflow_mul-behind : goal.overflow_mul-behind
-overflow_mul-behind c = let small = (insert-fits c.args.heap.now c.word-len.result c.args.index c.requires.stands.1.1.1
-    c.word-len.ensures c.requires.inside c.requires.space (sym c.link.ensures ∙ c.in-Some.is)).small in omega
-    (arith, small)
+overflow_mul-behind c = omega (arith, (fits (goal.at.overflow_mul-behind c).In-Some).small)
 
 pub overflow_add-from : goal.overflow_add-from
-overflow_add-from c = let small = (insert-fits c.args.heap.now c.word-len.result c.args.index c.requires.stands.1.1.1
-    c.word-len.ensures c.requires.inside c.requires.space (sym c.link.ensures ∙ c.in-Some.is)).small in omega
-    (arith, small)
+overflow_add-from c = omega (arith, (fits (goal.at.overflow_add-from c).In-Some).small)
 
 pub copy-requires-clause-source : goal.copy-requires-clause-source
-copy-requires-clause-source c = room-less (live_of c.args.heap.now.bytes) c.in-Some.storage
-    (c.args.each * c.args.index + c.args.each + c.args.each * (c.word-len.result - c.args.index))
-    (c.args.each * c.args.index + c.args.each * (c.word-len.result - c.args.index)) (omega arith)
-    (insert-fits c.args.heap.now c.word-len.result c.args.index c.requires.stands.1.1.1 c.word-len.ensures
-    c.requires.inside c.requires.space (sym c.link.ensures ∙ c.in-Some.is)).room
+copy-requires-clause-source c =
+    part-room (c.args.each * c.args.index + c.args.each * (c.word-len.result - c.args.index)) (omega arith)
+    (fits (goal.at.copy-requires-clause-source c).In-Some)
 
 pub copy-requires-clause-target : goal.copy-requires-clause-target
-copy-requires-clause-target c = (insert-fits c.args.heap.now c.word-len.result c.args.index c.requires.stands.1.1.1
-    c.word-len.ensures c.requires.inside c.requires.space (sym c.link.ensures ∙ c.in-Some.is)).room
+copy-requires-clause-target c = (fits (goal.at.copy-requires-clause-target c).In-Some).room
 
 pub write-requires : goal.write-requires
 write-requires c =
     subst (λ k. IsTrue (has_room (live_of c.copy.new.self.bytes) c.in-Some.storage (c.args.each * c.args.index + k)))
     (sym c.requires.long)
     (changed-room _ _ _ _ _ c.in-Some.storage (c.args.each * c.args.index + c.args.each) c.copy.ensures.change
-    (room-less (live_of c.args.heap.now.bytes) c.in-Some.storage
-    (c.args.each * c.args.index + c.args.each + c.args.each * (c.word-len.result - c.args.index))
-    (c.args.each * c.args.index + c.args.each) (omega arith)
-    (insert-fits c.args.heap.now c.word-len.result c.args.index c.requires.stands.1.1.1 c.word-len.ensures
-    c.requires.inside c.requires.space (sym c.link.ensures ∙ c.in-Some.is)).room))
+    (part-room (c.args.each * c.args.index + c.args.each) (omega arith) (fits (goal.at.write-requires c).In-Some)))
 
 pub overflow_add-len : goal.overflow_add-len
 overflow_add-len c =
@@ -76,25 +67,16 @@ set_word-requires c =
 pub returns-in-Some : goal.returns-in-Some
 returns-in-Some c len t bytes s =
     let is = len-read c.word-len.result s c.word-len.ensures in
-    let at : c.args.place.handle + (c.args.place.at + 8) ≡ c.args.place.handle + c.args.place.at + 8 = omega arith in
-    let up : c.in-Some.storage + (c.args.each * c.args.index + c.args.each) ≡ c.in-Some.storage + c.args.each
-    * c.args.index + c.args.each = omega arith in
-    put_in {old = c.args.heap.now} {s1 = c.copy.new.self} {s2 = c.write.new.self} {new = c.set_word.new.self}
-    c.args.index c.args.bytes.now s (omega (arith, c.requires.inside, s.words.len_word))
-    (omega (arith, c.requires.space, s.words.len_word, s.words.capacity)) c.requires.long
+    let at : ℕ = c.args.each * c.args.index in
+    let now = subst (λ n. Stands c.args.heap.now.bytes c.args.place c.args.each n t bytes) (sym is) s in
+    subst (λ n. IsRewritten c.args.heap.now c.set_word.new.self c.args.place c.args.each (n + 1) t
+    (take at bytes ++ (c.args.bytes.now ++ drop at bytes))) is
+    (put_in {old = c.args.heap.now} {s1 = c.copy.new.self} {s2 = c.write.new.self} {new = c.set_word.new.self}
+    c.args.index c.args.bytes.now now
+    (omega (arith, c.requires.inside, now.words.len_word))
+    (omega (arith, c.requires.space, now.words.len_word, now.words.capacity)) c.requires.long
     (sym c.link.ensures ∙ c.in-Some.is)
-    (subst (λ j. IsChanged current c.args.heap.now c.copy.new.self j (c.args.each * (len - c.args.index))) up
-    (subst (λ k. IsChanged current c.args.heap.now c.copy.new.self
-    (c.in-Some.storage + (c.args.each * c.args.index + c.args.each)) (c.args.each * (k - c.args.index))) is
-    c.copy.ensures.change))
-    (subst (λ j. read (bytes_of c.copy.new.self.bytes) j (c.args.each * (len - c.args.index)) ≡ read
-    (bytes_of c.args.heap.now.bytes) (c.in-Some.storage + c.args.each * c.args.index)
-    (c.args.each * (len - c.args.index))) up
-    (subst (λ k. read (bytes_of c.copy.new.self.bytes) (c.in-Some.storage + (c.args.each * c.args.index + c.args.each))
-    (c.args.each * (k - c.args.index)) ≡ read (bytes_of c.args.heap.now.bytes)
-    (c.in-Some.storage + c.args.each * c.args.index) (c.args.each * (k - c.args.index))) is c.copy.ensures.content))
-    (subst (λ k. IsChanged current c.copy.new.self c.write.new.self (c.in-Some.storage + c.args.each * c.args.index) k)
-    c.requires.long c.write.ensures.change) c.write.ensures.content
-    (subst (λ k. IsChanged current c.write.new.self c.set_word.new.self k 8) at c.set_word.ensures.change)
-    (subst (λ k. word_at (bytes_of c.set_word.new.self.bytes) k ≡ len + 1) at
-    (c.set_word.ensures.word ∙ ap (λ k. k + 1) is))
+    c.copy.ensures.change c.copy.ensures.content
+    (subst (λ k. IsChanged current c.copy.new.self c.write.new.self (c.in-Some.storage + at) k) c.requires.long
+    c.write.ensures.change) c.write.ensures.content
+    c.set_word.ensures.change c.set_word.ensures.word)

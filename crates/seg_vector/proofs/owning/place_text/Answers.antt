@@ -1,6 +1,5 @@
 -- The block holds the text.
-use Rattle.std.proofs.Common.{◌+◌, arith, length}
-use Rattle.best_fit.proofs.Laws.{allocated-room}
+use Rattle.seg_vector.proofs.Words.{◌+◌, arith, length, allocated-room}
 use Rattle.seg_vector.proofs.TextCalls.{placed-empty, placed-some}
 use Rattle.seg_vector.proofs.owning.place_text.Goals as goal
 

@@ -1,9 +1,7 @@
 -- The array has as many elements as the vector has texts.
-use Rattle.std.proofs.Common.{sym, ◌∙◌, ◌+◌, ◌<◌, arith}
-use Rattle.best_fit.specs.Heap.{live_of}
-use Rattle.best_fit.proofs.Laws.{room-less}
+use Rattle.seg_vector.proofs.Words.{sym, ◌∙◌, arith}
 use Rattle.seg_vector.proofs.Fewer.{none-left}
-use Rattle.seg_vector.proofs.Storage.{len-room, link-room, place-small, room-small}
+use Rattle.seg_vector.proofs.Storage.{len-room, link-room, place-small}
 use Rattle.seg_vector.proofs.TextCalls.{held-elements, released-nothing, texts-len}
 use Rattle.seg_vector.proofs.owning.release_all.Goals as goal
 

@@ -1,7 +1,5 @@
 -- The block is one that is in use.
-use Rattle.std.proofs.Common.{◌+◌, ◌∙◌, sym, arith}
-use Rattle.best_fit.specs.Heap.{live_of}
-use Rattle.best_fit.proofs.Laws.{room-less}
+use Rattle.seg_vector.proofs.Words.{◌+◌, ◌∙◌, sym, arith, live_of, room-less}
 use Rattle.seg_vector.proofs.Fewer.{none-left}
 use Rattle.seg_vector.proofs.TextBlocks.{element-live, released-none, released-some}
 use Rattle.seg_vector.proofs.owning.release_text.Goals as goal

@@ -1,7 +1,7 @@
 -- The next text is released, and those behind it are left.
-use Rattle.std.proofs.Common.{◌*◌, arith}
+use Rattle.seg_vector.proofs.Words.{◌*◌, arith}
 use Rattle.seg_vector.proofs.Storage.{room-small}
-use Rattle.seg_vector.proofs.TextBlocks.{text-found, element-left, releases-begin, releases-end, releases-next}
+use Rattle.seg_vector.proofs.TextBlocks.{element-left, releases-begin, releases-end, releases-next, text-found}
 use Rattle.seg_vector.proofs.owning.release_texts.Goals as goal
 
 pub loop-i-init : goal.loop-i-init

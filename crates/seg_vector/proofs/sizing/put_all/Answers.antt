@@ -1,9 +1,7 @@
 -- One value more stands behind the others.
-use Rattle.std.proofs.Common.{◌≡◌, sym, ap, subst, ◌∙◌, refl, ◌+◌, ◌<◌, ◌++◌, ◌∷◌, [], append-nil, append_assoc, length, length-append, take, arith, suc}
-use Rattle.std.specs.Prelude.{flat_map}
-use Rattle.std.proofs.lemmas.List.{length-take, take_all}
-use Rattle.std.proofs.Math.Seq.{take-suc}
-use Rattle.seg_vector.specs.VectorCalls.{IsVectorNow}
+use Rattle.seg_vector.proofs.Words.{◌≡◌, sym, ap, subst, ◌∙◌, refl, ◌+◌, ◌<◌, ◌++◌, ◌∷◌, [], append-nil, append_assoc}
+use Rattle.seg_vector.proofs.Words.{length, length-append, take, arith, suc, flat_map, length-take, take_all, take-suc}
+use Rattle.seg_vector.proofs.Words.{IsVectorNow}
 use Rattle.seg_vector.proofs.Typed.{appended-now, has-space, now-then, unchanged-now}
 use Rattle.seg_vector.proofs.sizing.put_all.Goals as goal
 

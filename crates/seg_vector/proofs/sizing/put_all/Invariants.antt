@@ -1,7 +1,5 @@
 -- Those before the next one stand behind the others.
-use Rattle.std.proofs.Common.{◌+◌, ◌≤◌, ◌++◌, length, take, List}
-use Rattle.best_fit.specs.Table.{Table}
-use Rattle.seg_vector.specs.VectorCalls.{IsVector, IsVectorNow}
+use Rattle.seg_vector.proofs.Words.{◌+◌, ◌≤◌, ◌++◌, length, take, List, Table, IsVector, IsVectorNow}
 use Rattle.seg_vector.proofs.sizing.put_all.Given as goal
 
 abbrev pub invariant-loop-value : goal.invariant-loop-value

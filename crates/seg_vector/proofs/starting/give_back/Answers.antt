@@ -1,7 +1,5 @@
 -- The words are written, and then the block is given back.
-use Rattle.std.proofs.Common.{sym, subst, ◌∙◌, ◌+◌, arith, IsTrue}
-use Rattle.best_fit.specs.Heap.{is_live_in, live_of}
-use Rattle.best_fit.proofs.Laws.{changed-live, room-less}
+use Rattle.seg_vector.proofs.Words.{sym, subst, ◌∙◌, IsTrue, is_live_in, changed-live}
 use Rattle.seg_vector.proofs.Fewer.{given-back, given-nothing, none-left}
 use Rattle.seg_vector.proofs.Storage.{link-room, storage-live}
 use Rattle.seg_vector.proofs.starting.give_back.Goals as goal

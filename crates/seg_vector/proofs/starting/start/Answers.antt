@@ -1,9 +1,8 @@
 -- Three words are written one after another.
-use Rattle.std.proofs.Common.{◌+◌, ◌<◌, arith}
-use Rattle.best_fit.specs.Heap.{live_of}
-use Rattle.best_fit.proofs.Laws.{changed-room, room-less}
-use Rattle.seg_vector.proofs.Storage.{capacity-room, len-room, link-room, place-small, room-small}
-use Rattle.seg_vector.proofs.Fewer.{changed-both, started}
+use Rattle.seg_vector.proofs.Words.{◌+◌, arith, changed-room}
+use Rattle.seg_vector.proofs.Fewer.{started}
+use Rattle.seg_vector.proofs.Runs.{changed-both}
+use Rattle.seg_vector.proofs.Storage.{capacity-room, len-room, link-room, place-small}
 use Rattle.seg_vector.proofs.starting.start.Goals as goal
 
 pub overflow_add-place : goal.overflow_add-place

@@ -1,13 +1,10 @@
 -- The vector's words are those that they were, until they are written.
-use Rattle.std.proofs.Common.{sym, ap, subst, ◌∙◌, ◌⊎◌, ◌+◌, ◌*◌, ◌<◌, ◌≤◌, Some, arith, IsTrue, length}
-use Rattle.raw_region.specs.Format.{current}
-use Rattle.raw_region.specs.Memory.{bytes_of}
-use Rattle.best_fit.specs.Heap.{IsChanged, has_room, live_of}
-use Rattle.best_fit.proofs.Laws.{changed-room, laid-heap, room-less}
-use Rattle.seg_vector.specs.TextParts.{AreSameElements}
-use Rattle.seg_vector.proofs.Storage.{len-room, link-room, live-if, place-small, room-small}
-use Rattle.seg_vector.proofs.TextGrowth.{adopt-none, adopt-other, adopt-same, ready, ready-even, ready-new, since-link, since-len}
-use Rattle.seg_vector.proofs.TextBlocks.{head-room}
+use Rattle.seg_vector.proofs.Words.{sym, ap, subst, ◌∙◌, ◌⊎◌, ◌+◌, ◌*◌, ◌<◌, ◌≤◌, Some, arith, IsTrue, length, current}
+use Rattle.seg_vector.proofs.Words.{bytes_of, IsChanged, has_room, live_of, changed-room, laid-heap, AreSameElements}
+use Rattle.seg_vector.proofs.Runs.{head-room}
+use Rattle.seg_vector.proofs.Storage.{len-room, link-room, live-if, place-small}
+use Rattle.seg_vector.proofs.TextGrowth.{adopt-none, adopt-other, adopt-same, ready, ready-even, ready-new, since-len}
+use Rattle.seg_vector.proofs.TextGrowth.{since-link}
 use Rattle.seg_vector.proofs.text_arrays.adopt.Goals as goal
 
 pub overflow_add-place : goal.overflow_add-place

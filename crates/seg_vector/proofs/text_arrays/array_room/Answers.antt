@@ -1,10 +1,8 @@
 -- The room is that of the block.
-use Rattle.std.proofs.Common.{refl, sym, ◌∙◌, ◌+◌, ◌*◌, arith, length}
-use Rattle.best_fit.specs.Heap.{live_of}
-use Rattle.best_fit.proofs.Laws.{room-less}
+use Rattle.seg_vector.proofs.Words.{refl, sym, ◌∙◌, ◌*◌, length, live_of}
 use Rattle.seg_vector.proofs.Storage.{link-room, live-if}
-use Rattle.seg_vector.proofs.TextGrowth.{room-none, room-some}
 use Rattle.seg_vector.proofs.TextCalls.{held-elements}
+use Rattle.seg_vector.proofs.TextGrowth.{room-none, room-some}
 use Rattle.seg_vector.proofs.text_arrays.array_room.Goals as goal
 
 pub link-requires-clause-room : goal.link-requires-clause-room

@@ -1,10 +1,8 @@
 -- The old array has the room, or a new block is asked for.
-use Rattle.std.proofs.Common.{sym, ◌∙◌, ◌+◌, ◌*◌, arith, refl, length}
-use Rattle.best_fit.specs.Heap.{live_of}
-use Rattle.best_fit.proofs.Laws.{room-less}
+use Rattle.seg_vector.proofs.Words.{sym, ◌∙◌, ◌*◌, refl, length, live_of}
 use Rattle.seg_vector.proofs.Storage.{link-room, live-if}
-use Rattle.seg_vector.proofs.TextGrowth.{asked-beside, asked-none, asked-wide}
 use Rattle.seg_vector.proofs.TextCalls.{held-elements}
+use Rattle.seg_vector.proofs.TextGrowth.{asked-beside, asked-none, asked-wide}
 use Rattle.seg_vector.proofs.text_arrays.ask_array.Goals as goal
 
 pub link-requires-clause-room : goal.link-requires-clause-room

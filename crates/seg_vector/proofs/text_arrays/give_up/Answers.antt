@@ -1,8 +1,6 @@
 -- The block is shortened again, or given back.
-use Rattle.std.proofs.Common.{sym, ap, ◌∙◌, ◌+◌, Some, arith}
-use Rattle.best_fit.specs.Heap.{live_of}
-use Rattle.best_fit.proofs.Laws.{room-less}
-use Rattle.seg_vector.proofs.TextBlocks.{head-room}
+use Rattle.seg_vector.proofs.Words.{sym, ap, ◌∙◌, ◌+◌, Some, arith, live_of, room-less}
+use Rattle.seg_vector.proofs.Runs.{head-room}
 use Rattle.seg_vector.proofs.TextGrowth.{asked-link, asked-live, asked-run, undone-none, undone-other, undone-same}
 use Rattle.seg_vector.proofs.text_arrays.give_up.Goals as goal
 

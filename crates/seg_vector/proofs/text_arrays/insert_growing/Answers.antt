@@ -1,9 +1,7 @@
 -- The array is asked for, then the text, and then the array is adopted and the text put in; or all is given up.
-use Rattle.std.proofs.Common.{sym, ap, subst, ◌*◌, length}
-use Rattle.raw_region.specs.Memory.{Cut}
-use Rattle.seg_vector.specs.TextParts.{IsAsked}
-use Rattle.seg_vector.proofs.TextGrowth.{growing-err, growing-none, growing-ok, growing-ready, more-places, small-wanted, asked-heap}
-use Rattle.std.specs.Prelude.{option_to_list}
+use Rattle.seg_vector.proofs.Words.{sym, ap, subst, ◌*◌, length, Cut, IsAsked, option_to_list}
+use Rattle.seg_vector.proofs.TextGrowth.{asked-heap, growing-err, growing-none, growing-ok, growing-ready, more-places}
+use Rattle.seg_vector.proofs.TextGrowth.{small-wanted}
 use Rattle.seg_vector.proofs.text_arrays.insert_growing.Goals as goal
 
 pub ask_array-requires-clause-small : goal.ask_array-requires-clause-small

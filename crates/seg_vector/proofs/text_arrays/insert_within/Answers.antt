@@ -1,5 +1,5 @@
 -- The text is placed, and put in.
-use Rattle.std.proofs.Common.{sym, ap, length}
+use Rattle.seg_vector.proofs.Words.{sym, ap, length}
 use Rattle.seg_vector.proofs.TextGrowth.{within, within-err, within-ok}
 use Rattle.seg_vector.proofs.text_arrays.insert_within.Goals as goal
 

@@ -1,12 +1,8 @@
 -- A link, and the word of the capacity.
-use Rattle.std.proofs.Common.{◌≡◌, subst, ◌∙◌, inl, inr, ◌+◌, ◌<◌, arith}
-use Rattle.raw_region.specs.Memory.{bytes_of, word_at}
-use Rattle.raw_region.proofs.Laws.{SameBut-word}
-use Rattle.offset_link.proofs.Laws.{SameBut-link}
-use Rattle.best_fit.specs.Heap.{live_of}
-use Rattle.best_fit.proofs.Laws.{changed-room, room-less}
-use Rattle.seg_vector.proofs.Fewer.{changed-both}
-use Rattle.seg_vector.proofs.Storage.{capacity-room, link-room, place-small, room-small}
+use Rattle.seg_vector.proofs.Words.{◌≡◌, subst, ◌∙◌, inl, inr, ◌+◌, arith, bytes_of, word_at, SameBut-word}
+use Rattle.seg_vector.proofs.Words.{SameBut-link, changed-room}
+use Rattle.seg_vector.proofs.Runs.{changed-both}
+use Rattle.seg_vector.proofs.Storage.{capacity-room, link-room, place-small}
 use Rattle.seg_vector.proofs.text_arrays.point_to.Goals as goal
 
 pub set_link-requires-clause-room : goal.set_link-requires-clause-room

@@ -1,11 +1,10 @@
 -- Those behind move up, the element is written, and then the length.
-use Rattle.std.proofs.Common.{◌≡◌, sym, ◌∙◌, ◌+◌, ◌-◌, ◌*◌, arith, length}
-use Rattle.raw_region.specs.Memory.{bytes_of}
-use Rattle.best_fit.specs.Heap.{live_of}
-use Rattle.best_fit.proofs.Laws.{changed-room, laid-heap, room-less}
+use Rattle.seg_vector.proofs.Words.{◌≡◌, sym, ◌∙◌, ◌+◌, ◌-◌, ◌*◌, arith, length, bytes_of, live_of, changed-room}
+use Rattle.seg_vector.proofs.Words.{laid-heap, room-less}
 use Rattle.seg_vector.proofs.Fewer.{none-left}
+use Rattle.seg_vector.proofs.Runs.{head-room}
 use Rattle.seg_vector.proofs.Storage.{len-room, link-room, place-small, room-small}
-use Rattle.seg_vector.proofs.TextBlocks.{even-from, head-room}
+use Rattle.seg_vector.proofs.TextBlocks.{even-from}
 use Rattle.seg_vector.proofs.TextGrowth.{put-by, put-even, put-place, put-run}
 use Rattle.seg_vector.proofs.text_arrays.put_in.Goals as goal
 

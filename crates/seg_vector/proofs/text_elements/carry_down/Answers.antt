@@ -1,14 +1,9 @@
 -- The next element is put in its place, and it is the one that it was.
-use Rattle.std.proofs.Common.{◌≡◌, subst, ◌+◌, ◌*◌, ◌%◌, ◌<◌, arith}
-use Rattle.std.specs.Prelude.{IfSome}
-use Rattle.raw_region.specs.Format.{current}
-use Rattle.raw_region.specs.Memory.{bytes_of}
-use Rattle.offset_link.specs.Link.{link_at}
-use Rattle.best_fit.specs.Heap.{IsChanged, live_of}
-use Rattle.best_fit.proofs.Laws.{changed-room, laid-heap, room-less}
-use Rattle.seg_vector.specs.TextParts.{AreSameElements, IsSameElement}
-use Rattle.seg_vector.proofs.TextBlocks.{carried-changed, carried-next, even-now, source-stays, unchanged}
+use Rattle.seg_vector.proofs.Words.{◌≡◌, subst, ◌+◌, ◌*◌, ◌%◌, ◌<◌, arith, IfSome, current, bytes_of, link_at}
+use Rattle.seg_vector.proofs.Words.{IsChanged, live_of, changed-room, laid-heap, room-less, AreSameElements}
+use Rattle.seg_vector.proofs.Words.{IsSameElement}
 use Rattle.seg_vector.proofs.Storage.{room-small}
+use Rattle.seg_vector.proofs.TextBlocks.{carried-changed, carried-next, even-now, source-stays, unchanged}
 use Rattle.seg_vector.proofs.text_elements.carry_down.Goals as goal
 
 pub loop-i-init : goal.loop-i-init

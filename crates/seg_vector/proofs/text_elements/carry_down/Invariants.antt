@@ -1,9 +1,5 @@
 -- So many are put in their places, and nothing else changed.
-use Rattle.std.proofs.Common.{◌+◌, ◌*◌}
-use Rattle.raw_region.specs.Format.{current}
-use Rattle.raw_region.specs.Memory.{bytes_of}
-use Rattle.best_fit.specs.Heap.{IsChanged}
-use Rattle.seg_vector.specs.TextParts.{AreSameElements}
+use Rattle.seg_vector.proofs.Words.{◌+◌, ◌*◌, current, bytes_of, IsChanged, AreSameElements}
 use Rattle.seg_vector.proofs.text_elements.carry_down.Given as goal
 
 abbrev pub invariant-loop-i : goal.invariant-loop-i

@@ -1,9 +1,6 @@
 -- What is read is what is written.
-use Rattle.std.proofs.Common.{◌≡◌, ap, sym, subst, ◌∙◌, ◌+◌, ◌%◌, ◌<◌, arith}
-use Rattle.std.specs.Prelude.{IfSome}
-use Rattle.raw_region.specs.Memory.{bytes_of, word_at}
-use Rattle.best_fit.specs.Heap.{live_of}
-use Rattle.best_fit.proofs.Laws.{room-less}
+use Rattle.seg_vector.proofs.Words.{◌≡◌, ap, sym, subst, ◌∙◌, ◌+◌, ◌%◌, ◌<◌, arith, IfSome, bytes_of, word_at, live_of}
+use Rattle.seg_vector.proofs.Words.{room-less}
 use Rattle.seg_vector.proofs.Storage.{room-small}
 use Rattle.seg_vector.proofs.text_elements.carry_element.Goals as goal
 

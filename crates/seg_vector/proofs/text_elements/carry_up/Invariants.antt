@@ -1,8 +1,5 @@
 -- So many are put in their places, the last ones, and nothing else changed.
-use Rattle.std.proofs.Common.{◌+◌, ◌-◌, ◌*◌}
-use Rattle.raw_region.specs.Format.{current}
-use Rattle.raw_region.specs.Memory.{bytes_of}
-use Rattle.best_fit.specs.Heap.{IsChanged}
+use Rattle.seg_vector.proofs.Words.{◌+◌, ◌-◌, ◌*◌, current, bytes_of, IsChanged}
 use Rattle.seg_vector.proofs.TextBlocks.{AreUp}
 use Rattle.seg_vector.proofs.text_elements.carry_up.Given as goal
 

@@ -1,9 +1,6 @@
 -- A link, and a word behind it.
-use Rattle.std.proofs.Common.{◌∙◌, inl, ◌+◌, ◌<◌, arith}
-use Rattle.offset_link.proofs.Laws.{SameBut-link}
-use Rattle.best_fit.specs.Heap.{live_of}
-use Rattle.best_fit.proofs.Laws.{changed-room, room-less}
-use Rattle.seg_vector.proofs.Fewer.{changed-both}
+use Rattle.seg_vector.proofs.Words.{◌∙◌, inl, ◌+◌, ◌<◌, arith, SameBut-link, live_of, changed-room, room-less}
+use Rattle.seg_vector.proofs.Runs.{changed-both}
 use Rattle.seg_vector.proofs.Storage.{room-small}
 use Rattle.seg_vector.proofs.text_elements.put_element.Goals as goal
 

@@ -1,8 +1,6 @@
 -- The text is the front of its block.
-use Rattle.std.proofs.Common.{◌≡◌, sym, ap, ◌∙◌, ◌+◌, ◌<◌, arith, length, take}
-use Rattle.raw_region.specs.Memory.{bytes_of, word_at}
-use Rattle.best_fit.specs.Heap.{live_of}
-use Rattle.best_fit.proofs.Laws.{room-less}
+use Rattle.seg_vector.proofs.Words.{◌≡◌, sym, ap, ◌∙◌, ◌+◌, ◌<◌, arith, length, take, bytes_of, word_at, live_of}
+use Rattle.seg_vector.proofs.Words.{room-less}
 use Rattle.seg_vector.proofs.Storage.{room-small}
 use Rattle.seg_vector.proofs.TextBlocks.{block-front, block-live, empty-text, text-block}
 use Rattle.seg_vector.proofs.texts.text_at.Goals as goal

@@ -1,11 +1,9 @@
 -- The text before is released, and then the element is written.
-use Rattle.std.proofs.Common.{refl, sym, ◌∙◌, ◌+◌, ◌*◌, arith, length}
-use Rattle.best_fit.specs.Heap.{live_of}
-use Rattle.best_fit.proofs.Laws.{room-less}
+use Rattle.seg_vector.proofs.Words.{refl, sym, ◌∙◌, ◌+◌, ◌*◌, arith, length, live_of, room-less}
 use Rattle.seg_vector.proofs.Fewer.{none-left}
 use Rattle.seg_vector.proofs.Storage.{link-room, room-small}
 use Rattle.seg_vector.proofs.TextBlocks.{no-array, text-found}
-use Rattle.seg_vector.proofs.TextCalls.{left, text-replaced, held-elements}
+use Rattle.seg_vector.proofs.TextCalls.{held-elements, left, text-replaced}
 use Rattle.seg_vector.proofs.texts_changing.replace_text.Goals as goal
 
 pub link-requires-clause-room : goal.link-requires-clause-room

@@ -1,6 +1,5 @@
 -- The bytes that are put in are the value's.
-use Rattle.std.proofs.Common.{subst, List, ℕ, arith}
-use Rattle.seg_vector.specs.Elements.{Inserts}
+use Rattle.seg_vector.proofs.Words.{subst, List, ℕ, arith, Inserts}
 use Rattle.seg_vector.proofs.values.insert_by.Goals as goal
 
 pub returns-clause-inserted : goal.returns-clause-inserted

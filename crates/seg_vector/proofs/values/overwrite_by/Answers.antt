@@ -1,6 +1,5 @@
 -- The bytes that are written are the value's.
-use Rattle.std.proofs.Common.{subst, List, ℕ, arith}
-use Rattle.seg_vector.specs.Elements.{Overwrites}
+use Rattle.seg_vector.proofs.Words.{subst, List, ℕ, arith, Overwrites}
 use Rattle.seg_vector.proofs.values.overwrite_by.Goals as goal
 
 pub returns-clause-written : goal.returns-clause-written

@@ -1,9 +1,8 @@
 -- The storage grows, and then the bytes are put in behind the others.
-use Rattle.std.proofs.Common.{◌≡◌, ◌∙◌, ◌+◌, ◌++◌, arith, length, length-append, refl}
-use Rattle.best_fit.specs.Heap.{live_of}
-use Rattle.seg_vector.specs.Vector.{capacity_for_text}
-use Rattle.seg_vector.proofs.Storage.{too-many, table-places}
-use Rattle.seg_vector.proofs.Typed.{few-places, text-extended, text-grown-of, text-grown-then, text-space, text-without-space, wanted-bytes}
+use Rattle.seg_vector.proofs.Words.{◌++◌, arith, length, length-append, refl, live_of, capacity_for_text}
+use Rattle.seg_vector.proofs.Storage.{table-places, too-many}
+use Rattle.seg_vector.proofs.Typed.{few-bytes, text-extended, text-grown-of, text-grown-then, text-space, text-wanted}
+use Rattle.seg_vector.proofs.Typed.{text-without-space, wanted-bytes}
 use Rattle.seg_vector.proofs.strings.SegString.append.Goals as goal
 
 pub overflow_add-needed : goal.overflow_add-needed
@@ -11,7 +10,7 @@ overflow_add-needed c =
     let bytes = c.requires.0 in
     let t = c.requires.1.0 in
     let v = c.requires.1.1 in
-    let few = few-places c.args.heap.now c.args.heap.now v in
+    let few = few-bytes c.args.heap.now c.args.heap.now v in
     omega (arith, few, v.fits, c.len.ensures bytes t v, c.if-more-gt-LIMIT.false)
 
 pub returns-then-more-gt-LIMIT : goal.returns-then-more-gt-LIMIT
@@ -27,7 +26,7 @@ capacity_for_text-wanted-requires c =
     let bytes = c.requires.0 in
     let t = c.requires.1.0 in
     let v = c.requires.1.1 in
-    let few = few-places c.args.heap.now c.args.heap.now v in
+    let few = few-bytes c.args.heap.now c.args.heap.now v in
     omega (arith, few, c.capacity.ensures bytes t v)
 
 pub extend-requires-clause-stands : goal.extend-requires-clause-stands
@@ -35,14 +34,9 @@ extend-requires-clause-stands c =
     let bytes = c.requires.0 in
     let t = c.requires.1.0 in
     let v = c.requires.1.1 in
-    let needed : c.len.result + length c.args.bytes.now ≡ length (bytes ++ c.args.bytes.now) =
-    omega (arith, c.len.ensures bytes t v, length-append bytes c.args.bytes.now) in
-    let wanted : c.capacity_for_text-wanted.result ≡ capacity_for_text (length (bytes ++ c.args.bytes.now))
-    t.capacity = c.capacity_for_text-wanted.ensures
-    ∙ (λ i. capacity_for_text (needed i) (c.capacity.ensures bytes t v i)) in
-    let grown = text-grown-of c.args.heap.now c.reserve.new.heap v c.capacity_for_text-wanted.result
-    (capacity_for_text (length (bytes ++ c.args.bytes.now)) t.capacity) wanted
-    (λ n u bs s. c.in-Ok.ensures n u bs s) in
+    let wanted = text-wanted bytes c.args.bytes.now c.capacity_for_text-wanted.ensures (c.len.ensures bytes t v)
+    (c.capacity.ensures bytes t v) in
+    let grown = text-grown-of c.args.heap.now c.reserve.new.heap v wanted (λ n u bs s. c.in-Ok.ensures n u bs s) in
     (length bytes, (grown.table, (bytes, grown.stands)))
 
 pub extend-requires-clause-space : goal.extend-requires-clause-space
@@ -50,14 +44,9 @@ extend-requires-clause-space c =
     let bytes = c.requires.0 in
     let t = c.requires.1.0 in
     let v = c.requires.1.1 in
-    let needed : c.len.result + length c.args.bytes.now ≡ length (bytes ++ c.args.bytes.now) =
-    omega (arith, c.len.ensures bytes t v, length-append bytes c.args.bytes.now) in
-    let wanted : c.capacity_for_text-wanted.result ≡ capacity_for_text (length (bytes ++ c.args.bytes.now))
-    t.capacity = c.capacity_for_text-wanted.ensures
-    ∙ (λ i. capacity_for_text (needed i) (c.capacity.ensures bytes t v i)) in
-    let grown = text-grown-of c.args.heap.now c.reserve.new.heap v c.capacity_for_text-wanted.result
-    (capacity_for_text (length (bytes ++ c.args.bytes.now)) t.capacity) wanted
-    (λ n u bs s. c.in-Ok.ensures n u bs s) in
+    let wanted = text-wanted bytes c.args.bytes.now c.capacity_for_text-wanted.ensures (c.len.ensures bytes t v)
+    (c.capacity.ensures bytes t v) in
+    let grown = text-grown-of c.args.heap.now c.reserve.new.heap v wanted (λ n u bs s. c.in-Ok.ensures n u bs s) in
     let places = table-places (live_of c.args.heap.now.bytes) 1
     (capacity_for_text (length (bytes ++ c.args.bytes.now)) t.capacity) t grown.grown in
     let enough = wanted-bytes (length (bytes ++ c.args.bytes.now)) t.capacity in
@@ -66,24 +55,14 @@ extend-requires-clause-space c =
 
 pub returns-in-Err : goal.returns-in-Err
 returns-in-Err c bytes t v =
-    let needed : c.len.result + length c.args.bytes.now ≡ length (bytes ++ c.args.bytes.now) =
-    omega (arith, c.len.ensures bytes t v, length-append bytes c.args.bytes.now) in
-    let wanted : c.capacity_for_text-wanted.result ≡ capacity_for_text (length (bytes ++ c.args.bytes.now))
-    t.capacity = c.capacity_for_text-wanted.ensures
-    ∙ (λ i. capacity_for_text (needed i) (c.capacity.ensures bytes t v i)) in
-    text-without-space c.args.heap.now c.reserve.new.heap v c.capacity_for_text-wanted.result
-    (capacity_for_text (length (bytes ++ c.args.bytes.now)) t.capacity) wanted
-    (λ n u bs s. c.in-Err.ensures n u bs s)
+    let wanted = text-wanted bytes c.args.bytes.now c.capacity_for_text-wanted.ensures (c.len.ensures bytes t v)
+    (c.capacity.ensures bytes t v) in
+    text-without-space c.args.heap.now c.reserve.new.heap v wanted (λ n u bs s. c.in-Err.ensures n u bs s)
 
 pub returns-in-Ok : goal.returns-in-Ok
 returns-in-Ok c bytes t v =
-    let needed : c.len.result + length c.args.bytes.now ≡ length (bytes ++ c.args.bytes.now) =
-    omega (arith, c.len.ensures bytes t v, length-append bytes c.args.bytes.now) in
-    let wanted : c.capacity_for_text-wanted.result ≡ capacity_for_text (length (bytes ++ c.args.bytes.now))
-    t.capacity = c.capacity_for_text-wanted.ensures
-    ∙ (λ i. capacity_for_text (needed i) (c.capacity.ensures bytes t v i)) in
-    let grown = text-grown-of c.args.heap.now c.reserve.new.heap v c.capacity_for_text-wanted.result
-    (capacity_for_text (length (bytes ++ c.args.bytes.now)) t.capacity) wanted
-    (λ n u bs s. c.in-Ok.ensures n u bs s) in
+    let wanted = text-wanted bytes c.args.bytes.now c.capacity_for_text-wanted.ensures (c.len.ensures bytes t v)
+    (c.capacity.ensures bytes t v) in
+    let grown = text-grown-of c.args.heap.now c.reserve.new.heap v wanted (λ n u bs s. c.in-Ok.ensures n u bs s) in
     text-grown-then grown
     (text-extended c.reserve.new.heap c.extend.new.heap grown.stands c.args.bytes.now c.extend.ensures)

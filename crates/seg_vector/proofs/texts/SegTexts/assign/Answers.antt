@@ -1,11 +1,8 @@
 -- Other texts are laid out, then those before are released, and then the words are written.
-use Rattle.std.proofs.Common.{sym, ap, ◌∙◌, ◌+◌, ◌<◌, arith, length, map}
-use Rattle.std.proofs.lemmas.List.{length-map}
-use Rattle.best_fit.specs.Heap.{live_of}
-use Rattle.best_fit.proofs.Laws.{changed-room, room-less}
-use Rattle.seg_vector.specs.TextsCalls.{new_array}
-use Rattle.seg_vector.proofs.Storage.{len-room, place-small, room-small}
-use Rattle.seg_vector.proofs.TextsLaid.{assigned, assigns-some, laid-even, laid-still, some-texts, fitted}
+use Rattle.seg_vector.proofs.Words.{sym, ap, ◌∙◌, ◌+◌, arith, length, map, length-map, live_of, changed-room}
+use Rattle.seg_vector.proofs.Words.{new_array}
+use Rattle.seg_vector.proofs.Storage.{len-room, place-small}
+use Rattle.seg_vector.proofs.TextsLaid.{assigned, assigns-some, fitted, laid-even, laid-still, some-texts}
 use Rattle.seg_vector.proofs.texts.SegTexts.assign.Goals as goal
 
 pub release-requires : goal.release-requires

@@ -1,7 +1,6 @@
 -- The word is that of the vector.
-use Rattle.std.proofs.Common.{◌≡◌, ap, ◌∙◌, ◌+◌, ◌<◌, arith}
-use Rattle.raw_region.specs.Memory.{bytes_of, word_at}
-use Rattle.seg_vector.proofs.Storage.{place-small, room-small}
+use Rattle.seg_vector.proofs.Words.{◌≡◌, ap, ◌∙◌, ◌+◌, arith, bytes_of, word_at}
+use Rattle.seg_vector.proofs.Storage.{place-small}
 use Rattle.seg_vector.proofs.texts.SegTexts.capacity.Goals as goal
 
 pub overflow_add-self : goal.overflow_add-self

@@ -1,11 +1,7 @@
 -- The texts are released, and then the length is written.
-use Rattle.std.proofs.Common.{◌≡◌, subst, ◌+◌, ◌<◌, arith}
-use Rattle.raw_region.specs.Format.{current}
-use Rattle.raw_region.specs.Memory.{bytes_of, word_at}
-use Rattle.best_fit.specs.Heap.{IsChanged, live_of}
-use Rattle.best_fit.proofs.Laws.{room-less}
-use Rattle.seg_vector.proofs.Storage.{place-small, room-small}
-use Rattle.seg_vector.proofs.TextBlocks.{head-room}
+use Rattle.seg_vector.proofs.Words.{◌≡◌, subst, ◌+◌, arith, current, bytes_of, word_at, IsChanged, live_of, room-less}
+use Rattle.seg_vector.proofs.Runs.{head-room}
+use Rattle.seg_vector.proofs.Storage.{place-small}
 use Rattle.seg_vector.proofs.TextCalls.{cleared, head-after}
 use Rattle.seg_vector.proofs.texts.SegTexts.clear.Goals as goal
 

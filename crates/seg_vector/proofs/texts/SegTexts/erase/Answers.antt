@@ -1,11 +1,10 @@
 -- The block of the text is released, those behind it move down, and then the length is written.
-use Rattle.std.proofs.Common.{refl, sym, ◌∙◌, ◌+◌, ◌-◌, ◌*◌, ◌<◌, arith, length}
-use Rattle.raw_region.specs.Memory.{bytes_of}
-use Rattle.best_fit.specs.Heap.{live_of}
-use Rattle.best_fit.proofs.Laws.{changed-room, room-less}
+use Rattle.seg_vector.proofs.Words.{refl, sym, ◌∙◌, ◌+◌, ◌-◌, ◌*◌, arith, length, bytes_of, live_of, changed-room}
+use Rattle.seg_vector.proofs.Words.{room-less}
+use Rattle.seg_vector.proofs.Runs.{head-room}
 use Rattle.seg_vector.proofs.Storage.{link-room, place-small, room-small}
-use Rattle.seg_vector.proofs.TextBlocks.{even-from, no-array, text-found, head-room}
-use Rattle.seg_vector.proofs.TextCalls.{erased-by, left, held-elements}
+use Rattle.seg_vector.proofs.TextBlocks.{even-from, no-array, text-found}
+use Rattle.seg_vector.proofs.TextCalls.{erased-by, held-elements, left}
 use Rattle.seg_vector.proofs.texts.SegTexts.erase.Goals as goal
 
 pub link-requires-clause-room : goal.link-requires-clause-room

@@ -1,9 +1,5 @@
 -- The element is in the array.
-use Rattle.std.proofs.Common.{sym, ap, ◌∙◌, ◌+◌, ◌*◌, ◌<◌, arith, length}
-use Rattle.std.specs.Prelude.{Some, option_map}
-use Rattle.best_fit.specs.Heap.{live_of}
-use Rattle.best_fit.proofs.Laws.{room-less}
-use Rattle.seg_vector.specs.Vector.{OwnedText}
+use Rattle.seg_vector.proofs.Words.{sym, ap, ◌∙◌, ◌+◌, ◌*◌, ◌<◌, arith, length, Some, option_map, OwnedText}
 use Rattle.seg_vector.proofs.Storage.{link-room, room-small}
 use Rattle.seg_vector.proofs.TextBlocks.{element-of, no-array, text-found}
 use Rattle.seg_vector.proofs.texts.SegTexts.get.Goals as goal

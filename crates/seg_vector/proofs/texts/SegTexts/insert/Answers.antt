@@ -1,5 +1,5 @@
 -- No array has so many places. A text that was put in had its block, and its array.
-use Rattle.std.proofs.Common.{arith}
+use Rattle.seg_vector.proofs.Words.{arith}
 use Rattle.seg_vector.proofs.TextGrowth.{few-places, first-put}
 use Rattle.seg_vector.proofs.texts.SegTexts.insert.Goals as goal
 

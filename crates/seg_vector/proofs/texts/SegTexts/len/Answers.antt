@@ -1,9 +1,6 @@
 -- The word is that of the vector.
-use Rattle.std.proofs.Common.{◌≡◌, ap, ◌∙◌, ◌+◌, ◌<◌, arith}
-use Rattle.raw_region.specs.Memory.{bytes_of, word_at}
-use Rattle.best_fit.specs.Heap.{live_of}
-use Rattle.best_fit.proofs.Laws.{room-less}
-use Rattle.seg_vector.proofs.Storage.{len-room, place-small, room-small}
+use Rattle.seg_vector.proofs.Words.{◌≡◌, ap, ◌∙◌, ◌+◌, arith, bytes_of, word_at}
+use Rattle.seg_vector.proofs.Storage.{len-room, place-small}
 use Rattle.seg_vector.proofs.texts.SegTexts.len.Goals as goal
 
 pub overflow_add-self : goal.overflow_add-self

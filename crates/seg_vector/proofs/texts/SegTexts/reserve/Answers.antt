@@ -1,7 +1,6 @@
 -- Nothing is asked for, or an array, which the vector has then.
-use Rattle.std.proofs.Common.{refl, ◌<◌, arith, []}
-use Rattle.best_fit.specs.Heap.{live_of}
-use Rattle.seg_vector.proofs.TextGrowth.{not-grown, asked-alone, reserved, reserved-same, too-many-texts}
+use Rattle.seg_vector.proofs.Words.{refl, ◌<◌, arith, [], live_of}
+use Rattle.seg_vector.proofs.TextGrowth.{asked-alone, not-grown, reserved, reserved-same, too-many-texts}
 use Rattle.seg_vector.proofs.texts.SegTexts.reserve.Goals as goal
 
 pub returns-then-n-capacity-clause-reserved : goal.returns-then-n-capacity-clause-reserved

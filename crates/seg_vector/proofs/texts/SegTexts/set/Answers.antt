@@ -1,8 +1,7 @@
 -- The text is placed, and then its element is written.
-use Rattle.std.proofs.Common.{◌≡◌, refl, sym, subst, ◌%◌, arith}
-use Rattle.std.specs.Prelude.{IfSome}
+use Rattle.seg_vector.proofs.Words.{◌≡◌, refl, sym, subst, ◌%◌, arith, IfSome}
 use Rattle.seg_vector.proofs.TextBlocks.{text-found}
-use Rattle.seg_vector.proofs.TextCalls.{come-even, texts-still, text-set}
+use Rattle.seg_vector.proofs.TextCalls.{come-even, text-set, texts-still}
 use Rattle.seg_vector.proofs.texts.SegTexts.set.Goals as goal
 
 pub replace_text-requires-clause-texts : goal.replace_text-requires-clause-texts

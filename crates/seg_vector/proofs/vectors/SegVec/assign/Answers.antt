@@ -1,6 +1,5 @@
 -- The storage grows, and then the values are put in from the front.
-use Rattle.std.proofs.Common.{arith, length, refl, []}
-use Rattle.best_fit.specs.Heap.{live_of}
+use Rattle.seg_vector.proofs.Words.{arith, length, refl, [], live_of}
 use Rattle.seg_vector.proofs.Storage.{table-places}
 use Rattle.seg_vector.proofs.Typed.{grown-of, grown-then, now-then, without-space}
 use Rattle.seg_vector.proofs.vectors.SegVec.assign.Goals as goal
@@ -10,8 +9,8 @@ clear-requires g c =
     let xs = c.requires.0 in
     let t = c.requires.1.0 in
     let v = c.requires.1.1 in
-    let grown = grown-of c.args.heap.now c.reserve.new.heap c.SIZE.ensures v (length c.args.values.now)
-    (length c.args.values.now) refl (λ n u bytes s. c.in-Ok.ensures n u bytes s) in
+    let grown = grown-of c.args.heap.now c.reserve.new.heap c.SIZE.ensures v {n = (length c.args.values.now)} refl
+    (λ n u bytes s. c.in-Ok.ensures n u bytes s) in
     (xs, (grown.table, record { stands = grown.stands; values = v.values }))
 
 pub put_all-requires : goal.put_all-requires
@@ -19,8 +18,8 @@ put_all-requires g c =
     let xs = c.requires.0 in
     let t = c.requires.1.0 in
     let v = c.requires.1.1 in
-    let grown = grown-of c.args.heap.now c.reserve.new.heap c.SIZE.ensures v (length c.args.values.now)
-    (length c.args.values.now) refl (λ n u bytes s. c.in-Ok.ensures n u bytes s) in
+    let grown = grown-of c.args.heap.now c.reserve.new.heap c.SIZE.ensures v {n = (length c.args.values.now)} refl
+    (λ n u bytes s. c.in-Ok.ensures n u bytes s) in
     let places = table-places (live_of c.args.heap.now.bytes) g.T.Plain.SIZE (length c.args.values.now) t grown.grown in (
       [],
       (
@@ -34,12 +33,12 @@ put_all-requires g c =
 
 pub returns-in-Err : goal.returns-in-Err
 returns-in-Err g c xs t v = without-space c.args.heap.now c.reserve.new.heap c.SIZE.ensures v
-    (length c.args.values.now) (length c.args.values.now) refl (λ n u bytes s. c.in-Err.ensures n u bytes s)
+    {n = (length c.args.values.now)} refl (λ n u bytes s. c.in-Err.ensures n u bytes s)
 
 pub returns-in-Ok : goal.returns-in-Ok
 returns-in-Ok g c xs t v =
-    let grown = grown-of c.args.heap.now c.reserve.new.heap c.SIZE.ensures v (length c.args.values.now)
-    (length c.args.values.now) refl (λ n u bytes s. c.in-Ok.ensures n u bytes s) in
+    let grown = grown-of c.args.heap.now c.reserve.new.heap c.SIZE.ensures v {n = (length c.args.values.now)} refl
+    (λ n u bytes s. c.in-Ok.ensures n u bytes s) in
     let places = table-places (live_of c.args.heap.now.bytes) g.T.Plain.SIZE (length c.args.values.now) t grown.grown in
     let cleared = c.clear.ensures xs grown.table (record { stands = grown.stands; values = v.values }) in
     grown-then xs grown

@@ -1,6 +1,6 @@
 -- The word is that of the container.
-use Rattle.std.proofs.Common.{◌+◌, ◌<◌, arith}
-use Rattle.seg_vector.proofs.Storage.{capacity-read, place-small, room-small}
+use Rattle.seg_vector.proofs.Words.{arith}
+use Rattle.seg_vector.proofs.Storage.{capacity-read, place-small}
 use Rattle.seg_vector.proofs.vectors.SegVec.capacity.Goals as goal
 
 pub overflow_add-self : goal.overflow_add-self

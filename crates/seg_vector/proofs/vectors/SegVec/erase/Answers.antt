@@ -1,5 +1,5 @@
 -- The bytes of the others are left.
-use Rattle.std.proofs.Common.{◌<◌, arith, length}
+use Rattle.seg_vector.proofs.Words.{◌<◌, arith, length}
 use Rattle.seg_vector.proofs.Typed.{erased-now}
 use Rattle.seg_vector.proofs.vectors.SegVec.erase.Goals as goal
 

@@ -1,7 +1,6 @@
 -- The bytes of an element spell its value, and no other.
-use Rattle.std.proofs.Common.{sym, ap, ◌∙◌, ◌<◌, arith, length}
-use Rattle.std.specs.Prelude.{Some}
-use Rattle.seg_vector.proofs.Typed.{all-at, has-element, is-standing, element-spells}
+use Rattle.seg_vector.proofs.Words.{sym, ap, ◌∙◌, ◌<◌, arith, length, Some}
+use Rattle.seg_vector.proofs.Typed.{all-at, element-spells, has-element, is-standing}
 use Rattle.seg_vector.proofs.vectors.SegVec.get.Goals as goal
 
 pub element-requires-clause-stands : goal.element-requires-clause-stands

@@ -1,9 +1,7 @@
 -- The storage grows, and then the value is put in.
-use Rattle.std.proofs.Common.{◌≡◌, ◌∙◌, ◌≤◌, arith, length, refl}
-use Rattle.std.specs.Prelude.{flat_map}
-use Rattle.seg_vector.specs.Vector.{capacity_for_one}
+use Rattle.seg_vector.proofs.Words.{◌≤◌, arith, length, refl, flat_map}
 use Rattle.seg_vector.proofs.Storage.{has-place, wanted-places}
-use Rattle.seg_vector.proofs.Typed.{grown-of, grown-then, inserted-now, small-capacity}
+use Rattle.seg_vector.proofs.Typed.{grown-of, grown-then, inserted-now, small-capacity, wanted-is}
 use Rattle.seg_vector.proofs.vectors.SegVec.insert.Goals as goal
 
 pub capacity_for_one-wanted-requires : goal.capacity_for_one-wanted-requires
@@ -16,11 +14,9 @@ insert_value-requires-clause-stands g c =
     let xs = c.requires.0 in
     let t = c.requires.1.0 in
     let v = c.requires.1.1 in
-    let wanted : c.capacity_for_one-wanted.result ≡ capacity_for_one (length xs) t.capacity =
-    c.capacity_for_one-wanted.ensures
-    ∙ (λ i. capacity_for_one (c.len-len.ensures xs t v i) (c.capacity.ensures xs t v i)) in
-    let grown = grown-of c.args.heap.now c.reserve.new.heap c.SIZE.ensures v c.capacity_for_one-wanted.result
-    (capacity_for_one (length xs) t.capacity) wanted (λ n u bytes s. c.in-Ok.ensures n u bytes s) in
+    let wanted = wanted-is c.capacity_for_one-wanted.ensures (c.len-len.ensures xs t v) (c.capacity.ensures xs t v) in
+    let grown = grown-of c.args.heap.now c.reserve.new.heap c.SIZE.ensures v wanted
+    (λ n u bytes s. c.in-Ok.ensures n u bytes s) in
     (length xs, (grown.table, (flat_map g.T.Plain.spelling xs, grown.stands)))
 
 pub insert_value-requires-clause-space : goal.insert_value-requires-clause-space
@@ -28,11 +24,9 @@ insert_value-requires-clause-space g c =
     let xs = c.requires.0 in
     let t = c.requires.1.0 in
     let v = c.requires.1.1 in
-    let wanted : c.capacity_for_one-wanted.result ≡ capacity_for_one (length xs) t.capacity =
-    c.capacity_for_one-wanted.ensures
-    ∙ (λ i. capacity_for_one (c.len-len.ensures xs t v i) (c.capacity.ensures xs t v i)) in
-    let grown = grown-of c.args.heap.now c.reserve.new.heap c.SIZE.ensures v c.capacity_for_one-wanted.result
-    (capacity_for_one (length xs) t.capacity) wanted (λ n u bytes s. c.in-Ok.ensures n u bytes s) in
+    let wanted = wanted-is c.capacity_for_one-wanted.ensures (c.len-len.ensures xs t v) (c.capacity.ensures xs t v) in
+    let grown = grown-of c.args.heap.now c.reserve.new.heap c.SIZE.ensures v wanted
+    (λ n u bytes s. c.in-Ok.ensures n u bytes s) in
     has-place (wanted-places (length xs) t.capacity v.stands.fits).0 grown
 
 pub insert_value-requires-clause-inside : goal.insert_value-requires-clause-inside
@@ -40,20 +34,16 @@ insert_value-requires-clause-inside g c =
     let xs = c.requires.0 in
     let t = c.requires.1.0 in
     let v = c.requires.1.1 in
-    let wanted : c.capacity_for_one-wanted.result ≡ capacity_for_one (length xs) t.capacity =
-    c.capacity_for_one-wanted.ensures
-    ∙ (λ i. capacity_for_one (c.len-len.ensures xs t v i) (c.capacity.ensures xs t v i)) in
-    let grown = grown-of c.args.heap.now c.reserve.new.heap c.SIZE.ensures v c.capacity_for_one-wanted.result
-    (capacity_for_one (length xs) t.capacity) wanted (λ n u bytes s. c.in-Ok.ensures n u bytes s) in
+    let wanted = wanted-is c.capacity_for_one-wanted.ensures (c.len-len.ensures xs t v) (c.capacity.ensures xs t v) in
+    let grown = grown-of c.args.heap.now c.reserve.new.heap c.SIZE.ensures v wanted
+    (λ n u bytes s. c.in-Ok.ensures n u bytes s) in
     omega (arith, c.if-index-len.false, c.len-len.ensures xs t v, grown.stands.words.len_word)
 
 pub returns-in-Ok : goal.returns-in-Ok
 returns-in-Ok g c xs t v =
-    let wanted : c.capacity_for_one-wanted.result ≡ capacity_for_one (length xs) t.capacity =
-    c.capacity_for_one-wanted.ensures
-    ∙ (λ i. capacity_for_one (c.len-len.ensures xs t v i) (c.capacity.ensures xs t v i)) in
-    let grown = grown-of c.args.heap.now c.reserve.new.heap c.SIZE.ensures v c.capacity_for_one-wanted.result
-    (capacity_for_one (length xs) t.capacity) wanted (λ n u bytes s. c.in-Ok.ensures n u bytes s) in
+    let wanted = wanted-is c.capacity_for_one-wanted.ensures (c.len-len.ensures xs t v) (c.capacity.ensures xs t v) in
+    let grown = grown-of c.args.heap.now c.reserve.new.heap c.SIZE.ensures v wanted
+    (λ n u bytes s. c.in-Ok.ensures n u bytes s) in
     let inside : c.args.index ≤ length xs = omega (arith, c.if-index-len.false, c.len-len.ensures xs t v) in (
       inside,
       grown-then xs grown

@@ -1,8 +1,6 @@
 -- The word is that of the container.
-use Rattle.std.proofs.Common.{◌+◌, ◌<◌, arith}
-use Rattle.best_fit.specs.Heap.{live_of}
-use Rattle.best_fit.proofs.Laws.{room-less}
-use Rattle.seg_vector.proofs.Storage.{len-read, len-room, place-small, room-small}
+use Rattle.seg_vector.proofs.Words.{arith}
+use Rattle.seg_vector.proofs.Storage.{len-read, len-room, place-small}
 use Rattle.seg_vector.proofs.vectors.SegVec.len.Goals as goal
 
 pub overflow_add-self : goal.overflow_add-self

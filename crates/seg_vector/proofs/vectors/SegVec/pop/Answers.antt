@@ -1,7 +1,5 @@
 -- The last value is read, and then left out.
-use Rattle.std.proofs.Common.{◌≡◌, subst, ◌-◌, arith, length, take}
-use Rattle.std.specs.Prelude.{slice_get, Some}
-use Rattle.seg_vector.specs.VectorCalls.{IsVectorNow}
+use Rattle.seg_vector.proofs.Words.{◌≡◌, subst, ◌-◌, arith, length, take, slice_get, Some, IsVectorNow}
 use Rattle.seg_vector.proofs.Typed.{cut-now}
 use Rattle.seg_vector.proofs.vectors.SegVec.pop.Goals as goal
 

@@ -1,9 +1,7 @@
 -- The storage grows, and then the value is put in.
-use Rattle.std.proofs.Common.{◌≡◌, ◌∙◌, arith, length, refl}
-use Rattle.std.specs.Prelude.{flat_map}
-use Rattle.seg_vector.specs.Vector.{capacity_for_one}
+use Rattle.seg_vector.proofs.Words.{arith, length, refl, flat_map}
 use Rattle.seg_vector.proofs.Storage.{has-place, wanted-places}
-use Rattle.seg_vector.proofs.Typed.{appended-now, grown-of, grown-then, small-capacity, without-space}
+use Rattle.seg_vector.proofs.Typed.{appended-now, grown-of, grown-then, small-capacity, wanted-is, without-space}
 use Rattle.seg_vector.proofs.vectors.SegVec.push.Goals as goal
 
 pub capacity_for_one-wanted-requires : goal.capacity_for_one-wanted-requires
@@ -16,11 +14,9 @@ put_value-requires-clause-stands g c =
     let xs = c.requires.0 in
     let t = c.requires.1.0 in
     let v = c.requires.1.1 in
-    let wanted : c.capacity_for_one-wanted.result ≡ capacity_for_one (length xs) t.capacity =
-    c.capacity_for_one-wanted.ensures
-    ∙ (λ i. capacity_for_one (c.len.ensures xs t v i) (c.capacity.ensures xs t v i)) in
-    let grown = grown-of c.args.heap.now c.reserve.new.heap c.SIZE.ensures v c.capacity_for_one-wanted.result
-    (capacity_for_one (length xs) t.capacity) wanted (λ n u bytes s. c.in-Ok.ensures n u bytes s) in
+    let wanted = wanted-is c.capacity_for_one-wanted.ensures (c.len.ensures xs t v) (c.capacity.ensures xs t v) in
+    let grown = grown-of c.args.heap.now c.reserve.new.heap c.SIZE.ensures v wanted
+    (λ n u bytes s. c.in-Ok.ensures n u bytes s) in
     (length xs, (grown.table, (flat_map g.T.Plain.spelling xs, grown.stands)))
 
 pub put_value-requires-clause-space : goal.put_value-requires-clause-space
@@ -28,28 +24,22 @@ put_value-requires-clause-space g c =
     let xs = c.requires.0 in
     let t = c.requires.1.0 in
     let v = c.requires.1.1 in
-    let wanted : c.capacity_for_one-wanted.result ≡ capacity_for_one (length xs) t.capacity =
-    c.capacity_for_one-wanted.ensures
-    ∙ (λ i. capacity_for_one (c.len.ensures xs t v i) (c.capacity.ensures xs t v i)) in
-    let grown = grown-of c.args.heap.now c.reserve.new.heap c.SIZE.ensures v c.capacity_for_one-wanted.result
-    (capacity_for_one (length xs) t.capacity) wanted (λ n u bytes s. c.in-Ok.ensures n u bytes s) in
+    let wanted = wanted-is c.capacity_for_one-wanted.ensures (c.len.ensures xs t v) (c.capacity.ensures xs t v) in
+    let grown = grown-of c.args.heap.now c.reserve.new.heap c.SIZE.ensures v wanted
+    (λ n u bytes s. c.in-Ok.ensures n u bytes s) in
     has-place (wanted-places (length xs) t.capacity v.stands.fits).0 grown
 
 pub returns-in-Err : goal.returns-in-Err
 returns-in-Err g c xs t v =
-    let wanted : c.capacity_for_one-wanted.result ≡ capacity_for_one (length xs) t.capacity =
-    c.capacity_for_one-wanted.ensures
-    ∙ (λ i. capacity_for_one (c.len.ensures xs t v i) (c.capacity.ensures xs t v i)) in
-    without-space c.args.heap.now c.reserve.new.heap c.SIZE.ensures v c.capacity_for_one-wanted.result
-    (capacity_for_one (length xs) t.capacity) wanted (λ n u bytes s. c.in-Err.ensures n u bytes s)
+    let wanted = wanted-is c.capacity_for_one-wanted.ensures (c.len.ensures xs t v) (c.capacity.ensures xs t v) in
+    without-space c.args.heap.now c.reserve.new.heap c.SIZE.ensures v wanted
+    (λ n u bytes s. c.in-Err.ensures n u bytes s)
 
 pub returns-in-Ok : goal.returns-in-Ok
 returns-in-Ok g c xs t v =
-    let wanted : c.capacity_for_one-wanted.result ≡ capacity_for_one (length xs) t.capacity =
-    c.capacity_for_one-wanted.ensures
-    ∙ (λ i. capacity_for_one (c.len.ensures xs t v i) (c.capacity.ensures xs t v i)) in
-    let grown = grown-of c.args.heap.now c.reserve.new.heap c.SIZE.ensures v c.capacity_for_one-wanted.result
-    (capacity_for_one (length xs) t.capacity) wanted (λ n u bytes s. c.in-Ok.ensures n u bytes s) in
+    let wanted = wanted-is c.capacity_for_one-wanted.ensures (c.len.ensures xs t v) (c.capacity.ensures xs t v) in
+    let grown = grown-of c.args.heap.now c.reserve.new.heap c.SIZE.ensures v wanted
+    (λ n u bytes s. c.in-Ok.ensures n u bytes s) in
     grown-then xs grown
     (appended-now c.reserve.new.heap c.put_value.new.heap refl (record { stands = grown.stands; values = v.values })
     c.args.value c.put_value.ensures.value c.put_value.ensures.appended)

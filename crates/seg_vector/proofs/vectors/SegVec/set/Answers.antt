@@ -1,5 +1,5 @@
 -- The bytes are those of the value.
-use Rattle.std.proofs.Common.{◌<◌, arith, length, refl}
+use Rattle.seg_vector.proofs.Words.{◌<◌, arith, length, refl}
 use Rattle.seg_vector.proofs.Typed.{set-now}
 use Rattle.seg_vector.proofs.vectors.SegVec.set.Goals as goal
 

@@ -129,9 +129,9 @@ come-aligned {old} {o} {g} r =
 
 -- ---- the bytes of the elements
 
-pub no-bytes : (bytes : List ℕ) → length bytes ≡ 0 → bytes ≡ []
+pub no-bytes : {A : Type 0} → (xs : List A) → length xs ≡ 0 → xs ≡ []
 no-bytes [] e = refl
-no-bytes (b ∷ bs) e = absurd (omega (arith, e))
+no-bytes (x ∷ xs) e = absurd (omega (arith, e))
 
 carried-storage : (m m' : Memory) (each len c : ℕ) (o : Option Extent) (y : Extent) (bytes : List ℕ)
     → IsTrue (is_table Storage each (table c o)) → len ≤ c → length bytes ≡ each * len
@@ -503,7 +503,7 @@ pub unchanged-rewritten : (c : Cut) {p : Place} {each len : ℕ} {t : Table} {by
     → Stands c.bytes p each len t bytes → IsRewritten c c p each len t bytes
 unchanged-rewritten c s = record { change = (stands-run c s).change; stands = s }
 
-unchanged : (c : Cut) (from n : ℕ) → IsHeap current c.bytes → IsChanged current c c from n
+pub unchanged : (c : Cut) (from n : ℕ) → IsHeap current c.bytes → IsChanged current c c from n
 unchanged c from n heap = record {
   place = record { before = refl; after = refl };
   live = heap;

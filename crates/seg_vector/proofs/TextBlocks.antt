@@ -22,6 +22,7 @@ use Rattle.best_fit.specs.Extents.{is_proper}
 use Rattle.seg_vector.proofs.Runs.{AreHeadWords, IsHead, IsRun, changed-both, head-exchanged, none-some, same-some}
 use Rattle.seg_vector.proofs.Runs.{serves-full, table, table-full}
 use Rattle.seg_vector.proofs.Storage.{all-found, live-if}
+use Rattle.seg_vector.proofs.Typed.{has-element}
 
 -- ---- the blocks of a vector of texts, its array and those of its texts, among the other blocks of a heap
 
@@ -370,11 +371,6 @@ each-at P [] i a e = absurd (cc)
 each-at P (x ∷ xs) zero {q} a e = let same : x ≡ q = cc in subst P same a.0
 each-at P (x ∷ xs) (suc i) a e = each-at P xs i a.1 e
 
-pub text-found : (ps : List OwnedText) (i : ℕ) → i < length ps → (q : OwnedText) × (slice_get ps i ≡ Some q)
-text-found [] i f = absurd (omega arith)
-text-found (x ∷ xs) zero f = (x, refl)
-text-found (x ∷ xs) (suc i) f = text-found xs i (omega arith)
-
 pub links-at : (m : Memory) (at : ℕ) (ps : List OwnedText) (i : ℕ) {q : OwnedText} → AreTextLinks m at ps
     → slice_get ps i ≡ Some q
     → (link_at m (at + 16 * i) ≡ option_map handle q.extent) × (word_at m (at + 16 * i + 8) ≡ length q.bytes)
@@ -695,7 +691,7 @@ even-block l (Some x) p f =
 pub even-held : (c : Cut) {array n : ℕ} {ps : List OwnedText} → AreHeldElements c.bytes array n ps
     → AreEvenLinks (bytes_of c.bytes) array n
 even-held c {array} {ps} s j f =
-    let q = text-found ps j (omega (arith, f, s.long)) in
+    let q = has-element ps j (omega (arith, f, s.long)) in
     subst (λ o. IfSome o (λ target. target % 16 ≡ 0)) (sym (links-at (bytes_of c.bytes) array ps j s.links q.1).0)
     (even-block (live_of c.bytes) q.0.extent s.heap.proper (one-of (IsFound (live_of c.bytes).extents) ps j s.live q.1))
 
@@ -728,14 +724,6 @@ array-left {old} {new} {array} {n} {gone} {come} s x none =
     }
 
 -- ---- elements of the array of a vector of texts, put elsewhere one after another
-
-pub unchanged : (c : Cut) (from n : ℕ) → IsHeap current c.bytes → IsChanged current c c from n
-unchanged c from n heap = record {
-  place = record { before = refl; after = refl };
-  live = heap;
-  rest = record
-      { at = λ k f. refl };
-}
 
 -- an element beside what is written
 pub element-beside : {m m' : Memory} {from n : ℕ} (at : ℕ) → SameBut m m' from n → (at + 16 ≤ from) ⊎ (from + n ≤ at)

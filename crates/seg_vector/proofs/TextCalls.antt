@@ -21,11 +21,12 @@ use Rattle.seg_vector.proofs.Fewer.{cut-some}
 use Rattle.seg_vector.proofs.Runs.{AreHeadWords, IsHead, IsRun, beside-head, block-written, head-exchanged, head-kept}
 use Rattle.seg_vector.proofs.Runs.{head-room, head-wider, len-written, none-some, room-head, run-found, run-headed}
 use Rattle.seg_vector.proofs.Runs.{run-swapped, same-some, serves-full, table, table-full, words-kept}
-use Rattle.seg_vector.proofs.Storage.{length-read}
+use Rattle.seg_vector.proofs.Storage.{length-read, no-bytes}
 use Rattle.seg_vector.proofs.TextBlocks.{IsArrayLeft, all-split, array-left, drop-at, element-beside, element-in}
 use Rattle.seg_vector.proofs.TextBlocks.{element-trans, even-block, found-texts, held-element, links-join, links-moved}
 use Rattle.seg_vector.proofs.TextBlocks.{links-split, no-array, none-of, one-of, own-head, own_blocks, run-begin}
 use Rattle.seg_vector.proofs.TextBlocks.{swapped-none, texts-between, texts-own}
+use Rattle.seg_vector.proofs.Typed.{set-pieces}
 
 -- ---- a vector of texts without texts, and then without an array
 
@@ -53,15 +54,10 @@ held-elements {b} {ps} {c} n {o = Some x} s link e =
       others = s.others.1;
     })
 
--- without an array there is none
-nothing : (ps : List OwnedText) → length ps ≡ 0 → ps ≡ []
-nothing [] e = refl
-nothing (q ∷ qs) e = absurd (omega (arith, e))
-
 pub released-nothing : (c : Cut) {p : Place} {ps : List OwnedText} {t : Table} → IsTexts c.bytes p ps t
     → link_at (bytes_of c.bytes) (place_at p) ≡ None → IsSwapped c c (text_blocks ps) []
 released-nothing c {ps} s link =
-    let none = nothing ps (no-array c s link) in
+    let none = no-bytes ps (no-array c s link) in
     subst (λ (qs : List OwnedText). IsSwapped c c (text_blocks qs) []) (sym none) (swapped-none c s.heap)
 
 -- ---- no text
@@ -442,10 +438,6 @@ some-placed l bytes f =
     (λ (x : Extent). let q : OwnedText = record { bytes = bytes; extent = Some x } in q)
     (place l (length bytes) Storage)) (ne_eqb (length bytes) 0 (λ e. omega (arith, e, f)))
 
-no-byte : (bytes : List ℕ) → length bytes ≡ 0 → bytes ≡ []
-no-byte [] e = refl
-no-byte (b ∷ bs) e = absurd (omega (arith, e))
-
 pub placed-empty : (c : Cut) (bytes : List ℕ) → IsHeap current c.bytes → length bytes ≡ 0 → IsTextPlaced c c bytes None
 placed-empty c bytes heap e = record {
   text = record { bytes = bytes; extent = None };
@@ -453,8 +445,8 @@ placed-empty c bytes heap e = record {
   same = refl;
   at = refl;
   change = swapped-none c heap;
-  owned = no-byte bytes e;
-  served = no-byte bytes e;
+  owned = no-bytes bytes e;
+  served = no-bytes bytes e;
 }
 
 pub placed-some : {old mid new : Cut} (bytes : List ℕ) {h : ℕ} → 0 < length bytes
@@ -567,12 +559,6 @@ come-even {a} {b} o x =
 
 -- ---- a text in the place of another one: its block was taken into use before the other is given back
 
-pub set-around : (ps : List OwnedText) (i : ℕ) (z : OwnedText) → i < length ps
-    → slice_set ps i z ≡ take i ps ++ (z ∷ drop (suc i) ps)
-set-around [] i z f = absurd (omega arith)
-set-around (x ∷ xs) zero z f = refl
-set-around (x ∷ xs) (suc i) z f = ap (λ (ys : List OwnedText). x ∷ ys) (set-around xs i z (omega arith))
-
 -- no two of the blocks that came are one
 pub run-others : {old now : Cut} {p : Place} {gone come : List Extent} {n : ℕ} {t : Table}
     → IsRun old now p gone come n t → AreOthers come
@@ -674,7 +660,7 @@ set_in {s0} {s1} {s3} {p} {ps} {c} {i} {len} {x} {q} {block} s e pl rep len_is a
     let word : word_at (bytes_of s3.bytes) (handle x + 16 * i + 8) ≡ length z.bytes =
     subst (λ (y : Extent). word_at (bytes_of s3.bytes) (handle y + 16 * i + 8) ≡ len) array_is rep.len_word
     ∙ len_is ∙ ap (λ (bs : List ℕ). length bs) (sym pl.same) in
-    let qs_is = set-around ps i z below in
+    let qs_is = set-pieces ps i z below in
     let links = set-links (bytes_of s0.bytes) (bytes_of s3.bytes) (handle x) i ps z e s.words.array front back link
     word in
     let len_qs : length (take i ps ++ (z ∷ drop (suc i) ps)) ≡ n =

@@ -26,9 +26,9 @@ use Rattle.seg_vector.proofs.Runs.{same-some, serves-full, table, table-full}
 use Rattle.seg_vector.proofs.Storage.{capacity-bytes, grown-more, grown-same, regrow-new, storage-role, too-many}
 use Rattle.seg_vector.proofs.TextBlocks.{all-split, element-beside, element-in, element-trans, even-block, even-held}
 use Rattle.seg_vector.proofs.TextBlocks.{found-live, found-texts, links-at, links-join, links-moved, links-split}
-use Rattle.seg_vector.proofs.TextBlocks.{one-of, own-head, run-begin, swapped-none, text-found, texts-between}
-use Rattle.seg_vector.proofs.TextBlocks.{texts-own}
+use Rattle.seg_vector.proofs.TextBlocks.{one-of, own-head, run-begin, swapped-none, texts-between, texts-own}
 use Rattle.seg_vector.proofs.TextCalls.{array-full, held-elements, loose-kept, run-others, texts-stand, texts-still}
+use Rattle.seg_vector.proofs.Typed.{has-element}
 use Rattle.best_fit.specs.Fit as fit
 
 -- ---- the array of a vector of texts with more places, once it was asked for
@@ -721,7 +721,7 @@ put-place {now} {p} {g} r leads =
       room = subst (λ h. IsTrue (has_room (live_of now.bytes) h (16 * k + 16))) g_is
           (found-room (live_of now.bytes) (handle y) (16 * k + 16) y found (omega (arith, big, space)));
       even = λ j f.
-          let e = text-found r.ps j f in
+          let e = has-element r.ps j f in
           subst (λ o. IfSome o (λ target. target % 16 ≡ 0))
           (sym (links-at (bytes_of now.bytes) g r.ps j (subst (λ h. AreTextLinks (bytes_of now.bytes) h r.ps) g_is
           w.links) e.1).0)

@@ -1,7 +1,8 @@
 -- The next text is released, and those behind it are left.
 use Rattle.seg_vector.proofs.Words.{◌*◌, arith}
 use Rattle.seg_vector.proofs.Storage.{room-small}
-use Rattle.seg_vector.proofs.TextBlocks.{element-left, releases-begin, releases-end, releases-next, text-found}
+use Rattle.seg_vector.proofs.TextBlocks.{element-left, releases-begin, releases-end, releases-next}
+use Rattle.seg_vector.proofs.Typed.{has-element}
 use Rattle.seg_vector.proofs.owning.release_texts.Goals as goal
 
 pub loop-i-init : goal.loop-i-init
@@ -16,12 +17,12 @@ pub release_text-requires : goal.release_text-requires
 release_text-requires c =
     let ps = c.requires.0 in
     let s = c.requires.1 in
-    let q = text-found ps c.loop-i.i (omega (arith, c.loop-i-test.true, s.long)) in
+    let q = has-element ps c.loop-i.i (omega (arith, c.loop-i-test.true, s.long)) in
     (q.0, element-left c.loop-i.i s q.1 (c.loop-i.invariant ps s))
 
 pub loop-i-preserved : goal.loop-i-preserved
 loop-i-preserved c ps s =
-    let q = text-found ps c.loop-i.i (omega (arith, c.loop-i-test.true, s.long)) in
+    let q = has-element ps c.loop-i.i (omega (arith, c.loop-i-test.true, s.long)) in
     let x = c.loop-i.invariant ps s in
     releases-next c.loop-i.i ps q.1 x
     (c.release_text.ensures q.0 (element-left c.loop-i.i s q.1 x))

@@ -10,23 +10,16 @@ use Rattle.seg_vector.proofs.text_arrays.put_in.Goals as goal
 
 pub overflow_add-place : goal.overflow_add-place
 overflow_add-place c =
-    let w = c.requires.ready in
-    let q = put-run w in
-    let small = place-small c.args.place q.heap (head-room q.head) in
-    omega arith
+    let q = put-run c.requires.ready in let small = place-small c.args.place q.heap (head-room q.head) in omega arith
 
 pub word-len-requires : goal.word-len-requires
-word-len-requires c =
-    let q = put-run c.requires.ready in
-    len-room c.args.heap.now.bytes c.args.place (head-room q.head)
+word-len-requires c = len-room c.args.heap.now.bytes c.args.place (head-room (put-run c.requires.ready).head)
 
 pub link-requires-clause-whole : goal.link-requires-clause-whole
 link-requires-clause-whole c = c.requires.ready.texts.aligned
 
 pub link-requires-clause-room : goal.link-requires-clause-room
-link-requires-clause-room c =
-    let q = put-run c.requires.ready in
-    link-room c.args.heap.now.bytes c.args.place (head-room q.head)
+link-requires-clause-room c = link-room c.args.heap.now.bytes c.args.place (head-room (put-run c.requires.ready).head)
 
 pub overflow_mul-index : goal.overflow_mul-index
 overflow_mul-index c =
@@ -83,16 +76,13 @@ overflow_add-len c =
 
 pub overflow_add-place-in-Some : goal.overflow_add-place-in-Some
 overflow_add-place-in-Some c =
-    let q = put-run c.requires.ready in
-    let small = place-small c.args.place q.heap (head-room q.head) in
-    omega arith
+    let q = put-run c.requires.ready in let small = place-small c.args.place q.heap (head-room q.head) in omega arith
 
 pub set_word-requires : goal.set_word-requires
 set_word-requires c =
-    let q = put-run c.requires.ready in
     changed-room _ _ _ _ 16 c.args.place.handle (c.args.place.at + 8 + 8) c.put_element.ensures.change
     (changed-room _ _ _ _ _ c.args.place.handle (c.args.place.at + 8 + 8) c.carry_up.ensures.change
-    (len-room c.args.heap.now.bytes c.args.place (head-room q.head)))
+    (len-room c.args.heap.now.bytes c.args.place (head-room (put-run c.requires.ready).head)))
 
 pub returns-in-Some : goal.returns-in-Some
 returns-in-Some c first ps t y m z r inside at len =

@@ -2,8 +2,9 @@
 use Rattle.seg_vector.proofs.Words.{refl, sym, ◌∙◌, ◌+◌, ◌*◌, arith, length, live_of, room-less}
 use Rattle.seg_vector.proofs.Fewer.{none-left}
 use Rattle.seg_vector.proofs.Storage.{link-room, room-small}
-use Rattle.seg_vector.proofs.TextBlocks.{no-array, text-found}
+use Rattle.seg_vector.proofs.TextBlocks.{no-array}
 use Rattle.seg_vector.proofs.TextCalls.{held-elements, left, text-replaced}
+use Rattle.seg_vector.proofs.Typed.{has-element}
 use Rattle.seg_vector.proofs.texts_changing.replace_text.Goals as goal
 
 pub link-requires-clause-room : goal.link-requires-clause-room
@@ -26,7 +27,7 @@ overflow_mul-index-in-Some c =
 pub release_text-requires : goal.release_text-requires
 release_text-requires c =
     let ps = c.requires.texts.0 in
-    let q = text-found ps c.args.index c.requires.texts.1.1.1 in (
+    let q = has-element ps c.args.index c.requires.texts.1.1.1 in (
       q.0,
       (left c.args.heap.now c.args.heap.now c.args.index c.requires.texts.1.1.0 q.1
           (sym c.link.ensures ∙ c.in-Some.is)).element,
@@ -35,7 +36,7 @@ release_text-requires c =
 pub put_element-requires-clause-heap : goal.put_element-requires-clause-heap
 put_element-requires-clause-heap c =
     let ps = c.requires.texts.0 in
-    let q = text-found ps c.args.index c.requires.texts.1.1.1 in
+    let q = has-element ps c.args.index c.requires.texts.1.1.1 in
     let w = left c.args.heap.now c.release_text.new.heap c.args.index c.requires.texts.1.1.0 q.1
     (sym c.link.ensures ∙ c.in-Some.is) in
     (w.after (c.release_text.ensures q.0 w.element)).0.heap
@@ -43,7 +44,7 @@ put_element-requires-clause-heap c =
 pub put_element-requires-clause-room : goal.put_element-requires-clause-room
 put_element-requires-clause-room c =
     let ps = c.requires.texts.0 in
-    let q = text-found ps c.args.index c.requires.texts.1.1.1 in
+    let q = has-element ps c.args.index c.requires.texts.1.1.1 in
     let w = left c.args.heap.now c.release_text.new.heap c.args.index c.requires.texts.1.1.0 q.1
     (sym c.link.ensures ∙ c.in-Some.is) in
     room-less (live_of c.release_text.new.heap.bytes) c.in-Some.array (16 * length ps) (16 * c.args.index + 16)

@@ -1,10 +1,12 @@
 -- The block of the text is released, those behind it move down, and then the length is written.
 use Rattle.seg_vector.proofs.Words.{refl, sym, ◌∙◌, ◌+◌, ◌-◌, ◌*◌, arith, length, bytes_of, live_of, changed-room}
 use Rattle.seg_vector.proofs.Words.{room-less}
-use Rattle.seg_vector.proofs.Runs.{head-room}
-use Rattle.seg_vector.proofs.Storage.{link-room, place-small, room-small}
-use Rattle.seg_vector.proofs.TextBlocks.{even-from, no-array, text-found}
+use Rattle.seg_vector.proofs.texts.SegTexts.erase.Goals.{After-release_text}
+use Rattle.seg_vector.proofs.Runs.{IsHead, head-room}
+use Rattle.seg_vector.proofs.Storage.{len-room, link-room, place-small, room-small}
+use Rattle.seg_vector.proofs.TextBlocks.{IsArrayLeft, even-from, no-array}
 use Rattle.seg_vector.proofs.TextCalls.{erased-by, held-elements, left}
+use Rattle.seg_vector.proofs.Typed.{has-element}
 use Rattle.seg_vector.proofs.texts.SegTexts.erase.Goals as goal
 
 pub link-requires-clause-room : goal.link-requires-clause-room
@@ -35,68 +37,56 @@ pub release_text-requires : goal.release_text-requires
 release_text-requires c =
     let ps = c.requires.0 in
     let s = c.requires.1.1 in
-    let q = text-found ps c.args.index (omega (arith, c.if-index-len.false, c.len-len.ensures ps c.requires.1.0 s)) in
+    let q = has-element ps c.args.index (omega (arith, c.if-index-len.false, c.len-len.ensures ps c.requires.1.0 s)) in
     (q.0, (left c.args.heap.now c.args.heap.now c.args.index s q.1 (sym c.link.ensures ∙ c.in-Some.is)).element)
 
-pub carry_down-requires-clause-heap : goal.carry_down-requires-clause-heap
-carry_down-requires-clause-heap c =
-    let ps = c.requires.0 in
+left-at : (c : After-release_text) → IsArrayLeft c.release_text.new.heap c.in-Some.array (length c.requires.0) × IsHead
+    c.release_text.new.heap c.args.self.place
+left-at c =
     let s = c.requires.1.1 in
-    let q = text-found ps c.args.index (omega (arith, c.if-index-len.false, c.len-len.ensures ps c.requires.1.0 s)) in
+    let q = has-element c.requires.0 c.args.index
+    (omega (arith, c.if-index-len.false, c.len-len.ensures c.requires.0 c.requires.1.0 s)) in
     let w = left c.args.heap.now c.release_text.new.heap c.args.index s q.1 (sym c.link.ensures ∙ c.in-Some.is) in
-    (w.after (c.release_text.ensures q.0 w.element)).0.heap
+    w.after (c.release_text.ensures q.0 w.element)
+
+pub carry_down-requires-clause-heap : goal.carry_down-requires-clause-heap
+carry_down-requires-clause-heap c = (left-at (goal.at.carry_down-requires-clause-heap c).After-release_text).0.heap
 
 pub carry_down-requires-clause-source : goal.carry_down-requires-clause-source
 carry_down-requires-clause-source c =
-    let ps = c.requires.0 in
-    let s = c.requires.1.1 in
-    let n = c.len-len.ensures ps c.requires.1.0 s in
-    let q = text-found ps c.args.index (omega (arith, c.if-index-len.false, n)) in
-    let w = left c.args.heap.now c.release_text.new.heap c.args.index s q.1 (sym c.link.ensures ∙ c.in-Some.is) in
-    room-less (live_of c.release_text.new.heap.bytes) c.in-Some.array (16 * length ps)
+    let n = c.len-len.ensures c.requires.0 c.requires.1.0 c.requires.1.1 in
+    room-less (live_of c.release_text.new.heap.bytes) c.in-Some.array (16 * length c.requires.0)
     (16 * c.args.index + 16 + 16 * (c.len-len.result - c.args.index - 1)) (omega (arith, c.if-index-len.false, n))
-    (w.after (c.release_text.ensures q.0 w.element)).0.room
+    (left-at (goal.at.carry_down-requires-clause-source c).After-release_text).0.room
 
 pub carry_down-requires-clause-target : goal.carry_down-requires-clause-target
 carry_down-requires-clause-target c =
-    let ps = c.requires.0 in
-    let s = c.requires.1.1 in
-    let n = c.len-len.ensures ps c.requires.1.0 s in
-    let q = text-found ps c.args.index (omega (arith, c.if-index-len.false, n)) in
-    let w = left c.args.heap.now c.release_text.new.heap c.args.index s q.1 (sym c.link.ensures ∙ c.in-Some.is) in
-    room-less (live_of c.release_text.new.heap.bytes) c.in-Some.array (16 * length ps)
+    let n = c.len-len.ensures c.requires.0 c.requires.1.0 c.requires.1.1 in
+    room-less (live_of c.release_text.new.heap.bytes) c.in-Some.array (16 * length c.requires.0)
     (16 * c.args.index + 16 * (c.len-len.result - c.args.index - 1)) (omega (arith, c.if-index-len.false, n))
-    (w.after (c.release_text.ensures q.0 w.element)).0.room
+    (left-at (goal.at.carry_down-requires-clause-target c).After-release_text).0.room
 
 pub carry_down-requires-clause-even : goal.carry_down-requires-clause-even
 carry_down-requires-clause-even c =
-    let ps = c.requires.0 in
-    let s = c.requires.1.1 in
-    let n = c.len-len.ensures ps c.requires.1.0 s in
-    let q = text-found ps c.args.index (omega (arith, c.if-index-len.false, n)) in
-    let w = left c.args.heap.now c.release_text.new.heap c.args.index s q.1 (sym c.link.ensures ∙ c.in-Some.is) in
+    let n = c.len-len.ensures c.requires.0 c.requires.1.0 c.requires.1.1 in
     even-from (bytes_of c.release_text.new.heap.bytes) c.in-Some.array (c.in-Some.array + (16 * c.args.index + 16))
-    (c.args.index + 1) (c.len-len.result - c.args.index - 1) (length ps)
-    (w.after (c.release_text.ensures q.0 w.element)).0.even (omega arith) (omega (arith, c.if-index-len.false, n))
+    (c.args.index + 1) (c.len-len.result - c.args.index - 1) (length c.requires.0)
+    (left-at (goal.at.carry_down-requires-clause-even c).After-release_text).0.even (omega arith)
+    (omega (arith, c.if-index-len.false, n))
 
 pub overflow_add-self : goal.overflow_add-self
 overflow_add-self c = let small = place-small c.args.self.place c.requires.1.1.heap c.requires.1.1.room in omega arith
 
 pub set_word-requires : goal.set_word-requires
 set_word-requires c =
-    let ps = c.requires.0 in
-    let s = c.requires.1.1 in
-    let q = text-found ps c.args.index (omega (arith, c.if-index-len.false, c.len-len.ensures ps c.requires.1.0 s)) in
-    let w = left c.args.heap.now c.release_text.new.heap c.args.index s q.1 (sym c.link.ensures ∙ c.in-Some.is) in
     changed-room _ _ _ _ _ c.args.self.place.handle (c.args.self.place.at + 8 + 8) c.carry_down.ensures.change
-    (room-less (live_of c.release_text.new.heap.bytes) c.args.self.place.handle (c.args.self.place.at + 24)
-    (c.args.self.place.at + 8 + 8) (omega arith)
-    (head-room (w.after (c.release_text.ensures q.0 w.element)).1))
+    (len-room c.release_text.new.heap.bytes c.args.self.place
+    (head-room (left-at (goal.at.set_word-requires c).After-release_text).1))
 
 pub returns : goal.returns
 returns c ps t s =
     let n = c.len-len.ensures ps t s in
-    let q = text-found ps c.args.index (omega (arith, c.if-index-len.false, n)) in
+    let q = has-element ps c.args.index (omega (arith, c.if-index-len.false, n)) in
     let w = left c.args.heap.now c.release_text.new.heap c.args.index s q.1 (sym c.link.ensures ∙ c.in-Some.is) in
     record {
       before = q.0;

@@ -1,7 +1,8 @@
 -- The element is in the array.
 use Rattle.seg_vector.proofs.Words.{sym, ap, ◌∙◌, ◌+◌, ◌*◌, ◌<◌, arith, length, Some, option_map, OwnedText}
 use Rattle.seg_vector.proofs.Storage.{link-room, room-small}
-use Rattle.seg_vector.proofs.TextBlocks.{element-of, no-array, text-found}
+use Rattle.seg_vector.proofs.TextBlocks.{element-of, no-array}
+use Rattle.seg_vector.proofs.Typed.{has-element}
 use Rattle.seg_vector.proofs.texts.SegTexts.get.Goals as goal
 
 pub link-requires-clause-room : goal.link-requires-clause-room
@@ -17,7 +18,7 @@ overflow_mul-index c =
     let s = c.requires.1.1 in
     let inside : c.args.index < length c.requires.0 =
     omega (arith, c.if-index-len.false, c.len.ensures c.requires.0 c.requires.1.0 s) in
-    let q = text-found c.requires.0 c.args.index inside in
+    let q = has-element c.requires.0 c.args.index inside in
     let e = element-of c.args.heap.now c.args.index s (sym c.link.ensures ∙ c.in-Some.is) q.1 in
     let small = room-small c.args.heap.now c.in-Some.array (16 * c.args.index + 16) e.heap e.room in
     omega (arith, small)
@@ -27,12 +28,12 @@ text_at-requires c =
     let s = c.requires.1.1 in
     let inside : c.args.index < length c.requires.0 =
     omega (arith, c.if-index-len.false, c.len.ensures c.requires.0 c.requires.1.0 s) in
-    let q = text-found c.requires.0 c.args.index inside in
+    let q = has-element c.requires.0 c.args.index inside in
     (q.0, element-of c.args.heap.now c.args.index s (sym c.link.ensures ∙ c.in-Some.is) q.1)
 
 pub returns : goal.returns
 returns c ps t s =
     let inside : c.args.index < length ps = omega (arith, c.if-index-len.false, c.len.ensures ps t s) in
-    let q = text-found ps c.args.index inside in
+    let q = has-element ps c.args.index inside in
     let e = element-of c.args.heap.now c.args.index s (sym c.link.ensures ∙ c.in-Some.is) q.1 in
     ap (option_map (λ (q : OwnedText). q.bytes)) q.1 ∙ ap (λ bs. Some bs) (sym (c.text_at.ensures q.0 e))

@@ -1,7 +1,7 @@
 -- The text is placed, and then its element is written.
 use Rattle.seg_vector.proofs.Words.{◌≡◌, refl, sym, subst, ◌%◌, arith, IfSome}
-use Rattle.seg_vector.proofs.TextBlocks.{text-found}
 use Rattle.seg_vector.proofs.TextCalls.{come-even, text-set, texts-still}
+use Rattle.seg_vector.proofs.Typed.{has-element}
 use Rattle.seg_vector.proofs.texts.SegTexts.set.Goals as goal
 
 pub replace_text-requires-clause-texts : goal.replace_text-requires-clause-texts
@@ -26,7 +26,7 @@ replace_text-requires-clause-target c =
 
 pub returns-in-Ok : goal.returns-in-Ok
 returns-in-Ok c ps t s =
-    let q = text-found ps c.args.index (omega (arith, c.if-index-len.false, c.len.ensures ps t s)) in
+    let q = has-element ps c.args.index (omega (arith, c.if-index-len.false, c.len.ensures ps t s)) in
     record {
       before = q.0;
       found = q.1;

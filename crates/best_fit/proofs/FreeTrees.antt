@@ -2,7 +2,7 @@
 use Rattle.std.proofs.Common.{◌≡◌, refl, sym, ap, subst, ◌∙◌, ℕ, ◌+◌, ◌-◌, ◌/◌, ◌%◌, ◌≤◌, ◌⊎◌, inl, inr, Bool, true, false, ◌&&◌, ◌||◌, List, [], ◌∷◌, ◌++◌, length, arith, ◌==◌, IsTrue, length-append, append_assoc}
 use Rattle.std.specs.Prelude.{Option, Some, None, map, if◌then◌else◌}
 use Rattle.std.specs.List.{list_all}
-use Rattle.std.proofs.lemmas.Bool.{cases_Bool, or_cases, or_left, or_right, eqb-true, eq-eqb, cond-true}
+use Rattle.std.proofs.lemmas.Bool.{cases_Bool, or_cases, or_left, or_right, eqb-true, eq-eqb, cond-true, cond_both}
 use Rattle.raw_region.specs.Memory.{Cut, SameBut, SamePlace, bytes_of}
 use Rattle.raw_region.proofs.Laws.{SameBut-word}
 use Rattle.block_tags.specs.declared.tile.Tile.{Tile}
@@ -15,6 +15,7 @@ use Rattle.link_tree.proofs.Laws.{root_in, tree_same, all_from}
 use Rattle.offset_link.specs.Link.{link_at}
 use Rattle.offset_link.proofs.Laws.{SameBut-link}
 use Rattle.best_fit.specs.Extents.{Gap}
+use Rattle.best_fit.specs.Fit.{precedes}
 use Rattle.best_fit.specs.FreeTree.{cells_of, insert_gap, payloads, sorted_gaps}
 use Rattle.best_fit.specs.GapNodes.{Kept, comes_before, gap_cells, gap_of, gaps_of, gaps_in, is_gap_node, is_kept, kept_of, len_in, links_among, plain, tiles_in}
 use Rattle.best_fit.specs.GapLaws.{length-payloads, Good, GapNode-is_gap_node, Good-is_good, is_good-Good, links_at, cells_at}
@@ -57,7 +58,10 @@ root_leads c hs h = by_link (link_at (bytes_of c.bytes) 24) refl
 -- as many nodes as gaps
 pub length-inserted : (g : Gap) (hs : List Gap) → length (insert_gap g hs) ≡ length hs + 1
 length-inserted g [] = omega arith
-length-inserted g (h ∷ hs) = let ih = length-inserted g hs in grind (arith, ih)
+length-inserted g (h ∷ hs) =
+    let ih = length-inserted g hs in
+    cond_both (precedes g h) (g ∷ h ∷ hs) (h ∷ insert_gap g hs) (λ gs. length gs ≡ length (h ∷ hs) + 1)
+    (λ _. omega arith) (λ _. omega arith)
 
 pub length-sorted : (hs : List Gap) → length (payloads (sorted_gaps hs)) ≡ length hs
 length-sorted hs = length-payloads (sorted_gaps hs) ∙ sorts hs

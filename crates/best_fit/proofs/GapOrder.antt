@@ -2,7 +2,7 @@
 use Rattle.std.proofs.Common.{◌≡◌, refl, sym, ap, subst, ◌∙◌, ℕ, ◌+◌, ◌<◌, ◌≤◌, ◌⊎◌, inl, inr, Bool, true, false, ◌&&◌, ◌||◌, not, List, [], ◌∷◌, ◌++◌, arith, nat_lt, nat_le, ◌==◌}
 use Rattle.std.specs.Prelude.{Option, Some, None, filter, find, option_map, if◌then◌else◌}
 use Rattle.std.specs.List.{list_all, AllByRecursion}
-use Rattle.std.proofs.lemmas.Bool.{both_ways, cases_Bool, cases_eq, cases_lt, and_from, or_left, or_right, leb-true, le-leb, eq-eqb, ne_eqb, cond-true, cond-false, cond_both}
+use Rattle.std.proofs.lemmas.Bool.{both_ways, cases_Bool, cases_eq, cases_lt, and_from, or_left, or_right, leb-true, le-leb, eq-eqb, ne_eqb, cond-true, cond-false, cond_both, lt-ltb, le-ltb, lt-leb}
 use Rattle.link_tree.specs.Tree.{rises}
 use Rattle.link_tree.specs.Nodes.{first_not, has_place, is_in, put, without}
 use Rattle.link_tree.proofs.Laws.{rises_put, without_none}
@@ -152,7 +152,10 @@ before_is gs g h a b =
     ∙ ap (λ (x : Bool). nat_lt g.len h.len || ((g.len == h.len) && x)) (shifted g.offset h.offset)
   where
     shifted : (a b : ℕ) → nat_lt (a + 16) (b + 16) ≡ nat_lt a b
-    shifted a b = grind arith
+    shifted a b = elim (cases_lt a b) [
+      | inl l ↦ rw (lt-ltb a b l, lt-ltb (a + 16) (b + 16) (omega arith)) refl
+      | inr l ↦ rw (le-ltb a b l, le-ltb (a + 16) (b + 16) (omega arith)) refl
+    ]
 
 fits-insert : (gs : List Gap) (g : Gap) (hs : List Gap) → len_in gs (node_of g) ≡ g.len → Fits gs hs → Fits gs (insert_gap g hs)
 fits-insert gs g [] a f = (a, tt)
@@ -219,7 +222,10 @@ sorted-rises gs at (h ∷ hs) f r =
 -- ---- the first that is long enough
 
 not_lt : (a b : ℕ) → not (nat_lt a b) ≡ nat_le b a
-not_lt a b = grind arith
+not_lt a b = elim (cases_lt a b) [
+  | inl l ↦ rw (lt-ltb a b l, lt-leb b a l) refl
+  | inr l ↦ rw (le-ltb a b l, le-leb b a l) refl
+]
 
 abbrev pub node_option : Option Gap → Option ℕ
 node_option o = option_map node_of o

@@ -12,7 +12,7 @@ pub use Rattle.best_fit.proofs.Laid.{IsLegal, legal_size}
 pub use Rattle.best_fit.proofs.Proper.{IsBlock, IsFirst, IsFirst-proper_from, insert-here, insert-past, is_hole-IsHole, proper_from-IsFirst, proper_from-others}
 unfoldable pub use Rattle.best_fit.proofs.Proper.{IsHole}
 -- extents in order: one is put in or taken out
-pub use Rattle.best_fit.proofs.Order.{AllByRecursion-insert, AllByRecursion-insert_from, AllByRecursion-insert_new, AllByRecursion-others, insert-comm, list_any-insert, others-insert, others-insert_same}
+pub use Rattle.best_fit.proofs.Order.{AllByRecursion-insert, AllByRecursion-insert_from, AllByRecursion-insert_new, AllByRecursion-others, insert-comm, list_any-insert, others-comm, others-insert, others-insert_same}
 pub use Rattle.best_fit.proofs.Proper.{others-here, others-past, proper_from-hole, proper_from-reaches}
 -- what stays twice stays, and what of it is kept with a block less
 pub use Rattle.best_fit.proofs.Frames.{AllByRecursion-beside, IsBeside, SameBlock-trans, blocks-trans, keeps-insert, keeps-others, keeps-refl, keeps-trans}

@@ -11,7 +11,7 @@ use Rattle.block_tags.specs.Format.{is_legal_size}
 use Rattle.best_fit.specs.Fit.{insert, others, added}
 use Rattle.best_fit.specs.Heap.{SameBlock, Keeps, extent_at, has_room}
 use Rattle.best_fit.proofs.Order.{AllByRecursion-insert_from, insert-comm, list_any-insert}
-use Rattle.best_fit.proofs.Proper.{insert-here, insert-past, others-here, others-past, proper_from-IsFirst}
+use Rattle.best_fit.proofs.Proper.{is_hole-IsHole, insert-here, insert-past, others-here, others-past, proper_from-IsFirst}
 
 -- ---- what stands nowhere twice
 
@@ -72,7 +72,7 @@ rising-differs x n (z ∷ zs) f h = ((λ e. omega (arith, h.0)), rising-differs 
 
 -- a hole ends where it begins or later
 pub hole-order : (a b : ℕ) → IsTrue (is_hole a b) → a ≤ b
-hole-order a b h = grind arith
+hole-order a b h = let hole = is_hole-IsHole a b h in omega arith
 
 -- extents that are apart rise
 pub proper-rises : (from : ℕ) (xs : List Extent) (to : ℕ) → IsTrue (proper_from from xs to) → Rising from xs

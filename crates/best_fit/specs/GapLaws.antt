@@ -8,6 +8,7 @@ use Rattle.block_tags.specs.declared.tile.Tile.{Tile}
 use Rattle.raw_region.specs.Format.{current}
 use Rattle.block_tags.specs.Format.{is_legal_size}
 use Rattle.block_tags.specs.Tiles.{has_tags, tiles_from, tile_at}
+use Rattle.block_tags.proofs.Laws.{legal}
 use Rattle.link_tree.specs.Tree.{Cell}
 use Rattle.link_tree.specs.Nodes.{is_in, leads}
 use Rattle.link_tree.proofs.Laws.{all_at}
@@ -43,7 +44,7 @@ length-payloads [] = refl
 length-payloads (g ∷ gs) = ap suc (length-payloads gs)
 
 small_size : (n : ℕ) → IsTrue (is_legal_size n) → n ≤ 1073741824
-small_size n h = grind arith
+small_size n h = (legal n h).high
 
 -- the parts of the test
 pub record Good (c : Cut) : Type 0 where

@@ -1,12 +1,9 @@
 -- Where a change of the tree of a map begins, by the keys of its nodes.
-use Rattle.std.proofs.Common.{◌≡◌, sym, ap, ◌∙◌, ℕ, inl, inr, Bool, true, false, not, ◌||◌, List, [], ◌∷◌}
-use Rattle.std.specs.Prelude.{Option, Some, None, IfSome}
-use Rattle.std.proofs.lemmas.Bool.{cases_Bool, eqb-true, false≢true, or_cases, true≢false, false_from_ne_true}
-use Rattle.link_tree.specs.Nodes.{is_in}
-use Rattle.seg_map.specs.PairLaws.{Chains, IsStrict}
-use Rattle.seg_map.specs.Map.{Pair, pair_at}
-use Rattle.seg_map.specs.Places.{nodes_of_pairs, pair_node}
-use Rattle.seg_map.specs.PairNodes.{before_key, comes_before, stands, stands_before}
+use Rattle.seg_map.proofs.Common.{◌≡◌, sym, ap, ◌∙◌, ℕ, inl, inr, Bool, true, false, not, ◌||◌, List, [], ◌∷◌, Option}
+use Rattle.seg_map.proofs.Common.{Some, None, IfSome, cases_Bool, eqb-true, false≢true, or_cases, is_in, Chains}
+use Rattle.seg_map.proofs.Common.{IsStrict, Pair, pair_at, nodes_of_pairs, pair_node, before_key, comes_before, stands}
+use Rattle.seg_map.proofs.Common.{stands_before}
+use Rattle.std.proofs.lemmas.Bool.{true≢false, false_from_ne_true}
 use Rattle.seg_map.proofs.Entering.{HaveKeys}
 use Rattle.seg_map.proofs.PutLists.{absent_here, either_one}
 

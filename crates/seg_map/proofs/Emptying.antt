@@ -1,27 +1,16 @@
 -- A map is given up pair by pair.
-use Rattle.std.proofs.Common.{◌≡◌, ◌⊎◌, refl, sym, ap, subst, ◌∙◌, ℕ, ◌+◌, ◌≤◌, ◌<◌, ◌≢◌, inl, inr, Bool, true, false}
-use Rattle.std.proofs.Common.{◌||◌, List, [], ◌∷◌, map, arith, ◌==◌, IsTrue}
-use Rattle.std.specs.Prelude.{Option, Some, None, find}
-use Rattle.std.specs.List.{AllByRecursion}
-use Rattle.std.proofs.lemmas.Bool.{both_ways, cases_Bool, cases_eq, eq-eqb, ne_eqb}
-use Rattle.raw_region.specs.Format.{current}
-use Rattle.raw_region.specs.Memory.{Cut, bytes_of, word_at}
-use Rattle.raw_region.proofs.Laws.{SamePlace-trans, Same-trans}
-use Rattle.offset_link.specs.Link.{link_at}
-use Rattle.link_tree.specs.Tree.{IsTree, Tree, fork, leaf, nodes_of, root_of}
-use Rattle.link_tree.specs.Nodes.{is_in}
-use Rattle.link_tree.proofs.Laws.{root_in}
-use Rattle.best_fit.specs.Exchange.{SameBlockBut, exchanged, without_all}
-use Rattle.best_fit.specs.Extents.{Extent, LiveSet, handle, is_proper}
-use Rattle.best_fit.specs.Fit.{others, released}
-use Rattle.best_fit.specs.FreeTree.{cells_of}
-use Rattle.best_fit.specs.Heap.{LaysOut, extent_at, live_of}
-use Rattle.best_fit.proofs.Laws.{found-less, lay_out_one, live-rises}
+use Rattle.seg_map.proofs.Common.{◌≡◌, ◌⊎◌, refl, sym, ap, subst, ◌∙◌, ℕ, ◌+◌, ◌≤◌, ◌<◌, ◌≢◌, inl, inr, Bool, true}
+use Rattle.seg_map.proofs.Common.{false, List, [], ◌∷◌, map, arith, ◌==◌, IsTrue, Option, Some, None, find}
+use Rattle.seg_map.proofs.Common.{AllByRecursion, both_ways, cases_Bool, cases_eq, eq-eqb, ne_eqb, current, Cut}
+use Rattle.seg_map.proofs.Common.{bytes_of, word_at, SamePlace-trans, Same-trans, link_at, IsTree, Tree, fork, leaf}
+use Rattle.seg_map.proofs.Common.{nodes_of, root_of, is_in, root_in, SameBlockBut, Extent, LiveSet, handle, is_proper}
+use Rattle.seg_map.proofs.Common.{others, released, cells_of, LaysOut, extent_at, live_of, found-less, lay_out_one}
+use Rattle.seg_map.proofs.Common.{live-rises, Chains, In, IsStrict, Pair, is_key, is_rising, pair_at, remove_pair}
+use Rattle.seg_map.proofs.Common.{HoldsMap, nodes_of_pairs, pair_node, IsBesideMap, IsErased}
+use Rattle.best_fit.specs.Exchange.{exchanged, without_all}
+use Rattle.best_fit.proofs.Laws.{others-comm}
 use Rattle.seg_types.specs.declared.plain.Plain.{Ghosts as Plain}
-use Rattle.seg_map.specs.PairLaws.{Chains, In, IsStrict}
-use Rattle.seg_map.specs.Map.{Pair, is_key, is_rising, pair_at, remove_pair}
-use Rattle.seg_map.specs.Places.{HoldsMap, nodes_of_pairs, pair_node}
-use Rattle.seg_map.specs.Changing.{IsBesideMap, IsErased, IsGivenUp}
+use Rattle.seg_map.specs.Changing.{IsGivenUp}
 use Rattle.seg_map.proofs.Entering.{Laws}
 use Rattle.seg_map.proofs.FoundPairs.{either_right, rising_rest}
 use Rattle.seg_map.proofs.Leaving.{in_from, nodes_in}
@@ -29,22 +18,6 @@ use Rattle.seg_map.proofs.PairLists.{Below, in_nodes, removed_all, removed_lengt
 use Rattle.seg_map.proofs.Staying.{AtNode, at_node}
 
 -- ---- extents taken out one after another
-
-others-comm : (a b : ℕ) (zs : List Extent) → others a (others b zs) ≡ others b (others a zs)
-others-comm a b [] = refl
-others-comm a b (y ∷ ys) =
-    elim (cases_eq (handle y) a) [
-      | inl e ↦ let here = eq-eqb _ _ e in
-          elim (cases_eq (handle y) b) [
-            | inl f ↦ rw (here, eq-eqb _ _ f) (ap (λ (k : ℕ). others k ys) (sym e ∙ f))
-            | inr o ↦ rw (here, ne_eqb _ _ o, here) refl
-          ]
-      | inr n ↦ let past = ne_eqb _ _ n in
-          elim (cases_eq (handle y) b) [
-            | inl f ↦ rw (past, eq-eqb _ _ f) refl
-            | inr o ↦ rw (past, ne_eqb _ _ o, past) (ap (λ (zs : List Extent). y ∷ zs) (others-comm a b ys))
-          ]
-    ]
 
 abbrev blocks_of : {K V : Type 0} → List (Pair K V) → List Extent
 blocks_of {K} {V} ps = map (λ (p : Pair K V). p.node) ps
@@ -223,8 +196,7 @@ module _ {K V : Type 0} {k : Plain K} {v : Plain V} (kl : Laws k) {old now : Cut
                 let a = g.beside.blocks x f o in let b = e.beside.blocks x (g.there x f o) (off x o) in
                 record {
                   payload = λ n low high z. b.payload n low high z ∙ a.payload n low high z;
-                  colour =
-                      b.colour ∙ a.colour;
+                  colour = b.colour ∙ a.colour;
                 };
           };
           there = λ x f o. rw live_new (found-less (handle x) (handle p.node) x (live_of now.bytes).extents (apart x o)

@@ -1,36 +1,26 @@
 -- The pairs of a map as a search tree.
-use Rattle.std.proofs.Common.{◌≡◌, refl, sym, ap, ◌∙◌, ℕ, suc, ◌+◌, ◌^◌, ◌≤◌, ◌≢◌, inl, inr, Bool, true, false, ◌&&◌}
-use Rattle.std.proofs.Common.{not, List, [], ◌∷◌, length, map, arith, ◌==◌}
-use Rattle.std.specs.Prelude.{Option, Some, None, find, option_map}
-use Rattle.std.specs.List.{AllByRecursion, last_or, list_all}
-use mathlib.Core.List.{reverse}
-use Rattle.std.proofs.lemmas.Bool.{and_parts, cases_Bool, eq-eqb, le-leb, leb-true}
-use Rattle.raw_region.specs.Memory.{Memory, Has, bytes_of, read}
-use Rattle.raw_region.specs.Memory.{Cut}
-use Rattle.block_tags.specs.declared.tile.Role.TheVariants.{Node}
-use Rattle.offset_link.specs.Link.{link_at}
-use Rattle.link_tree.specs.Tree.{Tree, IsTree, IsSearchTree, nodes_of, rises}
-use Rattle.link_tree.specs.Nodes.{first_not, is_in, last_before, leads}
-use Rattle.link_tree.proofs.Laws.{above_more, all_from, bits_most, bounds_height, reads_off, root_in, tree_limit}
-use Rattle.link_tree.proofs.Laws.{tree_same}
-use Rattle.best_fit.specs.Extents.{Extent, LiveSet, handle}
-use Rattle.best_fit.specs.FreeTree.{cells_of}
-use Rattle.best_fit.specs.Fit.{others}
-use Rattle.best_fit.specs.Heap.{Keeps, SameBlock, extent_at, live_of}
+use Rattle.seg_map.proofs.Common.{◌≡◌, refl, sym, ap, ◌∙◌, ℕ, suc, ◌+◌, ◌≤◌, ◌≢◌, inl, inr, Bool, true, ◌&&◌}
+use Rattle.seg_map.proofs.Common.{not, List, [], ◌∷◌, length, map, arith, ◌==◌, Option, Some, None, find, option_map}
+use Rattle.seg_map.proofs.Common.{AllByRecursion, list_all, reverse, and_parts, cases_Bool, eq-eqb, le-leb}
+use Rattle.seg_map.proofs.Common.{leb-true, Memory, Has, bytes_of, read, Cut, Node, link_at, Tree, IsTree}
+use Rattle.seg_map.proofs.Common.{nodes_of, rises, first_not, is_in, last_before, leads, all_from}
+use Rattle.seg_map.proofs.Common.{root_in, tree_same, Extent, LiveSet, handle, cells_of, others, Keeps, SameBlock}
+use Rattle.seg_map.proofs.Common.{extent_at, live_of, value_in, IsKeyTree, keys_in, Pair, IsPairAt, is_rising}
+use Rattle.seg_map.proofs.Common.{HoldsMap, IsPairIn, first_pair, is_passed, last_pair, nodes_of_pairs}
+use Rattle.seg_map.proofs.Common.{pair_node, before_key, comes_before, stands, is_pair_node, key_at, key_of}
+use Rattle.seg_map.proofs.Common.{links_among, own_nodes, pair_cells, stands_before, Chains, IsStrict, Good, In}
+use Rattle.seg_map.proofs.Common.{PairNode-is_pair_node, cells_at, node_block}
+use Rattle.std.proofs.Common.{◌^◌}
+use Rattle.link_tree.proofs.Laws.{above_more, bits_most, bounds_height, reads_off, tree_limit}
 use Rattle.best_fit.specs.Table.{same_role, serves}
 use Rattle.best_fit.proofs.Laws.{holds_closed}
 use Rattle.seg_types.specs.declared.plain.Plain.{Ghosts as Plain}
-use Rattle.seg_types.specs.Plain.{value_in}
 use Rattle.seg_types.proofs.Laws.{value-spelled}
-use Rattle.seg_map.specs.Linking.{IsKeyTree, keys_in}
-use Rattle.seg_map.specs.Map.{Pair, IsPairAt, is_rising}
-use Rattle.seg_map.specs.Places.{HoldsMap, IsPairIn, final_pair, first_pair, is_passed, last_pair, nodes_of_pairs}
-use Rattle.seg_map.specs.Places.{pair_node}
-use Rattle.seg_map.specs.PairNodes.{before_key, comes_before, stands, is_block_in, is_pair_node, key_at, key_of}
-use Rattle.seg_map.specs.PairNodes.{links_among, own_nodes, nodes_in, pair_cells, stands_before}
-use Rattle.seg_map.specs.PairLaws.{Chains, IsStrict, Good, In, PairNode-is_pair_node, cells_at, comes_irreflexive}
-use Rattle.seg_map.specs.PairLaws.{comes_transitive, node_block, few_extents, handles_length, in_handles}
-use Rattle.seg_map.proofs.FoundLists.{all_reversed, find_mapped, last_mapped, map_reversed}
+use Rattle.seg_map.specs.PairNodes.{is_block_in}
+use Rattle.seg_map.specs.PairNodes.{nodes_in}
+use Rattle.seg_map.specs.PairLaws.{comes_irreflexive}
+use Rattle.seg_map.specs.PairLaws.{comes_transitive, few_extents, handles_length, in_handles}
+use Rattle.seg_map.proofs.FoundLists.{all_reversed, each, find_mapped, map_reversed}
 use Rattle.seg_map.proofs.PairSteps.{all_in, any_at, in_others}
 
 -- the laws of a plain type
@@ -126,25 +116,13 @@ module _ {K V : Type 0} (less : K → K → Bool) where
         rest,
       ) refl
 
-  -- a node stands before a key where its pair is passed
-  passes : (keys : ℕ → Option K) (past : Bool) (key : K) (ps : List (Pair K V)) → HaveKeys keys ps
-      → AllByRecursion (λ (p : Pair K V). stands_before less keys past key (pair_node p) ≡ is_passed less past key p) ps
-  passes keys past key [] k = tt
-  passes keys past key (p ∷ ps) k = (ap (stands less past key) k.0, passes keys past key ps k.1)
-
-  passes_not : (keys : ℕ → Option K) (past : Bool) (key : K) (ps : List (Pair K V)) → HaveKeys keys ps
-      → AllByRecursion (λ (p : Pair K V). not (stands_before less keys past key (pair_node p)) ≡ not
-      (is_passed less past key p)) ps
-  passes_not keys past key [] k = tt
-  passes_not keys past key (p ∷ ps) k = (ap (λ o. not (stands less past key o)) k.0, passes_not keys past key ps k.1)
-
   -- the first node is that of the first pair
   pub first_node : (keys : ℕ → Option K) (past : Bool) (key : K) (ps : List (Pair K V)) → HaveKeys keys ps
       → first_not (stands_before less keys past key) (nodes_of_pairs ps) ≡ option_map pair_node
       (first_pair less past key ps)
   first_node keys past key ps k =
       find_mapped pair_node (λ n. not (stands_before less keys past key n)) (λ p. not (is_passed less past key p)) ps
-      (passes_not keys past key ps k)
+      (each ps k (λ p e. ap (λ o. not (stands less past key o)) e))
 
   -- and the last node that of the last pair
   pub last_node : (keys : ℕ → Option K) (past : Bool) (key : K) (ps : List (Pair K V)) → HaveKeys keys ps
@@ -154,7 +132,7 @@ module _ {K V : Type 0} (less : K → K → Bool) where
       ap (find (stands_before less keys past key)) (map_reversed pair_node ps)
       ∙ find_mapped pair_node (stands_before less keys past key) (is_passed less past key) (reverse ps)
       (all_reversed (λ (p : Pair K V). stands_before less keys past key (pair_node p) ≡ is_passed less past key p) ps
-      (passes keys past key ps k))
+      (each ps k (λ p e. ap (stands less past key) e)))
 
 -- what holds of each pair
 pub pairs_all : {K V : Type 0} (P : ℕ → Bool) (Q : Pair K V → Type 0) (ps : List (Pair K V))

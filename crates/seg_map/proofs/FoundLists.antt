@@ -1,9 +1,14 @@
 -- What is found in a list of nodes, and in a list from its end.
-use Rattle.std.proofs.Common.{◌≡◌, refl, sym, ap, subst, ◌∙◌, inl, inr, Bool, List, [], ◌∷◌, ◌++◌, map}
-use mathlib.Core.List.{reverse, reverse-cons}
-use Rattle.std.specs.Prelude.{Option, Some, find, option_map}
-use Rattle.std.specs.List.{AllByRecursion, last_or}
-use Rattle.std.proofs.lemmas.Bool.{cases_Bool}
+use Rattle.seg_map.proofs.Common.{◌≡◌, refl, sym, ap, subst, ◌∙◌, inl, inr, Bool, List, [], ◌∷◌, map, reverse, Option}
+use Rattle.seg_map.proofs.Common.{Some, find, option_map, AllByRecursion, last_or, cases_Bool}
+use Rattle.std.proofs.Common.{◌++◌}
+use mathlib.Core.List.{reverse-cons}
+
+-- what follows of each from what holds of each
+pub each : {A : Type 0} {P Q : A → Type 0} (xs : List A) → AllByRecursion P xs → ((x : A) → P x → Q x)
+    → AllByRecursion Q xs
+each [] a f = tt
+each (x ∷ xs) a f = (f x a.0, each xs a.1 f)
 
 all_append : {A : Type 0} (P : A → Type 0) (xs ys : List A) → AllByRecursion P xs → AllByRecursion P ys
     → AllByRecursion P (xs ++ ys)

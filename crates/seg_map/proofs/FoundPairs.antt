@@ -1,10 +1,7 @@
 -- The pair of a key in a list of pairs.
-use Rattle.std.proofs.Common.{◌≡◌, refl, ap, inl, inr, Bool, true, false, ◌||◌, not, List, [], ◌∷◌}
-use Rattle.std.specs.Prelude.{Option, Some, None, if◌then◌else◌}
-use Rattle.std.proofs.lemmas.Bool.{and_parts, cases_Bool}
-use Rattle.seg_map.specs.PairLaws.{Chains}
-use Rattle.seg_map.specs.Map.{Pair, is_rising, pair_at}
-use Rattle.seg_map.specs.Places.{first_pair}
+use Rattle.seg_map.proofs.Common.{◌≡◌, refl, ap, inl, inr, Bool, true, false, ◌||◌, not, List, [], ◌∷◌, Option, Some}
+use Rattle.seg_map.proofs.Common.{None, if◌then◌else◌, and_parts, cases_Bool, Chains, Pair, is_rising, pair_at}
+use Rattle.seg_map.proofs.Common.{first_pair}
 
 pub either_right : (b c : Bool) → c ≡ true → not (b || c) ≡ false
 either_right true c e = refl
@@ -37,7 +34,6 @@ module _ {K V : Type 0} (less : K → K → Bool) (on : Chains less) where
         | inl f ↦ elim (cases_Bool (less key q.key)) [ inl y ↦ rw (f, y) rest | inr n ↦ rw (f, n) rest ]
         | inr t ↦ elim (cases_Bool (less key q.key)) [
           | inl y ↦ rw (t, y) (none_above key q qs r y)
-          | inr n ↦
-              rw (t, n) refl
+          | inr n ↦ rw (t, n) refl
         ]
       ]

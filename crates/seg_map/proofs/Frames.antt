@@ -1,14 +1,11 @@
 -- What stays where a tree call changes the links and the colours of nodes alone.
-use Rattle.std.proofs.Common.{◌≡◌, refl, ap, ◌∙◌, ℕ, ◌+◌, ◌-◌, ◌%◌, ◌<◌, ◌≤◌, ◌⊎◌, inl, inr, true, false, ◌&&◌, ◌||◌}
-use Rattle.std.proofs.Common.{not, List, [], ◌∷◌, arith, nat_lt, nat_le, ◌==◌}
-use Rattle.std.proofs.lemmas.Bool.{false≢true, both_ways, cases_Bool, and_parts, or_cases, or_left, or_right, eq-eqb}
-use Rattle.std.proofs.lemmas.Bool.{leb-true, le-leb, ltb-true, lt-ltb}
-use Rattle.raw_region.specs.Memory.{Cut, SamePlace, bytes_of, word_at}
-use Rattle.link_tree.specs.Nodes.{is_in}
-use Rattle.best_fit.specs.Extents.{Extent, handle, end_of}
-use Rattle.best_fit.specs.Heap.{Keeps, SameBlock, live_of}
-use Rattle.seg_map.specs.PairNodes.{Kept, is_kept, is_link_byte, is_other, kept_of, lies_in_block}
-use Rattle.seg_map.specs.PairLaws.{Good, In, PairNode, node_place}
+use Rattle.seg_map.proofs.Common.{◌≡◌, refl, ap, ◌∙◌, ℕ, ◌+◌, ◌-◌, ◌%◌, ◌<◌, ◌≤◌, ◌⊎◌, inl, inr, true, false, ◌&&◌}
+use Rattle.seg_map.proofs.Common.{◌||◌, not, List, [], ◌∷◌, arith, nat_lt, nat_le, ◌==◌, false≢true, both_ways}
+use Rattle.seg_map.proofs.Common.{cases_Bool, and_parts, or_cases, or_left, or_right, eq-eqb, leb-true, le-leb}
+use Rattle.seg_map.proofs.Common.{ltb-true, lt-ltb, Cut, SamePlace, bytes_of, word_at, is_in, Extent, handle, end_of}
+use Rattle.seg_map.proofs.Common.{Keeps, SameBlock, live_of, is_kept, is_link_byte, is_other, kept_of, Good, In}
+use Rattle.seg_map.proofs.Common.{PairNode, node_place}
+use Rattle.seg_map.specs.PairNodes.{Kept, lies_in_block}
 use Rattle.seg_map.proofs.PairSteps.{any_at, block_apart}
 
 -- the live set is kept
@@ -38,15 +35,13 @@ of_node (n ∷ ns) k h =
             node = n;
             listed = or_left _ _ (eq-eqb n n refl);
             low = leb-true n k two.0;
-            high =
-                ltb-true k (n + 16) two.1;
+            high = ltb-true k (n + 16) two.1;
           }
       | inr e ↦ let r = of_node ns k e in record {
         node = r.node;
         listed = or_right _ _ r.listed;
         low = r.low;
-        high =
-            r.high;
+        high = r.high;
       }
     ]
 

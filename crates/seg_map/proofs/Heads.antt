@@ -1,16 +1,10 @@
 -- The three words of a map are written.
-use Rattle.std.proofs.Common.{◌≡◌, refl, subst, ◌∙◌, ℕ, ◌+◌, ◌%◌, inl, arith, IsTrue}
-use Rattle.std.specs.Prelude.{Option, None}
-use Rattle.raw_region.specs.Format.{current}
-use Rattle.raw_region.specs.Memory.{Cut, bytes_of, word_at}
-use Rattle.raw_region.proofs.Laws.{SameBut-trans, SameBut-wider, SameBut-word, SamePlace-trans}
-use Rattle.offset_link.specs.Link.{link_at}
-use Rattle.offset_link.proofs.Laws.{SameBut-link}
-use Rattle.link_tree.specs.Tree.{leaf}
-use Rattle.best_fit.specs.Heap.{IsChanged, LaysOut, has_room, live_of}
-use Rattle.best_fit.proofs.Laws.{changed-live, laid-heap}
+use Rattle.seg_map.proofs.Common.{◌≡◌, refl, subst, ◌∙◌, ℕ, ◌+◌, ◌%◌, inl, arith, IsTrue, Option, None, current, Cut}
+use Rattle.seg_map.proofs.Common.{bytes_of, word_at, SameBut-word, SamePlace-trans, link_at, SameBut-link, leaf}
+use Rattle.seg_map.proofs.Common.{IsChanged, LaysOut, has_room, live_of, changed-live, laid-heap, IsHeaded}
+use Rattle.raw_region.proofs.Laws.{SameBut-trans, SameBut-wider}
 use Rattle.seg_types.specs.declared.plain.Plain.{Ghosts as Plain}
-use Rattle.seg_map.specs.Changing.{IsHeaded, IsNew}
+use Rattle.seg_map.specs.Changing.{IsNew}
 
 module _ {a b c d : Cut} {at : ℕ} {root : Option ℕ} {count : ℕ} (first : IsChanged current a b at 8)
     (link : link_at (bytes_of b.bytes) at ≡ root)
@@ -50,8 +44,7 @@ is_new {K} {V} k v {a} {d} h at whole room w =
           tree = record {
             tree = leaf;
             linked = record { root = w.link; holds = tt };
-            red_black =
-                record { root = refl; no_red_pair = refl; black = (0, refl) };
+            red_black = record { root = refl; no_red_pair = refl; black = (0, refl) };
             lists = refl;
           };
           pairs = tt;

@@ -1,28 +1,19 @@
 -- A pair leaves the map.
-use Rattle.std.proofs.Common.{◌≡◌, refl, sym, ap, subst, ◌∙◌, ℕ, ◌+◌, ◌*◌, ◌%◌, ◌≤◌, ◌≢◌, inl, inr, true, false, List}
-use Rattle.std.proofs.Common.{[], ◌∷◌, length, arith, ◌==◌, IsTrue}
-use Rattle.std.specs.Prelude.{Option, Some, None, IfSome}
-use Rattle.std.specs.List.{AllByRecursion}
-use Rattle.std.proofs.lemmas.Bool.{both_ways, eqb-true, eq-eqb, false≢true, or_cases, or_left, or_right}
-use Rattle.raw_region.specs.Format.{current}
-use Rattle.raw_region.specs.Memory.{Cut, bytes_of}
-use Rattle.raw_region.proofs.Laws.{SamePlace-trans, Same-trans}
-use Rattle.offset_link.specs.Link.{link_at}
-use Rattle.link_tree.specs.Tree.{bits, nodes_of}
-use Rattle.link_tree.specs.Nodes.{is_in, without}
-use Rattle.best_fit.specs.Extents.{Extent, LiveSet, handle}
-use Rattle.best_fit.specs.Fit.{released}
-use Rattle.best_fit.specs.Heap.{IsReleased, LaysOut, is_live_in, live_of}
-use Rattle.best_fit.proofs.Laws.{found-less, found-room, laid-heap, lay_out_one, released-live, roomy}
+use Rattle.seg_map.proofs.Common.{◌≡◌, refl, sym, ap, subst, ◌∙◌, ℕ, ◌+◌, ◌*◌, ◌%◌, ◌≤◌, ◌≢◌, inl, inr, true, false}
+use Rattle.seg_map.proofs.Common.{List, [], ◌∷◌, length, arith, ◌==◌, IsTrue, Option, Some, None, IfSome}
+use Rattle.seg_map.proofs.Common.{AllByRecursion, both_ways, eqb-true, eq-eqb, false≢true, or_cases, or_left, or_right}
+use Rattle.seg_map.proofs.Common.{current, Cut, bytes_of, SamePlace-trans, Same-trans, link_at, bits, nodes_of, is_in}
+use Rattle.seg_map.proofs.Common.{without, Extent, LiveSet, handle, released, LaysOut, is_live_in, live_of, found-less}
+use Rattle.seg_map.proofs.Common.{found-room, laid-heap, lay_out_one, roomy, Pair, IsPairAt, pair_at, remove_pair}
+use Rattle.seg_map.proofs.Common.{HoldsMap, IsPairIn, nodes_of_pairs, pair_node, own_nodes, Good, IsKeyTree, Unlinked}
+use Rattle.seg_map.proofs.Common.{keys_in, IsBesideMap, IsErased, IsHeaded, exit_in}
+use Rattle.best_fit.specs.Heap.{IsReleased}
+use Rattle.best_fit.proofs.Laws.{released-live}
 use Rattle.seg_types.specs.declared.plain.Plain.{Ghosts as Plain}
-use Rattle.seg_map.specs.Map.{Pair, IsPairAt, pair_at, remove_pair}
-use Rattle.seg_map.specs.Places.{HoldsMap, IsPairIn, nodes_of_pairs, pair_node}
-use Rattle.seg_map.specs.PairNodes.{own_nodes}
-use Rattle.seg_map.specs.PairLaws.{Good}
-use Rattle.seg_map.specs.Linking.{CanUnlink, IsKeyTree, Unlinked, keys_in}
-use Rattle.seg_map.specs.Changing.{IsBesideMap, IsErased, IsHeaded, IsTaken}
-use Rattle.seg_map.specs.Searches.{exit_in}
+use Rattle.seg_map.specs.Linking.{CanUnlink}
+use Rattle.seg_map.specs.Changing.{IsTaken}
 use Rattle.seg_map.proofs.Entering.{AreIn, Laws, count_pairs, found_in, good, keys, listed, other_block}
+use Rattle.seg_map.proofs.FoundLists.{each}
 use Rattle.seg_map.proofs.Searching.{lent_own, lent_tree}
 use Rattle.seg_map.proofs.PairLists.{in_nodes, none_left, not_among, other_nodes, removed_all, removed_length}
 use Rattle.seg_map.proofs.PairLists.{removed_rising, without_nodes}
@@ -34,11 +25,7 @@ use Rattle.seg_map.proofs.Frames.{live_stays}
 -- the object's block is no node
 pub apart_all : {K V : Type 0} (kp : Plain K) (vp : Plain V) (live : LiveSet) (h : ℕ) (ps : List (Pair K V))
     → AreIn kp vp live h ps → is_in h (nodes_of_pairs ps) ≡ false
-apart_all {K} {V} kp vp live h ps a = not_among h ps (differ ps a)
-  where
-    differ : (qs : List (Pair K V)) → AreIn kp vp live h qs → AllByRecursion (λ p. pair_node p ≢ h) qs
-    differ [] b = tt
-    differ (q ∷ qs) b = (b.0.apart, differ qs b.1)
+apart_all kp vp live h ps a = not_among h ps (each ps a (λ q i. i.apart))
 
 pub in_from : {K V : Type 0} (ms : List ℕ) (ps : List (Pair K V))
     → AllByRecursion (λ p. is_in (pair_node p) ms ≡ true) ps → (m : ℕ) → is_in m (nodes_of_pairs ps) ≡ true
@@ -82,8 +69,7 @@ module _ {K V : Type 0} {kp : Plain K} {vp : Plain V} (kl : Laws kp) (c : Cut) {
     shape = s.map.tree.tree;
     tree = key_tree;
     listed = ap (λ n. is_in n (nodes_of s.map.tree.tree)) (sym e) ∙ in_tree;
-    begins =
-        rw ns_is begins;
+    begins = rw ns_is begins;
   }
 
   module _ {d : Cut} {node : ℕ} (here : pair_node p ≡ node) {top : Option ℕ} {steps : ℕ}

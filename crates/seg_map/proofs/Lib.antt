@@ -1,3 +1,4 @@
+mod Common
 mod PairSteps
 mod Payloads
 mod FoundLists

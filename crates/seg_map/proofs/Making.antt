@@ -1,17 +1,9 @@
 -- A node is made: its four parts are written in a new block.
-use Rattle.std.proofs.Common.{◌≡◌, subst, ◌∙◌, ℕ, ◌+◌, ◌≤◌, inl, true, arith, IsTrue}
-use Rattle.std.specs.Prelude.{None}
-use Rattle.raw_region.specs.Format.{current}
-use Rattle.raw_region.specs.Memory.{Cut, Has, bytes_of}
-use Rattle.raw_region.proofs.Laws.{Has-same, SameBut-Same}
-use Rattle.block_tags.specs.declared.tile.Role.TheVariants.{Node}
-use Rattle.offset_link.specs.Link.{link_at}
-use Rattle.offset_link.proofs.Laws.{SameBut-link}
-use Rattle.best_fit.specs.Heap.{IsAllocated, IsChanged, has_room, live_of}
+use Rattle.seg_map.proofs.Common.{◌≡◌, subst, ◌∙◌, ℕ, ◌+◌, ◌≤◌, inl, true, arith, IsTrue, None, current, Cut, Has}
+use Rattle.seg_map.proofs.Common.{bytes_of, Has-same, SameBut-Same, Node, link_at, SameBut-link, IsAllocated}
+use Rattle.seg_map.proofs.Common.{IsChanged, has_room, live_of, IsMade, node_len}
 use Rattle.best_fit.proofs.Laws.{allocated-room, still_allocated-block}
 use Rattle.seg_types.specs.declared.plain.Plain.{Ghosts as Plain}
-use Rattle.seg_map.specs.Changing.{IsMade}
-use Rattle.seg_map.specs.Map.{node_len}
 use Rattle.seg_map.proofs.Entering.{Laws}
 
 -- a new block, once a part of it is written

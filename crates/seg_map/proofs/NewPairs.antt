@@ -1,35 +1,21 @@
 -- A new pair: its node is made, and enters the map.
-use Rattle.std.proofs.Common.{◌≡◌, refl, sym, ap, subst, ◌∙◌, ℕ, ◌+◌, ◌≢◌, Bool, false, ◌||◌, List, [], ◌∷◌, arith}
-use Rattle.std.specs.Prelude.{Option, Some, None, IfSome}
-use Rattle.std.specs.List.{AllByRecursion}
-use Rattle.std.proofs.lemmas.Bool.{ne_eqb}
-use Rattle.raw_region.specs.Format.{current}
-use Rattle.raw_region.specs.Memory.{Cut, Has, bytes_of}
-use Rattle.raw_region.proofs.Laws.{SamePlace-trans, Same-trans}
-use Rattle.block_tags.specs.declared.tile.Role.TheVariants.{Node}
-use Rattle.offset_link.specs.Link.{link_at}
-use Rattle.link_tree.specs.Nodes.{is_in}
-use Rattle.link_tree.specs.Tree.{nodes_of}
-use Rattle.link_tree.specs.Ways.{entry_of}
-use Rattle.link_tree.proofs.Laws.{entry_same}
-use Rattle.best_fit.specs.Extents.{Extent, handle}
+use Rattle.seg_map.proofs.Common.{◌≡◌, refl, sym, ap, subst, ◌∙◌, ℕ, ◌+◌, ◌≢◌, Bool, false, ◌||◌, List, arith}
+use Rattle.seg_map.proofs.Common.{Option, Some, None, IfSome, ne_eqb, current, Cut, Has, bytes_of}
+use Rattle.seg_map.proofs.Common.{SamePlace-trans, Same-trans, Node, link_at, is_in, nodes_of, entry_of, entry_same}
+use Rattle.seg_map.proofs.Common.{Extent, handle, LaysOut, SameBlock, extent_at, live_of, laid-heap, live-rises, roomy}
+use Rattle.seg_map.proofs.Common.{Pair, node_len, pair_at, HoldsMap, nodes_of_pairs, In, stands}
+use Rattle.seg_map.proofs.Common.{stands_before, keys_in, entry_in, IsLoose, IsMade, IsPlanted}
 use Rattle.best_fit.specs.Fit.{added}
-use Rattle.best_fit.specs.Heap.{LaysOut, SameBlock, extent_at, live_of}
-use Rattle.best_fit.proofs.Laws.{Differs, allocated-live, allocated-room_before, found-more, found-new, laid-heap}
-use Rattle.best_fit.proofs.Laws.{live-rises, place-serves, rising-insert, roomy}
+use Rattle.best_fit.proofs.Laws.{Differs, allocated-live, allocated-room_before, found-more, found-new}
+use Rattle.best_fit.proofs.Laws.{place-serves, rising-insert}
 use Rattle.seg_types.specs.declared.plain.Plain.{Ghosts as Plain}
-use Rattle.seg_map.specs.Map.{Pair, node_len, pair_at}
-use Rattle.seg_map.specs.Places.{HoldsMap, nodes_of_pairs, pair_node}
-use Rattle.seg_map.specs.PairLaws.{In}
-use Rattle.seg_map.specs.PairNodes.{stands, stands_before}
-use Rattle.seg_map.specs.Linking.{keys_in}
-use Rattle.seg_map.specs.Searches.{entry_in}
-use Rattle.seg_map.specs.Changing.{IsLoose, IsMade, IsPlanted, IsPut}
+use Rattle.seg_map.specs.Changing.{IsPut}
 use Rattle.seg_map.proofs.Beginnings.{keys_agree, known}
-use Rattle.seg_map.proofs.Entering.{AreIn, Laws, found_in, keys}
+use Rattle.seg_map.proofs.Entering.{Laws, found_in, keys}
 use Rattle.seg_map.proofs.PairLists.{not_among}
+use Rattle.seg_map.proofs.FoundLists.{each}
 use Rattle.seg_map.proofs.PairSteps.{all_in}
-use Rattle.seg_map.proofs.Staying.{Still, map_stays}
+use Rattle.seg_map.proofs.Staying.{map_stays}
 
 module _ {K V : Type 0} {kp : Plain K} {vp : Plain V} (kl : Laws kp) (vl : Laws vp) {c d : Cut} {h at : ℕ}
     {ps : List (Pair K V)} (s : HoldsMap kp vp c.bytes h at ps) {key : K} {value : V} {node : ℕ}
@@ -58,26 +44,6 @@ module _ {K V : Type 0} {kp : Plain K} {vp : Plain V} (kl : Laws kp) (vl : Laws 
       rw live_d (found-more (handle y) x y (live_of c.bytes).extents
       (λ e. differs_at y (found_in (live_of c.bytes).extents (handle y) y f) (sym e)) f)
 
-  stills : (qs : List (Pair K V)) → AreIn kp vp (live_of c.bytes) h qs
-      → AllByRecursion (λ (q : Pair K V). Still c d q.node) qs
-  stills [] a = tt
-  stills (q ∷ qs) a = (
-    record {
-      found = still_there q.node a.0.listed;
-      same =
-          kept q.node (found_in (live_of c.bytes).extents (handle q.node) q.node a.0.listed);
-    },
-    stills qs a.1,
-  )
-
-  others_differ : (qs : List (Pair K V)) → AreIn kp vp (live_of c.bytes) h qs
-      → AllByRecursion (λ (q : Pair K V). pair_node q ≢ handle m.block.extent) qs
-  others_differ [] a = tt
-  others_differ (q ∷ qs) a = (
-    differs_at q.node (found_in (live_of c.bytes).extents (handle q.node) q.node a.0.listed),
-    others_differ qs a.1,
-  )
-
   -- the map is as it was, beside the new block
   pub map_there : HoldsMap kp vp d.bytes h at ps
   map_there =
@@ -85,7 +51,11 @@ module _ {K V : Type 0} {kp : Plain K} {vp : Plain V} (kl : Laws kp) (vl : Laws 
       let same = kept r.extent (found_in (live_of c.bytes).extents h r.extent r.found) in
       map_stays kl vl c d s (laid-heap _ _ m.block.live) (allocated-room_before current c d
       (node_len kp.SIZE vp.SIZE) Node node h (at + 24) m.block s.room)
-      (record { at = λ n a b. same.payload.at n (omega arith) (omega arith) }) (stills ps s.pairs)
+      (record { at = λ n a b. same.payload.at n (omega arith) (omega arith) })
+      (each ps s.pairs (λ q i. record {
+        found = still_there q.node i.listed;
+        same = kept q.node (found_in (live_of c.bytes).extents (handle q.node) q.node i.listed);
+      }))
 
   there_tree : map_there.map.tree.tree ≡ s.map.tree.tree
   unfolding map_there map_stays
@@ -121,7 +91,8 @@ module _ {K V : Type 0} {kp : Plain K} {vp : Plain V} (kl : Laws kp) (vl : Laws 
           listed = rw live_d (found-new x (live_of c.bytes).extents differs);
           apart = λ e. differs_at r.extent (found_in (live_of c.bytes).extents h r.extent r.found) (begins ∙ sym e);
         };
-        other = not_among (handle x) ps (others_differ ps s.pairs);
+        other = not_among (handle x) ps (each ps s.pairs (λ q i. differs_at q.node
+            (found_in (live_of c.bytes).extents (handle q.node) q.node i.listed)));
         left = subst (λ k. link_at (bytes_of d.bytes) k ≡ None) m.block.at m.left;
         right = subst (λ k. link_at (bytes_of d.bytes) (k + 8) ≡ None) m.block.at m.right;
         bytes = (
@@ -149,8 +120,7 @@ module _ {K V : Type 0} {kp : Plain K} {vp : Plain V} (kl : Laws kp) (vl : Laws 
               (ne_eqb _ _ (differs_at y i)) ∙ o) in
               record {
                 payload = λ n low high g. b.payload n low high g ∙ k.payload.at n low high;
-                colour =
-                    b.colour ∙ k.colour;
+                colour = b.colour ∙ k.colour;
               };
         };
         map = q.map;

@@ -1,34 +1,18 @@
 -- Another value is written over that of a key.
-use Rattle.std.proofs.Common.{◌≡◌, refl, sym, ap, subst, ◌∙◌, ℕ, ◌+◌, ◌≢◌, ◌⊎◌, inl, inr, true, false, List, [], ◌∷◌}
-use Rattle.std.proofs.Common.{length, arith, IsTrue}
-use Rattle.std.specs.Prelude.{Option, Some}
-use Rattle.std.specs.List.{AllByRecursion}
-use Rattle.std.proofs.lemmas.Bool.{both_ways, cases_eq}
-use Rattle.raw_region.specs.Format.{current}
-use Rattle.raw_region.specs.Memory.{Cut, Has, Same, bytes_of}
-use Rattle.raw_region.proofs.Laws.{Has-same, Same-word, SameBut-Same}
-use Rattle.offset_link.proofs.Laws.{Same-link}
-use Rattle.link_tree.specs.Tree.{nodes_of}
-use Rattle.link_tree.specs.Nodes.{is_in}
-use Rattle.link_tree.proofs.Laws.{holds_same}
-use Rattle.best_fit.specs.Extents.{Extent, handle}
-use Rattle.best_fit.specs.Fit.{others}
-use Rattle.best_fit.specs.FreeTree.{cells_of}
-use Rattle.best_fit.specs.Heap.{IsChanged, Keeps, SameBlock, extent_at, has_room, live_of}
-use Rattle.best_fit.proofs.Laws.{beside_cell, changed-keeps, changed-live, changed-room, found-room, laid-heap, roomy}
+use Rattle.seg_map.proofs.Common.{◌≡◌, refl, sym, ap, subst, ◌∙◌, ℕ, ◌+◌, ◌≢◌, ◌⊎◌, inl, inr, true, false, List, []}
+use Rattle.seg_map.proofs.Common.{◌∷◌, arith, IsTrue, Option, Some, AllByRecursion, both_ways, cases_eq}
+use Rattle.seg_map.proofs.Common.{current, Cut, Has, Same, bytes_of, Has-same, SameBut-Same}
+use Rattle.seg_map.proofs.Common.{nodes_of, is_in, Extent, handle, others, cells_of, IsChanged, Keeps}
+use Rattle.seg_map.proofs.Common.{SameBlock, extent_at, has_room, live_of, beside_cell, changed-keeps, changed-live}
+use Rattle.seg_map.proofs.Common.{changed-room, found-room, laid-heap, roomy, Pair, IsPairAt, pair_at, put_pair}
+use Rattle.seg_map.proofs.Common.{HoldsMap, IsPairIn, nodes_of_pairs, pair_node, PairNode, node_place, keys_in}
+use Rattle.std.proofs.lemmas.Option.{same_Some}
 use Rattle.seg_types.specs.declared.plain.Plain.{Ghosts as Plain}
-use Rattle.seg_map.specs.Map.{Pair, IsPairAt, pair_at, put_pair}
-use Rattle.seg_map.specs.Places.{HoldsMap, IsPairIn, nodes_of_pairs, pair_node}
-use Rattle.seg_map.specs.PairLaws.{PairNode, node_place}
-use Rattle.seg_map.specs.Linking.{keys_in}
 use Rattle.seg_map.specs.Changing.{IsPutAgain}
-use Rattle.seg_map.proofs.Entering.{AreAt, AreIn, HaveKeys, Laws, good, keys, length-nodes, other_block, pair_parts}
+use Rattle.seg_map.proofs.Entering.{AreAt, AreIn, HaveKeys, Laws, good, keys, other_block, pair_parts}
 use Rattle.seg_map.proofs.PairLists.{in_nodes}
 use Rattle.seg_map.proofs.PutLists.{neither_parts, pair_of, replaced_all, replaced_nodes, replaced_rising}
-use Rattle.seg_map.proofs.Staying.{at_node, block_cells, lengths, pair_stays}
-
-some_key : {K : Type 0} (x y : K) → Some x ≡ Some y → x ≡ y
-some_key x y e = cc
+use Rattle.seg_map.proofs.Staying.{at_node, block_cells, lengths, map_over, pair_stays}
 
 module _ {K V : Type 0} {kp : Plain K} {vp : Plain V} (c : Cut) {h at : ℕ} {ps : List (Pair K V)}
     (s : HoldsMap kp vp c.bytes h at ps) (key : K) {p : Pair K V} (has : pair_at kp.order ps key ≡ Some p) where
@@ -107,7 +91,7 @@ module _ {K V : Type 0} {kp : Plain K} {vp : Plain V} (c : Cut) {h at : ℕ} {ps
         → handle q.node ≢ handle p.node
     other_node q w o e =
         let found = pair_of kp.order Was ps key p has were in
-        let is : q.key ≡ key = some_key q.key p.key (sym w.key_is ∙ ap keys_of e ∙ found.0.key_is) ∙ sym same_key_is in
+        let is : q.key ≡ key = same_Some q.key p.key (sym w.key_is ∙ ap keys_of e ∙ found.0.key_is) ∙ sym same_key_is in
         elim o [
           | inl l ↦ both_ways _ (ap (kp.order key) is ∙ kl.irreflexive key) l
           | inr l ↦ both_ways _ (ap (λ k. kp.order k key) is ∙ kl.irreflexive key) l
@@ -150,34 +134,13 @@ module _ {K V : Type 0} {kp : Plain K} {vp : Plain V} (c : Cut) {h at : ℕ} {ps
         let block = block_stays r.extent h r.found (λ e. own.apart (sym e ∙ begins)) in
         let words : Same (bytes_of c.bytes) (bytes_of d.bytes) (h + at) (h + at + 24) =
         record { at = λ n a b. block.payload.at n (omega arith) (omega arith) } in
-        let many : length ps ≡ length (put_pair kp.order new ps) =
-        sym (length-nodes ps) ∙ ap (λ (ms : List ℕ). length ms) (sym nodes_same)
-        ∙ length-nodes (put_pair kp.order new ps) in
-        record {
-          heap = laid-heap _ _ change.live;
-          map = record {
-            count = Same-word _ _ _ _ (h + at + 8) words (omega arith) (omega arith) ∙ s.map.count ∙ many;
-            third = Same-word _ _ _ _ (h + at + 16) words (omega arith) (omega arith) ∙ s.map.third;
-            tree = record {
-              tree = s.map.tree.tree;
-              linked = record {
-                root = Same-link _ _ _ _ (h + at) words (omega arith) (omega arith) ∙ s.map.tree.linked.root;
-                holds = holds_same (cells_of (bytes_of c.bytes))
-                    (cells_of (bytes_of d.bytes)) s.map.tree.tree cells s.map.tree.linked.holds;
-              };
-              red_black = s.map.tree.red_black;
-              lists = s.map.tree.lists ∙ sym nodes_same;
-            };
-            pairs = replaced_all kp.order kl.transitive p new same_key_is
-                Was (IsPairAt kp.SIZE kp.spelling vp.spelling (bytes_of d.bytes)) bytes_stay own_bytes ps s.rising
-                has were;
-          };
-          aligned = s.aligned;
-          room = changed-room _ _ _ _ _ h (at + 24) change s.room;
-          rising = replaced_rising kp.order kl.transitive p new same_key_is ps s.rising has;
-          pairs = rw live_d (replaced_all kp.order kl.transitive p new same_key_is (IsPairIn kp vp (live_of c.bytes) h)
-              (IsPairIn kp vp (live_of c.bytes) h) (λ q a o. a) own_block ps s.rising has s.pairs);
-        }
+        map_over c d s (laid-heap _ _ change.live) (changed-room _ _ _ _ _ h (at + 24) change s.room) words cells
+        (put_pair kp.order new ps) (sym nodes_same)
+        (replaced_rising kp.order kl.transitive p new same_key_is ps s.rising has)
+        (rw live_d (replaced_all kp.order kl.transitive p new same_key_is (IsPairIn kp vp (live_of c.bytes) h)
+        (IsPairIn kp vp (live_of c.bytes) h) (λ q a o. a) own_block ps s.rising has s.pairs))
+        (replaced_all kp.order kl.transitive p new same_key_is Was
+        (IsPairAt kp.SIZE kp.spelling vp.spelling (bytes_of d.bytes)) bytes_stay own_bytes ps s.rising has were)
 
     pub is_put_again : IsPutAgain kp vp c d h at ps p key value
     is_put_again =

@@ -1,14 +1,11 @@
 -- Pairs that are put and removed, and their nodes.
-use Rattle.std.proofs.Common.{◌≡◌, refl, sym, ap, ◌∙◌, ℕ, suc, ◌≢◌, inl, inr, Bool, true, false, ◌||◌, List, [], ◌∷◌}
-use Rattle.std.proofs.Common.{length, nat_eq, ◌==◌}
-use Rattle.std.specs.Prelude.{Option, Some}
-use Rattle.std.specs.List.{AllByRecursion}
-use Rattle.std.proofs.lemmas.Bool.{both_ways, cases_Bool, and_parts, or_left, or_right, or_parts, eq-eqb, ne_eqb}
-use Rattle.link_tree.specs.Nodes.{is_in, without}
+use Rattle.seg_map.proofs.Common.{◌≡◌, refl, sym, ap, ◌∙◌, ℕ, suc, ◌≢◌, inl, inr, Bool, true, false, ◌||◌, List, []}
+use Rattle.seg_map.proofs.Common.{◌∷◌, length, ◌==◌, Option, Some, AllByRecursion, both_ways, cases_Bool, and_parts}
+use Rattle.seg_map.proofs.Common.{or_left, or_right, eq-eqb, ne_eqb, is_in, without, Chains, IsStrict, Pair, is_key}
+use Rattle.seg_map.proofs.Common.{is_rising, pair_at, remove_pair, nodes_of_pairs, pair_node}
+use Rattle.std.proofs.Common.{nat_eq}
+use Rattle.std.proofs.lemmas.Bool.{or_parts}
 use Rattle.link_tree.proofs.Laws.{without_none}
-use Rattle.seg_map.specs.PairLaws.{Chains, IsStrict}
-use Rattle.seg_map.specs.Map.{Pair, is_key, is_rising, pair_at, remove_pair}
-use Rattle.seg_map.specs.Places.{nodes_of_pairs, pair_node}
 use Rattle.seg_map.proofs.Entering.{HaveKeys}
 use Rattle.seg_map.proofs.FoundPairs.{rising_rest}
 

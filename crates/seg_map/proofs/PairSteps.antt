@@ -1,29 +1,29 @@
 -- One field of one node changes.
-use Rattle.std.proofs.Common.{◌≡◌, refl, sym, ap, subst, ◌∙◌, ℕ, ◌+◌, ◌-◌, ◌%◌, ◌/◌, ◌<◌, ◌≤◌, ◌⊎◌, inl, inr, Bool}
-use Rattle.std.proofs.Common.{true, false, ◌&&◌, not, List, [], ◌∷◌, arith, nat_lt, nat_le, ◌==◌, IsTrue}
+use Rattle.seg_map.proofs.Common.{◌≡◌, refl, sym, ap, subst, ◌∙◌, ℕ, ◌+◌, ◌-◌, ◌%◌, ◌<◌, ◌≤◌, ◌⊎◌, inl, inr, Bool}
+use Rattle.seg_map.proofs.Common.{true, false, ◌&&◌, List, [], ◌∷◌, arith, nat_lt, nat_le, ◌==◌, IsTrue, Option}
+use Rattle.seg_map.proofs.Common.{Some, None, IfSome, if◌then◌else◌, AllByRecursion, list_any, false≢true, both_ways}
+use Rattle.seg_map.proofs.Common.{cases_Bool, cases_eq, and_parts, or_cases, or_left, or_right, eqb-true, eq-eqb}
+use Rattle.seg_map.proofs.Common.{ne_eqb, leb-true, le-leb, ltb-true, lt-ltb, Cut, Same, SamePlace, bytes_of, read}
+use Rattle.seg_map.proofs.Common.{word_at, current, SameBut-Same, SameBut-word, is_in, leads, all_from, link_at}
+use Rattle.seg_map.proofs.Common.{Same-link, SameBut-link, Extent, LiveSet, handle, end_of, is_proper, others}
+use Rattle.seg_map.proofs.Common.{cells_of, IsChanged, SameBlock, is_live_in, has_room, live_of, beside_cell}
+use Rattle.seg_map.proofs.Common.{cell_stays, is_proper-IsProper, lay_out_one, is_kept, is_link_byte, is_other}
+use Rattle.seg_map.proofs.Common.{is_pair_node, kept_of, key_at, key_of, links_among, pair_cells, Good, In, PairNode}
+use Rattle.seg_map.proofs.Common.{PairNode-is_pair_node, cells_at, disjoint, is_pair_node-PairNode, lies, node_block}
+use Rattle.seg_map.proofs.Common.{node_place, passing}
+use Rattle.std.proofs.Common.{◌/◌}
 use Rattle.std.proofs.Math.Nat.{le_refl, le_trans, lt_of_lt_of_le}
-use Rattle.std.specs.Prelude.{Option, Some, None, IfSome, if◌then◌else◌}
-use Rattle.std.specs.List.{AllByRecursion, list_any}
-use Rattle.std.proofs.lemmas.Bool.{false≢true, both_ways, cases_Bool, cases_eq, cases_lt, and_parts, or_cases, or_left}
-use Rattle.std.proofs.lemmas.Bool.{or_right, eqb-true, eq-eqb, ne_eqb, leb-true, le-leb, ltb-true, lt-ltb}
-use Rattle.raw_region.specs.Memory.{Cut, Same, SamePlace, bytes_of, read, word_at}
-use Rattle.raw_region.specs.Format.{current}
-use Rattle.raw_region.proofs.Laws.{Same-read, SameBut-Same, SameBut-word}
+use Rattle.std.proofs.lemmas.Bool.{cases_lt}
+use Rattle.std.proofs.lemmas.Bool.{not-true}
+use Rattle.raw_region.proofs.Laws.{Same-read}
 use Rattle.link_tree.specs.Tree.{Cell}
-use Rattle.link_tree.specs.Nodes.{is_in, leads, with_left, with_right, with_red}
-use Rattle.link_tree.proofs.Laws.{all_from}
-use Rattle.offset_link.specs.Link.{link_at}
-use Rattle.offset_link.proofs.Laws.{Same-link, SameBut-link}
-use Rattle.best_fit.specs.Extents.{Extent, LiveSet, handle, end_of, is_proper}
-use Rattle.best_fit.specs.Fit.{others}
-use Rattle.best_fit.specs.FreeTree.{cells_of, is_red}
-use Rattle.best_fit.specs.Heap.{IsChanged, IsRecoloured, SameBlock, is_live_in, is_node_in, is_node_role, has_room}
-use Rattle.best_fit.specs.Heap.{live_of}
-use Rattle.best_fit.proofs.Laws.{beside_cell, cell_stays, is_proper-IsProper, lay_out_one, others-here, others-past}
-use Rattle.seg_map.specs.PairNodes.{is_good, is_kept, is_link_byte, is_other, is_pair_node, kept_of, key_at, key_of}
-use Rattle.seg_map.specs.PairNodes.{links_among, pair_cells}
-use Rattle.seg_map.specs.PairLaws.{Good, Good-is_good, In, PairNode, PairNode-is_pair_node, Place, cells_at, cells_off}
-use Rattle.seg_map.specs.PairLaws.{disjoint, is_pair_node-PairNode, lies, link_parts, links_at, node_block, node_place}
+use Rattle.link_tree.specs.Nodes.{with_left, with_right, with_red}
+use Rattle.best_fit.specs.FreeTree.{is_red}
+use Rattle.best_fit.specs.Heap.{IsRecoloured, is_node_in, is_node_role}
+use Rattle.best_fit.proofs.Laws.{others-here, others-past}
+use Rattle.seg_map.specs.PairNodes.{is_good}
+use Rattle.seg_map.specs.PairLaws.{Good-is_good, Place, cells_off}
+use Rattle.seg_map.specs.PairLaws.{link_parts, links_at}
 
 -- what a setter does to the window
 pub record Changed (len : ℕ) (ns : List ℕ) (c d : Cut) (n : ℕ) : Type 0 where
@@ -43,16 +43,9 @@ pub record LiveAt (xs : List Extent) (h : ℕ) : Type 0 where
   pub at : handle extent ≡ h
 
 pub live_at : (xs : List Extent) (h : ℕ) → list_any (λ (x : Extent). handle x == h) xs ≡ true → LiveAt xs h
-live_at [] h i = absurd (false≢true i)
-live_at (x ∷ xs) h i =
-    elim (or_cases _ _ i) [
-      | inl e ↦ record { extent = x; listed = inl refl; at = eqb-true (handle x) h e }
-      | inr e ↦ let r = live_at xs h e in record { extent = r.extent; listed = inr r.listed; at = r.at }
-    ]
-
-not_true : (b : Bool) → not b ≡ true → b ≡ false
-not_true true h = absurd (false≢true h)
-not_true false h = refl
+live_at xs h i =
+    let p = passing (λ (x : Extent). handle x == h) xs i in
+    record { extent = p.extent; listed = p.listed; at = eqb-true (handle p.extent) h p.passes }
 
 in_own : (n : ℕ) (ns : List ℕ) → is_in n ns ≡ true → (h : ℕ) → is_in h ns ≡ false → h ≡ n → ⊥
 in_own n ns i h o e = both_ways (is_in n ns) (subst (λ k. is_in k ns ≡ false) e o) i
@@ -92,7 +85,7 @@ module _ {len : ℕ} {ns : List ℕ} {c d : Cut} {n : ℕ} (g : PairNode len ns 
   other_colour k t =
       let two = and_parts _ _ t in
       let l = live_at (live_of c.bytes).extents k two.0 in
-      let far = in_own n ns g.listed k (not_true (is_in k ns) two.1) in
+      let far = in_own n ns g.listed k (not-true (is_in k ns) two.1) in
       let at = l.at in
       let w : l.extent.offset + 8 ≡ k - 8 = omega arith in
       subst (λ a. word_at (bytes_of d.bytes) a % 16 ≡ word_at (bytes_of c.bytes) a % 16) w
@@ -162,15 +155,6 @@ module _ {K : Type 0} (value : List ℕ → Option K) (size : ℕ) {ns : List �
 
 -- ---- what a call of the heap needs of a node
 
-any_weaker : (p q : Extent → Bool) (xs : List Extent) → ((x : Extent) → p x ≡ true → q x ≡ true) → list_any p xs ≡ true
-    → list_any q xs ≡ true
-any_weaker p q [] f h = absurd (false≢true h)
-any_weaker p q (x ∷ xs) f h =
-    elim (or_cases _ _ h) [
-      | inl e ↦ or_left _ _ (f x e)
-      | inr e ↦ or_right _ _ (any_weaker p q xs f e)
-    ]
-
 pub any_at : (q : Extent → Bool) (xs : List Extent) (x : Extent) → In x xs → q x ≡ true → list_any q xs ≡ true
 any_at q [] x i h = absurd i
 any_at q (y ∷ ys) x (inl e) h = or_left _ _ (ap q e ∙ h)
@@ -209,7 +193,7 @@ kept_away : (ns : List ℕ) (live : LiveSet) (n k : ℕ) → is_in n ns ≡ true
     → (k < n) ⊎ (n + 16 ≤ k)
 kept_away ns live n k i t =
     let two = and_parts _ _ t in
-    let off = not_true (is_link_byte ns k) two.1 in
+    let off = not-true (is_link_byte ns k) two.1 in
     elim (cases_lt k n) [
       | inl l ↦ inl l
       | inr l ↦ elim (cases_lt k (n + 16)) [
@@ -376,24 +360,15 @@ record InBlock (xs : List Extent) (k : ℕ) : Type 0 where
 
 in_block : (xs : List Extent) (k : ℕ) → list_any (λ (x : Extent). nat_le (handle x) k && nat_lt k (end_of x)) xs ≡ true
     → InBlock xs k
-in_block [] k h = absurd (false≢true h)
-in_block (x ∷ xs) k h =
-    elim (or_cases _ _ h) [
-      | inl e ↦ let two = and_parts _ _ e in record {
-        extent = x;
-        listed = inl refl;
-        low =
-            leb-true (handle x) k two.0;
-        high = ltb-true k (end_of x) two.1;
-      }
-      | inr e ↦ let b = in_block xs k e in record {
-        extent = b.extent;
-        listed = inr b.listed;
-        low = b.low;
-        high =
-            b.high;
-      }
-    ]
+in_block xs k h =
+    let p = passing (λ (x : Extent). nat_le (handle x) k && nat_lt k (end_of x)) xs h in
+    let two = and_parts _ _ p.passes in
+    record {
+      extent = p.extent;
+      listed = p.listed;
+      low = leb-true (handle p.extent) k two.0;
+      high = ltb-true k (end_of p.extent) two.1;
+    }
 
 module _ {len : ℕ} {ns : List ℕ} {c d : Cut} {n : ℕ} {red : Bool} (g : PairNode len ns c n)
     (change : IsRecoloured current c d n red) (long : 16 ≤ len) where
@@ -494,8 +469,7 @@ pub key_room : (size : ℕ) (ns : List ℕ) (c : Cut) (n : ℕ) → is_pair_node
 key_room size ns c n h =
     record {
       proper = proper_of (16 + size) ns c n h;
-      room =
-          room_in (16 + size) ns c n h (16 + size) (le_refl (16 + size));
+      room = room_in (16 + size) ns c n h (16 + size) (le_refl (16 + size));
     }
 
 -- the key that is read

@@ -1,15 +1,14 @@
 -- Bytes of a block that are read.
-use Rattle.std.proofs.Common.{◌≡◌, refl, sym, ap, ◌∙◌, ℕ, ◌+◌, ◌-◌, ◌≤◌, inl, inr, true, ◌&&◌, List, [], ◌∷◌, length}
-use Rattle.std.proofs.Common.{take, drop, arith, ◌==◌, IsTrue}
-use Rattle.std.specs.Prelude.{Option, Some, None, find}
-use Rattle.std.specs.List.{list_any}
-use Rattle.std.proofs.lemmas.Bool.{false≢true, cases_Bool, and_parts, or_cases, eqb-true, eq-eqb, leb-true}
-use Rattle.raw_region.specs.Memory.{bytes_of, part, read}
+use Rattle.seg_map.proofs.Common.{◌≡◌, refl, sym, ap, ◌∙◌, ℕ, ◌+◌, ◌-◌, ◌≤◌, inl, inr, true, ◌&&◌, List, [], ◌∷◌}
+use Rattle.seg_map.proofs.Common.{length, take, drop, arith, ◌==◌, IsTrue, Option, Some, None, find, list_any}
+use Rattle.seg_map.proofs.Common.{false≢true, cases_Bool, and_parts, eqb-true, eq-eqb, leb-true, bytes_of}
+use Rattle.seg_map.proofs.Common.{read, Extent, handle, is_proper, has_room, is_live_in, live_of, is_proper-IsProper}
+use Rattle.seg_map.proofs.Common.{In, disjoint, lies, passing}
+use Rattle.raw_region.specs.Memory.{part}
 use Rattle.raw_region.proofs.Laws.{length-part, part-part, read-part}
-use Rattle.best_fit.specs.Extents.{Extent, handle, holds, is_proper}
-use Rattle.best_fit.specs.Heap.{has_room, is_live_in, live_of, payload_at}
-use Rattle.best_fit.proofs.Laws.{is_proper-IsProper, legal_size}
-use Rattle.seg_map.specs.PairLaws.{In, disjoint, lies}
+use Rattle.best_fit.specs.Extents.{holds}
+use Rattle.best_fit.specs.Heap.{payload_at}
+use Rattle.best_fit.proofs.Laws.{legal_size}
 use Rattle.seg_map.proofs.PairSteps.{any_at}
 
 -- a block with room for so many bytes
@@ -21,24 +20,15 @@ pub record RoomAt (xs : List Extent) (h n : ℕ) : Type 0 where
 
 pub room_at : (xs : List Extent) (h n : ℕ) → list_any (λ (x : Extent). (handle x == h) && holds x n) xs ≡ true
     → RoomAt xs h n
-room_at [] h n e = absurd (false≢true e)
-room_at (x ∷ xs) h n e =
-    elim (or_cases _ _ e) [
-      | inl t ↦ let two = and_parts _ _ t in record {
-        extent = x;
-        listed = inl refl;
-        at =
-            eqb-true (handle x) h two.0;
-        long = leb-true (n + 16) x.len two.1;
-      }
-      | inr r ↦ let b = room_at xs h n r in record {
-        extent = b.extent;
-        listed = inr b.listed;
-        at = b.at;
-        long =
-            b.long;
-      }
-    ]
+room_at xs h n e =
+    let p = passing (λ (x : Extent). (handle x == h) && holds x n) xs e in
+    let two = and_parts _ _ p.passes in
+    record {
+      extent = p.extent;
+      listed = p.listed;
+      at = eqb-true (handle p.extent) h two.0;
+      long = leb-true (n + 16) p.extent.len two.1;
+    }
 
 -- the first block of a handle
 record First (xs : List Extent) (h : ℕ) : Type 0 where
@@ -57,8 +47,7 @@ first_at (y ∷ ys) h x i e =
         | inr j ↦ let r = first_at ys h x j e in record {
           extent = r.extent;
           found = rw f r.found;
-          listed =
-              inr r.listed;
+          listed = inr r.listed;
           at = r.at;
         }
       ]

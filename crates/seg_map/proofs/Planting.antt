@@ -1,31 +1,19 @@
 -- A pair whose node is made enters the map.
-use Rattle.std.proofs.Common.{◌≡◌, refl, sym, ap, subst, ◌∙◌, ℕ, ◌+◌, ◌*◌, ◌%◌, ◌≤◌, inl, inr, true, false, not, ◌&&◌}
-use Rattle.std.proofs.Common.{List, [], ◌∷◌, length, arith, ◌==◌}
-use Rattle.std.specs.Prelude.{Option, Some, None, IfSome}
-use Rattle.std.specs.List.{list_all}
-use Rattle.std.proofs.lemmas.Bool.{and_parts, eqb-true, eq-eqb, or_cases, or_left, or_right}
-use Rattle.raw_region.specs.Format.{current}
-use Rattle.raw_region.specs.Memory.{Cut, bytes_of}
-use Rattle.offset_link.specs.Link.{link_at}
-use Rattle.link_tree.specs.Tree.{IsTree, bits, nodes_of, rises}
-use Rattle.link_tree.specs.Nodes.{has_place, is_in, leads, put}
-use Rattle.link_tree.specs.Ways.{entry_of}
-use Rattle.link_tree.proofs.Laws.{all_at, all_from, entry_same, root_in, tree_same}
-use Rattle.best_fit.specs.Extents.{handle}
-use Rattle.best_fit.specs.FreeTree.{cells_of}
-use Rattle.best_fit.specs.Heap.{LaysOut, live_of}
+use Rattle.seg_map.proofs.Common.{◌≡◌, refl, sym, ap, subst, ◌∙◌, ℕ, ◌+◌, ◌*◌, ◌%◌, ◌≤◌, inl, inr, true, false, not}
+use Rattle.seg_map.proofs.Common.{◌&&◌, List, ◌∷◌, length, arith, Option, Some, None, IfSome}
+use Rattle.seg_map.proofs.Common.{and_parts, eqb-true, eq-eqb, or_cases, or_left, or_right, current, Cut, bytes_of}
+use Rattle.seg_map.proofs.Common.{link_at, bits, nodes_of, has_place, is_in, leads, put, entry_of}
+use Rattle.seg_map.proofs.Common.{all_from, entry_same, handle, cells_of, LaysOut, live_of, Pair}
+use Rattle.seg_map.proofs.Common.{IsPairAt, put_pair, HoldsMap, IsPairIn, nodes_of_pairs, pair_node, comes_before}
+use Rattle.seg_map.proofs.Common.{is_pair_node, key_at, key_of, links_among, own_nodes, stands}
+use Rattle.seg_map.proofs.Common.{stands_before, Good, PairNode-is_pair_node, IsKeyTree, Linked, keys_in}
+use Rattle.seg_map.proofs.Common.{IsBesideMap, IsHeaded, IsLoose, IsPlanted, entry_in}
+use Rattle.link_tree.proofs.Laws.{all_at}
 use Rattle.seg_types.specs.declared.plain.Plain.{Ghosts as Plain}
-use Rattle.seg_map.specs.Map.{Pair, IsPairAt, put_pair}
-use Rattle.seg_map.specs.Places.{HoldsMap, IsPairIn, nodes_of_pairs, pair_node}
-use Rattle.seg_map.specs.PairNodes.{comes_before, is_pair_node, key_at, key_of, links_among, own_nodes, pair_cells}
-use Rattle.seg_map.specs.PairNodes.{stands, stands_before}
-use Rattle.seg_map.specs.PairLaws.{Good, PairNode-is_pair_node, cells_at}
-use Rattle.seg_map.specs.Linking.{CanLink, IsKeyTree, Linked, keys_in}
-use Rattle.seg_map.specs.Changing.{IsBesideMap, IsHeaded, IsLoose, IsPlanted}
-use Rattle.seg_map.specs.Searches.{entry_in}
+use Rattle.seg_map.specs.Linking.{CanLink}
 use Rattle.seg_map.proofs.Beginnings.{beside as not_beside, keys_agree, moved}
 use Rattle.seg_map.proofs.Entering.{HaveKeys, Laws, count_pairs, few_pairs, good, keys, keys_among, listed, pair_block}
-use Rattle.seg_map.proofs.Entering.{pair_parts, tree_among, read_spelled, rising_nodes}
+use Rattle.seg_map.proofs.Entering.{pair_parts, tree_among, read_spelled}
 use Rattle.seg_map.proofs.Searching.{lent_own}
 use Rattle.seg_map.proofs.PairSteps.{target_whole}
 use Rattle.seg_map.proofs.Rewriting.{beside, rewritten}

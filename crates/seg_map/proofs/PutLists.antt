@@ -1,14 +1,9 @@
 -- Pairs that are put, and their nodes.
-use Rattle.std.proofs.Common.{◌≡◌, refl, sym, ap, subst, ◌∙◌, ℕ, suc, ◌⊎◌, inl, inr, Bool, true, false, ◌||◌, not, List}
-use Rattle.std.proofs.Common.{[], ◌∷◌, length}
-use Rattle.std.specs.Prelude.{Option, Some, None}
-use Rattle.std.specs.List.{AllByRecursion}
-use Rattle.std.proofs.lemmas.Bool.{false≢true, cases_Bool, and_from}
-use Rattle.link_tree.specs.Nodes.{has_place, put}
-use Rattle.seg_map.specs.PairLaws.{Chains}
-use Rattle.seg_map.specs.Map.{Pair, is_key, is_rising, pair_at, put_pair}
-use Rattle.seg_map.specs.Places.{nodes_of_pairs, pair_node}
-use Rattle.seg_map.specs.PairNodes.{before_key, comes_before}
+use Rattle.seg_map.proofs.Common.{◌≡◌, refl, sym, ap, subst, ◌∙◌, ℕ, suc, ◌⊎◌, inl, inr, Bool, true, false, ◌||◌, not}
+use Rattle.seg_map.proofs.Common.{List, [], ◌∷◌, length, Option, Some, None, AllByRecursion, false≢true, cases_Bool}
+use Rattle.seg_map.proofs.Common.{has_place, put, Chains, Pair, is_key, is_rising, pair_at, put_pair, nodes_of_pairs}
+use Rattle.seg_map.proofs.Common.{pair_node, before_key, comes_before}
+use Rattle.std.proofs.lemmas.Bool.{and_from}
 use Rattle.seg_map.proofs.Entering.{HaveKeys}
 use Rattle.seg_map.proofs.FoundPairs.{none_above, rising_rest}
 use Rattle.seg_map.proofs.PairLists.{Below, below_rising, rising_below}

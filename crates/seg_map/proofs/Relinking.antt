@@ -1,12 +1,8 @@
 -- What a call of the tree says of the heap that it was lent.
-use Rattle.std.proofs.Common.{◌≡◌, sym, ap, subst, ◌∙◌, ℕ, ◌+◌, ◌*◌, ◌≤◌, List, length, true}
-use Rattle.std.specs.Prelude.{Option}
-use Rattle.raw_region.specs.Memory.{Cut}
-use Rattle.link_tree.specs.Tree.{IsSearchTree, Tree, bits, nodes_of}
-use Rattle.link_tree.specs.Nodes.{leads, put, without}
+use Rattle.seg_map.proofs.Common.{◌≡◌, sym, ap, subst, ◌∙◌, ℕ, ◌+◌, ◌*◌, ◌≤◌, List, length, true, Option, Cut}
+use Rattle.seg_map.proofs.Common.{IsSearchTree, Tree, bits, nodes_of, leads, put, without, comes_before, is_pair_node}
+use Rattle.seg_map.proofs.Common.{kept_of, pair_cells, IsKeyTree, Linked, Unlinked, keys_in}
 use Rattle.seg_types.specs.declared.plain.Plain.{Ghosts as Plain}
-use Rattle.seg_map.specs.PairNodes.{comes_before, is_pair_node, kept_of, pair_cells}
-use Rattle.seg_map.specs.Linking.{IsKeyTree, Linked, Unlinked, keys_in}
 use Rattle.seg_map.proofs.Frames.{own_stays}
 
 module _ {K : Type 0} (k : Plain K) (ns ms : List ℕ) (c d : Cut) (root : Option ℕ) (node : ℕ) (top : Option ℕ)
@@ -33,8 +29,7 @@ module _ {K : Type 0} (k : Plain K) (ns ms : List ℕ) (c d : Cut) (root : Optio
   unlinked tree few = record {
     kept = all_kept;
     tree = λ t h. let r = tree t h.tree in (r.0, moved r.0 r.1, r.2);
-    few =
-        λ t h. few t h.tree;
+    few = λ t h. few t h.tree;
   }
 
   pub linked : ((t : Tree) → IsSearchTree (comes_before k.order (keys_in k ns c)) (pair_cells (16 + k.SIZE) ns c) root t
@@ -46,6 +41,5 @@ module _ {K : Type 0} (k : Plain K) (ns ms : List ℕ) (c d : Cut) (root : Optio
   linked tree few = record {
     kept = all_kept;
     tree = λ t h. let r = tree t h.tree in (r.0, moved r.0 r.1, r.2);
-    few =
-        λ t h. few t h.tree;
+    few = λ t h. few t h.tree;
   }

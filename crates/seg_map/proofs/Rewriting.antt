@@ -1,27 +1,14 @@
 -- The tree of a map is changed, and its three words are written.
-use Rattle.std.proofs.Common.{◌≡◌, sym, ap, subst, ◌∙◌, ℕ, ◌+◌, ◌%◌, ◌<◌, ◌≤◌, ◌≢◌, ◌⊎◌, inl, inr, true, false, List}
-use Rattle.std.proofs.Common.{[], ◌∷◌, length, arith, IsTrue}
-use Rattle.std.specs.Prelude.{Option, Some, None}
-use Rattle.std.proofs.lemmas.Bool.{false≢true, cases_eq}
-use Rattle.raw_region.specs.Format.{current}
-use Rattle.raw_region.specs.Memory.{Cut, Same, bytes_of}
-use Rattle.raw_region.proofs.Laws.{SamePlace-trans, Same-trans}
-use Rattle.link_tree.specs.Tree.{Tree, leaf, fork, nodes_of, root_of}
-use Rattle.link_tree.specs.Nodes.{is_in, leads}
-use Rattle.link_tree.proofs.Laws.{tree_same}
-use Rattle.best_fit.specs.Exchange.{SameBlockBut}
-use Rattle.best_fit.specs.Extents.{Extent, handle, end_of}
-use Rattle.best_fit.specs.Fit.{others}
-use Rattle.best_fit.specs.FreeTree.{cells_of}
-use Rattle.best_fit.specs.Heap.{IsHeap, Keeps, SameBlock, extent_at, has_room, live_of}
-use Rattle.best_fit.proofs.Laws.{but-trans, changed-keeps, changed-live, laid-heap, roomy, written-but}
+use Rattle.seg_map.proofs.Common.{◌≡◌, sym, ap, subst, ◌∙◌, ℕ, ◌+◌, ◌%◌, ◌<◌, ◌≤◌, ◌≢◌, ◌⊎◌, inl, inr, true, false}
+use Rattle.seg_map.proofs.Common.{List, [], ◌∷◌, length, arith, IsTrue, Option, Some, None, false≢true, cases_eq}
+use Rattle.seg_map.proofs.Common.{current, Cut, Same, bytes_of, SamePlace-trans, Same-trans, Tree, leaf, fork}
+use Rattle.seg_map.proofs.Common.{nodes_of, root_of, is_in, leads, tree_same, SameBlockBut, Extent, handle, end_of}
+use Rattle.seg_map.proofs.Common.{others, cells_of, IsHeap, Keeps, SameBlock, extent_at, has_room, live_of}
+use Rattle.seg_map.proofs.Common.{changed-keeps, changed-live, laid-heap, roomy, Pair, is_rising, HoldsMap, IsPairIn}
+use Rattle.seg_map.proofs.Common.{nodes_of_pairs, is_pair_node, kept_of, pair_cells, Good, cells_at, PairNode}
+use Rattle.seg_map.proofs.Common.{PairNode-is_pair_node, is_pair_node-PairNode, IsKeyTree, IsBesideMap, IsHeaded}
+use Rattle.best_fit.proofs.Laws.{but-trans, written-but}
 use Rattle.seg_types.specs.declared.plain.Plain.{Ghosts as Plain}
-use Rattle.seg_map.specs.Map.{Pair, is_rising}
-use Rattle.seg_map.specs.Places.{HoldsMap, IsPairIn, nodes_of_pairs}
-use Rattle.seg_map.specs.PairNodes.{is_pair_node, kept_of, pair_cells}
-use Rattle.seg_map.specs.PairLaws.{Good, cells_at, PairNode, PairNode-is_pair_node, is_pair_node-PairNode}
-use Rattle.seg_map.specs.Linking.{IsKeyTree}
-use Rattle.seg_map.specs.Changing.{IsBesideMap, IsHeaded}
 use Rattle.seg_map.proofs.Entering.{AreAt, AreIn, Laws, found_in, other_block, pair_parts}
 use Rattle.seg_map.proofs.PairSteps.{all_in, block_apart}
 use Rattle.seg_map.proofs.Frames.{kept_block, kept_inside, kept_keeps, live_stays}

@@ -1,29 +1,24 @@
 -- The pairs of a map that are lent to a call of the tree, and what a search among them finds.
-use Rattle.std.proofs.Common.{◌≡◌, refl, sym, ap, subst, ◌∙◌, ℕ, ◌+◌, ◌*◌, ◌≤◌, Bool, List, [], ◌∷◌, length, true}
-use Rattle.std.proofs.Common.{false, arith, not, IsTrue}
-use mathlib.Core.List.{reverse}
-use Rattle.std.specs.Prelude.{Option, Some, None, IfSome, find, option_and_then, option_map, if◌then◌else◌}
-use Rattle.std.specs.List.{AllByRecursion, last_or}
-use Rattle.raw_region.specs.Memory.{Cut, bytes_of, read}
-use Rattle.offset_link.specs.Link.{link_at}
-use Rattle.link_tree.specs.Tree.{IsSearchTree, Tree, bits, nodes_of}
-use Rattle.link_tree.specs.Nodes.{first_not, last_before}
+use Rattle.seg_map.proofs.Common.{◌≡◌, refl, sym, ap, subst, ◌∙◌, ℕ, ◌+◌, ◌*◌, ◌≤◌, Bool, List, [], ◌∷◌, length, true}
+use Rattle.seg_map.proofs.Common.{false, arith, not, IsTrue, reverse, Option, Some, None, IfSome, find, option_map}
+use Rattle.seg_map.proofs.Common.{if◌then◌else◌, AllByRecursion, last_or, Cut, bytes_of, read, link_at, IsSearchTree}
+use Rattle.seg_map.proofs.Common.{Tree, bits, nodes_of, first_not, last_before, entry_of, has_room, live_of}
+use Rattle.seg_map.proofs.Common.{found-room, room-less, IsKeyTree, keys_in, Pair, IsPairAt, is_rising, pair_at}
+use Rattle.seg_map.proofs.Common.{Chains, comes_before, own_nodes, pair_cells, stands_before, HoldsMap, IsPairIn}
+use Rattle.seg_map.proofs.Common.{final_pair, first_pair, is_passed, last_pair, pair_node, entry_in, exit_in}
+use Rattle.std.specs.Prelude.{option_and_then}
 use Rattle.link_tree.specs.Searching.{path_length}
-use Rattle.link_tree.specs.Ways.{entry_of, exit_of}
-use Rattle.best_fit.specs.Heap.{has_room, live_of}
-use Rattle.best_fit.proofs.Laws.{found-room, room-less}
+use Rattle.link_tree.specs.Ways.{exit_of}
 use Rattle.seg_types.specs.declared.plain.Plain.{Ghosts as Plain}
-use Rattle.seg_map.specs.Linking.{IsKeyTree, keys_in}
-use Rattle.seg_map.specs.Map.{Pair, IsPairAt, is_rising, pair_at}
-use Rattle.seg_map.specs.PairLaws.{Chains}
-use Rattle.seg_map.specs.PairNodes.{both, comes_before, own_nodes, pair_cells, stands_before}
-use Rattle.seg_map.specs.Places.{HoldsMap, IsPairIn, IsSomeMap, SearchSteps, final_pair, first_pair, is_passed, item_of}
-use Rattle.seg_map.specs.Places.{last_pair, pair_node, value_of_pair}
-use Rattle.seg_map.specs.Searches.{FindsExit, IsOpened, IsRead, LooksFor, LooksUp, entry_in, exit_in, item_at}
+use Rattle.seg_map.specs.PairNodes.{both}
+use Rattle.seg_map.specs.Places.{IsSomeMap, SearchSteps, item_of}
+use Rattle.seg_map.specs.Places.{value_of_pair}
+use Rattle.seg_map.specs.Searches.{FindsExit, IsOpened, IsRead, LooksFor, LooksUp, item_at}
 use Rattle.seg_map.specs.Searches.{last_path, node_with, path_in, reading_steps}
 use Rattle.seg_map.proofs.Entering.{AreAt, AreIn, HaveKeys, Laws, first_node, key_tree, keys, last_node, length-nodes}
 use Rattle.seg_map.proofs.Entering.{own, pair_parts, read_spelled, value_of}
-use Rattle.seg_map.proofs.FoundLists.{all_reversed, last_mapped}
+use Rattle.seg_map.proofs.Beginnings.{narrowed}
+use Rattle.seg_map.proofs.FoundLists.{all_reversed, each, last_mapped}
 use Rattle.seg_map.proofs.FoundPairs.{by_key, pair_by_key}
 
 module _ {K V : Type 0} {kp : Plain K} {vp : Plain V} (laws : Laws kp) (c : Cut) {h at : ℕ} {ps : List (Pair K V)}
@@ -92,11 +87,6 @@ find_good P test (x ∷ xs) a = by_test (find_good P test xs a.1) (test x)
     by_test rest true = a.0
     by_test rest false = rest
 
-read_keys : {K V : Type 0} (k : Plain K) (v : Plain V) (c : Cut) (by : ℕ → Option K) (ps : List (Pair K V))
-    → AllByRecursion (IsRead k v c by) ps → HaveKeys by ps
-read_keys k v c by [] a = tt
-read_keys k v c by (p ∷ ps) a = (a.0.key, read_keys k v c by ps a.1)
-
 last_good : {A : Type 0} (P : A → Type 0) (o : Option A) (xs : List A) → IfSome o P → AllByRecursion P xs
     → IfSome (last_or o xs) P
 last_good P o [] h a = h
@@ -137,7 +127,7 @@ module _ {K V : Type 0} {k : Plain K} {v : Plain V} {now c : Cut} {h at : ℕ} {
           node = λ ps s. first s.map.tree.tree (o.tree ps s).tree
               ∙ ap (first_not (ahead past key)) s.map.tree.lists
               ∙ first_node k.order (keys_in k own now) past key ps
-              (read_keys k v c (keys_in k own now) ps (o.pairs ps s));
+              (each ps (o.pairs ps s) (λ p r. r.key));
           exact = path_is;
           most = few most;
         }
@@ -152,7 +142,7 @@ module _ {K V : Type 0} {k : Plain K} {v : Plain V} {now c : Cut} {h at : ℕ} {
           node = λ ps s. last s.map.tree.tree (o.tree ps s).tree
               ∙ ap (last_before (ahead past key)) s.map.tree.lists
               ∙ last_node k.order (keys_in k own now) past key ps
-              (read_keys k v c (keys_in k own now) ps (o.pairs ps s));
+              (each ps (o.pairs ps s) (λ p r. r.key));
           exact = path_is;
           most = few most;
         }
@@ -184,11 +174,6 @@ module _ {K V : Type 0} {k : Plain K} {v : Plain V} {now c : Cut} {h at : ℕ} {
       narrowed r found (λ n. start ≡ exit_in k c n s.map.tree.tree) same
       (subst (λ (ks : ℕ → Option K). IfSome found (λ n. start ≡ exit_of (comes_before k.order ks) n s.map.tree.tree))
       (keys_are ps s) (exit s.map.tree.tree (o.tree ps s).tree))
-    where
-      -- what is said of the node that was found is said of what is left of it
-      narrowed : (r f : Option ℕ) (P : ℕ → Type 0) → IfSome r (λ n. f ≡ Some n) → IfSome f P → IfSome r P
-      narrowed None f P e h = tt
-      narrowed (Some n) f P e h = let k = rw e at h in k
 
 -- ---- what is read of it
 
@@ -231,8 +216,7 @@ module _ {K V : Type 0} {k : Plain K} {v : Plain V} {c : Cut} {h at : ℕ} {pair
     {path : Tree → ℕ} {found : Option ℕ} {taken : ℕ} (f : Finds k v c h at pair path found taken) where
   pub found_room : IsSomeMap k v c.bytes h at
       → IfSome found (λ n. IsTrue (has_room (live_of c.bytes) n (16 + k.SIZE + v.SIZE)))
-  found_room s =
-      rw (f.node s.0 s.1) (room_read k v c f.keys (pair s.0) (f.good s.0 s.1))
+  found_room s = rw (f.node s.0 s.1) (room_read k v c f.keys (pair s.0) (f.good s.0 s.1))
 
   pub key_room : IsSomeMap k v c.bytes h at
       → IfSome found (λ n. IsTrue (has_room (live_of c.bytes) n (16 + k.SIZE)))

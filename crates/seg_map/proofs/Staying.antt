@@ -1,24 +1,12 @@
 -- A map whose blocks stay stays.
-use Rattle.std.proofs.Common.{◌≡◌, sym, ap, subst, ◌∙◌, ℕ, ◌+◌, ◌-◌, ◌%◌, ◌≤◌, inl, inr, true, List, [], ◌∷◌, length}
-use Rattle.std.proofs.Common.{arith, IsTrue}
-use Rattle.std.specs.Prelude.{Some}
-use Rattle.std.specs.List.{AllByRecursion}
-use Rattle.std.proofs.lemmas.Bool.{false≢true, or_cases, eqb-true}
-use Rattle.raw_region.specs.Format.{current}
-use Rattle.raw_region.specs.Memory.{Memory, Cut, Same, bytes_of, word_at}
-use Rattle.raw_region.proofs.Laws.{Has-same, Same-word}
-use Rattle.offset_link.proofs.Laws.{Same-link}
-use Rattle.link_tree.specs.Tree.{nodes_of}
-use Rattle.link_tree.specs.Nodes.{is_in}
-use Rattle.link_tree.proofs.Laws.{holds_same}
-use Rattle.best_fit.specs.Extents.{Extent, LiveSet, handle, end_of}
-use Rattle.best_fit.specs.FreeTree.{cells_of}
-use Rattle.best_fit.specs.Heap.{IsHeap, SameBlock, extent_at, has_room, live_of}
-use Rattle.best_fit.proofs.Laws.{cell_stays}
+use Rattle.seg_map.proofs.Common.{◌≡◌, refl, sym, ap, subst, ◌∙◌, ℕ, ◌+◌, ◌-◌, ◌%◌, ◌≤◌, inl, inr, true, List, [], ◌∷◌}
+use Rattle.seg_map.proofs.Common.{length, arith, IsTrue, Some, AllByRecursion, false≢true, or_cases, eqb-true, current}
+use Rattle.seg_map.proofs.Common.{Memory, Cut, Same, bytes_of, word_at, Has-same, Same-word, Same-link, nodes_of}
+use Rattle.seg_map.proofs.Common.{is_in, holds_same, Extent, LiveSet, handle, cells_of, IsHeap, SameBlock}
+use Rattle.seg_map.proofs.Common.{extent_at, has_room, live_of, cell_stays, Pair, IsPairAt, is_rising, HoldsMap}
+use Rattle.seg_map.proofs.Common.{IsPairIn, nodes_of_pairs, pair_node}
 use Rattle.seg_types.specs.declared.plain.Plain.{Ghosts as Plain}
-use Rattle.seg_map.specs.Map.{Pair, IsPairAt}
-use Rattle.seg_map.specs.Places.{HoldsMap, IsPairIn, nodes_of_pairs, pair_node}
-use Rattle.seg_map.proofs.Entering.{AreAt, AreIn, Laws, pair_parts}
+use Rattle.seg_map.proofs.Entering.{AreAt, AreIn, Laws, length-nodes, pair_parts}
 use Rattle.seg_map.proofs.PairSteps.{same_red}
 
 -- the fields of a node in a block that stays
@@ -72,6 +60,39 @@ pub record Still (c e : Cut) (x : Extent) : Type 0 where
   pub found : extent_at (live_of e.bytes) (handle x) ≡ Some x
   pub same : SameBlock (bytes_of c.bytes) (bytes_of e.bytes) x
 
+-- pairs in the same blocks are a map where the tree and the words stay
+unfoldable pub map_over : {K V : Type 0} {kp : Plain K} {vp : Plain V} (c e : Cut) {h at : ℕ} {ps : List (Pair K V)}
+    (s : HoldsMap kp vp c.bytes h at ps) → IsHeap current e.bytes → IsTrue (has_room (live_of e.bytes) h (at + 24))
+    → Same (bytes_of c.bytes) (bytes_of e.bytes) (h + at) (h + at + 24)
+    → ((m : ℕ) → is_in m (nodes_of s.map.tree.tree) ≡ true
+    → cells_of (bytes_of e.bytes) m ≡ cells_of (bytes_of c.bytes) m)
+    → (qs : List (Pair K V)) → nodes_of_pairs ps ≡ nodes_of_pairs qs → is_rising kp.order qs ≡ true
+    → AreIn kp vp (live_of e.bytes) h qs → AreAt kp vp (bytes_of e.bytes) qs → HoldsMap kp vp e.bytes h at qs
+map_over c e {h} {at} {ps} s heap room words cells qs nodes rising blocks bytes =
+    record {
+      heap = heap;
+      map = record {
+        count = Same-word _ _ _ _ (h + at + 8) words (omega arith) (omega arith) ∙ s.map.count
+            ∙ sym (length-nodes ps) ∙ ap (λ (ms : List ℕ). length ms) nodes ∙ length-nodes qs;
+        third = Same-word _ _ _ _ (h + at + 16) words (omega arith) (omega arith) ∙ s.map.third;
+        tree = record {
+          tree = s.map.tree.tree;
+          linked = record {
+            root = Same-link _ _ _ _ (h + at) words (omega arith) (omega arith) ∙ s.map.tree.linked.root;
+            holds = holds_same (cells_of (bytes_of c.bytes))
+                (cells_of (bytes_of e.bytes)) s.map.tree.tree cells s.map.tree.linked.holds;
+          };
+          red_black = s.map.tree.red_black;
+          lists = s.map.tree.lists ∙ nodes;
+        };
+        pairs = bytes;
+      };
+      aligned = s.aligned;
+      room = room;
+      rising = rising;
+      pairs = blocks;
+    }
+
 module _ {K V : Type 0} {kp : Plain K} {vp : Plain V} (kl : Laws kp) (vl : Laws vp) (c e : Cut) {h at : ℕ}
     {ps : List (Pair K V)} (s : HoldsMap kp vp c.bytes h at ps) (heap : IsHeap current e.bytes)
     (room : IsTrue (has_room (live_of e.bytes) h (at + 24)))
@@ -108,26 +129,6 @@ module _ {K V : Type 0} {kp : Plain K} {vp : Plain V} (kl : Laws kp) (vl : Laws 
       (block_cells (bytes_of c.bytes) (bytes_of e.bytes) n.pair.node n.holds.1.same (omega arith))
 
   unfoldable pub map_stays : HoldsMap kp vp e.bytes h at ps
-  map_stays =
-      record {
-        heap = heap;
-        map = record {
-          count = Same-word _ _ _ _ (h + at + 8) words (omega arith) (omega arith) ∙ s.map.count;
-          third = Same-word _ _ _ _ (h + at + 16) words (omega arith) (omega arith) ∙ s.map.third;
-          tree = record {
-            tree = s.map.tree.tree;
-            linked = record {
-              root = Same-link _ _ _ _ (h + at) words (omega arith) (omega arith) ∙ s.map.tree.linked.root;
-              holds = holds_same (cells_of (bytes_of c.bytes))
-                  (cells_of (bytes_of e.bytes)) s.map.tree.tree cells s.map.tree.linked.holds;
-            };
-            red_black = s.map.tree.red_black;
-            lists = s.map.tree.lists;
-          };
-          pairs = pairs_at ps s.pairs s.map.pairs blocks;
-        };
-        aligned = s.aligned;
-        room = room;
-        rising = s.rising;
-        pairs = pairs_in ps s.pairs blocks;
-      }
+  unfolding map_over
+  map_stays = map_over c e s heap room words cells ps refl s.rising (pairs_in ps s.pairs blocks)
+      (pairs_at ps s.pairs s.map.pairs blocks)

@@ -4,17 +4,17 @@ use Rattle.std.proofs.Common.{true, false, ◌&&◌, not, List, [], ◌∷◌, l
 use Rattle.std.specs.Prelude.{Option, Some, None}
 use Rattle.std.specs.List.{list_all, list_any}
 use Rattle.std.proofs.lemmas.Bool.{false≢true, both_ways, and_parts, and_from, or_cases, or_left, or_right, eqb-true}
-use Rattle.std.proofs.lemmas.Bool.{eq-eqb, leb-true, cond-true, cond-false}
+use Rattle.std.proofs.lemmas.Bool.{eq-eqb, leb-true, cond-true, cond-false, not-true}
 use Rattle.raw_region.specs.Memory.{Cut, bytes_of}
 use Rattle.block_tags.specs.declared.tile.Role.{Role}
 use Rattle.block_tags.specs.declared.tile.Role.TheVariants.{Object, Index, Storage, Node}
 use Rattle.link_tree.specs.Tree.{Cell}
 use Rattle.link_tree.specs.Nodes.{is_in, leads}
-use Rattle.best_fit.specs.Extents.{Extent, LiveSet, handle, holds, is_proper, proper_from}
+use Rattle.best_fit.specs.Extents.{Extent, LiveSet, handle, is_proper, proper_from}
 use Rattle.best_fit.specs.FreeTree.{cells_of}
 use Rattle.best_fit.specs.Heap.{live_of}
 use Rattle.best_fit.specs.Table.{same_role, serves}
-use Rattle.best_fit.proofs.Laws.{is_proper-IsProper, legal_size, proper_from-IsFirst, proper_from-reaches, IsHole}
+use Rattle.best_fit.proofs.Laws.{is_proper-IsProper, legal_size, proper_from-IsFirst, proper_from-reaches}
 use Rattle.link_tree.proofs.Laws.{all_at}
 use Rattle.seg_map.specs.PairNodes.{is_block_in, links_among, is_good, is_pair_node, pair_cells, before_key}
 use Rattle.seg_map.specs.PairNodes.{comes_before, stands, stands_before, no_cell}
@@ -39,20 +39,16 @@ pub record Lies (from : ℕ) (x : Extent) (to : ℕ) : Type 0 where
   pub long : 32 ≤ x.len
   pub whole : x.offset % 16 ≡ 0
 
-hole_reaches : (a b : ℕ) → IsHole a b → a ≤ b
-hole_reaches a b (inl e) = omega arith
-hole_reaches a b (inr l) = omega arith
-
 pub lies : (from : ℕ) (xs : List Extent) (to : ℕ) (x : Extent) → IsTrue (proper_from from xs to) → In x xs
     → Lies from x to
 lies from [] to x h i = absurd i
 lies from (y ∷ ys) to x h (inl e) =
-    let f = proper_from-IsFirst from y ys to h in let a = hole_reaches from y.offset f.hole in let b =
+    let f = proper_from-IsFirst from y ys to h in let a = f.hole in let b =
     proper_from-reaches (y.offset + y.len) ys to f.rest in
     let P : Extent → Type 0 = λ (z : Extent). Lies from z to in
-    subst P e (record { low = a; high = b; long = f.block.long; whole = f.block.offset })
+    subst P e (record { low = omega arith; high = b; long = f.block.long; whole = f.block.offset })
 lies from (y ∷ ys) to x h (inr i) =
-    let f = proper_from-IsFirst from y ys to h in let a = hole_reaches from y.offset f.hole in
+    let f = proper_from-IsFirst from y ys to h in let a = f.hole in
     let r = lies (y.offset + y.len) ys to x f.rest i in let low = r.low in
     record { low = omega arith; high = r.high; long = r.long; whole = r.whole }
 
@@ -80,7 +76,7 @@ disjoint from (z ∷ zs) to x y h (inr i) (inr j) = disjoint (z.offset + z.len) 
 few : (from : ℕ) (xs : List Extent) (to : ℕ) → IsTrue (proper_from from xs to) → length xs + from ≤ to
 few from [] to h = let r = proper_from-reaches from [] to h in omega arith
 few from (x ∷ xs) to h =
-    let f = proper_from-IsFirst from x xs to h in let a = hole_reaches from x.offset f.hole in let long =
+    let f = proper_from-IsFirst from x xs to h in let a = f.hole in let long =
     f.block.long in
     let r = few (x.offset + x.len) xs to f.rest in omega arith
 
@@ -104,35 +100,33 @@ is_node Index e = absurd (false≢true e)
 is_node Storage e = absurd (false≢true e)
 is_node Node e = refl
 
-block_here : (len : ℕ) (x : Extent) (xs : List Extent) (n : ℕ) → ((handle x == n) && serves x Node len) ≡ true
-    → Block len (x ∷ xs) n
-block_here len x xs n h =
-    let two = and_parts _ _ h in
-    let s = and_parts _ _ two.1 in
-    record {
-      extent = x;
-      listed = inl refl;
-      at = eqb-true (handle x) n two.0;
-      node = is_node x.role s.0;
-      holds =
-          leb-true (len + 16) x.len s.1;
-    }
+-- an extent of the list that passes a test that some of them passes
+pub record Passing (test : Extent → Bool) (xs : List Extent) : Type 0 where
+  pub extent : Extent
+  pub listed : In extent xs
+  pub passes : test extent ≡ true
+
+pub passing : (test : Extent → Bool) (xs : List Extent) → list_any test xs ≡ true → Passing test xs
+passing test [] h = absurd (false≢true h)
+passing test (x ∷ xs) h =
+    elim (or_cases _ _ h) [
+      | inl e ↦ record { extent = x; listed = inl refl; passes = e }
+      | inr e ↦ let p = passing test xs e in
+          record { extent = p.extent; listed = inr p.listed; passes = p.passes }
+    ]
 
 pub block_at : (len : ℕ) (xs : List Extent) (n : ℕ) → list_any
     (λ (x : Extent). (handle x == n) && serves x Node len) xs ≡ true → Block len xs n
-block_at len [] n h = absurd (false≢true h)
-block_at len (x ∷ xs) n h =
-    elim (or_cases _ _ h) [
-      | inl e ↦ block_here len x xs n e
-      | inr e ↦ let b = block_at len xs n e in record {
-        extent = b.extent;
-        listed = inr b.listed;
-        at = b.at;
-        node =
-            b.node;
-        holds = b.holds;
-      }
-    ]
+block_at len xs n h =
+    let p = passing (λ (x : Extent). (handle x == n) && serves x Node len) xs h in
+    let two = and_parts _ _ p.passes in let s = and_parts _ _ two.1 in
+    record {
+      extent = p.extent;
+      listed = p.listed;
+      at = eqb-true (handle p.extent) n two.0;
+      node = is_node p.extent.role s.0;
+      holds = leb-true (len + 16) p.extent.len s.1;
+    }
 
 -- ---- the parts of the test
 
@@ -234,8 +228,7 @@ links_at len ns c n g = all_at (links_among (bytes_of c.bytes) ns) ns n g.good.l
 pub link_parts : {len : ℕ} {ns : List ℕ} {c : Cut} {n : ℕ} → PairNode len ns c n
     → (leads (λ k. is_in k ns) (cells_of (bytes_of c.bytes) n).left ≡ true)
     × (leads (λ k. is_in k ns) (cells_of (bytes_of c.bytes) n).right ≡ true)
-link_parts {len} {ns} {c} {n} g =
-    and_parts _ _ (links_at len ns c n g)
+link_parts {len} {ns} {c} {n} g = and_parts _ _ (links_at len ns c n g)
 
 leads_to_node : (len : ℕ) (ns : List ℕ) (c : Cut) (o : Option ℕ) → Good len ns c → leads (λ k. is_in k ns) o ≡ true
     → leads (is_pair_node len ns c) o ≡ true
@@ -280,10 +273,6 @@ module _ {K : Type 0} (less : K → K → Bool) where
   key_transitive on (Some x) (Some y) None h k = absurd (false≢true k)
   key_transitive on (Some x) (Some y) (Some z) h k = on x y z h k
 
-  not_true : (b : Bool) → not b ≡ true → b ≡ false
-  not_true true h = absurd (false≢true h)
-  not_true false h = refl
-
   pub key_agrees : Chains less → (past : Bool) (key : K) (x y : Option K)
       → before_key less x y ≡ true → stands less past key y ≡ true → stands less past key x ≡ true
   key_agrees on past key None y h s = absurd (false≢true h)
@@ -292,7 +281,7 @@ module _ {K : Type 0} (less : K → K → Bool) where
   key_agrees on true key (Some x) (Some y) h s = by_test (less key x) refl
     where
       by_test : (t : Bool) → less key x ≡ t → not (less key x) ≡ true
-      by_test true e = absurd (both_ways (less key y) (not_true (less key y) s) (on key x y e h))
+      by_test true e = absurd (both_ways (less key y) (not-true (less key y) s) (on key x y e h))
       by_test false e = ap not e
 
 pub comes_irreflexive : {K : Type 0} (less : K → K → Bool) → IsStrict less → (keys : ℕ → Option K) (n : ℕ)

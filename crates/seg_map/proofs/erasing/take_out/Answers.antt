@@ -1,7 +1,5 @@
 -- The node leaves the tree, and the three words say so.
-use Rattle.std.proofs.Common.{◌+◌, arith}
-use Rattle.best_fit.specs.Heap.{live_of}
-use Rattle.best_fit.proofs.Laws.{room-less}
+use Rattle.seg_map.proofs.Common.{◌+◌, arith, live_of, room-less}
 use Rattle.seg_map.proofs.Entering.{Laws, laws_of}
 use Rattle.seg_map.proofs.Leaving.{can_unlink, few_all, live_left, taken, top_whole}
 use Rattle.seg_map.proofs.PairLists.{removed_length}

@@ -1,5 +1,5 @@
 -- What the search has found is looked at once more.
-use Rattle.std.proofs.Common.{false, arith}
+use Rattle.seg_map.proofs.Common.{false, arith}
 use Rattle.seg_map.proofs.Searching.{exit_is, finds_first, key_room, looked_for}
 use Rattle.seg_map.proofs.finding.find_out.Goals as goal
 

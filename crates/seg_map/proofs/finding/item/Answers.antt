@@ -1,7 +1,5 @@
 -- The key lies before the value.
-use Rattle.std.proofs.Common.{◌+◌, arith}
-use Rattle.best_fit.specs.Heap.{live_of}
-use Rattle.best_fit.proofs.Laws.{room-less}
+use Rattle.seg_map.proofs.Common.{◌+◌, arith, live_of, room-less}
 use Rattle.seg_map.proofs.finding.item.Goals as goal
 
 pub value_at-requires-clause-room : goal.value_at-requires-clause-room

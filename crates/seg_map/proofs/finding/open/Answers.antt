@@ -1,7 +1,5 @@
 -- The pairs of the map are a search tree.
-use Rattle.std.proofs.Common.{◌+◌, arith}
-use Rattle.best_fit.specs.Heap.{live_of}
-use Rattle.best_fit.proofs.Laws.{room-less}
+use Rattle.seg_map.proofs.Common.{◌+◌, arith, live_of, room-less}
 use Rattle.seg_map.proofs.Entering.{laws_of}
 use Rattle.seg_map.proofs.Searching.{lent_tree, opened}
 use Rattle.seg_map.proofs.finding.open.Goals as goal

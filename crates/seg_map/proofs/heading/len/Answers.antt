@@ -1,8 +1,5 @@
 -- The count is the second word.
-use Rattle.std.proofs.Common.{◌≡◌, ap, ◌∙◌, ◌+◌, arith}
-use Rattle.raw_region.specs.Memory.{bytes_of, word_at}
-use Rattle.best_fit.specs.Heap.{live_of}
-use Rattle.best_fit.proofs.Laws.{room-less}
+use Rattle.seg_map.proofs.Common.{◌≡◌, ap, ◌∙◌, ◌+◌, arith, bytes_of, word_at, live_of, room-less}
 use Rattle.seg_map.proofs.Payloads.{small}
 use Rattle.seg_map.proofs.heading.len.Goals as goal
 

@@ -1,8 +1,5 @@
 -- Three words that follow each other.
-use Rattle.std.proofs.Common.{◌≡◌, ◌+◌, arith}
-use Rattle.raw_region.specs.Format.{current}
-use Rattle.best_fit.specs.Heap.{live_of}
-use Rattle.best_fit.proofs.Laws.{changed-room, room-less}
+use Rattle.seg_map.proofs.Common.{◌≡◌, ◌+◌, arith, live_of, changed-room, room-less}
 use Rattle.seg_map.proofs.Heads.{headed}
 use Rattle.seg_map.proofs.Payloads.{small}
 use Rattle.seg_map.proofs.heading.write_head.Goals as goal

@@ -1,6 +1,5 @@
 -- What is known of the nodes is known of the heap.
-use Rattle.std.proofs.Common.{◌≡◌, subst, ◌-◌, arith}
-use Rattle.seg_map.specs.Linking.{Linked}
+use Rattle.seg_map.proofs.Common.{◌≡◌, subst, ◌-◌, arith, Linked}
 use Rattle.seg_map.proofs.Relinking.{linked}
 use Rattle.seg_map.proofs.linking.plant.Goals as goal
 

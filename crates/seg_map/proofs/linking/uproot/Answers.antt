@@ -1,6 +1,5 @@
 -- What is known of the nodes is known of the heap.
-use Rattle.std.proofs.Common.{◌≡◌, subst, ◌-◌, arith}
-use Rattle.seg_map.specs.Linking.{Unlinked}
+use Rattle.seg_map.proofs.Common.{◌≡◌, subst, ◌-◌, arith, Unlinked}
 use Rattle.seg_map.proofs.Relinking.{unlinked}
 use Rattle.seg_map.proofs.linking.uproot.Goals as goal
 

@@ -1,8 +1,5 @@
 -- The links, the key and the value are written one after another.
-use Rattle.raw_region.specs.Format.{current}
-use Rattle.block_tags.specs.declared.tile.Role.TheVariants.{Node}
-use Rattle.best_fit.specs.Heap.{IsAllocated}
-use Rattle.seg_map.specs.Map.{node_len}
+use Rattle.seg_map.proofs.Common.{current, Node, IsAllocated, node_len}
 use Rattle.seg_map.proofs.Entering.{Laws, laws_of}
 use Rattle.seg_map.proofs.Making.{made, room_key, room_left, room_right, room_value}
 use Rattle.seg_map.proofs.putting.make_node.Given.{Over}
@@ -15,8 +12,7 @@ kl g = let m = g.met.K.Plain in laws_of g.K.Plain m.spells m.reads m.irreflexive
 -- the block is as long as a node
 new : (g : Over) (c : In_ok-node g) → IsAllocated current c.args.heap.now c.allocate.new.self
     (node_len g.K.Plain.SIZE g.V.Plain.SIZE) Node c.in_ok-node.node
-new g c =
-    rw (c.SIZE.ensures, c.SIZE-2.ensures) at c.in_ok-node.ensures.answer
+new g c = rw (c.SIZE.ensures, c.SIZE-2.ensures) at c.in_ok-node.ensures.answer
 
 pub set_link-requires-clause-room : goal.set_link-requires-clause-room
 set_link-requires-clause-room g c = room_left (kl g) g.V.Plain

@@ -1,8 +1,5 @@
 -- The node enters the tree, and the three words say so.
-use Rattle.std.proofs.Common.{sym, ap, ◌∙◌, ◌+◌, arith}
-use Rattle.link_tree.specs.Tree.{bits}
-use Rattle.best_fit.specs.Heap.{live_of}
-use Rattle.best_fit.proofs.Laws.{room-less}
+use Rattle.seg_map.proofs.Common.{sym, ap, ◌∙◌, ◌+◌, arith, bits, live_of, room-less}
 use Rattle.seg_map.proofs.Entering.{Laws, laws_of}
 use Rattle.seg_map.proofs.Planting.{can_link, few_in_map, few_put, live_put, planted, top_put}
 use Rattle.seg_map.proofs.putting.put_in.Given.{Over}

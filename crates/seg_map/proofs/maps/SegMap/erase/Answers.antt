@@ -1,10 +1,6 @@
 -- The pair is found, leaves the map, and its block is given back.
-use Rattle.std.proofs.Common.{◌≡◌, refl, ap, arith}
-use Rattle.std.specs.Prelude.{None}
-use Rattle.best_fit.specs.Heap.{heap_touches, live_of}
-use Rattle.best_fit.proofs.Laws.{lay_out_one}
-use Rattle.raw_region.specs.Format.{current}
-use Rattle.seg_map.specs.Searches.{exit_in}
+use Rattle.seg_map.proofs.Common.{◌≡◌, refl, ap, arith, None, lay_out_one, exit_in}
+use Rattle.best_fit.specs.Heap.{heap_touches}
 use Rattle.seg_map.proofs.Beginnings.{begun}
 use Rattle.seg_map.proofs.Entering.{laws_of}
 use Rattle.seg_map.proofs.Searching.{key_absent, key_at_node}

@@ -1,5 +1,5 @@
 -- The pair that is found is read.
-use Rattle.std.proofs.Common.{arith}
+use Rattle.seg_map.proofs.Common.{arith}
 use Rattle.seg_map.proofs.Searching.{finds_last, found_room, looked_up}
 use Rattle.seg_map.proofs.maps.SegMap.last.Goals as goal
 

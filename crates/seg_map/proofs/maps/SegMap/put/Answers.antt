@@ -1,7 +1,5 @@
 -- The value of a key that is there is written over; else a node is made, and enters the map.
-use Rattle.std.proofs.Common.{◌≡◌, refl, sym, ◌+◌, arith, true}
-use Rattle.std.specs.Prelude.{None}
-use Rattle.best_fit.specs.Extents.{handle}
+use Rattle.seg_map.proofs.Common.{◌≡◌, refl, sym, ◌+◌, arith, true, None, handle}
 use Rattle.seg_map.proofs.Entering.{Laws, laws_of}
 use Rattle.seg_map.proofs.Searching.{key_absent, key_at_node}
 use Rattle.seg_map.proofs.Overwriting.{is_put_again, value_room}

@@ -1,8 +1,5 @@
 -- A pair is given up as long as there is a root.
-use Rattle.std.proofs.Common.{◌≡◌, sym, ◌∙◌, ◌+◌, arith}
-use Rattle.std.specs.Prelude.{None}
-use Rattle.best_fit.specs.Heap.{live_of}
-use Rattle.best_fit.proofs.Laws.{room-less}
+use Rattle.seg_map.proofs.Common.{◌≡◌, sym, ◌∙◌, ◌+◌, arith, None, live_of, room-less}
 use Rattle.seg_map.proofs.Entering.{Laws, laws_of}
 use Rattle.seg_map.proofs.Emptying.{given_up, going_first, going_on, one_less, root_pair}
 use Rattle.seg_map.proofs.maps.SegMap.release.Given.{Over}

@@ -1,8 +1,5 @@
 -- The map is one of the pairs that are left, of which there is one less each time.
-use Rattle.std.proofs.Common.{◌+◌, List}
-use Rattle.raw_region.specs.Memory.{bytes_of, word_at}
-use Rattle.seg_map.specs.Map.{Pair}
-use Rattle.seg_map.specs.Places.{HoldsMap}
+use Rattle.seg_map.proofs.Common.{◌+◌, List, bytes_of, word_at, Pair, HoldsMap}
 use Rattle.seg_map.proofs.Emptying.{IsGoing}
 use Rattle.seg_map.proofs.maps.SegMap.release.Given as goal
 

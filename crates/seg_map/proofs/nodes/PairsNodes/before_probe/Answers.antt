@@ -1,7 +1,5 @@
 -- The key of the node is read.
-use Rattle.std.proofs.Common.{ap, ◌∙◌}
-use Rattle.seg_types.specs.Plain.{value_in}
-use Rattle.seg_map.specs.PairNodes.{stands}
+use Rattle.seg_map.proofs.Common.{ap, ◌∙◌, value_in, stands}
 use Rattle.seg_map.proofs.PairSteps.{key_is, key_room}
 use Rattle.seg_map.proofs.nodes.PairsNodes.before_probe.Goals as goal
 

@@ -1,7 +1,5 @@
 -- The keys of both nodes are read.
-use Rattle.std.proofs.Common.{◌∙◌}
-use Rattle.seg_types.specs.Plain.{value_in}
-use Rattle.seg_map.specs.PairNodes.{before_key}
+use Rattle.seg_map.proofs.Common.{◌∙◌, value_in, before_key}
 use Rattle.seg_map.proofs.PairSteps.{key_is, key_room}
 use Rattle.seg_map.proofs.nodes.PairsNodes.precedes.Goals as goal
 

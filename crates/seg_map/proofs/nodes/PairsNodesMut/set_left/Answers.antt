@@ -1,8 +1,5 @@
 -- One link changes.
-use Rattle.std.proofs.Common.{refl, ◌+◌, arith}
-use Rattle.seg_types.specs.Plain.{value_in}
-use Rattle.seg_map.specs.PairNodes.{comes_before, stands_before}
-use Rattle.seg_map.specs.PairLaws.{is_pair_node-PairNode}
+use Rattle.seg_map.proofs.Common.{refl, ◌+◌, arith, value_in, comes_before, stands_before, is_pair_node-PairNode}
 use Rattle.seg_map.proofs.PairSteps.{left_cells, left_changed, keys_stay, kept_stays, nodes_stay, room_in, target_whole}
 use Rattle.seg_map.proofs.nodes.PairsNodesMut.set_left.Goals as goal
 

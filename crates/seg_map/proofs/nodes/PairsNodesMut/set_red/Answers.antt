@@ -1,8 +1,5 @@
 -- One colour changes.
-use Rattle.std.proofs.Common.{refl, ◌+◌, arith}
-use Rattle.seg_types.specs.Plain.{value_in}
-use Rattle.seg_map.specs.PairNodes.{comes_before, stands_before}
-use Rattle.seg_map.specs.PairLaws.{is_pair_node-PairNode}
+use Rattle.seg_map.proofs.Common.{refl, ◌+◌, arith, value_in, comes_before, stands_before, is_pair_node-PairNode}
 use Rattle.seg_map.proofs.PairSteps.{keys_stay, kept_stays, node_live, nodes_stay, place_of, red_cells, red_changed}
 use Rattle.seg_map.proofs.nodes.PairsNodesMut.set_red.Goals as goal
 

@@ -1,23 +1,18 @@
 -- Fronts of names: where two differ, they stand as the names do; and how the front of a name in a block is read.
-use Rattle.std.proofs.Common.{◌≡◌, ◌≢◌, refl, sym, ap, subst, ◌∙◌, ℕ, zero, suc, ◌+◌, ◌-◌, ◌*◌, ◌/◌, ◌%◌, ◌^◌, ◌<◌, ◌≤◌}
-use Rattle.std.proofs.Common.{inl, inr, List, [], ◌∷◌, length, drop, slice_index, bit_and, arith}
+use Rattle.seg_index.proofs.Common.{◌≡◌, ◌≢◌, refl, sym, ap, subst, ◌∙◌, ℕ, zero, suc, ◌+◌, ◌-◌, ◌*◌, ◌/◌, ◌%◌, ◌^◌}
+use Rattle.seg_index.proofs.Common.{◌<◌, ◌≤◌, inl, inr, List, [], ◌∷◌, length, bit_and, arith, slice_cmp, slice_range}
+use Rattle.seg_index.proofs.Common.{nat_cmp, ordering_reverse, Ordering, Less, Equal, Greater, cases_lt}
+use Rattle.seg_index.proofs.Common.{nat_list_cmp_total, big_number, Memory, bytes_of, read, AreBytes, front}
+use Rattle.std.proofs.Common.{drop, slice_index}
 use Rattle.std.specs.Cmp.{nat_cmp_is}
-use Rattle.std.specs.Cmp.Lexicographic.{slice_cmp}
-use Rattle.std.specs.List.{slice_range}
-use Rattle.std.specs.Ordering.{nat_cmp, ordering_reverse, ordering_then}
-use Rattle.std.specs.declared.cmp.Ordering.{Ordering}
-use Rattle.std.specs.declared.cmp.Ordering.TheVariants.{Less, Equal, Greater}
+use Rattle.std.specs.Ordering.{ordering_then}
 use Rattle.std.proofs.Math.Nat.{add-mul, mul-le-mul_right, mul_assoc}
-use Rattle.std.proofs.lemmas.Bool.{cases_lt}
-use Rattle.std.proofs.lemmas.Cmp.{nat_list_cmp_total}
 use Rattle.std.proofs.lemmas.List.{get_or-drop, get_or-take, get_or_past, length-take}
 use Rattle.std.proofs.lemmas.Nat.{and_mask, mod_low, pow-add}
 use Rattle.std.proofs.lemmas.Nat.Bits.{ones_shr}
 use Rattle.byteorder.proofs.Bytes.{pow256}
-use Rattle.byteorder.specs.Endian.{big_from, big_number}
+use Rattle.byteorder.specs.Endian.{big_from}
 use Rattle.byteorder.specs.Numbers.{big_from-cons, big_from-lt}
-use Rattle.raw_region.specs.Memory.{Memory, bytes_of, read}
-use Rattle.seg_index.specs.Beginnings.{AreBytes, front}
 
 -- ---- numbers of bytes
 nothing : (i n : ℕ) → big_from i n [] ≡ 0

@@ -1,13 +1,10 @@
 -- Changes of a heap, one after another.
-use Rattle.std.proofs.Common.{◌≡◌, ap, subst, ◌∙◌, ℕ, ◌+◌, ◌-◌, ◌≤◌}
-use Rattle.raw_region.specs.Format.{current}
-use Rattle.raw_region.specs.Memory.{Cut, bytes_of}
-use Rattle.raw_region.proofs.Laws.{SameBut-trans, SameBut-wider, SamePlace-trans}
-use Rattle.block_tags.specs.declared.tile.Role.{Role}
-use Rattle.best_fit.specs.Extents.{LiveSet}
-use Rattle.best_fit.specs.Fit.{added, insert, others}
-use Rattle.best_fit.specs.Heap.{IsAllocated, IsChanged, IsHeap, LaysOut, live_of}
-use Rattle.best_fit.proofs.Laws.{allocated-live, changed-live, is_proper-IsProper, laid-heap, others-insert_same}
+use Rattle.seg_index.proofs.Common.{◌≡◌, ap, subst, ◌∙◌, ℕ, ◌+◌, ◌-◌, ◌≤◌, current, Cut, bytes_of, SamePlace-trans}
+use Rattle.seg_index.proofs.Common.{Role, LiveSet, added, others, IsAllocated, IsChanged, IsHeap, LaysOut, live_of}
+use Rattle.seg_index.proofs.Common.{allocated-live, laid-heap}
+use Rattle.raw_region.proofs.Laws.{SameBut-trans, SameBut-wider}
+use Rattle.best_fit.specs.Fit.{insert}
+use Rattle.best_fit.proofs.Laws.{changed-live, is_proper-IsProper, others-insert_same}
 
 -- what a change leaves is the same live set
 pub same_live : {a b : Cut} {from n : ℕ} → IsChanged current a b from n → live_of b.bytes ≡ live_of a.bytes

@@ -1,11 +1,8 @@
 -- How many comparisons a search has made, and how many are left.
-use Rattle.std.proofs.Common.{◌≡◌, refl, sym, ap, ◌∙◌, ℕ, zero, suc, ◌+◌, ◌-◌, ◌/◌, ◌<◌, ◌≤◌, inl, inr, Bool, true}
-use Rattle.std.proofs.Common.{false, arith, lt-ltb, le-ltb}
-use Rattle.std.proofs.lemmas.Bool.{cases_lt}
-use Rattle.std.specs.declared.cmp.Ordering.{Ordering}
-use Rattle.std.specs.declared.cmp.Ordering.TheVariants.{Less, Equal, Greater}
-use Rattle.link_tree.specs.Tree.{bits}
-use Rattle.seg_index.specs.Comparing.{comparisons_among, middle}
+use Rattle.seg_index.proofs.Common.{◌≡◌, refl, sym, ap, ◌∙◌, ℕ, zero, suc, ◌+◌, ◌-◌, ◌/◌, ◌<◌, ◌≤◌, inl, inr, Bool}
+use Rattle.seg_index.proofs.Common.{true, false, arith, cases_lt, Ordering, Less, Equal, Greater, bits}
+use Rattle.seg_index.proofs.Common.{comparisons_among, middle}
+use Rattle.std.proofs.Common.{lt-ltb, le-ltb}
 use Rattle.seg_index.proofs.Orders.{bits_half}
 
 -- ---- one turn of a search

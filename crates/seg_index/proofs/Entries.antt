@@ -1,27 +1,17 @@
 -- The entries of an index: the links of its block.
-use Rattle.std.proofs.Common.{◌≡◌, refl, sym, ap, subst, ◌∙◌, ℕ, ◌+◌, ◌*◌, ◌<◌, ◌≤◌, List, length, arith}
-use Rattle.std.proofs.Common.{IsTrue, get_or}
-use Rattle.std.specs.Prelude.{Option, Some, None, slice_get, unwrap_or, nat_lt}
-use Rattle.std.proofs.lemmas.Bool.{and_parts, eqb-true, leb-true}
-use Rattle.std.proofs.lemmas.Option.{none-some, same_Some, slice_get-get_or, slice_get_within}
-use Rattle.raw_region.specs.Memory.{Cut, Memory, bytes_of, word_at}
+use Rattle.seg_index.proofs.Common.{◌≡◌, refl, sym, ap, subst, ◌∙◌, ℕ, ◌+◌, ◌*◌, ◌<◌, ◌≤◌, List, length, arith, IsTrue}
+use Rattle.seg_index.proofs.Common.{get_or, Option, Some, None, slice_get, unwrap_or, nat_lt, and_parts, leb-true}
+use Rattle.seg_index.proofs.Common.{none-some, same_Some, slice_get-get_or, Cut, Memory, bytes_of, word_at, link_at}
+use Rattle.seg_index.proofs.Common.{Extent, handle, holds, others, extent_at, has_room, live_of, Table, same_role}
+use Rattle.seg_index.proofs.Common.{serves, found-room, room-less, Key, Lookup, Found, Absent, comparisons_in}
+use Rattle.seg_index.proofs.Common.{order_at, beside_table, IsIndexOf, place_of, AreLinks, AreKeys, IsPlaceIn, order}
+use Rattle.std.proofs.lemmas.Bool.{eqb-true}
+use Rattle.std.proofs.lemmas.Option.{slice_get_within}
 use Rattle.block_tags.specs.declared.tile.Role.TheVariants.{Index as IndexRole}
-use Rattle.offset_link.specs.Link.{link_at}
-use Rattle.best_fit.specs.Extents.{Extent, handle, holds}
-use Rattle.best_fit.specs.Fit.{others}
-use Rattle.best_fit.specs.Heap.{extent_at, has_room, live_of}
-use Rattle.best_fit.specs.Table.{Table, same_role, serves}
-use Rattle.best_fit.proofs.Laws.{found-room, room-less}
 use Rattle.seg_index.specs.declared.index.Index.{Index}
 use Rattle.seg_index.specs.declared.index.Index.TheVariants.{Named, Unique}
-use Rattle.seg_index.specs.declared.keys.Key.{Key}
-use Rattle.seg_index.specs.declared.keys.Lookup.{Lookup}
-use Rattle.seg_index.specs.declared.keys.Lookup.TheVariants.{Found, Absent}
-use Rattle.seg_index.specs.Comparing.{comparisons, comparisons_in, order_at}
-use Rattle.seg_index.specs.Growth.{beside_table}
-use Rattle.seg_index.specs.Held.{IsIndexOf, place_of}
-use Rattle.seg_index.specs.Index.{AreLinks}
-use Rattle.seg_index.specs.Lookups.{AreKeys, HasKey, HasKeys, IsPlace, IsPlaceIn, order}
+use Rattle.seg_index.specs.Comparing.{comparisons}
+use Rattle.seg_index.specs.Lookups.{HasKey, HasKeys, IsPlace}
 use Rattle.seg_index.proofs.Counting.{none_left, same_comparisons}
 use Rattle.seg_index.proofs.Links.{all_at, at_links, entry_here, links_at}
 use Rattle.seg_index.proofs.Rooms.{Inside, inside}

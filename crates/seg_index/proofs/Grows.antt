@@ -1,20 +1,12 @@
 -- A growth may still be used where the words of its index and its block stay.
-use Rattle.std.proofs.Common.{◌≡◌, refl, sym, ap, subst, ◌∙◌, ℕ, ◌+◌, ◌*◌, ◌<◌, ◌≤◌, List, arith, IsTrue}
-use Rattle.std.specs.Prelude.{Option, Some, None}
-use Rattle.raw_region.specs.Format.{current}
-use Rattle.raw_region.specs.Memory.{Cut, Same, bytes_of}
-use Rattle.raw_region.proofs.Laws.{Same-word}
-use Rattle.block_tags.specs.declared.tile.Role.{Role}
+use Rattle.seg_index.proofs.Common.{◌≡◌, refl, sym, ap, subst, ◌∙◌, ℕ, ◌+◌, ◌*◌, ◌<◌, ◌≤◌, List, arith, IsTrue, Option}
+use Rattle.seg_index.proofs.Common.{Some, None, current, Cut, Same, bytes_of, Same-word, Role, link_at, Same-link}
+use Rattle.seg_index.proofs.Common.{Extent, LiveSet, IsAllocated, IsChanged, IsReleased, extent_at, has_room, live_of}
+use Rattle.seg_index.proofs.Common.{Table, changed-keeps, found-less, released-live, IsBlockFor, IsIndexOf}
+use Rattle.seg_index.proofs.Common.{capacity_at, grown_capacity}
 use Rattle.block_tags.specs.declared.tile.Role.TheVariants.{Index as IndexRole}
-use Rattle.offset_link.specs.Link.{link_at}
-use Rattle.offset_link.proofs.Laws.{Same-link}
-use Rattle.best_fit.specs.Extents.{Extent, LiveSet}
-use Rattle.best_fit.specs.Heap.{IsAllocated, IsChanged, IsReleased, extent_at, has_room, live_of}
-use Rattle.best_fit.specs.Table.{Table}
-use Rattle.best_fit.proofs.Laws.{changed-keeps, found-less, released-live}
-use Rattle.seg_index.specs.Growth.{CanGrow, IsBlockFor, IsGrowth}
-use Rattle.seg_index.specs.Held.{IsIndexOf, capacity_at, entry_count}
-use Rattle.seg_index.specs.Index.{grown_capacity}
+use Rattle.seg_index.specs.Growth.{CanGrow, IsGrowth}
+use Rattle.seg_index.specs.Held.{entry_count}
 use Rattle.seg_index.proofs.Changing.{same_live}
 use Rattle.seg_index.proofs.Entries.{InHeader}
 use Rattle.seg_index.proofs.Requested.{not_its_own, taken_block}

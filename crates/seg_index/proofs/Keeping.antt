@@ -1,18 +1,11 @@
 -- What stays beside the words of an index.
-use Rattle.std.proofs.Common.{◌≡◌, refl, sym, ap, subst, ◌∙◌, ℕ, ◌+◌, ◌≤◌, ◌⊎◌, inl, inr, List, [], ◌∷◌, arith}
-use Rattle.std.proofs.Common.{IsTrue}
-use Rattle.std.specs.List.{AllByRecursion}
-use Rattle.std.specs.Prelude.{Option, Some, None}
-use Rattle.std.proofs.lemmas.Bool.{cases_eq}
-use Rattle.raw_region.specs.Format.{current}
-use Rattle.raw_region.specs.Memory.{Cut, bytes_of}
-use Rattle.raw_region.proofs.Laws.{Same-part, Same-trans, SameBut-Same, SamePlace-trans}
-use Rattle.best_fit.specs.Extents.{Extent, LiveSet, handle}
-use Rattle.best_fit.specs.Fit.{others}
-use Rattle.best_fit.specs.Heap.{IsChanged, Keeps, SameBlock, has_room, live_of}
-use Rattle.best_fit.proofs.Laws.{AllByRecursion-others, blocks-trans, changed-header_blocks, changed-keeps}
-use Rattle.best_fit.proofs.Laws.{others-here, others-past}
-use Rattle.seg_index.specs.Growth.{KeepsRest, without_link}
+use Rattle.seg_index.proofs.Common.{◌≡◌, ap, subst, ◌∙◌, ℕ, ◌+◌, ◌≤◌, inl, inr, List, arith, IsTrue, AllByRecursion}
+use Rattle.seg_index.proofs.Common.{Option, Some, None, current, Cut, bytes_of, Same-part, SamePlace-trans, Extent}
+use Rattle.seg_index.proofs.Common.{LiveSet, others, IsChanged, Keeps, SameBlock, has_room, live_of, changed-keeps}
+use Rattle.seg_index.proofs.Common.{KeepsRest, without_link}
+use Rattle.raw_region.proofs.Laws.{Same-trans, SameBut-Same}
+use Rattle.best_fit.proofs.Laws.{AllByRecursion-others, blocks-trans, changed-header_blocks}
+use Rattle.best_fit.proofs.Laws.{others-comm}
 use Rattle.seg_index.proofs.Changing.{same_live}
 use Rattle.seg_index.proofs.Entries.{InHeader}
 
@@ -86,27 +79,7 @@ keeps_both {a} {b} {c} {at = at} block k one room two h low high = rest_trans (k
 
 -- ---- two blocks less
 
--- two extents may be taken out in either order
-pub others_comm : (g h : ℕ) (xs : List Extent) → others g (others h xs) ≡ others h (others g xs)
-others_comm g h [] = refl
-others_comm g h (y ∷ ys) = by_case (cases_eq (handle y) g) (cases_eq (handle y) h) (others_comm g h ys)
-  where
-    by_case : (handle y ≡ g) ⊎ (handle y ≡ g → ⊥) → (handle y ≡ h) ⊎ (handle y ≡ h → ⊥)
-        → others g (others h ys) ≡ others h (others g ys)
-        → others g (others h (y ∷ ys)) ≡ others h (others g (y ∷ ys))
-    by_case (inl q) (inl r) rest =
-        ap (λ k. others k (others h (y ∷ ys))) (sym q ∙ r) ∙ ap (λ k. others h (others k (y ∷ ys))) (sym r ∙ q)
-    by_case (inl q) (inr r) rest =
-        ap (others g) (others-past h y ys r) ∙ others-here g y (others h ys) q
-        ∙ ap (others h) (sym (others-here g y ys q))
-    by_case (inr q) (inl r) rest =
-        ap (others g) (others-here h y ys r) ∙ sym (others-here h y (others g ys) r)
-        ∙ ap (others h) (sym (others-past g y ys q))
-    by_case (inr q) (inr r) rest =
-        ap (others g) (others-past h y ys r) ∙ others-past g y (others h ys) q ∙ ap (λ (zs : List Extent). y ∷ zs) rest
-        ∙ sym (others-past h y (others g ys) r) ∙ ap (others h) (sym (others-past g y ys q))
-
 pub others_without : (h : ℕ) (l less : LiveSet) (o : Option ℕ) → others h l.extents ≡ less.extents
     → others h (without_link l o).extents ≡ (without_link less o).extents
 others_without h l less None e = e
-others_without h l less (Some g) e = others_comm h g l.extents ∙ ap (others g) e
+others_without h l less (Some g) e = others-comm h g l.extents ∙ ap (others g) e

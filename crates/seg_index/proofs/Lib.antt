@@ -1,3 +1,4 @@
+mod Common
 mod Begun
 mod Changing
 mod Counting

@@ -1,16 +1,10 @@
 -- The links of a block, and the handles that they lead to.
-use Rattle.std.proofs.Common.{◌≡◌, sym, ap, subst, ◌∙◌, ℕ, zero, suc, ◌+◌, ◌-◌, ◌*◌, ◌%◌, ◌<◌, ◌≤◌, inl, inr, List, []}
-use Rattle.std.proofs.Common.{◌∷◌, length, get_or, arith}
-use Rattle.std.specs.List.{AllByRecursion}
-use Rattle.std.specs.Prelude.{Some, insert, remove, slice_get}
-use Rattle.std.proofs.lemmas.Bool.{cases_lt}
+use Rattle.seg_index.proofs.Common.{◌≡◌, sym, ap, subst, ◌∙◌, ℕ, zero, suc, ◌+◌, ◌-◌, ◌*◌, ◌%◌, ◌<◌, ◌≤◌, inl, inr}
+use Rattle.seg_index.proofs.Common.{List, [], ◌∷◌, length, get_or, arith, AllByRecursion, Some, insert, remove}
+use Rattle.seg_index.proofs.Common.{slice_get, cases_lt, length-insert, length-remove, none-some, same_Some}
+use Rattle.seg_index.proofs.Common.{slice_get-get_or, Memory, link_at, AllLead, KeepTargets, AreLinks}
 use Rattle.std.proofs.lemmas.List.Edits.{get_or-insert_above, get_or-insert_at, get_or-insert_below}
-use Rattle.std.proofs.lemmas.List.Edits.{get_or-remove_above, get_or-remove_below, length-insert, length-remove}
-use Rattle.std.proofs.lemmas.Option.{none-some, same_Some, slice_get-get_or}
-use Rattle.raw_region.specs.Memory.{Memory}
-use Rattle.offset_link.specs.Link.{link_at}
-use Rattle.offset_link.specs.Relinked.{AllLead, KeepTargets}
-use Rattle.seg_index.specs.Index.{AreLinks}
+use Rattle.std.proofs.lemmas.List.Edits.{get_or-remove_above, get_or-remove_below}
 
 -- an element of a list of which all hold
 pub all_at : (P : ℕ → Type 0) (hs : List ℕ) (j h : ℕ) → AllByRecursion P hs → slice_get hs j ≡ Some h → P h

@@ -1,18 +1,9 @@
 -- What a search knows of the keys before and behind those that are left, and of its comparisons.
-use Rattle.std.proofs.Common.{◌≡◌, refl, sym, ap, ◌∙◌, ℕ, ◌+◌, ◌-◌, ◌*◌, ◌<◌, ◌≤◌, inl, inr, arith, subst}
-use Rattle.std.specs.Prelude.{Option, unwrap_or}
-use Rattle.std.proofs.lemmas.Bool.{cases_lt}
-use Rattle.std.specs.declared.cmp.Ordering.{Ordering}
-use Rattle.std.specs.declared.cmp.Ordering.TheVariants.{Less, Equal, Greater}
-use Rattle.raw_region.specs.Memory.{Cut, Memory, bytes_of}
-use Rattle.link_tree.specs.Tree.{bits}
-use Rattle.best_fit.specs.Heap.{live_of}
-use Rattle.best_fit.proofs.Laws.{room-less}
-use Rattle.seg_index.specs.declared.keys.Key.{Key}
-use Rattle.seg_index.specs.declared.keys.Lookup.{Lookup}
-use Rattle.seg_index.specs.declared.keys.Lookup.TheVariants.{Absent, Found}
-use Rattle.seg_index.specs.Comparing.{HasEntry, comparisons_in, middle, order_at}
-use Rattle.seg_index.specs.Lookups.{AreKeys, IsPlaceIn, KeysRise, Leads, order}
+use Rattle.seg_index.proofs.Common.{◌≡◌, refl, sym, ap, ◌∙◌, ℕ, ◌+◌, ◌-◌, ◌*◌, ◌<◌, ◌≤◌, inl, inr, arith, subst}
+use Rattle.seg_index.proofs.Common.{Option, unwrap_or, cases_lt, Ordering, Less, Equal, Greater, Cut, Memory, bytes_of}
+use Rattle.seg_index.proofs.Common.{bits, live_of, room-less, Key, Lookup, Absent, Found, HasEntry, comparisons_in}
+use Rattle.seg_index.proofs.Common.{middle, order_at, AreKeys, IsPlaceIn, order}
+use Rattle.seg_index.specs.Lookups.{KeysRise, Leads}
 use Rattle.seg_index.proofs.Counting.{Counting, counting_start, counts_down, counts_found, counts_none, counts_up}
 use Rattle.seg_index.proofs.Orders.{bits_half, greater_behind, less_before}
 

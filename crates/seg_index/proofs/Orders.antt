@@ -1,19 +1,14 @@
 -- Keys in order, and how often a number can be halved.
-use Rattle.std.proofs.Common.{◌≡◌, ap, ◌∙◌, ℕ, ◌+◌, ◌/◌, ◌<◌, ◌≤◌, ◌^◌, arith}
+use Rattle.seg_index.proofs.Common.{◌≡◌, ap, ◌∙◌, ℕ, ◌+◌, ◌/◌, ◌<◌, ◌≤◌, ◌^◌, arith, ordering_reverse, Ordering, Less}
+use Rattle.seg_index.proofs.Common.{Greater, nat_list_cmp_total, bits, Memory, Key, order, name_at}
 use Rattle.std.specs.Cmp.{IsTotalOrder}
-use Rattle.std.specs.Ordering.{ordering_reverse}
-use Rattle.std.specs.declared.cmp.Ordering.{Ordering}
-use Rattle.std.specs.declared.cmp.Ordering.TheVariants.{Less, Greater}
-use Rattle.std.proofs.lemmas.Cmp.{nat_cmp_total, nat_list_cmp_total}
+use Rattle.std.proofs.lemmas.Cmp.{nat_cmp_total}
 use Rattle.std.proofs.lemmas.Int.Digits.{length-digits_of_step}
-use Rattle.link_tree.specs.Tree.{bits}
 use Rattle.best_fit.proofs.Laws.{bits-le}
 use Rattle.link_tree.proofs.Laws.{bits_most}
-use Rattle.raw_region.specs.Memory.{Memory}
-use Rattle.seg_index.specs.declared.keys.Key.{Key}
 use Rattle.seg_index.specs.declared.keys.Key.TheVariants.{Name, Code}
-use Rattle.seg_index.specs.Lookups.{order, order_of_two}
-use Rattle.seg_index.specs.Keys.{code_at, name_at}
+use Rattle.seg_index.specs.Lookups.{order_of_two}
+use Rattle.seg_index.specs.Keys.{code_at}
 
 greater_on : {K : Type 0} {R : K → K → Ordering} → IsTotalOrder R → (x y z : K) → R x y ≡ Less → R x z ≡ Greater
     → R y z ≡ Greater

@@ -1,23 +1,12 @@
 -- The block that a request took.
-use Rattle.std.proofs.Common.{◌≡◌, sym, ap, subst, ◌∙◌, ℕ, ◌*◌, ◌-◌, ◌^◌, inl, inr, min, List}
-use Rattle.std.proofs.Common.{arith}
-use Rattle.std.proofs.Common.{IsTrue}
-use Rattle.std.specs.Prelude.{Some}
-use Rattle.std.proofs.lemmas.Bool.{cases_lt}
-use Rattle.std.proofs.lemmas.Option.{none-some}
-use Rattle.raw_region.specs.Format.{current}
-use Rattle.raw_region.specs.Memory.{Cut, bytes_of}
-use Rattle.block_tags.specs.declared.tile.Role.{Role}
+use Rattle.seg_index.proofs.Common.{◌≡◌, sym, ap, subst, ◌∙◌, ℕ, ◌*◌, ◌-◌, ◌^◌, inl, inr, min, List, arith, IsTrue}
+use Rattle.seg_index.proofs.Common.{Some, cases_lt, none-some, current, Cut, bytes_of, Role, link_at, Extent, LiveSet}
+use Rattle.seg_index.proofs.Common.{added, place, IsAllocated, IsHeap, extent_at, live_of, Table, serves}
+use Rattle.seg_index.proofs.Common.{allocated-live, found-new, live-rises, rising-insert, IsBlockFor, IsIndexOf}
 use Rattle.block_tags.specs.declared.tile.Role.TheVariants.{Index as IndexRole}
-use Rattle.offset_link.specs.Link.{link_at}
-use Rattle.best_fit.specs.Extents.{Extent, LiveSet}
-use Rattle.best_fit.specs.Fit.{added, insert, place}
-use Rattle.best_fit.specs.Heap.{IsAllocated, IsHeap, extent_at, live_of}
-use Rattle.best_fit.specs.Table.{Table, serves}
-use Rattle.best_fit.proofs.Laws.{IsFresh, allocated-live, found-new, live-rises, place-serves, rising-insert}
+use Rattle.best_fit.specs.Fit.{insert}
+use Rattle.best_fit.proofs.Laws.{IsFresh, place-serves}
 use Rattle.best_fit.proofs.Laws.{too_long}
-use Rattle.seg_index.specs.Growth.{IsBlockFor}
-use Rattle.seg_index.specs.Held.{IsIndexOf}
 use Rattle.seg_index.proofs.Entries.{placed}
 use Rattle.seg_index.proofs.Rooms.{all_found, first}
 

@@ -1,14 +1,11 @@
 -- Blocks in use: what is found by a handle, and where it lies.
-use Rattle.std.proofs.Common.{◌≡◌, refl, subst, ℕ, ◌+◌, ◌≤◌, Bool, true, false, ◌||◌, cond, List, [], ◌∷◌, length}
-use Rattle.std.proofs.Common.{arith, IsTrue, ◌==◌}
-use Rattle.std.specs.List.{AllByRecursion, list_any}
-use Rattle.std.specs.Prelude.{Option, Some, find}
-use Rattle.std.proofs.lemmas.Option.{none-some, same_Some}
-use Rattle.raw_region.specs.Format.{current}
-use Rattle.raw_region.specs.Memory.{Cut}
-use Rattle.best_fit.specs.Extents.{Extent, LiveSet, handle}
-use Rattle.best_fit.specs.Heap.{IsHeap, extent_at, has_room, is_live_in, live_of}
-use Rattle.best_fit.proofs.Laws.{among, live-rises, room_block}
+use Rattle.seg_index.proofs.Common.{◌≡◌, refl, subst, ℕ, ◌+◌, ◌≤◌, Bool, true, false, List, [], ◌∷◌, length, arith}
+use Rattle.seg_index.proofs.Common.{IsTrue, ◌==◌, AllByRecursion, Option, Some, none-some, same_Some, current, Cut}
+use Rattle.seg_index.proofs.Common.{Extent, LiveSet, handle, IsHeap, extent_at, has_room, is_live_in, live_of, among}
+use Rattle.seg_index.proofs.Common.{live-rises, room_block}
+use Rattle.std.proofs.Common.{◌||◌, cond}
+use Rattle.std.specs.List.{list_any}
+use Rattle.std.specs.Prelude.{find}
 
 -- the first extent of a handle
 abbrev pub first : ℕ → List Extent → Option Extent

@@ -1,27 +1,16 @@
 -- An index that goes into another block.
-use Rattle.std.proofs.Common.{◌≡◌, refl, sym, ap, ap₂, subst, ◌∙◌, ℕ, ◌+◌, ◌-◌, ◌*◌, ◌%◌, ◌^◌, ◌<◌, ◌≤◌, min, inl, inr}
-use Rattle.std.proofs.Common.{List}
-use Rattle.std.proofs.Common.{[], ◌∷◌, length, arith, IsTrue}
-use Rattle.std.specs.Prelude.{Option, Some, None, IfSome, insert, nat_lt, unwrap_or}
-use Rattle.std.specs.List.{AllByRecursion}
-use Rattle.std.proofs.lemmas.Bool.{and_from, and_parts, leb-true, lt-ltb}
-use Rattle.std.proofs.lemmas.Option.{same_Some}
-use Rattle.raw_region.specs.Format.{current}
-use Rattle.raw_region.specs.Memory.{Cut, Memory, bytes_of, word_at}
-use Rattle.raw_region.proofs.Laws.{SameBut-word}
-use Rattle.block_tags.specs.declared.tile.Role.{Role}
+use Rattle.seg_index.proofs.Common.{◌≡◌, refl, sym, ap, ap₂, subst, ◌∙◌, ℕ, ◌+◌, ◌-◌, ◌*◌, ◌%◌, ◌^◌, ◌<◌, ◌≤◌, min}
+use Rattle.seg_index.proofs.Common.{inl, inr, List, [], ◌∷◌, length, arith, IsTrue, Option, Some, None, IfSome, insert}
+use Rattle.seg_index.proofs.Common.{nat_lt, unwrap_or, AllByRecursion, and_from, and_parts, leb-true, same_Some}
+use Rattle.seg_index.proofs.Common.{current, Cut, Memory, bytes_of, word_at, SameBut-word, Role, link_at, KeepTargets}
+use Rattle.seg_index.proofs.Common.{SameBut-link, Extent, LiveSet, handle, holds, others, IsAllocated, IsChanged}
+use Rattle.seg_index.proofs.Common.{IsHeap, IsReleased, extent_at, has_room, is_live_in, live_of, Table, same_role}
+use Rattle.seg_index.proofs.Common.{serves, found-room, room-less, room_block, IsBlockFor, KeepsRest, unlinked}
+use Rattle.seg_index.proofs.Common.{without_link, IsIndexOf, AreLinks}
+use Rattle.std.proofs.lemmas.Bool.{lt-ltb}
 use Rattle.block_tags.specs.declared.tile.Role.TheVariants.{Index as IndexRole}
-use Rattle.offset_link.specs.Link.{link_at}
-use Rattle.offset_link.specs.Relinked.{KeepTargets}
-use Rattle.offset_link.proofs.Laws.{SameBut-link}
-use Rattle.best_fit.specs.Extents.{Extent, LiveSet, handle, holds}
-use Rattle.best_fit.specs.Fit.{others}
-use Rattle.best_fit.specs.Heap.{IsAllocated, IsChanged, IsHeap, IsReleased, extent_at, has_room, is_live_in, live_of}
-use Rattle.best_fit.specs.Table.{Table, same_role, serves}
-use Rattle.best_fit.proofs.Laws.{block_aligned, found-room, room-less, room_block}
-use Rattle.seg_index.specs.Growth.{IsBlockFor, KeepsRest, unlinked, without_link}
-use Rattle.seg_index.specs.Held.{IsIndexIn, IsIndexOf}
-use Rattle.seg_index.specs.Index.{AreLinks}
+use Rattle.best_fit.proofs.Laws.{block_aligned}
+use Rattle.seg_index.specs.Held.{IsIndexIn}
 use Rattle.seg_index.proofs.Changing.{changed_heap, changed_trans, same_live, taken_others}
 use Rattle.seg_index.proofs.Entries.{InHeader, leads_from, no_entries, placed}
 use Rattle.seg_index.proofs.Keeping.{keeps_words, keeps_written, others_without, rest_of, rest_others, rest_trans}

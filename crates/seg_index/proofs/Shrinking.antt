@@ -1,28 +1,20 @@
 -- An index whose capacity becomes the number of its entries.
-use Rattle.std.proofs.Common.{◌≡◌, refl, sym, ap, subst, ◌∙◌, ℕ, ◌+◌, ◌*◌, ◌%◌, ◌≤◌, inl, inr, min, List, []}
-use Rattle.std.proofs.Common.{◌∷◌, length, arith, IsTrue, ◌==◌}
-use Rattle.std.specs.Prelude.{Option, Some, None, option_map, nat_lt}
-use Rattle.std.specs.List.{AllByRecursion}
-use Rattle.std.proofs.lemmas.Bool.{and_from, and_parts, cond-false, cond-true, eq-eqb, le-leb, leb-true, lt-ltb, ne_eqb}
-use Rattle.std.proofs.lemmas.Option.{none-some, same_Some}
-use Rattle.raw_region.specs.Format.{current}
-use Rattle.raw_region.specs.Memory.{Cut, bytes_of, word_at}
-use Rattle.raw_region.proofs.Laws.{Same-word, SameBut-word}
-use Rattle.block_tags.specs.declared.tile.Role.{Role}
+use Rattle.seg_index.proofs.Common.{◌≡◌, refl, sym, ap, subst, ◌∙◌, ℕ, ◌+◌, ◌*◌, ◌%◌, ◌≤◌, inl, inr, min, List, []}
+use Rattle.seg_index.proofs.Common.{◌∷◌, length, arith, IsTrue, ◌==◌, Option, Some, None, nat_lt, AllByRecursion}
+use Rattle.seg_index.proofs.Common.{and_from, and_parts, leb-true, none-some, same_Some, current, Cut, bytes_of}
+use Rattle.seg_index.proofs.Common.{word_at, Same-word, SameBut-word, Role, link_at, Same-link, SameBut-link, Extent}
+use Rattle.seg_index.proofs.Common.{LiveSet, handle, holds, others, released, IsChanged, IsReleased, LaysOut}
+use Rattle.seg_index.proofs.Common.{extent_at, live_of, Table, same_role, serves, among, found-new, laid-heap}
+use Rattle.seg_index.proofs.Common.{live-rises, rising-insert, KeepsRest, IsIndexOf, AreLinks}
+use Rattle.std.specs.Prelude.{option_map}
+use Rattle.std.proofs.lemmas.Bool.{cond-false, cond-true, eq-eqb, le-leb, lt-ltb, ne_eqb}
 use Rattle.block_tags.specs.declared.tile.Role.TheVariants.{Index as IndexRole}
-use Rattle.offset_link.specs.Link.{link_at}
-use Rattle.offset_link.proofs.Laws.{Same-link, SameBut-link}
-use Rattle.best_fit.specs.Extents.{Extent, LiveSet, handle, holds}
-use Rattle.best_fit.specs.Fit.{others, released, resized, shorter}
-use Rattle.best_fit.specs.Heap.{IsChanged, IsReleased, IsResized, IsShortened, LaysOut, extent_at, live_of}
-use Rattle.best_fit.specs.Table.{Table, cut_table, no_table, same_role, serves}
-use Rattle.best_fit.proofs.Laws.{among, found-new, keeps-refl, laid-heap, live-rises, resized-live}
-use Rattle.best_fit.proofs.Laws.{rising-insert}
+use Rattle.best_fit.specs.Fit.{resized, shorter}
+use Rattle.best_fit.specs.Heap.{IsResized, IsShortened}
+use Rattle.best_fit.specs.Table.{cut_table, no_table}
+use Rattle.best_fit.proofs.Laws.{keeps-refl, resized-live}
 use Rattle.best_fit.proofs.Laws.{Rising, shorter-IsShorter}
 use Rattle.seg_index.specs.Capacities.{IsShrunk, with_cut}
-use Rattle.seg_index.specs.Growth.{KeepsRest}
-use Rattle.seg_index.specs.Held.{IsIndexOf}
-use Rattle.seg_index.specs.Index.{AreLinks}
 use Rattle.seg_index.proofs.Changing.{changed_heap, changed_trans, same_live}
 use Rattle.seg_index.proofs.Entries.{InHeader, Placed, bare, beside, no_entries, table_cases}
 use Rattle.seg_index.proofs.Keeping.{keeps_words, rest_of, rest_others, rest_trans}

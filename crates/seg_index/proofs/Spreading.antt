@@ -1,21 +1,9 @@
 -- An index with one entry more, or one less, in the block that it has.
-use Rattle.std.proofs.Common.{◌≡◌, sym, ap, subst, ◌∙◌, ℕ, ◌+◌, ◌-◌, ◌*◌, ◌%◌, ◌<◌, ◌≤◌, inl, inr, List, length, arith}
-use Rattle.std.specs.Prelude.{Option, Some, IfSome, insert, remove}
-use Rattle.std.specs.List.{AllByRecursion}
-use Rattle.std.proofs.lemmas.List.Edits.{length-insert, length-remove}
-use Rattle.raw_region.specs.Format.{current}
-use Rattle.raw_region.specs.Memory.{Cut, bytes_of, word_at}
-use Rattle.raw_region.proofs.Laws.{SameBut-word}
-use Rattle.offset_link.specs.Link.{link_at}
-use Rattle.offset_link.specs.Relinked.{KeepTargets}
-use Rattle.offset_link.proofs.Laws.{SameBut-link}
-use Rattle.best_fit.specs.Extents.{Extent, LiveSet, handle}
-use Rattle.best_fit.specs.Heap.{IsChanged, extent_at, live_of}
-use Rattle.best_fit.specs.Table.{Table}
-use Rattle.best_fit.proofs.Laws.{room-less}
-use Rattle.seg_index.specs.Growth.{KeepsRest, beside_table}
-use Rattle.seg_index.specs.Held.{IsIndexOf}
-use Rattle.seg_index.specs.Index.{AreEntries, AreLinks}
+use Rattle.seg_index.proofs.Common.{◌≡◌, sym, ap, subst, ◌∙◌, ℕ, ◌+◌, ◌-◌, ◌*◌, ◌%◌, ◌<◌, ◌≤◌, inl, inr, List, length}
+use Rattle.seg_index.proofs.Common.{arith, Option, Some, IfSome, insert, remove, AllByRecursion, length-insert}
+use Rattle.seg_index.proofs.Common.{length-remove, current, Cut, bytes_of, word_at, SameBut-word, link_at, KeepTargets}
+use Rattle.seg_index.proofs.Common.{SameBut-link, Extent, LiveSet, handle, IsChanged, extent_at, live_of, Table}
+use Rattle.seg_index.proofs.Common.{room-less, KeepsRest, beside_table, IsIndexOf, AreEntries, AreLinks}
 use Rattle.seg_index.proofs.Changing.{changed_heap, same_live}
 use Rattle.seg_index.proofs.Entries.{InHeader, Placed, beside}
 use Rattle.seg_index.proofs.Keeping.{keeps_both}

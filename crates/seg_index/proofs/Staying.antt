@@ -1,22 +1,12 @@
 -- An index stays where its words and its block do.
-use Rattle.std.proofs.Common.{◌≡◌, refl, ap, subst, ◌∙◌, ℕ, ◌+◌, ◌*◌, ◌≤◌, List, []}
-use Rattle.std.proofs.Common.{◌∷◌, arith, IsTrue}
-use Rattle.std.specs.Prelude.{Option, Some, None, IfSome}
-use Rattle.std.specs.List.{AllByRecursion}
-use Rattle.std.proofs.lemmas.Option.{none-some, same_Some}
-use Rattle.raw_region.specs.Format.{current}
-use Rattle.raw_region.specs.Memory.{Cut, Same, bytes_of}
-use Rattle.raw_region.proofs.Laws.{Same-part, Same-word}
-use Rattle.block_tags.specs.declared.tile.Role.{Role}
-use Rattle.offset_link.specs.Link.{link_at}
-use Rattle.offset_link.proofs.Laws.{Same-link}
-use Rattle.best_fit.specs.Extents.{Extent, LiveSet, end_of, handle}
-use Rattle.best_fit.specs.Fit.{added, others, released}
-use Rattle.best_fit.specs.Heap.{IsAllocated, IsChanged, IsHeap, IsReleased, SameBlock, extent_at, has_room, live_of}
-use Rattle.best_fit.specs.Table.{Table}
-use Rattle.best_fit.proofs.Laws.{changed-keeps, exchange-taken, found-less, kept-found, laid-heap, released-live}
-use Rattle.seg_index.specs.Held.{IsIndexOf}
-use Rattle.seg_index.specs.Index.{AreEntries}
+use Rattle.seg_index.proofs.Common.{◌≡◌, refl, ap, subst, ◌∙◌, ℕ, ◌+◌, ◌*◌, ◌≤◌, List, [], ◌∷◌, arith, IsTrue, Option}
+use Rattle.seg_index.proofs.Common.{Some, None, IfSome, AllByRecursion, none-some, same_Some, current, Cut, Same}
+use Rattle.seg_index.proofs.Common.{bytes_of, Same-part, Same-word, Role, link_at, Same-link, Extent, LiveSet, handle}
+use Rattle.seg_index.proofs.Common.{added, others, released, IsAllocated, IsChanged, IsHeap, IsReleased, SameBlock}
+use Rattle.seg_index.proofs.Common.{extent_at, has_room, live_of, Table, changed-keeps, found-less, laid-heap}
+use Rattle.seg_index.proofs.Common.{released-live, IsIndexOf, AreEntries}
+use Rattle.best_fit.specs.Extents.{end_of}
+use Rattle.best_fit.proofs.Laws.{exchange-taken, kept-found}
 use Rattle.seg_index.proofs.Changing.{changed_heap, same_live}
 use Rattle.seg_index.proofs.Entries.{InHeader, long_enough, table_cases}
 use Rattle.seg_index.proofs.Links.{links_moved}

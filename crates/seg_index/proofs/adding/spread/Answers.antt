@@ -1,11 +1,6 @@
 -- The links that make way, and then the new one.
-use Rattle.std.proofs.Common.{◌≡◌, ◌+◌, ◌-◌, ◌*◌, ◌∙◌, ap, sym, subst, arith, IsTrue, inr}
-use Rattle.raw_region.specs.Memory.{bytes_of}
-use Rattle.offset_link.specs.Link.{link_at}
-use Rattle.offset_link.proofs.Laws.{SameBut-link}
-use Rattle.best_fit.specs.Extents.{LiveSet}
-use Rattle.best_fit.specs.Heap.{has_room, live_of}
-use Rattle.best_fit.proofs.Laws.{room-less}
+use Rattle.seg_index.proofs.Common.{◌≡◌, ◌+◌, ◌-◌, ◌*◌, ◌∙◌, ap, sym, subst, arith, IsTrue, inr, bytes_of, link_at}
+use Rattle.seg_index.proofs.Common.{SameBut-link, LiveSet, has_room, live_of, room-less}
 use Rattle.seg_index.proofs.Changing.{changed_trans, same_live}
 use Rattle.seg_index.proofs.Rooms.{inside}
 use Rattle.seg_index.proofs.adding.spread.Goals as goal

@@ -1,9 +1,6 @@
 -- The name lies in the payload.
-use Rattle.std.proofs.Common.{sym, subst, ◌+◌, ◌%◌, ◌∙◌, ap, arith, IsTrue}
-use Rattle.raw_region.specs.Memory.{bytes_of, read}
-use Rattle.best_fit.specs.Heap.{has_room, live_of}
-use Rattle.best_fit.proofs.Laws.{room-less}
-use Rattle.seg_index.specs.Keys.{name_len_at}
+use Rattle.seg_index.proofs.Common.{sym, subst, ◌+◌, ◌%◌, ◌∙◌, ap, arith, IsTrue, bytes_of, read, has_room, live_of}
+use Rattle.seg_index.proofs.Common.{room-less, name_len_at}
 use Rattle.seg_index.proofs.comparing.name_of.Goals as goal
 
 pub word-len-requires : goal.word-len-requires

@@ -1,9 +1,5 @@
 -- The code of a kind stands in the first word.
-use Rattle.std.proofs.Common.{subst, arith, IsTrue}
-use Rattle.raw_region.specs.Memory.{bytes_of}
-use Rattle.best_fit.specs.Heap.{has_room, live_of}
-use Rattle.best_fit.proofs.Laws.{room-less}
-use Rattle.seg_index.specs.declared.keys.Key.{Key}
+use Rattle.seg_index.proofs.Common.{subst, arith, IsTrue, bytes_of, has_room, live_of, room-less, Key}
 use Rattle.seg_index.specs.Lookups.{key_end}
 use Rattle.seg_index.proofs.comparing.order_of.Goals as goal
 

@@ -1,12 +1,6 @@
 -- Where the fronts differ, the names stand as they do.
-use Rattle.std.proofs.Common.{◌≡◌, ◌≢◌, ◌≤◌, ◌∙◌, sym, ap, ap₂, subst, arith, ℕ, List, length}
-use Rattle.std.specs.declared.cmp.Ordering.TheVariants.{Equal}
-use Rattle.std.specs.Cmp.Lexicographic.{slice_cmp}
-use Rattle.std.specs.Ordering.{nat_cmp}
-use Rattle.std.specs.declared.cmp.Ordering.{Ordering}
-use Rattle.raw_region.specs.Memory.{bytes_of}
-use Rattle.seg_index.specs.Beginnings.{AreBytes, front}
-use Rattle.seg_index.specs.Keys.{name_at}
+use Rattle.seg_index.proofs.Common.{◌≡◌, ◌≢◌, ◌≤◌, ◌∙◌, sym, ap, ap₂, subst, arith, ℕ, List, length, Equal, slice_cmp}
+use Rattle.seg_index.proofs.Common.{nat_cmp, Ordering, bytes_of, AreBytes, front, name_at}
 use Rattle.seg_index.proofs.Begun.{front_equal, front_order}
 use Rattle.seg_index.proofs.comparing.order_of_name.Goals as goal
 

@@ -1,13 +1,6 @@
 -- The eight bytes lie in the heap, whose last 16 bytes are no block's.
-use Rattle.std.proofs.Common.{◌≡◌, ◌+◌, ◌-◌, ◌*◌, ◌/◌, ◌%◌, ◌^◌, ◌∙◌, ap, subst, arith}
-use Rattle.std.proofs.Common.{bit_and, ℕ, List, length}
-use Rattle.std.specs.List.{slice_range}
-use Rattle.byteorder.specs.Endian.{big_number}
-use Rattle.raw_region.specs.Memory.{bytes_of}
-use Rattle.best_fit.specs.Heap.{live_of}
-use Rattle.best_fit.proofs.Laws.{room-less}
-use Rattle.seg_index.specs.Beginnings.{AreBytes}
-use Rattle.seg_index.specs.Keys.{name_len_at}
+use Rattle.seg_index.proofs.Common.{◌≡◌, ◌+◌, ◌-◌, ◌*◌, ◌/◌, ◌%◌, ◌^◌, ◌∙◌, ap, subst, arith, bit_and, ℕ, List, length}
+use Rattle.seg_index.proofs.Common.{slice_range, big_number, bytes_of, live_of, room-less, AreBytes, name_len_at}
 use Rattle.seg_index.proofs.Begun.{long_front, short_front}
 use Rattle.seg_index.proofs.Rooms.{inside}
 use Rattle.seg_index.proofs.fronts.front_at.Goals as goal

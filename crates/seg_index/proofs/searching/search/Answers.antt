@@ -1,9 +1,7 @@
 -- Each turn halves what is left, and compares one key.
-use Rattle.std.proofs.Common.{◌≡◌, ◌+◌, ap, refl, sym, subst, ◌∙◌, ◌≤◌, arith}
-use Rattle.raw_region.specs.Memory.{bytes_of}
-use Rattle.link_tree.specs.Tree.{bits}
+use Rattle.seg_index.proofs.Common.{◌≡◌, ◌+◌, ap, refl, sym, subst, ◌∙◌, ◌≤◌, arith, bytes_of, bits, HasEntry, middle}
+use Rattle.seg_index.proofs.Common.{order_at}
 use Rattle.seg_index.specs.Beginnings.{key_front}
-use Rattle.seg_index.specs.Comparing.{HasEntry, middle, order_at}
 use Rattle.seg_index.proofs.Narrowing.{IsLeft, entry_of, left_down, left_first, left_found, left_none, left_up}
 use Rattle.seg_index.proofs.Narrowing.{same_search}
 use Rattle.seg_index.proofs.Orders.{bits_few}

@@ -1,5 +1,5 @@
 -- The words of the index and the block of the growth stay.
-use Rattle.seg_index.specs.Held.{place_of}
+use Rattle.seg_index.proofs.Common.{place_of}
 use Rattle.seg_index.proofs.Entries.{in_header, place_behind, place_small}
 use Rattle.seg_index.proofs.Grows.{prepared, released, taken, written}
 use Rattle.seg_index.proofs.theorems.growths_stay.Goals as goal

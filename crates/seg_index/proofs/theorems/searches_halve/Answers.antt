@@ -1,8 +1,5 @@
 -- What holds of each range of places holds of all.
-use Rattle.std.proofs.Common.{◌≡◌, refl, ◌-◌, ◌≤◌, subst, arith}
-use Rattle.link_tree.specs.Tree.{bits}
-use Rattle.seg_index.specs.Comparing.{comparisons_among}
-use Rattle.raw_region.specs.Memory.{word_at}
+use Rattle.seg_index.proofs.Common.{◌≡◌, refl, ◌-◌, ◌≤◌, subst, arith, bits, comparisons_among, word_at}
 use Rattle.seg_index.proofs.Counting.{few_comparisons, same_comparisons}
 use Rattle.seg_index.proofs.theorems.searches_halve.Goals as goal
 

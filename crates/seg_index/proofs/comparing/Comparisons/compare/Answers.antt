@@ -1,5 +1,5 @@
 -- The link of the entry lies in the block.
-use Rattle.std.proofs.Common.{◌+◌, ◌*◌, arith}
+use Rattle.seg_index.proofs.Common.{◌+◌, ◌*◌, arith}
 use Rattle.seg_index.proofs.Rooms.{inside}
 use Rattle.seg_index.proofs.comparing.Comparisons.compare.Goals as goal
 

@@ -1,8 +1,5 @@
 -- The entry lies in the block.
-use Rattle.std.proofs.Common.{◌+◌, ◌*◌, arith}
-use Rattle.raw_region.specs.Memory.{bytes_of}
-use Rattle.best_fit.specs.Heap.{live_of}
-use Rattle.best_fit.proofs.Laws.{room-less}
+use Rattle.seg_index.proofs.Common.{◌+◌, ◌*◌, arith, bytes_of, live_of, room-less}
 use Rattle.seg_index.proofs.Entries.{capacity_small, entry_found, has_places}
 use Rattle.seg_index.proofs.index.Index.at.Goals as goal
 

@@ -1,10 +1,6 @@
 -- What was taken goes back.
-use Rattle.std.proofs.Common.{ℕ, sym, subst}
-use Rattle.std.specs.Prelude.{Option, IfSome}
-use Rattle.raw_region.specs.Format.{current}
-use Rattle.raw_region.specs.Memory.{Cut}
+use Rattle.seg_index.proofs.Common.{ℕ, sym, subst, Option, IfSome, current, Cut, IsAllocated, Keeps, LaysOut, live_of}
 use Rattle.block_tags.specs.declared.tile.Role.TheVariants.{Index as IndexRole}
-use Rattle.best_fit.specs.Heap.{IsAllocated, Keeps, LaysOut, live_of}
 use Rattle.best_fit.proofs.Laws.{taken-back}
 use Rattle.seg_index.proofs.index.Index.give_back.Goals as goal
 

@@ -1,12 +1,7 @@
 -- The links are put round the new one, and then the block is the index's.
-use Rattle.std.proofs.Common.{◌≡◌, ap, ap₂, refl, sym, subst, ◌∙◌, ◌+◌, ◌-◌, ◌*◌, ◌%◌, ◌≤◌, arith}
-use Rattle.std.specs.Prelude.{insert}
-use Rattle.std.proofs.lemmas.List.Edits.{length-insert}
-use Rattle.raw_region.specs.Format.{current}
-use Rattle.best_fit.specs.Extents.{LiveSet}
-use Rattle.best_fit.specs.Heap.{LaysOut, heap_touches}
-use Rattle.seg_index.specs.Growth.{IsBlockFor, without_link}
-use Rattle.seg_index.specs.Index.{grown_capacity}
+use Rattle.seg_index.proofs.Common.{◌≡◌, ap, ap₂, refl, sym, subst, ◌∙◌, ◌+◌, ◌-◌, ◌*◌, ◌%◌, ◌≤◌, arith, insert}
+use Rattle.seg_index.proofs.Common.{length-insert, current, LiveSet, LaysOut, heap_touches, IsBlockFor, without_link}
+use Rattle.seg_index.proofs.Common.{grown_capacity}
 use Rattle.seg_index.proofs.Changing.{same_live}
 use Rattle.seg_index.proofs.Entries.{capacity_small, in_header}
 use Rattle.seg_index.proofs.Links.{insert_all, links_lead}

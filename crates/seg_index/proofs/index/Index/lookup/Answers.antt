@@ -1,9 +1,6 @@
 -- The search goes over the links of the block.
-use Rattle.std.proofs.Common.{◌≡◌, ◌+◌, sym, ap, ◌∙◌, arith}
-use Rattle.raw_region.specs.Memory.{bytes_of}
-use Rattle.seg_index.specs.Comparing.{comparisons_in}
-use Rattle.seg_index.specs.Held.{place_of}
-use Rattle.seg_index.specs.Lookups.{AreKeys, IsPlaceIn}
+use Rattle.seg_index.proofs.Common.{◌≡◌, ◌+◌, sym, ap, ◌∙◌, arith, bytes_of, comparisons_in, place_of, AreKeys}
+use Rattle.seg_index.proofs.Common.{IsPlaceIn}
 use Rattle.seg_index.proofs.Entries.{capacity_small, comparisons_found, comparisons_none, keys_given, leads_from}
 use Rattle.seg_index.proofs.Entries.{no_entries, place_found, placed}
 use Rattle.seg_index.proofs.Narrowing.{same_search}

@@ -1,5 +1,5 @@
 -- The capacity of an index is small.
-use Rattle.std.proofs.Common.{arith}
+use Rattle.seg_index.proofs.Common.{arith}
 use Rattle.seg_index.proofs.Entries.{capacity_small}
 use Rattle.seg_index.proofs.index.Index.prepare.Goals as goal
 

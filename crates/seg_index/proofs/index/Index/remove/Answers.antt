@@ -1,11 +1,6 @@
 -- The links behind the place close up.
-use Rattle.std.proofs.Common.{◌≡◌, ◌+◌, ◌-◌, ◌*◌, subst, arith}
-use Rattle.raw_region.specs.Format.{current}
-use Rattle.raw_region.specs.Memory.{bytes_of}
-use Rattle.offset_link.specs.Relinked.{AllLead}
-use Rattle.best_fit.specs.Extents.{LiveSet}
-use Rattle.best_fit.specs.Heap.{LaysOut, live_of}
-use Rattle.best_fit.proofs.Laws.{room-less}
+use Rattle.seg_index.proofs.Common.{◌≡◌, ◌+◌, ◌-◌, ◌*◌, subst, arith, current, bytes_of, AllLead, LiveSet, LaysOut}
+use Rattle.seg_index.proofs.Common.{live_of, room-less}
 use Rattle.seg_index.proofs.Changing.{same_live}
 use Rattle.seg_index.proofs.Entries.{capacity_small, has_places, in_header}
 use Rattle.seg_index.proofs.Links.{links_lead}

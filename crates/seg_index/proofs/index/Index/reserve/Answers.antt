@@ -1,16 +1,11 @@
 -- A new block, and then the links go there.
-use Rattle.std.proofs.Common.{◌≡◌, ap, ap₂, refl, sym, subst, ◌∙◌, ◌+◌, ◌*◌, ◌<◌, ◌≤◌, arith}
-use Rattle.std.specs.Prelude.{None, Option, Some}
+use Rattle.seg_index.proofs.Common.{◌≡◌, ap, ap₂, refl, sym, subst, ◌∙◌, ◌+◌, ◌*◌, ◌<◌, ◌≤◌, arith, None, Option, Some}
+use Rattle.seg_index.proofs.Common.{current, Extent, LiveSet, added, place, LaysOut, extent_at, heap_touches, live_of}
+use Rattle.seg_index.proofs.Common.{allocated-live, without_link, IsIndexOf, capacity_at, place_of}
 use Rattle.std.proofs.lemmas.Result.{MatchResult-from_err}
-use Rattle.raw_region.specs.Format.{current}
 use Rattle.block_tags.specs.declared.tile.Role.TheVariants.{Index as IndexRole}
-use Rattle.best_fit.specs.Extents.{Extent, LiveSet}
-use Rattle.best_fit.specs.Fit.{added, place}
-use Rattle.best_fit.specs.Heap.{IsRefused, LaysOut, extent_at, heap_touches, live_of}
-use Rattle.best_fit.proofs.Laws.{allocated-live}
+use Rattle.best_fit.specs.Heap.{IsRefused}
 use Rattle.seg_index.specs.Capacities.{IsRoomy}
-use Rattle.seg_index.specs.Growth.{without_link}
-use Rattle.seg_index.specs.Held.{IsIndexOf, capacity_at, place_of}
 use Rattle.seg_index.proofs.Changing.{same_live}
 use Rattle.seg_index.proofs.Entries.{in_header}
 use Rattle.seg_index.proofs.Links.{links_lead}

@@ -1,11 +1,7 @@
 -- The words lead to the block, and the old one goes.
-use Rattle.std.proofs.Common.{◌≡◌, ap, sym, subst, ◌∙◌, ◌+◌, ◌≤◌, IsTrue, arith}
-use Rattle.raw_region.specs.Format.{current}
-use Rattle.best_fit.specs.Extents.{LiveSet}
-use Rattle.best_fit.specs.Fit.{released}
-use Rattle.best_fit.specs.Heap.{LaysOut, heap_touches, is_live_in, live_of}
-use Rattle.seg_index.specs.Growth.{KeepsRest, unlinked, without_link}
-use Rattle.seg_index.specs.Held.{place_of}
+use Rattle.seg_index.proofs.Common.{◌≡◌, ap, sym, subst, ◌∙◌, ◌+◌, ◌≤◌, IsTrue, arith, current, LiveSet, released}
+use Rattle.seg_index.proofs.Common.{LaysOut, heap_touches, is_live_in, live_of, KeepsRest, unlinked, without_link}
+use Rattle.seg_index.proofs.Common.{place_of}
 use Rattle.seg_index.proofs.Changing.{same_live}
 use Rattle.seg_index.proofs.Entries.{in_header, leads_from}
 use Rattle.seg_index.proofs.Keeping.{keeps_words}

@@ -1,7 +1,6 @@
 -- The block goes, or is cut.
-use Rattle.std.proofs.Common.{sym, subst, ◌∙◌, ◌+◌, ◌≤◌, IsTrue, arith}
-use Rattle.best_fit.specs.Extents.{LiveSet}
-use Rattle.best_fit.specs.Heap.{heap_touches, is_live_in, live_of}
+use Rattle.seg_index.proofs.Common.{sym, subst, ◌∙◌, ◌+◌, ◌≤◌, IsTrue, arith, LiveSet, heap_touches, is_live_in}
+use Rattle.seg_index.proofs.Common.{live_of}
 use Rattle.seg_index.proofs.Changing.{same_live}
 use Rattle.seg_index.proofs.Entries.{capacity_small, in_header, leads_from, placed}
 use Rattle.seg_index.proofs.Rooms.{found_live}

@@ -1,15 +1,16 @@
 -- A map is given up pair by pair.
-use Rattle.seg_map.proofs.Common.{◌≡◌, ◌⊎◌, refl, sym, ap, subst, ◌∙◌, ℕ, ◌+◌, ◌≤◌, ◌<◌, ◌≢◌, inl, inr, Bool, true}
-use Rattle.seg_map.proofs.Common.{false, List, [], ◌∷◌, map, arith, ◌==◌, IsTrue, Option, Some, None, find}
-use Rattle.seg_map.proofs.Common.{AllByRecursion, both_ways, cases_Bool, cases_eq, eq-eqb, ne_eqb, current, Cut}
-use Rattle.seg_map.proofs.Common.{bytes_of, word_at, SamePlace-trans, Same-trans, link_at, IsTree, Tree, fork, leaf}
-use Rattle.seg_map.proofs.Common.{nodes_of, root_of, is_in, root_in, SameBlockBut, Extent, LiveSet, handle, is_proper}
-use Rattle.seg_map.proofs.Common.{others, released, cells_of, LaysOut, extent_at, live_of, found-less, lay_out_one}
-use Rattle.seg_map.proofs.Common.{live-rises, Chains, In, IsStrict, Pair, is_key, is_rising, pair_at, remove_pair}
-use Rattle.seg_map.proofs.Common.{HoldsMap, nodes_of_pairs, pair_node, IsBesideMap, IsErased}
+use Rattle.seg_map.proofs.Common.{◌≡◌, ◌⊎◌, refl, sym, ap, subst, ◌∙◌, ℕ, ◌+◌, ◌<◌, ◌≢◌, inl, inr, Bool, true, false}
+use Rattle.seg_map.proofs.Common.{List, [], ◌∷◌, map, arith, IsTrue, Option, Some, None, AllByRecursion, both_ways}
+use Rattle.seg_map.proofs.Common.{cases_Bool, cases_eq, eq-eqb, ne_eqb, current, Cut, bytes_of, word_at}
+use Rattle.seg_map.proofs.Common.{SamePlace-trans, Same-trans, link_at, IsTree, Tree, fork, leaf, nodes_of, root_of}
+use Rattle.seg_map.proofs.Common.{is_in, root_in, SameBlockBut, Extent, LiveSet, handle, is_proper, others, released}
+use Rattle.seg_map.proofs.Common.{cells_of, LaysOut, extent_at, live_of, found-less, lay_out_one, live-rises, Chains}
+use Rattle.seg_map.proofs.Common.{In, IsStrict, Pair, is_key, is_rising, pair_at, remove_pair, HoldsMap, nodes_of_pairs}
+use Rattle.seg_map.proofs.Common.{pair_node, IsBesideMap, IsErased}
 use Rattle.best_fit.specs.Exchange.{exchanged, without_all}
-use Rattle.best_fit.proofs.Laws.{others-comm}
+use Rattle.best_fit.proofs.Laws.{Rising, others-comm, rising-weak}
 use Rattle.seg_types.specs.declared.plain.Plain.{Ghosts as Plain}
+use Rattle.seg_map.proofs.Payloads.{begins_behind, own_handle}
 use Rattle.seg_map.specs.Changing.{IsGivenUp}
 use Rattle.seg_map.proofs.Entering.{Laws}
 use Rattle.seg_map.proofs.FoundPairs.{either_right, rising_rest}
@@ -56,35 +57,22 @@ module _ {K V : Type 0} (less : K → K → Bool) where
 
 -- ---- extents in order
 
-abbrev Rises : ℕ → List Extent → Type 0
-Rises n [] = Unit {0}
-Rises n (x ∷ xs) = (n ≤ x.offset) × Rises (x.offset + 1) xs
-
-rises_more : (n m : ℕ) (zs : List Extent) → n ≤ m → Rises m zs → Rises n zs
-rises_more n m [] l r = tt
-rises_more n m (z ∷ zs) l r = (omega (arith, r.0), r.1)
-
-rises_others : (n h : ℕ) (zs : List Extent) → Rises n zs → Rises n (others h zs)
+rises_others : (n h : ℕ) (zs : List Extent) → Rising n zs → Rising n (others h zs)
 rises_others n h [] r = tt
 rises_others n h (z ∷ zs) r =
     elim (cases_eq (handle z) h) [
-      | inl e ↦ rw (eq-eqb _ _ e) (rises_more n (z.offset + 1) zs (omega (arith, r.0)) r.1)
+      | inl e ↦ rw (eq-eqb _ _ e) (rising-weak n (z.offset + 1) zs (omega (arith, r.0)) r.1)
       | inr o ↦ rw (ne_eqb _ _ o) (r.0, rises_others (z.offset + 1) h zs r.1)
     ]
 
-above : (n : ℕ) (zs : List Extent) (x : Extent) → Rises n zs → In x zs → n ≤ x.offset
-above n [] x r i = absurd i
-above n (z ∷ zs) x r (inl e) = subst (λ (w : Extent). n ≤ w.offset) e r.0
-above n (z ∷ zs) x r (inr i) = omega (arith, r.0, above (z.offset + 1) zs x r.1 i)
-
 -- what is left beside one is another
-beside_one : (n h : ℕ) (zs : List Extent) (x : Extent) → Rises n zs → In x (others h zs) → In x zs × (handle x ≢ h)
+beside_one : (n h : ℕ) (zs : List Extent) (x : Extent) → Rising n zs → In x (others h zs) → In x zs × (handle x ≢ h)
 beside_one n h [] x r i = absurd i
 beside_one n h (z ∷ zs) x r i =
     elim (cases_eq (handle z) h) [
       | inl e ↦
           let j : In x zs = rw (eq-eqb _ _ e) at i in
-          (inr j, λ f. omega (arith, above (z.offset + 1) zs x r.1 j, e, f))
+          (inr j, λ f. omega (arith, begins_behind (z.offset + 1) zs x r.1 j, e, f))
       | inr o ↦
           let k : (z ≡ x) ⊎ In x (others h zs) = rw (ne_eqb _ _ o) at i in
           elim k [
@@ -94,22 +82,13 @@ beside_one n h (z ∷ zs) x r i =
     ]
 
 -- and beside all that are gone it is none of them
-beside_all : {K V : Type 0} (n : ℕ) (ps : List (Pair K V)) (zs : List Extent) (x : Extent) → Rises n zs
+beside_all : {K V : Type 0} (n : ℕ) (ps : List (Pair K V)) (zs : List Extent) (x : Extent) → Rising n zs
     → In x (without_all (map (λ (p : Pair K V). p.node) ps) zs)
     → In x zs × (is_in (handle x) (nodes_of_pairs ps) ≡ false)
 beside_all n [] zs x r i = (i, refl)
 beside_all n (p ∷ ps) zs x r i =
     let b = beside_all n ps (others (handle p.node) zs) x (rises_others n (handle p.node) zs r) i in
     let c = beside_one n (handle p.node) zs x r b.0 in (c.0, rw (ne_eqb _ _ c.1) b.1)
-
--- each extent is the one of its handle
-own_handle : (n : ℕ) (zs : List Extent) (x : Extent) → Rises n zs → In x zs
-    → find (λ (w : Extent). handle w == handle x) zs ≡ Some x
-own_handle n [] x r i = absurd i
-own_handle n (z ∷ zs) x r (inl e) = rw (eq-eqb (handle z) (handle x) (ap handle e)) (ap Some e)
-own_handle n (z ∷ zs) x r (inr i) =
-    let l = above (z.offset + 1) zs x r.1 i in
-    rw (ne_eqb (handle z) (handle x) (λ f. omega (arith, l, f))) (own_handle (z.offset + 1) zs x r.1 i)
 
 all_each : (P : Extent → Type 0) (xs : List Extent) → ((x : Extent) → In x xs → P x) → AllByRecursion P xs
 all_each P [] f = tt

@@ -1,25 +1,22 @@
 -- The pairs of a map as a search tree.
-use Rattle.seg_map.proofs.Common.{◌≡◌, refl, sym, ap, ◌∙◌, ℕ, suc, ◌+◌, ◌≤◌, ◌≢◌, inl, inr, Bool, true, ◌&&◌}
-use Rattle.seg_map.proofs.Common.{not, List, [], ◌∷◌, length, map, arith, ◌==◌, Option, Some, None, find, option_map}
-use Rattle.seg_map.proofs.Common.{AllByRecursion, list_all, reverse, and_parts, cases_Bool, eq-eqb, le-leb}
-use Rattle.seg_map.proofs.Common.{leb-true, Memory, Has, bytes_of, read, Cut, Node, link_at, Tree, IsTree}
-use Rattle.seg_map.proofs.Common.{nodes_of, rises, first_not, is_in, last_before, leads, all_from}
-use Rattle.seg_map.proofs.Common.{root_in, tree_same, Extent, LiveSet, handle, cells_of, others, Keeps, SameBlock}
-use Rattle.seg_map.proofs.Common.{extent_at, live_of, value_in, IsKeyTree, keys_in, Pair, IsPairAt, is_rising}
-use Rattle.seg_map.proofs.Common.{HoldsMap, IsPairIn, first_pair, is_passed, last_pair, nodes_of_pairs}
-use Rattle.seg_map.proofs.Common.{pair_node, before_key, comes_before, stands, is_pair_node, key_at, key_of}
-use Rattle.seg_map.proofs.Common.{links_among, own_nodes, pair_cells, stands_before, Chains, IsStrict, Good, In}
-use Rattle.seg_map.proofs.Common.{PairNode-is_pair_node, cells_at, node_block}
+use Rattle.seg_map.proofs.Common.{◌≡◌, refl, sym, ap, ◌∙◌, ℕ, suc, ◌+◌, ◌≤◌, ◌≢◌, inl, inr, Bool, true, ◌&&◌, not, List}
+use Rattle.seg_map.proofs.Common.{[], ◌∷◌, length, map, arith, ◌==◌, Option, Some, None, find, option_map}
+use Rattle.seg_map.proofs.Common.{AllByRecursion, list_all, reverse, and_parts, cases_Bool, eq-eqb, le-leb, leb-true}
+use Rattle.seg_map.proofs.Common.{Memory, Has, bytes_of, read, Cut, Node, link_at, Tree, IsTree, nodes_of, rises}
+use Rattle.seg_map.proofs.Common.{first_not, is_in, last_before, leads, all_from, root_in, tree_same, Extent, LiveSet}
+use Rattle.seg_map.proofs.Common.{handle, cells_of, others, Keeps, SameBlock, extent_at, live_of, value_in, IsKeyTree}
+use Rattle.seg_map.proofs.Common.{keys_in, Pair, IsPairAt, is_rising, HoldsMap, IsPairIn, first_pair, is_passed}
+use Rattle.seg_map.proofs.Common.{last_pair, nodes_of_pairs, pair_node, before_key, comes_before, stands, is_pair_node}
+use Rattle.seg_map.proofs.Common.{key_at, key_of, links_among, own_nodes, pair_cells, stands_before, Chains, IsStrict}
+use Rattle.seg_map.proofs.Common.{Good, In, PairNode-is_pair_node, cells_at, node_block}
 use Rattle.std.proofs.Common.{◌^◌}
 use Rattle.link_tree.proofs.Laws.{above_more, bits_most, bounds_height, reads_off, tree_limit}
 use Rattle.best_fit.specs.Table.{same_role, serves}
 use Rattle.best_fit.proofs.Laws.{holds_closed}
 use Rattle.seg_types.specs.declared.plain.Plain.{Ghosts as Plain}
 use Rattle.seg_types.proofs.Laws.{value-spelled}
-use Rattle.seg_map.specs.PairNodes.{is_block_in}
-use Rattle.seg_map.specs.PairNodes.{nodes_in}
-use Rattle.seg_map.specs.PairLaws.{comes_irreflexive}
-use Rattle.seg_map.specs.PairLaws.{comes_transitive, few_extents, handles_length, in_handles}
+use Rattle.seg_map.specs.PairNodes.{is_block_in, nodes_in}
+use Rattle.seg_map.specs.PairLaws.{comes_irreflexive, comes_transitive, few_extents, handles_length, in_handles}
 use Rattle.seg_map.proofs.FoundLists.{all_reversed, each, find_mapped, map_reversed}
 use Rattle.seg_map.proofs.PairSteps.{all_in, any_at, in_others}
 

@@ -1,10 +1,10 @@
 -- What stays where a tree call changes the links and the colours of nodes alone.
 use Rattle.seg_map.proofs.Common.{◌≡◌, refl, ap, ◌∙◌, ℕ, ◌+◌, ◌-◌, ◌%◌, ◌<◌, ◌≤◌, ◌⊎◌, inl, inr, true, false, ◌&&◌}
-use Rattle.seg_map.proofs.Common.{◌||◌, not, List, [], ◌∷◌, arith, nat_lt, nat_le, ◌==◌, false≢true, both_ways}
-use Rattle.seg_map.proofs.Common.{cases_Bool, and_parts, or_cases, or_left, or_right, eq-eqb, leb-true, le-leb}
-use Rattle.seg_map.proofs.Common.{ltb-true, lt-ltb, Cut, SamePlace, bytes_of, word_at, is_in, Extent, handle, end_of}
-use Rattle.seg_map.proofs.Common.{Keeps, SameBlock, live_of, is_kept, is_link_byte, is_other, kept_of, Good, In}
+use Rattle.seg_map.proofs.Common.{◌||◌, not, List, [], ◌∷◌, arith, nat_lt, nat_le, ◌==◌, both_ways, or_left, or_right}
+use Rattle.seg_map.proofs.Common.{eq-eqb, le-leb, lt-ltb, Cut, SamePlace, bytes_of, word_at, is_in, Extent, handle}
+use Rattle.seg_map.proofs.Common.{end_of, Keeps, SameBlock, live_of, is_kept, is_link_byte, is_other, kept_of, Good, In}
 use Rattle.seg_map.proofs.Common.{PairNode, node_place}
+use Rattle.std.proofs.lemmas.Bool.{le-ltb, lt-leb}
 use Rattle.seg_map.specs.PairNodes.{Kept, lies_in_block}
 use Rattle.seg_map.proofs.PairSteps.{any_at, block_apart}
 
@@ -18,32 +18,15 @@ pub own_stays : (c d : Cut) (ns ms : List ℕ) → kept_of ms d ≡ kept_of ns c
 unfolding kept_of
 own_stays c d ns ms e = ap (λ (k : Kept). k.own) e
 
--- a byte of a link is one of some node
-record OfNode (ns : List ℕ) (k : ℕ) : Type 0 where
-  node : ℕ
-  listed : is_in node ns ≡ true
-  low : node ≤ k
-  high : k < node + 16
-
-of_node : (ns : List ℕ) (k : ℕ) → is_link_byte ns k ≡ true → OfNode ns k
-of_node [] k h = absurd (false≢true h)
-of_node (n ∷ ns) k h =
-    elim (or_cases _ _ h) [
-      | inl e ↦
-          let two = and_parts _ _ e in
-          record {
-            node = n;
-            listed = or_left _ _ (eq-eqb n n refl);
-            low = leb-true n k two.0;
-            high = ltb-true k (n + 16) two.1;
-          }
-      | inr e ↦ let r = of_node ns k e in record {
-        node = r.node;
-        listed = or_right _ _ r.listed;
-        low = r.low;
-        high = r.high;
-      }
-    ]
+-- a byte away from the links of each node is none of a link
+no_link : (ns : List ℕ) (k : ℕ) → ((n : ℕ) → is_in n ns ≡ true → (k < n) ⊎ (n + 16 ≤ k)) → is_link_byte ns k ≡ false
+no_link [] k off = refl
+no_link (n ∷ ns) k off =
+    rw (here (off n (or_left _ _ (eq-eqb n n refl))), no_link ns k (λ m i. off m (or_right _ _ i))) refl
+  where
+    here : (k < n) ⊎ (n + 16 ≤ k) → (nat_le n k && nat_lt k (n + 16)) ≡ false
+    here (inl l) = rw (lt-leb n k l) refl
+    here (inr l) = rw (le-leb n k (omega arith), le-ltb k (n + 16) l) refl
 
 module _ {len : ℕ} {ns : List ℕ} {c : Cut} (d : Cut) (good : Good len ns c) (same : kept_of ns d ≡ kept_of ns c)
     (long : 16 ≤ len) where
@@ -60,19 +43,12 @@ module _ {len : ℕ} {ns : List ℕ} {c : Cut} (d : Cut) (good : Good len ns c) 
   unfolding kept_of
   kept_colour h t = let e = ap (λ (r : Kept). r.colour h) same in rw (live_stays c d ns ns same, t) at e
 
-  no_link : (k : ℕ) → ((n : ℕ) → is_in n ns ≡ true → (k < n) ⊎ (n + 16 ≤ k)) → is_link_byte ns k ≡ false
-  no_link k off = elim (cases_Bool (is_link_byte ns k)) [
-    | inl t ↦ let o = of_node ns k t in let low = o.low in let high = o.high in
-        absurd (elim (off o.node o.listed) [ inl l ↦ omega arith | inr l ↦ omega arith ])
-    | inr f ↦ f
-  ]
-
   -- a header byte but word 24 stays
   kept_header : (k : ℕ) → (k < 24) ⊎ ((32 ≤ k) × (k < 128)) → bytes_of d.bytes k ≡ bytes_of c.bytes k
   kept_header k place =
       kept_byte k (rw (
         here place,
-        ap not (no_link k (λ n i.
+        ap not (no_link ns k (λ n i.
             let l = (node_place len ns c n (record { good = good; listed = i })).low in inl (below place n l))),
       ) refl)
     where
@@ -95,7 +71,7 @@ module _ {len : ℕ} {ns : List ℕ} {c : Cut} (d : Cut) (good : Good len ns c) 
         or_right (nat_lt k 24 || (nat_le 32 k && nat_lt k 128)) (lies_in_block (live_of c.bytes) k)
             (any_at (λ (y : Extent). nat_le (handle y) k && nat_lt k (end_of y)) (live_of c.bytes).extents x i
             (rw (le-leb (handle x) k low, lt-ltb k (end_of x) high) refl)),
-        ap not (no_link k off),
+        ap not (no_link ns k off),
       ) refl)
 
   -- a block that is no node stays

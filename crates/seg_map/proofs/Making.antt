@@ -1,7 +1,7 @@
 -- A node is made: its four parts are written in a new block.
 use Rattle.seg_map.proofs.Common.{◌≡◌, subst, ◌∙◌, ℕ, ◌+◌, ◌≤◌, inl, true, arith, IsTrue, None, current, Cut, Has}
-use Rattle.seg_map.proofs.Common.{bytes_of, Has-same, SameBut-Same, Node, link_at, SameBut-link, IsAllocated}
-use Rattle.seg_map.proofs.Common.{IsChanged, has_room, live_of, IsMade, node_len}
+use Rattle.seg_map.proofs.Common.{bytes_of, Has-same, SameBut-Same, Node, link_at, SameBut-link, IsAllocated, IsChanged}
+use Rattle.seg_map.proofs.Common.{has_room, live_of, IsMade, node_len}
 use Rattle.best_fit.proofs.Laws.{allocated-room, still_allocated-block}
 use Rattle.seg_types.specs.declared.plain.Plain.{Ghosts as Plain}
 use Rattle.seg_map.proofs.Entering.{Laws}

@@ -1,13 +1,13 @@
 -- A new pair: its node is made, and enters the map.
-use Rattle.seg_map.proofs.Common.{◌≡◌, refl, sym, ap, subst, ◌∙◌, ℕ, ◌+◌, ◌≢◌, Bool, false, ◌||◌, List, arith}
-use Rattle.seg_map.proofs.Common.{Option, Some, None, IfSome, ne_eqb, current, Cut, Has, bytes_of}
-use Rattle.seg_map.proofs.Common.{SamePlace-trans, Same-trans, Node, link_at, is_in, nodes_of, entry_of, entry_same}
-use Rattle.seg_map.proofs.Common.{Extent, handle, LaysOut, SameBlock, extent_at, live_of, laid-heap, live-rises, roomy}
-use Rattle.seg_map.proofs.Common.{Pair, node_len, pair_at, HoldsMap, nodes_of_pairs, In, stands}
-use Rattle.seg_map.proofs.Common.{stands_before, keys_in, entry_in, IsLoose, IsMade, IsPlanted}
+use Rattle.seg_map.proofs.Common.{◌≡◌, refl, sym, ap, subst, ◌∙◌, ℕ, ◌+◌, ◌≢◌, Bool, false, ◌||◌, List, arith, Option}
+use Rattle.seg_map.proofs.Common.{Some, None, IfSome, ne_eqb, current, Cut, Has, bytes_of, SamePlace-trans, Same-trans}
+use Rattle.seg_map.proofs.Common.{Node, link_at, is_in, nodes_of, entry_of, entry_same, Extent, handle, LaysOut}
+use Rattle.seg_map.proofs.Common.{SameBlock, extent_at, live_of, laid-heap, live-rises, roomy, Pair, node_len, pair_at}
+use Rattle.seg_map.proofs.Common.{HoldsMap, nodes_of_pairs, In, stands, stands_before, keys_in, entry_in, IsLoose}
+use Rattle.seg_map.proofs.Common.{IsMade, IsPlanted}
 use Rattle.best_fit.specs.Fit.{added}
-use Rattle.best_fit.proofs.Laws.{Differs, allocated-live, allocated-room_before, found-more, found-new}
-use Rattle.best_fit.proofs.Laws.{place-serves, rising-insert}
+use Rattle.best_fit.proofs.Laws.{Differs, allocated-live, allocated-room_before, found-more, found-new, place-serves}
+use Rattle.best_fit.proofs.Laws.{rising-insert}
 use Rattle.seg_types.specs.declared.plain.Plain.{Ghosts as Plain}
 use Rattle.seg_map.specs.Changing.{IsPut}
 use Rattle.seg_map.proofs.Beginnings.{keys_agree, known}

@@ -1,11 +1,11 @@
 -- Another value is written over that of a key.
 use Rattle.seg_map.proofs.Common.{◌≡◌, refl, sym, ap, subst, ◌∙◌, ℕ, ◌+◌, ◌≢◌, ◌⊎◌, inl, inr, true, false, List, []}
-use Rattle.seg_map.proofs.Common.{◌∷◌, arith, IsTrue, Option, Some, AllByRecursion, both_ways, cases_eq}
-use Rattle.seg_map.proofs.Common.{current, Cut, Has, Same, bytes_of, Has-same, SameBut-Same}
-use Rattle.seg_map.proofs.Common.{nodes_of, is_in, Extent, handle, others, cells_of, IsChanged, Keeps}
-use Rattle.seg_map.proofs.Common.{SameBlock, extent_at, has_room, live_of, beside_cell, changed-keeps, changed-live}
-use Rattle.seg_map.proofs.Common.{changed-room, found-room, laid-heap, roomy, Pair, IsPairAt, pair_at, put_pair}
-use Rattle.seg_map.proofs.Common.{HoldsMap, IsPairIn, nodes_of_pairs, pair_node, PairNode, node_place, keys_in}
+use Rattle.seg_map.proofs.Common.{◌∷◌, arith, IsTrue, Option, Some, AllByRecursion, both_ways, cases_eq, current, Cut}
+use Rattle.seg_map.proofs.Common.{Has, Same, bytes_of, Has-same, SameBut-Same, nodes_of, is_in, Extent, handle, others}
+use Rattle.seg_map.proofs.Common.{cells_of, IsChanged, Keeps, SameBlock, extent_at, has_room, live_of, beside_cell}
+use Rattle.seg_map.proofs.Common.{changed-keeps, changed-live, changed-room, found-room, laid-heap, roomy, Pair}
+use Rattle.seg_map.proofs.Common.{IsPairAt, pair_at, put_pair, HoldsMap, IsPairIn, nodes_of_pairs, pair_node, PairNode}
+use Rattle.seg_map.proofs.Common.{node_place, keys_in}
 use Rattle.std.proofs.lemmas.Option.{same_Some}
 use Rattle.seg_types.specs.declared.plain.Plain.{Ghosts as Plain}
 use Rattle.seg_map.specs.Changing.{IsPutAgain}

@@ -1,20 +1,18 @@
 -- One field of one node changes.
-use Rattle.seg_map.proofs.Common.{◌≡◌, refl, sym, ap, subst, ◌∙◌, ℕ, ◌+◌, ◌-◌, ◌%◌, ◌<◌, ◌≤◌, ◌⊎◌, inl, inr, Bool}
-use Rattle.seg_map.proofs.Common.{true, false, ◌&&◌, List, [], ◌∷◌, arith, nat_lt, nat_le, ◌==◌, IsTrue, Option}
-use Rattle.seg_map.proofs.Common.{Some, None, IfSome, if◌then◌else◌, AllByRecursion, list_any, false≢true, both_ways}
-use Rattle.seg_map.proofs.Common.{cases_Bool, cases_eq, and_parts, or_cases, or_left, or_right, eqb-true, eq-eqb}
-use Rattle.seg_map.proofs.Common.{ne_eqb, leb-true, le-leb, ltb-true, lt-ltb, Cut, Same, SamePlace, bytes_of, read}
-use Rattle.seg_map.proofs.Common.{word_at, current, SameBut-Same, SameBut-word, is_in, leads, all_from, link_at}
-use Rattle.seg_map.proofs.Common.{Same-link, SameBut-link, Extent, LiveSet, handle, end_of, is_proper, others}
-use Rattle.seg_map.proofs.Common.{cells_of, IsChanged, SameBlock, is_live_in, has_room, live_of, beside_cell}
-use Rattle.seg_map.proofs.Common.{cell_stays, is_proper-IsProper, lay_out_one, is_kept, is_link_byte, is_other}
-use Rattle.seg_map.proofs.Common.{is_pair_node, kept_of, key_at, key_of, links_among, pair_cells, Good, In, PairNode}
-use Rattle.seg_map.proofs.Common.{PairNode-is_pair_node, cells_at, disjoint, is_pair_node-PairNode, lies, node_block}
-use Rattle.seg_map.proofs.Common.{node_place, passing}
+use Rattle.seg_map.proofs.Common.{◌≡◌, refl, sym, ap, subst, ◌∙◌, ℕ, ◌+◌, ◌-◌, ◌%◌, ◌<◌, ◌≤◌, ◌⊎◌, inl, inr, Bool, true}
+use Rattle.seg_map.proofs.Common.{false, ◌&&◌, List, [], ◌∷◌, arith, nat_lt, nat_le, ◌==◌, IsTrue, Option, Some, None}
+use Rattle.seg_map.proofs.Common.{IfSome, if◌then◌else◌, AllByRecursion, list_any, false≢true, both_ways, cases_Bool}
+use Rattle.seg_map.proofs.Common.{cases_eq, and_parts, or_cases, or_left, or_right, eqb-true, eq-eqb, ne_eqb, leb-true}
+use Rattle.seg_map.proofs.Common.{le-leb, ltb-true, lt-ltb, Cut, Same, SamePlace, bytes_of, read, word_at, current}
+use Rattle.seg_map.proofs.Common.{SameBut-Same, SameBut-word, is_in, leads, all_from, link_at, Same-link, SameBut-link}
+use Rattle.seg_map.proofs.Common.{Extent, LiveSet, handle, end_of, is_proper, others, cells_of, IsChanged, SameBlock}
+use Rattle.seg_map.proofs.Common.{is_live_in, has_room, live_of, beside_cell, cell_stays, is_proper-IsProper}
+use Rattle.seg_map.proofs.Common.{lay_out_one, is_kept, is_link_byte, is_other, is_pair_node, kept_of, key_at, key_of}
+use Rattle.seg_map.proofs.Common.{links_among, pair_cells, Good, In, PairNode, PairNode-is_pair_node, cells_at}
+use Rattle.seg_map.proofs.Common.{disjoint, is_pair_node-PairNode, lies, node_block, node_place, passing}
 use Rattle.std.proofs.Common.{◌/◌}
 use Rattle.std.proofs.Math.Nat.{le_refl, le_trans, lt_of_lt_of_le}
-use Rattle.std.proofs.lemmas.Bool.{cases_lt}
-use Rattle.std.proofs.lemmas.Bool.{not-true}
+use Rattle.std.proofs.lemmas.Bool.{cases_lt, not-true}
 use Rattle.raw_region.proofs.Laws.{Same-read}
 use Rattle.link_tree.specs.Tree.{Cell}
 use Rattle.link_tree.specs.Nodes.{with_left, with_right, with_red}
@@ -22,8 +20,7 @@ use Rattle.best_fit.specs.FreeTree.{is_red}
 use Rattle.best_fit.specs.Heap.{IsRecoloured, is_node_in, is_node_role}
 use Rattle.best_fit.proofs.Laws.{others-here, others-past}
 use Rattle.seg_map.specs.PairNodes.{is_good}
-use Rattle.seg_map.specs.PairLaws.{Good-is_good, Place, cells_off}
-use Rattle.seg_map.specs.PairLaws.{link_parts, links_at}
+use Rattle.seg_map.specs.PairLaws.{Good-is_good, Place, cells_off, link_parts, links_at}
 
 -- what a setter does to the window
 pub record Changed (len : ℕ) (ns : List ℕ) (c d : Cut) (n : ℕ) : Type 0 where
@@ -35,17 +32,6 @@ pub record Changed (len : ℕ) (ns : List ℕ) (c d : Cut) (n : ℕ) : Type 0 wh
   pub links : links_among (bytes_of d.bytes) ns n ≡ true
   pub others : (m : ℕ) → is_in m ns ≡ true → (m ≡ n → ⊥) → cells_of (bytes_of d.bytes) m ≡ cells_of (bytes_of c.bytes) m
   pub keys : (m : ℕ) → is_in m ns ≡ true → Same (bytes_of c.bytes) (bytes_of d.bytes) (m + 16) (m + len)
-
--- an extent of a live handle
-pub record LiveAt (xs : List Extent) (h : ℕ) : Type 0 where
-  pub extent : Extent
-  pub listed : In extent xs
-  pub at : handle extent ≡ h
-
-pub live_at : (xs : List Extent) (h : ℕ) → list_any (λ (x : Extent). handle x == h) xs ≡ true → LiveAt xs h
-live_at xs h i =
-    let p = passing (λ (x : Extent). handle x == h) xs i in
-    record { extent = p.extent; listed = p.listed; at = eqb-true (handle p.extent) h p.passes }
 
 in_own : (n : ℕ) (ns : List ℕ) → is_in n ns ≡ true → (h : ℕ) → is_in h ns ≡ false → h ≡ n → ⊥
 in_own n ns i h o e = both_ways (is_in n ns) (subst (λ k. is_in k ns ≡ false) e o) i
@@ -84,9 +70,9 @@ module _ {len : ℕ} {ns : List ℕ} {c d : Cut} {n : ℕ} (g : PairNode len ns 
       → word_at (bytes_of d.bytes) (k - 8) % 16 ≡ word_at (bytes_of c.bytes) (k - 8) % 16
   other_colour k t =
       let two = and_parts _ _ t in
-      let l = live_at (live_of c.bytes).extents k two.0 in
+      let l = passing (λ (x : Extent). handle x == k) (live_of c.bytes).extents two.0 in
       let far = in_own n ns g.listed k (not-true (is_in k ns) two.1) in
-      let at = l.at in
+      let at = eqb-true (handle l.extent) k l.passes in
       let w : l.extent.offset + 8 ≡ k - 8 = omega arith in
       subst (λ a. word_at (bytes_of d.bytes) a % 16 ≡ word_at (bytes_of c.bytes) a % 16) w
       (h.colours l.extent l.listed (λ e. far (sym at ∙ e)))
@@ -351,25 +337,6 @@ all_in P (y ∷ ys) x a (inr i) = all_in P ys x a.1 i
 pub same_red : (v w : ℕ) → w % 16 ≡ v % 16 → (w / 2 % 2 == 1) ≡ (v / 2 % 2 == 1)
 same_red v w e = let f : w / 2 % 2 ≡ v / 2 % 2 = omega arith in ap (λ k. k == 1) f
 
--- a byte in the payload of a block
-record InBlock (xs : List Extent) (k : ℕ) : Type 0 where
-  extent : Extent
-  listed : In extent xs
-  low : handle extent ≤ k
-  high : k < end_of extent
-
-in_block : (xs : List Extent) (k : ℕ) → list_any (λ (x : Extent). nat_le (handle x) k && nat_lt k (end_of x)) xs ≡ true
-    → InBlock xs k
-in_block xs k h =
-    let p = passing (λ (x : Extent). nat_le (handle x) k && nat_lt k (end_of x)) xs h in
-    let two = and_parts _ _ p.passes in
-    record {
-      extent = p.extent;
-      listed = p.listed;
-      low = leb-true (handle p.extent) k two.0;
-      high = ltb-true k (end_of p.extent) two.1;
-    }
-
 module _ {len : ℕ} {ns : List ℕ} {c d : Cut} {n : ℕ} {red : Bool} (g : PairNode len ns c n)
     (change : IsRecoloured current c d n red) (long : 16 ≤ len) where
   same_payload : (x : Extent) → In x (live_of c.bytes).extents
@@ -416,7 +383,11 @@ module _ {len : ℕ} {ns : List ℕ} {c d : Cut} {n : ℕ} {red : Bool} (g : Pai
           | inr l ↦ let both = and_parts _ _ l in change.keeps.behind.at k (leb-true 32 k both.0)
               (ltb-true k 128 both.1)
         ]
-        | inr e ↦ let b = in_block (live_of c.bytes).extents k e in (same_payload b.extent b.listed).at k b.low b.high
+        | inr e ↦
+            let b = passing (λ (x : Extent). nat_le (handle x) k && nat_lt k (end_of x)) (live_of c.bytes).extents e in
+            let both = and_parts _ _ b.passes in
+            (same_payload b.extent b.listed).at k (leb-true (handle b.extent) k both.0)
+            (ltb-true k (end_of b.extent) both.1)
       ]
 
   pub red_changed : Changed len ns c d n

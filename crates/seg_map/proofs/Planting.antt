@@ -1,13 +1,12 @@
 -- A pair whose node is made enters the map.
 use Rattle.seg_map.proofs.Common.{◌≡◌, refl, sym, ap, subst, ◌∙◌, ℕ, ◌+◌, ◌*◌, ◌%◌, ◌≤◌, inl, inr, true, false, not}
-use Rattle.seg_map.proofs.Common.{◌&&◌, List, ◌∷◌, length, arith, Option, Some, None, IfSome}
-use Rattle.seg_map.proofs.Common.{and_parts, eqb-true, eq-eqb, or_cases, or_left, or_right, current, Cut, bytes_of}
-use Rattle.seg_map.proofs.Common.{link_at, bits, nodes_of, has_place, is_in, leads, put, entry_of}
-use Rattle.seg_map.proofs.Common.{all_from, entry_same, handle, cells_of, LaysOut, live_of, Pair}
-use Rattle.seg_map.proofs.Common.{IsPairAt, put_pair, HoldsMap, IsPairIn, nodes_of_pairs, pair_node, comes_before}
-use Rattle.seg_map.proofs.Common.{is_pair_node, key_at, key_of, links_among, own_nodes, stands}
-use Rattle.seg_map.proofs.Common.{stands_before, Good, PairNode-is_pair_node, IsKeyTree, Linked, keys_in}
-use Rattle.seg_map.proofs.Common.{IsBesideMap, IsHeaded, IsLoose, IsPlanted, entry_in}
+use Rattle.seg_map.proofs.Common.{◌&&◌, List, ◌∷◌, length, arith, Option, Some, None, IfSome, and_parts, eqb-true}
+use Rattle.seg_map.proofs.Common.{eq-eqb, or_cases, or_left, or_right, current, Cut, bytes_of, link_at, bits, nodes_of}
+use Rattle.seg_map.proofs.Common.{has_place, is_in, leads, put, entry_of, all_from, entry_same, handle, cells_of}
+use Rattle.seg_map.proofs.Common.{LaysOut, live_of, Pair, IsPairAt, put_pair, HoldsMap, IsPairIn, nodes_of_pairs}
+use Rattle.seg_map.proofs.Common.{pair_node, comes_before, is_pair_node, key_at, key_of, links_among, own_nodes, stands}
+use Rattle.seg_map.proofs.Common.{stands_before, Good, PairNode-is_pair_node, IsKeyTree, Linked, keys_in, IsBesideMap}
+use Rattle.seg_map.proofs.Common.{IsHeaded, IsLoose, IsPlanted, entry_in}
 use Rattle.link_tree.proofs.Laws.{all_at}
 use Rattle.seg_types.specs.declared.plain.Plain.{Ghosts as Plain}
 use Rattle.seg_map.specs.Linking.{CanLink}

@@ -1,12 +1,12 @@
 -- The tree of a map is changed, and its three words are written.
 use Rattle.seg_map.proofs.Common.{◌≡◌, sym, ap, subst, ◌∙◌, ℕ, ◌+◌, ◌%◌, ◌<◌, ◌≤◌, ◌≢◌, ◌⊎◌, inl, inr, true, false}
 use Rattle.seg_map.proofs.Common.{List, [], ◌∷◌, length, arith, IsTrue, Option, Some, None, false≢true, cases_eq}
-use Rattle.seg_map.proofs.Common.{current, Cut, Same, bytes_of, SamePlace-trans, Same-trans, Tree, leaf, fork}
-use Rattle.seg_map.proofs.Common.{nodes_of, root_of, is_in, leads, tree_same, SameBlockBut, Extent, handle, end_of}
-use Rattle.seg_map.proofs.Common.{others, cells_of, IsHeap, Keeps, SameBlock, extent_at, has_room, live_of}
-use Rattle.seg_map.proofs.Common.{changed-keeps, changed-live, laid-heap, roomy, Pair, is_rising, HoldsMap, IsPairIn}
-use Rattle.seg_map.proofs.Common.{nodes_of_pairs, is_pair_node, kept_of, pair_cells, Good, cells_at, PairNode}
-use Rattle.seg_map.proofs.Common.{PairNode-is_pair_node, is_pair_node-PairNode, IsKeyTree, IsBesideMap, IsHeaded}
+use Rattle.seg_map.proofs.Common.{current, Cut, Same, bytes_of, SamePlace-trans, Same-trans, Tree, leaf, fork, nodes_of}
+use Rattle.seg_map.proofs.Common.{root_of, is_in, leads, tree_same, SameBlockBut, Extent, handle, end_of, others}
+use Rattle.seg_map.proofs.Common.{cells_of, IsHeap, Keeps, SameBlock, extent_at, has_room, live_of, changed-keeps}
+use Rattle.seg_map.proofs.Common.{changed-live, laid-heap, roomy, Pair, is_rising, HoldsMap, IsPairIn, nodes_of_pairs}
+use Rattle.seg_map.proofs.Common.{is_pair_node, kept_of, pair_cells, Good, cells_at, PairNode, PairNode-is_pair_node}
+use Rattle.seg_map.proofs.Common.{is_pair_node-PairNode, IsKeyTree, IsBesideMap, IsHeaded}
 use Rattle.best_fit.proofs.Laws.{but-trans, written-but}
 use Rattle.seg_types.specs.declared.plain.Plain.{Ghosts as Plain}
 use Rattle.seg_map.proofs.Entering.{AreAt, AreIn, Laws, found_in, other_block, pair_parts}

@@ -2,19 +2,18 @@
 use Rattle.seg_map.proofs.Common.{◌≡◌, refl, sym, ap, subst, ◌∙◌, ℕ, ◌+◌, ◌*◌, ◌≤◌, Bool, List, [], ◌∷◌, length, true}
 use Rattle.seg_map.proofs.Common.{false, arith, not, IsTrue, reverse, Option, Some, None, IfSome, find, option_map}
 use Rattle.seg_map.proofs.Common.{if◌then◌else◌, AllByRecursion, last_or, Cut, bytes_of, read, link_at, IsSearchTree}
-use Rattle.seg_map.proofs.Common.{Tree, bits, nodes_of, first_not, last_before, entry_of, has_room, live_of}
-use Rattle.seg_map.proofs.Common.{found-room, room-less, IsKeyTree, keys_in, Pair, IsPairAt, is_rising, pair_at}
-use Rattle.seg_map.proofs.Common.{Chains, comes_before, own_nodes, pair_cells, stands_before, HoldsMap, IsPairIn}
-use Rattle.seg_map.proofs.Common.{final_pair, first_pair, is_passed, last_pair, pair_node, entry_in, exit_in}
+use Rattle.seg_map.proofs.Common.{Tree, bits, nodes_of, first_not, last_before, entry_of, has_room, live_of, found-room}
+use Rattle.seg_map.proofs.Common.{room-less, IsKeyTree, keys_in, Pair, IsPairAt, is_rising, pair_at, Chains}
+use Rattle.seg_map.proofs.Common.{comes_before, own_nodes, pair_cells, stands_before, HoldsMap, IsPairIn, final_pair}
+use Rattle.seg_map.proofs.Common.{first_pair, is_passed, last_pair, pair_node, entry_in, exit_in}
 use Rattle.std.specs.Prelude.{option_and_then}
 use Rattle.link_tree.specs.Searching.{path_length}
 use Rattle.link_tree.specs.Ways.{exit_of}
 use Rattle.seg_types.specs.declared.plain.Plain.{Ghosts as Plain}
 use Rattle.seg_map.specs.PairNodes.{both}
-use Rattle.seg_map.specs.Places.{IsSomeMap, SearchSteps, item_of}
-use Rattle.seg_map.specs.Places.{value_of_pair}
-use Rattle.seg_map.specs.Searches.{FindsExit, IsOpened, IsRead, LooksFor, LooksUp, item_at}
-use Rattle.seg_map.specs.Searches.{last_path, node_with, path_in, reading_steps}
+use Rattle.seg_map.specs.Places.{IsSomeMap, SearchSteps, item_of, value_of_pair}
+use Rattle.seg_map.specs.Searches.{FindsExit, IsOpened, IsRead, LooksFor, LooksUp, item_at, last_path, node_with}
+use Rattle.seg_map.specs.Searches.{path_in, reading_steps}
 use Rattle.seg_map.proofs.Entering.{AreAt, AreIn, HaveKeys, Laws, first_node, key_tree, keys, last_node, length-nodes}
 use Rattle.seg_map.proofs.Entering.{own, pair_parts, read_spelled, value_of}
 use Rattle.seg_map.proofs.Beginnings.{narrowed}

@@ -1,10 +1,10 @@
 -- A map whose blocks stay stays.
 use Rattle.seg_map.proofs.Common.{◌≡◌, refl, sym, ap, subst, ◌∙◌, ℕ, ◌+◌, ◌-◌, ◌%◌, ◌≤◌, inl, inr, true, List, [], ◌∷◌}
 use Rattle.seg_map.proofs.Common.{length, arith, IsTrue, Some, AllByRecursion, false≢true, or_cases, eqb-true, current}
-use Rattle.seg_map.proofs.Common.{Memory, Cut, Same, bytes_of, word_at, Has-same, Same-word, Same-link, nodes_of}
-use Rattle.seg_map.proofs.Common.{is_in, holds_same, Extent, LiveSet, handle, cells_of, IsHeap, SameBlock}
-use Rattle.seg_map.proofs.Common.{extent_at, has_room, live_of, cell_stays, Pair, IsPairAt, is_rising, HoldsMap}
-use Rattle.seg_map.proofs.Common.{IsPairIn, nodes_of_pairs, pair_node}
+use Rattle.seg_map.proofs.Common.{Memory, Cut, Same, bytes_of, word_at, Has-same, Same-word, Same-link, nodes_of, is_in}
+use Rattle.seg_map.proofs.Common.{holds_same, Extent, LiveSet, handle, cells_of, IsHeap, SameBlock, extent_at, has_room}
+use Rattle.seg_map.proofs.Common.{live_of, cell_stays, Pair, IsPairAt, is_rising, HoldsMap, IsPairIn, nodes_of_pairs}
+use Rattle.seg_map.proofs.Common.{pair_node}
 use Rattle.seg_types.specs.declared.plain.Plain.{Ghosts as Plain}
 use Rattle.seg_map.proofs.Entering.{AreAt, AreIn, Laws, length-nodes, pair_parts}
 use Rattle.seg_map.proofs.PairSteps.{same_red}

@@ -6,10 +6,11 @@ use Rattle.block_tags.specs.Tiles.{tile_at}
 use Rattle.image_explain.specs.declared.tags.Place.{Place}
 use Rattle.image_explain.specs.Walking.{IsNext}
 use Rattle.image_explain.specs.WrongTags.{Leads, goes_on}
-use Rattle.image_explain.proofs.Stopping.{right-inside, right-long}
+use Rattle.image_explain.proofs.Stopping.{right-inside}
 
 module _ (b : List ℕ) (old new : Place) (n : IsNext b old new) where
-  pub leads-next : Leads current (bytes_of b) (length b - 16) old.at old.before old.free → old.at < length b - 16 → Leads current (bytes_of b) (length b - 16) new.at new.before new.free
+  pub leads-next : Leads current (bytes_of b) (length b - 16) old.at old.before old.free → old.at < length b - 16
+      → Leads current (bytes_of b) (length b - 16) new.at new.before new.free
   leads-next l lt =
       let m = bytes_of b in
       let end = length b - 16 in
@@ -19,7 +20,5 @@ module _ (b : List ℕ) (old new : Place) (n : IsNext b old new) where
       (subst (λ x. Leads current m end (old.at + (tile_at m old.at).len) (tile_at m old.at).len x) (sym n.free) behind))
 
   pub next-inside : new.at ≤ length b - 16
-  next-inside = let h = right-inside current (bytes_of b) (length b - 16) old.at old.before old.free n.right in omega (arith, n.at, h)
-
-  pub next-nearer : old.at < new.at
-  next-nearer = let h = right-long current (bytes_of b) (length b - 16) old.at old.before old.free n.right in omega (arith, n.at, h)
+  next-inside = let h = right-inside current (bytes_of b) (length b - 16) old.at old.before old.free n.right in omega
+      (arith, n.at, h)

@@ -1,10 +1,13 @@
 -- A tag where a walk stops makes the tags of an image wrong, and where it stops nowhere they are right.
-use Rattle.std.proofs.Common.{◌≡◌, ℕ, zero, suc, ◌+◌, ◌-◌, ◌*◌, ◌/◌, ◌%◌, ◌<◌, ◌≤◌, Bool, true, false, not, ◌&&◌, List, [], ◌∷◌, nat_lt, refl, sym, ap, ◌∙◌, arith, inl, inr}
+use Rattle.std.proofs.Common.{◌≡◌, ℕ, zero, suc, ◌+◌, ◌-◌, ◌*◌, ◌/◌, ◌%◌, ◌<◌, ◌≤◌, Bool, true, false, not, ◌&&◌, List}
+use Rattle.std.proofs.Common.{[], ◌∷◌, nat_lt, refl, sym, ap, ◌∙◌, arith, inl, inr}
 use Rattle.std.specs.Prelude.{nat_le, ◌==◌, ◌||◌}
-use Rattle.std.proofs.lemmas.Bool.{and_parts, and_from, cases_lt, cond-false, cond-true, eq-eqb, eqb-true, false_from_ne_true, le-leb, le-ltb, leb-true, lt-ltb, true≢false}
+use Rattle.std.proofs.lemmas.Bool.{and_parts, and_from, cases_lt, cond-false, cond-true, eq-eqb, eqb-true}
+use Rattle.std.proofs.lemmas.Bool.{false_from_ne_true, le-leb, le-ltb, leb-true, lt-ltb, true≢false}
 use Rattle.raw_region.specs.Memory.{Memory, word_at}
 use Rattle.block_tags.specs.declared.tile.Tile.{Tile}
-use Rattle.block_tags.specs.Tiles.{are_tags, has_tags, is_free, is_merged, is_tile, may_be_red, tag_word, tile_at, tiles_from, tiles_of}
+use Rattle.block_tags.specs.Tiles.{are_tags, has_tags, is_free, is_merged, is_tile, may_be_red, tag_word, tile_at}
+use Rattle.block_tags.specs.Tiles.{tiles_from, tiles_of}
 use Rattle.image_explain.specs.WrongTags.{Leads, StopsAt, begins, goes_on, is_end, is_right, is_right_there}
 
 -- no free tile follows a free one, behind a tile that is free or not
@@ -25,11 +28,14 @@ merged-all (t ∷ ts) = refl
 pub tiles-none : (more : ℕ) (m : Memory) (at end : ℕ) → end ≤ at → tiles_from more m at end ≡ []
 tiles-none zero m at end h = refl
 tiles-none (suc more) m at end h =
-    ap (λ (c : Bool). elim c [ false ↦ [] | true ↦ tile_at m at ∷ tiles_from more m (at + (tile_at m at).len) end ]) (le-ltb at end h)
+    ap (λ (c : Bool). elim c [ false ↦ [] | true ↦ tile_at m at ∷ tiles_from more m (at + (tile_at m at).len) end ])
+    (le-ltb at end h)
 
-pub tiles-some : (more : ℕ) (m : Memory) (at end : ℕ) → at < end → tiles_from (suc more) m at end ≡ tile_at m at ∷ tiles_from more m (at + (tile_at m at).len) end
+pub tiles-some : (more : ℕ) (m : Memory) (at end : ℕ) → at < end
+    → tiles_from (suc more) m at end ≡ tile_at m at ∷ tiles_from more m (at + (tile_at m at).len) end
 tiles-some more m at end h =
-    ap (λ (c : Bool). elim c [ false ↦ [] | true ↦ tile_at m at ∷ tiles_from more m (at + (tile_at m at).len) end ]) (lt-ltb at end h)
+    ap (λ (c : Bool). elim c [ false ↦ [] | true ↦ tile_at m at ∷ tiles_from more m (at + (tile_at m at).len) end ])
+    (lt-ltb at end h)
 
 -- ---- what a tag says that is right
 
@@ -46,33 +52,47 @@ tile-long format t h =
     let two = and_parts (nat_le 32 t.len && (t.len % 16 == 0)) (not t.red || may_be_red format t.use_of) h in
     leb-true 32 t.len (and_parts (nat_le 32 t.len) (t.len % 16 == 0) two.0).0
 
-right-parts : (format : ℕ) (m : Memory) (end at before : ℕ) (free : Bool) → is_right format m end at before free ≡ true → IsRight format m end at before free
+right-parts : (format : ℕ) (m : Memory) (end at before : ℕ) (free : Bool) → is_right format m end at before free ≡ true
+    → IsRight format m end at before free
 right-parts format m end at before free h =
     let t : Tile = tile_at m at in
-    let four = and_parts (is_tile format t && (word_at m at == before) && (word_at m (at + 8) == tag_word t) && nat_le (at + t.len) end) (not (free && is_free t)) h in
-    let three = and_parts (is_tile format t && (word_at m at == before) && (word_at m (at + 8) == tag_word t)) (nat_le (at + t.len) end) four.0 in
+    let four = and_parts (is_tile format t && (word_at m at == before) && (word_at m (at + 8) == tag_word t) && nat_le
+    (at + t.len) end) (not (free && is_free t)) h in
+    let three = and_parts (is_tile format t && (word_at m at == before) && (word_at m (at + 8) == tag_word t))
+    (nat_le (at + t.len) end) four.0 in
     let two = and_parts (is_tile format t && (word_at m at == before)) (word_at m (at + 8) == tag_word t) three.0 in
     let one = and_parts (is_tile format t) (word_at m at == before) two.0 in
-    record { tile = one.0; long = tile-long format t one.0; first = one.1; second = two.1; inside = leb-true (at + t.len) end three.1; merged = four.1 }
+    record {
+      tile = one.0;
+      long = tile-long format t one.0;
+      first = one.1;
+      second = two.1;
+      inside =
+          leb-true (at + t.len) end three.1;
+      merged = four.1;
+    }
 
 -- ---- where the walk stops nowhere
 
 -- all tags from an offset on are right, however many tiles are read off
 abbrev AreRight : ℕ → Memory → ℕ → ℕ → ℕ → Bool → Type 0
 AreRight format m end at before free =
-    (more : ℕ) → end ≤ at + 32 * more → (are_tags format m at before (tiles_from more m at end) end ≡ true) × (is_merged_behind free (tiles_from more m at end) ≡ true)
+    (more : ℕ) → end ≤ at + 32 * more → (are_tags format m at before (tiles_from more m at end)
+    end ≡ true) × (is_merged_behind free (tiles_from more m at end) ≡ true)
 
 module _ (format : ℕ) (m : Memory) (end at before : ℕ) (free : Bool) where
   ends-right : at ≡ end → is_end m at before ≡ true → AreRight format m end at before free
   ends-right e h = λ more few.
       let none = tiles-none more m at end (omega arith) in
       let words = and_parts (word_at m at == before) (word_at m (at + 8) == 1) h in (
-        ap (λ ts. are_tags format m at before ts end) none ∙ and_from ((at == end) && (word_at m at == before)) (word_at m (at + 8) == 1)
+        ap (λ ts. are_tags format m at before ts end) none
+            ∙ and_from ((at == end) && (word_at m at == before)) (word_at m (at + 8) == 1)
             (and_from (at == end) (word_at m at == before) (eq-eqb at end e) words.0) words.1,
         ap (is_merged_behind free) none,
       )
 
-  step-right : at < end → is_right format m end at before free ≡ true → AreRight format m end (at + (tile_at m at).len) (tile_at m at).len (is_free (tile_at m at))
+  step-right : at < end → is_right format m end at before free ≡ true
+      → AreRight format m end (at + (tile_at m at).len) (tile_at m at).len (is_free (tile_at m at))
       → AreRight format m end at before free
   step-right lt h rest zero few = absurd (omega arith)
   step-right lt h rest (suc more) few =
@@ -82,22 +102,31 @@ module _ (format : ℕ) (m : Memory) (end at before : ℕ) (free : Bool) where
       let behind = rest more (omega (arith, r.long)) in
       let some = tiles-some more m at end lt in (
         ap (λ us. are_tags format m at before us end) some
-            ∙ and_from ((t.offset == at) && is_tile format t && (word_at m at == before) && (word_at m (at + 8) == tag_word t)) (are_tags format m (at + t.len) t.len ts end)
-            (and_from ((t.offset == at) && is_tile format t && (word_at m at == before)) (word_at m (at + 8) == tag_word t)
-            (and_from ((t.offset == at) && is_tile format t) (word_at m at == before) (and_from (t.offset == at) (is_tile format t) (eq-eqb at at refl) r.tile) r.first) r.second) behind.0,
-        ap (is_merged_behind free) some ∙ and_from (not (free && is_free t)) (is_merged (t ∷ ts)) r.merged (merged-cons t ts ∙ behind.1),
+            ∙ and_from ((t.offset == at) && is_tile format
+            t && (word_at m at == before) && (word_at m (at + 8) == tag_word t))
+            (are_tags format m (at + t.len) t.len ts end)
+            (and_from ((t.offset == at) && is_tile format t && (word_at m at == before))
+            (word_at m (at + 8) == tag_word t)
+            (and_from ((t.offset == at) && is_tile format t) (word_at m at == before)
+            (and_from (t.offset == at) (is_tile format t) (eq-eqb at at refl) r.tile) r.first) r.second) behind.0,
+        ap (is_merged_behind free) some ∙ and_from (not (free && is_free t)) (is_merged (t ∷ ts)) r.merged
+            (merged-cons t ts ∙ behind.1),
       )
 
-lead-right : (format : ℕ) (m : Memory) (end : ℕ) {at before : ℕ} {free : Bool} → Leads format m end at before free → AreRight format m end at before free → AreRight format m end 128 0 false
+lead-right : (format : ℕ) (m : Memory) (end : ℕ) {at before : ℕ} {free : Bool} → Leads format m end at before free
+    → AreRight format m end at before free → AreRight format m end 128 0 false
 lead-right format m end begins r = r
-lead-right format m end (goes_on {at} {before} {free} l lt h) r = lead-right format m end l (step-right format m end at before free lt h r)
+lead-right format m end (goes_on {at} {before} {free} l lt h) r =
+    lead-right format m end l (step-right format m end at before free lt h r)
 
 -- the tags are right where right ones lead to a right end
-pub all-right : (format : ℕ) (m : Memory) (size at before : ℕ) (free : Bool) → Leads format m (size - 16) at before free → at ≡ size - 16 → is_end m at before ≡ true → has_tags format m size ≡ true
+pub all-right : (format : ℕ) (m : Memory) (size at before : ℕ) (free : Bool) → Leads format m (size - 16) at before free
+    → at ≡ size - 16 → is_end m at before ≡ true → has_tags format m size ≡ true
 all-right format m size at before free l e h =
     let end = size - 16 in
     let right = lead-right format m end l (ends-right format m end at before free e h) (size / 32) (omega arith) in
-    and_from (are_tags format m 128 0 (tiles_of m size) end) (is_merged (tiles_of m size)) right.0 (sym (merged-all (tiles_of m size)) ∙ right.1)
+    and_from (are_tags format m 128 0 (tiles_of m size) end) (is_merged (tiles_of m size)) right.0
+    (sym (merged-all (tiles_of m size)) ∙ right.1)
 
 -- ---- where it stops
 
@@ -107,52 +136,68 @@ record Stand (format : ℕ) (m : Memory) (end at before : ℕ) (free : Bool) : T
   tags : are_tags format m at before (tiles_from more m at end) end ≡ true
   merged : is_merged_behind free (tiles_from more m at end) ≡ true
 
-pub tags-reach : (format : ℕ) (m : Memory) (at before : ℕ) (ts : List Tile) (end : ℕ) → are_tags format m at before ts end ≡ true → at ≤ end
+pub tags-reach : (format : ℕ) (m : Memory) (at before : ℕ) (ts : List Tile) (end : ℕ)
+    → are_tags format m at before ts end ≡ true → at ≤ end
 tags-reach format m at before [] end h =
     let two = and_parts ((at == end) && (word_at m at == before)) (word_at m (at + 8) == 1) h in
     let e = eqb-true at end (and_parts (at == end) (word_at m at == before) two.0).0 in
     omega arith
 tags-reach format m at before (t ∷ ts) end h =
-    let two = and_parts ((t.offset == at) && is_tile format t && (word_at m at == before) && (word_at m (at + 8) == tag_word t)) (are_tags format m (at + t.len) t.len ts end) h in
+    let two = and_parts ((t.offset == at) && is_tile format
+    t && (word_at m at == before) && (word_at m (at + 8) == tag_word t)) (are_tags format m (at + t.len) t.len ts end)
+    h in
     let on = tags-reach format m (at + t.len) t.len ts end two.1 in
     omega arith
 
-none-stand : (format : ℕ) (m : Memory) (end at before : ℕ) → are_tags format m at before [] end ≡ true → (at ≡ end) × (is_end m at before ≡ true)
+none-stand : (format : ℕ) (m : Memory) (end at before : ℕ) → are_tags format m at before [] end ≡ true
+    → (at ≡ end) × (is_end m at before ≡ true)
 none-stand format m end at before h =
     let two = and_parts ((at == end) && (word_at m at == before)) (word_at m (at + 8) == 1) h in
     let one = and_parts (at == end) (word_at m at == before) two.0 in
     (eqb-true at end one.0, and_from (word_at m at == before) (word_at m (at + 8) == 1) one.1 two.1)
 
 module _ (format : ℕ) (m : Memory) (end at before : ℕ) (free : Bool) where
-  stand-more : (more : ℕ) → are_tags format m at before (tiles_from more m at end) end ≡ true → is_merged_behind free (tiles_from more m at end) ≡ true → at < end
-      → (is_right format m end at before free ≡ true) × Stand format m end (at + (tile_at m at).len) (tile_at m at).len (is_free (tile_at m at))
+  stand-more : (more : ℕ) → are_tags format m at before (tiles_from more m at end) end ≡ true
+      → is_merged_behind free (tiles_from more m at end) ≡ true → at < end
+      → (is_right format m end at before free ≡ true) × Stand format m end (at + (tile_at m at).len) (tile_at m at).len
+      (is_free (tile_at m at))
   stand-more zero h k lt = let e = (none-stand format m end at before h).0 in absurd (omega arith)
   stand-more (suc more) h k lt =
       let t : Tile = tile_at m at in
       let ts = tiles_from more m (at + t.len) end in
       let some = tiles-some more m at end lt in
-      let tags : are_tags format m at before (t ∷ ts) end ≡ true = sym (ap (λ us. are_tags format m at before us end) some) ∙ h in
+      let tags : are_tags format m at before (t ∷ ts) end ≡ true =
+      sym (ap (λ us. are_tags format m at before us end) some) ∙ h in
       let merged : is_merged_behind free (t ∷ ts) ≡ true = sym (ap (is_merged_behind free) some) ∙ k in
-      let four = and_parts ((t.offset == at) && is_tile format t && (word_at m at == before) && (word_at m (at + 8) == tag_word t)) (are_tags format m (at + t.len) t.len ts end) tags in
-      let three = and_parts ((t.offset == at) && is_tile format t && (word_at m at == before)) (word_at m (at + 8) == tag_word t) four.0 in
+      let four = and_parts ((t.offset == at) && is_tile format
+      t && (word_at m at == before) && (word_at m (at + 8) == tag_word t)) (are_tags format m (at + t.len) t.len ts end)
+      tags in
+      let three = and_parts ((t.offset == at) && is_tile format t && (word_at m at == before))
+      (word_at m (at + 8) == tag_word t) four.0 in
       let two = and_parts ((t.offset == at) && is_tile format t) (word_at m at == before) three.0 in
       let tile = (and_parts (t.offset == at) (is_tile format t) two.0).1 in
       let apart = and_parts (not (free && is_free t)) (is_merged (t ∷ ts)) merged in
       let inside = le-leb (at + t.len) end (tags-reach format m (at + t.len) t.len ts end four.1) in (
-        and_from (is_tile format t && (word_at m at == before) && (word_at m (at + 8) == tag_word t) && nat_le (at + t.len) end) (not (free && is_free t))
-            (and_from (is_tile format t && (word_at m at == before) && (word_at m (at + 8) == tag_word t)) (nat_le (at + t.len) end)
-            (and_from (is_tile format t && (word_at m at == before)) (word_at m (at + 8) == tag_word t) (and_from (is_tile format t) (word_at m at == before) tile two.1) three.1) inside) apart.0,
+        and_from (is_tile format t && (word_at m at == before) && (word_at m (at + 8) == tag_word t) && nat_le
+            (at + t.len) end) (not (free && is_free t))
+            (and_from (is_tile format t && (word_at m at == before) && (word_at m (at + 8) == tag_word t))
+            (nat_le (at + t.len) end)
+            (and_from (is_tile format t && (word_at m at == before)) (word_at m (at + 8) == tag_word t)
+            (and_from (is_tile format t) (word_at m at == before) tile two.1) three.1) inside) apart.0,
         record { more = more; tags = four.1; merged = sym (merged-cons t ts) ∙ apart.1 },
       )
 
   stands-there : Stand format m end at before free → is_right_there format m end at before free ≡ true
   stands-there s = elim (cases_lt at end) [
-    | inl lt ↦ cond-true (nat_lt at end) (is_right format m end at before free) (is_end m at before) (lt-ltb at end lt) ∙ (stand-more s.more s.tags s.merged lt).0
+    | inl lt ↦ cond-true (nat_lt at end) (is_right format m end at before free) (is_end m at before) (lt-ltb at end lt)
+        ∙ (stand-more s.more s.tags s.merged lt).0
     | inr le ↦ cond-false (nat_lt at end) (is_right format m end at before free) (is_end m at before) (le-ltb at end le)
-        ∙ (none-stand format m end at before (sym (ap (λ ts. are_tags format m at before ts end) (tiles-none s.more m at end le)) ∙ s.tags)).1
+        ∙ (none-stand format m end at before (sym
+        (ap (λ ts. are_tags format m at before ts end) (tiles-none s.more m at end le)) ∙ s.tags)).1
   ]
 
-lead-stand : (format : ℕ) (m : Memory) (end : ℕ) {at before : ℕ} {free : Bool} → Leads format m end at before free → Stand format m end 128 0 false → Stand format m end at before free
+lead-stand : (format : ℕ) (m : Memory) (end : ℕ) {at before : ℕ} {free : Bool} → Leads format m end at before free
+    → Stand format m end 128 0 false → Stand format m end at before free
 lead-stand format m end begins s = s
 lead-stand format m end (goes_on {at} {before} {free} l lt h) s =
     let here = lead-stand format m end l s in
@@ -163,13 +208,12 @@ pub stop-wrong : (format : ℕ) (m : Memory) (size at : ℕ) → StopsAt format 
 stop-wrong format m size at s =
     false_from_ne_true (has_tags format m size) (λ h.
     let two = and_parts (are_tags format m 128 0 (tiles_of m size) (size - 16)) (is_merged (tiles_of m size)) h in
-    let first : Stand format m (size - 16) 128 0 false = record { more = size / 32; tags = two.0; merged = merged-all (tiles_of m size) ∙ two.1 } in
+    let first : Stand format m (size - 16) 128 0 false =
+    record { more = size / 32; tags = two.0; merged = merged-all (tiles_of m size) ∙ two.1 } in
     let right = stands-there format m (size - 16) at s.before s.free (lead-stand format m (size - 16) s.leads first) in
     true≢false (sym right ∙ s.wrong))
 
 -- a tile behind which a walk goes on ends in the segment, and further on
-pub right-inside : (format : ℕ) (m : Memory) (end at before : ℕ) (free : Bool) → is_right format m end at before free ≡ true → at + (tile_at m at).len ≤ end
+pub right-inside : (format : ℕ) (m : Memory) (end at before : ℕ) (free : Bool)
+    → is_right format m end at before free ≡ true → at + (tile_at m at).len ≤ end
 right-inside format m end at before free h = (right-parts format m end at before free h).inside
-
-pub right-long : (format : ℕ) (m : Memory) (end at before : ℕ) (free : Bool) → is_right format m end at before free ≡ true → 32 ≤ (tile_at m at).len
-right-long format m end at before free h = (right-parts format m end at before free h).long

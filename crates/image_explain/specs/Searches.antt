@@ -1,5 +1,5 @@
 -- What a search for a link that leads to a block comes to.
-use Rattle.std.specs.Prelude.{◌≡◌, ◌<◌, ◌≤◌, ◌⊎◌, ℕ, ◌+◌, ◌*◌, Bool, true, false, not, ◌&&◌, ◌==◌, IsTrue, Option, Some, None, List, [], ◌∷◌, is_some, if◌then◌else◌}
+use Rattle.std.specs.Prelude.{◌≡◌, ◌<◌, ◌≤◌, ℕ, ◌+◌, ◌*◌, Bool, true, false, not, ◌&&◌, ◌==◌, IsTrue, Option, Some, None, List, is_some, if◌then◌else◌}
 use Rattle.raw_region.specs.Memory.{Memory, word_at}
 use Rattle.offset_link.specs.Link.{link_at}
 use Rattle.block_tags.specs.declared.tile.Role.{Role}
@@ -84,7 +84,6 @@ pub record FromTile (format : ℕ) (m : Memory) (ts : List Tile) (t : Tile) (at 
   pub is : kind_at format m (payload t) ≡ Some kind
   pub value : FromValue m ts (value_offset m (payload t)) kind at target
 
--- since one of these tiles is
-abbrev pub FromTiles : ℕ → Memory → List Tile → List Tile → ℕ → ℕ → Type 0
-FromTiles format m ts [] at target = ⊥
-FromTiles format m ts (t ∷ us) at target = FromTile format m ts t at target ⊎ FromTiles format m ts us at target
+-- none of those links is sought
+pub record HasNoneSought (format : ℕ) (m : Memory) (ts : List Tile) (t : Tile) (sought : Sought) : Type 0 where
+  pub none : IsSearched (FromTile format m ts t) sought Missing

@@ -1,11 +1,12 @@
-//! The links of an image whose tags are right, and the blocks that they lead to.
+//! The tiles of an image whose tags are right, its links, and the blocks that they lead to.
 ghost use Rattle.std.specs.Prelude.{◌≡◌, ◌+◌, ◌≤◌, ◌&&◌, ◌==◌, ◌^◌, IfSome, length};
 ghost use Rattle.raw_region.specs.Memory.{bytes_of};
 ghost use Rattle.offset_link.specs.Link.{link_at};
+ghost use Rattle.block_tags.specs.declared.tile.Tile.{Tile as ATile};
 ghost use Rattle.best_fit.specs.Table.{same_role};
 ghost use Rattle.image_check.specs.ObjectTests.{good_for, is_use, tile_of};
 ghost use Rattle.image_check.specs.Passes.{HasTiles, tiles_in};
-ghost use Rattle.image_explain.specs.Blocks.{LiesAt};
+ghost use Rattle.image_explain.specs.Blocks.{Finds, LiesAt};
 
 use crate::tags::tile_at;
 use block_tags::{FIRST, Role, TAG, Tile};
@@ -26,22 +27,31 @@ pub fn link_in(image: &[u8], at: u64) -> Option<u64>
     Some(at.wrapping_add(word))
 }
 
+/// The first tile that passes a test.
+pub fn first_tile<F: Fn(Tile) -> bool>(image: &[u8], passes: F) -> Option<Tile>
+    requires tiles { HasTiles image.now }
+    requires callable { (t : ATile) → LiesAt (length image.now) (t.offset + 16) t → F.pre passes t }
+    ensures { Finds (F.post passes) (length image.now) (tiles_in image.now) result }
+{
+    let end = image.len() as u64 - TAG;
+    let mut at = FIRST;
+    'tiles: while at < end {
+        let tile = tile_at(image, at);
+        if passes(tile) {
+            return Some(tile);
+        }
+        at += tile.len;
+    }
+    None
+}
+
 /// The block of a role whose payload begins at `target`.
 pub fn block_at(image: &[u8], role: Role, target: u64) -> Option<Tile>
     requires { HasTiles image.now }
     ensures is { result ≡ tile_of (tiles_in image.now) role target }
     ensures lies { IfSome result (LiesAt (length image.now) target) }
 {
-    let end = image.len() as u64 - TAG;
-    let mut at = FIRST;
-    'tiles: while at < end {
-        let tile = tile_at(image, at);
-        if is_block(tile, role, target) {
-            return Some(tile);
-        }
-        at += tile.len;
-    }
-    None
+    first_tile(image, |tile| is_block(tile, role, target))
 }
 
 /// Whether the tile is a block of a role whose payload begins at `target`.

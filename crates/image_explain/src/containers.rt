@@ -7,20 +7,13 @@ ghost use Rattle.image_check.specs.Fields.{element_offsets, is_array_at, is_cont
 ghost use Rattle.image_check.specs.Passes.{HasTiles, tiles_in};
 ghost use Rattle.image_explain.specs.ContainerPlaces.{HasWrongContainer, IsWrongContainer};
 
-use crate::blocks::{is_used_as, link_in};
-use crate::heads::{are_spellings, kind_in, value_in};
+use crate::blocks::{first_tile, is_used_as, link_in};
+use crate::heads::{CONTAINER_LEN, ELEMENT_LEN, are_spellings, kind_in, value_in};
 use crate::indexes::is_table_link;
 use crate::maps::is_wrong_map;
-use crate::tags::tile_at;
-use block_tags::{FIRST, Role, TAG, Tile};
+use block_tags::{Role, TAG, Tile};
 use raw_region::word_in;
 use seg_types::{Kind, ScalarKind};
-
-/// The bytes of the value of a vector, a string or a map.
-const CONTAINER_LEN: u64 = 24;
-
-/// The bytes of an element of a vector of texts.
-const ELEMENT_LEN: u64 = 16;
 
 /// The payload of the first object whose container was found to be wrong. Of a map all but the
 /// order of its keys and the colours of its nodes is looked at.
@@ -28,16 +21,8 @@ pub fn container_place(image: &[u8]) -> Option<u64>
     requires { HasTiles image.now }
     ensures { IfSome result (IsWrongContainer current (bytes_of image.now) (tiles_in image.now)) }
 {
-    let end = image.len() as u64 - TAG;
-    let mut at = FIRST;
-    'tiles: while at < end {
-        let tile = tile_at(image, at);
-        if is_wrong_tile(image, tile) {
-            return Some(at + TAG);
-        }
-        at += tile.len;
-    }
-    None
+    let tile = first_tile(image, |tile| is_wrong_tile(image, tile))?;
+    Some(tile.offset + TAG)
 }
 
 /// Whether the tile is that of an object whose container was found to be wrong.

@@ -1,17 +1,12 @@
 //! Why an image is refused, and the place that shows it.
-ghost use Rattle.std.specs.Prelude.{◌≡◌, ◌≤◌, ◌^◌, ◌⊎◌, codes, length, true, Some, IfSome, MatchBool, MatchOption};
+ghost use Rattle.std.specs.Prelude.{◌≡◌, ◌≤◌, ◌^◌, ◌⊎◌, codes, length, true, Some, MatchBool, MatchOption};
 ghost use Rattle.raw_region.specs.Format.{current};
 ghost use Rattle.raw_region.specs.Memory.{AreZero, bytes_of};
 ghost use Rattle.block_tags.specs.Tiles.{has_tags};
-ghost use Rattle.image_check.specs.Classes.{class_of};
+ghost use Rattle.image_check.specs.Classes.{class_of, number_of};
 ghost use Rattle.image_check.specs.EarlyTests.{has_magic, has_reserved};
-ghost use Rattle.image_check.specs.ObjectTests.{has_indexes, has_objects};
 ghost use Rattle.image_check.specs.Passes.{HasTiles, tiles_in};
 ghost use Rattle.image_explain.specs.Explains.{Explains, IsShown, words_of};
-ghost use Rattle.image_explain.specs.ContainerPlaces.{IsWrongContainer};
-ghost use Rattle.image_explain.specs.IndexPlaces.{IsWrongIndex};
-ghost use Rattle.image_explain.specs.ObjectPlaces.{IsWrongObject};
-ghost use Rattle.image_explain.specs.OwnerPlaces.{IsOrphanAt, IsSharedAt};
 ghost use Rattle.image_explain.specs.Shows.{IsFirstFilled, IsFirstOther, shown_size};
 ghost use Rattle.image_explain.specs.WrongTags.{StopsAt};
 
@@ -85,11 +80,7 @@ fn place_of(image: &[u8], class: ImageClass) -> Option<u64>
         ImageClass::BadReserved => reserved_place(image),
         ImageClass::BadTag => tag_place(image),
         ImageClass::BadFreeTree => Some(FREE_TREE_AT),
-        ImageClass::BadIndex => shown_index(image),
-        ImageClass::BadObject => shown_object(image),
-        ImageClass::SharedBlock => shown_shared(image),
-        ImageClass::BadContainer => shown_container(image),
-        ImageClass::OrphanBlock => shown_orphan(image),
+        _ => late_place(image, class),
     }
 }
 
@@ -150,60 +141,35 @@ fn tag_place(image: &[u8]) -> Option<u64>
     wrong_tag(image)
 }
 
-/// The word or entry of an index that is wrong, or nothing where the tags are.
-fn shown_index(image: &[u8]) -> Option<u64>
+/// The place that shows a class that is about blocks, or nothing where the tags are wrong.
+fn late_place(image: &[u8], class: ImageClass) -> Option<u64>
     requires { 144 ≤ length image.now }
-    ensures { HasTiles image.now → MatchOption result (has_indexes (bytes_of image.now) (tiles_in image.now) ≡ true) (IsWrongIndex (bytes_of image.now) (tiles_in image.now)) }
+    ensures { 8 ≤ number_of class → class_of current image.now ≡ Some class → IsShown image.now class result }
 {
     if !has_tiles(image) {
         return None;
     }
-    index_place(image)
+    match class {
+        ImageClass::BadIndex => index_place(image),
+        ImageClass::BadObject => object_place(image),
+        _ => searched_place(image, class),
+    }
 }
 
-/// The object or entry of an index that is wrong, or nothing where the tags or the indexes are.
-fn shown_object(image: &[u8]) -> Option<u64>
-    requires { 144 ≤ length image.now }
-    ensures { HasTiles image.now → has_indexes (bytes_of image.now) (tiles_in image.now) ≡ true
-        → MatchOption result (has_objects current (bytes_of image.now) (tiles_in image.now) ≡ true) (IsWrongObject current (bytes_of image.now) (tiles_in image.now)) }
+/// The place that shows one of the last three classes, or nothing where the image is large, or none was found.
+fn searched_place(image: &[u8], class: ImageClass) -> Option<u64>
+    requires { HasTiles image.now }
+    ensures { 10 ≤ number_of class → class_of current image.now ≡ Some class → IsShown image.now class result }
 {
-    if !has_tiles(image) {
+    if image.len() > MOST_SEARCHED {
         return None;
     }
-    object_place(image)
-}
-
-/// A link that leads where another leads, or nothing where the tags are wrong, the image is large, or none was found.
-fn shown_shared(image: &[u8]) -> Option<u64>
-    requires { 144 ≤ length image.now }
-    ensures { IfSome result (IsSharedAt current (bytes_of image.now) (tiles_in image.now)) }
-{
-    if image.len() > MOST_SEARCHED || !has_tiles(image) {
-        return None;
+    match class {
+        ImageClass::SharedBlock => shared_place(image),
+        ImageClass::BadContainer => container_place(image),
+        ImageClass::OrphanBlock => orphan_place(image),
+        _ => None,
     }
-    shared_place(image)
-}
-
-/// An object whose container is wrong, or nothing where the tags are, the image is large, or none was found.
-fn shown_container(image: &[u8]) -> Option<u64>
-    requires { 144 ≤ length image.now }
-    ensures { IfSome result (IsWrongContainer current (bytes_of image.now) (tiles_in image.now)) }
-{
-    if image.len() > MOST_SEARCHED || !has_tiles(image) {
-        return None;
-    }
-    container_place(image)
-}
-
-/// A block to which no link leads, or nothing where the tags are wrong, the image is large, or none was found.
-fn shown_orphan(image: &[u8]) -> Option<u64>
-    requires { 144 ≤ length image.now }
-    ensures { IfSome result (IsOrphanAt current (bytes_of image.now) (tiles_in image.now)) }
-{
-    if image.len() > MOST_SEARCHED || !has_tiles(image) {
-        return None;
-    }
-    orphan_place(image)
 }
 
 /// Whether an image has a legal size, and all its tags are right.

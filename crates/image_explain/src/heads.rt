@@ -16,7 +16,10 @@ use segment_manager::layout::{FORMAT, HALF, HEAD_LEN, NAME_CLASS_AT};
 const MOST: u64 = 1048576;
 
 /// The bytes of the value of a vector, a string or a map.
-const CONTAINER_LEN: u64 = 24;
+pub const CONTAINER_LEN: u64 = 24;
+
+/// The bytes of an element of a vector of texts.
+pub const ELEMENT_LEN: u64 = 16;
 
 /// The class of the objects with a name.
 pub const NAMED: u64 = 1;

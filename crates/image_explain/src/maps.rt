@@ -14,8 +14,8 @@ use block_tags::{Role, TAG};
 use raw_region::word_in;
 use seg_types::ScalarKind;
 
-/// The most nodes in a row that a walk goes down. A red-black tree in a segment is less deep.
-const LEVELS: u64 = 64;
+/// The most nodes in a row that a walk or a search goes down. A red-black tree in a segment is less deep.
+pub const LEVELS: u64 = 64;
 
 /// The bytes of the links of a node.
 const LINKS_LEN: u64 = 16;

@@ -12,14 +12,13 @@ ghost use Rattle.image_check.specs.Passes.{HasTiles, tiles_in};
 ghost use Rattle.image_explain.specs.IndexPlaces.{is_head};
 ghost use Rattle.image_explain.specs.ObjectPlaces.{IsFirstTile, IsMisplaced, IsWrongObject};
 
-use crate::blocks::{is_used_as, link_in};
+use crate::blocks::{first_tile, is_used_as, link_in};
 use crate::heads::{
     NAMED, UNIQUE, class_in, code_in, count_in, has_name, has_padding, has_room, has_spellings,
     kind_in, name_in, name_len_in, value_in,
 };
 use crate::indexes::{head_place, is_entry};
-use crate::tags::tile_at;
-use block_tags::{FIRST, Role, TAG, Tile};
+use block_tags::{Role, TAG, Tile};
 use raw_region::word_in;
 use segment_manager::layout::{HEAD_LEN, NAMED_AT, UNIQUE_AT};
 
@@ -50,16 +49,10 @@ fn wrong_object(image: &[u8]) -> Option<u64>
     ensures { MatchOption result (list_all (is_right_tile current (bytes_of image.now)) (tiles_in image.now) ≡ true)
         (IsFirstTile (λ (t : ATile). not (is_right_tile current (bytes_of image.now) t)) (tiles_in image.now)) }
 {
-    let end = image.len() as u64 - TAG;
-    let mut at = FIRST;
-    'tiles: while at < end {
-        let tile = tile_at(image, at);
-        if !is_right(image, tile) {
-            return Some(at + TAG);
-        }
-        at += tile.len;
+    match first_tile(image, |tile| !is_right(image, tile)) {
+        Some(tile) => Some(tile.offset + TAG),
+        None => None,
     }
-    None
 }
 
 /// Whether the tile is no object's, or one of an object that is right.

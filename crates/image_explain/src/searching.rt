@@ -1,5 +1,5 @@
 //! The search for a link that leads to a block.
-ghost use Rattle.std.specs.Prelude.{◌≡◌, ℕ, ◌+◌, ◌*◌, ◌^◌, ◌<◌, ◌≤◌, ◌&&◌, MatchOption, Some, is_some, length, nat_le, nat_lt};
+ghost use Rattle.std.specs.Prelude.{◌≡◌, ℕ, ◌+◌, ◌*◌, ◌^◌, ◌<◌, ◌≤◌, ◌&&◌, IfSome, MatchOption, Some, false, is_some, length, nat_le, nat_lt, true};
 ghost use Rattle.raw_region.specs.Format.{current};
 ghost use Rattle.raw_region.specs.Memory.{bytes_of};
 ghost use Rattle.offset_link.specs.Link.{link_at};
@@ -7,24 +7,17 @@ ghost use Rattle.block_tags.specs.declared.tile.Role.TheVariants.{Index, Node, S
 ghost use Rattle.image_check.specs.Meaning.{Counts, LeadsTo};
 ghost use Rattle.image_check.specs.ObjectTests.{index_capacity, leads_to, tile_of};
 ghost use Rattle.image_check.specs.Passes.{HasTiles, tiles_in};
-ghost use Rattle.image_explain.specs.Searches.{Below, FromElements, FromTile, FromTiles, FromValue, IsSearched, IsStorageLink, behind, both, is_at, is_good, is_sought};
+ghost use Rattle.image_explain.specs.declared.searching.Search.TheVariants.{Found};
+ghost use Rattle.image_explain.specs.OwnerPlaces.{IsOtherLink};
+ghost use Rattle.image_explain.specs.Searches.{Below, FromElements, FromTile, FromValue, HasNoneSought, IsSearched, IsStorageLink, behind, both, is_at, is_good, is_sought};
 
-use crate::blocks::{block_at, is_used_as, link_in};
-use crate::heads::{kind_in, value_in};
-use crate::tags::tile_at;
-use block_tags::{FIRST, Role, TAG, Tile};
+use crate::blocks::{block_at, first_tile, is_used_as, link_in};
+use crate::heads::{CONTAINER_LEN, ELEMENT_LEN, kind_in, value_in};
+use crate::maps::LEVELS;
+use block_tags::{Role, TAG, Tile};
 use raw_region::word_in;
 use seg_types::Kind;
 use segment_manager::layout::{NAMED_AT, UNIQUE_AT};
-
-/// The most nodes between the root of a map and a link that is looked at. A red-black tree in a segment is less deep.
-const LEVELS: u64 = 64;
-
-/// The bytes of the value of a vector, a string or a map.
-const CONTAINER_LEN: u64 = 24;
-
-/// The bytes of an element of a vector of texts.
-const ELEMENT_LEN: u64 = 16;
 
 /// The links that are looked for: those that lead to a payload, but the one at a place.
 #[derive(Clone, Copy)]
@@ -53,18 +46,34 @@ struct Descent {
     left: u64,
 }
 
-/// Looks for a link among all that count.
-pub fn find_link(image: &[u8], sought: Sought) -> Search
+/// The place of a link of those that are looked for, among all that count, if one was found.
+pub fn find_link(image: &[u8], sought: Sought) -> Option<u64>
     requires { HasTiles image.now }
-    ensures { IsSearched (Counts current (bytes_of image.now) (tiles_in image.now)) sought result }
+    ensures { IfSome result (IsOtherLink current (bytes_of image.now) (tiles_in image.now) sought.target sought.except) }
 {
     if is_index_link(image, NAMED_AT, sought) {
-        return Search::Found(NAMED_AT);
+        return Some(NAMED_AT);
     }
     if is_index_link(image, UNIQUE_AT, sought) {
-        return Search::Found(UNIQUE_AT);
+        return Some(UNIQUE_AT);
     }
-    find_in_objects(image, sought)
+    let tile = first_tile(image, |tile| link_of(image, tile, sought).is_some())?;
+    link_of(image, tile, sought)
+}
+
+/// Whether all links that count were gone through, and none leads to `target`.
+pub fn has_no_link(image: &[u8], target: u64) -> bool
+    requires { HasTiles image.now }
+    ensures { result ≡ true → (at : ℕ) → Counts current (bytes_of image.now) (tiles_in image.now) at target → ⊥ }
+{
+    let sought = Sought {
+        target,
+        except: None,
+    };
+    if is_index_link(image, NAMED_AT, sought) || is_index_link(image, UNIQUE_AT, sought) {
+        return false;
+    }
+    first_tile(image, |tile| may_link(image, tile, sought)).is_none()
 }
 
 /// Whether the link of the index at `at` counts and is sought.
@@ -120,20 +129,30 @@ fn both(first: Search, second: Search) -> Search
     }
 }
 
-/// Looks for a link among those that count since an object stands somewhere.
-fn find_in_objects(image: &[u8], sought: Sought) -> Search
-    requires { HasTiles image.now }
-    ensures { IsSearched (FromTiles current (bytes_of image.now) (tiles_in image.now) (tiles_in image.now)) sought result }
+/// The place of a link among those that count since the tile is that of an object, if one was found.
+fn link_of(image: &[u8], tile: Tile, sought: Sought) -> Option<u64>
+    requires tiles { HasTiles image.now }
+    requires long { 32 ≤ tile.len }
+    requires inside { tile.offset + tile.len ≤ length image.now }
+    ensures { IfSome result (λ at. IsSearched (FromTile current (bytes_of image.now) (tiles_in image.now) tile) sought (Found at)) }
 {
-    let end = image.len() as u64 - TAG;
-    let mut search = Search::Missing;
-    let mut at = FIRST;
-    'tiles: while at < end {
-        let tile = tile_at(image, at);
-        search = both(search, find_in_tile(image, tile, sought));
-        at += tile.len;
+    match find_in_tile(image, tile, sought) {
+        Search::Found(at) => Some(at),
+        Search::Missing | Search::GivenUp => None,
     }
-    search
+}
+
+/// Whether there may be such a link.
+fn may_link(image: &[u8], tile: Tile, sought: Sought) -> bool
+    requires tiles { HasTiles image.now }
+    requires long { 32 ≤ tile.len }
+    requires inside { tile.offset + tile.len ≤ length image.now }
+    ensures { result ≡ false → HasNoneSought current (bytes_of image.now) (tiles_in image.now) tile sought }
+{
+    match find_in_tile(image, tile, sought) {
+        Search::Missing => false,
+        Search::Found(_) | Search::GivenUp => true,
+    }
 }
 
 /// Looks for a link among those that count since the tile is that of an object.

@@ -2,10 +2,11 @@
 -- by the kind of the object and by what the literals are for it.
 
 -- what is known of the object that is to be changed, and of the literals
-pub use Rattle.segment_manager.proofs.Changeable.{IsChangeable, IsElement, IsNoElement, IsOfScalarKind, IsPairOf, IsToChange, IsUnchangeable, IsValueOf}
+pub use Rattle.segment_manager.specs.Changeable.{IsChangeable, IsElement, IsNoElement, IsPairOf, IsToChange}
+pub use Rattle.segment_manager.specs.Changeable.{IsUnchangeable, IsValueOf}
 pub use Rattle.segment_manager.proofs.Changeable.{changeable, handle-to-change, reading-unchangeable, says-kind, to-change}
 -- a command by its plan: one that is refused, and one that changes nothing
-pub use Rattle.segment_manager.proofs.Changeable.{answered-reads, refuses, refuses-read}
+pub use Rattle.segment_manager.proofs.Changeable.{answered-reads, refuses}
 pub use Rattle.segment_manager.proofs.Steps.{open-writing, step-effect}
 -- a value by the kind of its object
 pub use Rattle.segment_manager.proofs.ElementCommands.{IsElements, IsTexts, texts-if, told, vector-if}

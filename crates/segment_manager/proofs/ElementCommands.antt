@@ -17,6 +17,7 @@ use Rattle.seg_vector.specs.Vector.{OwnedText}
 use Rattle.segment_manager.specs.declared.targets.Object.{Object as Located}
 use Rattle.segment_manager.specs.Answers.{Answer, Refused}
 use Rattle.segment_manager.specs.Calls.{elements_at, elements_of, kind_at}
+use Rattle.segment_manager.specs.Changeable.{IsChangeable, IsElement, IsNoElement, IsToChange, IsUnchangeable, IsValueOf}
 use Rattle.segment_manager.specs.Directory.{Value, Numbers, Elements, Bytes, Pairs, Texts, Object, Directory, kind_of, object_at}
 use Rattle.segment_manager.specs.Located.{IsLocated}
 use Rattle.segment_manager.specs.Plan.{Refuse}
@@ -25,7 +26,7 @@ use Rattle.segment_manager.specs.Step as step
 use Rattle.segment_manager.specs.Step.{effect, is_read_only}
 use Rattle.segment_manager.proofs.AnyKind.{any-literal}
 use Rattle.segment_manager.proofs.AnyStorage.{IsOfKindAt, kind-told, of_kind-steps}
-use Rattle.segment_manager.proofs.Changeable.{IsChangeable, IsElement, IsNoElement, IsToChange, IsUnchangeable, IsValueOf, refuses, says-kind}
+use Rattle.segment_manager.proofs.Changeable.{refuses, says-kind}
 use Rattle.segment_manager.proofs.ContentPlans.{erase-other, insert-other, insert-past, insert-plan, insert-refused, is_no_vector, pop-other, push-other, push-plan, push-refused}
 use Rattle.segment_manager.proofs.Locating.{step_of_kind-by_key}
 use Rattle.segment_manager.proofs.Steps.{with-found, with-not_found}

@@ -201,15 +201,6 @@ length-first d key kind (Some o) e =
 vector-many : (k : ScalarKind) (v : Value) → same_kind (VectorOf k) (kind_of v) ≡ true → first_size (sizes_of v) ≡ Ok (length (numbers_in v))
 vector-many k v e = let is = vector-only k v e in ap (λ (w : Value). first_size (sizes_of w)) is.1.1 ∙ sym (ap (λ (w : Value). Ok (length (numbers_in w))) is.1.1)
 
-bytes-many : (ps : List OwnedText) → length ps ≡ length (map (λ (p : OwnedText). p.bytes) ps)
-bytes-many [] = refl
-bytes-many (p ∷ ps) = ap suc (bytes-many ps)
-
-texts-many : (v : Value) → same_kind TextsKind (kind_of v) ≡ true → first_size (sizes_of v) ≡ Ok (length (texts_in v))
-texts-many v e =
-    let is = texts-only v e in
-    ap (λ (w : Value). first_size (sizes_of w)) is.1.1 ∙ ap Ok (bytes-many is.0) ∙ sym (ap (λ (w : Value). Ok (length (texts_in w))) is.1.1)
-
 abbrev array_size : Value → Result ℕ Refusal
 array_size v = Ok (count_of v)
 
@@ -225,10 +216,6 @@ listed-length items d key kind only r e =
 pub vector-length : (d : Directory) (key : Key) (k : ScalarKind) (r : Result ℕ Refusal) → r ≡ length_at_kind d key (VectorOf k) → number_or_none r ≡ length (vector_at d key k)
 vector-length d key k r e =
     ap number_or_none (e ∙ length-first d key (VectorOf k) (object_at d key) refl) ∙ many-at numbers_in (λ v. first_size (sizes_of v)) d key (VectorOf k) (vector-many k) (object_at d key) refl
-
-pub texts-length : (d : Directory) (key : Key) (r : Result ℕ Refusal) → r ≡ length_at_kind d key TextsKind → number_or_none r ≡ length (texts_at d key)
-texts-length d key r e =
-    ap number_or_none (e ∙ length-first d key TextsKind (object_at d key) refl) ∙ many-at texts_in (λ v. first_size (sizes_of v)) d key TextsKind texts-many (object_at d key) refl
 
 pub array-length : (d : Directory) (key : Key) (k : ScalarKind) (r : Result ℕ Refusal) → r ≡ array_length_at d key k → number_or_none r ≡ length (array_at d key k)
 array-length d key k r e = ap number_or_none e ∙ many-at numbers_in array_size d key (ScalarOf k) (array-many k) (object_at d key) refl

@@ -10,10 +10,10 @@ use Rattle.seg_map.specs.Numbers.{NumberPair}
 use Rattle.seg_map.specs.Places.{item_of}
 use Rattle.segment_manager.specs.Directory.{Directory}
 use Rattle.segment_manager.specs.Maps.{pair_above}
+use Rattle.segment_manager.specs.Parts.{part_of}
 use Rattle.segment_manager.specs.State.{Answers, State, StandsFor}
 use Rattle.segment_manager.specs.Walks.{IsMap, Item, first_of, item_of_kinds, item_seen, pairs_at}
 use Rattle.segment_manager.proofs.PairWalks.{first-at, walk-next}
-use Rattle.segment_manager.proofs.PartLaws.{part_of}
 
 -- the next pair is the one at a place
 abbrev pub IsNext : State → ℕ → ScalarKind → ScalarKind → Option (ScalarValue × ScalarValue) → ℕ → Type 0

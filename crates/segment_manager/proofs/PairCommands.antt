@@ -17,6 +17,7 @@ use Rattle.seg_map.specs.Numbers.{NumberPair}
 use Rattle.segment_manager.specs.declared.targets.Object.{Object as Located}
 use Rattle.segment_manager.specs.Answers.{Answer, Absent, Element, Refused, Truth}
 use Rattle.segment_manager.specs.Calls.{kind_at}
+use Rattle.segment_manager.specs.Changeable.{IsPairOf, IsToChange, IsUnchangeable, IsValueOf}
 use Rattle.segment_manager.specs.Directory.{Value, Numbers, Elements, Bytes, Pairs, Texts, Object, Directory, kind_of, live, object_at}
 use Rattle.segment_manager.specs.Instances.{IsMissing}
 use Rattle.segment_manager.specs.Located.{IsLocated}
@@ -25,7 +26,7 @@ use Rattle.segment_manager.specs.State.{Answers, IsReply, IsReplyOfKind, IsStep,
 use Rattle.segment_manager.specs.Step as step
 use Rattle.segment_manager.specs.Step.{and_then, changed, effect, is_read_only, map_of, pair_of}
 use Rattle.segment_manager.proofs.AnyStorage.{IsOfKindAt, kind-told, of_kind-steps}
-use Rattle.segment_manager.proofs.Changeable.{IsPairOf, IsToChange, IsUnchangeable, IsValueOf, answered-reads, refuses, refuses-read, says-kind}
+use Rattle.segment_manager.proofs.Changeable.{answered-reads, refuses, refuses-read, says-kind}
 use Rattle.segment_manager.proofs.Locating.{kind-by_key, reply_of_kind-by_key, step_of_kind-by_key}
 use Rattle.segment_manager.proofs.Steps.{step_of_kind-step, with-found, with-not_found}
 use Rattle.segment_manager.proofs.Stored.{literal-read}

@@ -13,7 +13,7 @@ use Rattle.seg_types.specs.declared.refusals.Refusal.TheVariants.{NotFound, Wron
 use Rattle.seg_types.specs.declared.values.ScalarValue.{ScalarValue}
 use Rattle.seg_types.specs.Kinds.{code_of, is_kind_of, is_value, lowest, same_kind, size_of}
 use Rattle.seg_types.specs.Names.{Key}
-use Rattle.seg_types.specs.Values.{value_of_scalar}
+use Rattle.seg_types.specs.Values.{kind_of_scalar, value_of_scalar}
 use Rattle.seg_map.specs.Map.{is_rising, node_len}
 use Rattle.seg_map.specs.Numbers.{NumberPair, is_number_pair}
 use Rattle.seg_map.specs.Places.{item_of}
@@ -122,6 +122,20 @@ module _ (s : State) (key : Key) (k v : ScalarKind) (is : IsMap s key k v) where
   not-refused {A} say why about answer a = record {
     answers = λ d l. let never : (let r : Result A Refusal = Err why in r) ≡ Ok (say (pairs_at d key)) = a.answers d l ∙ told-of-them d key k v (map-known d l) say in absurd (cc);
   }
+
+-- the same by the least value, whose kind is that of the keys
+module _ (x : ScalarValue) (k : ScalarKind) (e : kind_of_scalar x ≡ k) where
+  pub least-kinds : (v : ScalarKind) (o : Option (ScalarValue × ScalarValue)) → AreOfKinds (kind_of_scalar x) v (Ok o)
+      → AreOfKinds k v (Ok o)
+  least-kinds v o h = subst (λ j. AreOfKinds j v (Ok o)) e h
+
+  pub least-told : value_of_scalar x ≡ lowest k → (s : State) (key : Key) (v : ScalarKind)
+      (r : Result (Option (ℤ × ℤ)) Refusal)
+      → Answers s (λ d. told_of_map d key (kind_of_scalar x) v (pair_from (value_of_scalar x))) r
+      → Answers s (λ d. told_of_map d key k v (pair_from (lowest k))) r
+  least-told f s key v r a =
+      subst (λ z. Answers s (λ d. told_of_map d key k v (pair_from z)) r) f
+      (subst (λ j. Answers s (λ d. told_of_map d key j v (pair_from (value_of_scalar x))) r) e a)
 
 -- ---- the places of the pairs
 

@@ -8,18 +8,9 @@ use Rattle.std.proofs.lemmas.List.{append-nil, take_all, take_more}
 use Rattle.std.proofs.lemmas.Option.{get_or_from_slice_get, slice_get_within}
 use Rattle.raw_region.specs.Device.{Took, Writes}
 use Rattle.raw_region.proofs.Laws.{writes-cut, writes-then}
+pub use Rattle.segment_manager.specs.Parts.{part_of, parts_until}
 
 -- ---- the text
-
--- the first n parts
-abbrev pub parts_until : (ℕ → List ℕ) → ℕ → List ℕ
-parts_until part zero = []
-parts_until part (suc n) = parts_until part n ++ part n
-
--- a text of what there is, and nothing where there is none
-abbrev pub part_of : {X : Type 0} → (X → List ℕ) → Option X → List ℕ
-part_of text None = []
-part_of text (Some x) = text x
 
 -- one part among more
 pub record IsSplit (part : ℕ → List ℕ) (i n : ℕ) : Type 0 where

@@ -19,7 +19,7 @@ use Rattle.segment_manager.specs.declared.storages.Change.TheVariants.{Clear, Re
 use Rattle.segment_manager.specs.Answers.{Answer, Done, Refused}
 use Rattle.segment_manager.specs.Contents.{HasNoRoom, IsBytes, IsBytesGrown, IsBytesNow, IsNumbers, IsNumbersGrown, IsNumbersNow, container_at}
 use Rattle.segment_manager.specs.Directory.{Value, Numbers, Elements, Bytes, Pairs, Object, Directory, kind_of, live, object_at}
-use Rattle.segment_manager.specs.Plan.{Refuse, Reply, perform, with, with_capacity}
+use Rattle.segment_manager.specs.Plan.{Refuse, Reply, perform, with_capacity}
 use Rattle.segment_manager.specs.State.{Answers, IsReplyOfKind, IsSegment, IsStep, IsStepOfKind, State, StandsFor}
 use Rattle.segment_manager.specs.Step.{changed, effect, is_read_only, storage_of, with_items, with_table}
 use Rattle.segment_manager.specs.Stored.{command_of}

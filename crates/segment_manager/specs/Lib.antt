@@ -34,3 +34,5 @@ pub mod Iterating
 pub mod ElementLists
 pub mod Counted
 pub mod Staying
+pub mod Changeable
+pub mod Parts

@@ -1,5 +1,5 @@
 -- The pairs of a map, one after another by rising keys.
-use Rattle.std.specs.Prelude.{◌≡◌, ℤ, Option, Some, None, Result, Ok, Err, List, [], ◌∷◌, ⊤}
+use Rattle.std.specs.Prelude.{◌≡◌, ℤ, Bool, Option, Some, None, Result, Ok, Err, List, [], ◌∷◌, ⊤, int_lt, option_map}
 use Rattle.seg_types.specs.declared.kinds.Kind.TheVariants.{Map}
 use Rattle.seg_types.specs.declared.kinds.ScalarKind.{ScalarKind}
 use Rattle.seg_types.specs.declared.refusals.Refusal.{Refusal}
@@ -7,6 +7,7 @@ use Rattle.seg_types.specs.declared.values.ScalarValue.{ScalarValue}
 use Rattle.seg_types.specs.Names.{Key}
 use Rattle.seg_types.specs.Values.{kind_of_scalar, value_of_scalar}
 use Rattle.seg_map.specs.Numbers.{NumberPair}
+use Rattle.seg_map.specs.Places.{first_pair, item_of}
 use Rattle.segment_manager.specs.Calls.{kind_at}
 use Rattle.segment_manager.specs.Directory.{Value, Numbers, Elements, Bytes, Pairs, Texts, Directory, object_at}
 use Rattle.segment_manager.specs.ElementLists.{list_at}
@@ -38,6 +39,10 @@ pairs_at_kinds d key k v = list_at pairs_of d key (Map k v)
 abbrev pub first_of : List NumberPair → Option NumberPair
 first_of [] = None
 first_of (p ∷ ps) = Some p
+
+-- the first whose key is above a number, or not below it
+abbrev pub pair_past : Bool → ℤ → List NumberPair → Option (ℤ × ℤ)
+pair_past above z ps = option_map item_of (first_pair int_lt above z ps)
 
 -- ---- a pair of it
 

@@ -1,5 +1,5 @@
 //! Objects constructed, whatever they hold; those of one number, so many times.
-ghost use Rattle.std.specs.Prelude.{◌≡◌, ◌≤◌, replicate};
+ghost use Rattle.std.specs.Prelude.{◌≡◌, ◌≤◌, replicate, true};
 ghost use Rattle.seg_types.specs.declared.kinds.Kind.TheVariants.{Scalar as ScalarOf};
 ghost use Rattle.seg_types.specs.Commands.{Construct, Numbers};
 ghost use Rattle.seg_types.specs.Keys.{new_key_seen};
@@ -9,10 +9,11 @@ ghost use Rattle.segment_manager.specs.Filled.{Builds, Constructs, HasBegun};
 ghost use Rattle.segment_manager.specs.NewObjects.{IsOfKind};
 ghost use Rattle.segment_manager.specs.Plan.{bare};
 ghost use Rattle.segment_manager.specs.State.{IsSegment, IsStep, KeepsRefused, handle_answer};
+ghost use Rattle.segment_manager.specs.Counted.{RefusesCount, is_count};
 
 use crate::beginning::{Begun, begin, end};
 use crate::destinations::Destination;
-use crate::fillings::{Filling, NewNumbers, NewScalars};
+use crate::fillings::{Filling, MOST, NewNumbers, NewScalars};
 use crate::segment::Segment;
 use best_fit::Heap;
 use seg_types::{Handle, NewKey, Refusal, Scalar, ScalarValue};
@@ -27,8 +28,7 @@ impl Segment {
     ///
     /// `count` is from 1 to 1048576. `construct_array` has no such condition, and refuses another count.
     ///
-    /// The key suits the kind: a key that says a kind says this one; a name, `UniqueInstance` and `AnonymousInstance`
-    /// suit each.
+    /// The key suits the kind: one that says a kind says this one ([`Destination`]).
     ///
     /// # Errors
     ///
@@ -49,6 +49,36 @@ impl Segment {
         self.construct_under(key, &NewNumbers { count, value })
     }
 
+    /// Makes an array of `count` times a value, and answers its handle.
+    ///
+    /// Example: `let handle = segment.construct_array(&name, count, 0u8)?`.
+    ///
+    /// # Conditions
+    ///
+    /// The key suits the kind: one that says a kind says this one ([`Destination`]).
+    ///
+    /// # Errors
+    ///
+    /// `OutOfRange` where `count` is 0 or above 1048576, else `ReadOnly` where the segment is open for reading, else `Exists` where
+    /// an object has the key: nothing changes. Else `NoSpace` where no gap is long enough: what the segment holds does not change,
+    /// and the bytes of gaps may.
+    pub fn construct_array<T: Scalar, D: Destination>(
+        &mut self,
+        key: &D,
+        count: u32,
+        value: T,
+    ) -> Result<Handle, Refusal>
+        requires kind { D.suits key.now (ScalarOf T.kind) }
+        ensures step { is_count count ≡ true → IsStep self.old self.new (Construct (D.key key.now (ScalarOf T.kind)) (Numbers T.kind (replicate count (T.whole value)))) (handle_answer result) }
+        ensures count { RefusesCount count self.old self.new result }
+        ensures refused { KeepsRefused self.old self.new result }
+    {
+        if count == 0 || count > MOST {
+            return Err(Refusal::OutOfRange);
+        }
+        self.construct(key, count, value)
+    }
+
     /// The same for a value of a kind.
     ///
     /// Example: `segment.construct_value(&name, 1, ScalarValue::I64(640))?`.
@@ -57,8 +87,7 @@ impl Segment {
     ///
     /// `count` is from 1 to 1048576. `construct_array` has no such condition, and refuses another count.
     ///
-    /// The key suits the kind: a key that says a kind says this one; a name, `UniqueInstance` and `AnonymousInstance`
-    /// suit each.
+    /// The key suits the kind: one that says a kind says this one ([`Destination`]).
     ///
     /// # Errors
     ///

@@ -17,9 +17,8 @@ ghost use Rattle.segment_manager.specs.NewObjects.{IsOfItsKind};
 ghost use Rattle.segment_manager.specs.State.{IsSegment};
 
 use crate::beginning::{Begun, begin, end};
-use crate::constructing_arrays::MOST;
 use crate::destinations::Destination;
-use crate::fillings::LONGEST;
+use crate::fillings::{LONGEST, MOST};
 use crate::segment::Segment;
 use best_fit::Heap;
 use seg_types::{Handle, Kind, NewKey, Refusal, Scalar, ScalarKind, ScalarValue};
@@ -32,8 +31,7 @@ impl Segment {
     ///
     /// # Conditions
     ///
-    /// The key suits the kind: a key that says a kind says this one; a name, `UniqueInstance` and `AnonymousInstance`
-    /// suit each.
+    /// The key suits the kind: one that says a kind says this one ([`Destination`]).
     ///
     /// # Errors
     ///
@@ -89,8 +87,7 @@ impl Segment {
     /// `count` is from 1 to 1048576, and each item is of the kind. `construct_it` takes items of a type and has no such
     /// condition.
     ///
-    /// The key suits the kind: a key that says a kind says this one; a name, `UniqueInstance` and `AnonymousInstance`
-    /// suit each.
+    /// The key suits the kind: one that says a kind says this one ([`Destination`]).
     ///
     /// # Errors
     ///

@@ -1,4 +1,4 @@
-//! The making of an empty segment.
+//! The making of an empty segment, and the moving of one into another region.
 ghost use Rattle.std.specs.Prelude.{◌≡◌, ◌%◌, []};
 ghost use Rattle.raw_region.specs.Memory.{AreZero, SameBut, SamePlace, bytes_of};
 ghost use Rattle.raw_region.specs.Format.{current};
@@ -8,8 +8,9 @@ ghost use Rattle.seg_index.specs.Index.{IsIndexAt};
 ghost use Rattle.segment_manager.specs.Calls.{Creates};
 ghost use Rattle.segment_manager.specs.Denotes.{IsHeader};
 ghost use Rattle.segment_manager.specs.Layout.{header_len, named_at, reserved_at, unique_at};
+ghost use Rattle.segment_manager.specs.Relocating.{Relocates};
 
-use crate::errors::{CreateError, CreateRefused};
+use crate::errors::{CreateError, CreateRefused, RelocateRefused};
 use crate::layout::{FORMAT, FORMAT_AT, MAGIC, MAGIC_AT, NAMED_AT, SIZE_AT, UNIQUE_AT};
 use crate::modes::Mode;
 use crate::segment::Segment;
@@ -58,6 +59,42 @@ impl Segment {
         let mut heap = Heap::fresh(window);
         write_header(&mut heap, size);
         Ok(Segment { heap, mode })
+    }
+
+    /// The same segment in another region, from `base` on, which is a multiple of 16: its bytes, its directory and its mode are
+    /// those from before, and handles are too. The region that it leaves comes with it, as it was. No byte of the new region
+    /// outside the segment changes.
+    ///
+    /// Example: `let (moved, left) = segment.relocate(RawRegion::new(alloc, 4096)?, 512)?`.
+    ///
+    /// # Conditions
+    ///
+    /// `base` is a multiple of 16.
+    ///
+    /// # Errors
+    ///
+    /// `RelocateRefused` where the region ends before base plus the segment's size. The segment and the region come back as
+    /// they were.
+    pub fn relocate(
+        self,
+        region: RawRegion,
+        base: u64,
+    ) -> Result<(Segment, RawRegion), RelocateRefused>
+        requires aligned { base % 16 ≡ 0 }
+        ensures { Relocates self region base result }
+    {
+        if !region.in_range(base, self.heap.size()) {
+            return Err(RelocateRefused {
+                segment: self,
+                region,
+            });
+        }
+        let Segment { heap, mode } = self;
+        let left = heap.into_window();
+        let mut window = Window::new(region, base, left.size());
+        window.write(0, left.bytes(0, left.size()));
+        let heap = Heap::adopt(window);
+        Ok((Segment { heap, mode }, left.into_region()))
     }
 }
 

@@ -20,6 +20,9 @@ use seg_vector::{Place, SegString, SegTexts, SegVec};
 /// The longest spelling of a scalar, in bytes.
 pub(crate) const LONGEST: usize = 8;
 
+/// The most elements of an object of scalars.
+pub(crate) const MOST: u32 = 1_048_576;
+
 /// The bytes of a container in its object: a link to its storage, its length and its capacity.
 const CONTAINER_LEN: u64 = 24;
 

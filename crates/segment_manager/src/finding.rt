@@ -1,17 +1,21 @@
 //! Objects found by their keys, and the entries of the two indexes.
-ghost use Rattle.std.specs.Prelude.{length, slice_get, Some};
+ghost use Rattle.std.specs.Prelude.{length, slice_get, Some, ◌≡◌};
 ghost use Rattle.seg_types.specs.declared.kinds.Kind.TheVariants.{Scalar as ScalarOf};
 ghost use Rattle.seg_types.specs.Commands.{Find, NumNamed, NumUnique};
 ghost use Rattle.seg_types.specs.Keys.{key_seen};
 ghost use Rattle.segment_manager.specs.Answers.{Number};
 ghost use Rattle.segment_manager.specs.Denotes.{handles};
 ghost use Rattle.segment_manager.specs.Directory.{named_objects, unique_objects};
-ghost use Rattle.segment_manager.specs.Found.{IsBelow, found_answer};
+ghost use Rattle.segment_manager.specs.Found.{IsBelow, found_answer, handle_at, is_object_at};
 ghost use Rattle.segment_manager.specs.State.{Answers, IsReply};
+ghost use Rattle.seg_types.specs.Names.{Key as AnyKey};
+ghost use Rattle.segment_manager.specs.Indexed.{Seeks};
 
 use crate::head::read_head;
 use crate::segment::Segment;
-use seg_index::Index;
+use block_tags::Role;
+use raw_region::Steps;
+use seg_index::{Index, Key as Entry, Lookup};
 use seg_types::{Handle, Key, Kind, Refusal, Scalar};
 
 impl Segment {
@@ -66,6 +70,36 @@ impl Segment {
         ensures { IsReply self.now NumUnique (Number result) }
     {
         Index::Unique.len(&self.heap)
+    }
+
+    /// The handle of the object that a key means, or nothing where no object has the key.
+    pub(crate) fn handle_of(&self, key: &Key) -> Option<Handle>
+        ensures { Answers self.now (λ d. handle_at d (key_seen key.now)) result }
+    {
+        match key {
+            Key::Name(name) => self.look_up(Index::Named, Entry::Name(name.as_bytes())),
+            Key::Unique(kind) => self.look_up(Index::Unique, Entry::Code(kind.code())),
+            Key::Handle(handle) => self.is_object(*handle).then_some(*handle),
+            Key::Anonymous => None,
+        }
+    }
+
+    /// Whether an object has the handle. It is looked for among all blocks, one after another, since a handle may come from
+    /// outside.
+    pub(crate) fn is_object(&self, handle: Handle) -> bool
+        ensures { Answers self.now (λ d. is_object_at d handle) result }
+    {
+        self.heap.is_live(handle) && self.heap.role(handle) == Role::Object
+    }
+
+    /// The handle of the object under an entry of an index, or nothing where there is none.
+    fn look_up(&self, index: Index, entry: Entry<'_>) -> Option<Handle>
+        ensures { (key : AnyKey) → Seeks index entry.entry key → Answers self.now (λ d. handle_at d key) result }
+    {
+        match index.lookup(&self.heap, entry, &mut Steps::new()) {
+            Lookup::Found(place) => Some(index.at(&self.heap, place)),
+            Lookup::Absent(_) => None,
+        }
     }
 }
 

@@ -1,5 +1,5 @@
 //! Objects found, or constructed where there are none, whatever they hold; those of one number, so many times.
-ghost use Rattle.std.specs.Prelude.{◌≡◌, ◌≤◌, replicate};
+ghost use Rattle.std.specs.Prelude.{◌≡◌, ◌≤◌, replicate, true};
 ghost use Rattle.seg_types.specs.declared.kinds.Kind.TheVariants.{Scalar as ScalarOf};
 ghost use Rattle.seg_types.specs.Commands.{FindOrConstruct, Numbers};
 ghost use Rattle.seg_types.specs.Keys.{index_key_seen};
@@ -13,11 +13,12 @@ ghost use Rattle.segment_manager.specs.NewObjects.{IsNewKeyOf, IsOfKind};
 ghost use Rattle.segment_manager.specs.Plan.{bare};
 ghost use Rattle.segment_manager.specs.Standing.{HasObject, StandsAt, pair_of_kind};
 ghost use Rattle.segment_manager.specs.State.{IsSegment, IsStep, KeepsRefused};
+ghost use Rattle.segment_manager.specs.Counted.{RefusesCount, is_count};
 
 use crate::beginning::begin_at;
 use crate::constructing::build;
 use crate::destinations::IndexDestination;
-use crate::fillings::{Filling, NewNumbers, NewScalars};
+use crate::fillings::{Filling, MOST, NewNumbers, NewScalars};
 use crate::head::read_head;
 use crate::segment::Segment;
 use best_fit::Heap;
@@ -36,8 +37,7 @@ impl Segment {
     ///
     /// `count` is from 1 to 1048576. `find_or_construct_array` has no such condition, and refuses another count.
     ///
-    /// The key suits the kind: a key that says a kind says this one; a name, `UniqueInstance` and `AnonymousInstance`
-    /// suit each.
+    /// The key suits the kind: one that says a kind says this one ([`Destination`]).
     ///
     /// # Errors
     ///
@@ -59,6 +59,38 @@ impl Segment {
         self.find_or_construct_under(key, &NewNumbers { count, value })
     }
 
+    /// The handle of the scalars of a key, and how many they are. Where no object has the key an array is made, of `count` times a
+    /// value. An object that is found stays as it is, however many scalars it has.
+    ///
+    /// Example: `let (handle, count) = segment.find_or_construct_array(&name, count, 0u8)?`.
+    ///
+    /// # Conditions
+    ///
+    /// The key suits the kind: one that says a kind says this one ([`Destination`]).
+    ///
+    /// # Errors
+    ///
+    /// `OutOfRange` where `count` is 0 or above 1048576, else `ReadOnly` where the segment is open for reading, else `WrongKind`
+    /// where the object is of another kind: nothing changes. Else `NoSpace` where none is there and no gap is long enough: what the
+    /// segment holds does not change, and the bytes of gaps may.
+    pub fn find_or_construct_array<T: Scalar, D: IndexDestination>(
+        &mut self,
+        key: &D,
+        count: u32,
+        value: T,
+    ) -> Result<(Handle, u32), Refusal>
+        requires kind { D.suits key.now (ScalarOf T.kind) }
+        ensures step { is_count count ≡ true → IsStep self.old self.new (FindOrConstruct (D.key key.now (ScalarOf T.kind)) (Numbers T.kind (replicate count (T.whole value)))) (pair_answer result) }
+        ensures count { RefusesCount count self.old self.new result }
+        ensures refused { KeepsRefused self.old self.new result }
+        ensures found { KeepsWhere self.old self.new (HasKey (D.key key.now (ScalarOf T.kind))) }
+    {
+        if count == 0 || count > MOST {
+            return Err(Refusal::OutOfRange);
+        }
+        self.find_or_construct(key, count, value)
+    }
+
     /// The same for a value of a kind.
     ///
     /// Example: `segment.find_or_construct_value(&name, 1, ScalarValue::I64(640))?`.
@@ -67,8 +99,7 @@ impl Segment {
     ///
     /// `count` is from 1 to 1048576. `find_or_construct_array` has no such condition, and refuses another count.
     ///
-    /// The key suits the kind: a key that says a kind says this one; a name, `UniqueInstance` and `AnonymousInstance`
-    /// suit each.
+    /// The key suits the kind: one that says a kind says this one ([`Destination`]).
     ///
     /// # Errors
     ///

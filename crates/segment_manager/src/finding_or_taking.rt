@@ -6,8 +6,8 @@ ghost use Rattle.segment_manager.specs.Counted.{RefusesCount, is_count};
 ghost use Rattle.segment_manager.specs.Items.{FindsOrTakes, found_as};
 ghost use Rattle.segment_manager.specs.NewObjects.{IsOfItsKind};
 
-use crate::constructing_arrays::MOST;
 use crate::destinations::IndexDestination;
+use crate::fillings::MOST;
 use crate::finding_or_constructing::counted;
 use crate::segment::Segment;
 use crate::targets::{Object, locate};
@@ -21,8 +21,7 @@ impl Segment {
     ///
     /// # Conditions
     ///
-    /// The key suits the kind: a key that says a kind says this one; a name, `UniqueInstance` and `AnonymousInstance`
-    /// suit each.
+    /// The key suits the kind: one that says a kind says this one ([`Destination`]).
     ///
     /// # Errors
     ///

@@ -11,7 +11,7 @@ use seg_types::{Kind, Refusal, Scalar};
 use seg_vector::{Place, SegString, SegTexts, SegVec};
 
 /// What is done with the storage of a container.
-#[derive(Clone, Copy, Debug, PartialEq, Eq)]
+#[derive(Clone, Copy)]
 pub(crate) enum Change {
     /// It gets places for so many elements, where it has fewer.
     Reserve(u64),

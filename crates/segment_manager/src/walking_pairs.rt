@@ -1,11 +1,11 @@
 //! The pairs of objects that are maps whose kinds are not known before, one after another by rising keys.
-ghost use Rattle.std.specs.Prelude.{option_map};
+ghost use Rattle.std.specs.Prelude.{◌≡◌, option_map};
 ghost use Rattle.seg_types.specs.Kinds.{lowest};
 ghost use Rattle.seg_types.specs.Values.{kind_of_scalar, value_of_scalar};
 ghost use Rattle.seg_map.specs.Places.{item_of};
-ghost use Rattle.segment_manager.specs.Maps.{pair_above, pair_from, told_of_map};
+ghost use Rattle.segment_manager.specs.Maps.{pair_above, pair_result, told_of_map};
 ghost use Rattle.segment_manager.specs.State.{Answers};
-ghost use Rattle.segment_manager.specs.Walks.{AreOfKinds, HasValueOf, IsMap, first_of, item_of_kinds, item_seen, numbers_read, pairs_at};
+ghost use Rattle.segment_manager.specs.Walks.{AreOfKinds, HasValueOf, IsMap, first_of, item_of_kinds, item_seen, numbers_read, pair_past, pairs_at};
 
 use crate::segment::Segment;
 use crate::targets::Target;
@@ -32,101 +32,85 @@ macro_rules! valued {
 }
 
 impl Segment {
-    /// The pair with the least key of the map of a key, a map of the two kinds.
+    /// The pair with the least key that is above a bound, or not below it, of the map of a key, a map with keys of the kind of
+    /// the bound and values of a kind. It is inlined, so which of the two costs no test.
     ///
     /// # Errors
     ///
-    /// `WrongKind` where it is of another kind.
-    fn first_of_kinds<O: Target>(
+    /// `NotFound` where no object has the key, `WrongKind` where it is of another kind.
+    #[inline(always)]
+    fn pair_of_kinds<O: Target>(
         &self,
         key: &O,
-        keys: ScalarKind,
+        bound: ScalarValue,
+        above: bool,
         values: ScalarKind,
     ) -> Result<Option<(ScalarValue, ScalarValue)>, Refusal>
         requires { O.stands key.now self.now }
-        ensures pair { Answers self.now (λ d. told_of_map d (O.key key.now) keys values (pair_from (lowest keys))) (numbers_read value_of_scalar value_of_scalar result) }
-        ensures kinds { AreOfKinds keys values result }
+        ensures pair { Answers self.now (λ d. told_of_map d (O.key key.now) (kind_of_scalar bound) values (pair_past above (value_of_scalar bound))) (numbers_read value_of_scalar value_of_scalar result) }
+        ensures kinds { AreOfKinds (kind_of_scalar bound) values result }
     {
-        match keys {
-            ScalarKind::Bool => keyed!(self.first_by_key(key, false, values), Bool),
-            ScalarKind::U8 => keyed!(self.first_by_key(key, 0u8, values), U8),
-            ScalarKind::I32 => keyed!(self.first_by_key(key, i32::MIN, values), I32),
-            ScalarKind::I64 => keyed!(self.first_by_key(key, i64::MIN, values), I64),
-            ScalarKind::U64 => keyed!(self.first_by_key(key, 0u64, values), U64),
+        match bound {
+            ScalarValue::Bool(bound) => keyed!(self.pair_by_key(key, bound, above, values), Bool),
+            ScalarValue::U8(bound) => keyed!(self.pair_by_key(key, bound, above, values), U8),
+            ScalarValue::I32(bound) => keyed!(self.pair_by_key(key, bound, above, values), I32),
+            ScalarValue::I64(bound) => keyed!(self.pair_by_key(key, bound, above, values), I64),
+            ScalarValue::U64(bound) => keyed!(self.pair_by_key(key, bound, above, values), U64),
         }
     }
 
-    /// The pair with the least key that is not below `from`, of keys of a type.
-    ///
-    /// # Errors
-    ///
-    /// `WrongKind` where the object is of another kind.
-    fn first_by_key<K: Scalar, O: Target>(
+    /// The same of keys of a type.
+    #[inline(always)]
+    fn pair_by_key<K: Scalar, O: Target>(
         &self,
         key: &O,
-        from: K,
+        bound: K,
+        above: bool,
         values: ScalarKind,
     ) -> Result<Option<(K, ScalarValue)>, Refusal>
         requires { O.stands key.now self.now }
-        ensures pair { Answers self.now (λ d. told_of_map d (O.key key.now) K.kind values (pair_from (K.whole from))) (numbers_read K.whole value_of_scalar result) }
+        ensures pair { Answers self.now (λ d. told_of_map d (O.key key.now) K.kind values (pair_past above (K.whole bound))) (numbers_read K.whole value_of_scalar result) }
         ensures kind { HasValueOf values result }
     {
         match values {
-            ScalarKind::Bool => valued!(self.map_first_from::<K, bool, O>(key, from), Bool),
-            ScalarKind::U8 => valued!(self.map_first_from::<K, u8, O>(key, from), U8),
-            ScalarKind::I32 => valued!(self.map_first_from::<K, i32, O>(key, from), I32),
-            ScalarKind::I64 => valued!(self.map_first_from::<K, i64, O>(key, from), I64),
-            ScalarKind::U64 => valued!(self.map_first_from::<K, u64, O>(key, from), U64),
+            ScalarKind::Bool => valued!(self.pair_past::<K, bool, O>(key, bound, above), Bool),
+            ScalarKind::U8 => valued!(self.pair_past::<K, u8, O>(key, bound, above), U8),
+            ScalarKind::I32 => valued!(self.pair_past::<K, i32, O>(key, bound, above), I32),
+            ScalarKind::I64 => valued!(self.pair_past::<K, i64, O>(key, bound, above), I64),
+            ScalarKind::U64 => valued!(self.pair_past::<K, u64, O>(key, bound, above), U64),
         }
     }
 
-    /// The pair with the least key above `after` of the map of a key, a map with keys of the kind of `after` and values of a
-    /// kind.
-    ///
-    /// # Errors
-    ///
-    /// `WrongKind` where it is of another kind.
-    fn next_of_kinds<O: Target>(
+    /// The same of values of a type too.
+    #[inline(always)]
+    fn pair_past<K: Scalar, V: Scalar, O: Target>(
         &self,
         key: &O,
-        after: ScalarValue,
-        values: ScalarKind,
-    ) -> Result<Option<(ScalarValue, ScalarValue)>, Refusal>
+        bound: K,
+        above: bool,
+    ) -> Result<Option<(K, V)>, Refusal>
         requires { O.stands key.now self.now }
-        ensures pair { Answers self.now (λ d. told_of_map d (O.key key.now) (kind_of_scalar after) values (pair_above (value_of_scalar after))) (numbers_read value_of_scalar value_of_scalar result) }
-        ensures kinds { AreOfKinds (kind_of_scalar after) values result }
+        ensures { Answers self.now (λ d. told_of_map d (O.key key.now) K.kind V.kind (pair_past above (K.whole bound))) (pair_result K.whole V.whole result) }
     {
-        match after {
-            ScalarValue::Bool(after) => keyed!(self.next_by_key(key, after, values), Bool),
-            ScalarValue::U8(after) => keyed!(self.next_by_key(key, after, values), U8),
-            ScalarValue::I32(after) => keyed!(self.next_by_key(key, after, values), I32),
-            ScalarValue::I64(after) => keyed!(self.next_by_key(key, after, values), I64),
-            ScalarValue::U64(after) => keyed!(self.next_by_key(key, after, values), U64),
+        if above {
+            self.map_next_after(key, bound)
+        } else {
+            self.map_first_from(key, bound)
         }
     }
+}
 
-    /// The pair with the least key above `after`, of keys of a type.
-    ///
-    /// # Errors
-    ///
-    /// `WrongKind` where the object is of another kind.
-    fn next_by_key<K: Scalar, O: Target>(
-        &self,
-        key: &O,
-        after: K,
-        values: ScalarKind,
-    ) -> Result<Option<(K, ScalarValue)>, Refusal>
-        requires { O.stands key.now self.now }
-        ensures pair { Answers self.now (λ d. told_of_map d (O.key key.now) K.kind values (pair_above (K.whole after))) (numbers_read K.whole value_of_scalar result) }
-        ensures kind { HasValueOf values result }
-    {
-        match values {
-            ScalarKind::Bool => valued!(self.map_next_after::<K, bool, O>(key, after), Bool),
-            ScalarKind::U8 => valued!(self.map_next_after::<K, u8, O>(key, after), U8),
-            ScalarKind::I32 => valued!(self.map_next_after::<K, i32, O>(key, after), I32),
-            ScalarKind::I64 => valued!(self.map_next_after::<K, i64, O>(key, after), I64),
-            ScalarKind::U64 => valued!(self.map_next_after::<K, u64, O>(key, after), U64),
-        }
+/// The least value of a kind.
+fn least(kind: ScalarKind) -> ScalarValue
+    ensures kind { kind_of_scalar result ≡ kind }
+    ensures value { value_of_scalar result ≡ lowest kind }
+{
+    match kind {
+        ScalarKind::Bool => ScalarValue::Bool(false),
+        ScalarKind::U8 => ScalarValue::U8(0),
+        ScalarKind::I32 => ScalarValue::I32(i32::MIN),
+        ScalarKind::I64 => ScalarValue::I64(i64::MIN),
+        ScalarKind::U64 => ScalarValue::U64(0),
     }
 }
 
@@ -148,7 +132,7 @@ pub fn first_pair<O: Target>(
     requires map { IsMap segment.now (O.key key.now) keys values }
     ensures { Answers segment.now (λ d. option_map (item_of_kinds keys values) (option_map item_of (first_of (pairs_at d (O.key key.now))))) (option_map item_seen result) }
 {
-    match segment.first_of_kinds(key, keys, values) {
+    match segment.pair_of_kinds(key, least(keys), false, values) {
         Ok(pair) => pair,
         Err(_) => None,
     }
@@ -173,7 +157,7 @@ pub fn next_pair<O: Target>(
     requires map { IsMap segment.now (O.key key.now) (kind_of_scalar after) values }
     ensures { Answers segment.now (λ d. option_map (item_of_kinds (kind_of_scalar after) values) (pair_above (value_of_scalar after) (pairs_at d (O.key key.now)))) (option_map item_seen result) }
 {
-    match segment.next_of_kinds(key, after, values) {
+    match segment.pair_of_kinds(key, after, true, values) {
         Ok(pair) => pair,
         Err(_) => None,
     }

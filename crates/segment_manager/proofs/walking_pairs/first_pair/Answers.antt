@@ -5,14 +5,21 @@ use Rattle.seg_types.specs.Kinds.{lowest}
 use Rattle.seg_map.specs.Places.{item_of}
 use Rattle.segment_manager.specs.Maps.{pair_from}
 use Rattle.segment_manager.specs.Walks.{first_of, item_of_kinds, pairs_at}
-use Rattle.segment_manager.proofs.PairWalks.{first-seen, not-refused}
+use Rattle.segment_manager.proofs.PairWalks.{first-seen, least-kinds, least-told, not-refused}
 use Rattle.segment_manager.proofs.walking_pairs.first_pair.Goals as goal
 
 pub returns-in-Ok : goal.returns-in-Ok
 returns-in-Ok g c =
-    first-seen c.args.segment.now (g.O.Target.key c.args.key.now) c.args.keys c.args.values c.requires.map c.in-Ok.pair c.in-Ok.ensures.kinds c.in-Ok.ensures.pair
+    first-seen c.args.segment.now (g.O.Target.key c.args.key.now) c.args.keys c.args.values c.requires.map c.in-Ok.pair
+    (least-kinds c.least.result c.args.keys c.least.ensures.kind c.args.values c.in-Ok.pair c.in-Ok.ensures.kinds)
+    (least-told c.least.result c.args.keys c.least.ensures.kind c.least.ensures.value c.args.segment.now
+    (g.O.Target.key c.args.key.now) c.args.values _ c.in-Ok.ensures.pair)
 
 pub returns-in-Err : goal.returns-in-Err
 returns-in-Err g c =
-    not-refused c.args.segment.now (g.O.Target.key c.args.key.now) c.args.keys c.args.values c.requires.map (pair_from (lowest c.args.keys)) _
-    (λ d. option_map (item_of_kinds c.args.keys c.args.values) (option_map item_of (first_of (pairs_at d (g.O.Target.key c.args.key.now))))) None c.in-Err.ensures.pair
+    not-refused c.args.segment.now (g.O.Target.key c.args.key.now) c.args.keys c.args.values c.requires.map
+    (pair_from (lowest c.args.keys)) _
+    (λ d. option_map (item_of_kinds c.args.keys c.args.values)
+    (option_map item_of (first_of (pairs_at d (g.O.Target.key c.args.key.now))))) None
+    (least-told c.least.result c.args.keys c.least.ensures.kind c.least.ensures.value c.args.segment.now
+    (g.O.Target.key c.args.key.now) c.args.values _ c.in-Err.ensures.pair)

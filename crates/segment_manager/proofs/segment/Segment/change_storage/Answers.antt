@@ -1,9 +1,7 @@
 -- The kind of the object of the key says which call it is.
-use Rattle.std.proofs.Common.{◌≡◌, refl, sym, ◌∙◌, false}
+use Rattle.std.proofs.Common.{sym, ◌∙◌}
 use Rattle.seg_types.specs.declared.kinds.Kind.TheVariants.{Text, Texts, Vector}
 use Rattle.seg_types.specs.Names.{Key}
-use Rattle.segment_manager.specs.State.{done_answer}
-use Rattle.segment_manager.specs.Step.{is_read_only}
 use Rattle.segment_manager.specs.Stored.{command_of}
 use Rattle.segment_manager.proofs.AnyStorage.{kind-no_storage, nowhere-steps, otherwise-no_storage}
 use Rattle.segment_manager.proofs.Locating.{enough-by_key, kind-by_key, located-changes}

@@ -50,8 +50,7 @@ started {s1} {s2} {new} p each a r c link c2 len c3 cap =
     let two : p.handle + (p.at + 16) ≡ at + 16 = omega arith in
     empty-stands p each a r c
     (SameBut-link m2 m3 _ 8 at c3.rest (inl (omega arith)) ∙ SameBut-link m1 m2 _ 8 at c2.rest (inl (omega arith))
-    ∙ link)
-    (SameBut-word m2 m3 _ 8 (at + 8) c3.rest (inl (omega arith)) ∙ subst (λ k. word_at m2 k ≡ 0) one len)
+    ∙ link) (SameBut-word m2 m3 _ 8 (at + 8) c3.rest (inl (omega arith)) ∙ subst (λ k. word_at m2 k ≡ 0) one len)
     (subst (λ k. word_at m3 k ≡ 0) two cap)
 
 -- ---- the block in which a container stands, once its words are written
@@ -111,8 +110,7 @@ fits-nothing {old} {new} {p} {each} {len} {t} {bytes} s e r =
     let cut = cut-none (live_of old.bytes) each len t e in
     let none : each * len ≡ 0 = ap (λ k. each * k) e ∙ (let z : each * 0 ≡ 0 = omega arith in z) in
     let empty = no-bytes bytes (s.long ∙ none) in
-    subst (λ (bs : List ℕ). IsFitted old new p each len t bs) (sym empty)
-    (record {
+    subst (λ (bs : List ℕ). IsFitted old new p each len t bs) (sym empty) (record {
       change = subst (λ (u : Table). IsExchanged current old new (place_at p) 24 (option_to_list t.extent)
           (option_to_list u.extent)) (sym cut) r.change;
       stands = subst (λ (u : Table). Stands new.bytes p each len u []) (sym cut)

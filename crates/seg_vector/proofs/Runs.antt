@@ -204,8 +204,7 @@ run-none {first} {p} {gone} {come} w d r =
 -- bytes written in a block
 pub block-written : {a b : Cut} {x : Extent} {from n : ℕ} (k : ℕ) → IsHeap current a.bytes
     → extent_at (live_of a.bytes) (handle x) ≡ Some x → IsChanged current a b from n → handle x ≤ from
-    → from + n ≤ handle x + k → k + 16 ≤ x.len
-    → IsSwapped a b (x ∷ []) (x ∷ [])
+    → from + n ≤ handle x + k → k + 16 ≤ x.len → IsSwapped a b (x ∷ []) (x ∷ [])
 block-written {a} {b} {x} {from} {n} k heap found c low high fits =
     let l = live_of a.bytes in
     let i = all-in-use (x ∷ []) l.extents (live-rises l heap.proper) (tt, tt) (found, tt) in

@@ -118,8 +118,7 @@ pub come-aligned : {old mid : Cut} {o : Option Extent} {n used g : ℕ} → IsGi
 come-aligned {old} {o} {g} r =
     let y = r.extent in
     let rest = without_all (option_to_list o) (live_of old.bytes).extents in
-    let sound =
-    (all_of-insert IsSound y rest (live-sound (exchanged (live_of old.bytes) (option_to_list o) (y ∷ []))
+    let sound = (all_of-insert IsSound y rest (live-sound (exchanged (live_of old.bytes) (option_to_list o) (y ∷ []))
     r.change.live.proper)).0 in
     let at = r.at in
     let even = sound.aligned in
@@ -149,8 +148,7 @@ carried-storage m m' each len c (Some x) y bytes t f e h k = ap (read m' (handle
 pub storage-role : (each c : ℕ) (o : Option Extent) → IsTrue (is_table Storage each (table c o))
     → IfSome o (λ x. IsTrue (same_role x.role Storage))
 storage-role each c None t = tt
-storage-role each c (Some x) t =
-    (and_parts (same_role x.role Storage) (holds x (each * c))
+storage-role each c (Some x) t = (and_parts (same_role x.role Storage) (holds x (each * c))
     (and_parts (nat_lt 0 c) (serves x Storage (each * c)) t).1).0
 
 regrown-swapped : {old mid : Cut} {gone : List Extent} {y : Extent} → IsRegrown current old mid gone y
@@ -339,8 +337,7 @@ pub appended : {old s1 new : Cut} {p : Place} {each len c g : ℕ} {o : Option E
     → IsChanged current old s1 (g + each * len) (length more) → Has (bytes_of s1.bytes) (g + each * len) more
     → IsChanged current s1 new (p.handle + (p.at + 8)) 8 → word_at (bytes_of new.bytes) (p.handle + (p.at + 8)) ≡ len
     + 1 → IsAppended old new p each len (table c o) bytes more
-appended {o = None} more f s long link c1 content c2 word =
-    none-some s.words.link link
+appended {o = None} more f s long link c1 content c2 word = none-some s.words.link link
 appended {old} {s1} {each} {len} {c} {g} {o = Some x} {bytes} more f s long link c1 content c2 word =
     let m = bytes_of old.bytes in
     let ms = bytes_of s1.bytes in
@@ -361,8 +358,7 @@ appended {old} {s1} {each} {len} {c} {g} {o = Some x} {bytes} more f s long link
 append-room_in : {b : List ℕ} {p : Place} {each len c g : ℕ} {o : Option Extent} {bytes : List ℕ}
     → Stands b p each len (table c o) bytes → len < c → link_at (bytes_of b) (place_at p) ≡ Some g
     → IsTrue (has_room (live_of b) g (each * len + each))
-append-room_in {o = None} s f link =
-    none-some s.words.link link
+append-room_in {o = None} s f link = none-some s.words.link link
 append-room_in {b} {each} {len} {c} {o = Some x} s f link =
     let g_is = same-some (sym s.words.link ∙ link) in
     let full = table-full each c x s.table in
@@ -493,8 +489,7 @@ Has-patched {m} {m'} g from bytes more f s h k =
 -- what the storage has, of a container with a block
 pub storage-has : {b : List ℕ} {p : Place} {each len c g : ℕ} {o : Option Extent} {bytes : List ℕ}
     → Stands b p each len (table c o) bytes → link_at (bytes_of b) (place_at p) ≡ Some g → Has (bytes_of b) g bytes
-storage-has {o = None} s link =
-    none-some s.words.link link
+storage-has {o = None} s link = none-some s.words.link link
 storage-has {b} {o = Some x} {bytes} s link =
     let g_is = same-some (sym s.words.link ∙ link) in
     subst (λ k. Has (bytes_of b) k bytes) g_is s.words.storage
@@ -504,12 +499,8 @@ pub unchanged-rewritten : (c : Cut) {p : Place} {each len : ℕ} {t : Table} {by
 unchanged-rewritten c s = record { change = (stands-run c s).change; stands = s }
 
 pub unchanged : (c : Cut) (from n : ℕ) → IsHeap current c.bytes → IsChanged current c c from n
-unchanged c from n heap = record {
-  place = record { before = refl; after = refl };
-  live = heap;
-  rest = record
-      { at = λ k f. refl };
-}
+unchanged c from n heap =
+    record { place = record { before = refl; after = refl }; live = heap; rest = record { at = λ k f. refl } }
 
 length-patch : (bytes : List ℕ) (from : ℕ) (more : List ℕ) → from + length more ≤ length bytes
     → length (patched bytes from more) ≡ length bytes
@@ -528,8 +519,7 @@ length-patch bytes from more f =
 pub overwritten : {old new : Cut} {p : Place} {each len g : ℕ} (i : ℕ) {t : Table} {bytes : List ℕ} (more : List ℕ)
     → Stands old.bytes p each len t bytes → i < len → length more ≡ each
     → link_at (bytes_of old.bytes) (place_at p) ≡ Some g → IsChanged current old new (g + each * i) (length more)
-    → Has (bytes_of new.bytes) (g + each * i) more
-    → IsRewritten old new p each len t (patched bytes (each * i) more)
+    → Has (bytes_of new.bytes) (g + each * i) more → IsRewritten old new p each len t (patched bytes (each * i) more)
 overwritten {new} {p} {each} {len} {g} i {t} {bytes} more s f e link c1 content =
     let within = more-times each (i + 1) len (omega (arith, f)) in
     let step : each * (i + 1) ≡ each * i + each = omega arith in
@@ -539,8 +529,7 @@ overwritten {new} {p} {each} {len} {g} i {t} {bytes} more s f e link c1 content 
     rewritten (each * i) len (patched bytes (each * i) more) s link c1 (omega (arith, inside, total, less)) s.fits
     (length-patch bytes (each * i) more inside ∙ s.long)
     (Has-patched g (each * i) bytes more inside c1.rest (storage-has s link) content)
-    (unchanged new (p.handle + (p.at + 8)) 8 (laid-heap _ _ c1.live))
-    (ap (word_at (bytes_of new.bytes)) (omega arith)
+    (unchanged new (p.handle + (p.at + 8)) 8 (laid-heap _ _ c1.live)) (ap (word_at (bytes_of new.bytes)) (omega arith)
     ∙ (written-run (each * i) s link c1 (omega (arith, inside, total, less))).words.len_word)
 
 -- ---- elements are left out at the end
@@ -585,8 +574,7 @@ truncated {old} {p} {each} {len} n {bytes} s f c2 word =
 storage-room_in : {b : List ℕ} {p : Place} {each len c g : ℕ} {o : Option Extent} {bytes : List ℕ}
     → Stands b p each len (table c o) bytes → link_at (bytes_of b) (place_at p) ≡ Some g
     → IsTrue (has_room (live_of b) g (each * c))
-storage-room_in {o = None} s link =
-    none-some s.words.link link
+storage-room_in {o = None} s link = none-some s.words.link link
 storage-room_in {b} {each} {c} {o = Some x} s link =
     let g_is = same-some (sym s.words.link ∙ link) in
     let full = table-full each c x s.table in
@@ -736,8 +724,7 @@ pub extended : {old s1 new : Cut} {p : Place} {len g : ℕ} {t : Table} {bytes :
     → link_at (bytes_of old.bytes) (place_at p) ≡ Some g
     → IsChanged current old s1 (g + len) (length more) → Has (bytes_of s1.bytes) (g + len) more
     → IsChanged current s1 new (p.handle + (p.at + 8)) 8 → word_at (bytes_of new.bytes) (p.handle + (p.at + 8)) ≡ len
-    + length more
-    → IsRewritten old new p 1 (len + length more) t (bytes ++ more)
+    + length more → IsRewritten old new p 1 (len + length more) t (bytes ++ more)
 extended {old} {s1} {len} {g} {bytes} more s f link c1 content c2 word =
     let m = bytes_of old.bytes in
     let ms = bytes_of s1.bytes in
@@ -760,8 +747,7 @@ extended-not c {p} {len} {k} {o = None} {bytes} more s f link =
     (subst (λ j. IsRewritten c c p 1 j (table k None) (bytes ++ [])) (let e : len ≡ len + 0 = omega arith in e)
     (subst (λ (ws : List ℕ). IsRewritten c c p 1 len (table k None) ws) (sym (append-nil bytes))
     (unchanged-rewritten c s)))
-extended-not c {o = Some x} more s f link =
-    none-some link s.words.link
+extended-not c {o = Some x} more s f link = none-some link s.words.link
 
 -- ---- elements move up or down in the storage
 
@@ -792,8 +778,7 @@ pub erased : {old s1 new : Cut} {p : Place} {each len g : ℕ} (i : ℕ) {t : Ta
     → read (bytes_of s1.bytes) (g + each * i) (each * (len - i - 1)) ≡ read (bytes_of old.bytes)
     (g + (each * i + each)) (each * (len - i - 1))
     → IsChanged current s1 new (p.handle + (p.at + 8)) 8 → word_at (bytes_of new.bytes) (p.handle + (p.at + 8)) ≡ len
-    - 1
-    → IsRewritten old new p each (len - 1) t (take (each * i) bytes ++ drop (each * i + each) bytes)
+    - 1 → IsRewritten old new p each (len - 1) t (take (each * i) bytes ++ drop (each * i + each) bytes)
 erased {old} {s1} {each} {len} {g} i {t} {bytes} s f link c1 moved c2 word =
     let m = bytes_of old.bytes in
     let ms = bytes_of s1.bytes in
@@ -841,11 +826,9 @@ pub put_in : {old s1 s2 new : Cut} {p : Place} {each len g : ℕ} (i : ℕ) {t :
     → link_at (bytes_of old.bytes) (place_at p) ≡ Some g
     → IsChanged current old s1 (g + (each * i + each)) (each * (len - i))
     → read (bytes_of s1.bytes) (g + (each * i + each)) (each * (len - i)) ≡ read (bytes_of old.bytes) (g + each * i)
-    (each * (len - i))
-    → IsChanged current s1 s2 (g + each * i) each → Has (bytes_of s2.bytes) (g + each * i) more
+    (each * (len - i)) → IsChanged current s1 s2 (g + each * i) each → Has (bytes_of s2.bytes) (g + each * i) more
     → IsChanged current s2 new (p.handle + (p.at + 8)) 8 → word_at (bytes_of new.bytes) (p.handle + (p.at + 8)) ≡ len
-    + 1
-    → IsRewritten old new p each (len + 1) t (take (each * i) bytes ++ (more ++ drop (each * i) bytes))
+    + 1 → IsRewritten old new p each (len + 1) t (take (each * i) bytes ++ (more ++ drop (each * i) bytes))
 put_in {old} {s1} {s2} {each} {len} {g} i {t} {bytes} more s f room e link c1 moved c2 content c3 word =
     let m = bytes_of old.bytes in
     let m1 = bytes_of s1.bytes in

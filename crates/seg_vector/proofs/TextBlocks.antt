@@ -124,13 +124,8 @@ texts-made b p ps {t} {head} rest heap is found big even table fits words array 
     rest none found in
     record {
       heap = heap;
-      words = record {
-        link = words.link;
-        len_word = words.len_word;
-        capacity = words.capacity;
-        array = array;
-        texts = texts;
-      };
+      words = record
+          { link = words.link; len_word = words.len_word; capacity = words.capacity; array = array; texts = texts };
       aligned = even;
       room = found-room l p.handle (p.at + 24) head there big;
       table = table;
@@ -151,8 +146,7 @@ pub blocks-three : (xs ys ws : List OwnedText) → text_blocks (xs ++ (ys ++ ws)
 blocks-three xs ys ws = blocks-append xs (ys ++ ws) ∙ ap (λ zs. text_blocks xs ++ zs) (blocks-append ys ws)
 
 -- those of an array and of texts between others: these first
-pub own-between : (a m b : List OwnedText) (t : Table)
-    → SameSpread (own_blocks (a ++ (m ++ b)) t)
+pub own-between : (a m b : List OwnedText) (t : Table) → SameSpread (own_blocks (a ++ (m ++ b)) t)
     ((option_to_list t.extent ++ text_blocks m) ++ (text_blocks a ++ text_blocks b))
 own-between a m b t =
     let arr = option_to_list t.extent in
@@ -218,8 +212,7 @@ kept-head : {old : Cut} (new : Cut) {p : Place} {own : List Extent} (bytes : Lis
     → IsOwnedText (bytes_of old.bytes) (record { bytes = bytes; extent = o })
     → IsHeldText (live_of old.bytes) (record { bytes = bytes; extent = o })
     → AllByRecursion (IsStaying (live_of old.bytes) (bytes_of old.bytes) (bytes_of new.bytes) p.handle (place_at p))
-    (option_to_list o ++ xs)
-    → IsOwnedText (bytes_of new.bytes) (record { bytes = bytes; extent = o }) × AllByRecursion
+    (option_to_list o ++ xs) → IsOwnedText (bytes_of new.bytes) (record { bytes = bytes; extent = o }) × AllByRecursion
     (IsStaying (live_of old.bytes) (bytes_of old.bytes) (bytes_of new.bytes) p.handle (place_at p)) xs
 kept-head new bytes None xs heap w t h s = (t, s)
 kept-head {old} new bytes (Some x) xs heap w t h s =
@@ -251,8 +244,7 @@ served-texts l (q ∷ qs) h = (served-head l q.bytes q.extent h.0, served-texts 
 pub texts-changed : {old new : Cut} {p : Place} (a m m' b : List OwnedText) {t u : Table}
     → IsTexts old.bytes p (a ++ (m ++ b)) t
     → IsExchanged current old new (place_at p) 24 (option_to_list t.extent ++ text_blocks m)
-    (option_to_list u.extent ++ text_blocks m')
-    → IsTrue (is_table Storage 16 u) → length (a ++ (m' ++ b)) ≤ u.capacity
+    (option_to_list u.extent ++ text_blocks m') → IsTrue (is_table Storage 16 u) → length (a ++ (m' ++ b)) ≤ u.capacity
     → AreHeadWords (bytes_of new.bytes) (place_at p) (length (a ++ (m' ++ b))) u
     → AreInArray (bytes_of new.bytes) u (a ++ (m' ++ b)) → AllByRecursion (IsOwnedText (bytes_of new.bytes)) m'
     → AllByRecursion IsServed m'
@@ -319,16 +311,14 @@ pub texts-between : {old new : Cut} {p : Place} {ps : List OwnedText} (qs a m m'
     → gone ≡ option_to_list t.extent ++ text_blocks m → come ≡ option_to_list u.extent ++ text_blocks m'
     → IsTexts old.bytes p ps t → IsExchanged current old new (place_at p) 24 gone come
     → IsTrue (is_table Storage 16 u) → length qs ≤ u.capacity → AreHeadWords (bytes_of new.bytes) (place_at p)
-    (length qs) u
-    → AreInArray (bytes_of new.bytes) u qs → AllByRecursion (IsOwnedText (bytes_of new.bytes)) m'
+    (length qs) u → AreInArray (bytes_of new.bytes) u qs → AllByRecursion (IsOwnedText (bytes_of new.bytes)) m'
     → AllByRecursion IsServed m' → IsTextsNow old new p gone come qs u
 texts-between {old} {new} {p} qs a m m' b {t} {u} {gone} e f g h s x table fits words array texts served =
     let r = texts-changed {old = old} {new = new} {p = p} a m m' b {t = t} {u = u}
     (subst (λ (xs : List OwnedText). IsTexts old.bytes p xs t) e s)
     (subst (λ (xs : List Extent). IsExchanged current old new (place_at p) 24 xs
     (option_to_list u.extent ++ text_blocks m')) g (subst (IsExchanged current old new (place_at p) 24 gone) h x))
-    table
-    (subst (λ (xs : List OwnedText). length xs ≤ u.capacity) f fits)
+    table (subst (λ (xs : List OwnedText). length xs ≤ u.capacity) f fits)
     (subst (λ (xs : List OwnedText). AreHeadWords (bytes_of new.bytes) (place_at p) (length xs) u) f words)
     (subst (AreInArray (bytes_of new.bytes) u) f array) texts served in
     record { change = x; texts = subst (λ (xs : List OwnedText). IsTexts new.bytes p xs u) (sym f) r.texts }
@@ -339,19 +329,13 @@ texts-between {old} {new} {p} qs a m m' b {t} {u} {gone} e f g h s x table fits 
 
 pub texts-started : {old new : Cut} {p : Place} → IsHeap current old.bytes
     → IsTrue (has_room (live_of old.bytes) p.handle (p.at + 24)) → IsChanged current old new (place_at p) 24
-    → Stands new.bytes p 16 0 no_table []
-    → IsTextsNow old new p [] [] [] no_table
+    → Stands new.bytes p 16 0 no_table [] → IsTextsNow old new p [] [] [] no_table
 texts-started {p} heap r c s = record {
   change = head-exchanged p heap r c;
   texts = record {
     heap = s.heap;
-    words = record {
-      link = s.words.link;
-      len_word = s.words.len_word;
-      capacity = s.words.capacity;
-      array = refl;
-      texts = tt;
-    };
+    words = record
+        { link = s.words.link; len_word = s.words.len_word; capacity = s.words.capacity; array = refl; texts = tt };
     aligned = s.aligned;
     room = s.room;
     table = s.table;
@@ -396,8 +380,7 @@ links-at m at (x ∷ xs) (suc i) {q} a e =
 pub element-of : (c : Cut) {p : Place} {ps : List OwnedText} {k g : ℕ} (i : ℕ) {o : Option Extent} {q : OwnedText}
     → IsTexts c.bytes p ps (record { capacity = k; extent = o }) → link_at (bytes_of c.bytes) (place_at p) ≡ Some g
     → slice_get ps i ≡ Some q → IsTextElement c.bytes g (16 * i) q
-element-of c i {o = None} s link e =
-    none-some s.words.link link
+element-of c i {o = None} s link e = none-some s.words.link link
 element-of c {ps} {k} i {o = Some x} {q} s link e =
     let g_is = same-some (sym s.words.link ∙ link) in
     let full = table-full 16 k x s.table in
@@ -469,8 +452,7 @@ block-front c {g} {bytes} out heap t e =
 
 found-live-if : (h : ℕ) {x : Extent} (z : Extent) (zs : List Extent)
     → (find (λ (w : Extent). handle w == h) zs ≡ Some x → IsTrue (list_any (λ (w : Extent). handle w == h) zs))
-    → (b : Bool) → (handle z == h) ≡ b
-    → cond b (Some z) (find (λ (w : Extent). handle w == h) zs) ≡ Some x
+    → (b : Bool) → (handle z == h) ≡ b → cond b (Some z) (find (λ (w : Extent). handle w == h) zs) ≡ Some x
     → IsTrue (list_any (λ (w : Extent). handle w == h) (z ∷ zs))
 found-live-if h z zs k true e f = or_left (handle z == h) (list_any (λ (w : Extent). handle w == h) zs) e
 found-live-if h z zs k false e f = or_right (handle z == h) (list_any (λ (w : Extent). handle w == h) zs) (k f)
@@ -504,8 +486,7 @@ swapped-none c heap = exchange-same _ c 0 0 [] (live_of c.bytes).extents heap re
 
 pub released-none : (old : Cut) {array at : ℕ} {bytes : List ℕ} {o : Option Extent}
     → IsHeldElement old.bytes array at (record { bytes = bytes; extent = o })
-    → link_at (bytes_of old.bytes) (array + at) ≡ None
-    → IsSwapped old old (option_to_list o) []
+    → link_at (bytes_of old.bytes) (array + at) ≡ None → IsSwapped old old (option_to_list o) []
 released-none old {o = None} s link = swapped-none old s.heap
 released-none old {o = Some x} s link = none-some link s.link
 
@@ -553,15 +534,13 @@ element-left {old} {now} {array} {n} i {ps} {q} s e x =
       room = found-room (live_of now.bytes) array (16 * i + 16) _
           (kept-found old now 0 0 array _ gone come _ x r.found none) (omega (arith, big, within));
       link = ap (target_of (array + 16 * i)) (word-same _ _ _ _ (array + 16 * i) stays.payload (omega (arith, at))
-          (omega (arith, at, big, within)))
-          ∙ (links-at (bytes_of old.bytes) array ps i s.links e).0;
+          (omega (arith, at, big, within))) ∙ (links-at (bytes_of old.bytes) array ps i s.links e).0;
       live = (all-split (IsFound (live_of now.bytes).extents) (option_to_list q.extent) (text_blocks (drop (suc i) ps))
           first).0;
     }
 
 pub releases-next : {old now new : Cut} (i : ℕ) (ps : List OwnedText) {q : OwnedText} → slice_get ps i ≡ Some q
-    → IsSwapped old now (text_blocks ps) (text_blocks (drop i ps))
-    → IsSwapped now new (option_to_list q.extent) []
+    → IsSwapped old now (text_blocks ps) (text_blocks (drop i ps)) → IsSwapped now new (option_to_list q.extent) []
     → IsSwapped old new (text_blocks ps) (text_blocks (drop (i + 1) ps))
 releases-next {old} {now} {new} i ps {q} e x y =
     let count : suc i ≡ i + 1 = omega arith in
@@ -764,9 +743,7 @@ carried-at : (old : Cut) {now new : Cut} (a b i n j : ℕ) → AreSameElements (
     b i → IsChanged current now new (b + 16 * i) 16
     → IsSameElement (bytes_of old.bytes) (bytes_of new.bytes) (a + 16 * i) (b + 16 * i) → (j < i) ⊎ (j ≡ i)
     → IsSameElement (bytes_of old.bytes) (bytes_of new.bytes) (a + 16 * j) (b + 16 * j)
-carried-at old a b i n j s d e (inl f) =
-    element-trans (s j f)
-    (element-beside (b + 16 * j) d.rest (inl (omega arith)))
+carried-at old a b i n j s d e (inl f) = element-trans (s j f) (element-beside (b + 16 * j) d.rest (inl (omega arith)))
 carried-at old {new} a b i n j s d e (inr f) =
     subst (λ k. IsSameElement (bytes_of old.bytes) (bytes_of new.bytes) (a + 16 * k) (b + 16 * k)) (sym f) e
 
@@ -775,8 +752,7 @@ pub carried-next : {old now new : Cut} (a : ℕ) {b : ℕ} (i n : ℕ)
     → (b ≤ a) ⊎ (a + 16 * n ≤ b) → i < n
     → IsChanged current now new (b + 16 * i) 16 → IsSameElement (bytes_of now.bytes) (bytes_of new.bytes) (a + 16 * i)
     (b + 16 * i) → AreSameElements (bytes_of old.bytes) (bytes_of new.bytes) a b (i + 1)
-carried-next {old} a {b} i n s c apart below d e j under =
-    carried-at old a b i n j s d
+carried-next {old} a {b} i n s c apart below d e j under = carried-at old a b i n j s d
     (element-trans (source-stays a i n c apart below) e) (below-or j i under)
 
 pub even-now : {m m' : Memory} (a n i : ℕ) → AreEvenLinks m a n → i < n → IsSameElement m m' (a + 16 * i) (a + 16 * i)
@@ -807,8 +783,7 @@ up-at : (old : Cut) {now new : Cut} (a k i n j : ℕ) → k + (i + 1) ≡ n → 
     a (n - i) n → IsChanged current now new (a + 16 + 16 * k) 16
     → IsSameElement (bytes_of old.bytes) (bytes_of new.bytes) (a + 16 * k) (a + 16 + 16 * k) → j < n
     → (k + 1 ≤ j) ⊎ (j ≡ k) → IsSameElement (bytes_of old.bytes) (bytes_of new.bytes) (a + 16 * j) (a + 16 + 16 * j)
-up-at old a k i n j is s d e below (inl f) =
-    element-trans (s j (omega arith) below)
+up-at old a k i n j is s d e below (inl f) = element-trans (s j (omega arith) below)
     (element-beside (a + 16 + 16 * j) d.rest (inr (omega arith)))
 up-at old {new} a k i n j is s d e below (inr f) =
     subst (λ w. IsSameElement (bytes_of old.bytes) (bytes_of new.bytes) (a + 16 * w) (a + 16 + 16 * w)) (sym f) e
@@ -817,6 +792,5 @@ pub up-next : {old now new : Cut} (a k i n : ℕ) → k + (i + 1) ≡ n → AreU
     (n - i) n → IsChanged current old now (a + 16 + 16 * (n - i)) (16 * i)
     → IsChanged current now new (a + 16 + 16 * k) 16 → IsSameElement (bytes_of now.bytes) (bytes_of new.bytes)
     (a + 16 * k) (a + 16 + 16 * k) → AreUp (bytes_of old.bytes) (bytes_of new.bytes) a (n - (i + 1)) n
-up-next {old} a k i n is s c d e j low below =
-    up-at old a k i n j is s d
+up-next {old} a k i n is s c d e j low below = up-at old a k i n j is s d
     (element-trans (up-source a k i n is c) e) below (from-or k j (omega (arith, is, low)))

@@ -105,7 +105,8 @@ stands-none {b} {t} s = record {
     link = s.words.link;
     len_word = s.words.len_word;
     capacity = s.words.capacity;
-    storage = no-bytes-stored (bytes_of b) t.capacity t.extent;
+    storage = no-bytes-stored
+        (bytes_of b) t.capacity t.extent;
   };
   aligned = s.aligned;
   room = s.room;
@@ -118,13 +119,8 @@ stands-none {b} {t} s = record {
 pub none-stands : {b : List ℕ} {p : Place} → Stands b p 16 0 no_table [] → IsTexts b p [] no_table
 none-stands s = record {
   heap = s.heap;
-  words = record {
-    link = s.words.link;
-    len_word = s.words.len_word;
-    capacity = s.words.capacity;
-    array = refl;
-    texts = tt;
-  };
+  words = record
+      { link = s.words.link; len_word = s.words.len_word; capacity = s.words.capacity; array = refl; texts = tt };
   aligned = s.aligned;
   room = s.room;
   table = s.table;
@@ -189,10 +185,8 @@ array-full c x both = leb-true (16 * c + 16) x.len (and_parts (same_role x.role 
 -- three steps: of the first and the last the array is kept, and in the second elements move from `a` to `b`
 pub elements-through : {m0 m1 m2 m3 : Memory} {x : Extent} (a b n : ℕ) → SameBlock m0 m1 x
     → AreSameElements m1 m2 a b n → SameBlock m2 m3 x → handle x ≤ a → a + 16 * n ≤ end_of x → handle x ≤ b
-    → b + 16 * n ≤ end_of x
-    → AreSameElements m0 m3 a b n
-elements-through a b n k1 s k2 f1 f2 g1 g2 j h =
-    element-trans
+    → b + 16 * n ≤ end_of x → AreSameElements m0 m3 a b n
+elements-through a b n k1 s k2 f1 f2 g1 g2 j h = element-trans
     (element-trans (element-in (a + 16 * j) k1 (omega (arith, f1)) (omega (arith, f2, h))) (s j h))
     (element-in (b + 16 * j) k2 (omega (arith, g1)) (omega (arith, g2, h)))
 
@@ -368,10 +362,11 @@ read-at m m' at (suc n) (suc j) e f =
     subst (λ k. m' k ≡ m k) there (read-at m m' (at + 1) n j rest (omega arith))
 
 read-spread : (m m' : Memory) (at n : ℕ) → read m' at n ≡ read m at n → Same m m' at (at + n)
-read-spread m m' at n e = record {
-  at = λ k f g. let is : at + (k - at) ≡ k = omega arith in subst (λ w. m' w ≡ m w) is
-      (read-at m m' at n (k - at) e (omega arith));
-}
+read-spread m m' at n e =
+    record {
+      at = λ k f g. let is : at + (k - at) ≡ k = omega arith in subst (λ w. m' w ≡ m w) is
+          (read-at m m' at n (k - at) e (omega arith));
+    }
 
 pub same-elements : {m m' : Memory} {at : ℕ} (n : ℕ) → Same m m' at (at + 16 * n) → AreSameElements m m' at at n
 same-elements {m} {m'} {at} n s j f = record {
@@ -413,8 +408,7 @@ shrunk {old} {new} {ps} {t} s f =
     let arr' = option_to_list u.extent in
     let w = f.stands in
     texts-between ps [] [] [] ps {u = u} refl refl (sym (append-nil arr)) (sym (append-nil arr')) s f.change w.table
-    w.fits
-    (record { link = w.words.link; len_word = w.words.len_word; capacity = w.words.capacity })
+    w.fits (record { link = w.words.link; len_word = w.words.len_word; capacity = w.words.capacity })
     (cut-links (live_of old.bytes) (bytes_of old.bytes) (bytes_of new.bytes) ps t.capacity t.extent s.words.array
     w.words.storage) tt tt
 
@@ -429,8 +423,7 @@ empty-placed l bytes e =
     (λ (x : Extent). let q : OwnedText = record { bytes = bytes; extent = Some x } in q)
     (place l (length bytes) Storage)) (eq-eqb (length bytes) 0 e)
 
-some-placed : (l : LiveSet) (bytes : List ℕ) → 0 < length bytes
-    → placed_text l bytes ≡ option_map
+some-placed : (l : LiveSet) (bytes : List ℕ) → 0 < length bytes → placed_text l bytes ≡ option_map
     (λ (x : Extent). let q : OwnedText = record { bytes = bytes; extent = Some x } in q)
     (place l (length bytes) Storage)
 some-placed l bytes f =
@@ -451,8 +444,7 @@ placed-empty c bytes heap e = record {
 
 pub placed-some : {old mid new : Cut} (bytes : List ℕ) {h : ℕ} → 0 < length bytes
     → (a : IsAllocated current old mid (length bytes) Storage h) → IsChanged current mid new (h + 0) (length bytes)
-    → Has (bytes_of new.bytes) (h + 0) bytes
-    → IsTextPlaced old new bytes (Some h)
+    → Has (bytes_of new.bytes) (h + 0) bytes → IsTextPlaced old new bytes (Some h)
 placed-some {old} {mid} {new} bytes {h} f a c has =
     let zero_at : h + 0 ≡ h = omega arith in
     let b = still_allocated _ old mid new _ _ h 0 _ a c
@@ -528,13 +520,8 @@ texts-still {a} {b} {p} {ps} {t} s x =
     let more = still-texts ps s.heap x s.words.texts s.held in
     record {
       heap = laid-heap _ _ x.live;
-      words = record {
-        link = words.link;
-        len_word = words.len_word;
-        capacity = words.capacity;
-        array = arr.0;
-        texts = more.0;
-      };
+      words = record
+          { link = words.link; len_word = words.len_word; capacity = words.capacity; array = arr.0; texts = more.0 };
       aligned = s.aligned;
       room = head-room (head-kept w x tt);
       table = s.table;
@@ -647,13 +634,11 @@ set_in {s0} {s1} {s3} {p} {ps} {c} {i} {len} {x} {q} {block} s e pl rep len_is a
     let k2 = kept s1 mid (handle x) x eb [] _ r1.heap rep.released found1.1.0 apart.array in
     let k = SameBlock-trans _ _ _ x k1 k2 in
     let front : AreSameElements (bytes_of s0.bytes) (bytes_of s3.bytes) (handle x) (handle x) i = λ j f.
-    element-trans
-    (element-in (handle x + 16 * j) k (omega arith) (omega (arith, f, below, fits, full)))
+    element-trans (element-in (handle x + 16 * j) k (omega arith) (omega (arith, f, below, fits, full)))
     (element-beside (handle x + 16 * j) c3.rest (inl (omega (arith, f)))) in
     let back : AreSameElements (bytes_of s0.bytes) (bytes_of s3.bytes) (handle x + 16 * i + 16)
     (handle x + 16 * i + 16) (n - i - 1) = λ j f.
-    element-trans
-    (element-in (handle x + 16 * i + 16 + 16 * j) k (omega arith) (omega (arith, f, below, fits, full)))
+    element-trans (element-in (handle x + 16 * i + 16 + 16 * j) k (omega arith) (omega (arith, f, below, fits, full)))
     (element-beside (handle x + 16 * i + 16 + 16 * j) c3.rest (inr (omega arith))) in
     let link : link_at (bytes_of s3.bytes) (handle x + 16 * i) ≡ option_map handle z.extent =
     subst (λ (y : Extent). link_at (bytes_of s3.bytes) (handle y + 16 * i) ≡ block) array_is rep.link ∙ pl.at in
@@ -700,8 +685,7 @@ set_in {s0} {s1} {s3} {p} {ps} {c} {i} {len} {x} {q} {block} s e pl rep len_is a
 pub text-set : {s0 s1 s3 : Cut} {p : Place} {ps : List OwnedText} {c i len : ℕ} {o : Option Extent} {q : OwnedText}
     {bytes : List ℕ} {block : Option ℕ} → IsTexts s0.bytes p ps (table c o) → slice_get ps i ≡ Some q
     → (pl : IsTextPlaced s0 s1 bytes block) → (rep : IsTextReplaced s1 s3 p (table c o) i q block len)
-    → len ≡ length bytes
-    → IsTextsNow s0 s3 p (option_to_list o ++ option_to_list q.extent)
+    → len ≡ length bytes → IsTextsNow s0 s3 p (option_to_list o ++ option_to_list q.extent)
     (option_to_list o ++ option_to_list pl.text.extent) (slice_set ps i pl.text) (table c o)
 text-set {o = None} s e pl rep len_is = none-some refl rep.extent
 text-set {o = Some x} s e pl rep len_is = set_in s e pl rep len_is (same-some (sym rep.extent))

@@ -120,8 +120,7 @@ pub record IsInPlace (first now : Cut) (p : Place) (ps : List OwnedText) (t : Ta
 -- lengthened where it stood
 wide-place : {first mid now : Cut} {p : Place} {ps : List OwnedText} {c g : ℕ} (n : ℕ) {x : Extent}
     {loose : List Extent} → IsTexts first.bytes p ps (table c (Some x)) → (w : IsWidened current first mid g (16 * n))
-    → Some x ≡ Some w.before
-    → IsSwapped mid now [] loose → IsInPlace first now p ps (table c (Some x)) g n loose
+    → Some x ≡ Some w.before → IsSwapped mid now [] loose → IsInPlace first now p ps (table c (Some x)) g n loose
 wide-place {first} {mid} {now} {p} {ps} {c} n {x} s w is since =
     let y = w.after in
     let same : w.before ≡ x = same-some (sym is) in
@@ -259,8 +258,7 @@ pub record IsBeside (first old : Cut) (p : Place) (ps : List OwnedText) (t : Tab
 
 pub beside : {first mid old : Cut} {p : Place} {ps : List OwnedText} {c g n : ℕ} {x : Extent} {loose : List Extent}
     → IsTexts first.bytes p ps (table c (Some x)) → (a : IsAllocated current first mid n Storage g)
-    → IsSwapped mid old [] loose
-    → IsBeside first old p ps (table c (Some x)) x a.extent loose
+    → IsSwapped mid old [] loose → IsBeside first old p ps (table c (Some x)) x a.extent loose
 beside {first} {mid} {old} {p} {ps} {c} {g} {n} {x} s a since =
     let y = a.extent in
     let x1 = exchange-taken _ _ mid n _ g 0 0 a in
@@ -326,8 +324,7 @@ adopt-beside {first} {old} {a1} {a2} {new} {p} {ps} {c} {g} n {x} {loose} s more
     subst (λ w. AreSameElements (bytes_of old.bytes) (bytes_of a1.bytes) w (handle y) k) from
     (subst (λ w. AreSameElements (bytes_of old.bytes) (bytes_of a1.bytes) (handle x + 0) w k) to carried) in
     let elements : AreSameElements (bytes_of first.bytes) (bytes_of new.bytes) (handle x) (handle y) k = λ j f.
-    element-trans
-    (element-trans
+    element-trans (element-trans
     (element-in (handle x + 16 * j) b.same (omega arith) (omega (arith, f, fits, full))) (moved j f))
     (element-in (handle y + 16 * j) y13 (omega arith) (omega (arith, f, fits, big, more))) in
     let links = links-moved (bytes_of first.bytes) (bytes_of new.bytes) (handle x) (handle y) ps s.words.array
@@ -392,8 +389,7 @@ ready-place {now} {n} {loose} q = record {
 
 pub ready-in : {first mid now : Cut} {p : Place} {ps : List OwnedText} {c g : ℕ} (n : ℕ) {o : Option Extent}
     {loose : List Extent} → IsTexts first.bytes p ps (table c o) → IsAsked first mid o (16 * n) g
-    → IsSwapped mid now [] loose
-    → IsReadyRun first now p ps (table c o) g n
+    → IsSwapped mid now [] loose → IsReadyRun first now p ps (table c o) g n
 ready-in n {o = None} s (widened w is) since = absurd (cc)
 ready-in n {o = None} s (taken a e) since = ready-place (first-place n s a since)
 ready-in n {o = Some x} s (widened w is) since = ready-place (wide-place n s w is since)
@@ -574,8 +570,7 @@ put-big {y} {m} r = put-full y m (and_parts (nat_lt 0 m) (serves y Storage (16 *
 
 pub same-loose : (m m' : Memory) (bytes : List ℕ) (o : Option Extent)
     → AllByRecursion (SameBlock m m') (option_to_list o) → IsServed (record { bytes = bytes; extent = o })
-    → IsOwnedText m (record { bytes = bytes; extent = o })
-    → IsOwnedText m' (record { bytes = bytes; extent = o })
+    → IsOwnedText m (record { bytes = bytes; extent = o }) → IsOwnedText m' (record { bytes = bytes; extent = o })
 same-loose m m' bytes None k s w = w
 same-loose m m' bytes (Some x) k s w =
     let full = serves-full x (length bytes) s.1 in
@@ -638,15 +633,12 @@ put_in {first} {now} {b1} {b2} {new} {p} {ps} {t} {y} {m} {z} i r inside c1 m1 c
     let r3 = run-headed r2 c3' (len-written (k + 1) refl c3.rest word r2.words) in
     let y3 = beside-head (handle y) r2.heap r2.head c3' found2.0 none.0 in
     let front : AreSameElements (bytes_of now.bytes) (bytes_of new.bytes) (handle y) (handle y) i = λ j f.
-    element-trans
-    (element-trans
-    (element-beside (handle y + 16 * j) c1.rest (inl (omega (arith, f))))
+    element-trans (element-trans (element-beside (handle y + 16 * j) c1.rest (inl (omega (arith, f))))
     (element-beside (handle y + 16 * j) c2.rest (inl (omega (arith, f)))))
     (element-in (handle y + 16 * j) y3 (omega arith) (omega (arith, f, inside, space, big))) in
     let back : AreSameElements (bytes_of now.bytes) (bytes_of new.bytes) (handle y + 16 * i) (handle y + 16 * i + 16)
     (k - i) = λ j f.
-    element-trans
-    (element-trans (m1 j f)
+    element-trans (element-trans (m1 j f)
     (element-beside (handle y + 16 * i + 16 + 16 * j) c2.rest (inr (omega arith))))
     (element-in (handle y + 16 * i + 16 + 16 * j) y3 (omega arith) (omega (arith, f, inside, space, big))) in
     let own = element-in (handle y + 16 * i) y3 (omega arith) (omega (arith, inside, space, big)) in
@@ -685,8 +677,7 @@ put-by {now} {b1} {b2} {new} {p} {ps} {y} i n len block r inside at_is len_is le
     (subst (λ k. AreSameElements (bytes_of now.bytes) (bytes_of b1.bytes) (handle y + 16 * i) (handle y + 16 * i + 16)
     (k - i)) k_is
     (subst (λ h. AreSameElements (bytes_of now.bytes) (bytes_of b1.bytes) (h + 16 * i) (h + 16 * i + 16) (n - i))
-    g_is m1))
-    (subst (λ h. IsChanged current b1 b2 (h + 16 * i) 16) g_is c2)
+    g_is m1)) (subst (λ h. IsChanged current b1 b2 (h + 16 * i) 16) g_is c2)
     (subst (λ h. link_at (bytes_of b2.bytes) (h + 16 * i) ≡ block) g_is link ∙ at_is)
     (subst (λ h. word_at (bytes_of b2.bytes) (h + 16 * i + 8) ≡ len) g_is word ∙ len_is)
     (subst (λ k. IsChanged current b2 new k 8) at c3) (subst (λ k. word_at (bytes_of new.bytes) k ≡ length ps + 1) at
@@ -724,8 +715,7 @@ put-place {now} {p} {g} r leads =
           let e = has-element r.ps j f in
           subst (λ o. IfSome o (λ target. target % 16 ≡ 0))
           (sym (links-at (bytes_of now.bytes) g r.ps j (subst (λ h. AreTextLinks (bytes_of now.bytes) h r.ps) g_is
-          w.links) e.1).0)
-          (even-block (live_of r.first.bytes) e.0.extent w.texts.heap.proper
+          w.links) e.1).0) (even-block (live_of r.first.bytes) e.0.extent w.texts.heap.proper
           (one-of (IsFound (live_of r.first.bytes).extents) r.ps j
           (found-texts (live_of r.first.bytes) r.ps w.texts.held) e.1));
       count = ap (word_at (bytes_of now.bytes)) at ∙ w.len_word;
@@ -759,8 +749,7 @@ asked-live {first} {mid} {p} {ps} {t} {g} n s a =
 
 pub undone-none : {first mid new : Cut} {p : Place} {ps : List OwnedText} {c g n : ℕ} {o : Option Extent}
     → IsTexts first.bytes p ps (table c o) → IsAsked first mid o n g
-    → link_at (bytes_of first.bytes) (place_at p) ≡ None → IsReleased current mid new g
-    → IsRestored current first new
+    → link_at (bytes_of first.bytes) (place_at p) ≡ None → IsReleased current mid new g → IsRestored current first new
 undone-none {o = Some x} s a was r = none-some was s.words.link
 undone-none {o = None} s (widened w is) was r = absurd (cc)
 undone-none {mid} {new} {g} {n} {o = None} s (taken a e) was r = taken-back _ mid new n g _ a r
@@ -855,8 +844,7 @@ array-is l t = ap (λ b. if b then (elim t.extent as (λ _. LiveSet) [ None ↦ 
 
 pub within-ok : {s0 s1 new : Cut} {p : Place} (ps : List OwnedText) {c : ℕ} (i : ℕ) (o : Option Extent)
     {bytes : List ℕ} {block : Option ℕ} → length ps < c → (pl : IsTextPlaced s0 s1 bytes block) → {y : Extent}
-    → o ≡ Some y
-    → IsTextsNow s0 new p (option_to_list o) (y ∷ option_to_list pl.text.extent) (insert ps i pl.text)
+    → o ≡ Some y → IsTextsNow s0 new p (option_to_list o) (y ∷ option_to_list pl.text.extent) (insert ps i pl.text)
     (table c (Some y)) → IsTextPutIn s0 new p ps (table c o) i bytes
 within-ok ps i None space pl e now = absurd (cc)
 within-ok {s0} {new} {p} ps {c} i (Some x) {bytes} space pl {y} e now =
@@ -985,8 +973,7 @@ growing-ok {s0} {s1} {t} {n} i {bytes} more wanted a pl ad now =
 
 pub growing-none : {s0 s1 : Cut} {p : Place} {ps : List OwnedText} {t : Table} (n : ℕ) (bytes : List ℕ)
     → IsTexts s0.bytes p ps t → t.capacity < n → n ≡ capacity_for_one (length ps) t.capacity
-    → IsNotAsked s0 s1 t.extent (16 * n)
-    → IsRefusedPut s0 s1 ps t bytes
+    → IsNotAsked s0 s1 t.extent (16 * n) → IsRefusedPut s0 s1 ps t bytes
 growing-none {s0} {s1} {ps} {t} n bytes s more wanted r = record {
   none = ap (after (live_of s0.bytes) t bytes) (ap (λ k. grown_table (live_of s0.bytes) 16 k t) (sym wanted)
       ∙ not-grown (live_of s0.bytes) n t more r.none);

@@ -140,8 +140,7 @@ laid-begin c {y} more heap found =
 -- a text was placed: all blocks that came since the first
 beside-text : {old now mid : Cut} {y : Extent} {tb oq : List Extent} → IsSwapped old now (y ∷ []) (y ∷ tb)
     → IsSwapped now mid [] oq → IsSwapped old mid (y ∷ []) (y ∷ (tb ++ oq))
-beside-text {old} {now} {mid} {y} {tb} {oq} p q =
-    exchange-order _ old mid 0 0 _ _ _ (last-first oq (y ∷ tb))
+beside-text {old} {now} {mid} {y} {tb} {oq} p q = exchange-order _ old mid 0 0 _ _ _ (last-first oq (y ∷ tb))
     (exchange-next _ old now mid 0 0 _ _ [] (y ∷ tb) oq (spread-refl (y ∷ tb)) p q)
 
 laid-links : (now : Cut) {mid new : Cut} {y : Extent} (i n : ℕ) (ps : List OwnedText) (q : OwnedText) → length ps ≡ i
@@ -151,8 +150,7 @@ laid-links : (now : Cut) {mid new : Cut} {y : Extent} (i n : ℕ) (ps : List Own
     → AreTextLinks (bytes_of now.bytes) (handle y) ps → AreTextLinks (bytes_of new.bytes) (handle y) (ps ++ (q ∷ []))
 laid-links now {new} {y} i n ps q long below big stays c link len l =
     let same : AreSameElements (bytes_of now.bytes) (bytes_of new.bytes) (handle y) (handle y) (length ps) = λ j f.
-    element-trans
-    (element-in (handle y + 16 * j) stays (omega arith) (omega (arith, f, long, below, big)))
+    element-trans (element-in (handle y + 16 * j) stays (omega arith) (omega (arith, f, long, below, big)))
     (element-beside (handle y + 16 * j) c.rest (inl (omega (arith, f, long)))) in
     links-join (bytes_of new.bytes) (handle y) ps (q ∷ [])
     (links-moved (bytes_of now.bytes) (bytes_of new.bytes) (handle y) (handle y) ps l same)
@@ -160,11 +158,9 @@ laid-links now {new} {y} i n ps q long below big stays c link len l =
 
 pub laid-next : {old now mid new : Cut} {y : Extent} {i : ℕ} (n : ℕ) {bytes : List ℕ} {more : List (List ℕ)}
     {block : Option ℕ} → AreLaid old now y i more → drop i more ≡ bytes ∷ drop (i + 1) more → i < n
-    → 16 * n + 16 ≤ y.len
-    → IsTextPlaced now mid bytes block → IsChanged current mid new (handle y + 16 * i) 16
+    → 16 * n + 16 ≤ y.len → IsTextPlaced now mid bytes block → IsChanged current mid new (handle y + 16 * i) 16
     → link_at (bytes_of new.bytes) (handle y + 16 * i) ≡ block → word_at (bytes_of new.bytes) (handle y + 16 * i + 8)
-    ≡ length bytes
-    → AreLaid old new y (i + 1) more
+    ≡ length bytes → AreLaid old new y (i + 1) more
 laid-next {old} {now} {mid} {new} {y} {i} n {bytes} {more} a split below big pl c link len =
     let q = pl.text in
     let oq = option_to_list q.extent in
@@ -206,8 +202,7 @@ laid-next {old} {now} {mid} {new} {y} {i} n {bytes} {more} a split below big pl 
 
 pub laid-stops : {old now new : Cut} {y : Extent} {i : ℕ} {bytes : List ℕ} {more : List (List ℕ)}
     → AreLaid old now y i more → drop i more ≡ bytes ∷ drop (i + 1) more → i ≤ length more
-    → IsTextNotPlaced now new bytes
-    → AreLaidUpTo old new y i more
+    → IsTextNotPlaced now new bytes → AreLaidUpTo old new y i more
 laid-stops {old} {now} {y} {i} {bytes} {more} a split within r =
     subst (λ (c : Cut). AreLaidUpTo old c y i more) (sym r.same) (record {
       laid = a;
@@ -252,8 +247,7 @@ text-even pl = subst (λ o. IfSome o (λ target. target % 16 ≡ 0)) (sym pl.at)
 
 pub laid-room : {old now mid : Cut} {y : Extent} {i : ℕ} (n array : ℕ) {bytes : List ℕ} {more : List (List ℕ)}
     {block : Option ℕ} → handle y ≡ array → AreLaid old now y i more → IsTextPlaced now mid bytes block → i < n
-    → 16 * n + 16 ≤ y.len
-    → IsTrue (has_room (live_of mid.bytes) array (16 * i + 16))
+    → 16 * n + 16 ≤ y.len → IsTrue (has_room (live_of mid.bytes) array (16 * i + 16))
 laid-room {mid} {y} {i} n array at a pl below big =
     let there = are-come (beside-text a.change pl.change) in
     subst (λ k. IsTrue (has_room (live_of mid.bytes) k (16 * i + 16))) at
@@ -271,11 +265,9 @@ found-big c array n {y} heap room found =
 
 pub laid-put : {old now mid new : Cut} {y : Extent} {i : ℕ} (n array : ℕ) {bytes : List ℕ} {more : List (List ℕ)}
     {block : Option ℕ} → handle y ≡ array → AreLaid old now y i more → drop i more ≡ bytes ∷ drop (i + 1) more → i < n
-    → 16 * n + 16 ≤ y.len
-    → IsTextPlaced now mid bytes block → IsChanged current mid new (array + 16 * i) 16
+    → 16 * n + 16 ≤ y.len → IsTextPlaced now mid bytes block → IsChanged current mid new (array + 16 * i) 16
     → link_at (bytes_of new.bytes) (array + 16 * i) ≡ block → word_at (bytes_of new.bytes) (array + 16 * i + 8)
-    ≡ length bytes
-    → AreLaid old new y (i + 1) more
+    ≡ length bytes → AreLaid old new y (i + 1) more
 laid-put {mid} {new} {i} n array {bytes} {block} at a split below big pl c link len =
     laid-next {new = new} n a split below big pl (subst (λ k. IsChanged current mid new (k + 16 * i) 16) (sym at) c)
     (subst (λ k. link_at (bytes_of new.bytes) (k + 16 * i) ≡ block) (sym at) link)
@@ -300,14 +292,12 @@ texts_after l more o = elim o [
 
 no-array : (l : LiveSet) (more : List (List ℕ)) → 0 < length more → place l (16 * length more) Storage ≡ None
     → all_texts l more ≡ None
-no-array l more f e =
-    ap (texts_after l more)
+no-array l more f e = ap (texts_after l more)
     (new-array l (length more) f ∙ ap (option_map (λ (x : Extent). table (length more) (Some x))) e)
 
 in-array : (l : LiveSet) (more : List (List ℕ)) {y : Extent} → 0 < length more
     → place l (16 * length more) Storage ≡ Some y → all_texts l more ≡ placed_texts (resized l y) more
-in-array l more f e =
-    ap (texts_after l more)
+in-array l more f e = ap (texts_after l more)
     (new-array l (length more) f ∙ ap (option_map (λ (x : Extent). table (length more) (Some x))) e)
 
 -- an array that fits has space
@@ -331,15 +321,12 @@ unchanged c more heap e =
 
 pub out-of-reach : (c : Cut) (n : ℕ) (more : List (List ℕ)) → IsHeap current c.bytes → n ≡ length more → 1073741824 < n
     → AreNotLaidOut c c more
-out-of-reach c n more heap e f =
-    unchanged c more heap
-    (no-array (live_of c.bytes) more (omega (arith, e, f))
+out-of-reach c n more heap e f = unchanged c more heap (no-array (live_of c.bytes) more (omega (arith, e, f))
     (too_long c (16 * length more) Storage heap (omega (arith, e, f))))
 
 pub no-space : {old new : Cut} (n : ℕ) (more : List (List ℕ)) → IsHeap current old.bytes → 0 < n → n ≡ length more
     → IsRefused old new (16 * n) Storage → AreNotLaidOut old new more
-no-space {old} n more heap some e r =
-    subst (λ (c : Cut). AreNotLaidOut old c more) (sym r.same)
+no-space {old} n more heap some e r = subst (λ (c : Cut). AreNotLaidOut old c more) (sym r.same)
     (unchanged old more heap (no-array (live_of old.bytes) more (omega (arith, e, some))
     (subst (λ k. place (live_of old.bytes) (16 * k) Storage ≡ None) e r.none)))
 
@@ -460,15 +447,14 @@ swapped-back {old} {new} x = record {
     place = x.place;
     front = x.front;
     behind = x.behind;
-    blocks = same-of (bytes_of old.bytes)
-        (bytes_of new.bytes) (live_of old.bytes).extents x.blocks;
+    blocks = same-of (bytes_of old.bytes) (bytes_of new.bytes)
+        (live_of old.bytes).extents x.blocks;
   };
 }
 
 pub taken-off : {old mid new left last : Cut} {n k g : ℕ} {more : List (List ℕ)} → (t : IsArrayTaken old mid n g)
     → n ≡ length more → 0 < n → (w : AreLaidUpTo mid new t.block k more) → k ≢ n
-    → IsSwapped new left (text_blocks w.laid.texts) []
-    → IsReleased current left last g → AreNotLaidOut old last more
+    → IsSwapped new left (text_blocks w.laid.texts) [] → IsReleased current left last g → AreNotLaidOut old last more
 taken-off {old} {mid} {new} {left} {last} {n} {k} {more} t e some w short x r =
     let y = t.block in
     let a = w.laid in
@@ -478,8 +464,7 @@ taken-off {old} {mid} {new} {left} {last} {n} {k} {more} t e some w short x r =
     subst (λ i. place (live_of old.bytes) (16 * i) Storage ≡ Some y) e t.placed in
     record {
       none = in-array (live_of old.bytes) more (omega (arith, e, some)) fit
-          ∙ ap (λ (l : LiveSet). placed_texts l more) (sym (came-alone t.change))
-          ∙ a.placed
+          ∙ ap (λ (l : LiveSet). placed_texts l more) (sym (came-alone t.change)) ∙ a.placed
           ∙ ap (option_map (λ (qs : List OwnedText). a.texts ++ qs))
           (w.stopped (below k n (length more) short e w.within));
       restored = swapped-back (exchange-next _ old left last 0 0 [] _ _ [] [] (spread-refl (y ∷ [])) alone gone);
@@ -499,8 +484,7 @@ across (x ∷ xs) ys d = ((all-split (λ (z : Extent). handle x ≢ handle z) xs
 
 all-beside : {a b : Cut} {p : Place} {gone come : List Extent} (xs : List Extent) → IsHeap current a.bytes → IsHead a p
     → IsExchanged current a b (place_at p) 24 gone come → AllByRecursion (IsFound (live_of a.bytes).extents) xs
-    → IsNone p.handle xs
-    → AllByRecursion (λ (x : Extent). IsNone (handle x) gone) xs
+    → IsNone p.handle xs → AllByRecursion (λ (x : Extent). IsNone (handle x) gone) xs
     → AllByRecursion (SameBlock (bytes_of a.bytes) (bytes_of b.bytes)) xs
 all-beside [] heap w e f n d = tt
 all-beside {a} {b} {p} {gone} {come} (x ∷ xs) heap w e f n d =
@@ -620,11 +604,8 @@ some-texts (suc n) e = omega arith
 still-of : (m m' : Memory) (xs : List Extent) → AllByRecursion (SameBlock m m') xs
     → AllByRecursion (SameBlockBut m m' 0 0) xs
 still-of m m' [] s = tt
-still-of m m' (x ∷ xs) s = (
-  record { payload = λ k f g h. s.0.payload.at k f g; colour = s.0.colour },
-  still-of m m' xs
-      s.1,
-)
+still-of m m' (x ∷ xs) s =
+    (record { payload = λ k f g h. s.0.payload.at k f g; colour = s.0.colour }, still-of m m' xs s.1)
 
 nothing-swapped : {a b : Cut} → IsRestored current a b → IsSwapped a b [] []
 nothing-swapped {a} {b} r = record {

@@ -21,8 +21,7 @@ use Rattle.seg_vector.proofs.Storage.{at-least, capacity-bytes, exchange-then, u
 
 all-parts : {T : Type 0} → (test : T → Bool) (n : ℕ) (xs : List T) → IsTrue (list_all test xs)
     → IsTrue (list_all test (take n xs)) × IsTrue (list_all test (drop n xs))
-all-parts test n xs v =
-    and_parts (list_all test (take n xs)) (list_all test (drop n xs))
+all-parts test n xs v = and_parts (list_all test (take n xs)) (list_all test (drop n xs))
     (sym (list_all-append test (take n xs) (drop n xs)) ∙ ap (list_all test) (take-append-drop n xs) ∙ v)
 
 pub all-both : {T : Type 0} → (test : T → Bool) (xs ys : List T) → IsTrue (list_all test xs)
@@ -165,8 +164,7 @@ vector-now test sp ys r e f v = record { change = r.change; vector = vector-of t
 -- one change after another, in the storage that came
 pub now-then : {T : Type 0} → {size : ℕ} {test : T → Bool} {sp : T → List ℕ} {old mid new : Cut} {p : Place}
     (t : Table) {u : Table} {ys : List T} → IsExchanged current old mid (place_at p) 24 (option_to_list t.extent)
-    (option_to_list u.extent)
-    → IsVectorNow size test sp mid new p u ys u → IsVectorNow size test sp old new p t ys u
+    (option_to_list u.extent) → IsVectorNow size test sp mid new p u ys u → IsVectorNow size test sp old new p t ys u
 now-then t c w = record { change = exchange-then c w.change; vector = w.vector }
 
 -- the storage is grown, and the values stay
@@ -256,8 +254,7 @@ module _ {T : Type 0} {size : ℕ} {test : T → Bool} {sp : T → List ℕ} (ol
       omega (arith, few, least)
 
   pub grown-of : {n m : ℕ} → n ≡ m → HasGrown old mid p k n → IsGrown old mid p size m (length xs) t (flat_map sp xs)
-  grown-of {n = n} f h =
-      subst (λ j. IsGrown old mid p size j (length xs) t (flat_map sp xs)) f
+  grown-of {n = n} f h = subst (λ j. IsGrown old mid p size j (length xs) t (flat_map sp xs)) f
       (subst (λ j. IsGrown old mid p j n (length xs) t (flat_map sp xs)) e
       (h (length xs) t (flat_map sp xs) stands-at))
 
@@ -305,8 +302,7 @@ module _ {T : Type 0} {size : ℕ} {test : T → Bool} {sp : T → List ℕ} (ol
       → Inserts old mid p k i (sp y) → IsVectorNow size test sp old mid p t (insert xs i y) t
   inserted-now i y spells f good h =
       let bytes : List ℕ = take (size * i) (flat_map sp xs) ++ (sp y ++ drop (size * i) (flat_map sp xs)) in
-      let r : IsRewritten old mid p size (length xs + 1) t bytes =
-      subst (λ j. IsRewritten old mid p j (length xs + 1) t
+      let r : IsRewritten old mid p size (length xs + 1) t bytes = subst (λ j. IsRewritten old mid p j (length xs + 1) t
       (take (j * i) (flat_map sp xs) ++ (sp y ++ drop (j * i) (flat_map sp xs)))) e
       (h (length xs) t (flat_map sp xs) stands-at) in
       vector-now test sp (insert xs i y) r (sym (length-insert xs i y f))
@@ -317,8 +313,7 @@ module _ {T : Type 0} {size : ℕ} {test : T → Bool} {sp : T → List ℕ} (ol
       → IsVectorNow size test sp old mid p t (remove xs i) t
   erased-now i spells f h =
       let bytes : List ℕ = take (size * i) (flat_map sp xs) ++ drop (size * i + size) (flat_map sp xs) in
-      let r : IsRewritten old mid p size (length xs - 1) t bytes =
-      subst (λ j. IsRewritten old mid p j (length xs - 1) t
+      let r : IsRewritten old mid p size (length xs - 1) t bytes = subst (λ j. IsRewritten old mid p j (length xs - 1) t
       (take (j * i) (flat_map sp xs) ++ drop (j * i + j) (flat_map sp xs))) e
       (h (length xs) t (flat_map sp xs) stands-at) in
       vector-now test sp (remove xs i) r (omega (arith, length-remove xs i f))

@@ -11,7 +11,6 @@ pub set_word-requires : goal.set_word-requires
 set_word-requires c = len-room c.args.heap.now.bytes c.args.place c.requires.stands.1.1.1.room
 
 pub returns : goal.returns
-returns c len t bytes s =
-    truncated {old = c.args.heap.now} {new = c.set_word.new.self} c.args.n s
+returns c len t bytes s = truncated {old = c.args.heap.now} {new = c.set_word.new.self} c.args.n s
     (omega (arith, c.requires.fewer, s.words.len_word))
     c.set_word.ensures.change c.set_word.ensures.word

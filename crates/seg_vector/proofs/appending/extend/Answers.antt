@@ -35,8 +35,7 @@ overflow_add-len c =
     omega (arith, is, small, c.requires.space, s.words.len_word, s.words.capacity)
 
 pub set_word-requires : goal.set_word-requires
-set_word-requires c =
-    changed-room _ _ _ _ _ c.args.place.handle (c.args.place.at + 8 + 8) c.write.ensures.change
+set_word-requires c = changed-room _ _ _ _ _ c.args.place.handle (c.args.place.at + 8 + 8) c.write.ensures.change
     (len-room c.args.heap.now.bytes c.args.place c.requires.stands.1.1.1.room)
 
 pub returns-in-Some : goal.returns-in-Some
@@ -51,7 +50,6 @@ returns-in-Some c len t bytes s =
     c.set_word.ensures.change (c.set_word.ensures.word ∙ ap (λ k. k + length c.args.bytes.now) is)
 
 pub returns-in_default : goal.returns-in_default
-returns-in_default c len t bytes s =
-    extended-not c.args.heap.now c.args.bytes.now s
+returns-in_default c len t bytes s = extended-not c.args.heap.now c.args.bytes.now s
     (omega (arith, c.requires.space, s.words.len_word, s.words.capacity))
     (sym c.link.ensures ∙ none-left c.link.result c.in_default.not-Some)

@@ -22,54 +22,37 @@ link-requires-clause-room c = link-room c.args.heap.now.bytes c.args.place c.req
 pub overflow_mul-each : goal.overflow_mul-each
 overflow_mul-each c =
     let small = room-small c.args.heap.now c.in-Some.storage (c.args.each * c.word-len.result + c.args.each)
-    c.requires.stands.1.1.1.heap
-    (append-room c.word-len.result c.requires.stands.1.1.1
+    c.requires.stands.1.1.1.heap (append-room c.word-len.result c.requires.stands.1.1.1
     (len-read c.word-len.result c.requires.stands.1.1.1 c.word-len.ensures)
     (let is : c.word-len.result ≡ c.requires.stands.0 = len-read c.word-len.result c.requires.stands.1.1.1
-    c.word-len.ensures in omega (
-      arith,
-      is,
-      c.requires.space,
-      c.requires.stands.1.1.1.words.len_word,
-      c.requires.stands.1.1.1.words.capacity,
-    )) (sym c.link.ensures ∙ c.in-Some.is)) in
+    c.word-len.ensures in omega
+    (arith, is, c.requires.space, c.requires.stands.1.1.1.words.len_word, c.requires.stands.1.1.1.words.capacity))
+    (sym c.link.ensures ∙ c.in-Some.is)) in
     omega (arith, small)
 
 pub overflow_add-len : goal.overflow_add-len
 overflow_add-len c =
     let small = room-small c.args.heap.now c.in-Some.storage (c.args.each * c.word-len.result + c.args.each)
-    c.requires.stands.1.1.1.heap
-    (append-room c.word-len.result c.requires.stands.1.1.1
+    c.requires.stands.1.1.1.heap (append-room c.word-len.result c.requires.stands.1.1.1
     (len-read c.word-len.result c.requires.stands.1.1.1 c.word-len.ensures)
     (let is : c.word-len.result ≡ c.requires.stands.0 = len-read c.word-len.result c.requires.stands.1.1.1
-    c.word-len.ensures in omega (
-      arith,
-      is,
-      c.requires.space,
-      c.requires.stands.1.1.1.words.len_word,
-      c.requires.stands.1.1.1.words.capacity,
-    )) (sym c.link.ensures ∙ c.in-Some.is)) in
+    c.word-len.ensures in omega
+    (arith, is, c.requires.space, c.requires.stands.1.1.1.words.len_word, c.requires.stands.1.1.1.words.capacity))
+    (sym c.link.ensures ∙ c.in-Some.is)) in
     let least = at-least c.args.each c.word-len.result c.requires.some in
     omega (arith, small, least)
 
 pub write-requires : goal.write-requires
-write-requires c =
-    subst (λ k. IsTrue (has_room (live_of c.args.heap.now.bytes) c.in-Some.storage
-    (c.args.each * c.word-len.result + k))) (sym c.requires.long)
-    (append-room c.word-len.result c.requires.stands.1.1.1
+write-requires c = subst (λ k. IsTrue (has_room (live_of c.args.heap.now.bytes) c.in-Some.storage
+    (c.args.each * c.word-len.result + k))) (sym c.requires.long) (append-room c.word-len.result c.requires.stands.1.1.1
     (len-read c.word-len.result c.requires.stands.1.1.1 c.word-len.ensures)
     (let is : c.word-len.result ≡ c.requires.stands.0 = len-read c.word-len.result c.requires.stands.1.1.1
-    c.word-len.ensures in omega (
-      arith,
-      is,
-      c.requires.space,
-      c.requires.stands.1.1.1.words.len_word,
-      c.requires.stands.1.1.1.words.capacity,
-    )) (sym c.link.ensures ∙ c.in-Some.is))
+    c.word-len.ensures in omega
+    (arith, is, c.requires.space, c.requires.stands.1.1.1.words.len_word, c.requires.stands.1.1.1.words.capacity))
+    (sym c.link.ensures ∙ c.in-Some.is))
 
 pub set_word-requires : goal.set_word-requires
-set_word-requires c =
-    changed-room _ _ _ _ _ c.args.place.handle (c.args.place.at + 8 + 8) c.write.ensures.change
+set_word-requires c = changed-room _ _ _ _ _ c.args.place.handle (c.args.place.at + 8 + 8) c.write.ensures.change
     (len-room c.args.heap.now.bytes c.args.place c.requires.stands.1.1.1.room)
 
 pub returns-in-Some : goal.returns-in-Some

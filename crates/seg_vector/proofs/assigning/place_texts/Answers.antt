@@ -5,8 +5,7 @@ use Rattle.seg_vector.proofs.TextsLaid.{laid-stops, text-even, text-heap}
 use Rattle.seg_vector.proofs.assigning.place_texts.Goals as goal
 
 pub loop-i-init : goal.loop-i-init
-loop-i-init c y at found =
-    laid-begin c.args.heap.now (map (λ text. text.now) c.args.texts.now) c.requires.heap
+loop-i-init c y at found = laid-begin c.args.heap.now (map (λ text. text.now) c.args.texts.now) c.requires.heap
     (ap (λ k. extent_at (live_of c.args.heap.now.bytes) k) at ∙ found)
 
 pub place_text-requires : goal.place_text-requires

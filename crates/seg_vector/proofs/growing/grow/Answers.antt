@@ -38,8 +38,7 @@ set_link-requires-clause-target c =
     c.link-storage.ensures c.word-2.ensures c.in-Ok.ensures)
 
 pub set_word-requires : goal.set_word-requires
-set_word-requires c =
-    changed-room _ _ _ _ 8 c.args.place.handle (c.args.place.at + 16 + 8) c.set_link.ensures.change
+set_word-requires c = changed-room _ _ _ _ 8 c.args.place.handle (c.args.place.at + 16 + 8) c.set_link.ensures.change
     (capacity-room c.regrow.new.self.bytes c.args.place
     (mid-room c.requires.stands.1.1.1 (given-of c.args.n c.word-2.result c.link-storage.result
     c.requires.stands.1.1.1 c.link-storage.ensures c.word-2.ensures c.in-Ok.ensures)))

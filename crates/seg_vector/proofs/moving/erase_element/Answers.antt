@@ -43,8 +43,7 @@ copy-requires-clause-target c =
     (fits (goal.at.copy-requires-clause-target c).In-Some)
 
 pub set_word-requires : goal.set_word-requires
-set_word-requires c =
-    changed-room _ _ _ _ _ c.args.place.handle (c.args.place.at + 8 + 8) c.copy.ensures.change
+set_word-requires c = changed-room _ _ _ _ _ c.args.place.handle (c.args.place.at + 8 + 8) c.copy.ensures.change
     (len-room c.args.heap.now.bytes c.args.place c.requires.stands.1.1.1.room)
 
 pub returns-in-Some : goal.returns-in-Some

@@ -59,8 +59,7 @@ overflow_add-len c =
     omega (arith, is, few, least, fits)
 
 pub set_word-requires : goal.set_word-requires
-set_word-requires c =
-    changed-room _ _ _ _ _ c.args.place.handle (c.args.place.at + 8 + 8) c.write.ensures.change
+set_word-requires c = changed-room _ _ _ _ _ c.args.place.handle (c.args.place.at + 8 + 8) c.write.ensures.change
     (changed-room _ _ _ _ _ c.args.place.handle (c.args.place.at + 8 + 8) c.copy.ensures.change
     (len-room c.args.heap.now.bytes c.args.place c.requires.stands.1.1.1.room))
 
@@ -72,8 +71,7 @@ returns-in-Some c len t bytes s =
     subst (λ n. IsRewritten c.args.heap.now c.set_word.new.self c.args.place c.args.each (n + 1) t
     (take at bytes ++ (c.args.bytes.now ++ drop at bytes))) is
     (put_in {old = c.args.heap.now} {s1 = c.copy.new.self} {s2 = c.write.new.self} {new = c.set_word.new.self}
-    c.args.index c.args.bytes.now now
-    (omega (arith, c.requires.inside, now.words.len_word))
+    c.args.index c.args.bytes.now now (omega (arith, c.requires.inside, now.words.len_word))
     (omega (arith, c.requires.space, now.words.len_word, now.words.capacity)) c.requires.long
     (sym c.link.ensures ∙ c.in-Some.is)
     c.copy.ensures.change c.copy.ensures.content

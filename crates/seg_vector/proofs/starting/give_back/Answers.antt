@@ -13,8 +13,7 @@ deallocate-requires c =
     (storage-live c.requires.1.1.1 (sym c.link-storage.ensures ∙ c.in-Some.is))
 
 pub returns-in-Some : goal.returns-in-Some
-returns-in-Some c len t bytes s =
-    given-back s (sym c.link-storage.ensures ∙ c.in-Some.is) c.start.ensures.change
+returns-in-Some c len t bytes s = given-back s (sym c.link-storage.ensures ∙ c.in-Some.is) c.start.ensures.change
     (c.start.ensures.stands c.args.each) c.deallocate.ensures.released
 
 pub returns-in_default : goal.returns-in_default

@@ -14,15 +14,13 @@ overflow_add-place c =
     omega arith
 
 pub word-len-requires : goal.word-len-requires
-word-len-requires c =
-    len-room c.args.heap.now.bytes c.args.place (head-room (ready c.requires).run.head)
+word-len-requires c = len-room c.args.heap.now.bytes c.args.place (head-room (ready c.requires).run.head)
 
 pub link-requires-clause-whole : goal.link-requires-clause-whole
 link-requires-clause-whole c = c.requires.texts.aligned
 
 pub link-requires-clause-room : goal.link-requires-clause-room
-link-requires-clause-room c =
-    link-room c.args.heap.now.bytes c.args.place (head-room (ready c.requires).run.head)
+link-requires-clause-room c = link-room c.args.heap.now.bytes c.args.place (head-room (ready c.requires).run.head)
 
 pub point_to-requires-clause-heap : goal.point_to-requires-clause-heap
 point_to-requires-clause-heap c = (ready c.requires).run.heap

@@ -10,8 +10,7 @@ link-requires-clause-whole c = c.requires.texts.aligned
 pub link-requires-clause-room : goal.link-requires-clause-room
 link-requires-clause-room c =
     room-less (live_of c.args.heap.now.bytes) c.args.place.handle (c.args.place.at + 24) (c.args.place.at + 8)
-    (omega arith)
-    (head-room (asked-run c.requires.n c.requires.texts c.requires.asked).run.head)
+    (omega arith) (head-room (asked-run c.requires.n c.requires.texts c.requires.asked).run.head)
 
 pub deallocate-requires : goal.deallocate-requires
 deallocate-requires c = asked-live c.requires.n c.requires.texts c.requires.asked

@@ -12,13 +12,11 @@ pub overflow_add-place : goal.overflow_add-place
 overflow_add-place c = let small = place-small c.args.place c.requires.heap c.requires.room in omega arith
 
 pub set_word-requires : goal.set_word-requires
-set_word-requires c =
-    changed-room _ _ _ _ 8 c.args.place.handle (c.args.place.at + 16 + 8) c.set_link.ensures.change
+set_word-requires c = changed-room _ _ _ _ 8 c.args.place.handle (c.args.place.at + 16 + 8) c.set_link.ensures.change
     (capacity-room c.args.heap.now.bytes c.args.place c.requires.room)
 
 pub returns-clause-change : goal.returns-clause-change
-returns-clause-change c =
-    changed-both (c.args.place.handle + c.args.place.at) 24
+returns-clause-change c = changed-both (c.args.place.handle + c.args.place.at) 24
     c.set_link.ensures.change c.set_word.ensures.change (omega arith) (omega arith) (omega arith) (omega arith)
 
 pub returns-clause-link : goal.returns-clause-link

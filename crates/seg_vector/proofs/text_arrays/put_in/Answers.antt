@@ -79,8 +79,7 @@ overflow_add-place-in-Some c =
     let q = put-run c.requires.ready in let small = place-small c.args.place q.heap (head-room q.head) in omega arith
 
 pub set_word-requires : goal.set_word-requires
-set_word-requires c =
-    changed-room _ _ _ _ 16 c.args.place.handle (c.args.place.at + 8 + 8) c.put_element.ensures.change
+set_word-requires c = changed-room _ _ _ _ 16 c.args.place.handle (c.args.place.at + 8 + 8) c.put_element.ensures.change
     (changed-room _ _ _ _ _ c.args.place.handle (c.args.place.at + 8 + 8) c.carry_up.ensures.change
     (len-room c.args.heap.now.bytes c.args.place (head-room (put-run c.requires.ready).head)))
 

@@ -3,11 +3,12 @@ use Rattle.seg_vector.proofs.Words.{not-wide, wide-longer, wide-same}
 use Rattle.seg_vector.proofs.text_arrays.widen.Goals as goal
 
 pub returns-then-room-n : goal.returns-then-room-n
-returns-then-room-n c = record {
-  wide = λ e. wide-same c.args.heap.now c.args.handle c.args.n _ c.requires.heap
-      c.room.ensures c.if-room-n.true;
-  not = λ e. absurd (cc);
-}
+returns-then-room-n c =
+    record {
+      wide = λ e. wide-same c.args.heap.now c.args.handle c.args.n _ c.requires.heap c.room.ensures
+          c.if-room-n.true;
+      not = λ e. absurd (cc);
+    }
 
 pub returns : goal.returns
 returns c = record {

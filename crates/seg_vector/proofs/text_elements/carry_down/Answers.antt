@@ -7,10 +7,12 @@ use Rattle.seg_vector.proofs.TextBlocks.{carried-changed, carried-next, even-now
 use Rattle.seg_vector.proofs.text_elements.carry_down.Goals as goal
 
 pub loop-i-init : goal.loop-i-init
-loop-i-init c = record {
-  change = unchanged c.args.heap.now (c.args.to + c.args.to_at) (16 * 0) c.requires.heap;
-  carried = λ j f. absurd (omega arith);
-}
+loop-i-init c =
+    record {
+      change = unchanged c.args.heap.now (c.args.to + c.args.to_at) (16 * 0) c.requires.heap;
+      carried = λ j
+          f. absurd (omega arith);
+    }
 
 pub overflow_mul-i : goal.overflow_mul-i
 overflow_mul-i c = let small : c.args.from_at + 16 * c.args.n < 1073741824 = room-small c.args.heap.now c.args.from

@@ -6,11 +6,12 @@ use Rattle.seg_vector.proofs.TextBlocks.{even-now, up-changed, up-next, up-sourc
 use Rattle.seg_vector.proofs.text_elements.carry_up.Goals as goal
 
 pub loop-i-init : goal.loop-i-init
-loop-i-init c = record {
-  change = unchanged c.args.heap.now (c.args.array + c.args.at + 16 + 16 * (c.args.n - 0))
-      (16 * 0) c.requires.heap;
-  carried = λ j f g. absurd (omega arith);
-}
+loop-i-init c =
+    record {
+      change = unchanged c.args.heap.now (c.args.array + c.args.at + 16 + 16 * (c.args.n - 0)) (16 * 0)
+          c.requires.heap;
+      carried = λ j f g. absurd (omega arith);
+    }
 
 pub overflow_mul-place : goal.overflow_mul-place
 overflow_mul-place c = let small : c.args.at + 16 * c.args.n + 16 < 1073741824 = room-small c.args.heap.now

@@ -13,14 +13,12 @@ overflow_add-at c = let small : c.args.at + 16 < 1073741824 = room-small c.args.
     c.requires.heap c.requires.room in omega arith
 
 pub set_word-requires : goal.set_word-requires
-set_word-requires c =
-    changed-room _ _ _ _ 8 c.args.array (c.args.at + 8 + 8) c.set_link.ensures.change
+set_word-requires c = changed-room _ _ _ _ 8 c.args.array (c.args.at + 8 + 8) c.set_link.ensures.change
     (room-less (live_of c.args.heap.now.bytes) c.args.array (c.args.at + 16) (c.args.at + 8 + 8) (omega arith)
     c.requires.room)
 
 pub returns-clause-change : goal.returns-clause-change
-returns-clause-change c =
-    changed-both (c.args.array + c.args.at) 16
+returns-clause-change c = changed-both (c.args.array + c.args.at) 16
     c.set_link.ensures.change c.set_word.ensures.change (omega arith) (omega arith) (omega arith) (omega arith)
 
 pub returns-clause-link : goal.returns-clause-link

@@ -6,11 +6,12 @@ use Rattle.seg_vector.proofs.TextBlocks.{block-front, block-live, empty-text, te
 use Rattle.seg_vector.proofs.texts.text_at.Goals as goal
 
 pub link-requires : goal.link-requires
-link-requires c = record {
-  whole = c.requires.1.aligned;
-  room = room-less (live_of c.args.heap.now.bytes) c.args.array
-      (c.args.at + 16) (c.args.at + 8) (omega arith) c.requires.1.room;
-}
+link-requires c =
+    record {
+      whole = c.requires.1.aligned;
+      room = room-less (live_of c.args.heap.now.bytes) c.args.array
+          (c.args.at + 16) (c.args.at + 8) (omega arith) c.requires.1.room;
+    }
 
 pub overflow_add-at : goal.overflow_add-at
 overflow_add-at c = let small : c.args.at + 16 < 1073741824 = room-small c.args.heap.now c.args.array (c.args.at + 16)

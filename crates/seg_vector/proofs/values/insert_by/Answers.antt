@@ -3,8 +3,7 @@ use Rattle.seg_vector.proofs.Words.{subst, List, ℕ, arith, Inserts}
 use Rattle.seg_vector.proofs.values.insert_by.Goals as goal
 
 pub returns-clause-inserted : goal.returns-clause-inserted
-returns-clause-inserted g c =
-    subst (λ k. Inserts c.args.heap.now c.insert_element.new.heap c.args.place k c.args.index
+returns-clause-inserted g c = subst (λ k. Inserts c.args.heap.now c.insert_element.new.heap c.args.place k c.args.index
     (g.T.Plain.spelling c.args.value)) c.SIZE-2.ensures
     (subst (λ (bs : List ℕ). Inserts c.args.heap.now c.insert_element.new.heap c.args.place c.SIZE-2.result
     c.args.index bs) c.write.ensures.bytes c.insert_element.ensures)

@@ -40,6 +40,5 @@ returns-in-Ok c bytes t v =
     let grown = text-grown-of c.args.heap.now c.reserve.new.heap v {n = (length c.args.bytes.now)} refl
     (λ n u bs s. c.in-Ok.ensures n u bs s) in
     let cleared = c.clear.ensures bytes grown.table grown.stands in
-    text-grown-then grown
-    (text-then grown.table cleared.change
+    text-grown-then grown (text-then grown.table cleared.change
     (text-extended c.clear.new.heap c.extend.new.heap cleared.text c.args.bytes.now c.extend.ensures))

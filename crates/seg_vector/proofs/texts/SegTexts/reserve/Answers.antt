@@ -43,8 +43,7 @@ pub returns-in-Ok-clause-reserved : goal.returns-in-Ok-clause-reserved
 returns-in-Ok-clause-reserved c ps t s =
     let more : t.capacity < c.args.n = omega (arith, c.if-n-capacity.false, c.capacity.ensures ps t s) in
     let a = c.in-Ok.ensures ps t s in
-    reserved s more
-    (c.adopt.ensures c.args.heap.now c.ask_array.new.heap ps t [] s more a (asked-alone a))
+    reserved s more (c.adopt.ensures c.args.heap.now c.ask_array.new.heap ps t [] s more a (asked-alone a))
 
 pub returns-then-n-capacity-clause-enough : goal.returns-then-n-capacity-clause-enough
 returns-then-n-capacity-clause-enough c = λ ps t s less. (refl, refl)

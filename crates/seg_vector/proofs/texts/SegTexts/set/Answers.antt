@@ -20,8 +20,7 @@ replace_text-requires-clause-texts c =
     )
 
 pub replace_text-requires-clause-target : goal.replace_text-requires-clause-target
-replace_text-requires-clause-target c =
-    subst (λ o. IfSome o (λ target. target % 16 ≡ 0)) (sym c.in-Ok.ensures.at)
+replace_text-requires-clause-target c = subst (λ o. IfSome o (λ target. target % 16 ≡ 0)) (sym c.in-Ok.ensures.at)
     (come-even c.in-Ok.ensures.text.extent c.in-Ok.ensures.change)
 
 pub returns-in-Ok : goal.returns-in-Ok

@@ -46,8 +46,7 @@ returns-in-Ok g c xs t v =
     (λ n u bytes s. c.in-Ok.ensures n u bytes s) in
     let inside : c.args.index ≤ length xs = omega (arith, c.if-index-len.false, c.len-len.ensures xs t v) in (
       inside,
-      grown-then xs grown
-          (inserted-now c.reserve.new.heap c.insert_value.new.heap refl
+      grown-then xs grown (inserted-now c.reserve.new.heap c.insert_value.new.heap refl
           (record { stands = grown.stands; values = v.values }) c.args.index c.args.value g.met.T.Plain.spells
           inside c.insert_value.ensures.value c.insert_value.ensures.inserted),
     )

@@ -9,8 +9,7 @@ returns-in-Err-clause-reserved g c xs t v = without-space c.args.heap.now c.rese
     {n = c.args.n} refl (λ n u bytes s. c.in-Err.ensures n u bytes s)
 
 pub returns-in-Ok-clause-reserved : goal.returns-in-Ok-clause-reserved
-returns-in-Ok-clause-reserved g c xs t v =
-    vector-grown v
+returns-in-Ok-clause-reserved g c xs t v = vector-grown v
     (grown-of c.args.heap.now c.reserve.new.heap c.SIZE.ensures v {n = c.args.n} refl
     (λ n u bytes s. c.in-Ok.ensures n u bytes s))
 

@@ -29,8 +29,7 @@ pub fn read_push<'a>(bytes: &'a [u8], scratch: &'a mut Text) -> Option<Command<'
 pub fn read_pop<'a>(bytes: &'a [u8], scratch: &'a mut Text) -> Option<Command<'a>>
     ensures { option_map command_of result ≡ of_one (with_key asked.Pop key_of) bytes.now }
 {
-    let key = only_key(bytes, scratch)?;
-    Some(Command::Pop(key))
+    only_key(bytes, scratch).map(Command::Pop)
 }
 
 /// A key, a number and a value, of a new element.
@@ -65,8 +64,7 @@ pub fn read_reserve<'a>(bytes: &'a [u8], scratch: &'a mut Text) -> Option<Comman
 pub fn read_shrink<'a>(bytes: &'a [u8], scratch: &'a mut Text) -> Option<Command<'a>>
     ensures { option_map command_of result ≡ of_one (with_key asked.Shrink key_of) bytes.now }
 {
-    let key = only_key(bytes, scratch)?;
-    Some(Command::Shrink(key))
+    only_key(bytes, scratch).map(Command::Shrink)
 }
 
 /// A key, of an object that loses all its elements.
@@ -74,8 +72,7 @@ pub fn read_shrink<'a>(bytes: &'a [u8], scratch: &'a mut Text) -> Option<Command
 pub fn read_clear<'a>(bytes: &'a [u8], scratch: &'a mut Text) -> Option<Command<'a>>
     ensures { option_map command_of result ≡ of_one (with_key asked.Clear key_of) bytes.now }
 {
-    let key = only_key(bytes, scratch)?;
-    Some(Command::Clear(key))
+    only_key(bytes, scratch).map(Command::Clear)
 }
 
 /// A key and any number of values, of all new elements.

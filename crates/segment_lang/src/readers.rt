@@ -81,8 +81,7 @@ pub fn read_destroy<'a>(bytes: &'a [u8], scratch: &'a mut Text) -> Option<Comman
     ensures { option_map command_of result ≡ of_one (with_key asked.Destroy name_key) bytes.now }
 {
     let word = only_word(bytes)?;
-    let key = index_key(word, scratch)?;
-    Some(Command::Destroy(key))
+    index_key(word, scratch).map(Command::Destroy)
 }
 
 /// A handle.
@@ -111,8 +110,7 @@ pub fn only_key<'a>(bytes: &'a [u8], scratch: &'a mut Text) -> Option<Key<'a>>
 pub fn read_show<'a>(bytes: &'a [u8], scratch: &'a mut Text) -> Option<Command<'a>>
     ensures { option_map command_of result ≡ of_one (with_key asked.Show key_of) bytes.now }
 {
-    let key = only_key(bytes, scratch)?;
-    Some(Command::Show(key))
+    only_key(bytes, scratch).map(Command::Show)
 }
 
 /// A key, of an object of which is told what it is.
@@ -120,8 +118,7 @@ pub fn read_show<'a>(bytes: &'a [u8], scratch: &'a mut Text) -> Option<Command<'
 pub fn read_info<'a>(bytes: &'a [u8], scratch: &'a mut Text) -> Option<Command<'a>>
     ensures { option_map command_of result ≡ of_one (with_key asked.Info key_of) bytes.now }
 {
-    let key = only_key(bytes, scratch)?;
-    Some(Command::Info(key))
+    only_key(bytes, scratch).map(Command::Info)
 }
 
 /// A key and a number, whatever they are read for.

@@ -42,9 +42,7 @@ pub started : {old s1 s2 new : Cut} (p : Place) (each : ℕ) → p.at % 8 ≡ 0
     → IsChanged current s2 new (p.handle + (p.at + 16)) 8 → word_at (bytes_of new.bytes) (p.handle + (p.at + 16)) ≡ 0
     → Stands new.bytes p each 0 no_table []
 started {s1} {s2} {new} p each a r c link c2 len c3 cap =
-    let m1 = bytes_of s1.bytes in
-    let m2 = bytes_of s2.bytes in
-    let m3 = bytes_of new.bytes in
+    let m1 = bytes_of s1.bytes in let m2 = bytes_of s2.bytes in let m3 = bytes_of new.bytes in
     let at = place_at p in
     let one : p.handle + (p.at + 8) ≡ at + 8 = omega arith in
     let two : p.handle + (p.at + 16) ≡ at + 16 = omega arith in
@@ -140,8 +138,7 @@ record Short (x y : Extent) (n : ℕ) : Type 0 where
 short : (l : LiveSet) (x : Extent) (n : ℕ) → IsTrue (same_role x.role Storage) → n + 16 ≤ x.len
     → Short x (shorter l x n) n
 short l x n role big =
-    let y = shorter l x n in
-    let sh = shorter-IsShorter l x n in
+    let y = shorter l x n in let sh = shorter-IsShorter l x n in
     let enough = sh.holds (le-leb (n + 16) x.len big) in
     record {
       begins = ap (λ (z : Extent). handle z) sh.same;
@@ -157,17 +154,12 @@ pub fitted : {old mid new : Cut} {p : Place} {each len c g : ℕ} {o : Option Ex
     → IsShortened current mid new g (each * len) → IsFitted old new p each len (table c o) bytes
 fitted {o = None} some s link c1 word sh = none-some s.words.link link
 fitted {old} {mid} {new} {p} {each} {len} {c} {o = Some x} {bytes} some s link c1 word sh =
-    let l = live_of old.bytes in
-    let m = bytes_of old.bytes in
-    let mi = bytes_of mid.bytes in
-    let m' = bytes_of new.bytes in
-    let at = place_at p in
+    let l = live_of old.bytes in let m = bytes_of old.bytes in let mi = bytes_of mid.bytes in
+    let m' = bytes_of new.bytes in let at = place_at p in
     let n : ℕ = each * len in
-    let y = shorter l x n in
-    let g_is = same-some (sym link ∙ s.words.link) in
+    let y = shorter l x n in let g_is = same-some (sym link ∙ s.words.link) in
     let other : p.handle ≢ handle x = λ e. s.own.1 (sym e) in
-    let full = table-full each c x s.table in
-    let less = more-times each len c s.fits in
+    let full = table-full each c x s.table in let less = more-times each len c s.fits in
     let q = short l x n (storage-role each c (Some x) s.table) (omega (arith, full, less)) in
     let wide = head-wider p c1 (omega arith) (omega arith) in
     let one = run-headed {k = len} {u = table len (Some x)} (stands-run old s) wide (record {

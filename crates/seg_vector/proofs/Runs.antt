@@ -45,22 +45,16 @@ pub head-exchanged : {old new : Cut} (p : Place) → IsHeap current old.bytes
     → IsTrue (has_room (live_of old.bytes) p.handle (p.at + 24)) → IsChanged current old new (place_at p) 24
     → IsExchanged current old new (place_at p) 24 [] []
 head-exchanged {old} {new} p heap room c =
-    let l = live_of old.bytes in
-    let at = place_at p in
-    let h = p.handle in
-    let q = roomy old h (p.at + 24) heap room in
-    let v = q.extent in
-    let here = q.at in
-    let big = q.room in
-    let k = written-keeps old new v _ at 24 (in_use-alone l h v heap.proper q.found) c.place c.rest
-    (omega (arith, here)) (omega (arith, here, big)) in
+    let l = live_of old.bytes in let at = place_at p in let q = roomy old p.handle (p.at + 24) heap room in
+    let k = written-keeps old new q.extent _ at 24 (in_use-alone l p.handle q.extent heap.proper q.found) c.place
+    c.rest (omega (arith, q.at)) (omega (arith, q.at, q.room)) in
     record {
       live = c.live;
       place = c.place;
       front = k.front;
       behind = k.behind;
-      blocks = written-but old new l h at 24
-          v heap.proper q.found c (omega (arith, here)) (omega (arith, here, big));
+      blocks = written-but old new l
+          p.handle at 24 q.extent heap.proper q.found c (omega (arith, q.at)) (omega (arith, q.at, q.room));
     }
 
 pub record IsHead (c : Cut) (p : Place) : Type 0 where
@@ -117,9 +111,7 @@ pub words-kept : {a b : Cut} {p : Place} {n : ℕ} {t : Table} {gone come : List
     → AreHeadWords (bytes_of a.bytes) (place_at p) n t → AreHeadWords (bytes_of b.bytes) (place_at p) n t
 words-kept {a} {b} {p} {gone} {come} heap w x d h =
     let s = kept a b p.handle _ gone come _ heap x w.found d in
-    let here = w.here in
-    let big = w.big in
-    words-same s.payload (omega (arith, here)) (omega (arith, here, big)) h
+    words-same s.payload (omega (arith, w.here)) (omega (arith, w.here, w.big)) h
 
 -- another length is written
 pub len-written : {m m' : Memory} {at n q : ℕ} (k : ℕ) {t : Table} → q ≡ at + 8 → SameBut m m' q 8 → word_at m' q ≡ k
@@ -146,10 +138,8 @@ pub beside-head : {a b : Cut} {p : Place} (h : ℕ) {x : Extent} → IsHeap curr
     → IsChanged current a b (place_at p) 24 → extent_at (live_of a.bytes) h ≡ Some x → p.handle ≢ h
     → SameBlock (bytes_of a.bytes) (bytes_of b.bytes) x
 beside-head {a} {b} {p} h {x} heap w c found other =
-    let here = w.here in
-    let big = w.big in
     kept-beside a b _ 24 p.handle h _ x [] [] _ heap (head-exchanged p heap (head-room w) c) w.found
-    (omega (arith, here)) (omega (arith, here, big)) other found tt
+    (omega (arith, w.here)) (omega (arith, w.here, w.big)) other found tt
 
 -- Some blocks are gone so far and others came, and the head has these words.
 pub record IsRun (old now : Cut) (p : Place) (gone come : List Extent) (n : ℕ) (t : Table) : Type 0 where
@@ -186,8 +176,7 @@ run-headed {old} {a} {b} {p} {gone} {come} r c w = record {
 pub run-found : {old now : Cut} {p : Place} {gone come : List Extent} {n : ℕ} {t : Table}
     → IsRun old now p gone come n t → AllByRecursion (IsFound (live_of now.bytes).extents) come
 run-found {old} {now} {gone} {come} r =
-    let l = live_of old.bytes in
-    let rest = without_all gone l.extents in
+    let l = live_of old.bytes in let rest = without_all gone l.extents in
     let is : (live_of now.bytes).extents ≡ inserted come rest = ap (λ (k : LiveSet). k.extents)
     (exchanged-live old now _ 24 gone come _ r.change) in
     subst (λ (zs : List Extent). AllByRecursion (IsFound zs) come) (sym is)
@@ -226,8 +215,7 @@ facts-own l h (Some x) f n = (f.0, λ e. n.0 (sym e))
 pub stands-run : (c : Cut) {p : Place} {each len : ℕ} {t : Table} {bytes : List ℕ} → Stands c.bytes p each len t bytes
     → IsRun c c p (option_to_list t.extent) (option_to_list t.extent) len t
 stands-run c {p} {t} s =
-    let l = live_of c.bytes in
-    let own = option_to_list t.extent in
+    let l = live_of c.bytes in let own = option_to_list t.extent in
     let facts = own-facts l p.handle t.extent s.own in
     let used = all-in-use own l.extents (live-rises l s.heap.proper) facts.0 facts.1 in
     record {

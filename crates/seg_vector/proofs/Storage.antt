@@ -39,8 +39,7 @@ storage-room l h each len c None t f own = tt
 storage-room l h each len c (Some x) t f own =
     let both = and_parts (nat_lt 0 c) (serves x Storage (each * c)) t in
     let two = and_parts (same_role x.role Storage) (holds x (each * c)) both.1 in
-    let big = leb-true (each * c + 16) x.len two.1 in
-    let less = more-times each len c f in
+    let big = leb-true (each * c + 16) x.len two.1 in let less = more-times each len c f in
     found-room l (handle x) (each * len) x own.0 (omega (arith, big, less))
 
 pub stands-room : {b : List ℕ} {p : Place} {each len : ℕ} {t : Table} {bytes : List ℕ} → Stands b p each len t bytes
@@ -116,13 +115,10 @@ all-found P h {x} (z ∷ zs) e a = all-found-if P h z zs (all-found P h {x = x} 
 pub come-aligned : {old mid : Cut} {o : Option Extent} {n used g : ℕ} → IsGivenRoom current old mid o n used g
     → g % 16 ≡ 0
 come-aligned {old} {o} {g} r =
-    let y = r.extent in
     let rest = without_all (option_to_list o) (live_of old.bytes).extents in
-    let sound = (all_of-insert IsSound y rest (live-sound (exchanged (live_of old.bytes) (option_to_list o) (y ∷ []))
-    r.change.live.proper)).0 in
-    let at = r.at in
-    let even = sound.aligned in
-    omega (arith, at, even)
+    let sound = (all_of-insert IsSound r.extent rest
+    (live-sound (exchanged (live_of old.bytes) (option_to_list o) (r.extent ∷ [])) r.change.live.proper)).0 in
+    omega (arith, r.at, sound.aligned)
 
 -- ---- the words
 
@@ -182,12 +178,8 @@ pub grows-more : {old mid s1 new : Cut} {p : Place} {each : ℕ} (n : ℕ) {len 
     → IsChanged current s1 new (place_at p + 16) 8 → word_at (bytes_of new.bytes) (place_at p + 16) ≡ n
     → IsGrown old new p each n len t bytes
 grows-more {old} {mid} {s1} {new} {p} {each} n {len} {t} {bytes} more s r c1 link c2 word =
-    let l = live_of old.bytes in
-    let ms = bytes_of s1.bytes in
-    let m' = bytes_of new.bytes in
-    let at = place_at p in
-    let y = r.extent in
-    let run = grown-run s r in
+    let l = live_of old.bytes in let ms = bytes_of s1.bytes in let m' = bytes_of new.bytes in
+    let at = place_at p in let y = r.extent in let run = grown-run s r in
     let c = changed-both at 24 c1 c2 (omega arith) (omega arith) (omega arith) (omega arith) in
     let done = run-headed {k = len} {u = table n (Some y)} run c (record {
       link = SameBut-link ms m' (at + 16) 8 at c2.rest (inl (omega arith)) ∙ link ∙ ap (λ k. Some k) r.at;
@@ -227,6 +219,10 @@ room-small c h n heap t =
 pub place-small : {b : List ℕ} (p : Place) → IsHeap current b → IsTrue (has_room (live_of b) p.handle (p.at + 24))
     → p.at + 24 < 1073741824
 place-small {b} p heap room = room-small (record { before = []; bytes = b; after = [] }) p.handle (p.at + 24) heap room
+
+pub stands-small : {b : List ℕ} {p : Place} {each len : ℕ} {t : Table} {bytes : List ℕ} → Stands b p each len t bytes
+    → p.at + 24 < 1073741824
+stands-small {p = p} s = place-small p s.heap s.room
 
 -- each of the three words is within its block
 pub link-room : (b : List ℕ) (p : Place) → IsTrue (has_room (live_of b) p.handle (p.at + 24))
@@ -315,10 +311,8 @@ pub rewritten : {old s1 new : Cut} {p : Place} {each len c g : ℕ} (from : ℕ)
     → IsRewritten old new p each len2 (table c o) bytes2
 rewritten from len2 {o = None} bytes2 s link c1 within fits long content c2 word = none-some s.words.link link
 rewritten {s1} {p} {each} {c} from len2 {o = Some x} bytes2 s link c1 within fits long content c2 word =
-    let g_is = same-some (sym s.words.link ∙ link) in
-    let full = table-full each c x s.table in
-    let less = more-times each len2 c fits in
-    let one = written-run from s link c1 within in
+    let g_is = same-some (sym s.words.link ∙ link) in let full = table-full each c x s.table in
+    let less = more-times each len2 c fits in let one = written-run from s link c1 within in
     let wide = head-wider p c2 (omega arith) (omega arith) in
     let two = run-headed one wide (len-written len2 (omega arith) c2.rest word one.words) in
     let stays = beside-head (handle x) one.heap one.head wide (run-found one).0 (λ e. s.own.1 (sym e)) in
@@ -339,13 +333,11 @@ pub appended : {old s1 new : Cut} {p : Place} {each len c g : ℕ} {o : Option E
     + 1 → IsAppended old new p each len (table c o) bytes more
 appended {o = None} more f s long link c1 content c2 word = none-some s.words.link link
 appended {old} {s1} {each} {len} {c} {g} {o = Some x} {bytes} more f s long link c1 content c2 word =
-    let m = bytes_of old.bytes in
-    let ms = bytes_of s1.bytes in
+    let m = bytes_of old.bytes in let ms = bytes_of s1.bytes in
     let g_is = same-some (sym s.words.link ∙ link) in
     let within = more-times each (len + 1) c (omega arith) in
     let step : each * (len + 1) ≡ each * len + each = omega arith in
-    let total = s.long in
-    let sum = length-append bytes more in
+    let total = s.long in let sum = length-append bytes more in
     let front : Has ms g bytes = read-same m ms g (g + each * len) g (length bytes)
     (record { at = λ k a b. c1.rest.at k (inl (omega arith)) }) (omega arith) (omega (arith, total))
     ∙ subst (λ k. Has m k bytes) g_is s.words.storage in
@@ -360,8 +352,7 @@ append-room_in : {b : List ℕ} {p : Place} {each len c g : ℕ} {o : Option Ext
     → IsTrue (has_room (live_of b) g (each * len + each))
 append-room_in {o = None} s f link = none-some s.words.link link
 append-room_in {b} {each} {len} {c} {o = Some x} s f link =
-    let g_is = same-some (sym s.words.link ∙ link) in
-    let full = table-full each c x s.table in
+    let g_is = same-some (sym s.words.link ∙ link) in let full = table-full each c x s.table in
     let within = more-times each (len + 1) c (omega arith) in
     let step : each * (len + 1) ≡ each * len + each = omega arith in
     subst (λ k. IsTrue (has_room (live_of b) k (each * len + each))) g_is
@@ -523,8 +514,7 @@ pub overwritten : {old new : Cut} {p : Place} {each len g : ℕ} (i : ℕ) {t : 
 overwritten {new} {p} {each} {len} {g} i {t} {bytes} more s f e link c1 content =
     let within = more-times each (i + 1) len (omega (arith, f)) in
     let step : each * (i + 1) ≡ each * i + each = omega arith in
-    let less = more-times each len t.capacity s.fits in
-    let total = s.long in
+    let less = more-times each len t.capacity s.fits in let total = s.long in
     let inside : each * i + length more ≤ length bytes = omega (arith, within, step, total, e) in
     rewritten (each * i) len (patched bytes (each * i) more) s link c1 (omega (arith, inside, total, less)) s.fits
     (length-patch bytes (each * i) more inside ∙ s.long)
@@ -544,9 +534,7 @@ cut-storage : {old new : Cut} {p : Place} {each len c : ℕ} (k : ℕ) {o : Opti
     → IsStorage (bytes_of new.bytes) (table c o) (take k bytes)
 cut-storage k {o = None} {bytes} s f c2 = take-none k bytes s.words.storage
 cut-storage {old} {new} {p} {each} {len} {c} k {o = Some x} {bytes} s f c2 =
-    let full = table-full each c x s.table in
-    let less = more-times each len c s.fits in
-    let total = s.long in
+    let full = table-full each c x s.table in let less = more-times each len c s.fits in let total = s.long in
     let stays = beside-head (handle x) s.heap (room-head old p s.heap s.room) c2 s.own.0 (λ e. s.own.1 (sym e)) in
     Has-take (bytes_of new.bytes) (handle x) k bytes f (read-same _ _ _ _ (handle x) (length bytes) stays.payload
     (omega arith) (omega (arith, full, less, total)) ∙ s.words.storage)
@@ -556,9 +544,7 @@ pub truncated : {old new : Cut} {p : Place} {each len : ℕ} (n : ℕ) {t : Tabl
     → IsChanged current old new (p.handle + (p.at + 8)) 8 → word_at (bytes_of new.bytes) (p.handle + (p.at + 8)) ≡ n
     → IsRewritten old new p each n t (take (each * n) bytes)
 truncated {old} {p} {each} {len} n {bytes} s f c2 word =
-    let less = more-times each n len f in
-    let total = s.long in
-    let fits = s.fits in
+    let less = more-times each n len f in let total = s.long in let fits = s.fits in
     let one = stands-run old s in
     let wide = head-wider p c2 (omega arith) (omega arith) in
     let two = run-headed one wide (len-written n (omega arith) c2.rest word one.words) in
@@ -576,8 +562,7 @@ storage-room_in : {b : List ℕ} {p : Place} {each len c g : ℕ} {o : Option Ex
     → IsTrue (has_room (live_of b) g (each * c))
 storage-room_in {o = None} s link = none-some s.words.link link
 storage-room_in {b} {each} {c} {o = Some x} s link =
-    let g_is = same-some (sym s.words.link ∙ link) in
-    let full = table-full each c x s.table in
+    let g_is = same-some (sym s.words.link ∙ link) in let full = table-full each c x s.table in
     subst (λ k. IsTrue (has_room (live_of b) k (each * c))) g_is
     (found-room (live_of b) (handle x) (each * c) x s.own.0 full)
 
@@ -622,14 +607,10 @@ pub read-all : (c : Cut) {p : Place} {each len : ℕ} (k : ℕ) {g : ℕ} {t : T
 read-all c {each} {len} k {g} out s is link e =
     let n : ℕ = each * len in
     let r = room_block c g n s.heap (some-room n s link (elements-fit len s (omega arith))) in
-    let b = r.block in
-    let enough = r.enough in
-    let ends = b.inside in
-    let at = b.at in
-    ap (λ j. take (each * j) out) is ∙ ap (take n) (e ∙ block_payload c g b) ∙ take-take n (b.tile.len - 16)
-    (drop g c.bytes) (omega (arith, enough))
-    ∙ sym (read-part c.bytes g n (omega (arith, enough, ends, at))) ∙ ap (read (bytes_of c.bytes) g) (sym s.long)
-    ∙ storage-has s link
+    ap (λ j. take (each * j) out) is ∙ ap (take n) (e ∙ block_payload c g r.block) ∙ take-take n
+    (r.block.tile.len - 16) (drop g c.bytes) (omega (arith, r.enough))
+    ∙ sym (read-part c.bytes g n (omega (arith, r.enough, r.block.inside, r.block.at)))
+    ∙ ap (read (bytes_of c.bytes) g) (sym s.long) ∙ storage-has s link
 
 -- ---- bytes behind the last one, and requests that no heap meets
 
@@ -644,8 +625,7 @@ ends from [] to f h = (hole-order from to h, tt)
 ends from (x ∷ xs) to f h =
     let two = and_parts (is_hole from x.offset && is_block x) (proper_from (end_of x) xs to) h in
     let front = and_parts (is_hole from x.offset) (is_block x) two.0 in
-    let rest = ends (end_of x) xs to f two.1 in
-    let above = hole-order from x.offset front.0 in
+    let rest = ends (end_of x) xs to f two.1 in let above = hole-order from x.offset front.0 in
     let below = rest.0 in
     (omega (arith, above, below), (omega (arith, below, f), rest.1))
   where
@@ -706,8 +686,7 @@ no-regrow c p each k n (Some x) heap t own f =
 pub too-many : (c : Cut) {p : Place} {each : ℕ} (n : ℕ) {len : ℕ} {t : Table} {bytes : List ℕ}
     → Stands c.bytes p each len t bytes → 1 ≤ each → 1073741824 < n → IsNotGrown c c each n t
 too-many c {p} {each} n {t} s some f =
-    let few = capacity-bytes c s.heap s in
-    let least = at-least each t.capacity some in
+    let few = capacity-bytes c s.heap s in let least = at-least each t.capacity some in
     let more = at-least each n some in
     let r : IsNotGivenRoom c c t.extent (each * n) =
     record {
@@ -726,11 +705,8 @@ pub extended : {old s1 new : Cut} {p : Place} {len g : ℕ} {t : Table} {bytes :
     → IsChanged current s1 new (p.handle + (p.at + 8)) 8 → word_at (bytes_of new.bytes) (p.handle + (p.at + 8)) ≡ len
     + length more → IsRewritten old new p 1 (len + length more) t (bytes ++ more)
 extended {old} {s1} {len} {g} {bytes} more s f link c1 content c2 word =
-    let m = bytes_of old.bytes in
-    let ms = bytes_of s1.bytes in
-    let total = s.long in
-    let sum = length-append bytes more in
-    let has = storage-has s link in
+    let m = bytes_of old.bytes in let ms = bytes_of s1.bytes in let total = s.long in
+    let sum = length-append bytes more in let has = storage-has s link in
     let front : Has ms g bytes = read-same m ms g (g + len) g (length bytes)
     (record { at = λ k a b. c1.rest.at k (inl (omega arith)) }) (omega arith) (omega (arith, total)) ∙ has in
     let behind : Has ms (g + length bytes) more = subst (λ k. Has ms k more) (omega (arith, total)) content in
@@ -780,13 +756,10 @@ pub erased : {old s1 new : Cut} {p : Place} {each len g : ℕ} (i : ℕ) {t : Ta
     → IsChanged current s1 new (p.handle + (p.at + 8)) 8 → word_at (bytes_of new.bytes) (p.handle + (p.at + 8)) ≡ len
     - 1 → IsRewritten old new p each (len - 1) t (take (each * i) bytes ++ drop (each * i + each) bytes)
 erased {old} {s1} {each} {len} {g} i {t} {bytes} s f link c1 moved c2 word =
-    let m = bytes_of old.bytes in
-    let ms = bytes_of s1.bytes in
+    let m = bytes_of old.bytes in let ms = bytes_of s1.bytes in
     let k : ℕ = each * i + each in
     let n : ℕ = each * (len - i - 1) in
-    let front = take (each * i) bytes in
-    let back = drop k bytes in
-    let has = storage-has s link in
+    let front = take (each * i) bytes in let back = drop k bytes in let has = storage-has s link in
     let total = s.long in
     let a = pieces each len i bytes (omega (arith, f)) s.long in
     let before = a.front in
@@ -830,18 +803,11 @@ pub put_in : {old s1 s2 new : Cut} {p : Place} {each len g : ℕ} (i : ℕ) {t :
     → IsChanged current s2 new (p.handle + (p.at + 8)) 8 → word_at (bytes_of new.bytes) (p.handle + (p.at + 8)) ≡ len
     + 1 → IsRewritten old new p each (len + 1) t (take (each * i) bytes ++ (more ++ drop (each * i) bytes))
 put_in {old} {s1} {s2} {each} {len} {g} i {t} {bytes} more s f room e link c1 moved c2 content c3 word =
-    let m = bytes_of old.bytes in
-    let m1 = bytes_of s1.bytes in
-    let ms = bytes_of s2.bytes in
+    let m = bytes_of old.bytes in let m1 = bytes_of s1.bytes in let ms = bytes_of s2.bytes in
     let n : ℕ = each * (len - i) in
-    let front = take (each * i) bytes in
-    let back = drop (each * i) bytes in
-    let has = storage-has s link in
-    let total = s.long in
-    let a = pieces each len i bytes f s.long in
-    let before = a.front in
-    let behind = a.back in
-    let sum = a.sum in
+    let front = take (each * i) bytes in let back = drop (each * i) bytes in let has = storage-has s link in
+    let total = s.long in let a = pieces each len i bytes f s.long in let before = a.front in
+    let behind = a.back in let sum = a.sum in
     let step : each * (len + 1) ≡ each * len + each = omega arith in
     let less = more-times each (len + 1) t.capacity (omega (arith, room)) in
     let c : IsChanged current old s2 (g + each * i) (each + n) = record {

@@ -68,8 +68,7 @@ pub record AreOwn (c : Cut) (p : Place) (own : List Extent) : Type 0 where
 pub texts-own : (c : Cut) {p : Place} {ps : List OwnedText} {t : Table} → IsTexts c.bytes p ps t
     → AreOwn c p (own_blocks ps t)
 texts-own c {p} {ps} {t} s =
-    let l = live_of c.bytes in
-    let q = roomy c p.handle (p.at + 24) s.heap s.room in
+    let l = live_of c.bytes in let q = roomy c p.handle (p.at + 24) s.heap s.room in
     let found = found-array l p.handle t.extent (text_blocks ps) s.own (found-texts l ps s.held) in
     let i = all-in-use (own_blocks ps t) l.extents (live-rises l s.heap.proper) s.others found in
     record {
@@ -112,8 +111,7 @@ pub texts-made : (b : List ℕ) (p : Place) (ps : List OwnedText) {t : Table} {h
     → AreHeadWords (bytes_of b) (place_at p) (length ps) t → AreInArray (bytes_of b) t ps
     → AllByRecursion (IsOwnedText (bytes_of b)) ps → AllByRecursion IsServed ps → IsTexts b p ps t
 texts-made b p ps {t} {head} rest heap is found big even table fits words array texts served =
-    let l = live_of b in
-    let own = own_blocks ps t in
+    let l = live_of b in let own = own_blocks ps t in
     let up : Rising 128 (inserted own rest) = subst (Rising 128) is (live-rises l heap.proper) in
     let all : AllByRecursion (IsFound l.extents) own = subst (λ (zs : List Extent). AllByRecursion (IsFound zs) own)
     (sym is) (all-found-in own rest up) in
@@ -149,11 +147,8 @@ blocks-three xs ys ws = blocks-append xs (ys ++ ws) ∙ ap (λ zs. text_blocks x
 pub own-between : (a m b : List OwnedText) (t : Table) → SameSpread (own_blocks (a ++ (m ++ b)) t)
     ((option_to_list t.extent ++ text_blocks m) ++ (text_blocks a ++ text_blocks b))
 own-between a m b t =
-    let arr = option_to_list t.extent in
-    let ta = text_blocks a in
-    let tm = text_blocks m in
-    let tb = text_blocks b in
-    let p = spread-behind arr _ _ (middle-first ta tm tb) in
+    let arr = option_to_list t.extent in let ta = text_blocks a in let tm = text_blocks m in
+    let tb = text_blocks b in let p = spread-behind arr _ _ (middle-first ta tm tb) in
     subst (SameSpread (own_blocks (a ++ (m ++ b)) t)) (sym (append_assoc arr tm (ta ++ tb)))
     (subst (λ (xs : List Extent). SameSpread (arr ++ xs) (arr ++ (tm ++ (ta ++ tb)))) (sym (blocks-three a m b)) p)
 
@@ -162,11 +157,8 @@ pub between-own : (a m b : List OwnedText) (t : Table)
     → SameSpread ((option_to_list t.extent ++ text_blocks m) ++ (text_blocks a ++ text_blocks b))
     (own_blocks (a ++ (m ++ b)) t)
 between-own a m b t =
-    let arr = option_to_list t.extent in
-    let ta = text_blocks a in
-    let tm = text_blocks m in
-    let tb = text_blocks b in
-    let p = spread-behind arr _ _ (middle-first tm ta tb) in
+    let arr = option_to_list t.extent in let ta = text_blocks a in let tm = text_blocks m in
+    let tb = text_blocks b in let p = spread-behind arr _ _ (middle-first tm ta tb) in
     subst (λ (xs : List Extent). SameSpread xs (own_blocks (a ++ (m ++ b)) t)) (sym (append_assoc arr tm (ta ++ tb)))
     (subst (λ (xs : List Extent). SameSpread (arr ++ (tm ++ (ta ++ tb))) (arr ++ xs)) (sym (blocks-three a m b)) p)
 
@@ -202,10 +194,8 @@ same-staying : {old : Cut} (new : Cut) {p : Place} {own : List Extent} {x : Exte
     → AreOwn old p own → IsStaying (live_of old.bytes) (bytes_of old.bytes) (bytes_of new.bytes) p.handle (place_at p) x
     → SameBlock (bytes_of old.bytes) (bytes_of new.bytes) x
 same-staying {old} new {p} {x} heap o s =
-    let here = o.here in
-    let big = o.big in
-    but-apart (live_of old.bytes) _ _ _ 24 p.handle (handle x) _ x heap.proper o.found (omega (arith, here))
-    (omega (arith, here, big)) s.other s.found s.but
+    but-apart (live_of old.bytes) _ _ _ 24 p.handle (handle x) _ x heap.proper o.found (omega (arith, o.here))
+    (omega (arith, o.here, o.big)) s.other s.found s.but
 
 kept-head : {old : Cut} (new : Cut) {p : Place} {own : List Extent} (bytes : List ℕ) (o : Option Extent)
     (xs : List Extent) → IsHeap current old.bytes → AreOwn old p own
@@ -216,8 +206,7 @@ kept-head : {old : Cut} (new : Cut) {p : Place} {own : List Extent} (bytes : Lis
     (IsStaying (live_of old.bytes) (bytes_of old.bytes) (bytes_of new.bytes) p.handle (place_at p)) xs
 kept-head new bytes None xs heap w t h s = (t, s)
 kept-head {old} new bytes (Some x) xs heap w t h s =
-    let b = same-staying new heap w s.0 in
-    let full = serves-full x (length bytes) h.2 in
+    let b = same-staying new heap w s.0 in let full = serves-full x (length bytes) h.2 in
     (Has-same _ _ _ _ (handle x) bytes b.payload (omega arith) (omega (arith, full)) t, s.1)
 
 kept-texts : {old : Cut} (new : Cut) {p : Place} {own : List Extent} (qs : List OwnedText) → IsHeap current old.bytes
@@ -251,12 +240,9 @@ pub texts-changed : {old new : Cut} {p : Place} (a m m' b : List OwnedText) {t u
     → IsTextsNow old new p (option_to_list t.extent ++ text_blocks m) (option_to_list u.extent ++ text_blocks m')
     (a ++ (m' ++ b)) u
 texts-changed {old} {new} {p} a m m' b {t} {u} s x table fits words array texts served =
-    let l = live_of old.bytes in
-    let M = bytes_of old.bytes in
-    let M' = bytes_of new.bytes in
+    let l = live_of old.bytes in let M = bytes_of old.bytes in let M' = bytes_of new.bytes in
     let own = own_blocks (a ++ (m ++ b)) t in
-    let w = texts-own old s in
-    let rest = without_all own l.extents in
+    let w = texts-own old s in let rest = without_all own l.extents in
     let gone : List Extent = option_to_list t.extent ++ text_blocks m in
     let come : List Extent = option_to_list u.extent ++ text_blocks m' in
     let same : List Extent = text_blocks a ++ text_blocks b in
@@ -382,8 +368,7 @@ pub element-of : (c : Cut) {p : Place} {ps : List OwnedText} {k g : ℕ} (i : �
     → slice_get ps i ≡ Some q → IsTextElement c.bytes g (16 * i) q
 element-of c i {o = None} s link e = none-some s.words.link link
 element-of c {ps} {k} i {o = Some x} {q} s link e =
-    let g_is = same-some (sym s.words.link ∙ link) in
-    let full = table-full 16 k x s.table in
+    let g_is = same-some (sym s.words.link ∙ link) in let full = table-full 16 k x s.table in
     let below = slice_get_within ps i q e in
     let r = links-at (bytes_of c.bytes) (handle x) ps i s.words.array e in
     record {
@@ -426,8 +411,7 @@ pub text-block : {b : List ℕ} {array at g : ℕ} {bytes : List ℕ} {o : Optio
     → IsTextBlock b g bytes
 text-block {o = None} s link = none-some s.link link
 text-block {b} {bytes} {o = Some x} s link =
-    let g_is = same-some (sym s.link ∙ link) in
-    let full = serves-full x (length bytes) s.held.2 in
+    let g_is = same-some (sym s.link ∙ link) in let full = serves-full x (length bytes) s.held.2 in
     subst (λ h. IsTextBlock b h bytes) g_is
     (record { room = found-room (live_of b) (handle x) (length bytes) x s.held.0 full; content = s.owned })
 
@@ -437,14 +421,10 @@ block-live {b} {g} {bytes} t = live-if g (length bytes) (live_of b).extents t.ro
 pub block-front : (c : Cut) {g : ℕ} {bytes : List ℕ} (out : List ℕ) → IsHeap current c.bytes
     → IsTextBlock c.bytes g bytes → out ≡ payload_at c.bytes (live_of c.bytes) g → take (length bytes) out ≡ bytes
 block-front c {g} {bytes} out heap t e =
-    let n = length bytes in
-    let r = room_block c g n heap t.room in
-    let b = r.block in
-    let enough = r.enough in
-    let inside = b.inside in
-    let at = b.at in
-    ap (take n) (e ∙ block_payload c g b) ∙ take-take n (b.tile.len - 16) (drop g c.bytes) (omega (arith, enough))
-    ∙ sym (read-part c.bytes g n (omega (arith, enough, inside, at))) ∙ t.content
+    let n = length bytes in let r = room_block c g n heap t.room in
+    ap (take n) (e ∙ block_payload c g r.block) ∙ take-take n (r.block.tile.len - 16) (drop g c.bytes)
+    (omega (arith, r.enough)) ∙ sym (read-part c.bytes g n (omega (arith, r.enough, r.block.inside, r.block.at)))
+    ∙ t.content
 
 -- ---- the blocks of texts are given back, one after another
 
@@ -508,14 +488,9 @@ pub element-left : {old now : Cut} {array n : ℕ} (i : ℕ) {ps : List OwnedTex
     → AreHeldElements old.bytes array n ps → slice_get ps i ≡ Some q
     → IsSwapped old now (text_blocks ps) (text_blocks (drop i ps)) → IsHeldElement now.bytes array (16 * i) q
 element-left {old} {now} {array} {n} i {ps} {q} s e x =
-    let l = live_of old.bytes in
-    let gone = text_blocks ps in
-    let come = text_blocks (drop i ps) in
-    let rest = without_all gone l.extents in
-    let none = none-of array gone s.apart in
-    let r = roomy old array (16 * n) s.heap s.room in
-    let at = r.at in
-    let big = r.room in
+    let l = live_of old.bytes in let gone = text_blocks ps in let come = text_blocks (drop i ps) in
+    let rest = without_all gone l.extents in let none = none-of array gone s.apart in
+    let r = roomy old array (16 * n) s.heap s.room in let at = r.at in let big = r.room in
     let below = slice_get_within ps i q e in
     let within : i < n = omega (arith, below, s.long) in
     let stays = kept old now array _ gone come _ s.heap x r.found none in
@@ -646,9 +621,7 @@ one-of P (y ∷ ys) (suc i) a e = one-of P ys i (all-split P (option_to_list y.e
 pub held-element : (c : Cut) {array n : ℕ} (i : ℕ) {ps : List OwnedText} {q : OwnedText}
     → AreHeldElements c.bytes array n ps → slice_get ps i ≡ Some q → IsHeldElement c.bytes array (16 * i) q
 held-element c {array} {n} i {ps} {q} s e =
-    let r = roomy c array (16 * n) s.heap s.room in
-    let big = r.room in
-    let below = slice_get_within ps i q e in
+    let r = roomy c array (16 * n) s.heap s.room in let big = r.room in let below = slice_get_within ps i q e in
     record {
       heap = s.heap;
       aligned = omega arith;
@@ -664,8 +637,7 @@ pub even-block : (l : LiveSet) (o : Option Extent) → IsTrue (is_proper l)
 even-block l None p f = tt
 even-block l (Some x) p f =
     let s = all-found IsSound (handle x) l.extents f.0 (live-sound l p) in
-    let even = s.aligned in
-    omega (arith, even)
+    omega (arith, s.aligned)
 
 pub even-held : (c : Cut) {array n : ℕ} {ps : List OwnedText} → AreHeldElements c.bytes array n ps
     → AreEvenLinks (bytes_of c.bytes) array n
@@ -690,16 +662,15 @@ pub array-left : {old new : Cut} {array n : ℕ} {ps : List OwnedText} {gone com
     → AreHeldElements old.bytes array n ps → IsSwapped old new gone come → IsNone array gone → IsArrayLeft new array n
 array-left {old} {new} {array} {n} {gone} {come} s x none =
     let r = roomy old array (16 * n) s.heap s.room in
-    let at = r.at in
-    let big = r.room in
     let stays = kept old new array _ gone come _ s.heap x r.found none in
     let even = even-held old s in
     record {
       heap = laid-heap _ _ x.live;
       room = found-room (live_of new.bytes) array (16 * n) _
-          (kept-found old new 0 0 array _ gone come _ x r.found none) big;
+          (kept-found old new 0 0 array _ gone come _ x r.found none) r.room;
       even = λ j f. subst (λ o. IfSome o (λ target. target % 16 ≡ 0))
-          (sym (element-in (array + 16 * j) stays (omega (arith, at)) (omega (arith, at, big, f))).link) (even j f);
+          (sym (element-in (array + 16 * j) stays (omega (arith, r.at)) (omega (arith, r.at, r.room, f))).link)
+          (even j f);
     }
 
 -- ---- elements of the array of a vector of texts, put elsewhere one after another

@@ -2,20 +2,19 @@
 use Rattle.seg_vector.proofs.Words.{◌≡◌, ◌≢◌, refl, sym, ap, subst, ◌∙◌, ℕ, ◌+◌, ◌*◌, Option, Some, None, List, []}
 use Rattle.seg_vector.proofs.Words.{◌∷◌, ◌++◌, append-nil, arith, length, inl, inr, ◌⊎◌, suc, ◌-◌, ◌<◌, ◌≤◌}
 use Rattle.seg_vector.proofs.Words.{length-append, take, drop, zero, ◌%◌, if◌then◌else◌, append_assoc, option_to_list}
-use Rattle.seg_vector.proofs.Words.{IsTrue, nat_lt, remove, slice_get, IfSome, ⊤, option_map, slice_set}
-use Rattle.seg_vector.proofs.Words.{AllByRecursion, and_parts, leb-true, eq-eqb, ne_eqb, length-drop, length-take}
-use Rattle.seg_vector.proofs.Words.{take-append-drop, slice_get_within, Memory, Cut, bytes_of, word_at, Has, Same}
-use Rattle.seg_vector.proofs.Words.{read, current, link_at, target_of, without_all, exchanged, inserted, Extent}
-use Rattle.seg_vector.proofs.Words.{handle, end_of, holds, LiveSet, IsChanged, live_of, SameBlock, IsAllocated, IsHeap}
-use Rattle.seg_vector.proofs.Words.{Table, no_table, same_role, serves, is_table, SameSpread, exchange-next}
-use Rattle.seg_vector.proofs.Words.{exchange-same, exchange-wide, found-room, laid-heap, last-first, spread-refl}
-use Rattle.seg_vector.proofs.Words.{IsNone, kept, shorter-IsShorter, word-same, IsFound, all-found-in, allocated-room}
-use Rattle.seg_vector.proofs.Words.{exchange-taken, exchanged-live, kept-found, live-rises, place-serves}
-use Rattle.seg_vector.proofs.Words.{still_allocated, SameBlock-trans, rising-others, Storage, shorter, place, Has-same}
-use Rattle.seg_vector.proofs.Words.{Place, IsGivenBack, IsFitted, Stands, place_at, IsOwnBlock, AreHeldElements}
-use Rattle.seg_vector.proofs.Words.{IsSwapped, AreSameElements, IsHeldElement, IsTextPlaced, IsServed, IsTextReplaced}
-use Rattle.seg_vector.proofs.Words.{IsTexts, IsTextsNow, text_blocks, IsHeldText, placed_text, AreOthers, AreInArray}
-use Rattle.seg_vector.proofs.Words.{IsStorage, OwnedText, AreTextLinks, IsOwnedText}
+use Rattle.seg_vector.proofs.Words.{IsTrue, remove, slice_get, IfSome, ⊤, option_map, slice_set, AllByRecursion}
+use Rattle.seg_vector.proofs.Words.{eq-eqb, ne_eqb, length-drop, length-take, take-append-drop, slice_get_within}
+use Rattle.seg_vector.proofs.Words.{Memory, Cut, bytes_of, word_at, Has, Same, read, current, link_at, target_of}
+use Rattle.seg_vector.proofs.Words.{without_all, exchanged, inserted, Extent, handle, end_of, LiveSet, IsChanged}
+use Rattle.seg_vector.proofs.Words.{live_of, SameBlock, IsAllocated, IsHeap, Table, no_table, is_table, SameSpread}
+use Rattle.seg_vector.proofs.Words.{exchange-next, exchange-same, exchange-wide, found-room, laid-heap, last-first}
+use Rattle.seg_vector.proofs.Words.{spread-refl, IsNone, kept, shorter-IsShorter, word-same, IsFound, all-found-in}
+use Rattle.seg_vector.proofs.Words.{allocated-room, exchange-taken, exchanged-live, kept-found, live-rises}
+use Rattle.seg_vector.proofs.Words.{place-serves, still_allocated, SameBlock-trans, rising-others, Storage, shorter}
+use Rattle.seg_vector.proofs.Words.{place, Has-same, Place, IsGivenBack, IsFitted, Stands, place_at, IsOwnBlock}
+use Rattle.seg_vector.proofs.Words.{AreHeldElements, IsSwapped, AreSameElements, IsHeldElement, IsTextPlaced, IsServed}
+use Rattle.seg_vector.proofs.Words.{IsTextReplaced, IsTexts, IsTextsNow, text_blocks, IsHeldText, placed_text}
+use Rattle.seg_vector.proofs.Words.{AreOthers, AreInArray, IsStorage, OwnedText, AreTextLinks, IsOwnedText}
 use Rattle.best_fit.specs.Table.{cut_table}
 use Rattle.seg_vector.proofs.Fewer.{cut-some}
 use Rattle.seg_vector.proofs.Runs.{AreHeadWords, IsHead, IsRun, beside-head, block-written, head-exchanged, head-kept}
@@ -41,12 +40,10 @@ pub held-elements : {b : List ℕ} {p : Place} {ps : List OwnedText} {c g : ℕ}
     → IsTexts b p ps (table c o) → link_at (bytes_of b) (place_at p) ≡ Some g → n ≡ length ps → AreHeldElements b g n ps
 held-elements n {o = None} s link e = none-some s.words.link link
 held-elements {b} {ps} {c} n {o = Some x} s link e =
-    let g_is = same-some (sym s.words.link ∙ link) in
-    let full = table-full 16 c x s.table in
-    let fits = s.fits in
+    let g_is = same-some (sym s.words.link ∙ link) in let full = table-full 16 c x s.table in
     subst (λ h. AreHeldElements b h n ps) g_is (record {
       heap = s.heap;
-      room = found-room (live_of b) (handle x) (16 * n) x s.own.0 (omega (arith, full, fits, e));
+      room = found-room (live_of b) (handle x) (16 * n) x s.own.0 (omega (arith, full, s.fits, e));
       long = sym e;
       links = s.words.array;
       live = found-texts (live_of b) ps s.held;
@@ -71,19 +68,13 @@ pub cleared : {old mid new : Cut} {p : Place} {ps : List OwnedText} {t : Table} 
     → word_at (bytes_of new.bytes) (place_at p + 8) ≡ 0
     → IsTextsNow old new p (option_to_list t.extent ++ text_blocks ps) (option_to_list t.extent) [] t
 cleared {old} {mid} {new} {p} {ps} {t} s x c word =
-    let l = live_of old.bytes in
-    let at = place_at p in
-    let arr = option_to_list t.extent in
-    let tb = text_blocks ps in
-    let own = own_blocks ps t in
-    let w = texts-own old s in
-    let h = own-head w in
+    let l = live_of old.bytes in let at = place_at p in let arr = option_to_list t.extent in
+    let tb = text_blocks ps in let own = own_blocks ps t in let w = texts-own old s in let h = own-head w in
     let none = (all-split (λ (z : Extent). p.handle ≢ handle z) arr tb w.none).1 in
     let e0 = exchange-same _ old at 24 own (without_all own l.extents) s.heap w.is in
     let e1 = exchange-next _ old old mid at 24 own own tb arr [] (last-first arr tb) e0
     (exchange-wide _ old mid at 24 tb [] x) in
-    let heap = laid-heap _ _ x.live in
-    let hm = head-kept h x none in
+    let heap = laid-heap _ _ x.live in let hm = head-kept h x none in
     let e2 = head-exchanged p heap (head-room hm) (head-wider p c (omega arith) (omega arith)) in
     let e3 = exchange-next _ old mid new at 24 own arr [] arr [] (spread-refl arr) e1 e2 in
     let was : AreHeadWords (bytes_of old.bytes) at (length ps) t =
@@ -176,10 +167,6 @@ text-apart {p} {ps} i {x} s e = record {
   head = one-of (λ (y : Extent). p.handle ≢ handle y) ps i (none-of p.handle (text_blocks ps) s.apart) e;
 }
 
--- the array holds as many elements as it has places for
-pub array-full : (c : ℕ) (x : Extent) → IsTrue (nat_lt 0 c) × IsTrue (serves x Storage (16 * c)) → 16 * c + 16 ≤ x.len
-array-full c x both = leb-true (16 * c + 16) x.len (and_parts (same_role x.role Storage) (holds x (16 * c)) both.1).1
-
 -- ---- the elements afterwards
 
 -- three steps: of the first and the last the array is kept, and in the second elements move from `a` to `b`
@@ -228,16 +215,12 @@ pub erased : {s0 s1 s2 s3 : Cut} {p : Place} {ps : List OwnedText} {c g : ℕ} (
     → IsTextsNow s0 s3 p (option_to_list o ++ option_to_list q.extent) (option_to_list o) (remove ps i) (table c o)
 erased i {o = None} s e link x1 c2 m2 c3 word = none-some s.words.link link
 erased {s0} {s1} {s2} {s3} {p} {ps} {c} i {o = Some x} {q} s e link x1 c2 m2 c3 word =
-    let t = table c (Some x) in
-    let at = place_at p in
+    let t = table c (Some x) in let at = place_at p in
     let n : ℕ = length ps - i - 1 in
     let eq = option_to_list q.extent in
     let gone : List Extent = x ∷ eq in
-    let g_is = same-some (sym link ∙ s.words.link) in
-    let below = slice_get_within ps i q e in
-    let fits = s.fits in
-    let full = table-full 16 c x s.table in
-    let apart = text-apart i s e in
+    let g_is = same-some (sym link ∙ s.words.link) in let below = slice_get_within ps i q e in
+    let fits = s.fits in let full = table-full 16 c x s.table in let apart = text-apart i s e in
     let one = append-nil eq in
     let r0 : IsRun s0 s0 p gone gone (length ps) t =
     subst (λ (xs : List Extent). IsRun s0 s0 p (x ∷ xs) (x ∷ xs) (length ps) t) one
@@ -282,8 +265,7 @@ pub left : (s0 s1 : Cut) {p : Place} {ps : List OwnedText} {c g : ℕ} (i : ℕ)
     → IsLeft s0 s1 p ps g i q
 left s0 s1 i {o = None} s e link = none-some s.words.link link
 left s0 s1 {p} {ps} {g} i {o = Some x} {q} s e link =
-    let g_is = same-some (sym s.words.link ∙ link) in
-    let apart = text-apart i s e in
+    let g_is = same-some (sym s.words.link ∙ link) in let apart = text-apart i s e in
     let held = held-elements (length ps) s link refl in
     record {
       found = e;
@@ -404,9 +386,7 @@ pub shrunk : {old new : Cut} {p : Place} {ps : List OwnedText} {t : Table} → I
     (cut_table (live_of old.bytes) 16 (length ps) t)
 shrunk {old} {new} {ps} {t} s f =
     let u = cut_table (live_of old.bytes) 16 (length ps) t in
-    let arr = option_to_list t.extent in
-    let arr' = option_to_list u.extent in
-    let w = f.stands in
+    let arr = option_to_list t.extent in let arr' = option_to_list u.extent in let w = f.stands in
     texts-between ps [] [] [] ps {u = u} refl refl (sym (append-nil arr)) (sym (append-nil arr')) s f.change w.table
     w.fits (record { link = w.words.link; len_word = w.words.len_word; capacity = w.words.capacity })
     (cut-links (live_of old.bytes) (bytes_of old.bytes) (bytes_of new.bytes) ps t.capacity t.extent s.words.array
@@ -449,10 +429,9 @@ placed-some {old} {mid} {new} bytes {h} f a c has =
     let zero_at : h + 0 ≡ h = omega arith in
     let b = still_allocated _ old mid new _ _ h 0 _ a c
     (allocated-room _ old mid _ _ h (0 + length bytes) a (omega arith)) in
-    let x = b.extent in
     let at = b.at in
     record {
-      text = record { bytes = bytes; extent = Some x };
+      text = record { bytes = bytes; extent = Some b.extent };
       placed = some-placed (live_of old.bytes) bytes f
           ∙ ap (option_map (λ (x : Extent). let q : OwnedText = record { bytes = bytes; extent = Some x } in q))
           b.placed;
@@ -460,7 +439,7 @@ placed-some {old} {mid} {new} bytes {h} f a c has =
       at = ap (λ k. Some k) at;
       change = exchange-taken _ old new _ _ h 0 0 b;
       owned = subst (λ k. Has (bytes_of new.bytes) k bytes) (zero_at ∙ at) has;
-      served = (f, place-serves (live_of old.bytes) (length bytes) Storage x b.placed);
+      served = (f, place-serves (live_of old.bytes) (length bytes) Storage b.extent b.placed);
     }
 
 -- ---- the vector beside it
@@ -483,8 +462,7 @@ still-texts : {a b : Cut} (qs : List OwnedText) {come : List Extent} → IsHeap 
     → AllByRecursion (IsOwnedText (bytes_of b.bytes)) qs × AllByRecursion (IsHeldText (live_of b.bytes)) qs
 still-texts [] heap x w h = (tt, tt)
 still-texts (q ∷ qs) heap x w h =
-    let one = still-head q.bytes q.extent heap x w.0 h.0 in
-    let more = still-texts qs heap x w.1 h.1 in
+    let one = still-head q.bytes q.extent heap x w.0 h.0 in let more = still-texts qs heap x w.1 h.1 in
     ((one.0, more.0), (one.1, more.1))
 
 -- an array has room for its places
@@ -536,8 +514,7 @@ texts-still {a} {b} {p} {ps} {t} s x =
 pub come-even : {a b : Cut} (o : Option Extent) → IsSwapped a b [] (option_to_list o)
     → IfSome (option_map handle o) (λ target. target % 16 ≡ 0)
 come-even {a} {b} o x =
-    let come = option_to_list o in
-    let l = live_of a.bytes in
+    let come = option_to_list o in let l = live_of a.bytes in
     let is : (live_of b.bytes).extents ≡ inserted come l.extents = ap (λ (k : LiveSet). k.extents)
     (exchanged-live a b 0 0 [] come _ x) in
     let heap = laid-heap _ _ x.live in
@@ -563,8 +540,7 @@ pub loose-kept : {a b : Cut} (bytes : List ℕ) (o : Option Extent) {gone come :
     (IsFound (live_of b.bytes).extents) (option_to_list o)
 loose-kept bytes None heap x f n s w = (w, tt)
 loose-kept {a} {b} bytes (Some y) {gone} {come} heap x f n s w =
-    let k = kept a b (handle y) y gone come _ heap x f.0 n.0 in
-    let full = serves-full y (length bytes) s.1 in (
+    let k = kept a b (handle y) y gone come _ heap x f.0 n.0 in let full = serves-full y (length bytes) s.1 in (
       Has-same _ _ _ _ (handle y) bytes k.payload (omega arith) (omega (arith, full)) w,
       (kept-found a b 0 0 (handle y) y gone come _ x f.0 n.0, tt),
     )
@@ -604,16 +580,10 @@ set_in : {s0 s1 s3 : Cut} {p : Place} {ps : List OwnedText} {c i len : ℕ} {x :
     → IsTextsNow s0 s3 p (x ∷ option_to_list q.extent) (x ∷ option_to_list pl.text.extent) (slice_set ps i pl.text)
     (table c (Some x))
 set_in {s0} {s1} {s3} {p} {ps} {c} {i} {len} {x} {q} {block} s e pl rep len_is array_is =
-    let t = table c (Some x) in
-    let z = pl.text in
-    let n = length ps in
-    let mid = rep.mid in
-    let eb = option_to_list q.extent in
-    let ez = option_to_list z.extent in
+    let t = table c (Some x) in let z = pl.text in let n = length ps in let mid = rep.mid in
+    let eb = option_to_list q.extent in let ez = option_to_list z.extent in
     let gone : List Extent = x ∷ eb in
-    let below = slice_get_within ps i q e in
-    let fits = s.fits in
-    let full = table-full 16 c x s.table in
+    let below = slice_get_within ps i q e in let fits = s.fits in let full = table-full 16 c x s.table in
     let apart = text-apart i s e in
     let other : p.handle ≢ handle x = λ f. s.own.1 (sym f) in
     let one = append-nil eb in

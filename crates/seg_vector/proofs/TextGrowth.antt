@@ -3,21 +3,20 @@ use Rattle.seg_vector.proofs.Words.{◌≡◌, ◌≢◌, refl, sym, ap, subst, 
 use Rattle.seg_vector.proofs.Words.{List, [], ◌∷◌, ◌++◌, arith, length, if◌then◌else◌, inl, inr, ◌⊎◌, ◌%◌, append-nil}
 use Rattle.seg_vector.proofs.Words.{◌-◌, length-append, take, drop, Bool, true, false, max, IsTrue, Result, Ok, Err}
 use Rattle.seg_vector.proofs.Words.{MatchResult, option_map, option_to_list, IfSome, nat_lt, insert, AllByRecursion}
-use Rattle.seg_vector.proofs.Words.{and_from, lt-ltb, and_parts, eqb-true, le-ltb, length-drop, length-take}
-use Rattle.seg_vector.proofs.Words.{take-append-drop, Memory, Cut, bytes_of, word_at, current, Storage, link_at}
-use Rattle.seg_vector.proofs.Words.{IsNotWidened, IsWidened, exchanged, IsExchanged, IsRestored, Extent, LiveSet}
-use Rattle.seg_vector.proofs.Words.{handle, end_of, place, added, others, resized, Allocates, IsAllocated, IsChanged}
-use Rattle.seg_vector.proofs.Words.{IsHeap, IsReleased, IsResized, SameBlock, extent_at, live_of, has_room}
-use Rattle.seg_vector.proofs.Words.{IsShortened, is_live_in, Table, serves, is_table, IsFound, IsNone, SameBlock-trans}
-use Rattle.seg_vector.proofs.Words.{exchange-order, exchange-released, exchange-resized, exchange-taken, found-none}
-use Rattle.seg_vector.proofs.Words.{kept, kept-found, last-first, live-rises, middle-first, place-serves}
-use Rattle.seg_vector.proofs.Words.{regrow-serves, spread-refl, found-room, two-apart, laid-heap, taken-back}
-use Rattle.seg_vector.proofs.Words.{widened-back, Differs, keeps-refl, lay_out_one, others-past, rising-insert}
-use Rattle.seg_vector.proofs.Words.{Has-same, Place, place_at, AreSameElements, IsAdopted, IsAsked, IsNotAsked}
-use Rattle.seg_vector.proofs.Words.{IsSwapped, taken, widened, AreEvenLinks, IsReady, IsPutAsked, IsPutReady, IsServed}
-use Rattle.seg_vector.proofs.Words.{room_of, IsRefusedPut, IsTextNotPlaced, IsTextPlaced, AreOthers, IsTexts}
-use Rattle.seg_vector.proofs.Words.{IsTextsNow, IsStillAtFirst, IsTextPutIn, placed_text, with_array, AreTextLinks}
-use Rattle.seg_vector.proofs.Words.{OwnedText, IsOwnedText, capacity_for_one}
+use Rattle.seg_vector.proofs.Words.{and_from, lt-ltb, eqb-true, le-ltb, length-drop, length-take, take-append-drop}
+use Rattle.seg_vector.proofs.Words.{Memory, Cut, bytes_of, word_at, current, Storage, link_at, IsNotWidened, IsWidened}
+use Rattle.seg_vector.proofs.Words.{exchanged, IsExchanged, IsRestored, Extent, LiveSet, handle, end_of, place, added}
+use Rattle.seg_vector.proofs.Words.{others, resized, Allocates, IsAllocated, IsChanged, IsHeap, IsReleased, IsResized}
+use Rattle.seg_vector.proofs.Words.{SameBlock, extent_at, live_of, has_room, IsShortened, is_live_in, Table, serves}
+use Rattle.seg_vector.proofs.Words.{is_table, IsFound, IsNone, SameBlock-trans, exchange-order, exchange-released}
+use Rattle.seg_vector.proofs.Words.{exchange-resized, exchange-taken, found-none, kept, kept-found, last-first}
+use Rattle.seg_vector.proofs.Words.{live-rises, middle-first, place-serves, regrow-serves, spread-refl, found-room}
+use Rattle.seg_vector.proofs.Words.{two-apart, laid-heap, taken-back, widened-back, Differs, keeps-refl, lay_out_one}
+use Rattle.seg_vector.proofs.Words.{others-past, rising-insert, Has-same, Place, place_at, AreSameElements, IsAdopted}
+use Rattle.seg_vector.proofs.Words.{IsAsked, IsNotAsked, IsSwapped, taken, widened, AreEvenLinks, IsReady, IsPutAsked}
+use Rattle.seg_vector.proofs.Words.{IsPutReady, IsServed, room_of, IsRefusedPut, IsTextNotPlaced, IsTextPlaced}
+use Rattle.seg_vector.proofs.Words.{AreOthers, IsTexts, IsTextsNow, IsStillAtFirst, IsTextPutIn, placed_text}
+use Rattle.seg_vector.proofs.Words.{with_array, AreTextLinks, OwnedText, IsOwnedText, capacity_for_one}
 use Rattle.best_fit.specs.Fit.{regrow}
 use Rattle.seg_vector.specs.Vector.{grown_table}
 use Rattle.seg_vector.proofs.Runs.{AreHeadWords, IsHead, IsRun, beside-head, block-written, head-kept, head-wider}
@@ -27,7 +26,7 @@ use Rattle.seg_vector.proofs.Storage.{capacity-bytes, grown-more, grown-same, re
 use Rattle.seg_vector.proofs.TextBlocks.{all-split, element-beside, element-in, element-trans, even-block, even-held}
 use Rattle.seg_vector.proofs.TextBlocks.{found-live, found-texts, links-at, links-join, links-moved, links-split}
 use Rattle.seg_vector.proofs.TextBlocks.{one-of, own-head, run-begin, swapped-none, texts-between, texts-own}
-use Rattle.seg_vector.proofs.TextCalls.{array-full, held-elements, loose-kept, run-others, texts-stand, texts-still}
+use Rattle.seg_vector.proofs.TextCalls.{held-elements, loose-kept, run-others, texts-stand, texts-still}
 use Rattle.seg_vector.proofs.Typed.{has-element}
 use Rattle.best_fit.specs.Fit as fit
 
@@ -129,8 +128,7 @@ wide-place {first} {mid} {now} {p} {ps} {c} n {x} s w is since =
     let r : IsResized current first mid x y = subst (λ (z : Extent). IsResized current first mid z y) same w.change in
     let grow : regrow (live_of first.bytes) (Some x) (16 * n) ≡ Some y =
     ap (λ o. regrow (live_of first.bytes) o (16 * n)) is ∙ w.regrown in
-    let fits = s.fits in
-    let full = table-full 16 c x s.table in
+    let fits = s.fits in let full = table-full 16 c x s.table in
     let one = run-swapped [] (spread-refl (x ∷ [])) (run-begin first [] [] ps refl s)
     (exchange-resized _ _ mid x y 0 0 begins r) ((λ f. s.own.1 (sym f)), tt) in
     let k2 = kept mid now (handle y) y [] _ _ one.heap since (run-found one).0 tt in
@@ -154,7 +152,6 @@ first-place : {first mid now : Cut} {p : Place} {ps : List OwnedText} {c g : ℕ
     → IsSwapped mid now [] loose → IsInPlace first now p ps (table c None) g n loose
 first-place {first} {mid} {now} {ps} {g} n s a since =
     let y = a.extent in
-    let none = s.words.array in
     let one = run-swapped [] (spread-refl []) (run-begin first [] [] ps refl s) (exchange-taken _ _ mid _ _ g 0 0 a)
     tt in
     record {
@@ -163,7 +160,7 @@ first-place {first} {mid} {now} {ps} {g} n s a since =
       at = a.at;
       grow = regrow-new (live_of first.bytes) (16 * n) ∙ a.placed;
       serving = place-serves (live_of first.bytes) (16 * n) Storage y a.placed;
-      links = subst (AreTextLinks (bytes_of now.bytes) (handle y)) (sym none) tt;
+      links = subst (AreTextLinks (bytes_of now.bytes) (handle y)) (sym s.words.array) tt;
     }
 
 adopt-place : {first old new : Cut} {p : Place} {ps : List OwnedText} {t : Table} {g n : ℕ} {loose : List Extent}
@@ -172,9 +169,7 @@ adopt-place : {first old new : Cut} {p : Place} {ps : List OwnedText} {t : Table
     → word_at (bytes_of new.bytes) (place_at p + 8) ≡ word_at (bytes_of old.bytes) (place_at p + 8)
     → word_at (bytes_of new.bytes) (place_at p + 16) ≡ n → IsAdopted first old new p ps t g n loose
 adopt-place {first} {old} {new} {p} {ps} {t} {g} {n} {loose} s more q c link len cap =
-    let y = q.array in
-    let r = q.run in
-    let fits = s.fits in
+    let y = q.array in let r = q.run in let fits = s.fits in
     let words : AreHeadWords (bytes_of new.bytes) (place_at p) (length ps) (table n (Some y)) =
     record { link = link ∙ ap (λ k. Some k) q.at; len_word = len ∙ r.words.len_word; capacity = cap } in
     let apart = (own-facts (live_of first.bytes) p.handle t.extent s.own).2 in
@@ -260,18 +255,17 @@ pub beside : {first mid old : Cut} {p : Place} {ps : List OwnedText} {c g n : �
     → IsTexts first.bytes p ps (table c (Some x)) → (a : IsAllocated current first mid n Storage g)
     → IsSwapped mid old [] loose → IsBeside first old p ps (table c (Some x)) x a.extent loose
 beside {first} {mid} {old} {p} {ps} {c} {g} {n} {x} s a since =
-    let y = a.extent in
     let x1 = exchange-taken _ _ mid n _ g 0 0 a in
     let r0 = run-begin first [] [] ps refl s in
     let r1 = run-swapped (x ∷ []) (spread-refl (x ∷ [])) r0 x1 tt in
     let found1 = run-found r1 in
     record {
-      run = run-swapped (y ∷ x ∷ []) (spread-refl (y ∷ x ∷ [])) r1 since tt;
+      run = run-swapped (a.extent ∷ x ∷ []) (spread-refl (a.extent ∷ x ∷ [])) r1 since tt;
       head = own-head (texts-own first s);
       other = λ f. s.own.1 (sym f);
       apart = new-other (handle x) a s.own.0;
       old_found = kept-found mid old 0 0 (handle x) x [] _ _ since found1.1.0 tt;
-      new_found = kept-found mid old 0 0 (handle y) y [] _ _ since found1.0 tt;
+      new_found = kept-found mid old 0 0 (handle a.extent) a.extent [] _ _ since found1.0 tt;
       same = SameBlock-trans _ _ _ x (kept _ mid (handle x) x [] _ _ s.heap x1 s.own.0 tt)
           (kept mid old (handle x) x [] _ _ r1.heap since found1.1.0 tt);
     }
@@ -289,14 +283,8 @@ adopt-beside : {first mid old a1 a2 new : Cut} {p : Place} {ps : List OwnedText}
     → IsAdopted first old new p ps (table c (Some x)) g n loose
 adopt-beside {first} {old} {a1} {a2} {new} {p} {ps} {c} {g} n {x} {loose} s more a grow since c1 carried c2 link len
     cap rel =
-    let t = table c (Some x) in
-    let y = a.extent in
-    let k = length ps in
-    let u = table n (Some y) in
-    let g_is = a.at in
-    let b = beside s a since in
-    let fits = s.fits in
-    let full = table-full 16 c x s.table in
+    let t = table c (Some x) in let y = a.extent in let k = length ps in let u = table n (Some y) in
+    let g_is = a.at in let b = beside s a since in let fits = s.fits in let full = table-full 16 c x s.table in
     let serving = place-serves (live_of first.bytes) (16 * n) Storage y a.placed in
     let big = serves-full y (16 * n) serving in
     let none0 = run-none b.head (b.other, tt) b.run in
@@ -308,11 +296,9 @@ adopt-beside {first} {old} {a1} {a2} {new} {p} {ps} {c} {g} n {x} {loose} s more
     let r1 = run-swapped (loose ++ (x ∷ [])) (middle-first loose (y ∷ []) (x ∷ [])) b.run x1 (none.1.0, tt) in
     let words : AreHeadWords (bytes_of a2.bytes) (place_at p) k u =
     record { link = link ∙ ap (λ k. Some k) g_is; len_word = len ∙ r1.words.len_word; capacity = cap } in
-    let r2 = run-headed r1 c2 words in
-    let x3 = exchange-released _ a2 new x 0 0 rel in
+    let r2 = run-headed r1 c2 words in let x3 = exchange-released _ a2 new x 0 0 rel in
     let r3 = run-swapped (y ∷ loose) (last-first (y ∷ loose) (x ∷ [])) r2 x3 (b.other, tt) in
-    let found1 = run-found r1 in
-    let found2 = run-found r2 in
+    let found1 = run-found r1 in let found2 = run-found r2 in
     let loose1 = (all-split (IsFound (live_of a1.bytes).extents) loose (x ∷ []) found1.1).0 in
     let loose2 = (all-split (IsFound (live_of a2.bytes).extents) loose (x ∷ []) found2.1).0 in
     let y12 = beside-head (handle y) r1.heap r1.head c2 found1.0 none.1.0 in
@@ -440,13 +426,8 @@ ready-new_in n {o = Some x} s more (widened w is) since was differ =
     let same : x ≡ w.before = cc in
     absurd (differ (sym h_is ∙ ap (λ (z : Extent). handle z) same ∙ w.at))
 ready-new_in {first} {now} {p} {ps} {c} {g} {h} n {o = Some x} {loose} s more (taken a e) since was differ =
-    let k = length ps in
-    let y = a.extent in
-    let g_is = a.at in
-    let h_is = same-some (sym was ∙ s.words.link) in
-    let b = beside s a since in
-    let fits = s.fits in
-    let full = table-full 16 c x s.table in
+    let k = length ps in let y = a.extent in let g_is = a.at in let h_is = same-some (sym was ∙ s.words.link) in
+    let b = beside s a since in let fits = s.fits in let full = table-full 16 c x s.table in
     let big = serves-full y (16 * n) (place-serves (live_of first.bytes) (16 * n) Storage y a.placed) in
     let even = even-held first (held-elements k s was refl) in
     record {
@@ -508,15 +489,13 @@ pub reserved : {first mid new : Cut} {p : Place} {ps : List OwnedText} {t : Tabl
     → (w : Table) × (grown_table (live_of first.bytes) 16 n t ≡ Some w) × IsTextsNow first new p
     (option_to_list t.extent) (option_to_list w.extent) ps w
 reserved {new} {p} {ps} {t} {n} s more a =
-    let y = a.array in
-    let u = table n (Some y) in
-    let arr = option_to_list t.extent in
+    let u = table n (Some a.array) in let arr = option_to_list t.extent in
     let words : AreHeadWords (bytes_of new.bytes) (place_at p) (length ps) u =
     record { link = a.link ∙ ap (λ k. Some k) a.at; len_word = a.len_word; capacity = a.capacity } in (
       u,
       a.grown,
       texts-between ps [] [] [] ps refl refl (sym (append-nil arr)) refl s a.change
-          (new-table n y (omega (arith, more)) a.serves) (omega (arith, s.fits, more)) words
+          (new-table n a.array (omega (arith, more)) a.serves) (omega (arith, s.fits, more)) words
           (subst (λ k. AreTextLinks (bytes_of new.bytes) k ps) a.at a.links) tt tt,
     )
 
@@ -539,14 +518,9 @@ too-many-texts c n s f = (too-many c n (texts-stand s) (omega arith) f).none
 
 -- ---- before it is put
 
-none-array_of : (b : Cut) {p : Place} {ps : List OwnedText} {c : ℕ} {o : Option Extent}
-    → IsTexts b.bytes p ps (table c o) → IsNone p.handle (option_to_list o)
-none-array_of b {o = None} s = tt
-none-array_of b {o = Some x} s = ((λ f. s.own.1 (sym f)), tt)
-
 pub none-array : (b : Cut) {p : Place} {ps : List OwnedText} {t : Table} → IsTexts b.bytes p ps t
     → IsNone p.handle (option_to_list t.extent)
-none-array b s = none-array_of b s
+none-array b {p} {t} s = (own-facts (live_of b.bytes) p.handle t.extent s.own).2
 
 pub put-run : {first now : Cut} {p : Place} {ps : List OwnedText} {t : Table} {y : Extent} {m : ℕ} {z : OwnedText}
     → IsPutReady first now p ps t y m z
@@ -559,12 +533,9 @@ put-run {first} {t} {y} {z} r =
       words = record { link = r.link; len_word = r.len_word; capacity = r.capacity };
     }
 
-put-full : (y : Extent) (m : ℕ) → IsTrue (nat_lt 0 m) × IsTrue (serves y Storage (16 * m)) → 16 * m + 16 ≤ y.len
-put-full y m both = array-full m y both
-
 pub put-big : {first now : Cut} {p : Place} {ps : List OwnedText} {t : Table} {y : Extent} {m : ℕ} {z : OwnedText}
     → IsPutReady first now p ps t y m z → 16 * m + 16 ≤ y.len
-put-big {y} {m} r = put-full y m (and_parts (nat_lt 0 m) (serves y Storage (16 * m)) r.table)
+put-big {y} {m} r = table-full 16 m y r.table
 
 -- ---- the text
 
@@ -611,16 +582,11 @@ put_in : {first now b1 b2 new : Cut} {p : Place} {ps : List OwnedText} {t : Tabl
     → IsChanged current b2 new (place_at p + 8) 8 → word_at (bytes_of new.bytes) (place_at p + 8) ≡ length ps + 1
     → IsTextsNow first new p (option_to_list t.extent) (y ∷ option_to_list z.extent) (insert ps i z) (table m (Some y))
 put_in {first} {now} {b1} {b2} {new} {p} {ps} {t} {y} {m} {z} i r inside c1 m1 c2 link len c3 word =
-    let k = length ps in
-    let u = table m (Some y) in
-    let gone = option_to_list t.extent in
+    let k = length ps in let u = table m (Some y) in let gone = option_to_list t.extent in
     let ez = option_to_list z.extent in
     let come : List Extent = y ∷ ez in
-    let at = place_at p in
-    let space = r.space in
-    let big = put-big r in
-    let first_head = own-head (texts-own first r.texts) in
-    let r0 = put-run r in
+    let at = place_at p in let space = r.space in let big = put-big r in
+    let first_head = own-head (texts-own first r.texts) in let r0 = put-run r in
     let none = run-none first_head (none-array first r.texts) r0 in
     let found0 = run-found r0 in
     let x1 = block-written (16 * m) r0.heap found0.0 c1 (omega arith) (omega (arith, inside, space)) big in
@@ -696,13 +662,8 @@ pub record IsPutPlace (now : Cut) (p : Place) (g i k : ℕ) : Type 0 where
 pub put-place : {now : Cut} {p : Place} {g i : ℕ} {block : Option ℕ} {len : ℕ} → (r : IsPutAsked now p i block len)
     → link_at (bytes_of now.bytes) (place_at p) ≡ Some g → IsPutPlace now p g i (length r.ps)
 put-place {now} {p} {g} r leads =
-    let w = r.ready in
-    let y = r.y in
-    let k = length r.ps in
-    let g_is = same-some (sym w.link ∙ leads) in
-    let space = w.space in
-    let big = put-big w in
-    let q = put-run w in
+    let w = r.ready in let y = r.y in let k = length r.ps in let g_is = same-some (sym w.link ∙ leads) in
+    let space = w.space in let big = put-big w in let q = put-run w in
     let found = (run-found q).0 in
     let at : p.handle + (p.at + 8) ≡ p.handle + p.at + 8 = omega arith in
     record {
@@ -724,8 +685,7 @@ put-place {now} {p} {g} r leads =
 pub put-even : {now : Cut} {p : Place} {i : ℕ} {block : Option ℕ} {len : ℕ} → IsPutAsked now p i block len
     → IfSome block (λ target. target % 16 ≡ 0)
 put-even {now} {p} r =
-    let w = r.ready in
-    let q = put-run w in
+    let q = put-run r.ready in
     subst (λ o. IfSome o (λ target. target % 16 ≡ 0)) (sym r.at)
     (even-block (live_of now.bytes) r.z.extent q.heap.proper (run-found q).1)
 
@@ -958,8 +918,7 @@ pub growing-ok : {s0 s1 s2 s3 new : Cut} {p : Place} {ps : List OwnedText} {t : 
     → IsTextsNow s0 new p (option_to_list t.extent) (ad.array ∷ option_to_list pl.text.extent) (insert ps i pl.text)
     (table n (Some ad.array)) → IsTextPutIn s0 new p ps t i bytes
 growing-ok {s0} {s1} {t} {n} i {bytes} more wanted a pl ad now =
-    let l = live_of s0.bytes in
-    let x = asked-extent a in
+    let l = live_of s0.bytes in let x = asked-extent a in
     let same = same-block (sym (grown-to l n t more x.regrown) ∙ ad.grown) in
     let live : with_array l t (table n (Some ad.array)) ≡ live_of s1.bytes = more-array l t n ad.array more
     ∙ ap (λ (y : Extent). resized l y) (sym same) ∙ sym x.live in
@@ -986,8 +945,7 @@ pub growing-err : {s0 s1 s2 new : Cut} (ps : List OwnedText) (t : Table) {g : �
     → IsAsked s0 s1 t.extent (16 * n) g → IsTextNotPlaced s1 s2 bytes
     → IsRestored current s0 new → IsRefusedPut s0 new ps t bytes
 growing-err {s0} {s1} ps t n {bytes} more wanted full a r back =
-    let l = live_of s0.bytes in
-    let x = asked-extent a in
+    let l = live_of s0.bytes in let x = asked-extent a in
     record {
       none = ap (after l t bytes) (ap (λ k. grown_table l 16 k t) (sym wanted) ∙ grown-to l n t more x.regrown)
           ∙ ap (λ (s : LiveSet). placed_text s bytes) (more-array l t n x.extent more ∙ sym x.live) ∙ r.none;

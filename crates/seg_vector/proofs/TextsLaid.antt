@@ -36,8 +36,7 @@ pub record AreCome (b : Cut) (come : List Extent) : Type 0 where
 
 pub are-come : {a b : Cut} {gone come : List Extent} → IsSwapped a b gone come → AreCome b come
 are-come {a} {b} {gone} {come} x =
-    let l = live_of a.bytes in
-    let rest = without_all gone l.extents in
+    let l = live_of a.bytes in let rest = without_all gone l.extents in
     let is : (live_of b.bytes).extents ≡ inserted come rest = ap (λ (k : LiveSet). k.extents)
     (exchanged-live a b 0 0 gone come _ x) in
     record {
@@ -162,12 +161,8 @@ pub laid-next : {old now mid new : Cut} {y : Extent} {i : ℕ} (n : ℕ) {bytes 
     → link_at (bytes_of new.bytes) (handle y + 16 * i) ≡ block → word_at (bytes_of new.bytes) (handle y + 16 * i + 8)
     ≡ length bytes → AreLaid old new y (i + 1) more
 laid-next {old} {now} {mid} {new} {y} {i} n {bytes} {more} a split below big pl c link len =
-    let q = pl.text in
-    let oq = option_to_list q.extent in
-    let tb = text_blocks a.texts in
-    let rest = drop (i + 1) more in
-    let here = are-come a.change in
-    let x1 = beside-text a.change pl.change in
+    let q = pl.text in let oq = option_to_list q.extent in let tb = text_blocks a.texts in
+    let rest = drop (i + 1) more in let here = are-come a.change in let x1 = beside-text a.change pl.change in
     let there = are-come x1 in
     let x2 = block-written (16 * n) there.heap there.found.0 c (omega arith) (omega (arith, below)) big in
     let x3 = exchange-next _ old mid new 0 0 _ _ _ (tb ++ oq) _ (spread-refl (y ∷ (tb ++ oq))) x1 x2 in
@@ -256,8 +251,7 @@ laid-room {mid} {y} {i} n array at a pl below big =
 pub found-big : (c : Cut) (array n : ℕ) {y : Extent} → IsHeap current c.bytes
     → IsTrue (has_room (live_of c.bytes) array n) → extent_at (live_of c.bytes) array ≡ Some y → n + 16 ≤ y.len
 found-big c array n {y} heap room found =
-    let r = roomy c array n heap room in
-    let same = same-extent r.extent y (sym r.found ∙ found) in
+    let r = roomy c array n heap room in let same = same-extent r.extent y (sym r.found ∙ found) in
     subst (λ (x : Extent). n + 16 ≤ x.len) same r.room
   where
     same-extent : (a b : Extent) → Some a ≡ Some b → a ≡ b
@@ -345,9 +339,7 @@ pub record IsArrayTaken (old mid : Cut) (n g : ℕ) : Type 0 where
 pub array-taken : {old mid : Cut} (n : ℕ) {g : ℕ} → IsAllocated current old mid (16 * n) Storage g
     → IsArrayTaken old mid n g
 array-taken {old} {mid} n {g} a =
-    let y = a.extent in
-    let x = exchange-taken _ old mid _ _ g 0 0 a in
-    let come = are-come x in
+    let y = a.extent in let x = exchange-taken _ old mid _ _ g 0 0 a in let come = are-come x in
     let big = serves-full y (16 * n) (place-serves (live_of old.bytes) (16 * n) Storage y a.placed) in
     record {
       block = y;
@@ -372,18 +364,17 @@ pub laid-out : {old mid new : Cut} {n k g : ℕ} {more : List (List ℕ)} → (t
     → n ≡ length more → AreLaidUpTo mid new t.block k more → k ≡ n → AreLaidOut old new more g
 laid-out {old} {mid} {new} {k} {more} t e w all =
     let a = w.laid in
-    let y = t.block in
     let count : k ≡ length more = all ∙ e in
     record {
-      block = y;
+      block = t.block;
       at = sym t.at;
-      fit = subst (λ i. place (live_of old.bytes) (16 * i) Storage ≡ Some y) e t.placed;
+      fit = subst (λ i. place (live_of old.bytes) (16 * i) Storage ≡ Some t.block) e t.placed;
       texts = a.texts;
       long = a.long ∙ count;
       placed = ap (λ (l : LiveSet). placed_texts l more) (sym (came-alone t.change)) ∙ a.placed ∙ all-placed a.texts
           (live_of new.bytes) (drop k more) (drop_all k more (omega (arith, count)));
-      change = subst (IsSwapped old new []) (append-nil (y ∷ text_blocks a.texts))
-          (exchange-next _ old mid new 0 0 [] _ _ [] _ (spread-refl (y ∷ [])) t.change a.change);
+      change = subst (IsSwapped old new []) (append-nil (t.block ∷ text_blocks a.texts))
+          (exchange-next _ old mid new 0 0 [] _ _ [] _ (spread-refl (t.block ∷ [])) t.change a.change);
       links = a.links;
       owned = a.owned;
       served = a.served;
@@ -399,16 +390,15 @@ not-this y (x ∷ xs) d = ((λ f. d.0 (sym f)), not-this y xs d.1)
 pub laid-held : {old mid new : Cut} {n k g : ℕ} {more : List (List ℕ)} → (t : IsArrayTaken old mid n g)
     → n ≡ length more → (w : AreLaidUpTo mid new t.block k more) → AreHeldElements new.bytes g k w.laid.texts
 laid-held {new} {k} t e w =
-    let y = t.block in
-    let tb = text_blocks w.laid.texts in
-    let come = are-come w.laid.change in
+    let tb = text_blocks w.laid.texts in let come = are-come w.laid.change in
     subst (λ h. AreHeldElements new.bytes h k w.laid.texts) t.at (record {
       heap = come.heap;
-      room = found-room (live_of new.bytes) (handle y) (16 * k) y come.found.0 (omega (arith, e, w.within, t.big));
+      room = found-room (live_of new.bytes) (handle t.block) (16 * k) t.block come.found.0
+          (omega (arith, e, w.within, t.big));
       long = w.laid.long;
       links = w.laid.links;
       live = come.found.1;
-      apart = not-this y tb come.others.0;
+      apart = not-this t.block tb come.others.0;
       others = come.others.1;
     })
 
@@ -417,10 +407,10 @@ array-alone : {old mid new left : Cut} {n k g : ℕ} {more : List (List ℕ)} �
     → (w : AreLaidUpTo mid new t.block k more) → IsSwapped new left (text_blocks w.laid.texts) []
     → IsSwapped old left [] (t.block ∷ [])
 array-alone {old} {mid} {new} {left} t w x =
-    let y = t.block in
     let tb = text_blocks w.laid.texts in
-    let back = exchange-next _ mid new left 0 0 _ _ tb (y ∷ []) [] (last-first (y ∷ []) tb) w.laid.change x in
-    exchange-next _ old mid left 0 0 [] _ _ [] _ (spread-refl (y ∷ [])) t.change back
+    let back = exchange-next _ mid new left 0 0 _ _ tb (t.block ∷ []) [] (last-first (t.block ∷ []) tb) w.laid.change
+    x in
+    exchange-next _ old mid left 0 0 [] _ _ [] _ (spread-refl (t.block ∷ [])) t.change back
 
 pub array-live : {old mid new left : Cut} {n k g : ℕ} {more : List (List ℕ)} → (t : IsArrayTaken old mid n g)
     → (w : AreLaidUpTo mid new t.block k more) → IsSwapped new left (text_blocks w.laid.texts) []
@@ -456,9 +446,7 @@ pub taken-off : {old mid new left last : Cut} {n k g : ℕ} {more : List (List �
     → n ≡ length more → 0 < n → (w : AreLaidUpTo mid new t.block k more) → k ≢ n
     → IsSwapped new left (text_blocks w.laid.texts) [] → IsReleased current left last g → AreNotLaidOut old last more
 taken-off {old} {mid} {new} {left} {last} {n} {k} {more} t e some w short x r =
-    let y = t.block in
-    let a = w.laid in
-    let alone = array-alone t w x in
+    let y = t.block in let a = w.laid in let alone = array-alone t w x in
     let gone = exchange-released current left last y 0 0 (subst (IsReleased current left last) (sym t.at) r) in
     let fit : place (live_of old.bytes) (16 * length more) Storage ≡ Some y =
     subst (λ i. place (live_of old.bytes) (16 * i) Storage ≡ Some y) e t.placed in
@@ -488,10 +476,9 @@ all-beside : {a b : Cut} {p : Place} {gone come : List Extent} (xs : List Extent
     → AllByRecursion (SameBlock (bytes_of a.bytes) (bytes_of b.bytes)) xs
 all-beside [] heap w e f n d = tt
 all-beside {a} {b} {p} {gone} {come} (x ∷ xs) heap w e f n d =
-    let here = w.here in
     let big : p.at + 24 + 16 ≤ w.block.len = w.big in (
-      kept-beside a b _ 24 p.handle (handle x) _ x gone come _ heap e w.found (omega (arith, here))
-          (omega (arith, here, big)) n.0 f.0 d.0,
+      kept-beside a b _ 24 p.handle (handle x) _ x gone come _ heap e w.found (omega (arith, w.here))
+          (omega (arith, w.here, big)) n.0 f.0 d.0,
       all-beside xs heap w e f.1 n.1 d.1,
     )
 
@@ -508,8 +495,7 @@ record IsBesideOwn (old now : Cut) (p : Place) (ps : List OwnedText) (t : Table)
 beside-own : {old now : Cut} {p : Place} {ps : List OwnedText} {t : Table} {come : List Extent}
     → IsTexts old.bytes p ps t → IsExchanged current old now 0 0 [] come → IsBesideOwn old now p ps t come
 beside-own {old} {now} {p} {ps} {t} {come} s x =
-    let own = own_blocks ps t in
-    let w = texts-own old s in
+    let own = own_blocks ps t in let w = texts-own old s in
     let r0 = run-begin old [] ps [] (sym (append-nil ps)) s in
     let r1 = run-swapped own (spread-refl own) r0 x tt in
     record {
@@ -528,13 +514,9 @@ assigned-at : {old now rel new : Cut} {p : Place} {ps : List OwnedText} {t : Tab
     → IsTextsNow now rel p (own_blocks ps t) [] [] no_table → IsChanged current rel new (place_at p) 24
     → AreHeadWords (bytes_of new.bytes) (place_at p) n (table n (Some w.block)) → AreTextsAssigned old new p ps t more
 assigned-at {old} {now} {rel} {new} {p} {ps} {t} {n} {more} s w e some x c words =
-    let at = place_at p in
-    let own = own_blocks ps t in
-    let y = w.block in
-    let qs = w.texts in
+    let at = place_at p in let own = own_blocks ps t in let y = w.block in let qs = w.texts in
     let come : List Extent = y ∷ text_blocks qs in
-    let u = table n (Some y) in
-    let b = beside-own s w.change in
+    let u = table n (Some y) in let b = beside-own s w.change in
     let e2 = head-exchanged p x.texts.heap x.texts.room c in
     let e12 = exchange-next _ now rel new at 24 own [] [] [] [] (spread-refl []) x.change e2 in
     let all = exchange-next _ old now new at 24 own _ own come [] (last-first come own) b.change e12 in

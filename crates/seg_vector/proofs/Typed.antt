@@ -249,8 +249,7 @@ module _ {T : Type 0} {size : ℕ} {test : T → Bool} {sp : T → List ℕ} (ol
 
   pub small-capacity : 1 ≤ size → t.capacity < 1073741824
   small-capacity some =
-      let few = capacity-bytes old v.stands.heap v.stands in
-      let least = at-least size t.capacity some in
+      let few = capacity-bytes old v.stands.heap v.stands in let least = at-least size t.capacity some in
       omega (arith, few, least)
 
   pub grown-of : {n m : ℕ} → n ≡ m → HasGrown old mid p k n → IsGrown old mid p size m (length xs) t (flat_map sp xs)
@@ -289,8 +288,7 @@ module _ {T : Type 0} {size : ℕ} {test : T → Bool} {sp : T → List ℕ} (ol
   appended-now y good h =
       let r = subst (λ j. IsAppended old mid p j (length xs) t (flat_map sp xs) (sp y)) e
       (h (length xs) t (flat_map sp xs) stands-at) in
-      let one = append-nil (sp y) in
-      let last = and_from (test y) true good refl in
+      let one = append-nil (sp y) in let last = and_from (test y) true good refl in
       record {
         change = r.change;
         vector = vector-of test sp (xs ++ y ∷ []) r.stands (sym (length-append xs (y ∷ [])))

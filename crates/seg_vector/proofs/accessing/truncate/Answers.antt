@@ -1,11 +1,10 @@
 -- The length is written, and the storage stays.
 use Rattle.seg_vector.proofs.Words.{arith}
-use Rattle.seg_vector.proofs.Storage.{len-room, place-small, truncated}
+use Rattle.seg_vector.proofs.Storage.{len-room, stands-small, truncated}
 use Rattle.seg_vector.proofs.accessing.truncate.Goals as goal
 
 pub overflow_add-place : goal.overflow_add-place
-overflow_add-place c = let small = place-small c.args.place c.requires.stands.1.1.1.heap
-    c.requires.stands.1.1.1.room in omega arith
+overflow_add-place c = let small = stands-small c.requires.stands.1.1.1 in omega arith
 
 pub set_word-requires : goal.set_word-requires
 set_word-requires c = len-room c.args.heap.now.bytes c.args.place c.requires.stands.1.1.1.room

@@ -2,17 +2,15 @@
 use Rattle.seg_vector.proofs.Words.{sym, ap, subst, ◌∙◌, ◌+◌, arith, length, current, Has, bytes_of, IsChanged}
 use Rattle.seg_vector.proofs.Words.{changed-room}
 use Rattle.seg_vector.proofs.Fewer.{none-left}
-use Rattle.seg_vector.proofs.Storage.{capacity-bytes, extended, extended-not, len-read, len-room, link-room}
-use Rattle.seg_vector.proofs.Storage.{place-small, some-room}
+use Rattle.seg_vector.proofs.Storage.{capacity-bytes, extended, extended-not, len-read, len-room, link-room, some-room}
+use Rattle.seg_vector.proofs.Storage.{stands-small}
 use Rattle.seg_vector.proofs.appending.extend.Goals as goal
 
 pub overflow_add-place : goal.overflow_add-place
-overflow_add-place c = let small = place-small c.args.place c.requires.stands.1.1.1.heap
-    c.requires.stands.1.1.1.room in omega arith
+overflow_add-place c = let small = stands-small c.requires.stands.1.1.1 in omega arith
 
 pub overflow_add-place-in-Some : goal.overflow_add-place-in-Some
-overflow_add-place-in-Some c = let small = place-small c.args.place c.requires.stands.1.1.1.heap
-    c.requires.stands.1.1.1.room in omega arith
+overflow_add-place-in-Some c = let small = stands-small c.requires.stands.1.1.1 in omega arith
 
 pub word-len-requires : goal.word-len-requires
 word-len-requires c = len-room c.args.heap.now.bytes c.args.place c.requires.stands.1.1.1.room
@@ -22,15 +20,13 @@ link-requires-clause-room c = link-room c.args.heap.now.bytes c.args.place c.req
 
 pub write-requires : goal.write-requires
 write-requires c =
-    let s = c.requires.stands.1.1.1 in
-    let is = len-read c.word-len.result s c.word-len.ensures in
+    let s = c.requires.stands.1.1.1 in let is = len-read c.word-len.result s c.word-len.ensures in
     some-room (c.word-len.result + length c.args.bytes.now) s (sym c.link.ensures ∙ c.in-Some.is)
     (omega (arith, is, c.requires.space, s.words.len_word, s.words.capacity))
 
 pub overflow_add-len : goal.overflow_add-len
 overflow_add-len c =
-    let s = c.requires.stands.1.1.1 in
-    let is = len-read c.word-len.result s c.word-len.ensures in
+    let s = c.requires.stands.1.1.1 in let is = len-read c.word-len.result s c.word-len.ensures in
     let small = capacity-bytes c.args.heap.now s.heap s in
     omega (arith, is, small, c.requires.space, s.words.len_word, s.words.capacity)
 

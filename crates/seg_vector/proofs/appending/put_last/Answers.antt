@@ -1,17 +1,15 @@
 -- The element lies in the storage, and the length in the container's own block.
 use Rattle.seg_vector.proofs.Words.{◌≡◌, sym, subst, ap, ◌∙◌, ◌+◌, ◌*◌, ◌<◌, arith, IsTrue, length, current, IsChanged}
 use Rattle.seg_vector.proofs.Words.{has_room, live_of, bytes_of, Has, changed-room}
-use Rattle.seg_vector.proofs.Storage.{append-room, appended, at-least, len-read, len-room, link-room, place-small}
-use Rattle.seg_vector.proofs.Storage.{room-small}
+use Rattle.seg_vector.proofs.Storage.{append-room, appended, at-least, len-read, len-room, link-room, room-small}
+use Rattle.seg_vector.proofs.Storage.{stands-small}
 use Rattle.seg_vector.proofs.appending.put_last.Goals as goal
 
 pub overflow_add-place : goal.overflow_add-place
-overflow_add-place c = let small = place-small c.args.place c.requires.stands.1.1.1.heap
-    c.requires.stands.1.1.1.room in omega arith
+overflow_add-place c = let small = stands-small c.requires.stands.1.1.1 in omega arith
 
 pub overflow_add-place-in-Some : goal.overflow_add-place-in-Some
-overflow_add-place-in-Some c = let small = place-small c.args.place c.requires.stands.1.1.1.heap
-    c.requires.stands.1.1.1.room in omega arith
+overflow_add-place-in-Some c = let small = stands-small c.requires.stands.1.1.1 in omega arith
 
 pub word-len-requires : goal.word-len-requires
 word-len-requires c = len-room c.args.heap.now.bytes c.args.place c.requires.stands.1.1.1.room

@@ -17,15 +17,13 @@ place_texts-placed-requires-clause-room c = (array-taken (length c.args.texts.no
 
 pub returns-then-placed-n : goal.returns-then-placed-n
 returns-then-placed-n c =
-    let n = length c.args.texts.now in
-    let t = array-taken n c.in-Ok.ensures.answer in
+    let n = length c.args.texts.now in let t = array-taken n c.in-Ok.ensures.answer in
     laid-out t (sym (length-map c.args.texts.now (λ text. text.now)))
     (c.place_texts-placed.ensures t.block t.at t.found) c.if-placed-n.true
 
 pub release_texts-requires : goal.release_texts-requires
 release_texts-requires c =
-    let n = length c.args.texts.now in
-    let t = array-taken n c.in-Ok.ensures.answer in
+    let n = length c.args.texts.now in let t = array-taken n c.in-Ok.ensures.answer in
     let w = c.place_texts-placed.ensures t.block t.at t.found in
     (w.laid.texts, laid-held t (sym (length-map c.args.texts.now (λ text. text.now))) w)
 

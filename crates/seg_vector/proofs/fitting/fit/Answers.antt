@@ -2,17 +2,15 @@
 use Rattle.seg_vector.proofs.Words.{◌≡◌, sym, subst, ◌∙◌, ◌+◌, ◌*◌, arith, IsTrue, current, bytes_of, word_at}
 use Rattle.seg_vector.proofs.Words.{IsChanged, IsShortened, is_live_in, changed-live}
 use Rattle.seg_vector.proofs.Fewer.{fits-nothing, fitted}
-use Rattle.seg_vector.proofs.Storage.{capacity-bytes, len-read, len-room, link-room, more-times, place-small}
+use Rattle.seg_vector.proofs.Storage.{capacity-bytes, len-read, len-room, link-room, more-times, stands-small}
 use Rattle.seg_vector.proofs.Storage.{storage-live}
 use Rattle.seg_vector.proofs.fitting.fit.Goals as goal
 
 pub overflow_add-place : goal.overflow_add-place
-overflow_add-place c = let small = place-small c.args.place c.requires.stands.1.1.1.heap
-    c.requires.stands.1.1.1.room in omega arith
+overflow_add-place c = let small = stands-small c.requires.stands.1.1.1 in omega arith
 
 pub overflow_add-place-in-Some : goal.overflow_add-place-in-Some
-overflow_add-place-in-Some c = let small = place-small c.args.place c.requires.stands.1.1.1.heap
-    c.requires.stands.1.1.1.room in omega arith
+overflow_add-place-in-Some c = let small = stands-small c.requires.stands.1.1.1 in omega arith
 
 pub word-len-requires : goal.word-len-requires
 word-len-requires c = len-room c.args.heap.now.bytes c.args.place c.requires.stands.1.1.1.room
@@ -27,8 +25,7 @@ returns-then-len-eq0 c len t bytes s =
 
 pub overflow_mul-each : goal.overflow_mul-each
 overflow_mul-each c =
-    let s = c.requires.stands.1.1.1 in
-    let is = len-read c.word-len.result s c.word-len.ensures in
+    let s = c.requires.stands.1.1.1 in let is = len-read c.word-len.result s c.word-len.ensures in
     let few = more-times c.args.each c.word-len.result c.requires.stands.1.0.capacity (omega (arith, is, s.fits)) in
     let small = capacity-bytes c.args.heap.now s.heap s in
     omega (arith, few, small)

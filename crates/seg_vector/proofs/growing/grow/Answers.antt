@@ -1,21 +1,18 @@
 -- The storage is regrown, and then the link and the capacity are written.
 use Rattle.seg_vector.proofs.Words.{◌≡◌, subst, ◌+◌, arith, current, IsChanged, bytes_of, word_at, changed-room}
 use Rattle.seg_vector.proofs.Storage.{capacity-read, capacity-room, come-aligned, given-of, grows-more, grows-not}
-use Rattle.seg_vector.proofs.Storage.{grows-nothing, len-room, link-room, mid-room, not_given-of, place-small}
+use Rattle.seg_vector.proofs.Storage.{grows-nothing, len-room, link-room, mid-room, not_given-of, stands-small}
 use Rattle.seg_vector.proofs.Storage.{storage-read}
 use Rattle.seg_vector.proofs.growing.grow.Goals as goal
 
 pub overflow_add-place : goal.overflow_add-place
-overflow_add-place c = let small = place-small c.args.place c.requires.stands.1.1.1.heap
-    c.requires.stands.1.1.1.room in omega arith
+overflow_add-place c = let small = stands-small c.requires.stands.1.1.1 in omega arith
 
 pub overflow_add-place-2 : goal.overflow_add-place-2
-overflow_add-place-2 c = let small = place-small c.args.place c.requires.stands.1.1.1.heap
-    c.requires.stands.1.1.1.room in omega arith
+overflow_add-place-2 c = let small = stands-small c.requires.stands.1.1.1 in omega arith
 
 pub overflow_add-place-in-Ok : goal.overflow_add-place-in-Ok
-overflow_add-place-in-Ok c = let small = place-small c.args.place c.requires.stands.1.1.1.heap
-    c.requires.stands.1.1.1.room in omega arith
+overflow_add-place-in-Ok c = let small = stands-small c.requires.stands.1.1.1 in omega arith
 
 pub word-requires-2 : goal.word-requires-2
 word-requires-2 c = len-room c.args.heap.now.bytes c.args.place c.requires.stands.1.1.1.room

@@ -3,16 +3,14 @@ use Rattle.seg_vector.proofs.Words.{take, drop, ◌++◌, ℕ, ◌*◌, ◌+◌,
 use Rattle.seg_vector.proofs.Words.{live_of, changed-room}
 use Rattle.seg_vector.proofs.moving.erase_element.Goals.{In-Some}
 use Rattle.seg_vector.proofs.Storage.{Fitting, erase-fits, erased, len-read, len-room, link-room, part-room}
-use Rattle.seg_vector.proofs.Storage.{place-small}
+use Rattle.seg_vector.proofs.Storage.{stands-small}
 use Rattle.seg_vector.proofs.moving.erase_element.Goals as goal
 
 pub overflow_add-place : goal.overflow_add-place
-overflow_add-place c = let small = place-small c.args.place c.requires.stands.1.1.1.heap
-    c.requires.stands.1.1.1.room in omega arith
+overflow_add-place c = let small = stands-small c.requires.stands.1.1.1 in omega arith
 
 pub overflow_add-place-in-Some : goal.overflow_add-place-in-Some
-overflow_add-place-in-Some c = let small = place-small c.args.place c.requires.stands.1.1.1.heap
-    c.requires.stands.1.1.1.room in omega arith
+overflow_add-place-in-Some c = let small = stands-small c.requires.stands.1.1.1 in omega arith
 
 pub word-len-requires : goal.word-len-requires
 word-len-requires c = len-room c.args.heap.now.bytes c.args.place c.requires.stands.1.1.1.room

@@ -3,16 +3,14 @@ use Rattle.seg_vector.proofs.Words.{take, drop, ◌++◌, ℕ, ◌*◌, ◌+◌,
 use Rattle.seg_vector.proofs.Words.{IsRewritten, IsChanged, live_of, has_room, current, changed-room}
 use Rattle.seg_vector.proofs.moving.insert_element.Goals.{In-Some}
 use Rattle.seg_vector.proofs.Storage.{Fitting, at-least, capacity-bytes, insert-fits, len-read, len-room, link-room}
-use Rattle.seg_vector.proofs.Storage.{part-room, place-small, put_in}
+use Rattle.seg_vector.proofs.Storage.{part-room, put_in, stands-small}
 use Rattle.seg_vector.proofs.moving.insert_element.Goals as goal
 
 pub overflow_add-place : goal.overflow_add-place
-overflow_add-place c = let small = place-small c.args.place c.requires.stands.1.1.1.heap
-    c.requires.stands.1.1.1.room in omega arith
+overflow_add-place c = let small = stands-small c.requires.stands.1.1.1 in omega arith
 
 pub overflow_add-place-in-Some : goal.overflow_add-place-in-Some
-overflow_add-place-in-Some c = let small = place-small c.args.place c.requires.stands.1.1.1.heap
-    c.requires.stands.1.1.1.room in omega arith
+overflow_add-place-in-Some c = let small = stands-small c.requires.stands.1.1.1 in omega arith
 
 pub word-len-requires : goal.word-len-requires
 word-len-requires c = len-room c.args.heap.now.bytes c.args.place c.requires.stands.1.1.1.room
@@ -51,12 +49,10 @@ write-requires c =
 
 pub overflow_add-len : goal.overflow_add-len
 overflow_add-len c =
-    let s = c.requires.stands.1.1.1 in
-    let is = len-read c.word-len.result s c.word-len.ensures in
+    let s = c.requires.stands.1.1.1 in let is = len-read c.word-len.result s c.word-len.ensures in
     let few = capacity-bytes c.args.heap.now s.heap s in
     let least = at-least c.args.each c.requires.stands.1.0.capacity c.requires.some in
-    let fits = s.fits in
-    omega (arith, is, few, least, fits)
+    omega (arith, is, few, least, s.fits)
 
 pub set_word-requires : goal.set_word-requires
 set_word-requires c = changed-room _ _ _ _ _ c.args.place.handle (c.args.place.at + 8 + 8) c.write.ensures.change

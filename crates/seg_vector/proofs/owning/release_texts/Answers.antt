@@ -15,10 +15,8 @@ overflow_mul-i c =
 
 pub release_text-requires : goal.release_text-requires
 release_text-requires c =
-    let ps = c.requires.0 in
-    let s = c.requires.1 in
-    let q = has-element ps c.loop-i.i (omega (arith, c.loop-i-test.true, s.long)) in
-    (q.0, element-left c.loop-i.i s q.1 (c.loop-i.invariant ps s))
+    let q = has-element c.requires.0 c.loop-i.i (omega (arith, c.loop-i-test.true, c.requires.1.long)) in
+    (q.0, element-left c.loop-i.i c.requires.1 q.1 (c.loop-i.invariant c.requires.0 c.requires.1))
 
 pub loop-i-preserved : goal.loop-i-preserved
 loop-i-preserved c ps s =

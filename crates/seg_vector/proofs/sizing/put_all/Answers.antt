@@ -10,22 +10,18 @@ loop-value-init g c xs t v f = unchanged-now c.args.heap.now (xs ++ []) v (sym (
 
 pub put_value-requires-clause-stands : goal.put_value-requires-clause-stands
 put_value-requires-clause-stands g c =
-    let xs = c.requires.0 in
-    let t = c.requires.1.0 in
-    let w = c.loop-value.invariant xs t c.requires.1.1.0 c.requires.1.1.1 in
-    let ys = xs ++ take c.loop-value.value-index c.args.values.now in
-    (length ys, (t, (flat_map g.T.Plain.spelling ys, w.vector.stands)))
+    let w = c.loop-value.invariant c.requires.0 c.requires.1.0 c.requires.1.1.0 c.requires.1.1.1 in
+    let ys = c.requires.0 ++ take c.loop-value.value-index c.args.values.now in
+    (length ys, (c.requires.1.0, (flat_map g.T.Plain.spelling ys, w.vector.stands)))
 
 pub put_value-requires-clause-space : goal.put_value-requires-clause-space
 put_value-requires-clause-space g c =
-    let xs = c.requires.0 in
-    let t = c.requires.1.0 in
-    let w = c.loop-value.invariant xs t c.requires.1.1.0 c.requires.1.1.1 in
+    let w = c.loop-value.invariant c.requires.0 c.requires.1.0 c.requires.1.1.0 c.requires.1.1.1 in
     let front = take c.loop-value.value-index c.args.values.now in
-    let few : length (xs ++ front) < t.capacity =
+    let few : length (c.requires.0 ++ front) < c.requires.1.0.capacity =
     omega (
       arith,
-      length-append xs front,
+      length-append c.requires.0 front,
       length-take c.loop-value.value-index c.args.values.now,
       c.loop-value-test.true,
       c.requires.1.1.1,
@@ -34,10 +30,8 @@ put_value-requires-clause-space g c =
 
 pub loop-value-preserved : goal.loop-value-preserved
 loop-value-preserved g c xs t v f =
-    let w = c.loop-value.invariant xs t v f in
-    let i = c.loop-value.value-index in
-    let y = c.value-item.result in
-    let front = take i c.args.values.now in
+    let w = c.loop-value.invariant xs t v f in let i = c.loop-value.value-index in
+    let y = c.value-item.result in let front = take i c.args.values.now in
     let next : take (suc i) c.args.values.now ≡ front ++ y ∷ [] = take-suc c.args.values.now i y c.loop-value-test.true
     ∙ ap (λ z. front ++ z ∷ []) (sym c.value-item.is) in
     let count : suc i ≡ i + 1 = omega arith in

@@ -9,10 +9,8 @@ pub link-requires-clause-room : goal.link-requires-clause-room
 link-requires-clause-room c = link-room c.args.heap.now.bytes c.args.place c.requires.1.1.room
 
 pub room-requires : goal.room-requires
-room-requires c =
-    let ps = c.requires.0 in
-    live-if c.in-Some.array (16 * length ps) (live_of c.args.heap.now.bytes).extents
-    (held-elements (length ps) c.requires.1.1 (sym c.link.ensures ∙ c.in-Some.is) refl).room
+room-requires c = live-if c.in-Some.array (16 * length c.requires.0) (live_of c.args.heap.now.bytes).extents
+    (held-elements (length c.requires.0) c.requires.1.1 (sym c.link.ensures ∙ c.in-Some.is) refl).room
 
 pub returns-in-None : goal.returns-in-None
 returns-in-None c ps t s = room-none s (sym c.link.ensures ∙ c.in-None.is)

@@ -10,9 +10,8 @@ link-requires-clause-room c = link-room c.args.heap.now.bytes c.args.place c.req
 
 pub widen-requires-clause-live : goal.widen-requires-clause-live
 widen-requires-clause-live c =
-    let ps = c.requires.texts.0 in
-    live-if c.in-Some.array (16 * length ps) (live_of c.args.heap.now.bytes).extents
-    (held-elements (length ps) c.requires.texts.1.1 (sym c.link.ensures ∙ c.in-Some.is) refl).room
+    live-if c.in-Some.array (16 * length c.requires.texts.0) (live_of c.args.heap.now.bytes).extents
+    (held-elements (length c.requires.texts.0) c.requires.texts.1.1 (sym c.link.ensures ∙ c.in-Some.is) refl).room
 
 pub returns-in-None : goal.returns-in-None
 returns-in-None c ps t s = asked-none c.args.heap.now c.allocate.new.self (16 * c.args.n) c.allocate.result s

@@ -42,8 +42,7 @@ adopt-requires c =
 
 pub put_in-requires : goal.put_in-requires
 put_in-requires c =
-    let r = c.requires in
-    let pl = c.in-Ok-place_text.ensures in
+    let r = c.requires in let pl = c.in-Ok-place_text.ensures in
     let both = more-places c.args.heap.now c.args.n r.texts r.full r.wanted in
     let ad = c.adopt.ensures c.args.heap.now c.ask_array.new.heap r.ps r.t (option_to_list pl.text.extent) r.texts
     both.0 (c.in-Ok.ensures r.ps r.t r.texts) pl.change in
@@ -76,8 +75,7 @@ returns-in-Err-place_text c ps t s inside full wanted =
 
 pub returns-in-Ok-place_text : goal.returns-in-Ok-place_text
 returns-in-Ok-place_text c ps t s inside full wanted =
-    let pl = c.in-Ok-place_text.ensures in
-    let a = c.in-Ok.ensures ps t s in
+    let pl = c.in-Ok-place_text.ensures in let a = c.in-Ok.ensures ps t s in
     let both = more-places c.args.heap.now c.args.n s full wanted in
     let ad = c.adopt.ensures c.args.heap.now c.ask_array.new.heap ps t (option_to_list pl.text.extent) s both.0 a
     pl.change in

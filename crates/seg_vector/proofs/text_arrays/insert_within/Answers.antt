@@ -5,8 +5,7 @@ use Rattle.seg_vector.proofs.text_arrays.insert_within.Goals as goal
 
 pub put_in-requires : goal.put_in-requires
 put_in-requires c =
-    let r = c.requires in
-    let w = within r.texts r.space c.in-Ok.ensures in
+    let r = c.requires in let w = within r.texts r.space c.in-Ok.ensures in
     record {
       first = c.args.heap.now;
       ps = r.ps;
@@ -24,7 +23,6 @@ returns-in-Err c ps t s inside space = within-err s space c.in-Err.ensures
 
 pub returns-in-Ok : goal.returns-in-Ok
 returns-in-Ok c ps t s inside space =
-    let pl = c.in-Ok.ensures in
-    let w = within s space pl in
+    let pl = c.in-Ok.ensures in let w = within s space pl in
     within-ok ps c.args.index t.extent space pl w.extent (c.put_in.ensures c.args.heap.now ps t w.array t.capacity
     pl.text w.ready inside pl.at (ap length (sym pl.same)))

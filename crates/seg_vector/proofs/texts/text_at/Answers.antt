@@ -37,8 +37,7 @@ returns-in-Some c q s =
 
 pub slice_bounds-result-end-in-Some : goal.slice_bounds-result-end-in-Some
 slice_bounds-result-end-in-Some c =
-    let q = c.requires.0 in
-    let s = c.requires.1 in
+    let q = c.requires.0 in let s = c.requires.1 in
     let at : c.args.array + (c.args.at + 8) ≡ c.args.array + c.args.at + 8 = omega arith in
     let is : c.word-len.result ≡ length q.bytes = c.word-len.ensures
     ∙ ap (λ k. word_at (bytes_of c.args.heap.now.bytes) k) at ∙ s.len_word in

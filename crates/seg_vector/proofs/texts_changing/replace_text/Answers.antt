@@ -12,22 +12,19 @@ link-requires-clause-room c = link-room c.args.heap.now.bytes c.args.place c.req
 
 pub overflow_mul-index : goal.overflow_mul-index
 overflow_mul-index c =
-    let ps = c.requires.texts.0 in
-    let h = held-elements (length ps) c.requires.texts.1.1.0 (sym c.link.ensures ∙ c.in-Some.is) refl in
-    let small = room-small c.args.heap.now c.in-Some.array (16 * length ps) h.heap h.room in
+    let h = held-elements (length c.requires.texts.0) c.requires.texts.1.1.0 (sym c.link.ensures ∙ c.in-Some.is) refl in
+    let small = room-small c.args.heap.now c.in-Some.array (16 * length c.requires.texts.0) h.heap h.room in
     omega (arith, small, c.requires.texts.1.1.1)
 
 pub overflow_mul-index-in-Some : goal.overflow_mul-index-in-Some
 overflow_mul-index-in-Some c =
-    let ps = c.requires.texts.0 in
-    let h = held-elements (length ps) c.requires.texts.1.1.0 (sym c.link.ensures ∙ c.in-Some.is) refl in
-    let small = room-small c.args.heap.now c.in-Some.array (16 * length ps) h.heap h.room in
+    let h = held-elements (length c.requires.texts.0) c.requires.texts.1.1.0 (sym c.link.ensures ∙ c.in-Some.is) refl in
+    let small = room-small c.args.heap.now c.in-Some.array (16 * length c.requires.texts.0) h.heap h.room in
     omega (arith, small, c.requires.texts.1.1.1)
 
 pub release_text-requires : goal.release_text-requires
 release_text-requires c =
-    let ps = c.requires.texts.0 in
-    let q = has-element ps c.args.index c.requires.texts.1.1.1 in (
+    let q = has-element c.requires.texts.0 c.args.index c.requires.texts.1.1.1 in (
       q.0,
       (left c.args.heap.now c.args.heap.now c.args.index c.requires.texts.1.1.0 q.1
           (sym c.link.ensures ∙ c.in-Some.is)).element,
@@ -35,20 +32,19 @@ release_text-requires c =
 
 pub put_element-requires-clause-heap : goal.put_element-requires-clause-heap
 put_element-requires-clause-heap c =
-    let ps = c.requires.texts.0 in
-    let q = has-element ps c.args.index c.requires.texts.1.1.1 in
+    let q = has-element c.requires.texts.0 c.args.index c.requires.texts.1.1.1 in
     let w = left c.args.heap.now c.release_text.new.heap c.args.index c.requires.texts.1.1.0 q.1
     (sym c.link.ensures ∙ c.in-Some.is) in
     (w.after (c.release_text.ensures q.0 w.element)).0.heap
 
 pub put_element-requires-clause-room : goal.put_element-requires-clause-room
 put_element-requires-clause-room c =
-    let ps = c.requires.texts.0 in
-    let q = has-element ps c.args.index c.requires.texts.1.1.1 in
+    let q = has-element c.requires.texts.0 c.args.index c.requires.texts.1.1.1 in
     let w = left c.args.heap.now c.release_text.new.heap c.args.index c.requires.texts.1.1.0 q.1
     (sym c.link.ensures ∙ c.in-Some.is) in
-    room-less (live_of c.release_text.new.heap.bytes) c.in-Some.array (16 * length ps) (16 * c.args.index + 16)
-    (omega (arith, c.requires.texts.1.1.1)) (w.after (c.release_text.ensures q.0 w.element)).0.room
+    room-less (live_of c.release_text.new.heap.bytes) c.in-Some.array (16 * length c.requires.texts.0)
+    (16 * c.args.index + 16) (omega (arith, c.requires.texts.1.1.1))
+    (w.after (c.release_text.ensures q.0 w.element)).0.room
 
 pub returns-in-Some : goal.returns-in-Some
 returns-in-Some c ps t q s e =

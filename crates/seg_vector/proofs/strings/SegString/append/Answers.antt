@@ -7,11 +7,14 @@ use Rattle.seg_vector.proofs.strings.SegString.append.Goals as goal
 
 pub overflow_add-needed : goal.overflow_add-needed
 overflow_add-needed c =
-    let bytes = c.requires.0 in
-    let t = c.requires.1.0 in
-    let v = c.requires.1.1 in
-    let few = few-bytes c.args.heap.now c.args.heap.now v in
-    omega (arith, few, v.fits, c.len.ensures bytes t v, c.if-more-gt-LIMIT.false)
+    let few = few-bytes c.args.heap.now c.args.heap.now c.requires.1.1 in
+    omega (
+      arith,
+      few,
+      c.requires.1.1.fits,
+      c.len.ensures c.requires.0 c.requires.1.0 c.requires.1.1,
+      c.if-more-gt-LIMIT.false,
+    )
 
 pub returns-then-more-gt-LIMIT : goal.returns-then-more-gt-LIMIT
 returns-then-more-gt-LIMIT c bytes t v =
@@ -23,30 +26,25 @@ returns-then-more-gt-LIMIT c bytes t v =
 
 pub capacity_for_text-wanted-requires : goal.capacity_for_text-wanted-requires
 capacity_for_text-wanted-requires c =
-    let bytes = c.requires.0 in
-    let t = c.requires.1.0 in
-    let v = c.requires.1.1 in
-    let few = few-bytes c.args.heap.now c.args.heap.now v in
-    omega (arith, few, c.capacity.ensures bytes t v)
+    let few = few-bytes c.args.heap.now c.args.heap.now c.requires.1.1 in
+    omega (arith, few, c.capacity.ensures c.requires.0 c.requires.1.0 c.requires.1.1)
 
 pub extend-requires-clause-stands : goal.extend-requires-clause-stands
 extend-requires-clause-stands c =
     let bytes = c.requires.0 in
-    let t = c.requires.1.0 in
-    let v = c.requires.1.1 in
-    let wanted = text-wanted bytes c.args.bytes.now c.capacity_for_text-wanted.ensures (c.len.ensures bytes t v)
-    (c.capacity.ensures bytes t v) in
-    let grown = text-grown-of c.args.heap.now c.reserve.new.heap v wanted (λ n u bs s. c.in-Ok.ensures n u bs s) in
+    let wanted = text-wanted bytes c.args.bytes.now c.capacity_for_text-wanted.ensures
+    (c.len.ensures bytes c.requires.1.0 c.requires.1.1) (c.capacity.ensures bytes c.requires.1.0 c.requires.1.1) in
+    let grown = text-grown-of c.args.heap.now c.reserve.new.heap c.requires.1.1 wanted
+    (λ n u bs s. c.in-Ok.ensures n u bs s) in
     (length bytes, (grown.table, (bytes, grown.stands)))
 
 pub extend-requires-clause-space : goal.extend-requires-clause-space
 extend-requires-clause-space c =
-    let bytes = c.requires.0 in
-    let t = c.requires.1.0 in
-    let v = c.requires.1.1 in
-    let wanted = text-wanted bytes c.args.bytes.now c.capacity_for_text-wanted.ensures (c.len.ensures bytes t v)
-    (c.capacity.ensures bytes t v) in
-    let grown = text-grown-of c.args.heap.now c.reserve.new.heap v wanted (λ n u bs s. c.in-Ok.ensures n u bs s) in
+    let bytes = c.requires.0 in let t = c.requires.1.0 in
+    let wanted = text-wanted bytes c.args.bytes.now c.capacity_for_text-wanted.ensures
+    (c.len.ensures bytes t c.requires.1.1) (c.capacity.ensures bytes t c.requires.1.1) in
+    let grown = text-grown-of c.args.heap.now c.reserve.new.heap c.requires.1.1 wanted
+    (λ n u bs s. c.in-Ok.ensures n u bs s) in
     let places = table-places (live_of c.args.heap.now.bytes) 1
     (capacity_for_text (length (bytes ++ c.args.bytes.now)) t.capacity) t grown.grown in
     let enough = wanted-bytes (length (bytes ++ c.args.bytes.now)) t.capacity in

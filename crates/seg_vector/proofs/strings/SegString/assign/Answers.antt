@@ -7,29 +7,25 @@ use Rattle.seg_vector.proofs.strings.SegString.assign.Goals as goal
 
 pub clear-requires : goal.clear-requires
 clear-requires c =
-    let bytes = c.requires.0 in
     let t = c.requires.1.0 in
     let grown = text-grown-of c.args.heap.now c.reserve.new.heap c.requires.1.1 {n = (length c.args.bytes.now)} refl
     (λ n u bs s. c.in-Ok.ensures n u bs s) in
-    (bytes, (grown.table, grown.stands))
+    (c.requires.0, (grown.table, grown.stands))
 
 pub extend-requires-clause-stands : goal.extend-requires-clause-stands
 extend-requires-clause-stands c =
-    let bytes = c.requires.0 in
     let t = c.requires.1.0 in
     let grown = text-grown-of c.args.heap.now c.reserve.new.heap c.requires.1.1 {n = (length c.args.bytes.now)} refl
     (λ n u bs s. c.in-Ok.ensures n u bs s) in
-    (0, (grown.table, ([], (c.clear.ensures bytes grown.table grown.stands).text)))
+    (0, (grown.table, ([], (c.clear.ensures c.requires.0 grown.table grown.stands).text)))
 
 pub extend-requires-clause-space : goal.extend-requires-clause-space
 extend-requires-clause-space c =
-    let bytes = c.requires.0 in
-    let t = c.requires.1.0 in
     let grown = text-grown-of c.args.heap.now c.reserve.new.heap c.requires.1.1 {n = (length c.args.bytes.now)} refl
     (λ n u bs s. c.in-Ok.ensures n u bs s) in
-    let places = table-places (live_of c.args.heap.now.bytes) 1 (length c.args.bytes.now) t grown.grown in
-    text-space c.clear.new.heap c.clear.new.heap (c.clear.ensures bytes grown.table grown.stands).text c.args.bytes.now
-    (omega (arith, places))
+    let places = table-places (live_of c.args.heap.now.bytes) 1 (length c.args.bytes.now) c.requires.1.0 grown.grown in
+    text-space c.clear.new.heap c.clear.new.heap (c.clear.ensures c.requires.0 grown.table grown.stands).text
+    c.args.bytes.now (omega (arith, places))
 
 pub returns-in-Err : goal.returns-in-Err
 returns-in-Err c bytes t v = text-without-space c.args.heap.now c.reserve.new.heap v {n = (length c.args.bytes.now)}

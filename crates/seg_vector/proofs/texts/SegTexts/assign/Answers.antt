@@ -6,9 +6,7 @@ use Rattle.seg_vector.proofs.TextsLaid.{assigned, assigns-some, fitted, laid-eve
 use Rattle.seg_vector.proofs.texts.SegTexts.assign.Goals as goal
 
 pub release-requires : goal.release-requires
-release-requires c =
-    let s = c.requires.1.1 in
-    (c.requires.0, (c.requires.1.0, laid-still s c.in-Ok.ensures))
+release-requires c = (c.requires.0, (c.requires.1.0, laid-still c.requires.1.1 c.in-Ok.ensures))
 
 pub point_to-requires-clause-heap : goal.point_to-requires-clause-heap
 point_to-requires-clause-heap c =

@@ -19,34 +19,32 @@ unreachable-requires c =
 
 pub overflow_mul-at : goal.overflow_mul-at
 overflow_mul-at c =
-    let ps = c.requires.0 in
-    let s = c.requires.1.1 in
-    let h = held-elements (length ps) s (sym c.link.ensures ∙ c.in-Some.is) refl in
-    let small = room-small c.args.heap.now c.in-Some.array (16 * length ps) h.heap h.room in
-    omega (arith, small, c.if-index-len.false, c.len-len.ensures ps c.requires.1.0 s)
+    let h = held-elements (length c.requires.0) c.requires.1.1 (sym c.link.ensures ∙ c.in-Some.is) refl in
+    let small = room-small c.args.heap.now c.in-Some.array (16 * length c.requires.0) h.heap h.room in
+    omega (arith, small, c.if-index-len.false, c.len-len.ensures c.requires.0 c.requires.1.0 c.requires.1.1)
 
 pub overflow_add-at : goal.overflow_add-at
 overflow_add-at c =
-    let ps = c.requires.0 in
-    let s = c.requires.1.1 in
-    let h = held-elements (length ps) s (sym c.link.ensures ∙ c.in-Some.is) refl in
-    let small = room-small c.args.heap.now c.in-Some.array (16 * length ps) h.heap h.room in
-    omega (arith, small, c.if-index-len.false, c.len-len.ensures ps c.requires.1.0 s)
+    let h = held-elements (length c.requires.0) c.requires.1.1 (sym c.link.ensures ∙ c.in-Some.is) refl in
+    let small = room-small c.args.heap.now c.in-Some.array (16 * length c.requires.0) h.heap h.room in
+    omega (arith, small, c.if-index-len.false, c.len-len.ensures c.requires.0 c.requires.1.0 c.requires.1.1)
 
 pub release_text-requires : goal.release_text-requires
 release_text-requires c =
-    let ps = c.requires.0 in
-    let s = c.requires.1.1 in
-    let q = has-element ps c.args.index (omega (arith, c.if-index-len.false, c.len-len.ensures ps c.requires.1.0 s)) in
-    (q.0, (left c.args.heap.now c.args.heap.now c.args.index s q.1 (sym c.link.ensures ∙ c.in-Some.is)).element)
+    let q = has-element c.requires.0 c.args.index
+    (omega (arith, c.if-index-len.false, c.len-len.ensures c.requires.0 c.requires.1.0 c.requires.1.1)) in (
+      q.0,
+      (left c.args.heap.now c.args.heap.now c.args.index c.requires.1.1 q.1
+          (sym c.link.ensures ∙ c.in-Some.is)).element,
+    )
 
 left-at : (c : After-release_text) → IsArrayLeft c.release_text.new.heap c.in-Some.array (length c.requires.0) × IsHead
     c.release_text.new.heap c.args.self.place
 left-at c =
-    let s = c.requires.1.1 in
     let q = has-element c.requires.0 c.args.index
-    (omega (arith, c.if-index-len.false, c.len-len.ensures c.requires.0 c.requires.1.0 s)) in
-    let w = left c.args.heap.now c.release_text.new.heap c.args.index s q.1 (sym c.link.ensures ∙ c.in-Some.is) in
+    (omega (arith, c.if-index-len.false, c.len-len.ensures c.requires.0 c.requires.1.0 c.requires.1.1)) in
+    let w = left c.args.heap.now c.release_text.new.heap c.args.index c.requires.1.1 q.1
+    (sym c.link.ensures ∙ c.in-Some.is) in
     w.after (c.release_text.ensures q.0 w.element)
 
 pub carry_down-requires-clause-heap : goal.carry_down-requires-clause-heap

@@ -15,21 +15,19 @@ unreachable-requires c =
 
 pub overflow_mul-index : goal.overflow_mul-index
 overflow_mul-index c =
-    let s = c.requires.1.1 in
     let inside : c.args.index < length c.requires.0 =
-    omega (arith, c.if-index-len.false, c.len.ensures c.requires.0 c.requires.1.0 s) in
+    omega (arith, c.if-index-len.false, c.len.ensures c.requires.0 c.requires.1.0 c.requires.1.1) in
     let q = has-element c.requires.0 c.args.index inside in
-    let e = element-of c.args.heap.now c.args.index s (sym c.link.ensures ∙ c.in-Some.is) q.1 in
+    let e = element-of c.args.heap.now c.args.index c.requires.1.1 (sym c.link.ensures ∙ c.in-Some.is) q.1 in
     let small = room-small c.args.heap.now c.in-Some.array (16 * c.args.index + 16) e.heap e.room in
     omega (arith, small)
 
 pub text_at-requires : goal.text_at-requires
 text_at-requires c =
-    let s = c.requires.1.1 in
     let inside : c.args.index < length c.requires.0 =
-    omega (arith, c.if-index-len.false, c.len.ensures c.requires.0 c.requires.1.0 s) in
+    omega (arith, c.if-index-len.false, c.len.ensures c.requires.0 c.requires.1.0 c.requires.1.1) in
     let q = has-element c.requires.0 c.args.index inside in
-    (q.0, element-of c.args.heap.now c.args.index s (sym c.link.ensures ∙ c.in-Some.is) q.1)
+    (q.0, element-of c.args.heap.now c.args.index c.requires.1.1 (sym c.link.ensures ∙ c.in-Some.is) q.1)
 
 pub returns : goal.returns
 returns c ps t s =

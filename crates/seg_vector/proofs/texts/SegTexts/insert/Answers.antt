@@ -10,7 +10,6 @@ capacity_for_one-wanted-requires c =
 
 pub returns-in-Ok-clause-first : goal.returns-in-Ok-clause-first
 returns-in-Ok-clause-first c = λ ps t s.
-    let len = c.len-len.ensures ps t s in
-    let capacity = c.capacity-capacity.ensures ps t s in
+    let len = c.len-len.ensures ps t s in let capacity = c.capacity-capacity.ensures ps t s in
     first-put (c.in-Ok.ensures ps t s (omega (arith, len, c.if-index-len.false))
     (omega (arith, len, capacity, c.if-len-capacity.true)))

@@ -13,18 +13,15 @@ returns-then-n-gt-LIMIT-clause-reserved c ps t s =
 
 pub adopt-requires : goal.adopt-requires
 adopt-requires c =
-    let ps = c.requires.0 in
-    let t = c.requires.1.0 in
-    let s = c.requires.1.1 in
-    let a = c.in-Ok.ensures ps t s in
+    let t = c.requires.1.0 in let a = c.in-Ok.ensures c.requires.0 t c.requires.1.1 in
     record {
       first = c.args.heap.now;
       mid = c.ask_array.new.heap;
-      ps = ps;
+      ps = c.requires.0;
       t = t;
       loose = [];
-      texts = s;
-      more = omega (arith, c.if-n-capacity.false, c.capacity.ensures ps t s);
+      texts = c.requires.1.1;
+      more = omega (arith, c.if-n-capacity.false, c.capacity.ensures c.requires.0 t c.requires.1.1);
       asked = a;
       since = asked-alone a;
     }

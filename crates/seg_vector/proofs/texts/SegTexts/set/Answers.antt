@@ -5,19 +5,17 @@ use Rattle.seg_vector.proofs.Typed.{has-element}
 use Rattle.seg_vector.proofs.texts.SegTexts.set.Goals as goal
 
 pub replace_text-requires-clause-texts : goal.replace_text-requires-clause-texts
-replace_text-requires-clause-texts c =
-    let ps = c.requires.0 in
-    let t = c.requires.1.0 in (
-      ps,
-      (
-        t,
-        (
-          texts-still c.requires.1.1 c.in-Ok.ensures.change,
-          omega
-              (arith, c.if-index-len.false, c.len.ensures ps t c.requires.1.1),
-        ),
-      ),
-    )
+replace_text-requires-clause-texts c = (
+  c.requires.0,
+  (
+    c.requires.1.0,
+    (
+      texts-still c.requires.1.1 c.in-Ok.ensures.change,
+      omega
+          (arith, c.if-index-len.false, c.len.ensures c.requires.0 c.requires.1.0 c.requires.1.1),
+    ),
+  ),
+)
 
 pub replace_text-requires-clause-target : goal.replace_text-requires-clause-target
 replace_text-requires-clause-target c = subst (λ o. IfSome o (λ target. target % 16 ≡ 0)) (sym c.in-Ok.ensures.at)

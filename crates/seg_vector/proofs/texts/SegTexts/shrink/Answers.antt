@@ -4,10 +4,17 @@ use Rattle.seg_vector.proofs.TextCalls.{raw, shrunk, texts-stand}
 use Rattle.seg_vector.proofs.texts.SegTexts.shrink.Goals as goal
 
 pub fit-requires-clause-stands : goal.fit-requires-clause-stands
-fit-requires-clause-stands c =
-    let ps = c.requires.0 in
-    let t = c.requires.1.0 in
-    (length ps, (t, (raw (bytes_of c.args.heap.now.bytes) (length ps) t.extent, texts-stand c.requires.1.1)))
+fit-requires-clause-stands c = (
+  length c.requires.0,
+  (
+    c.requires.1.0,
+    (
+      raw (bytes_of c.args.heap.now.bytes) (length c.requires.0) c.requires.1.0.extent,
+      texts-stand
+          c.requires.1.1,
+    ),
+  ),
+)
 
 pub returns : goal.returns
 returns c ps t s =

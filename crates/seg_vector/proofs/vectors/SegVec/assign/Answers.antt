@@ -6,26 +6,23 @@ use Rattle.seg_vector.proofs.vectors.SegVec.assign.Goals as goal
 
 pub clear-requires : goal.clear-requires
 clear-requires g c =
-    let xs = c.requires.0 in
     let t = c.requires.1.0 in
-    let v = c.requires.1.1 in
-    let grown = grown-of c.args.heap.now c.reserve.new.heap c.SIZE.ensures v {n = (length c.args.values.now)} refl
-    (λ n u bytes s. c.in-Ok.ensures n u bytes s) in
-    (xs, (grown.table, record { stands = grown.stands; values = v.values }))
+    let grown = grown-of c.args.heap.now c.reserve.new.heap c.SIZE.ensures c.requires.1.1
+    {n = (length c.args.values.now)} refl (λ n u bytes s. c.in-Ok.ensures n u bytes s) in
+    (c.requires.0, (grown.table, record { stands = grown.stands; values = c.requires.1.1.values }))
 
 pub put_all-requires : goal.put_all-requires
 put_all-requires g c =
-    let xs = c.requires.0 in
-    let t = c.requires.1.0 in
-    let v = c.requires.1.1 in
-    let grown = grown-of c.args.heap.now c.reserve.new.heap c.SIZE.ensures v {n = (length c.args.values.now)} refl
-    (λ n u bytes s. c.in-Ok.ensures n u bytes s) in
-    let places = table-places (live_of c.args.heap.now.bytes) g.T.Plain.SIZE (length c.args.values.now) t grown.grown in (
+    let grown = grown-of c.args.heap.now c.reserve.new.heap c.SIZE.ensures c.requires.1.1
+    {n = (length c.args.values.now)} refl (λ n u bytes s. c.in-Ok.ensures n u bytes s) in
+    let places = table-places (live_of c.args.heap.now.bytes) g.T.Plain.SIZE (length c.args.values.now) c.requires.1.0
+    grown.grown in (
       [],
       (
         grown.table,
         (
-          (c.clear.ensures xs grown.table (record { stands = grown.stands; values = v.values })).vector,
+          (c.clear.ensures c.requires.0 grown.table
+              (record { stands = grown.stands; values = c.requires.1.1.values })).vector,
           omega (arith, places),
         ),
       ),

@@ -17,23 +17,22 @@ element-requires-clause-inside g c =
 
 pub read-requires : goal.read-requires
 read-requires g c =
-    let v = c.requires.1.1 in
     let inside : c.args.index < length c.requires.0 =
-    omega (arith, c.if-index-len.false, c.len.ensures c.requires.0 c.requires.1.0 v) in
+    omega (arith, c.if-index-len.false, c.len.ensures c.requires.0 c.requires.1.0 c.requires.1.1) in
     let some = has-element c.requires.0 c.args.index inside in
-    let is = element-spells c.args.heap.now c.SIZE.ensures v c.args.index c.element.result.now g.met.T.Plain.spells
-    some.1 c.element.ensures in
-    ap length is ∙ g.met.T.Plain.spells some.0 (all-at g.T.Plain.is_value c.requires.0 c.args.index v.values some.1)
+    let is = element-spells c.args.heap.now c.SIZE.ensures c.requires.1.1 c.args.index c.element.result.now
+    g.met.T.Plain.spells some.1 c.element.ensures in
+    ap length is ∙ g.met.T.Plain.spells some.0
+    (all-at g.T.Plain.is_value c.requires.0 c.args.index c.requires.1.1.values some.1)
 
 pub unreachable-requires : goal.unreachable-requires
 unreachable-requires g c =
-    let v = c.requires.1.1 in
     let inside : c.args.index < length c.requires.0 =
-    omega (arith, c.if-index-len.false, c.len.ensures c.requires.0 c.requires.1.0 v) in
+    omega (arith, c.if-index-len.false, c.len.ensures c.requires.0 c.requires.1.0 c.requires.1.1) in
     let some = has-element c.requires.0 c.args.index inside in
-    let is = element-spells c.args.heap.now c.SIZE.ensures v c.args.index c.element.result.now g.met.T.Plain.spells
-    some.1 c.element.ensures in
-    c.in-None.ensures some.0 (all-at g.T.Plain.is_value c.requires.0 c.args.index v.values some.1) (sym is)
+    let is = element-spells c.args.heap.now c.SIZE.ensures c.requires.1.1 c.args.index c.element.result.now
+    g.met.T.Plain.spells some.1 c.element.ensures in
+    c.in-None.ensures some.0 (all-at g.T.Plain.is_value c.requires.0 c.args.index c.requires.1.1.values some.1) (sym is)
 
 pub returns : goal.returns
 returns g c xs t v =

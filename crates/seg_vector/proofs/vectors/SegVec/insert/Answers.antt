@@ -11,33 +11,30 @@ capacity_for_one-wanted-requires g c =
 
 pub insert_value-requires-clause-stands : goal.insert_value-requires-clause-stands
 insert_value-requires-clause-stands g c =
-    let xs = c.requires.0 in
-    let t = c.requires.1.0 in
-    let v = c.requires.1.1 in
-    let wanted = wanted-is c.capacity_for_one-wanted.ensures (c.len-len.ensures xs t v) (c.capacity.ensures xs t v) in
-    let grown = grown-of c.args.heap.now c.reserve.new.heap c.SIZE.ensures v wanted
+    let wanted = wanted-is c.capacity_for_one-wanted.ensures
+    (c.len-len.ensures c.requires.0 c.requires.1.0 c.requires.1.1)
+    (c.capacity.ensures c.requires.0 c.requires.1.0 c.requires.1.1) in
+    let grown = grown-of c.args.heap.now c.reserve.new.heap c.SIZE.ensures c.requires.1.1 wanted
     (λ n u bytes s. c.in-Ok.ensures n u bytes s) in
-    (length xs, (grown.table, (flat_map g.T.Plain.spelling xs, grown.stands)))
+    (length c.requires.0, (grown.table, (flat_map g.T.Plain.spelling c.requires.0, grown.stands)))
 
 pub insert_value-requires-clause-space : goal.insert_value-requires-clause-space
 insert_value-requires-clause-space g c =
-    let xs = c.requires.0 in
-    let t = c.requires.1.0 in
     let v = c.requires.1.1 in
-    let wanted = wanted-is c.capacity_for_one-wanted.ensures (c.len-len.ensures xs t v) (c.capacity.ensures xs t v) in
+    let wanted = wanted-is c.capacity_for_one-wanted.ensures (c.len-len.ensures c.requires.0 c.requires.1.0 v)
+    (c.capacity.ensures c.requires.0 c.requires.1.0 v) in
     let grown = grown-of c.args.heap.now c.reserve.new.heap c.SIZE.ensures v wanted
     (λ n u bytes s. c.in-Ok.ensures n u bytes s) in
-    has-place (wanted-places (length xs) t.capacity v.stands.fits).0 grown
+    has-place (wanted-places (length c.requires.0) c.requires.1.0.capacity v.stands.fits).0 grown
 
 pub insert_value-requires-clause-inside : goal.insert_value-requires-clause-inside
 insert_value-requires-clause-inside g c =
-    let xs = c.requires.0 in
-    let t = c.requires.1.0 in
     let v = c.requires.1.1 in
-    let wanted = wanted-is c.capacity_for_one-wanted.ensures (c.len-len.ensures xs t v) (c.capacity.ensures xs t v) in
+    let wanted = wanted-is c.capacity_for_one-wanted.ensures (c.len-len.ensures c.requires.0 c.requires.1.0 v)
+    (c.capacity.ensures c.requires.0 c.requires.1.0 v) in
     let grown = grown-of c.args.heap.now c.reserve.new.heap c.SIZE.ensures v wanted
     (λ n u bytes s. c.in-Ok.ensures n u bytes s) in
-    omega (arith, c.if-index-len.false, c.len-len.ensures xs t v, grown.stands.words.len_word)
+    omega (arith, c.if-index-len.false, c.len-len.ensures c.requires.0 c.requires.1.0 v, grown.stands.words.len_word)
 
 pub returns-in-Ok : goal.returns-in-Ok
 returns-in-Ok g c xs t v =

@@ -11,23 +11,20 @@ capacity_for_one-wanted-requires g c =
 
 pub put_value-requires-clause-stands : goal.put_value-requires-clause-stands
 put_value-requires-clause-stands g c =
-    let xs = c.requires.0 in
-    let t = c.requires.1.0 in
-    let v = c.requires.1.1 in
-    let wanted = wanted-is c.capacity_for_one-wanted.ensures (c.len.ensures xs t v) (c.capacity.ensures xs t v) in
-    let grown = grown-of c.args.heap.now c.reserve.new.heap c.SIZE.ensures v wanted
+    let wanted = wanted-is c.capacity_for_one-wanted.ensures (c.len.ensures c.requires.0 c.requires.1.0 c.requires.1.1)
+    (c.capacity.ensures c.requires.0 c.requires.1.0 c.requires.1.1) in
+    let grown = grown-of c.args.heap.now c.reserve.new.heap c.SIZE.ensures c.requires.1.1 wanted
     (λ n u bytes s. c.in-Ok.ensures n u bytes s) in
-    (length xs, (grown.table, (flat_map g.T.Plain.spelling xs, grown.stands)))
+    (length c.requires.0, (grown.table, (flat_map g.T.Plain.spelling c.requires.0, grown.stands)))
 
 pub put_value-requires-clause-space : goal.put_value-requires-clause-space
 put_value-requires-clause-space g c =
-    let xs = c.requires.0 in
-    let t = c.requires.1.0 in
     let v = c.requires.1.1 in
-    let wanted = wanted-is c.capacity_for_one-wanted.ensures (c.len.ensures xs t v) (c.capacity.ensures xs t v) in
+    let wanted = wanted-is c.capacity_for_one-wanted.ensures (c.len.ensures c.requires.0 c.requires.1.0 v)
+    (c.capacity.ensures c.requires.0 c.requires.1.0 v) in
     let grown = grown-of c.args.heap.now c.reserve.new.heap c.SIZE.ensures v wanted
     (λ n u bytes s. c.in-Ok.ensures n u bytes s) in
-    has-place (wanted-places (length xs) t.capacity v.stands.fits).0 grown
+    has-place (wanted-places (length c.requires.0) c.requires.1.0.capacity v.stands.fits).0 grown
 
 pub returns-in-Err : goal.returns-in-Err
 returns-in-Err g c xs t v =

@@ -27,12 +27,6 @@ pub record Laws {T : Type 0} (p : Plain T) : Type 0 where
   pub irreflexive : IsStrict p.order
   pub transitive : Chains p.order
 
--- the same of those that a trait bound has
-pub laws_of : {T : Type 0} (p : Plain T) → ((x : T) → p.is_value x ≡ true → length (p.spelling x) ≡ p.SIZE)
-    → ((x : T) → p.is_value x ≡ true → p.reading (p.spelling x) ≡ Some x) → IsStrict p.order → Chains p.order → Laws p
-laws_of p spells reads irreflexive transitive =
-    record { spells = spells; reads = reads; irreflexive = irreflexive; transitive = transitive }
-
 -- the value that bytes spell
 abbrev pub value_of : {T : Type 0} → Plain T → List ℕ → Option T
 value_of p = value_in p.reading p.is_value p.spelling

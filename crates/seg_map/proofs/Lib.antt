@@ -14,6 +14,7 @@ mod PairLists
 mod Leaving
 mod PutLists
 mod Beginnings
+mod Bounds
 mod Planting
 mod Making
 mod NewPairs

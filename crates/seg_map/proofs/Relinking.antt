@@ -1,9 +1,16 @@
 -- What a call of the tree says of the heap that it was lent.
-use Rattle.seg_map.proofs.Common.{◌≡◌, sym, ap, subst, ◌∙◌, ℕ, ◌+◌, ◌*◌, ◌≤◌, List, length, true, Option, Cut}
-use Rattle.seg_map.proofs.Common.{IsSearchTree, Tree, bits, nodes_of, leads, put, without, comes_before, is_pair_node}
-use Rattle.seg_map.proofs.Common.{kept_of, pair_cells, IsKeyTree, Linked, Unlinked, keys_in}
+use Rattle.seg_map.proofs.Common.{arith, ◌-◌, ◌≡◌, sym, ap, subst, ◌∙◌, ℕ, ◌+◌, ◌*◌, ◌≤◌, List, length, true, Option}
+use Rattle.seg_map.proofs.Common.{Cut, IsSearchTree, Tree, bits, nodes_of, leads, put, without, comes_before}
+use Rattle.seg_map.proofs.Common.{is_pair_node, kept_of, pair_cells, IsKeyTree, Linked, Unlinked, keys_in}
 use Rattle.seg_types.specs.declared.plain.Plain.{Ghosts as Plain}
 use Rattle.seg_map.proofs.Frames.{own_stays}
+
+-- what was added is the difference, and the bound of an insertion is below that of a removal
+pub added : (a n b : ℕ) → b ≡ a + n → n ≡ b - a
+added a n b e = omega arith
+
+pub fewer : (n digits : ℕ) → n ≤ 28 * digits + 32 → n ≤ 32 * digits + 32
+fewer n digits few = omega arith
 
 module _ {K : Type 0} (k : Plain K) (ns ms : List ℕ) (c d : Cut) (root : Option ℕ) (node : ℕ) (top : Option ℕ)
     (steps : ℕ) (kept : kept_of ms d ≡ kept_of ns c)

@@ -1,5 +1,5 @@
 -- The pair leaves the map, and its block is given back.
-use Rattle.seg_map.proofs.Entering.{laws_of}
+use Rattle.seg_map.proofs.Bounds.{laws}
 use Rattle.seg_map.proofs.Leaving.{erased, gone_live}
 use Rattle.seg_map.proofs.erasing.give_up.Goals as goal
 
@@ -10,7 +10,5 @@ deallocate-requires g c =
 
 pub returns : goal.returns
 returns g c = λ ps key p s has is.
-    let k = g.met.K.Plain in let v = g.met.V.Plain in
-    erased (laws_of g.K.Plain k.spells k.reads k.irreflexive k.transitive)
-    (laws_of g.V.Plain v.spells v.reads v.irreflexive v.transitive) s has is
+    erased (laws g.met.K.Plain) (laws g.met.V.Plain) s has is
     (c.take_out.ensures.taken ps key p s has is) c.deallocate.ensures.released

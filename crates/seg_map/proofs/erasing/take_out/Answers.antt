@@ -1,16 +1,9 @@
 -- The node leaves the tree, and the three words say so.
 use Rattle.seg_map.proofs.Common.{◌+◌, arith, live_of, room-less}
-use Rattle.seg_map.proofs.Entering.{Laws, laws_of}
+use Rattle.seg_map.proofs.Bounds.{laws}
 use Rattle.seg_map.proofs.Leaving.{can_unlink, few_all, live_left, taken, top_whole}
 use Rattle.seg_map.proofs.PairLists.{removed_length}
-use Rattle.seg_map.proofs.erasing.take_out.Given.{Over}
 use Rattle.seg_map.proofs.erasing.take_out.Goals as goal
-
-kl : (g : Over) → Laws g.K.Plain
-kl g = let m = g.met.K.Plain in laws_of g.K.Plain m.spells m.reads m.irreflexive m.transitive
-
-vl : (g : Over) → Laws g.V.Plain
-vl g = let m = g.met.V.Plain in laws_of g.V.Plain m.spells m.reads m.irreflexive m.transitive
 
 pub link-root-requires-clause-room : goal.link-root-requires-clause-room
 link-root-requires-clause-room g c = room-less (live_of c.args.heap.now.bytes) c.args.handle (c.args.at + 24)
@@ -22,7 +15,8 @@ len-count-requires g c = (c.requires.there.pairs, c.requires.there.map)
 pub unlink-top-requires : goal.unlink-top-requires
 unlink-top-requires g c =
     let r = c.requires.there in
-    can_unlink (kl g) c.args.heap.now r.map c.link-root.ensures r.key r.found c.args.start r.is c.requires.begins
+    can_unlink (laws g.met.K.Plain) c.args.heap.now r.map c.link-root.ensures r.key r.found c.args.start r.is
+    c.requires.begins
 
 pub overflow_sub-count : goal.overflow_sub-count
 overflow_sub-count g c =
@@ -32,12 +26,12 @@ overflow_sub-count g c =
 pub write_head-requires : goal.write_head-requires
 write_head-requires g c =
     let r = c.requires.there in let w = c.args.heap.now in let u = c.unlink-top.ensures.change in
-    let live = live_left (kl g) w r.map c.link-root.ensures r.key r.found r.is u in
+    let live = live_left (laws g.met.K.Plain) w r.map c.link-root.ensures r.key r.found r.is u in
     record {
       aligned = r.map.aligned;
       proper = rw live r.map.heap.proper;
       room = rw live r.map.room;
-      root = top_whole (kl g) w r.map c.link-root.ensures r.key r.found r.is u;
+      root = top_whole (laws g.met.K.Plain) w r.map c.link-root.ensures r.key r.found r.is u;
     }
 
 pub returns : goal.returns
@@ -45,8 +39,9 @@ returns g c =
     let w = c.args.heap.now in let u = c.unlink-top.ensures in
     record {
       taken = λ ps key p s has is.
-          taken (kl g) w s c.link-root.ensures key has is u.change (vl g)
+          taken (laws g.met.K.Plain) w s c.link-root.ensures key has is u.change (laws g.met.V.Plain)
           (omega (arith, c.len-count.ensures ps s, removed_length g.K.Plain.order ps key p has)) c.write_head.ensures;
       counted = u.counted;
-      steps = λ ps s. let few = few_all (kl g) w s c.link-root.ensures u.change in omega (arith, few, u.counted);
+      steps = λ ps s. let few = few_all (laws g.met.K.Plain) w s c.link-root.ensures u.change in omega
+          (arith, few, u.counted);
     }

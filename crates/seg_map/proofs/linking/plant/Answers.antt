@@ -1,6 +1,6 @@
 -- What is known of the nodes is known of the heap.
-use Rattle.seg_map.proofs.Common.{◌≡◌, subst, ◌-◌, arith, Linked}
-use Rattle.seg_map.proofs.Relinking.{linked}
+use Rattle.seg_map.proofs.Common.{subst, Linked}
+use Rattle.seg_map.proofs.Relinking.{added, fewer, linked}
 use Rattle.seg_map.proofs.linking.plant.Goals as goal
 
 pub insert_at-changed-requires : goal.insert_at-changed-requires
@@ -10,9 +10,9 @@ insert_at-changed-requires g c =
 pub returns-clause-change : goal.returns-clause-change
 returns-clause-change g c =
     let p = c.args.pairs.now in let q = c.insert_at-changed.new.nodes in
-    let same : c.insert_at-changed.result.steps ≡ c.add.new.self - c.args.steps.now = omega (arith, c.add.ensures) in
+    let same = added c.args.steps.now c.insert_at-changed.result.steps c.add.new.self c.add.ensures in
     subst (λ n. Linked g.K.Plain p.own p.heap.now q.heap.now c.args.root c.args.node c.insert_at-changed.result.root
     n) same
     (linked g.K.Plain p.own q.own p.heap.now q.heap.now c.args.root c.args.node c.insert_at-changed.result.root
     c.insert_at-changed.result.steps c.insert_at-changed.ensures.same.kept c.insert_at-changed.ensures.root
-    c.insert_at-changed.ensures.tree (λ t k. let few = c.insert_at-changed.ensures.steps t k in omega arith))
+    c.insert_at-changed.ensures.tree (λ t k. fewer _ _ (c.insert_at-changed.ensures.steps t k)))

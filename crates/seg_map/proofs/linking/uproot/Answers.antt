@@ -1,6 +1,6 @@
 -- What is known of the nodes is known of the heap.
-use Rattle.seg_map.proofs.Common.{◌≡◌, subst, ◌-◌, arith, Unlinked}
-use Rattle.seg_map.proofs.Relinking.{unlinked}
+use Rattle.seg_map.proofs.Common.{subst, Unlinked}
+use Rattle.seg_map.proofs.Relinking.{added, unlinked}
 use Rattle.seg_map.proofs.linking.uproot.Goals as goal
 
 pub remove_at-changed-requires : goal.remove_at-changed-requires
@@ -10,7 +10,7 @@ remove_at-changed-requires g c =
 pub returns-clause-change : goal.returns-clause-change
 returns-clause-change g c =
     let p = c.args.pairs.now in let q = c.remove_at-changed.new.nodes in
-    let same : c.remove_at-changed.result.steps ≡ c.add.new.self - c.args.steps.now = omega (arith, c.add.ensures) in
+    let same = added c.args.steps.now c.remove_at-changed.result.steps c.add.new.self c.add.ensures in
     subst (λ n. Unlinked g.K.Plain p.own p.heap.now q.heap.now c.args.root c.args.node
     c.remove_at-changed.result.root n) same
     (unlinked g.K.Plain p.own q.own p.heap.now q.heap.now c.args.root c.args.node c.remove_at-changed.result.root

@@ -1,13 +1,10 @@
 -- The links, the key and the value are written one after another.
 use Rattle.seg_map.proofs.Common.{current, Node, IsAllocated, node_len}
-use Rattle.seg_map.proofs.Entering.{Laws, laws_of}
+use Rattle.seg_map.proofs.Bounds.{laws}
 use Rattle.seg_map.proofs.Making.{made, room_key, room_left, room_right, room_value}
 use Rattle.seg_map.proofs.putting.make_node.Given.{Over}
 use Rattle.seg_map.proofs.putting.make_node.Goals as goal
 use Rattle.seg_map.proofs.putting.make_node.Goals.{In_ok-node}
-
-kl : (g : Over) → Laws g.K.Plain
-kl g = let m = g.met.K.Plain in laws_of g.K.Plain m.spells m.reads m.irreflexive m.transitive
 
 -- the block is as long as a node
 new : (g : Over) (c : In_ok-node g) → IsAllocated current c.args.heap.now c.allocate.new.self
@@ -15,24 +12,27 @@ new : (g : Over) (c : In_ok-node g) → IsAllocated current c.args.heap.now c.al
 new g c = rw (c.SIZE.ensures, c.SIZE-2.ensures) at c.in_ok-node.ensures.answer
 
 pub set_link-requires-clause-room : goal.set_link-requires-clause-room
-set_link-requires-clause-room g c = room_left (kl g) g.V.Plain
+set_link-requires-clause-room g c = room_left (laws g.met.K.Plain) g.V.Plain
     (new g (goal.at.set_link-requires-clause-room g c).In_ok-node)
 
 pub set_link-requires-2-clause-room : goal.set_link-requires-2-clause-room
 set_link-requires-2-clause-room g c =
     let left = c.set_link.ensures in
-    room_right (kl g) g.V.Plain (new g (goal.at.set_link-requires-2-clause-room g c).In_ok-node) left.change left.leads
+    room_right (laws g.met.K.Plain) g.V.Plain (new g (goal.at.set_link-requires-2-clause-room g c).In_ok-node)
+    left.change left.leads
 
 pub write_value-requires : goal.write_value-requires
 write_value-requires g c =
     let left = c.set_link.ensures in let right = c.set_link-2.ensures in
-    room_key (kl g) g.V.Plain (new g (goal.at.write_value-requires g c).In_ok-node) left.change left.leads right.change
+    room_key (laws g.met.K.Plain) g.V.Plain (new g (goal.at.write_value-requires g c).In_ok-node) left.change
+    left.leads right.change
     right.leads
 
 pub write_value-requires-2 : goal.write_value-requires-2
 write_value-requires-2 g c =
     let left = c.set_link.ensures in let right = c.set_link-2.ensures in let key = c.write_value.ensures in
-    rw c.SIZE-3.ensures (room_value (kl g) g.V.Plain (new g (goal.at.write_value-requires-2 g c).In_ok-node)
+    rw c.SIZE-3.ensures (room_value (laws g.met.K.Plain) g.V.Plain (new g (goal.at.write_value-requires-2 g
+    c).In_ok-node)
     left.change left.leads right.change
     right.leads key.value key.change key.content)
 
@@ -40,7 +40,8 @@ pub returns-clause-made : goal.returns-clause-made
 returns-clause-made g c =
     let left = c.set_link.ensures in let right = c.set_link-2.ensures in let key = c.write_value.ensures in
     let value = c.write_value-2.ensures in
-    made (kl g) g.V.Plain (new g (goal.at.returns-clause-made g c).In_ok-node) left.change left.leads right.change
+    made (laws g.met.K.Plain) g.V.Plain (new g (goal.at.returns-clause-made g c).In_ok-node) left.change left.leads
+    right.change
     right.leads
     key.value key.change key.content c.args.value value.value
     (rw c.SIZE-3.ensures at value.change)

@@ -1,15 +1,8 @@
 -- The node enters the tree, and the three words say so.
 use Rattle.seg_map.proofs.Common.{sym, ap, ◌∙◌, ◌+◌, arith, bits, live_of, room-less}
-use Rattle.seg_map.proofs.Entering.{Laws, laws_of}
+use Rattle.seg_map.proofs.Bounds.{laws}
 use Rattle.seg_map.proofs.Planting.{can_link, few_in_map, few_put, live_put, planted, top_put}
-use Rattle.seg_map.proofs.putting.put_in.Given.{Over}
 use Rattle.seg_map.proofs.putting.put_in.Goals as goal
-
-kl : (g : Over) → Laws g.K.Plain
-kl g = let m = g.met.K.Plain in laws_of g.K.Plain m.spells m.reads m.irreflexive m.transitive
-
-vl : (g : Over) → Laws g.V.Plain
-vl g = let m = g.met.V.Plain in laws_of g.V.Plain m.spells m.reads m.irreflexive m.transitive
 
 pub link-root-requires-clause-room : goal.link-root-requires-clause-room
 link-root-requires-clause-room g c = room-less (live_of c.args.heap.now.bytes) c.args.handle (c.args.at + 24)
@@ -21,22 +14,22 @@ len-count-requires g c = (c.requires.there.pairs, c.requires.there.map)
 pub link-top-requires : goal.link-top-requires
 link-top-requires g c =
     let r = c.requires.there in
-    can_link (kl g) c.args.heap.now r.map c.link-root.ensures r.loose c.args.start c.requires.begins r.is
+    can_link (laws g.met.K.Plain) c.args.heap.now r.map c.link-root.ensures r.loose c.args.start c.requires.begins r.is
 
 pub overflow_add-count : goal.overflow_add-count
 overflow_add-count g c =
     let r = c.requires.there in
-    omega (arith, c.len-count.ensures r.pairs r.map, few_in_map (kl g) c.args.heap.now r.map)
+    omega (arith, c.len-count.ensures r.pairs r.map, few_in_map (laws g.met.K.Plain) c.args.heap.now r.map)
 
 pub write_head-requires : goal.write_head-requires
 write_head-requires g c =
     let r = c.requires.there in let w = c.args.heap.now in let u = c.link-top.ensures.change in
-    let live = live_put (kl g) w r.map c.link-root.ensures r.loose r.is u in
+    let live = live_put (laws g.met.K.Plain) w r.map c.link-root.ensures r.loose r.is u in
     record {
       aligned = r.map.aligned;
       proper = rw live r.map.heap.proper;
       room = rw live r.map.room;
-      root = top_put (kl g) w r.map c.link-root.ensures r.loose r.is u;
+      root = top_put (laws g.met.K.Plain) w r.map c.link-root.ensures r.loose r.is u;
     }
 
 pub returns : goal.returns
@@ -44,11 +37,12 @@ returns g c =
     let r = c.requires.there in let w = c.args.heap.now in let u = c.link-top.ensures in
     record {
       planted = λ ps p s loose is.
-          planted (kl g) w s c.link-root.ensures loose is u.change (vl g) (omega (arith, c.len-count.ensures ps s))
+          planted (laws g.met.K.Plain) w s c.link-root.ensures loose is u.change (laws g.met.V.Plain)
+          (omega (arith, c.len-count.ensures ps s))
           c.write_head.ensures;
       counted = u.counted;
       steps = λ ps s.
-          let few = few_put (kl g) w r.map c.link-root.ensures r.loose r.is u.change in
+          let few = few_put (laws g.met.K.Plain) w r.map c.link-root.ensures r.loose r.is u.change in
           let digits = ap (λ n. bits (n + 1)) (sym r.map.map.count ∙ s.map.count) in
           omega (arith, few, digits, u.counted);
     }

@@ -2,7 +2,7 @@
 use Rattle.seg_map.proofs.Common.{◌≡◌, refl, ap, arith, None, lay_out_one, exit_in}
 use Rattle.best_fit.specs.Heap.{heap_touches}
 use Rattle.seg_map.proofs.Beginnings.{begun}
-use Rattle.seg_map.proofs.Entering.{laws_of}
+use Rattle.seg_map.proofs.Bounds.{laws}
 use Rattle.seg_map.proofs.Searching.{key_absent, key_at_node}
 use Rattle.seg_map.proofs.Leaving.{erased, gone_live}
 use Rattle.seg_map.proofs.maps.SegMap.erase.Goals as goal
@@ -31,11 +31,9 @@ returns-in_default-clause-erased g c =
 pub returns-clause-erased : goal.returns-clause-erased
 returns-clause-erased g c = λ ps s.
     let k = key_at_node c.find_out-trace.ensures.found s c.in-Some.is in
-    let m = g.met.K.Plain in let n = g.met.V.Plain in
     rw k.is (
       refl,
-      erased (laws_of g.K.Plain m.spells m.reads m.irreflexive m.transitive)
-          (laws_of g.V.Plain n.spells n.reads n.irreflexive n.transitive) s k.is k.at
+      erased (laws g.met.K.Plain) (laws g.met.V.Plain) s k.is k.at
           (c.take_out.ensures.taken ps c.args.key k.pair s k.is k.at) c.deallocate.ensures.released,
     )
 

@@ -1,17 +1,10 @@
 -- The value of a key that is there is written over; else a node is made, and enters the map.
 use Rattle.seg_map.proofs.Common.{◌≡◌, refl, sym, ◌+◌, arith, true, None, handle}
-use Rattle.seg_map.proofs.Entering.{Laws, laws_of}
+use Rattle.seg_map.proofs.Bounds.{laws}
 use Rattle.seg_map.proofs.Searching.{key_absent, key_at_node}
 use Rattle.seg_map.proofs.Overwriting.{is_put_again, value_room}
 use Rattle.seg_map.proofs.NewPairs.{entry_there, is_put, loose, map_there}
-use Rattle.seg_map.proofs.maps.SegMap.put.Given.{Over}
 use Rattle.seg_map.proofs.maps.SegMap.put.Goals as goal
-
-kl : (g : Over) → Laws g.K.Plain
-kl g = let m = g.met.K.Plain in laws_of g.K.Plain m.spells m.reads m.irreflexive m.transitive
-
-vl : (g : Over) → Laws g.V.Plain
-vl g = let m = g.met.V.Plain in laws_of g.V.Plain m.spells m.reads m.irreflexive m.transitive
 
 pub write_value-requires : goal.write_value-requires
 write_value-requires g c =
@@ -28,7 +21,8 @@ returns-in-Some-clause-put g c = λ ps s.
     let one : g.K.Plain.is_value c.args.key ≡ true = rw c.in-Some.is at c.find_in-trace.ensures.value in
     rw k.is (
       refl,
-      is_put_again w s c.args.key k.is (kl g) (vl g) g.met.K.Plain.total c.args.value one written.value
+      is_put_again w s c.args.key k.is (laws g.met.K.Plain) (laws g.met.V.Plain) g.met.K.Plain.total c.args.value one
+          written.value
           (rw place at written.change)
           (rw place at written.content),
     )
@@ -42,11 +36,11 @@ put_in-requires g c =
       there = record {
         pairs = ps;
         pair = record { key = c.args.key; value = c.args.value; node = m.block.extent };
-        map = map_there (kl g) (vl g) s absent m;
-        loose = loose (kl g) (vl g) s absent m;
+        map = map_there (laws g.met.K.Plain) (laws g.met.V.Plain) s absent m;
+        loose = loose (laws g.met.K.Plain) (laws g.met.V.Plain) s absent m;
         is = sym m.block.at;
       };
-      begins = entry_there (kl g) (vl g) s absent m (c.find_in-trace.ensures.entry ps s);
+      begins = entry_there (laws g.met.K.Plain) (laws g.met.V.Plain) s absent m (c.find_in-trace.ensures.entry ps s);
     }
 
 pub returns-clause-put : goal.returns-clause-put
@@ -57,9 +51,10 @@ returns-clause-put g c =
     let absent = key_absent c.find_in-trace.ensures.found s none in
     rw absent (
       refl,
-      is_put (kl g) (vl g) s absent m
+      is_put (laws g.met.K.Plain) (laws g.met.V.Plain) s absent m
           (c.put_in.ensures.planted ps (record { key = c.args.key; value = c.args.value; node = m.block.extent })
-          (map_there (kl g) (vl g) s absent m) (loose (kl g) (vl g) s absent m) (sym m.block.at)),
+          (map_there (laws g.met.K.Plain) (laws g.met.V.Plain) s absent m)
+          (loose (laws g.met.K.Plain) (laws g.met.V.Plain) s absent m) (sym m.block.at)),
     )
 
 pub returns-clause-steps : goal.returns-clause-steps
@@ -67,5 +62,5 @@ returns-clause-steps g c =
     let none : c.find_in-trace.result.node ≡ None = cc in
     λ ps s.
     let absent = key_absent c.find_in-trace.ensures.found s none in
-    let there = map_there (kl g) (vl g) s absent c.in_ok-node.ensures.made in
+    let there = map_there (laws g.met.K.Plain) (laws g.met.V.Plain) s absent c.in_ok-node.ensures.made in
     omega (arith, c.find_in-trace.ensures.found.steps ps s, c.make_node.ensures.steps, c.put_in.ensures.steps ps there)

@@ -1,12 +1,8 @@
 -- A pair is given up as long as there is a root.
 use Rattle.seg_map.proofs.Common.{◌≡◌, sym, ◌∙◌, ◌+◌, arith, None, live_of, room-less}
-use Rattle.seg_map.proofs.Entering.{Laws, laws_of}
+use Rattle.seg_map.proofs.Bounds.{laws}
 use Rattle.seg_map.proofs.Emptying.{given_up, going_first, going_on, one_less, root_pair}
-use Rattle.seg_map.proofs.maps.SegMap.release.Given.{Over}
 use Rattle.seg_map.proofs.maps.SegMap.release.Goals as goal
-
-kl : (g : Over) → Laws g.K.Plain
-kl g = let m = g.met.K.Plain in laws_of g.K.Plain m.spells m.reads m.irreflexive m.transitive
 
 pub link-requires-clause-room : goal.link-requires-clause-room
 link-requires-clause-room g c =
@@ -17,7 +13,7 @@ link-requires-clause-room g c =
 pub give_up-requires : goal.give_up-requires
 give_up-requires g c =
     let going = c.pairs.invariant c.requires.0 c.requires.1 in
-    let n = root_pair (kl g) going (sym c.link.ensures ∙ c.in-Some.is) in
+    let n = root_pair (laws g.met.K.Plain) going (sym c.link.ensures ∙ c.in-Some.is) in
     record { pairs = going.pairs; key = n.pair.key; pair = n.pair; map = going.holds; found = n.holds; is = n.at }
 
 pub pairs-init : goal.pairs-init
@@ -27,16 +23,18 @@ pairs-init g c = λ ps s. going_first g.K.Plain g.V.Plain c.args.heap.now c.args
 pub pairs-smaller : goal.pairs-smaller
 pairs-smaller g c =
     let going = c.pairs.invariant c.requires.0 c.requires.1 in
-    let n = root_pair (kl g) going (sym c.link.ensures ∙ c.in-Some.is) in
-    one_less (kl g) going n.holds (c.give_up.ensures going.pairs n.pair.key n.pair going.holds n.holds n.at)
+    let n = root_pair (laws g.met.K.Plain) going (sym c.link.ensures ∙ c.in-Some.is) in
+    one_less (laws g.met.K.Plain) going n.holds
+    (c.give_up.ensures going.pairs n.pair.key n.pair going.holds n.holds n.at)
 
 pub pairs-preserved : goal.pairs-preserved
 pairs-preserved g c = λ ps s.
     let going = c.pairs.invariant ps s in
-    let n = root_pair (kl g) going (sym c.link.ensures ∙ c.in-Some.is) in
-    going_on (kl g) going n.holds (c.give_up.ensures going.pairs n.pair.key n.pair going.holds n.holds n.at)
+    let n = root_pair (laws g.met.K.Plain) going (sym c.link.ensures ∙ c.in-Some.is) in
+    going_on (laws g.met.K.Plain) going n.holds
+    (c.give_up.ensures going.pairs n.pair.key n.pair going.holds n.holds n.at)
 
 pub returns : goal.returns
 returns g c =
     let none : c.link.result ≡ None = cc in
-    λ ps s. given_up (kl g) (c.pairs.invariant ps s) s.heap.proper (sym c.link.ensures ∙ none)
+    λ ps s. given_up (laws g.met.K.Plain) (c.pairs.invariant ps s) s.heap.proper (sym c.link.ensures ∙ none)

@@ -52,7 +52,8 @@ module _ (b : List ℕ) (h n : ℕ) (proper : IsTrue (is_proper (live_of b)))
 
   lying : Lies 128 r.extent ((live_of b).size - 16)
   lying =
-      lies 128 (live_of b).extents ((live_of b).size - 16) r.extent (is_proper-IsProper (live_of b) proper).list r.listed
+      let p = is_proper-IsProper (live_of b) proper in
+      lies 128 (live_of b).extents ((live_of b).size - 16) r.extent p.list r.listed
 
   pub live : IsTrue (is_live_in (live_of b) h)
   live = any_at (λ (x : Extent). handle x == h) (live_of b).extents r.extent r.listed (eq-eqb _ _ r.at)

@@ -279,10 +279,6 @@ steps-none b old = (omega arith, omega arith)
 pub treeless-spend : (c : Cut) (old tagged new : ℕ) → Spends tag_rates 1 c.bytes old tagged → Spends tag_rates 0 c.bytes tagged new → Spends frame_rates 51 c.bytes old new
 treeless-spend c old tagged new x y = spend-both c.bytes tag_rates tree_rates 1 50 old tagged new x (tree-counted c tagged tagged new (steps-none c.bytes tagged) y)
 
--- nothing was spent
-pub tree-none : (b : List ℕ) (old : ℕ) → Spends tree_rates 50 b old old
-tree-none b old = (omega arith, omega arith)
-
 -- ---- the whole
 
 -- a part of all passes

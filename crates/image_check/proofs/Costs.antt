@@ -11,15 +11,6 @@ abbrev pub costs : (Tile → ℕ) → List Tile → ℕ
 costs cost [] = 0
 costs cost (t ∷ ts) = cost t + costs cost ts
 
-pub costs-push : (cost : Tile → ℕ) (front : List Tile) (here : Tile) → costs cost (front ++ here ∷ []) ≡ costs cost front + cost here
-costs-push cost [] here = omega arith
-costs-push cost (t ∷ front) here = let l = costs-push cost front here in omega arith
-
--- those passed and this one are some of them
-pub costs-behind : (cost : Tile → ℕ) (front : List Tile) (here : Tile) (back : List Tile) → costs cost front + cost here ≤ costs cost (front ++ here ∷ back)
-costs-behind cost [] here back = omega arith
-costs-behind cost (t ∷ front) here back = let l = costs-behind cost front here back in omega arith
-
 pub costs-weigh : (rates : Rates) (cost : Tile → ℕ) (at : ℕ) (ts : List Tile) (end : ℕ) → Row at ts end → ((t : Tile) → 32 ≤ t.len → cost t ≤ rate_of rates t.use_of * (t.len / 16)) → costs cost ts ≤ weigh rates ts
 costs-weigh rates cost at [] end a h = omega arith
 costs-weigh rates cost at (t ∷ ts) end a h =

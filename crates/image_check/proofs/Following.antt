@@ -1,6 +1,6 @@
 -- Going through the nodes that wait: one turn notes the links of the first of them.
 use Rattle.std.proofs.Common.{◌≡◌, refl, sym, ap, subst, ◌∙◌, ℕ, suc, ◌+◌, ◌-◌, ◌*◌, ◌≤◌, List, [], ◌∷◌, length, arith}
-use Rattle.std.specs.Prelude.{IsOk, OnOk, Option, Some, None, IsSome, ◌⊎◌, Result, Ok, Err, MatchResult}
+use Rattle.std.specs.Prelude.{Option, Some, None, IsSome, ◌⊎◌, Result, Ok, Err, MatchResult}
 use Rattle.std.proofs.lemmas.Bool.{false≢true}
 use mathlib.Core.Logic.{inl, inr}
 use Rattle.raw_region.specs.Memory.{Memory}
@@ -12,10 +12,9 @@ use Rattle.image_check.specs.declared.owners.Block.{Block}
 use Rattle.image_check.specs.declared.owners.Owner.{Owner}
 use Rattle.image_check.specs.ObjectTests.{tile_of}
 use Rattle.image_check.specs.Meaning.{LeadsTo, Counts}
-use Rattle.image_check.specs.Owners.{Blocks, block_at, owner_in, owner_at, IsTileAt, debt, IsWaiting, IsChain, Stands, MayCount, IsFollowed, IsRooted, IsMarking, IsMarkingOf, IsMarked, next_in, next_at, root_in, Keeps, IsTurn, IsAllFollowed}
+use Rattle.image_check.specs.Owners.{Blocks, block_at, owner_in, owner_at, IsTileAt, debt, IsWaiting, IsChain, Stands, MayCount, IsFollowed, IsRooted, IsMarking, IsMarkingOf, IsMarked, next_in, next_at, root_in, Keeps}
 use Rattle.block_tags.specs.declared.tile.Role.TheVariants.{Object, Index, Storage}
 use Rattle.best_fit.specs.Table.{same_role}
-use Rattle.image_check.specs.Visits.{Adds}
 use Rattle.image_check.specs.Owners.{owner}
 use Rattle.image_check.specs.Owners.{due, debts}
 use Rattle.image_check.specs.Passes.{HasTiles, tiles_in}
@@ -208,10 +207,6 @@ pub of-ok : {A E : Type 0} (P : A → Type 0) (Q : E → Type 0) (r : Result A E
 of-ok P Q (Ok y) x e h = let same : y ≡ x = cc in subst P same h
 of-ok P Q (Err y) x e h = absurd (cc)
 
-pub IsOk-OnOk : {A E : Type 0} (P : Type 0) (r : Result A E) → IsOk r → OnOk r P → P
-IsOk-OnOk P (Ok y) o h = h
-IsOk-OnOk P (Err y) o h = absurd (false≢true o)
-
 pub map-ok : {A E : Type 0} (P P2 : A → Type 0) (Q : E → Type 0) (r : Result A E) → ((x : A) → P x → P2 x) → MatchResult r P Q → MatchResult r P2 Q
 map-ok P P2 Q (Ok y) f h = f y h
 map-ok P P2 Q (Err y) f h = h
@@ -223,20 +218,3 @@ pub record IsGoing (format : ℕ) (b : List ℕ) (old : Blocks) (waited seen : �
   pub keeps : Keeps old es
   pub more : seen ≤ visits
   pub most : visits + (6 * waiting + debt es) ≤ seen + (6 * waited + debt old)
-
-pub going-on : (format : ℕ) (b : List ℕ) (old : Blocks) (waited seen : ℕ) (es : Blocks) (pending : Option ℕ) (waiting visits : ℕ) (es2 : Blocks) (p2 : Option ℕ) (w2 v2 : ℕ)
-    → IsGoing format b old waited seen es pending waiting visits → IsTurn format b es waiting es2 p2 w2 → Adds 6 visits v2 → IsGoing format b old waited seen es2 p2 w2 v2
-going-on format b old waited seen es pending waiting visits es2 p2 w2 v2 g t v =
-    let x = g.more in
-    let y = g.most in
-    let z = t.less in
-    let v0 = v.0 in
-    let v1 = v.1 in
-    record { marking = t.marking; keeps = λ n place e. t.keeps n place (g.keeps n place e); more = omega arith; most = omega arith }
-
-pub going-start : (format : ℕ) (b : List ℕ) (es : Blocks) (pending : Option ℕ) (waiting seen : ℕ) → IsMarkingOf format b None es pending waiting → IsGoing format b es waiting seen es pending waiting seen
-going-start format b es pending waiting seen k = record { marking = k; keeps = λ n place e. e; more = omega arith; most = omega arith }
-
-pub going-end : (format : ℕ) (b : List ℕ) (old : Blocks) (waited seen : ℕ) (es : Blocks) (pending : Option ℕ) (waiting visits : ℕ) → IsGoing format b old waited seen es pending waiting visits → pending ≡ None
-    → IsAllFollowed format b old es pending waiting
-going-end format b old waited seen es pending waiting visits g e = record { marking = g.marking; none = e; keeps = g.keeps }

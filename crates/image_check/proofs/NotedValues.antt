@@ -1,7 +1,7 @@
 -- The links behind a value, noted one after another.
-use Rattle.std.proofs.Common.{zero, ◌≡◌, refl, sym, ap, subst, ◌∙◌, ℕ, suc, ◌+◌, ◌*◌, ◌/◌, ◌%◌, ◌≤◌, ◌<◌, Bool, true, false, List, length, arith, cond}
+use Rattle.std.proofs.Common.{◌≡◌, refl, sym, ap, subst, ◌∙◌, ℕ, ◌+◌, ◌*◌, ◌/◌, ◌%◌, ◌≤◌, ◌<◌, true, false, List, length, arith}
 use Rattle.std.specs.Prelude.{Option, Some, None, IsTrue, ◌⊎◌, ◌==◌, option_map}
-use Rattle.std.proofs.lemmas.Bool.{cond-false, ne_eqb, false≢true}
+use Rattle.std.proofs.lemmas.Bool.{false≢true}
 use mathlib.Core.Logic.{inl, inr}
 use Rattle.raw_region.specs.Memory.{bytes_of, word_at}
 use Rattle.raw_region.specs.Format.{current}
@@ -11,13 +11,12 @@ use Rattle.block_tags.specs.declared.tile.Tile.{Tile}
 use Rattle.seg_types.specs.declared.kinds.ScalarKind.{ScalarKind}
 use Rattle.seg_types.specs.declared.kinds.Kind.{Kind}
 use Rattle.seg_types.specs.declared.kinds.Kind.TheVariants.{Scalar, Text, Vector, Map, Texts}
-use Rattle.image_check.specs.declared.owners.Owner.{Owner}
 use Rattle.image_check.specs.ObjectTests.{good_for, payload, tile_of}
 use Rattle.image_check.specs.Fields.{has_storage}
 use Rattle.image_check.specs.Meaning.{Counts}
-use Rattle.image_check.specs.Owners.{Blocks, IsMarked, IsMarkingOf, IsNoted, MayCount, debt, owner, owner_at}
+use Rattle.image_check.specs.Owners.{Blocks, IsMarked, IsMarkingOf, IsNoted, MayCount, owner}
 use Rattle.image_check.specs.Passes.{HasTiles, tiles_in}
-use Rattle.image_check.specs.Sharing.{AllElements, AreElementsNoted, AreTextsNoted, IsElementPlace, IsInStorage, IsStorageNoted, IsStorageStart, IsValueGrown, IsValueReady, array_cost, has_link}
+use Rattle.image_check.specs.Sharing.{AllElements, AreElementsNoted, AreTextsNoted, IsElementPlace, IsInStorage, IsStorageNoted, IsStorageStart, IsValueGrown, IsValueReady, has_link}
 use Rattle.std.specs.Prelude.{Result, Ok, Err, MatchResult}
 use Rattle.image_check.specs.Sharing.{Pays}
 use Rattle.image_check.proofs.Inside.{Found, found}
@@ -66,11 +65,6 @@ module _ (b : List ℕ) (at array len : ℕ) (h : HasTiles b) (w : IsArrayAt b a
       let l = place.lies.long in
       omega arith
 
-  pub array-costs : 0 < word_at (bytes_of b) (at + 16) → array_cost (bytes_of b) (tiles_in b) at ≡ 3 * (len / 16)
-  array-costs p =
-      cond-false (word_at (bytes_of b) (at + 16) == 0) 0 (elim (good_for (tiles_in b) Storage (link_at (bytes_of b) at)) [ None ↦ 0 | Some t ↦ 3 * (t.len / 16) ]) (ne_eqb (word_at (bytes_of b) (at + 16)) 0 (λ e. absurd (omega arith)))
-      ∙ ap (λ o. elim o [ None ↦ 0 | Some t ↦ 3 * (t.len / 16) ]) w.good ∙ ap (λ x. 3 * (x / 16)) w.long
-
   element-in : (i count p : ℕ) → i < count → 16 * count + 16 ≤ len → p ≡ array + 16 * i → IsInStorage (tiles_in b) p
   element-in i count p l r e = let n = w.long in record { start = array; tile = w.tile; is = w.found; from = omega arith; to = omega arith }
 
@@ -93,14 +87,6 @@ module _ (b : List ℕ) (at array len : ℕ) (h : HasTiles b) (w : IsArrayAt b a
         let there : payload t ≡ array = ap payload same ∙ w.there in
         subst (λ x. IsNoted (bytes_of b) (tiles_in b) es Storage (x + 16 * i) (x + 16 * i)) (sym there) (d.noted i (fits i (omega arith) (omega arith)));
   }
-
--- nothing is there to be noted
-pub texts-none : (format : ℕ) (b : List ℕ) (at : ℕ) (es : Blocks) (pending : Option ℕ) (waiting : ℕ) → IsMarkingOf format b None es pending waiting
-    → (0 < word_at (bytes_of b) (at + 16) → good_for (tiles_in b) Storage (link_at (bytes_of b) at) ≡ None) → AreTextsNoted format b at es waiting es pending waiting
-texts-none format b at es pending waiting k none = record {
-  grown = grown-none format b (IsInStorage (tiles_in b)) es pending waiting k;
-  noted = λ t i p g l r. let f = none p in absurd (cc);
-}
 
 -- ---- values
 
@@ -136,32 +122,6 @@ module _ (format : ℕ) (b : List ℕ) (at : ℕ) (old : Blocks) (waited : ℕ) 
           (λ p e. inl (refl, e)) (λ p h. inr h) d.grown t.grown;
       noted = record { storage = λ h p n l. t.grown.keeps n _ (d.noted p n l); element = λ e. t.noted; root = λ x y e. absurd (cc) };
     }
-
-  -- the array was not met before, so that what is due for it pays for its elements
-  paid-if : IsValueReady format b Texts at old → (d : IsStorageNoted format b at old waited es pending waiting) → (o : Option Tile) → good_for (tiles_in b) Storage (link_at (bytes_of b) at) ≡ o → (c : Bool) → (word_at (bytes_of b) (at + 16) == 0) ≡ c
-      → 6 * waiting + debt es + cond c 0 (elim o [ None ↦ 0 | Some t ↦ 3 * (t.len / 16) ]) ≤ 6 * waited + debt old
-  paid-if r d o e true f = let l = d.grown.less in omega arith
-  paid-if r d None e false f = let l = d.grown.less in omega arith
-  paid-if r d (Some t) e false f =
-      let g = good_for-IsGood (tiles_in b) Storage (link_at (bytes_of b) at) t e in
-      let there : tile_of (tiles_in b) Storage (payload t) ≡ Some t = ap (good_for (tiles_in b) Storage) (sym g.leads) ∙ e in
-      let some : 0 < word_at (bytes_of b) (at + 16) = more (word_at (bytes_of b) (at + 16)) f in
-      let l = d.paid some (payload t) t g.leads there (free (payload t) (owner_at old (payload t)) refl (d.noted some (payload t) (g.leads, (t, there)))) in
-      omega arith
-    where
-      more : (n : ℕ) → (n == 0) ≡ false → 0 < n
-      more zero e = absurd (false≢true (sym e))
-      more (suc n) e = omega arith
-
-      free : (n : ℕ) (x : Option Owner) → owner_at old n ≡ x → owner_at es n ≡ Some (owner at at) → owner_at old n ≡ None
-      free n None e k = e
-      free n (Some x) e k =
-          let y = d.grown.keeps n x e in
-          let same : x ≡ owner at at = cc in
-          absurd (r.fresh refl n x e (ap (λ (z : Owner). z.at) same))
-
-  pub array-paid : IsValueReady format b Texts at old → IsStorageNoted format b at old waited es pending waiting → 6 * waiting + debt es + array_cost (bytes_of b) (tiles_in b) at ≤ 6 * waited + debt old
-  array-paid r d = paid-if r d (good_for (tiles_in b) Storage (link_at (bytes_of b) at)) refl (word_at (bytes_of b) (at + 16) == 0) refl
 
 -- ---- links of values count
 

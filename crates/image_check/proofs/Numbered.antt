@@ -46,9 +46,6 @@ row-absent (e ∷ es) n h =
 
 -- ---- one more, and another in the place of one
 
-below-behind : (e : ℕ × Block) (es : Blocks) (n : ℕ) → AreBelow (e ∷ es) n → AreBelow es n
-below-behind e es n h i x g = h (suc i) x g
-
 -- what stands in a list with one more is that one, or stood there before
 pushed : (es : Blocks) (e : ℕ × Block) (i : ℕ) (x : ℕ × Block) → slice_get (es ++ e ∷ []) i ≡ Some x → (slice_get es i ≡ Some x) ⊎ ((i ≡ length es) × (e ≡ x))
 pushed [] e zero x g = inr (refl, cc)
@@ -75,30 +72,7 @@ set-row (e ∷ es) n (suc i) b r w =
     cond-false (nat_eq n e.0) ((e.0, b) ∷ es) (e ∷ set_value (nat_eq n) es b) (ne_eqb n e.0 (λ f. absurd (omega arith)))
     ∙ ap (λ (fs : Blocks). e ∷ fs) (set-row es n i b (rises-behind e es r) (record { block = w.block; is = w.is }))
 
--- a block of the same payload stood there before
-stood : (es : Blocks) (n i : ℕ) (b : Block) (j : ℕ) (x : ℕ × Block) → IsRow es n i → slice_get (slice_set es i (n, b)) j ≡ Some x → (c : Block) × (slice_get es j ≡ Some (x.0, c))
-stood [] n i b j x w g = absurd (cc)
-stood (e ∷ es) n zero b zero x w g =
-    let same : (n, b) ≡ x = cc in
-    (w.block, w.is ∙ ap (λ (p : ℕ × Block). Some (p.0, w.block)) same)
-stood (e ∷ es) n zero b (suc j) x w g = (x.1, g)
-stood (e ∷ es) n (suc i) b zero x w g = (x.1, g)
-stood (e ∷ es) n (suc i) b (suc j) x w g = stood es n i b j x (record { block = w.block; is = w.is }) g
-
-pub rises-set : (es : Blocks) (n i : ℕ) (b : Block) → Rises es → IsRow es n i → Rises (slice_set es i (n, b))
-rises-set es n i b r w j k x y l f g =
-    let p = stood es n i b j x w f in
-    let q = stood es n i b k y w g in
-    r j k (x.0, p.0) (y.0, q.0) l p.1 q.1
-
 -- ---- a search by halves
-
-pub between-all : (es : Blocks) (n : ℕ) → IsBetween es n 0 (length es)
-between-all es n = record {
-  within = omega arith;
-  below = λ i x l g. absurd (omega arith);
-  above = λ i x l g. let k = slice_get_within es i x g in absurd (omega arith);
-}
 
 one-more : (j i : ℕ) → j < i + 1 → (j < i) ⊎ (j ≡ i)
 one-more j zero h = inr (omega arith)
@@ -139,25 +113,6 @@ between-down es n low high i d r b h other l = record { within = omega arith; be
 -- from a number on all payloads are above a place
 abbrev pub AreAbove : Blocks → ℕ → ℕ → Type 0
 AreAbove es n high = (i : ℕ) (x : ℕ × Block) → high ≤ i → slice_get es i ≡ Some x → n < x.0
-
-pub above-behind : (es : Blocks) (n i : ℕ) (d : ℕ × Block) → Rises es → i < length es → n ≤ (slice_index_or es i d).0 → AreAbove es n (i + 1)
-above-behind es n i d r h l j y m g = let z = r i j (slice_index_or es i d) y (omega arith) (slice_get-get_or es i d h) g in omega arith
-
-pub above-here : (es : Blocks) (n i : ℕ) (d : ℕ × Block) → Rises es → i < length es → n < (slice_index_or es i d).0 → AreAbove es n i
-above-here es n i d r h l j y m g = ⊎_elim
-    (λ k. let same = get_or_from_slice_get es i y d (ap (slice_get es) (sym k) ∙ g) in subst (λ (z : ℕ × Block). n < z.0) same l)
-    (λ k. let z = r i j (slice_index_or es i d) y k (slice_get-get_or es i d h) g in omega arith)
-    (one-up i j m)
-
-pub between-from : (es : Blocks) (n low high : ℕ) (d : ℕ × Block) → Rises es → low < length es → high ≤ length es → (slice_index_or es low d).0 ≤ n → AreAbove es n high → IsBetween es n low high
-between-from es n low high d r h w l a = record {
-  within = w;
-  below = λ j y m g. let z = r j low y (slice_index_or es low d) m g (slice_get-get_or es low d h) in omega arith;
-  above = a;
-}
-
-pub between-first : (es : Blocks) (n high : ℕ) → high ≤ length es → AreAbove es n high → IsBetween es n 0 high
-between-first es n high w a = record { within = w; below = λ i x l g. absurd (omega arith); above = a }
 
 -- nothing is left between them
 pub between-none : (es : Blocks) (n low high : ℕ) → IsBetween es n low high → high ≤ low → block_at es n ≡ None

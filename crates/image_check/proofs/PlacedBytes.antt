@@ -9,7 +9,7 @@ use Rattle.segment_manager.specs.declared.modes.Mode.{Mode}
 use Rattle.image_check.specs.declared.classes.ImageClass.{ImageClass}
 use Rattle.image_check.specs.declared.classes.ImageClass.TheVariants.{Truncated, BadMagic, UnsupportedVersion, BadSize}
 use Rattle.image_check.specs.declared.errors.OpenError.{OpenError}
-use Rattle.image_check.specs.declared.errors.OpenError.TheVariants.{Image, RegionTooSmall}
+use Rattle.image_check.specs.declared.errors.OpenError.TheVariants.{Image}
 use Rattle.image_check.specs.declared.errors.CheckError.{CheckError}
 use Rattle.image_check.specs.declared.errors.CheckError.TheVariants.{Class, NoMemory}
 use Rattle.image_check.specs.EarlyTests.{has_front, has_magic, has_version, size_word}
@@ -20,8 +20,8 @@ use Rattle.image_check.specs.OpeningBytes.{IsMisfit, IsWhyNotOf, OpensBytes, as_
 use Rattle.image_check.specs.Passes.{has_block}
 use Rattle.image_check.specs.Reading.{IsImageRead, front_of}
 use Rattle.image_check.proofs.Deciding.{decided-some, first_class}
-use Rattle.image_check.proofs.Early.{short-Truncated, cut-Truncated}
-use Rattle.image_check.proofs.Fronts.{IsRight, IsRight-has_front, front-decided, front-wrong, has_front-IsRight}
+use Rattle.image_check.proofs.Early.{cut-Truncated}
+use Rattle.image_check.proofs.Fronts.{IsRight, front-decided, front-wrong, has_front-IsRight}
 use Rattle.image_check.proofs.Refused.{back-from, no-room}
 use Rattle.image_check.proofs.Stopping.{more-decided}
 
@@ -31,26 +31,9 @@ use Rattle.image_check.proofs.Stopping.{more-decided}
 whole-class : (format : ℕ) (b : List ℕ) (c : ImageClass) → class_of format (b ++ []) ≡ Some c → class_of format b ≡ Some c
 whole-class format b c e = subst (λ (x : List ℕ). class_of format x ≡ Some c) (append-nil b) e
 
--- fewer bytes than the first words
-pub misfit-short : (format : ℕ) (b : List ℕ) (base capacity : ℕ) → length b < 24 → IsMisfit format b base capacity (Image Truncated)
-misfit-short format b base capacity l = record {
-  why = first_class (holds format b) (short-Truncated format b (omega arith));
-  too_small = λ t. absurd (too-few t.read);
-}
-  where
-    too-few : 24 ≤ length b → ⊥
-    too-few many = omega arith
-
 -- first words that say no size are too small for none
 wrong-room : (format : ℕ) (b : List ℕ) (base capacity : ℕ) (c : ImageClass) → front_of format b ≡ Err c → IsTooSmallFor format (as_given b) base capacity → ⊥
 wrong-room format b base capacity c e t = both_ways (has_front format b) (front-wrong format b c e) t.front
-
--- wrong first words, and fewer bytes than any image has
-pub misfit-few : (format : ℕ) (b : List ℕ) (base capacity : ℕ) (c : ImageClass) → front_of format b ≡ Err c → length b < 144 → IsMisfit format b base capacity (Image Truncated)
-misfit-few format b base capacity c e l = record {
-  why = first_class (holds format b) (short-Truncated format b l);
-  too_small = λ t. absurd (wrong-room format b base capacity c e t);
-}
 
 -- wrong first words
 pub misfit-front : (format : ℕ) (b : List ℕ) (base capacity : ℕ) (c : ImageClass) → front_of format b ≡ Err c → 144 ≤ length b → IsMisfit format b base capacity (Image c)
@@ -71,15 +54,6 @@ pub says-right : (format : ℕ) (b : List ℕ) (size : ℕ) → 24 ≤ length b 
 says-right format b size l e =
     let p = right-by (has_magic b) (has_version format b) (is_legal_size (size_word b)) (size_word b) size e in
     has_front-IsRight format b size l p.0 p.1
-
--- no room for that size
-pub misfit-room : (format : ℕ) (b : List ℕ) (base capacity size : ℕ) → IsRight format b size → capacity < base + size → IsMisfit format b base capacity RegionTooSmall
-misfit-room format b base capacity size r l =
-    let says = r.says in
-    record {
-      why = record { read = r.long; front = IsRight-has_front format b size r; small = omega arith };
-      too_small = λ t. refl;
-    }
 
 -- room for it
 right-room : (format : ℕ) (b : List ℕ) (base capacity size : ℕ) → IsRight format b size → base + size ≤ capacity → IsTooSmallFor format (as_given b) base capacity → ⊥

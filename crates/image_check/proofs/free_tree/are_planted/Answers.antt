@@ -6,7 +6,9 @@ use Rattle.image_check.specs.FreeNodes.{is_planted}
 use Rattle.image_check.specs.Visits.{planting_rates}
 use Rattle.block_tags.proofs.Laws.{tiles_are_read_off}
 use Rattle.image_check.proofs.Budget.{search-for-tile, within-all, within-more, within-none, within-stop}
-use Rattle.image_check.proofs.WalkedTiles.{all-fails, all-more, at-meets, tags-IsTiled, walk-at, walk-end, walk-nearer, walk-on, walk-read, walk-start}
+use Rattle.image_check.proofs.ReadTiles.{read-at, read-met, read-nearer}
+use Rattle.image_check.proofs.WalkedTiles.{all-fails, all-more, at-meets, tags-IsTiled, walk-end}
+use Rattle.image_check.proofs.WalkedTiles.{walk-on, walk-start}
 use Rattle.image_check.proofs.FreeTiles.{at-len, at-place}
 use Rattle.image_check.proofs.free_tree.are_planted.Goals as goal
 
@@ -17,33 +19,38 @@ pub tiles-init : goal.tiles-init
 tiles-init c =
     let w = c.args.window.now in
     let tiled = tags-IsTiled w c.requires.size c.requires.tags in (
-      λ t s. walk-start w (λ (ts : List Tile). list_all (is_planted w (nodes_of t)) ts ≡ true) c.first-tile.result tiled c.first-tile.ensures refl,
+      λ t s. walk-start w (λ (ts : List Tile). list_all (is_planted w (nodes_of t)) ts ≡ true) c.first-tile.result tiled
+          c.first-tile.ensures refl,
       walk-start w _ c.first-tile.result tiled c.first-tile.ensures (within-none planting_rates _),
     )
 
 pub is_planted-requires-clause-place : goal.is_planted-requires-clause-place
 is_planted-requires-clause-place c =
     let w = c.args.window.now in
-    at-place w _ c.read-here.result (walk-at w _ c.tiles.tile c.read-here.result c.tiles.invariant.1 (walk-read c.tiles.tile c.in-Some.unread c.read-here.result c.in-Some.is c.read-here.ensures.tile)) c.requires.size
+    at-place w _ c.read-here.result (read-at w _ c.tiles.tile c.in-Some.unread c.read-here.result c.tiles.invariant.1
+    c.in-Some.is c.read-here.ensures.tile) c.requires.size
 
 pub is_planted-requires-clause-len : goal.is_planted-requires-clause-len
 is_planted-requires-clause-len c =
     let w = c.args.window.now in
-    at-len w _ c.read-here.result (walk-at w _ c.tiles.tile c.read-here.result c.tiles.invariant.1 (walk-read c.tiles.tile c.in-Some.unread c.read-here.result c.in-Some.is c.read-here.ensures.tile))
+    at-len w _ c.read-here.result (read-at w _ c.tiles.tile c.in-Some.unread c.read-here.result c.tiles.invariant.1
+    c.in-Some.is c.read-here.ensures.tile)
 
 pub returns-then-not-is_planted-clause-value : goal.returns-then-not-is_planted-clause-value
 returns-then-not-is_planted-clause-value c t s =
     let w = c.args.window.now in
     let test = is_planted w (nodes_of t) in
-    let a = walk-at w (λ (ts : List Tile). list_all test ts ≡ true) c.tiles.tile c.read-here.result (c.tiles.invariant.0 t s) (walk-read c.tiles.tile c.in-Some.unread c.read-here.result c.in-Some.is c.read-here.ensures.tile) in
-    let all : list_all test (a.front ++ c.read-here.result ∷ a.back) ≡ false = all-fails test a.front c.read-here.result a.back (sym (c.is_planted.ensures.value t s) ∙ c.if-not-is_planted.true) in
+    let a = read-at w (λ (ts : List Tile). list_all test ts ≡ true) c.tiles.tile c.in-Some.unread c.read-here.result
+    (c.tiles.invariant.0 t s) c.in-Some.is c.read-here.ensures.tile in
+    let all : list_all test (a.front ++ c.read-here.result ∷ a.back) ≡ false = all-fails test a.front c.read-here.result
+    a.back (sym (c.is_planted.ensures.value t s) ∙ c.if-not-is_planted.true) in
     sym (ap (list_all test) (tiles_are_read_off w (a.front ++ c.read-here.result ∷ a.back) a.said) ∙ all)
 
 pub returns-then-not-is_planted-clause-visits : goal.returns-then-not-is_planted-clause-visits
 returns-then-not-is_planted-clause-visits c =
     let w = c.args.window.now in
     let here = c.read-here.result in
-    let a = walk-at w _ c.tiles.tile here c.tiles.invariant.1 (walk-read c.tiles.tile c.in-Some.unread c.read-here.result c.in-Some.is c.read-here.ensures.tile) in
+    let a = read-at w _ c.tiles.tile c.in-Some.unread here c.tiles.invariant.1 c.in-Some.is c.read-here.ensures.tile in
     let worth = search-for-tile here.use_of here.len (at-meets w _ here a).long in
     let one = c.read-here.ensures.visits in
     let less = c.is_planted.ensures.raised in
@@ -52,19 +59,19 @@ returns-then-not-is_planted-clause-visits c =
 
 pub next-tile-requires : goal.next-tile-requires
 next-tile-requires c =
-    let w = c.args.window.now in
-    (at-meets w _ c.read-here.result (walk-at w _ c.tiles.tile c.read-here.result c.tiles.invariant.1 (walk-read c.tiles.tile c.in-Some.unread c.read-here.result c.in-Some.is c.read-here.ensures.tile))).has
+    (read-met c.args.window.now _ c.tiles.tile c.in-Some.unread c.read-here.result c.tiles.invariant.1 c.in-Some.is
+    c.read-here.ensures.tile).has
 
 pub tiles-smaller : goal.tiles-smaller
 tiles-smaller c =
-    let w = c.args.window.now in
-    walk-nearer w _ c.tiles.tile c.read-here.result c.next-tile.result (walk-at w _ c.tiles.tile c.read-here.result c.tiles.invariant.1 (walk-read c.tiles.tile c.in-Some.unread c.read-here.result c.in-Some.is c.read-here.ensures.tile)) (walk-read c.tiles.tile c.in-Some.unread c.read-here.result c.in-Some.is c.read-here.ensures.tile) c.next-tile.ensures
+    read-nearer c.args.window.now _ c.tiles.tile c.in-Some.unread c.read-here.result c.tiles.invariant.1 c.in-Some.is
+    c.read-here.ensures.tile c.next-tile.result c.next-tile.ensures
 
 pub tiles-preserved : goal.tiles-preserved
 tiles-preserved c =
     let w = c.args.window.now in
     let here = c.read-here.result in
-    let a = walk-at w _ c.tiles.tile here c.tiles.invariant.1 (walk-read c.tiles.tile c.in-Some.unread c.read-here.result c.in-Some.is c.read-here.ensures.tile) in
+    let a = read-at w _ c.tiles.tile c.in-Some.unread here c.tiles.invariant.1 c.in-Some.is c.read-here.ensures.tile in
     let worth = search-for-tile here.use_of here.len (at-meets w _ here a).long in
     let one = c.read-here.ensures.visits in
     let less = c.is_planted.ensures.raised in
@@ -72,16 +79,20 @@ tiles-preserved c =
       λ t s.
           let test = is_planted w (nodes_of t) in
           let kept = λ (ts : List Tile). list_all test ts ≡ true in
-          walk-on w kept kept here c.next-tile.result (walk-at w kept c.tiles.tile here (c.tiles.invariant.0 t s) (walk-read c.tiles.tile c.in-Some.unread c.read-here.result c.in-Some.is c.read-here.ensures.tile)) c.next-tile.ensures
+          walk-on w kept kept here c.next-tile.result (read-at w kept c.tiles.tile c.in-Some.unread here
+          (c.tiles.invariant.0 t s) c.in-Some.is c.read-here.ensures.tile) c.next-tile.ensures
           (λ front k. all-more test front here k (sym (c.is_planted.ensures.value t s) ∙ c.if-not-is_planted.false)),
-      walk-on w _ _ here c.next-tile.result a c.next-tile.ensures (λ front k. within-more planting_rates _ c.tiles.visits _ front here k (omega arith) (omega arith)),
+      walk-on w _ _ here c.next-tile.result a c.next-tile.ensures
+          (λ front k. within-more planting_rates _ c.tiles.visits _ front here k (omega arith) (omega arith)),
     )
 
 pub returns-clause-value : goal.returns-clause-value
 returns-clause-value c t s =
     let w = c.args.window.now in
-    sym (walk-end w (λ (ts : List Tile). list_all (is_planted w (nodes_of t)) ts ≡ true) c.tiles.tile (c.tiles.invariant.0 t s) c.in_default.not-Some)
+    sym (walk-end w (λ (ts : List Tile). list_all (is_planted w (nodes_of t)) ts ≡ true) c.tiles.tile
+    (c.tiles.invariant.0 t s) c.in_default.not-Some)
 
 pub returns-clause-visits : goal.returns-clause-visits
 returns-clause-visits c =
-    within-all c.args.window.now.bytes planting_rates _ _ (walk-end c.args.window.now _ c.tiles.tile c.tiles.invariant.1 c.in_default.not-Some)
+    within-all c.args.window.now.bytes planting_rates _ _
+    (walk-end c.args.window.now _ c.tiles.tile c.tiles.invariant.1 c.in_default.not-Some)

@@ -1,7 +1,9 @@
 use Rattle.std.proofs.Common.{refl, sym, ◌∙◌, [], ◌∷◌, length, arith}
 use Rattle.std.proofs.lemmas.List.{length-append}
 use Rattle.image_check.proofs.Inside.{legal-small}
-use Rattle.image_check.proofs.WalkedTiles.{at-meets, tags-IsTiled, walk-at, walk-end, walk-few, walk-nearer, walk-on, walk-read, walk-start}
+use Rattle.image_check.proofs.ReadTiles.{read-at, read-met, read-nearer}
+use Rattle.image_check.proofs.WalkedTiles.{tags-IsTiled, walk-end, walk-few, walk-on}
+use Rattle.image_check.proofs.WalkedTiles.{walk-start}
 use Rattle.image_check.proofs.Gathered.{Counted, count-free, count-most, count-push, count-used}
 use Rattle.image_check.proofs.gathering.count_used.Goals as goal
 use Rattle.image_check.proofs.gathering.count_used.Goals.{then-is_some, else-is_some}
@@ -12,14 +14,16 @@ first-tile-requires c = tags-IsTiled c.args.window.now c.requires.tiles.size c.r
 pub tiles-init : goal.tiles-init
 tiles-init c =
     let w = c.args.window.now in
-    walk-start w (Counted c.args.visits.now c.args.visits.now 0) c.first-tile.result (tags-IsTiled w c.requires.tiles.size c.requires.tiles.tags) c.first-tile.ensures (record { counts = refl; visited = omega arith })
+    walk-start w (Counted c.args.visits.now c.args.visits.now 0) c.first-tile.result
+    (tags-IsTiled w c.requires.tiles.size c.requires.tiles.tags) c.first-tile.ensures
+    (record { counts = refl; visited = omega arith })
 
 pub overflow_add-count : goal.overflow_add-count
 overflow_add-count c =
     let w = c.args.window.now in
-    let kept = Counted c.args.visits.now c.tiles.visits c.tiles.count in
-    let a = walk-at w kept c.tiles.tile c.read-here.result c.tiles.invariant (walk-read c.tiles.tile c.in-Some.unread c.read-here.result c.in-Some.is c.read-here.ensures.tile) in
-    let few = walk-few w kept c.read-here.result a in
+    let a = read-at w _ c.tiles.tile c.in-Some.unread c.read-here.result c.tiles.invariant c.in-Some.is
+    c.read-here.ensures.tile in
+    let few = walk-few w _ c.read-here.result a in
     let most = count-most a.front in
     let is = a.kept.counts in
     let small = legal-small (length w.bytes) c.requires.tiles.size in
@@ -27,22 +31,21 @@ overflow_add-count c =
 
 pub next-tile-requires : goal.next-tile-requires
 next-tile-requires c =
-    let w = c.args.window.now in
-    let kept = Counted c.args.visits.now c.tiles.visits c.tiles.count in
-    (at-meets w kept c.read-here.result (walk-at w kept c.tiles.tile c.read-here.result c.tiles.invariant (walk-read c.tiles.tile c.in-Some.unread c.read-here.result c.in-Some.is c.read-here.ensures.tile))).has
+    (read-met c.args.window.now _ c.tiles.tile c.in-Some.unread c.read-here.result c.tiles.invariant c.in-Some.is
+    c.read-here.ensures.tile).has
 
 pub tiles-smaller : goal.tiles-smaller
 tiles-smaller c =
-    let w = c.args.window.now in
-    let kept = Counted c.args.visits.now c.tiles.visits c.tiles.count in
-    walk-nearer w kept c.tiles.tile c.read-here.result c.next-tile.result (walk-at w kept c.tiles.tile c.read-here.result c.tiles.invariant (walk-read c.tiles.tile c.in-Some.unread c.read-here.result c.in-Some.is c.read-here.ensures.tile)) (walk-read c.tiles.tile c.in-Some.unread c.read-here.result c.in-Some.is c.read-here.ensures.tile) c.next-tile.ensures
+    read-nearer c.args.window.now _ c.tiles.tile c.in-Some.unread c.read-here.result c.tiles.invariant c.in-Some.is
+    c.read-here.ensures.tile c.next-tile.result c.next-tile.ensures
 
 pub tiles-preserved : goal.tiles-preserved
 tiles-preserved c =
     let w = c.args.window.now in
-    let kept = Counted c.args.visits.now c.tiles.visits c.tiles.count in
-    let on = walk-on w kept (Counted c.args.visits.now c.read-here.new.visits c.if-is_some.count) c.read-here.result c.next-tile.result
-    (walk-at w kept c.tiles.tile c.read-here.result c.tiles.invariant (walk-read c.tiles.tile c.in-Some.unread c.read-here.result c.in-Some.is c.read-here.ensures.tile)) c.next-tile.ensures in
+    let on = walk-on w _ (Counted c.args.visits.now c.read-here.new.visits c.if-is_some.count) c.read-here.result
+    c.next-tile.result
+    (read-at w _ c.tiles.tile c.in-Some.unread c.read-here.result c.tiles.invariant c.in-Some.is
+    c.read-here.ensures.tile) c.next-tile.ensures in
     elim c.if-is_some.branch [
       | then-is_some b ↦ on (λ front k.
           let push = count-push front c.read-here.result in
@@ -63,7 +66,7 @@ tiles-preserved c =
     ]
 
 pub returns-clause-count : goal.returns-clause-count
-returns-clause-count c = (walk-end c.args.window.now (Counted c.args.visits.now c.tiles.visits c.tiles.count) c.tiles.tile c.tiles.invariant c.in_default.not-Some).counts
+returns-clause-count c = (walk-end c.args.window.now _ c.tiles.tile c.tiles.invariant c.in_default.not-Some).counts
 
 pub returns-clause-visits : goal.returns-clause-visits
-returns-clause-visits c = (walk-end c.args.window.now (Counted c.args.visits.now c.tiles.visits c.tiles.count) c.tiles.tile c.tiles.invariant c.in_default.not-Some).visited
+returns-clause-visits c = (walk-end c.args.window.now _ c.tiles.tile c.tiles.invariant c.in_default.not-Some).visited

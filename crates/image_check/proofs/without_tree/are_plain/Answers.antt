@@ -4,7 +4,9 @@ use Rattle.block_tags.proofs.Laws.{tiles_are_read_off}
 use Rattle.image_check.specs.OlderFormats.{is_plain}
 use Rattle.image_check.specs.Visits.{tag_rates}
 use Rattle.image_check.proofs.Budget.{two-for-tile, within-all, within-more, within-none, within-stop}
-use Rattle.image_check.proofs.WalkedTiles.{all-fails, all-more, at-meets, tags-IsTiled, walk-at, walk-end, walk-nearer, walk-on, walk-read, walk-start}
+use Rattle.image_check.proofs.ReadTiles.{read-at, read-met, read-nearer}
+use Rattle.image_check.proofs.WalkedTiles.{all-fails, all-more, at-meets, tags-IsTiled, walk-end}
+use Rattle.image_check.proofs.WalkedTiles.{walk-on, walk-start}
 use Rattle.image_check.proofs.without_tree.are_plain.Goals as goal
 
 pub first-tile-requires : goal.first-tile-requires
@@ -13,39 +15,42 @@ first-tile-requires c = tags-IsTiled c.args.window.now c.requires.tiles.size c.r
 pub tiles-init : goal.tiles-init
 tiles-init c =
     let w = c.args.window.now in
-    walk-start w _ c.first-tile.result (tags-IsTiled w c.requires.tiles.size c.requires.tiles.tags) c.first-tile.ensures (refl, within-none tag_rates _)
+    walk-start w _ c.first-tile.result (tags-IsTiled w c.requires.tiles.size c.requires.tiles.tags) c.first-tile.ensures
+    (refl, within-none tag_rates _)
 
 pub returns-then-not-is_plain-clause-value : goal.returns-then-not-is_plain-clause-value
 returns-then-not-is_plain-clause-value c =
     let w = c.args.window.now in
     let here = c.read-here.result in
-    let a = walk-at w _ c.tiles.tile here c.tiles.invariant (walk-read c.tiles.tile c.in-Some.unread c.read-here.result c.in-Some.is c.read-here.ensures.tile) in
-    let all : list_all is_plain (a.front ++ here ∷ a.back) ≡ false = all-fails is_plain a.front here a.back (sym c.is_plain.ensures ∙ c.if-not-is_plain.true) in
+    let a = read-at w _ c.tiles.tile c.in-Some.unread here c.tiles.invariant c.in-Some.is c.read-here.ensures.tile in
+    let all : list_all is_plain (a.front ++ here ∷ a.back) ≡ false = all-fails is_plain a.front here a.back
+    (sym c.is_plain.ensures ∙ c.if-not-is_plain.true) in
     sym (ap (list_all is_plain) (tiles_are_read_off w (a.front ++ here ∷ a.back) a.said) ∙ all)
 
 pub returns-then-not-is_plain-clause-visits : goal.returns-then-not-is_plain-clause-visits
 returns-then-not-is_plain-clause-visits c =
     let w = c.args.window.now in
     let here = c.read-here.result in
-    let a = walk-at w _ c.tiles.tile here c.tiles.invariant (walk-read c.tiles.tile c.in-Some.unread c.read-here.result c.in-Some.is c.read-here.ensures.tile) in
+    let a = read-at w _ c.tiles.tile c.in-Some.unread here c.tiles.invariant c.in-Some.is c.read-here.ensures.tile in
     let two = two-for-tile here.use_of here.len (at-meets w _ here a).long in
     let one = c.read-here.ensures.visits in
     within-stop w tag_rates _ c.tiles.visits _ a.front here a.back a.said a.kept.1 (omega arith) (omega arith)
 
 pub next-tile-requires : goal.next-tile-requires
 next-tile-requires c =
-    (at-meets c.args.window.now _ c.read-here.result (walk-at c.args.window.now _ c.tiles.tile c.read-here.result c.tiles.invariant (walk-read c.tiles.tile c.in-Some.unread c.read-here.result c.in-Some.is c.read-here.ensures.tile))).has
+    (read-met c.args.window.now _ c.tiles.tile c.in-Some.unread c.read-here.result c.tiles.invariant c.in-Some.is
+    c.read-here.ensures.tile).has
 
 pub tiles-smaller : goal.tiles-smaller
 tiles-smaller c =
-    walk-nearer c.args.window.now _ c.tiles.tile c.read-here.result c.next-tile.result (walk-at c.args.window.now _ c.tiles.tile c.read-here.result c.tiles.invariant (walk-read c.tiles.tile c.in-Some.unread c.read-here.result c.in-Some.is c.read-here.ensures.tile))
-    (walk-read c.tiles.tile c.in-Some.unread c.read-here.result c.in-Some.is c.read-here.ensures.tile) c.next-tile.ensures
+    read-nearer c.args.window.now _ c.tiles.tile c.in-Some.unread c.read-here.result c.tiles.invariant c.in-Some.is
+    c.read-here.ensures.tile c.next-tile.result c.next-tile.ensures
 
 pub tiles-preserved : goal.tiles-preserved
 tiles-preserved c =
     let w = c.args.window.now in
     let here = c.read-here.result in
-    let a = walk-at w _ c.tiles.tile here c.tiles.invariant (walk-read c.tiles.tile c.in-Some.unread c.read-here.result c.in-Some.is c.read-here.ensures.tile) in
+    let a = read-at w _ c.tiles.tile c.in-Some.unread here c.tiles.invariant c.in-Some.is c.read-here.ensures.tile in
     let two = two-for-tile here.use_of here.len (at-meets w _ here a).long in
     let one = c.read-here.ensures.visits in
     walk-on w _ _ here c.next-tile.result a c.next-tile.ensures (λ front k. (
@@ -57,4 +62,5 @@ pub returns-clause-value : goal.returns-clause-value
 returns-clause-value c = sym (walk-end c.args.window.now _ c.tiles.tile c.tiles.invariant c.in_default.not-Some).0
 
 pub returns-clause-visits : goal.returns-clause-visits
-returns-clause-visits c = within-all c.args.window.now.bytes tag_rates _ _ (walk-end c.args.window.now _ c.tiles.tile c.tiles.invariant c.in_default.not-Some).1
+returns-clause-visits c = within-all c.args.window.now.bytes tag_rates _ _
+    (walk-end c.args.window.now _ c.tiles.tile c.tiles.invariant c.in_default.not-Some).1

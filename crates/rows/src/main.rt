@@ -7,7 +7,7 @@ mod names;
 mod runs;
 mod segments;
 
-use rows_trials::{Desk, Trouble, items_of, lines_of};
+use rows_trials::{Desk, Trouble, lines_of};
 use runs::{Tally, make_runs};
 use segments::Segments;
 use std::process::ExitCode;
@@ -33,15 +33,14 @@ fn run_file<R: Print + AllocGlobal>(rt: &R, name: &str, text: &str) -> io::Resul
     let lines = lines_of(alloc, text)?;
     let mut desk = Desk::new(alloc, Segments { alloc });
     let mut is_sound = true;
-    for item in &items_of(alloc, &lines)? {
-        if let Err(Trouble { line, what }) = desk.check(item) {
+    for item in lines.chunk_by(|_, line| !line.begins_item()) {
+        if let Some(Trouble { line, what }) = desk.check(item) {
             println!(rt; "{name}: line {line}: {what}")?;
             is_sound = false;
         }
     }
-    let rows = desk.rows();
-    let lines = desk.lines();
-    let cuts = desk.cuts();
+    let bench = &desk.bench;
+    let (rows, lines, cuts) = (bench.rows.get(), bench.lines.get(), bench.cuts.get());
     println!(rt; "{name}: {rows} rows, {lines} lines, {cuts} cuts")?;
     Ok(is_sound)
 }

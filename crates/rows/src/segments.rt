@@ -1,12 +1,12 @@
 //! The library, as rows run it.
 ghost use Rattle.std.specs.Prelude.{◌≡◌, ◌%◌};
 
-use crate::among::{begun, marked, moved};
-use crate::names::{fault_name, mode_of, start_of};
+use crate::among::runs_among;
+use crate::names::fault_name;
 use memory_devices::{MemorySink, MemorySource};
 use raw_region::RawRegion;
-use rows_trials::{Call, Moved, Outcome, Place, Runner, Script, Way};
-use segment_cli::{SessionFault, Start, migrate, session};
+use rows_trials::{Call, Case, Outcome, Place, Runner};
+use segment_cli::{Start, migrate, session};
 use segment_manager::Mode;
 use std::alloc::{AllocError, Global};
 
@@ -17,34 +17,19 @@ pub struct Segments {
 }
 
 impl Runner for Segments {
-    fn run(&self, way: &Way, image: &[u8], script: &[u8]) -> Result<Outcome, AllocError> {
-        match way.call {
-            Call::Session(start, mode) => {
-                run_session(
-                    self.alloc,
-                    way,
-                    image,
-                    script,
-                    start_of(start),
-                    mode_of(mode),
-                )
-            }
-            Call::Migrate => run_migration(self.alloc, way, image),
+    fn run(&self, case: &Case<'_>) -> Outcome {
+        match outcome(self.alloc, case) {
+            Ok(outcome) => outcome,
+            Err(_) => Outcome {
+                fault: "out of memory",
+                answers: Vec::new(self.alloc),
+                saved: Vec::new(self.alloc),
+            },
         }
     }
 
-    fn run_among(
-        &self,
-        start: rows_trials::Start,
-        image: &[u8],
-        script: &Script,
-        place: Place,
-    ) -> Result<Option<Moved>, AllocError> {
-        let region = marked(self.alloc, place)?;
-        match begun(self.alloc, start_of(start), image, region, place) {
-            Some(segment) => moved(self.alloc, segment, script, place),
-            None => Ok(None),
-        }
+    fn runs_among(&self, case: &Case<'_>) -> bool {
+        runs_among(self.alloc, case).unwrap_or(false)
     }
 }
 
@@ -60,46 +45,6 @@ pub fn region_of(alloc: Global, place: Place) -> Result<RawRegion, AllocError> {
     }
 }
 
-/// A session.
-fn run_session(
-    alloc: Global,
-    way: &Way,
-    image: &[u8],
-    script: &[u8],
-    start: Start,
-    mode: Mode,
-) -> Result<Outcome, AllocError> {
-    let piece = way.piece;
-    let region = region_of(alloc, way.place)?;
-    let mut image = MemorySource::new(image, piece, way.image_last);
-    let mut script = MemorySource::new(script, piece, way.script_last);
-    let mut answers = MemorySink::new(alloc, way.answer_room, piece, way.writers_last)?;
-    let mut saved = MemorySink::new(alloc, way.image_room, piece, way.writers_last)?;
-    let result = session(
-        alloc,
-        start,
-        mode,
-        &mut image,
-        &mut script,
-        &mut answers,
-        &mut saved,
-        region,
-        base_of(way.place),
-    );
-    Ok(outcome(result, answers, saved))
-}
-
-/// A migration.
-fn run_migration(alloc: Global, way: &Way, image: &[u8]) -> Result<Outcome, AllocError> {
-    let piece = way.piece;
-    let region = region_of(alloc, way.place)?;
-    let mut image = MemorySource::new(image, piece, way.image_last);
-    let answers = MemorySink::new(alloc, 0, piece, way.writers_last)?;
-    let mut saved = MemorySink::new(alloc, way.image_room, piece, way.writers_last)?;
-    let result = migrate(alloc, &mut image, &mut saved, region, base_of(way.place));
-    Ok(outcome(result, answers, saved))
-}
-
 /// The base of a place, which is a multiple of 16.
 pub fn base_of(place: Place) -> u64
     ensures { result % 16 ≡ 0 }
@@ -107,15 +52,64 @@ pub fn base_of(place: Place) -> u64
     place.base / 16 * 16
 }
 
-/// What comes of a call.
-fn outcome(came: Result<(), SessionFault>, answers: MemorySink, saved: MemorySink) -> Outcome {
-    let fault = match came {
-        Ok(()) => "",
-        Err(fault) => fault_name(fault),
+/// Makes a call, and gives what comes of it.
+fn outcome(alloc: Global, case: &Case<'_>) -> Result<Outcome, AllocError> {
+    let piece = case.piece;
+    let mut answers = MemorySink::new(alloc, case.answer_room, piece, case.writers_last)?;
+    let mut saved = MemorySink::new(alloc, case.image_room, piece, case.writers_last)?;
+    Ok(Outcome {
+        fault: fault(alloc, case, &mut answers, &mut saved)?,
+        answers: answers.taken().to_vec(alloc)?,
+        saved: saved.taken().to_vec(alloc)?,
+    })
+}
+
+/// Makes a call, and gives the name of its fault.
+fn fault(
+    alloc: Global,
+    case: &Case<'_>,
+    answers: &mut MemorySink,
+    saved: &mut MemorySink,
+) -> Result<&'static str, AllocError> {
+    let piece = case.piece;
+    let region = region_of(alloc, case.place)?;
+    let base = base_of(case.place);
+    let mut image = MemorySource::new(case.image, piece, case.image_last);
+    let mut script = MemorySource::new(case.script, piece, case.script_last);
+    let result = match mode_of(case.call) {
+        Some(mode) => session(
+            alloc,
+            start_of(case),
+            mode,
+            &mut image,
+            &mut script,
+            answers,
+            saved,
+            region,
+            base,
+        ),
+        None => migrate(alloc, &mut image, saved, region, base),
     };
-    Outcome {
-        fault,
-        answers,
-        saved,
+    match result {
+        Ok(()) => Ok(""),
+        Err(fault) => Ok(fault_name(fault)),
+    }
+}
+
+/// What a session begins with.
+fn start_of(case: &Case<'_>) -> Start {
+    match case.fresh {
+        Some(size) => Start::Fresh(size),
+        None => Start::Image,
+    }
+}
+
+/// The mode of a session, or nothing for a migration.
+fn mode_of(call: Call) -> Option<Mode> {
+    match call {
+        Call::Write => Some(Mode::Write),
+        Call::ReadOnly => Some(Mode::ReadOnly),
+        Call::CopyOnWrite => Some(Mode::CopyOnWrite),
+        Call::Migrate => None,
     }
 }

@@ -1,133 +1,91 @@
 //! What runs calls.
 
-use crate::checks::Wanted;
-use crate::scripts::Script;
-use crate::tasks::{Outcome, Place, Start, Way};
-use crate::troubles::Trouble;
-use memory_devices::MemorySink;
-use raw_region::RawRegion;
-use std::alloc::{AllocError, Global};
+use crate::cases::{Case, Outcome};
+use crate::notes::Notes;
 use std::cell::Cell;
 
-/// A segment that ran a script among other bytes, and was moved out of there.
-#[derive(Drop)]
-pub struct Moved {
-    pub answers: MemorySink,
-    /// Its bytes.
-    pub image: Vec<u8>,
-    /// The region in which it was.
-    pub left: RawRegion,
-}
+/// How many bytes readers and writers give and take at once.
+pub const PIECES: [usize; 3] = [1, 7, 4096];
 
 /// What runs sessions and migrations.
 pub trait Runner: Drop {
-    /// Makes a call on an image and a script, and gives what comes of it.
-    fn run(&self, way: &Way, image: &[u8], script: &[u8]) -> Result<Outcome, AllocError>;
+    /// Makes a call, and gives what comes of it.
+    fn run(&self, case: &Case<'_>) -> Outcome;
 
-    /// Begins a segment in mode `Write` in a region whose other bytes are `MARK`, from an image if it does not begin fresh; runs a
-    /// script on it, and moves it into another region. Nothing comes of it where one of these fails.
-    fn run_among(
-        &self,
-        start: Start,
-        image: &[u8],
-        script: &Script,
-        place: Place,
-    ) -> Result<Option<Moved>, AllocError>;
+    /// Makes the session of a call in a segment among other bytes, and moves the segment into another region: whether it prints and
+    /// leaves what is wanted, and the other bytes as they were.
+    fn runs_among(&self, case: &Case<'_>) -> bool;
 }
 
 /// What runs rows; how many there were so far, how many lines of scripts were in them, and how often a device failed; and what went
 /// wrong first.
-///
-/// Trials that give nothing note what goes wrong, and the next ones are made all the same: so they need not look at one another.
 #[derive(Drop)]
 pub struct Bench<R> {
-    pub alloc: Global,
+    pub notes: Notes,
     pub runner: R,
     pub rows: Cell<u64>,
     pub lines: Cell<u64>,
     pub cuts: Cell<u64>,
-    noted: Cell<Option<Trouble>>,
+}
+
+/// Counts so many more.
+pub fn count(counted: &Cell<u64>, more: usize) {
+    counted.set(counted.get().saturating_add(more as u64));
 }
 
 impl<R: Runner> Bench<R> {
-    /// Nothing was run so far.
-    pub fn new(alloc: Global, runner: R) -> Bench<R> {
-        Bench {
-            alloc,
-            runner,
-            rows: Cell::new(0),
-            lines: Cell::new(0),
-            cuts: Cell::new(0),
-            noted: Cell::new(None),
+    /// Makes a call, and gives what comes of it. It is noted where this is not what is wanted.
+    pub fn outcome(&self, case: &Case<'_>) -> Outcome {
+        let done = self.runner.run(case);
+        let notes = &self.notes;
+        notes.holds(
+            done.fault == case.fault,
+            case.line,
+            "another fault, or none",
+        );
+        let wanted = case.answers.unwrap_or(&done.answers);
+        if done.answers.as_slice() != wanted {
+            notes.holds(
+                false,
+                case.differs_at(wanted, &done.answers),
+                "another answer",
+            );
+        }
+        let wanted = case.saved.unwrap_or(&done.saved);
+        notes.holds(
+            done.saved.as_slice() == wanted,
+            case.line,
+            "another image is saved",
+        );
+        done
+    }
+
+    /// Makes a call.
+    pub fn check(&self, case: &Case<'_>) {
+        self.outcome(case);
+    }
+
+    /// Makes a call in all places.
+    pub fn check_in_places(&self, case: &Case<'_>) {
+        let mut case = *case;
+        for place in case.places {
+            case.place = *place;
+            self.check(&case);
         }
     }
 
-    /// Counts a row.
-    pub fn count_row(&self) {
-        self.rows.set(self.rows.get().saturating_add(1));
-    }
-
-    /// Counts lines of a script.
-    pub fn count_lines(&self, lines: usize) {
-        self.lines
-            .set(self.lines.get().saturating_add(lines as u64));
-    }
-
-    /// Notes what goes wrong, if nothing went wrong before.
-    pub fn note(&self, tried: Result<(), Trouble>) {
-        if let Err(trouble) = tried
-            && self.noted.get().is_none()
-        {
-            self.noted.set(Some(trouble));
+    /// Makes a call in all places, and by all pieces.
+    pub fn check_by_pieces(&self, case: &Case<'_>) {
+        let mut case = *case;
+        for piece in PIECES {
+            case.piece = piece;
+            self.check_in_places(&case);
         }
-    }
-
-    /// What was noted since it was asked last.
-    pub fn noted(&self) -> Result<(), Trouble> {
-        match self.noted.replace(None) {
-            Some(trouble) => Err(trouble),
-            None => Ok(()),
-        }
-    }
-
-    /// Makes a call, and notes it where another thing comes of it than is wanted.
-    pub fn check(&self, wanted: &Wanted<'_>, way: &Way, image: &[u8], script: &[u8]) {
-        match self.runner.run(way, image, script) {
-            Ok(done) => self.note(wanted.compare(&done)),
-            Err(error) => self.note(Err(Trouble::from(error))),
-        }
-    }
-
-    /// Makes a call, and gives what comes of it, if that is what is wanted.
-    pub fn outcome(
-        &self,
-        wanted: &Wanted<'_>,
-        way: &Way,
-        image: &[u8],
-        script: &[u8],
-    ) -> Result<Outcome, Trouble> {
-        let done = self.runner.run(way, image, script)?;
-        match wanted.compare(&done) {
-            Ok(()) => Ok(done),
-            Err(trouble) => Err(trouble),
-        }
-    }
-
-    /// Makes a call, and gives the image that it saves, if what comes of it is what is wanted.
-    pub fn saved(
-        &self,
-        wanted: &Wanted<'_>,
-        way: &Way,
-        image: &[u8],
-        script: &[u8],
-    ) -> Result<Vec<u8>, Trouble> {
-        let done = self.outcome(wanted, way, image, script)?;
-        done.saved_image(self.alloc)
     }
 
     /// Makes a call with a device that fails, and counts it.
-    pub fn cut(&self, wanted: &Wanted<'_>, way: &Way, image: &[u8], script: &[u8]) {
-        self.cuts.set(self.cuts.get().saturating_add(1));
-        self.check(wanted, way, image, script);
+    pub fn cut(&self, case: &Case<'_>) {
+        count(&self.cuts, 1);
+        self.check(case);
     }
 }

@@ -6,31 +6,26 @@
 //! 1. Only of an image that no row names does the first run say what the others must save. A row, a line of a script
 //! or a failing device that was left out would show as well: they are counted for each file, and `crates/rows/stdout`
 //! holds the counts.
+//!
+//! What goes wrong is noted, and the next steps are made all the same, from nothing where there is nothing: so only the
+//! first note of an item is told.
 #![tactic(auto)]
 
 mod benches;
-mod checks;
+mod cases;
 mod cuts;
-mod damages;
 mod desks;
 mod images;
 mod lines;
-mod part_lines;
+mod notes;
 mod parts;
-mod placing;
 mod read_only;
-mod requesting;
+mod requests;
 mod scripts;
-mod spelling;
-mod tasks;
 mod trials;
-mod troubles;
 
-pub use benches::{Moved, Runner};
+pub use benches::Runner;
+pub use cases::{Call, Case, Outcome, Place};
 pub use desks::Desk;
-pub use images::copy_of;
-pub use lines::{Line, items_of, lines_of};
-pub use placing::MARK;
-pub use scripts::Script;
-pub use tasks::{Call, Mode, Outcome, Place, Start, Way};
-pub use troubles::Trouble;
+pub use lines::{Line, lines_of};
+pub use notes::Trouble;

@@ -1,23 +1,18 @@
 //! Scripts of lines, and what they print.
 
 use crate::lines::Line;
-use crate::troubles::Trouble;
-use std::alloc::{AllocError, Global};
+use crate::notes::Notes;
+use std::alloc::Global;
 
-/// Where a line ends, in the script and in the answers.
+/// Where a line and its answer begin and end, in the script and in the answers.
 #[derive(Clone, Copy)]
 pub struct Mark {
     /// The line of the file.
     pub number: usize,
+    pub script_begin: usize,
     pub script_end: usize,
+    pub answers_begin: usize,
     pub answers_end: usize,
-}
-
-/// A line of a script without its end, or a script; and what it prints.
-#[derive(Clone, Copy)]
-pub struct Said<'a> {
-    pub text: &'a [u8],
-    pub answers: &'a [u8],
 }
 
 /// A script, and what it prints.
@@ -38,139 +33,75 @@ impl Script {
         }
     }
 
-    /// A text without marks, and what it prints.
-    pub fn bare(alloc: Global, text: &[u8], answers: &[u8]) -> Result<Script, AllocError> {
-        let mut script = Script::new(alloc);
-        script.add_bare(text, answers)?;
-        Ok(script)
+    /// Adds a command and the lines that it prints, so that they stand there so often.
+    pub fn add(&mut self, notes: &Notes, command: &Line<'_>, answers: &[Line<'_>], times: u64) {
+        let mut text = Vec::new(notes.alloc);
+        let mut answer = Vec::new(notes.alloc);
+        notes.spell(command, &mut text);
+        for line in answers {
+            notes.is_placed(line.word == "<", line);
+            notes.spell(line, &mut answer);
+        }
+        for _ in 0..times {
+            self.add_line(notes, command.number, &text, &answer);
+        }
     }
 
-    /// Adds a text without marks, and what it prints.
-    pub fn add_bare(&mut self, text: &[u8], answers: &[u8]) -> Result<(), AllocError> {
-        self.text.extend_from_slice(text)?;
-        self.answers.extend_from_slice(answers)
-    }
-
-    /// Adds a command, which prints nothing yet.
-    pub fn add(&mut self, line: &Line<'_>) -> Result<(), Trouble> {
-        line.put_spelled(&mut self.text)?;
-        self.mark(line.number)?;
-        Ok(())
-    }
-
-    fn mark(&mut self, number: usize) -> Result<(), AllocError> {
-        self.marks.push(Mark {
+    /// Adds a line of a script, and what it prints.
+    pub fn add_line(&mut self, notes: &Notes, number: usize, text: &[u8], answer: &[u8]) {
+        let script_begin = self.text.len();
+        let answers_begin = self.answers.len();
+        notes.put(&mut self.text, text);
+        notes.put(&mut self.answers, answer);
+        let mark = Mark {
             number,
+            script_begin,
             script_end: self.text.len(),
+            answers_begin,
             answers_end: self.answers.len(),
-        })?;
-        Ok(())
-    }
-
-    /// Adds a line that the last command prints.
-    pub fn add_answer(&mut self, line: &Line<'_>) -> Result<(), Trouble> {
-        line.put_spelled(&mut self.answers)?;
-        match self.marks.last_mut() {
-            Some(mark) => {
-                mark.answers_end = self.answers.len();
-                Ok(())
-            }
-            None => Err(line.misplaced()),
-        }
-    }
-
-    /// Repeats the last line and its answers, so that it stands there so often.
-    pub fn repeat(&mut self, alloc: Global, times: usize) -> Result<(), AllocError> {
-        let last = self.marks.len().saturating_sub(1);
-        let (begin, Some(end)) = (self.begin_of(last), self.marks.get(last)) else {
-            return Ok(());
         };
-        let number = end.number;
-        let line = Script::bare(
-            alloc,
-            self.text.get(begin.script_end..).unwrap_or(&[]),
-            self.answers.get(begin.answers_end..).unwrap_or(&[]),
-        )?;
-        self.add_again(number, &line, times)
+        notes.has_memory(self.marks.push(mark).is_ok());
     }
 
-    /// Adds a line and its answers, so that it stands there so often.
-    fn add_again(&mut self, number: usize, line: &Script, times: usize) -> Result<(), AllocError> {
-        for _ in 1..times {
-            self.add_marked(number, line)?;
-        }
-        Ok(())
+    /// A line without its end.
+    pub fn text_of(&self, mark: &Mark) -> &[u8] {
+        let text = mark.script_begin..mark.script_end.saturating_sub(1);
+        self.text.get(text).unwrap_or(&[])
     }
 
-    /// Adds a line and its answers.
-    fn add_marked(&mut self, number: usize, line: &Script) -> Result<(), AllocError> {
-        self.add_bare(&line.text, &line.answers)?;
-        self.mark(number)
-    }
-
-    /// Where the line with so many before it begins.
-    fn begin_of(&self, index: usize) -> Mark {
-        match self.marks.get(index.wrapping_sub(1)) {
-            Some(mark) => *mark,
-            None => Mark {
-                number: 0,
-                script_end: 0,
-                answers_end: 0,
-            },
-        }
-    }
-
-    /// The line with so many before it, without its end, and what it prints.
-    pub fn said(&self, index: usize) -> Said<'_> {
-        let begin = self.begin_of(index);
-        let end = self.begin_of(index.saturating_add(1));
-        let text = begin.script_end..end.script_end.saturating_sub(1);
-        let answers = begin.answers_end..end.answers_end;
-        Said {
-            text: self.text.get(text).unwrap_or(&[]),
-            answers: self.answers.get(answers).unwrap_or(&[]),
-        }
-    }
-
-    /// The script without the last end of a line.
-    pub fn without_end(&self) -> &[u8] {
-        let len = self.text.len().saturating_sub(1);
-        self.text.get(..len).unwrap_or(&[])
-    }
-
-    /// Whether a line ends with a CR.
-    pub fn has_return(&self) -> bool {
-        has_piece(&self.text, b"\r\n")
-    }
-
-    /// The script with a CR more at the end of each line.
-    pub fn with_returns(&self, alloc: Global) -> Result<Vec<u8>, AllocError> {
-        let mut text = Vec::new(alloc);
-        for byte in &self.text {
-            put_with_return(*byte, &mut text)?;
-        }
-        Ok(text)
+    /// What a line prints.
+    pub fn answer_of(&self, mark: &Mark) -> &[u8] {
+        let answer = mark.answers_begin..mark.answers_end;
+        self.answers.get(answer).unwrap_or(&[])
     }
 
     /// What the lines print that end within the first bytes of the script.
     pub fn answers_within(&self, bytes: usize) -> &[u8] {
         let mut end = 0;
         for mark in &self.marks {
-            if bytes < mark.script_end {
-                break;
+            if mark.script_end <= bytes {
+                end = mark.answers_end;
             }
-            end = mark.answers_end;
         }
-        self.answers.get(..end).unwrap_or(&[])
+        front_of(&self.answers, end)
+    }
+
+    /// The script with a CR more at the end of each line.
+    pub fn with_returns(&self, notes: &Notes) -> Vec<u8> {
+        let mut text = Vec::new(notes.alloc);
+        for byte in &self.text {
+            if *byte == b'\n' {
+                notes.put(&mut text, b"\r");
+            }
+            notes.put(&mut text, &[*byte]);
+        }
+        text
     }
 }
 
-/// Puts a byte, and a CR before it where it is an LF.
-fn put_with_return(byte: u8, text: &mut Vec<u8>) -> Result<(), AllocError> {
-    if byte == b'\n' {
-        return text.extend_from_slice(b"\r\n");
-    }
-    text.extend_from_slice(&[byte])
+/// The first bytes, so many, or all.
+pub fn front_of(bytes: &[u8], len: usize) -> &[u8] {
+    bytes.get(..len).unwrap_or(bytes)
 }
 
 /// Whether some bytes stand one behind another among others.

@@ -1,0 +1,156 @@
+//! Calls over devices in memory, and what must come of them.
+
+use crate::scripts::{Mark, Script};
+use memory_devices::Last;
+
+/// Where a segment lies: the capacity of its region, and its base. It may be too small for it.
+#[derive(Clone, Copy)]
+pub struct Place {
+    pub capacity: u64,
+    pub base: u64,
+}
+
+impl Place {
+    /// The least region of so many bytes, but of no more than 16777216.
+    pub fn new(bytes: u64, base: u64) -> Place {
+        let capacity = bytes.clamp(16, 1 << 24).next_multiple_of(16);
+        Place { capacity, base }
+    }
+
+    /// Places where a segment of so many bytes lies usually: in a region that it fills, and among other bytes.
+    pub fn usual(size: u64) -> [Place; 2] {
+        [
+            Place::new(size, 0),
+            Place::new(size.saturating_add(4096), 160),
+        ]
+    }
+}
+
+/// What is done to a segment: a session in a mode, or a migration.
+#[derive(Clone, Copy)]
+pub enum Call {
+    Write,
+    ReadOnly,
+    CopyOnWrite,
+    Migrate,
+}
+
+/// A call: on what, where, and by which devices; and what must come of it.
+#[derive(Clone, Copy)]
+pub struct Case<'a> {
+    /// The line of the file where this is said.
+    pub line: usize,
+    pub call: Call,
+    /// The bytes of the empty segment with which a session begins, or nothing where this is the image.
+    pub fresh: Option<u64>,
+    pub image: &'a [u8],
+    pub script: &'a [u8],
+    /// All places where it is to lie, and the one where it lies now.
+    pub places: &'a [Place],
+    pub place: Place,
+    /// How many bytes readers and writers give and take at once.
+    pub piece: usize,
+    /// What comes behind the last byte.
+    pub image_last: Last,
+    pub script_last: Last,
+    /// How many bytes writers have room for, and what comes where they are full.
+    pub answer_room: usize,
+    pub image_room: usize,
+    pub writers_last: Last,
+    /// Where the answer to each line ends.
+    pub marks: &'a [Mark],
+    /// The name of the fault, or nothing.
+    pub fault: &'a str,
+    /// What is printed, where that is known.
+    pub answers: Option<&'a [u8]>,
+    /// What is saved, where that is known.
+    pub saved: Option<&'a [u8]>,
+}
+
+impl<'a> Case<'a> {
+    /// A session in mode `Write` that prints and saves nothing, by devices that do not fail, with room for what it begins with.
+    pub fn new(line: usize, fresh: Option<u64>, image: &'a [u8], places: &'a [Place]) -> Case<'a> {
+        let size = fresh.unwrap_or(image.len() as u64);
+        Case {
+            line,
+            call: Call::Write,
+            fresh,
+            image,
+            script: &[],
+            places,
+            place: *places.first().unwrap_or(&Place::new(size, 0)),
+            piece: 4096,
+            image_last: Last::Ends,
+            script_last: Last::Ends,
+            answer_room: 16,
+            image_room: size.saturating_add(16) as usize,
+            writers_last: Last::Fails,
+            marks: &[],
+            fault: "",
+            answers: Some(&[]),
+            saved: Some(&[]),
+        }
+    }
+
+    /// The same with another script, which prints this.
+    pub fn with_text(&self, script: &'a [u8], answers: &'a [u8]) -> Case<'a> {
+        let mut case = *self;
+        case.script = script;
+        case.answers = Some(answers);
+        case.answer_room = answers.len().saturating_add(16);
+        case
+    }
+
+    /// The same with another script.
+    pub fn with_script(&self, script: &'a Script) -> Case<'a> {
+        let mut case = self.with_text(&script.text, &script.answers);
+        case.marks = &script.marks;
+        case
+    }
+
+    /// The same, where this is saved.
+    pub fn saving(&self, saved: &'a [u8]) -> Case<'a> {
+        let mut case = *self;
+        case.saved = Some(saved);
+        case.image_room = saved.len().saturating_add(16);
+        case
+    }
+
+    /// The same session with an image.
+    pub fn on(&self, image: &'a [u8]) -> Case<'a> {
+        let mut case = *self;
+        case.fresh = None;
+        case.image = image;
+        case
+    }
+
+    /// The same, where this is the fault.
+    pub fn failing(&self, fault: &'a str) -> Case<'a> {
+        let mut case = *self;
+        case.fault = fault;
+        case
+    }
+
+    /// The line of the file whose answer differs first, where another answer comes.
+    pub fn differs_at(&self, wanted: &[u8], got: &[u8]) -> usize {
+        let mut pairs = wanted.iter().zip(got);
+        let differs = pairs.position(|(x, y)| x != y);
+        let at = differs.unwrap_or(wanted.len().min(got.len()));
+        let mut line = self.line;
+        for mark in self.marks {
+            if mark.answers_begin <= at {
+                line = mark.number;
+            }
+        }
+        line
+    }
+}
+
+/// What a call answered, printed and saved. Its fault has the name that row files have for it: that of a class of images, or
+/// `fault` and a name, or nothing where all is well.
+#[derive(Drop)]
+pub struct Outcome {
+    pub fault: &'static str,
+    pub answers: Vec<u8>,
+    pub saved: Vec<u8>,
+}

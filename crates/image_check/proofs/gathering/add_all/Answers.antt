@@ -28,8 +28,8 @@ add-requires-clause-small c =
 pub add-requires-clause-short : goal.add-requires-clause-short
 add-requires-clause-short c =
     let w = c.args.window.now in
-    let kept = Gathering c.args.visits.now c.tiles.visits c.args.blocks.now.room c.tiles.blocks.room c.tiles.blocks.entries in
-    let in_it = at-within w kept c.read-here.result (walk-at w kept c.tiles.tile c.read-here.result c.tiles.invariant (walk-read c.tiles.tile c.in-Some.unread c.read-here.result c.in-Some.is c.read-here.ensures.tile)) in
+    let in_it = at-within w _ c.read-here.result (read-at w _ c.tiles.tile c.in-Some.unread c.read-here.result
+    c.tiles.invariant c.in-Some.is c.read-here.ensures.tile) in
     let small = legal-small (length w.bytes) c.requires.tiles.size in
     omega arith
 

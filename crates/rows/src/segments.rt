@@ -1,5 +1,5 @@
 //! The library, as rows run it.
-ghost use Rattle.std.specs.Prelude.{◌≡◌, ◌%◌};
+ghost use Rattle.std.specs.Prelude.{◌≡◌, ◌<◌, ◌-◌, ◌^◌, ◌%◌};
 
 use crate::among::runs_among;
 use crate::names::fault_name;
@@ -70,7 +70,10 @@ fn fault(
     case: &Case<'_>,
     answers: &mut MemorySink,
     saved: &mut MemorySink,
-) -> Result<&'static str, AllocError> {
+) -> Result<&'static str, AllocError>
+    requires answers { answers.old.failures < 2 ^ 64 - 1 }
+    requires saved { saved.old.failures < 2 ^ 64 - 1 }
+{
     let piece = case.piece;
     let region = region_of(alloc, case.place)?;
     let base = base_of(case.place);

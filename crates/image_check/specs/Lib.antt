@@ -24,3 +24,4 @@ pub mod Sharing
 pub mod OlderFormats
 pub mod OpeningAny
 pub mod OpeningBytes
+pub mod Saving

@@ -1,5 +1,5 @@
 -- What opening an image may answer, from what its reader gave, where images of one format are read.
-use Rattle.std.specs.Prelude.{◌≡◌, ◌⊎◌, ◌<◌, ◌≤◌, ℕ, ◌+◌, ◌*◌, ◌/◌, true, false, ◌&&◌, List, length, take, drop, IsTrue, nat_lt, Bool, Some, Result, Ok, Err, MatchResult, if◌then◌else◌}
+use Rattle.std.specs.Prelude.{◌≡◌, ◌⊎◌, ◌<◌, ◌≤◌, ℕ, ◌+◌, ◌*◌, ◌/◌, true, false, ◌&&◌, List, [], length, take, drop, IsTrue, nat_lt, Bool, Some, Result, Ok, Err, MatchResult, if◌then◌else◌}
 use Rattle.std.specs.List.{list_any}
 use Rattle.raw_region.specs.Memory.{SamePlace, cut_at}
 use Rattle.block_tags.specs.Format.{is_legal_size}
@@ -27,6 +27,11 @@ abbrev pub has_early_class : ℕ → List ℕ → Bool
 has_early_class format b = list_any (λ c. nat_lt (number_of c) 8 && holds format b c) classes
 
 -- ---- of what the reader gave
+
+-- it was not asked
+pub record IsUntouched (image : Given) : Type 0 where
+  pub bytes : image.bytes ≡ []
+  pub failed : image.failed ≡ false
 
 -- the last read answered the end, and none failed
 pub record IsReadToEnd (image : Given) : Type 0 where

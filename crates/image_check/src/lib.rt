@@ -1,5 +1,5 @@
-//! Reading images that nobody vouches for: exactly those that denote a directory are accepted, and the others are refused
-//! by a named class.
+//! Images in and out. An image that nobody vouches for is read: exactly those that denote a directory are accepted, and the
+//! others are refused by a named class. The image of a segment is written, and accepted again.
 #![tactic(auto)]
 
 mod arrays;
@@ -30,6 +30,7 @@ mod reading;
 mod renewing;
 mod room;
 mod rows;
+mod saving;
 mod sharing;
 mod spellings;
 mod versions;
@@ -41,3 +42,4 @@ pub use header::{FRONT, size_in, size_in_any};
 pub use opening::open;
 pub use opening_any::open_any;
 pub use opening_bytes::open_bytes;
+pub use saving::save;

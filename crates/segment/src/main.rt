@@ -9,11 +9,11 @@ use segment_cli::{
     Answering, Invocation, InvocationFault, ModeName, ProgramFault, Saving, SessionFault, VERSION,
     invocation, report, report_file,
 };
-use segment_disk::{HostDisk, Numbered, Outlet, Output, StopsAtError};
-use segment_file::{
+use segment_commands::{
     check, create, draw, dump, dump_capacities, explain, grow, lint, load, migrate, print,
     print_language, run, run_strict, shrink, stat,
 };
+use segment_disk::{HostDisk, Numbered, Outlet, Output, StopsAtError};
 use segment_scripts::{CommandRow, LANGUAGE};
 use std::alloc::{AllocError, Global};
 use std::io::{self, BufWriter, ErrorKind};

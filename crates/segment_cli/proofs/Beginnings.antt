@@ -14,7 +14,7 @@ use Rattle.image_check.specs.declared.errors.OpenError.TheVariants.{Image as NoI
 use Rattle.image_check.specs.Opening.{IsOpened, IsWhyNot, IsTooSmallFor}
 use Rattle.segment_cli.specs.declared.faults.Start.TheVariants.{Fresh, Image}
 use Rattle.segment_cli.specs.declared.faults.SessionFault.{SessionFault}
-use Rattle.segment_cli.specs.Session.{IsUntouched}
+use Rattle.image_check.specs.Opening.{IsUntouched}
 use Rattle.segment_cli.specs.Beginning.{Starts, IsWhyNotBegun, created_fault, opened_fault}
 use Rattle.segment_cli.proofs.Gaps.{created_zeros, zeros_read}
 

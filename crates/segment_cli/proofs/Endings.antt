@@ -9,7 +9,7 @@ use Rattle.segment_manager.specs.declared.modes.Mode.{Mode}
 use Rattle.segment_manager.specs.declared.modes.Mode.TheVariants.{Write}
 use Rattle.segment_manager.specs.Directory.{Directory}
 use Rattle.segment_manager.specs.State.{State, StandsFor}
-use Rattle.image_check.specs.Opening.{IsOutOfMemory, IsRefusedAs}
+use Rattle.image_check.specs.Opening.{IsOutOfMemory, IsRefusedAs, IsUntouched}
 use Rattle.segment_lang.specs.Language.{whole}
 use Rattle.segment_cli.specs.declared.faults.Start.{Start}
 use Rattle.segment_cli.specs.declared.faults.Start.TheVariants.{Image}
@@ -18,7 +18,7 @@ use Rattle.segment_scripts.specs.declared.faults.RunFault.TheVariants.{ReadFault
 use Rattle.segment_cli.specs.declared.faults.SessionFault.{SessionFault}
 use Rattle.segment_cli.specs.declared.faults.SessionFault.TheVariants.{Image as Refused, BadSize, RegionTooSmall, OutOfMemory, ReadFault, WriteFault, ScriptTooLong}
 use Rattle.segment_scripts.specs.Run.{run}
-use Rattle.segment_cli.specs.Session.{Traffic, KeepsZeros, Saves, IsUntouched, IsSizeRefused, IsTooSmall, IsDone, IsImageUnwritten, IsRefusedBefore, AnswersFault, IsSession}
+use Rattle.segment_cli.specs.Session.{Traffic, KeepsZeros, Saves, IsSizeRefused, IsTooSmall, IsDone, IsImageUnwritten, IsRefusedBefore, AnswersFault, IsSession}
 use Rattle.segment_cli.specs.Beginning.{Starts, IsBegun, IsWhyNotBegun, run_fault}
 use Rattle.segment_scripts.specs.Leaves.{LeavesFault, RunsWhole}
 use Rattle.segment_scripts.specs.Segments.{Place, IsAt, answer_line}

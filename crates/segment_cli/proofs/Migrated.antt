@@ -12,7 +12,7 @@ use Rattle.segment_cli.specs.declared.faults.SessionFault.{SessionFault}
 use Rattle.segment_cli.specs.declared.faults.SessionFault.TheVariants.{WriteFault}
 use Rattle.segment_cli.specs.Beginning.{opened_fault}
 use Rattle.segment_cli.specs.Migration.{IsMigration, IsMigrationFault, IsNewImage}
-use Rattle.segment_cli.specs.Session.{IsSaved}
+use Rattle.image_check.specs.Saving.{IsSaved}
 use Rattle.segment_cli.proofs.Endings.{IsUnwritten}
 
 -- ---- no segment

@@ -8,8 +8,8 @@ use Rattle.segment_manager.specs.declared.modes.Mode.TheVariants.{Write, ReadOnl
 use Rattle.segment_manager.specs.Directory.{Directory, empty}
 use Rattle.segment_manager.specs.State.{StandsFor}
 use Rattle.segment_manager.specs.Calls.{HasZeroGaps}
-use Rattle.image_check.specs.Classes.{class_of}
-use Rattle.image_check.specs.Opening.{IsOutOfMemory, IsRefusedAs, IsTooSmallFor, IsUndecided}
+use Rattle.image_check.specs.Opening.{IsOutOfMemory, IsRefusedAs, IsTooSmallFor, IsUndecided, IsUntouched}
+use Rattle.image_check.specs.Saving.{IsSaved}
 use Rattle.segment_lang.specs.Language.{whole as whole_language}
 use Rattle.segment_lang.specs.Reading.{reading}
 use Rattle.segment_cli.specs.declared.faults.Start.{Start}
@@ -28,11 +28,6 @@ pub record Traffic : Type 0 where
   pub saved : Taken
 
 -- ---- where a session begins
-
--- the image's reader was not asked
-pub record IsUntouched (image : Given) : Type 0 where
-  pub bytes : image.bytes ≡ []
-  pub failed : image.failed ≡ false
 
 -- where a segment is made fresh, the image's reader is not asked
 abbrev pub IsImageLeft : Start → Given → Type 0
@@ -64,12 +59,7 @@ IsTooSmall Image image base capacity = IsTooSmallFor current image base capacity
 
 -- ---- what a session prints and saves
 
--- an image that denotes the directory, and that is accepted again: no class holds of it
-pub record IsSaved (saved : List ℕ) (d : Directory) : Type 0 where
-  pub denotes : StandsFor saved d
-  pub accepted : class_of current saved ≡ None
-
--- in mode Write such an image, and else nothing
+-- in mode Write an image of the directory that is accepted again, and else nothing
 abbrev pub Saves : Mode → List ℕ → Directory → Type 0
 Saves Write saved d = IsSaved saved d
 Saves ReadOnlyMode saved d = saved ≡ []

@@ -5,14 +5,13 @@ mod faults;
 mod migrations;
 mod program_faults;
 mod reports;
-mod saving;
 mod sessions;
 
 pub use faults::{SessionFault, Start};
+pub use image_check::save;
 pub use migrations::migrate;
 pub use program_faults::ProgramFault;
 pub use reports::{report, report_file};
-pub use saving::save;
 pub use segment_invocation::{
     Answering, Invocation, InvocationFault, ModeName, Saving, Tip, UsageError, VERSION, invocation,
 };

@@ -4,8 +4,7 @@ ghost use Rattle.raw_region.specs.Device.{EndsAtMostOnce, Grows, given_since, ta
 ghost use Rattle.segment_cli.specs.Migration.{IsMigration};
 
 use crate::faults::SessionFault;
-use crate::saving::save;
-use image_check::open_any;
+use image_check::{open_any, save};
 use raw_region::{RawRegion, Sink, Source, Steps};
 use segment_manager::Mode;
 use std::alloc::Global;

@@ -10,8 +10,7 @@ ghost use Rattle.segment_scripts.specs.Lines.{script_limit};
 ghost use Rattle.segment_cli.specs.Session.{IsSession, Saves};
 
 use crate::faults::{SessionFault, Start};
-use crate::saving::save;
-use image_check::open;
+use image_check::{open, save};
 use raw_region::{DeviceFault, RawRegion, Sink, Source, Steps};
 use segment_manager::{Mode, Segment};
 use segment_scripts::run;

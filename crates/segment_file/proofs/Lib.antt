@@ -1,11 +1,3 @@
 mod Written
 mod Standings
-mod Ran
-mod Opened
-mod Commanded
 mod Enlarged
-mod CutFiles
-mod Linted
-mod Loads
-mod Explained
-mod Reported

@@ -6,7 +6,7 @@ use Rattle.raw_region.specs.Answers.{AddsFront}
 use Rattle.raw_region.proofs.Laws.{added}
 use Rattle.segment_manager.specs.Directory.{Directory}
 use Rattle.segment_manager.specs.State.{StandsFor}
-use Rattle.segment_cli.specs.Session.{IsSaved}
+use Rattle.image_check.specs.Saving.{IsSaved}
 use Rattle.segment_disk.specs.declared.presence.Making.{Making}
 use Rattle.segment_disk.specs.declared.presence.Making.TheVariants.{New, Emptied, Beside}
 use Rattle.segment_disk.specs.Events.{Event, Made, Wrote, Discarded, After, nothing_taken}

@@ -1,16 +1,4 @@
 pub mod Files
 pub mod Standing
-pub mod Opening
-pub mod Telling
 pub mod Holding
-pub mod Commands
-pub mod Running
-pub mod Resizing
-pub mod Migrating
-pub mod Modes
-pub mod Strict
-pub mod Linting
 pub mod SegmentFiles
-pub mod Reporting
-pub mod Explaining
-pub mod Loading

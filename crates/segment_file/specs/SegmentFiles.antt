@@ -17,7 +17,7 @@ use Rattle.image_check.specs.Opening.{Opens}
 use Rattle.image_check.specs.OpeningAny.{OpensAny}
 use Rattle.grow_shrink.specs.declared.refusals.GrowError.{GrowError}
 use Rattle.grow_shrink.specs.Resized.{grown, growth_refusal, room_of, shrink_refusal, shrunk}
-use Rattle.segment_cli.specs.Session.{IsUntouched}
+use Rattle.image_check.specs.Opening.{IsUntouched}
 use Rattle.segment_disk.specs.declared.presence.Making.{Making}
 use Rattle.segment_disk.specs.declared.presence.Making.TheVariants.{New, Emptied}
 use Rattle.segment_disk.specs.declared.presence.Presence.{Presence}

@@ -21,7 +21,7 @@ fn capacity_for(bytes: u64) -> u64
 }
 
 /// A region of zeros with room for a segment of so many bytes, or for the largest segment, if these are more.
-pub(crate) fn region_for(alloc: Global, bytes: u64) -> Result<RawRegion, OutOfMemory>
+pub fn region_for(alloc: Global, bytes: u64) -> Result<RawRegion, OutOfMemory>
     ensures { IfOk result (λ region. min bytes 1073741824 ≤ length region) }
 {
     RawRegion::new(alloc, capacity_for(bytes))
@@ -29,7 +29,7 @@ pub(crate) fn region_for(alloc: Global, bytes: u64) -> Result<RawRegion, OutOfMe
 
 /// The room for the segment of a file, with so many bytes more: as many bytes as the file has, or as its first bytes say where
 /// that is not known, and at most those of the largest segment.
-pub(crate) fn room_needed(len: u64, front: &[u8; FRONT], more: u64) -> u64
+pub fn room_needed(len: u64, front: &[u8; FRONT], more: u64) -> u64
     ensures { result ≤ 1073741824 }
 {
     let bytes = if len == 0 {

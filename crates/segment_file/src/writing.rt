@@ -4,8 +4,8 @@ ghost use Rattle.segment_disk.specs.declared.presence.Making.TheVariants.{Beside
 ghost use Rattle.segment_disk.specs.Events.{After, nothing_taken};
 ghost use Rattle.segment_file.specs.Files.{FillsFile, ReplacesImage, WritesImage, placing};
 
+use image_check::save;
 use raw_region::DeviceFault;
-use segment_cli::save;
 use segment_disk::{Disk, Making};
 use segment_manager::Segment;
 
@@ -53,11 +53,7 @@ fn put_in_place<D: Disk>(disk: &mut D, path: &str) -> Result<(), DeviceFault>
 
 /// Writes the image of a segment to a file that is made beside the old one, closes it, and puts it in the place of the old one.
 /// Where that fails, the new file is removed, if it can be.
-pub(crate) fn replace_image<D: Disk>(
-    disk: &mut D,
-    path: &str,
-    segment: &Segment,
-) -> Result<(), DeviceFault>
+fn replace_image<D: Disk>(disk: &mut D, path: &str, segment: &Segment) -> Result<(), DeviceFault>
     ensures { ReplacesImage D.step disk.old disk.new path.now segment.now.cut.bytes result }
 {
     let Ok(writer) = disk.make(path, Making::Beside) else {
@@ -73,7 +69,7 @@ pub(crate) fn replace_image<D: Disk>(
 }
 
 /// Writes the image of a segment to a file that is made, emptied or replaced for it. A check of the image accepts it.
-pub(crate) fn write_image<D: Disk>(
+pub fn write_image<D: Disk>(
     disk: &mut D,
     path: &str,
     how: Making,

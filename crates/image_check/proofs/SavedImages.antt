@@ -1,0 +1,12 @@
+-- What is saved of a segment is accepted again.
+use Rattle.std.proofs.Common.{ℕ, ◌<◌, List, slice_index, arith}
+use Rattle.raw_region.specs.Format.{current}
+use Rattle.segment_manager.specs.Directory.{Directory}
+use Rattle.segment_manager.specs.State.{StandsFor}
+use Rattle.image_check.specs.Saving.{IsSaved}
+use Rattle.image_check.proofs.Facts.{fits-are_bytes, one_directory}
+
+-- bytes that denote a directory are an image that is accepted
+pub accepted_image : (b : List ℕ) → ((k : ℕ) → slice_index b k < 256) → (d : Directory) → StandsFor b d → IsSaved b d
+unfolding current
+accepted_image b fits d s = record { denotes = s; accepted = (one_directory current b (omega arith) (fits-are_bytes b fits)).none d s.denotes }

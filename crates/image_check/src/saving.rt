@@ -1,0 +1,28 @@
+//! The saving of an image.
+ghost use Rattle.std.specs.Prelude.{◌-◌, ◌^◌, ◌<◌};
+ghost use Rattle.raw_region.specs.Device.{Writes};
+ghost use Rattle.segment_manager.specs.Directory.{Directory};
+ghost use Rattle.segment_manager.specs.State.{StandsFor};
+ghost use Rattle.image_check.specs.Saving.{IsSaved};
+
+use raw_region::{DeviceFault, Sink, write_all};
+use segment_manager::Segment;
+
+/// Writes the bytes of an image. Where they denote a directory, a check of the image accepts it.
+fn write_image<W: Sink>(bytes: &[u8], out: &mut W) -> Result<(), DeviceFault>
+    requires { (W.history out.old).failures < 2 ^ 64 - 1 }
+    ensures writes { Writes (W.history out.old) (W.history out.new) result bytes.now }
+    ensures accepted { (d : Directory) → StandsFor bytes.now d → IsSaved bytes.now d }
+{
+    write_all(out, bytes)
+}
+
+/// Writes the image of a segment, which is all bytes that the segment has now. A check of the image accepts it, for the
+/// directory that the segment stands for. A fault leaves a proper prefix of it written.
+pub fn save<W: Sink>(segment: &Segment, out: &mut W) -> Result<(), DeviceFault>
+    requires { (W.history out.old).failures < 2 ^ 64 - 1 }
+    ensures writes { Writes (W.history out.old) (W.history out.new) result segment.now.cut.bytes }
+    ensures accepted { (d : Directory) → StandsFor segment.now.cut.bytes d → IsSaved segment.now.cut.bytes d }
+{
+    write_image(segment.as_bytes(), out)
+}

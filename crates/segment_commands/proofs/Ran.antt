@@ -1,0 +1,132 @@
+-- How a run ends, from what its steps answered.
+use Rattle.std.proofs.Common.{◌≡◌, ◌≢◌, ◌⊎◌, ℕ, Bool, true, false, inl, inr, List, [], ◌∷◌, Ok, Err, refl, sym, subst, ◌∙◌}
+use Rattle.raw_region.specs.Device.{Given, Taken}
+use Rattle.segment_manager.specs.declared.modes.Mode.{Mode}
+use Rattle.segment_manager.specs.declared.modes.Mode.TheVariants.{Write, ReadOnly, CopyOnWrite}
+use Rattle.segment_manager.specs.Directory.{Directory}
+use Rattle.segment_manager.specs.State.{State, StandsFor}
+use Rattle.segment_scripts.specs.Leaves.{RunsWhole, answer_all}
+use Rattle.segment_scripts.specs.Run.{lines}
+use Rattle.segment_scripts.specs.Segments.{Place, IsAt, answer_line}
+use Rattle.segment_cli.specs.declared.faults.Start.{Start}
+use Rattle.segment_cli.specs.declared.faults.SessionFault.{SessionFault}
+use Rattle.segment_cli.specs.declared.faults.SessionFault.TheVariants.{WriteFault}
+use Rattle.segment_cli.specs.Beginning.{Starts}
+use Rattle.image_check.specs.Saving.{IsSaved}
+use Rattle.segment_cli.specs.Session.{Saves}
+use Rattle.segment_cli.proofs.Laws.{stopped_session, done_session, unsaved_session}
+use Rattle.segment_disk.specs.declared.presence.Making.{Making}
+use Rattle.segment_disk.specs.declared.presence.Making.TheVariants.{New, Emptied, Beside}
+use Rattle.segment_disk.specs.Events.{Event, After}
+use Rattle.segment_file.specs.Files.{Written, NotMade, Closed, Offered, IsUnwritten, WritesImage, writes, whole, all_of}
+use Rattle.segment_commands.specs.Running.{Act, IsAnswered, IsStopped, IsLost, IsUnsavedFor, EndsRun, Ran, saving}
+
+-- lines leave the mode as it is
+mode_kept : (at : Place) (ls : List (List ℕ)) → (answer_all answer_line at ls).1.mode ≡ at.mode
+mode_kept at [] = refl
+mode_kept at (l ∷ ls) = mode_kept (answer_line at l).1 ls
+
+saves_nothing : (m : Mode) (d : Directory) → (m ≡ Write → ⊥) → Saves m [] d
+saves_nothing Write d keeps = absurd (keeps refl)
+saves_nothing ReadOnly d keeps = refl
+saves_nothing CopyOnWrite d keeps = refl
+
+asks_nothing : {D : Type 0} (step : D → Event → D → Type 0) (old : D) (m : Mode) (how : Making) (path : List ℕ) → (m ≡ Write → ⊥) → After step old (saving m how path []) old
+asks_nothing step old Write how path keeps = absurd (keeps refl)
+asks_nothing step old ReadOnly how path keeps = refl
+asks_nothing step old CopyOnWrite how path keeps = refl
+
+asks_to_save : {D : Type 0} (step : D → Event → D → Type 0) (old new : D) (m : Mode) (how : Making) (path image : List ℕ) → m ≡ Write
+    → After step old (writes how path (whole how image)) new → After step old (saving m how path image) new
+asks_to_save step old new m how path image e h = subst (λ (w : Mode). After step old (saving w how path image) new) (sym e) h
+
+whole-made : (how : Making) (image : List ℕ) → whole how image ≢ NotMade
+whole-made New image e = cc
+whole-made Emptied image e = cc
+whole-made Beside image e = cc
+
+module _ {D : Type 0} (step : D → Event → D → Type 0) (how : Making) (path : List ℕ) (start : Start) (mode : Mode) (capacity : ℕ) (image : Given) (script : Given) (out : Taken) (Flushed : Bool → Type 0)
+    (s s' : State) (h : Starts start mode 0 capacity image (Ok s)) where
+  abbrev act : Act
+  act = record { start = start; mode = mode; capacity = capacity; image = image; script = script; out = out }
+
+  first : Place
+  first = record { mode = mode; directory = h.answers.from; zeros = false }
+
+  at_first : (at : Place) → at ≡ record { mode = mode; directory = h.answers.from; zeros = false } → IsAt s at
+  at_first at e = subst (IsAt s) (sym e) (record { mode = h.answers.mode; denotes = h.answers.stands; zeros = λ z. absurd (cc) })
+
+  module _ (ok : Bool) (answered : IsAnswered s s' script out Flushed ok) where
+    ran : RunsWhole answer_line (record { mode = mode; directory = h.answers.from; zeros = false }) script out (IsAt s')
+    ran = answered.ran (record { mode = mode; directory = h.answers.from; zeros = false }) (at_first _ refl)
+
+    last_mode : s'.mode ≡ mode
+    last_mode = ran.answers.stands.mode ∙ mode_kept (record { mode = mode; directory = h.answers.from; zeros = false }) (lines script.bytes)
+
+  pub stopped : (old : D) (fault : SessionFault) → IsStopped s s' script out Flushed fault ⊎ IsLost s s' script out Flushed fault → EndsRun step old old how path act Flushed (Err fault)
+  stopped old fault (inl p) = inl (record {
+    asked = refl;
+    ran = rw p.why (stopped_session start mode 0 capacity (record { image = image; script = script; out = out; saved = all_of [] }) s s' p.stop h p.left (record { bytes = refl; failed = refl }));
+    ok = p.ok;
+    flushed = p.flushed;
+  })
+  stopped old fault (inr p) = inr (inl (record {
+    why = p.why;
+    asked = refl;
+    whole = (ran false p.answered).whole;
+    read = (ran false p.answered).read;
+    flushed = p.answered.flushed;
+  }))
+
+  module _ (old : D) (answered : IsAnswered s s' script out Flushed true) where
+    -- a mode that saves nothing
+    pub unsaving : (s'.mode ≡ Write → ⊥) → EndsRun step old old how path act Flushed (Ok tt)
+    unsaving keeps = record {
+      image = [];
+      asked = asks_nothing step old mode how path (λ e. keeps (last_mode true answered ∙ e));
+      ran = done_session start mode 0 capacity (record { image = image; script = script; out = out; saved = all_of [] }) s s' tt h answered.ran
+          (λ d stands. saves_nothing s'.mode d keeps) (λ e. absurd (keeps e)) refl;
+      flushed = answered.flushed;
+    }
+
+    module _ (new : D) (is : s'.mode ≡ Write) where
+      writing : mode ≡ Write
+      writing = sym (last_mode true answered) ∙ is
+
+      done : ((d : Directory) → StandsFor s'.cut.bytes d → IsSaved s'.cut.bytes d) → Ran act (all_of s'.cut.bytes) (Ok tt)
+      done good = done_session start mode 0 capacity (record { image = image; script = script; out = out; saved = all_of s'.cut.bytes }) s s' tt h answered.ran
+          (λ d stands. subst (λ (m : Mode). Saves m s'.cut.bytes d) (sym is) (good d stands)) (λ e. refl) refl
+
+      -- the image is whole in its file
+      pub saved : {E : Type 0} → WritesImage {E = E} step old new how path s'.cut.bytes (Ok tt) → EndsRun step old new how path act Flushed (Ok tt)
+      saved w = record {
+        image = s'.cut.bytes;
+        asked = asks_to_save step old new mode how path s'.cut.bytes writing (subst (λ (x : Written). After step old (writes how path x) new) w.fate w.asked);
+        ran = done (w.accepted (λ n. whole-made how s'.cut.bytes (sym w.fate ∙ n)));
+        flushed = answered.flushed;
+      }
+
+      is_closed : Closed (all_of s'.cut.bytes) false ≢ NotMade
+      is_closed e = cc
+
+      is_offered : Offered s'.cut.bytes false ≢ NotMade
+      is_offered e = cc
+
+      unsaved_by : (written : Written) → IsUnwritten how s'.cut.bytes written → (written ≢ NotMade → (d : Directory) → StandsFor s'.cut.bytes d → IsSaved s'.cut.bytes d)
+          → IsUnsavedFor step old new how path act Flushed written
+      unsaved_by written (inl e) good = subst (IsUnsavedFor step old new how path act Flushed) (sym e) (ran true answered).whole
+      unsaved_by written (inr (inl c)) good = subst (IsUnsavedFor step old new how path act Flushed) (sym c.closed)
+          (inl (unsaved_session start mode 0 capacity (record { image = image; script = script; out = out; saved = c.taken }) s s' h answered.ran is c.is_part.part c.is_part.failed))
+      unsaved_by written (inr (inr (inl e))) good = subst (IsUnsavedFor step old new how path act Flushed) (sym e) (inr (refl, done (good (λ n. is_closed (sym e ∙ n)))))
+      unsaved_by written (inr (inr (inr u))) good = subst (IsUnsavedFor step old new how path act Flushed) (sym u.offered) (u.beside, refl, done (good (λ n. is_offered (sym u.offered ∙ n))))
+
+      -- it is not, or need not last
+      pub unsaved : {E : Type 0} (e : E) → WritesImage {E = E} step old new how path s'.cut.bytes (Err e) → EndsRun step old new how path act Flushed (Err WriteFault)
+      unsaved e w = inr (inr (record {
+        why = refl;
+        mode = writing;
+        flushed = answered.flushed;
+        written = w.written;
+        asked = w.asked;
+        unsaved = unsaved_by w.written w.fate w.accepted;
+      }))

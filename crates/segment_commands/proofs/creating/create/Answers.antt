@@ -1,0 +1,16 @@
+use Rattle.std.proofs.Common.{rules, inr}
+use Rattle.segment_commands.proofs.creating.create.Goals as goal
+
+pub returns-in-Ok : goal.returns-in-Ok
+returns-in-Ok g c =
+    let w = c.in-Ok.ensures in
+    inr (inr (record {
+      found = c.look.result;
+      free = search rules;
+      looked = c.look.new.self;
+      asked = c.look.ensures;
+      segment = c.in_ok-segment.segment;
+      made = c.in_ok-segment.ensures;
+      writes = record { written = w.written; asked = w.asked; fate = w.fate; accepted = w.accepted };
+      answer = λ fault e. absurd (cc);
+    }))

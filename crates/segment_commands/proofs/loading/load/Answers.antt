@@ -1,0 +1,36 @@
+use Rattle.std.proofs.Common.{rules, ap, inl, inr, Err}
+use Rattle.segment_commands.proofs.Commanded.{written_whole}
+use Rattle.segment_commands.proofs.Loads.{unmade}
+use Rattle.segment_commands.proofs.loading.load.Goals as goal
+
+pub returns-in-Ok-write_image-clause-does : goal.returns-in-Ok-write_image-clause-does
+returns-in-Ok-write_image-clause-does g c = inr (inr (record {
+  found = c.look.result;
+  free = search rules;
+  looked = c.look.new.self;
+  asked = c.look.ensures;
+  segment = c.in-Ok.segment;
+  made = c.in-Ok.ensures;
+  writes = written_whole g.D.Disk.step c.look.new.self c.write_image.new.disk _ c.args.path.now c.in-Ok.segment.cut.bytes c.in-Ok-write_image.ensures;
+  answer = λ fault e. absurd (cc);
+}))
+
+pub returns-in-Ok-write_image-clause-succeeds : goal.returns-in-Ok-write_image-clause-succeeds
+returns-in-Ok-write_image-clause-succeeds g c = record {
+  loads = λ text r f.
+      inr (inr (record {
+        found = c.look.result;
+        free = search rules;
+        looked = c.look.new.self;
+        asked = c.look.ensures;
+        segment = c.in-Ok.segment;
+        made = c.in-Ok.ensures;
+        writes = written_whole g.D.Disk.step c.look.new.self c.write_image.new.disk _ c.args.path.now c.in-Ok.segment.cut.bytes c.in-Ok-write_image.ensures;
+        answer = λ fault e. absurd (cc);
+      }));
+}
+
+pub returns-clause-succeeds : goal.returns-clause-succeeds
+returns-clause-succeeds g c = record {
+  loads = λ text r f. inr (inl (ap Err (unmade c.args.size (g.S.Source.history c.args.script.now) (g.S.Source.history c.load_dump.new.script) c.in-Err.fault text c.in-Err.ensures r f)));
+}

@@ -1,0 +1,21 @@
+use Rattle.std.proofs.Common.{◌≡◌, ◌≢◌, inr, rules, subst}
+use Rattle.raw_region.specs.Device.{Gave}
+use Rattle.segment_manager.specs.declared.modes.Mode.TheVariants.{Write}
+use Rattle.segment_disk.specs.Events.{IsFlushed}
+use Rattle.segment_commands.specs.Running.{RunsOpened}
+use Rattle.segment_commands.proofs.Opened.{in_reading}
+use Rattle.segment_commands.proofs.running.run_on_file.Goals as goal
+
+pub returns-else-eq : goal.returns-else-eq
+returns-else-eq g c =
+    let Script = g.S.Source in let Answers = g.O.Sink in let step = g.D.Disk.step in
+    let flushes : _ = IsFlushed Answers.history g.O.Output.flushes c.run_opened.new.out in
+    let same : Script.history c.can_be_read.new.script ≡ Script.history c.args.script.now = search rules in
+    let is_not : c.args.mode ≢ Write = search rules in
+    inr (in_reading step c.args.disk.now c.run_opened.new.disk c.args.path.now c.args.how (Script.history c.args.script.now) (Script.history c.run_opened.new.script)
+    Answers.history flushes c.args.out.now c.run_opened.new.out c.answered.result c.args.mode is_not (record {
+      answer = c.run_opened.result;
+      ran = subst (λ (gave : Gave). RunsOpened step c.args.disk.now c.run_opened.new.disk c.args.path.now c.args.mode c.args.how gave (Script.history c.run_opened.new.script)
+          Answers.history flushes c.args.out.now c.run_opened.new.out c.run_opened.result) same c.run_opened.ensures;
+      result_is = c.answered.ensures;
+    }))

@@ -1,0 +1,13 @@
+pub mod Opening
+pub mod Telling
+pub mod Holding
+pub mod Commands
+pub mod Running
+pub mod Resizing
+pub mod Migrating
+pub mod Modes
+pub mod Strict
+pub mod Linting
+pub mod Reporting
+pub mod Explaining
+pub mod Loading

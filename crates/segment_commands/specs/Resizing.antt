@@ -1,0 +1,84 @@
+-- How the segment of a file becomes larger or smaller: what the disk is asked, in order, and what is said.
+use Rattle.std.specs.Prelude.{◌≡◌, ◌⊎◌, ◌++◌, ◌∷◌, [], ℕ, Bool, Option, List, Result, Ok, Err, codes, decimal}
+use Rattle.raw_region.specs.Device.{Took}
+use Rattle.segment_manager.specs.declared.modes.Mode.TheVariants.{Write}
+use Rattle.segment_manager.specs.Directory.{Directory}
+use Rattle.segment_manager.specs.Resized.{Resizes}
+use Rattle.segment_manager.specs.State.{State, IsReply}
+use Rattle.segment_manager.specs.Answers.{Number}
+use Rattle.seg_types.specs.Commands.{Size}
+use Rattle.grow_shrink.specs.declared.refusals.GrowError.{GrowError}
+use Rattle.grow_shrink.specs.Resized.{IsRefusedBy}
+use Rattle.segment_cli.specs.declared.faults.SessionFault.{SessionFault}
+use Rattle.segment_cli.specs.declared.faults.SessionFault.TheVariants.{WriteFault}
+use Rattle.segment_cli.specs.declared.program_faults.ProgramFault.{ProgramFault}
+use Rattle.segment_cli.specs.declared.program_faults.ProgramFault.TheVariants.{Growth, Session}
+use Rattle.segment_disk.specs.declared.presence.Making.TheVariants.{Emptied}
+use Rattle.segment_disk.specs.Events.{Event}
+use Rattle.segment_file.specs.Files.{WritesImage}
+use Rattle.segment_commands.specs.Opening.{OpensFile}
+use Rattle.segment_commands.specs.Telling.{Tells}
+
+-- the line that says a size
+abbrev pub size_line : ℕ → List ℕ
+size_line size = codes "size " ++ decimal size ++ 0x0A ∷ []
+
+-- a telling that answers Ok
+abbrev pub told : (E : Type 0) → Result (Unit {0}) E
+told E = Ok tt
+
+-- what the command `size` answers of a segment was said
+pub record TellsSize {O E : Type 0} (history : O → Took) (flushes : O → Bool → O → Type 0) (out out' : O) (s : State) (result : Result (Unit {0}) E) : Type 0 where
+  pub size : ℕ
+  pub reply : IsReply s Size (Number size)
+  pub tells : Tells history flushes out out' (size_line size) result
+
+module _ {D O : Type 0} (step : D → Event → D → Type 0) (old new : D) (path : List ℕ) (history : O → Took) (flushes : O → Bool → O → Type 0) (out out' : O) where
+  -- the size did not go out, and the disk was not asked for anything
+  pub record IsUntold {E : Type 0} (s : State) (result : Result (Unit {0}) E) : Type 0 where
+    pub fault : E
+    pub refused : result ≡ Err fault
+    pub tells : TellsSize history flushes out out' s result
+    pub asked : new ≡ old
+
+  -- the size went out, and then the image was written
+  pub record IsTold {E : Type 0} (s : State) (result : Result (Unit {0}) E) : Type 0 where
+    pub tells : TellsSize history flushes out out' s (told E)
+    pub writes : WritesImage step old new Emptied path s.cut.bytes result
+
+  abbrev pub TellsAndWrites : {E : Type 0} → State → Result (Unit {0}) E → Type 0
+  TellsAndWrites s result = IsUntold s result ⊎ IsTold s result
+
+  -- the file has no segment, for this reason
+  pub record IsUnopenedResize (result : Result (Unit {0}) ProgramFault) : Type 0 where
+    pub fault : SessionFault
+    pub opens : OpensFile step old new path Write (Err fault)
+    pub silent : out' ≡ out
+    pub refused : result ≡ Err (Session fault)
+
+  -- the segment does not become larger or smaller, for this reason
+  pub record IsUnresized (why : State → Directory → Option GrowError) (result : Result (Unit {0}) ProgramFault) : Type 0 where
+    pub segment : State
+    pub opens : OpensFile step old new path Write (Ok segment)
+    pub error : GrowError
+    pub refused_by : IsRefusedBy segment (Err error) (why segment)
+    pub silent : out' ≡ out
+    pub refused : result ≡ Err (Growth error)
+
+-- the segment was read, and the one that it becomes was written
+pub record IsResized {D O : Type 0} (step : D → Event → D → Type 0) (old new : D) (path : List ℕ) (history : O → Took) (flushes : O → Bool → O → Type 0) (out out' : O)
+    (next : Directory → Directory) (result : Result (Unit {0}) ProgramFault) : Type 0 where
+  pub segment : State
+  pub read : D
+  pub opens : OpensFile step old read path Write (Ok segment)
+  pub resized : State
+  pub becomes : Resizes segment resized next
+  pub goes : TellsAndWrites step read new path history flushes out out' resized result
+  pub answer : (fault : ProgramFault) → result ≡ Err fault → fault ≡ Session WriteFault
+
+-- `grow` and `shrink`
+abbrev pub IsResize : {D O : Type 0} → (D → Event → D → Type 0) → D → D → List ℕ → (O → Took) → (O → Bool → O → Type 0) → O → O
+    → (State → Directory → Option GrowError) → (Directory → Directory) → Result (Unit {0}) ProgramFault → Type 0
+IsResize step old new path history flushes out out' why next result =
+    IsUnopenedResize step old new path history flushes out out' result
+    ⊎ (IsUnresized step old new path history flushes out out' why result ⊎ IsResized step old new path history flushes out out' next result)

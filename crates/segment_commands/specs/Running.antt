@@ -1,0 +1,224 @@
+-- How a script is run on the segment of a file: what the disk is asked, in order, and how the run ends.
+use Rattle.std.specs.Prelude.{◌≡◌, ◌≢◌, ◌⊎◌, ℕ, ◌+◌, Bool, true, false, List, [], ◌∷◌, Result, Ok, Err, MatchResult}
+use Rattle.raw_region.specs.Device.{Gave, Given, Took, Taken, given_since, taken_since}
+use Rattle.segment_manager.specs.declared.modes.Mode.{Mode}
+use Rattle.segment_manager.specs.declared.modes.Mode.TheVariants.{Write, ReadOnly, CopyOnWrite}
+use Rattle.segment_manager.specs.State.{State}
+use Rattle.segment_scripts.specs.declared.faults.RunFault.{RunFault}
+use Rattle.segment_scripts.specs.Leaves.{LeavesFault, RunsWhole}
+use Rattle.segment_scripts.specs.Segments.{Place, IsAt, answer_line}
+use Rattle.segment_cli.specs.declared.faults.Start.{Start}
+use Rattle.segment_cli.specs.declared.faults.Start.TheVariants.{Fresh, Image}
+use Rattle.segment_cli.specs.declared.faults.SessionFault.{SessionFault}
+use Rattle.segment_cli.specs.declared.faults.SessionFault.TheVariants.{ReadFault, WriteFault}
+use Rattle.segment_cli.specs.declared.program_faults.ProgramFault.{ProgramFault}
+use Rattle.segment_cli.specs.declared.program_faults.ProgramFault.TheVariants.{Exists, Session}
+use Rattle.segment_cli.specs.Beginning.{run_fault}
+use Rattle.segment_cli.specs.Session.{IsSession}
+use Rattle.segment_disk.specs.declared.presence.Making.{Making}
+use Rattle.segment_disk.specs.declared.presence.Making.TheVariants.{New, Beside}
+use Rattle.segment_disk.specs.declared.presence.Presence.{Presence}
+use Rattle.segment_disk.specs.declared.presence.Presence.TheVariants.{Absent, There}
+use Rattle.segment_disk.specs.Events.{Event, Looked, After}
+use Rattle.segment_file.specs.Files.{Written, NotMade, Closed, Offered, writes, whole, all_of, opens}
+use Rattle.segment_commands.specs.Holding.{Holds}
+use Rattle.segment_commands.specs.Opening.{OpensFile}
+use Rattle.segment_commands.specs.Commands.{MakesSegment}
+
+-- ---- a script
+
+-- what it was given and gave out, where Flushed says what the last flush answered
+module _ (old new : State) (script : Given) (out : Taken) (Flushed : Bool → Type 0) where
+  -- all of it was answered, and ok says whether all answers went out
+  pub record IsAnswered (ok : Bool) : Type 0 where
+    pub ran : (at : Place) → IsAt old at → RunsWhole answer_line at script out (IsAt new)
+    pub flushed : Flushed ok
+
+  -- it was not run to its end; what was answered was given out, if the output let it
+  pub record IsStopped (fault : SessionFault) : Type 0 where
+    pub stop : RunFault
+    pub why : fault ≡ run_fault stop
+    pub left : (at : Place) → IsAt old at → LeavesFault answer_line at script out stop (IsAt new)
+    pub ok : Bool
+    pub flushed : Flushed ok
+
+  -- all of it was answered, and answers did not go out
+  pub record IsLost (fault : SessionFault) : Type 0 where
+    pub why : fault ≡ WriteFault
+    pub answered : IsAnswered false
+
+  abbrev pub RunsScript : Result (Unit {0}) SessionFault → Type 0
+  RunsScript result = MatchResult result (λ u. IsAnswered true) (λ fault. IsStopped fault ⊎ IsLost fault)
+
+-- ---- a run, from the segment that it begins with
+
+pub record Act : Type 0 where
+  pub start : Start
+  pub mode : Mode
+  pub capacity : ℕ
+  pub image : Given
+  pub script : Given
+  pub out : Taken
+
+-- the run is a session that saved this
+abbrev pub Ran : Act → Taken → Result (Unit {0}) SessionFault → Type 0
+Ran act saved result = IsSession act.start act.mode 0 act.capacity (record { image = act.image; script = act.script; out = act.out; saved = saved }) result
+
+-- what a run asks of the disk that saved this: in mode Write its file is made, emptied or replaced and takes it, and else nothing
+abbrev pub saving : Mode → Making → List ℕ → List ℕ → List Event
+saving Write how path image = writes how path (whole how image)
+saving ReadOnly how path image = []
+saving CopyOnWrite how path image = []
+
+module _ {D : Type 0} (step : D → Event → D → Type 0) (old new : D) (how : Making) (path : List ℕ) (act : Act) (Flushed : Bool → Type 0) where
+  -- all answers went out, and then, in mode Write, the image of the last directory was written
+  pub record IsSavedRun : Type 0 where
+    pub image : List ℕ
+    pub asked : After step old (saving act.mode how path image) new
+    pub ran : Ran act (all_of image) (Ok tt)
+    pub flushed : Flushed true
+
+  -- the session was stopped, and the disk was not asked for anything
+  pub record IsStoppedRun (fault : SessionFault) : Type 0 where
+    pub asked : new ≡ old
+    pub ran : Ran act (all_of []) (Err fault)
+    pub ok : Bool
+    pub flushed : Flushed ok
+
+  -- all was answered, but not all answers went out, and the disk was not asked for anything
+  pub record IsLostRun (fault : SessionFault) : Type 0 where
+    pub why : fault ≡ WriteFault
+    pub asked : new ≡ old
+    pub whole : act.script.ended ≡ true
+    pub read : act.script.failed ≡ false
+    pub flushed : Flushed false
+
+  -- why the image is not in the file or need not last: it could not be made or emptied, writing it failed, or all of it was
+  -- written and need not last, or did not take the place of the old one
+  abbrev pub IsUnsavedFor : Written → Type 0
+  IsUnsavedFor NotMade = act.script.ended ≡ true
+  IsUnsavedFor (Closed taken lasts) = Ran act taken (Err WriteFault) ⊎ ((lasts ≡ false) × Ran act taken (Ok tt))
+  IsUnsavedFor (Offered image placed) = (how ≡ Beside) × (placed ≡ false) × Ran act (all_of image) (Ok tt)
+
+  -- all answers went out, and then the image did not reach its file, or need not last
+  pub record IsUnsavedRun (fault : SessionFault) : Type 0 where
+    pub why : fault ≡ WriteFault
+    pub mode : act.mode ≡ Write
+    pub flushed : Flushed true
+    pub written : Written
+    pub asked : After step old (writes how path written) new
+    pub unsaved : IsUnsavedFor written
+
+  abbrev pub EndsRun : Result (Unit {0}) SessionFault → Type 0
+  EndsRun result = MatchResult result (λ u. IsSavedRun) (λ fault. IsStoppedRun fault ⊎ (IsLostRun fault ⊎ IsUnsavedRun fault))
+
+-- a fault of a session, as the program answers it
+abbrev pub as_program : Result (Unit {0}) SessionFault → Result (Unit {0}) ProgramFault
+as_program (Ok u) = Ok tt
+as_program (Err fault) = Err (Session fault)
+
+-- the program answers as a session did
+pub record IsAnswerOf (runs : Result (Unit {0}) SessionFault → Type 0) (result : Result (Unit {0}) ProgramFault) : Type 0 where
+  pub answer : Result (Unit {0}) SessionFault
+  pub ran : runs answer
+  pub result_is : result ≡ as_program answer
+
+-- ---- the segment of a file
+
+-- the script can't be read at all, and the disk was not asked for anything
+pub record IsScriptless {D O : Type 0} (old new : D) (script script' : Gave) (out out' : O) (result : Result (Unit {0}) ProgramFault) : Type 0 where
+  pub asked : new ≡ old
+  pub failed : script'.failures ≡ script.failures + 1
+  pub silent : out' ≡ out
+  pub refused : result ≡ Err (Session ReadFault)
+
+module _ {D : Type 0} (step : D → Event → D → Type 0) (old new : D) (path : List ℕ) (mode : Mode) (how : Making) (script script' : Gave) where
+  -- the file has no segment, for this reason; the script was not asked for
+  pub record IsUnopenedRun {O : Type 0} (out out' : O) (result : Result (Unit {0}) SessionFault) : Type 0 where
+    pub fault : SessionFault
+    pub opens_file : OpensFile step old new path mode (Err fault)
+    pub unasked : script' ≡ script
+    pub silent : out' ≡ out
+    pub refused : result ≡ Err fault
+
+  -- the file was opened, read and closed, and the script ran on its segment
+  pub record IsOpenedRun {O : Type 0} (history : O → Took) (flushes : Bool → Type 0) (out out' : O) (result : Result (Unit {0}) SessionFault) : Type 0 where
+    pub image : Given
+    pub capacity : ℕ
+    pub read : D
+    pub asked : After step old (opens path image) read
+    pub ends : EndsRun step read new how path
+        (record { start = Image; mode = mode; capacity = capacity; image = image; script = given_since script script'; out = taken_since (history out) (history out') })
+        flushes result
+
+  abbrev pub RunsOpened : {O : Type 0} → (O → Took) → (Bool → Type 0) → O → O → Result (Unit {0}) SessionFault → Type 0
+  RunsOpened history flushes out out' result = IsUnopenedRun out out' result ⊎ IsOpenedRun history flushes out out' result
+
+module _ {D O : Type 0} (step : D → Event → D → Type 0) (old new : D) (path : List ℕ) (how : Making) (script script' : Gave) (history : O → Took) (flushes : Bool → Type 0) (out out' : O) (result : Result (Unit {0}) ProgramFault) where
+  -- a run that saves nothing
+  abbrev pub RunsFree : Mode → Type 0
+  RunsFree mode = IsAnswerOf (RunsOpened step old new path mode how script script' history flushes out out') result
+
+  -- a run that saves has the right to write the file from before it is read until it is written; where another has it, nothing
+  -- was read or said
+  abbrev pub RunsHeld : Type 0
+  RunsHeld = Holds step old new path ((script' ≡ script) × (out' ≡ out))
+      (λ held done. IsAnswerOf (RunsOpened step held done path Write how script script' history flushes out out') result) result
+
+  abbrev pub RunsReadable : Mode → Type 0
+  RunsReadable Write = RunsHeld
+  RunsReadable ReadOnly = RunsFree ReadOnly
+  RunsReadable CopyOnWrite = RunsFree CopyOnWrite
+
+  abbrev pub RunsFile : Mode → Type 0
+  RunsFile mode = IsScriptless old new script script' out out' result ⊎ RunsReadable mode
+
+-- ---- a segment that is made
+
+module _ {D : Type 0} (step : D → Event → D → Type 0) (old new : D) (path : List ℕ) (size : ℕ) (script script' : Gave) where
+  -- no segment was made, for this reason: nothing was asked for
+  pub record IsUnmadeRun {O : Type 0} (out out' : O) (result : Result (Unit {0}) SessionFault) : Type 0 where
+    pub fault : SessionFault
+    pub why : MakesSegment size (Err fault)
+    pub asked : new ≡ old
+    pub unasked : script' ≡ script
+    pub silent : out' ≡ out
+    pub refused : result ≡ Err fault
+
+  -- an empty segment was made, and the script ran on it; it is saved to a new file
+  pub record IsMadeRun {O : Type 0} (history : O → Took) (flushes : Bool → Type 0) (out out' : O) (result : Result (Unit {0}) SessionFault) : Type 0 where
+    pub image : Given
+    pub capacity : ℕ
+    pub ends : EndsRun step old new New path
+        (record { start = Fresh size; mode = Write; capacity = capacity; image = image; script = given_since script script'; out = taken_since (history out) (history out') })
+        flushes result
+
+  abbrev pub MakesRun : {O : Type 0} → (O → Took) → (Bool → Type 0) → O → O → Result (Unit {0}) SessionFault → Type 0
+  MakesRun history flushes out out' result = IsUnmadeRun out out' result ⊎ IsMadeRun history flushes out out' result
+
+  -- something is there already, and nothing else was asked for
+  pub record IsTakenRun {O : Type 0} (out out' : O) (result : Result (Unit {0}) ProgramFault) : Type 0 where
+    pub asked : After step old (Looked path There ∷ []) new
+    pub unasked : script' ≡ script
+    pub silent : out' ≡ out
+    pub refused : result ≡ Err Exists
+
+-- the path was looked at, where this was found, and then a run went on from there
+pub record IsRunBehind {D : Type 0} (step : D → Event → D → Type 0) (old : D) (path : List ℕ) (IsWhere : Presence → Type 0) (goes_on : D → Type 0) : Type 0 where
+  pub found : Presence
+  pub is : IsWhere found
+  pub looked : D
+  pub asked : step old (Looked path found) looked
+  pub goes : goes_on looked
+
+-- a run on a segment that is made, in a file that is not there
+abbrev pub RunsNewFile : {D O : Type 0} → (D → Event → D → Type 0) → D → D → List ℕ → ℕ → Gave → Gave → (O → Took) → (Bool → Type 0) → O → O → Result (Unit {0}) ProgramFault → Type 0
+RunsNewFile step old new path size script script' history flushes out out' result =
+    IsTakenRun step old new path size script script' out out' result
+    ⊎ IsRunBehind step old path (λ found. found ≢ There) (λ looked. IsAnswerOf (MakesRun step looked new path size script script' history flushes out out') result)
+
+-- the same, or on the segment in the file where something is there
+abbrev pub RunsAnyFile : {D O : Type 0} → (D → Event → D → Type 0) → D → D → List ℕ → ℕ → Making → Gave → Gave → (O → Took) → (Bool → Type 0) → O → O → Result (Unit {0}) ProgramFault → Type 0
+RunsAnyFile step old new path size how script script' history flushes out out' result =
+    IsRunBehind step old path (λ found. found ≡ Absent) (λ looked. IsAnswerOf (MakesRun step looked new path size script script' history flushes out out') result)
+    ⊎ IsRunBehind step old path (λ found. found ≢ Absent) (λ looked. RunsFile step looked new path how script script' history flushes out out' result Write)

@@ -1,0 +1,79 @@
+//! The running of a script on a segment, whose image is saved behind it.
+ghost use Rattle.std.specs.Prelude.{◌^◌, ◌-◌, ◌<◌, ℕ, Ok};
+ghost use Rattle.raw_region.specs.Device.{Given, given_since, taken_since};
+ghost use Rattle.segment_manager.specs.declared.modes.Mode.{Mode as OpenMode};
+ghost use Rattle.segment_cli.specs.declared.faults.Start.{Start};
+ghost use Rattle.segment_cli.specs.Beginning.{Starts};
+ghost use Rattle.segment_disk.specs.Events.{IsFlushed};
+ghost use Rattle.segment_commands.specs.Running.{EndsRun, RunsScript};
+
+use raw_region::Source;
+use segment_cli::SessionFault;
+use segment_disk::{Disk, Making, Output};
+use segment_file::write_image;
+use segment_manager::{Mode, Segment};
+use segment_scripts::{Follower, run_followed};
+
+/// Lets answers go out before more of a script is read, and tells the output where an answer begins. An output that fails then
+/// fails again at the end.
+#[derive(Drop)]
+pub(crate) struct Flushing;
+
+impl<O: Output> Follower<O> for Flushing {
+    fn before_read(&mut self, out: &mut O) {
+        let _ = out.flush();
+    }
+
+    fn before_line(&mut self, out: &mut O) {
+        out.next_line();
+    }
+}
+
+/// Runs a script on a segment, and gives out all answers, also those before a fault. What was answered goes out before each read
+/// of the script.
+pub(crate) fn run_script<S: Source, O: Output>(
+    segment: &mut Segment,
+    script: &mut S,
+    out: &mut O,
+) -> Result<(), SessionFault>
+    requires script { (S.history script.old).failures < 2 ^ 64 - 1 }
+    requires out { (O.history out.old).failures < 2 ^ 64 - 1 }
+    ensures { RunsScript segment.old segment.new (given_since (S.history script.old) (S.history script.new))
+        (taken_since (O.history out.old) (O.history out.new)) (IsFlushed O.history O.flushes out.new) result }
+{
+    let answered = run_followed(segment, script, out, &mut Flushing);
+    let flushed = out.flush();
+    match answered {
+        Ok(()) => match flushed {
+            Ok(()) => Ok(()),
+            Err(_) => Err(SessionFault::WriteFault),
+        },
+        Err(fault) => Err(SessionFault::from(fault)),
+    }
+}
+
+/// Runs a script on a segment that is open, gives out all answers, and then, in mode `Write`, writes the image to a file.
+pub(crate) fn answer_and_save<D: Disk, S: Source, O: Output>(
+    disk: &mut D,
+    path: &str,
+    how: Making,
+    segment: &mut Segment,
+    script: &mut S,
+    out: &mut O,
+) -> Result<(), SessionFault>
+    requires script { (S.history script.old).failures < 2 ^ 64 - 1 }
+    requires out { (O.history out.old).failures < 2 ^ 64 - 1 }
+    ensures { (start : Start) (mode : OpenMode) (capacity : ℕ) (image : Given) → Starts start mode 0 capacity image (Ok segment.old)
+        → EndsRun D.step disk.old disk.new how path.now
+        (record { start = start; mode = mode; capacity = capacity; image = image; script = given_since (S.history script.old) (S.history script.new); out = taken_since (O.history out.old) (O.history out.new) })
+        (IsFlushed O.history O.flushes out.new) result }
+{
+    run_script(segment, script, out)?;
+    if segment.mode() != Mode::Write {
+        return Ok(());
+    }
+    match write_image(disk, path, how, segment) {
+        Ok(()) => Ok(()),
+        Err(_) => Err(SessionFault::WriteFault),
+    }
+}

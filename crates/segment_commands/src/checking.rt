@@ -1,0 +1,32 @@
+//! The command that tells whether a file holds a segment.
+ghost use Rattle.std.specs.Prelude.{◌≡◌, ◌^◌, ◌-◌, ◌<◌};
+ghost use Rattle.segment_commands.specs.Commands.{IsCheck};
+
+use crate::creating::WRITE_FAULT;
+use crate::opening::open_segment;
+use crate::telling::tell;
+use segment_cli::ProgramFault;
+use segment_disk::{Disk, Output};
+use segment_manager::Mode;
+use std::alloc::Global;
+
+/// Opens the segment in a file for reading, and says `ok`.
+///
+/// # Errors
+///
+/// Why the image is refused, `ReadFault` where the file can't be read, `OutOfMemory`, and `WriteFault` where the output fails.
+pub fn check<D: Disk, O: Output>(
+    alloc: Global,
+    disk: &mut D,
+    path: &str,
+    out: &mut O,
+) -> Result<(), ProgramFault>
+    requires { (O.history out.old).failures < 2 ^ 64 - 1 }
+    ensures { IsCheck D.step disk.old disk.new path.now O.history O.flushes out.old out.new result }
+{
+    let _segment = open_segment(alloc, disk, path, Mode::ReadOnly, 0)?;
+    match tell(out, b"ok\n") {
+        Ok(()) => Ok(()),
+        Err(_) => Err(WRITE_FAULT),
+    }
+}

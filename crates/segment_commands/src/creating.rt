@@ -1,0 +1,50 @@
+//! The command that makes an empty segment in a file.
+ghost use Rattle.segment_commands.specs.Commands.{IsCreate, MakesSegment};
+
+use crate::opening::begin_in;
+use block_tags::is_legal_size;
+use raw_region::stream::Reading;
+use segment_cli::{ProgramFault, SessionFault, Start};
+use segment_disk::{Disk, Making, Presence};
+use segment_file::write_image;
+use segment_manager::{Mode, Segment};
+use std::alloc::Global;
+use std::io;
+
+/// An empty segment of this size. One that no segment has is refused before memory is asked for.
+pub(crate) fn new_segment(alloc: Global, size: u64) -> Result<Segment, SessionFault>
+    ensures { MakesSegment size result }
+{
+    if !is_legal_size(size) {
+        return Err(SessionFault::BadSize);
+    }
+    let mut nothing = Reading::new(io::empty());
+    begin_in(alloc, Start::Fresh(size), Mode::Write, &mut nothing, size)
+}
+
+/// Makes an empty segment of `size` bytes in a file that is not there.
+///
+/// # Errors
+///
+/// `Exists` where something is there under the path, whatever the size. `BadSize` where no segment has it, and `OutOfMemory`; no
+/// file is made then. `WriteFault` where the file can't be made, takes not the whole image, or need not last.
+pub fn create<D: Disk>(
+    alloc: Global,
+    disk: &mut D,
+    path: &str,
+    size: u64,
+) -> Result<(), ProgramFault>
+    ensures { IsCreate D.step disk.old disk.new path.now size result }
+{
+    if disk.look(path) == Presence::There {
+        return Err(ProgramFault::Exists);
+    }
+    let segment = new_segment(alloc, size)?;
+    match write_image(disk, path, Making::New, &segment) {
+        Ok(()) => Ok(()),
+        Err(_) => Err(WRITE_FAULT),
+    }
+}
+
+/// A file or standard output can't be written.
+pub(crate) const WRITE_FAULT: ProgramFault = ProgramFault::Session(SessionFault::WriteFault);

@@ -1,0 +1,128 @@
+//! Files that end before the size that their first words say, and the segments of others.
+ghost use Rattle.std.specs.Prelude.{◌≡◌, ◌≤◌, true};
+ghost use Rattle.raw_region.specs.Device.{Grows, given_since};
+ghost use Rattle.segment_cli.specs.declared.faults.Start.TheVariants.{Image as OfImage};
+ghost use Rattle.segment_disk.specs.Events.{nothing_given};
+ghost use Rattle.segment_commands.specs.Migrating.{BeginsAny};
+ghost use Rattle.segment_commands.specs.Opening.{BeginsIn, EndsWithin, IsToldByLength};
+
+use crate::counting::Counted;
+use image_check::{ImageClass, OpenError, open_any};
+use raw_region::{Source, Steps};
+use segment_cli::{SessionFault, Start, begin};
+use segment_file::region_for;
+use segment_manager::{Mode, Segment};
+use std::alloc::Global;
+
+/// How many bytes are read at once where they are only counted.
+const PIECE: usize = 4096;
+
+/// Reads on, and keeps nothing of it: whether the reader ends, and never failed, within so many bytes in all.
+fn ends_within<S: Source>(reader: &mut Counted<S>, most: u64) -> bool
+    requires { most ≤ 1073741824 }
+    ensures within { result ≡ true → EndsWithin most (S.history reader.new.inner) }
+    ensures grows { Grows (S.history reader.old.inner).bytes (S.history reader.new.inner).bytes }
+{
+    if reader.has_failed {
+        return false;
+    }
+    let mut piece = [0; PIECE];
+    'pieces: for _ in 0..most + 1 {
+        match reader.read(&mut piece) {
+            Ok(0) => return reader.given <= most && !reader.has_failed,
+            Ok(_) => {}
+            Err(_) => return false,
+        }
+    }
+    false
+}
+
+/// Why there is no segment where the image says a size for which there is no room.
+fn told_by_length<S: Source>(reader: &mut Counted<S>, room: u64) -> SessionFault
+    requires { room ≤ 1073741824 }
+    ensures told { IsToldByLength room (S.history reader.new.inner) result }
+    ensures grows { Grows (S.history reader.old.inner).bytes (S.history reader.new.inner).bytes }
+{
+    if ends_within(reader, room) {
+        SessionFault::Image(ImageClass::Truncated)
+    } else {
+        SessionFault::RegionTooSmall
+    }
+}
+
+/// The segment of the image of a reader, at the front of a region with room for so many bytes. Where the image ends within that
+/// room and before the size that it says, its class is told, whatever its size.
+fn begin_counted<S: Source>(
+    alloc: Global,
+    mode: Mode,
+    reader: &mut Counted<S>,
+    room: u64,
+) -> Result<Segment, SessionFault>
+    requires fresh { S.history reader.old.inner ≡ nothing_given }
+    requires few { room ≤ 1073741824 }
+    ensures { BeginsIn OfImage mode (given_since nothing_given (S.history reader.new.inner)) result }
+{
+    let Ok(region) = region_for(alloc, room) else {
+        return Err(SessionFault::OutOfMemory);
+    };
+    match begin(alloc, Start::Image, mode, reader, region, 0) {
+        Ok(segment) => Ok(segment),
+        Err(fault) => match fault {
+            SessionFault::RegionTooSmall => Err(told_by_length(reader, room)),
+            _ => Err(fault),
+        },
+    }
+}
+
+/// The same of an image of any of the three formats.
+fn begin_any_counted<S: Source>(
+    alloc: Global,
+    reader: &mut Counted<S>,
+    room: u64,
+) -> Result<Segment, SessionFault>
+    requires fresh { S.history reader.old.inner ≡ nothing_given }
+    requires few { room ≤ 1073741824 }
+    ensures { BeginsAny (given_since nothing_given (S.history reader.new.inner)) result }
+{
+    let Ok(region) = region_for(alloc, room) else {
+        return Err(SessionFault::OutOfMemory);
+    };
+    match open_any(alloc, reader, region, 0, Mode::Write, &mut Steps::new()) {
+        Ok(segment) => Ok(segment),
+        Err(refused) => match refused.cause {
+            OpenError::RegionTooSmall => Err(told_by_length(reader, room)),
+            _ => Err(SessionFault::from(refused)),
+        },
+    }
+}
+
+/// The segment of the image of a reader, at the front of a region with room for so many bytes, and the reader.
+pub(crate) fn begin_from<S: Source>(
+    alloc: Global,
+    mode: Mode,
+    reader: S,
+    room: u64,
+) -> (Result<Segment, SessionFault>, S)
+    requires fresh { S.history reader ≡ nothing_given }
+    requires few { room ≤ 1073741824 }
+    ensures { BeginsIn OfImage mode (given_since nothing_given (S.history result.1)) result.0 }
+{
+    let mut counted = Counted::new(reader);
+    let begun = begin_counted(alloc, mode, &mut counted, room);
+    (begun, counted.into_inner())
+}
+
+/// The same of an image of any of the three formats.
+pub(crate) fn begin_any_from<S: Source>(
+    alloc: Global,
+    reader: S,
+    room: u64,
+) -> (Result<Segment, SessionFault>, S)
+    requires fresh { S.history reader ≡ nothing_given }
+    requires few { room ≤ 1073741824 }
+    ensures { BeginsAny (given_since nothing_given (S.history result.1)) result.0 }
+{
+    let mut counted = Counted::new(reader);
+    let begun = begin_any_counted(alloc, &mut counted, room);
+    (begun, counted.into_inner())
+}

@@ -1,0 +1,34 @@
+//! What each command of the program does to a file, over any disk.
+#![tactic(auto)]
+
+mod answering;
+mod checking;
+mod counting;
+mod creating;
+mod cutting;
+mod explaining;
+mod gathering;
+mod keeping;
+mod linting;
+mod loading;
+mod migrating;
+mod modes;
+mod opening;
+mod reporting;
+mod resizing;
+mod running;
+mod strict;
+mod telling;
+
+pub use checking::check;
+pub use creating::create;
+pub use explaining::explain;
+pub use linting::lint;
+pub use loading::load;
+pub use migrating::migrate;
+pub use modes::run;
+pub use reporting::{draw, dump, dump_capacities, stat};
+pub use resizing::{grow, shrink};
+pub use running::{run_in_new_file, run_on_file, run_on_file_or_new};
+pub use strict::run_strict;
+pub use telling::{print, print_language};

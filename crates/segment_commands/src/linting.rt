@@ -1,0 +1,49 @@
+//! The command that tells which lines of a script are no commands.
+ghost use Rattle.std.specs.Prelude.{◌≡◌, ◌^◌, ◌-◌, ◌<◌};
+ghost use Rattle.segment_commands.specs.Linting.{Lints, answer_of};
+
+use crate::answering::Flushing;
+use crate::creating::WRITE_FAULT;
+use raw_region::Source;
+use segment_cli::{ProgramFault, SessionFault};
+use segment_disk::Output;
+use segment_scripts::{CommandRow, Lint, RunFault, run_followed};
+
+/// Tells which lines of a script are no commands, where, and what is expected there; the rows say what is expected behind each
+/// command word. Nothing is executed.
+///
+/// # Errors
+///
+/// `Misspelled` where a line is no command, `ReadFault` and `ScriptTooLong` of the script, and `WriteFault` where the output
+/// fails.
+pub fn lint<S: Source, O: Output>(
+    rows: &[CommandRow],
+    script: &mut S,
+    out: &mut O,
+) -> Result<(), ProgramFault>
+    requires script { (S.history script.old).failures < 2 ^ 64 - 1 }
+    requires out { (O.history out.old).failures < 2 ^ 64 - 1 }
+    ensures { Lints rows.now (S.history script.old) (S.history script.new) O.history O.flushes out.old out.new result }
+{
+    let mut machine = Lint::new(rows);
+    let answered = run_followed(&mut machine, script, out, &mut Flushing);
+    let flushed = out.flush();
+    let went_out = flushed.is_ok();
+    lint_answer(answered, went_out, machine.has_found())
+}
+
+/// The answer of a lint: a fault of its run, or that not all went out, or whether a line is no command.
+fn lint_answer(
+    answered: Result<(), RunFault>,
+    went_out: bool,
+    has_found: bool,
+) -> Result<(), ProgramFault>
+    ensures { result ≡ answer_of answered went_out has_found }
+{
+    match answered {
+        Err(fault) => Err(ProgramFault::Session(SessionFault::from(fault))),
+        Ok(()) if !went_out => Err(WRITE_FAULT),
+        Ok(()) if has_found => Err(ProgramFault::Misspelled),
+        Ok(()) => Ok(()),
+    }
+}

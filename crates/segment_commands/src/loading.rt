@@ -1,0 +1,123 @@
+//! The command that makes a segment of a dump, in a new file.
+ghost use Rattle.std.specs.Prelude.{◌≡◌, ◌^◌, ◌-◌, ◌<◌, ℕ, true, false, Some};
+ghost use Rattle.block_tags.specs.Format.{is_legal_size};
+ghost use Rattle.segment_dump.specs.Loading.{IsAsked};
+ghost use Rattle.segment_commands.specs.Loading.{IsFitting, IsLoad, IsMadeIfGiven, IsSizeFit, IsWanted, LoadsDump, LoadsSegment, LoadsWhatFits, load_fault};
+
+use crate::creating::WRITE_FAULT;
+use crate::gathering::read_text;
+use block_tags::is_legal_size;
+use raw_region::Source;
+use segment_cli::{ProgramFault, SessionFault};
+use segment_disk::{Disk, Making, Presence};
+use segment_dump::{LoadError, said_size};
+use segment_file::{region_for, write_image};
+use segment_manager::Segment;
+use std::alloc::Global;
+
+/// Memory was refused.
+const OUT_OF_MEMORY: ProgramFault = ProgramFault::Session(SessionFault::OutOfMemory);
+
+/// How many bytes the segment of a dump is to have: as many as are asked for, or else as the dump says.
+fn wanted_size(text: &[u8], size: Option<u64>) -> u64
+    ensures asked { IsAsked size result }
+    ensures wanted { IsWanted text.now size result }
+{
+    match size {
+        Some(size) => size,
+        None => said_size(text).unwrap_or(0),
+    }
+}
+
+/// Why a load is refused, as the program answers it.
+fn fault_of(error: LoadError) -> ProgramFault
+    ensures { result ≡ load_fault error }
+{
+    match error {
+        LoadError::BadDump(bad) => ProgramFault::BadDump(bad),
+        LoadError::BadSize => ProgramFault::Session(SessionFault::BadSize),
+        LoadError::RegionTooSmall => ProgramFault::Session(SessionFault::RegionTooSmall),
+        LoadError::NoSpace => ProgramFault::NoSpace,
+        LoadError::LongText => OUT_OF_MEMORY,
+    }
+}
+
+/// A segment of a dump, of the size that is asked for, or else with nothing free.
+fn segment_of(alloc: Global, text: &[u8], size: Option<u64>) -> Result<Segment, ProgramFault>
+    ensures loads { LoadsSegment text.now size result }
+    ensures makes { IsFitting text.now size → IsMadeIfGiven result }
+{
+    let Ok(region) = region_for(alloc, wanted_size(text, size)) else {
+        return Err(OUT_OF_MEMORY);
+    };
+    let Ok(mut room) = region_for(alloc, text.len() as u64) else {
+        return Err(OUT_OF_MEMORY);
+    };
+    let capacity = room.capacity();
+    match segment_dump::load(text, room.bytes_mut(0, capacity), region, 0, size) {
+        Ok(segment) => Ok(segment),
+        Err(refused) => Err(fault_of(refused.cause)),
+    }
+}
+
+/// Whether a size is asked for that no segment has.
+fn is_unfit(size: Option<u64>) -> bool
+    ensures unfit { result ≡ true → (asked : ℕ) × (size ≡ Some asked) × (is_legal_size asked ≡ false) }
+    ensures fit { result ≡ false → IsSizeFit size }
+{
+    match size {
+        Some(size) => !is_legal_size(size),
+        None => false,
+    }
+}
+
+/// A segment of the dump that a reader gives. A size that no segment has is refused before the dump is read.
+fn load_dump<S: Source>(
+    alloc: Global,
+    size: Option<u64>,
+    script: &mut S,
+) -> Result<Segment, ProgramFault>
+    requires { (S.history script.old).failures < 2 ^ 64 - 1 }
+    ensures { LoadsDump size (S.history script.old) (S.history script.new) result }
+{
+    if is_unfit(size) {
+        return Err(ProgramFault::Session(SessionFault::BadSize));
+    }
+    match read_text(alloc, script) {
+        Ok(text) => segment_of(alloc, text.as_slice(), size),
+        Err(fault) => Err(ProgramFault::Session(fault)),
+    }
+}
+
+/// Makes a segment of the dump that a reader gives, in a file that is not there: of `size` bytes, or without a size with nothing
+/// free. Notes behind the dump are left out, as those of its capacities. Whatever segment the dump is of, it is loaded where a
+/// segment of the size can have its objects and memory is given.
+///
+/// # Errors
+///
+/// `Exists` where something is there under the path. `BadSize` where no segment has the size. `ReadFault` where the dump can't be
+/// read, and `ScriptTooLong` where it has more than 17179869184 bytes. `BadDump` where it is no dump, with the place, and
+/// `NoSpace` where its objects do not fit the size. `OutOfMemory`. No file is made then. `WriteFault` where the file can't be
+/// made, takes not the whole image, or need not last.
+pub fn load<D: Disk, S: Source>(
+    alloc: Global,
+    disk: &mut D,
+    path: &str,
+    size: Option<u64>,
+    script: &mut S,
+) -> Result<(), ProgramFault>
+    requires { (S.history script.old).failures < 2 ^ 64 - 1 }
+    ensures does { IsLoad D.step disk.old disk.new path.now size (S.history script.old) (S.history script.new) result }
+    ensures succeeds { LoadsWhatFits D.step disk.old disk.new path.now size (S.history script.old) (S.history script.new) result }
+{
+    if disk.look(path) == Presence::There {
+        return Err(ProgramFault::Exists);
+    }
+    match load_dump(alloc, size, script) {
+        Ok(segment) => match write_image(disk, path, Making::New, &segment) {
+            Ok(()) => Ok(()),
+            Err(_) => Err(WRITE_FAULT),
+        },
+        Err(fault) => Err(fault),
+    }
+}

@@ -1,0 +1,49 @@
+//! The opening of the segment in a file.
+ghost use Rattle.std.specs.Prelude.{◌≡◌, ◌^◌, ◌-◌, ◌<◌};
+ghost use Rattle.raw_region.specs.Device.{given_since};
+ghost use Rattle.segment_commands.specs.Opening.{BeginsIn, OpensFile};
+
+use crate::cutting::begin_from;
+use raw_region::Source;
+use segment_cli::{SessionFault, Start, begin};
+use segment_disk::{Disk, Opened};
+use segment_file::{region_for, room_needed};
+use segment_manager::{Mode, Segment};
+use std::alloc::Global;
+
+/// The segment that a session begins with, at the front of a region with room for so many bytes.
+pub(crate) fn begin_in<S: Source>(
+    alloc: Global,
+    start: Start,
+    mode: Mode,
+    reader: &mut S,
+    bytes: u64,
+) -> Result<Segment, SessionFault>
+    requires { (S.history reader.old).failures < 2 ^ 64 - 1 }
+    ensures { BeginsIn start mode (given_since (S.history reader.old) (S.history reader.new)) result }
+{
+    let Ok(region) = region_for(alloc, bytes) else {
+        return Err(SessionFault::OutOfMemory);
+    };
+    begin(alloc, start, mode, reader, region, 0)
+}
+
+/// The segment of the image in a file, at the front of a region with room for so many bytes more. The file is closed.
+pub(crate) fn open_segment<D: Disk>(
+    alloc: Global,
+    disk: &mut D,
+    path: &str,
+    mode: Mode,
+    more: u64,
+) -> Result<Segment, SessionFault>
+    ensures { OpensFile D.step disk.old disk.new path.now mode result }
+{
+    let Ok(opened) = disk.open(path) else {
+        return Err(SessionFault::ReadFault);
+    };
+    let Opened { reader, len, front } = opened;
+    let room = room_needed(len, &front, more);
+    let (begun, reader) = begin_from(alloc, mode, reader, room);
+    disk.close(reader);
+    begun
+}

@@ -1,0 +1,146 @@
+//! The commands that change the size of the segment in a file.
+ghost use Rattle.std.specs.Prelude.{◌≡◌, ◌^◌, ◌-◌, ◌<◌};
+ghost use Rattle.grow_shrink.specs.Resized.{growth_refusal, grown, room_of, shrink_refusal, shrunk};
+ghost use Rattle.segment_commands.specs.Holding.{Holds};
+ghost use Rattle.segment_commands.specs.Resizing.{IsResize, TellsAndWrites, TellsSize, size_line};
+ghost use Rattle.segment_commands.specs.Telling.{Tells};
+
+use crate::creating::WRITE_FAULT;
+use crate::opening::open_segment;
+use grow_shrink::shrink_to_fit;
+use raw_region::DeviceFault;
+use segment_cli::ProgramFault;
+use segment_disk::{Disk, Making, Output};
+use segment_file::write_image;
+use segment_lang::put_number_line;
+use segment_manager::{Mode, Segment};
+use std::alloc::Global;
+
+/// Writes a size as a line, and gives it out.
+fn tell_number<O: Output>(out: &mut O, size: u64) -> Result<(), DeviceFault>
+    requires { (O.history out.old).failures < 2 ^ 64 - 1 }
+    ensures { Tells O.history O.flushes out.old out.new (size_line size) result }
+{
+    put_number_line(out, b"size ", size)?;
+    out.flush()
+}
+
+/// Writes the size of a segment as a line, and gives it out.
+fn tell_size<O: Output>(segment: &Segment, out: &mut O) -> Result<(), DeviceFault>
+    requires { (O.history out.old).failures < 2 ^ 64 - 1 }
+    ensures { TellsSize O.history O.flushes out.old out.new segment.now result }
+{
+    let size = segment.size();
+    tell_number(out, size)
+}
+
+/// Says the size of a segment, and then writes its image to the file that is emptied for it.
+fn tell_and_write<D: Disk, O: Output>(
+    disk: &mut D,
+    path: &str,
+    segment: &Segment,
+    out: &mut O,
+) -> Result<(), DeviceFault>
+    requires { (O.history out.old).failures < 2 ^ 64 - 1 }
+    ensures { TellsAndWrites D.step disk.old disk.new path.now O.history O.flushes out.old out.new segment.now result }
+{
+    match tell_size(segment, out) {
+        Ok(()) => write_image(disk, path, Making::Emptied, segment),
+        Err(fault) => Err(fault),
+    }
+}
+
+/// What [`grow`] does with the right to write the file.
+fn grow_held<D: Disk, O: Output>(
+    alloc: Global,
+    disk: &mut D,
+    path: &str,
+    extra: u64,
+    out: &mut O,
+) -> Result<(), ProgramFault>
+    requires { (O.history out.old).failures < 2 ^ 64 - 1 }
+    ensures { IsResize D.step disk.old disk.new path.now O.history O.flushes out.old out.new
+        (λ s d. growth_refusal s.mode d.size extra (room_of s.cut)) (λ d. grown d extra) result }
+{
+    let mut segment = open_segment(alloc, disk, path, Mode::Write, extra)?;
+    match grow_shrink::grow(&mut segment, extra) {
+        Ok(()) => match tell_and_write(disk, path, &segment, out) {
+            Ok(()) => Ok(()),
+            Err(_) => Err(WRITE_FAULT),
+        },
+        Err(error) => Err(ProgramFault::Growth(error)),
+    }
+}
+
+/// Makes the segment in a file larger by `extra` bytes, says its size, and then writes its image to the file, which is emptied
+/// for it when the size went out.
+///
+/// # Errors
+///
+/// Those of opening it; `Growth` where it does not grow; `WriteFault` where the size does not go out, or the file can't be
+/// emptied, takes not the whole image, or need not last. `InUse` where another has the right to write the file.
+pub fn grow<D: Disk, O: Output>(
+    alloc: Global,
+    disk: &mut D,
+    path: &str,
+    extra: u64,
+    out: &mut O,
+) -> Result<(), ProgramFault>
+    requires { (O.history out.old).failures < 2 ^ 64 - 1 }
+    ensures { Holds D.step disk.old disk.new path.now (out.new ≡ out.old)
+        (λ held done. IsResize D.step held done path.now O.history O.flushes out.old out.new
+        (λ s d. growth_refusal s.mode d.size extra (room_of s.cut)) (λ d. grown d extra) result) result }
+{
+    let Ok(hold) = disk.hold(path) else {
+        return Err(ProgramFault::InUse);
+    };
+    let answer = grow_held(alloc, disk, path, extra, out);
+    disk.release(hold);
+    answer
+}
+
+/// What [`shrink`] does with the right to write the file.
+fn shrink_held<D: Disk, O: Output>(
+    alloc: Global,
+    disk: &mut D,
+    path: &str,
+    out: &mut O,
+) -> Result<(), ProgramFault>
+    requires { (O.history out.old).failures < 2 ^ 64 - 1 }
+    ensures { IsResize D.step disk.old disk.new path.now O.history O.flushes out.old out.new
+        (λ s d. shrink_refusal s.mode) (λ d. shrunk d) result }
+{
+    let mut segment = open_segment(alloc, disk, path, Mode::Write, 0)?;
+    match shrink_to_fit(&mut segment) {
+        Ok(()) => match tell_and_write(disk, path, &segment, out) {
+            Ok(()) => Ok(()),
+            Err(_) => Err(WRITE_FAULT),
+        },
+        Err(error) => Err(ProgramFault::Growth(error)),
+    }
+}
+
+/// Makes the segment in a file as small as its last block lets it be, says its size, and then writes its image to the file,
+/// which is emptied for it when the size went out.
+///
+/// # Errors
+///
+/// Those of [`grow`], but for `Growth`.
+pub fn shrink<D: Disk, O: Output>(
+    alloc: Global,
+    disk: &mut D,
+    path: &str,
+    out: &mut O,
+) -> Result<(), ProgramFault>
+    requires { (O.history out.old).failures < 2 ^ 64 - 1 }
+    ensures { Holds D.step disk.old disk.new path.now (out.new ≡ out.old)
+        (λ held done. IsResize D.step held done path.now O.history O.flushes out.old out.new
+        (λ s d. shrink_refusal s.mode) (λ d. shrunk d) result) result }
+{
+    let Ok(hold) = disk.hold(path) else {
+        return Err(ProgramFault::InUse);
+    };
+    let answer = shrink_held(alloc, disk, path, out);
+    disk.release(hold);
+    answer
+}

@@ -1,0 +1,59 @@
+//! What a command says, and that it went out.
+ghost use Rattle.std.specs.Prelude.{◌≡◌, ◌^◌, ◌-◌, ◌<◌, flat_map};
+ghost use Rattle.segment_scripts.specs.CommandRows.{row_text};
+ghost use Rattle.segment_commands.specs.Commands.{Prints};
+ghost use Rattle.segment_commands.specs.Telling.{Tells};
+
+use crate::creating::WRITE_FAULT;
+use raw_region::{DeviceFault, write_all};
+use segment_cli::ProgramFault;
+use segment_disk::Output;
+use segment_scripts::{CommandRow, put_language};
+
+/// Writes a text, and gives out all that was written.
+pub(crate) fn tell<O: Output>(out: &mut O, text: &[u8]) -> Result<(), DeviceFault>
+    requires { (O.history out.old).failures < 2 ^ 64 - 1 }
+    ensures { Tells O.history O.flushes out.old out.new text.now result }
+{
+    write_all(out, text)?;
+    out.flush()
+}
+
+/// Prints a text that the program has of itself, as its version or its help on the language.
+///
+/// # Errors
+///
+/// `WriteFault` where the output fails.
+pub fn print<O: Output>(out: &mut O, text: &str) -> Result<(), ProgramFault>
+    requires { (O.history out.old).failures < 2 ^ 64 - 1 }
+    ensures { Prints O.history O.flushes out.old out.new text.now result }
+{
+    match tell(out, text.as_bytes()) {
+        Ok(()) => Ok(()),
+        Err(_) => Err(WRITE_FAULT),
+    }
+}
+
+/// Writes the commands of the language, and gives out all that was written.
+fn tell_language<O: Output>(out: &mut O, rows: &[CommandRow]) -> Result<(), DeviceFault>
+    requires { (O.history out.old).failures < 2 ^ 64 - 1 }
+    ensures { Tells O.history O.flushes out.old out.new (flat_map row_text rows.now) result }
+{
+    put_language(out, rows)?;
+    Output::flush(out)
+}
+
+/// Prints the commands of the language, which the rows are.
+///
+/// # Errors
+///
+/// `WriteFault` where the output fails.
+pub fn print_language<O: Output>(out: &mut O, rows: &[CommandRow]) -> Result<(), ProgramFault>
+    requires { (O.history out.old).failures < 2 ^ 64 - 1 }
+    ensures { Prints O.history O.flushes out.old out.new (flat_map row_text rows.now) result }
+{
+    match tell_language(out, rows) {
+        Ok(()) => Ok(()),
+        Err(_) => Err(WRITE_FAULT),
+    }
+}

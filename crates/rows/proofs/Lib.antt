@@ -9,4 +9,3 @@ mod Directories
 mod Containers
 mod Entries
 mod Requests
-mod Reports

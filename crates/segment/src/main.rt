@@ -5,15 +5,15 @@ ghost use Rattle.std.specs.Prelude.{◌≡◌};
 ghost use Rattle.segment_disk.specs.Events.{nothing_taken};
 
 use raw_region::stream::{Reading, Writing};
-use segment_cli::{
-    Answering, Invocation, InvocationFault, ModeName, ProgramFault, Saving, SessionFault, VERSION,
-    invocation, report, report_file,
-};
+use segment_cli::SessionFault;
 use segment_commands::{
-    check, create, draw, dump, dump_capacities, explain, grow, lint, load, migrate, print,
-    print_language, run, run_strict, shrink, stat,
+    ProgramFault, check, create, draw, dump, dump_capacities, explain, grow, lint, load, migrate,
+    print, print_language, report, report_file, run, run_strict, shrink, stat,
 };
 use segment_disk::{HostDisk, Numbered, Outlet, Output, StopsAtError};
+use segment_invocation::{
+    Answering, Invocation, InvocationFault, ModeName, Saving, VERSION, invocation,
+};
 use segment_scripts::{CommandRow, LANGUAGE};
 use std::alloc::{AllocError, Global};
 use std::io::{self, BufWriter, ErrorKind};

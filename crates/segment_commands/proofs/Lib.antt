@@ -6,3 +6,4 @@ mod Linted
 mod Loads
 mod Explained
 mod Reported
+mod ReportedLines

@@ -6,7 +6,7 @@ use Rattle.segment_scripts.specs.Leaves.{Leaves}
 use Rattle.segment_scripts.specs.Linting.{is_at, lint_line, start}
 use Rattle.segment_scripts.specs.declared.faults.RunFault.{RunFault}
 use Rattle.segment_scripts.specs.declared.language.CommandRow.{CommandRow}
-use Rattle.segment_cli.specs.declared.program_faults.ProgramFault.{ProgramFault}
+use Rattle.segment_commands.specs.declared.program_faults.ProgramFault.{ProgramFault}
 use Rattle.segment_commands.specs.Linting.{Lints, answer_of}
 
 pub linted : {O : Type 0} (rows known : List CommandRow) (script script' : Gave) (history : O → Took) (flushes : O → Bool → O → Type 0) (old mid new : O) (ran : Result (Unit {0}) RunFault) (last : ℕ) (found ok : Bool)

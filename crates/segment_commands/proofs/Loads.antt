@@ -16,8 +16,8 @@ use Rattle.segment_dump.specs.Notes.{without_notes}
 use Rattle.segment_dump.specs.Succeeding.{Succeeds}
 use Rattle.segment_cli.specs.declared.faults.SessionFault.{SessionFault}
 use Rattle.segment_cli.specs.declared.faults.SessionFault.TheVariants.{Image as Refused, BadSize, RegionTooSmall, OutOfMemory, ReadFault, WriteFault, ScriptTooLong}
-use Rattle.segment_cli.specs.declared.program_faults.ProgramFault.{ProgramFault}
-use Rattle.segment_cli.specs.declared.program_faults.ProgramFault.TheVariants.{Session}
+use Rattle.segment_commands.specs.declared.program_faults.ProgramFault.{ProgramFault}
+use Rattle.segment_commands.specs.declared.program_faults.ProgramFault.TheVariants.{Session}
 use Rattle.segment_commands.specs.Loading.{IsFitting, IsReadWhole, IsWanted, IsWhyUnread, LoadsDump, load_fault}
 
 -- ---- a segment of a text

@@ -15,7 +15,7 @@ use Rattle.segment_file.specs.Files.{opens}
 use Rattle.segment_commands.specs.Opening.{BeginsIn, OpensFile}
 use Rattle.segment_commands.specs.Commands.{MakesSegment}
 use Rattle.segment_commands.specs.Running.{EndsRun, RunsFree, RunsOpened, RunsReadable, MakesRun}
-use Rattle.segment_cli.specs.declared.program_faults.ProgramFault.{ProgramFault}
+use Rattle.segment_commands.specs.declared.program_faults.ProgramFault.{ProgramFault}
 
 -- what is answered as a segment is answered as no fault
 no_fault : (s : State) (fault : SessionFault) → let answer : Result State SessionFault = Ok s in answer ≡ Err fault → ⊥

@@ -1,7 +1,7 @@
 -- A command that writes a file takes the right to write it first, and is refused where another has it.
 use Rattle.std.specs.Prelude.{◌≡◌, ◌⊎◌, ℕ, false, List, [], ◌∷◌, Result, Err}
-use Rattle.segment_cli.specs.declared.program_faults.ProgramFault.{ProgramFault}
-use Rattle.segment_cli.specs.declared.program_faults.ProgramFault.TheVariants.{InUse}
+use Rattle.segment_commands.specs.declared.program_faults.ProgramFault.{ProgramFault}
+use Rattle.segment_commands.specs.declared.program_faults.ProgramFault.TheVariants.{InUse}
 use Rattle.segment_disk.specs.Events.{Event, Held, After}
 use Rattle.segment_file.specs.Holding.{IsHolding}
 

@@ -11,3 +11,4 @@ pub mod Linting
 pub mod Reporting
 pub mod Explaining
 pub mod Loading
+pub mod Reports

@@ -7,8 +7,8 @@ use Rattle.segment_scripts.specs.declared.faults.RunFault.{RunFault}
 use Rattle.segment_scripts.specs.declared.language.CommandRow.{CommandRow}
 use Rattle.segment_cli.specs.Beginning.{run_fault}
 use Rattle.segment_cli.specs.declared.faults.SessionFault.TheVariants.{WriteFault}
-use Rattle.segment_cli.specs.declared.program_faults.ProgramFault.{ProgramFault}
-use Rattle.segment_cli.specs.declared.program_faults.ProgramFault.TheVariants.{Misspelled, Session}
+use Rattle.segment_commands.specs.declared.program_faults.ProgramFault.{ProgramFault}
+use Rattle.segment_commands.specs.declared.program_faults.ProgramFault.TheVariants.{Misspelled, Session}
 use Rattle.segment_disk.specs.Events.{IsFlushed}
 
 -- a fault of the run is told first, then that not all went out, then that a line is no command

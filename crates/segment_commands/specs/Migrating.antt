@@ -7,8 +7,8 @@ use Rattle.image_check.specs.declared.errors.OpenRefused.{OpenRefused}
 use Rattle.image_check.specs.OpeningAny.{OpensAny}
 use Rattle.segment_cli.specs.declared.faults.SessionFault.{SessionFault}
 use Rattle.segment_cli.specs.declared.faults.SessionFault.TheVariants.{WriteFault}
-use Rattle.segment_cli.specs.declared.program_faults.ProgramFault.{ProgramFault}
-use Rattle.segment_cli.specs.declared.program_faults.ProgramFault.TheVariants.{Session}
+use Rattle.segment_commands.specs.declared.program_faults.ProgramFault.{ProgramFault}
+use Rattle.segment_commands.specs.declared.program_faults.ProgramFault.TheVariants.{Session}
 use Rattle.segment_cli.specs.Beginning.{opened_fault}
 use Rattle.segment_disk.specs.declared.presence.Making.TheVariants.{Emptied}
 use Rattle.segment_disk.specs.Events.{Event, After}

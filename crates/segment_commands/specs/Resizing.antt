@@ -11,8 +11,8 @@ use Rattle.grow_shrink.specs.declared.refusals.GrowError.{GrowError}
 use Rattle.grow_shrink.specs.Resized.{IsRefusedBy}
 use Rattle.segment_cli.specs.declared.faults.SessionFault.{SessionFault}
 use Rattle.segment_cli.specs.declared.faults.SessionFault.TheVariants.{WriteFault}
-use Rattle.segment_cli.specs.declared.program_faults.ProgramFault.{ProgramFault}
-use Rattle.segment_cli.specs.declared.program_faults.ProgramFault.TheVariants.{Growth, Session}
+use Rattle.segment_commands.specs.declared.program_faults.ProgramFault.{ProgramFault}
+use Rattle.segment_commands.specs.declared.program_faults.ProgramFault.TheVariants.{Growth, Session}
 use Rattle.segment_disk.specs.declared.presence.Making.TheVariants.{Emptied}
 use Rattle.segment_disk.specs.Events.{Event}
 use Rattle.segment_file.specs.Files.{WritesImage}

@@ -11,8 +11,8 @@ use Rattle.segment_cli.specs.declared.faults.Start.{Start}
 use Rattle.segment_cli.specs.declared.faults.Start.TheVariants.{Fresh, Image}
 use Rattle.segment_cli.specs.declared.faults.SessionFault.{SessionFault}
 use Rattle.segment_cli.specs.declared.faults.SessionFault.TheVariants.{ReadFault, WriteFault}
-use Rattle.segment_cli.specs.declared.program_faults.ProgramFault.{ProgramFault}
-use Rattle.segment_cli.specs.declared.program_faults.ProgramFault.TheVariants.{Exists, Session}
+use Rattle.segment_commands.specs.declared.program_faults.ProgramFault.{ProgramFault}
+use Rattle.segment_commands.specs.declared.program_faults.ProgramFault.TheVariants.{Exists, Session}
 use Rattle.segment_cli.specs.Beginning.{run_fault}
 use Rattle.segment_cli.specs.Session.{IsSession}
 use Rattle.segment_disk.specs.declared.presence.Making.{Making}

@@ -3,8 +3,8 @@ use Rattle.std.specs.Prelude.{◌≡◌, ℕ, Bool, true, false, List, Option, R
 use Rattle.raw_region.specs.Device.{Gave, Took}
 use Rattle.segment_invocation.specs.declared.invocations.ModeName.{ModeName}
 use Rattle.segment_invocation.specs.declared.invocations.Saving.{Saving}
-use Rattle.segment_cli.specs.declared.program_faults.ProgramFault.{ProgramFault}
-use Rattle.segment_cli.specs.declared.program_faults.ProgramFault.TheVariants.{Stopped}
+use Rattle.segment_commands.specs.declared.program_faults.ProgramFault.{ProgramFault}
+use Rattle.segment_commands.specs.declared.program_faults.ProgramFault.TheVariants.{Stopped}
 use Rattle.segment_disk.specs.declared.stopping.Watch.TheVariants.{Word}
 use Rattle.segment_disk.specs.ErrorLines.{is_over, watched}
 use Rattle.segment_disk.specs.Events.{Event}

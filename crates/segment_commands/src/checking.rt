@@ -4,8 +4,8 @@ ghost use Rattle.segment_commands.specs.Commands.{IsCheck};
 
 use crate::creating::WRITE_FAULT;
 use crate::opening::open_segment;
+use crate::program_faults::ProgramFault;
 use crate::telling::tell;
-use segment_cli::ProgramFault;
 use segment_disk::{Disk, Output};
 use segment_manager::Mode;
 use std::alloc::Global;

@@ -2,9 +2,10 @@
 ghost use Rattle.segment_commands.specs.Commands.{IsCreate, MakesSegment};
 
 use crate::opening::begin_in;
+use crate::program_faults::ProgramFault;
 use block_tags::is_legal_size;
 use raw_region::stream::Reading;
-use segment_cli::{ProgramFault, SessionFault, Start};
+use segment_cli::{SessionFault, Start};
 use segment_disk::{Disk, Making, Presence};
 use segment_file::write_image;
 use segment_manager::{Mode, Segment};

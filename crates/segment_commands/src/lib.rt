@@ -1,4 +1,4 @@
-//! What each command of the program does to a file, over any disk.
+//! What each command of the program does to a file, over any disk, and what it says of a fault.
 #![tactic(auto)]
 
 mod answering;
@@ -14,7 +14,9 @@ mod loading;
 mod migrating;
 mod modes;
 mod opening;
+mod program_faults;
 mod reporting;
+mod reports;
 mod resizing;
 mod running;
 mod strict;
@@ -27,7 +29,9 @@ pub use linting::lint;
 pub use loading::load;
 pub use migrating::migrate;
 pub use modes::run;
+pub use program_faults::ProgramFault;
 pub use reporting::{draw, dump, dump_capacities, stat};
+pub use reports::{report, report_file};
 pub use resizing::{grow, shrink};
 pub use running::{run_in_new_file, run_on_file, run_on_file_or_new};
 pub use strict::run_strict;

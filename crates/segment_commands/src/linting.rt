@@ -4,8 +4,9 @@ ghost use Rattle.segment_commands.specs.Linting.{Lints, answer_of};
 
 use crate::answering::Flushing;
 use crate::creating::WRITE_FAULT;
+use crate::program_faults::ProgramFault;
 use raw_region::Source;
-use segment_cli::{ProgramFault, SessionFault};
+use segment_cli::SessionFault;
 use segment_disk::Output;
 use segment_scripts::{CommandRow, Lint, RunFault, run_followed};
 

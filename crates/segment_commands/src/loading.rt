@@ -6,9 +6,10 @@ ghost use Rattle.segment_commands.specs.Loading.{IsFitting, IsLoad, IsMadeIfGive
 
 use crate::creating::WRITE_FAULT;
 use crate::gathering::read_text;
+use crate::program_faults::ProgramFault;
 use block_tags::is_legal_size;
 use raw_region::Source;
-use segment_cli::{ProgramFault, SessionFault};
+use segment_cli::SessionFault;
 use segment_disk::{Disk, Making, Presence};
 use segment_dump::{LoadError, said_size};
 use segment_file::{region_for, write_image};

@@ -5,8 +5,9 @@ ghost use Rattle.segment_commands.specs.Migrating.{IsMigrate, OpensAnyFile};
 
 use crate::creating::WRITE_FAULT;
 use crate::cutting::begin_any_from;
+use crate::program_faults::ProgramFault;
 use crate::telling::tell;
-use segment_cli::{ProgramFault, SessionFault};
+use segment_cli::SessionFault;
 use segment_disk::{Disk, Making, Opened, Output};
 use segment_file::{room_needed, write_image};
 use segment_manager::Segment;

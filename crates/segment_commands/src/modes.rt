@@ -3,10 +3,11 @@ ghost use Rattle.std.specs.Prelude.{◌≡◌, ◌^◌, ◌-◌, ◌<◌};
 ghost use Rattle.segment_disk.specs.Events.{IsFlushed};
 ghost use Rattle.segment_commands.specs.Modes.{RunsInMode, making_of};
 
+use crate::program_faults::ProgramFault;
 use crate::running::{run_in_new_file, run_on_file, run_on_file_or_new};
 use raw_region::Source;
-use segment_cli::{ModeName, ProgramFault, Saving};
 use segment_disk::{Disk, Making, Output};
+use segment_invocation::{ModeName, Saving};
 use segment_manager::Mode;
 use std::alloc::Global;
 

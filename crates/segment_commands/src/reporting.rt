@@ -9,8 +9,8 @@ ghost use Rattle.segment_commands.specs.Reporting.{IsReport, TellsOf};
 
 use crate::creating::WRITE_FAULT;
 use crate::opening::open_segment;
+use crate::program_faults::ProgramFault;
 use raw_region::DeviceFault;
-use segment_cli::ProgramFault;
 use segment_disk::{Disk, Output};
 use segment_manager::{Mode, Segment};
 use std::alloc::Global;

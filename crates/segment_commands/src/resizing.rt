@@ -7,9 +7,9 @@ ghost use Rattle.segment_commands.specs.Telling.{Tells};
 
 use crate::creating::WRITE_FAULT;
 use crate::opening::open_segment;
+use crate::program_faults::ProgramFault;
 use grow_shrink::shrink_to_fit;
 use raw_region::DeviceFault;
-use segment_cli::ProgramFault;
 use segment_disk::{Disk, Making, Output};
 use segment_file::write_image;
 use segment_lang::put_number_line;

@@ -6,8 +6,9 @@ ghost use Rattle.segment_commands.specs.Running.{MakesRun, RunsAnyFile, RunsFile
 use crate::answering::answer_and_save;
 use crate::creating::new_segment;
 use crate::opening::open_segment;
+use crate::program_faults::ProgramFault;
 use raw_region::Source;
-use segment_cli::{ProgramFault, SessionFault};
+use segment_cli::SessionFault;
 use segment_disk::{Disk, Making, Output, Presence};
 use segment_manager::Mode;
 use std::alloc::Global;

@@ -4,9 +4,10 @@ ghost use Rattle.segment_disk.specs.Events.{IsFlushed};
 ghost use Rattle.segment_commands.specs.Strict.{RunsStrictly};
 
 use crate::modes::run;
+use crate::program_faults::ProgramFault;
 use raw_region::Source;
-use segment_cli::{ModeName, ProgramFault, Saving};
 use segment_disk::{Disk, Stopping};
+use segment_invocation::{ModeName, Saving};
 use std::alloc::Global;
 
 /// Runs a script as [`run`] does, up to the first answer that is an error: its line is the last that goes out, and nothing is

@@ -5,8 +5,8 @@ ghost use Rattle.segment_commands.specs.Commands.{Prints};
 ghost use Rattle.segment_commands.specs.Telling.{Tells};
 
 use crate::creating::WRITE_FAULT;
+use crate::program_faults::ProgramFault;
 use raw_region::{DeviceFault, write_all};
-use segment_cli::ProgramFault;
 use segment_disk::Output;
 use segment_scripts::{CommandRow, put_language};
 

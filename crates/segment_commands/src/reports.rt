@@ -1,14 +1,14 @@
 //! What the program says of a fault, and the status that it ends with.
 ghost use Rattle.std.specs.Prelude.{◌≡◌, ◌++◌, ◌-◌, ◌^◌, ◌<◌, codes};
 ghost use Rattle.raw_region.specs.Device.{Writes};
-ghost use Rattle.segment_cli.specs.Reports.{HasFixedLine, Puts, bad_dump_line, dump_words, fault_text, growth_name, line, session_status, session_words, status_of, trouble_text, trouble_words};
+ghost use Rattle.segment_commands.specs.Reports.{HasFixedLine, Puts, bad_dump_line, dump_words, fault_text, growth_name, line, session_status, session_words, status_of, trouble_text, trouble_words};
 ghost use Rattle.segment_cli.specs.declared.faults.SessionFault.TheVariants.{Image};
 
-use crate::faults::SessionFault;
 use crate::program_faults::ProgramFault;
 use grow_shrink::GrowError;
 use image_check::ImageClass;
 use raw_region::{DeviceFault, Sink, write_all};
+use segment_cli::SessionFault;
 use segment_disk::Trouble;
 use segment_dump::{BadDump, DumpFault};
 use segment_lang::{Piece, put_pieces};

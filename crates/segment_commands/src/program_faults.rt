@@ -1,9 +1,9 @@
 //! Why the program fails.
 ghost use Rattle.std.specs.Prelude.{◌≡◌};
-ghost use Rattle.segment_cli.specs.declared.program_faults.ProgramFault.TheVariants.{Growth, Session};
+ghost use Rattle.segment_commands.specs.declared.program_faults.ProgramFault.TheVariants.{Growth, Session};
 
-use crate::faults::SessionFault;
 use grow_shrink::GrowError;
+use segment_cli::SessionFault;
 use segment_dump::BadDump;
 use thiserror::Error;
 

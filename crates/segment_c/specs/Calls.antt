@@ -23,3 +23,11 @@ IsAsked wrong code old new P = (s : State) → wrong ≡ 0 → old ≡ Some s �
 -- a call that makes an object leaves bytes of gaps where there was no space, and else changes nothing where it is refused
 abbrev pub KeepsRefused : ℕ → Option State → Option State → Type 0
 KeepsRefused code old new = 1 ≤ code → code ≢ 9 → new ≡ old
+
+-- a call is refused before it reaches the segment, by the code of an argument or since the handle is closed, and changes nothing
+pub record IsRefused (wrong code : ℕ) (old new : Option State) : Type 0 where
+  pub refused : 1 ≤ code
+  pub stopped : IsStopped wrong code old new
+  pub closed : IsClosed wrong code old new
+  pub none : wrong ≡ 0 → old ≡ None
+  pub same : new ≡ old

@@ -5,7 +5,7 @@ use Rattle.segment_manager.specs.Directory.{Directory}
 use Rattle.segment_manager.specs.Resized.{grown}
 use Rattle.segment_manager.specs.State.{State, StandsFor}
 use Rattle.segment_manager.specs.Step.{is_read_only}
-use Rattle.grow_shrink.specs.Resized.{growth_refusal, room_of}
+use Rattle.grow_shrink.specs.Resized.{growth_refusal}
 use Rattle.segment_c.specs.Resizing.{size_code}
 
 -- open as it was, and each directory has so many bytes more; the segment may lie in another region then
@@ -25,9 +25,3 @@ pub record IsShortOfRoom (s : State) (extra : ℕ) : Type 0 where
   pub long : 32 ≤ extra
   pub whole : extra % 16 ≡ 0
   pub small : length s.cut.bytes + extra ≤ 1073741824
-
--- a copy of a segment, in a region with room for so many bytes from its base on
-pub record IsCopyWithRoom (s t : State) (bytes : ℕ) : Type 0 where
-  pub bytes_same : t.cut.bytes ≡ s.cut.bytes
-  pub mode : t.mode ≡ s.mode
-  pub room : bytes ≤ room_of t.cut

@@ -1,4 +1,20 @@
-//! What the functions that C calls have in common.
+//! How a call begins: what C passes is read, and the segment is taken out of its handle.
+ghost use Rattle.std.specs.Prelude.{◌≡◌, ◌≢◌, MatchResult};
+ghost use Rattle.std.specs.declared.option.Option.TheVariants.{None, Some};
+ghost use Rattle.seg_types.specs.Keys.{index_key_seen, key_seen, new_key_seen};
+ghost use Rattle.seg_types.specs.Names.{NoKey};
+ghost use Rattle.segment_c.specs.Calls.{IsRefused};
+ghost use Rattle.segment_c.specs.Passed.{entry_of, entry_wrong, key_of, key_wrong, literal_in, new_of, new_wrong, or_else, row_wrong, scalar_kind_in, value_wrong};
+ghost use Rattle.segment_manager.specs.NewObjects.{IsOfKind};
+ghost use Rattle.segment_values.specs.Literals.{literal_seen};
+
+use crate::handle::{Handle, take};
+use crate::keys::ObjectKey;
+use crate::rows::Values;
+use crate::values::Value;
+use seg_types::{IndexKey, Key, Kind, NewKey, ScalarKind, ScalarValue};
+use segment_manager::Segment;
+use std::alloc::Global;
 
 /// What is passed, read; where it is refused, its code is the call's.
 macro_rules! passed {
@@ -10,25 +26,79 @@ macro_rules! passed {
     };
 }
 
-/// The code of a call on the segment of a handle; or that the handle is closed.
-macro_rules! on_segment {
-    ($alloc:ident, $h:ident, $segment:ident => $call:expr) => {{
-        let Some($segment) = $crate::handle::take($alloc, $h) else {
-            return $crate::codes::CLOSED;
-        };
-        let code = $call;
-        $crate::handle::put($h, $segment);
-        code
-    }};
-    ($alloc:ident, $h:ident, mut $segment:ident => $call:expr) => {{
-        let Some(mut $segment) = $crate::handle::take($alloc, $h) else {
-            return $crate::codes::CLOSED;
-        };
-        let code = $call;
-        $crate::handle::put($h, $segment);
-        code
-    }};
+pub(crate) use passed;
+
+/// The key of an object that is there, and the segment.
+pub fn enter<'a>(
+    alloc: Global,
+    h: &mut Handle,
+    key: &ObjectKey<'a>,
+) -> Result<(Key<'a>, Box<Segment>), u32>
+    ensures { MatchResult result (λ it. (key_wrong key.now ≡ 0) × (key_seen it.0 ≡ key_of key.now) × (key_seen it.0 ≢ NoKey) × (h.old.value ≡ Some it.1.value) × (h.new.value ≡ None))
+        (λ code. IsRefused (key_wrong key.now) code h.old.value h.new.value) }
+{
+    let which = key.key()?;
+    Ok((which, take(alloc, h)?))
 }
 
-pub(crate) use on_segment;
-pub(crate) use passed;
+/// The same, and a value that is passed.
+pub fn enter_with<'a>(
+    alloc: Global,
+    h: &mut Handle,
+    key: &ObjectKey<'a>,
+    value: &Value,
+) -> Result<(Key<'a>, ScalarValue, Box<Segment>), u32>
+    ensures { MatchResult result (λ it. (or_else (key_wrong key.now) (value_wrong value.now) ≡ 0) × (key_seen it.0 ≡ key_of key.now) × (literal_in value.now ≡ literal_seen it.1) × (h.old.value ≡ Some it.2.value) × (h.new.value ≡ None))
+        (λ code. IsRefused (or_else (key_wrong key.now) (value_wrong value.now)) code h.old.value h.new.value) }
+{
+    let which = key.key()?;
+    let scalar = value.scalar()?;
+    Ok((which, scalar, take(alloc, h)?))
+}
+
+/// The same, and the kind of a row of values.
+pub fn enter_row<'a>(
+    alloc: Global,
+    h: &mut Handle,
+    key: &ObjectKey<'a>,
+    values: &Values<'_>,
+) -> Result<(Key<'a>, ScalarKind, Box<Segment>), u32>
+    ensures { MatchResult result (λ it. (or_else (key_wrong key.now) (row_wrong values.now) ≡ 0) × (key_seen it.0 ≡ key_of key.now) × (it.1 ≡ scalar_kind_in values.now.kind) × (h.old.value ≡ Some it.2.value) × (h.new.value ≡ None))
+        (λ code. IsRefused (or_else (key_wrong key.now) (row_wrong values.now)) code h.old.value h.new.value) }
+{
+    let which = key.key()?;
+    let kind = values.scalar_kind()?;
+    Ok((which, kind, take(alloc, h)?))
+}
+
+/// The key under which a new object of a kind is made, and the segment.
+pub fn enter_new<'a>(
+    alloc: Global,
+    h: &mut Handle,
+    key: &ObjectKey<'a>,
+    kind: Kind,
+) -> Result<(NewKey<'a>, Box<Segment>), u32>
+    ensures { MatchResult result (λ it. (new_wrong key.now kind ≡ 0) × (new_key_seen it.0 ≡ new_of key.now kind) × IsOfKind (new_key_seen it.0) kind × (h.old.value ≡ Some it.1.value) × (h.new.value ≡ None))
+        (λ code. IsRefused (new_wrong key.now kind) code h.old.value h.new.value) }
+{
+    let which = if key.how == 3 {
+        NewKey::Anonymous
+    } else {
+        key.entry(kind)?.into_new_key()
+    };
+    Ok((which, take(alloc, h)?))
+}
+
+/// The entry under which an object of a kind is found or made, and the segment.
+pub fn enter_entry<'a>(
+    alloc: Global,
+    h: &mut Handle,
+    key: &ObjectKey<'a>,
+    kind: Kind,
+) -> Result<(IndexKey<'a>, Box<Segment>), u32>
+    ensures { MatchResult result (λ it. (entry_wrong key.now kind ≡ 0) × (index_key_seen it.0 ≡ entry_of key.now kind) × IsOfKind (index_key_seen it.0) kind × (h.old.value ≡ Some it.1.value) × (h.new.value ≡ None))
+        (λ code. IsRefused (entry_wrong key.now kind) code h.old.value h.new.value) }
+{
+    let which = key.entry(kind)?;
+    Ok((which, take(alloc, h)?))
+}

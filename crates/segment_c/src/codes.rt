@@ -1,15 +1,18 @@
 //! The codes that C is answered: those of refusals are their numbers in the language.
 ghost use Rattle.std.specs.Prelude.{◌≡◌, ◌≤◌, IsTrue};
+ghost use Rattle.std.specs.declared.option.Option.TheVariants.{Some as Held};
 ghost use Rattle.seg_types.specs.Refusals.{refusal_number};
 ghost use Rattle.segment_c.specs.Codes.{answer_for, is_answer};
 ghost use Rattle.segment_c.specs.Passed.{element_in};
 ghost use Rattle.segment_manager.specs.Answers.{Answer, Done, Found, Made, Refused, Truth};
 ghost use Rattle.segment_manager.specs.Found.{found_answer, pair_answer};
 ghost use Rattle.segment_manager.specs.Maps.{any_value_answer};
-ghost use Rattle.segment_manager.specs.State.{done_answer, gone_answer, handle_answer, scalar_answer, truth_answer};
+ghost use Rattle.segment_manager.specs.State.{done_answer, handle_answer, scalar_answer, truth_answer};
 
+use crate::handle::{Handle, put};
 use crate::values::Value;
-use seg_types::{Handle, Refusal, ScalarValue};
+use seg_types::{Refusal, ScalarValue};
+use segment_manager::Segment;
 
 /// Done.
 pub const DONE: u32 = 0;
@@ -94,77 +97,110 @@ pub fn code_of(why: Refusal) -> u32
     }
 }
 
-/// The code where a command is done, or not.
-pub fn done(done: Result<(), Refusal>) -> u32
+/// The code where a command is done, or not. This and those below put the segment back into the handle.
+pub fn done(done: Result<(), Refusal>, h: &mut Handle, segment: Box<Segment>) -> u32
     ensures answers { answer_for result Done ≡ done_answer done }
     ensures answer { IsTrue (is_answer result) }
+    ensures put { h.new.value ≡ Held segment.value }
 {
+    put(DONE, h, segment);
     code_for!(done, () => {})
 }
 
 /// The code where an object was made, or not. Its handle goes out.
-pub fn made(made: Result<Handle, Refusal>, handle: &mut u64) -> u32
+pub fn made(
+    made: Result<u64, Refusal>,
+    handle: &mut u64,
+    h: &mut Handle,
+    segment: Box<Segment>,
+) -> u32
     ensures answers { answer_for result (Made handle.new) ≡ handle_answer made }
     ensures answer { IsTrue (is_answer result) }
     ensures kept { 1 ≤ result → handle.new ≡ handle.old }
+    ensures put { h.new.value ≡ Held segment.value }
 {
+    put(DONE, h, segment);
     code_for!(made, at => *handle = at)
 }
 
 /// The code where something holds, or not. Whether it does goes out.
-pub fn truth(truth: Result<bool, Refusal>, holds: &mut bool) -> u32
+pub fn truth(
+    truth: Result<bool, Refusal>,
+    holds: &mut bool,
+    h: &mut Handle,
+    segment: Box<Segment>,
+) -> u32
     ensures answers { answer_for result (Truth holds.new) ≡ truth_answer truth }
     ensures answer { IsTrue (is_answer result) }
     ensures kept { 1 ≤ result → holds.new ≡ holds.old }
+    ensures put { h.new.value ≡ Held segment.value }
 {
+    put(DONE, h, segment);
     code_for!(truth, it => *holds = it)
 }
 
 /// The code where an element was asked for, or not. It goes out.
-pub fn element(element: Result<ScalarValue, Refusal>, value: &mut Value) -> u32
+pub fn element(
+    element: Result<ScalarValue, Refusal>,
+    value: &mut Value,
+    h: &mut Handle,
+    segment: Box<Segment>,
+) -> u32
     ensures answers { answer_for result (element_in value.new) ≡ scalar_answer element }
     ensures answer { IsTrue (is_answer result) }
     ensures kept { 1 ≤ result → value.new ≡ value.old }
+    ensures put { h.new.value ≡ Held segment.value }
 {
+    put(DONE, h, segment);
     code_for!(element, it => *value = Value::of(it))
 }
 
 /// The code where an object was found or made, or not. Its handle and how many elements it has go out.
-pub fn found(found: Result<(Handle, u32), Refusal>, handle: &mut u64, count: &mut u32) -> u32
+pub fn found(
+    found: Result<(u64, u32), Refusal>,
+    handle: &mut u64,
+    count: &mut u32,
+    h: &mut Handle,
+    segment: Box<Segment>,
+) -> u32
     ensures answers { answer_for result (Found handle.new count.new) ≡ pair_answer found }
     ensures answer { IsTrue (is_answer result) }
     ensures kept { 1 ≤ result → (handle.new ≡ handle.old) × (count.new ≡ count.old) }
+    ensures put { h.new.value ≡ Held segment.value }
 {
+    put(DONE, h, segment);
     code_for!(found, (at, many) => { *handle = at; *count = many; })
 }
 
 /// The same where none may be there.
 pub fn found_or_absent(
-    found: Result<Option<(Handle, u32)>, Refusal>,
+    found: Result<Option<(u64, u32)>, Refusal>,
     handle: &mut u64,
     count: &mut u32,
+    h: &mut Handle,
+    segment: Box<Segment>,
 ) -> u32
     ensures answers { answer_for result (Found handle.new count.new) ≡ found_answer found }
     ensures answer { IsTrue (is_answer result) }
     ensures kept { 1 ≤ result → (handle.new ≡ handle.old) × (count.new ≡ count.old) }
+    ensures put { h.new.value ≡ Held segment.value }
 {
+    put(DONE, h, segment);
     code_for!(found, Some((at, many)) => { *handle = at; *count = many; })
 }
 
-/// The code where an object was destroyed, or not, and whether there was one, which goes out.
-pub fn gone(gone: Result<(), Refusal>, was_there: &mut bool) -> u32
-    ensures answers { answer_for result (Truth was_there.new) ≡ gone_answer gone }
-    ensures answer { IsTrue (is_answer result) }
-    ensures kept { 1 ≤ result → was_there.new ≡ was_there.old }
-{
-    code_for!(gone, () => *was_there = true)
-}
-
 /// The code where a value was looked for: it goes out where it is there.
-pub fn value_found(found: Result<Option<ScalarValue>, Refusal>, value: &mut Value) -> u32
+pub fn value_found(
+    found: Result<Option<ScalarValue>, Refusal>,
+    value: &mut Value,
+    h: &mut Handle,
+    segment: Box<Segment>,
+) -> u32
     ensures answers { answer_for result (element_in value.new) ≡ any_value_answer found }
     ensures answer { IsTrue (is_answer result) }
     ensures kept { 1 ≤ result → value.new ≡ value.old }
+    ensures put { h.new.value ≡ Held segment.value }
 {
+    put(DONE, h, segment);
     code_for!(found, Some(it) => *value = Value::of(it))
 }

@@ -1,18 +1,25 @@
 //! Elements of objects of scalars, of vectors and of strings.
-ghost use Rattle.std.specs.Prelude.{◌≡◌, ◌≤◌};
-ghost use Rattle.seg_types.specs.Commands.{Erase, Get, Insert, Push, Set};
+ghost use Rattle.std.specs.Prelude.{◌≡◌, ◌≤◌, OnErr};
+ghost use Rattle.seg_types.specs.Commands.{Erase, Get, Insert, Pop, Push, Set};
+ghost use Rattle.seg_types.specs.Keys.{key_seen};
+ghost use Rattle.seg_types.specs.declared.kinds.Kind.TheVariants.{Texts as TextsKind, Vector as VectorOf};
 ghost use Rattle.segment_c.specs.Calls.{IsAsked, IsClosed, IsStopped};
 ghost use Rattle.segment_c.specs.Codes.{answer_for};
 ghost use Rattle.segment_c.specs.Passed.{element_in, key_of, key_wrong, literal_in, or_else, value_wrong};
-ghost use Rattle.segment_manager.specs.Answers.{Done};
+ghost use Rattle.segment_c.specs.Reads.{vector_kind, vector_kind_at};
+ghost use Rattle.segment_manager.specs.Answers.{Done, refusal_of};
 ghost use Rattle.segment_manager.specs.Calls.{scalar_reply};
-ghost use Rattle.segment_manager.specs.State.{Answers, IsStep};
+ghost use Rattle.segment_manager.specs.State.{Answers, IsStep, IsStepOfKind, Moves, scalar_answer};
+ghost use Rattle.segment_manager.specs.Step.{step_of_kind};
+ghost use Rattle.segment_manager.specs.TextLists.{LeadsOnOfKind};
 
-use crate::calls::{on_segment, passed};
+use crate::calls::{enter, enter_with, passed};
 use crate::codes::{done, element};
 use crate::handle::Handle;
 use crate::keys::ObjectKey;
 use crate::values::Value;
+use seg_types::{Key, Kind, Refusal, ScalarKind, ScalarValue};
+use segment_manager::{Segment, locate};
 use std::alloc::Global;
 
 /// The element at `index` in the object of a key: of scalars, of a vector of scalars, or of a string, which has bytes.
@@ -31,8 +38,8 @@ pub extern "C" fn zx_get(
     ensures same { h.new.value ≡ h.old.value }
     ensures results { 1 ≤ result → value.new ≡ value.old }
 {
-    let which = passed!(key.key());
-    on_segment!(alloc, h, segment => element(segment.get_any(&which, index), value))
+    let (which, segment) = passed!(enter(alloc, h, key));
+    element(segment.get_any(&which, index), value, h, segment)
 }
 
 /// Makes a value the element at `index` in the object of a key: of scalars, of a vector of scalars, or of a string.
@@ -50,9 +57,9 @@ pub extern "C" fn zx_set(
         (λ s t. IsStep s t (Set (key_of key.now) index (literal_in value.now)) (answer_for result Done)) }
     ensures kept { 1 ≤ result → h.new.value ≡ h.old.value }
 {
-    let which = passed!(key.key());
-    let new = passed!(value.scalar());
-    on_segment!(alloc, h, mut segment => done(segment_values::set(&mut segment, &which, index, new)))
+    let (which, new, mut segment) = passed!(enter_with(alloc, h, key, value));
+    let answer = segment_values::set(&mut segment, &which, index, new);
+    done(answer, h, segment)
 }
 
 /// Puts a value behind the last element of the vector of a key.
@@ -64,9 +71,8 @@ pub extern "C" fn zx_push(alloc: Global, h: &mut Handle, key: &ObjectKey<'_>, va
         (λ s t. IsStep s t (Push (key_of key.now) (literal_in value.now)) (answer_for result Done)) }
     ensures kept { 1 ≤ result → h.new.value ≡ h.old.value }
 {
-    let which = passed!(key.key());
-    let new = passed!(value.scalar());
-    on_segment!(alloc, h, mut segment => done(segment_values::push(&mut segment, &which, new)))
+    let (which, new, mut segment) = passed!(enter_with(alloc, h, key, value));
+    done(segment_values::push(&mut segment, &which, new), h, segment)
 }
 
 /// Puts a value where `index` others stand before it in the vector of a key.
@@ -84,9 +90,9 @@ pub extern "C" fn zx_insert(
         (λ s t. IsStep s t (Insert (key_of key.now) index (literal_in value.now)) (answer_for result Done)) }
     ensures kept { 1 ≤ result → h.new.value ≡ h.old.value }
 {
-    let which = passed!(key.key());
-    let new = passed!(value.scalar());
-    on_segment!(alloc, h, mut segment => done(segment_values::insert(&mut segment, &which, index, new)))
+    let (which, new, mut segment) = passed!(enter_with(alloc, h, key, value));
+    let answer = segment_values::insert(&mut segment, &which, index, new);
+    done(answer, h, segment)
 }
 
 /// Leaves out the element at `index` in the vector of a key, of scalars or of strings.
@@ -98,6 +104,96 @@ pub extern "C" fn zx_erase(alloc: Global, h: &mut Handle, key: &ObjectKey<'_>, i
         (λ s t. IsStep s t (Erase (key_of key.now) index) (answer_for result Done)) }
     ensures kept { 1 ≤ result → h.new.value ≡ h.old.value }
 {
-    let which = passed!(key.key());
-    on_segment!(alloc, h, mut segment => done(segment_values::erase(&mut segment, &which, index)))
+    let (which, mut segment) = passed!(enter(alloc, h, key));
+    let answer = segment_values::erase(&mut segment, &which, index);
+    done(answer, h, segment)
+}
+
+/// Takes the last element out of the vector of a key, a vector of scalars.
+#[unsafe(no_mangle)]
+pub extern "C" fn zx_pop(
+    alloc: Global,
+    h: &mut Handle,
+    key: &ObjectKey<'_>,
+    value: &mut Value,
+) -> u32
+    ensures stopped { IsStopped (key_wrong key.now) result h.old.value h.new.value }
+    ensures closed { IsClosed (key_wrong key.now) result h.old.value h.new.value }
+    ensures asked { IsAsked (key_wrong key.now) result h.old.value h.new.value
+        (λ s t. Moves s t (answer_for result (element_in value.new)) (λ d. step_of_kind s.mode d (key_of key.now) (VectorOf (vector_kind_at d (key_of key.now))) (Pop (key_of key.now)))) }
+    ensures kept { 1 ≤ result → h.new.value ≡ h.old.value }
+    ensures results { 1 ≤ result → value.new ≡ value.old }
+{
+    let (which, mut segment) = passed!(enter(alloc, h, key));
+    element(pop(&mut segment, &which), value, h, segment)
+}
+
+/// The same of a segment.
+fn pop(segment: &mut Segment, key: &Key) -> Result<ScalarValue, Refusal>
+    ensures step { Moves segment.old segment.new (scalar_answer result) (λ d. step_of_kind segment.old.mode d (key_seen key.now) (VectorOf (vector_kind_at d (key_seen key.now))) (Pop (key_seen key.now))) }
+    ensures refused { OnErr result (segment.new ≡ segment.old) }
+{
+    let kind = kind_of_vector(segment, key);
+    pop_of_kind(segment, key, kind)
+}
+
+/// The last element of a vector of a type, taken out, with its kind beside it.
+macro_rules! popped {
+    ($segment:ident, $key:ident, $type:ty, $kind:ident) => {
+        match $segment.vec_pop::<$type, Key>($key) {
+            Ok(it) => Ok(ScalarValue::$kind(it)),
+            Err(why) => Err(why),
+        }
+    };
+}
+
+/// The same of a vector of scalars of a kind.
+fn pop_of_kind(segment: &mut Segment, key: &Key, kind: ScalarKind) -> Result<ScalarValue, Refusal>
+    ensures step { IsStepOfKind segment.old segment.new (key_seen key.now) (VectorOf kind) (Pop (key_seen key.now)) (scalar_answer result) }
+    ensures refused { OnErr result (segment.new ≡ segment.old) }
+{
+    match kind {
+        ScalarKind::Bool => popped!(segment, key, bool, Bool),
+        ScalarKind::U8 => popped!(segment, key, u8, U8),
+        ScalarKind::I32 => popped!(segment, key, i32, I32),
+        ScalarKind::I64 => popped!(segment, key, i64, I64),
+        ScalarKind::U64 => popped!(segment, key, u64, U64),
+    }
+}
+
+/// The kind of the elements of the vector of a key; where it has no vector of scalars, one kind or another, by which
+/// the call is refused.
+fn kind_of_vector(segment: &Segment, key: &Key) -> ScalarKind
+    ensures { Answers segment.now (λ d. vector_kind_at d (key_seen key.now)) result }
+{
+    match locate(segment, key) {
+        Ok(object) => element_kind(object.kind),
+        Err(_) => ScalarKind::U8,
+    }
+}
+
+/// The kind of the elements of a vector of a kind.
+fn element_kind(kind: Kind) -> ScalarKind
+    ensures { result ≡ vector_kind kind }
+{
+    match kind {
+        Kind::Vector(element) => element,
+        Kind::Scalar(_) => ScalarKind::U8,
+        Kind::Text => ScalarKind::U8,
+        Kind::Map(_, _) => ScalarKind::U8,
+        Kind::Texts => ScalarKind::U8,
+    }
+}
+
+/// Takes the last text out of the vector of strings of a key. It is read before by `zx_read_text`.
+#[unsafe(no_mangle)]
+pub extern "C" fn zx_pop_text(alloc: Global, h: &mut Handle, key: &ObjectKey<'_>) -> u32
+    ensures stopped { IsStopped (key_wrong key.now) result h.old.value h.new.value }
+    ensures closed { IsClosed (key_wrong key.now) result h.old.value h.new.value }
+    ensures asked { IsAsked (key_wrong key.now) result h.old.value h.new.value
+        (λ s t. LeadsOnOfKind s t (key_of key.now) TextsKind (Pop (key_of key.now)) (refusal_of (answer_for result Done))) }
+    ensures kept { 1 ≤ result → h.new.value ≡ h.old.value }
+{
+    let (which, mut segment) = passed!(enter(alloc, h, key));
+    done(segment.texts_pop(&which), h, segment)
 }

@@ -1,10 +1,12 @@
 //! The handle that C holds: a pointer to a segment, or null.
-ghost use Rattle.std.specs.Prelude.{◌≡◌, MatchOption};
+ghost use Rattle.std.specs.Prelude.{◌≡◌, MatchOption, MatchResult};
 ghost use Rattle.std.specs.declared.option.Option.{Option};
 ghost use Rattle.std.specs.declared.option.Option.TheVariants.{None, Some};
+ghost use Rattle.segment_c.specs.Calls.{IsRefused};
 ghost use Rattle.segment_c.specs.Held.{held};
 ghost use Rattle.segment_manager.specs.contracts.Segment.{the_row};
 
+use crate::codes::CLOSED;
 use boxed::LooseBox;
 use segment_manager::Segment;
 use std::alloc::Global;
@@ -69,18 +71,21 @@ impl Drop for Handle {
     }
 }
 
-/// Takes the segment out of a handle, which has none then, for the time of a call.
-pub fn take(alloc: Global, handle: &mut Handle) -> Option<Box<Segment>>
-    ensures taken { MatchOption result (handle.old.value ≡ None) (λ segment. handle.old.value ≡ Some segment.value) }
-    ensures left { handle.new.value ≡ None }
+/// Takes the segment out of a handle, which has none then, for the time of a call; or answers that it is closed.
+pub fn take(alloc: Global, handle: &mut Handle) -> Result<Box<Segment>, u32>
+    ensures { MatchResult result (λ segment. (handle.old.value ≡ Some segment.value) × (handle.new.value ≡ None)) (λ code. IsRefused 0 code handle.old.value handle.new.value) }
 {
-    let segment = std::mem::replace(handle, Handle::closed(alloc)).into_loose()?;
-    Some(segment.into_box())
+    match std::mem::replace(handle, Handle::closed(alloc)).into_loose() {
+        Some(segment) => Ok(segment.into_box()),
+        None => Err(CLOSED),
+    }
 }
 
-/// Puts a segment into a handle. One that it had is freed.
-pub fn put(handle: &mut Handle, segment: Box<Segment>)
-    ensures { handle.new.value ≡ Some segment.value }
+/// Puts a segment into a handle at the end of a call, and answers the call's code. What the handle had is freed.
+pub fn put(code: u32, handle: &mut Handle, segment: Box<Segment>) -> u32
+    ensures put { handle.new.value ≡ Some segment.value }
+    ensures code { result ≡ code }
 {
     *handle = Handle::of(LooseBox::from_box(segment));
+    code
 }

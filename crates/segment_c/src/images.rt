@@ -1,23 +1,29 @@
-//! Segments made, opened, saved, moved and closed.
-ghost use Rattle.std.specs.Prelude.{◌≡◌, ◌≢◌, ◌≤◌, ◌⊎◌, ◌↔◌, IfErr, IfOk, IsTrue, MatchOption, MatchResult, false};
+//! Segments made, opened, looked at, saved and closed.
+ghost use Rattle.std.specs.Prelude.{◌≡◌, ◌≢◌, ◌≤◌, ◌⊎◌, ◌↔◌, ◌+◌, IfErr, IfOk, IsTrue, MatchOption, MatchResult, false, length};
 ghost use Rattle.std.specs.declared.option.Option.TheVariants.{None, Some};
 ghost use Rattle.block_tags.specs.Format.{is_legal_size};
+ghost use Rattle.image_check.specs.Classes.{number_of};
 ghost use Rattle.raw_region.specs.Memory.{zeros};
+ghost use Rattle.raw_region.specs.Regions.{IsCapacity};
 ghost use Rattle.seg_types.specs.Commands.{Free, Size};
-ghost use Rattle.segment_c.specs.Calls.{IsAsked, IsClosed, Opened};
+ghost use Rattle.segment_c.specs.Calls.{IsAsked, IsClosed, IsStopped, Opened};
 ghost use Rattle.segment_c.specs.Codes.{answer_for};
-ghost use Rattle.segment_c.specs.Images.{Saves, mode_code};
+ghost use Rattle.segment_c.specs.Images.{Saves, mode_code, mode_of, mode_wrong};
+ghost use Rattle.segment_c.specs.Opening.{IsImageOpened, IsNoImage, IsWhyNotOpened, capacity_wrong, size_said};
+ghost use Rattle.segment_c.specs.Passed.{or_else};
 ghost use Rattle.segment_manager.specs.Answers.{Number};
 ghost use Rattle.segment_manager.specs.Calls.{IsCreated};
 ghost use Rattle.segment_manager.specs.Resized.{room_behind};
-ghost use Rattle.segment_manager.specs.State.{IsReply, State};
+ghost use Rattle.segment_manager.specs.State.{IsReply, IsSegment, State};
 ghost use Rattle.segment_manager.specs.declared.modes.Mode.TheVariants.{Write};
 
-use crate::calls::{on_segment, passed};
-use crate::codes::{BAD_SIZE, DONE, NO_MEMORY, SHORT_BUFFER};
-use crate::handle::{Handle, put};
+use crate::calls::passed;
+use crate::codes::{BAD_IMAGE, BAD_MODE, BAD_SIZE, DONE, NO_MEMORY, SHORT_BUFFER, SHORT_REGION};
+use crate::handle::{Handle, put, take};
+use crate::resizing::{LARGEST_REGION, capacity_for};
 use block_tags::is_legal_size;
-use raw_region::RawRegion;
+use image_check::{FRONT, ImageClass, OpenError, open_bytes, size_in};
+use raw_region::{RawRegion, Steps};
 use segment_manager::{Mode, Segment};
 use std::alloc::Global;
 
@@ -31,8 +37,7 @@ pub extern "C" fn zx_create(alloc: Global, h: &mut Handle, size: u64) -> u32
     ensures kept { 1 ≤ result → h.new.value ≡ h.old.value }
 {
     let segment = passed!(new_segment(alloc, size));
-    put(h, segment);
-    DONE
+    put(DONE, h, segment)
 }
 
 /// Frees the segment. A closed handle stays closed.
@@ -51,7 +56,9 @@ pub extern "C" fn zx_size(alloc: Global, h: &mut Handle, size: &mut u64) -> u32
     ensures same { h.new.value ≡ h.old.value }
     ensures kept { 1 ≤ result → size.new ≡ size.old }
 {
-    on_segment!(alloc, h, segment => { *size = segment.size(); DONE })
+    let segment = passed!(take(alloc, h));
+    *size = segment.size();
+    put(DONE, h, segment)
 }
 
 /// The bytes of all gaps, their tags included.
@@ -62,7 +69,9 @@ pub extern "C" fn zx_free_bytes(alloc: Global, h: &mut Handle, free_bytes: &mut 
     ensures same { h.new.value ≡ h.old.value }
     ensures kept { 1 ≤ result → free_bytes.new ≡ free_bytes.old }
 {
-    on_segment!(alloc, h, segment => { *free_bytes = segment.free(); DONE })
+    let segment = passed!(take(alloc, h));
+    *free_bytes = segment.free();
+    put(DONE, h, segment)
 }
 
 /// How the segment is open.
@@ -73,7 +82,9 @@ pub extern "C" fn zx_mode(alloc: Global, h: &mut Handle, mode: &mut u32) -> u32
     ensures same { h.new.value ≡ h.old.value }
     ensures kept { 1 ≤ result → mode.new ≡ mode.old }
 {
-    on_segment!(alloc, h, segment => { *mode = code_of_mode(segment.mode()); DONE })
+    let segment = passed!(take(alloc, h));
+    *mode = code_of_mode(segment.mode());
+    put(DONE, h, segment)
 }
 
 /// The number of bytes of the region behind the segment.
@@ -84,7 +95,9 @@ pub extern "C" fn zx_region_left(alloc: Global, h: &mut Handle, left: &mut u64) 
     ensures same { h.new.value ≡ h.old.value }
     ensures kept { 1 ≤ result → left.new ≡ left.old }
 {
-    on_segment!(alloc, h, segment => { *left = segment.region_left(); DONE })
+    let segment = passed!(take(alloc, h));
+    *left = segment.region_left();
+    put(DONE, h, segment)
 }
 
 /// Copies the image to the front of the buffer.
@@ -95,7 +108,8 @@ pub extern "C" fn zx_save(alloc: Global, h: &mut Handle, image: &mut [u8]) -> u3
     ensures same { h.new.value ≡ h.old.value }
     ensures kept { 1 ≤ result → image.new ≡ image.old }
 {
-    on_segment!(alloc, h, segment => copy_out(segment.as_bytes(), image))
+    let segment = passed!(take(alloc, h));
+    put(copy_out(segment.as_bytes(), image), h, segment)
 }
 
 /// Copies bytes to the front of a buffer, where it has room for them.
@@ -140,11 +154,132 @@ fn new_segment(alloc: Global, size: u64) -> Result<Box<Segment>, u32>
 }
 
 /// A segment in a box.
-pub fn boxed_or_not(alloc: Global, segment: Segment) -> Result<Box<Segment>, u32>
+fn boxed_or_not(alloc: Global, segment: Segment) -> Result<Box<Segment>, u32>
     ensures { MatchResult result (λ s. s.value ≡ segment) (λ code. code ≡ 26) }
 {
     match Box::new(alloc, segment) {
         Ok(segment) => Ok(segment),
         Err(_) => Err(NO_MEMORY),
     }
+}
+
+/// The segment whose image the bytes are, in a region of `capacity` bytes. What the handle had is freed. The handle is
+/// as it was unless the code is 0.
+#[unsafe(no_mangle)]
+pub extern "C" fn zx_open(
+    alloc: Global,
+    h: &mut Handle,
+    image: &[u8],
+    capacity: u64,
+    mode: u32,
+) -> u32
+    ensures stopped { IsStopped (or_else (capacity_wrong capacity) (mode_wrong mode)) result h.old.value h.new.value }
+    ensures opened { result ≡ 0 → Opened h.new.value (λ t. IsImageOpened image.now capacity (mode_of mode) t) }
+    ensures why { or_else (capacity_wrong capacity) (mode_wrong mode) ≡ 0 → 1 ≤ result → IsWhyNotOpened image.now capacity result }
+    ensures kept { 1 ≤ result → h.new.value ≡ h.old.value }
+{
+    if capacity < 16 || capacity > LARGEST_REGION || capacity % 16 != 0 {
+        return BAD_SIZE;
+    }
+    let Some(mode) = mode_for(mode) else {
+        return BAD_MODE;
+    };
+    let segment = passed!(open_boxed(alloc, image, capacity, mode));
+    put(DONE, h, segment)
+}
+
+/// Whether the bytes are the image of a segment.
+#[unsafe(no_mangle)]
+pub extern "C" fn zx_check(alloc: Global, image: &[u8]) -> u32
+    ensures holds { result ≡ 0 → IsSegment image.now }
+    ensures why { 1 ≤ result → IsNoImage image.now result }
+{
+    match checked(alloc, image) {
+        Ok(_) => DONE,
+        Err(code) => code,
+    }
+}
+
+/// The segment whose image the bytes are, in a region for as many bytes as they say. None is made where they are fewer.
+///
+/// # Errors
+///
+/// The code.
+fn checked(alloc: Global, image: &[u8]) -> Result<Segment, u32>
+    ensures { MatchResult result (λ s. IsSegment image.now) (λ code. (1 ≤ code) × IsNoImage image.now code) }
+{
+    let size = size_said(image);
+    if (image.len() as u64) < size {
+        return Err(class_code(ImageClass::Truncated));
+    }
+    let Ok(region) = RawRegion::new(alloc, capacity_for(size)) else {
+        return Err(NO_MEMORY);
+    };
+    match open_in(alloc, image, region, Mode::ReadOnly) {
+        Ok(segment) => Ok(segment),
+        Err(code) => Err(code),
+    }
+}
+
+/// The size that the first bytes say, or 0 where they say none.
+fn size_said(image: &[u8]) -> u64
+    ensures { result ≡ size_said image.now }
+{
+    if image.len() < FRONT {
+        return 0;
+    }
+    size_in(image).unwrap_or(0)
+}
+
+/// The mode of a code.
+fn mode_for(code: u32) -> Option<Mode>
+    ensures { MatchOption result (mode_wrong code ≡ 23) (λ mode. (mode_wrong code ≡ 0) × (mode ≡ mode_of code)) }
+{
+    match code {
+        0 => Some(Mode::Write),
+        1 => Some(Mode::ReadOnly),
+        2 => Some(Mode::CopyOnWrite),
+        _ => None,
+    }
+}
+
+/// The segment whose image the bytes are, in a box.
+fn open_boxed(alloc: Global, image: &[u8], capacity: u64, mode: Mode) -> Result<Box<Segment>, u32>
+    requires { IsCapacity capacity }
+    ensures { MatchResult result (λ s. IsImageOpened image.now capacity mode s.value) (λ code. (1 ≤ code) × IsWhyNotOpened image.now capacity code) }
+{
+    let Ok(region) = RawRegion::new(alloc, capacity) else {
+        return Err(NO_MEMORY);
+    };
+    match open_in(alloc, image, region, mode) {
+        Ok(segment) => boxed_or_not(alloc, segment),
+        Err(code) => Err(code),
+    }
+}
+
+/// The segment whose image the bytes are, at the front of the region.
+///
+/// # Errors
+///
+/// The code.
+fn open_in(alloc: Global, image: &[u8], region: RawRegion, mode: Mode) -> Result<Segment, u32>
+    requires { region ≡ zeros (length region) }
+    ensures { MatchResult result (IsImageOpened image.now (length region) mode) (λ code. (1 ≤ code) × IsWhyNotOpened image.now (length region) code) }
+{
+    match open_bytes(alloc, image, region, 0, mode, &mut Steps::new()) {
+        Ok(segment) => Ok(segment),
+        Err(refused) => match refused.cause {
+            OpenError::Image(class) => Err(class_code(class)),
+            OpenError::RegionTooSmall => Err(SHORT_REGION),
+            OpenError::OutOfMemory => Err(NO_MEMORY),
+            OpenError::ReadFault => unreachable!(),
+        },
+    }
+}
+
+/// The code of a class of images.
+fn class_code(class: ImageClass) -> u32
+    ensures { result ≡ 100 + number_of class }
+{
+    BAD_IMAGE + u32::from(class.number())
 }

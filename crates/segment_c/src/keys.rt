@@ -1,11 +1,12 @@
 //! The keys that C passes.
-ghost use Rattle.std.specs.Prelude.{◌≡◌, ◌≤◌, MatchResult};
-ghost use Rattle.seg_types.specs.Keys.{index_key_seen, key_seen, new_key_seen};
-ghost use Rattle.segment_c.specs.Passed.{entry_of, entry_wrong, key_of, key_wrong, new_of, new_wrong};
+ghost use Rattle.std.specs.Prelude.{◌≡◌, ◌≢◌, ◌≤◌, MatchResult};
+ghost use Rattle.seg_types.specs.Keys.{index_key_seen, key_seen};
+ghost use Rattle.seg_types.specs.Names.{NoKey};
+ghost use Rattle.segment_c.specs.Passed.{entry_of, entry_wrong, key_of, key_wrong};
 ghost use Rattle.segment_manager.specs.NewObjects.{IsOfKind};
 
 use crate::codes::{BAD_KEY, BAD_KIND, BAD_NAME, NULL_SLICE};
-use seg_types::{IndexKey, Key, Kind, Name, NewKey};
+use seg_types::{IndexKey, Key, Kind, Name};
 
 /// Which object: by `how`, the one of the name (0), the unique one of the kind (1), the one of the handle (2); or a new
 /// one with no key (3). 4 stands for a null name.
@@ -24,7 +25,7 @@ impl<'a> ObjectKey<'a> {
     ///
     /// The code by which it is refused.
     pub fn key(&self) -> Result<Key<'a>, u32>
-        ensures { MatchResult result (λ key. (key_wrong self.now ≡ 0) × (key_seen key ≡ key_of self.now)) (λ code. (code ≡ key_wrong self.now) × (1 ≤ code)) }
+        ensures { MatchResult result (λ key. (key_wrong self.now ≡ 0) × (key_seen key ≡ key_of self.now) × (key_seen key ≢ NoKey)) (λ code. (code ≡ key_wrong self.now) × (1 ≤ code)) }
     {
         match self.how {
             0 => match Name::new(self.name) {
@@ -64,24 +65,6 @@ impl<'a> ObjectKey<'a> {
             }
             4 => Err(NULL_SLICE),
             _ => Err(BAD_KEY),
-        }
-    }
-
-    /// The key under which a new object of a kind is made.
-    ///
-    /// # Errors
-    ///
-    /// The code by which it is refused.
-    pub fn new_key(&self, kind: Kind) -> Result<NewKey<'a>, u32>
-        ensures { MatchResult result (λ key. (new_wrong self.now kind ≡ 0) × (new_key_seen key ≡ new_of self.now kind) × IsOfKind (new_key_seen key) kind)
-            (λ code. (code ≡ new_wrong self.now kind) × (1 ≤ code)) }
-    {
-        if self.how == 3 {
-            return Ok(NewKey::Anonymous);
-        }
-        match self.entry(kind) {
-            Ok(entry) => Ok(entry.into_new_key()),
-            Err(code) => Err(code),
         }
     }
 }

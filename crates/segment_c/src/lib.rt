@@ -3,21 +3,15 @@
 //! and change nothing.
 #![tactic(auto)]
 
-mod arrays;
 mod calls;
 mod codes;
-mod destroying;
 mod elements;
-mod growing;
 mod handle;
 mod images;
 mod keys;
 mod lists;
 mod maps;
-mod neighbours;
 mod objects;
-mod opening;
-mod popping;
 mod ranges;
 mod reading;
 mod resizing;

@@ -14,12 +14,12 @@ ghost use Rattle.segment_manager.specs.Directory.{Directory, Object, live, named
 ghost use Rattle.segment_manager.specs.Instances.{IsInstance};
 ghost use Rattle.segment_manager.specs.State.{IsReply, StandsFor, State};
 
-use crate::calls::{on_segment, passed};
-use crate::codes::{DONE, NOT_FOUND, OUT_OF_RANGE, SHORT_BUFFER, code_of};
-use crate::handle::Handle;
+use crate::calls::{enter, passed};
+use crate::codes::{DONE, NOT_FOUND, OUT_OF_RANGE, SHORT_BUFFER};
+use crate::handle::{Handle, put, take};
 use crate::keys::ObjectKey;
 use block_tags::Role;
-use seg_types::{Class, Key, Refusal};
+use seg_types::{Class, Key};
 use segment_manager::conditioned::{named_instance, unique_instance};
 use segment_manager::{Instance, Segment};
 use std::alloc::Global;
@@ -109,6 +109,22 @@ fn tell_unique(segment: &Segment, index: u64, info: &mut Info) -> u32
     DONE
 }
 
+/// The block or gap with `index` others before it.
+fn tell_tile(segment: &Segment, index: u64, block: &mut Block) -> u32
+    ensures told { (d : Directory) → StandsFor segment.now.cut.bytes d → TellsBlock block.new result (slice_get (spans (live d)) index) }
+    ensures kept { 1 ≤ result → block.new ≡ block.old }
+{
+    let Some(span) = segment.tile(index) else {
+        return OUT_OF_RANGE;
+    };
+    *block = Block {
+        offset: span.offset,
+        len: span.len,
+        use_of: use_code(span.use_of),
+    };
+    DONE
+}
+
 /// The code of how an object is found again.
 fn class_code(class: Class) -> u32
     ensures { result ≡ class_code class }
@@ -148,8 +164,8 @@ pub extern "C" fn zx_tell(
     ensures same { h.new.value ≡ h.old.value }
     ensures results { 1 ≤ result → (info.new ≡ info.old) × (name.new ≡ name.old) }
 {
-    let which = passed!(key.key());
-    on_segment!(alloc, h, segment => tell_key(&segment, &which, info, name))
+    let (which, segment) = passed!(enter(alloc, h, key));
+    put(tell_key(&segment, &which, info, name), h, segment)
 }
 
 /// What the object says of itself whose name has `index` others before it, in the order of their bytes.
@@ -166,7 +182,8 @@ pub extern "C" fn zx_named_at(
     ensures same { h.new.value ≡ h.old.value }
     ensures results { 1 ≤ result → (info.new ≡ info.old) × (name.new ≡ name.old) }
 {
-    on_segment!(alloc, h, segment => tell_named(&segment, index, info, name))
+    let segment = passed!(take(alloc, h));
+    put(tell_named(&segment, index, info, name), h, segment)
 }
 
 /// What the unique object says of itself whose kind has `index` others before it, in the order of their codes.
@@ -177,7 +194,8 @@ pub extern "C" fn zx_unique_at(alloc: Global, h: &mut Handle, index: u64, info: 
     ensures same { h.new.value ≡ h.old.value }
     ensures results { 1 ≤ result → info.new ≡ info.old }
 {
-    on_segment!(alloc, h, segment => tell_unique(&segment, index, info))
+    let segment = passed!(take(alloc, h));
+    put(tell_unique(&segment, index, info), h, segment)
 }
 
 /// The block or gap with `index` others before it.
@@ -188,17 +206,8 @@ pub extern "C" fn zx_tile_at(alloc: Global, h: &mut Handle, index: u64, block: &
     ensures same { h.new.value ≡ h.old.value }
     ensures results { 1 ≤ result → block.new ≡ block.old }
 {
-    on_segment!(alloc, h, segment => match segment.tile(index) {
-        Some(span) => {
-            *block = Block {
-                offset: span.offset,
-                len: span.len,
-                use_of: use_code(span.use_of),
-            };
-            DONE
-        }
-        None => code_of(Refusal::OutOfRange),
-    })
+    let segment = passed!(take(alloc, h));
+    put(tell_tile(&segment, index, block), h, segment)
 }
 
 /// The number of objects with names.
@@ -209,7 +218,9 @@ pub extern "C" fn zx_num_named(alloc: Global, h: &mut Handle, count: &mut u64) -
     ensures same { h.new.value ≡ h.old.value }
     ensures results { 1 ≤ result → count.new ≡ count.old }
 {
-    on_segment!(alloc, h, segment => { *count = segment.num_named(); DONE })
+    let segment = passed!(take(alloc, h));
+    *count = segment.num_named();
+    put(DONE, h, segment)
 }
 
 /// The number of kinds with a unique object.
@@ -220,5 +231,7 @@ pub extern "C" fn zx_num_unique(alloc: Global, h: &mut Handle, count: &mut u64) 
     ensures same { h.new.value ≡ h.old.value }
     ensures results { 1 ≤ result → count.new ≡ count.old }
 {
-    on_segment!(alloc, h, segment => { *count = segment.num_unique(); DONE })
+    let segment = passed!(take(alloc, h));
+    *count = segment.num_unique();
+    put(DONE, h, segment)
 }

@@ -1,19 +1,28 @@
-//! Maps.
-ghost use Rattle.std.specs.Prelude.{◌≡◌, ◌≤◌};
-ghost use Rattle.seg_types.specs.Commands.{Lookup, Put, Remove};
+//! Maps: values at keys, and neighbours.
+ghost use Rattle.std.specs.Prelude.{◌≡◌, ◌≤◌, Some};
+ghost use Rattle.std.specs.declared.option.Option.TheVariants.{Some as Held};
+ghost use Rattle.seg_types.specs.Commands.{Literal, Lookup, Put, Remove};
+ghost use Rattle.seg_types.specs.Keys.{key_seen};
 ghost use Rattle.segment_c.specs.Calls.{IsAsked, IsClosed, IsStopped};
 ghost use Rattle.segment_c.specs.Codes.{answer_for};
 ghost use Rattle.segment_c.specs.Passed.{element_in, key_of, key_wrong, literal_in, or_else, value_wrong};
+ghost use Rattle.segment_c.specs.Reads.{TellsPair, TellsPairOf, first_at, next_at};
 ghost use Rattle.segment_manager.specs.Answers.{Truth};
+ghost use Rattle.segment_manager.specs.Directory.{Directory};
 ghost use Rattle.segment_manager.specs.Keeping.{KeepsWhere};
-ghost use Rattle.segment_manager.specs.State.{IsReply, IsStep};
+ghost use Rattle.segment_manager.specs.State.{IsReply, IsStep, StandsFor, State};
 ghost use Rattle.segment_values.specs.Absent.{LacksLiteral};
+ghost use Rattle.segment_values.specs.Literals.{literal_seen};
 
-use crate::calls::{on_segment, passed};
-use crate::codes::{truth, value_found};
-use crate::handle::Handle;
+use crate::calls::{enter, enter_with, passed};
+use crate::codes::{ABSENT, DONE, NOT_FOUND, WRONG_KIND, code_of, truth, value_found};
+use crate::handle::{Handle, put, take};
 use crate::keys::ObjectKey;
 use crate::values::Value;
+use seg_types::{Key, Kind, ScalarValue};
+use segment_manager::conditioned::{first_pair, next_pair};
+use segment_manager::{Segment, locate};
+use segment_values::value_as;
 use std::alloc::Global;
 
 /// The value at a key of the map of a key.
@@ -32,9 +41,9 @@ pub extern "C" fn zx_map_get(
     ensures same { h.new.value ≡ h.old.value }
     ensures results { 1 ≤ result → value.new ≡ value.old }
 {
-    let which = passed!(key.key());
-    let wanted = passed!(at.scalar());
-    on_segment!(alloc, h, segment => value_found(segment_values::look_up(&segment, &which, wanted), value))
+    let (which, wanted, segment) = passed!(enter_with(alloc, h, key, at));
+    let answer = segment_values::look_up(&segment, &which, wanted);
+    value_found(answer, value, h, segment)
 }
 
 /// Puts a value at a key of the map of a key, and says whether that is new.
@@ -57,8 +66,9 @@ pub extern "C" fn zx_map_put(
     let which = passed!(key.key());
     let new_key = passed!(at.scalar());
     let new_value = passed!(value.scalar());
-    on_segment!(alloc, h, mut segment =>
-        truth(segment_values::put_pair(&mut segment, &which, new_key, new_value), is_new))
+    let mut segment = passed!(take(alloc, h));
+    let answer = segment_values::put_pair(&mut segment, &which, new_key, new_value);
+    truth(answer, is_new, h, segment)
 }
 
 /// Takes a key out of the map of a key, and says whether it was there. Where it was not, nothing changes.
@@ -79,7 +89,94 @@ pub extern "C" fn zx_map_erase(
     ensures kept { 1 ≤ result → h.new.value ≡ h.old.value }
     ensures results { 1 ≤ result → was_there.new ≡ was_there.old }
 {
-    let which = passed!(key.key());
-    let gone = passed!(at.scalar());
-    on_segment!(alloc, h, mut segment => truth(segment_values::erase_pair(&mut segment, &which, gone), was_there))
+    let (which, gone, mut segment) = passed!(enter_with(alloc, h, key, at));
+    let answer = segment_values::erase_pair(&mut segment, &which, gone);
+    truth(answer, was_there, h, segment)
+}
+
+/// The pair with the least key of the map of a key.
+#[unsafe(no_mangle)]
+pub extern "C" fn zx_map_first(
+    alloc: Global,
+    h: &mut Handle,
+    key: &ObjectKey<'_>,
+    at: &mut Value,
+    value: &mut Value,
+) -> u32
+    ensures stopped { IsStopped (key_wrong key.now) result h.old.value h.new.value }
+    ensures closed { IsClosed (key_wrong key.now) result h.old.value h.new.value }
+    ensures told { (s : State) → key_wrong key.now ≡ 0 → h.old.value ≡ Held s → (d : Directory) → StandsFor s.cut.bytes d
+        → TellsPair at.new value.new result (first_at d (key_of key.now)) }
+    ensures same { h.new.value ≡ h.old.value }
+    ensures results { 1 ≤ result → (at.new ≡ at.old) × (value.new ≡ value.old) }
+{
+    let (which, segment) = passed!(enter(alloc, h, key));
+    put(first(&segment, &which, at, value), h, segment)
+}
+
+/// The same of a segment.
+fn first(segment: &Segment, key: &Key, at: &mut Value, value: &mut Value) -> u32
+    ensures told { (d : Directory) → StandsFor segment.now.cut.bytes d → TellsPair at.new value.new result (first_at d (key_seen key.now)) }
+    ensures kept { 1 ≤ result → (at.new ≡ at.old) × (value.new ≡ value.old) }
+{
+    match locate(segment, key) {
+        Err(_) => NOT_FOUND,
+        Ok(object) => match object.kind {
+            Kind::Map(keys, values) => pair_out(first_pair(segment, key, keys, values), at, value),
+            _ => WRONG_KIND,
+        },
+    }
+}
+
+/// The pair with the least key above `after` of the map of a key.
+#[unsafe(no_mangle)]
+pub extern "C" fn zx_map_next(
+    alloc: Global,
+    h: &mut Handle,
+    key: &ObjectKey<'_>,
+    after: &Value,
+    at: &mut Value,
+    value: &mut Value,
+) -> u32
+    ensures stopped { IsStopped (or_else (key_wrong key.now) (value_wrong after.now)) result h.old.value h.new.value }
+    ensures closed { IsClosed (or_else (key_wrong key.now) (value_wrong after.now)) result h.old.value h.new.value }
+    ensures told { (s : State) → or_else (key_wrong key.now) (value_wrong after.now) ≡ 0 → h.old.value ≡ Held s → (d : Directory) → StandsFor s.cut.bytes d
+        → TellsPair at.new value.new result (next_at d (key_of key.now) (literal_in after.now)) }
+    ensures same { h.new.value ≡ h.old.value }
+    ensures results { 1 ≤ result → (at.new ≡ at.old) × (value.new ≡ value.old) }
+{
+    let (which, below, segment) = passed!(enter_with(alloc, h, key, after));
+    put(next(&segment, &which, below, at, value), h, segment)
+}
+
+/// The same of a segment.
+fn next(segment: &Segment, key: &Key, after: ScalarValue, at: &mut Value, value: &mut Value) -> u32
+    ensures told { (d : Directory) → StandsFor segment.now.cut.bytes d → TellsPair at.new value.new result (next_at d (key_seen key.now) (literal_seen after)) }
+    ensures kept { 1 ≤ result → (at.new ≡ at.old) × (value.new ≡ value.old) }
+{
+    match locate(segment, key) {
+        Err(_) => NOT_FOUND,
+        Ok(object) => match object.kind {
+            Kind::Map(keys, values) => match value_as(keys, after) {
+                Err(why) => code_of(why),
+                Ok(below) => pair_out(next_pair(segment, key, below, values), at, value),
+            },
+            _ => WRONG_KIND,
+        },
+    }
+}
+
+/// A pair goes out, where there is one.
+fn pair_out(pair: Option<(ScalarValue, ScalarValue)>, at: &mut Value, value: &mut Value) -> u32
+    ensures told { TellsPairOf at.new value.new result pair }
+    ensures kept { 1 ≤ result → (at.new ≡ at.old) × (value.new ≡ value.old) }
+{
+    match pair {
+        Some((its_key, its_value)) => {
+            *at = Value::of(its_key);
+            *value = Value::of(its_value);
+            DONE
+        }
+        None => ABSENT,
+    }
 }

@@ -1,25 +1,53 @@
 //! Objects made, found and destroyed.
-ghost use Rattle.std.specs.Prelude.{◌≡◌, ◌≤◌, map, replicate};
-ghost use Rattle.seg_types.specs.declared.kinds.Kind.TheVariants.{Map as MapOf, Scalar as ScalarOf, Text as TextKind, Texts as TextsKind, Vector as VectorOf};
+ghost use Rattle.std.specs.Prelude.{◌≡◌, ◌≤◌, ◌≢◌, MatchResult, OnErr, Some, map, replicate, ℕ};
 ghost use Rattle.seg_types.specs.Commands.{Bytes, Construct, Elements, Find, FindOrConstruct, NoPairs, Numbers, Strings};
+ghost use Rattle.seg_types.specs.Keys.{key_seen};
+ghost use Rattle.seg_types.specs.Names.{NoKey};
+ghost use Rattle.seg_types.specs.Values.{kind_of_scalar, value_of_scalar};
+ghost use Rattle.seg_types.specs.declared.kinds.Kind.TheVariants.{Map as MapOf, Scalar as ScalarOf, Text as TextKind, Texts as TextsKind, Vector as VectorOf};
 ghost use Rattle.segment_c.specs.Calls.{IsAsked, IsClosed, IsStopped, KeepsRefused};
 ghost use Rattle.segment_c.specs.Codes.{answer_for};
-ghost use Rattle.segment_c.specs.Passed.{count_wrong, entry_of, entry_wrong, key_of, key_wrong, kind_in, kind_wrong, new_of, new_wrong, object_kind_in, or_else, row_of, row_wrong, scalar_kind_in, scalar_kind_wrong, value_wrong, whole_in};
-ghost use Rattle.segment_manager.specs.Answers.{Found, Made};
-ghost use Rattle.segment_manager.specs.Keeping.{HasKey, KeepsWhere};
-ghost use Rattle.segment_manager.specs.State.{IsReply, IsStep};
+ghost use Rattle.segment_c.specs.Destroying.{destroy_command};
+ghost use Rattle.segment_c.specs.Passed.{count_wrong, entry_of, entry_wrong, key_of, key_wrong, kind_in, kind_wrong, new_of, new_wrong, object_kind_in, or_else, row_of, row_wrong, scalar_in, scalar_kind_in, scalar_kind_of, scalar_kind_wrong, value_wrong, whole_in};
+ghost use Rattle.segment_manager.specs.Answers.{Found, Made, Truth};
+ghost use Rattle.segment_manager.specs.Keeping.{HasKey, KeepsWhere, LacksKey};
+ghost use Rattle.segment_manager.specs.State.{IsReply, IsStep, truth_answer};
 
-use crate::calls::{on_segment, passed};
-use crate::codes::{BAD_COUNT, BAD_KIND, found, found_or_absent, made};
-use crate::handle::Handle;
+use crate::calls::{enter, enter_entry, enter_new, passed};
+use crate::codes::{BAD_COUNT, BAD_KIND, found, found_or_absent, made, truth};
+use crate::handle::{Handle, take};
 use crate::keys::ObjectKey;
 use crate::rows::Values;
 use crate::values::{Value, scalar_kind};
-use seg_types::Kind;
+use seg_types::{IndexKey, Key, Kind, Refusal, ScalarKind, ScalarValue};
+use segment_manager::Segment;
 use std::alloc::Global;
 
 /// The most scalars of an object.
 pub(crate) const MOST: u32 = 1_048_576;
+
+/// The value of so many scalars.
+fn scalars(value: &Value, count: u32) -> Result<ScalarValue, u32>
+    ensures { MatchResult result (λ new. (scalar_in value.now ≡ Some (kind_of_scalar new, value_of_scalar new)) × (1 ≤ count) × (count ≤ 1048576))
+        (λ code. (1 ≤ code) × ((next : ℕ) → code ≡ or_else (value_wrong value.now) (or_else (count_wrong count) next))) }
+{
+    let new = value.scalar()?;
+    if count < 1 || count > MOST {
+        return Err(BAD_COUNT);
+    }
+    Ok(new)
+}
+
+/// The kinds of a map's keys and values.
+fn map_kinds(keys: u32, values: u32) -> Result<(ScalarKind, ScalarKind), u32>
+    ensures { MatchResult result (λ kinds. (scalar_kind_of keys ≡ Some kinds.0) × (scalar_kind_of values ≡ Some kinds.1))
+        (λ code. (1 ≤ code) × ((next : ℕ) → code ≡ or_else (scalar_kind_wrong keys) (or_else (scalar_kind_wrong values) next))) }
+{
+    match (scalar_kind(keys), scalar_kind(values)) {
+        (Some(of_keys), Some(of_values)) => Ok((of_keys, of_values)),
+        _ => Err(BAD_KIND),
+    }
+}
 
 /// Makes `count` times a value.
 #[unsafe(no_mangle)]
@@ -38,12 +66,10 @@ pub extern "C" fn zx_construct(
     ensures refused { KeepsRefused result h.old.value h.new.value }
     ensures results { 1 ≤ result → handle.new ≡ handle.old }
 {
-    let new = passed!(value.scalar());
-    if count < 1 || count > MOST {
-        return BAD_COUNT;
-    }
-    let which = passed!(key.new_key(Kind::Scalar(new.kind())));
-    on_segment!(alloc, h, mut segment => made(segment.construct_value(&which, count, new), handle))
+    let new = passed!(scalars(value, count));
+    let (which, mut segment) = passed!(enter_new(alloc, h, key, Kind::Scalar(new.kind())));
+    let answer = segment.construct_value(&which, count, new);
+    made(answer, handle, h, segment)
 }
 
 /// The scalars of a key, or `count` times a value where no object has it.
@@ -66,13 +92,10 @@ pub extern "C" fn zx_find_or_construct(
     ensures refused { KeepsRefused result h.old.value h.new.value }
     ensures results { 1 ≤ result → (handle.new ≡ handle.old) × (count_found.new ≡ count_found.old) }
 {
-    let new = passed!(value.scalar());
-    if count < 1 || count > MOST {
-        return BAD_COUNT;
-    }
-    let which = passed!(key.entry(Kind::Scalar(new.kind())));
-    on_segment!(alloc, h, mut segment =>
-        found(segment.find_or_construct_value(&which, count, new), handle, count_found))
+    let new = passed!(scalars(value, count));
+    let (which, mut segment) = passed!(enter_entry(alloc, h, key, Kind::Scalar(new.kind())));
+    let answer = segment.find_or_construct_value(&which, count, new);
+    found(answer, handle, count_found, h, segment)
 }
 
 /// Makes a string.
@@ -91,8 +114,8 @@ pub extern "C" fn zx_construct_string(
     ensures refused { KeepsRefused result h.old.value h.new.value }
     ensures results { 1 ≤ result → handle.new ≡ handle.old }
 {
-    let which = passed!(key.new_key(Kind::Text));
-    on_segment!(alloc, h, mut segment => made(segment.construct_string(&which, text), handle))
+    let (which, mut segment) = passed!(enter_new(alloc, h, key, Kind::Text));
+    made(segment.construct_string(&which, text), handle, h, segment)
 }
 
 /// The string of a key, or a new one of these bytes where no object has it.
@@ -114,8 +137,9 @@ pub extern "C" fn zx_find_or_construct_string(
     ensures refused { KeepsRefused result h.old.value h.new.value }
     ensures results { 1 ≤ result → (handle.new ≡ handle.old) × (count_found.new ≡ count_found.old) }
 {
-    let which = passed!(key.entry(Kind::Text));
-    on_segment!(alloc, h, mut segment => found(segment.find_or_construct_string(&which, text), handle, count_found))
+    let (which, mut segment) = passed!(enter_entry(alloc, h, key, Kind::Text));
+    let answer = segment.find_or_construct_string(&which, text);
+    found(answer, handle, count_found, h, segment)
 }
 
 /// Makes a vector of strings.
@@ -134,8 +158,8 @@ pub extern "C" fn zx_construct_strings(
     ensures refused { KeepsRefused result h.old.value h.new.value }
     ensures results { 1 ≤ result → handle.new ≡ handle.old }
 {
-    let which = passed!(key.new_key(Kind::Texts));
-    on_segment!(alloc, h, mut segment => made(segment.construct_texts(&which, texts), handle))
+    let (which, mut segment) = passed!(enter_new(alloc, h, key, Kind::Texts));
+    made(segment.construct_texts(&which, texts), handle, h, segment)
 }
 
 /// The vector of strings of a key, or a new one of these where no object has it.
@@ -157,8 +181,9 @@ pub extern "C" fn zx_find_or_construct_strings(
     ensures refused { KeepsRefused result h.old.value h.new.value }
     ensures results { 1 ≤ result → (handle.new ≡ handle.old) × (count_found.new ≡ count_found.old) }
 {
-    let which = passed!(key.entry(Kind::Texts));
-    on_segment!(alloc, h, mut segment => found(segment.find_or_construct_texts(&which, texts), handle, count_found))
+    let (which, mut segment) = passed!(enter_entry(alloc, h, key, Kind::Texts));
+    let answer = segment.find_or_construct_texts(&which, texts);
+    found(answer, handle, count_found, h, segment)
 }
 
 /// Makes an empty map from keys of one kind to values of another.
@@ -178,14 +203,10 @@ pub extern "C" fn zx_construct_map(
     ensures refused { KeepsRefused result h.old.value h.new.value }
     ensures results { 1 ≤ result → handle.new ≡ handle.old }
 {
-    let Some(of_keys) = scalar_kind(keys) else {
-        return BAD_KIND;
-    };
-    let Some(of_values) = scalar_kind(values) else {
-        return BAD_KIND;
-    };
-    let which = passed!(key.new_key(Kind::Map(of_keys, of_values)));
-    on_segment!(alloc, h, mut segment => made(segment.construct_map_of(&which, of_keys, of_values), handle))
+    let (of_keys, of_values) = passed!(map_kinds(keys, values));
+    let (which, mut segment) = passed!(enter_new(alloc, h, key, Kind::Map(of_keys, of_values)));
+    let answer = segment.construct_map_of(&which, of_keys, of_values);
+    made(answer, handle, h, segment)
 }
 
 /// The map of a key, or a new one where no object has it.
@@ -208,15 +229,10 @@ pub extern "C" fn zx_find_or_construct_map(
     ensures refused { KeepsRefused result h.old.value h.new.value }
     ensures results { 1 ≤ result → (handle.new ≡ handle.old) × (count_found.new ≡ count_found.old) }
 {
-    let Some(of_keys) = scalar_kind(keys) else {
-        return BAD_KIND;
-    };
-    let Some(of_values) = scalar_kind(values) else {
-        return BAD_KIND;
-    };
-    let which = passed!(key.entry(Kind::Map(of_keys, of_values)));
-    on_segment!(alloc, h, mut segment =>
-        found(segment.find_or_construct_map_of(&which, of_keys, of_values), handle, count_found))
+    let (of_keys, of_values) = passed!(map_kinds(keys, values));
+    let (which, mut segment) = passed!(enter_entry(alloc, h, key, Kind::Map(of_keys, of_values)));
+    let answer = segment.find_or_construct_map_of(&which, of_keys, of_values);
+    found(answer, handle, count_found, h, segment)
 }
 
 /// The object of a kind under a key.
@@ -237,8 +253,47 @@ pub extern "C" fn zx_find(
     ensures results { 1 ≤ result → (handle.new ≡ handle.old) × (count.new ≡ count.old) }
 {
     let which = passed!(key.key());
-    let Some(of_kind) = Kind::from_code(kind) else {
-        return BAD_KIND;
-    };
-    on_segment!(alloc, h, segment => found_or_absent(segment.find_kind(&which, of_kind), handle, count))
+    let of_kind = passed!(Kind::from_code(kind).ok_or(BAD_KIND));
+    let segment = passed!(take(alloc, h));
+    let answer = segment.find_kind(&which, of_kind);
+    found_or_absent(answer, handle, count, h, segment)
+}
+
+/// Destroys the object of a name or a kind, and says whether there was one; or that of a handle, where there is one.
+/// Where there is none, nothing changes.
+#[unsafe(no_mangle)]
+pub extern "C" fn zx_destroy(
+    alloc: Global,
+    h: &mut Handle,
+    key: &ObjectKey<'_>,
+    was_there: &mut bool,
+) -> u32
+    ensures stopped { IsStopped (key_wrong key.now) result h.old.value h.new.value }
+    ensures closed { IsClosed (key_wrong key.now) result h.old.value h.new.value }
+    ensures asked { IsAsked (key_wrong key.now) result h.old.value h.new.value
+        (λ s t. IsStep s t (destroy_command (key_of key.now)) (answer_for result (Truth was_there.new))) }
+    ensures absent { IsAsked (key_wrong key.now) result h.old.value h.new.value (λ s t. KeepsWhere s t (LacksKey (key_of key.now))) }
+    ensures kept { 1 ≤ result → h.new.value ≡ h.old.value }
+    ensures results { 1 ≤ result → was_there.new ≡ was_there.old }
+{
+    let (which, mut segment) = passed!(enter(alloc, h, key));
+    truth(destroy(&mut segment, &which), was_there, h, segment)
+}
+
+/// The same of a segment.
+fn destroy(segment: &mut Segment, which: &Key) -> Result<bool, Refusal>
+    requires { key_seen which.now ≢ NoKey }
+    ensures step { IsStep segment.old segment.new (destroy_command (key_seen which.now)) (truth_answer result) }
+    ensures refused { OnErr result (segment.new ≡ segment.old) }
+    ensures absent { KeepsWhere segment.old segment.new (LacksKey (key_seen which.now)) }
+{
+    match *which {
+        Key::Name(name) => segment.destroy(&IndexKey::Name(name)),
+        Key::Unique(kind) => segment.destroy(&IndexKey::Unique(kind)),
+        Key::Handle(handle) => {
+            segment.destroy_ptr(handle)?;
+            Ok(true)
+        }
+        Key::Anonymous => unreachable!(),
+    }
 }

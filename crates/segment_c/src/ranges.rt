@@ -1,6 +1,5 @@
 //! Elements of arrays and vectors of scalars, so many read or written by one call.
 ghost use Rattle.std.specs.Prelude.{◌≡◌, ◌≤◌, OnErr, length, map, pos};
-ghost use Rattle.std.specs.declared.option.Option.TheVariants.{Some};
 ghost use Rattle.seg_types.specs.declared.kinds.ScalarKind.TheVariants.{Bool as BoolKind, I32 as I32Kind, I64 as I64Kind, U8 as U8Kind, U64 as U64Kind};
 ghost use Rattle.seg_types.specs.Keys.{key_seen};
 ghost use Rattle.seg_types.specs.Kinds.{truth_number};
@@ -10,12 +9,12 @@ ghost use Rattle.segment_c.specs.Passed.{key_of, key_wrong, numbers_of, or_else,
 ghost use Rattle.segment_c.specs.Reads.{IsCoded, ReadsRange};
 ghost use Rattle.segment_manager.specs.Answers.{Done};
 ghost use Rattle.segment_manager.specs.Directory.{Directory};
-ghost use Rattle.segment_manager.specs.State.{StandsFor, State, done_answer};
+ghost use Rattle.segment_manager.specs.State.{StandsFor, done_answer};
 ghost use Rattle.segment_values.specs.Ranges.{WritesRange, range_at};
 
-use crate::calls::{on_segment, passed};
+use crate::calls::{enter, enter_row, passed};
 use crate::codes::{DONE, code_of, done};
-use crate::handle::Handle;
+use crate::handle::{Handle, put};
 use crate::keys::ObjectKey;
 use crate::rows::{Values, on_slice};
 use seg_types::{Key, Refusal, Scalar, ScalarKind};
@@ -41,15 +40,10 @@ fn read_range<T: Scalar>(
     first: u64,
     row: &mut [T],
 ) -> u32
-    ensures stopped { IsStopped (key_wrong key.now) result h.old.value h.new.value }
-    ensures closed { IsClosed (key_wrong key.now) result h.old.value h.new.value }
-    ensures told { (s : State) → key_wrong key.now ≡ 0 → h.old.value ≡ Some s → (d : Directory) → StandsFor s.cut.bytes d
-        → IsCoded (λ zs. map T.whole row.new ≡ zs) result (range_at d (key_of key.now) T.kind first (length row.old)) }
-    ensures same { h.new.value ≡ h.old.value }
-    ensures results { 1 ≤ result → row.new ≡ row.old }
+    ensures { ReadsRange T.whole T.kind key.now first row.old row.new result h.old.value h.new.value }
 {
-    let which = passed!(key.key());
-    on_segment!(alloc, h, segment => read_row(&segment, &which, first, row))
+    let (which, segment) = passed!(enter(alloc, h, key));
+    put(read_row(&segment, &which, first, row), h, segment)
 }
 
 /// Copies elements of the array or vector of a key into a row of truths: as many as the row has, from `first` on.
@@ -154,7 +148,7 @@ pub extern "C" fn zx_write_elements(
         (λ s t. WritesRange s t (key_of key.now) (scalar_kind_in values.now.kind) first (row_of values.now) (answer_for result Done)) }
     ensures kept { 1 ≤ result → h.new.value ≡ h.old.value }
 {
-    let which = passed!(key.key());
-    let kind = passed!(values.scalar_kind());
-    on_segment!(alloc, h, mut segment => done(write_row(&mut segment, &which, first, kind, values)))
+    let (which, kind, mut segment) = passed!(enter_row(alloc, h, key, values));
+    let answer = write_row(&mut segment, &which, first, kind, values);
+    done(answer, h, segment)
 }

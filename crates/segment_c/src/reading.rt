@@ -12,9 +12,9 @@ ghost use Rattle.segment_manager.specs.Directory.{Directory};
 ghost use Rattle.segment_manager.specs.State.{StandsFor, State};
 ghost use Rattle.segment_manager.specs.Step.{step_of_kind};
 
-use crate::calls::{on_segment, passed};
+use crate::calls::{enter, passed};
 use crate::codes::{DONE, code_of};
-use crate::handle::Handle;
+use crate::handle::{Handle, put};
 use crate::images::copy_out;
 use crate::keys::ObjectKey;
 use seg_types::Key;
@@ -37,8 +37,8 @@ pub extern "C" fn zx_measure(
     ensures same { h.new.value ≡ h.old.value }
     ensures results { 1 ≤ result → (len.new ≡ len.old) × (places.new ≡ places.old) }
 {
-    let which = passed!(key.key());
-    on_segment!(alloc, h, segment => measure(&segment, &which, len, places))
+    let (which, segment) = passed!(enter(alloc, h, key));
+    put(measure(&segment, &which, len, places), h, segment)
 }
 
 /// The same of a segment.
@@ -74,8 +74,8 @@ pub extern "C" fn zx_read_string(
     ensures results { 1 ≤ result → text.new ≡ text.old }
     ensures length { 1 ≤ result → result ≢ 24 → len.new ≡ len.old }
 {
-    let which = passed!(key.key());
-    on_segment!(alloc, h, segment => read_string(&segment, &which, text, len))
+    let (which, segment) = passed!(enter(alloc, h, key));
+    put(read_string(&segment, &which, text, len), h, segment)
 }
 
 /// The same of a segment.
@@ -109,8 +109,8 @@ pub extern "C" fn zx_read_text(
     ensures results { 1 ≤ result → text.new ≡ text.old }
     ensures length { 1 ≤ result → result ≢ 24 → len.new ≡ len.old }
 {
-    let which = passed!(key.key());
-    on_segment!(alloc, h, segment => read_text(&segment, &which, index, text, len))
+    let (which, segment) = passed!(enter(alloc, h, key));
+    put(read_text(&segment, &which, index, text, len), h, segment)
 }
 
 /// The same of a segment.

@@ -1,36 +1,38 @@
 //! Segments that become longer or shorter, and that move into other regions.
-ghost use Rattle.std.specs.Prelude.{◌≡◌, ◌<◌, ◌≤◌, ◌⊎◌, MatchResult, length};
-ghost use Rattle.std.specs.declared.option.Option.TheVariants.{Some};
+ghost use Rattle.std.specs.Prelude.{◌≡◌, ◌<◌, ◌≤◌, ◌⊎◌, ◌+◌, IfOk, Some, length, min};
+ghost use Rattle.std.specs.declared.option.Option.TheVariants.{Some as Held};
+ghost use Rattle.grow_shrink.specs.Resized.{room_of, shrink_refusal};
 ghost use Rattle.raw_region.specs.Regions.{IsCapacity};
 ghost use Rattle.segment_c.specs.Calls.{IsClosed, IsStopped, Opened};
+ghost use Rattle.segment_c.specs.Growing.{IsGrowthCode, IsLonger, IsShortOfRoom};
 ghost use Rattle.segment_c.specs.Opening.{capacity_wrong};
 ghost use Rattle.segment_c.specs.Resizing.{IsMoved, size_code};
-ghost use Rattle.grow_shrink.specs.Resized.{shrink_refusal};
 ghost use Rattle.segment_manager.specs.Directory.{Directory};
 ghost use Rattle.segment_manager.specs.Resized.{Resizes, shrunk};
-ghost use Rattle.segment_manager.specs.State.{StandsFor, State};
+ghost use Rattle.segment_manager.specs.State.{IsSegment, StandsFor, State};
 
-use crate::calls::{on_segment, passed};
+use crate::calls::passed;
 use crate::codes::{BAD_GROWTH, BAD_SIZE, DONE, NO_MEMORY, READ_ONLY, SHORT_REGION, TOO_LARGE};
-use crate::handle::Handle;
+use crate::handle::{Handle, put, take};
 use grow_shrink::GrowError;
-use raw_region::{RawRegion, Window};
+use raw_region::{OutOfMemory, RawRegion, Window};
 use segment_manager::Segment;
-use segment_manager::conditioned::adopt;
+use segment_manager::conditioned::{adopt, extend_end};
 use std::alloc::Global;
 
 /// The most bytes of a region.
-const LARGEST_REGION: u64 = 1 << 40;
+pub(crate) const LARGEST_REGION: u64 = 1 << 40;
 
 /// Makes the segment as short as its last block lets it be.
 #[unsafe(no_mangle)]
 pub extern "C" fn zx_shrink(alloc: Global, h: &mut Handle) -> u32
     ensures closed { IsClosed 0 result h.old.value h.new.value }
-    ensures code { (s : State) → h.old.value ≡ Some s → (d : Directory) → StandsFor s.cut.bytes d → result ≡ size_code (shrink_refusal s.mode) }
-    ensures shrunk { (s : State) → h.old.value ≡ Some s → result ≡ 0 → Opened h.new.value (λ t. Resizes s t (λ d. shrunk d)) }
+    ensures code { (s : State) → h.old.value ≡ Held s → (d : Directory) → StandsFor s.cut.bytes d → result ≡ size_code (shrink_refusal s.mode) }
+    ensures shrunk { (s : State) → h.old.value ≡ Held s → result ≡ 0 → Opened h.new.value (λ t. Resizes s t (λ d. shrunk d)) }
     ensures kept { 1 ≤ result → h.new.value ≡ h.old.value }
 {
-    on_segment!(alloc, h, mut segment => shrink(&mut segment))
+    let mut segment = passed!(take(alloc, h));
+    put(shrink(&mut segment), h, segment)
 }
 
 /// The same of a segment.
@@ -47,7 +49,7 @@ fn shrink(segment: &mut Segment) -> u32
 
 /// The code by which a segment does not become longer or shorter.
 fn code_of_growth(why: GrowError) -> u32
-    ensures code { result ≡ size_code (Some why) }
+    ensures code { result ≡ size_code (Held why) }
     ensures refused { 1 ≤ result }
 {
     match why {
@@ -63,14 +65,15 @@ fn code_of_growth(why: GrowError) -> u32
 pub extern "C" fn zx_relocate(alloc: Global, h: &mut Handle, capacity: u64) -> u32
     ensures stopped { IsStopped (capacity_wrong capacity) result h.old.value h.new.value }
     ensures closed { IsClosed (capacity_wrong capacity) result h.old.value h.new.value }
-    ensures moved { (s : State) → h.old.value ≡ Some s → result ≡ 0 → Opened h.new.value (λ t. IsMoved s t capacity) }
-    ensures why { (s : State) → capacity_wrong capacity ≡ 0 → h.old.value ≡ Some s → 1 ≤ result → ((result ≡ 27) × (capacity < length s.cut.bytes)) ⊎ (result ≡ 26) }
+    ensures moved { (s : State) → h.old.value ≡ Held s → result ≡ 0 → Opened h.new.value (λ t. IsMoved s t capacity) }
+    ensures why { (s : State) → capacity_wrong capacity ≡ 0 → h.old.value ≡ Held s → 1 ≤ result → ((result ≡ 27) × (capacity < length s.cut.bytes)) ⊎ (result ≡ 26) }
     ensures kept { 1 ≤ result → h.new.value ≡ h.old.value }
 {
     if capacity < 16 || capacity > LARGEST_REGION || capacity % 16 != 0 {
         return BAD_SIZE;
     }
-    on_segment!(alloc, h, mut segment => relocate(alloc, &mut segment, capacity))
+    let mut segment = passed!(take(alloc, h));
+    put(relocate(alloc, &mut segment, capacity), h, segment)
 }
 
 /// The same of a segment.
@@ -80,28 +83,115 @@ fn relocate(alloc: Global, segment: &mut Segment, capacity: u64) -> u32
     ensures why { 1 ≤ result → ((result ≡ 27) × (capacity < length segment.old.cut.bytes)) ⊎ (result ≡ 26) }
     ensures kept { 1 ≤ result → segment.new ≡ segment.old }
 {
-    let copy = passed!(moved(alloc, segment, capacity));
+    if capacity < segment.as_bytes().len() as u64 {
+        return SHORT_REGION;
+    }
+    let Ok(copy) = copied(alloc, segment, capacity) else {
+        return NO_MEMORY;
+    };
     *segment = copy;
     DONE
 }
 
-/// A copy of a segment at the front of a region of `capacity` bytes.
-///
-/// # Errors
-///
-/// The code.
-fn moved(alloc: Global, segment: &Segment, capacity: u64) -> Result<Segment, u32>
-    requires { IsCapacity capacity }
-    ensures { MatchResult result (λ copy. IsMoved segment.now copy capacity) (λ code. ((code ≡ 27) × (capacity < length segment.now.cut.bytes)) ⊎ (code ≡ 26)) }
+/// The same segment at the front of a region of its own of `capacity` bytes, which has room for it.
+fn copied(alloc: Global, segment: &Segment, capacity: u64) -> Result<Segment, OutOfMemory>
+    requires capacity { IsCapacity capacity }
+    requires room { length segment.now.cut.bytes ≤ capacity }
+    ensures moved { IfOk result (λ copy. IsMoved segment.now copy capacity) }
+    ensures room { IfOk result (λ copy. capacity ≤ room_of copy.cut) }
 {
+    let region = RawRegion::new(alloc, capacity)?;
     let image = segment.as_bytes();
-    if capacity < image.len() as u64 {
-        return Err(SHORT_REGION);
-    }
-    let Ok(region) = RawRegion::new(alloc, capacity) else {
-        return Err(NO_MEMORY);
-    };
     let mut window = Window::new(region, 0, image.len() as u64);
     window.write(0, image);
     Ok(adopt(window, segment.mode()))
+}
+
+/// The most bytes that a segment has.
+const LARGEST: u64 = 1073741824;
+
+/// The fewest bytes of a segment with a block.
+const SMALLEST: u64 = 176;
+
+/// Makes the segment longer by `extra` bytes, which are free, in a larger region where its own has no room.
+#[unsafe(no_mangle)]
+pub extern "C" fn zx_grow(alloc: Global, h: &mut Handle, extra: u64) -> u32
+    ensures closed { IsClosed 0 result h.old.value h.new.value }
+    ensures code { (s : State) → h.old.value ≡ Held s → (d : Directory) → StandsFor s.cut.bytes d → IsGrowthCode s.mode extra result d }
+    ensures grown { (s : State) → h.old.value ≡ Held s → result ≡ 0 → Opened h.new.value (λ t. IsLonger s t extra) }
+    ensures kept { 1 ≤ result → h.new.value ≡ h.old.value }
+{
+    let mut segment = passed!(take(alloc, h));
+    put(grow(alloc, &mut segment, extra), h, segment)
+}
+
+/// The same of a segment.
+fn grow(alloc: Global, segment: &mut Segment, extra: u64) -> u32
+    ensures code { (d : Directory) → StandsFor segment.old.cut.bytes d → IsGrowthCode segment.old.mode extra result d }
+    ensures grown { result ≡ 0 → IsLonger segment.old segment.new extra }
+    ensures kept { 1 ≤ result → segment.new ≡ segment.old }
+{
+    match grow_shrink::grow(segment, extra) {
+        Ok(()) => DONE,
+        Err(why) => match why {
+            GrowError::ReadOnly => READ_ONLY,
+            GrowError::BadGrow => BAD_GROWTH,
+            GrowError::TooLarge => TOO_LARGE,
+            GrowError::RegionTooSmall => {
+                let size = size_of(segment);
+                grow_elsewhere(alloc, segment, size, extra)
+            }
+        },
+    }
+}
+
+/// The number of bytes of a segment, which denote a directory.
+fn size_of(segment: &Segment) -> u64
+    ensures size { result ≡ length segment.now.cut.bytes }
+    ensures denotes { IsSegment segment.now.cut.bytes }
+{
+    segment.as_bytes().len() as u64
+}
+
+/// The same where the region has no room for the segment of this size.
+fn grow_elsewhere(alloc: Global, segment: &mut Segment, size: u64, extra: u64) -> u32
+    requires size { size ≡ length segment.old.cut.bytes }
+    requires short { IsShortOfRoom segment.old extra }
+    ensures code { 1 ≤ result → result ≡ 26 }
+    ensures grown { result ≡ 0 → IsLonger segment.old segment.new extra }
+    ensures kept { 1 ≤ result → segment.new ≡ segment.old }
+{
+    match grown_copy(alloc, segment, size, extra) {
+        Ok(copy) => {
+            *segment = copy;
+            DONE
+        }
+        Err(_) => NO_MEMORY,
+    }
+}
+
+/// A copy of the segment, which has this size, with so many bytes more, in a region of its own.
+fn grown_copy(
+    alloc: Global,
+    segment: &Segment,
+    size: u64,
+    extra: u64,
+) -> Result<Segment, OutOfMemory>
+    requires size { size ≡ length segment.now.cut.bytes }
+    requires short { IsShortOfRoom segment.now extra }
+    ensures { IfOk result (λ copy. IsLonger segment.now copy extra) }
+{
+    let Ok(mut copy) = copied(alloc, segment, capacity_for(size + extra)) else {
+        return Err(OutOfMemory);
+    };
+    extend_end(&mut copy, extra);
+    Ok(copy)
+}
+
+/// The capacity of a region for a segment of so many bytes: a multiple of 16 from 176 to 1073741824.
+pub fn capacity_for(bytes: u64) -> u64
+    ensures capacity { IsCapacity result }
+    ensures room { min bytes 1073741824 ≤ result }
+{
+    bytes.clamp(SMALLEST, LARGEST).div_ceil(16) * 16
 }

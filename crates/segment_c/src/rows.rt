@@ -60,10 +60,7 @@ impl Values<'_> {
         if self.kind == 0 {
             return Err(NULL_SLICE);
         }
-        match scalar_kind(self.kind) {
-            Some(kind) => Ok(kind),
-            None => Err(BAD_KIND),
-        }
+        scalar_kind(self.kind).ok_or(BAD_KIND)
     }
 
     /// How many values the slice of a kind has.

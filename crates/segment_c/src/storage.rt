@@ -9,9 +9,9 @@ ghost use Rattle.segment_manager.specs.Calls.{HasZeroGaps};
 ghost use Rattle.segment_manager.specs.Keeping.{HasPlaces, KeepsWhere};
 ghost use Rattle.segment_manager.specs.State.{IsReply, IsStep};
 
-use crate::calls::{on_segment, passed};
+use crate::calls::{enter, passed};
 use crate::codes::{DONE, done};
-use crate::handle::Handle;
+use crate::handle::{Handle, put, take};
 use crate::keys::ObjectKey;
 use std::alloc::Global;
 
@@ -25,8 +25,8 @@ pub extern "C" fn zx_reserve(alloc: Global, h: &mut Handle, key: &ObjectKey<'_>,
     ensures enough { IsAsked (key_wrong key.now) result h.old.value h.new.value (λ s t. KeepsWhere s t (HasPlaces (key_of key.now) places)) }
     ensures kept { 1 ≤ result → h.new.value ≡ h.old.value }
 {
-    let which = passed!(key.key());
-    on_segment!(alloc, h, mut segment => done(segment.reserve(&which, places)))
+    let (which, mut segment) = passed!(enter(alloc, h, key));
+    done(segment.reserve(&which, places), h, segment)
 }
 
 /// Gives back the places of the vector or string of a key that have no element.
@@ -38,8 +38,8 @@ pub extern "C" fn zx_trim(alloc: Global, h: &mut Handle, key: &ObjectKey<'_>) ->
         (λ s t. IsStep s t (Shrink (key_of key.now)) (answer_for result Done)) }
     ensures kept { 1 ≤ result → h.new.value ≡ h.old.value }
 {
-    let which = passed!(key.key());
-    on_segment!(alloc, h, mut segment => done(segment.shrink(&which)))
+    let (which, mut segment) = passed!(enter(alloc, h, key));
+    done(segment.shrink(&which), h, segment)
 }
 
 /// Takes all elements out of the vector or string of a key.
@@ -51,8 +51,8 @@ pub extern "C" fn zx_clear(alloc: Global, h: &mut Handle, key: &ObjectKey<'_>) -
         (λ s t. IsStep s t (Clear (key_of key.now)) (answer_for result Done)) }
     ensures kept { 1 ≤ result → h.new.value ≡ h.old.value }
 {
-    let which = passed!(key.key());
-    on_segment!(alloc, h, mut segment => done(segment.clear(&which)))
+    let (which, mut segment) = passed!(enter(alloc, h, key));
+    done(segment.clear(&which), h, segment)
 }
 
 /// Makes room in the index of names.
@@ -64,7 +64,8 @@ pub extern "C" fn zx_reserve_named(alloc: Global, h: &mut Handle, places: u64) -
     ensures enough { IsAsked (0) result h.old.value h.new.value (λ s t. KeepsWhere s t (λ d. places ≤ d.named.capacity)) }
     ensures refused { KeepsRefused result h.old.value h.new.value }
 {
-    on_segment!(alloc, h, mut segment => done(segment.reserve_named(places)))
+    let mut segment = passed!(take(alloc, h));
+    done(segment.reserve_named(places), h, segment)
 }
 
 /// Makes room in the index of unique kinds.
@@ -76,7 +77,8 @@ pub extern "C" fn zx_reserve_unique(alloc: Global, h: &mut Handle, places: u64) 
     ensures enough { IsAsked (0) result h.old.value h.new.value (λ s t. KeepsWhere s t (λ d. places ≤ d.unique.capacity)) }
     ensures refused { KeepsRefused result h.old.value h.new.value }
 {
-    on_segment!(alloc, h, mut segment => done(segment.reserve_unique(places)))
+    let mut segment = passed!(take(alloc, h));
+    done(segment.reserve_unique(places), h, segment)
 }
 
 /// Gives back the room of the indexes that no entry uses.
@@ -87,7 +89,8 @@ pub extern "C" fn zx_shrink_indexes(alloc: Global, h: &mut Handle) -> u32
         (λ s t. IsStep s t ShrinkIndexes (answer_for result Done)) }
     ensures kept { 1 ≤ result → h.new.value ≡ h.old.value }
 {
-    on_segment!(alloc, h, mut segment => done(segment.shrink_indexes()))
+    let mut segment = passed!(take(alloc, h));
+    done(segment.shrink_indexes(), h, segment)
 }
 
 /// Makes the free bytes 0 that are no part of a tag.
@@ -99,7 +102,8 @@ pub extern "C" fn zx_zero_free(alloc: Global, h: &mut Handle) -> u32
     ensures zeros { IsAsked (0) result h.old.value h.new.value (λ s t. result ≡ 0 → HasZeroGaps t) }
     ensures kept { 1 ≤ result → h.new.value ≡ h.old.value }
 {
-    on_segment!(alloc, h, mut segment => done(segment.zero_free()))
+    let mut segment = passed!(take(alloc, h));
+    done(segment.zero_free(), h, segment)
 }
 
 /// Whether the segment is whole, as each segment is.
@@ -111,7 +115,9 @@ pub extern "C" fn zx_sanity(alloc: Global, h: &mut Handle, is_whole: &mut bool) 
     ensures same { h.new.value ≡ h.old.value }
     ensures results { 1 ≤ result → is_whole.new ≡ is_whole.old }
 {
-    on_segment!(alloc, h, segment => { *is_whole = segment.sanity(); DONE })
+    let segment = passed!(take(alloc, h));
+    *is_whole = segment.sanity();
+    put(DONE, h, segment)
 }
 
 /// Whether no block is in use, index blocks included.
@@ -123,5 +129,7 @@ pub extern "C" fn zx_all_deallocated(alloc: Global, h: &mut Handle, is_empty: &m
     ensures same { h.new.value ≡ h.old.value }
     ensures results { 1 ≤ result → is_empty.new ≡ is_empty.old }
 {
-    on_segment!(alloc, h, segment => { *is_empty = segment.all_deallocated(); DONE })
+    let segment = passed!(take(alloc, h));
+    *is_empty = segment.all_deallocated();
+    put(DONE, h, segment)
 }

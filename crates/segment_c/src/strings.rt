@@ -8,7 +8,7 @@ ghost use Rattle.segment_c.specs.Passed.{key_of, key_wrong};
 ghost use Rattle.segment_manager.specs.Answers.{Done};
 ghost use Rattle.segment_manager.specs.State.{IsStepOfKind};
 
-use crate::calls::{on_segment, passed};
+use crate::calls::{enter, passed};
 use crate::codes::done;
 use crate::handle::Handle;
 use crate::keys::ObjectKey;
@@ -28,8 +28,8 @@ pub extern "C" fn zx_assign_string(
         (λ s t. IsStepOfKind s t (key_of key.now) TextKind (Assign (key_of key.now) (Quoted text.now ∷ [])) (answer_for result Done)) }
     ensures kept { 1 ≤ result → h.new.value ≡ h.old.value }
 {
-    let which = passed!(key.key());
-    on_segment!(alloc, h, mut segment => done(segment.string_assign(&which, text)))
+    let (which, mut segment) = passed!(enter(alloc, h, key));
+    done(segment.string_assign(&which, text), h, segment)
 }
 
 /// Puts bytes behind those of the string of a key.
@@ -41,8 +41,8 @@ pub extern "C" fn zx_append(alloc: Global, h: &mut Handle, key: &ObjectKey<'_>, 
         (λ s t. IsStepOfKind s t (key_of key.now) TextKind (Append (key_of key.now) text.now) (answer_for result Done)) }
     ensures kept { 1 ≤ result → h.new.value ≡ h.old.value }
 {
-    let which = passed!(key.key());
-    on_segment!(alloc, h, mut segment => done(segment.string_append(&which, text)))
+    let (which, mut segment) = passed!(enter(alloc, h, key));
+    done(segment.string_append(&which, text), h, segment)
 }
 
 /// Makes a text the one at `index` in the vector of strings of a key.
@@ -60,8 +60,8 @@ pub extern "C" fn zx_set_text(
         (λ s t. IsStepOfKind s t (key_of key.now) TextsKind (Set (key_of key.now) index (Quoted text.now)) (answer_for result Done)) }
     ensures kept { 1 ≤ result → h.new.value ≡ h.old.value }
 {
-    let which = passed!(key.key());
-    on_segment!(alloc, h, mut segment => done(segment.texts_set(&which, index, text)))
+    let (which, mut segment) = passed!(enter(alloc, h, key));
+    done(segment.texts_set(&which, index, text), h, segment)
 }
 
 /// Puts a text behind the last one of the vector of strings of a key.
@@ -78,8 +78,8 @@ pub extern "C" fn zx_push_text(
         (λ s t. IsStepOfKind s t (key_of key.now) TextsKind (Push (key_of key.now) (Quoted text.now)) (answer_for result Done)) }
     ensures refused { KeepsRefused result h.old.value h.new.value }
 {
-    let which = passed!(key.key());
-    on_segment!(alloc, h, mut segment => done(segment.texts_push(&which, text)))
+    let (which, mut segment) = passed!(enter(alloc, h, key));
+    done(segment.texts_push(&which, text), h, segment)
 }
 
 /// Puts a text where `index` others stand before it in the vector of strings of a key.
@@ -97,8 +97,8 @@ pub extern "C" fn zx_insert_text(
         (λ s t. IsStepOfKind s t (key_of key.now) TextsKind (Insert (key_of key.now) index (Quoted text.now)) (answer_for result Done)) }
     ensures refused { KeepsRefused result h.old.value h.new.value }
 {
-    let which = passed!(key.key());
-    on_segment!(alloc, h, mut segment => done(segment.texts_insert(&which, index, text)))
+    let (which, mut segment) = passed!(enter(alloc, h, key));
+    done(segment.texts_insert(&which, index, text), h, segment)
 }
 
 /// Makes texts those of the vector of strings of a key.
@@ -115,6 +115,6 @@ pub extern "C" fn zx_assign_texts(
         (λ s t. IsStepOfKind s t (key_of key.now) TextsKind (Assign (key_of key.now) (map Quoted (map (λ text. text.now) texts.now))) (answer_for result Done)) }
     ensures refused { KeepsRefused result h.old.value h.new.value }
 {
-    let which = passed!(key.key());
-    on_segment!(alloc, h, mut segment => done(segment.texts_assign(&which, texts)))
+    let (which, mut segment) = passed!(enter(alloc, h, key));
+    done(segment.texts_assign(&which, texts), h, segment)
 }

@@ -39,17 +39,12 @@ impl Value {
     pub fn scalar(&self) -> Result<ScalarValue, u32>
         ensures { MatchResult result (λ value. scalar_in self.now ≡ Some (kind_of_scalar value, value_of_scalar value)) (λ code. (code ≡ 20) × (scalar_in self.now ≡ None)) }
     {
-        let Some(kind) = scalar_kind(self.kind) else {
-            return Err(BAD_VALUE);
-        };
+        let kind = scalar_kind(self.kind).ok_or(BAD_VALUE)?;
         let number = match kind {
             ScalarKind::I32 | ScalarKind::I64 => i128::from(self.number),
             _ => i128::from(self.natural),
         };
-        match ScalarValue::of_number(kind, number) {
-            Some(value) => Ok(value),
-            None => Err(BAD_VALUE),
-        }
+        ScalarValue::of_number(kind, number).ok_or(BAD_VALUE)
     }
 
     /// The scalar as it is given.

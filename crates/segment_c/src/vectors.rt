@@ -1,21 +1,22 @@
-//! Vectors of scalars, made of rows of values.
-ghost use Rattle.std.specs.Prelude.{◌≡◌, ◌≤◌, OnErr, map};
-ghost use Rattle.seg_types.specs.declared.kinds.Kind.TheVariants.{Vector as VectorOf};
-ghost use Rattle.seg_types.specs.Commands.{Assign, Construct, Elements, FindOrConstruct, literal_of};
+//! Arrays and vectors of scalars, made of rows of values.
+ghost use Rattle.std.specs.Prelude.{◌≡◌, ◌≤◌, ℕ, MatchResult, OnErr, map};
+ghost use Rattle.seg_types.specs.Commands.{Assign, Construct, ConstructIt, Elements, FindOrConstruct, literal_of};
 ghost use Rattle.seg_types.specs.Keys.{index_key_seen, key_seen, new_key_seen};
+ghost use Rattle.seg_types.specs.declared.kinds.Kind.TheVariants.{Scalar as ScalarOf, Vector as VectorOf};
 ghost use Rattle.segment_c.specs.Calls.{IsAsked, IsClosed, IsStopped, KeepsRefused};
 ghost use Rattle.segment_c.specs.Codes.{answer_for};
-ghost use Rattle.segment_c.specs.Passed.{entry_of, entry_wrong, key_of, key_wrong, new_of, new_wrong, numbers_of, or_else, row_of, row_wrong, scalar_kind_in};
+ghost use Rattle.segment_c.specs.Passed.{count_wrong, entry_of, entry_wrong, key_of, key_wrong, many_of, new_of, new_wrong, numbers_of, or_else, row_count, row_of, row_wrong, scalar_kind_in};
 ghost use Rattle.segment_manager.specs.Answers.{Done, Found, Made};
 ghost use Rattle.segment_manager.specs.Found.{pair_answer};
 ghost use Rattle.segment_manager.specs.Keeping.{HasKey, KeepsWhere};
 ghost use Rattle.segment_manager.specs.NewObjects.{IsOfKind};
 ghost use Rattle.segment_manager.specs.State.{IsStep, IsStepOfKind, KeepsRefused as KeepsOld, done_answer, handle_answer};
 
-use crate::calls::{on_segment, passed};
-use crate::codes::{done, found, made};
+use crate::calls::{enter_entry, enter_new, enter_row, passed};
+use crate::codes::{BAD_COUNT, done, found, made};
 use crate::handle::Handle;
 use crate::keys::ObjectKey;
+use crate::objects::MOST;
 use crate::rows::{Values, on_slice};
 use seg_types::{IndexKey, Key, Kind, NewKey, Refusal, ScalarKind};
 use segment_manager::Segment;
@@ -80,8 +81,9 @@ pub extern "C" fn zx_construct_vector(
     ensures results { 1 ≤ result → handle.new ≡ handle.old }
 {
     let kind = passed!(values.scalar_kind());
-    let which = passed!(key.new_key(Kind::Vector(kind)));
-    on_segment!(alloc, h, mut segment => made(construct_row(&mut segment, &which, kind, values), handle))
+    let (which, mut segment) = passed!(enter_new(alloc, h, key, Kind::Vector(kind)));
+    let answer = construct_row(&mut segment, &which, kind, values);
+    made(answer, handle, h, segment)
 }
 
 /// The vector of a key, which stays as it is, or a new one of the values where no object has it.
@@ -104,9 +106,9 @@ pub extern "C" fn zx_find_or_construct_vector(
     ensures results { 1 ≤ result → (handle.new ≡ handle.old) × (count_found.new ≡ count_found.old) }
 {
     let kind = passed!(values.scalar_kind());
-    let which = passed!(key.entry(Kind::Vector(kind)));
-    on_segment!(alloc, h, mut segment =>
-        found(find_or_construct_row(&mut segment, &which, kind, values), handle, count_found))
+    let (which, mut segment) = passed!(enter_entry(alloc, h, key, Kind::Vector(kind)));
+    let answer = find_or_construct_row(&mut segment, &which, kind, values);
+    found(answer, handle, count_found, h, segment)
 }
 
 /// Makes the values those of the vector of a key, a vector of their kind.
@@ -123,7 +125,57 @@ pub extern "C" fn zx_assign(
         (λ s t. IsStepOfKind s t (key_of key.now) (VectorOf (scalar_kind_in values.now.kind)) (Assign (key_of key.now) (map (literal_of (scalar_kind_in values.now.kind)) (row_of values.now))) (answer_for result Done)) }
     ensures kept { 1 ≤ result → h.new.value ≡ h.old.value }
 {
-    let which = passed!(key.key());
-    let kind = passed!(values.scalar_kind());
-    on_segment!(alloc, h, mut segment => done(assign_row(&mut segment, &which, kind, values)))
+    let (which, kind, mut segment) = passed!(enter_row(alloc, h, key, values));
+    done(assign_row(&mut segment, &which, kind, values), h, segment)
+}
+
+/// Makes an array of the values of a row, of which the slice of a kind is meant.
+fn construct_array_row(
+    segment: &mut Segment,
+    key: &NewKey,
+    kind: ScalarKind,
+    row: &Values<'_>,
+) -> Result<u64, Refusal>
+    requires kind { IsOfKind (new_key_seen key.now) (ScalarOf kind) }
+    requires some { 1 ≤ many_of row.now kind }
+    requires few { many_of row.now kind ≤ 1048576 }
+    ensures step { IsStep segment.old segment.new (ConstructIt (new_key_seen key.now) kind (many_of row.now kind) (numbers_of row.now kind)) (handle_answer result) }
+    ensures refused { KeepsOld segment.old segment.new result }
+{
+    on_slice!(row, kind, slice => segment_values::construct_array(segment, key, slice))
+}
+
+/// The kind of a row of which an array is made.
+fn array_kind(values: &Values<'_>) -> Result<ScalarKind, u32>
+    ensures { MatchResult result (λ kind. (row_wrong values.now ≡ 0) × (kind ≡ scalar_kind_in values.now.kind) × (count_wrong (row_count values.now) ≡ 0) × (1 ≤ many_of values.now kind) × (many_of values.now kind ≤ 1048576))
+        (λ code. (1 ≤ code) × ((next : ℕ) → code ≡ or_else (row_wrong values.now) (or_else (count_wrong (row_count values.now)) next))) }
+{
+    let kind = values.scalar_kind()?;
+    let count = values.count(kind);
+    if count < 1 || count > MOST as usize {
+        return Err(BAD_COUNT);
+    }
+    Ok(kind)
+}
+
+/// Makes an array of the values.
+#[unsafe(no_mangle)]
+pub extern "C" fn zx_construct_array(
+    alloc: Global,
+    h: &mut Handle,
+    key: &ObjectKey<'_>,
+    values: &Values<'_>,
+    handle: &mut u64,
+) -> u32
+    ensures stopped { IsStopped (or_else (row_wrong values.now) (or_else (count_wrong (row_count values.now)) (new_wrong key.now (ScalarOf (scalar_kind_in values.now.kind))))) result h.old.value h.new.value }
+    ensures closed { IsClosed (or_else (row_wrong values.now) (or_else (count_wrong (row_count values.now)) (new_wrong key.now (ScalarOf (scalar_kind_in values.now.kind))))) result h.old.value h.new.value }
+    ensures asked { IsAsked (or_else (row_wrong values.now) (or_else (count_wrong (row_count values.now)) (new_wrong key.now (ScalarOf (scalar_kind_in values.now.kind))))) result h.old.value h.new.value
+        (λ s t. IsStep s t (ConstructIt (new_of key.now (ScalarOf (scalar_kind_in values.now.kind))) (scalar_kind_in values.now.kind) (row_count values.now) (row_of values.now)) (answer_for result (Made handle.new))) }
+    ensures refused { KeepsRefused result h.old.value h.new.value }
+    ensures results { 1 ≤ result → handle.new ≡ handle.old }
+{
+    let kind = passed!(array_kind(values));
+    let (which, mut segment) = passed!(enter_new(alloc, h, key, Kind::Scalar(kind)));
+    let answer = construct_array_row(&mut segment, &which, kind, values);
+    made(answer, handle, h, segment)
 }

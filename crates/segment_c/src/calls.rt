@@ -56,7 +56,23 @@ pub fn enter_with<'a>(
     Ok((which, scalar, take(alloc, h)?))
 }
 
-/// The same, and the kind of a row of values.
+/// The same, and two values.
+pub fn enter_pair<'a>(
+    alloc: Global,
+    h: &mut Handle,
+    key: &ObjectKey<'a>,
+    at: &Value,
+    value: &Value,
+) -> Result<(Key<'a>, ScalarValue, ScalarValue, Box<Segment>), u32>
+    ensures { MatchResult result (λ it. (or_else (key_wrong key.now) (or_else (value_wrong at.now) (value_wrong value.now)) ≡ 0) × (key_seen it.0 ≡ key_of key.now) × (literal_in at.now ≡ literal_seen it.1) × (literal_in value.now ≡ literal_seen it.2) × (h.old.value ≡ Some it.3.value) × (h.new.value ≡ None))
+        (λ code. IsRefused (or_else (key_wrong key.now) (or_else (value_wrong at.now) (value_wrong value.now))) code h.old.value h.new.value) }
+{
+    let which = key.key()?;
+    let scalars = (at.scalar()?, value.scalar()?);
+    Ok((which, scalars.0, scalars.1, take(alloc, h)?))
+}
+
+/// The key, the kind of a row of values, and the segment.
 pub fn enter_row<'a>(
     alloc: Global,
     h: &mut Handle,

@@ -251,10 +251,7 @@ fn open_boxed(alloc: Global, image: &[u8], capacity: u64, mode: Mode) -> Result<
     let Ok(region) = RawRegion::new(alloc, capacity) else {
         return Err(NO_MEMORY);
     };
-    match open_in(alloc, image, region, mode) {
-        Ok(segment) => boxed_or_not(alloc, segment),
-        Err(code) => Err(code),
-    }
+    boxed_or_not(alloc, open_in(alloc, image, region, mode)?)
 }
 
 /// The segment whose image the bytes are, at the front of the region.

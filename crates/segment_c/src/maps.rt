@@ -14,9 +14,9 @@ ghost use Rattle.segment_manager.specs.State.{IsReply, IsStep, StandsFor, State}
 ghost use Rattle.segment_values.specs.Absent.{LacksLiteral};
 ghost use Rattle.segment_values.specs.Literals.{literal_seen};
 
-use crate::calls::{enter, enter_with, passed};
+use crate::calls::{enter, enter_pair, enter_with, passed};
 use crate::codes::{ABSENT, DONE, NOT_FOUND, WRONG_KIND, code_of, truth, value_found};
-use crate::handle::{Handle, put, take};
+use crate::handle::{Handle, put};
 use crate::keys::ObjectKey;
 use crate::values::Value;
 use seg_types::{Key, Kind, ScalarValue};
@@ -63,10 +63,7 @@ pub extern "C" fn zx_map_put(
     ensures kept { 1 ≤ result → h.new.value ≡ h.old.value }
     ensures results { 1 ≤ result → is_new.new ≡ is_new.old }
 {
-    let which = passed!(key.key());
-    let new_key = passed!(at.scalar());
-    let new_value = passed!(value.scalar());
-    let mut segment = passed!(take(alloc, h));
+    let (which, new_key, new_value, mut segment) = passed!(enter_pair(alloc, h, key, at, value));
     let answer = segment_values::put_pair(&mut segment, &which, new_key, new_value);
     truth(answer, is_new, h, segment)
 }

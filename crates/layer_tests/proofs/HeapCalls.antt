@@ -1,31 +1,38 @@
--- What the calls of a heap leave of a new block: its room, that it is a node block, and its links.
-use Rattle.std.proofs.Common.{◌≡◌, refl, sym, subst, ℕ, ◌+◌, ◌*◌, ◌%◌, ◌<◌, ◌≤◌, ◌⊎◌, Bool, ◌&&◌, arith, ◌==◌, IsTrue}
-use Rattle.std.specs.Prelude.{Option, Some, None, option_map, IfSome}
-use Rattle.std.proofs.lemmas.Bool.{and_from, eq-eqb, cases_lt}
+-- What the calls of a heap tell of a block: its room, that it is a node block, and its links.
+use Rattle.std.proofs.Common.{◌≡◌, refl, sym, subst, ℕ, ◌+◌, ◌-◌, ◌*◌, ◌%◌, ◌<◌, ◌≤◌, ◌⊎◌, Bool, false, cond, ◌&&◌, ◌||◌, List, [], ◌∷◌, arith, ◌==◌, IsTrue}
+use Rattle.std.specs.Prelude.{Option, Some, None, option_map, IfSome, find}
+use Rattle.std.specs.List.{list_any}
+use Rattle.std.proofs.lemmas.Bool.{and_from, or_left, or_right, eq-eqb, cases_Bool, cases_lt, le-leb}
 use mathlib.Core.Logic.{inl, inr}
 use Rattle.raw_region.specs.Memory.{Memory, Cut, SameBut}
 use Rattle.offset_link.specs.Link.{link_at}
 use Rattle.offset_link.specs.Relinked.{IsLink, AreLinks}
 use Rattle.block_tags.specs.declared.tile.Role.{Role}
 use Rattle.block_tags.specs.declared.tile.Role.TheVariants.{Node}
-use Rattle.best_fit.specs.Extents.{Extent, LiveSet, Gap, handle}
+use Rattle.best_fit.specs.Extents.{Extent, LiveSet, Gap, handle, holds}
 use Rattle.best_fit.specs.Fit.{room, share, fit, place}
-use Rattle.best_fit.specs.Heap.{live_of, has_room, is_node_in, is_node_role, IsAllocated, IsChanged, IsRecoloured}
-use Rattle.best_fit.proofs.Laws.{IfSome_is, allocated-live, allocated-room, changed-room, lay_out_one, list_any-insert}
+use Rattle.best_fit.specs.Heap.{live_of, is_node_in, is_node_role, IsAllocated, IsRecoloured}
+use Rattle.best_fit.proofs.Laws.{IfSome_is, allocated-live, lay_out_one, list_any-insert}
 use Rattle.offset_link.proofs.Laws.{SameBut-link}
 
 -- ---- room
 
--- a new block has room for what was asked for after one change
-pub room_once : (format : ℕ) (a b c : Cut) (n : ℕ) (role : Role) (h from k wanted : ℕ) → IsAllocated format a b n role h → IsChanged format b c from k
-    → wanted ≤ n → IsTrue (has_room (live_of c.bytes) h wanted)
-room_once format a b c n role h from k wanted new change l = changed-room format b c from k h wanted change (allocated-room format a b n role h wanted new l)
+-- by whether the first extent is the block of the handle
+found_step : (h n r : ℕ) (x : Extent) (rest : Bool) (o : Option Extent) → (IsTrue (handle x == h) ⊎ (handle x == h ≡ false))
+    → option_map (λ (y : Extent). y.len - 16) (cond (handle x == h) (Some x) o) ≡ Some r → n ≤ r → 1 ≤ n
+    → (option_map (λ (y : Extent). y.len - 16) o ≡ Some r → IsTrue rest) → IsTrue (((handle x == h) && holds x n) || rest)
+found_step h n r x rest o (inl t) e l p k =
+    let size : Some (x.len - 16) ≡ Some r = simp t at e in let same : x.len - 16 ≡ r = cc in
+    or_left ((handle x == h) && holds x n) rest (and_from (handle x == h) (holds x n) t (le-leb (n + 16) x.len (omega arith)))
+found_step h n r x rest o (inr f) e l p k = or_right ((handle x == h) && holds x n) rest (k (simp f at e))
 
--- and after two
-pub room_twice : (format : ℕ) (a b c d : Cut) (n : ℕ) (role : Role) (h from k from2 k2 wanted : ℕ) → IsAllocated format a b n role h → IsChanged format b c from k
-    → IsChanged format c d from2 k2 → wanted ≤ n → IsTrue (has_room (live_of d.bytes) h wanted)
-room_twice format a b c d n role h from k from2 k2 wanted new change change2 l =
-    changed-room format c d from2 k2 h wanted change2 (room_once format a b c n role h from k wanted new change l)
+-- a block that is found by its handle has as much room as it says
+pub room_found : (h n r : ℕ) (xs : List Extent) → option_map (λ (x : Extent). x.len - 16) (find (λ (x : Extent). handle x == h) xs) ≡ Some r
+    → n ≤ r → 1 ≤ n → IsTrue (list_any (λ (x : Extent). (handle x == h) && holds x n) xs)
+room_found h n r [] e l p = cc
+room_found h n r (x ∷ xs) e l p =
+    found_step h n r x (list_any (λ (y : Extent). (handle y == h) && holds y n) xs) (find (λ (y : Extent). handle y == h) xs) (cases_Bool (handle x == h)) e l p
+    (λ f. room_found h n r xs f l p)
 
 -- ---- a node block
 

@@ -1,6 +1,5 @@
 mod FreshWindows
 mod HeapCalls
-mod Indexed
 mod Tables
 mod Vectors
 mod Maps

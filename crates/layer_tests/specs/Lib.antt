@@ -1,4 +1,3 @@
-pub mod OneEntry
 pub mod Table
 pub mod TableLaws
 pub mod Tickets

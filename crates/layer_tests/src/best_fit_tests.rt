@@ -1,4 +1,7 @@
 //! A heap in a window of 1024 bytes, as its numbers come out: blocks, gaps, and the tree of the gaps in their payloads.
+ghost use Rattle.std.specs.Prelude.{◌%◌, ◌≡◌, ◌≤◌, IfSome, IsTrue};
+ghost use Rattle.best_fit.specs.Heap.{has_room, live_of};
+
 use crate::checks::{holds, same};
 use best_fit::{Heap, NoSpace};
 use block_tags::Role;
@@ -13,10 +16,15 @@ fn empty(alloc: Global) -> Result<Heap, Fail> {
     Ok(Heap::fresh(Window::new(RawRegion::new(alloc, 1024)?, 0, 1024)))
 }
 
-/// Asks for a block, which is the one of a handle.
-fn takes(rt: &impl Abort, heap: &mut Heap, n: u64, handle: u64) {
-    let taken = heap.allocate(n, Role::Object, &mut Steps::new());
+/// Asks for a block for a use, which is the one of a handle.
+fn takes_for(rt: &impl Abort, heap: &mut Heap, n: u64, role: Role, handle: u64) {
+    let taken = heap.allocate(n, role, &mut Steps::new());
     same(rt, taken, Ok(handle));
+}
+
+/// Asks for a block for an object.
+fn takes(rt: &impl Abort, heap: &mut Heap, n: u64, handle: u64) {
+    takes_for(rt, heap, n, Role::Object, handle);
 }
 
 /// Asks for a block that has no fit.
@@ -37,26 +45,27 @@ fn with_three_blocks(rt: &impl Abort, alloc: Global) -> Result<Heap, Fail> {
 }
 
 fn gives_back(rt: &impl Abort, heap: &mut Heap, handle: u64) {
-    assert!(rt; heap.is_live(handle));
+    holds(rt, heap.is_live(handle));
     heap.deallocate(handle, &mut Steps::new());
 }
 
 /// Lengthens a block in its place, or does not.
 fn extends(rt: &impl Abort, heap: &mut Heap, handle: u64, n: u64, is_longer: bool) {
-    assert!(rt; heap.is_live(handle));
+    holds(rt, heap.is_live(handle));
     let extended = heap.try_extend(handle, n, &mut Steps::new());
     same(rt, extended, is_longer);
 }
 
 /// Shortens a block, which has so much room then.
 fn shrinks(rt: &impl Abort, heap: &mut Heap, handle: u64, n: u64, room: u64) {
-    assert!(rt; heap.is_live(handle));
+    holds(rt, heap.is_live(handle));
     heap.shrink_in_place(handle, n, &mut Steps::new());
-    has_room(rt, heap, handle, room);
+    has_just(rt, heap, handle, room);
 }
 
-fn has_room(rt: &impl Abort, heap: &Heap, handle: u64, room: u64) {
-    assert!(rt; heap.is_live(handle));
+/// A block has room for just so many bytes.
+fn has_just(rt: &impl Abort, heap: &Heap, handle: u64, room: u64) {
+    holds(rt, heap.is_live(handle));
     same(rt, heap.room(handle), room);
 }
 
@@ -68,26 +77,57 @@ fn has_free(rt: &impl Abort, heap: &Heap, free: u64, blocks: u64) {
 
 /// Makes each byte of a block this one.
 fn fills(rt: &impl Abort, heap: &mut Heap, handle: u64, byte: u8) {
-    assert!(rt; heap.is_live(handle));
+    holds(rt, heap.is_live(handle));
     heap.block_mut(handle).fill(byte);
 }
 
 /// A block of a role has these bytes at its end.
 fn ends_with(rt: &impl Abort, heap: &Heap, handle: u64, role: Role, bytes: &[u8]) {
-    assert!(rt; heap.is_live(handle));
+    holds(rt, heap.is_live(handle));
     same(rt, heap.role(handle), role);
     holds(rt, heap.block(handle).ends_with(bytes));
 }
 
 /// A node block is red or not.
 fn is_red(rt: &impl Abort, heap: &Heap, handle: u64, red: bool) {
-    assert!(rt; heap.is_live(handle));
+    holds(rt, heap.is_live(handle));
     same(rt, heap.node_red(handle), red);
+}
+
+/// A block has room for so many bytes.
+fn fits(rt: &impl Abort, heap: &Heap, handle: u64, n: u64)
+    requires { 1 ≤ n }
+    ensures { IsTrue (has_room (live_of heap.now.bytes) handle n) }
+{
+    holds(rt, heap.is_live(handle));
+    holds(rt, n <= heap.room(handle));
+}
+
+/// Writes a word of a block.
+fn sets_word(rt: &impl Abort, heap: &mut Heap, handle: u64, at: u32, value: u64) {
+    let at = u64::from(at);
+    fits(rt, heap, handle, at + 8);
+    heap.set_word(handle, at, value);
+}
+
+/// A block has this word.
+fn has_word(rt: &impl Abort, heap: &Heap, handle: u64, at: u32, value: u64) {
+    let at = u64::from(at);
+    fits(rt, heap, handle, at + 8);
+    same(rt, heap.word(handle, at), value);
+}
+
+/// The link at a place of a block leads to a target, or nowhere.
+fn is_linked(rt: &impl Abort, heap: &Heap, handle: u64, place: u32, to: Option<u64>) {
+    let at = 8 * u64::from(place);
+    fits(rt, heap, handle, at + 8);
+    same(rt, heap.link(handle, at), to);
 }
 
 /// The link at an offset leads to a target, or nowhere.
 fn leads(rt: &impl Abort, window: &Window, at: u64, target: Option<u64>) {
-    assert!(rt; at % 8 == 0 && window.in_range(at, 8));
+    holds(rt, at % 8 == 0);
+    holds(rt, window.in_range(at, 8));
     same(rt, load(window, at), target);
 }
 
@@ -116,30 +156,6 @@ fn blocks_change_their_length(rt: HostRuntime) -> Result<(), Fail> {
 }
 
 #[test]
-fn header_words_are_read_back(rt: HostRuntime) -> Result<(), Fail> {
-    let mut heap = empty(rt.alloc())?;
-    heap.set_header_word(40, 7);
-    heap.zero_free();
-    same(&rt, heap.header_word(40), 7);
-    let again = Heap::adopt(heap.into_window());
-    holds(&rt, again.size() == 1024 && again.region_left() == 0);
-    holds(&rt, again.as_bytes().len() == 1024);
-    holds(&rt, again.tile(1).is_none());
-    Ok(())
-}
-
-#[test]
-fn a_block_is_read_back(rt: HostRuntime) -> Result<(), Fail> {
-    let mut heap = empty(rt.alloc())?;
-    let handle = heap.allocate(32, Role::Storage, &mut Steps::new())?;
-    heap.set_word(handle, 8, 5);
-    heap.write(handle, 24, b"of bytes");
-    same(&rt, heap.word(handle, 8), 5);
-    ends_with(&rt, &heap, handle, Role::Storage, b"of bytes");
-    Ok(())
-}
-
-#[test]
 fn the_free_tree_lists_three_gaps(rt: HostRuntime) -> Result<(), Fail> {
     let mut heap = empty(rt.alloc())?;
     takes(&rt, &mut heap, 24, 144);
@@ -163,37 +179,67 @@ fn gaps_are(rt: &impl Abort, window: &Window) {
     leads(rt, window, 344, None);
 }
 
-#[test]
-fn header_links_are_read_back(rt: HostRuntime) -> Result<(), Fail> {
-    let mut heap = empty(rt.alloc())?;
-    heap.set_header_link(32, Some(144));
-    heap.set_header_link(40, None);
-    same(&rt, heap.header_link(32), Some(144));
-    same(&rt, heap.header_link(40), None);
-    Ok(())
+/// Makes a link of the header lead to a target, or nowhere.
+fn links_header(rt: &impl Abort, heap: &mut Heap, to: Option<u64>)
+    requires { IfSome to (λ target. target % 16 ≡ 0) }
+{
+    heap.set_header_link(32, to);
+    same(rt, heap.header_link(32), to);
 }
 
 #[test]
-fn links_of_a_block_are_read_back(rt: HostRuntime) -> Result<(), Fail> {
+fn header_links_are_read_back(rt: HostRuntime) -> Result<(), Fail> {
     let mut heap = empty(rt.alloc())?;
-    let handle = heap.allocate(32, Role::Node, &mut Steps::new())?;
-    heap.set_link(handle, 0, Some(144));
-    heap.set_link(handle, 8, None);
-    same(&rt, heap.link(handle, 0), Some(144));
-    same(&rt, heap.link(handle, 8), None);
+    links_header(&rt, &mut heap, Some(144));
+    links_header(&rt, &mut heap, None);
     Ok(())
+}
+
+/// Makes the second link of a new block lead where the first leads, and the third where the second led: nowhere.
+fn moves_links(rt: &impl Abort, heap: &mut Heap, handle: u64) {
+    fits(rt, heap, handle, 8);
+    heap.set_link(handle, 0, Some(144));
+    fits(rt, heap, handle, 16);
+    heap.set_link(handle, 8, None);
+    fits(rt, heap, handle, 16);
+    fits(rt, heap, handle, 24);
+    heap.shift_links(handle, 0, handle, 8, 2);
 }
 
 #[test]
 fn links_of_a_block_move(rt: HostRuntime) -> Result<(), Fail> {
     let mut heap = empty(rt.alloc())?;
-    let handle = heap.allocate(32, Role::Node, &mut Steps::new())?;
-    heap.set_link(handle, 0, Some(144));
-    heap.set_link(handle, 8, None);
-    heap.shift_links(handle, 0, handle, 8, 2);
-    same(&rt, heap.link(handle, 0), Some(144));
-    same(&rt, heap.link(handle, 8), Some(144));
-    same(&rt, heap.link(handle, 16), None);
+    takes_for(&rt, &mut heap, 32, Role::Node, 144);
+    moves_links(&rt, &mut heap, 144);
+    is_linked(&rt, &heap, 144, 0, Some(144));
+    is_linked(&rt, &heap, 144, 1, Some(144));
+    is_linked(&rt, &heap, 144, 2, None);
+    Ok(())
+}
+
+/// Writes text at the end of a block of 32 bytes.
+fn writes_end(rt: &impl Abort, heap: &mut Heap, handle: u64) {
+    fits(rt, heap, handle, 32);
+    heap.write(handle, 24, b"of bytes");
+}
+
+/// Copies the first word of a block behind its first four bytes.
+fn copies_word(rt: &impl Abort, heap: &mut Heap, handle: u64) {
+    fits(rt, heap, handle, 8);
+    fits(rt, heap, handle, 12);
+    heap.copy(handle, 0, handle, 4, 8);
+}
+
+#[test]
+fn words_of_a_block_are_read_back(rt: HostRuntime) -> Result<(), Fail> {
+    let mut heap = empty(rt.alloc())?;
+    takes_for(&rt, &mut heap, 32, Role::Storage, 144);
+    writes_end(&rt, &mut heap, 144);
+    sets_word(&rt, &mut heap, 144, 0, 0x0807060504030201);
+    copies_word(&rt, &mut heap, 144);
+    has_word(&rt, &heap, 144, 0, 0x0403020104030201);
+    has_word(&rt, &heap, 144, 4, 0x0807060504030201);
+    ends_with(&rt, &heap, 144, Role::Storage, b"of bytes");
     Ok(())
 }
 
@@ -209,30 +255,11 @@ fn a_node_block_has_a_colour(rt: HostRuntime) -> Result<(), Fail> {
     Ok(())
 }
 
-#[test]
-fn a_block_is_written_through_a_loan(rt: HostRuntime) -> Result<(), Fail> {
-    let mut heap = empty(rt.alloc())?;
-    takes(&rt, &mut heap, 32, 144);
-    fills(&rt, &mut heap, 144, 7);
-    has_room(&rt, &heap, 144, 32);
-    ends_with(&rt, &heap, 144, Role::Object, &[7; 32]);
-    Ok(())
-}
-
-#[test]
-fn bytes_of_a_block_are_copied(rt: HostRuntime) -> Result<(), Fail> {
-    let mut heap = empty(rt.alloc())?;
-    let handle = heap.allocate(32, Role::Storage, &mut Steps::new())?;
-    heap.set_word(handle, 0, 0x0807060504030201);
-    heap.copy(handle, 0, handle, 4, 8);
-    same(&rt, heap.word(handle, 0), 0x0403020104030201);
-    same(&rt, heap.word(handle, 4), 0x0807060504030201);
-    Ok(())
-}
-
 /// Makes each byte of a second block the last one of a first.
 fn repeats_last(rt: &impl Abort, heap: &mut Heap, first: u64, second: u64) {
-    assert!(rt; heap.is_live(first) && heap.is_live(second) && first != second);
+    holds(rt, heap.is_live(first));
+    holds(rt, heap.is_live(second));
+    holds(rt, first != second);
     heap.two(first, second, |read, written| {
         if let Some(byte) = read.last() {
             written.fill(*byte);
@@ -246,6 +273,7 @@ fn two_blocks_are_lent_together(rt: HostRuntime) -> Result<(), Fail> {
     takes(&rt, &mut heap, 32, 144);
     takes(&rt, &mut heap, 16, 192);
     fills(&rt, &mut heap, 144, 5);
+    has_just(&rt, &heap, 144, 32);
     repeats_last(&rt, &mut heap, 144, 192);
     ends_with(&rt, &heap, 144, Role::Object, &[5; 32]);
     ends_with(&rt, &heap, 192, Role::Object, &[5; 16]);

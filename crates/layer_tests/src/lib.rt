@@ -1,5 +1,5 @@
-//! Tests of the layers below a segment, over their public calls: from raw memory to vectors and indexes in a heap; and of the
-//! command language.
+//! Tests of the layers below a segment, over their public calls: from raw memory to vectors and maps in a heap; and of the words
+//! of the command language.
 #![tactic(auto)]
 
 #[cfg(test)]
@@ -18,8 +18,6 @@ mod offset_link_tests;
 mod raw_region_stream_tests;
 #[cfg(test)]
 mod raw_region_tests;
-#[cfg(test)]
-mod seg_index_tests;
 #[cfg(test)]
 mod seg_map_tests;
 #[cfg(test)]

@@ -1,143 +1,188 @@
+//! Links in a window of 400 bytes. What a call asks for is asked of the window before, so a test is a line of calls without facts.
 use crate::checks::{holds, same};
 use offset_link::{
     Places, all_lead, are_links, checked, copy, load, shift, shift_non_null, store, store_null,
 };
-use raw_region::{RawRegion, Window};
+use raw_region::{OutOfMemory, RawRegion, Window};
+use std::alloc::Global;
 use std::process::Abort;
 use std::test::Fail;
+
+fn window(alloc: Global) -> Result<Window, OutOfMemory> {
+    Ok(Window::new(RawRegion::new(alloc, 512)?, 64, 400))
+}
 
 /// A window has these bytes from an offset on.
 fn reads(rt: &impl Abort, w: &Window, at: u64, bytes: &[u8]) {
     let len = bytes.len() as u64;
-    assert!(rt; w.in_range(at, len));
+    holds(rt, w.in_range(at, len));
     same(rt, w.bytes(at, len), bytes);
+}
+
+/// Makes the link at an offset lead to a target.
+fn links(rt: &impl Abort, w: &mut Window, at: u64, target: u64) {
+    holds(rt, at % 8 == 0);
+    holds(rt, w.in_range(at, 8));
+    holds(rt, target % 16 == 0);
+    store(w, at, target);
+}
+
+/// Makes the link at an offset lead nowhere.
+fn unlinks(rt: &impl Abort, w: &mut Window, at: u64) {
+    holds(rt, at % 8 == 0);
+    holds(rt, w.in_range(at, 8));
+    store_null(w, at);
 }
 
 /// The link at an offset leads to a target, or nowhere.
 fn leads(rt: &impl Abort, w: &Window, at: u64, target: Option<u64>) {
-    assert!(rt; at % 8 == 0 && w.in_range(at, 8));
+    holds(rt, at % 8 == 0);
+    holds(rt, w.in_range(at, 8));
     same(rt, load(w, at), target);
 }
 
 #[test]
 fn a_link_stores_its_distance(rt: HostRuntime) -> Result<(), Fail> {
-    let mut w = Window::new(RawRegion::new(rt.alloc(), 512)?, 64, 400);
-    store(&mut w, 24, 144);
+    let mut w = window(rt.alloc())?;
+    links(&rt, &mut w, 24, 144);
     leads(&rt, &w, 24, Some(144));
     reads(&rt, &w, 24, b"\x78\0\0\0\0\0\0\0");
-    store(&mut w, 160, 144);
+    links(&rt, &mut w, 160, 144);
     leads(&rt, &w, 160, Some(144));
     reads(&rt, &w, 160, b"\xF0\xFF\xFF\xFF\xFF\xFF\xFF\xFF");
-    store_null(&mut w, 24);
+    unlinks(&rt, &mut w, 24);
     leads(&rt, &w, 24, None);
     reads(&rt, &w, 24, b"\x01\0\0\0\0\0\0\0");
     Ok(())
 }
 
+/// Makes the link at 200 lead where the one at 32 leads.
+fn copies(rt: &impl Abort, w: &mut Window) {
+    holds(rt, w.in_range(0, 208));
+    holds(rt, are_links(w, 32, 1));
+    copy(w, 32, 200);
+}
+
 #[test]
 fn a_copy_leads_where_its_source_leads(rt: HostRuntime) -> Result<(), Fail> {
-    let mut w = Window::new(RawRegion::new(rt.alloc(), 512)?, 64, 400);
-    store(&mut w, 32, 176);
-    copy(&mut w, 32, 200);
+    let mut w = window(rt.alloc())?;
+    links(&rt, &mut w, 32, 176);
+    copies(&rt, &mut w);
     leads(&rt, &w, 32, Some(176));
     leads(&rt, &w, 200, Some(176));
-    store_null(&mut w, 32);
-    copy(&mut w, 32, 200);
+    unlinks(&rt, &mut w, 32);
+    copies(&rt, &mut w);
     leads(&rt, &w, 200, None);
     Ok(())
 }
 
+/// Moves three links from 24 on over one another.
+fn moves_up(rt: &impl Abort, w: &mut Window) {
+    holds(rt, w.in_range(24, 32));
+    holds(rt, are_links(w, 24, 3));
+    shift(w, 24, 3, Places::Up(1));
+}
+
+/// Moves two links from 24 on to 8.
+fn moves_back(rt: &impl Abort, w: &mut Window) {
+    holds(rt, w.in_range(8, 32));
+    holds(rt, are_links(w, 24, 2));
+    shift(w, 24, 2, Places::Down(2));
+}
+
+/// A word that leads to no multiple of 16 is no link.
+fn has_no_links(rt: &impl Abort, w: &mut Window) {
+    holds(rt, w.in_range(24, 16));
+    w.write_u64(24, 4);
+    holds(rt, !are_links(w, 24, 2));
+}
+
 #[test]
-fn links_move_over_one_another(rt: HostRuntime) -> Result<(), Fail> {
-    let mut w = Window::new(RawRegion::new(rt.alloc(), 512)?, 64, 400);
-    store(&mut w, 24, 144);
-    store_null(&mut w, 32);
-    store(&mut w, 40, 352);
-    assert!(rt; are_links(&w, 24, 3));
-    shift(&mut w, 24, 3, Places::Up(1));
+fn links_move(rt: HostRuntime) -> Result<(), Fail> {
+    let mut w = window(rt.alloc())?;
+    links(&rt, &mut w, 24, 144);
+    unlinks(&rt, &mut w, 32);
+    links(&rt, &mut w, 40, 352);
+    moves_up(&rt, &mut w);
     leads(&rt, &w, 24, Some(144));
     leads(&rt, &w, 32, Some(144));
     leads(&rt, &w, 40, None);
     leads(&rt, &w, 48, Some(352));
-    Ok(())
-}
-
-#[test]
-fn links_move_back(rt: HostRuntime) -> Result<(), Fail> {
-    let mut w = Window::new(RawRegion::new(rt.alloc(), 512)?, 64, 400);
-    store(&mut w, 24, 144);
-    store(&mut w, 32, 160);
-    assert!(rt; are_links(&w, 24, 2));
-    shift(&mut w, 24, 2, Places::Down(2));
+    moves_back(&rt, &mut w);
     leads(&rt, &w, 8, Some(144));
-    leads(&rt, &w, 16, Some(160));
-    w.write_u64(24, 4);
-    holds(&rt, !are_links(&w, 24, 2));
+    leads(&rt, &w, 16, Some(144));
+    has_no_links(&rt, &mut w);
     Ok(())
 }
 
-/// Whether eleven links from an offset on lead to one block of 16 bytes after another.
-fn lead_to_blocks(w: &Window, at: u64) -> bool {
-    let mut all = true;
+/// Moves eleven links from 24 on up.
+fn moves_run_up(rt: &impl Abort, w: &mut Window) {
+    holds(rt, w.in_range(24, 96));
+    holds(rt, all_lead(w, 24, 11));
+    shift_non_null(w, 24, 11, Places::Up(1));
+}
+
+/// Moves eleven links from 32 on down.
+fn moves_run_down(rt: &impl Abort, w: &mut Window) {
+    holds(rt, w.in_range(16, 104));
+    holds(rt, all_lead(w, 32, 11));
+    shift_non_null(w, 32, 11, Places::Down(2));
+}
+
+/// Eleven links from an offset on lead to one block of 16 bytes after another.
+fn lead_to_blocks(rt: &impl Abort, w: &Window, at: u32) {
     for i in 0..11 {
-        all &= at <= 64
-            && w.in_range(at + 8 * i, 8)
-            && at % 8 == 0
-            && load(w, at + 8 * i) == Some(144 + 16 * i);
+        leads(rt, w, u64::from(at) + 8 * i, Some(144 + 16 * i));
     }
-    all
+}
+
+/// Of links that lead to blocks the first is made null.
+fn not_all_lead(rt: &impl Abort, w: &mut Window) {
+    holds(rt, w.in_range(16, 16));
+    store_null(w, 16);
+    holds(rt, !all_lead(w, 16, 2));
 }
 
 #[test]
 fn a_run_of_links_moves_up_and_down(rt: HostRuntime) -> Result<(), Fail> {
-    let mut w = Window::new(RawRegion::new(rt.alloc(), 512)?, 64, 400);
+    let mut w = window(rt.alloc())?;
     for i in 0..11 {
-        assert!(rt; w.in_range(24 + 8 * i, 8));
-        store(&mut w, 24 + 8 * i, 144 + 16 * i);
+        links(&rt, &mut w, 24 + 8 * i, 144 + 16 * i);
     }
-    assert!(rt; w.in_range(24, 96) && all_lead(&w, 24, 11));
-    shift_non_null(&mut w, 24, 11, Places::Up(1));
-    holds(&rt, lead_to_blocks(&w, 32));
-    assert!(rt; w.in_range(24, 96) && all_lead(&w, 32, 11));
-    shift_non_null(&mut w, 32, 11, Places::Down(2));
-    holds(&rt, lead_to_blocks(&w, 16));
-    store_null(&mut w, 16);
-    holds(&rt, !all_lead(&w, 16, 2));
+    moves_run_up(&rt, &mut w);
+    lead_to_blocks(&rt, &w, 32);
+    moves_run_down(&rt, &mut w);
+    lead_to_blocks(&rt, &w, 16);
+    not_all_lead(&rt, &mut w);
     Ok(())
 }
 
-/// A word that leads so far from 24 on leads to a block, or is null.
-fn is_checked(rt: &impl Abort, w: &mut Window, distance: u64, target: Option<u64>) {
-    assert!(rt; w.in_range(24, 8));
-    w.write_u64(24, distance);
-    same(rt, checked(w, 24).ok(), Some(target));
-}
+/// Words of a link at 24, and where they lead: nowhere, to a block, or (`None`) to no place where a block may begin.
+const WORDS: [(u64, Option<Option<u64>>); 10] = [
+    (1, Some(None)),
+    (120, Some(Some(144))),
+    (136, Some(Some(160))),
+    (344, Some(Some(368))),
+    (0, None),
+    (104, None),
+    (128, None),
+    (352, None),
+    (360, None),
+    (376, None),
+];
 
-/// The same, of a word that leads to no place where a block may begin.
-fn is_bad(rt: &impl Abort, w: &mut Window, target: u64) {
-    assert!(rt; w.in_range(24, 8));
-    w.write_u64(24, target.wrapping_sub(24));
-    holds(rt, checked(w, 24).is_err());
+/// A word leads to a target, or is refused.
+fn is_checked(rt: &impl Abort, w: &mut Window, word: u64, target: Option<Option<u64>>) {
+    holds(rt, w.in_range(24, 8));
+    w.write_u64(24, word);
+    same(rt, checked(w, 24).ok(), target);
 }
 
 #[test]
 fn a_checked_link_leads_to_a_block(rt: HostRuntime) -> Result<(), Fail> {
-    let mut w = Window::new(RawRegion::new(rt.alloc(), 512)?, 64, 400);
-    is_checked(&rt, &mut w, 1, None);
-    is_checked(&rt, &mut w, 120, Some(144));
-    is_checked(&rt, &mut w, 136, Some(160));
-    is_checked(&rt, &mut w, 344, Some(368));
-    Ok(())
-}
-
-#[test]
-fn a_bad_link_leads_to_none(rt: HostRuntime) -> Result<(), Fail> {
-    let mut w = Window::new(RawRegion::new(rt.alloc(), 512)?, 64, 400);
-    is_bad(&rt, &mut w, 24);
-    is_bad(&rt, &mut w, 128);
-    is_bad(&rt, &mut w, 152);
-    is_bad(&rt, &mut w, 376);
-    is_bad(&rt, &mut w, 384);
-    is_bad(&rt, &mut w, 400);
+    let mut w = window(rt.alloc())?;
+    for (word, target) in WORDS {
+        is_checked(&rt, &mut w, word, target);
+    }
     Ok(())
 }

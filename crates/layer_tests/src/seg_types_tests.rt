@@ -1,7 +1,5 @@
-//! Values as bytes: those of the five scalar types, and those of a type that a caller gives the trait.
-ghost use Rattle.std.specs.Prelude.{◌≡◌, ◌≤◌, length};
-
-use crate::checks::holds;
+//! Values as bytes: those of the five scalar types, and those of a type that a caller gives the trait; names and kinds.
+use crate::checks::{holds, same};
 use crate::ticket::Ticket;
 use seg_types::theorems::{
     scalar_is_number, unordered_are_same, values_spell_one, written_is_read,
@@ -9,83 +7,103 @@ use seg_types::theorems::{
 use seg_types::{Kind, LONGEST_NAME, Name, Plain, Scalar, ScalarKind, ScalarValue, is_name};
 use std::process::Abort;
 
-/// Asserts that the value is spelled by these bytes, that they are read as it, and that it does not stand before itself.
-fn check_spelled<T: Plain + PartialEq + Drop>(rt: &impl Abort, value: T, spelled: &[u8])
-    requires size { length spelled.now ≡ T.SIZE }
-    requires small { T.SIZE ≤ 8 }
-{
+/// A value is spelled by these bytes, which are read as it, and it does not stand before itself.
+fn is_spelled<T: Plain + PartialEq + Drop>(rt: &impl Abort, value: T, spelled: &[u8]) {
+    holds(rt, spelled.len() as u64 == T::SIZE);
+    holds(rt, spelled.len() <= 8);
     let mut room = [0; 8];
     let bytes = &mut room[..spelled.len()];
     value.write(bytes);
     holds(rt, &*bytes == spelled);
-    holds(rt, T::read(spelled) == Some(value));
-    holds(rt, !value.precedes(value));
-    holds(rt, written_is_read(value, bytes) == Some(value));
+    same(rt, T::read(spelled), Some(value));
+    same(rt, written_is_read(value, bytes), Some(value));
     holds(rt, unordered_are_same(value, value));
 }
 
-/// Asserts that a scalar type has this size, this code and this kind.
-fn has_codes<T: Scalar>(rt: &impl Abort, size: u64, code: u32, kind: ScalarKind) {
-    holds(rt, T::SIZE == size && T::CODE == code);
-    holds(rt, T::kind() == kind);
+/// A value stands before another, which does not stand before it.
+fn stands_before<T: Plain>(rt: &impl Abort, low: T, high: T) {
+    holds(rt, low.precedes(high));
+    holds(rt, !high.precedes(low));
 }
 
-/// Asserts that each of these stands before the next, and not the other way round.
-fn check_rising<T: Plain>(rt: &impl Abort, values: &[T]) {
-    for pair in values.windows(2) {
-        holds(rt, pair[0].precedes(pair[1]));
-        holds(rt, !pair[1].precedes(pair[0]));
+/// Each of these values is spelled by the bytes beside it, and stands before the next.
+fn rise<T: Plain + PartialEq + Drop>(rt: &impl Abort, rows: &[(T, &[u8])]) {
+    let mut last = None;
+    for (value, spelled) in rows {
+        is_spelled(rt, *value, spelled);
+        if let Some(low) = last {
+            stands_before(rt, low, *value);
+        }
+        last = Some(*value);
     }
 }
 
+/// A scalar type has this size, this code and this kind.
+fn has_codes<T: Scalar>(rt: &impl Abort, size: u64, code: u32, kind: ScalarKind) {
+    same(rt, T::SIZE, size);
+    same(rt, T::CODE, code);
+    same(rt, T::kind(), kind);
+}
+
+const TRUTHS: [(bool, &[u8]); 2] = [(false, b"\0"), (true, b"\x01")];
+
+const BYTES: [(u8, &[u8]); 4] = [(0, b"\0"), (127, b"\x7F"), (128, b"\x80"), (255, b"\xFF")];
+
+const OF_FOUR_BYTES: [(i32, &[u8]); 6] = [
+    (i32::MIN, b"\0\0\0\x80"),
+    (-1, b"\xFF\xFF\xFF\xFF"),
+    (0, b"\0\0\0\0"),
+    (1, b"\x01\0\0\0"),
+    (67305985, b"\x01\x02\x03\x04"),
+    (i32::MAX, b"\xFF\xFF\xFF\x7F"),
+];
+
+const OF_EIGHT_BYTES: [(i64, &[u8]); 7] = [
+    (i64::MIN, b"\0\0\0\0\0\0\0\x80"),
+    (-2, b"\xFE\xFF\xFF\xFF\xFF\xFF\xFF\xFF"),
+    (-1, b"\xFF\xFF\xFF\xFF\xFF\xFF\xFF\xFF"),
+    (0, b"\0\0\0\0\0\0\0\0"),
+    (1, b"\x01\0\0\0\0\0\0\0"),
+    (578437695752307201, b"\x01\x02\x03\x04\x05\x06\x07\x08"),
+    (i64::MAX, b"\xFF\xFF\xFF\xFF\xFF\xFF\xFF\x7F"),
+];
+
+const WITHOUT_SIGN: [(u64, &[u8]); 5] = [
+    (0, b"\0\0\0\0\0\0\0\0"),
+    (578437695752307201, b"\x01\x02\x03\x04\x05\x06\x07\x08"),
+    (9223372036854775807, b"\xFF\xFF\xFF\xFF\xFF\xFF\xFF\x7F"),
+    (9223372036854775808, b"\0\0\0\0\0\0\0\x80"),
+    (u64::MAX, b"\xFF\xFF\xFF\xFF\xFF\xFF\xFF\xFF"),
+];
+
 #[test]
-fn truths(rt: HostRuntime) {
+fn values_of_scalar_types(rt: HostRuntime) {
     has_codes::<bool>(&rt, 1, 1, ScalarKind::Bool);
-    check_spelled(&rt, false, &[0]);
-    check_spelled(&rt, true, &[1]);
-    check_rising(&rt, &[false, true]);
-    holds(&rt, bool::read(&[2]).is_none());
-    holds(&rt, bool::read(&[255]).is_none());
-}
-
-#[test]
-fn bytes(rt: HostRuntime) {
+    rise(&rt, &TRUTHS);
     has_codes::<u8>(&rt, 1, 2, ScalarKind::U8);
-    check_spelled(&rt, 0u8, &[0]);
-    check_spelled(&rt, 255u8, &[255]);
-    check_rising(&rt, &[0u8, 127, 128, 255]);
-}
-
-#[test]
-fn numbers_of_four_bytes(rt: HostRuntime) {
+    rise(&rt, &BYTES);
     has_codes::<i32>(&rt, 4, 3, ScalarKind::I32);
-    check_spelled(&rt, 0i32, &[0; 4]);
-    check_spelled(&rt, -1i32, &[255; 4]);
-    check_spelled(&rt, 67305985i32, &[1, 2, 3, 4]);
-    check_spelled(&rt, i32::MIN, &[0, 0, 0, 128]);
-    check_spelled(&rt, i32::MAX, &[255, 255, 255, 127]);
-    check_rising(&rt, &[i32::MIN, -1, 0, 1, i32::MAX]);
-}
-
-#[test]
-fn numbers_of_eight_bytes(rt: HostRuntime) {
+    rise(&rt, &OF_FOUR_BYTES);
     has_codes::<i64>(&rt, 8, 4, ScalarKind::I64);
-    check_spelled(&rt, -2i64, &[254, 255, 255, 255, 255, 255, 255, 255]);
-    check_spelled(&rt, 578437695752307201i64, &[1, 2, 3, 4, 5, 6, 7, 8]);
-    check_spelled(&rt, i64::MIN, &[0, 0, 0, 0, 0, 0, 0, 128]);
-    check_spelled(&rt, i64::MAX, &[255, 255, 255, 255, 255, 255, 255, 127]);
-    check_rising(&rt, &[i64::MIN, -1, 0, 1, i64::MAX]);
+    rise(&rt, &OF_EIGHT_BYTES);
+    has_codes::<u64>(&rt, 8, 5, ScalarKind::U64);
+    rise(&rt, &WITHOUT_SIGN);
 }
 
 #[test]
-fn numbers_without_a_sign(rt: HostRuntime) {
-    has_codes::<u64>(&rt, 8, 5, ScalarKind::U64);
-    check_spelled(&rt, 578437695752307201u64, &[1, 2, 3, 4, 5, 6, 7, 8]);
-    check_spelled(&rt, u64::MAX, &[255; 8]);
-    check_rising(
-        &rt,
-        &[0u64, 9223372036854775807, 9223372036854775808, u64::MAX],
-    );
+fn values_of_a_type_of_the_caller(rt: HostRuntime) {
+    same(&rt, Ticket::CODE, 200);
+    // the urgent ones come first
+    let tickets: [(Ticket, &[u8]); 6] = [
+        (Ticket::urgent(0), b"\x01\0\0"),
+        (Ticket::urgent(258), b"\x01\x02\x01"),
+        (Ticket::urgent(65535), b"\x01\xFF\xFF"),
+        (Ticket::plain(0), b"\0\0\0"),
+        (Ticket::plain(1), b"\0\x01\0"),
+        (Ticket::plain(65535), b"\0\xFF\xFF"),
+    ];
+    rise(&rt, &tickets);
+    holds(&rt, Ticket::read(&[2, 0, 0]).is_none());
 }
 
 #[test]
@@ -93,36 +111,28 @@ fn laws_are_called(rt: HostRuntime) {
     values_spell_one();
     holds(&rt, scalar_is_number::<bool>(&[2]).is_none());
     let least = scalar_is_number::<i32>(&[0, 0, 0, 128]);
-    holds(&rt, least == Some(i32::MIN));
+    same(&rt, least, Some(i32::MIN));
     holds(&rt, !unordered_are_same(1u8, 2u8));
+    holds(&rt, bool::read(&[255]).is_none());
 }
 
-#[test]
-fn tickets(rt: HostRuntime) {
-    holds(&rt, Ticket::SIZE == 3 && Ticket::CODE == 200);
-    check_spelled(&rt, Ticket::urgent(258), &[1, 2, 1]);
-    check_spelled(&rt, Ticket::plain(65535), &[0, 255, 255]);
-    check_rising(
-        &rt,
-        &[
-            Ticket::urgent(0),
-            Ticket::urgent(65535),
-            Ticket::plain(0),
-            Ticket::plain(1),
-        ],
-    );
-    holds(&rt, Ticket::read(&[2, 0, 0]).is_none());
-}
-
-/// What is a name: with blanks and quotes, and with characters of two, three and four bytes.
-const NAMES: [&[u8]; 3] = [
-    b"a",
-    b" with blanks, and \"quotes\"",
-    b"\xC3\xA4\xE2\x82\xAC\xF0\x9F\x98\x80",
+/// Bytes, and whether they are a name in the formats 0 and 1, and from 2 on. Names may have blanks and quotes, and from 2 on
+/// characters of two, three and four bytes; none is empty, has a control character or is no UTF-8.
+const NAMES: [(&[u8], bool, bool); 13] = [
+    (b"a ~", true, true),
+    (b" with blanks, and \"quotes\"", true, true),
+    (b"\xC3\xA4\xE2\x82\xAC\xF0\x9F\x98\x80", false, true),
+    (b"\xC2\xA0", false, true),
+    (b"", false, false),
+    (b"\x1F", false, false),
+    (b"line\n", false, false),
+    (b"a\x7F", false, false),
+    (b"\xFF", false, false),
+    (b"\xC3", false, false),
+    (b"\xC2\x85", false, false),
+    (b"a\xC2\x85", false, false),
+    (b"\xC2\x9F", false, false),
 ];
-
-/// What is no name: empty, with control characters, and no UTF-8.
-const NO_NAMES: [&[u8]; 5] = [b"", b"line\n", b"\x7F", b"\xFF", b"\xC2\x85"];
 
 /// Whether these bytes are a name, which then holds them.
 fn is_held(bytes: &[u8]) -> bool {
@@ -133,37 +143,47 @@ fn is_held(bytes: &[u8]) -> bool {
 }
 
 #[test]
-fn names(rt: HostRuntime) {
-    holds(&rt, LONGEST_NAME == 255);
-    let long = [b'~'; LONGEST_NAME + 1];
-    holds(&rt, is_held(&long[..LONGEST_NAME]));
-    holds(&rt, Name::new(&long).is_none());
-    for name in NAMES {
-        holds(&rt, is_held(name));
-    }
-    for bytes in NO_NAMES {
-        holds(&rt, Name::new(bytes).is_none());
+fn names_of_each_format(rt: HostRuntime) {
+    for (bytes, in_one, in_two) in NAMES {
+        same(&rt, is_name(0, bytes), in_one);
+        same(&rt, is_name(1, bytes), in_one);
+        same(&rt, is_name(2, bytes), in_two);
+        same(&rt, is_held(bytes), in_two);
     }
 }
 
-/// A kind has a code.
-fn has_code(rt: &impl Abort, kind: Kind, code: u32) {
-    holds(rt, Kind::from_code(code) == Some(kind));
-    holds(rt, kind.code() == code);
+#[test]
+fn names_have_a_longest(rt: HostRuntime) {
+    same(&rt, LONGEST_NAME, 255);
+    let long = [b'~'; 256];
+    for (len, in_one, in_two) in [
+        (63, true, true),
+        (64, false, true),
+        (255, false, true),
+        (256, false, false),
+    ] {
+        let name = long.get(..len).unwrap_or(&[]);
+        same(&rt, is_name(1, name), in_one);
+        same(&rt, is_name(2, name), in_two);
+        same(&rt, is_held(name), in_two);
+    }
 }
+
+const KINDS: [(Kind, u32); 6] = [
+    (Kind::Scalar(ScalarKind::Bool), 1),
+    (Kind::Scalar(ScalarKind::U64), 5),
+    (Kind::Text, 65536),
+    (Kind::Vector(ScalarKind::I32), 131075),
+    (Kind::Map(ScalarKind::U8, ScalarKind::U8), 197122),
+    (Kind::Texts, 262144),
+];
 
 #[test]
 fn kinds_have_codes(rt: HostRuntime) {
-    has_code(&rt, Kind::Scalar(ScalarKind::Bool), 1);
-    has_code(&rt, Kind::Scalar(ScalarKind::U64), 5);
-    has_code(&rt, Kind::Text, 65536);
-    has_code(&rt, Kind::Vector(ScalarKind::I32), 131075);
-    has_code(&rt, Kind::Map(ScalarKind::U8, ScalarKind::U8), 197122);
-    has_code(&rt, Kind::Texts, 262144);
-}
-
-#[test]
-fn codes_of_no_kind(rt: HostRuntime) {
+    for (kind, code) in KINDS {
+        same(&rt, Kind::from_code(code), Some(kind));
+        same(&rt, kind.code(), code);
+    }
     for code in [0, 6, 131072, 196608, 197894, 4294967295] {
         holds(&rt, Kind::from_code(code).is_none());
     }
@@ -172,59 +192,36 @@ fn codes_of_no_kind(rt: HostRuntime) {
     holds(&rt, Kind::Text.is_of(0));
 }
 
-/// A number is a value of a kind, which has this number and this kind.
-fn is_value(rt: &impl Abort, kind: ScalarKind, number: i128, value: ScalarValue) {
-    holds(rt, ScalarValue::of_number(kind, number) == Some(value));
-    holds(rt, value.number() == number && value.kind() == kind);
-}
+/// Numbers, and the values of a kind that they are.
+const NUMBERS: [(ScalarKind, i128, Option<ScalarValue>); 5] = [
+    (ScalarKind::Bool, 1, Some(ScalarValue::Bool(true))),
+    (ScalarKind::U8, 255, Some(ScalarValue::U8(255))),
+    (ScalarKind::I64, -1, Some(ScalarValue::I64(-1))),
+    (ScalarKind::Bool, 2, None),
+    (ScalarKind::I32, 2147483648, None),
+];
 
 #[test]
 fn values_of_a_kind(rt: HostRuntime) {
-    is_value(&rt, ScalarKind::Bool, 1, ScalarValue::Bool(true));
-    is_value(&rt, ScalarKind::U8, 255, ScalarValue::U8(255));
-    is_value(&rt, ScalarKind::I64, -1, ScalarValue::I64(-1));
-    let none = ScalarValue::of_number(ScalarKind::Bool, 2);
-    holds(&rt, none.is_none());
-    let none = ScalarValue::of_number(ScalarKind::I32, 2147483648);
-    holds(&rt, none.is_none());
+    for (kind, number, wanted) in NUMBERS {
+        same(&rt, ScalarValue::of_number(kind, number), wanted);
+        if let Some(value) = wanted {
+            same(&rt, value.number(), number);
+            same(&rt, value.kind(), kind);
+        }
+    }
 }
 
 #[test]
 fn values_are_spelled(rt: HostRuntime) {
     let mut bytes = [0; 4];
     ScalarValue::I32(-2).write(&mut bytes);
-    holds(&rt, bytes.as_slice() == b"\xFE\xFF\xFF\xFF".as_slice());
+    same(&rt, bytes.as_slice(), b"\xFE\xFF\xFF\xFF".as_slice());
     let read = ScalarValue::read(ScalarKind::I32, &bytes);
-    holds(&rt, read == Some(ScalarValue::I32(-2)));
+    same(&rt, read, Some(ScalarValue::I32(-2)));
     holds(&rt, ScalarValue::read(ScalarKind::Bool, &[2]).is_none());
     holds(&rt, !ScalarKind::Bool.is_spelling(&[2]));
     holds(&rt, ScalarKind::U8.is_spelling(&[2]));
-}
-
-#[test]
-fn spellings_are_in_order(rt: HostRuntime) {
     holds(&rt, ScalarKind::I32.precedes(&[255; 4], &[0; 4]));
     holds(&rt, !ScalarKind::U64.precedes(&[255; 8], &[0; 8]));
-    holds(&rt, ScalarKind::I64.precedes(&[255; 8], &[0; 8]));
-}
-
-/// What is no name of format 2: with control characters, no UTF-8, and empty.
-const NO_NAMES_OF_TWO: [&[u8]; 6] = [b"a\xC2\x85", b"a\x7F", b"\xC3", b"", b"\xC2\x9F", b"\x1F"];
-
-#[test]
-fn names_of_each_format(rt: HostRuntime) {
-    holds(&rt, is_name(0, b"a ~"));
-    holds(&rt, !is_name(1, b"\xC3\xA4"));
-    holds(&rt, is_name(2, b"\xC3\xA4\xE2\x82\xAC\xF0\x9F\x98\x80"));
-    holds(&rt, is_name(2, b"\xC2\xA0"));
-    for bytes in NO_NAMES_OF_TWO {
-        holds(&rt, !is_name(2, bytes));
-    }
-}
-
-#[test]
-fn names_have_a_longest(rt: HostRuntime) {
-    let long = [b'a'; 256];
-    holds(&rt, is_name(1, &long[..63]) && !is_name(1, &long[..64]));
-    holds(&rt, is_name(2, &long[..255]) && !is_name(2, &long));
 }

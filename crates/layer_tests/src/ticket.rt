@@ -5,10 +5,9 @@ ghost use Rattle.layer_tests.specs.Tickets.{place, ticket_bytes, is_number, said
 ghost use Rattle.layer_tests.specs.Tickets as laws;
 
 use seg_types::Plain;
-use std::fmt::Debug;
 
 /// A ticket of a queue, in three bytes: whether it is urgent, and its number. Urgent ones come first.
-#[derive(Clone, Copy, Debug, PartialEq)]
+#[derive(Clone, Copy, PartialEq)]
 pub struct Ticket {
     pub urgent: bool,
     pub number: u16,

@@ -6,7 +6,6 @@ use crate::checks::same;
 use crate::segments::{entry, named, new_named};
 use seg_types::{Class, Handle, Key, Kind, Refusal, Scalar};
 use segment_manager::Segment;
-use std::fmt::Debug;
 use std::process::Abort;
 
 /// A segment under test.
@@ -61,7 +60,7 @@ impl Bench {
     }
 
     /// `get`: the element at `i`.
-    pub fn has<T: Scalar + PartialEq + Debug>(
+    pub fn has<T: Scalar + PartialEq>(
         &self,
         rt: &impl Abort,
         name: &[u8],

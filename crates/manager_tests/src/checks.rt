@@ -1,13 +1,36 @@
 //! What the tests compare by: calls, since what a macro writes in each test is dear to prove.
-use std::fmt::Debug;
+ghost use Rattle.std.specs.Prelude.{◌≡◌, Err, IsTrue, Ok};
+
 use std::process::Abort;
 
 /// Fails where a call answers something else than is wanted.
-pub fn same<T: PartialEq + Debug + Drop>(rt: &impl Abort, got: T, want: T) {
-    assert_eq!(rt; got, want);
+pub fn same<T: PartialEq + Drop>(rt: &impl Abort, got: T, want: T) {
+    holds(rt, got == want);
 }
 
-/// Fails where something is not so.
-pub fn holds(rt: &impl Abort, so: bool) {
+/// Fails where something is not so. What a caller does behind it may rest on it.
+pub fn holds(rt: &impl Abort, so: bool)
+    ensures { IsTrue so }
+{
     assert!(rt; so);
+}
+
+/// What a call answers, which is not refused.
+pub fn done<T, E: Drop>(rt: &impl Abort, got: Result<T, E>) -> T
+    ensures { got ≡ Ok result }
+{
+    match got {
+        Ok(it) => it,
+        Err(_) => panic!(rt; "refused"),
+    }
+}
+
+/// What a call is refused with.
+pub fn refusal<T: Drop, E>(rt: &impl Abort, got: Result<T, E>) -> E
+    ensures { got ≡ Err result }
+{
+    match got {
+        Ok(_) => panic!(rt; "not refused"),
+        Err(why) => why,
+    }
 }

@@ -1,5 +1,5 @@
-//! Tests of objects in segments and of their views, of regions and of the check of images, by public calls that no script
-//! makes. What scripts and images say is in the row files of `rows`.
+//! Tests of objects in segments and of their views, of regions, of the check of images and of dumps, by public calls that no
+//! script makes. What scripts and images say is in the row files of `rows`.
 #![tactic(auto)]
 
 #[cfg(test)]
@@ -9,11 +9,15 @@ mod checks;
 #[cfg(test)]
 mod container_tests;
 #[cfg(test)]
+mod dump_refusal_tests;
+#[cfg(test)]
+mod dump_tests;
+#[cfg(test)]
+mod dumps;
+#[cfg(test)]
 mod index_tests;
 #[cfg(test)]
 mod item_tests;
-#[cfg(test)]
-mod library_example;
 #[cfg(test)]
 mod map_tests;
 #[cfg(test)]

@@ -3,7 +3,7 @@ ghost use Rattle.std.specs.Prelude.{◌≡◌, ◌%◌};
 ghost use Rattle.raw_region.specs.Regions.{IsCapacity};
 
 use crate::bench::Bench;
-use crate::checks::{holds, same};
+use crate::checks::{done, holds, refusal, same};
 use crate::regions::{are_sevens, reads, region_of_sevens};
 use crate::segments::fresh;
 use raw_region::RawRegion;
@@ -21,35 +21,24 @@ fn moves(
 ) -> (Bench, RawRegion)
     requires { base % 16 ≡ 0 }
 {
-    let Ok((segment, left)) = bench.segment.relocate(region, base) else {
-        panic!(rt; "the segment does not move");
-    };
+    let (segment, left) = done(rt, bench.segment.relocate(region, base));
     reads(rt, &left, from, segment.as_bytes());
     (Bench { segment }, left)
 }
 
 #[test]
-fn a_segment_moves_into_another_region(rt: HostRuntime) {
+fn a_segment_moves_into_another_region_and_back(rt: HostRuntime) {
     let mut bench = fresh(&rt, rt.alloc(), 1024);
     bench.makes(&rt, b"b", 1, 5i64, 192);
     let region = region_of_sevens(&rt, rt.alloc(), 2048);
-    let (mut moved, left) = moves(&rt, bench, 0, region, 160);
-    same(&rt, left.capacity(), 1024);
+    let (mut moved, home) = moves(&rt, bench, 0, region, 160);
+    same(&rt, home.capacity(), 1024);
     same(&rt, moved.segment.region_left(), 864);
     moved.has(&rt, b"b", 0, Ok(5i64));
     moved.makes(&rt, b"a", 1, 6i64, 240);
-    moved.has_free(&rt, 736);
-}
-
-#[test]
-fn a_segment_that_moves_leaves_what_stands_round_it(rt: HostRuntime) {
-    let bench = fresh(&rt, rt.alloc(), 1024);
-    let region = region_of_sevens(&rt, rt.alloc(), 2048);
-    let (mut moved, home) = moves(&rt, bench, 0, region, 160);
-    moved.makes(&rt, b"a", 1, 5i64, 192);
     let (back, left) = moves(&rt, moved, 160, home, 0);
-    back.has(&rt, b"a", 0, Ok(5i64));
-    holds(&rt, back.segment.sanity());
+    back.has(&rt, b"a", 0, Ok(6i64));
+    back.has_free(&rt, 736);
     are_sevens(&rt, &left, 0, 160);
     are_sevens(&rt, &left, 1184, 864);
 }
@@ -59,13 +48,9 @@ fn stays(rt: &impl Abort, alloc: Global, bench: Bench, capacity: u64, base: u64)
     requires capacity { IsCapacity capacity }
     requires base { base % 16 ≡ 0 }
 {
-    let Ok(bytes) = bench.segment.as_bytes().to_vec(alloc) else {
-        panic!(rt; "out of memory");
-    };
+    let bytes = done(rt, bench.segment.as_bytes().to_vec(alloc));
     let region = region_of_sevens(rt, alloc, capacity);
-    let Err(refused) = bench.segment.relocate(region, base) else {
-        panic!(rt; "the segment moves");
-    };
+    let refused = refusal(rt, bench.segment.relocate(region, base));
     holds(rt, refused.segment.as_bytes() == bytes.as_slice());
     same(rt, refused.region.capacity(), capacity);
     are_sevens(rt, &refused.region, 0, capacity as usize);

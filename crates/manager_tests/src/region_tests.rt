@@ -1,7 +1,7 @@
 //! Segments made and opened in regions, as a region is seen from outside before and after.
 ghost use Rattle.std.specs.Prelude.{◌≡◌, ◌%◌};
 
-use crate::checks::{holds, same};
+use crate::checks::{done, holds, refusal, same};
 use crate::regions::{are_sevens, region_of_sevens};
 use crate::segments::fresh;
 use image_check::{ImageClass, OpenError, open, open_bytes};
@@ -16,9 +16,7 @@ use std::test::Fail;
 #[test]
 fn a_segment_is_made(rt: HostRuntime) -> Result<(), Fail> {
     let region = RawRegion::new(rt.alloc(), 1024)?;
-    let Ok(segment) = Segment::create(region, 16, 176, Mode::Write) else {
-        panic!(rt; "refused");
-    };
+    let segment = done(&rt, Segment::create(region, 16, 176, Mode::Write));
     same(&rt, segment.as_bytes().len(), 176);
     let front = b"MSEGFILE\x02\0\0\0\0\0\0\0\xB0";
     holds(&rt, segment.as_bytes().starts_with(front));
@@ -30,9 +28,7 @@ fn a_segment_is_made(rt: HostRuntime) -> Result<(), Fail> {
 #[test]
 fn a_segment_fills_its_region(rt: HostRuntime) {
     let region = region_of_sevens(&rt, rt.alloc(), 1024);
-    let Ok(mut segment) = Segment::create(region, 16, 1008, Mode::CopyOnWrite) else {
-        panic!(rt; "refused");
-    };
+    let mut segment = done(&rt, Segment::create(region, 16, 1008, Mode::CopyOnWrite));
     same(&rt, segment.region_left(), 0);
     same(&rt, segment.free(), 864);
     same(&rt, segment.zero_free(), Ok(()));
@@ -41,24 +37,25 @@ fn a_segment_fills_its_region(rt: HostRuntime) {
 #[test]
 fn the_smallest_segment(rt: HostRuntime) -> Result<(), Fail> {
     let region = RawRegion::new(rt.alloc(), 144)?;
-    let Ok(mut segment) = Segment::create(region, 0, 144, Mode::ReadOnly) else {
-        panic!(rt; "refused");
-    };
+    let mut segment = done(&rt, Segment::create(region, 0, 144, Mode::ReadOnly));
     same(&rt, segment.tile(0), None);
     same(&rt, segment.mode(), Mode::ReadOnly);
     same(&rt, segment.zero_free(), Err(Refusal::ReadOnly));
     Ok(())
 }
 
+/// A region of 1024 bytes is one of sevens still.
+fn is_as_it_was(rt: &impl Abort, region: &RawRegion) {
+    same(rt, region.capacity(), 1024);
+    are_sevens(rt, region, 0, 1024);
+}
+
 /// No segment of so many bytes is made at `base` of 1024 bytes, and the region comes back as it was.
 fn makes_none(rt: &impl Abort, alloc: Global, size: u64, cause: CreateError) {
     let region = region_of_sevens(rt, alloc, 1024);
-    let Err(refused) = Segment::create(region, 16, size, Mode::Write) else {
-        panic!(rt; "made");
-    };
+    let refused = refusal(rt, Segment::create(region, 16, size, Mode::Write));
     same(rt, refused.cause, cause);
-    same(rt, refused.region.capacity(), 1024);
-    are_sevens(rt, &refused.region, 0, 1024);
+    is_as_it_was(rt, &refused.region);
 }
 
 #[test]
@@ -76,12 +73,12 @@ fn opens_none(rt: &impl Abort, alloc: Global, base: u64)
     let mut reader = MemorySource::new(front, 7, Last::Fails);
     let region = region_of_sevens(rt, alloc, 1024);
     let mut steps = Steps::new();
-    let Err(refused) = open(alloc, &mut reader, region, base, Mode::Write, &mut steps) else {
-        panic!(rt; "opened");
-    };
+    let refused = refusal(
+        rt,
+        open(alloc, &mut reader, region, base, Mode::Write, &mut steps),
+    );
     same(rt, refused.cause, OpenError::RegionTooSmall);
-    same(rt, refused.region.capacity(), 1024);
-    are_sevens(rt, &refused.region, 0, 1024);
+    is_as_it_was(rt, &refused.region);
 }
 
 #[test]
@@ -95,9 +92,10 @@ fn an_image_in_memory_is_opened(rt: HostRuntime) -> Result<(), Fail> {
     let made = fresh(&rt, rt.alloc(), 1024);
     let (image, mode) = (made.segment.as_bytes(), Mode::ReadOnly);
     let region = RawRegion::new(rt.alloc(), 2048)?;
-    let Ok(segment) = open_bytes(rt.alloc(), image, region, 16, mode, &mut Steps::new()) else {
-        panic!(rt; "refused");
-    };
+    let segment = done(
+        &rt,
+        open_bytes(rt.alloc(), image, region, 16, mode, &mut Steps::new()),
+    );
     same(&rt, segment.as_bytes(), image);
     same(&rt, segment.mode(), Mode::ReadOnly);
     same(&rt, segment.region_left(), 1008);
@@ -108,12 +106,12 @@ fn an_image_in_memory_is_opened(rt: HostRuntime) -> Result<(), Fail> {
 fn opens_no_bytes(rt: &impl Abort, alloc: Global, image: &[u8], cause: OpenError) {
     let region = region_of_sevens(rt, alloc, 1024);
     let mut steps = Steps::new();
-    let Err(refused) = open_bytes(alloc, image, region, 864, Mode::Write, &mut steps) else {
-        panic!(rt; "opened");
-    };
+    let refused = refusal(
+        rt,
+        open_bytes(alloc, image, region, 864, Mode::Write, &mut steps),
+    );
     same(rt, refused.cause, cause);
-    same(rt, refused.region.capacity(), 1024);
-    are_sevens(rt, &refused.region, 0, 1024);
+    is_as_it_was(rt, &refused.region);
 }
 
 #[test]

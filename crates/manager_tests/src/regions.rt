@@ -27,6 +27,6 @@ const SEVENS: [u8; 2048] = [7; 2048];
 /// A region has these bytes from an offset on.
 pub fn reads(rt: &impl Abort, region: &RawRegion, from: u64, bytes: &[u8]) {
     let len = bytes.len() as u64;
-    assert!(rt; region.in_range(from, len));
+    holds(rt, region.in_range(from, len));
     holds(rt, region.bytes(from, len) == bytes);
 }

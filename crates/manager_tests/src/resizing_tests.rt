@@ -1,6 +1,6 @@
 //! Segments that grow and shrink in their regions.
 use crate::bench::Bench;
-use crate::checks::{holds, same};
+use crate::checks::{done, holds, same};
 use crate::segments::{fresh, opened};
 use grow_shrink::{GrowError, grow, shrink_to_fit};
 use segment_manager::Mode;
@@ -39,9 +39,7 @@ fn an_empty_segment_shrinks_and_grows(rt: HostRuntime) {
 
 /// A segment does not grow by so many bytes, and is as before.
 fn stays(rt: &impl Abort, alloc: Global, bench: &mut Bench, extra: u64, why: GrowError) {
-    let Ok(bytes) = bench.segment.as_bytes().to_vec(alloc) else {
-        panic!(rt; "out of memory");
-    };
+    let bytes = done(rt, bench.segment.as_bytes().to_vec(alloc));
     let left = bench.segment.region_left();
     same(rt, grow(&mut bench.segment, extra), Err(why));
     holds(rt, bench.segment.as_bytes() == bytes.as_slice());

@@ -6,7 +6,7 @@ ghost use Rattle.seg_types.specs.Keys.{index_key_seen, new_key_seen};
 ghost use Rattle.segment_manager.specs.NewObjects.{IsOfKind};
 
 use crate::bench::Bench;
-use crate::checks::same;
+use crate::checks::{done, holds, same};
 use image_check::open;
 use memory_devices::{Last, MemorySource};
 use raw_region::{RawRegion, Steps};
@@ -18,32 +18,24 @@ use std::process::Abort;
 
 /// A segment of some bytes with nothing in it.
 pub fn fresh(rt: &impl Abort, alloc: Global, size: u64) -> Bench {
-    let Ok(region) = RawRegion::new(alloc, 1024) else {
-        panic!(rt; "out of memory");
-    };
-    let Ok(segment) = Segment::create(region, 0, size, Mode::Write) else {
-        panic!(rt; "refused");
-    };
+    let region = done(rt, RawRegion::new(alloc, 1024));
+    let segment = done(rt, Segment::create(region, 0, size, Mode::Write));
     Bench { segment }
 }
 
 /// The bytes of a segment, opened as one in another region.
 pub fn opened(rt: &impl Abort, alloc: Global, bench: &Bench, mode: Mode) -> Bench {
     let mut reader = MemorySource::new(bench.segment.as_bytes(), 4096, Last::Ends);
-    let Ok(region) = RawRegion::new(alloc, 2048) else {
-        panic!(rt; "out of memory");
-    };
-    let Ok(segment) = open(alloc, &mut reader, region, 16, mode, &mut Steps::new()) else {
-        panic!(rt; "not opened");
-    };
+    let region = done(rt, RawRegion::new(alloc, 2048));
+    let segment = done(
+        rt,
+        open(alloc, &mut reader, region, 16, mode, &mut Steps::new()),
+    );
     Bench { segment }
 }
 
 fn name<'a>(rt: &impl Abort, bytes: &'a [u8]) -> Name<'a> {
-    let Some(name) = Name::new(bytes) else {
-        panic!(rt; "no name");
-    };
-    name
+    Name::new(bytes).expect(rt, "no name")
 }
 
 /// The key of the object of this name.
@@ -68,13 +60,13 @@ pub fn new_named<'a>(rt: &impl Abort, bytes: &'a [u8]) -> NewKey<'a>
 /// The object whose name has `i` others before it has this handle.
 pub fn named_is(rt: &impl Abort, bench: &Bench, i: u64, handle: Handle) {
     let segment = &bench.segment;
-    assert!(rt; i < segment.num_named());
+    holds(rt, i < segment.num_named());
     same(rt, named_at(segment, i), handle);
 }
 
 /// The unique object whose kind has `i` others before it has this handle.
 pub fn unique_is(rt: &impl Abort, bench: &Bench, i: u64, handle: Handle) {
     let segment = &bench.segment;
-    assert!(rt; i < segment.num_unique());
+    holds(rt, i < segment.num_unique());
     same(rt, unique_at(segment, i), handle);
 }

@@ -1,6 +1,6 @@
 //! Views of objects: what no example calls.
 use crate::bench::Bench;
-use crate::checks::same;
+use crate::checks::{done, same};
 use crate::segments::fresh;
 use seg_types::{Key, NewKey, Refusal};
 use segment_views::{ArrayView, MapView, StringsView, VectorView};
@@ -11,9 +11,10 @@ fn elements_of_an_array(rt: HostRuntime) {
     let mut bench = fresh(&rt, rt.alloc(), 1024);
     let made = bench.segment.construct(&NewKey::Anonymous, 3, 7i64);
     same(&rt, made, Ok(144));
-    let Ok(view) = ArrayView::<i64>::of(&mut bench.segment, &Key::Handle(144)) else {
-        panic!(rt; "no view");
-    };
+    let view = done(
+        &rt,
+        ArrayView::<i64>::of(&mut bench.segment, &Key::Handle(144)),
+    );
     same(&rt, view.len(), Ok(3));
     same(&rt, view.get(2), Ok(7));
     same(&rt, view.get(3), Err(Refusal::OutOfRange));
@@ -29,9 +30,10 @@ fn elements_of_a_vector(rt: HostRuntime) {
         .segment
         .construct_vec(&NewKey::Anonymous, &[3i32, 5, 8]);
     same(&rt, made, Ok(144));
-    let Ok(view) = VectorView::<i32>::of(&mut bench.segment, &Key::Handle(144)) else {
-        panic!(rt; "no view");
-    };
+    let view = done(
+        &rt,
+        VectorView::<i32>::of(&mut bench.segment, &Key::Handle(144)),
+    );
     same(&rt, view.measure(), Ok((3, 3)));
     same(&rt, view.get(1), Ok(5));
     let mut values = [0, 0];
@@ -49,9 +51,7 @@ fn texts_of_a_list(rt: HostRuntime) {
         .segment
         .construct_texts(&NewKey::Anonymous, &[b"one", b""]);
     same(&rt, made, Ok(144));
-    let Ok(view) = StringsView::of(&mut bench.segment, &Key::Handle(144)) else {
-        panic!(rt; "no view");
-    };
+    let view = done(&rt, StringsView::of(&mut bench.segment, &Key::Handle(144)));
     same(&rt, view.len(), Ok(2));
     same(&rt, view.get(0), Ok(b"one".as_slice()));
     same(&rt, view.get(2), Err(Refusal::OutOfRange));
@@ -71,9 +71,10 @@ fn with_pairs(rt: &impl Abort, bench: &mut Bench) {
 fn pairs_come_from_both_ends(rt: HostRuntime) {
     let mut bench = fresh(&rt, rt.alloc(), 1024);
     with_pairs(&rt, &mut bench);
-    let Ok(view) = MapView::<i64, u8>::of(&mut bench.segment, &Key::Handle(144)) else {
-        panic!(rt; "no view");
-    };
+    let view = done(
+        &rt,
+        MapView::<i64, u8>::of(&mut bench.segment, &Key::Handle(144)),
+    );
     same(&rt, view.len(), Ok(3));
     same(&rt, view.first_from(5), Ok(Some((6, 60))));
     same(&rt, view.last(), Ok(Some((6, 60))));
@@ -89,9 +90,10 @@ fn pairs_come_from_both_ends(rt: HostRuntime) {
 fn a_range_is_read_backwards(rt: HostRuntime) {
     let mut bench = fresh(&rt, rt.alloc(), 1024);
     with_pairs(&rt, &mut bench);
-    let Ok(view) = MapView::<i64, u8>::of(&mut bench.segment, &Key::Handle(144)) else {
-        panic!(rt; "no view");
-    };
+    let view = done(
+        &rt,
+        MapView::<i64, u8>::of(&mut bench.segment, &Key::Handle(144)),
+    );
     same(&rt, view.range(4..6).next_back(), Some((4, 40)));
     same(&rt, view.range(4..=6).next_back(), Some((6, 60)));
     same(&rt, view.range(..5).next_back(), Some((4, 40)));

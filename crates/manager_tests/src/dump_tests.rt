@@ -1,0 +1,137 @@
+//! Segments that are dumped, and loaded again; and dumps with notes behind them: those of capacities, and others.
+use crate::checks::{done, holds, same};
+use crate::dumps::{empty, is_dumped, loaded, text_of, writer};
+use crate::segments::{named, new_named};
+use seg_types::{Handle, Key, ScalarKind, ScalarValue};
+use segment_dump::{dump_with_capacities, said_size, without_notes};
+use segment_manager::{AnonymousInstance, Segment, UniqueInstance};
+use std::alloc::Global;
+use std::process::Abort;
+
+/// A segment with nothing in it, as a dump has it.
+const NOTHING: &[u8] = b"segment dump 1\nsize 4096\nindexes 0 0\nend\n";
+
+/// One object of each kind, as a dump has it.
+const ONE_OF_EACH: &[u8] =
+    b"segment dump 1\nsize 4096\nindexes 2 1\nnamed a i64 2\n  7\n  -2\nnamed \"b c\" vec<string> 2\n  5 \"hello\"\n  0 \"\"\nunique map<i32,bool> 2\n  -7 false\n  7 true\nanonymous string 1\n  4 \"a\\x00\\\"b\"\nanonymous vec<u8> 3\n  1\n  2\n  255\nend\n";
+
+/// Makes a pair of a map of truths.
+fn puts(rt: &impl Abort, segment: &mut Segment, map: Handle, key: i32, value: bool) {
+    let (key, value) = (ScalarValue::I32(key), ScalarValue::Bool(value));
+    same(
+        rt,
+        segment.map_put_any(&Key::Handle(map), key, value),
+        Ok(true),
+    );
+}
+
+/// Makes one object of each kind.
+fn fill(rt: &impl Abort, segment: &mut Segment) {
+    let (only, none) = (UniqueInstance, AnonymousInstance);
+    done(rt, segment.construct(&new_named(rt, b"a"), 2, 7i64));
+    done(rt, segment.set(&named(rt, b"a"), 1, -2i64));
+    done(rt, segment.construct_string(&none, b"a\0\"b"));
+    done(
+        rt,
+        segment.construct_texts(&new_named(rt, b"b c"), &[b"hello", b""]),
+    );
+    done(rt, segment.construct_vec(&none, &[1u8, 2, 255]));
+    let map = segment.construct_map_of(&only, ScalarKind::I32, ScalarKind::Bool);
+    let map = done(rt, map);
+    puts(rt, segment, map, 7, true);
+    puts(rt, segment, map, -7, false);
+}
+
+#[test]
+fn one_object_of_each_kind(rt: HostRuntime) {
+    let mut segment = empty(&rt, rt.alloc());
+    is_dumped(&rt, rt.alloc(), &segment, NOTHING);
+    fill(&rt, &mut segment);
+    is_dumped(&rt, rt.alloc(), &segment, ONE_OF_EACH);
+}
+
+#[test]
+fn what_was_dumped_is_loaded(rt: HostRuntime) {
+    let alike = loaded(&rt, rt.alloc(), ONE_OF_EACH, Some(4096));
+    is_dumped(&rt, rt.alloc(), &alike, ONE_OF_EACH);
+    let least = loaded(&rt, rt.alloc(), NOTHING, None);
+    same(&rt, least.size(), 144);
+}
+
+/// Loads a dump in just as many bytes as it needs, and what that is dumped as.
+fn is_loaded_again(rt: &impl Abort, alloc: Global, dump: &[u8]) {
+    let least = loaded(rt, alloc, dump, None);
+    same(rt, least.free(), 0);
+    let text = text_of(rt, alloc, &least);
+    let again = loaded(rt, alloc, text.taken(), Some(least.size()));
+    is_dumped(rt, alloc, &again, text.taken());
+}
+
+#[test]
+fn what_was_loaded_is_loaded_again(rt: HostRuntime) {
+    is_loaded_again(&rt, rt.alloc(), ONE_OF_EACH);
+}
+
+#[test]
+fn a_long_text(rt: HostRuntime) {
+    let mut segment = empty(&rt, rt.alloc());
+    let bytes = [0x61; 1001];
+    done(&rt, segment.construct_string(&new_named(&rt, b"s"), &bytes));
+    done(
+        &rt,
+        segment.construct_texts(&new_named(&rt, b"t"), &[&bytes]),
+    );
+    is_loaded_again(&rt, rt.alloc(), text_of(&rt, rt.alloc(), &segment).taken());
+}
+
+/// A vector with more places than elements, and a string.
+const DUMP: &[u8] =
+    b"segment dump 1\nsize 4096\nindexes 1 0\nnamed a vec<i64> 1\n  7\nanonymous string 1\n  2 \"xy\"\nend\n";
+
+/// The same with their capacities.
+const NOTED: &[u8] =
+    b"segment dump 1\nsize 4096\nindexes 1 0\nnamed a vec<i64> 1\n  7\nanonymous string 1\n  2 \"xy\"\nend\n# capacity of names: 4\n# capacity of kinds: 0\n# capacity of named a vec<i64>: 10\n# capacity of anonymous string: 2\n";
+
+/// A writer with room for so many bytes of the dump with capacities takes these, and then fails.
+fn is_noted(rt: &impl Abort, alloc: Global, segment: &Segment, room: usize) {
+    let mut out = writer(rt, alloc, room);
+    let told = dump_with_capacities(segment, &mut out).is_ok();
+    same(rt, told, room >= NOTED.len());
+    holds(rt, NOTED.starts_with(out.taken()));
+    same(rt, out.taken().len(), room.min(NOTED.len()));
+}
+
+#[test]
+fn capacities_are_told(rt: HostRuntime) {
+    let mut segment = empty(&rt, rt.alloc());
+    let name = new_named(&rt, b"a");
+    done(&rt, segment.construct_vec(&name, &[7i64]));
+    done(&rt, segment.reserve(&named(&rt, b"a"), 10));
+    done(&rt, segment.construct_string(&AnonymousInstance, b"xy"));
+    is_noted(&rt, rt.alloc(), &segment, 16384);
+    is_noted(&rt, rt.alloc(), &segment, DUMP.len() + 30);
+}
+
+/// Texts, and what is left of them without notes.
+const NOTES: [(&[u8], &[u8]); 5] = [
+    (NOTED, DUMP),
+    (DUMP, DUMP),
+    (b"a\n# b\nc\n#\n# d\n", b"a\n# b\nc\n"),
+    (b"a\n# b", b"a\n# b"),
+    (b"# a\n#\n", b""),
+];
+
+#[test]
+fn notes_are_left_out(rt: HostRuntime) {
+    for (text, left) in NOTES {
+        same(&rt, without_notes(text), left);
+    }
+    let alike = loaded(&rt, rt.alloc(), NOTED, Some(4096));
+    is_dumped(&rt, rt.alloc(), &alike, DUMP);
+}
+
+#[test]
+fn the_size_is_said(rt: HostRuntime) {
+    same(&rt, said_size(NOTED), Some(4096));
+    same(&rt, said_size(b"segment dump 2\nsize 4096\n"), None);
+}

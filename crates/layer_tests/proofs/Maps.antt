@@ -3,7 +3,7 @@ use Rattle.std.proofs.Common.{◌≡◌, sym, subst, ℕ, Bool, [], true, false}
 use Rattle.std.specs.Prelude.{Result, Ok, Err, Option, Some, None, MatchOption, MatchResult}
 use Rattle.raw_region.specs.Memory.{Cut}
 use Rattle.seg_types.specs.declared.plain.Plain.{Ghosts as Plain}
-use Rattle.seg_map.specs.Changing.{Erases, IsErased, IsFull, IsNew, IsPut, IsPutAgain, Puts, Releases}
+use Rattle.seg_map.specs.Changing.{IsFull, IsNew, IsPut, IsPutAgain, Puts}
 use Rattle.seg_map.specs.Map.{Pair, pair_at}
 use Rattle.seg_map.specs.Places.{IsSomeMap}
 

@@ -1,12 +1,11 @@
 -- A vector stands wherever a call of it ends.
 use Rattle.std.proofs.Common.{◌≡◌, sym, subst, ℕ, Bool, List, [], ◌∷◌, ◌++◌, inl, inr}
-use Rattle.std.specs.Prelude.{Result, Ok, Err, insert, remove, take, slice_set, length, ◌-◌}
+use Rattle.std.specs.Prelude.{Result, Ok, Err, insert}
 use Rattle.raw_region.specs.Memory.{Cut}
-use Rattle.best_fit.specs.Heap.{live_of}
-use Rattle.best_fit.specs.Table.{Table, cut_table, no_table}
+use Rattle.best_fit.specs.Table.{no_table}
 use Rattle.seg_types.specs.declared.refusals.Refusal.{Refusal}
 use Rattle.seg_vector.specs.declared.places.Place.{Place}
-use Rattle.seg_vector.specs.VectorCalls.{Assigns, Clears, ErasesFrom, InsertsInto, IsSomeVector, Pops, Pushes, Releases, Reserves, Sets, Shrinks, Starts}
+use Rattle.seg_vector.specs.VectorCalls.{InsertsInto, IsSomeVector, Pushes, Starts}
 
 pub after_start : {T : Type 0} → (size : ℕ) (v : T → Bool) (s : T → List ℕ) (a b : Cut) (p : Place) → Starts size v s a b p → IsSomeVector size v s b.bytes p
 after_start size v s a b p k = ([], (no_table, k.vector))

@@ -1,5 +1,5 @@
 -- A caller's own plain type, for the tests: a truth and a number of 16 bits, in three bytes.
-use Rattle.std.proofs.Common.{◌≡◌, ℕ, ◌+◌, ◌^◌, Bool, true, false, List, [], ◌∷◌, ◌*◌, ◌==◌, nat_lt, if◌then◌else◌, refl, arith}
+use Rattle.std.proofs.Common.{◌≡◌, ℕ, ◌+◌, ◌^◌, Bool, true, false, List, ◌∷◌, ◌*◌, ◌==◌, nat_lt, if◌then◌else◌, refl, arith}
 use Rattle.std.specs.Int.{bytes_low_first}
 
 -- the urgent ones by their numbers, and then the others

@@ -18,9 +18,3 @@ module _ (old new : Command-F Command) (a : App) (h : app_of_fields old ≡ a) w
 
   pub no_help_command : new ≡ record old { disable_help_subcommand = true } → app_of_fields new ≡ on_top (λ s. record s { disable_help_subcommand = true }) a
   no_help_command e = ap app_of_fields e ∙ ap (on_top (λ s. record s { disable_help_subcommand = true })) h
-
-  pub about_told : (text : Bor (List ℕ)) → new ≡ record old { about = Some text } → app_of_fields new ≡ a
-  about_told text e = ap app_of_fields e ∙ h
-
-  pub end_told : (text : Bor (List ℕ)) → new ≡ record old { after_help = Some text } → app_of_fields new ≡ a
-  end_told text e = ap app_of_fields e ∙ h

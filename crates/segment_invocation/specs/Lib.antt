@@ -1,1 +1,2 @@
 pub mod Invocations
+pub mod Table

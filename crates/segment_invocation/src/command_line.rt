@@ -1,9 +1,10 @@
 //! The command line of the program, and its help.
-ghost use Rattle.std.specs.Prelude.{◌≡◌, [], false, codes, IfOk};
+ghost use Rattle.std.specs.Prelude.{◌≡◌, false, fold, map, IfOk};
 ghost use Rattle.clap.specs.Walk.{rule_of};
-ghost use Rattle.clap.specs.Simple.{app_of, new_app, shape_of};
+ghost use Rattle.clap.specs.Simple.{app_of, new_app, with_rule, with_subcommand};
 ghost use Rattle.clap.specs.declared.builder.command.Command.TheViews.{out-Command as fields_of};
-ghost use Rattle.segment_invocation.specs.Invocations.{check_command, command_line, dump_command, file_command, flag, help_command, load_command, number_command, operand, option, program, run_command, run_options, taking};
+ghost use Rattle.segment_invocation.specs.Invocations.{command_line, program};
+ghost use Rattle.segment_invocation.specs.Table.{row_shape, word_rule};
 
 use crate::version::VERSION;
 use clap::{Arg, ArgAction, Command};
@@ -34,16 +35,6 @@ const SHRINK: &str =
 /// What the command `migrate` does.
 const MIGRATE: &str = "Writes the segment in FILE in the newest format; prints ok";
 
-/// What stands for a file.
-const FILE: &str = "The path of the file with the segment";
-
-/// What sizes there are.
-const SIZE: &str = "A number of bytes: 144, or a multiple of 16 from 176 to 1073741824";
-
-/// What a check says beside the class.
-const EXPLAIN: &str =
-    "Where FILE holds no segment, tells in words why, and at which byte, from 0 on, that shows";
-
 /// What the command `stat` does.
 const STAT: &str = "Prints how the bytes of the segment in FILE are used, in figures";
 
@@ -53,31 +44,9 @@ const DRAW: &str = "Prints a picture of the segment in FILE, as SVG";
 /// What the command `dump` does.
 const DUMP: &str = "Prints the objects of the segment in FILE as text";
 
-/// What a dump has behind its end.
-const CAPACITIES: &str =
-    "Behind the objects, tells the capacities: of the indexes, vectors, strings and vectors of strings";
-
 /// What the command `load` does.
 const LOAD: &str =
     "Makes FILE with a segment of the dump of standard input; a FILE that exists is refused";
-
-/// What size a segment has that is loaded.
-const LOADED: &str =
-    "The bytes of the segment, as for create; where it is left out, the least that holds the objects";
-
-/// By how much a segment grows.
-const BYTES: &str = "A multiple of 16 from 32 on";
-
-/// Where the modes are told.
-const MODE: &str = "One of the five modes below";
-
-/// What a run does behind an error.
-const STRICT: &str =
-    "The first answer that is an error ends the run, with status 1, and nothing is saved";
-
-/// How the answers of a run are told apart.
-const NUMBERED: &str =
-    "Each line of an answer stands behind the number of the line that it answers, as in '3: #192'";
 
 /// What the command `lint` does.
 const LINT: &str =
@@ -85,13 +54,6 @@ const LINT: &str =
 
 /// What the command `help` does.
 const HELP: &str = "Prints the commands of a script, where TOPIC is language";
-
-/// What there is help on.
-const TOPIC: &str = "The word language";
-
-/// What a run does to a file that it saves.
-const REPLACE: &str =
-    "The image goes to a new file, FILE.new, which then takes the place of FILE: one of the two is whole at each moment";
 
 /// What the modes are.
 const MODES: &str = "\
@@ -121,163 +83,204 @@ Example:
   echo 'construct i64 a 5' | segment run a.seg
   segment check a.seg";
 
-/// A value that a command must have; help calls it `shown`.
-fn operand<'a>(alloc: Global, name: &'a str, shown: &'a str, help: &'a str) -> Arg<'a>
-    ensures rule { rule_of result ≡ operand name.now }
+/// What sizes there are.
+const SIZES: &str = "A number of bytes: 144, or a multiple of 16 from 176 to 1073741824";
+
+/// A word of a command, with its name and what help says of it.
+pub enum Word {
+    /// A value in its place, which must be there; help calls it by the second text.
+    Operand(&'static str, &'static str, &'static str),
+    /// A value behind its name, which may be left out; help calls it by the second text.
+    Option(&'static str, &'static str, &'static str),
+    /// A name that stands alone, and may be left out.
+    Flag(&'static str, &'static str),
+}
+
+/// A command: its name, what it does, what its help has at the end, and its words.
+type Row = (
+    &'static str,
+    &'static str,
+    Option<&'static str>,
+    &'static [Word],
+);
+
+/// The file of a command.
+const FILE: Word = Word::Operand("file", "FILE", "The path of the file with the segment");
+
+/// The size of a segment that is made.
+const SIZE: Word = Word::Operand("number", "SIZE", SIZES);
+
+/// By how much a segment grows.
+const BYTES: Word = Word::Operand("number", "BYTES", "A multiple of 16 from 32 on");
+
+/// The mode of a run.
+const MODE: Word = Word::Option("mode", "MODE", "One of the five modes below");
+
+/// The size of a segment that a run makes.
+const RUN_SIZE: Word = Word::Option("size", "SIZE", SIZES);
+
+/// What a run does to a file that it saves.
+const REPLACE: Word = Word::Flag(
+    "replace",
+    "The image goes to a new file, FILE.new, which then takes the place of FILE: one of the two is whole at each moment",
+);
+
+/// What a run does behind an error.
+const STRICT: Word = Word::Flag(
+    "strict",
+    "The first answer that is an error ends the run, with status 1, and nothing is saved",
+);
+
+/// How the answers of a run are told apart.
+const NUMBERED: Word = Word::Flag(
+    "numbered",
+    "Each line of an answer stands behind the number of the line that it answers, as in '3: #192'",
+);
+
+/// What a check says beside the class.
+const EXPLAIN: Word = Word::Flag(
+    "explain",
+    "Where FILE holds no segment, tells in words why, and at which byte, from 0 on, that shows",
+);
+
+/// What a dump has behind its end.
+const CAPACITIES: Word = Word::Flag(
+    "capacities",
+    "Behind the objects, tells the capacities: of the indexes, vectors, strings and vectors of strings",
+);
+
+/// The size of a segment that is loaded.
+const LOADED: Word = Word::Option(
+    "size",
+    "SIZE",
+    "The bytes of the segment, as for create; where it is left out, the least that holds the objects",
+);
+
+/// What there is help on.
+const TOPIC: Word = Word::Operand("topic", "TOPIC", "The word language");
+
+/// The commands, in the order in which help has them.
+static COMMANDS: [Row; 12] = [
+    ("create", CREATE, None, &[FILE, SIZE]),
+    (
+        "run",
+        RUN,
+        Some(MODES),
+        &[FILE, MODE, RUN_SIZE, REPLACE, STRICT, NUMBERED],
+    ),
+    ("check", CHECK, None, &[FILE, EXPLAIN]),
+    ("grow", GROW, None, &[FILE, BYTES]),
+    ("shrink", SHRINK, None, &[FILE]),
+    ("migrate", MIGRATE, None, &[FILE]),
+    ("stat", STAT, None, &[FILE]),
+    ("draw", DRAW, None, &[FILE]),
+    ("dump", DUMP, None, &[FILE, CAPACITIES]),
+    ("load", LOAD, None, &[FILE, LOADED]),
+    ("lint", LINT, None, &[]),
+    ("help", HELP, None, &[TOPIC]),
+];
+
+/// A word of a command, for clap.
+fn arg_of<'a>(alloc: Global, word: &Word) -> Arg<'a>
+    ensures rule { rule_of result ≡ word_rule word.now }
     ensures local { result.global ≡ false }
 {
-    Arg::new(alloc, name)
-        .required(true)
-        .value_name(shown)
-        .help(help)
+    match *word {
+        Word::Operand(name, shown, help) => Arg::new(alloc, name)
+            .required(true)
+            .value_name(shown)
+            .help(help),
+        Word::Option(name, shown, help) => Arg::new(alloc, name)
+            .long(name)
+            .action(ArgAction::Set)
+            .value_name(shown)
+            .help(help),
+        Word::Flag(name, help) => Arg::new(alloc, name)
+            .long(name)
+            .action(ArgAction::SetTrue)
+            .help(help),
+    }
 }
 
-/// A value that stands behind its name, and may be left out; help calls it `shown`.
-fn option<'a>(alloc: Global, name: &'a str, shown: &'a str, help: &'a str) -> Arg<'a>
-    ensures rule { rule_of result ≡ option name.now }
-    ensures local { result.global ≡ false }
-{
-    Arg::new(alloc, name)
-        .long(name)
-        .action(ArgAction::Set)
-        .value_name(shown)
-        .help(help)
-}
-
-/// A name that stands alone, and may be left out.
-fn flag<'a>(alloc: Global, name: &'a str, help: &'a str) -> Arg<'a>
-    ensures rule { rule_of result ≡ flag name.now }
-    ensures local { result.global ≡ false }
-{
-    Arg::new(alloc, name)
-        .long(name)
-        .action(ArgAction::SetTrue)
-        .help(help)
-}
-
-/// A command with a file.
-fn file_command<'a>(alloc: Global, name: &'a str, about: &'a str) -> Result<Command<'a>, AllocError>
-    ensures shape { IfOk result (λ c. shape_of c ≡ file_command name.now) }
-    ensures local { IfOk result (λ c. (fields_of c).has_globals ≡ false) }
-{
-    Command::new(alloc, name)
-        .about(about)
-        .arg(operand(alloc, "file", "FILE", FILE))
-}
-
-/// A command with a file and a number; help calls the number `shown`.
-fn number_command<'a>(
+/// A command without its words.
+fn bare_command<'a>(
     alloc: Global,
     name: &'a str,
     about: &'a str,
-    shown: &'a str,
-    help: &'a str,
-) -> Result<Command<'a>, AllocError>
-    ensures shape { IfOk result (λ c. shape_of c ≡ number_command name.now) }
-    ensures local { IfOk result (λ c. (fields_of c).has_globals ≡ false) }
-{
-    file_command(alloc, name, about)?.arg(operand(alloc, "number", shown, help))
-}
-
-/// The command `run`, without its flags.
-fn run_options<'a>(alloc: Global) -> Result<Command<'a>, AllocError>
-    ensures shape { IfOk result (λ c. shape_of c ≡ taking (codes "run") run_options) }
-    ensures local { IfOk result (λ c. (fields_of c).has_globals ≡ false) }
-{
-    file_command(alloc, "run", RUN)?
-        .after_help(MODES)
-        .arg(option(alloc, "mode", "MODE", MODE))?
-        .arg(option(alloc, "size", "SIZE", SIZE))
-}
-
-/// The command `run`.
-fn run_command<'a>(alloc: Global) -> Result<Command<'a>, AllocError>
-    ensures shape { IfOk result (λ c. shape_of c ≡ run_command) }
-    ensures local { IfOk result (λ c. (fields_of c).has_globals ≡ false) }
-{
-    run_options(alloc)?
-        .arg(flag(alloc, "replace", REPLACE))?
-        .arg(flag(alloc, "strict", STRICT))?
-        .arg(flag(alloc, "numbered", NUMBERED))
-}
-
-/// The command `check`.
-fn check_command<'a>(alloc: Global) -> Result<Command<'a>, AllocError>
-    ensures shape { IfOk result (λ c. shape_of c ≡ check_command) }
-    ensures local { IfOk result (λ c. (fields_of c).has_globals ≡ false) }
-{
-    file_command(alloc, "check", CHECK)?.arg(flag(alloc, "explain", EXPLAIN))
-}
-
-/// The command `dump`.
-fn dump_command<'a>(alloc: Global) -> Result<Command<'a>, AllocError>
-    ensures shape { IfOk result (λ c. shape_of c ≡ dump_command) }
-    ensures local { IfOk result (λ c. (fields_of c).has_globals ≡ false) }
-{
-    file_command(alloc, "dump", DUMP)?.arg(flag(alloc, "capacities", CAPACITIES))
-}
-
-/// The command `load`.
-fn load_command<'a>(alloc: Global) -> Result<Command<'a>, AllocError>
-    ensures shape { IfOk result (λ c. shape_of c ≡ load_command) }
-    ensures local { IfOk result (λ c. (fields_of c).has_globals ≡ false) }
-{
-    file_command(alloc, "load", LOAD)?.arg(option(alloc, "size", "SIZE", LOADED))
-}
-
-/// The command `lint`.
-fn lint_command<'a>(alloc: Global) -> Command<'a>
-    ensures shape { shape_of result ≡ taking (codes "lint") [] }
+    end: Option<&'a str>,
+) -> Command<'a>
+    ensures app { app_of result ≡ new_app name.now }
     ensures local { (fields_of result).has_globals ≡ false }
 {
-    Command::new(alloc, "lint").about(LINT)
+    let command = Command::new(alloc, name).about(about);
+    match end {
+        Some(end) => command.after_help(end),
+        None => command,
+    }
 }
 
-/// The command `help`.
-fn help_command<'a>(alloc: Global) -> Result<Command<'a>, AllocError>
-    ensures shape { IfOk result (λ c. shape_of c ≡ help_command) }
+/// A command with these words behind those that it has.
+fn with_words<'a>(
+    alloc: Global,
+    begun: Command<'a>,
+    words: &[Word],
+) -> Result<Command<'a>, AllocError>
+    requires { (fields_of begun).has_globals ≡ false }
+    ensures app { IfOk result (λ c. app_of c ≡ fold with_rule (app_of begun.entry) (map word_rule words.now)) }
     ensures local { IfOk result (λ c. (fields_of c).has_globals ≡ false) }
 {
-    Command::new(alloc, "help")
-        .about(HELP)
-        .arg(operand(alloc, "topic", "TOPIC", TOPIC))
-}
-
-/// The program, without its commands and its settings, and what its help says before and behind them.
-fn named<'a>(alloc: Global, about: &'a str, statuses: &'a str) -> Command<'a>
-    ensures { app_of result ≡ new_app (codes "segment") }
-{
-    Command::new(alloc, "segment")
-        .about(about)
-        .after_help(statuses)
+    let mut command = begun;
+    let mut rest = words;
+    'words: while let [word, tail @ ..] = rest {
+        command = command.arg(arg_of(alloc, word))?;
+        rest = tail;
+    }
+    Ok(command)
 }
 
 /// The program, without its commands.
 fn program<'a>(alloc: Global, about: &'a str, statuses: &'a str) -> Command<'a>
     ensures { app_of result ≡ program }
 {
-    named(alloc, about, statuses)
+    bare_command(alloc, "segment", about, Some(statuses))
         .version(VERSION)
         .subcommand_required(true)
         .arg_required_else_help(true)
         .disable_help_subcommand(true)
 }
 
+/// The program with a command behind those that it has.
+fn with_command<'a>(
+    alloc: Global,
+    program: Command<'a>,
+    row: &Row,
+) -> Result<Command<'a>, AllocError>
+    ensures { IfOk result (λ c. app_of c ≡ with_subcommand (app_of program.entry) (row_shape row.now)) }
+{
+    let command = bare_command(alloc, row.0, row.1, row.2);
+    program.subcommand(with_words(alloc, command, row.3)?)
+}
+
+/// The program with these commands behind those that it has.
+fn with_commands<'a>(
+    alloc: Global,
+    begun: Command<'a>,
+    rows: &[Row],
+) -> Result<Command<'a>, AllocError>
+    ensures { IfOk result (λ c. app_of c ≡ fold with_subcommand (app_of begun.entry) (map row_shape rows.now)) }
+{
+    let mut program = begun;
+    let mut rest = rows;
+    'commands: while let [row, tail @ ..] = rest {
+        program = with_command(alloc, program, row)?;
+        rest = tail;
+    }
+    Ok(program)
+}
+
 /// The command lines of the program.
 pub fn command_line<'a>(alloc: Global) -> Result<Command<'a>, AllocError>
     ensures { IfOk result (λ c. app_of c ≡ command_line) }
 {
-    program(alloc, ABOUT, STATUSES)
-        .subcommand(number_command(alloc, "create", CREATE, "SIZE", SIZE)?)?
-        .subcommand(run_command(alloc)?)?
-        .subcommand(check_command(alloc)?)?
-        .subcommand(number_command(alloc, "grow", GROW, "BYTES", BYTES)?)?
-        .subcommand(file_command(alloc, "shrink", SHRINK)?)?
-        .subcommand(file_command(alloc, "migrate", MIGRATE)?)?
-        .subcommand(file_command(alloc, "stat", STAT)?)?
-        .subcommand(file_command(alloc, "draw", DRAW)?)?
-        .subcommand(dump_command(alloc)?)?
-        .subcommand(load_command(alloc)?)?
-        .subcommand(lint_command(alloc))?
-        .subcommand(help_command(alloc)?)
+    with_commands(alloc, program(alloc, ABOUT, STATUSES), &COMMANDS)
 }

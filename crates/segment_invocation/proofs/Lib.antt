@@ -3,3 +3,4 @@ mod PlainWords
 mod Leaves
 mod CommandLines
 mod Unread
+mod Filed

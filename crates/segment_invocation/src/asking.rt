@@ -1,11 +1,12 @@
 //! What the words of a command line ask for.
-ghost use Rattle.std.specs.Prelude.{◌≡◌, Some, None, Ok, Err, map, drop, codes, IfOk, MatchResult, option_map, option_and_then};
+ghost use Rattle.std.specs.Prelude.{◌≡◌, false, Some, None, Ok, Err, map, drop, codes, IfOk, MatchResult, option_map, option_and_then};
+ghost use Rattle.std.specs.Str.{bytes_eq};
 ghost use Rattle.clap.specs.Matches.{found_of};
 ghost use Rattle.clap.specs.Values.{kind_of};
 ghost use Rattle.clap.specs.Walk.{first_of, rows_of};
 ghost use Rattle.clap.specs.declared.error.kind.ErrorKind.TheVariants.{DisplayVersion, OutOfMemory as NoMemory};
 ghost use Rattle.segment_lang.specs.Words.{number_of};
-ghost use Rattle.segment_invocation.specs.Invocations.{Asked, IsAskedBy, IsWritten, Reads, asked_by, asked_check, asked_dump, asked_help, asked_in, asked_load, asked_run, is_set, mode_of, saving_of, size_of};
+ghost use Rattle.segment_invocation.specs.Invocations.{Asked, IsAskedBy, IsWritten, Reads, asked_by, asked_help, asked_in, asked_run, is_set, mode_of, saving_of, size_of};
 ghost use Rattle.segment_invocation.specs.declared.invocations.Invocation.TheVariants.{Version};
 ghost use Rattle.segment_invocation.specs.declared.usage.InvocationFault.TheVariants.{OutOfMemory};
 
@@ -23,16 +24,6 @@ fn word_of<'a>(words: &ArgMatches<'a>, id: &str) -> Option<&'a str>
     ensures { option_map (λ word. word.now) result ≡ first_of id.now (rows_of (found_of words.now)) }
 {
     words.get_str(id)
-}
-
-/// The file of a command.
-fn file_in<'a>(words: &ArgMatches<'a>) -> Result<&'a str, UsageError>
-    ensures { MatchResult result (λ file. first_of (codes "file") (rows_of (found_of words.now)) ≡ Some file.now) (λ e. first_of (codes "file") (rows_of (found_of words.now)) ≡ None) }
-{
-    match word_of(words, "file") {
-        Some(file) => Ok(file),
-        None => Err(UsageError::File),
-    }
 }
 
 /// The number of a command.
@@ -102,42 +93,15 @@ fn answering_in(words: &ArgMatches<'_>) -> Answering
     }
 }
 
-/// What the words of the command `check` ask for.
-fn read_check<'a>(words: &ArgMatches<'a>) -> Result<Invocation<'a>, UsageError>
-    ensures { MatchResult result (λ i. asked_check (rows_of (found_of words.now)) ≡ Some (asked_by i)) (λ e. asked_check (rows_of (found_of words.now)) ≡ None) }
-{
-    let file = file_in(words)?;
-    if is_set(words, "explain") {
-        return Ok(Invocation::Explain(file));
-    }
-    Ok(Invocation::Check(file))
-}
-
-/// What the words of the command `dump` ask for.
-fn read_dump<'a>(words: &ArgMatches<'a>) -> Result<Invocation<'a>, UsageError>
-    ensures { MatchResult result (λ i. asked_dump (rows_of (found_of words.now)) ≡ Some (asked_by i)) (λ e. asked_dump (rows_of (found_of words.now)) ≡ None) }
-{
-    let file = file_in(words)?;
-    if is_set(words, "capacities") {
-        return Ok(Invocation::DumpCapacities(file));
-    }
-    Ok(Invocation::Dump(file))
-}
-
-/// What the words of the command `load` ask for.
-fn read_load<'a>(words: &ArgMatches<'a>) -> Result<Invocation<'a>, UsageError>
-    ensures { MatchResult result (λ i. asked_load (rows_of (found_of words.now)) ≡ Some (asked_by i)) (λ e. asked_load (rows_of (found_of words.now)) ≡ None) }
-{
-    let file = file_in(words)?;
-    let size = size_in(words)?;
-    Ok(Invocation::Load(file, size))
-}
-
-/// What the words of the command `run` ask for.
-fn read_run<'a>(alloc: Global, words: &ArgMatches<'a>) -> Result<Invocation<'a>, UsageError>
+/// What the words of the command `run` ask for, of a file.
+fn read_run<'a>(
+    alloc: Global,
+    file: &'a str,
+    words: &ArgMatches<'a>,
+) -> Result<Invocation<'a>, UsageError>
+    requires { first_of (codes "file") (rows_of (found_of words.now)) ≡ Some file.now }
     ensures { MatchResult result (λ i. asked_run (rows_of (found_of words.now)) ≡ Some (asked_by i)) (λ e. asked_run (rows_of (found_of words.now)) ≡ None) }
 {
-    let file = file_in(words)?;
     let mode = mode_in(alloc, words)?;
     let size = size_in(words)?;
     if mode.wants_size() && size.is_none() {
@@ -156,7 +120,37 @@ fn read_help<'a>(words: &ArgMatches<'a>) -> Result<Invocation<'a>, UsageError>
     }
 }
 
+/// What the words of a command ask for that has a file.
+fn read_filed<'a>(
+    alloc: Global,
+    name: &str,
+    file: &'a str,
+    words: &ArgMatches<'a>,
+) -> Result<Invocation<'a>, UsageError>
+    requires file { first_of (codes "file") (rows_of (found_of words.now)) ≡ Some file.now }
+    requires lint { bytes_eq name.now (codes "lint") ≡ false }
+    requires help { bytes_eq name.now (codes "help") ≡ false }
+    ensures { MatchResult result (λ i. asked_in name.now (rows_of (found_of words.now)) ≡ Some (asked_by i)) (λ e. asked_in name.now (rows_of (found_of words.now)) ≡ None) }
+{
+    match name {
+        "create" => Ok(Invocation::Create(file, number_in(words)?)),
+        "run" => read_run(alloc, file, words),
+        "check" if is_set(words, "explain") => Ok(Invocation::Explain(file)),
+        "check" => Ok(Invocation::Check(file)),
+        "grow" => Ok(Invocation::Grow(file, number_in(words)?)),
+        "shrink" => Ok(Invocation::Shrink(file)),
+        "migrate" => Ok(Invocation::Migrate(file)),
+        "stat" => Ok(Invocation::Stat(file)),
+        "draw" => Ok(Invocation::Draw(file)),
+        "dump" if is_set(words, "capacities") => Ok(Invocation::DumpCapacities(file)),
+        "dump" => Ok(Invocation::Dump(file)),
+        "load" => Ok(Invocation::Load(file, size_in(words)?)),
+        _ => Err(UsageError::Command),
+    }
+}
+
 /// What the words of a command ask for.
+#[tactic(auto, using(crate::proofs::Filed::lint_asked, crate::proofs::Filed::without_file))]
 fn read_command<'a>(
     alloc: Global,
     name: &str,
@@ -165,19 +159,12 @@ fn read_command<'a>(
     ensures { MatchResult result (λ i. asked_in name.now (rows_of (found_of words.now)) ≡ Some (asked_by i)) (λ e. asked_in name.now (rows_of (found_of words.now)) ≡ None) }
 {
     match name {
-        "create" => Ok(Invocation::Create(file_in(words)?, number_in(words)?)),
-        "run" => read_run(alloc, words),
-        "check" => read_check(words),
-        "grow" => Ok(Invocation::Grow(file_in(words)?, number_in(words)?)),
-        "shrink" => Ok(Invocation::Shrink(file_in(words)?)),
-        "migrate" => Ok(Invocation::Migrate(file_in(words)?)),
-        "stat" => Ok(Invocation::Stat(file_in(words)?)),
-        "draw" => Ok(Invocation::Draw(file_in(words)?)),
-        "dump" => read_dump(words),
-        "load" => read_load(words),
         "lint" => Ok(Invocation::Lint),
         "help" => read_help(words),
-        _ => Err(UsageError::Command),
+        _ => match word_of(words, "file") {
+            Some(file) => read_filed(alloc, name, file, words),
+            None => Err(UsageError::File),
+        },
     }
 }
 

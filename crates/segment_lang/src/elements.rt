@@ -29,7 +29,10 @@ pub fn read_push<'a>(bytes: &'a [u8], scratch: &'a mut Text) -> Option<Command<'
 pub fn read_pop<'a>(bytes: &'a [u8], scratch: &'a mut Text) -> Option<Command<'a>>
     ensures { option_map command_of result ≡ of_one (with_key asked.Pop key_of) bytes.now }
 {
-    only_key(bytes, scratch).map(Command::Pop)
+    let Some(key) = only_key(bytes, scratch) else {
+        return None;
+    };
+    Some(Command::Pop(key))
 }
 
 /// A key, a number and a value, of a new element.
@@ -64,7 +67,10 @@ pub fn read_reserve<'a>(bytes: &'a [u8], scratch: &'a mut Text) -> Option<Comman
 pub fn read_shrink<'a>(bytes: &'a [u8], scratch: &'a mut Text) -> Option<Command<'a>>
     ensures { option_map command_of result ≡ of_one (with_key asked.Shrink key_of) bytes.now }
 {
-    only_key(bytes, scratch).map(Command::Shrink)
+    let Some(key) = only_key(bytes, scratch) else {
+        return None;
+    };
+    Some(Command::Shrink(key))
 }
 
 /// A key, of an object that loses all its elements.
@@ -72,7 +78,10 @@ pub fn read_shrink<'a>(bytes: &'a [u8], scratch: &'a mut Text) -> Option<Command
 pub fn read_clear<'a>(bytes: &'a [u8], scratch: &'a mut Text) -> Option<Command<'a>>
     ensures { option_map command_of result ≡ of_one (with_key asked.Clear key_of) bytes.now }
 {
-    only_key(bytes, scratch).map(Command::Clear)
+    let Some(key) = only_key(bytes, scratch) else {
+        return None;
+    };
+    Some(Command::Clear(key))
 }
 
 /// A key and any number of values, of all new elements.

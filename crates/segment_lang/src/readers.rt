@@ -81,7 +81,10 @@ pub fn read_destroy<'a>(bytes: &'a [u8], scratch: &'a mut Text) -> Option<Comman
     ensures { option_map command_of result ≡ of_one (with_key asked.Destroy name_key) bytes.now }
 {
     let word = only_word(bytes)?;
-    index_key(word, scratch).map(Command::Destroy)
+    let Some(key) = index_key(word, scratch) else {
+        return None;
+    };
+    Some(Command::Destroy(key))
 }
 
 /// A handle.
@@ -110,7 +113,10 @@ pub fn only_key<'a>(bytes: &'a [u8], scratch: &'a mut Text) -> Option<Key<'a>>
 pub fn read_show<'a>(bytes: &'a [u8], scratch: &'a mut Text) -> Option<Command<'a>>
     ensures { option_map command_of result ≡ of_one (with_key asked.Show key_of) bytes.now }
 {
-    only_key(bytes, scratch).map(Command::Show)
+    let Some(key) = only_key(bytes, scratch) else {
+        return None;
+    };
+    Some(Command::Show(key))
 }
 
 /// A key, of an object of which is told what it is.
@@ -118,7 +124,10 @@ pub fn read_show<'a>(bytes: &'a [u8], scratch: &'a mut Text) -> Option<Command<'
 pub fn read_info<'a>(bytes: &'a [u8], scratch: &'a mut Text) -> Option<Command<'a>>
     ensures { option_map command_of result ≡ of_one (with_key asked.Info key_of) bytes.now }
 {
-    only_key(bytes, scratch).map(Command::Info)
+    let Some(key) = only_key(bytes, scratch) else {
+        return None;
+    };
+    Some(Command::Info(key))
 }
 
 /// A key and a number, whatever they are read for.

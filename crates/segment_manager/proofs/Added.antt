@@ -1,29 +1,18 @@
 -- What the bytes denote after an object's blocks are made and its entry is added to an index, which may have grown.
-use Rattle.std.proofs.Common.{◌≡◌, refl, sym, ap, subst, ◌∙◌, ℕ, ◌+◌, ◌≤◌, Some, None, Option, List, arith}
-use Rattle.std.specs.Prelude.{IsTrue, flat_map, insert}
-use Rattle.std.specs.List.{AllByRecursion}
-use Rattle.raw_region.specs.Memory.{Cut, Memory, Same, SamePlace, bytes_of}
-use Rattle.raw_region.specs.Format.{current}
-use Rattle.raw_region.proofs.Laws.{Same-part, Same-trans}
-use Rattle.block_tags.specs.declared.tile.Role.TheVariants.{Index as IndexRole}
-use Rattle.best_fit.specs.Extents.{Extent, LiveSet, handle, is_proper}
-use Rattle.best_fit.specs.Fit.{added, others}
-use Rattle.best_fit.specs.Heap.{IsAllocated, Keeps, LaysOut, SameBlock, extent_at, live_of}
-use Rattle.best_fit.specs.Table.{Table, no_table}
-use Rattle.best_fit.proofs.Laws.{allocated-live, blocks-trans}
-use Rattle.seg_index.specs.declared.index.Index.{Index}
+use Rattle.segment_manager.proofs.Common.{◌≡◌, refl, sym, ap, subst, ◌∙◌, ℕ, ◌+◌, ◌≤◌, Some, None, Option, List, arith}
+use Rattle.segment_manager.proofs.Common.{IsTrue, flat_map, insert, AllByRecursion, Cut, Memory, Same, SamePlace}
+use Rattle.segment_manager.proofs.Common.{bytes_of, current, Same-part, Same-trans, IndexRole, Extent, LiveSet, handle}
+use Rattle.segment_manager.proofs.Common.{is_proper, added, others, IsAllocated, Keeps, LaysOut, SameBlock, extent_at}
+use Rattle.segment_manager.proofs.Common.{live_of, Table, no_table, allocated-live, blocks-trans, Index, AddKeeps, Adds}
+use Rattle.segment_manager.proofs.Common.{beside_table, unlinked, without_link, IsIndexOf, capacity_at, place_of}
+use Rattle.segment_manager.proofs.Common.{grown_capacity, Object, Directory, extents_of, is_object, live, object_at}
+use Rattle.segment_manager.proofs.Common.{with_object, Denotes, IsObjectAt, class_of_index, entries_of, table_of}
+use Rattle.segment_manager.proofs.Common.{with_table_of}
 use Rattle.seg_index.specs.declared.index.Index.TheVariants as index
-use Rattle.seg_index.specs.Growth.{AddKeeps, Adds, beside_table, unlinked, without_link}
-use Rattle.seg_index.specs.Held.{IsIndexOf, capacity_at, place_of}
-use Rattle.seg_index.specs.Index.{grown_capacity}
-use Rattle.segment_manager.specs.Directory.{Object, Directory, extents_of, is_object, live, object_at, with_object}
-use Rattle.segment_manager.specs.Denotes.{Denotes, IsObjectAt}
-use Rattle.segment_manager.specs.Indexed.{class_of_index, entries_of, table_of, with_table_of}
 use Rattle.segment_manager.proofs.AnyClass.{KeepsFront, denotes-put}
-use Rattle.segment_manager.proofs.Calling.{denotes-live}
-use Rattle.segment_manager.proofs.Entered.{HasOne, OfRest, entered-other, entered-own, has_both, key_in, of_all, of_rest, other, other-stays, other-words}
-use Rattle.segment_manager.proofs.Frame.{any_object-same}
-use Rattle.segment_manager.proofs.Live.{adding}
+use Rattle.segment_manager.proofs.{Calling.denotes-live, Frame.any_object-same, Live.adding}
+use Rattle.segment_manager.proofs.Entered.{HasOne, OfRest, entered-other, entered-own, has_both, key_in, of_all}
+use Rattle.segment_manager.proofs.Entered.{of_rest, other, other-stays, other-words}
 use Rattle.segment_manager.proofs.Made.{IsMade, allocated-found, taken-found, taken-live}
 use Rattle.segment_manager.proofs.Order.{all_of-inserted, inserted, live-rises}
 use Rattle.segment_manager.proofs.Tables.{index-left_out, last-table, left_out, live-moved_index, same-table, table-of}

@@ -1,33 +1,20 @@
 -- Calls on elements whose kind is what the object says: then the step of the kind is the command's own.
-use Rattle.std.proofs.Common.{◌≡◌, refl, sym, ap, subst, ◌∙◌, ℕ, ℤ, pos, true, false, Option, Some, None, Result, Ok, Err, List, map}
-use Rattle.std.specs.Prelude.{slice_set}
-use Rattle.std.proofs.lemmas.Bool.{eq-eqb}
-use Rattle.std.proofs.lemmas.Option.{same_Some}
-use Rattle.seg_types.specs.declared.kinds.Kind.{Kind}
-use Rattle.seg_types.specs.declared.kinds.Kind.TheVariants.{Scalar as ScalarOf, Text as TextKind, Vector as VectorKind, Map as MapKind, Texts as TextsKind}
-use Rattle.seg_types.specs.declared.kinds.ScalarKind.{ScalarKind}
-use Rattle.seg_types.specs.declared.kinds.ScalarKind.TheVariants.{U8}
-use Rattle.seg_types.specs.declared.refusals.Refusal.{Refusal}
-use Rattle.seg_types.specs.declared.refusals.Refusal.TheVariants.{NotFound, WrongKind}
-use Rattle.seg_types.specs.Kinds.{code_of, is_value}
-use Rattle.seg_types.specs.Names.{Key, ByHandle}
+use Rattle.segment_manager.proofs.Common.{◌≡◌, refl, sym, ap, subst, ◌∙◌, ℕ, ℤ, pos, true, false, Option, Some, None}
+use Rattle.segment_manager.proofs.Common.{Result, Ok, Err, List, map, slice_set, eq-eqb, same_Some, Kind, ScalarOf}
+use Rattle.segment_manager.proofs.Common.{TextKind, VectorKind, MapKind, TextsKind, ScalarKind, U8, Refusal, NotFound}
+use Rattle.segment_manager.proofs.Common.{WrongKind, code_of, is_value, Key, ByHandle, Command, Literal, literal_of}
+use Rattle.segment_manager.proofs.Common.{value_of_literal, Mode, Located, Answer, Done, Refused, elements_at}
+use Rattle.segment_manager.proofs.Common.{elements_of, kind_at, Value, Numbers, Elements, Bytes, Pairs, Texts, Object}
+use Rattle.segment_manager.proofs.Common.{Directory, kind_of, live, object_at, IsMissing, IsLocated, Plan, Refuse}
+use Rattle.segment_manager.proofs.Common.{Reply, perform, with, Answers, IsReply, IsReplyOfKind, IsStep, State}
+use Rattle.segment_manager.proofs.Common.{StandsFor, changed, effect, element_at, get, is_read_only, set, step}
+use Rattle.segment_manager.proofs.Common.{with_items}
 use Rattle.seg_types.specs.Commands as asked
-use Rattle.seg_types.specs.Commands.{Command, Literal, literal_of, value_of_literal}
-use Rattle.segment_manager.specs.declared.modes.Mode.{Mode}
-use Rattle.segment_manager.specs.declared.targets.Object.{Object as Located}
-use Rattle.segment_manager.specs.Answers.{Answer, Done, Refused}
-use Rattle.segment_manager.specs.Calls.{elements_at, elements_of, kind_at, scalar_reply}
-use Rattle.segment_manager.specs.Directory.{Value, Numbers, Elements, Bytes, Pairs, Texts, Object, Directory, kind_of, live, object_at}
-use Rattle.segment_manager.specs.Instances.{IsMissing}
-use Rattle.segment_manager.specs.Located.{IsLocated}
-use Rattle.segment_manager.specs.Plan.{Plan, Refuse, Reply, perform, with}
-use Rattle.segment_manager.specs.State.{Answers, IsReply, IsReplyOfKind, IsStep, State, StandsFor}
-use Rattle.segment_manager.specs.Step.{changed, effect, element_at, get, is_read_only, set, step, with_items}
-use Rattle.segment_manager.proofs.AnyStorage.{IsOfKindAt, kind-told}
+use Rattle.segment_manager.specs.Calls.{scalar_reply}
+use Rattle.segment_manager.proofs.{AnyStorage.IsOfKindAt, AnyStorage.kind-told, Stored.literal-read}
 use Rattle.segment_manager.proofs.Locating.{kind-by_key, reply_of_kind-by_key}
 use Rattle.segment_manager.proofs.Refilled.{refused-steps, same_plan-steps}
 use Rattle.segment_manager.proofs.Steps.{open-reading, step-refuse, step_of_kind-step, with-found, with-not_found}
-use Rattle.segment_manager.proofs.Stored.{literal-read}
 
 -- ---- what an object says of its elements
 

@@ -1,26 +1,13 @@
 -- A call on whatever has storage: the kind of the object of the key says which call it is.
-use Rattle.std.proofs.Common.{◌≡◌, refl, sym, ap, subst, ◌∙◌, ℕ, Bool, true, false, Option, Some, None, Result, Ok, Err, if◌then◌else◌}
-use Rattle.std.proofs.lemmas.Bool.{eq-eqb}
-use Rattle.seg_types.specs.declared.kinds.Kind.{Kind}
-use Rattle.seg_types.specs.declared.kinds.Kind.TheVariants.{Scalar as ScalarOf, Text as TextKind, Vector as VectorKind, Map as MapKind, Texts as TextsKind}
-use Rattle.seg_types.specs.declared.kinds.ScalarKind.{ScalarKind}
-use Rattle.seg_types.specs.declared.refusals.Refusal.{Refusal}
-use Rattle.seg_types.specs.declared.refusals.Refusal.TheVariants.{NotFound, WrongKind}
-use Rattle.seg_types.specs.Kinds.{code_of, same_kind}
-use Rattle.seg_types.specs.Names.{Key}
-use Rattle.seg_types.specs.Commands.{Command}
-use Rattle.seg_vector.specs.declared.places.Place.{Place}
-use Rattle.segment_manager.specs.Answers.{Answer, Refused}
-use Rattle.segment_manager.specs.Calls.{kind_at}
-use Rattle.segment_manager.specs.Contents.{container_at, container_place, place_of_kind, sizes_at, sizes_at_kind, sizes_of, sizes_of_kind}
-use Rattle.segment_manager.specs.Directory.{Value, Numbers, Directory, Object, kind_of, live, object_at}
-use Rattle.segment_manager.specs.Instances.{IsMissing}
-use Rattle.segment_manager.specs.Plan.{Refuse, perform}
-use Rattle.segment_manager.specs.State.{Answers, IsStep, IsStepOfKind, State, StandsFor}
-use Rattle.segment_manager.specs.Step.{effect, is_read_only, step, step_of_kind}
-use Rattle.segment_manager.proofs.Refilled.{refused-steps}
-use Rattle.segment_manager.proofs.Steps.{step_of_kind-step}
-use Rattle.segment_manager.proofs.StorageSteps.{has_storage}
+use Rattle.segment_manager.proofs.Common.{◌≡◌, refl, sym, ap, subst, ◌∙◌, ℕ, Bool, true, false, Option, Some, None}
+use Rattle.segment_manager.proofs.Common.{Result, Ok, Err, if◌then◌else◌, eq-eqb, Kind, ScalarOf, TextKind, VectorKind}
+use Rattle.segment_manager.proofs.Common.{MapKind, TextsKind, ScalarKind, Refusal, NotFound, WrongKind, code_of}
+use Rattle.segment_manager.proofs.Common.{same_kind, Key, Command, Place, Answer, Refused, kind_at, container_at}
+use Rattle.segment_manager.proofs.Common.{container_place, place_of_kind, sizes_at, sizes_at_kind, sizes_of}
+use Rattle.segment_manager.proofs.Common.{sizes_of_kind, Value, Numbers, Directory, Object, kind_of, live, object_at}
+use Rattle.segment_manager.proofs.Common.{IsMissing, Refuse, perform, Answers, IsStep, IsStepOfKind, State, StandsFor}
+use Rattle.segment_manager.proofs.Common.{effect, is_read_only, step, step_of_kind}
+use Rattle.segment_manager.proofs.{Refilled.refused-steps, Steps.step_of_kind-step, StorageSteps.has_storage}
 
 -- the object of the key, which is of the kind
 pub record IsOfKindAt (d : Directory) (key : Key) (kind : Kind) : Type 0 where

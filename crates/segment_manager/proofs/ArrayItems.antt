@@ -1,30 +1,21 @@
 -- An array that is made of items: the call takes all of them, or none.
-use Rattle.std.proofs.Common.{◌≡◌, refl, sym, ap, subst, ◌∙◌, ℕ, ◌+◌, ◌*◌, ◌≤◌, ℤ, Bool, true, false, if◌then◌else◌, Option, Some, None, Result, Ok, Err, List, [], ◌∷◌, ◌++◌, length, map, replicate, arith}
-use Rattle.std.specs.Prelude.{IfErr, MatchResult, nat_lt, pos, take}
-use Rattle.std.specs.Iterator.{Yields, YieldsFirst, YieldsThen}
-use Rattle.std.proofs.lemmas.Bool.{le-ltb, lt-ltb}
-use Rattle.std.proofs.lemmas.List.{append-nil, length-append, length-map, length-replicate, take_all}
-use Rattle.block_tags.specs.declared.tile.Role.TheVariants.{Object as ObjectRole}
-use Rattle.best_fit.specs.Extents.{Extent, LiveSet, handle}
-use Rattle.best_fit.specs.Fit.{resized}
-use Rattle.seg_types.specs.declared.kinds.Class.{Class}
-use Rattle.seg_types.specs.declared.kinds.Class.TheVariants.{Anonymous, Named, Unique}
-use Rattle.seg_types.specs.declared.kinds.ScalarKind.{ScalarKind}
-use Rattle.seg_types.specs.declared.refusals.Refusal.{Refusal}
+use Rattle.segment_manager.proofs.Common.{◌≡◌, refl, sym, ap, subst, ◌∙◌, ℕ, ◌+◌, ◌*◌, ◌≤◌, ℤ, Bool, true, false}
+use Rattle.segment_manager.proofs.Common.{if◌then◌else◌, Option, Some, None, Result, Ok, Err, List, [], ◌∷◌, ◌++◌}
+use Rattle.segment_manager.proofs.Common.{length, map, replicate, arith, IfErr, MatchResult, nat_lt, pos, take, Yields}
+use Rattle.segment_manager.proofs.Common.{le-ltb, lt-ltb, length-map, length-replicate, take_all, ObjectRole, Extent}
+use Rattle.segment_manager.proofs.Common.{LiveSet, handle, resized, Class, Anonymous, ScalarKind, Refusal, Exists}
+use Rattle.segment_manager.proofs.Common.{NoSpace, OutOfRange, size_of, Key, Mode, Write, CopyOnWrite, Answer, Made}
+use Rattle.segment_manager.proofs.Common.{Refused, is_untouched, Numbers, Object, Directory, live, named_objects}
+use Rattle.segment_manager.proofs.Common.{object_at, object_len, padded, unique_objects, with_object, TakesItems}
+use Rattle.segment_manager.proofs.Common.{head_len, Need, New, Plan, Refuse, Reply, Request, class_of, met, name_of}
+use Rattle.segment_manager.proofs.Common.{perform, with_entry, with_new_object, IsStep, KeepsRefused, State, StandsFor}
+use Rattle.segment_manager.proofs.Common.{handle_answer, step}
+use Rattle.std.specs.Iterator.{YieldsFirst, YieldsThen}
+use Rattle.std.proofs.lemmas.List.{append-nil, length-append}
+use Rattle.seg_types.specs.declared.kinds.Class.TheVariants.{Named, Unique}
 use Rattle.seg_types.specs.declared.refusals.Refusal.TheVariants as refusal
-use Rattle.seg_types.specs.declared.refusals.Refusal.TheVariants.{Exists, NoSpace, OutOfRange}
-use Rattle.seg_types.specs.Kinds.{size_of}
-use Rattle.seg_types.specs.Names.{Key}
 use Rattle.seg_types.specs.Commands as asked
-use Rattle.segment_manager.specs.declared.modes.Mode.{Mode}
-use Rattle.segment_manager.specs.declared.modes.Mode.TheVariants.{Write, ReadOnly, CopyOnWrite}
-use Rattle.segment_manager.specs.Answers.{Answer, Made, Refused, is_untouched}
-use Rattle.segment_manager.specs.Directory.{Numbers, Object, Directory, live, named_objects, object_at, object_len, padded, unique_objects, with_object}
-use Rattle.segment_manager.specs.Items.{KeepsUnasked, TakesItems, TakesUntil}
-use Rattle.segment_manager.specs.Layout.{head_len}
-use Rattle.segment_manager.specs.Plan.{Need, New, Plan, Refuse, Reply, Request, class_of, met, name_of, perform, with_entry, with_new_object}
-use Rattle.segment_manager.specs.State.{IsStep, KeepsRefused, State, StandsFor, handle_answer}
-use Rattle.segment_manager.specs.Step.{step}
+use Rattle.segment_manager.specs.{declared.modes.Mode.TheVariants.ReadOnly, Items.KeepsUnasked, Items.TakesUntil}
 
 -- ---- the items
 

@@ -1,38 +1,28 @@
 -- The bridge from a directory to the two indexes of its heap: what a look-up in them means for the directory, and which entry an object
 -- is when it comes or goes. What the bytes hold stands in HeldIndexes.
-use Rattle.std.proofs.Common.{◌≡◌, refl, sym, ap, subst, ◌∙◌, ℕ, ◌+◌, ◌<◌, ◌≤◌, ◌≢◌, ◌⊎◌, inl, inr, true, false, ◌&&◌, ◌==◌, Some, None, List, [], ◌∷◌, length, arith}
-use Rattle.std.specs.Prelude.{IsTrue, filter, find, insert, remove, slice_get}
-use Rattle.std.specs.List.{AllByRecursion}
-use Rattle.std.specs.Ordering.{nat_cmp}
-use Rattle.std.specs.Cmp.Lexicographic.{slice_cmp}
-use Rattle.std.proofs.lemmas.Bool.{and_from, cases_lt, cond-true, cond-false, eq-eqb, ne_eqb, false≢true}
-use Rattle.std.proofs.lemmas.Option.{same_Some}
-use Rattle.raw_region.specs.Format.{current}
-use Rattle.raw_region.specs.Memory.{Cut, Memory, bytes_of}
-use Rattle.best_fit.specs.Extents.{handle}
-use Rattle.seg_types.specs.declared.kinds.Class.TheVariants.{Named as NamedClass, Unique as UniqueClass}
-use Rattle.seg_types.specs.declared.kinds.Kind.{Kind}
-use Rattle.seg_types.specs.Kinds.{code_of, same_kind}
+use Rattle.segment_manager.proofs.Common.{◌≡◌, refl, sym, ap, subst, ◌∙◌, ℕ, ◌+◌, ◌<◌, ◌≤◌, ◌≢◌, ◌⊎◌, inl, inr, true}
+use Rattle.segment_manager.proofs.Common.{false, ◌&&◌, ◌==◌, Some, None, List, [], ◌∷◌, length, arith, IsTrue, filter}
+use Rattle.segment_manager.proofs.Common.{find, insert, remove, slice_get, AllByRecursion, nat_cmp, slice_cmp, and_from}
+use Rattle.segment_manager.proofs.Common.{cases_lt, cond-true, cond-false, eq-eqb, ne_eqb, false≢true, same_Some}
+use Rattle.segment_manager.proofs.Common.{current, Cut, Memory, bytes_of, handle, NamedClass, UniqueClass, Kind}
+use Rattle.segment_manager.proofs.Common.{code_of, same_kind, Index, Named, Unique, Name, Code, Found, Absent, IsPlace}
+use Rattle.segment_manager.proofs.Common.{Object, Directory, IsDirectory, has_key, insert_by, is_class, kind_of}
+use Rattle.segment_manager.proofs.Common.{object_at, remove_object, rises_from, same_bytes, with_object, without_object}
+use Rattle.segment_manager.proofs.Common.{Denotes, handles, IsEntry, Seeks, class_of_index, entries_of, objects_of}
+use Rattle.segment_manager.proofs.Common.{order_of, table_of}
 use Rattle.seg_types.specs.Names as names
-use Rattle.seg_index.specs.declared.index.Index.{Index}
-use Rattle.seg_index.specs.declared.index.Index.TheVariants.{Named, Unique}
-use Rattle.seg_index.specs.declared.keys.Key.{Key}
-use Rattle.seg_index.specs.declared.keys.Key.TheVariants.{Name, Code}
-use Rattle.seg_index.specs.declared.keys.Lookup.TheVariants.{Found, Absent}
-use Rattle.seg_index.specs.Lookups.{IsPlace, order}
-use Rattle.segment_manager.specs.Directory.{Object, Directory, IsDirectory, has_key, insert_by, is_class, kind_of, object_at, remove_object, rises_from, same_bytes, with_object, without_object}
-use Rattle.segment_manager.specs.Denotes.{Denotes, handles}
-use Rattle.segment_manager.specs.Heads.{IsEntry}
-use Rattle.segment_manager.specs.Indexed.{Seeks, class_of_index, entries_of, objects_of, order_of, table_of}
-use Rattle.segment_manager.proofs.Words.{first}
-use Rattle.segment_manager.proofs.Faces.{named-without, unique-without}
-use Rattle.segment_manager.proofs.HeldIndexes.{IsSort, all-in, denotes-rises, directory-index, entries-in, handles-length, objects-ascend, order-strict}
-use Rattle.segment_manager.proofs.Indexes.{index-parts, named-more, named-removed, rises-above, unique-more, unique-removed}
-use Rattle.segment_manager.proofs.InUse.{all-both}
-use Rattle.segment_manager.proofs.KeyOrder.{Says, code-of, kinds-apart, kinds-class, kinds-say, name-of, same-itself, names-apart, names-class, names-say}
-use Rattle.segment_manager.proofs.Live.{IsIn}
+use Rattle.seg_index.specs.{declared.keys.Key.Key, Lookups.order}
+use Rattle.segment_manager.proofs.{Words.first, Faces.named-without, Faces.unique-without, InUse.all-both, Live.IsIn}
+use Rattle.segment_manager.proofs.HeldIndexes.{IsSort, all-in, denotes-rises, directory-index, entries-in}
+use Rattle.segment_manager.proofs.HeldIndexes.{handles-length, objects-ascend, order-strict}
+use Rattle.segment_manager.proofs.Indexes.{index-parts, named-more, named-removed, rises-above, unique-more}
+use Rattle.segment_manager.proofs.Indexes.{unique-removed}
+use Rattle.segment_manager.proofs.KeyOrder.{Says, code-of, kinds-apart, kinds-class, kinds-say, name-of, same-itself}
+use Rattle.segment_manager.proofs.KeyOrder.{names-apart, names-class, names-say}
 use Rattle.segment_manager.proofs.ObjectLists.{all-found, rises-rest}
-use Rattle.segment_manager.proofs.EntryPlaces.{IsPlaceOf, all-at, all_of-ordered, ascends-at, at-all, at-handle, insert-at, none-found, of-class, own-found, remove-at, stands-at, StandsAt}
+use Rattle.segment_manager.proofs.EntryPlaces.{IsPlaceOf, all-at, all_of-ordered, ascends-at, at-all, at-handle}
+use Rattle.segment_manager.proofs.EntryPlaces.{insert-at, none-found, of-class, own-found, remove-at, stands-at}
+use Rattle.segment_manager.proofs.EntryPlaces.{StandsAt}
 use Rattle.segment_manager.proofs.Ranks.{IsRanked, all-ordered, found-filter, ordered-pairwise}
 
 -- what a place among the entries means: the object of the key, which that entry leads to

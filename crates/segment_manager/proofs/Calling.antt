@@ -1,19 +1,10 @@
 -- What the contracts of the heap come to for a directory: blocks asked for, released and written.
-use Rattle.std.proofs.Common.{◌≡◌, refl, sym, ap, subst, ◌∙◌, ℕ, Bool, true, ◌&&◌, ◌==◌, List}
-use Rattle.std.specs.Prelude.{IsTrue}
-use Rattle.std.specs.List.{list_any}
-use Rattle.std.proofs.lemmas.Bool.{eq-eqb, and_from}
-use Rattle.raw_region.specs.Memory.{Cut, bytes_of}
-use Rattle.best_fit.specs.Extents.{Extent, LiveSet, handle, holds, is_proper}
-use Rattle.best_fit.specs.Fit.{released}
-use Rattle.best_fit.specs.Heap.{LaysOut, live_of, is_live_in, has_room, Keeps, IsReleased}
-use Rattle.seg_types.specs.Names.{ByHandle}
-use Rattle.segment_manager.specs.Directory.{Object, Directory, live, value_extents, has_key, without_object}
-use Rattle.segment_manager.specs.Denotes.{Denotes, IsObjectAt}
-use Rattle.segment_manager.proofs.Order.{inserted}
-use Rattle.segment_manager.proofs.Live.{IsFound, IsIn, live-split}
-use Rattle.segment_manager.proofs.ObjectLists.{all-found}
-use Rattle.best_fit.proofs.Laws.{lay_out_one, list_any-insert}
+use Rattle.segment_manager.proofs.Common.{◌≡◌, refl, sym, ap, subst, ◌∙◌, ℕ, Bool, true, ◌&&◌, ◌==◌, List, IsTrue}
+use Rattle.segment_manager.proofs.Common.{list_any, eq-eqb, and_from, Cut, bytes_of, Extent, LiveSet, handle, holds}
+use Rattle.segment_manager.proofs.Common.{is_proper, released, LaysOut, live_of, is_live_in, has_room, Keeps}
+use Rattle.segment_manager.proofs.Common.{IsReleased, ByHandle, Object, Directory, live, value_extents, has_key}
+use Rattle.segment_manager.proofs.Common.{without_object, Denotes, IsObjectAt, lay_out_one, list_any-insert}
+use Rattle.segment_manager.proofs.{Order.inserted, Live.IsFound, Live.IsIn, Live.live-split, ObjectLists.all-found}
 use Rattle.segment_manager.proofs.Denoted.{IsPlain, denotes-removed}
 
 -- ---- objects are live blocks

@@ -1,26 +1,13 @@
 -- Objects that a command changes: what a crate that calls by kinds learns of them.
-use Rattle.std.proofs.Common.{◌≡◌, refl, sym, ap, subst, ◌∙◌, false, Result, Ok, Err}
-use Rattle.std.specs.Prelude.{MatchResult}
-use Rattle.seg_types.specs.declared.kinds.Kind.{Kind}
-use Rattle.seg_types.specs.declared.refusals.Refusal.{Refusal}
+use Rattle.segment_manager.proofs.Common.{◌≡◌, refl, sym, ap, subst, ◌∙◌, false, Result, Ok, Err, MatchResult, Kind}
+use Rattle.segment_manager.proofs.Common.{Refusal, Key, ByHandle, Command, is_changing, Mode, Write, CopyOnWrite}
+use Rattle.segment_manager.proofs.Common.{Answer, Refused, kind_at, IsChangeable, IsToChange, IsUnchangeable, Directory}
+use Rattle.segment_manager.proofs.Common.{live, IsMissing, IsLocated, Plan, Refuse, perform, Answers, IsReply, IsStep}
+use Rattle.segment_manager.proofs.Common.{State, StandsFor, effect, is_read_only, step}
 use Rattle.seg_types.specs.declared.refusals.Refusal.TheVariants as refusal
-use Rattle.seg_types.specs.Names.{Key, ByHandle}
-use Rattle.seg_types.specs.Commands.{Command, is_changing}
-use Rattle.segment_manager.specs.declared.modes.Mode.{Mode}
-use Rattle.segment_manager.specs.declared.modes.Mode.TheVariants.{Write, ReadOnly, CopyOnWrite}
-use Rattle.segment_manager.specs.declared.targets.Object.{Object}
-use Rattle.segment_manager.specs.Answers.{Answer, Refused}
-use Rattle.segment_manager.specs.Calls.{kind_at}
-use Rattle.segment_manager.specs.Changeable.{IsChangeable, IsToChange, IsUnchangeable}
-use Rattle.segment_manager.specs.Directory.{Directory, live}
-use Rattle.segment_manager.specs.Instances.{IsMissing}
-use Rattle.segment_manager.specs.Located.{IsLocated}
-use Rattle.segment_manager.specs.Plan.{Plan, Refuse, perform}
-use Rattle.segment_manager.specs.State.{Answers, IsReply, IsStep, State, StandsFor}
-use Rattle.segment_manager.specs.Step.{effect, is_read_only, step}
-use Rattle.segment_manager.proofs.AnyStorage.{nowhere-steps}
+use Rattle.segment_manager.specs.{declared.modes.Mode.TheVariants.ReadOnly, declared.targets.Object.Object}
+use Rattle.segment_manager.proofs.{AnyStorage.nowhere-steps, Refilled.refused-steps}
 use Rattle.segment_manager.proofs.Locating.{kind-by_key, located-here}
-use Rattle.segment_manager.proofs.Refilled.{refused-steps}
 use Rattle.segment_manager.proofs.Steps.{open-reading, refuses-read_only, step-effect}
 
 -- ---- an object that was located

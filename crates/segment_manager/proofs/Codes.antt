@@ -1,12 +1,8 @@
 -- The codes of kinds: each names one.
-use Rattle.std.proofs.Common.{◌≡◌, refl, sym, ℤ, true, Some, List, arith}
-use Rattle.std.proofs.lemmas.Bool.{eqb-true}
-use Rattle.seg_types.specs.declared.kinds.ScalarKind.{ScalarKind}
-use Rattle.seg_types.specs.declared.kinds.ScalarKind.TheVariants.{Bool as BoolKind, U8, I32, I64, U64}
-use Rattle.seg_types.specs.declared.kinds.Kind.{Kind}
-use Rattle.seg_types.specs.declared.kinds.Kind.TheVariants.{Scalar, Vector, Map}
-use Rattle.seg_types.specs.Kinds.{code_of, kind_of_code, same_kind, scalar_code}
-use Rattle.segment_manager.specs.Directory.{Value, Numbers, kind_of}
+use Rattle.segment_manager.proofs.Common.{◌≡◌, refl, sym, ℤ, true, Some, List, arith, eqb-true, ScalarKind, BoolKind}
+use Rattle.segment_manager.proofs.Common.{U8, Kind, Scalar, Vector, Map, code_of, kind_of_code, same_kind, scalar_code}
+use Rattle.segment_manager.proofs.Common.{Value, Numbers, kind_of}
+use Rattle.seg_types.specs.declared.kinds.ScalarKind.TheVariants.{I32, I64, U64}
 use Rattle.segment_manager.proofs.Heads.{scalar-small}
 
 -- ---- codes are read

@@ -1,46 +1,27 @@
 -- An object made under a key with an entry: what the bytes denote, and what the machine does.
-use Rattle.std.proofs.Common.{◌≡◌, refl, sym, ap, subst, ◌∙◌, ℕ, ◌*◌, ◌<◌, ◌≤◌, inl, inr, ℤ, Some, None, Option, List, length, arith}
-use Rattle.std.specs.Prelude.{insert}
-use Rattle.raw_region.specs.Memory.{Cut, bytes_of}
-use Rattle.raw_region.specs.Format.{current}
-use Rattle.block_tags.specs.declared.tile.Role.TheVariants.{Object as ObjectRole, Index as IndexRole}
-use Rattle.best_fit.specs.Extents.{Extent, LiveSet, handle}
-use Rattle.best_fit.specs.Fit.{added, place, resized}
-use Rattle.best_fit.specs.Heap.{Keeps, LaysOut, live_of}
-use Rattle.best_fit.specs.Table.{Table}
-use Rattle.best_fit.proofs.Laws.{AllByRecursion-insert, allocated-live, keeps-trans}
-use Rattle.seg_types.specs.declared.kinds.Kind.{Kind}
-use Rattle.seg_types.specs.declared.kinds.Kind.TheVariants.{Scalar}
-use Rattle.seg_types.specs.declared.kinds.ScalarKind.{ScalarKind}
+use Rattle.segment_manager.proofs.Common.{◌≡◌, refl, sym, ap, subst, ◌∙◌, ℕ, ◌*◌, ◌<◌, ◌≤◌, inl, inr, ℤ, Some, None}
+use Rattle.segment_manager.proofs.Common.{Option, List, length, arith, insert, Cut, bytes_of, current, ObjectRole}
+use Rattle.segment_manager.proofs.Common.{IndexRole, Extent, LiveSet, handle, added, place, resized, Keeps, LaysOut}
+use Rattle.segment_manager.proofs.Common.{live_of, Table, allocated-live, keeps-trans, Kind, Scalar, ScalarKind}
+use Rattle.segment_manager.proofs.Common.{Content, Index, Absent, AddKeeps, Adds, IsGrowth, grown_bytes, IsIndexOf}
+use Rattle.segment_manager.proofs.Common.{entry_count, place_of, grown_capacity, IsPlace, Refused, Denotes, Value}
+use Rattle.segment_manager.proofs.Common.{Numbers, Object, Directory, count_of, extents_of, kind_of, live, object_len}
+use Rattle.segment_manager.proofs.Common.{with_object, IsDenied, IsGiven, class_of_index, entries_of, objects_of}
+use Rattle.segment_manager.proofs.Common.{table_of, with_table_of, IsNewKeyOf, IsRequested, IsRestored, Plan, New}
+use Rattle.segment_manager.proofs.Common.{Request, bare, class_of, name_of, perform, with_entry, with_new_object}
+use Rattle.segment_manager.proofs.Common.{with_value, NoSpace}
+use Rattle.best_fit.proofs.Laws.{AllByRecursion-insert}
 use Rattle.seg_types.specs.Names as names
 use Rattle.seg_types.specs.Commands as asked
-use Rattle.seg_types.specs.Commands.{Content}
-use Rattle.seg_index.specs.declared.index.Index.{Index}
-use Rattle.seg_index.specs.declared.keys.Key.{Key}
-use Rattle.seg_index.specs.declared.keys.Lookup.TheVariants.{Absent}
-use Rattle.seg_index.specs.Growth.{AddKeeps, Adds, IsGrowth, grown_bytes, grown_live}
-use Rattle.seg_index.specs.Held.{IsIndexOf, entry_count, place_of}
-use Rattle.seg_index.specs.Index.{grown_capacity}
-use Rattle.seg_index.specs.Lookups.{IsPlace}
-use Rattle.segment_manager.specs.Answers.{Refused}
-use Rattle.segment_manager.specs.Denotes.{Denotes}
-use Rattle.segment_manager.specs.Directory.{Value, Numbers, Object, Directory, count_of, extents_of, kind_of, live, object_len, with_object}
-use Rattle.segment_manager.specs.Filled.{IsDenied, IsGiven}
-use Rattle.segment_manager.specs.Indexed.{class_of_index, entries_of, objects_of, table_of, with_table_of}
-use Rattle.segment_manager.specs.NewObjects.{FindsNone, IsNewKeyOf, IsRequested, IsRestored}
-use Rattle.segment_manager.specs.Plan.{Plan, New, Request, bare, class_of, name_of, perform, with_entry, with_new_object, with_value}
-use Rattle.seg_types.specs.declared.refusals.Refusal.TheVariants.{NoSpace}
+use Rattle.seg_index.specs.{declared.keys.Key.Key, Growth.grown_live}
+use Rattle.segment_manager.specs.NewObjects.{FindsNone}
 use Rattle.segment_manager.proofs.Added.{IsEntered, entered-denotes, entered-none, entered-some, grown_into, place-low}
-use Rattle.segment_manager.proofs.Bridge.{entry-added, lookup-absent}
-use Rattle.segment_manager.proofs.Calling.{denotes-live}
+use Rattle.segment_manager.proofs.{Bridge.entry-added, Bridge.lookup-absent, Calling.denotes-live, Kept.denotes-kept}
+use Rattle.segment_manager.proofs.{Made.IsMade, Made.taken-index, Steps.perform-new, Steps.perform-no_space}
+use Rattle.segment_manager.proofs.{Tables.same-table, Taking.growth-index, Taking.place-high}
 use Rattle.segment_manager.proofs.HeldIndexes.{denotes-index, handles-length}
-use Rattle.segment_manager.proofs.Kept.{denotes-kept}
-use Rattle.segment_manager.proofs.Made.{IsMade, taken-index}
 use Rattle.segment_manager.proofs.NewKeys.{key-class, key-has, key-name, key-own, key-seeks, object_of}
 use Rattle.segment_manager.proofs.Requests.{entry-grows, entry-refused, entry-room}
-use Rattle.segment_manager.proofs.Steps.{perform-new, perform-no_space}
-use Rattle.segment_manager.proofs.Tables.{same-table}
-use Rattle.segment_manager.proofs.Taking.{growth-index, place-high}
 
 -- what is made is the object, in a directory that the new bytes denote; and so the machine goes on
 pub record IsNewObject (new : Cut) (d : Directory) (key : names.Key) (content : Content) (h : ℕ) : Type 0 where

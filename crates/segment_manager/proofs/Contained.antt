@@ -1,40 +1,21 @@
 -- A vector or text as the value of an object: it stands at its place as the calls of seg_vector see it, and what they do to it is what
 -- becomes of the object.
-use Rattle.std.proofs.Common.{◌≡◌, refl, sym, ap, subst, ◌∙◌, ℕ, ◌+◌, ◌*◌, ◌≤◌, ℤ, Bool, ◌&&◌, Option, Some, None, List, [], ◌∷◌, ◌++◌, length, append-nil, arith}
-use Rattle.std.specs.Prelude.{IsTrue, nat_le, nat_lt, option_to_list}
-use Rattle.std.specs.List.{list_all}
-use Rattle.std.proofs.lemmas.Bool.{and_from, le-leb}
-use Rattle.std.proofs.lemmas.Option.{same_Some}
-use Rattle.raw_region.specs.Format.{current}
-use Rattle.raw_region.specs.Memory.{Cut, Memory, bytes_of}
-use Rattle.block_tags.specs.declared.tile.Role.TheVariants.{Object as ObjectRole, Storage}
-use Rattle.best_fit.specs.Exchange.{IsExchanged}
-use Rattle.best_fit.specs.Extents.{Extent, LiveSet, handle}
-use Rattle.best_fit.specs.Heap.{extent_at, live_of}
-use Rattle.best_fit.specs.Table.{Table, is_table, serves}
-use Rattle.best_fit.proofs.Laws.{found-new}
-use Rattle.seg_types.specs.declared.kinds.ScalarKind.{ScalarKind}
-use Rattle.seg_types.specs.Kinds.{is_kind_of, is_value, size_of}
-use Rattle.seg_types.specs.Names.{Key}
-use Rattle.seg_vector.specs.Standing.{IsOwnBlock, Stands, place_at}
-use Rattle.seg_vector.specs.Vector.{IsContainerAt, spelled}
-use Rattle.segment_manager.specs.Contents.{Contents, IsRefilled, container_place, contents_of, has_values}
-use Rattle.segment_manager.specs.Directory.{Value, Elements, Bytes, Object, Directory, count_of, extents_of, has_good_name, is_good_value, is_object, kind_of, object_at, padded, value_extents, value_len}
-use Rattle.segment_manager.specs.Denotes.{Denotes, IsValueAt}
-use Rattle.segment_manager.specs.Standing.{StandsAt}
-use Rattle.segment_manager.specs.Step.{changed}
-use Rattle.segment_manager.proofs.Blocks.{spelled-length}
-use Rattle.segment_manager.proofs.Calling.{denotes-heap, denotes-live}
+use Rattle.segment_manager.proofs.Common.{◌≡◌, refl, sym, ap, subst, ◌∙◌, ℕ, ◌+◌, ◌*◌, ◌≤◌, ℤ, Bool, ◌&&◌, Option, Some}
+use Rattle.segment_manager.proofs.Common.{None, List, [], ◌∷◌, ◌++◌, length, append-nil, arith, IsTrue, nat_le, nat_lt}
+use Rattle.segment_manager.proofs.Common.{option_to_list, list_all, and_from, le-leb, same_Some, current, Cut, Memory}
+use Rattle.segment_manager.proofs.Common.{bytes_of, ObjectRole, Storage, IsExchanged, Extent, LiveSet, handle}
+use Rattle.segment_manager.proofs.Common.{extent_at, live_of, Table, is_table, serves, found-new, ScalarKind}
+use Rattle.segment_manager.proofs.Common.{is_kind_of, is_value, size_of, Key, IsOwnBlock, Stands, place_at}
+use Rattle.segment_manager.proofs.Common.{IsContainerAt, spelled, Contents, IsRefilled, container_place, contents_of}
+use Rattle.segment_manager.proofs.Common.{has_values, Value, Elements, Bytes, Object, Directory, count_of, extents_of}
+use Rattle.segment_manager.proofs.Common.{has_good_name, is_good_value, is_object, kind_of, object_at, padded}
+use Rattle.segment_manager.proofs.Common.{value_extents, value_len, Denotes, IsValueAt, StandsAt, changed}
+use Rattle.segment_manager.proofs.{Blocks.spelled-length, Calling.denotes-heap, Calling.denotes-live}
+use Rattle.segment_manager.proofs.{Frame.object-roomy, Here.standing, Live.IsIn, ObjectLists.key-found, Order.inserted}
+use Rattle.segment_manager.proofs.{Standings.standing-room, Words.first, Words.second, Words.no_more}
 use Rattle.segment_manager.proofs.Exchanged.{Exchange, between, denotes-container}
-use Rattle.segment_manager.proofs.Frame.{object-roomy}
-use Rattle.segment_manager.proofs.Here.{standing}
-use Rattle.segment_manager.proofs.Live.{IsIn}
-use Rattle.segment_manager.proofs.ObjectLists.{key-found}
-use Rattle.segment_manager.proofs.Order.{inserted}
 use Rattle.segment_manager.proofs.Regrown.{InPlace, Parted, parted, rest}
 use Rattle.segment_manager.proofs.Rewritten.{value_start, with_value}
-use Rattle.segment_manager.proofs.Standings.{standing-room}
-use Rattle.segment_manager.proofs.Words.{first, second, no_more}
 
 -- ---- the value
 

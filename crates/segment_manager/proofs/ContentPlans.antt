@@ -1,21 +1,14 @@
 -- The plans of the commands on a vector of numbers or a text.
-use Rattle.std.proofs.Common.{◌≡◌, refl, ap, ◌∙◌, ℕ, ◌-◌, ℤ, pos, nat_abs, Bool, true, false, Option, Some, None, Result, Ok, Err, List, [], ◌∷◌, ◌++◌, length, map, take, if◌then◌else◌}
-use Rattle.std.specs.Prelude.{insert, remove, slice_get, slice_set, nat_lt}
-use Rattle.best_fit.specs.Table.{Table, cut_table}
-use Rattle.seg_types.specs.declared.kinds.ScalarKind.{ScalarKind}
-use Rattle.seg_types.specs.declared.kinds.ScalarKind.TheVariants.{U8}
-use Rattle.seg_types.specs.declared.refusals.Refusal.{Refusal}
-use Rattle.seg_types.specs.declared.refusals.Refusal.TheVariants.{OutOfRange, WrongKind}
-use Rattle.seg_types.specs.Kinds.{size_of}
-use Rattle.seg_types.specs.Names.{Key}
+use Rattle.segment_manager.proofs.Common.{◌≡◌, refl, ap, ◌∙◌, ℕ, ◌-◌, ℤ, pos, nat_abs, Bool, true, false, Option, Some}
+use Rattle.segment_manager.proofs.Common.{None, Result, Ok, Err, List, [], ◌∷◌, ◌++◌, length, map, take, if◌then◌else◌}
+use Rattle.segment_manager.proofs.Common.{insert, remove, slice_get, slice_set, nat_lt, Table, cut_table, ScalarKind}
+use Rattle.segment_manager.proofs.Common.{U8, Refusal, OutOfRange, WrongKind, size_of, Key, Literal, value_of_literal}
+use Rattle.segment_manager.proofs.Common.{capacity_for_one, capacity_for_text, Done, Element, Value, Elements, Bytes}
+use Rattle.segment_manager.proofs.Common.{Texts, Object, Directory, live, object_at, Plan, Refuse, Reply, with}
+use Rattle.segment_manager.proofs.Common.{with_capacity, changed, effect, storage_of, values_of, with_items, with_table}
 use Rattle.seg_types.specs.Commands as asked
-use Rattle.seg_types.specs.Commands.{Literal, value_of_literal}
-use Rattle.seg_vector.specs.Vector.{capacity_for_one, capacity_for_text}
-use Rattle.segment_manager.specs.Answers.{Done, Element}
-use Rattle.segment_manager.specs.Directory.{Value, Elements, Bytes, Texts, Object, Directory, live, object_at}
-use Rattle.segment_manager.specs.Plan.{Plan, Refuse, Reply, with, with_capacity}
 use Rattle.segment_manager.specs.Step as step
-use Rattle.segment_manager.specs.Step.{changed, effect, storage_of, text_among, text_of, values_of, with_items, with_table}
+use Rattle.segment_manager.specs.Step.{text_among, text_of}
 use Rattle.segment_manager.proofs.Steps.{with-found}
 
 abbrev of_slice : Option ℤ → Result ℤ Refusal

@@ -1,24 +1,21 @@
 -- What the bytes denote after one object is added, removed or changed.
-use Rattle.std.proofs.Common.{◌≡◌, refl, sym, ap, subst, ◌∙◌, ℕ, suc, ◌+◌, ◌≤◌, ◌≢◌, Bool, ◌&&◌, List, [], ◌∷◌, length, arith}
-use Rattle.std.specs.Prelude.{IsTrue, nat_le}
-use Rattle.std.specs.List.{AllByRecursion}
-use Rattle.raw_region.specs.Memory.{Memory, Cut, Same, bytes_of}
+use Rattle.segment_manager.proofs.Common.{◌≡◌, refl, sym, ap, subst, ◌∙◌, ℕ, suc, ◌+◌, ◌≤◌, ◌≢◌, Bool, ◌&&◌, List, []}
+use Rattle.segment_manager.proofs.Common.{◌∷◌, length, arith, IsTrue, nat_le, AllByRecursion, Memory, Cut, Same}
+use Rattle.segment_manager.proofs.Common.{bytes_of, Extent, LiveSet, handle, is_proper, released, LaysOut, SameBlock}
+use Rattle.segment_manager.proofs.Common.{Keeps, Table, is_table, Anonymous, IsIndexAt, Object, Directory, IsDirectory}
+use Rattle.segment_manager.proofs.Common.{live, extents_of, value_extents, table_extents, is_object, is_index, rises}
+use Rattle.segment_manager.proofs.Common.{remove_object, with_object, with_changed, without_object, named_objects}
+use Rattle.segment_manager.proofs.Common.{unique_objects, by_name, by_kind, Denotes, IsObjectAt, IsHeader, handles}
+use Rattle.segment_manager.proofs.Common.{Same-part}
 use Rattle.block_tags.specs.declared.tile.Role.TheVariants.{Index}
-use Rattle.best_fit.specs.Extents.{Extent, LiveSet, handle, is_proper}
-use Rattle.best_fit.specs.Fit.{released}
-use Rattle.best_fit.specs.Heap.{LaysOut, SameBlock, Keeps}
-use Rattle.best_fit.specs.Table.{Table, is_table}
-use Rattle.seg_types.specs.declared.kinds.Class.TheVariants.{Anonymous}
-use Rattle.seg_index.specs.Index.{IsIndexAt}
-use Rattle.segment_manager.specs.Directory.{Object, Directory, IsDirectory, live, extents_of, value_extents, table_extents, is_object, is_index, rises, remove_object, with_object, with_changed, without_object, named_objects, unique_objects, by_name, by_kind}
-use Rattle.segment_manager.specs.Denotes.{Denotes, IsObjectAt, IsHeader, handles}
-use Rattle.raw_region.proofs.Laws.{Same-part}
 use Rattle.segment_manager.proofs.Words.{first, second, no_more}
 use Rattle.segment_manager.proofs.Frame.{any_objects-same, any_index-same, header-same}
 use Rattle.segment_manager.proofs.Order.{Differs, IsFresh, inserted, live-rises, rising-insert, all_of-inserted}
 use Rattle.segment_manager.proofs.Live.{adding, removing, OfEach, of_each, IsFound, IsIn, live-put, live-without}
-use Rattle.segment_manager.proofs.Faces.{IsLike, SameIndex, replace-rises, named-changed, unique-changed, named-with, unique-with, named-without, unique-without, anonymous-named, anonymous-unique}
-use Rattle.segment_manager.proofs.ObjectLists.{all-put, all-remove, all-replace, list_all-put, list_all-remove, list_all-replace, stands_apart, put-rises, remove-rises}
+use Rattle.segment_manager.proofs.Faces.{IsLike, SameIndex, replace-rises, named-changed, unique-changed, named-with}
+use Rattle.segment_manager.proofs.Faces.{unique-with, named-without, unique-without, anonymous-named, anonymous-unique}
+use Rattle.segment_manager.proofs.ObjectLists.{all-put, all-remove, all-replace, list_all-put, list_all-remove}
+use Rattle.segment_manager.proofs.ObjectLists.{list_all-replace, stands_apart, put-rises, remove-rises}
 
 -- ---- what stays
 

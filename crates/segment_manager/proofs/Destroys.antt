@@ -1,51 +1,29 @@
 -- The calls that destroy objects, as the code makes them.
-use Rattle.std.proofs.Common.{◌≡◌, refl, sym, ap, subst, ◌∙◌, ℕ, ◌<◌, true, false, ◌==◌, Some, None, Option, List, [], ◌∷◌, arith}
-use Rattle.std.specs.Prelude.{remove, slice_get}
-use Rattle.std.proofs.lemmas.Option.{same_Some, slice_get_within}
-use Rattle.raw_region.specs.Memory.{Cut, SamePlace, bytes_of}
-use Rattle.raw_region.specs.Format.{current}
-use Rattle.raw_region.proofs.Laws.{SamePlace-trans}
-use Rattle.best_fit.specs.Extents.{handle}
-use Rattle.best_fit.specs.Heap.{IsReleased, LaysOut, is_live_in, live_of}
-use Rattle.best_fit.specs.Table.{Table}
-use Rattle.best_fit.proofs.Laws.{lay_out_one}
-use Rattle.seg_types.specs.declared.kinds.Class.{Class}
+use Rattle.segment_manager.proofs.Common.{◌≡◌, refl, sym, ap, subst, ◌∙◌, ℕ, ◌<◌, true, false, ◌==◌, Some, None, Option}
+use Rattle.segment_manager.proofs.Common.{List, [], ◌∷◌, arith, remove, slice_get, same_Some, slice_get_within, Cut}
+use Rattle.segment_manager.proofs.Common.{SamePlace, bytes_of, current, SamePlace-trans, handle, IsReleased, LaysOut}
+use Rattle.segment_manager.proofs.Common.{is_live_in, live_of, Table, lay_out_one, Class, NotFound, class_code, Index}
+use Rattle.segment_manager.proofs.Common.{Absent, Found, KeepsRest, beside_table, HasIndex, IsIndexOf, entry_count}
+use Rattle.segment_manager.proofs.Common.{place_of, IsPlace, Refused, Truth, Denotes, Becomes, Empties, HoldsObject}
+use Rattle.segment_manager.proofs.Common.{emptied, Object, Directory, is_class, object_at, without_object, is_object_at}
+use Rattle.segment_manager.proofs.Common.{Seeks, class_of_index, entries_of, objects_of, order_of, table_of, HasEntry}
+use Rattle.segment_manager.proofs.Common.{IsAnonymousAt, Plan, Reply, Answers, IsSegment, IsStep, StandsFor, State}
+use Rattle.segment_manager.proofs.Common.{changed, effect, is_read_only, step}
 use Rattle.seg_types.specs.declared.kinds.Class.TheVariants as class
-use Rattle.seg_types.specs.declared.refusals.Refusal.TheVariants.{NotFound}
-use Rattle.seg_types.specs.Kinds.{class_code}
 use Rattle.seg_types.specs.Names as names
 use Rattle.seg_types.specs.Commands as asked
-use Rattle.seg_index.specs.declared.index.Index.{Index}
 use Rattle.seg_index.specs.declared.index.Index.TheVariants as index
-use Rattle.seg_index.specs.declared.keys.Key.{Key}
-use Rattle.seg_index.specs.declared.keys.Lookup.{Lookup}
-use Rattle.seg_index.specs.declared.keys.Lookup.TheVariants.{Absent, Found}
-use Rattle.seg_index.specs.Growth.{KeepsRest, beside_table}
-use Rattle.seg_index.specs.Held.{HasIndex, IsIndexOf, entry_count, place_of}
-use Rattle.seg_index.specs.Lookups.{IsPlace}
-use Rattle.segment_manager.specs.Answers.{Refused, Truth}
-use Rattle.segment_manager.specs.Denotes.{Denotes}
-use Rattle.segment_manager.specs.Destroyed.{Becomes, Empties, HoldsEntry, HoldsObject, RemovesAnonymous, RemovesEntry, emptied}
-use Rattle.segment_manager.specs.Directory.{Object, Directory, is_class, object_at, without_object}
-use Rattle.segment_manager.specs.Found.{is_object_at}
-use Rattle.segment_manager.specs.Indexed.{Seeks, class_of_index, entries_of, objects_of, order_of, table_of}
-use Rattle.segment_manager.specs.Listed.{HasEntry, IsAnonymousAt}
-use Rattle.segment_manager.specs.Plan.{Plan, Reply}
-use Rattle.segment_manager.specs.State.{Answers, IsSegment, IsStep, StandsFor, State}
-use Rattle.segment_manager.specs.Step.{changed, effect, is_read_only, step}
+use Rattle.seg_index.specs.{declared.keys.Key.Key, declared.keys.Lookup.Lookup}
+use Rattle.segment_manager.specs.Destroyed.{HoldsEntry, RemovesAnonymous, RemovesEntry}
 use Rattle.segment_manager.proofs.Bridge.{IsEntryFor, entry-removed, in-handles, lookup-absent, lookup-found}
 use Rattle.segment_manager.proofs.Calling.{denotes-live, denotes-released, object-live}
 use Rattle.segment_manager.proofs.Emptied.{changed-entries, changed-in, changed-others, emptied-is}
 use Rattle.segment_manager.proofs.EntryPlaces.{all-at, at-handle, of-class}
-use Rattle.segment_manager.proofs.Here.{IsHere}
-use Rattle.segment_manager.proofs.HeldIndexes.{denotes-index}
-use Rattle.segment_manager.proofs.Listed.{object-here}
-use Rattle.segment_manager.proofs.Live.{IsIn}
-use Rattle.segment_manager.proofs.ObjectLists.{found-handle, key-found}
-use Rattle.segment_manager.proofs.Ranks.{all-ordered}
-use Rattle.segment_manager.proofs.Removed.{IsGone, IsLeft, removed-denotes}
-use Rattle.segment_manager.proofs.Rewritten.{with_value}
-use Rattle.segment_manager.proofs.Steps.{by_no_change, by_step, lands, open-writing, step-refuse, step-reply, with-found, with-not_found}
+use Rattle.segment_manager.proofs.{Here.IsHere, HeldIndexes.denotes-index, Listed.object-here, Live.IsIn}
+use Rattle.segment_manager.proofs.{ObjectLists.found-handle, ObjectLists.key-found, Ranks.all-ordered, Removed.IsGone}
+use Rattle.segment_manager.proofs.{Removed.IsLeft, Removed.removed-denotes, Rewritten.with_value}
+use Rattle.segment_manager.proofs.Steps.{by_no_change, by_step, lands, open-writing, step-refuse, step-reply}
+use Rattle.segment_manager.proofs.Steps.{with-found, with-not_found}
 
 -- ---- an object with an entry
 

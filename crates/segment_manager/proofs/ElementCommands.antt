@@ -1,37 +1,23 @@
 -- Commands on elements by literals: which call is the step of the command, by the kind of the object.
-use Rattle.std.proofs.Common.{◌≡◌, refl, sym, ap, subst, ◌∙◌, ◌⊎◌, inl, inr, ℕ, ℤ, Bool, true, false, Option, Some, None, Result, Ok, Err, List, length}
-use Rattle.std.specs.Prelude.{nat_lt}
-use Rattle.best_fit.specs.Table.{Table}
-use Rattle.seg_types.specs.declared.kinds.Kind.{Kind}
-use Rattle.seg_types.specs.declared.kinds.Kind.TheVariants.{Map as MapKind, Scalar, Texts as TextsKind, Vector}
-use Rattle.seg_types.specs.declared.kinds.ScalarKind.{ScalarKind}
-use Rattle.seg_types.specs.declared.refusals.Refusal.{Refusal}
-use Rattle.seg_types.specs.declared.refusals.Refusal.TheVariants.{NotFound, WrongKind}
-use Rattle.seg_types.specs.declared.values.ScalarValue.{ScalarValue}
-use Rattle.seg_types.specs.Kinds.{is_value}
-use Rattle.seg_types.specs.Names.{Key, ByHandle}
+use Rattle.segment_manager.proofs.Common.{◌≡◌, refl, sym, ap, subst, ◌∙◌, ◌⊎◌, inl, inr, ℕ, ℤ, Bool, true, false}
+use Rattle.segment_manager.proofs.Common.{Option, Some, None, Result, Ok, Err, List, length, nat_lt, Table, Kind}
+use Rattle.segment_manager.proofs.Common.{MapKind, Scalar, TextsKind, Vector, ScalarKind, Refusal, NotFound, WrongKind}
+use Rattle.segment_manager.proofs.Common.{ScalarValue, is_value, Key, ByHandle, Literal, Quoted, literal_of}
+use Rattle.segment_manager.proofs.Common.{value_of_literal, kind_of_scalar, value_of_scalar, OwnedText, Located, Answer}
+use Rattle.segment_manager.proofs.Common.{Refused, elements_at, elements_of, kind_at, IsChangeable, IsToChange}
+use Rattle.segment_manager.proofs.Common.{IsUnchangeable, IsValueOf, Value, Numbers, Elements, Bytes, Pairs, Texts}
+use Rattle.segment_manager.proofs.Common.{Object, Directory, kind_of, object_at, IsLocated, Refuse, Answers, IsStep}
+use Rattle.segment_manager.proofs.Common.{IsStepOfKind, State, StandsFor, effect, is_read_only}
 use Rattle.seg_types.specs.Commands as asked
-use Rattle.seg_types.specs.Commands.{Literal, Quoted, Truth, Whole, literal_of, value_of_literal}
-use Rattle.seg_types.specs.Values.{kind_of_scalar, value_of_scalar}
-use Rattle.seg_vector.specs.Vector.{OwnedText}
-use Rattle.segment_manager.specs.declared.targets.Object.{Object as Located}
-use Rattle.segment_manager.specs.Answers.{Answer, Refused}
-use Rattle.segment_manager.specs.Calls.{elements_at, elements_of, kind_at}
-use Rattle.segment_manager.specs.Changeable.{IsChangeable, IsElement, IsNoElement, IsToChange, IsUnchangeable, IsValueOf}
-use Rattle.segment_manager.specs.Directory.{Value, Numbers, Elements, Bytes, Pairs, Texts, Object, Directory, kind_of, object_at}
-use Rattle.segment_manager.specs.Located.{IsLocated}
-use Rattle.segment_manager.specs.Plan.{Refuse}
-use Rattle.segment_manager.specs.State.{Answers, IsStep, IsStepOfKind, State, StandsFor}
+use Rattle.seg_types.specs.Commands.{Truth, Whole}
+use Rattle.segment_manager.specs.Changeable.{IsElement, IsNoElement}
 use Rattle.segment_manager.specs.Step as step
-use Rattle.segment_manager.specs.Step.{effect, is_read_only}
-use Rattle.segment_manager.proofs.AnyKind.{any-literal}
+use Rattle.segment_manager.proofs.{AnyKind.any-literal, Locating.step_of_kind-by_key, Steps.with-found}
+use Rattle.segment_manager.proofs.{Steps.with-not_found, Stored.literal-read, ElementLaws.same_plan-steps}
 use Rattle.segment_manager.proofs.AnyStorage.{IsOfKindAt, kind-told, of_kind-steps}
 use Rattle.segment_manager.proofs.Changeable.{refuses, says-kind}
-use Rattle.segment_manager.proofs.ContentPlans.{erase-other, insert-other, insert-past, insert-plan, insert-refused, is_no_vector, pop-other, push-other, push-plan, push-refused}
-use Rattle.segment_manager.proofs.Locating.{step_of_kind-by_key}
-use Rattle.segment_manager.proofs.Steps.{with-found, with-not_found}
-use Rattle.segment_manager.proofs.Stored.{literal-read}
-use Rattle.segment_manager.proofs.ElementLaws.{same_plan-steps}
+use Rattle.segment_manager.proofs.ContentPlans.{erase-other, insert-other, insert-past, insert-plan, insert-refused}
+use Rattle.segment_manager.proofs.ContentPlans.{is_no_vector, pop-other, push-other, push-plan, push-refused}
 
 -- ---- values by their kinds
 

@@ -1,27 +1,20 @@
 -- The elements of the object of a key, one after another: what a reading of one says of the list, and how long it is.
-use Rattle.std.proofs.Common.{◌≡◌, refl, sym, ap, ◌∙◌, ℕ, zero, suc, ℤ, Bool, true, false, Option, Some, None, Result, Ok, Err, List, [], ◌∷◌, length, map, if◌then◌else◌}
-use Rattle.std.specs.Prelude.{option_map, slice_get}
-use Rattle.seg_types.specs.declared.kinds.Kind.{Kind}
-use Rattle.seg_types.specs.declared.kinds.Kind.TheVariants.{Scalar as ScalarOf, Vector as VectorOf, Texts as TextsKind}
-use Rattle.seg_types.specs.declared.kinds.ScalarKind.{ScalarKind}
-use Rattle.seg_types.specs.declared.refusals.Refusal.{Refusal}
-use Rattle.seg_types.specs.declared.refusals.Refusal.TheVariants.{NotFound, OutOfRange, WrongKind}
-use Rattle.seg_types.specs.Kinds.{same_kind}
+use Rattle.segment_manager.proofs.Common.{◌≡◌, refl, sym, ap, ◌∙◌, ℕ, zero, suc, ℤ, Bool, true, false, Option, Some}
+use Rattle.segment_manager.proofs.Common.{None, Result, Ok, Err, List, [], ◌∷◌, length, map, if◌then◌else◌, option_map}
+use Rattle.segment_manager.proofs.Common.{slice_get, Kind, ScalarOf, TextsKind, ScalarKind, Refusal, NotFound}
+use Rattle.segment_manager.proofs.Common.{OutOfRange, WrongKind, same_kind, Key, OwnedText, Mode, Answer, Element}
+use Rattle.segment_manager.proofs.Common.{Refused, TextElement, sizes_of, sizes_of_kind, Value, Object, Directory}
+use Rattle.segment_manager.proofs.Common.{count_of, kind_of, live, object_at, first_size, length_at_kind}
+use Rattle.segment_manager.proofs.Common.{number_or_none, Reply, perform, with, answer_of, element_at, get}
+use Rattle.segment_manager.proofs.Common.{step_of_kind}
+use Rattle.seg_types.specs.declared.kinds.Kind.TheVariants.{Vector as VectorOf}
 use Rattle.seg_types.specs.Commands as asked
-use Rattle.seg_types.specs.Names.{Key}
-use Rattle.seg_vector.specs.Vector.{OwnedText}
-use Rattle.segment_manager.specs.declared.modes.Mode.{Mode}
-use Rattle.segment_manager.specs.Answers.{Answer, Element, Refused, TextElement}
-use Rattle.segment_manager.specs.Contents.{sizes_of, sizes_of_kind}
-use Rattle.segment_manager.specs.Directory.{Value, Object, Directory, count_of, kind_of, live, object_at}
-use Rattle.segment_manager.specs.ElementLists.{array_at, array_length_at, first_size, length_at_kind, list_at, number_or_none, numbers_in, texts_at, texts_in, vector_at}
-use Rattle.segment_manager.specs.Plan.{Reply, perform, with}
-use Rattle.segment_manager.specs.State.{answer_of}
-use Rattle.segment_manager.specs.Step.{element_at, get, owned_text_at, step_of_kind}
-use Rattle.segment_manager.proofs.Codes.{numbers-only}
-use Rattle.segment_manager.proofs.Steps.{open-reading, step_of_kind-found, step_of_kind-not_found, step_of_kind-other, with-found}
-use Rattle.segment_manager.proofs.TextsHeld.{texts-only}
-use Rattle.segment_manager.proofs.VectorSteps.{vector-only}
+use Rattle.segment_manager.specs.ElementLists.{array_at, array_length_at, list_at, numbers_in, texts_at, texts_in}
+use Rattle.segment_manager.specs.ElementLists.{vector_at}
+use Rattle.segment_manager.specs.Step.{owned_text_at}
+use Rattle.segment_manager.proofs.{Codes.numbers-only, TextsHeld.texts-only, VectorSteps.vector-only}
+use Rattle.segment_manager.proofs.Steps.{open-reading, step_of_kind-found, step_of_kind-not_found, step_of_kind-other}
+use Rattle.segment_manager.proofs.Steps.{with-found}
 
 -- what was read, if it was
 abbrev pub got : {A : Type 0} → Result A Refusal → Option A

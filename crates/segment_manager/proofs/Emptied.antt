@@ -1,20 +1,12 @@
 -- The directory with an object's value emptied: the same but for that object, which has one block then.
-use Rattle.std.proofs.Common.{◌≡◌, refl, sym, ap, subst, ◌∙◌, Some, List, [], ◌∷◌, cond}
-use Rattle.std.specs.Prelude.{IsTrue, find}
-use Rattle.std.proofs.lemmas.Bool.{eq-eqb, ne_eqb}
-use Rattle.best_fit.specs.Extents.{handle}
-use Rattle.seg_types.specs.declared.kinds.Kind.TheVariants.{Scalar}
-use Rattle.seg_types.specs.declared.kinds.ScalarKind.{ScalarKind}
-use Rattle.seg_types.specs.Names.{ByHandle}
-use Rattle.seg_index.specs.declared.index.Index.{Index}
-use Rattle.seg_index.specs.declared.index.Index.TheVariants.{Named, Unique}
-use Rattle.segment_manager.specs.Destroyed.{emptied}
-use Rattle.segment_manager.specs.Directory.{Value, Numbers, Object, Directory, count_of, has_key, is_good_value, kind_of, remove_object, replace_object, value_extents, value_len, without_object}
-use Rattle.segment_manager.specs.Indexed.{entries_of}
-use Rattle.segment_manager.specs.Step.{changed}
-use Rattle.segment_manager.proofs.Faces.{named-changed, unique-changed}
-use Rattle.segment_manager.proofs.Live.{IsFound, IsIn, Place, behind, found-nothing, found-place, here, remove-behind, remove-here, replace-behind, replace-here}
-use Rattle.segment_manager.proofs.Rewritten.{with_value}
+use Rattle.segment_manager.proofs.Common.{◌≡◌, refl, sym, ap, subst, ◌∙◌, Some, List, [], ◌∷◌, cond, IsTrue, find}
+use Rattle.segment_manager.proofs.Common.{eq-eqb, ne_eqb, handle, Scalar, ScalarKind, ByHandle, Index, Named, Unique}
+use Rattle.segment_manager.proofs.Common.{emptied, Value, Numbers, Object, Directory, count_of, has_key, is_good_value}
+use Rattle.segment_manager.proofs.Common.{kind_of, remove_object, replace_object, value_extents, value_len}
+use Rattle.segment_manager.proofs.Common.{without_object, entries_of, changed}
+use Rattle.segment_manager.proofs.{Faces.named-changed, Faces.unique-changed, Rewritten.with_value}
+use Rattle.segment_manager.proofs.Live.{IsFound, IsIn, Place, behind, found-nothing, found-place, here, remove-behind}
+use Rattle.segment_manager.proofs.Live.{remove-here, replace-behind, replace-here}
 
 -- ---- the value
 

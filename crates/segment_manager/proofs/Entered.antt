@@ -1,28 +1,15 @@
 -- One index of a directory is written, and the other stays.
-use Rattle.std.proofs.Common.{◌≡◌, refl, sym, ap, subst, ◌∙◌, suc, ◌+◌, ◌<◌, ◌≤◌, true, false, ◌==◌, None, length, arith}
-use Rattle.std.specs.Prelude.{IsTrue, flat_map}
-use Rattle.std.specs.List.{AllByRecursion}
-use Rattle.raw_region.specs.Memory.{Memory, Same}
-use Rattle.raw_region.proofs.Laws.{Same-part}
-use Rattle.block_tags.specs.declared.tile.Role.TheVariants.{Index as IndexRole}
-use Rattle.best_fit.specs.Extents.{Extent}
-use Rattle.best_fit.specs.Heap.{SameBlock}
-use Rattle.best_fit.specs.Table.{Table, is_table, no_table}
-use Rattle.seg_types.specs.Kinds.{class_code}
-use Rattle.seg_types.specs.Names.{Key, ByKind, ByName}
-use Rattle.seg_index.specs.declared.index.Index.{Index}
+use Rattle.segment_manager.proofs.Common.{◌≡◌, refl, sym, ap, subst, ◌∙◌, suc, ◌+◌, ◌<◌, ◌≤◌, true, false, ◌==◌, None}
+use Rattle.segment_manager.proofs.Common.{length, arith, IsTrue, flat_map, AllByRecursion, Memory, Same, Same-part}
+use Rattle.segment_manager.proofs.Common.{IndexRole, Extent, SameBlock, Table, is_table, no_table, class_code, Key}
+use Rattle.segment_manager.proofs.Common.{ByKind, ByName, Index, place_of, IsIndexAt, Object, Directory, extents_of}
+use Rattle.segment_manager.proofs.Common.{is_class, is_index, kind_of, live, object_at, table_extents, with_object}
+use Rattle.segment_manager.proofs.Common.{handles, class_of_index, entries_of, objects_of, order_of, table_of}
+use Rattle.segment_manager.proofs.Common.{with_table_of}
 use Rattle.seg_index.specs.declared.index.Index.TheVariants as index
-use Rattle.seg_index.specs.Held.{place_of}
-use Rattle.seg_index.specs.Index.{IsIndexAt}
-use Rattle.segment_manager.specs.Directory.{Object, Directory, extents_of, is_class, is_index, kind_of, live, object_at, table_extents, with_object}
-use Rattle.segment_manager.specs.Denotes.{handles}
-use Rattle.segment_manager.specs.Indexed.{class_of_index, entries_of, objects_of, order_of, table_of, with_table_of}
-use Rattle.segment_manager.proofs.AnyClass.{HasIndexes}
-use Rattle.segment_manager.proofs.Denoted.{handles-length, index-stays}
-use Rattle.segment_manager.proofs.Faces.{named-with, unique-with}
+use Rattle.segment_manager.proofs.{AnyClass.HasIndexes, Denoted.handles-length, Denoted.index-stays, Faces.named-with}
+use Rattle.segment_manager.proofs.{Faces.unique-with, Live.OfEach, Live.of_each, Ranks.insert_by-length}
 use Rattle.segment_manager.proofs.Indexes.{named-index-more, named-more, unique-index-more, unique-more}
-use Rattle.segment_manager.proofs.Live.{OfEach, of_each}
-use Rattle.segment_manager.proofs.Ranks.{insert_by-length}
 
 -- ---- one of the two, and the other
 

@@ -1,12 +1,12 @@
 -- Each index follows its objects.
-use Rattle.std.proofs.Common.{◌≡◌, ◌∙◌, sym, ℕ, Some}
-use Rattle.best_fit.specs.Extents.{handle}
-use Rattle.seg_types.specs.Names.{ByHandle}
-use Rattle.segment_manager.specs.Directory.{Object, Directory, IsDirectory, object_at}
-use Rattle.segment_manager.specs.Entries.{DiffersInValue, IndexesFollowObjects, KeepsEntries, PutsOneEntry, RemovesOneEntry}
-use Rattle.segment_manager.proofs.Live.{IsFound, IsIn}
-use Rattle.segment_manager.proofs.Faces.{IsLike, named-changed, named-with, named-without, unique-changed, unique-with, unique-without}
-use Rattle.segment_manager.proofs.Indexes.{named-less, named-more, named-removed, unique-less, unique-more, unique-removed}
+use Rattle.segment_manager.proofs.Common.{◌≡◌, ◌∙◌, sym, ℕ, Some, handle, ByHandle, Object, Directory, IsDirectory}
+use Rattle.segment_manager.proofs.Common.{object_at}
+use Rattle.segment_manager.specs.Entries.{DiffersInValue, IndexesFollowObjects, KeepsEntries, PutsOneEntry}
+use Rattle.segment_manager.specs.Entries.{RemovesOneEntry}
+use Rattle.segment_manager.proofs.{Live.IsFound, Live.IsIn, Faces.IsLike, Faces.named-changed, Faces.named-with}
+use Rattle.segment_manager.proofs.{Faces.named-without, Faces.unique-changed, Faces.unique-with, Faces.unique-without}
+use Rattle.segment_manager.proofs.{Indexes.named-less, Indexes.named-more, Indexes.named-removed, Indexes.unique-less}
+use Rattle.segment_manager.proofs.{Indexes.unique-more, Indexes.unique-removed}
 
 puts-entry : (d : Directory) (o : Object) → PutsOneEntry d o
 puts-entry d o = record { named = named-more d o; not_named = named-with d o; unique = unique-more d o; not_unique = unique-with d o }

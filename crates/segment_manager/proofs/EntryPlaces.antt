@@ -1,17 +1,12 @@
 -- Objects in order and their places: which stands where, which one has a key, and where one is put in or taken out.
-use Rattle.std.proofs.Common.{◌≡◌, refl, sym, ap, subst, ◌∙◌, ℕ, zero, suc, ◌+◌, ◌<◌, ◌≤◌, ◌≢◌, Bool, true, false, Some, None, List, [], ◌∷◌, length, arith, cond}
-use Rattle.std.specs.Prelude.{IsTrue, filter, find, fold, insert, remove, slice_get}
-use Rattle.std.specs.List.{AllByRecursion}
-use Rattle.std.proofs.lemmas.Bool.{cond-true, cond-false}
-use Rattle.std.proofs.lemmas.Option.{none-some, same_Some}
-use Rattle.best_fit.specs.Extents.{handle}
-use Rattle.seg_types.specs.declared.kinds.Class.{Class}
-use Rattle.segment_manager.specs.Directory.{Object, insert_by, is_class, remove_object, rises}
-use Rattle.segment_manager.specs.Denotes.{handles}
-use Rattle.segment_manager.proofs.Words.{first, second}
-use Rattle.segment_manager.proofs.Live.{remove-here, remove-behind}
-use Rattle.segment_manager.proofs.Ranks.{IsRanked, IsStrict, Pairwise, all_of-insert_by, insert_by-behind, insert_by-front, ranked-sym}
-use Rattle.segment_manager.proofs.InUse.{all-both, all-each}
+use Rattle.segment_manager.proofs.Common.{◌≡◌, refl, sym, ap, subst, ◌∙◌, ℕ, zero, suc, ◌+◌, ◌<◌, ◌≤◌, ◌≢◌, Bool, true}
+use Rattle.segment_manager.proofs.Common.{false, Some, None, List, [], ◌∷◌, length, arith, cond, IsTrue, filter, find}
+use Rattle.segment_manager.proofs.Common.{fold, insert, remove, slice_get, AllByRecursion, cond-true, cond-false}
+use Rattle.segment_manager.proofs.Common.{none-some, same_Some, handle, Class, Object, insert_by, is_class}
+use Rattle.segment_manager.proofs.Common.{remove_object, rises, handles}
+use Rattle.segment_manager.proofs.{Words.first, Words.second, Live.remove-here, Live.remove-behind, Ranks.IsRanked}
+use Rattle.segment_manager.proofs.{Ranks.IsStrict, Ranks.Pairwise, Ranks.all_of-insert_by, Ranks.insert_by-behind}
+use Rattle.segment_manager.proofs.{Ranks.insert_by-front, Ranks.ranked-sym, InUse.all-both, InUse.all-each}
 
 -- ---- which stands at a place
 

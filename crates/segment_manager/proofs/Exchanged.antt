@@ -1,24 +1,20 @@
 -- An object in the place of one like it, whose value has other blocks: the blocks of all other objects stay.
-use Rattle.std.proofs.Common.{◌≡◌, refl, sym, ap, subst, ◌∙◌, ℕ, ◌+◌, ◌≤◌, ◌≢◌, inl, inr, List, [], ◌∷◌, ◌++◌, length, arith}
-use Rattle.std.specs.Prelude.{IsTrue}
-use Rattle.std.specs.List.{AllByRecursion}
-use Rattle.raw_region.specs.Memory.{Memory, Cut, Same, bytes_of}
-use Rattle.best_fit.specs.Exchange.{exchanged, SameBlockBut, IsExchanged}
-use Rattle.best_fit.specs.Extents.{Extent, LiveSet, handle, end_of, is_proper}
+use Rattle.segment_manager.proofs.Common.{◌≡◌, refl, sym, ap, subst, ◌∙◌, ℕ, ◌+◌, ◌≤◌, ◌≢◌, inl, inr, List, [], ◌∷◌}
+use Rattle.segment_manager.proofs.Common.{◌++◌, length, arith, IsTrue, AllByRecursion, Memory, Cut, Same, bytes_of}
+use Rattle.segment_manager.proofs.Common.{exchanged, SameBlockBut, IsExchanged, Extent, LiveSet, handle, end_of}
+use Rattle.segment_manager.proofs.Common.{is_proper, LaysOut, SameBlock, Keeps, live_of, code_of, Value, Object}
+use Rattle.segment_manager.proofs.Common.{Directory, live, extents_of, padded, count_of, kind_of, value_len}
+use Rattle.segment_manager.proofs.Common.{value_extents, is_object, remove_object, with_changed, without_object}
+use Rattle.segment_manager.proofs.Common.{Denotes, IsObjectAt, IsValueAt, two_halves, padded_name, changed, Has-same}
+use Rattle.segment_manager.proofs.Common.{Same-word, IsAlone, SameSpread, inserted-append, live-spaced, middle-first}
+use Rattle.segment_manager.proofs.Common.{spaced-insert}
 use Rattle.best_fit.specs.Fit.{insert}
-use Rattle.best_fit.specs.Heap.{LaysOut, SameBlock, Keeps, live_of}
-use Rattle.seg_types.specs.Kinds.{code_of}
-use Rattle.segment_manager.specs.Directory.{Value, Object, Directory, live, extents_of, padded, count_of, kind_of, value_len, value_extents, is_object, remove_object, with_changed, without_object}
-use Rattle.segment_manager.specs.Denotes.{Denotes, IsObjectAt, IsValueAt, two_halves, padded_name}
-use Rattle.segment_manager.specs.Step.{changed}
-use Rattle.raw_region.proofs.Laws.{Has-same, Same-word}
-use Rattle.best_fit.proofs.Laws.{IsAlone, LiesBeside, SameSpread, above, below, inserted-append, live-spaced, middle-first, spaced-insert}
-use Rattle.segment_manager.proofs.Calling.{denotes-live, object-at}
-use Rattle.segment_manager.proofs.Denoted.{denotes-replaced}
-use Rattle.segment_manager.proofs.Faces.{IsLike}
+use Rattle.best_fit.proofs.Laws.{LiesBeside, above, below}
+use Rattle.segment_manager.proofs.{Calling.denotes-live, Calling.object-at, Denoted.denotes-replaced, Faces.IsLike}
 use Rattle.segment_manager.proofs.Frame.{IsRoomy, object-roomy, padded_name-length}
 use Rattle.segment_manager.proofs.Live.{adding, IsFound, IsIn, live-split, live-changed}
-use Rattle.segment_manager.proofs.Order.{Rising, IsFresh, inserted, insert-inserted, all_of-inserted, live-rises, rising-insert, apart-inserted, without_all, without-inserted}
+use Rattle.segment_manager.proofs.Order.{Rising, IsFresh, inserted, insert-inserted, all_of-inserted, live-rises}
+use Rattle.segment_manager.proofs.Order.{rising-insert, apart-inserted, without_all, without-inserted}
 use Rattle.segment_manager.proofs.Regrown.{InPlace, differs-flip, rest, with_extents}
 use Rattle.segment_manager.proofs.Rewritten.{value_start, with_value}
 

@@ -1,35 +1,22 @@
 -- The calls that construct, or find or construct, as the code makes them: whatever fills the object.
-use Rattle.std.proofs.Common.{◌≡◌, refl, sym, ap, subst, ◌∙◌, ℕ, true, false, Some, None, Option, Ok, Err, Result, List}
-use Rattle.std.specs.Prelude.{IfErr}
-use Rattle.std.proofs.lemmas.Option.{none-some}
-use Rattle.raw_region.specs.Memory.{Cut}
-use Rattle.seg_types.specs.declared.kinds.Kind.{Kind}
-use Rattle.seg_types.specs.declared.refusals.Refusal.{Refusal}
-use Rattle.seg_types.specs.declared.refusals.Refusal.TheVariants.{Exists, NoSpace}
+use Rattle.segment_manager.proofs.Common.{◌≡◌, refl, sym, ap, subst, ◌∙◌, ℕ, true, false, Some, None, Option, Ok, Err}
+use Rattle.segment_manager.proofs.Common.{Result, List, IfErr, none-some, Cut, Kind, Refusal, Exists, NoSpace, Command}
+use Rattle.segment_manager.proofs.Common.{Content, Index, NewEntry, Mode, Answer, Made, Refused, is_untouched, Begins}
+use Rattle.segment_manager.proofs.Common.{IsAbsentAt, IsNotBegun, Object, Directory, count_of, kind_of, object_at}
+use Rattle.segment_manager.proofs.Common.{value_len, Constructs, FindsOrConstructs, IsBegunFor, MakesValue, with_count}
+use Rattle.segment_manager.proofs.Common.{handle_at, pair_answer, IsNewKeyOf, bare, StandsAt, pair_of_kind, Answers}
+use Rattle.segment_manager.proofs.Common.{IsSegment, IsStep, KeepsRefused, State, answer_of, handle_answer}
+use Rattle.segment_manager.proofs.Common.{is_read_only}
 use Rattle.seg_types.specs.Names as names
 use Rattle.seg_types.specs.Commands as asked
-use Rattle.seg_types.specs.Commands.{Command, Content}
-use Rattle.seg_index.specs.declared.index.Index.{Index}
 use Rattle.seg_index.specs.declared.keys.Key.{Key}
-use Rattle.segment_manager.specs.declared.beginning.Begun.{Begun}
-use Rattle.segment_manager.specs.declared.beginning.NewEntry.{NewEntry}
-use Rattle.segment_manager.specs.declared.fillings.Shape.{Shape}
-use Rattle.segment_manager.specs.declared.modes.Mode.{Mode}
-use Rattle.segment_manager.specs.Answers.{Answer, Made, Refused, is_untouched}
-use Rattle.segment_manager.specs.Begun.{Begins, Ends, IsAbsentAt, IsEnding, IsNotBegun}
-use Rattle.segment_manager.specs.Directory.{Object, Directory, count_of, kind_of, object_at, value_len}
-use Rattle.segment_manager.specs.Filled.{Builds, Constructs, FindsOrConstructs, IsBegunFor, IsShapeOf, MakesValue, with_count}
-use Rattle.segment_manager.specs.Found.{handle_at, pair_answer, pair_found}
-use Rattle.segment_manager.specs.NewObjects.{IsNewKeyOf}
-use Rattle.segment_manager.specs.Plan.{bare}
-use Rattle.segment_manager.specs.Standing.{StandsAt, pair_of_kind}
-use Rattle.segment_manager.specs.State.{Answers, IsSegment, IsStep, KeepsRefused, State, answer_of, handle_answer}
-use Rattle.segment_manager.specs.Step.{is_read_only}
-use Rattle.segment_manager.proofs.Bridge.{lookup-absent}
-use Rattle.segment_manager.proofs.FoundOrMade.{constructs, constructs-exists, constructs-none, found-there, makes-found, makes-none}
-use Rattle.segment_manager.proofs.NewKeys.{key-seeks}
-use Rattle.segment_manager.proofs.NewValues.{IsMadeNever, IsMadeNow, away-in, key-taken, value-built, value-loose, value-not_begun, value-not_built, value-ready}
-use Rattle.segment_manager.proofs.Steps.{step-segment}
+use Rattle.segment_manager.specs.{declared.beginning.Begun.Begun, declared.fillings.Shape.Shape, Begun.Ends}
+use Rattle.segment_manager.specs.{Begun.IsEnding, Filled.Builds, Filled.IsShapeOf, Found.pair_found}
+use Rattle.segment_manager.proofs.{Bridge.lookup-absent, NewKeys.key-seeks, Steps.step-segment}
+use Rattle.segment_manager.proofs.FoundOrMade.{constructs, constructs-exists, constructs-none, found-there, makes-found}
+use Rattle.segment_manager.proofs.FoundOrMade.{makes-none}
+use Rattle.segment_manager.proofs.NewValues.{IsMadeNever, IsMadeNow, away-in, key-taken, value-built, value-loose}
+use Rattle.segment_manager.proofs.NewValues.{value-not_begun, value-not_built, value-ready}
 
 -- ---- begun
 

@@ -1,21 +1,14 @@
 -- Items taken from an iterator and written one behind another.
-use Rattle.std.proofs.Common.{◌≡◌, refl, sym, ap, subst, ◌∙◌, ℕ, ◌+◌, ◌*◌, ℤ, Bool, true, Some, Option, List, [], ◌∷◌, ◌++◌, length, map, arith, length-append}
-use Rattle.std.specs.Prelude.{IsTrue}
-use Rattle.std.specs.List.{AllByRecursion, list_all}
-use Rattle.std.specs.Iterator.{HoldsAlong, Yields}
-use Rattle.std.proofs.lemmas.Bool.{and_from}
-use Rattle.std.proofs.lemmas.List.{flat_map_more, length-map, map_push}
-use Rattle.raw_region.specs.Memory.{Cut, Has, bytes_of}
-use Rattle.raw_region.specs.Format.{current}
-use Rattle.best_fit.specs.Heap.{IsChanged}
-use Rattle.seg_types.specs.declared.kinds.ScalarKind.{ScalarKind}
-use Rattle.seg_types.specs.Kinds.{is_value, size_of, spelling}
-use Rattle.seg_vector.specs.Vector.{spelled}
+use Rattle.segment_manager.proofs.Common.{◌≡◌, refl, sym, ap, subst, ◌∙◌, ℕ, ◌+◌, ◌*◌, ℤ, Bool, true, Some, Option}
+use Rattle.segment_manager.proofs.Common.{List, [], ◌∷◌, ◌++◌, length, map, arith, length-append, IsTrue}
+use Rattle.segment_manager.proofs.Common.{AllByRecursion, list_all, Yields, and_from, flat_map_more, length-map, Cut}
+use Rattle.segment_manager.proofs.Common.{Has, bytes_of, current, IsChanged, ScalarKind, is_value, size_of, spelling}
+use Rattle.segment_manager.proofs.Common.{spelled}
+use Rattle.std.specs.Iterator.{HoldsAlong}
+use Rattle.std.proofs.lemmas.List.{map_push}
 use Rattle.segment_manager.specs.Begun.{IsItemWritten}
 use Rattle.segment_manager.proofs.Blocks.{spelled-length, spelling-length}
-use Rattle.segment_manager.proofs.NewBlocks.{changed-trans}
-use Rattle.segment_manager.proofs.Payloads.{bytes-stay}
-use Rattle.segment_manager.proofs.Rows.{Has-append}
+use Rattle.segment_manager.proofs.{NewBlocks.changed-trans, Payloads.bytes-stay, Rows.Has-append}
 use Rattle.segment_manager.proofs.Words.{AllByRecursion-behind, first, second}
 
 -- ---- calls, and then one more

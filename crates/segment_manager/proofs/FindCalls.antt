@@ -1,27 +1,15 @@
 -- The calls that find an object of a kind and that walk the indexes, for each directory that the bytes stand for.
-use Rattle.std.proofs.Common.{◌≡◌, refl, sym, ap, subst, ◌∙◌, ℕ, ◌<◌, true, false, Option, Some, None, length, arith, if◌then◌else◌}
-use Rattle.std.specs.Prelude.{slice_get}
-use Rattle.std.proofs.lemmas.Bool.{eq-eqb, ne_eqb}
-use Rattle.seg_types.specs.declared.kinds.Kind.{Kind}
-use Rattle.seg_types.specs.declared.refusals.Refusal.TheVariants.{WrongKind}
-use Rattle.seg_types.specs.Kinds.{code_of, same_kind}
-use Rattle.seg_types.specs.Names.{Key}
+use Rattle.segment_manager.proofs.Common.{◌≡◌, refl, sym, ap, subst, ◌∙◌, ℕ, ◌<◌, true, false, Option, Some, None}
+use Rattle.segment_manager.proofs.Common.{length, arith, if◌then◌else◌, slice_get, eq-eqb, ne_eqb, Kind, WrongKind}
+use Rattle.segment_manager.proofs.Common.{code_of, same_kind, Key, Index, Named, Unique, IsIndexOf, entry_count}
+use Rattle.segment_manager.proofs.Common.{place_of, Head, Answer, Number, Refused, Object, Directory, kind_of}
+use Rattle.segment_manager.proofs.Common.{named_objects, unique_objects, IsBelow, handle_at, entries_of, objects_of}
+use Rattle.segment_manager.proofs.Common.{table_of, Plan, Refuse, Reply, IsHeadOf, StandsAt, Answers, IsReply}
+use Rattle.segment_manager.proofs.Common.{IsSegment, State, StandsFor, found}
 use Rattle.seg_types.specs.Commands as asked
-use Rattle.seg_index.specs.declared.index.Index.{Index}
-use Rattle.seg_index.specs.declared.index.Index.TheVariants.{Named, Unique}
-use Rattle.seg_index.specs.Held.{IsIndexOf, entry_count, place_of}
-use Rattle.segment_manager.specs.declared.head.Head.{Head}
-use Rattle.segment_manager.specs.Answers.{Absent, Answer, Found, Number, Refused}
-use Rattle.segment_manager.specs.Directory.{Object, Directory, kind_of, named_objects, unique_objects}
-use Rattle.segment_manager.specs.Found.{IsBelow, handle_at}
-use Rattle.segment_manager.specs.Indexed.{entries_of, objects_of, table_of}
-use Rattle.segment_manager.specs.Plan.{Plan, Refuse, Reply}
-use Rattle.segment_manager.specs.Standing.{IsHeadOf, StandsAt}
-use Rattle.segment_manager.specs.State.{Answers, IsReply, IsSegment, State, StandsFor}
-use Rattle.segment_manager.specs.Step.{found}
-use Rattle.segment_manager.proofs.Here.{IsHere, here, nothing-here}
+use Rattle.segment_manager.specs.Answers.{Absent, Found}
+use Rattle.segment_manager.proofs.{Here.IsHere, Here.here, Here.nothing-here, KeyCalls.ForIndex, KeyCalls.of-directory}
 use Rattle.segment_manager.proofs.HeldIndexes.{denotes-index, handles-length}
-use Rattle.segment_manager.proofs.KeyCalls.{ForIndex, of-directory}
 use Rattle.segment_manager.proofs.Steps.{open-reading, step-refuse, step-reply}
 
 -- ---- an object of a kind

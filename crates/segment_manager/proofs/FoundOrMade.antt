@@ -1,22 +1,13 @@
 -- An object found under a key, or constructed where there is none, as a step of the machine.
-use Rattle.std.proofs.Common.{◌≡◌, refl, sym, ap, ◌∙◌, ℕ, Bool, true, false, Some, None, Option, Result, Ok, Err, if◌then◌else◌}
-use Rattle.raw_region.specs.Memory.{Cut, SamePlace}
-use Rattle.best_fit.specs.Extents.{handle}
-use Rattle.seg_types.specs.declared.refusals.Refusal.{Refusal}
-use Rattle.seg_types.specs.declared.refusals.Refusal.TheVariants.{NoSpace, WrongKind, Exists}
-use Rattle.seg_types.specs.Kinds.{same_kind}
-use Rattle.seg_types.specs.Names.{Key}
+use Rattle.segment_manager.proofs.Common.{◌≡◌, refl, sym, ap, ◌∙◌, ℕ, Bool, true, false, Some, None, Option, Result, Ok}
+use Rattle.segment_manager.proofs.Common.{Err, if◌then◌else◌, Cut, SamePlace, handle, Refusal, NoSpace, WrongKind}
+use Rattle.segment_manager.proofs.Common.{Exists, same_kind, Key, Content, Answer, Refused, Made, Object, Directory}
+use Rattle.segment_manager.proofs.Common.{count_of, kind_of, object_at, handle_at, pair_answer, Plan, Refuse, Reply}
+use Rattle.segment_manager.proofs.Common.{bare, with_new_object, StandsAt, pair_of_kind, Answers, IsStep, StandsFor}
+use Rattle.segment_manager.proofs.Common.{State, found, is_read_only, step, effect}
 use Rattle.seg_types.specs.Commands as asked
-use Rattle.seg_types.specs.Commands.{Content}
-use Rattle.segment_manager.specs.Answers.{Answer, Found, Refused, Made}
-use Rattle.segment_manager.specs.Directory.{Object, Directory, count_of, kind_of, object_at}
-use Rattle.segment_manager.specs.Found.{handle_at, pair_answer}
-use Rattle.segment_manager.specs.Plan.{Plan, Refuse, Reply, bare, with_new_object}
-use Rattle.segment_manager.specs.Standing.{StandsAt, pair_of_kind}
-use Rattle.segment_manager.specs.State.{Answers, IsStep, StandsFor, State}
-use Rattle.segment_manager.specs.Step.{found, is_read_only, step, effect}
-use Rattle.segment_manager.proofs.Constructed.{IsNewObject, IsNoObject}
-use Rattle.segment_manager.proofs.Here.{IsHere, here}
+use Rattle.segment_manager.specs.Answers.{Found}
+use Rattle.segment_manager.proofs.{Constructed.IsNewObject, Constructed.IsNoObject, Here.IsHere, Here.here}
 use Rattle.segment_manager.proofs.Steps.{by_no_change, by_step, lands, open-writing, step-plan, step-refuse, step-reply}
 
 -- ---- an object that is constructed

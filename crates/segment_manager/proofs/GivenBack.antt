@@ -1,17 +1,12 @@
 -- The blocks of a new object that are given back before an entry leads to it.
-use Rattle.std.proofs.Common.{◌≡◌, sym, ap, subst, ◌∙◌, ℕ, ◌-◌, Some, None, Option, List, [], ◌∷◌}
-use Rattle.raw_region.specs.Memory.{Cut}
-use Rattle.raw_region.specs.Format.{current}
-use Rattle.block_tags.specs.declared.tile.Role.TheVariants.{Object as ObjectRole, Index as IndexRole}
-use Rattle.best_fit.specs.Extents.{Extent, LiveSet, handle}
-use Rattle.best_fit.specs.Fit.{added, insert, others, released}
-use Rattle.best_fit.specs.Heap.{IsAllocated, IsChanged, IsReleased, Keeps, LaysOut, live_of}
-use Rattle.best_fit.proofs.Laws.{allocated-live, is_proper-IsProper, keeps-trans, lay_out_one, others-insert_same}
-use Rattle.seg_index.specs.Growth.{GivesBack, IsGrowth, grown_bytes}
-use Rattle.segment_manager.specs.NewObjects.{IsRequested, IsRestored}
-use Rattle.segment_manager.proofs.Constructed.{keeps-front}
-use Rattle.segment_manager.proofs.Made.{IsTaken, requested-taken}
-use Rattle.segment_manager.proofs.Taking.{written-taken}
+use Rattle.segment_manager.proofs.Common.{◌≡◌, sym, ap, subst, ◌∙◌, ℕ, ◌-◌, Some, None, Option, List, [], ◌∷◌, Cut}
+use Rattle.segment_manager.proofs.Common.{current, ObjectRole, IndexRole, Extent, LiveSet, handle, added, others}
+use Rattle.segment_manager.proofs.Common.{released, IsAllocated, IsChanged, IsReleased, Keeps, LaysOut, live_of}
+use Rattle.segment_manager.proofs.Common.{allocated-live, keeps-trans, lay_out_one, GivesBack, IsGrowth, grown_bytes}
+use Rattle.segment_manager.proofs.Common.{IsRequested, IsRestored}
+use Rattle.best_fit.specs.Fit.{insert}
+use Rattle.best_fit.proofs.Laws.{is_proper-IsProper, others-insert_same}
+use Rattle.segment_manager.proofs.{Constructed.keeps-front, Made.IsTaken, Made.requested-taken, Taking.written-taken}
 
 -- a block that was put in use and goes leaves the blocks that were in use before
 pub taken-back : (a b c : Cut) (x : Extent) → IsTaken a b (x ∷ []) → IsReleased current b c (handle x) → IsRestored a c

@@ -1,24 +1,14 @@
 -- What the words of an index entry are of an object that stands in its block.
-use Rattle.std.proofs.Common.{◌≡◌, refl, ap, ◌∙◌, ℕ, zero, suc, ◌+◌, ◌*◌, ◌-◌, ◌<◌, ◌≤◌, Bool, true, false, ◌&&◌, not, List, [], ◌∷◌, ◌++◌, length, replicate, ◌==◌, if◌then◌else◌, arith}
-use Rattle.std.specs.Prelude.{IsTrue, nat_le}
-use Rattle.std.specs.List.{AllByRecursion, list_all}
-use Rattle.std.specs.Str.{is_utf8, chars}
-use Rattle.std.proofs.lemmas.Bool.{and_parts, eqb-true, leb-true}
-use Rattle.raw_region.specs.Memory.{Memory, bytes_of, read, Has, word_at}
-use Rattle.best_fit.specs.Extents.{handle}
-use Rattle.best_fit.specs.Table.{serves}
-use Rattle.block_tags.specs.declared.tile.Role.TheVariants.{Object as ObjectRole}
-use Rattle.seg_types.specs.declared.kinds.ScalarKind.{ScalarKind}
-use Rattle.seg_types.specs.declared.kinds.ScalarKind.TheVariants.{Bool as BoolKind}
-use Rattle.seg_types.specs.declared.kinds.Kind.{Kind}
-use Rattle.seg_types.specs.declared.kinds.Kind.TheVariants.{Scalar, Text, Vector, Map, Texts}
-use Rattle.seg_types.specs.declared.kinds.Class.TheVariants.{Named}
-use Rattle.seg_types.specs.Kinds.{scalar_code, code_of, class_code, is_kind_of}
-use Rattle.seg_types.specs.Names.{is_name, is_printable_name, is_text_name, is_control}
-use Rattle.seg_index.specs.Keys.{name_len_at}
-use Rattle.segment_manager.specs.Directory.{Object, kind_of, count_of, padded, is_class, has_good_name, is_good_value, is_object, object_len}
-use Rattle.segment_manager.specs.Denotes.{IsObjectAt}
-use Rattle.segment_manager.specs.Heads.{IsEntry, EntriesSayObjects}
+use Rattle.segment_manager.proofs.Common.{◌≡◌, refl, ap, ◌∙◌, ℕ, zero, suc, ◌+◌, ◌*◌, ◌-◌, ◌<◌, ◌≤◌, Bool, true, false}
+use Rattle.segment_manager.proofs.Common.{◌&&◌, not, List, [], ◌∷◌, ◌++◌, length, replicate, ◌==◌, if◌then◌else◌, arith}
+use Rattle.segment_manager.proofs.Common.{IsTrue, nat_le, AllByRecursion, list_all, is_utf8, chars, and_parts, eqb-true}
+use Rattle.segment_manager.proofs.Common.{leb-true, Memory, bytes_of, read, Has, word_at, handle, serves, ObjectRole}
+use Rattle.segment_manager.proofs.Common.{ScalarKind, BoolKind, Kind, Scalar, Text, Vector, Map, scalar_code, code_of}
+use Rattle.segment_manager.proofs.Common.{class_code, is_kind_of, is_name, is_printable_name, is_text_name, is_control}
+use Rattle.segment_manager.proofs.Common.{name_len_at, Object, kind_of, count_of, padded, is_class, has_good_name}
+use Rattle.segment_manager.proofs.Common.{is_good_value, is_object, object_len, IsObjectAt, IsEntry}
+use Rattle.seg_types.specs.{declared.kinds.Kind.TheVariants.Texts, declared.kinds.Class.TheVariants.Named}
+use Rattle.segment_manager.specs.Heads.{EntriesSayObjects}
 use Rattle.segment_manager.proofs.Words.{first, second}
 
 -- ---- the codes are below 2 ^ 32

@@ -1,34 +1,17 @@
 -- Bytes that denote a directory hold its two indexes: each stands in its heap with its block, and its entries lead to rising keys.
-use Rattle.std.proofs.Common.{◌≡◌, sym, subst, ◌∙◌, ℕ, ◌+◌, ◌≤◌, ◌%◌, true, Some, List, [], ◌∷◌, length, arith, Less}
-use Rattle.std.specs.Prelude.{IsTrue, IfSome}
-use Rattle.std.specs.List.{AllByRecursion}
-use Rattle.std.specs.Ordering.{nat_cmp}
-use Rattle.std.specs.Cmp.Lexicographic.{slice_cmp}
-use Rattle.std.proofs.lemmas.Bool.{le-leb}
-use Rattle.raw_region.specs.Format.{current}
-use Rattle.raw_region.specs.Memory.{Cut, Memory, bytes_of}
-use Rattle.std.proofs.lemmas.List.{length-map}
-use Rattle.best_fit.specs.Extents.{handle}
-use Rattle.best_fit.specs.Heap.{extent_at, has_room}
-use Rattle.seg_index.specs.declared.index.Index.{Index}
-use Rattle.seg_index.specs.declared.index.Index.TheVariants.{Named, Unique}
-use Rattle.seg_index.specs.declared.keys.Key.{Key}
-use Rattle.seg_index.specs.declared.keys.Key.TheVariants.{Name, Code}
-use Rattle.seg_index.specs.Held.{IsIndexOf, place_of}
-use Rattle.seg_index.specs.Index.{IsIndexAt}
-use Rattle.seg_index.specs.Keys.{name_len_at}
-use Rattle.seg_index.specs.Lookups.{HasKey, HasKeys, Rises, key_end, order_of_two}
-use Rattle.segment_manager.specs.Directory.{Object, Directory, IsDirectory, is_class, is_index, is_object, live}
-use Rattle.segment_manager.specs.Denotes.{Denotes, IsObjectAt, handles}
-use Rattle.segment_manager.specs.Heads.{IsEntry}
-use Rattle.segment_manager.specs.Indexed.{class_of_index, entries_of, objects_of, order_of, table_of}
+use Rattle.segment_manager.proofs.Common.{◌≡◌, sym, subst, ◌∙◌, ℕ, ◌+◌, ◌≤◌, ◌%◌, true, Some, List, [], ◌∷◌, length}
+use Rattle.segment_manager.proofs.Common.{arith, Less, IsTrue, IfSome, AllByRecursion, nat_cmp, slice_cmp, le-leb}
+use Rattle.segment_manager.proofs.Common.{current, Cut, Memory, bytes_of, length-map, handle, extent_at, has_room}
+use Rattle.segment_manager.proofs.Common.{Index, Named, Unique, Name, Code, IsIndexOf, place_of, IsIndexAt, name_len_at}
+use Rattle.segment_manager.proofs.Common.{HasKeys, Object, Directory, IsDirectory, is_class, is_index, is_object, live}
+use Rattle.segment_manager.proofs.Common.{Denotes, IsObjectAt, handles, IsEntry, class_of_index, entries_of, objects_of}
+use Rattle.segment_manager.proofs.Common.{order_of, table_of}
+use Rattle.seg_index.specs.{declared.keys.Key.Key, Lookups.HasKey, Lookups.Rises, Lookups.key_end, Lookups.order_of_two}
 use Rattle.segment_manager.proofs.Calling.{denotes-heap, denotes-live}
-use Rattle.segment_manager.proofs.Frame.{object-roomy}
+use Rattle.segment_manager.proofs.{Frame.object-roomy, KeyOrder.kind-less, KeyOrder.name-less, ObjectLists.each-true}
 use Rattle.segment_manager.proofs.Heads.{entries_say_objects, entry-name_len, good-name, good_name-short}
 use Rattle.segment_manager.proofs.Indexes.{by_kind-strict, by_name-strict, index-parts}
 use Rattle.segment_manager.proofs.InUse.{IsInUse, all-both, all-each, named-in_use, objects-in_use, unique-in_use}
-use Rattle.segment_manager.proofs.KeyOrder.{kind-less, name-less}
-use Rattle.segment_manager.proofs.ObjectLists.{each-true}
 use Rattle.segment_manager.proofs.EntryPlaces.{Ascends, StandsAt, all-at, ascends-at, rises-ascends, stands-at}
 use Rattle.segment_manager.proofs.Ranks.{IsStrict, all-filter, all-ordered}
 

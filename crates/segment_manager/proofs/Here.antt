@@ -1,22 +1,11 @@
 -- The object of a key as it stands in its block, and what is said of it.
-use Rattle.std.proofs.Common.{◌≡◌, refl, sym, ap, subst, ◌∙◌, ℕ, ◌+◌, Option, Some, None, Result, Ok, Err, List}
-use Rattle.std.specs.Prelude.{IsTrue, option_map}
-use Rattle.std.proofs.lemmas.Bool.{le-leb}
-use Rattle.raw_region.specs.Format.{current}
-use Rattle.best_fit.specs.Extents.{handle}
-use Rattle.best_fit.specs.Heap.{has_room}
-use Rattle.seg_types.specs.declared.refusals.Refusal.{Refusal}
-use Rattle.seg_types.specs.declared.refusals.Refusal.TheVariants.{NotFound}
-use Rattle.seg_types.specs.Names.{Key}
+use Rattle.segment_manager.proofs.Common.{◌≡◌, refl, sym, ap, subst, ◌∙◌, ℕ, ◌+◌, Option, Some, None, Result, Ok, Err}
+use Rattle.segment_manager.proofs.Common.{List, IsTrue, option_map, le-leb, current, handle, has_room, Refusal}
+use Rattle.segment_manager.proofs.Common.{NotFound, Key, Object, Directory, has_key, is_object, object_at, object_len}
+use Rattle.segment_manager.proofs.Common.{Denotes, handle_at, HasObject, StandsAt, Answers, IsSegment, State}
 use Rattle.segment_manager.specs.Calls.{told_at}
-use Rattle.segment_manager.specs.Directory.{Object, Directory, has_key, is_object, object_at, object_len}
-use Rattle.segment_manager.specs.Denotes.{Denotes}
-use Rattle.segment_manager.specs.Found.{handle_at}
-use Rattle.segment_manager.specs.Standing.{HasObject, StandsAt}
-use Rattle.segment_manager.specs.State.{Answers, IsSegment, State}
 use Rattle.segment_manager.proofs.Calling.{denotes-live, object-at, object-room}
-use Rattle.segment_manager.proofs.Frame.{IsRoomy, object-roomy}
-use Rattle.segment_manager.proofs.Live.{IsIn}
+use Rattle.segment_manager.proofs.{Frame.IsRoomy, Frame.object-roomy, Live.IsIn}
 use Rattle.segment_manager.proofs.ObjectLists.{all-found, each-true, key-found}
 
 -- ---- the object of a key

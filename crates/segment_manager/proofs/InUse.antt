@@ -1,16 +1,14 @@
 -- The blocks of a directory, as its live set has them: each is found by its handle, has the room that its extent holds, and lies at a
 -- whole place.
-use Rattle.std.proofs.Common.{◌≡◌, refl, ◌∙◌, ℕ, ◌+◌, ◌%◌, ◌≤◌, ◌&&◌, ◌==◌, Option, Some, None, List, [], ◌∷◌, arith}
-use Rattle.std.specs.Prelude.{IsTrue, IfSome, find, flat_map, option_to_list}
-use Rattle.std.specs.List.{AllByRecursion, list_any}
-use Rattle.std.proofs.lemmas.Bool.{and_from, and_parts, cond-true, cond-false, eq-eqb, eqb-true, ne_eqb, or_left, or_right}
-use Rattle.block_tags.specs.Format.{is_legal_size}
-use Rattle.best_fit.specs.Extents.{Extent, LiveSet, end_of, handle, holds, is_block, is_hole, is_proper, proper_from}
-use Rattle.best_fit.specs.Heap.{extent_at, has_room}
-use Rattle.segment_manager.specs.Directory.{Object, Directory, extents_of, live, value_extents}
+use Rattle.segment_manager.proofs.Common.{◌≡◌, refl, ◌∙◌, ℕ, ◌+◌, ◌%◌, ◌≤◌, ◌&&◌, ◌==◌, Option, Some, None, List, []}
+use Rattle.segment_manager.proofs.Common.{◌∷◌, arith, IsTrue, IfSome, find, flat_map, option_to_list, AllByRecursion}
+use Rattle.segment_manager.proofs.Common.{list_any, and_from, and_parts, cond-true, cond-false, eq-eqb, eqb-true}
+use Rattle.segment_manager.proofs.Common.{ne_eqb, or_left, or_right, is_legal_size, Extent, LiveSet, end_of, handle}
+use Rattle.segment_manager.proofs.Common.{holds, is_proper, proper_from, extent_at, has_room, Object, Directory}
+use Rattle.segment_manager.proofs.Common.{extents_of, live, value_extents}
+use Rattle.best_fit.specs.Extents.{is_block, is_hole}
 use Rattle.segment_manager.proofs.Words.{AllByRecursion-behind, first, second}
-use Rattle.segment_manager.proofs.Order.{Rising, live-rises}
-use Rattle.segment_manager.proofs.Live.{of_each}
+use Rattle.segment_manager.proofs.{Order.Rising, Order.live-rises, Live.of_each}
 
 -- ---- what holds of each extent of a list that rises
 

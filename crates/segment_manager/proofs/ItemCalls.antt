@@ -1,50 +1,28 @@
 -- The calls that construct numbers from items, as the code makes them.
-use Rattle.std.proofs.Common.{◌≡◌, refl, sym, ap, subst, ◌∙◌, ℕ, ◌+◌, ◌*◌, ◌≤◌, ℤ, Bool, true, false, Err, Result, Some, None, Option, List, [], length, map, replicate, arith, ◌<◌, if◌then◌else◌}
-use Rattle.std.proofs.Math.Nat.{mul-le-mul_left}
-use Rattle.std.specs.Prelude.{IsTrue, if◌then◌else◌, pos, take, nat_lt}
-use Rattle.std.specs.List.{list_all}
-use Rattle.std.proofs.lemmas.Bool.{lt-ltb, le-ltb}
-use Rattle.std.proofs.lemmas.List.{length-map, length-replicate, take_all}
-use Rattle.raw_region.specs.Memory.{Cut, SamePlace}
-use Rattle.raw_region.specs.Format.{current}
-use Rattle.block_tags.specs.declared.tile.Role.TheVariants.{Object as ObjectRole}
-use Rattle.best_fit.specs.Extents.{Extent, handle}
-use Rattle.best_fit.specs.Fit.{place, resized}
-use Rattle.best_fit.specs.Heap.{IsAllocated, IsChanged}
-use Rattle.seg_types.specs.declared.kinds.Kind.TheVariants.{Scalar}
-use Rattle.seg_types.specs.declared.kinds.ScalarKind.{ScalarKind}
-use Rattle.seg_types.specs.declared.kinds.Class.TheVariants.{Anonymous}
-use Rattle.seg_types.specs.declared.refusals.Refusal.{Refusal}
-use Rattle.seg_types.specs.declared.refusals.Refusal.TheVariants.{Exists, NoSpace, OutOfRange, ReadOnly}
-use Rattle.seg_types.specs.Kinds.{is_value, size_of}
+use Rattle.segment_manager.proofs.Common.{◌≡◌, refl, sym, ap, subst, ◌∙◌, ℕ, ◌+◌, ◌*◌, ◌≤◌, ℤ, Bool, true, false, Err}
+use Rattle.segment_manager.proofs.Common.{Result, Some, None, Option, List, [], length, map, replicate, arith, ◌<◌}
+use Rattle.segment_manager.proofs.Common.{if◌then◌else◌, mul-le-mul_left, IsTrue, pos, take, nat_lt, list_all, lt-ltb}
+use Rattle.segment_manager.proofs.Common.{le-ltb, length-map, length-replicate, take_all, Cut, SamePlace, current}
+use Rattle.segment_manager.proofs.Common.{ObjectRole, Extent, handle, place, resized, IsAllocated, IsChanged, Scalar}
+use Rattle.segment_manager.proofs.Common.{ScalarKind, Anonymous, Refusal, Exists, NoSpace, OutOfRange, ReadOnly}
+use Rattle.segment_manager.proofs.Common.{is_value, size_of, Content, Command, Key, NewEntry, Made, Refused, IsBegun}
+use Rattle.segment_manager.proofs.Common.{IsBegunAlone, IsBegunEntry, IsLoose, IsNotBegun, IsTakenKey, LeadsThere}
+use Rattle.segment_manager.proofs.Common.{Denotes, Numbers, Object, Directory, is_good_value, live, object_len, padded}
+use Rattle.segment_manager.proofs.Common.{with_object, object_at, IsBegunFor, IsMadeValue, class_of_index, entries_of}
+use Rattle.segment_manager.proofs.Common.{table_of, TakesItems, head_len, IsRestored, room_for, IsSegment, IsStep}
+use Rattle.segment_manager.proofs.Common.{State, StandsFor, is_read_only, effect, step, Plan, Refuse, Reply, perform}
+use Rattle.segment_manager.proofs.Common.{with_new_object}
 use Rattle.seg_types.specs.Names as names
 use Rattle.seg_types.specs.Commands as asked
-use Rattle.seg_types.specs.Commands.{Content, Command}
-use Rattle.seg_types.specs.Names.{Key}
-use Rattle.segment_manager.specs.declared.beginning.NewEntry.{NewEntry}
-use Rattle.segment_manager.specs.Answers.{Made, Refused}
-use Rattle.segment_manager.specs.Begun.{Fills, Finishes, IsBegun, IsBegunAlone, IsBegunEntry, IsLoose, IsNotBegun, IsTakenKey, LeadsThere}
-use Rattle.segment_manager.specs.Denotes.{Denotes}
-use Rattle.segment_manager.specs.Directory.{Numbers, Object, Directory, is_good_value, live, object_len, padded, with_object, object_at}
-use Rattle.segment_manager.specs.Filled.{IsBegunFor, IsMadeValue}
-use Rattle.segment_manager.specs.Indexed.{class_of_index, entries_of, table_of}
-use Rattle.segment_manager.specs.Items.{TakesItems}
-use Rattle.segment_manager.specs.Layout.{head_len}
-use Rattle.segment_manager.specs.NewObjects.{IsRestored}
-use Rattle.segment_manager.specs.Standing.{room_for}
-use Rattle.segment_manager.specs.State.{IsSegment, IsStep, State, StandsFor}
-use Rattle.segment_manager.specs.Step.{is_read_only, effect, step}
-use Rattle.segment_manager.specs.Plan.{Plan, Refuse, Reply, perform, with_new_object}
-use Rattle.segment_manager.proofs.Bridge.{lookup-absent}
-use Rattle.segment_manager.proofs.Calling.{denotes-live}
+use Rattle.segment_manager.specs.Begun.{Fills, Finishes}
+use Rattle.segment_manager.proofs.{Bridge.lookup-absent, Calling.denotes-live, HeldIndexes.denotes-index}
+use Rattle.segment_manager.proofs.{KeyCalls.segment-index, MadeValues.headed-change, NewNumbers.numbers-made}
 use Rattle.segment_manager.proofs.Constructed.{IsMet, IsNewObject, numbers-met, restored-denotes, IsNoObject}
-use Rattle.segment_manager.proofs.HeldIndexes.{denotes-index}
-use Rattle.segment_manager.proofs.KeyCalls.{segment-index}
-use Rattle.segment_manager.proofs.MadeValues.{headed-change}
 use Rattle.segment_manager.proofs.NewKeys.{key-seeks, numbers-value}
-use Rattle.segment_manager.proofs.NewNumbers.{numbers-made}
-use Rattle.segment_manager.proofs.NewValues.{IsMadeNever, IsMadeNow, away-in, key-taken, no_key-none, value-built, value-not_begun}
-use Rattle.segment_manager.proofs.Steps.{perform-new, refuses-read_only, by_no_change, by_step, lands, open-writing, step-plan, step-refuse}
+use Rattle.segment_manager.proofs.NewValues.{IsMadeNever, IsMadeNow, away-in, key-taken, no_key-none, value-built}
+use Rattle.segment_manager.proofs.NewValues.{value-not_begun}
+use Rattle.segment_manager.proofs.Steps.{perform-new, refuses-read_only, by_no_change, by_step, lands, open-writing}
+use Rattle.segment_manager.proofs.Steps.{step-plan, step-refuse}
 
 -- ---- the steps
 

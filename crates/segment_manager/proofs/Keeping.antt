@@ -1,21 +1,9 @@
 -- What calls on keys leave to the last byte, as the code makes them.
-use Rattle.std.proofs.Common.{◌≡◌, sym, ap, subst, ◌∙◌, ℕ, ◌<◌, ◌≤◌, true, false, arith}
-use Rattle.std.specs.Prelude.{is_some}
-use Rattle.std.proofs.lemmas.Option.{none-some}
-use Rattle.raw_region.specs.Memory.{Cut}
-use Rattle.seg_types.specs.Names.{Key, ByHandle}
-use Rattle.seg_index.specs.declared.index.Index.{Index}
-use Rattle.seg_index.specs.declared.keys.Key.{Key as Entry}
-use Rattle.seg_index.specs.declared.keys.Lookup.TheVariants.{Found}
-use Rattle.seg_index.specs.Capacities.{IsRoomy}
-use Rattle.seg_index.specs.Held.{capacity_at, place_of}
-use Rattle.segment_manager.specs.Found.{is_object_at}
-use Rattle.segment_manager.specs.Indexed.{Seeks, entries_of, table_of}
-use Rattle.segment_manager.specs.Keeping.{KeepsWhere, LacksKey}
-use Rattle.segment_manager.specs.State.{Answers, State}
-use Rattle.segment_manager.proofs.Bridge.{lookup-found}
-use Rattle.segment_manager.proofs.Destroys.{Ends}
-use Rattle.segment_manager.proofs.HeldIndexes.{denotes-index}
+use Rattle.segment_manager.proofs.Common.{◌≡◌, sym, ap, subst, ◌∙◌, ℕ, ◌<◌, ◌≤◌, true, false, arith, is_some, none-some}
+use Rattle.segment_manager.proofs.Common.{Cut, Key, ByHandle, Index, Entry, Found, IsRoomy, capacity_at, place_of}
+use Rattle.segment_manager.proofs.Common.{is_object_at, Seeks, entries_of, table_of, KeepsWhere, LacksKey, Answers}
+use Rattle.segment_manager.proofs.Common.{State}
+use Rattle.segment_manager.proofs.{Bridge.lookup-found, Destroys.Ends, HeldIndexes.denotes-index}
 
 -- a look-up that found an entry: an object has the key
 pub keeps-found : (s t : State) (view : s ≡ t) (new : State) (i : Index) (e : Entry) (at : ℕ) → Ends s.cut i e (Found at) → (key : Key) → Seeks i e key → KeepsWhere t new (LacksKey key)

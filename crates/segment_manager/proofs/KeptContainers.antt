@@ -1,34 +1,16 @@
 -- What calls on vectors, strings and maps leave to the last byte.
-use Rattle.std.proofs.Common.{◌≡◌, sym, ap, subst, ◌∙◌, ℕ, ◌≤◌, ℤ, Bool, true, false, Option, Some, None, Result, Ok, Err, List, []}
-use Rattle.std.specs.Prelude.{MatchOption, int_lt}
-use Rattle.std.proofs.lemmas.Option.{none-some}
-use Rattle.raw_region.specs.Memory.{Cut}
-use Rattle.seg_types.specs.declared.kinds.ScalarKind.{ScalarKind}
-use Rattle.seg_types.specs.declared.kinds.Kind.TheVariants.{Text, Texts as TextsKind, Vector}
-use Rattle.seg_types.specs.declared.plain.Plain.{Ghosts as Plain}
-use Rattle.seg_types.specs.declared.refusals.Refusal.{Refusal}
-use Rattle.seg_types.specs.declared.refusals.Refusal.TheVariants.{NotFound}
-use Rattle.seg_types.specs.Names.{Key}
-use Rattle.seg_map.specs.declared.places.Place.{Place as MapPlace}
-use Rattle.seg_map.specs.Changing.{Erases, IsErased}
-use Rattle.seg_map.specs.Map.{pair_at}
-use Rattle.seg_map.specs.Numbers.{NumberPair}
-use Rattle.seg_vector.specs.declared.places.Place.{Place}
-use Rattle.seg_vector.specs.TextCalls.{ReservesNoBytes}
-use Rattle.seg_vector.specs.TextsCalls.{ReservesNoTexts}
-use Rattle.seg_vector.specs.VectorCalls.{ReservesNothing}
-use Rattle.segment_manager.specs.Contents.{container_at, sizes_of}
-use Rattle.segment_manager.specs.Directory.{Object, Directory, object_at}
-use Rattle.segment_manager.specs.Keeping.{HasPlaces, KeepsWhere, LacksPair}
-use Rattle.segment_manager.specs.Maps.{map_at, numbers_of}
-use Rattle.segment_manager.specs.State.{Answers, State, StandsFor}
-use Rattle.segment_manager.specs.Walks.{pairs_of}
-use Rattle.segment_manager.proofs.MapCalls.{HoldsPairs, holds-pairs}
+use Rattle.segment_manager.proofs.Common.{◌≡◌, sym, ap, subst, ◌∙◌, ℕ, ◌≤◌, ℤ, Bool, true, false, Option, Some, None}
+use Rattle.segment_manager.proofs.Common.{Result, Ok, Err, List, [], MatchOption, int_lt, none-some, Cut, ScalarKind}
+use Rattle.segment_manager.proofs.Common.{Text, TextsKind, Vector, Plain, Refusal, NotFound, Key, MapPlace, Erases}
+use Rattle.segment_manager.proofs.Common.{IsErased, pair_at, NumberPair, Place, container_at, sizes_of, Object}
+use Rattle.segment_manager.proofs.Common.{Directory, object_at, HasPlaces, KeepsWhere, map_at, numbers_of, Answers}
+use Rattle.segment_manager.proofs.Common.{State, StandsFor, pairs_of}
+use Rattle.seg_vector.specs.{TextCalls.ReservesNoBytes, TextsCalls.ReservesNoTexts, VectorCalls.ReservesNothing}
+use Rattle.segment_manager.specs.Keeping.{LacksPair}
+use Rattle.segment_manager.proofs.{MapCalls.HoldsPairs, MapCalls.holds-pairs, TextSteps.HoldsText, TextSteps.holds-text}
+use Rattle.segment_manager.proofs.{TextsHeld.HoldsTexts, TextsHeld.holds-texts, Whole.IsOfKind, Whole.of-whole}
 use Rattle.segment_manager.proofs.PairNumbers.{IsScalarOf, erases-numbers}
-use Rattle.segment_manager.proofs.TextSteps.{HoldsText, holds-text}
-use Rattle.segment_manager.proofs.TextsHeld.{HoldsTexts, holds-texts}
 use Rattle.segment_manager.proofs.VectorSteps.{HoldsVector, holds-vector}
-use Rattle.segment_manager.proofs.Whole.{IsOfKind, of-whole}
 
 -- the window is as it was, and so is the segment
 pub keeps-cut : (s t : State) (view : s ≡ t) (new : Cut) (P : Directory → Type 0) → ((d : Directory) → StandsFor s.cut.bytes d → P d → new ≡ s.cut) → KeepsWhere t (record s { cut = new }) P

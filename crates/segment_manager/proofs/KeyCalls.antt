@@ -1,37 +1,20 @@
 -- The calls that find objects by their keys: what a look-up in an index, and a handle from outside, come to for each directory that the
 -- bytes stand for.
-use Rattle.std.proofs.Common.{◌≡◌, refl, sym, ap, subst, ◌∙◌, ℕ, ◌+◌, ◌<◌, Bool, true, false, ◌&&◌, ◌||◌, ◌==◌, Option, Some, None, List, [], ◌∷◌, arith, cond}
-use Rattle.std.specs.Prelude.{find, is_some, option_map, slice_get}
+use Rattle.segment_manager.proofs.Common.{◌≡◌, refl, sym, ap, subst, ◌∙◌, ℕ, ◌+◌, ◌<◌, Bool, true, false, ◌&&◌, ◌||◌}
+use Rattle.segment_manager.proofs.Common.{◌==◌, Option, Some, None, List, [], ◌∷◌, arith, cond, find, is_some}
+use Rattle.segment_manager.proofs.Common.{option_map, slice_get, list_any, eqb-true, ne_eqb, none-some, same_Some}
+use Rattle.segment_manager.proofs.Common.{slice_get_within, current, Cut, bytes_of, Role, ObjectRole, Extent, handle}
+use Rattle.segment_manager.proofs.Common.{extent_at, is_live_in, live_of, Table, same_role, Key, ByHandle, Index, Entry}
+use Rattle.segment_manager.proofs.Common.{Found, Absent, HasIndex, IsIndexOf, entry_count, place_of, HasKeys, IsPlace}
+use Rattle.segment_manager.proofs.Common.{Object, Directory, has_key, live, object_at, Denotes, handle_at, is_object_at}
+use Rattle.segment_manager.proofs.Common.{Seeks, entries_of, table_of, Answers, IsSegment, State, StandsFor}
 use Rattle.std.specs.Bool.{then_some}
-use Rattle.std.specs.List.{list_any}
-use Rattle.std.proofs.lemmas.Bool.{eqb-true, ne_eqb}
-use Rattle.std.proofs.lemmas.Option.{none-some, same_Some, slice_get_within}
-use Rattle.raw_region.specs.Format.{current}
-use Rattle.raw_region.specs.Memory.{Cut, bytes_of}
-use Rattle.block_tags.specs.declared.tile.Role.{Role}
-use Rattle.block_tags.specs.declared.tile.Role.TheVariants.{Object as ObjectRole}
 use Rattle.block_tags.specs.contracts.tile.Role.{the_type}
 use denote.Enum.Bare.{sameb}
-use Rattle.best_fit.specs.Extents.{Extent, handle}
-use Rattle.best_fit.specs.Heap.{extent_at, is_live_in, live_of}
-use Rattle.best_fit.specs.Table.{Table, same_role}
-use Rattle.seg_types.specs.Names.{Key, ByHandle, NoKey}
-use Rattle.seg_index.specs.declared.index.Index.{Index}
-use Rattle.seg_index.specs.declared.keys.Key.{Key as Entry}
-use Rattle.seg_index.specs.declared.keys.Lookup.TheVariants.{Found, Absent}
-use Rattle.seg_index.specs.Held.{HasIndex, IsIndexOf, entry_count, place_of}
-use Rattle.seg_index.specs.Lookups.{HasKeys, IsPlace}
-use Rattle.segment_manager.specs.Directory.{Object, Directory, has_key, live, object_at}
-use Rattle.segment_manager.specs.Denotes.{Denotes}
-use Rattle.segment_manager.specs.Found.{handle_at, is_object_at}
-use Rattle.segment_manager.specs.Indexed.{Seeks, entries_of, table_of}
-use Rattle.segment_manager.specs.State.{Answers, IsSegment, State, StandsFor}
+use Rattle.seg_types.specs.Names.{NoKey}
 use Rattle.segment_manager.proofs.Bridge.{IsEntryFor, IsNoEntryFor, lookup-absent, lookup-found}
-use Rattle.segment_manager.proofs.Calling.{denotes-live}
-use Rattle.segment_manager.proofs.Handles.{handle-is-object}
-use Rattle.segment_manager.proofs.HeldIndexes.{denotes-index, denotes-keys}
-use Rattle.segment_manager.proofs.ObjectLists.{found-handle}
-use Rattle.segment_manager.proofs.Order.{Rising, live-rises}
+use Rattle.segment_manager.proofs.{Calling.denotes-live, Handles.handle-is-object, HeldIndexes.denotes-index}
+use Rattle.segment_manager.proofs.{HeldIndexes.denotes-keys, ObjectLists.found-handle, Order.Rising, Order.live-rises}
 
 -- ---- a handle from outside
 

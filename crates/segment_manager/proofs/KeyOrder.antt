@@ -1,21 +1,15 @@
 -- How the keys that an index compares stand to the objects of a directory: an order of keys says which object has the key and which
 -- comes first.
-use Rattle.std.proofs.Common.{◌≡◌, refl, sym, ap, ◌∙◌, ℕ, ◌<◌, ◌≢◌, Bool, true, false, ◌&&◌, ◌==◌, List, arith, cond, Ordering, Less, Equal, Greater}
-use Rattle.std.specs.Prelude.{nat_lt}
-use Rattle.std.specs.Ordering.{nat_cmp, is_lt, is_eq, ordering_reverse}
-use Rattle.std.specs.Cmp.{Equal-is}
-use Rattle.std.specs.Cmp.Lexicographic.{nat_list_eq_equiv, slice_cmp, texts_ties}
-use Rattle.std.proofs.lemmas.Bool.{and_from, and_right, eq-eqb, eqb-true, ne_eqb, lt-ltb, ltb-true, le-ltb}
-use Rattle.std.proofs.lemmas.Cmp.{nat_cmp_total, nat_list_cmp_total}
-use Rattle.std.proofs.lemmas.Map.Lookups.{exact_bytes, exact_unsigned}
-use Rattle.seg_types.specs.declared.kinds.Class.TheVariants.{Named as NamedClass, Unique as UniqueClass}
-use Rattle.seg_types.specs.declared.kinds.Kind.{Kind}
-use Rattle.seg_types.specs.Kinds.{code_of, same_kind}
+use Rattle.segment_manager.proofs.Common.{◌≡◌, refl, sym, ap, ◌∙◌, ℕ, ◌<◌, ◌≢◌, Bool, true, false, ◌&&◌, ◌==◌, List}
+use Rattle.segment_manager.proofs.Common.{arith, cond, Ordering, Less, Equal, Greater, nat_lt, nat_cmp, is_lt, is_eq}
+use Rattle.segment_manager.proofs.Common.{ordering_reverse, slice_cmp, texts_ties, and_from, and_right, eq-eqb}
+use Rattle.segment_manager.proofs.Common.{eqb-true, ne_eqb, lt-ltb, ltb-true, le-ltb, nat_list_cmp_total, NamedClass}
+use Rattle.segment_manager.proofs.Common.{UniqueClass, Kind, code_of, same_kind, Object, by_kind, by_name, has_key}
+use Rattle.segment_manager.proofs.Common.{is_class, kind_of, same_bytes}
+use Rattle.std.specs.{Cmp.Equal-is, Cmp.Lexicographic.nat_list_eq_equiv}
+use Rattle.std.proofs.{lemmas.Cmp.nat_cmp_total, lemmas.Map.Lookups.exact_bytes, lemmas.Map.Lookups.exact_unsigned}
 use Rattle.seg_types.specs.Names as names
-use Rattle.segment_manager.specs.Directory.{Object, by_kind, by_name, has_key, is_class, kind_of, same_bytes}
-use Rattle.segment_manager.proofs.Words.{second}
-use Rattle.segment_manager.proofs.Indexes.{lt-less}
-use Rattle.segment_manager.proofs.Ranks.{IsRanked, before, after}
+use Rattle.segment_manager.proofs.{Words.second, Indexes.lt-less, Ranks.IsRanked, Ranks.before, Ranks.after}
 
 -- what the order of an object's key to a key says of the object
 pub record Says (lt : Object → Object → Bool) (t : Object → Bool) (o : Object) (r : Ordering) : Type 0 where

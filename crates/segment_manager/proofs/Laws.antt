@@ -11,7 +11,8 @@ pub use Rattle.segment_manager.proofs.Live.{live-extents, live-size}
 unfoldable pub use Rattle.segment_manager.proofs.Live.{tables_of}
 pub use Rattle.segment_manager.proofs.Order.{live-rises}
 -- objects put in by an order: which come first, that the whole list rises, and what holds of each
-pub use Rattle.segment_manager.proofs.Ranks.{IsRanked, IsStrict, after, all-insert_by, all-ordered, all_of-insert_by, before, insert_by-rises, ranked-sym, rises-pairwise, rises-tail}
+pub use Rattle.segment_manager.proofs.Ranks.{IsRanked, IsStrict, after, all-insert_by, all-ordered, all_of-insert_by}
+pub use Rattle.segment_manager.proofs.Ranks.{before, insert_by-rises, ranked-sym, rises-pairwise, rises-tail}
 unfoldable pub use Rattle.segment_manager.proofs.Ranks.{AllRanked, Pairwise}
 -- the two indexes of a directory: each is its objects of a class by a strict order, and has a table with the places
 pub use Rattle.segment_manager.proofs.Indexes.{by_kind-strict, by_name-strict, index-parts}

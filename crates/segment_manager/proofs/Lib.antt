@@ -1,3 +1,4 @@
+mod Common
 mod Refusals
 mod Unchanged
 mod Words

@@ -1,29 +1,16 @@
 -- The object of a handle, and its own entry.
-use Rattle.std.proofs.Common.{◌≡◌, refl, sym, ap, subst, ◌∙◌, ℕ, true, false, ◌==◌, Some, None, Option, List}
-use Rattle.std.specs.Prelude.{is_some}
-use Rattle.std.proofs.lemmas.Option.{none-some}
-use Rattle.raw_region.specs.Memory.{bytes_of}
-use Rattle.raw_region.specs.Format.{current}
-use Rattle.best_fit.specs.Extents.{handle}
-use Rattle.seg_types.specs.declared.kinds.Class.{Class}
+use Rattle.segment_manager.proofs.Common.{◌≡◌, refl, sym, ap, subst, ◌∙◌, ℕ, true, false, ◌==◌, Some, None, Option}
+use Rattle.segment_manager.proofs.Common.{List, is_some, none-some, bytes_of, current, handle, Class, class_code}
+use Rattle.segment_manager.proofs.Common.{code_of, Index, Absent, IsPlace, Head, Object, Directory, is_class, kind_of}
+use Rattle.segment_manager.proofs.Common.{object_at, handle_at, is_object_at, HasEntries, HasEntry, IsAnonymousAt}
+use Rattle.segment_manager.proofs.Common.{Answers, IsSegment, State, StandsFor, HasObject, IsHeadOf, StandsAt}
 use Rattle.seg_types.specs.declared.kinds.Class.TheVariants as class
-use Rattle.seg_types.specs.Kinds.{class_code, code_of}
 use Rattle.seg_types.specs.Names as names
-use Rattle.seg_index.specs.declared.index.Index.{Index}
 use Rattle.seg_index.specs.declared.index.Index.TheVariants as index
 use Rattle.seg_index.specs.declared.keys.Key.{Key}
 use Rattle.seg_index.specs.declared.keys.Key.TheVariants as entry
-use Rattle.seg_index.specs.declared.keys.Lookup.TheVariants.{Absent}
-use Rattle.seg_index.specs.Lookups.{IsPlace}
-use Rattle.segment_manager.specs.declared.head.Head.{Head}
-use Rattle.segment_manager.specs.Directory.{Object, Directory, is_class, kind_of, object_at}
-use Rattle.segment_manager.specs.Found.{handle_at, is_object_at}
-use Rattle.segment_manager.specs.Listed.{HasEntries, HasEntry, IsAnonymousAt}
-use Rattle.segment_manager.specs.State.{Answers, IsSegment, State, StandsFor}
-use Rattle.segment_manager.specs.Standing.{HasObject, IsHeadOf, StandsAt}
 use Rattle.segment_manager.proofs.Bridge.{lookup-absent, own-kind, own-name}
-use Rattle.segment_manager.proofs.FindCalls.{IsRead}
-use Rattle.segment_manager.proofs.Here.{IsHere, has-object, here}
+use Rattle.segment_manager.proofs.{FindCalls.IsRead, Here.IsHere, Here.has-object, Here.here}
 use Rattle.segment_manager.proofs.KeyCalls.{ForIndex, handle-answers, of-directory}
 
 -- ---- the object of a handle

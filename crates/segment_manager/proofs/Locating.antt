@@ -1,35 +1,18 @@
 -- An object that was located: it is that of the key, and what a command does under its handle it does under the key.
-use Rattle.std.proofs.Common.{◌≡◌, refl, sym, ap, subst, ◌∙◌, ℕ, ◌&&◌, Option, Some, None, Result, Ok, Err, if◌then◌else◌}
-use Rattle.std.specs.Prelude.{is_some, option_map}
-use Rattle.std.proofs.lemmas.Option.{same_Some}
-use Rattle.raw_region.specs.Format.{current}
-use Rattle.seg_types.specs.declared.kinds.Kind.{Kind}
-use Rattle.seg_types.specs.declared.refusals.Refusal.{Refusal}
-use Rattle.seg_types.specs.declared.refusals.Refusal.TheVariants.{NotFound, ReadOnly, WrongKind}
-use Rattle.seg_types.specs.Kinds.{same_kind}
-use Rattle.seg_types.specs.Names.{Key, ByHandle}
+use Rattle.segment_manager.proofs.Common.{◌≡◌, refl, sym, ap, subst, ◌∙◌, ℕ, ◌&&◌, Option, Some, None, Result, Ok, Err}
+use Rattle.segment_manager.proofs.Common.{if◌then◌else◌, is_some, option_map, same_Some, current, Kind, Refusal}
+use Rattle.segment_manager.proofs.Common.{NotFound, ReadOnly, WrongKind, same_kind, Key, ByHandle, Command, is_changing}
+use Rattle.segment_manager.proofs.Common.{Head, Change, Clear, Reserve, Shrink, Located, Answer, kind_at, sizes_at}
+use Rattle.segment_manager.proofs.Common.{sizes_at_kind, sizes_of, sizes_of_kind, Object, Directory, kind_of, live}
+use Rattle.segment_manager.proofs.Common.{object_at, handle_at, HasPlaces, KeepsWhere, IsLocated, Plan, Refuse, perform}
+use Rattle.segment_manager.proofs.Common.{with, IsHeadOf, StandsAt, Answers, IsReplyOfKind, IsStep, IsStepOfKind, Moves}
+use Rattle.segment_manager.proofs.Common.{State, StandsFor, effect, is_read_only, step, step_of_kind, HasEnough}
+use Rattle.segment_manager.proofs.Common.{command_of}
 use Rattle.seg_types.specs.Commands as asked
-use Rattle.seg_types.specs.Commands.{Command, is_changing}
-use Rattle.segment_manager.specs.declared.head.Head.{Head}
-use Rattle.segment_manager.specs.declared.storages.Change.{Change}
-use Rattle.segment_manager.specs.declared.storages.Change.TheVariants.{Clear, Reserve, Shrink}
-use Rattle.segment_manager.specs.declared.targets.Object.{Object as Located}
-use Rattle.segment_manager.specs.Answers.{Answer}
-use Rattle.segment_manager.specs.Calls.{kind_at}
-use Rattle.segment_manager.specs.Contents.{sizes_at, sizes_at_kind, sizes_of, sizes_of_kind}
-use Rattle.segment_manager.specs.Directory.{Object, Directory, kind_of, live, object_at}
-use Rattle.segment_manager.specs.Found.{handle_at}
-use Rattle.segment_manager.specs.Keeping.{HasPlaces, KeepsWhere}
 use Rattle.segment_manager.specs.Laws.{HandlesMeanObjects, KeysMeanObjects, KeysOfKindMeanObjects, at_key}
-use Rattle.segment_manager.specs.Located.{IsLocated, located}
-use Rattle.segment_manager.specs.Plan.{Plan, Refuse, perform, with}
-use Rattle.segment_manager.specs.Standing.{IsHeadOf, StandsAt}
-use Rattle.segment_manager.specs.State.{Answers, IsReplyOfKind, IsStep, IsStepOfKind, Moves, State, StandsFor}
-use Rattle.segment_manager.specs.Step.{effect, is_read_only, step, step_of_kind}
-use Rattle.segment_manager.specs.Stored.{HasEnough, command_of}
+use Rattle.segment_manager.specs.Located.{located}
 use Rattle.segment_manager.proofs.AnyStorage.{measures-kind, of_kind-steps}
-use Rattle.segment_manager.proofs.Bridge.{by-handle}
-use Rattle.segment_manager.proofs.Here.{IsHere, here}
+use Rattle.segment_manager.proofs.{Bridge.by-handle, Here.IsHere, Here.here}
 
 -- ---- the object
 

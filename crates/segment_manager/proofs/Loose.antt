@@ -1,26 +1,12 @@
 -- The blocks of an object that no entry leads to yet: what an index wants to lead there, and how they are given back.
-use Rattle.std.proofs.Common.{sym, subst, ℕ, ◌+◌, ◌≤◌, Some, None, Option, List, [], arith}
-use Rattle.std.specs.Prelude.{IfSome, IsTrue}
-use Rattle.raw_region.specs.Memory.{Cut}
-use Rattle.raw_region.specs.Format.{current}
-use Rattle.block_tags.specs.declared.tile.Role.TheVariants.{Object as ObjectRole}
-use Rattle.best_fit.specs.Extents.{LiveSet}
-use Rattle.best_fit.specs.Heap.{IsAllocated, IsHeap, IsReleased, has_room, is_live_in, live_of}
-use Rattle.best_fit.proofs.Laws.{allocated-is_live, allocated-room, changed-room, lay_out_one}
-use Rattle.seg_types.specs.declared.kinds.Kind.{Kind}
-use Rattle.seg_types.specs.declared.kinds.Class.{Class}
-use Rattle.seg_types.specs.declared.kinds.Class.TheVariants.{Anonymous}
-use Rattle.seg_types.specs.Names.{Key}
-use Rattle.seg_index.specs.Growth.{GivesBack}
-use Rattle.seg_index.specs.Held.{place_of}
-use Rattle.segment_manager.specs.declared.beginning.NewEntry.{NewEntry}
-use Rattle.segment_manager.specs.Begun.{IsBegun, IsHeaded, IsLoose, IsLooseAlone, IsLooseEntry, IsReadyFor, IsWanted}
-use Rattle.segment_manager.specs.Indexed.{class_of_index}
-use Rattle.segment_manager.specs.NewObjects.{IsRestored}
-use Rattle.segment_manager.specs.Standing.{room_for}
+use Rattle.segment_manager.proofs.Common.{sym, subst, ℕ, ◌+◌, ◌≤◌, Some, None, Option, List, [], arith, IfSome, IsTrue}
+use Rattle.segment_manager.proofs.Common.{Cut, current, ObjectRole, LiveSet, IsAllocated, IsHeap, IsReleased, has_room}
+use Rattle.segment_manager.proofs.Common.{is_live_in, live_of, allocated-is_live, allocated-room, changed-room}
+use Rattle.segment_manager.proofs.Common.{lay_out_one, Kind, Class, Anonymous, Key, GivesBack, place_of, NewEntry}
+use Rattle.segment_manager.proofs.Common.{IsBegun, IsHeaded, IsLoose, IsLooseAlone, IsLooseEntry, IsReadyFor, IsWanted}
+use Rattle.segment_manager.proofs.Common.{class_of_index, IsRestored, room_for}
 use Rattle.segment_manager.proofs.GivenBack.{request-back, taken-back}
-use Rattle.segment_manager.proofs.Made.{requested-taken}
-use Rattle.segment_manager.proofs.Payloads.{changed-heap}
+use Rattle.segment_manager.proofs.{Made.requested-taken, Payloads.changed-heap}
 use Rattle.segment_manager.proofs.Taking.{growth-held, ready, ready-count, requested-aligned, written-taken}
 
 -- ---- begun: the value has room behind the head

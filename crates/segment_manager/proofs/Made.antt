@@ -1,24 +1,14 @@
 -- An object's blocks taken and written, whatever its value: the indexes of the heap stay, and what they grow into.
-use Rattle.std.proofs.Common.{◌≡◌, refl, sym, ap, subst, ◌∙◌, ℕ, ◌+◌, ◌≤◌, ◌≢◌, Bool, true, false, ◌==◌, Some, None, Option, List, [], ◌∷◌, arith, if◌then◌else◌, cond}
-use Rattle.std.specs.Prelude.{IfSome, IsTrue, find, nat_lt}
-use Rattle.std.specs.List.{AllByRecursion}
-use Rattle.std.proofs.lemmas.Bool.{eq-eqb, eqb-true, ne_eqb}
-use Rattle.raw_region.specs.Memory.{Cut, bytes_of}
-use Rattle.raw_region.specs.Format.{current}
-use Rattle.raw_region.proofs.Laws.{Same-part, Same-word}
-use Rattle.offset_link.proofs.Laws.{Same-link}
-use Rattle.block_tags.specs.declared.tile.Role.{Role}
-use Rattle.best_fit.specs.Extents.{Extent, LiveSet, handle}
-use Rattle.best_fit.specs.Fit.{added, insert}
-use Rattle.best_fit.specs.Heap.{IsAllocated, LaysOut, Keeps, extent_at, live_of}
-use Rattle.best_fit.specs.Table.{Table}
-use Rattle.best_fit.proofs.Laws.{laid-heap, lay_out_one}
-use Rattle.seg_index.specs.Growth.{CanGrow, IsBlockFor}
-use Rattle.seg_index.specs.Held.{IsIndexOf}
-use Rattle.seg_index.specs.Index.{grown_capacity}
+use Rattle.segment_manager.proofs.Common.{◌≡◌, refl, sym, ap, subst, ◌∙◌, ℕ, ◌+◌, ◌≤◌, ◌≢◌, Bool, true, false, ◌==◌}
+use Rattle.segment_manager.proofs.Common.{Some, None, Option, List, [], ◌∷◌, arith, if◌then◌else◌, cond, IfSome, IsTrue}
+use Rattle.segment_manager.proofs.Common.{find, nat_lt, AllByRecursion, eq-eqb, eqb-true, ne_eqb, Cut, bytes_of}
+use Rattle.segment_manager.proofs.Common.{current, Same-part, Same-word, Same-link, Role, Extent, LiveSet, handle}
+use Rattle.segment_manager.proofs.Common.{added, IsAllocated, LaysOut, Keeps, extent_at, live_of, Table, laid-heap}
+use Rattle.segment_manager.proofs.Common.{lay_out_one, CanGrow, IsIndexOf, grown_capacity, Object, extents_of}
+use Rattle.segment_manager.proofs.Common.{is_object, IsObjectAt}
+use Rattle.best_fit.specs.Fit.{insert}
+use Rattle.seg_index.specs.Growth.{IsBlockFor}
 use Rattle.seg_index.proofs.Laws.{Around-kept, stays}
-use Rattle.segment_manager.specs.Directory.{Object, extents_of, is_object}
-use Rattle.segment_manager.specs.Denotes.{IsObjectAt}
 use Rattle.segment_manager.proofs.Order.{Differs, Rising, IsFresh, inserted, live-rises, rising-insert}
 use Rattle.segment_manager.proofs.Live.{adding}
 

@@ -1,37 +1,22 @@
 -- A value made in the block of a new object, by the heap's contracts: its blocks are taken and written, and it stands there.
-use Rattle.std.proofs.Common.{◌≡◌, refl, sym, ap, subst, ◌∙◌, ℕ, zero, suc, ◌+◌, ◌*◌, ◌≤◌, inl, Some, None, Option, List, [], ◌∷◌, length, arith, if◌then◌else◌}
-use Rattle.std.specs.Prelude.{option_map}
-use Rattle.std.specs.List.{AllByRecursion}
-use Rattle.std.proofs.lemmas.Bool.{lt-leb, ne_eqb}
-use Rattle.raw_region.specs.Format.{current}
-use Rattle.raw_region.specs.Memory.{Cut, Memory, Has, Same, bytes_of, word_at}
-use Rattle.raw_region.proofs.Laws.{Has-same, Same-trans, Same-word, SameBut-Same, SameBut-wider, SamePlace-trans}
-use Rattle.block_tags.specs.declared.tile.Role.TheVariants.{Object as ObjectRole, Storage}
-use Rattle.best_fit.specs.Exchange.{exchanged, SameBlockBut, IsExchanged}
-use Rattle.best_fit.specs.Extents.{Extent, LiveSet, end_of, handle, holds}
-use Rattle.best_fit.specs.Fit.{added, insert, place, regrow, resized}
-use Rattle.best_fit.specs.Heap.{IsAllocated, IsChanged, LaysOut, live_of}
-use Rattle.best_fit.specs.Table.{Table, no_table, same_role}
-use Rattle.best_fit.proofs.Laws.{allocated-live, blocks-trans}
-use Rattle.seg_types.specs.declared.kinds.Class.{Class}
-use Rattle.seg_types.specs.declared.kinds.Kind.{Kind}
-use Rattle.seg_types.specs.declared.refusals.Refusal.TheVariants.{NoSpace}
-use Rattle.seg_types.specs.Kinds.{class_code, code_of}
-use Rattle.seg_vector.specs.Vector.{grown_table}
-use Rattle.segment_manager.specs.Answers.{Answer, Refused}
-use Rattle.segment_manager.specs.Begun.{IsHeaded}
-use Rattle.segment_manager.specs.Denotes.{IsObjectAt, IsValueAt, padded_name, two_halves}
-use Rattle.segment_manager.specs.Directory.{Value, Directory, count_of, kind_of, padded}
-use Rattle.segment_manager.specs.Plan.{Plan, New, Request, perform, with_storage}
-use Rattle.segment_manager.specs.Standing.{IsHeadAt, room_for}
-use Rattle.best_fit.proofs.Laws.{IsAlone, live-spaced, spaced-insert}
-use Rattle.segment_manager.proofs.Exchanged.{all-but-beside, put-first}
-use Rattle.segment_manager.proofs.Frame.{padded_name-length}
-use Rattle.segment_manager.proofs.Made.{IsTaken, requested-taken, taken-live}
-use Rattle.segment_manager.proofs.NewBlocks.{allocated-serves, changed-trans}
-use Rattle.segment_manager.proofs.Order.{IsFresh, Rising, all_of-insert, inserted, live-rises, resized-fresh, rising-insert}
-use Rattle.segment_manager.proofs.Taking.{written-taken}
-use Rattle.segment_manager.proofs.Words.{second, no_more}
+use Rattle.segment_manager.proofs.Common.{◌≡◌, refl, sym, ap, subst, ◌∙◌, ℕ, zero, suc, ◌+◌, ◌*◌, ◌≤◌, inl, Some, None}
+use Rattle.segment_manager.proofs.Common.{Option, List, [], ◌∷◌, length, arith, if◌then◌else◌, option_map}
+use Rattle.segment_manager.proofs.Common.{AllByRecursion, lt-leb, ne_eqb, current, Cut, Memory, Has, Same, bytes_of}
+use Rattle.segment_manager.proofs.Common.{word_at, Has-same, Same-trans, Same-word, SameBut-Same, SamePlace-trans}
+use Rattle.segment_manager.proofs.Common.{ObjectRole, Storage, exchanged, SameBlockBut, IsExchanged, Extent, LiveSet}
+use Rattle.segment_manager.proofs.Common.{end_of, handle, holds, added, place, regrow, resized, IsAllocated, IsChanged}
+use Rattle.segment_manager.proofs.Common.{LaysOut, live_of, Table, no_table, same_role, allocated-live, blocks-trans}
+use Rattle.segment_manager.proofs.Common.{Class, Kind, NoSpace, class_code, code_of, grown_table, Answer, Refused}
+use Rattle.segment_manager.proofs.Common.{IsHeaded, IsObjectAt, IsValueAt, padded_name, two_halves, Value, Directory}
+use Rattle.segment_manager.proofs.Common.{count_of, kind_of, padded, Plan, New, Request, perform, with_storage}
+use Rattle.segment_manager.proofs.Common.{IsHeadAt, room_for, IsAlone, live-spaced, spaced-insert}
+use Rattle.raw_region.proofs.Laws.{SameBut-wider}
+use Rattle.best_fit.specs.Fit.{insert}
+use Rattle.segment_manager.proofs.{Exchanged.all-but-beside, Exchanged.put-first, Frame.padded_name-length}
+use Rattle.segment_manager.proofs.{Made.IsTaken, Made.requested-taken, Made.taken-live, NewBlocks.allocated-serves}
+use Rattle.segment_manager.proofs.{NewBlocks.changed-trans, Taking.written-taken, Words.second, Words.no_more}
+use Rattle.segment_manager.proofs.Order.{IsFresh, Rising, all_of-insert, inserted, live-rises, resized-fresh}
+use Rattle.segment_manager.proofs.Order.{rising-insert}
 
 -- ---- storage that is asked for
 

@@ -1,31 +1,20 @@
 -- What the calls of seg_map ensure of the map at the place that was found, as the steps of the calls on the object's map.
-use Rattle.std.proofs.Common.{◌≡◌, sym, ap, subst, ◌∙◌, ℕ, ◌+◌, ◌≤◌, ℤ, Bool, true, false, Option, Result, Ok, length, arith}
-use Rattle.std.specs.Prelude.{IsTrue, option_map}
-use Rattle.raw_region.specs.Format.{current}
-use Rattle.raw_region.specs.Memory.{Cut, bytes_of, word_at}
-use Rattle.best_fit.specs.Heap.{has_room, live_of}
+use Rattle.segment_manager.proofs.Common.{◌≡◌, sym, ap, subst, ◌∙◌, ℕ, ◌+◌, ◌≤◌, ℤ, Bool, true, false, Option, Result}
+use Rattle.segment_manager.proofs.Common.{Ok, length, arith, IsTrue, option_map, current, Cut, bytes_of, word_at}
+use Rattle.segment_manager.proofs.Common.{has_room, live_of, Map, ScalarKind, Plain, Refusal, is_value, Key, Lookup}
+use Rattle.segment_manager.proofs.Common.{Put, Remove, literal_of, Erases, Puts, FindsItem, FindsItemBefore}
+use Rattle.segment_manager.proofs.Common.{FindsLastItem, FindsValue, IsSomeMap, ContainerPlace, container_at}
+use Rattle.segment_manager.proofs.Common.{sizes_at_kind, sizes_of, Directory, kind_of, padded, head_len, map_at}
+use Rattle.segment_manager.proofs.Common.{numbers_in, pair_above, pair_at_end, pair_below, pair_from, pair_up_to}
+use Rattle.segment_manager.proofs.Common.{told_of_map, value_or_absent, Answers, IsReplyOfKind, IsSegment, State}
+use Rattle.segment_manager.proofs.Common.{StandsFor, is_read_only}
 use Rattle.best_fit.proofs.Laws.{room-less}
-use Rattle.seg_types.specs.declared.kinds.Kind.TheVariants.{Map}
-use Rattle.seg_types.specs.declared.kinds.ScalarKind.{ScalarKind}
-use Rattle.seg_types.specs.declared.plain.Plain.{Ghosts as Plain}
-use Rattle.seg_types.specs.declared.refusals.Refusal.{Refusal}
-use Rattle.seg_types.specs.Kinds.{is_value}
-use Rattle.seg_types.specs.Names.{Key}
-use Rattle.seg_types.specs.Commands.{Lookup, Put, Remove, literal_of}
 use Rattle.seg_map.specs.declared.places.Place.{Place}
-use Rattle.seg_map.specs.Changing.{Erases, Puts}
-use Rattle.seg_map.specs.Places.{FindsItem, FindsItemBefore, FindsLastItem, FindsValue, IsSomeMap}
-use Rattle.seg_vector.specs.declared.places.Place.{Place as ContainerPlace}
-use Rattle.segment_manager.specs.Contents.{container_at, sizes_at_kind, sizes_of}
-use Rattle.segment_manager.specs.Directory.{Directory, kind_of, padded}
-use Rattle.segment_manager.specs.Layout.{head_len}
-use Rattle.segment_manager.specs.Maps.{map_at, numbers_in, pair_above, pair_at_end, pair_below, pair_from, pair_up_to, told_of_map, value_or_absent}
-use Rattle.segment_manager.specs.State.{Answers, IsReplyOfKind, IsSegment, State, StandsFor}
-use Rattle.segment_manager.specs.Step.{is_read_only}
-use Rattle.segment_manager.proofs.AnyStorage.{sizes-found}
-use Rattle.segment_manager.proofs.Heads.{good-name, good_name-short}
-use Rattle.segment_manager.proofs.MapCalls.{HoldsPairs, TellsSafely, as_map, holds-pairs, map-erased, map-got, map-put, map-told, put_result, stands-map}
-use Rattle.segment_manager.proofs.PairNumbers.{IsScalarOf, erases-numbers, finds-back, finds-item, finds-last, finds-value, puts-numbers, some-map}
+use Rattle.segment_manager.proofs.{AnyStorage.sizes-found, Heads.good-name, Heads.good_name-short}
+use Rattle.segment_manager.proofs.MapCalls.{HoldsPairs, TellsSafely, as_map, holds-pairs, map-erased, map-got, map-put}
+use Rattle.segment_manager.proofs.MapCalls.{map-told, put_result, stands-map}
+use Rattle.segment_manager.proofs.PairNumbers.{IsScalarOf, erases-numbers, finds-back, finds-item, finds-last}
+use Rattle.segment_manager.proofs.PairNumbers.{finds-value, puts-numbers, some-map}
 
 module _ {K V : Type 0} (k v : ScalarKind) (kp : Plain K) (vp : Plain V) (kw : K → ℤ) (vw : V → ℤ) (kl : IsScalarOf k kp kw) (vl : IsScalarOf v vp vw)
     (s t : State) (view : s ≡ t) (key : Key) (p q : Place) (same : q ≡ p) (b : IsSegment s.cut.bytes) (found : Answers t (λ d. map_at d key k v) (Ok p)) where

@@ -1,19 +1,16 @@
 -- The blocks of an object and of its map's pairs: each is in use once, and what stays of the others where pairs are put or removed.
-use Rattle.std.proofs.Common.{◌≡◌, refl, sym, ap, subst, ◌∙◌, ℕ, ◌+◌, ◌<◌, ◌≢◌, ℤ, Bool, true, false, ◌||◌, ◌==◌, not, Option, Some, None, List, [], ◌∷◌, ◌++◌, map, arith, if◌then◌else◌}
-use Rattle.std.specs.Prelude.{IsTrue, find, int_lt}
-use Rattle.std.specs.List.{AllByRecursion}
-use Rattle.std.proofs.lemmas.Bool.{cond-false, cond-true, eq-eqb, ne_eqb}
+use Rattle.segment_manager.proofs.Common.{◌≡◌, refl, sym, ap, subst, ◌∙◌, ℕ, ◌+◌, ◌<◌, ◌≢◌, ℤ, Bool, true, false, ◌||◌}
+use Rattle.segment_manager.proofs.Common.{◌==◌, not, Option, Some, None, List, [], ◌∷◌, ◌++◌, map, arith, if◌then◌else◌}
+use Rattle.segment_manager.proofs.Common.{IsTrue, find, int_lt, AllByRecursion, cond-false, cond-true, eq-eqb, ne_eqb}
+use Rattle.segment_manager.proofs.Common.{Extent, LiveSet, handle, is_proper, is_key, pair_at, put_pair, remove_pair}
+use Rattle.segment_manager.proofs.Common.{NumberPair, nodes_of_pairs, Object, Directory, extents_of, live}
+use Rattle.segment_manager.proofs.Common.{value_extents}
 use Rattle.link_tree.specs.Nodes.{is_in}
-use Rattle.best_fit.specs.Extents.{Extent, LiveSet, handle, is_proper}
 use Rattle.best_fit.specs.Fit.{insert}
 use Rattle.seg_types.specs.ScalarLaws.{total}
-use Rattle.seg_map.specs.Map.{is_key, pair_at, put_pair, remove_pair}
-use Rattle.seg_map.specs.Numbers.{NumberPair}
-use Rattle.seg_map.specs.Places.{nodes_of_pairs}
-use Rattle.segment_manager.specs.Directory.{Object, Directory, extents_of, live, value_extents}
-use Rattle.segment_manager.proofs.Live.{IsIn, live-split}
-use Rattle.segment_manager.proofs.Order.{Apart, Differs, IsFresh, Rising, all_of-inserted, inserted, live-rises, rising-insert, rising-inserted}
-use Rattle.segment_manager.proofs.Regrown.{rest, with_extents}
+use Rattle.segment_manager.proofs.{Live.IsIn, Live.live-split, Regrown.rest, Regrown.with_extents}
+use Rattle.segment_manager.proofs.Order.{Apart, Differs, IsFresh, Rising, all_of-inserted, inserted, live-rises}
+use Rattle.segment_manager.proofs.Order.{rising-insert, rising-inserted}
 
 -- ---- blocks that are found
 

@@ -1,47 +1,30 @@
 -- The calls on maps of numbers, each as one step: what the calls of seg_map ensure of the map at its place comes to the directory.
-use Rattle.std.proofs.Common.{◌≡◌, refl, sym, ap, subst, ◌∙◌, ℕ, ℤ, Bool, true, false, Option, Some, None, Result, Ok, Err, List, [], if◌then◌else◌}
-use Rattle.std.specs.Prelude.{MatchOption, MatchResult, int_lt, option_map}
-use Rattle.std.proofs.lemmas.Bool.{eq-eqb}
-use Rattle.raw_region.specs.Format.{current}
-use Rattle.raw_region.specs.Memory.{Cut, SamePlace}
-use Rattle.block_tags.specs.declared.tile.Role.TheVariants.{Node}
-use Rattle.best_fit.specs.Fit.{place}
-use Rattle.seg_types.specs.declared.kinds.Kind.{Kind}
-use Rattle.seg_types.specs.declared.kinds.Kind.TheVariants.{Map}
-use Rattle.seg_types.specs.declared.kinds.ScalarKind.{ScalarKind}
-use Rattle.seg_types.specs.declared.refusals.Refusal.{Refusal}
-use Rattle.seg_types.specs.declared.refusals.Refusal.TheVariants.{NoSpace, NotFound, WrongKind}
-use Rattle.seg_types.specs.Kinds.{code_of, is_value, same_kind, size_of}
-use Rattle.seg_types.specs.Names.{Key}
+use Rattle.segment_manager.proofs.Common.{◌≡◌, refl, sym, ap, subst, ◌∙◌, ℕ, ℤ, Bool, true, false, Option, Some, None}
+use Rattle.segment_manager.proofs.Common.{Result, Ok, Err, List, [], if◌then◌else◌, MatchOption, MatchResult, int_lt}
+use Rattle.segment_manager.proofs.Common.{option_map, eq-eqb, current, Cut, SamePlace, Node, place, Kind, Map}
+use Rattle.segment_manager.proofs.Common.{ScalarKind, Refusal, NoSpace, NotFound, WrongKind, code_of, is_value}
+use Rattle.segment_manager.proofs.Common.{same_kind, size_of, Key, Command, Literal, literal_of, value_of_literal}
+use Rattle.segment_manager.proofs.Common.{transitive, Erases, IsErased, IsFull, IsPut, IsPutAgain, Puts, node_len}
+use Rattle.segment_manager.proofs.Common.{pair_at, put_pair, remove_pair, NumberPair, FindsValue, nodes_of_pairs}
+use Rattle.segment_manager.proofs.Common.{value_of_pair, ContainerPlace, Element, Refused, Truth, container_at}
+use Rattle.segment_manager.proofs.Common.{container_place, Denotes, Pairs, Object, Directory, kind_of, live, object_at}
+use Rattle.segment_manager.proofs.Common.{HasPairs, map_at, numbers_of, told_of, told_of_map, value_or_absent, New}
+use Rattle.segment_manager.proofs.Common.{Plan, Reply, Request, perform, with, Answers, IsReplyOfKind, IsSegment}
+use Rattle.segment_manager.proofs.Common.{IsStepOfKind, State, StandsFor, and_then, changed, effect, is_read_only}
+use Rattle.segment_manager.proofs.Common.{map_of, pair_of, step_of_kind}
 use Rattle.seg_types.specs.Commands as asked
-use Rattle.seg_types.specs.Commands.{Command, Literal, literal_of, value_of_literal}
-use Rattle.seg_types.specs.ScalarLaws.{transitive}
 use Rattle.seg_map.specs.declared.places.Place.{Place}
-use Rattle.seg_map.specs.Changing.{Erases, IsErased, IsFull, IsPut, IsPutAgain, Puts}
-use Rattle.seg_map.specs.Map.{node_len, pair_at, put_pair, remove_pair}
-use Rattle.seg_map.specs.Numbers.{NumberPair}
-use Rattle.seg_map.specs.Places.{FindsValue, nodes_of_pairs, value_of_pair}
 use Rattle.seg_map.proofs.Laws.{replaced_nodes}
-use Rattle.seg_vector.specs.declared.places.Place.{Place as ContainerPlace}
-use Rattle.segment_manager.specs.Answers.{Absent, Element, Refused, Truth}
-use Rattle.segment_manager.specs.Contents.{container_at, container_place}
-use Rattle.segment_manager.specs.Denotes.{Denotes}
-use Rattle.segment_manager.specs.Directory.{Pairs, Object, Directory, kind_of, live, object_at}
-use Rattle.segment_manager.specs.Maps.{HasPairs, IsPairs, map_at, numbers_of, told_of, told_of_map, value_or_absent}
-use Rattle.segment_manager.specs.Plan.{New, Plan, Reply, Request, perform, with}
-use Rattle.segment_manager.specs.State.{Answers, IsReplyOfKind, IsSegment, IsStepOfKind, State, StandsFor, truth_answer}
+use Rattle.segment_manager.specs.{Answers.Absent, Maps.IsPairs, State.truth_answer}
 use Rattle.segment_manager.specs.Step as step
-use Rattle.segment_manager.specs.Step.{and_then, changed, effect, is_read_only, map_of, pair_of, step_of_kind}
-use Rattle.segment_manager.proofs.Calling.{denotes-live}
-use Rattle.segment_manager.proofs.Here.{standing}
+use Rattle.segment_manager.proofs.{Calling.denotes-live, Here.standing, ObjectLists.key-found, Safely.AnswersSafely}
+use Rattle.segment_manager.proofs.{StorageSteps.step_of_kind-reply, Stored.literal-read}
 use Rattle.segment_manager.proofs.MapBlocks.{blocks-in_use, found-key}
-use Rattle.segment_manager.proofs.MapSteps.{IsMapObject, again-denotes, erased-denotes, map-only, map_place, object-map, put-denotes}
-use Rattle.segment_manager.proofs.ObjectLists.{key-found}
+use Rattle.segment_manager.proofs.MapSteps.{IsMapObject, again-denotes, erased-denotes, map-only, map_place, object-map}
+use Rattle.segment_manager.proofs.MapSteps.{put-denotes}
 use Rattle.segment_manager.proofs.Refilled.{HoldsAt, finds-no_container, holds-at}
-use Rattle.segment_manager.proofs.Safely.{AnswersSafely}
-use Rattle.segment_manager.proofs.Steps.{IsMove, IsOpenFor, by_no_change_of_kind, by_step_of_kind, open-reading, open-writing, perform-new, perform-no_space, step_of_kind-found, with-found}
-use Rattle.segment_manager.proofs.StorageSteps.{step_of_kind-reply}
-use Rattle.segment_manager.proofs.Stored.{literal-read}
+use Rattle.segment_manager.proofs.Steps.{IsMove, IsOpenFor, by_no_change_of_kind, by_step_of_kind, open-reading}
+use Rattle.segment_manager.proofs.Steps.{open-writing, perform-new, perform-no_space, step_of_kind-found, with-found}
 
 -- ---- the search
 

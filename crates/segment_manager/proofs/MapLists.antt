@@ -1,26 +1,13 @@
 -- The pairs of the object of a key, a map of kinds: what is told of them, how many they are, and that their keys rise.
-use Rattle.std.proofs.Common.{◌≡◌, refl, sym, ap, subst, ◌∙◌, ℕ, ℤ, Bool, true, false, Option, Some, None, Result, Ok, Err, List, [], length, if◌then◌else◌}
-use Rattle.std.specs.Prelude.{MatchResult, int_lt, option_map}
-use Rattle.raw_region.specs.Format.{current}
-use Rattle.seg_types.specs.declared.kinds.Kind.TheVariants.{Map}
-use Rattle.seg_types.specs.declared.kinds.ScalarKind.{ScalarKind}
-use Rattle.seg_types.specs.declared.refusals.Refusal.{Refusal}
-use Rattle.seg_types.specs.declared.refusals.Refusal.TheVariants.{NotFound, WrongKind}
-use Rattle.seg_types.specs.Kinds.{lowest, same_kind}
-use Rattle.seg_types.specs.Names.{Key}
-use Rattle.seg_map.specs.Map.{is_rising}
-use Rattle.seg_map.specs.Numbers.{NumberPair}
-use Rattle.seg_map.specs.Places.{item_of}
-use Rattle.segment_manager.specs.Contents.{sizes_of}
-use Rattle.segment_manager.specs.Denotes.{Denotes}
-use Rattle.segment_manager.specs.Directory.{Value, Object, Directory, kind_of, object_at}
-use Rattle.segment_manager.specs.ElementLists.{first_size, length_at_kind, number_or_none}
-use Rattle.segment_manager.specs.Maps.{pair_from, told_of, told_of_map}
-use Rattle.segment_manager.specs.Walks.{first_of, pairs_at_kinds, pairs_of}
-use Rattle.segment_manager.proofs.AnyStorage.{IsOfKindAt}
+use Rattle.segment_manager.proofs.Common.{◌≡◌, refl, sym, ap, subst, ◌∙◌, ℕ, ℤ, Bool, true, false, Option, Some, None}
+use Rattle.segment_manager.proofs.Common.{Result, Ok, Err, List, [], length, if◌then◌else◌, MatchResult, int_lt}
+use Rattle.segment_manager.proofs.Common.{option_map, current, Map, ScalarKind, Refusal, NotFound, WrongKind, lowest}
+use Rattle.segment_manager.proofs.Common.{same_kind, Key, is_rising, NumberPair, item_of, sizes_of, Denotes, Value}
+use Rattle.segment_manager.proofs.Common.{Object, Directory, kind_of, object_at, first_size, length_at_kind}
+use Rattle.segment_manager.proofs.Common.{number_or_none, pair_from, told_of, told_of_map, first_of, pairs_of}
+use Rattle.segment_manager.specs.Walks.{pairs_at_kinds}
+use Rattle.segment_manager.proofs.{AnyStorage.IsOfKindAt, Here.standing, MapSteps.map-only}
 use Rattle.segment_manager.proofs.ElementLists.{its-list, listed-length, none-listed, other-listed}
-use Rattle.segment_manager.proofs.Here.{standing}
-use Rattle.segment_manager.proofs.MapSteps.{map-only}
 use Rattle.segment_manager.proofs.PairWalks.{good-value, rising-if, starts, told-of-them}
 
 refused-told : {A : Type 0} (P : A → Type 0) (Q : Type 0) (r : Result A Refusal) (why : Refusal) → r ≡ Err why → Q → MatchResult r P (λ _. Q)

@@ -1,43 +1,23 @@
 -- A map as the value of an object: it stands at its place as the calls of seg_map see it, and what they do to it is what becomes of the object.
-use Rattle.std.proofs.Common.{◌≡◌, refl, sym, ap, subst, ◌∙◌, ℕ, ◌+◌, ◌≤◌, ◌≢◌, inl, ℤ, true, ◌&&◌, Some, None, List, [], ◌∷◌, ◌++◌, length, map, arith}
-use Rattle.std.specs.Prelude.{IsTrue, int_lt}
-use Rattle.std.specs.List.{AllByRecursion, list_all}
-use Rattle.std.proofs.lemmas.Bool.{and_from}
-use Rattle.raw_region.specs.Format.{current}
-use Rattle.raw_region.specs.Memory.{Cut, Memory, Same, bytes_of}
-use Rattle.best_fit.specs.Exchange.{SameBlockBut}
-use Rattle.best_fit.specs.Extents.{Extent, LiveSet, handle}
-use Rattle.best_fit.specs.Fit.{added, released}
-use Rattle.best_fit.specs.Heap.{Keeps, LaysOut, extent_at, live_of}
-use Rattle.best_fit.proofs.Laws.{lay_out_one}
-use Rattle.seg_types.specs.declared.kinds.Kind.TheVariants.{Map}
-use Rattle.seg_types.specs.declared.kinds.ScalarKind.{ScalarKind}
-use Rattle.seg_types.specs.Kinds.{same_kind}
+use Rattle.segment_manager.proofs.Common.{◌≡◌, refl, sym, ap, subst, ◌∙◌, ℕ, ◌+◌, ◌≤◌, ◌≢◌, inl, ℤ, true, ◌&&◌, Some}
+use Rattle.segment_manager.proofs.Common.{None, List, [], ◌∷◌, ◌++◌, length, map, arith, IsTrue, int_lt, AllByRecursion}
+use Rattle.segment_manager.proofs.Common.{list_all, and_from, current, Cut, Memory, Same, bytes_of, SameBlockBut}
+use Rattle.segment_manager.proofs.Common.{Extent, LiveSet, handle, added, released, Keeps, LaysOut, extent_at, live_of}
+use Rattle.segment_manager.proofs.Common.{lay_out_one, Map, ScalarKind, same_kind, IsBesideMap, IsErased, IsPut}
+use Rattle.segment_manager.proofs.Common.{IsPutAgain, is_rising, pair_at, put_pair, remove_pair, NumberPair}
+use Rattle.segment_manager.proofs.Common.{is_number_pair, HoldsMap, IsPairIn, nodes_of_pairs, Value, Pairs, Object}
+use Rattle.segment_manager.proofs.Common.{Directory, count_of, extents_of, is_good_value, is_object, kind_of, live}
+use Rattle.segment_manager.proofs.Common.{padded, value_extents, value_len, Denotes, IsValueAt, head_len, numbers_of}
+use Rattle.segment_manager.proofs.Common.{StandsAt, changed}
 use Rattle.seg_map.specs.declared.places.Place.{Place}
-use Rattle.seg_map.specs.Changing.{IsBesideMap, IsErased, IsPut, IsPutAgain}
-use Rattle.seg_map.specs.Map.{is_rising, pair_at, put_pair, remove_pair}
-use Rattle.seg_map.specs.Numbers.{NumberPair, is_number_pair}
-use Rattle.seg_map.specs.Places.{HoldsMap, IsPairIn, nodes_of_pairs}
-use Rattle.segment_manager.specs.Directory.{Value, Pairs, Object, Directory, count_of, extents_of, is_good_value, is_object, kind_of, live, padded, value_extents, value_len}
-use Rattle.segment_manager.specs.Denotes.{Denotes, IsValueAt}
-use Rattle.segment_manager.specs.Layout.{head_len}
-use Rattle.segment_manager.specs.Maps.{numbers_of}
-use Rattle.segment_manager.specs.Standing.{StandsAt}
-use Rattle.segment_manager.specs.Step.{changed}
-use Rattle.segment_manager.proofs.Calling.{denotes-heap, denotes-live, object-at}
-use Rattle.segment_manager.proofs.Contained.{good-with}
-use Rattle.segment_manager.proofs.Denoted.{denotes-replaced}
+use Rattle.segment_manager.proofs.{Calling.denotes-heap, Calling.denotes-live, Calling.object-at, Contained.good-with}
+use Rattle.segment_manager.proofs.{Denoted.denotes-replaced, Faces.IsLike, Frame.IsRoomy, Frame.object-roomy, Live.IsIn}
+use Rattle.segment_manager.proofs.{Live.live-same, Order.Apart, Order.Differs, Regrown.InPlace, Regrown.live-less}
+use Rattle.segment_manager.proofs.{Regrown.live-more, Regrown.rest, Rewritten.value_start, Rewritten.with_value}
+use Rattle.segment_manager.proofs.{Standings.standing-room, VectorSteps.one-kind, Words.first, Words.second}
 use Rattle.segment_manager.proofs.Exchanged.{all-but-beside, object-held, others-beside}
-use Rattle.segment_manager.proofs.Faces.{IsLike}
-use Rattle.segment_manager.proofs.Frame.{IsRoomy, object-roomy}
-use Rattle.segment_manager.proofs.Live.{IsIn, live-same}
-use Rattle.segment_manager.proofs.MapBlocks.{BlocksInUse, IsFoundIn, PartedNodes, no-node, nodes, one-by_handle, put-parted, removed-parted}
-use Rattle.segment_manager.proofs.Order.{Apart, Differs}
-use Rattle.segment_manager.proofs.Regrown.{InPlace, live-less, live-more, rest}
-use Rattle.segment_manager.proofs.Rewritten.{value_start, with_value}
-use Rattle.segment_manager.proofs.Standings.{standing-room}
-use Rattle.segment_manager.proofs.VectorSteps.{one-kind}
-use Rattle.segment_manager.proofs.Words.{first, second}
+use Rattle.segment_manager.proofs.MapBlocks.{BlocksInUse, IsFoundIn, PartedNodes, no-node, nodes, one-by_handle}
+use Rattle.segment_manager.proofs.MapBlocks.{put-parted, removed-parted}
 
 -- ---- what is of the kind of a map
 

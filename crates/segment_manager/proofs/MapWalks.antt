@@ -1,16 +1,11 @@
 -- A walk over the pairs of a map, each from the key before: so all of them come, in the order of the directory.
-use Rattle.std.proofs.Common.{◌≡◌, refl, ap, ◌∙◌, ℤ, Bool, true, false, not, Some, List, [], ◌∷◌, ◌++◌, arith, if◌then◌else◌}
-use Rattle.std.specs.Prelude.{IsTrue, int_le, int_lt, option_map}
-use Rattle.std.specs.List.{list_all}
+use Rattle.segment_manager.proofs.Common.{◌≡◌, refl, ap, ◌∙◌, ℤ, Bool, true, false, not, Some, List, [], ◌∷◌, ◌++◌}
+use Rattle.segment_manager.proofs.Common.{arith, if◌then◌else◌, IsTrue, int_lt, option_map, list_all, ScalarKind}
+use Rattle.segment_manager.proofs.Common.{is_value, lowest, transitive, is_rising, NumberPair, first_pair, item_of}
+use Rattle.segment_manager.proofs.Common.{pair_above, pair_from, first_of}
+use Rattle.std.specs.Prelude.{int_le}
 use Rattle.std.proofs.lemmas.Bool.{both_ways}
-use Rattle.seg_types.specs.declared.kinds.ScalarKind.{ScalarKind}
-use Rattle.seg_types.specs.Kinds.{highest, is_value, lowest}
-use Rattle.seg_types.specs.ScalarLaws.{irreflexive, transitive}
-use Rattle.seg_map.specs.Map.{is_rising}
-use Rattle.seg_map.specs.Numbers.{NumberPair}
-use Rattle.seg_map.specs.Places.{first_pair, item_of}
-use Rattle.segment_manager.specs.Maps.{pair_above, pair_from}
-use Rattle.segment_manager.specs.Walks.{first_of}
+use Rattle.seg_types.specs.{Kinds.highest, ScalarLaws.irreflexive}
 use Rattle.segment_manager.proofs.Words.{first, second}
 
 -- no key is below the least value of its kind

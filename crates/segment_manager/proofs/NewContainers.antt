@@ -1,29 +1,16 @@
 -- A vector of numbers or a text as the value of a new object: it is made without an element, and then with its elements in storage for just so
 -- many.
-use Rattle.std.proofs.Common.{◌≡◌, refl, sym, ap, subst, ◌∙◌, ℕ, ℤ, Bool, Some, None, Ok, Err, Result, List, [], length, map}
-use Rattle.std.specs.Prelude.{IsTrue, MatchResult, option_to_list}
-use Rattle.std.proofs.lemmas.List.{length-map}
-use Rattle.raw_region.specs.Format.{current}
-use Rattle.raw_region.specs.Memory.{Cut, bytes_of}
-use Rattle.best_fit.specs.Exchange.{IsExchanged}
-use Rattle.best_fit.specs.Heap.{IsChanged, live_of}
-use Rattle.best_fit.specs.Table.{Table, no_table}
-use Rattle.best_fit.proofs.Laws.{keeps-refl, laid-heap}
-use Rattle.seg_types.specs.declared.kinds.ScalarKind.{ScalarKind}
-use Rattle.seg_types.specs.declared.refusals.Refusal.{Refusal}
-use Rattle.seg_types.specs.declared.refusals.Refusal.TheVariants.{NoSpace}
-use Rattle.seg_types.specs.Kinds.{size_of}
+use Rattle.segment_manager.proofs.Common.{◌≡◌, refl, sym, ap, subst, ◌∙◌, ℕ, ℤ, Bool, Some, None, Ok, Err, Result, List}
+use Rattle.segment_manager.proofs.Common.{[], length, map, IsTrue, MatchResult, option_to_list, length-map, current}
+use Rattle.segment_manager.proofs.Common.{Cut, bytes_of, IsExchanged, IsChanged, live_of, Table, no_table, keeps-refl}
+use Rattle.segment_manager.proofs.Common.{laid-heap, ScalarKind, Refusal, NoSpace, size_of, Content, Place, Stands}
+use Rattle.segment_manager.proofs.Common.{place_at, AssignsText, IsTextGrown, grown_table, spelled, Assigns}
+use Rattle.segment_manager.proofs.Common.{IsSomeVector, IsVectorGrown, IsWithoutSpace, Contents, IsNumbersGrown}
+use Rattle.segment_manager.proofs.Common.{are_bytes, contents_of, has_values, Value, Elements, Bytes, count_of, kind_of}
+use Rattle.segment_manager.proofs.Common.{value_extents, value_len, IsMadeValue, IsNoValue, MakesValue, Plan, bare}
+use Rattle.segment_manager.proofs.Common.{perform, with_storage, with_value}
 use Rattle.seg_types.specs.Commands as asked
-use Rattle.seg_types.specs.Commands.{Content}
-use Rattle.seg_vector.specs.declared.places.Place.{Place}
-use Rattle.seg_vector.specs.Standing.{Stands, place_at}
-use Rattle.seg_vector.specs.TextCalls.{AssignsText, IsTextGrown, StartsText}
-use Rattle.seg_vector.specs.Vector.{grown_table, spelled}
-use Rattle.seg_vector.specs.VectorCalls.{Assigns, IsSomeVector, IsVectorGrown, IsWithoutSpace, Starts}
-use Rattle.segment_manager.specs.Contents.{Contents, IsNumbersGrown, are_bytes, contents_of, has_values}
-use Rattle.segment_manager.specs.Directory.{Value, Elements, Bytes, count_of, kind_of, value_extents, value_len}
-use Rattle.segment_manager.specs.Filled.{IsMadeValue, IsNoValue, MakesValue}
-use Rattle.segment_manager.specs.Plan.{Plan, bare, perform, with_storage, with_value}
+use Rattle.seg_vector.specs.{TextCalls.StartsText, VectorCalls.Starts}
 use Rattle.segment_manager.proofs.Contained.{contents-good, value-said}
 use Rattle.segment_manager.proofs.MadeValues.{storage-met, storage-none, stored}
 use Rattle.segment_manager.proofs.Whole.{IsOfKind, whole-grown, whole-no_room}

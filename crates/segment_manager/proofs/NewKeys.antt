@@ -1,29 +1,14 @@
 -- The key of a new object that gets an entry.
-use Rattle.std.proofs.Common.{◌≡◌, refl, sym, ap, subst, ◌∙◌, ℕ, zero, suc, ◌≤◌, ℤ, Bool, true, ◌&&◌, ◌==◌, None, List, length, replicate, arith}
-use Rattle.std.specs.Prelude.{IsTrue, nat_le}
-use Rattle.std.specs.List.{list_all}
-use Rattle.std.proofs.lemmas.Bool.{and_from, eq-eqb, le-leb}
-use Rattle.std.proofs.lemmas.List.{length-replicate}
-use Rattle.raw_region.specs.Format.{current}
-use Rattle.best_fit.specs.Extents.{Extent}
-use Rattle.block_tags.specs.declared.tile.Role.TheVariants.{Object as ObjectRole}
-use Rattle.best_fit.specs.Table.{serves}
-use Rattle.seg_types.specs.declared.kinds.ScalarKind.{ScalarKind}
-use Rattle.seg_types.specs.declared.kinds.Kind.{Kind}
-use Rattle.seg_types.specs.Kinds.{code_of, is_kind_of, is_value}
+use Rattle.segment_manager.proofs.Common.{◌≡◌, refl, sym, ap, subst, ◌∙◌, ℕ, zero, suc, ◌≤◌, ℤ, Bool, true, ◌&&◌, ◌==◌}
+use Rattle.segment_manager.proofs.Common.{None, List, length, replicate, arith, IsTrue, nat_le, list_all, and_from}
+use Rattle.segment_manager.proofs.Common.{eq-eqb, le-leb, length-replicate, current, Extent, ObjectRole, serves}
+use Rattle.segment_manager.proofs.Common.{ScalarKind, Kind, code_of, is_kind_of, is_value, is_name, is_text_name, Index}
+use Rattle.segment_manager.proofs.Common.{Named, Unique, Name, Code, Value, Numbers, Object, Directory, has_good_name}
+use Rattle.segment_manager.proofs.Common.{has_key, is_good_value, is_object, kind_of, object_at, object_len, same_bytes}
+use Rattle.segment_manager.proofs.Common.{Seeks, class_of_index, IsNewKeyOf, class_of, name_of}
 use Rattle.seg_types.specs.Names as names
-use Rattle.seg_types.specs.Names.{is_name, is_text_name}
-use Rattle.seg_index.specs.declared.index.Index.{Index}
-use Rattle.seg_index.specs.declared.index.Index.TheVariants.{Named, Unique}
 use Rattle.seg_index.specs.declared.keys.Key.{Key}
-use Rattle.seg_index.specs.declared.keys.Key.TheVariants.{Name, Code}
-use Rattle.segment_manager.specs.Directory.{Value, Numbers, Object, Directory, has_good_name, has_key, is_good_value, is_object, kind_of, object_at, object_len, same_bytes}
-use Rattle.segment_manager.specs.Indexed.{Seeks, class_of_index}
-use Rattle.segment_manager.specs.NewObjects.{IsNewKeyOf}
-use Rattle.segment_manager.specs.Plan.{class_of, name_of}
-use Rattle.segment_manager.proofs.Entered.{key_in}
-use Rattle.segment_manager.proofs.KeyOrder.{same-itself}
-use Rattle.segment_manager.proofs.Heads.{name-short}
+use Rattle.segment_manager.proofs.{Entered.key_in, KeyOrder.same-itself, Heads.name-short}
 
 -- ---- numbers
 

@@ -1,32 +1,14 @@
 -- Numbers as the value of a new object, and a map without pairs: they ask for no block but the object's own.
-use Rattle.std.proofs.Common.{◌≡◌, refl, sym, ap, subst, ◌∙◌, ℕ, ◌+◌, ◌*◌, ◌≤◌, ◌∷◌, ◌++◌, ℤ, Option, None, List, [], length, replicate}
-use Rattle.std.specs.Prelude.{IsTrue}
-use Rattle.std.specs.List.{AllByRecursion}
-use Rattle.std.proofs.lemmas.List.{length-replicate}
-use Rattle.raw_region.specs.Format.{current}
-use Rattle.raw_region.specs.Memory.{Cut, Has, Memory, bytes_of}
-use Rattle.offset_link.specs.Link.{link_at}
-use Rattle.link_tree.specs.Tree.{IsTree, Tree, fork, leaf, nodes_of}
-use Rattle.best_fit.specs.Exchange.{IsExchanged, SameBlockBut}
-use Rattle.best_fit.specs.Extents.{Extent}
-use Rattle.best_fit.specs.FreeTree.{cells_of}
-use Rattle.best_fit.specs.Heap.{IsChanged, LaysOut, live_of}
-use Rattle.best_fit.proofs.Laws.{laid-heap}
-use Rattle.seg_types.specs.declared.kinds.ScalarKind.{ScalarKind}
-use Rattle.seg_types.specs.declared.plain.Plain.{Ghosts as Plain}
-use Rattle.seg_types.specs.Kinds.{is_value, size_of, spelling}
+use Rattle.segment_manager.proofs.Common.{◌≡◌, refl, sym, ap, subst, ◌∙◌, ℕ, ◌+◌, ◌*◌, ◌≤◌, ◌∷◌, ◌++◌, ℤ, Option, None}
+use Rattle.segment_manager.proofs.Common.{List, [], length, replicate, IsTrue, AllByRecursion, length-replicate}
+use Rattle.segment_manager.proofs.Common.{current, Cut, Has, Memory, bytes_of, link_at, Tree, fork, leaf, nodes_of}
+use Rattle.segment_manager.proofs.Common.{IsExchanged, SameBlockBut, Extent, cells_of, IsChanged, LaysOut, live_of}
+use Rattle.segment_manager.proofs.Common.{laid-heap, ScalarKind, Plain, is_value, size_of, spelling, MapPlace, Place}
+use Rattle.segment_manager.proofs.Common.{place_at, spelled, Numbers, Pairs, is_good_value, IsMadeValue, repeated}
+use Rattle.link_tree.specs.Tree.{IsTree}
 use Rattle.seg_types.specs.Commands as asked
-use Rattle.seg_map.specs.declared.places.Place.{Place as MapPlace}
 use Rattle.seg_map.specs.Changing.{IsNew}
-use Rattle.seg_vector.specs.declared.places.Place.{Place}
-use Rattle.seg_vector.specs.Standing.{place_at}
-use Rattle.seg_vector.specs.Vector.{spelled}
-use Rattle.segment_manager.specs.Directory.{Numbers, Pairs, is_good_value}
-use Rattle.segment_manager.specs.Filled.{IsMadeValue}
-use Rattle.segment_manager.specs.Standing.{repeated}
-use Rattle.segment_manager.proofs.Blocks.{spelling-length}
-use Rattle.segment_manager.proofs.NewKeys.{equal-good}
-use Rattle.segment_manager.proofs.Rows.{repeated-spelled}
+use Rattle.segment_manager.proofs.{Blocks.spelling-length, NewKeys.equal-good, Rows.repeated-spelled}
 
 all-stay : (m : Memory) (from n : ℕ) (xs : List Extent) → AllByRecursion (SameBlockBut m m from n) xs
 all-stay m from n [] = tt

@@ -1,24 +1,13 @@
 -- A vector of texts as the value of a new object: it is made without a text, and then with its texts, each in a block of its own.
-use Rattle.std.proofs.Common.{◌≡◌, refl, sym, subst, ℕ, Some, Ok, Err, Result, List, [], ◌∷◌, ◌++◌, length}
-use Rattle.std.specs.Prelude.{IsTrue, option_to_list}
-use Rattle.std.specs.List.{list_all}
-use Rattle.raw_region.specs.Format.{current}
-use Rattle.raw_region.specs.Memory.{Cut}
-use Rattle.best_fit.specs.Extents.{LiveSet}
-use Rattle.best_fit.specs.Heap.{IsChanged, live_of}
-use Rattle.best_fit.specs.Table.{Table, no_table}
-use Rattle.seg_types.specs.declared.refusals.Refusal.{Refusal}
+use Rattle.segment_manager.proofs.Common.{◌≡◌, refl, sym, subst, ℕ, Some, Ok, Err, Result, List, [], ◌∷◌, ◌++◌, length}
+use Rattle.segment_manager.proofs.Common.{IsTrue, option_to_list, list_all, current, Cut, LiveSet, IsChanged, live_of}
+use Rattle.segment_manager.proofs.Common.{Table, no_table, Refusal, Place, place_at, AreTextsAssigned, AssignsTexts}
+use Rattle.segment_manager.proofs.Common.{IsGivenUp, IsSomeTexts, IsTextsNow, all_texts, new_array, placed_texts}
+use Rattle.segment_manager.proofs.Common.{text_blocks, OwnedText, are_bytes, Texts, IsMadeValue, MakesValue}
 use Rattle.seg_types.specs.Commands as asked
-use Rattle.seg_vector.specs.declared.places.Place.{Place}
-use Rattle.seg_vector.specs.Standing.{place_at}
-use Rattle.seg_vector.specs.TextsCalls.{AreTextsAssigned, AssignsTexts, IsGivenUp, IsSomeTexts, IsTextsNow, StartsTexts, all_texts, new_array, placed_texts, text_blocks}
-use Rattle.seg_vector.specs.Vector.{OwnedText}
-use Rattle.segment_manager.specs.Contents.{are_bytes}
-use Rattle.segment_manager.specs.Directory.{Texts}
-use Rattle.segment_manager.specs.Filled.{IsMadeValue, MakesValue}
-use Rattle.segment_manager.proofs.TextListCalls.{texts-bytes}
+use Rattle.seg_vector.specs.TextsCalls.{StartsTexts}
+use Rattle.segment_manager.proofs.{TextListCalls.texts-bytes, TextsHeld.good-texts}
 use Rattle.segment_manager.proofs.TextPlans.{all-met, all-unmet, beside_array, beside_texts}
-use Rattle.segment_manager.proofs.TextsHeld.{good-texts}
 
 -- a vector without a text is some vector
 pub none-started : (old new : Cut) (p q : Place) → q ≡ p → StartsTexts old new p → IsSomeTexts new.bytes q

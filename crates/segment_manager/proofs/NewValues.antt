@@ -1,57 +1,30 @@
 -- An object made under a key whose value takes blocks of its own, whatever it is, as a step of the machine: its requests are met in order,
 -- or one is refused and all is given back.
-use Rattle.std.proofs.Common.{◌≡◌, refl, sym, ap, subst, ◌∙◌, ℕ, ◌+◌, ◌-◌, ◌≤◌, ◌/◌, ◌%◌, true, ◌&&◌, ◌==◌, inl, inr, Some, None, Option, List, [], ◌∷◌, length, arith}
-use Rattle.std.specs.Prelude.{IsTrue, find}
-use Rattle.std.proofs.lemmas.Bool.{and_from}
-use Rattle.raw_region.specs.Format.{current}
-use Rattle.raw_region.specs.Memory.{Cut, SamePlace, bytes_of, word_at}
-use Rattle.raw_region.proofs.Laws.{SamePlace-trans}
-use Rattle.block_tags.specs.declared.tile.Role.TheVariants.{Object as ObjectRole}
-use Rattle.best_fit.specs.Extents.{Extent, LiveSet}
-use Rattle.best_fit.specs.Fit.{added, place, resized}
-use Rattle.best_fit.specs.Heap.{IsAllocated, IsChanged, IsRefused, Keeps, LaysOut, SameBlock, live_of}
-use Rattle.best_fit.specs.Table.{Table, serves}
-use Rattle.best_fit.proofs.Laws.{allocated-live, keeps-trans, laid-heap}
-use Rattle.seg_types.specs.declared.kinds.Class.{Class}
-use Rattle.seg_types.specs.declared.kinds.Class.TheVariants.{Anonymous}
-use Rattle.seg_types.specs.declared.kinds.Kind.{Kind}
-use Rattle.seg_types.specs.declared.kinds.Kind.TheVariants.{Scalar}
-use Rattle.seg_types.specs.declared.refusals.Refusal.{Refusal}
-use Rattle.seg_types.specs.declared.refusals.Refusal.TheVariants.{NoSpace}
-use Rattle.seg_types.specs.Kinds.{is_kind_of}
+use Rattle.segment_manager.proofs.Common.{◌≡◌, refl, sym, ap, subst, ◌∙◌, ℕ, ◌+◌, ◌-◌, ◌≤◌, ◌/◌, ◌%◌, true, ◌&&◌, ◌==◌}
+use Rattle.segment_manager.proofs.Common.{inl, inr, Some, None, Option, List, [], ◌∷◌, length, arith, IsTrue, find}
+use Rattle.segment_manager.proofs.Common.{and_from, current, Cut, SamePlace, bytes_of, word_at, SamePlace-trans}
+use Rattle.segment_manager.proofs.Common.{ObjectRole, Extent, LiveSet, added, place, resized, IsAllocated, IsChanged}
+use Rattle.segment_manager.proofs.Common.{IsRefused, Keeps, LaysOut, SameBlock, live_of, Table, serves, allocated-live}
+use Rattle.segment_manager.proofs.Common.{keeps-trans, laid-heap, Class, Anonymous, Kind, Scalar, Refusal, NoSpace}
+use Rattle.segment_manager.proofs.Common.{is_kind_of, Content, Index, Absent, IsIndexOf, place_of, AddKeeps, CanGrow}
+use Rattle.segment_manager.proofs.Common.{IsGrowth, IsPlace, prepared, NewEntry, IsAbsentAt, IsBegun, IsBegunAlone}
+use Rattle.segment_manager.proofs.Common.{IsBegunEntry, IsHeaded, IsLoose, IsNotBegun, IsReadyFor, IsTakenKey, IsWanted}
+use Rattle.segment_manager.proofs.Common.{LeadsThere, Denotes, Value, Object, Directory, count_of, extents_of, has_key}
+use Rattle.segment_manager.proofs.Common.{is_good_value, is_object, kind_of, live, object_at, object_len, padded}
+use Rattle.segment_manager.proofs.Common.{value_extents, value_len, with_object, IsDenied, IsGiven, IsMadeValue}
+use Rattle.segment_manager.proofs.Common.{IsNoValue, class_of_index, entries_of, table_of, head_len, IsNewKeyOf}
+use Rattle.segment_manager.proofs.Common.{IsRestored, Plan, bare, with_value, room_for, IsSegment, StandsFor}
 use Rattle.seg_types.specs.Names as names
-use Rattle.seg_types.specs.Commands.{Content}
-use Rattle.seg_index.specs.declared.index.Index.{Index}
 use Rattle.seg_index.specs.declared.keys.Key.{Key}
-use Rattle.seg_index.specs.declared.keys.Lookup.TheVariants.{Absent}
-use Rattle.seg_index.specs.Held.{IsIndexOf, place_of}
-use Rattle.seg_index.specs.Growth.{AddKeeps, CanGrow, IsGrowth}
-use Rattle.seg_index.specs.Lookups.{IsPlace}
-use Rattle.seg_index.proofs.Laws.{prepared}
-use Rattle.segment_manager.specs.declared.beginning.NewEntry.{NewEntry}
-use Rattle.segment_manager.specs.Begun.{GivesAllBack, IsAbsentAt, IsBegun, IsBegunAlone, IsBegunEntry, IsEntryAdded, IsHeaded, IsLoose, IsNotBegun, IsReadyFor, IsTakenKey, IsUnmetEntry, IsWanted, LeadsThere}
-use Rattle.segment_manager.specs.Denotes.{Denotes}
-use Rattle.segment_manager.specs.Directory.{Value, Object, Directory, count_of, extents_of, has_key, is_good_value, is_object, kind_of, live, object_at, object_len, padded, value_extents, value_len, with_object}
-use Rattle.segment_manager.specs.Filled.{IsDenied, IsGiven, IsMadeValue, IsNoValue}
-use Rattle.segment_manager.specs.Indexed.{class_of_index, entries_of, table_of}
-use Rattle.segment_manager.specs.Layout.{head_len}
-use Rattle.segment_manager.specs.NewObjects.{IsNewKeyOf, IsRestored}
-use Rattle.segment_manager.specs.Plan.{Plan, bare, with_value}
-use Rattle.segment_manager.specs.Standing.{room_for}
-use Rattle.segment_manager.specs.State.{IsSegment, StandsFor}
-use Rattle.segment_manager.proofs.Bridge.{lookup-absent, lookup-found}
-use Rattle.segment_manager.proofs.Calling.{denotes-live}
-use Rattle.segment_manager.proofs.Constructed.{IsNewObject, IsNoObject, content-denied, content-entered, content-none, restored-denotes}
-use Rattle.segment_manager.proofs.Denoted.{denotes-with}
-use Rattle.segment_manager.proofs.HeldIndexes.{denotes-index}
-use Rattle.segment_manager.proofs.KeyCalls.{segment-index}
-use Rattle.segment_manager.proofs.Live.{adding}
+use Rattle.segment_manager.specs.Begun.{GivesAllBack, IsEntryAdded, IsUnmetEntry}
+use Rattle.segment_manager.proofs.{Bridge.lookup-absent, Bridge.lookup-found, Calling.denotes-live}
+use Rattle.segment_manager.proofs.{Denoted.denotes-with, HeldIndexes.denotes-index, KeyCalls.segment-index, Live.adding}
+use Rattle.segment_manager.proofs.{NewBlocks.allocated-serves, NewKeys.key-object, NewKeys.key-seeks}
+use Rattle.segment_manager.proofs.{Order.all_of-insert, Steps.perform-new, Steps.perform-no_space}
+use Rattle.segment_manager.proofs.Constructed.{IsNewObject, IsNoObject, content-denied, content-entered, content-none}
+use Rattle.segment_manager.proofs.Constructed.{restored-denotes}
 use Rattle.segment_manager.proofs.Made.{IsMade, IsTaken, taken-growth, taken-index}
 use Rattle.segment_manager.proofs.MadeValues.{empty-taken, made-object, made-taken, placed-next}
-use Rattle.segment_manager.proofs.NewBlocks.{allocated-serves}
-use Rattle.segment_manager.proofs.NewKeys.{key-object, key-seeks}
-use Rattle.segment_manager.proofs.Order.{all_of-insert}
-use Rattle.segment_manager.proofs.Steps.{perform-new, perform-no_space}
 use Rattle.segment_manager.proofs.Taking.{growth-index, place-high, place-low, requested-aligned}
 
 -- ---- kinds

@@ -1,18 +1,10 @@
 -- The pairs of a map one after another, for the crates that write them: the walk has come to the pair at a place.
-use Rattle.std.proofs.Common.{◌≡◌, ℕ, zero, suc, ◌+◌, List, [], ◌∷◌, Option, Some, None, Ok, slice_get, refl, sym, ap, ◌∙◌, arith}
-use Rattle.std.specs.Prelude.{option_map}
-use Rattle.seg_types.specs.declared.kinds.Kind.TheVariants.{Map}
-use Rattle.seg_types.specs.declared.kinds.ScalarKind.{ScalarKind}
-use Rattle.seg_types.specs.declared.values.ScalarValue.{ScalarValue}
-use Rattle.seg_types.specs.Names.{ByHandle}
-use Rattle.seg_types.specs.Values.{kind_of_scalar, value_of_scalar}
-use Rattle.seg_map.specs.Numbers.{NumberPair}
-use Rattle.seg_map.specs.Places.{item_of}
-use Rattle.segment_manager.specs.Directory.{Directory}
-use Rattle.segment_manager.specs.Maps.{pair_above}
-use Rattle.segment_manager.specs.Parts.{part_of}
-use Rattle.segment_manager.specs.State.{Answers, State, StandsFor}
-use Rattle.segment_manager.specs.Walks.{IsMap, Item, first_of, item_of_kinds, item_seen, pairs_at}
+use Rattle.segment_manager.proofs.Common.{◌≡◌, ℕ, zero, suc, ◌+◌, List, [], ◌∷◌, Option, Some, None, Ok, slice_get}
+use Rattle.segment_manager.proofs.Common.{refl, sym, ap, ◌∙◌, arith, option_map, Map, ScalarKind, ScalarValue, ByHandle}
+use Rattle.segment_manager.proofs.Common.{kind_of_scalar, value_of_scalar, NumberPair, item_of, Directory, pair_above}
+use Rattle.segment_manager.proofs.Common.{Answers, State, StandsFor, IsMap, first_of, item_of_kinds, item_seen}
+use Rattle.segment_manager.proofs.Common.{pairs_at}
+use Rattle.segment_manager.specs.{Parts.part_of, Walks.Item}
 use Rattle.segment_manager.proofs.PairWalks.{first-at, walk-next}
 
 -- the next pair is the one at a place

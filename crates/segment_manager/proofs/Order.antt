@@ -1,14 +1,14 @@
 -- Extents put in by offset: a sorted list of them, and what was put in is taken out again.
-use Rattle.std.proofs.Common.{◌≡◌, refl, ap, ◌∙◌, ℕ, ◌≢◌, Bool, true, false, List, [], ◌∷◌, ◌++◌, arith, if◌then◌else◌}
-use Rattle.std.specs.Prelude.{nat_lt}
-use Rattle.std.specs.List.{AllByRecursion}
-use Rattle.best_fit.specs.Extents.{Extent, LiveSet, handle}
-use Rattle.best_fit.specs.Fit.{insert, others, added, resized}
+use Rattle.segment_manager.proofs.Common.{◌≡◌, refl, ap, ◌∙◌, ℕ, ◌≢◌, Bool, true, false, List, [], ◌∷◌, ◌++◌, arith}
+use Rattle.segment_manager.proofs.Common.{if◌then◌else◌, nat_lt, AllByRecursion, Extent, LiveSet, handle, others, added}
+use Rattle.segment_manager.proofs.Common.{resized, sorted}
+use Rattle.best_fit.specs.Fit.{insert}
 use Rattle.best_fit.proofs.Laws.{AllByRecursion-insert_from, others-here, others-past}
 unfoldable pub use Rattle.best_fit.proofs.Laws.{Differs, Rising}
-pub use Rattle.best_fit.proofs.Laws.{IsFresh, all_of-insert, all_of-inserted, apart-inserted, hole-order, insert-inserted, inserted-comm, live-rises, rising-insert, rising-inserted, rising-weak, without-inserted}
+pub use Rattle.best_fit.proofs.Laws.{IsFresh, all_of-insert, all_of-inserted, apart-inserted, hole-order}
+pub use Rattle.best_fit.proofs.Laws.{insert-inserted, inserted-comm, live-rises, rising-insert, rising-inserted}
+pub use Rattle.best_fit.proofs.Laws.{rising-weak, without-inserted}
 pub use Rattle.best_fit.specs.Exchange.{inserted, without_all}
-use Rattle.segment_manager.specs.Directory.{sorted}
 
 -- no two of them begin at one place
 abbrev pub Apart : List Extent → List Extent → Type 0

@@ -1,18 +1,15 @@
 -- The blocks of objects among those of a live set are those of the directory's objects, in its order.
-use Rattle.std.proofs.Common.{◌≡◌, refl, sym, ap, subst, ◌∙◌, ℕ, ◌+◌, ◌-◌, ◌<◌, ◌≤◌, Bool, true, false, ◌&&◌, ◌==◌, Some, None, List, [], ◌∷◌, ◌++◌, map, arith, if◌then◌else◌, cond}
-use Rattle.std.specs.Prelude.{IsTrue, filter, nat_lt}
-use Rattle.std.specs.List.{AllByRecursion, list_all}
-use Rattle.std.proofs.lemmas.Bool.{eq-eqb, ltb-false}
+use Rattle.segment_manager.proofs.Common.{◌≡◌, refl, sym, ap, subst, ◌∙◌, ℕ, ◌+◌, ◌-◌, ◌<◌, ◌≤◌, Bool, true, false}
+use Rattle.segment_manager.proofs.Common.{◌&&◌, ◌==◌, Some, None, List, [], ◌∷◌, ◌++◌, map, arith, if◌then◌else◌, cond}
+use Rattle.segment_manager.proofs.Common.{IsTrue, filter, nat_lt, AllByRecursion, list_all, eq-eqb, ltb-false, Extent}
+use Rattle.segment_manager.proofs.Common.{handle, end_of, Object, Directory, IsDirectory, by_kind, by_name, is_object}
+use Rattle.segment_manager.proofs.Common.{live, named_objects, rises_from, sorted, unique_objects, value_extents}
+use Rattle.segment_manager.proofs.Common.{table_extents, is_own, is_own_span, own_spans}
 use Rattle.std.proofs.lemmas.List.Elements.{filter-append}
-use Rattle.best_fit.specs.Extents.{Extent, Span, handle, end_of, span_between, spans_from}
-use Rattle.best_fit.specs.Fit.{insert}
-use Rattle.segment_manager.specs.Directory.{Object, Directory, IsDirectory, by_kind, by_name, is_object, live, named_objects, rises_from, sorted, unique_objects, value_extents, table_extents}
-use Rattle.segment_manager.specs.Iterating.{is_own, is_own_span, own_spans}
-use Rattle.segment_manager.proofs.Words.{first, second}
+use Rattle.best_fit.specs.{Extents.Span, Extents.span_between, Extents.spans_from, Fit.insert}
+use Rattle.segment_manager.proofs.{Words.first, Words.second, ObjectLists.rises-rest, Indexes.rises-above}
 use Rattle.segment_manager.proofs.Order.{all-sorted, inserted}
 use Rattle.segment_manager.proofs.Live.{live-extents, spread, spread-cons, tables_of}
-use Rattle.segment_manager.proofs.ObjectLists.{rises-rest}
-use Rattle.segment_manager.proofs.Indexes.{rises-above}
 use Rattle.segment_manager.proofs.Handles.{NonePasses, index-none, is_object_block, none-append, object-told, table-of}
 
 -- ---- a filter of extents that are put in by offset

@@ -1,31 +1,22 @@
 -- The walk over the blocks and gaps that stops at those of objects, for each directory that the bytes stand for.
-use Rattle.std.proofs.Common.{◌≡◌, refl, sym, ap, subst, ◌∙◌, ℕ, zero, suc, ◌+◌, ◌-◌, ◌≤◌, Bool, true, false, Some, None, Option, List, [], ◌∷◌, add-one, length, map, arith, cond, ◌/◌, ◌<◌, take}
-use Rattle.std.specs.Prelude.{IsTrue, filter, is_some, option_map, slice_get, nat_lt}
-use Rattle.std.specs.List.{AllByRecursion}
-use Rattle.std.proofs.lemmas.Option.{none-some, same_Some, slice_get_within}
-use Rattle.std.proofs.lemmas.List.{length-map}
-use Rattle.raw_region.specs.Format.{current}
-use Rattle.raw_region.specs.Memory.{Memory, bytes_of}
-use Rattle.block_tags.specs.Format.{is_legal_size}
-use Rattle.block_tags.specs.declared.tile.Tile.{Tile}
-use Rattle.block_tags.specs.Tiles.{tile_at, tiles_from, tiles_of}
-use Rattle.best_fit.specs.Extents.{Extent, LiveSet, Span as LiveSpan, end_of, handle, is_proper, proper_from, spans}
-use Rattle.best_fit.proofs.Laws.{IsFirst, proper_from-IsFirst, proper_from-reaches, legal_size}
-use Rattle.seg_types.specs.Names.{ByHandle}
-use Rattle.segment_manager.specs.declared.telling.Instance.{Instance}
-use Rattle.segment_manager.specs.declared.tiles.Span.{Span}
-use Rattle.segment_manager.specs.Calls.{as_span}
-use Rattle.segment_manager.specs.Directory.{Object, Directory, live, object_at, rises_from}
-use Rattle.segment_manager.specs.Found.{IsBelow, is_object_at}
-use Rattle.segment_manager.specs.Instances.{IsInstance, SaysAt, SaysOf}
-use Rattle.segment_manager.specs.Iterating.{GoesOnOwn, GoesOnTiles, HasPassed, IsOwnBlock, TileWalk, is_own, is_own_span, own_before, own_count, own_spans}
-use Rattle.segment_manager.specs.State.{Answers, IsSegment, State, StandsFor}
-use Rattle.segment_manager.proofs.Bridge.{each-by_handle}
-use Rattle.segment_manager.proofs.Calling.{denotes-live}
-use Rattle.segment_manager.proofs.EntryPlaces.{all-at}
-use Rattle.segment_manager.proofs.ObjectLists.{rises-front, rises-rest}
+use Rattle.segment_manager.proofs.Common.{◌≡◌, refl, sym, ap, subst, ◌∙◌, ℕ, zero, suc, ◌+◌, ◌-◌, ◌≤◌, Bool, true}
+use Rattle.segment_manager.proofs.Common.{false, Some, None, Option, List, [], ◌∷◌, length, map, arith, cond, ◌/◌, ◌<◌}
+use Rattle.segment_manager.proofs.Common.{take, IsTrue, filter, is_some, option_map, slice_get, nat_lt, AllByRecursion}
+use Rattle.segment_manager.proofs.Common.{none-some, same_Some, slice_get_within, length-map, current, Memory, bytes_of}
+use Rattle.segment_manager.proofs.Common.{is_legal_size, Tile, tiles_of, Extent, LiveSet, end_of, handle, is_proper}
+use Rattle.segment_manager.proofs.Common.{proper_from, spans, legal_size, ByHandle, Instance, Object, Directory, live}
+use Rattle.segment_manager.proofs.Common.{object_at, rises_from, IsBelow, is_object_at, IsInstance, SaysAt, SaysOf}
+use Rattle.segment_manager.proofs.Common.{is_own, is_own_span, own_spans, Answers, IsSegment, State, StandsFor}
+use Rattle.std.proofs.Common.{add-one}
+use Rattle.block_tags.specs.Tiles.{tile_at, tiles_from}
+use Rattle.best_fit.specs.Extents.{Span as LiveSpan}
+use Rattle.best_fit.proofs.Laws.{IsFirst, proper_from-IsFirst, proper_from-reaches}
+use Rattle.segment_manager.specs.{declared.tiles.Span.Span, Calls.as_span}
+use Rattle.segment_manager.specs.Iterating.{GoesOnOwn, GoesOnTiles, HasPassed, IsOwnBlock, TileWalk, own_before}
+use Rattle.segment_manager.specs.Iterating.{own_count}
+use Rattle.segment_manager.proofs.{Bridge.each-by_handle, Calling.denotes-live, EntryPlaces.all-at}
+use Rattle.segment_manager.proofs.{ObjectLists.rises-front, ObjectLists.rises-rest, Words.second, Words.first}
 use Rattle.segment_manager.proofs.OwnBlocks.{all-own_spans, as_used, blocks, own-blocks}
-use Rattle.segment_manager.proofs.Words.{second, first}
 
 -- ---- places among those that pass
 

@@ -1,36 +1,22 @@
 -- Commands on the pairs of a map by literals: which call is the step of the command, by the kind of the object.
-use Rattle.std.proofs.Common.{◌≡◌, refl, sym, ap, subst, ◌∙◌, ℤ, true, false, Some, Option, None, Result, Ok, Err, List, ◌∷◌, []}
-use Rattle.std.specs.Prelude.{int_lt}
-use Rattle.std.proofs.lemmas.Bool.{eq-eqb}
-use Rattle.seg_types.specs.declared.kinds.Kind.TheVariants.{Map}
-use Rattle.seg_types.specs.declared.kinds.ScalarKind.{ScalarKind}
-use Rattle.seg_types.specs.declared.refusals.Refusal.{Refusal}
-use Rattle.seg_types.specs.declared.refusals.Refusal.TheVariants.{WrongKind}
-use Rattle.seg_types.specs.declared.values.ScalarValue.{ScalarValue}
-use Rattle.seg_types.specs.Kinds.{code_of, is_value}
-use Rattle.seg_types.specs.Names.{Key, ByHandle}
+use Rattle.segment_manager.proofs.Common.{◌≡◌, refl, sym, ap, subst, ◌∙◌, ℤ, true, false, Some, Option, None, Result}
+use Rattle.segment_manager.proofs.Common.{Ok, Err, List, ◌∷◌, [], int_lt, eq-eqb, Map, ScalarKind, Refusal, WrongKind}
+use Rattle.segment_manager.proofs.Common.{ScalarValue, code_of, is_value, Key, ByHandle, Literal, literal_of}
+use Rattle.segment_manager.proofs.Common.{value_of_literal, kind_of_scalar, value_of_scalar, pair_at, remove_pair}
+use Rattle.segment_manager.proofs.Common.{NumberPair, Located, Answer, Element, Refused, Truth, kind_at, IsToChange}
+use Rattle.segment_manager.proofs.Common.{IsUnchangeable, IsValueOf, Value, Numbers, Elements, Bytes, Pairs, Texts}
+use Rattle.segment_manager.proofs.Common.{Object, Directory, kind_of, live, object_at, IsMissing, IsLocated, Plan}
+use Rattle.segment_manager.proofs.Common.{Refuse, Reply, perform, with, Answers, IsReply, IsReplyOfKind, IsStep}
+use Rattle.segment_manager.proofs.Common.{IsStepOfKind, State, StandsFor, and_then, changed, effect, is_read_only}
+use Rattle.segment_manager.proofs.Common.{map_of, pair_of}
 use Rattle.seg_types.specs.Commands as asked
-use Rattle.seg_types.specs.Commands.{Literal, literal_of, value_of_literal}
-use Rattle.seg_types.specs.Values.{kind_of_scalar, value_of_scalar}
-use Rattle.seg_map.specs.Map.{pair_at, remove_pair}
-use Rattle.seg_map.specs.Numbers.{NumberPair}
-use Rattle.segment_manager.specs.declared.targets.Object.{Object as Located}
-use Rattle.segment_manager.specs.Answers.{Answer, Absent, Element, Refused, Truth}
-use Rattle.segment_manager.specs.Calls.{kind_at}
-use Rattle.segment_manager.specs.Changeable.{IsPairOf, IsToChange, IsUnchangeable, IsValueOf}
-use Rattle.segment_manager.specs.Directory.{Value, Numbers, Elements, Bytes, Pairs, Texts, Object, Directory, kind_of, live, object_at}
-use Rattle.segment_manager.specs.Instances.{IsMissing}
-use Rattle.segment_manager.specs.Located.{IsLocated}
-use Rattle.segment_manager.specs.Plan.{Plan, Refuse, Reply, perform, with}
-use Rattle.segment_manager.specs.State.{Answers, IsReply, IsReplyOfKind, IsStep, IsStepOfKind, State, StandsFor}
+use Rattle.segment_manager.specs.{Answers.Absent, Changeable.IsPairOf}
 use Rattle.segment_manager.specs.Step as step
-use Rattle.segment_manager.specs.Step.{and_then, changed, effect, is_read_only, map_of, pair_of}
 use Rattle.segment_manager.proofs.AnyStorage.{IsOfKindAt, kind-told, of_kind-steps}
 use Rattle.segment_manager.proofs.Changeable.{answered-reads, refuses, refuses-read, says-kind}
 use Rattle.segment_manager.proofs.Locating.{kind-by_key, reply_of_kind-by_key, step_of_kind-by_key}
 use Rattle.segment_manager.proofs.Steps.{step_of_kind-step, with-found, with-not_found}
-use Rattle.segment_manager.proofs.Stored.{literal-read}
-use Rattle.segment_manager.proofs.ElementLaws.{same_plan-steps}
+use Rattle.segment_manager.proofs.{Stored.literal-read, ElementLaws.same_plan-steps}
 
 -- ---- the plans
 

@@ -1,27 +1,18 @@
 -- Maps of values of two types as maps of their numbers: lists of pairs, maps at a place, and what the calls of seg_map ensure of them.
-use Rattle.std.proofs.Common.{◌≡◌, refl, sym, ap, subst, ◌∙◌, ℕ, ◌+◌, ℤ, Bool, true, false, ◌&&◌, ◌||◌, not, Option, Some, None, Result, Ok, Err, List, [], ◌∷◌, map, if◌then◌else◌}
+use Rattle.segment_manager.proofs.Common.{◌≡◌, refl, sym, ap, subst, ◌∙◌, ℕ, ◌+◌, ℤ, Bool, true, false, ◌&&◌, ◌||◌, not}
+use Rattle.segment_manager.proofs.Common.{Option, Some, None, Result, Ok, Err, List, [], ◌∷◌, map, if◌then◌else◌}
+use Rattle.segment_manager.proofs.Common.{IsTrue, MatchOption, MatchResult, find, int_lt, option_map, AllByRecursion}
+use Rattle.segment_manager.proofs.Common.{length-map, current, Cut, Has, Memory, bytes_of, Node, IsExchanged, LiveSet}
+use Rattle.segment_manager.proofs.Common.{handle, IsTreeOf, place, live_of, serves, ScalarKind, Plain, is_value}
+use Rattle.segment_manager.proofs.Common.{size_of, spelling, Erases, IsBesideMap, IsErased, IsFull, IsPut, IsPutAgain}
+use Rattle.segment_manager.proofs.Common.{Puts, Releases, is_key, is_rising, node_len, pair_at, put_pair, remove_pair}
+use Rattle.segment_manager.proofs.Common.{IsNumberPairAt, NumberPair, is_number_pair, FindsItem, FindsItemBefore}
+use Rattle.segment_manager.proofs.Common.{FindsLastItem, FindsValue, HoldsMap, IsPairIn, IsSomeMap, first_pair, item_of}
+use Rattle.segment_manager.proofs.Common.{nodes_of_pairs, value_of_pair, numbers_in, numbers_of}
 use mathlib.Core.List.{reverse}
-use Rattle.std.specs.Prelude.{IsTrue, MatchOption, MatchResult, find, int_lt, option_map}
-use Rattle.std.specs.List.{AllByRecursion}
-use Rattle.std.proofs.lemmas.List.{length-map}
-use Rattle.raw_region.specs.Format.{current}
-use Rattle.raw_region.specs.Memory.{Cut, Has, Memory, bytes_of}
-use Rattle.block_tags.specs.declared.tile.Role.TheVariants.{Node}
-use Rattle.best_fit.specs.Exchange.{IsExchanged}
-use Rattle.best_fit.specs.Extents.{LiveSet, handle}
-use Rattle.best_fit.specs.FreeTree.{IsTreeOf}
-use Rattle.best_fit.specs.Fit.{place}
-use Rattle.best_fit.specs.Heap.{live_of}
-use Rattle.best_fit.specs.Table.{serves}
-use Rattle.seg_types.specs.declared.kinds.ScalarKind.{ScalarKind}
-use Rattle.seg_types.specs.declared.plain.Plain.{Ghosts as Plain}
-use Rattle.seg_types.specs.Kinds.{is_value, size_of, spelling}
-use Rattle.seg_map.specs.Changing.{Erases, IsBesideMap, IsErased, IsFull, IsGivenUp, IsPut, IsPutAgain, Puts, Releases}
-use Rattle.seg_map.specs.Map.{IsPairAt, Pair, is_key, is_pair, is_rising, node_len, pair_at, put_pair, remove_pair}
-use Rattle.seg_map.specs.Numbers.{IsNumberPairAt, NumberPair, is_number_pair}
-use Rattle.seg_map.specs.Places.{FindsItem, FindsItemBefore, FindsLastItem, FindsValue, HoldsMap, IsPairIn, IsSomeMap, final_pair, first_pair, is_passed, item_of, last_pair, nodes_of_pairs, value_of_pair}
+use Rattle.seg_map.specs.{Changing.IsGivenUp, Map.IsPairAt, Map.Pair, Map.is_pair}
+use Rattle.seg_map.specs.Places.{final_pair, is_passed, last_pair}
 use Rattle.seg_map.proofs.Laws.{last_mapped, map_reversed}
-use Rattle.segment_manager.specs.Maps.{numbers_in, numbers_of}
 use Rattle.segment_manager.proofs.Words.{first, second}
 
 -- what a type's laws say of its values and their numbers

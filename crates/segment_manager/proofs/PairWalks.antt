@@ -1,32 +1,17 @@
 -- A walk over the pairs of the object of a key, of whatever kinds they are: what each call of it answers, and that none is left out.
-use Rattle.std.proofs.Common.{◌≡◌, refl, sym, ap, subst, ◌∙◌, ℕ, zero, suc, ◌+◌, ℤ, Bool, true, ◌&&◌, Option, Some, None, Result, Ok, Err, List, [], ◌∷◌, ◌++◌, slice_get, arith, if◌then◌else◌}
-use Rattle.std.specs.Prelude.{IsTrue, int_lt, option_map}
-use Rattle.std.specs.List.{list_all}
-use Rattle.std.proofs.lemmas.Bool.{eq-eqb}
-use Rattle.raw_region.specs.Format.{current}
-use Rattle.block_tags.specs.declared.tile.Role.TheVariants.{Node, Object as ObjectRole}
-use Rattle.best_fit.specs.Table.{serves}
-use Rattle.seg_types.specs.declared.kinds.Kind.TheVariants.{Map}
-use Rattle.seg_types.specs.declared.kinds.ScalarKind.{ScalarKind}
-use Rattle.seg_types.specs.declared.refusals.Refusal.{Refusal}
-use Rattle.seg_types.specs.declared.refusals.Refusal.TheVariants.{NotFound, WrongKind}
-use Rattle.seg_types.specs.declared.values.ScalarValue.{ScalarValue}
-use Rattle.seg_types.specs.Kinds.{code_of, is_kind_of, is_value, lowest, same_kind, size_of}
-use Rattle.seg_types.specs.Names.{Key}
-use Rattle.seg_types.specs.Values.{kind_of_scalar, value_of_scalar}
-use Rattle.seg_map.specs.Map.{is_rising, node_len}
-use Rattle.seg_map.specs.Numbers.{NumberPair, is_number_pair}
-use Rattle.seg_map.specs.Places.{item_of}
-use Rattle.segment_manager.specs.Denotes.{Denotes}
-use Rattle.segment_manager.specs.Directory.{Value, Pairs, Object, Directory, has_good_name, is_good_value, is_object, kind_of, object_at, object_len}
-use Rattle.segment_manager.specs.Maps.{pair_above, pair_from, told_of, told_of_map}
-use Rattle.segment_manager.specs.State.{Answers, State, StandsFor}
-use Rattle.segment_manager.specs.Walks.{AreOfKinds, IsMap, first_of, item_of_kinds, item_seen, numbers_read, pairs_at, pairs_of}
-use Rattle.segment_manager.proofs.AnyStorage.{IsOfKindAt, kind-told}
-use Rattle.segment_manager.proofs.Here.{standing}
-use Rattle.segment_manager.proofs.MapSteps.{map-only}
-use Rattle.segment_manager.proofs.MapWalks.{walk-goes_on, walk-starts}
-use Rattle.segment_manager.proofs.Words.{first, second}
+use Rattle.segment_manager.proofs.Common.{◌≡◌, refl, sym, ap, subst, ◌∙◌, ℕ, zero, suc, ◌+◌, ℤ, Bool, true, ◌&&◌}
+use Rattle.segment_manager.proofs.Common.{Option, Some, None, Result, Ok, Err, List, [], ◌∷◌, ◌++◌, slice_get, arith}
+use Rattle.segment_manager.proofs.Common.{if◌then◌else◌, IsTrue, int_lt, option_map, list_all, eq-eqb, current, Node}
+use Rattle.segment_manager.proofs.Common.{ObjectRole, serves, Map, ScalarKind, Refusal, NotFound, WrongKind}
+use Rattle.segment_manager.proofs.Common.{ScalarValue, code_of, is_kind_of, is_value, lowest, same_kind, size_of, Key}
+use Rattle.segment_manager.proofs.Common.{kind_of_scalar, value_of_scalar, is_rising, node_len, NumberPair}
+use Rattle.segment_manager.proofs.Common.{is_number_pair, item_of, Denotes, Value, Pairs, Object, Directory}
+use Rattle.segment_manager.proofs.Common.{has_good_name, is_good_value, is_object, kind_of, object_at, object_len}
+use Rattle.segment_manager.proofs.Common.{pair_above, pair_from, told_of, told_of_map, Answers, State, StandsFor, IsMap}
+use Rattle.segment_manager.proofs.Common.{first_of, item_of_kinds, item_seen, pairs_at, pairs_of}
+use Rattle.segment_manager.specs.Walks.{AreOfKinds, numbers_read}
+use Rattle.segment_manager.proofs.{AnyStorage.IsOfKindAt, AnyStorage.kind-told, Here.standing, MapSteps.map-only}
+use Rattle.segment_manager.proofs.{MapWalks.walk-goes_on, MapWalks.walk-starts, Words.first, Words.second}
 
 -- ---- the pairs of a good value
 

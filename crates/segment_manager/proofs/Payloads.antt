@@ -1,14 +1,12 @@
 -- The payload of a block, as it is lent and as contracts count its room.
-use Rattle.std.proofs.Common.{◌≡◌, sym, ap, subst, ◌∙◌, ℕ, ◌+◌, ◌-◌, ◌≤◌, ◌⊎◌, inl, inr, ◌&&◌, ◌==◌, true, List, [], ◌∷◌, length, arith}
-use Rattle.std.specs.Prelude.{IsTrue}
-use Rattle.std.specs.List.{list_any}
-use Rattle.std.proofs.lemmas.Bool.{or_cases, or_left, or_right}
-use Rattle.raw_region.specs.Memory.{Cut, Has, Same, bytes_of, part, read, word_at}
-use Rattle.raw_region.specs.Format.{current}
-use Rattle.best_fit.specs.Extents.{Extent, LiveSet, handle, holds}
-use Rattle.best_fit.specs.Heap.{IsChanged, IsHeap, LaysOut, has_room, is_live_in, live_of, payload_at}
-use Rattle.raw_region.proofs.Laws.{Has-same, Same-word, SameBut-Same, length-part, part-part, read-part}
-use Rattle.best_fit.proofs.Laws.{block_payload, changed-live, room_block}
+use Rattle.segment_manager.proofs.Common.{◌≡◌, sym, ap, subst, ◌∙◌, ℕ, ◌+◌, ◌-◌, ◌≤◌, ◌⊎◌, inl, inr, ◌&&◌, ◌==◌, true}
+use Rattle.segment_manager.proofs.Common.{List, [], ◌∷◌, length, arith, IsTrue, list_any, or_cases, or_left, or_right}
+use Rattle.segment_manager.proofs.Common.{Cut, Has, Same, bytes_of, part, read, word_at, current, Extent, LiveSet}
+use Rattle.segment_manager.proofs.Common.{handle, holds, IsChanged, IsHeap, LaysOut, has_room, is_live_in, live_of}
+use Rattle.segment_manager.proofs.Common.{Has-same, Same-word, SameBut-Same, changed-live, room_block}
+use Rattle.best_fit.specs.Heap.{payload_at}
+use Rattle.raw_region.proofs.Laws.{length-part, part-part, read-part}
+use Rattle.best_fit.proofs.Laws.{block_payload}
 use Rattle.segment_manager.proofs.Words.{first}
 
 -- ---- blocks with room are in use

@@ -1,18 +1,10 @@
 -- An object written piece by piece: the words of its head, its name, its elements.
-use Rattle.std.proofs.Common.{◌≡◌, sym, ap, subst, ◌∙◌, ℕ, ◌+◌, ◌-◌, ◌*◌, ◌<◌, ◌≤◌, List, ◌++◌, length, replicate, take, arith}
-use Rattle.std.specs.Prelude.{IsTrue}
-use Rattle.std.proofs.Math.Nat.{mul-le-mul_left}
-use Rattle.std.proofs.lemmas.List.{length-replicate, take-replicate}
-use Rattle.raw_region.specs.Memory.{Cut, Has, bytes_of, word_at}
-use Rattle.raw_region.specs.Format.{current}
-use Rattle.best_fit.specs.Heap.{IsChanged, IsHeap, has_room, live_of}
-use Rattle.seg_types.specs.declared.kinds.Kind.{Kind}
-use Rattle.seg_types.specs.declared.kinds.Class.{Class}
-use Rattle.seg_types.specs.Kinds.{class_code, code_of}
-use Rattle.segment_manager.specs.Directory.{padded}
-use Rattle.segment_manager.specs.Denotes.{padded_name, two_halves}
-use Rattle.segment_manager.specs.Standing.{IsHeadAt, repeated}
-use Rattle.best_fit.proofs.Laws.{changed-room}
+use Rattle.segment_manager.proofs.Common.{◌≡◌, sym, ap, subst, ◌∙◌, ℕ, ◌+◌, ◌-◌, ◌*◌, ◌<◌, ◌≤◌, List, ◌++◌, length}
+use Rattle.segment_manager.proofs.Common.{replicate, take, arith, IsTrue, mul-le-mul_left, length-replicate, Cut, Has}
+use Rattle.segment_manager.proofs.Common.{bytes_of, word_at, current, IsChanged, IsHeap, has_room, live_of, Kind, Class}
+use Rattle.segment_manager.proofs.Common.{class_code, code_of, padded, padded_name, two_halves, IsHeadAt, repeated}
+use Rattle.segment_manager.proofs.Common.{changed-room}
+use Rattle.std.proofs.lemmas.List.{take-replicate}
 use Rattle.segment_manager.proofs.NewBlocks.{changed-trans, room-less}
 use Rattle.segment_manager.proofs.Payloads.{bytes-stay, room-small, word-stays}
 use Rattle.segment_manager.proofs.Rows.{Has-append, repeated-length, repeated-more}

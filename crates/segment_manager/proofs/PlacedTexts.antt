@@ -1,18 +1,10 @@
 -- Texts that ask for their blocks one after another get what `place_all` gives.
-use Rattle.std.proofs.Common.{◌≡◌, refl, sym, ap, ◌∙◌, ℕ, Bool, true, false, List, [], ◌∷◌, Option, Some, None, length, ◌==◌}
-use Rattle.std.specs.Prelude.{IsTrue, option_map}
-use Rattle.std.proofs.lemmas.Bool.{cond-true, cond-false}
-use Rattle.block_tags.specs.declared.tile.Role.{Role}
-use Rattle.block_tags.specs.declared.tile.Role.TheVariants.{Storage}
-use Rattle.best_fit.specs.Extents.{Extent, LiveSet, is_proper}
-use Rattle.best_fit.specs.Fit.{added, place, resized}
+use Rattle.segment_manager.proofs.Common.{◌≡◌, refl, sym, ap, ◌∙◌, ℕ, Bool, true, false, List, [], ◌∷◌, Option, Some}
+use Rattle.segment_manager.proofs.Common.{None, length, ◌==◌, IsTrue, option_map, cond-true, cond-false, Role, Storage}
+use Rattle.segment_manager.proofs.Common.{Extent, LiveSet, is_proper, added, place, resized, placed_is_proper}
+use Rattle.segment_manager.proofs.Common.{OwnedText, Directory, Answer, Refused, NoSpace, Plan, New, Request, perform}
+use Rattle.segment_manager.proofs.Common.{with_owned_texts}
 use Rattle.best_fit.specs.Requests.{place_all, all_added}
-use Rattle.best_fit.proofs.Laws.{placed_is_proper}
-use Rattle.seg_vector.specs.Vector.{OwnedText}
-use Rattle.segment_manager.specs.Directory.{Directory}
-use Rattle.segment_manager.specs.Answers.{Answer, Refused}
-use Rattle.seg_types.specs.declared.refusals.Refusal.TheVariants.{NoSpace}
-use Rattle.segment_manager.specs.Plan.{Plan, New, Request, perform, with_owned_texts}
 use Rattle.segment_manager.specs.OwnedTexts.{text_needs, owned_texts, with_blocks, TextsArePlaced}
 use Rattle.segment_manager.proofs.Order.{live-rises, rising-insert, resized-fresh}
 

@@ -1,34 +1,18 @@
 -- The elements of an object of scalars that stands in its block: where each stands, and its number.
-use Rattle.std.proofs.Common.{◌≡◌, refl, sym, ap, subst, ◌∙◌, ℕ, zero, suc, ◌+◌, ◌*◌, ◌<◌, ◌≤◌, ℤ, pos, get_or, Bool, true, false, Option, Some, None, Result, Ok, Err, List, [], ◌∷◌, length, if◌then◌else◌, arith}
-use Rattle.std.specs.Prelude.{IsTrue, nat_lt, slice_get}
-use Rattle.std.specs.List.{list_all}
-use Rattle.std.proofs.Math.Nat.{mul-le-mul_left}
-use Rattle.std.proofs.lemmas.Bool.{ltb-true}
-use Rattle.std.proofs.lemmas.Option.{slice_get-get_or, slice_get_within}
-use Rattle.raw_region.specs.Format.{current}
-use Rattle.raw_region.specs.Memory.{Has, bytes_of, read}
-use Rattle.best_fit.specs.Extents.{handle}
-use Rattle.best_fit.specs.Heap.{has_room, live_of}
-use Rattle.seg_types.specs.declared.kinds.ScalarKind.{ScalarKind}
-use Rattle.seg_types.specs.declared.kinds.Kind.TheVariants.{Scalar}
-use Rattle.seg_types.specs.declared.refusals.Refusal.{Refusal}
-use Rattle.seg_types.specs.declared.refusals.Refusal.TheVariants.{NotFound, WrongKind, OutOfRange}
-use Rattle.seg_types.specs.Kinds.{is_value, same_kind, size_of, spelling}
-use Rattle.seg_types.specs.Names.{Key}
-use Rattle.seg_vector.specs.Vector.{spelled}
+use Rattle.segment_manager.proofs.Common.{◌≡◌, refl, sym, ap, subst, ◌∙◌, ℕ, zero, suc, ◌+◌, ◌*◌, ◌<◌, ◌≤◌, ℤ, pos}
+use Rattle.segment_manager.proofs.Common.{get_or, Bool, true, false, Option, Some, None, Result, Ok, Err, List, [], ◌∷◌}
+use Rattle.segment_manager.proofs.Common.{length, if◌then◌else◌, arith, IsTrue, nat_lt, slice_get, list_all}
+use Rattle.segment_manager.proofs.Common.{mul-le-mul_left, ltb-true, slice_get-get_or, slice_get_within, current, Has}
+use Rattle.segment_manager.proofs.Common.{bytes_of, read, handle, has_room, live_of, ScalarKind, Scalar, Refusal}
+use Rattle.segment_manager.proofs.Common.{NotFound, WrongKind, OutOfRange, is_value, same_kind, size_of, spelling, Key}
+use Rattle.segment_manager.proofs.Common.{spelled, Numbers, Object, Directory, count_of, is_good_value, is_object}
+use Rattle.segment_manager.proofs.Common.{kind_of, object_at, padded, value_len, Denotes, IsValueAt, handle_at}
+use Rattle.segment_manager.proofs.Common.{StandsAt, Answers, State}
 use Rattle.segment_manager.specs.declared.accessing.Place.{Place}
-use Rattle.segment_manager.specs.Directory.{Numbers, Object, Directory, count_of, is_good_value, is_object, kind_of, object_at, padded, value_len}
-use Rattle.segment_manager.specs.Denotes.{Denotes, IsValueAt}
-use Rattle.segment_manager.specs.Found.{handle_at}
-use Rattle.segment_manager.specs.Standing.{StandsAt, element_at, place_at, place_in}
-use Rattle.segment_manager.specs.State.{Answers, State}
-use Rattle.segment_manager.proofs.Blocks.{spelling-length}
+use Rattle.segment_manager.specs.Standing.{element_at, place_at, place_in}
+use Rattle.segment_manager.proofs.{Blocks.spelling-length, Codes.numbers-only, Frame.object-roomy, Rows.Has-element}
+use Rattle.segment_manager.proofs.{Standings.standing-room, Words.first, Words.second}
 use Rattle.segment_manager.proofs.Here.{IsHere, here, standing}
-use Rattle.segment_manager.proofs.Codes.{numbers-only}
-use Rattle.segment_manager.proofs.Frame.{object-roomy}
-use Rattle.segment_manager.proofs.Rows.{Has-element}
-use Rattle.segment_manager.proofs.Standings.{standing-room}
-use Rattle.segment_manager.proofs.Words.{first, second}
 
 -- ---- an element
 

@@ -1,30 +1,17 @@
 -- A call that changes a vector or text of an object is one step of the directory machine.
-use Rattle.std.proofs.Common.{◌≡◌, refl, sym, ap, ◌∙◌, ℕ, true, false, Bool, Option, Some, None, Result, Ok, Err, List, if◌then◌else◌, ◌*◌, subst, ◌&&◌}
-use Rattle.std.specs.Prelude.{IsTrue, nat_le, option_map}
-use Rattle.raw_region.specs.Memory.{Cut}
-use Rattle.best_fit.specs.Heap.{live_of}
-use Rattle.best_fit.specs.Table.{Table}
-use Rattle.best_fit.specs.Extents.{Extent, LiveSet}
-use Rattle.best_fit.specs.Fit.{regrow}
-use Rattle.seg_types.specs.declared.kinds.Kind.{Kind}
-use Rattle.seg_types.specs.declared.refusals.Refusal.{Refusal}
-use Rattle.seg_types.specs.declared.refusals.Refusal.TheVariants.{NoSpace, NotFound, WrongKind, ReadOnly}
-use Rattle.seg_types.specs.Kinds.{same_kind}
-use Rattle.seg_types.specs.Names.{Key}
-use Rattle.seg_types.specs.Commands.{Command, is_changing}
-use Rattle.seg_vector.specs.declared.places.Place.{Place}
-use Rattle.seg_vector.specs.Vector.{grown_table}
-use Rattle.segment_manager.specs.declared.modes.Mode.{Mode}
-use Rattle.segment_manager.specs.Answers.{Answer, Refused}
-use Rattle.segment_manager.specs.Contents.{Contents, IsRefilled, container_at, container_place, contents_of, has_values}
-use Rattle.segment_manager.specs.Directory.{Value, Object, Directory, kind_of, live, object_at}
-use Rattle.segment_manager.specs.Denotes.{Denotes}
-use Rattle.segment_manager.specs.Plan.{Reply, perform, with_capacity, Request, Regrown as RegrownNeed, Refuse}
-use Rattle.segment_manager.specs.State.{Answers, IsSegment, IsStep, IsStepOfKind, State, StandsFor}
-use Rattle.segment_manager.specs.Step.{changed, effect, is_read_only, step_of_kind, step}
-use Rattle.segment_manager.proofs.Calling.{denotes-live}
-use Rattle.segment_manager.proofs.Contained.{contents-changed}
-use Rattle.segment_manager.proofs.Steps.{IsMove, IsOpenFor, by_no_change, by_no_change_of_kind, by_step_of_kind, open-writing, step-effect, step_of_kind-found, step_of_kind-not_found, step_of_kind-other}
+use Rattle.segment_manager.proofs.Common.{◌≡◌, refl, sym, ap, ◌∙◌, ℕ, true, false, Bool, Option, Some, None, Result, Ok}
+use Rattle.segment_manager.proofs.Common.{Err, List, if◌then◌else◌, ◌*◌, subst, ◌&&◌, IsTrue, nat_le, option_map, Cut}
+use Rattle.segment_manager.proofs.Common.{live_of, Table, Extent, LiveSet, regrow, Kind, Refusal, NoSpace, NotFound}
+use Rattle.segment_manager.proofs.Common.{WrongKind, ReadOnly, same_kind, Key, Command, is_changing, Place, grown_table}
+use Rattle.segment_manager.proofs.Common.{Mode, Answer, Refused, Contents, IsRefilled, container_at, container_place}
+use Rattle.segment_manager.proofs.Common.{contents_of, has_values, Value, Object, Directory, kind_of, live, object_at}
+use Rattle.segment_manager.proofs.Common.{Denotes, Reply, perform, with_capacity, Request, RegrownNeed, Refuse, Answers}
+use Rattle.segment_manager.proofs.Common.{IsSegment, IsStep, IsStepOfKind, State, StandsFor, changed, effect}
+use Rattle.segment_manager.proofs.Common.{is_read_only, step_of_kind, step}
+use Rattle.segment_manager.proofs.{Calling.denotes-live, Contained.contents-changed}
+use Rattle.segment_manager.proofs.Steps.{IsMove, IsOpenFor, by_no_change, by_no_change_of_kind, by_step_of_kind}
+use Rattle.segment_manager.proofs.Steps.{open-writing, step-effect, step_of_kind-found, step_of_kind-not_found}
+use Rattle.segment_manager.proofs.Steps.{step_of_kind-other}
 
 -- ---- a plan that asks for room
 

@@ -1,15 +1,12 @@
 -- The live set after an object's value takes a block more or less, or has one regrown.
-use Rattle.std.proofs.Common.{◌≡◌, sym, ap, subst, ◌∙◌, ℕ, ◌≢◌, List, [], ◌∷◌, ◌++◌}
-use Rattle.std.specs.Prelude.{IsTrue}
-use Rattle.std.specs.List.{AllByRecursion}
-use Rattle.raw_region.specs.Memory.{Cut, bytes_of}
-use Rattle.best_fit.specs.Extents.{Extent, LiveSet, handle, is_proper}
-use Rattle.best_fit.specs.Fit.{insert, added, released}
-use Rattle.best_fit.specs.Heap.{SameBlock, Keeps}
-use Rattle.best_fit.proofs.Laws.{inserted-append}
-use Rattle.segment_manager.specs.Directory.{Object, Directory, live, extents_of, remove_object, with_changed, without_object}
+use Rattle.segment_manager.proofs.Common.{◌≡◌, sym, ap, subst, ◌∙◌, ℕ, ◌≢◌, List, [], ◌∷◌, ◌++◌, IsTrue, AllByRecursion}
+use Rattle.segment_manager.proofs.Common.{Cut, bytes_of, Extent, LiveSet, handle, is_proper, added, released, SameBlock}
+use Rattle.segment_manager.proofs.Common.{Keeps, inserted-append, Object, Directory, live, extents_of, remove_object}
+use Rattle.segment_manager.proofs.Common.{with_changed, without_object}
+use Rattle.best_fit.specs.Fit.{insert}
 use Rattle.segment_manager.proofs.Words.{AllByRecursion-front}
-use Rattle.segment_manager.proofs.Order.{Differs, Rising, IsFresh, inserted, insert-inserted, all_of-inserted, live-rises, rising-insert, apart-inserted, others-insert}
+use Rattle.segment_manager.proofs.Order.{Differs, Rising, IsFresh, inserted, insert-inserted, all_of-inserted}
+use Rattle.segment_manager.proofs.Order.{live-rises, rising-insert, apart-inserted, others-insert}
 use Rattle.segment_manager.proofs.Live.{adding, IsFound, IsIn, live-split, live-changed}
 
 -- ---- one extent among others

@@ -1,48 +1,25 @@
 -- What becomes of an object whose contents are released, for each kind of value.
-use Rattle.std.proofs.Common.{◌≡◌, refl, sym, ap, subst, ◌∙◌, append-nil, ℕ, ◌+◌, ℤ, Bool, Option, Some, None, Result, Ok, Err, List, [], length, map, if◌then◌else◌}
-use Rattle.std.specs.Prelude.{IsTrue}
-use Rattle.std.proofs.lemmas.Bool.{eq-eqb}
-use Rattle.std.proofs.lemmas.Option.{same_Some}
-use Rattle.raw_region.specs.Format.{current}
-use Rattle.raw_region.specs.Memory.{Cut, bytes_of}
-use Rattle.best_fit.specs.Exchange.{IsExchanged}
-use Rattle.best_fit.specs.Extents.{Extent, handle}
-use Rattle.best_fit.specs.Table.{no_table}
-use Rattle.seg_types.specs.declared.kinds.Kind.{Kind}
-use Rattle.seg_types.specs.declared.kinds.Kind.TheVariants.{Scalar, Text, Vector, Map, Texts as TextsKind}
-use Rattle.seg_types.specs.declared.kinds.ScalarKind.{ScalarKind}
-use Rattle.seg_types.specs.declared.refusals.Refusal.{Refusal}
-use Rattle.seg_types.specs.declared.refusals.Refusal.TheVariants.{NotFound, WrongKind}
-use Rattle.seg_types.specs.Kinds.{code_of}
-use Rattle.seg_types.specs.Names.{ByHandle, Key}
-use Rattle.seg_map.specs.declared.places.Place.{Place as MapPlace}
+use Rattle.segment_manager.proofs.Common.{◌≡◌, refl, sym, ap, subst, ◌∙◌, append-nil, ℕ, ◌+◌, ℤ, Bool, Option, Some}
+use Rattle.segment_manager.proofs.Common.{None, Result, Ok, Err, List, [], length, map, if◌then◌else◌, IsTrue, eq-eqb}
+use Rattle.segment_manager.proofs.Common.{same_Some, current, Cut, bytes_of, IsExchanged, Extent, handle, no_table}
+use Rattle.segment_manager.proofs.Common.{Kind, Scalar, Text, Vector, Map, TextsKind, ScalarKind, Refusal, NotFound}
+use Rattle.segment_manager.proofs.Common.{WrongKind, code_of, ByHandle, Key, MapPlace, Place, place_at, IsSomeText}
+use Rattle.segment_manager.proofs.Common.{IsTextNow, IsSomeTexts, IsTextsNow, IsSomeVector, IsVectorNow, Head}
+use Rattle.segment_manager.proofs.Common.{IsNumbers, IsNumbersNow, container_at, container_place, place_of_kind}
+use Rattle.segment_manager.proofs.Common.{Denotes, IsValueAt, Becomes, Empties, HoldsObject, ReleasesNumbers, emptied}
+use Rattle.segment_manager.proofs.Common.{Value, Elements, Bytes, Pairs, Texts, Object, Directory, has_key, is_object}
+use Rattle.segment_manager.proofs.Common.{kind_of, object_at, padded, value_extents, value_len, head_len, HasPairs}
+use Rattle.segment_manager.proofs.Common.{ReleasesPairs, numbers_of, HasObject, IsHeadOf, StandsAt, StandsFor, changed}
 use Rattle.seg_map.specs.Changing.{IsGivenUp}
-use Rattle.seg_vector.specs.declared.places.Place.{Place}
-use Rattle.seg_vector.specs.Standing.{place_at}
-use Rattle.seg_vector.specs.TextCalls.{IsSomeText, IsTextNow, ReleasesText}
-use Rattle.seg_vector.specs.TextsCalls.{IsSomeTexts, IsTextsNow, ReleasesTexts}
-use Rattle.seg_vector.specs.VectorCalls.{IsSomeVector, IsVectorNow, Releases}
-use Rattle.segment_manager.specs.declared.head.Head.{Head}
-use Rattle.segment_manager.specs.Contents.{IsNumbers, IsNumbersNow, container_at, container_place, place_of_kind}
-use Rattle.segment_manager.specs.Denotes.{Denotes, IsValueAt}
-use Rattle.segment_manager.specs.Destroyed.{Becomes, Empties, HasNumbers, HoldsObject, ReleasesNumbers, emptied}
-use Rattle.segment_manager.specs.Directory.{Value, Elements, Bytes, Pairs, Texts, Object, Directory, has_key, is_object, kind_of, object_at, padded, value_extents, value_len}
-use Rattle.segment_manager.specs.Layout.{head_len}
-use Rattle.segment_manager.specs.Maps.{HasPairs, ReleasesPairs, numbers_of}
-use Rattle.segment_manager.specs.Standing.{HasObject, IsHeadOf, StandsAt}
-use Rattle.segment_manager.specs.State.{StandsFor}
-use Rattle.segment_manager.specs.Step.{changed}
-use Rattle.segment_manager.proofs.Contained.{good-with, start-place}
+use Rattle.seg_vector.specs.{TextCalls.ReleasesText, TextsCalls.ReleasesTexts, VectorCalls.Releases}
+use Rattle.segment_manager.specs.Destroyed.{HasNumbers}
+use Rattle.segment_manager.proofs.{Contained.good-with, Contained.start-place, Frame.object-roomy, Here.standing}
+use Rattle.segment_manager.proofs.{Live.IsIn, Rewritten.value_start, Rewritten.with_value, TextSteps.HoldsText}
+use Rattle.segment_manager.proofs.{TextSteps.holds-text, TextsHeld.HoldsTexts, TextsHeld.holds-texts}
 use Rattle.segment_manager.proofs.Emptied.{changed-itself, emptied-is, emptied-numbers}
 use Rattle.segment_manager.proofs.Exchanged.{Exchange, between, denotes-container}
-use Rattle.segment_manager.proofs.Frame.{object-roomy}
-use Rattle.segment_manager.proofs.Here.{standing}
-use Rattle.segment_manager.proofs.Live.{IsIn}
 use Rattle.segment_manager.proofs.MapCalls.{HoldsPairs, as_map, holds-pairs}
 use Rattle.segment_manager.proofs.ObjectLists.{all-found, each-true, found-handle, key-found}
-use Rattle.segment_manager.proofs.Rewritten.{value_start, with_value}
-use Rattle.segment_manager.proofs.TextSteps.{HoldsText, holds-text}
-use Rattle.segment_manager.proofs.TextsHeld.{HoldsTexts, holds-texts}
 use Rattle.segment_manager.proofs.VectorSteps.{HoldsVector, holds-vector}
 use Rattle.segment_manager.proofs.Whole.{IsOfKind, of-whole, stands-whole, whole-now, whole-reached}
 

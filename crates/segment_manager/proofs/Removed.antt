@@ -1,31 +1,18 @@
 -- What the bytes denote after the entry of an object is removed and its blocks are released.
-use Rattle.std.proofs.Common.{◌≡◌, sym, ap, subst, ◌∙◌, ℕ, ◌+◌, Bool, true, false, ◌==◌, List, [], ◌∷◌, arith, if◌then◌else◌}
-use Rattle.std.specs.Prelude.{flat_map}
-use Rattle.std.specs.List.{AllByRecursion}
-use Rattle.raw_region.specs.Memory.{Cut, Memory, Same, bytes_of}
-use Rattle.raw_region.specs.Format.{current}
-use Rattle.raw_region.proofs.Laws.{Same-part, Same-trans}
-use Rattle.best_fit.specs.Extents.{Extent, LiveSet, handle}
-use Rattle.best_fit.specs.Heap.{Keeps, LaysOut, SameBlock, live_of}
-use Rattle.best_fit.specs.Table.{Table, no_table}
-use Rattle.best_fit.proofs.Laws.{blocks-trans, lay_out_one}
-use Rattle.seg_index.specs.declared.index.Index.{Index}
+use Rattle.segment_manager.proofs.Common.{◌≡◌, sym, ap, subst, ◌∙◌, ℕ, ◌+◌, Bool, true, false, ◌==◌, List, [], ◌∷◌}
+use Rattle.segment_manager.proofs.Common.{arith, if◌then◌else◌, flat_map, AllByRecursion, Cut, Memory, Same, bytes_of}
+use Rattle.segment_manager.proofs.Common.{current, Same-part, Same-trans, Extent, LiveSet, handle, Keeps, LaysOut}
+use Rattle.segment_manager.proofs.Common.{SameBlock, live_of, Table, no_table, blocks-trans, lay_out_one, Index}
+use Rattle.segment_manager.proofs.Common.{KeepsRest, beside_table, IsIndexOf, place_of, IsIndexAt, Denotes, handles}
+use Rattle.segment_manager.proofs.Common.{Object, Directory, extents_of, live, remove_object, table_extents}
+use Rattle.segment_manager.proofs.Common.{without_object, class_of_index, entries_of, objects_of, table_of}
+use Rattle.segment_manager.proofs.Common.{with_table_of}
 use Rattle.seg_index.specs.declared.index.Index.TheVariants as index
-use Rattle.seg_index.specs.Growth.{KeepsRest, beside_table}
-use Rattle.seg_index.specs.Held.{IsIndexOf, place_of}
-use Rattle.seg_index.specs.Index.{IsIndexAt}
-use Rattle.segment_manager.specs.Denotes.{Denotes, handles}
-use Rattle.segment_manager.specs.Directory.{Object, Directory, extents_of, live, remove_object, table_extents, without_object}
-use Rattle.segment_manager.specs.Indexed.{class_of_index, entries_of, objects_of, table_of, with_table_of}
 use Rattle.segment_manager.proofs.Added.{has-one, place-high, place-low}
-use Rattle.segment_manager.proofs.AnyClass.{KeepsFront, denotes-taken}
-use Rattle.segment_manager.proofs.Bridge.{no-entry-removed}
-use Rattle.segment_manager.proofs.Calling.{denotes-live}
+use Rattle.segment_manager.proofs.{AnyClass.KeepsFront, AnyClass.denotes-taken, Bridge.no-entry-removed}
+use Rattle.segment_manager.proofs.{Calling.denotes-live, Frame.any_index-same, Order.live-rises, Tables.index-left_out}
 use Rattle.segment_manager.proofs.Entered.{HasOne, OfRest, of_rest, other, other-stays, other-words, other_class}
-use Rattle.segment_manager.proofs.Frame.{any_index-same}
 use Rattle.segment_manager.proofs.Live.{IsIn, OfEach, live-without, of_each, removing}
-use Rattle.segment_manager.proofs.Order.{live-rises}
-use Rattle.segment_manager.proofs.Tables.{index-left_out}
 use Rattle.segment_manager.proofs.Words.{AllByRecursion-append, AllByRecursion-behind, AllByRecursion-front}
 
 -- ---- one object's blocks less

@@ -1,26 +1,17 @@
 -- What bytes denote by an older format they denote by the current one, where version, tags and free tree are those of the current one.
-use Rattle.std.proofs.Common.{◌≡◌, refl, ap, ◌∙◌, ℕ, zero, suc, Bool, true, false, not, ◌&&◌, ◌==◌, List, [], ◌∷◌, length, arith}
-use Rattle.std.specs.Prelude.{IsTrue, nat_le, nat_lt, if◌then◌else◌}
-use Rattle.std.specs.List.{AllByRecursion, list_all}
-use Rattle.std.specs.Str.{IsAscii, chars, is_utf8}
-use Rattle.std.proofs.lemmas.Bool.{and_from, and_parts, and_left, le-leb, leb-true, lt-leb, le-ltb, or_from, not_from_false}
+use Rattle.segment_manager.proofs.Common.{◌≡◌, refl, ap, ◌∙◌, ℕ, zero, suc, Bool, true, false, not, ◌&&◌, ◌==◌, List}
+use Rattle.segment_manager.proofs.Common.{[], ◌∷◌, length, arith, IsTrue, nat_le, nat_lt, if◌then◌else◌, AllByRecursion}
+use Rattle.segment_manager.proofs.Common.{list_all, chars, is_utf8, and_from, and_parts, le-leb, leb-true, lt-leb}
+use Rattle.segment_manager.proofs.Common.{le-ltb, current, Memory, Same, bytes_of, word_at, Same-part, Same-word}
+use Rattle.segment_manager.proofs.Common.{LaysOut, SameBlock, Kind, Scalar, is_kind_of, is_control, is_name}
+use Rattle.segment_manager.proofs.Common.{is_printable_name, is_text_name, Denotes, IsHeader, Directory, IsDirectory}
+use Rattle.segment_manager.proofs.Common.{Object, by_kind, by_name, has_good_name, is_class, is_good_value, is_object}
+use Rattle.segment_manager.proofs.Common.{kind_of, live, named_objects, object_len, unique_objects, serves, ObjectRole}
+use Rattle.std.specs.Str.{IsAscii}
+use Rattle.std.proofs.lemmas.Bool.{and_left, or_from, not_from_false}
 use Rattle.std.proofs.lemmas.Str.{IsUtf8-from_ascii, chars-IsAscii, is_utf8-from_IsUtf8}
-use Rattle.raw_region.specs.Format.{current}
-use Rattle.raw_region.specs.Memory.{Memory, Same, bytes_of, word_at}
-use Rattle.raw_region.proofs.Laws.{Same-part, Same-word}
-use Rattle.best_fit.specs.Heap.{LaysOut, SameBlock}
-use Rattle.seg_types.specs.declared.kinds.Kind.{Kind}
-use Rattle.seg_types.specs.declared.kinds.Kind.TheVariants.{Scalar}
 use Rattle.seg_types.specs.declared.kinds.Class.TheVariants.{Named}
-use Rattle.seg_types.specs.Kinds.{is_kind_of}
-use Rattle.seg_types.specs.Names.{is_control, is_name, is_printable_name, is_text_name}
-use Rattle.segment_manager.specs.Denotes.{Denotes, IsHeader}
-use Rattle.segment_manager.specs.Directory.{Directory, IsDirectory, Object, by_kind, by_name, has_good_name, is_class, is_good_value, is_object, kind_of, live, named_objects, object_len, unique_objects}
-use Rattle.best_fit.specs.Table.{serves}
-use Rattle.block_tags.specs.declared.tile.Role.TheVariants.{Object as ObjectRole}
-use Rattle.segment_manager.proofs.Denoted.{index-stays}
-use Rattle.segment_manager.proofs.Frame.{any_objects-same}
-use Rattle.segment_manager.proofs.Live.{OfEach, of_each}
+use Rattle.segment_manager.proofs.{Denoted.index-stays, Frame.any_objects-same, Live.OfEach, Live.of_each}
 
 -- ---- names and kinds
 

@@ -1,34 +1,23 @@
 -- Reading an element of the object of a key: what the step answers, for each directory that the bytes denote.
-use Rattle.std.proofs.Common.{◌≡◌, refl, sym, ap, ◌∙◌, ℕ, ◌+◌, ◌≤◌, ℤ, true, false, Option, Some, None, Result, Ok, Err, List, length, arith}
-use Rattle.std.specs.Prelude.{IsTrue, MatchOption, slice_get, slice_set}
+use Rattle.segment_manager.proofs.Common.{◌≡◌, refl, sym, ap, ◌∙◌, ℕ, ◌+◌, ◌≤◌, ℤ, true, false, Option, Some, None}
+use Rattle.segment_manager.proofs.Common.{Result, Ok, Err, List, length, arith, IsTrue, MatchOption, slice_get}
+use Rattle.segment_manager.proofs.Common.{slice_set, eq-eqb, false≢true, ltb-false, slice_get_past, bytes_of, read}
+use Rattle.segment_manager.proofs.Common.{has_room, live_of, ScalarKind, Scalar, Refusal, WrongKind, OutOfRange}
+use Rattle.segment_manager.proofs.Common.{ScalarValue, code_of, is_value, same_kind, size_of, spelling, Key}
+use Rattle.segment_manager.proofs.Common.{value_of_scalar, Literal, value_of_literal, Mode, Answer, Element, Refused}
+use Rattle.segment_manager.proofs.Common.{Done, Object, Directory, Numbers, count_of, kind_of, live, object_at, perform}
+use Rattle.segment_manager.proofs.Common.{Refuse, Reply, with, Answers, IsReplyOfKind, IsSegment, State, answer_of}
+use Rattle.segment_manager.proofs.Common.{scalar_answer, step_of_kind, effect, get, set, changed}
 use Rattle.std.specs.Option.{ok_or}
-use Rattle.std.proofs.lemmas.Bool.{eq-eqb, false≢true, ltb-false}
-use Rattle.std.proofs.lemmas.Option.{slice_get_past}
 use Rattle.byteorder.specs.Endian.{little_number}
-use Rattle.raw_region.specs.Memory.{bytes_of, read}
-use Rattle.best_fit.specs.Heap.{has_room, live_of}
-use Rattle.seg_types.specs.declared.kinds.ScalarKind.{ScalarKind}
-use Rattle.seg_types.specs.declared.kinds.Kind.TheVariants.{Scalar}
-use Rattle.seg_types.specs.declared.refusals.Refusal.{Refusal}
-use Rattle.seg_types.specs.declared.refusals.Refusal.TheVariants.{WrongKind, OutOfRange}
-use Rattle.seg_types.specs.declared.values.ScalarValue.{ScalarValue}
-use Rattle.seg_types.specs.Kinds.{code_of, is_spelling, is_value, same_kind, size_of, spelling, value_of}
-use Rattle.seg_types.specs.Names.{Key}
+use Rattle.seg_types.specs.{Kinds.is_spelling, Kinds.value_of, Values.SpelledBy}
 use Rattle.seg_types.specs.Commands as asked
-use Rattle.seg_types.specs.Values.{SpelledBy, value_of_scalar}
 use Rattle.seg_types.proofs.Laws.{all_spell_one}
-use Rattle.seg_types.specs.Commands.{Literal, value_of_literal}
-use Rattle.segment_manager.specs.declared.accessing.Place.{Place}
-use Rattle.segment_manager.specs.declared.modes.Mode.{Mode}
-use Rattle.segment_manager.specs.Answers.{Answer, Element, Refused, Done}
-use Rattle.segment_manager.specs.Directory.{Object, Directory, Numbers, count_of, kind_of, live, object_at}
-use Rattle.segment_manager.specs.Plan.{perform, Refuse, Reply, with}
-use Rattle.segment_manager.specs.Standing.{place_at}
-use Rattle.segment_manager.specs.State.{Answers, IsReplyOfKind, IsSegment, State, answer_of, scalar_answer}
-use Rattle.segment_manager.specs.Step.{step_of_kind, effect, get, set, changed}
-use Rattle.segment_manager.proofs.Codes.{numbers-only}
-use Rattle.segment_manager.proofs.Places.{ElementAt, Lacks, Other, Past, Missing, Nowhere, Within, element-found, element-missing, element-read, element-room}
-use Rattle.segment_manager.proofs.Steps.{open-reading, step_of_kind-found, step_of_kind-not_found, step_of_kind-other, with-found}
+use Rattle.segment_manager.specs.{declared.accessing.Place.Place, Standing.place_at}
+use Rattle.segment_manager.proofs.{Codes.numbers-only, Steps.open-reading, Steps.step_of_kind-found}
+use Rattle.segment_manager.proofs.{Steps.step_of_kind-not_found, Steps.step_of_kind-other, Steps.with-found}
+use Rattle.segment_manager.proofs.Places.{ElementAt, Lacks, Other, Past, Missing, Nowhere, Within, element-found}
+use Rattle.segment_manager.proofs.Places.{element-missing, element-read, element-room}
 
 -- ---- the elements of numbers
 

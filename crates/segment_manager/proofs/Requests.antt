@@ -1,24 +1,12 @@
 -- What a construction asks for, in order: a place in an index, and then the object's own block.
-use Rattle.std.proofs.Common.{◌≡◌, refl, ap, ◌∙◌, ℕ, ◌*◌, ◌<◌, ◌≤◌, Some, None, length, if◌then◌else◌}
-use Rattle.std.specs.Prelude.{IsTrue}
-use Rattle.std.proofs.lemmas.Bool.{lt-ltb, le-ltb}
-use Rattle.block_tags.specs.declared.tile.Role.{Role}
-use Rattle.block_tags.specs.declared.tile.Role.TheVariants.{Index as IndexRole}
-use Rattle.best_fit.specs.Extents.{Extent, LiveSet, is_proper}
-use Rattle.best_fit.specs.Fit.{added, place, resized}
-use Rattle.best_fit.proofs.Laws.{placed_is_proper}
-use Rattle.seg_types.specs.declared.refusals.Refusal.TheVariants.{NoSpace}
-use Rattle.seg_index.specs.declared.index.Index.{Index}
+use Rattle.segment_manager.proofs.Common.{◌≡◌, refl, ap, ◌∙◌, ℕ, ◌*◌, ◌<◌, ◌≤◌, Some, None, length, if◌then◌else◌}
+use Rattle.segment_manager.proofs.Common.{IsTrue, lt-ltb, le-ltb, Role, IndexRole, Extent, LiveSet, is_proper, added}
+use Rattle.segment_manager.proofs.Common.{place, resized, placed_is_proper, NoSpace, Index, grown_capacity, Refused}
+use Rattle.segment_manager.proofs.Common.{Directory, live, class_of_index, objects_of, table_of, with_table_of, Plan}
+use Rattle.segment_manager.proofs.Common.{perform, with_entry, with_new_index, with_place}
 use Rattle.seg_index.specs.declared.index.Index.TheVariants as index
-use Rattle.seg_index.specs.Index.{grown_capacity}
-use Rattle.segment_manager.specs.Answers.{Refused}
-use Rattle.segment_manager.specs.Directory.{Directory, live}
-use Rattle.segment_manager.specs.Indexed.{class_of_index, objects_of, table_of, with_table_of}
-use Rattle.segment_manager.specs.Plan.{Plan, perform, with_entry, with_new_index, with_place}
-use Rattle.segment_manager.proofs.Added.{grown_into}
+use Rattle.segment_manager.proofs.{Added.grown_into, Steps.perform-new, Steps.perform-no_space, Tables.same-table}
 use Rattle.segment_manager.proofs.Order.{IsFresh, live-rises, resized-fresh, rising-insert}
-use Rattle.segment_manager.proofs.Steps.{perform-new, perform-no_space}
-use Rattle.segment_manager.proofs.Tables.{same-table}
 
 -- ---- a place in an index
 

@@ -1,31 +1,17 @@
 -- The calls that give the indexes other capacities, as steps of the machine.
-use Rattle.std.proofs.Common.{◌≡◌, refl, sym, ap, subst, ◌∙◌, ℕ, ◌*◌, ◌<◌, ◌≤◌, ◌⊎◌, inl, inr, true, false, List, length, arith, if◌then◌else◌}
-use Rattle.std.specs.Prelude.{nat_le}
-use Rattle.std.proofs.lemmas.Bool.{cases_lt, le-leb, lt-leb}
-use Rattle.raw_region.specs.Memory.{Cut}
-use Rattle.raw_region.specs.Format.{current}
-use Rattle.raw_region.proofs.Laws.{SamePlace-trans}
-use Rattle.block_tags.specs.declared.tile.Role.TheVariants.{Index as IndexRole}
-use Rattle.best_fit.specs.Fit.{place}
-use Rattle.best_fit.specs.Heap.{IsRefused}
-use Rattle.best_fit.specs.Table.{Table, cut_table}
-use Rattle.seg_types.specs.declared.refusals.Refusal.TheVariants.{NoSpace}
+use Rattle.segment_manager.proofs.Common.{◌≡◌, refl, sym, ap, subst, ◌∙◌, ℕ, ◌*◌, ◌<◌, ◌≤◌, ◌⊎◌, inl, inr, true, false}
+use Rattle.segment_manager.proofs.Common.{List, length, arith, if◌then◌else◌, nat_le, cases_lt, le-leb, lt-leb, Cut}
+use Rattle.segment_manager.proofs.Common.{current, SamePlace-trans, IndexRole, place, IsRefused, Table, cut_table}
+use Rattle.segment_manager.proofs.Common.{NoSpace, is_changing, Index, IsReserved, IsRoomy, IsShrunk, HasIndex}
+use Rattle.segment_manager.proofs.Common.{IsIndexOf, capacity_at, place_of, Done, Refused, Denotes, Directory, live}
+use Rattle.segment_manager.proofs.Common.{entries_of, objects_of, reserve_of, table_of, with_table_of, Plan, New, Reply}
+use Rattle.segment_manager.proofs.Common.{Request, IsSegment, IsStep, State, effect, is_read_only, step}
 use Rattle.seg_types.specs.Commands as asked
-use Rattle.seg_types.specs.Commands.{is_changing}
-use Rattle.seg_index.specs.declared.index.Index.{Index}
 use Rattle.seg_index.specs.declared.index.Index.TheVariants as index
-use Rattle.seg_index.specs.Capacities.{IsReserved, IsRoomy, IsShrunk}
-use Rattle.seg_index.specs.Held.{HasIndex, IsIndexOf, capacity_at, place_of}
-use Rattle.segment_manager.specs.Answers.{Done, Refused}
-use Rattle.segment_manager.specs.Denotes.{Denotes}
-use Rattle.segment_manager.specs.Directory.{Directory, live}
-use Rattle.segment_manager.specs.Indexed.{entries_of, objects_of, reserve_of, table_of, with_table_of}
-use Rattle.segment_manager.specs.Plan.{Plan, New, Reply, Request}
-use Rattle.segment_manager.specs.State.{IsSegment, IsStep, State}
-use Rattle.segment_manager.specs.Step.{effect, is_read_only, shrunk_indexes, step}
-use Rattle.segment_manager.proofs.Calling.{denotes-live}
-use Rattle.segment_manager.proofs.HeldIndexes.{denotes-index}
-use Rattle.segment_manager.proofs.Steps.{by_no_change, by_step, lands, open-writing, perform-new, perform-no_space, step-plan, step-reply}
+use Rattle.segment_manager.specs.Step.{shrunk_indexes}
+use Rattle.segment_manager.proofs.{Calling.denotes-live, HeldIndexes.denotes-index}
+use Rattle.segment_manager.proofs.Steps.{by_no_change, by_step, lands, open-writing, perform-new, perform-no_space}
+use Rattle.segment_manager.proofs.Steps.{step-plan, step-reply}
 use Rattle.segment_manager.proofs.Tabled.{places_in, reserved-tabled, shrunk-tabled, tabled-denotes}
 
 pub reserve-changes : (i : Index) (n : ℕ) → is_changing (reserve_of i n) ≡ true

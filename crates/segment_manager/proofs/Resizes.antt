@@ -1,20 +1,12 @@
 -- What the bytes stand for where the end of the heap moves, and then the size is written.
-use Rattle.std.proofs.Common.{◌≡◌, refl, sym, ap, subst, ◌∙◌, ℕ, ◌+◌, ◌≤◌, inl, inr, List, length, arith}
-use Rattle.std.specs.List.{AllByRecursion}
-use Rattle.raw_region.specs.Memory.{Cut, Same, bytes_of, word_at}
-use Rattle.raw_region.specs.Format.{current}
-use Rattle.raw_region.proofs.Laws.{Same-part, Same-word}
+use Rattle.segment_manager.proofs.Common.{◌≡◌, refl, sym, ap, subst, ◌∙◌, ℕ, ◌+◌, ◌≤◌, inl, inr, List, length, arith}
+use Rattle.segment_manager.proofs.Common.{AllByRecursion, Cut, Same, bytes_of, word_at, current, Same-part, Same-word}
+use Rattle.segment_manager.proofs.Common.{LiveSet, IsChanged, LaysOut, SameBlock, live_of, blocks-trans, lay_out_one}
+use Rattle.segment_manager.proofs.Common.{Directory, by_kind, by_name, live, named_objects, unique_objects, Denotes}
+use Rattle.segment_manager.proofs.Common.{IsHeader, Resizes, grown, shrunk, IsSegment, StandsFor, State}
 use Rattle.best_fit.specs.Ends.{EndsAt, HasEndMoved, least_size, of_size}
-use Rattle.best_fit.specs.Extents.{LiveSet}
-use Rattle.best_fit.specs.Heap.{IsChanged, LaysOut, SameBlock, live_of}
-use Rattle.best_fit.proofs.Laws.{blocks-trans, changed-header_blocks, ends-then, lay_out_one}
-use Rattle.segment_manager.specs.Directory.{Directory, by_kind, by_name, live, named_objects, unique_objects}
-use Rattle.segment_manager.specs.Denotes.{Denotes, IsHeader}
-use Rattle.segment_manager.specs.Resized.{Resizes, grown, shrunk}
-use Rattle.segment_manager.specs.State.{IsSegment, StandsFor, State}
-use Rattle.segment_manager.proofs.Calling.{denotes-live}
-use Rattle.segment_manager.proofs.Denoted.{index-stays}
-use Rattle.segment_manager.proofs.Frame.{any_objects-same}
+use Rattle.best_fit.proofs.Laws.{changed-header_blocks, ends-then}
+use Rattle.segment_manager.proofs.{Calling.denotes-live, Denoted.index-stays, Frame.any_objects-same}
 use Rattle.segment_manager.proofs.Live.{OfEach, live-size, of_each}
 
 -- the live set of a directory of another size

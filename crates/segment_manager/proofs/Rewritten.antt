@@ -1,22 +1,15 @@
 -- What the bytes denote after an object's value was written in one of its blocks, its own or another: the same objects, of which
 -- one has another value. The blocks stay.
-use Rattle.std.proofs.Common.{◌≡◌, refl, sym, subst, ◌∙◌, ℕ, ◌+◌, ◌-◌, ◌≤◌, true, ◌&&◌, ◌==◌, List, ◌∷◌, ◌++◌, length, arith}
-use Rattle.std.specs.Prelude.{IsTrue}
-use Rattle.std.proofs.lemmas.Bool.{and_from, eq-eqb, le-leb}
-use Rattle.raw_region.specs.Memory.{Cut, Memory, Same, bytes_of}
-use Rattle.best_fit.specs.Extents.{Extent, LiveSet, handle, end_of, holds}
-use Rattle.best_fit.specs.Fit.{released}
-use Rattle.best_fit.specs.Heap.{IsChanged, Keeps, LaysOut, has_room, live_of}
-use Rattle.seg_types.specs.Kinds.{code_of}
-use Rattle.segment_manager.specs.Directory.{Value, Object, Directory, count_of, extents_of, is_object, kind_of, live, padded, value_extents, with_changed, without_object}
-use Rattle.segment_manager.specs.Denotes.{Denotes, IsObjectAt, IsValueAt, padded_name, two_halves}
-use Rattle.raw_region.proofs.Laws.{Has-same, Same-word}
-use Rattle.best_fit.proofs.Laws.{changed-keeps_block, list_any-insert}
-use Rattle.segment_manager.proofs.Calling.{denotes-live}
-use Rattle.segment_manager.proofs.Denoted.{denotes-replaced}
-use Rattle.segment_manager.proofs.Faces.{IsLike}
-use Rattle.segment_manager.proofs.Frame.{padded_name-length}
-use Rattle.segment_manager.proofs.Live.{IsIn, live-same}
+use Rattle.segment_manager.proofs.Common.{◌≡◌, refl, sym, subst, ◌∙◌, ℕ, ◌+◌, ◌-◌, ◌≤◌, true, ◌&&◌, ◌==◌, List, ◌∷◌}
+use Rattle.segment_manager.proofs.Common.{◌++◌, length, arith, IsTrue, and_from, eq-eqb, le-leb, Cut, Memory, Same}
+use Rattle.segment_manager.proofs.Common.{bytes_of, Extent, LiveSet, handle, end_of, holds, released, IsChanged, Keeps}
+use Rattle.segment_manager.proofs.Common.{LaysOut, has_room, live_of, code_of, Value, Object, Directory, count_of}
+use Rattle.segment_manager.proofs.Common.{extents_of, is_object, kind_of, live, padded, value_extents, with_changed}
+use Rattle.segment_manager.proofs.Common.{without_object, Denotes, IsObjectAt, IsValueAt, padded_name, two_halves}
+use Rattle.segment_manager.proofs.Common.{Has-same, Same-word, list_any-insert}
+use Rattle.best_fit.proofs.Laws.{changed-keeps_block}
+use Rattle.segment_manager.proofs.{Calling.denotes-live, Denoted.denotes-replaced, Faces.IsLike}
+use Rattle.segment_manager.proofs.{Frame.padded_name-length, Live.IsIn, Live.live-same}
 use Rattle.segment_manager.proofs.Regrown.{InPlace, Parted, keeps-others, parted, with_extents}
 
 -- where the value of an object stands

@@ -1,13 +1,9 @@
 -- Bytes one row behind another: elements of one length, and the same bytes several times.
-use Rattle.std.proofs.Common.{◌≡◌, refl, ap, subst, ◌∙◌, ℕ, zero, suc, ◌+◌, ◌*◌, ◌<◌, inl, inr, ℤ, Some, List, [], ◌∷◌, ◌++◌, length, replicate, arith, length-append}
-use Rattle.std.specs.Prelude.{slice_get, slice_set, flat_map}
-use Rattle.std.proofs.lemmas.List.{flat_map_more, replicate_more}
-use Rattle.raw_region.specs.Memory.{Memory, Has, Same, SameBut, read}
-use Rattle.seg_types.specs.declared.kinds.ScalarKind.{ScalarKind}
-use Rattle.seg_types.specs.Kinds.{spelling}
-use Rattle.seg_vector.specs.Vector.{spelled}
-use Rattle.raw_region.proofs.Laws.{Has-same, SameBut-Same}
-use Rattle.segment_manager.specs.Standing.{repeated}
+use Rattle.segment_manager.proofs.Common.{◌≡◌, refl, ap, subst, ◌∙◌, ℕ, zero, suc, ◌+◌, ◌*◌, ◌<◌, inl, inr, ℤ, Some}
+use Rattle.segment_manager.proofs.Common.{List, [], ◌∷◌, ◌++◌, length, replicate, arith, length-append, slice_get}
+use Rattle.segment_manager.proofs.Common.{slice_set, flat_map, flat_map_more, Memory, Has, Same, SameBut, read}
+use Rattle.segment_manager.proofs.Common.{ScalarKind, spelling, spelled, Has-same, SameBut-Same, repeated}
+use Rattle.std.proofs.lemmas.List.{replicate_more}
 use Rattle.segment_manager.proofs.Heads.{Has-front}
 
 -- ---- two rows

@@ -1,27 +1,11 @@
 -- A call on the container of an object that answers nothing: its step, and that it changes nothing where it is refused.
-use Rattle.std.proofs.Common.{◌≡◌, ℕ, ◌+◌, sym, ap, subst, ◌∙◌, Bool, true, false, Option, Some, None, Result, Ok, Err, length, if◌then◌else◌}
-use Rattle.std.specs.Prelude.{OnErr}
-use Rattle.std.proofs.lemmas.Bool.{eq-eqb, ne_eqb}
-use Rattle.raw_region.specs.Memory.{Cut}
-use Rattle.best_fit.specs.Extents.{handle}
-use Rattle.seg_types.specs.declared.kinds.Kind.{Kind}
-use Rattle.seg_types.specs.declared.refusals.Refusal.{Refusal}
-use Rattle.seg_types.specs.declared.refusals.Refusal.TheVariants.{NotFound, WrongKind}
-use Rattle.seg_types.specs.Kinds.{code_of, same_kind}
-use Rattle.seg_types.specs.Names.{Key}
-use Rattle.seg_types.specs.Commands.{Command}
-use Rattle.seg_vector.specs.declared.places.Place.{Place}
-use Rattle.segment_manager.specs.declared.head.Head.{Head}
-use Rattle.segment_manager.specs.Answers.{Answer, Done, Refused}
-use Rattle.segment_manager.specs.Contents.{container_at, container_place, place_of_kind}
-use Rattle.segment_manager.specs.Directory.{Object, kind_of, padded}
-use Rattle.segment_manager.specs.Found.{handle_at}
-use Rattle.segment_manager.specs.Layout.{head_len}
-use Rattle.segment_manager.specs.Standing.{IsHeadOf, StandsAt}
-use Rattle.segment_manager.specs.State.{Answers, IsSegment, IsStepOfKind, State, done_answer}
-use Rattle.segment_manager.specs.Stored.{StepsSafely}
-use Rattle.segment_manager.proofs.Here.{IsHere, here}
-use Rattle.segment_manager.proofs.Steps.{step_of_kind-segment}
+use Rattle.segment_manager.proofs.Common.{◌≡◌, ℕ, ◌+◌, sym, ap, subst, ◌∙◌, Bool, true, false, Option, Some, None}
+use Rattle.segment_manager.proofs.Common.{Result, Ok, Err, length, if◌then◌else◌, OnErr, eq-eqb, ne_eqb, Cut, handle}
+use Rattle.segment_manager.proofs.Common.{Kind, Refusal, NotFound, WrongKind, code_of, same_kind, Key, Command, Place}
+use Rattle.segment_manager.proofs.Common.{Head, Answer, Done, Refused, container_at, container_place, place_of_kind}
+use Rattle.segment_manager.proofs.Common.{Object, kind_of, padded, handle_at, head_len, IsHeadOf, StandsAt, Answers}
+use Rattle.segment_manager.proofs.Common.{IsSegment, IsStepOfKind, State, done_answer, StepsSafely}
+use Rattle.segment_manager.proofs.{Here.IsHere, Here.here, Steps.step_of_kind-segment}
 
 -- it is refused, and nothing has changed
 pub stays : (s : State) (new : Cut) (key : Key) (kind : Kind) (c : Command) (e why : Refusal) → e ≡ why → new ≡ s.cut → IsStepOfKind s s key kind c (Refused why) → StepsSafely s new key kind c (Err e)

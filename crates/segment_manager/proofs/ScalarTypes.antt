@@ -1,7 +1,6 @@
 -- What the bound of a type says of its values and their numbers, as lemmas on vectors and on maps take it.
 use Rattle.seg_types.specs.contracts.scalars.Scalar.TheBound.{Met}
-use Rattle.segment_manager.proofs.PairNumbers.{IsScalarOf}
-use Rattle.segment_manager.proofs.Whole.{IsOfKind}
+use Rattle.segment_manager.proofs.{PairNumbers.IsScalarOf, Whole.IsOfKind}
 
 pub of-vector : {M U l m r e row s sd p pd c cd : _} → Met {M = M} {𝓤 = U} l m r e row s sd p pd c cd
     → IsOfKind s.kind s.whole p.SIZE p.is_value p.spelling

@@ -1,14 +1,8 @@
 -- What is known of an object that stands in its block.
-use Rattle.std.proofs.Common.{◌≡◌, ap, ◌∙◌, ℕ, ◌+◌, ◌-◌, ◌*◌, ◌/◌, ◌%◌, ◌≤◌, List, length, replicate, arith}
-use Rattle.std.specs.Prelude.{IsTrue}
-use Rattle.raw_region.specs.Format.{current}
-use Rattle.raw_region.specs.Memory.{bytes_of, word_at, read, Has}
-use Rattle.best_fit.specs.Extents.{handle}
-use Rattle.best_fit.specs.Heap.{live_of, has_room}
-use Rattle.seg_types.specs.Kinds.{class_code, code_of}
-use Rattle.segment_manager.specs.Directory.{Object, count_of, kind_of, object_len, padded, value_len}
-use Rattle.segment_manager.specs.Heads.{IsEntry}
-use Rattle.segment_manager.specs.Standing.{StandsAt}
+use Rattle.segment_manager.proofs.Common.{◌≡◌, ap, ◌∙◌, ℕ, ◌+◌, ◌-◌, ◌*◌, ◌/◌, ◌%◌, ◌≤◌, List, length, replicate, arith}
+use Rattle.segment_manager.proofs.Common.{IsTrue, current, bytes_of, word_at, read, Has, handle, live_of, has_room}
+use Rattle.segment_manager.proofs.Common.{class_code, code_of, Object, count_of, kind_of, object_len, padded, value_len}
+use Rattle.segment_manager.proofs.Common.{IsEntry, StandsAt}
 use Rattle.segment_manager.proofs.Heads.{Has-front, good-name, good_name-short, object-entry}
 use Rattle.segment_manager.proofs.NewBlocks.{room-less}
 

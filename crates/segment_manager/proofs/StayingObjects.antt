@@ -1,26 +1,14 @@
 -- What destroys no object leaves each where it is.
-use Rattle.std.specs.Prelude.{◌-◌}
-use Rattle.std.proofs.Common.{◌≡◌, refl, sym, ap, not, subst, ◌∙◌, ℕ, ◌==◌, Bool, true, false, Option, Some, None, List, [], ◌∷◌, if◌then◌else◌}
-use Rattle.std.specs.Prelude.{is_some, find, cond}
-use Rattle.std.proofs.lemmas.Bool.{eqb-true, false≢true}
-use Rattle.best_fit.specs.Extents.{Extent, LiveSet, handle}
-use Rattle.best_fit.specs.Fit.{resized}
-use Rattle.seg_types.specs.declared.refusals.Refusal.{Refusal}
-use Rattle.seg_types.specs.declared.refusals.Refusal.TheVariants.{NoSpace}
-use Rattle.seg_types.specs.declared.kinds.Kind.{Kind}
-use Rattle.seg_types.specs.Names.{Key, ByHandle}
-use Rattle.seg_types.specs.Commands.{Command}
-use Rattle.segment_manager.specs.declared.modes.Mode.{Mode}
-use Rattle.segment_manager.specs.Directory.{Object, Directory, has_key, live, replace_object}
-use Rattle.segment_manager.specs.Answers.{Answer, Refused, refusal_of}
-use Rattle.segment_manager.specs.Found.{is_object_at}
-use Rattle.segment_manager.specs.Plan.{Plan, met, perform}
-use Rattle.segment_manager.specs.Staying.{KeepsObjects, ObjectsStay, is_elementwise}
-use Rattle.segment_manager.specs.State.{IsSegment, Moves, State}
-use Rattle.segment_manager.specs.Step.{plan, step, step_of_kind}
-use Rattle.segment_manager.specs.TextLists.{LeadsOnOfKind}
+use Rattle.segment_manager.proofs.Common.{◌-◌, ◌≡◌, refl, sym, ap, not, subst, ◌∙◌, ℕ, ◌==◌, Bool, true, false, Option}
+use Rattle.segment_manager.proofs.Common.{Some, None, List, [], ◌∷◌, if◌then◌else◌, is_some, find, cond, eqb-true}
+use Rattle.segment_manager.proofs.Common.{false≢true, Extent, LiveSet, handle, resized, Refusal, NoSpace, Kind, Key}
+use Rattle.segment_manager.proofs.Common.{ByHandle, Command, Mode, Object, Directory, has_key, live, replace_object}
+use Rattle.segment_manager.proofs.Common.{Answer, Refused, refusal_of, is_object_at, Plan, met, perform, is_elementwise}
+use Rattle.segment_manager.proofs.Common.{IsSegment, Moves, State, plan, step, step_of_kind, LeadsOnOfKind}
+use Rattle.segment_manager.specs.Staying.{KeepsObjects, ObjectsStay}
 use Rattle.segment_manager.proofs.KeyCalls.{object-passes}
-use Rattle.segment_manager.proofs.Refusals.{Leaves, by_change, by_other, by_refusal, by_request, by_same, plan-leaves, plan_of_kind-leaves}
+use Rattle.segment_manager.proofs.Refusals.{Leaves, by_change, by_other, by_refusal, by_request, by_same, plan-leaves}
+use Rattle.segment_manager.proofs.Refusals.{plan_of_kind-leaves}
 
 -- ---- an object of another value
 

@@ -1,34 +1,22 @@
 -- The calls on whatever has storage, each as one step: reserve, shrink and clear. And the refusals of an object that is not there.
-use Rattle.std.proofs.Common.{◌≡◌, refl, sym, ap, subst, ◌∙◌, ℕ, ℤ, Bool, true, false, Some, None, Ok, Err, List, [], length}
-use Rattle.raw_region.specs.Format.{current}
-use Rattle.raw_region.specs.Memory.{Cut}
-use Rattle.best_fit.specs.Heap.{live_of}
-use Rattle.best_fit.specs.Table.{Table, cut_table}
-use Rattle.seg_types.specs.declared.kinds.ScalarKind.{ScalarKind}
-use Rattle.seg_types.specs.declared.kinds.Kind.{Kind}
-use Rattle.seg_types.specs.declared.kinds.Kind.TheVariants.{Scalar, Text, Vector, Map, Texts as TextsKind}
-use Rattle.seg_types.specs.declared.refusals.Refusal.{Refusal}
-use Rattle.seg_types.specs.declared.refusals.Refusal.TheVariants.{NoSpace, NotFound, WrongKind}
-use Rattle.seg_types.specs.Kinds.{size_of}
-use Rattle.seg_types.specs.Names.{Key}
+use Rattle.segment_manager.proofs.Common.{◌≡◌, refl, sym, ap, subst, ◌∙◌, ℕ, ℤ, Bool, true, false, Some, None, Ok, Err}
+use Rattle.segment_manager.proofs.Common.{List, [], length, current, Cut, live_of, Table, cut_table, ScalarKind, Kind}
+use Rattle.segment_manager.proofs.Common.{Scalar, Text, Vector, Map, TextsKind, Refusal, NoSpace, NotFound, WrongKind}
+use Rattle.segment_manager.proofs.Common.{size_of, Key, Command, is_changing, Place, Change, Clear, Reserve, Shrink}
+use Rattle.segment_manager.proofs.Common.{Answer, Done, Refused, HasNoRoom, IsBytes, IsBytesGrown, IsBytesNow}
+use Rattle.segment_manager.proofs.Common.{IsNumbers, IsNumbersGrown, IsNumbersNow, container_at, Value, Numbers}
+use Rattle.segment_manager.proofs.Common.{Elements, Bytes, Pairs, Object, Directory, kind_of, live, object_at, Refuse}
+use Rattle.segment_manager.proofs.Common.{Reply, perform, with_capacity, Answers, IsReplyOfKind, IsSegment, IsStep}
+use Rattle.segment_manager.proofs.Common.{IsStepOfKind, State, StandsFor, changed, effect, is_read_only, storage_of}
+use Rattle.segment_manager.proofs.Common.{with_items, with_table, command_of}
 use Rattle.seg_types.specs.Commands as asked
-use Rattle.seg_types.specs.Commands.{Command, is_changing}
-use Rattle.seg_vector.specs.declared.places.Place.{Place}
-use Rattle.segment_manager.specs.declared.storages.Change.{Change}
-use Rattle.segment_manager.specs.declared.storages.Change.TheVariants.{Clear, Reserve, Shrink}
-use Rattle.segment_manager.specs.Answers.{Answer, Done, Refused}
-use Rattle.segment_manager.specs.Contents.{HasNoRoom, IsBytes, IsBytesGrown, IsBytesNow, IsNumbers, IsNumbersGrown, IsNumbersNow, container_at}
-use Rattle.segment_manager.specs.Directory.{Value, Numbers, Elements, Bytes, Pairs, Object, Directory, kind_of, live, object_at}
-use Rattle.segment_manager.specs.Plan.{Refuse, Reply, perform, with_capacity}
-use Rattle.segment_manager.specs.State.{Answers, IsReplyOfKind, IsSegment, IsStep, IsStepOfKind, State, StandsFor}
-use Rattle.segment_manager.specs.Step.{changed, effect, is_read_only, storage_of, with_items, with_table}
-use Rattle.segment_manager.specs.Stored.{command_of}
-use Rattle.segment_manager.proofs.Calling.{denotes-live}
-use Rattle.segment_manager.proofs.ContentPlans.{clear-plan, clear-refused, reserve-plan, reserve-refused, shrink-plan, shrink-refused}
-use Rattle.segment_manager.proofs.Refilled.{finds-no_container, refused-steps}
+use Rattle.segment_manager.proofs.{Calling.denotes-live, Refilled.finds-no_container, Refilled.refused-steps}
+use Rattle.segment_manager.proofs.ContentPlans.{clear-plan, clear-refused, reserve-plan, reserve-refused, shrink-plan}
+use Rattle.segment_manager.proofs.ContentPlans.{shrink-refused}
 use Rattle.segment_manager.proofs.Steps.{open-reading, open-writing, with-not_found}
 use Rattle.segment_manager.proofs.TextSteps.{HoldsText, text-grown, text-not_grown, text-now, text-stays, text-steps}
-use Rattle.segment_manager.proofs.VectorSteps.{HoldsVector, vector-grown, vector-not_grown, vector-now, vector-stays, vector-steps}
+use Rattle.segment_manager.proofs.VectorSteps.{HoldsVector, vector-grown, vector-not_grown, vector-now, vector-stays}
+use Rattle.segment_manager.proofs.VectorSteps.{vector-steps}
 
 -- ---- vectors of numbers
 

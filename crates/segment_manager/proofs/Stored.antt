@@ -1,48 +1,26 @@
 -- Writing an element of the object of a key: what the step is, and what the bytes denote then.
-use Rattle.std.proofs.Common.{◌≡◌, refl, sym, ap, subst, ◌∙◌, ℕ, zero, suc, ◌+◌, ◌*◌, ◌<◌, ◌≤◌, inl, ℤ, pos, negsuc, Bool, true, false, ◌&&◌, Some, Ok, Err, Result, List, [], ◌∷◌, length, set, if◌then◌else◌, arith}
-use Rattle.std.specs.Prelude.{IsTrue, nat_le}
-use Rattle.std.specs.List.{list_all}
-use Rattle.std.proofs.Math.Nat.{mul-le-mul_left}
-use Rattle.std.proofs.lemmas.Bool.{and_from, ltb-false}
-use Rattle.std.proofs.lemmas.List.{length-set}
-use Rattle.std.proofs.lemmas.Option.{slice_get_past, slice_get_within}
-use Rattle.raw_region.specs.Format.{current}
-use Rattle.raw_region.specs.Memory.{Cut, Memory, Has, Same, SameBut, bytes_of}
-use Rattle.block_tags.specs.declared.tile.Role.TheVariants.{Object as ObjectRole}
-use Rattle.best_fit.specs.Extents.{handle}
-use Rattle.best_fit.specs.Heap.{IsChanged}
-use Rattle.best_fit.specs.Table.{serves}
-use Rattle.seg_types.specs.declared.kinds.ScalarKind.{ScalarKind}
-use Rattle.seg_types.specs.declared.kinds.ScalarKind.TheVariants.{Bool as BoolKind}
-use Rattle.seg_types.specs.declared.kinds.Kind.TheVariants.{Scalar}
-use Rattle.seg_types.specs.declared.refusals.Refusal.{Refusal}
-use Rattle.seg_types.specs.declared.refusals.Refusal.TheVariants.{OutOfRange}
-use Rattle.seg_types.specs.Kinds.{is_value, size_of, spelling}
-use Rattle.seg_types.specs.Names.{Key}
+use Rattle.segment_manager.proofs.Common.{◌≡◌, refl, sym, ap, subst, ◌∙◌, ℕ, zero, suc, ◌+◌, ◌*◌, ◌<◌, ◌≤◌, inl, ℤ, pos}
+use Rattle.segment_manager.proofs.Common.{Bool, true, false, ◌&&◌, Some, Ok, Err, Result, List, [], ◌∷◌, length}
+use Rattle.segment_manager.proofs.Common.{if◌then◌else◌, arith, IsTrue, nat_le, list_all, mul-le-mul_left, and_from}
+use Rattle.segment_manager.proofs.Common.{ltb-false, slice_get_past, slice_get_within, current, Cut, Memory, Has, Same}
+use Rattle.segment_manager.proofs.Common.{SameBut, bytes_of, ObjectRole, handle, IsChanged, serves, ScalarKind}
+use Rattle.segment_manager.proofs.Common.{BoolKind, Scalar, Refusal, OutOfRange, is_value, size_of, spelling, Key}
+use Rattle.segment_manager.proofs.Common.{Literal, literal_of, value_of_literal, spelled, Mode, Done, Refused, Denotes}
+use Rattle.segment_manager.proofs.Common.{IsValueAt, Numbers, Object, Directory, count_of, has_good_name, is_object}
+use Rattle.segment_manager.proofs.Common.{kind_of, live, object_at, padded, value_extents, value_len, with_changed}
+use Rattle.segment_manager.proofs.Common.{perform, Answers, IsStepOfKind, State, is_read_only, step_of_kind}
+use Rattle.segment_manager.proofs.Common.{SameBut-Same}
+use Rattle.std.proofs.{Common.negsuc, Common.set, lemmas.List.length-set}
 use Rattle.seg_types.specs.Commands as asked
-use Rattle.seg_types.specs.Commands.{Literal, literal_of, value_of_literal}
-use Rattle.seg_vector.specs.Vector.{spelled}
-use Rattle.segment_manager.specs.declared.accessing.Place.{Place}
-use Rattle.segment_manager.specs.declared.modes.Mode.{Mode}
-use Rattle.segment_manager.specs.Answers.{Done, Refused}
-use Rattle.segment_manager.specs.Denotes.{Denotes, IsValueAt}
-use Rattle.segment_manager.specs.Directory.{Numbers, Object, Directory, count_of, has_good_name, is_object, kind_of, live, object_at, padded, value_extents, value_len, with_changed}
-use Rattle.segment_manager.specs.Plan.{perform}
-use Rattle.segment_manager.specs.Standing.{place_at}
-use Rattle.segment_manager.specs.State.{Answers, IsStepOfKind, State}
-use Rattle.segment_manager.specs.Step.{is_read_only, step_of_kind}
-use Rattle.raw_region.proofs.Laws.{SameBut-Same}
-use Rattle.segment_manager.proofs.Blocks.{spelling-length}
-use Rattle.segment_manager.proofs.Codes.{numbers-only}
-use Rattle.segment_manager.proofs.Frame.{IsRoomy, object-roomy}
-use Rattle.segment_manager.proofs.Live.{IsIn}
-use Rattle.segment_manager.proofs.ObjectLists.{key-found}
-use Rattle.segment_manager.proofs.Places.{ElementAt, Lacks, Other, Past, Missing, Nowhere, Within, element-found, element-missing, numbers-good, numbers-stand}
+use Rattle.segment_manager.specs.{declared.accessing.Place.Place, Standing.place_at}
+use Rattle.segment_manager.proofs.{Blocks.spelling-length, Codes.numbers-only, Frame.IsRoomy, Frame.object-roomy}
+use Rattle.segment_manager.proofs.{Live.IsIn, ObjectLists.key-found, Rows.Has-set, Words.first, Words.second}
+use Rattle.segment_manager.proofs.Places.{ElementAt, Lacks, Other, Past, Missing, Nowhere, Within, element-found}
+use Rattle.segment_manager.proofs.Places.{element-missing, numbers-good, numbers-stand}
 use Rattle.segment_manager.proofs.Replies.{element-kind, set-effect, set-past}
 use Rattle.segment_manager.proofs.Rewritten.{SameFrame, denotes-rewritten, value_start, with_value}
-use Rattle.segment_manager.proofs.Rows.{Has-set}
-use Rattle.segment_manager.proofs.Steps.{by_no_change_of_kind, by_step_of_kind, lands, open-writing, step_of_kind-found, step_of_kind-not_found, step_of_kind-other}
-use Rattle.segment_manager.proofs.Words.{first, second}
+use Rattle.segment_manager.proofs.Steps.{by_no_change_of_kind, by_step_of_kind, lands, open-writing, step_of_kind-found}
+use Rattle.segment_manager.proofs.Steps.{step_of_kind-not_found, step_of_kind-other}
 
 -- ---- the literal of a value
 

@@ -1,18 +1,10 @@
 -- The calls on what has storage, as the code makes them: the container is found, and then the call at its place is the step.
-use Rattle.std.proofs.Common.{◌≡◌, refl, sym, ap, subst, ◌∙◌, false, Ok, Err, Result}
-use Rattle.raw_region.specs.Memory.{Cut}
-use Rattle.seg_types.specs.declared.kinds.Kind.{Kind}
-use Rattle.seg_types.specs.declared.refusals.Refusal.{Refusal}
-use Rattle.seg_types.specs.Commands.{Command}
-use Rattle.seg_types.specs.Names.{Key}
-use Rattle.seg_vector.specs.declared.places.Place.{Place}
-use Rattle.segment_manager.specs.Contents.{container_at}
-use Rattle.segment_manager.specs.State.{Answers, State}
-use Rattle.segment_manager.specs.Step.{is_read_only}
-use Rattle.segment_manager.specs.Stored.{ChangesStorage, StandsThere, StepsSafely, StepsThere}
-use Rattle.segment_manager.proofs.Refilled.{finds-no_container}
+use Rattle.segment_manager.proofs.Common.{◌≡◌, refl, sym, ap, subst, ◌∙◌, false, Ok, Err, Result, Cut, Kind, Refusal}
+use Rattle.segment_manager.proofs.Common.{Command, Key, Place, container_at, Answers, State, is_read_only, StandsThere}
+use Rattle.segment_manager.proofs.Common.{StepsSafely, StepsThere}
+use Rattle.segment_manager.specs.Stored.{ChangesStorage}
+use Rattle.segment_manager.proofs.{Refilled.finds-no_container, Steps.open-writing}
 use Rattle.segment_manager.proofs.Safely.{safe-refused, safe-step}
-use Rattle.segment_manager.proofs.Steps.{open-writing}
 
 -- where it is found
 pub stands-there : (s t : State) (view : s ≡ t) (key : Key) (l kind : Kind) (p : Place) → l ≡ kind → Answers t (λ d. container_at d key l) (Ok p) → StandsThere s.cut kind p key

@@ -1,36 +1,24 @@
 -- What the bytes denote after an index is given another capacity.
-use Rattle.std.proofs.Common.{◌≡◌, refl, sym, ap, subst, ◌∙◌, ℕ, ◌+◌, ◌*◌, ◌≤◌, Bool, true, false, ◌&&◌, ◌==◌, Some, None, Option, [], length, arith, if◌then◌else◌}
-use Rattle.std.specs.Prelude.{IsTrue, ◌||◌, option_map, nat_le, nat_lt}
-use Rattle.std.specs.List.{AllByRecursion, list_all}
-use Rattle.std.proofs.lemmas.Bool.{eq-eqb, eqb-true}
-use Rattle.raw_region.specs.Memory.{Cut, Memory, bytes_of}
-use Rattle.raw_region.specs.Format.{current}
-use Rattle.raw_region.proofs.Laws.{Same-part}
-use Rattle.block_tags.specs.declared.tile.Role.TheVariants.{Index as IndexRole}
-use Rattle.best_fit.specs.Extents.{Extent, LiveSet, handle, is_proper}
-use Rattle.best_fit.specs.Fit.{added, gap_after, place, released, resized, room, shorter}
-use Rattle.best_fit.specs.Heap.{LaysOut, SameBlock, live_of}
-use Rattle.best_fit.specs.Table.{Table, cut_table, is_table, no_table, serves}
-use Rattle.best_fit.proofs.Laws.{placed_is_proper}
-use Rattle.seg_index.specs.declared.index.Index.{Index}
+use Rattle.segment_manager.proofs.Common.{◌≡◌, refl, sym, ap, subst, ◌∙◌, ℕ, ◌+◌, ◌*◌, ◌≤◌, Bool, true, false, ◌&&◌}
+use Rattle.segment_manager.proofs.Common.{◌==◌, Some, None, Option, [], length, arith, if◌then◌else◌, IsTrue, ◌||◌}
+use Rattle.segment_manager.proofs.Common.{option_map, nat_le, nat_lt, AllByRecursion, list_all, eq-eqb, eqb-true, Cut}
+use Rattle.segment_manager.proofs.Common.{Memory, bytes_of, current, Same-part, IndexRole, Extent, LiveSet, handle}
+use Rattle.segment_manager.proofs.Common.{is_proper, added, place, released, resized, LaysOut, SameBlock, live_of}
+use Rattle.segment_manager.proofs.Common.{Table, cut_table, is_table, no_table, serves, placed_is_proper, Index}
+use Rattle.segment_manager.proofs.Common.{IsReserved, IsShrunk, KeepsRest, beside_table, unlinked, without_link}
+use Rattle.segment_manager.proofs.Common.{IsIndexOf, place_of, IsIndexAt, link_at, Denotes, IsHeader, IsObjectAt}
+use Rattle.segment_manager.proofs.Common.{Directory, is_index, is_object, live, rises_from, entries_of, objects_of}
+use Rattle.segment_manager.proofs.Common.{order_of, table_of, with_table_of}
+use Rattle.best_fit.specs.Fit.{gap_after, room, shorter}
 use Rattle.seg_index.specs.declared.index.Index.TheVariants as index
-use Rattle.seg_index.specs.Capacities.{IsReserved, IsShrunk, with_cut}
-use Rattle.seg_index.specs.Growth.{KeepsRest, beside_table, unlinked, without_link}
-use Rattle.seg_index.specs.Held.{IsIndexOf, place_of}
-use Rattle.seg_index.specs.Index.{IsIndexAt}
-use Rattle.offset_link.specs.Link.{link_at}
-use Rattle.segment_manager.specs.Denotes.{Denotes, IsHeader, IsObjectAt}
-use Rattle.segment_manager.specs.Directory.{Directory, is_index, is_object, live, rises_from}
-use Rattle.segment_manager.specs.Indexed.{entries_of, objects_of, order_of, table_of, with_table_of}
+use Rattle.seg_index.specs.Capacities.{with_cut}
 use Rattle.segment_manager.proofs.Added.{has-one, place-high, same-objects, same-size}
-use Rattle.segment_manager.proofs.AnyClass.{HasIndexes, KeepsFront, front-same}
-use Rattle.segment_manager.proofs.Calling.{denotes-live}
+use Rattle.segment_manager.proofs.{AnyClass.HasIndexes, AnyClass.KeepsFront, AnyClass.front-same, Calling.denotes-live}
+use Rattle.segment_manager.proofs.{Frame.any_objects-same, HeldIndexes.denotes-index, HeldIndexes.handles-length}
+use Rattle.segment_manager.proofs.{Indexes.index-from, Indexes.index-parts, Order.live-rises}
 use Rattle.segment_manager.proofs.Entered.{HasOne, OfRest, has_both, of_rest, other, other-stays, other-words}
-use Rattle.segment_manager.proofs.Frame.{any_objects-same}
-use Rattle.segment_manager.proofs.HeldIndexes.{denotes-index, handles-length}
-use Rattle.segment_manager.proofs.Indexes.{index-from, index-parts}
-use Rattle.segment_manager.proofs.Order.{live-rises}
-use Rattle.segment_manager.proofs.Tables.{index-left_out, left_out, live-moved_index, live-no_index, live-resized_index, live-same_index}
+use Rattle.segment_manager.proofs.Tables.{index-left_out, left_out, live-moved_index, live-no_index, live-resized_index}
+use Rattle.segment_manager.proofs.Tables.{live-same_index}
 
 -- ---- an index has another table
 

@@ -1,21 +1,17 @@
 -- The live set after one of the two indexes takes another block, loses its block, or has it shortened.
-use Rattle.std.proofs.Common.{◌≡◌, refl, sym, ap, subst, ◌∙◌, ℕ, ◌+◌, ◌≢◌, Some, None, Option, List, [], ◌∷◌, ◌++◌, append_assoc}
-use Rattle.std.specs.Prelude.{IsTrue, flat_map, option_to_list, option_map}
-use Rattle.std.specs.List.{AllByRecursion}
+use Rattle.segment_manager.proofs.Common.{◌≡◌, refl, sym, ap, subst, ◌∙◌, ℕ, ◌+◌, ◌≢◌, Some, None, Option, List, []}
+use Rattle.segment_manager.proofs.Common.{◌∷◌, ◌++◌, append_assoc, IsTrue, flat_map, option_to_list, option_map}
+use Rattle.segment_manager.proofs.Common.{AllByRecursion, Extent, LiveSet, handle, is_proper, others, added, released}
+use Rattle.segment_manager.proofs.Common.{resized, Table, no_table, Index, without_link, Directory, sorted, live}
+use Rattle.segment_manager.proofs.Common.{extents_of, table_extents, table_of, with_table_of}
 use Rattle.std.proofs.lemmas.List.{append-nil}
-use Rattle.best_fit.specs.Extents.{Extent, LiveSet, handle, is_proper}
-use Rattle.best_fit.specs.Fit.{insert, others, added, released, resized}
-use Rattle.best_fit.specs.Table.{Table, no_table, table_link}
+use Rattle.best_fit.specs.{Fit.insert, Table.table_link}
 use Rattle.best_fit.proofs.Laws.{insert-comm}
-use Rattle.seg_index.specs.declared.index.Index.{Index}
 use Rattle.seg_index.specs.declared.index.Index.TheVariants as index
-use Rattle.seg_index.specs.Growth.{without_link}
-use Rattle.segment_manager.specs.Directory.{Directory, sorted, live, extents_of, table_extents}
-use Rattle.segment_manager.specs.Indexed.{table_of, with_table_of}
-use Rattle.segment_manager.proofs.Words.{AllByRecursion-front, AllByRecursion-behind}
-use Rattle.segment_manager.proofs.Order.{Differs, Rising, IsFresh, inserted, insert-inserted, sorted-append, all_of-sorted, live-rises, rising-insert, rising-inserted, apart-inserted, others-insert}
-use Rattle.segment_manager.proofs.Live.{adding}
-use Rattle.segment_manager.proofs.Regrown.{differs-flip}
+use Rattle.segment_manager.proofs.{Words.AllByRecursion-front, Words.AllByRecursion-behind, Order.Differs, Order.Rising}
+use Rattle.segment_manager.proofs.{Order.IsFresh, Order.inserted, Order.insert-inserted, Order.sorted-append}
+use Rattle.segment_manager.proofs.{Order.all_of-sorted, Order.live-rises, Order.rising-insert, Order.rising-inserted}
+use Rattle.segment_manager.proofs.{Order.apart-inserted, Order.others-insert, Live.adding, Regrown.differs-flip}
 
 -- ---- one extent in a list
 

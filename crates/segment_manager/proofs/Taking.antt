@@ -1,19 +1,12 @@
 -- The blocks of a new object: they are taken, or given back where one of them is refused.
-use Rattle.std.proofs.Common.{◌≡◌, sym, subst, ◌∙◌, ℕ, ◌+◌, ◌%◌, ◌≤◌, inr, Some, None, Option, List, arith}
-use Rattle.std.specs.Prelude.{IfSome, IsTrue}
-use Rattle.raw_region.specs.Memory.{Cut}
-use Rattle.raw_region.specs.Format.{current}
-use Rattle.block_tags.specs.declared.tile.Role.TheVariants.{Object as ObjectRole, Index as IndexRole}
-use Rattle.best_fit.specs.Heap.{IsAllocated, IsChanged, IsHeap, IsRefused, Keeps, LaysOut, is_live_in, live_of}
-use Rattle.best_fit.specs.Table.{Table}
-use Rattle.best_fit.specs.Fit.{added}
-use Rattle.best_fit.proofs.Laws.{allocated-is_live, allocated-room, block_aligned, keeps-refl, laid-heap, room_block, still_allocated-block}
-use Rattle.seg_index.specs.declared.index.Index.{Index}
+use Rattle.segment_manager.proofs.Common.{◌≡◌, sym, subst, ◌∙◌, ℕ, ◌+◌, ◌%◌, ◌≤◌, inr, Some, None, Option, List, arith}
+use Rattle.segment_manager.proofs.Common.{IfSome, IsTrue, Cut, current, ObjectRole, IndexRole, IsAllocated, IsChanged}
+use Rattle.segment_manager.proofs.Common.{IsHeap, IsRefused, Keeps, LaysOut, is_live_in, live_of, Table, added}
+use Rattle.segment_manager.proofs.Common.{allocated-is_live, allocated-room, keeps-refl, laid-heap, room_block, Index}
+use Rattle.segment_manager.proofs.Common.{CanGrow, GivesBack, IsGrowth, grown_bytes, IsIndexOf, entry_count, place_of}
+use Rattle.segment_manager.proofs.Common.{prepared, IsRequested, IsRestored, IsUnmet}
+use Rattle.best_fit.proofs.Laws.{block_aligned, still_allocated-block}
 use Rattle.seg_index.specs.declared.index.Index.TheVariants as index
-use Rattle.seg_index.specs.Growth.{CanGrow, GivesBack, IsGrowth, grown_bytes}
-use Rattle.seg_index.specs.Held.{IsIndexOf, entry_count, place_of}
-use Rattle.seg_index.proofs.Laws.{prepared}
-use Rattle.segment_manager.specs.NewObjects.{IsRequested, IsRestored, IsUnmet}
 use Rattle.segment_manager.proofs.Made.{requested-taken, taken-growth, taken-index}
 
 -- ---- a request

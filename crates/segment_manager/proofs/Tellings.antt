@@ -1,23 +1,11 @@
 -- What is read of an object at the entry of an index, and of a key, for each directory that the bytes stand for.
-use Rattle.std.proofs.Common.{◌≡◌, refl, sym, subst, ℕ, Some, None}
-use Rattle.std.specs.Prelude.{slice_get}
-use Rattle.raw_region.specs.Format.{current}
-use Rattle.best_fit.specs.Extents.{handle}
-use Rattle.seg_types.specs.declared.refusals.Refusal.TheVariants.{NotFound}
-use Rattle.seg_types.specs.Names.{Key, ByHandle}
-use Rattle.seg_index.specs.declared.index.Index.{Index}
-use Rattle.segment_manager.specs.declared.telling.Instance.{Instance}
-use Rattle.segment_manager.specs.Directory.{Object, Directory, object_at}
-use Rattle.segment_manager.specs.Found.{handle_at}
-use Rattle.segment_manager.specs.Indexed.{objects_of}
-use Rattle.segment_manager.specs.Instances.{IsInstance, IsMissing, SaysAt, SaysOf}
-use Rattle.segment_manager.specs.Standing.{HasObject, StandsAt}
-use Rattle.segment_manager.specs.State.{Answers, IsSegment, State, StandsFor}
-use Rattle.segment_manager.proofs.Bridge.{in-handles}
-use Rattle.segment_manager.proofs.EntryPlaces.{all-at, stands-at}
+use Rattle.segment_manager.proofs.Common.{◌≡◌, refl, sym, subst, ℕ, Some, None, slice_get, current, handle, NotFound}
+use Rattle.segment_manager.proofs.Common.{Key, ByHandle, Index, Instance, Object, Directory, object_at, handle_at}
+use Rattle.segment_manager.proofs.Common.{objects_of, IsInstance, IsMissing, SaysAt, SaysOf, HasObject, StandsAt}
+use Rattle.segment_manager.proofs.Common.{Answers, IsSegment, State, StandsFor}
+use Rattle.segment_manager.proofs.{Bridge.in-handles, EntryPlaces.all-at, EntryPlaces.stands-at, Here.IsHere, Here.here}
+use Rattle.segment_manager.proofs.{Here.nothing-here, Here.standing, KeyCalls.ForIndex, KeyCalls.of-directory}
 use Rattle.segment_manager.proofs.EntryPlaces as places
-use Rattle.segment_manager.proofs.Here.{IsHere, here, nothing-here, standing}
-use Rattle.segment_manager.proofs.KeyCalls.{ForIndex, of-directory}
 
 -- the object at a place of an index, in its block
 pub record IsEntered (s : State) (d : Directory) (i : Index) (n h : ℕ) : Type 0 where

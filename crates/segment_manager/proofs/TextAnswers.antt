@@ -1,30 +1,22 @@
 -- What the calls of seg_vector ensure of the text at the place that was found, as the steps of the calls on the object's string.
-use Rattle.std.proofs.Common.{◌≡◌, refl, sym, ap, subst, ◌∙◌, ℕ, zero, suc, ◌<◌, pos, get_or, Bool, true, false, Option, Some, None, Result, Ok, Err, List, [], ◌∷◌, ◌++◌, arith, if◌then◌else◌}
-use Rattle.std.specs.Prelude.{IsTrue, nat_le, nat_lt, slice_set}
-use Rattle.std.proofs.lemmas.Bool.{and_from, le-leb, lt-ltb}
-use Rattle.std.proofs.lemmas.Option.{slice_get_past}
-use Rattle.raw_region.specs.Memory.{Cut}
-use Rattle.best_fit.specs.Table.{Table}
-use Rattle.seg_types.specs.declared.kinds.ScalarKind.TheVariants.{U8}
-use Rattle.seg_types.specs.declared.kinds.Kind.TheVariants.{Text}
-use Rattle.seg_types.specs.declared.refusals.Refusal.{Refusal}
-use Rattle.seg_types.specs.declared.refusals.Refusal.TheVariants.{NotFound, WrongKind}
-use Rattle.seg_types.specs.Kinds.{is_value, same_kind}
-use Rattle.seg_types.specs.Names.{Key}
-use Rattle.seg_types.specs.Commands.{Append, Assign, Clear, Get, Quoted, Reserve, Set, Shrink, literal_of}
-use Rattle.seg_vector.specs.declared.places.Place.{Place}
-use Rattle.seg_vector.specs.TextCalls.{AppendsText, AssignsText, ClearsText, CountsBytePlaces, CountsBytes, GetsByte, IsSomeText, IsTextGrown, IsTextNow, ReadsText, ReservesBytes, SetsByte, ShrinksText}
-use Rattle.segment_manager.specs.Answers.{Element, Refused}
-use Rattle.segment_manager.specs.Contents.{IsBytesGrown, IsBytesNow, are_bytes, bytes_at, container_at, container_place, place_of_kind, sizes_at_kind, sizes_of, text_bytes}
-use Rattle.segment_manager.specs.Directory.{Value, Bytes, Object, kind_of, object_at}
-use Rattle.segment_manager.specs.State.{Answers, IsSegment, IsStepOfKind, State}
-use Rattle.segment_manager.specs.Step.{is_read_only}
-use Rattle.segment_manager.specs.Stored.{StepsSafely}
+use Rattle.segment_manager.proofs.Common.{◌≡◌, refl, sym, ap, subst, ◌∙◌, ℕ, zero, suc, ◌<◌, pos, get_or, Bool, true}
+use Rattle.segment_manager.proofs.Common.{false, Option, Some, None, Result, Ok, Err, List, [], ◌∷◌, ◌++◌, arith}
+use Rattle.segment_manager.proofs.Common.{if◌then◌else◌, IsTrue, nat_le, nat_lt, slice_set, and_from, le-leb, lt-ltb}
+use Rattle.segment_manager.proofs.Common.{slice_get_past, Cut, Table, U8, Text, Refusal, NotFound, WrongKind, is_value}
+use Rattle.segment_manager.proofs.Common.{same_kind, Key, Append, Assign, Get, Quoted, Set, literal_of, Place}
+use Rattle.segment_manager.proofs.Common.{AssignsText, IsSomeText, IsTextGrown, IsTextNow, Element, Refused}
+use Rattle.segment_manager.proofs.Common.{IsBytesGrown, IsBytesNow, are_bytes, bytes_at, container_at, container_place}
+use Rattle.segment_manager.proofs.Common.{place_of_kind, sizes_at_kind, sizes_of, Value, Bytes, Object, kind_of}
+use Rattle.segment_manager.proofs.Common.{object_at, Answers, IsSegment, IsStepOfKind, State, is_read_only, StepsSafely}
+use Rattle.seg_types.specs.Commands.{Clear, Reserve, Shrink}
+use Rattle.seg_vector.specs.TextCalls.{AppendsText, ClearsText, CountsBytePlaces, CountsBytes, GetsByte, ReadsText}
+use Rattle.seg_vector.specs.TextCalls.{ReservesBytes, SetsByte, ShrinksText}
+use Rattle.segment_manager.specs.Contents.{text_bytes}
 use Rattle.segment_manager.proofs.StorageSteps.{clears-text, reserves-bytes, reserves_bytes-no_space, shrinks-text}
-use Rattle.segment_manager.proofs.TextSteps.{HoldsText, appends-bytes, appends-no_space, assigns-bytes, assigns_bytes-no_space, gets-byte, gets_byte-past, holds-text, sets-byte, sets_byte-past}
-use Rattle.segment_manager.proofs.AnyStorage.{sizes-found}
-use Rattle.segment_manager.proofs.Safely.{done-so, stays}
-use Rattle.segment_manager.proofs.Words.{first, second}
+use Rattle.segment_manager.proofs.TextSteps.{HoldsText, appends-bytes, appends-no_space, assigns-bytes}
+use Rattle.segment_manager.proofs.TextSteps.{assigns_bytes-no_space, gets-byte, gets_byte-past, holds-text, sets-byte}
+use Rattle.segment_manager.proofs.TextSteps.{sets_byte-past}
+use Rattle.segment_manager.proofs.{AnyStorage.sizes-found, Safely.done-so, Safely.stays, Words.first, Words.second}
 
 -- ---- bytes
 

@@ -1,18 +1,13 @@
 -- The blocks of a vector of texts among all others: each is in use, and no two are one. And what becomes of them where a part of the texts
 -- is replaced.
-use Rattle.std.proofs.Common.{◌≡◌, refl, sym, ap, subst, ◌∙◌, ℕ, ◌≢◌, Some, List, [], ◌∷◌, ◌++◌, append_assoc, arith}
-use Rattle.std.specs.Prelude.{find, option_to_list, ◌==◌}
-use Rattle.std.specs.List.{AllByRecursion}
-use Rattle.best_fit.specs.Extents.{Extent, handle}
+use Rattle.segment_manager.proofs.Common.{◌≡◌, refl, sym, ap, subst, ◌∙◌, ℕ, ◌≢◌, Some, List, [], ◌∷◌, ◌++◌}
+use Rattle.segment_manager.proofs.Common.{append_assoc, arith, find, option_to_list, ◌==◌, AllByRecursion, Extent}
+use Rattle.segment_manager.proofs.Common.{handle, Table, SameSpread, found-new, middle-first, AreOthers, text_blocks}
+use Rattle.segment_manager.proofs.Common.{OwnedText, Object, Texts, value_extents}
 use Rattle.best_fit.specs.Fit.{insert}
-use Rattle.best_fit.specs.Table.{Table}
-use Rattle.best_fit.proofs.Laws.{SameSpread, found-more, found-new, middle-first, spread-behind}
-use Rattle.seg_vector.specs.TextsCalls.{AreOthers, text_blocks}
-use Rattle.seg_vector.specs.Vector.{OwnedText}
-use Rattle.segment_manager.specs.Directory.{Object, Texts, value_extents}
-use Rattle.segment_manager.proofs.Exchanged.{Exchange}
+use Rattle.best_fit.proofs.Laws.{found-more, spread-behind}
+use Rattle.segment_manager.proofs.{Exchanged.Exchange, Rewritten.with_value}
 use Rattle.segment_manager.proofs.Order.{Differs, IsFresh, Rising, all_of-inserted, inserted, rising-insert}
-use Rattle.segment_manager.proofs.Rewritten.{with_value}
 
 -- ---- extents that rise
 

@@ -1,45 +1,35 @@
 -- What the calls of seg_vector ensure of the texts at the place that was found, as the steps of the calls on the object's vector of texts.
-use Rattle.std.proofs.Common.{◌≡◌, refl, sym, ap, subst, ◌∙◌, ℕ, ◌+◌, ◌-◌, ◌<◌, ◌≤◌, ◌⊎◌, inl, inr, Bool, true, false, ◌==◌, Option, Some, None, Result, Ok, Err, List, [], ◌∷◌, ◌++◌, length, map, append-nil, get_or, arith, if◌then◌else◌}
-use Rattle.std.specs.Prelude.{IsTrue, insert, option_map, option_to_list, remove, slice_get, slice_set}
-use Rattle.std.specs.List.{AllByRecursion, list_all}
-use Rattle.std.proofs.lemmas.Bool.{false≢true, le-ltb, lt-ltb}
-use Rattle.std.proofs.lemmas.Option.{same_Some, slice_get-get_or, slice_get_past}
-use denote.Ref.{Bor}
-use Rattle.raw_region.specs.Format.{current}
-use Rattle.raw_region.specs.Memory.{Cut}
-use Rattle.block_tags.specs.declared.tile.Role.TheVariants.{Storage}
+use Rattle.segment_manager.proofs.Common.{◌≡◌, refl, sym, ap, subst, ◌∙◌, ℕ, ◌+◌, ◌-◌, ◌<◌, ◌≤◌, ◌⊎◌, inl, inr, Bool}
+use Rattle.segment_manager.proofs.Common.{true, false, ◌==◌, Option, Some, None, Result, Ok, Err, List, [], ◌∷◌, ◌++◌}
+use Rattle.segment_manager.proofs.Common.{length, map, append-nil, get_or, arith, if◌then◌else◌, IsTrue, insert}
+use Rattle.segment_manager.proofs.Common.{option_map, option_to_list, remove, slice_get, slice_set, AllByRecursion}
+use Rattle.segment_manager.proofs.Common.{list_all, false≢true, le-ltb, lt-ltb, same_Some, slice_get-get_or}
+use Rattle.segment_manager.proofs.Common.{slice_get_past, Bor, current, Cut, Storage, Extent, LiveSet, place, resized}
+use Rattle.segment_manager.proofs.Common.{live_of, Table, cut_table, TextsKind, Refusal, NoSpace, OutOfRange, Key}
+use Rattle.segment_manager.proofs.Common.{Command, Place, AreTextsAssigned, AssignsTexts, IsGivenUp, IsTextsNow}
+use Rattle.segment_manager.proofs.Common.{all_texts, new_array, one_more, placed_text, placed_texts, text_blocks}
+use Rattle.segment_manager.proofs.Common.{with_array, with_text, OwnedText, capacity_for_one, grown_table, IsOutside}
+use Rattle.segment_manager.proofs.Common.{Answer, Done, Refused, TextElement, is_untouched, are_bytes, container_at}
+use Rattle.segment_manager.proofs.Common.{sizes_at_kind, sizes_of, Directory, Texts, kind_of, live, Plan, Reply}
+use Rattle.segment_manager.proofs.Common.{perform, Answers, IsSegment, IsStepOfKind, State, StandsFor, answer_of}
+use Rattle.segment_manager.proofs.Common.{refusal_in, changed, effect, is_read_only, texts_of, StepsSafely}
 use Rattle.best_fit.specs.Exchange.{IsRestored}
-use Rattle.best_fit.specs.Extents.{Extent, LiveSet}
-use Rattle.best_fit.specs.Fit.{place, resized}
-use Rattle.best_fit.specs.Heap.{live_of}
-use Rattle.best_fit.specs.Table.{Table, cut_table}
-use Rattle.seg_types.specs.declared.kinds.Kind.TheVariants.{Texts as TextsKind}
-use Rattle.seg_types.specs.declared.refusals.Refusal.{Refusal}
-use Rattle.seg_types.specs.declared.refusals.Refusal.TheVariants.{NoSpace, OutOfRange}
-use Rattle.seg_types.specs.Names.{Key}
 use Rattle.seg_types.specs.Commands as asked
-use Rattle.seg_types.specs.Commands.{Command}
-use Rattle.seg_vector.specs.declared.places.Place.{Place}
-use Rattle.seg_vector.specs.TextsCalls.{AreTextsAssigned, AssignsTexts, ClearsTexts, CountsTextPlaces, CountsTexts, ErasesText, GetsText, InsertsText, IsGivenUp, IsTextLeftOut, IsTextPutIn, IsTextSet, IsTextsNow, IsWithoutFit, PopsText, PushesText, ReservesTexts, SetsText, ShrinksTexts, all_texts, new_array, one_more, placed_text, placed_texts, text_blocks, with_array, with_text}
-use Rattle.seg_vector.specs.Vector.{OwnedText, capacity_for_one, grown_table}
-use Rattle.seg_vector.specs.VectorCalls.{IsOutside}
-use Rattle.segment_manager.specs.Answers.{Answer, Done, Refused, TextElement, is_untouched}
-use Rattle.segment_manager.specs.Contents.{are_bytes, container_at, sizes_at_kind, sizes_of}
-use Rattle.segment_manager.specs.Directory.{Directory, Texts, kind_of, live}
-use Rattle.segment_manager.specs.Plan.{Plan, Reply, perform}
-use Rattle.segment_manager.specs.State.{Answers, IsSegment, IsStepOfKind, State, StandsFor, answer_of, refusal_in}
-use Rattle.segment_manager.specs.Step.{changed, effect, is_read_only, texts_of}
-use Rattle.segment_manager.specs.Stored.{StepsSafely}
-use Rattle.segment_manager.proofs.AnyStorage.{sizes-found}
-use Rattle.segment_manager.proofs.Calling.{denotes-live}
-use Rattle.segment_manager.proofs.Refilled.{made_room, no_room}
-use Rattle.segment_manager.proofs.Safely.{done-so, stays}
-use Rattle.segment_manager.proofs.Steps.{open-reading, open-writing}
-use Rattle.segment_manager.proofs.TextLists.{part-all, part-inserted, part-none, part-removed, part-set, pushed-last, removed-last}
-use Rattle.segment_manager.proofs.TextMoves.{IsTextsMove, LeadsSafely, StepsKeeping, step-leads-on, texts-lead-on, texts-restored, texts-stay, texts-steps, texts_in}
-use Rattle.segment_manager.proofs.TextPlans.{all-met, all-unmet, assign-none, assign-some, clear-texts, erase-text, erase_text-past, got-past, got-text, insert-text, insert_text-past, one-more-met, one-more-unmet, pop-text, pop_text-past, push-text, reserve-texts, set-text, set_text-past, shrink-texts, text-placed, then_text}
-use Rattle.segment_manager.proofs.TextsHeld.{HasBytes, HoldsTexts}
-use Rattle.segment_manager.proofs.Words.{first, second}
+use Rattle.seg_vector.specs.TextsCalls.{ClearsTexts, CountsTextPlaces, CountsTexts, ErasesText, GetsText, InsertsText}
+use Rattle.seg_vector.specs.TextsCalls.{IsTextLeftOut, IsTextPutIn, IsTextSet, IsWithoutFit, PopsText, PushesText}
+use Rattle.seg_vector.specs.TextsCalls.{ReservesTexts, SetsText, ShrinksTexts}
+use Rattle.segment_manager.proofs.{AnyStorage.sizes-found, Calling.denotes-live, Refilled.made_room, Refilled.no_room}
+use Rattle.segment_manager.proofs.{Safely.done-so, Safely.stays, Steps.open-reading, Steps.open-writing}
+use Rattle.segment_manager.proofs.{TextsHeld.HasBytes, TextsHeld.HoldsTexts, Words.first, Words.second}
+use Rattle.segment_manager.proofs.TextLists.{part-all, part-inserted, part-none, part-removed, part-set, pushed-last}
+use Rattle.segment_manager.proofs.TextLists.{removed-last}
+use Rattle.segment_manager.proofs.TextMoves.{IsTextsMove, LeadsSafely, StepsKeeping, step-leads-on, texts-lead-on}
+use Rattle.segment_manager.proofs.TextMoves.{texts-restored, texts-stay, texts-steps, texts_in}
+use Rattle.segment_manager.proofs.TextPlans.{all-met, all-unmet, assign-none, assign-some, clear-texts, erase-text}
+use Rattle.segment_manager.proofs.TextPlans.{erase_text-past, got-past, got-text, insert-text, insert_text-past}
+use Rattle.segment_manager.proofs.TextPlans.{one-more-met, one-more-unmet, pop-text, pop_text-past, push-text}
+use Rattle.segment_manager.proofs.TextPlans.{reserve-texts, set-text, set_text-past, shrink-texts, text-placed}
+use Rattle.segment_manager.proofs.TextPlans.{then_text}
 
 -- ---- the bytes of placed texts
 

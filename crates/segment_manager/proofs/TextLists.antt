@@ -1,9 +1,8 @@
 -- Lists of texts with one more, one less, or another among them.
-use Rattle.std.proofs.Common.{◌≡◌, refl, sym, ap, ◌∙◌, ℕ, zero, suc, ◌-◌, Some, List, [], ◌∷◌, ◌++◌, length, take, drop, append-nil, arith}
-use Rattle.std.specs.Prelude.{insert, remove, slice_get, slice_set}
-use Rattle.std.proofs.Math.Seq.{take-length, drop-length}
-use Rattle.std.proofs.lemmas.List.{drop_all, take-append-drop}
-use Rattle.seg_vector.specs.Vector.{OwnedText}
+use Rattle.segment_manager.proofs.Common.{◌≡◌, refl, sym, ap, ◌∙◌, ℕ, zero, suc, ◌-◌, Some, List, [], ◌∷◌, ◌++◌, length}
+use Rattle.segment_manager.proofs.Common.{take, drop, append-nil, arith, insert, remove, slice_get, slice_set}
+use Rattle.segment_manager.proofs.Common.{OwnedText}
+use Rattle.std.proofs.{Math.Seq.take-length, Math.Seq.drop-length, lemmas.List.drop_all, lemmas.List.take-append-drop}
 use Rattle.segment_manager.proofs.TextBlocks.{IsPartOther}
 
 -- the text with i others before it, among them

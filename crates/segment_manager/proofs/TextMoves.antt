@@ -1,35 +1,17 @@
 -- A call on a vector of texts is one step: what the calls of seg_vector ensure of the texts at its place comes to the directory.
-use Rattle.std.proofs.Common.{◌≡◌, refl, sym, ap, subst, ◌∙◌, true, false, Option, None, Result, Ok, Err, List, ◌++◌}
-use Rattle.std.specs.Prelude.{IfErr, OnErr, option_to_list}
-use Rattle.std.specs.List.{AllByRecursion}
-use Rattle.std.proofs.lemmas.Bool.{eq-eqb}
-use Rattle.raw_region.specs.Format.{current}
-use Rattle.raw_region.specs.Memory.{Cut}
+use Rattle.segment_manager.proofs.Common.{◌≡◌, refl, sym, ap, subst, ◌∙◌, true, false, Option, None, Result, Ok, Err}
+use Rattle.segment_manager.proofs.Common.{List, ◌++◌, IfErr, OnErr, option_to_list, AllByRecursion, eq-eqb, current}
+use Rattle.segment_manager.proofs.Common.{Cut, Extent, Table, Kind, TextsKind, Refusal, code_of, same_kind, Key}
+use Rattle.segment_manager.proofs.Common.{Command, Place, IsTextsNow, text_blocks, OwnedText, Answer, Refused}
+use Rattle.segment_manager.proofs.Common.{is_untouched, refusal_of, kind_at, container_at, Value, Texts, Directory}
+use Rattle.segment_manager.proofs.Common.{kind_of, live, perform, Answers, IsSegment, IsStepOfKind, LeadsOn, State}
+use Rattle.segment_manager.proofs.Common.{StandsFor, done_answer, changed, effect, is_read_only, step, step_of_kind}
+use Rattle.segment_manager.proofs.Common.{LeadsOnOfKind}
 use Rattle.best_fit.specs.Exchange.{IsRestored}
-use Rattle.best_fit.specs.Extents.{Extent}
-use Rattle.best_fit.specs.Table.{Table}
-use Rattle.seg_types.specs.declared.kinds.Kind.{Kind}
-use Rattle.seg_types.specs.declared.kinds.Kind.TheVariants.{Texts as TextsKind}
-use Rattle.seg_types.specs.declared.refusals.Refusal.{Refusal}
-use Rattle.seg_types.specs.Kinds.{code_of, same_kind}
-use Rattle.seg_types.specs.Names.{Key}
-use Rattle.seg_types.specs.Commands.{Command}
-use Rattle.seg_vector.specs.declared.places.Place.{Place}
-use Rattle.seg_vector.specs.TextsCalls.{IsTextsNow, text_blocks}
-use Rattle.seg_vector.specs.Vector.{OwnedText}
-use Rattle.segment_manager.specs.Answers.{Answer, Refused, is_untouched, refusal_of}
-use Rattle.segment_manager.specs.Calls.{kind_at}
-use Rattle.segment_manager.specs.Contents.{container_at}
-use Rattle.segment_manager.specs.Directory.{Value, Texts, Directory, kind_of, live}
-use Rattle.segment_manager.specs.Plan.{perform}
-use Rattle.segment_manager.specs.State.{Answers, IsSegment, IsStepOfKind, LeadsOn, State, StandsFor, done_answer}
-use Rattle.segment_manager.specs.Step.{changed, effect, is_read_only, step, step_of_kind}
-use Rattle.segment_manager.specs.TextLists.{LeadsOnOfKind}
 use Rattle.segment_manager.proofs.AnyStorage.{IsOfKindAt, kind-told}
-use Rattle.segment_manager.proofs.Constructed.{restored-denotes}
-use Rattle.segment_manager.proofs.Safely.{seen-refused}
-use Rattle.segment_manager.proofs.Steps.{IsMove, IsOpenFor, by_no_change_of_kind, by_step_of_kind, open-writing, step_of_kind-found, step_of_kind-segment, step_of_kind-step}
-use Rattle.segment_manager.proofs.TextBlocks.{IsPartOther}
+use Rattle.segment_manager.proofs.{Constructed.restored-denotes, Safely.seen-refused, TextBlocks.IsPartOther}
+use Rattle.segment_manager.proofs.Steps.{IsMove, IsOpenFor, by_no_change_of_kind, by_step_of_kind, open-writing}
+use Rattle.segment_manager.proofs.Steps.{step_of_kind-found, step_of_kind-segment, step_of_kind-step}
 use Rattle.segment_manager.proofs.TextsHeld.{HasBytes, HoldsTexts, holds-texts, texts-changed}
 
 -- ---- one directory

@@ -1,23 +1,18 @@
 -- The plans of the commands on a vector of texts, and what they come to.
-use Rattle.std.proofs.Common.{◌≡◌, refl, sym, ap, ◌∙◌, ℕ, ◌-◌, ◌*◌, Bool, true, false, Option, Some, None, Result, Ok, Err, List, [], ◌∷◌, ◌++◌, length, take, arith, ◌==◌, if◌then◌else◌}
-use Rattle.std.specs.Prelude.{insert, remove, slice_get, slice_set, nat_le, nat_lt, option_map}
-use Rattle.std.proofs.lemmas.Bool.{le-ltb, leb-false, lt-ltb}
-use Rattle.block_tags.specs.declared.tile.Role.TheVariants.{Storage}
-use Rattle.best_fit.specs.Extents.{Extent, LiveSet}
-use Rattle.best_fit.specs.Fit.{place, regrow, resized}
-use Rattle.best_fit.specs.Table.{Table, cut_table, no_table}
-use Rattle.seg_types.specs.declared.refusals.Refusal.{Refusal}
-use Rattle.seg_types.specs.declared.refusals.Refusal.TheVariants.{NoSpace, OutOfRange}
-use Rattle.seg_types.specs.Names.{Key}
+use Rattle.segment_manager.proofs.Common.{◌≡◌, refl, sym, ap, ◌∙◌, ℕ, ◌-◌, ◌*◌, Bool, true, false, Option, Some, None}
+use Rattle.segment_manager.proofs.Common.{Result, Ok, Err, List, [], ◌∷◌, ◌++◌, length, take, arith, ◌==◌}
+use Rattle.segment_manager.proofs.Common.{if◌then◌else◌, insert, remove, slice_get, slice_set, nat_le, nat_lt}
+use Rattle.segment_manager.proofs.Common.{option_map, le-ltb, lt-ltb, Storage, Extent, LiveSet, place, regrow, resized}
+use Rattle.segment_manager.proofs.Common.{Table, cut_table, no_table, Refusal, NoSpace, OutOfRange, Key, Literal}
+use Rattle.segment_manager.proofs.Common.{all_texts, new_array, one_more, placed_text, placed_texts, with_array}
+use Rattle.segment_manager.proofs.Common.{with_text, OwnedText, capacity_for_one, grown_table, Answer, Done, Refused}
+use Rattle.segment_manager.proofs.Common.{TextElement, Texts, Object, Directory, live, object_at, New, Plan, Refuse}
+use Rattle.segment_manager.proofs.Common.{RegrownNeed, Reply, Request, perform, with, with_capacity, with_owned_text}
+use Rattle.segment_manager.proofs.Common.{with_owned_texts, with_storage, changed, effect, storage_of, texts_of}
+use Rattle.segment_manager.proofs.Common.{with_items, with_table}
+use Rattle.std.proofs.lemmas.Bool.{leb-false}
 use Rattle.seg_types.specs.Commands as asked
-use Rattle.seg_types.specs.Commands.{Literal}
-use Rattle.seg_vector.specs.TextsCalls.{all_texts, new_array, one_more, placed_text, placed_texts, with_array, with_text}
-use Rattle.seg_vector.specs.Vector.{OwnedText, capacity_for_one, grown_table}
-use Rattle.segment_manager.specs.Answers.{Answer, Done, Refused, TextElement}
-use Rattle.segment_manager.specs.Directory.{Texts, Object, Directory, live, object_at}
-use Rattle.segment_manager.specs.Plan.{New, Plan, Refuse, Regrown as RegrownNeed, Reply, Request, perform, with, with_capacity, with_owned_text, with_owned_texts, with_storage}
 use Rattle.segment_manager.specs.Step as step
-use Rattle.segment_manager.specs.Step.{changed, effect, storage_of, texts_of, with_items, with_table}
 use Rattle.segment_manager.proofs.ContentPlans.{clear-plan, reserve-plan, shrink-plan}
 use Rattle.segment_manager.proofs.Steps.{with-found}
 

@@ -1,36 +1,22 @@
 -- A call on a text is one step: what the calls of seg_vector ensure of the bytes at its place comes to the directory.
-use Rattle.std.proofs.Common.{◌≡◌, refl, sym, ap, subst, ◌∙◌, ℕ, zero, suc, ◌<◌, get_or, pos, nat_abs, true, false, ◌&&◌, Some, None, Ok, List, [], ◌∷◌, ◌++◌, length, map}
-use Rattle.std.specs.Prelude.{IsTrue, option_map, slice_get, slice_set}
-use Rattle.std.proofs.lemmas.Option.{same_Some, slice_get-get_or, slice_get-map}
-use Rattle.raw_region.specs.Format.{current}
-use Rattle.raw_region.specs.Memory.{Cut}
-use Rattle.best_fit.specs.Table.{Table}
-use Rattle.seg_types.specs.declared.kinds.ScalarKind.TheVariants.{U8}
-use Rattle.seg_types.specs.declared.kinds.Kind.TheVariants.{Text}
-use Rattle.seg_types.specs.declared.refusals.Refusal.TheVariants.{NoSpace, OutOfRange}
-use Rattle.seg_types.specs.Kinds.{is_value, same_kind}
-use Rattle.seg_types.specs.Names.{Key}
+use Rattle.segment_manager.proofs.Common.{◌≡◌, refl, sym, ap, subst, ◌∙◌, ℕ, zero, suc, ◌<◌, get_or, pos, nat_abs, true}
+use Rattle.segment_manager.proofs.Common.{false, ◌&&◌, Some, None, Ok, List, [], ◌∷◌, ◌++◌, length, map, IsTrue}
+use Rattle.segment_manager.proofs.Common.{option_map, slice_get, slice_set, same_Some, slice_get-get_or, slice_get-map}
+use Rattle.segment_manager.proofs.Common.{current, Cut, Table, U8, Text, NoSpace, OutOfRange, is_value, same_kind, Key}
+use Rattle.segment_manager.proofs.Common.{Command, is_changing, literal_of, Place, Stands, capacity_for_text, Answer}
+use Rattle.segment_manager.proofs.Common.{Done, Element, Refused, Contents, HasNoRoom, IsBytes, IsBytesGrown}
+use Rattle.segment_manager.proofs.Common.{IsBytesNow, IsRefilled, container_at, container_place, contents_of}
+use Rattle.segment_manager.proofs.Common.{has_values, Denotes, Value, Bytes, Object, Directory, kind_of, live}
+use Rattle.segment_manager.proofs.Common.{object_at, Reply, perform, with_capacity, StandsAt, Answers, IsSegment}
+use Rattle.segment_manager.proofs.Common.{IsStepOfKind, State, StandsFor, changed, effect, is_read_only}
 use Rattle.seg_types.specs.Commands as asked
-use Rattle.seg_types.specs.Commands.{Command, is_changing, literal_of}
-use Rattle.seg_vector.specs.declared.places.Place.{Place}
-use Rattle.seg_vector.specs.Standing.{Stands}
-use Rattle.seg_vector.specs.Vector.{capacity_for_text}
-use Rattle.segment_manager.specs.Answers.{Answer, Done, Element, Refused}
-use Rattle.segment_manager.specs.Contents.{Contents, HasNoRoom, IsBytes, IsBytesGrown, IsBytesNow, IsRefilled, container_at, container_place, contents_of, has_values}
-use Rattle.segment_manager.specs.Denotes.{Denotes}
-use Rattle.segment_manager.specs.Directory.{Value, Bytes, Object, Directory, kind_of, live, object_at}
-use Rattle.segment_manager.specs.Plan.{Reply, perform, with_capacity}
-use Rattle.segment_manager.specs.Standing.{StandsAt}
-use Rattle.segment_manager.specs.State.{Answers, IsSegment, IsStepOfKind, State, StandsFor}
-use Rattle.segment_manager.specs.Step.{changed, effect, is_read_only}
 use Rattle.segment_manager.proofs.Contained.{contents-fit, contents-stand}
-use Rattle.segment_manager.proofs.ContentPlans.{append-plan, byte-past, byte-plan, set_byte-past, set_byte-plan, text-plan}
-use Rattle.segment_manager.proofs.Frame.{object-roomy}
-use Rattle.segment_manager.proofs.Here.{standing}
-use Rattle.segment_manager.proofs.Refilled.{HoldsAt, Refill, holds-at, made_room, no_room, refill-steps_of_kind, replied}
+use Rattle.segment_manager.proofs.ContentPlans.{append-plan, byte-past, byte-plan, set_byte-past, set_byte-plan}
+use Rattle.segment_manager.proofs.ContentPlans.{text-plan}
+use Rattle.segment_manager.proofs.{Frame.object-roomy, Here.standing, Stored.literal-read, VectorSteps.one-kind}
+use Rattle.segment_manager.proofs.Refilled.{HoldsAt, Refill, holds-at, made_room, no_room, refill-steps_of_kind}
+use Rattle.segment_manager.proofs.Refilled.{replied}
 use Rattle.segment_manager.proofs.Steps.{by_no_change_of_kind, open-reading, open-writing, step_of_kind-found}
-use Rattle.segment_manager.proofs.Stored.{literal-read}
-use Rattle.segment_manager.proofs.VectorSteps.{one-kind}
 
 -- ---- what is of the kind of a text
 

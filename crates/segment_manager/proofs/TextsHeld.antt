@@ -1,45 +1,27 @@
 -- A vector of texts as the value of an object: it stands at its place as the calls of seg_vector see it, and what they do to it is what
 -- becomes of the object.
-use Rattle.std.proofs.Common.{◌≡◌, refl, sym, ap, subst, ◌∙◌, ℕ, ◌+◌, ◌≢◌, ◌≤◌, true, ◌&&◌, Option, Some, None, Ok, List, [], ◌∷◌, ◌++◌, length, arith}
-use Rattle.std.specs.Prelude.{IsTrue, nat_le, nat_lt, option_to_list}
-use Rattle.std.specs.List.{AllByRecursion, list_all}
-use Rattle.std.proofs.lemmas.Bool.{and_from, eq-eqb, eqb-true, le-leb, lt-ltb, ltb-true}
+use Rattle.segment_manager.proofs.Common.{◌≡◌, refl, sym, ap, subst, ◌∙◌, ℕ, ◌+◌, ◌≢◌, ◌≤◌, true, ◌&&◌, Option, Some}
+use Rattle.segment_manager.proofs.Common.{None, Ok, List, [], ◌∷◌, ◌++◌, length, arith, IsTrue, nat_le, nat_lt}
+use Rattle.segment_manager.proofs.Common.{option_to_list, AllByRecursion, list_all, and_from, eq-eqb, eqb-true, le-leb}
+use Rattle.segment_manager.proofs.Common.{lt-ltb, ltb-true, current, Cut, bytes_of, Storage, IsExchanged, Extent}
+use Rattle.segment_manager.proofs.Common.{LiveSet, handle, is_proper, extent_at, live_of, Table, is_table, serves}
+use Rattle.segment_manager.proofs.Common.{TextsKind, same_kind, Key, Place, IsOwnBlock, place_at, AreOthers}
+use Rattle.segment_manager.proofs.Common.{IsSomeTexts, IsTextsNow, text_blocks, OwnedText, are_bytes, container_at}
+use Rattle.segment_manager.proofs.Common.{container_place, Denotes, IsValueAt, Value, Texts, Object, Directory}
+use Rattle.segment_manager.proofs.Common.{count_of, extents_of, has_own_block, is_good_value, is_object, is_owned_text}
+use Rattle.segment_manager.proofs.Common.{kind_of, live, object_at, padded, value_len, StandsAt, Answers, IsSegment}
+use Rattle.segment_manager.proofs.Common.{State, changed}
 use Rattle.std.proofs.lemmas.List.{nil_from_length}
-use Rattle.raw_region.specs.Format.{current}
-use Rattle.raw_region.specs.Memory.{Cut, bytes_of}
-use Rattle.block_tags.specs.declared.tile.Role.TheVariants.{Storage}
-use Rattle.best_fit.specs.Exchange.{IsExchanged}
-use Rattle.best_fit.specs.Extents.{Extent, LiveSet, handle, is_proper}
-use Rattle.best_fit.specs.Heap.{extent_at, live_of}
-use Rattle.best_fit.specs.Table.{Table, is_table, serves}
-use Rattle.seg_types.specs.declared.kinds.Kind.TheVariants.{Texts as TextsKind}
-use Rattle.seg_types.specs.Kinds.{same_kind}
-use Rattle.seg_types.specs.Names.{Key}
-use Rattle.seg_vector.specs.declared.places.Place.{Place}
-use Rattle.seg_vector.specs.Standing.{IsOwnBlock, place_at}
-use Rattle.seg_vector.specs.TextsCalls.{AreOthers, IsHeldText, IsSomeTexts, IsTexts, IsTextsNow, text_blocks}
-use Rattle.seg_vector.specs.Vector.{IsTextsAt, OwnedText}
-use Rattle.segment_manager.specs.Contents.{are_bytes, container_at, container_place}
-use Rattle.segment_manager.specs.Denotes.{Denotes, IsValueAt}
-use Rattle.segment_manager.specs.Directory.{Value, Texts, Object, Directory, count_of, extents_of, has_own_block, is_good_value, is_object, is_owned_text, kind_of, live, object_at, padded, value_len}
-use Rattle.segment_manager.specs.Standing.{StandsAt}
-use Rattle.segment_manager.specs.State.{Answers, IsSegment, State}
-use Rattle.segment_manager.specs.Step.{changed}
-use Rattle.segment_manager.proofs.Calling.{denotes-heap, denotes-live}
-use Rattle.segment_manager.proofs.Contained.{good-with, start-place}
-use Rattle.segment_manager.proofs.Exchanged.{denotes-container}
-use Rattle.segment_manager.proofs.Frame.{object-roomy}
-use Rattle.segment_manager.proofs.Here.{standing}
-use Rattle.segment_manager.proofs.Live.{IsIn, live-split}
-use Rattle.segment_manager.proofs.ObjectLists.{key-found}
+use Rattle.seg_vector.specs.{TextsCalls.IsHeldText, TextsCalls.IsTexts, Vector.IsTextsAt}
+use Rattle.segment_manager.proofs.{Calling.denotes-heap, Calling.denotes-live, Contained.good-with}
+use Rattle.segment_manager.proofs.{Contained.start-place, Exchanged.denotes-container, Frame.object-roomy}
+use Rattle.segment_manager.proofs.{Here.standing, Live.IsIn, Live.live-split, ObjectLists.key-found, Refilled.HoldsAt}
+use Rattle.segment_manager.proofs.{Refilled.holds-at, Regrown.rest, Regrown.with_extents, Rewritten.value_start}
+use Rattle.segment_manager.proofs.{Rewritten.with_value, Standings.standing-room, VectorSteps.one-kind}
 use Rattle.segment_manager.proofs.Order.{Rising, inserted, live-rises}
-use Rattle.segment_manager.proofs.Refilled.{HoldsAt, holds-at}
-use Rattle.segment_manager.proofs.Regrown.{rest, with_extents}
-use Rattle.segment_manager.proofs.Rewritten.{value_start, with_value}
-use Rattle.segment_manager.proofs.Standings.{standing-room}
 use Rattle.segment_manager.proofs.TextBlocks.{IsPartOther, found-each, others-apart, part-exchange}
-use Rattle.segment_manager.proofs.VectorSteps.{one-kind}
-use Rattle.segment_manager.proofs.Words.{AllByRecursion-append, AllByRecursion-behind, AllByRecursion-front, first, no_more, second}
+use Rattle.segment_manager.proofs.Words.{AllByRecursion-append, AllByRecursion-behind, AllByRecursion-front, first}
+use Rattle.segment_manager.proofs.Words.{no_more, second}
 
 -- ---- texts
 

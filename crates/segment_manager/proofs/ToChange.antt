@@ -1,18 +1,9 @@
 -- The container that is to be changed, as the calls that change it find it.
-use Rattle.std.proofs.Common.{◌≡◌, false, sym, subst, Result, Ok, Err}
-use Rattle.std.specs.Prelude.{MatchResult}
-use Rattle.seg_types.specs.declared.kinds.ScalarKind.{ScalarKind}
-use Rattle.seg_types.specs.declared.kinds.Kind.{Kind}
-use Rattle.seg_types.specs.declared.kinds.Kind.TheVariants.{Vector}
-use Rattle.seg_types.specs.declared.refusals.Refusal.{Refusal}
-use Rattle.seg_types.specs.Names.{Key}
-use Rattle.seg_vector.specs.declared.places.Place.{Place}
-use Rattle.segment_manager.specs.Contents.{container_at}
-use Rattle.segment_manager.specs.State.{Answers, State}
-use Rattle.segment_manager.specs.Step.{is_read_only}
-use Rattle.segment_manager.specs.ToChange.{IsNotToChange, IsToChange}
-use Rattle.segment_manager.proofs.Refilled.{finds-no_container}
-use Rattle.segment_manager.proofs.Steps.{open-writing}
+use Rattle.segment_manager.proofs.Common.{◌≡◌, false, sym, subst, Result, Ok, Err, MatchResult, ScalarKind, Kind}
+use Rattle.segment_manager.proofs.Common.{Vector, Refusal, Key, Place, container_at, Answers, State, is_read_only}
+use Rattle.segment_manager.proofs.Common.{IsNotToChange}
+use Rattle.segment_manager.specs.ToChange.{IsToChange}
+use Rattle.segment_manager.proofs.{Refilled.finds-no_container, Steps.open-writing}
 
 -- a segment that may be changed
 pub to_change : (s : State) (key : Key) (kind : Kind) (r : Result Place Refusal) → is_read_only s.mode ≡ false

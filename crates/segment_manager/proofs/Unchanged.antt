@@ -1,20 +1,11 @@
 -- What only reads leaves the directory, and a step leads on.
-use Rattle.std.proofs.Common.{◌≡◌, refl, sym, ap, subst, Bool, false, Option, Some, None, Result, Ok, Err}
-use Rattle.std.proofs.lemmas.Bool.{false≢true}
-use Rattle.best_fit.specs.Extents.{Extent, LiveSet}
-use Rattle.best_fit.specs.Fit.{resized}
-use Rattle.seg_types.specs.declared.refusals.Refusal.{Refusal}
-use Rattle.seg_types.specs.declared.refusals.Refusal.TheVariants.{NoSpace}
-use Rattle.seg_types.specs.declared.kinds.Kind.{Kind}
-use Rattle.seg_types.specs.Names.{Key}
-use Rattle.seg_types.specs.Commands.{Command, is_changing}
-use Rattle.segment_manager.specs.declared.modes.Mode.{Mode}
-use Rattle.segment_manager.specs.Directory.{Directory, live}
-use Rattle.segment_manager.specs.Answers.{Answer, Refused, refusal_of}
-use Rattle.segment_manager.specs.Plan.{Plan, met, perform}
-use Rattle.segment_manager.specs.Step.{plan, step, step_of_kind}
-use Rattle.segment_manager.specs.State.{State, StandsFor, IsStep, LeadsOn, answer_of, refusal_in}
-use Rattle.segment_manager.proofs.Refusals.{Leaves, by_change, by_other, by_refusal, by_request, by_same, plan-leaves, plan_of_kind-leaves, step-refused}
+use Rattle.segment_manager.proofs.Common.{◌≡◌, refl, sym, ap, subst, Bool, false, Option, Some, None, Result, Ok, Err}
+use Rattle.segment_manager.proofs.Common.{false≢true, Extent, LiveSet, resized, Refusal, NoSpace, Kind, Key, Command}
+use Rattle.segment_manager.proofs.Common.{is_changing, Mode, Directory, live, Answer, Refused, refusal_of, Plan, met}
+use Rattle.segment_manager.proofs.Common.{perform, plan, step, step_of_kind, State, StandsFor, IsStep, LeadsOn}
+use Rattle.segment_manager.proofs.Common.{answer_of, refusal_in}
+use Rattle.segment_manager.proofs.Refusals.{Leaves, by_change, by_other, by_refusal, by_request, by_same, plan-leaves}
+use Rattle.segment_manager.proofs.Refusals.{plan_of_kind-leaves, step-refused}
 
 asked-reads : (d : Directory) (o : Option Extent) (after : Extent → Answer × Directory) → ((x : Extent) → (after x).1 ≡ d)
     → (elim o as (λ _. Answer × Directory) [ None ↦ (Refused NoSpace, d) | Some x ↦ after x ]).1 ≡ d

@@ -1,35 +1,27 @@
 -- What the calls of seg_vector ensure of the vector at the place that was found, as the steps of the calls on the object's vector.
-use Rattle.std.proofs.Common.{◌≡◌, refl, sym, ap, subst, ◌∙◌, ℕ, ◌+◌, ◌-◌, ◌<◌, ◌≤◌, ◌⊎◌, inl, inr, ℤ, Bool, true, false, Some, Result, Ok, Err, List, [], ◌∷◌, ◌++◌, length, map, take, arith}
-use Rattle.std.specs.Prelude.{IsTrue, insert, option_map, remove, slice_get, slice_set}
-use Rattle.std.specs.List.{list_all}
-use Rattle.std.proofs.lemmas.List.{length-map, map-append, take-map}
-use Rattle.std.proofs.lemmas.Option.{slice_get-map}
-use Rattle.raw_region.specs.Memory.{Cut}
-use Rattle.best_fit.specs.Heap.{live_of}
-use Rattle.best_fit.specs.Table.{Table, cut_table}
-use Rattle.seg_types.specs.declared.kinds.ScalarKind.{ScalarKind}
-use Rattle.seg_types.specs.declared.kinds.Kind.TheVariants.{Vector}
-use Rattle.seg_types.specs.declared.refusals.Refusal.{Refusal}
-use Rattle.seg_types.specs.declared.refusals.Refusal.TheVariants.{NoSpace, OutOfRange}
-use Rattle.seg_types.specs.Kinds.{size_of}
-use Rattle.seg_types.specs.Names.{Key}
-use Rattle.seg_types.specs.Commands.{Assign, Clear, Erase, Get, Insert, Pop, Push, Reserve, Set, Shrink, literal_of}
-use Rattle.seg_vector.specs.declared.places.Place.{Place}
-use Rattle.seg_vector.specs.Vector.{capacity_for_one}
-use Rattle.seg_vector.specs.VectorCalls.{Assigns, Clears, Counts, CountsPlaces, ErasesFrom, Gets, InsertsInto, IsOutside, IsSomeVector, IsVector, IsVectorGrown, IsVectorNow, IsWithoutSpace, Pops, Pushes, Reserves, Sets, Shrinks}
-use Rattle.segment_manager.specs.declared.modes.Mode.{Mode}
-use Rattle.segment_manager.specs.Answers.{Element, Refused}
-use Rattle.segment_manager.specs.Contents.{HasNoRoom, IsNumbers, IsNumbersGrown, IsNumbersNow, container_at, sizes_at_kind, sizes_of}
-use Rattle.segment_manager.specs.Directory.{kind_of}
-use Rattle.segment_manager.specs.State.{Answers, IsSegment, IsStepOfKind, State, answer_of}
-use Rattle.segment_manager.specs.Step.{is_read_only}
-use Rattle.segment_manager.specs.Stored.{StandsThere, StepsSafely}
-use Rattle.segment_manager.proofs.AnyStorage.{sizes-found}
-use Rattle.segment_manager.proofs.Safely.{AnswersSafely, done-so, stays}
+use Rattle.segment_manager.proofs.Common.{◌≡◌, refl, sym, ap, subst, ◌∙◌, ℕ, ◌+◌, ◌-◌, ◌<◌, ◌≤◌, ◌⊎◌, inl, inr, ℤ, Bool}
+use Rattle.segment_manager.proofs.Common.{true, false, Some, Result, Ok, Err, List, [], ◌∷◌, ◌++◌, length, map, take}
+use Rattle.segment_manager.proofs.Common.{arith, IsTrue, insert, option_map, remove, slice_get, slice_set, list_all}
+use Rattle.segment_manager.proofs.Common.{length-map, map-append, take-map, slice_get-map, Cut, live_of, Table}
+use Rattle.segment_manager.proofs.Common.{cut_table, ScalarKind, Vector, Refusal, NoSpace, OutOfRange, size_of, Key}
+use Rattle.segment_manager.proofs.Common.{Assign, Erase, Get, Insert, Pop, Push, Set, literal_of, Place}
+use Rattle.segment_manager.proofs.Common.{capacity_for_one, Assigns, IsOutside, IsSomeVector, IsVectorGrown}
+use Rattle.segment_manager.proofs.Common.{IsVectorNow, IsWithoutSpace, Mode, Element, Refused, HasNoRoom, IsNumbers}
+use Rattle.segment_manager.proofs.Common.{IsNumbersGrown, IsNumbersNow, container_at, sizes_at_kind, sizes_of, kind_of}
+use Rattle.segment_manager.proofs.Common.{Answers, IsSegment, IsStepOfKind, State, answer_of, is_read_only, StandsThere}
+use Rattle.segment_manager.proofs.Common.{StepsSafely}
+use Rattle.seg_types.specs.Commands.{Clear, Reserve, Shrink}
+use Rattle.seg_vector.specs.VectorCalls.{Clears, Counts, CountsPlaces, ErasesFrom, Gets, InsertsInto, IsVector, Pops}
+use Rattle.seg_vector.specs.VectorCalls.{Pushes, Reserves, Sets, Shrinks}
+use Rattle.segment_manager.proofs.{AnyStorage.sizes-found, Safely.AnswersSafely, Safely.done-so, Safely.stays}
 use Rattle.segment_manager.proofs.StorageSteps.{clears-vector, reserves-no_space, reserves-places, shrinks-vector}
-use Rattle.segment_manager.proofs.VectorCalls.{assigns-no_space, assigns-numbers, erases-number, erases-past, gets-number, gets-past, inserts-no_space, inserts-number, inserts-past, pops-nothing, pops-number, pushes-no_space, pushes-number, sets-number, sets-past}
+use Rattle.segment_manager.proofs.VectorCalls.{assigns-no_space, assigns-numbers, erases-number, erases-past}
+use Rattle.segment_manager.proofs.VectorCalls.{gets-number, gets-past, inserts-no_space, inserts-number, inserts-past}
+use Rattle.segment_manager.proofs.VectorCalls.{pops-nothing, pops-number, pushes-no_space, pushes-number, sets-number}
+use Rattle.segment_manager.proofs.VectorCalls.{sets-past}
 use Rattle.segment_manager.proofs.VectorSteps.{HoldsVector, holds-vector, stands-vector}
-use Rattle.segment_manager.proofs.Whole.{IsOfKind, of-whole, stands-whole, whole-grown, whole-insert, whole-no_room, whole-now, whole-reached, whole-remove, whole-set, whole-values}
+use Rattle.segment_manager.proofs.Whole.{IsOfKind, of-whole, stands-whole, whole-grown, whole-insert, whole-no_room}
+use Rattle.segment_manager.proofs.Whole.{whole-now, whole-reached, whole-remove, whole-set, whole-values}
 
 -- a list without elements
 none-left : {T : Type 0} (xs : List T) → length xs ≤ 0 → xs ≡ []

@@ -1,31 +1,17 @@
 -- The calls on vectors of numbers, each as one step.
-use Rattle.std.proofs.Common.{◌≡◌, refl, ap, ℕ, ◌-◌, ◌<◌, ◌≤◌, get_or, ℤ, pos, true, false, Some, Ok, List, [], ◌∷◌, ◌++◌, length, map, take}
-use Rattle.std.specs.Prelude.{IsTrue, insert, remove, slice_get, slice_set}
-use Rattle.std.specs.List.{list_all}
-use Rattle.std.proofs.lemmas.Bool.{le-ltb, lt-ltb}
-use Rattle.std.proofs.lemmas.Option.{slice_get-get_or, slice_get_past}
-use Rattle.raw_region.specs.Memory.{Cut}
-use Rattle.best_fit.specs.Table.{Table}
-use Rattle.seg_types.specs.declared.kinds.ScalarKind.{ScalarKind}
-use Rattle.seg_types.specs.declared.kinds.Kind.TheVariants.{Vector}
-use Rattle.seg_types.specs.declared.refusals.Refusal.TheVariants.{NoSpace, OutOfRange}
-use Rattle.seg_types.specs.Kinds.{is_value, size_of}
-use Rattle.seg_types.specs.Names.{Key}
+use Rattle.segment_manager.proofs.Common.{◌≡◌, refl, ap, ℕ, ◌-◌, ◌<◌, ◌≤◌, get_or, ℤ, pos, true, false, Some, Ok, List}
+use Rattle.segment_manager.proofs.Common.{[], ◌∷◌, ◌++◌, length, map, take, IsTrue, insert, remove, slice_get}
+use Rattle.segment_manager.proofs.Common.{slice_set, list_all, le-ltb, lt-ltb, slice_get-get_or, slice_get_past, Cut}
+use Rattle.segment_manager.proofs.Common.{Table, ScalarKind, Vector, NoSpace, OutOfRange, is_value, size_of, Key}
+use Rattle.segment_manager.proofs.Common.{literal_of, Place, capacity_for_one, Done, Element, Refused, HasNoRoom}
+use Rattle.segment_manager.proofs.Common.{IsNumbers, IsNumbersGrown, IsNumbersNow, container_at, live, perform, Answers}
+use Rattle.segment_manager.proofs.Common.{IsSegment, IsStepOfKind, State, and_then, is_read_only, values_of}
 use Rattle.seg_types.specs.Commands as asked
-use Rattle.seg_types.specs.Commands.{literal_of}
-use Rattle.seg_vector.specs.declared.places.Place.{Place}
-use Rattle.seg_vector.specs.Vector.{capacity_for_one}
-use Rattle.segment_manager.specs.Answers.{Done, Element, Refused}
-use Rattle.segment_manager.specs.Contents.{HasNoRoom, IsNumbers, IsNumbersGrown, IsNumbersNow, container_at}
-use Rattle.segment_manager.specs.Directory.{live}
-use Rattle.segment_manager.specs.Plan.{perform}
-use Rattle.segment_manager.specs.State.{Answers, IsSegment, IsStepOfKind, State}
-use Rattle.segment_manager.specs.Step.{and_then, is_read_only, values_of}
-use Rattle.segment_manager.proofs.ContentPlans.{assign-plan, erase-past, erase-plan, get-past, get-plan, insert-past, insert-plan, pop-empty, pop-plan, push-plan, set-past, set-plan}
-use Rattle.segment_manager.proofs.Stored.{literal-read}
+use Rattle.segment_manager.proofs.ContentPlans.{assign-plan, erase-past, erase-plan, get-past, get-plan, insert-past}
+use Rattle.segment_manager.proofs.ContentPlans.{insert-plan, pop-empty, pop-plan, push-plan, set-past, set-plan}
+use Rattle.segment_manager.proofs.{Stored.literal-read, Words.first, Words.second}
 use Rattle.segment_manager.proofs.Steps.{open-reading, open-writing}
 use Rattle.segment_manager.proofs.VectorSteps.{vector-grown, vector-not_grown, vector-now, vector-stays, vector-steps}
-use Rattle.segment_manager.proofs.Words.{first, second}
 
 -- the literals of values are read as them
 pub literals-read : (k : ScalarKind) (zs : List ℤ) → IsTrue (list_all (is_value k) zs) → values_of k (map (literal_of k) zs) ≡ Ok zs

@@ -1,34 +1,17 @@
 -- A call on a vector of numbers is one step: what the calls of seg_vector ensure of the vector at its place comes to the directory.
-use Rattle.std.proofs.Common.{◌≡◌, refl, sym, ap, subst, ◌∙◌, ℕ, ℤ, true, false, ◌&&◌, Some, Ok, List, length}
-use Rattle.std.specs.Prelude.{IsTrue}
-use Rattle.std.proofs.lemmas.Bool.{eqb-true}
-use Rattle.std.proofs.lemmas.Option.{same_Some}
-use Rattle.raw_region.specs.Format.{current}
-use Rattle.raw_region.specs.Memory.{Cut}
-use Rattle.best_fit.specs.Table.{Table}
-use Rattle.seg_types.specs.declared.kinds.ScalarKind.{ScalarKind}
-use Rattle.seg_types.specs.declared.kinds.Kind.{Kind}
-use Rattle.seg_types.specs.declared.kinds.Kind.TheVariants.{Vector}
-use Rattle.seg_types.specs.declared.refusals.Refusal.TheVariants.{NoSpace}
-use Rattle.seg_types.specs.Kinds.{code_of, kind_of_code, same_kind, size_of}
-use Rattle.seg_types.specs.Names.{Key}
-use Rattle.seg_types.specs.Commands.{Command, is_changing}
-use Rattle.seg_vector.specs.declared.places.Place.{Place}
-use Rattle.seg_vector.specs.Standing.{Stands}
-use Rattle.seg_vector.specs.Vector.{spelled}
-use Rattle.segment_manager.specs.Answers.{Answer, Refused}
-use Rattle.segment_manager.specs.Contents.{Contents, HasNoRoom, IsNumbers, IsNumbersGrown, IsNumbersNow, IsRefilled, container_at, container_place, contents_of, has_values}
-use Rattle.segment_manager.specs.Denotes.{Denotes}
-use Rattle.segment_manager.specs.Directory.{Value, Elements, Object, Directory, kind_of, live, object_at}
-use Rattle.segment_manager.specs.Plan.{Reply, perform, with_capacity}
-use Rattle.segment_manager.specs.Standing.{StandsAt}
-use Rattle.segment_manager.specs.State.{Answers, IsSegment, IsStepOfKind, State, StandsFor}
-use Rattle.segment_manager.specs.Step.{changed, effect, is_read_only}
-use Rattle.segment_manager.proofs.Codes.{code-read}
+use Rattle.segment_manager.proofs.Common.{◌≡◌, refl, sym, ap, subst, ◌∙◌, ℕ, ℤ, true, false, ◌&&◌, Some, Ok, List}
+use Rattle.segment_manager.proofs.Common.{length, IsTrue, eqb-true, same_Some, current, Cut, Table, ScalarKind, Kind}
+use Rattle.segment_manager.proofs.Common.{Vector, NoSpace, code_of, kind_of_code, same_kind, size_of, Key, Command}
+use Rattle.segment_manager.proofs.Common.{is_changing, Place, Stands, spelled, Answer, Refused, Contents, HasNoRoom}
+use Rattle.segment_manager.proofs.Common.{IsNumbers, IsNumbersGrown, IsNumbersNow, IsRefilled, container_at}
+use Rattle.segment_manager.proofs.Common.{container_place, contents_of, has_values, Denotes, Value, Elements, Object}
+use Rattle.segment_manager.proofs.Common.{Directory, kind_of, live, object_at, Reply, perform, with_capacity, StandsAt}
+use Rattle.segment_manager.proofs.Common.{Answers, IsSegment, IsStepOfKind, State, StandsFor, changed, effect}
+use Rattle.segment_manager.proofs.Common.{is_read_only}
+use Rattle.segment_manager.proofs.{Codes.code-read, Frame.object-roomy, Here.standing}
 use Rattle.segment_manager.proofs.Contained.{contents-fit, contents-stand}
-use Rattle.segment_manager.proofs.Frame.{object-roomy}
-use Rattle.segment_manager.proofs.Here.{standing}
-use Rattle.segment_manager.proofs.Refilled.{HoldsAt, Refill, holds-at, made_room, no_room, refill-steps_of_kind, replied}
+use Rattle.segment_manager.proofs.Refilled.{HoldsAt, Refill, holds-at, made_room, no_room, refill-steps_of_kind}
+use Rattle.segment_manager.proofs.Refilled.{replied}
 use Rattle.segment_manager.proofs.Steps.{by_no_change_of_kind, step_of_kind-found}
 
 -- ---- what is of the kind of a vector

@@ -1,14 +1,9 @@
 -- The places of an iterator over the objects of an index.
-use Rattle.std.proofs.Common.{◌≡◌, sym, ap, subst, ◌∙◌, ℕ, ◌≤◌, Some, None, List, length}
-use Rattle.std.specs.Prelude.{option_map, slice_get}
-use Rattle.std.proofs.lemmas.Option.{slice_get-map, slice_get_past}
-use Rattle.seg_index.specs.declared.index.Index.TheVariants.{Named}
-use Rattle.segment_manager.specs.declared.telling.Instance.{Instance}
-use Rattle.segment_manager.specs.Directory.{Directory, Object, named_objects}
-use Rattle.segment_manager.specs.Instances.{SaysAt}
-use Rattle.segment_manager.specs.Indexed.{objects_of}
-use Rattle.segment_manager.specs.Iterating.{GoesOn, GoesOnNames, NameWalk, Walk, names_of}
-use Rattle.segment_manager.specs.State.{Answers, State, StandsFor}
+use Rattle.segment_manager.proofs.Common.{◌≡◌, sym, ap, subst, ◌∙◌, ℕ, ◌≤◌, Some, None, List, length, option_map}
+use Rattle.segment_manager.proofs.Common.{slice_get, slice_get-map, slice_get_past, Named, Instance, Directory, Object}
+use Rattle.segment_manager.proofs.Common.{named_objects, SaysAt, objects_of, GoesOn, GoesOnNames, NameWalk, Walk}
+use Rattle.segment_manager.proofs.Common.{Answers, State, StandsFor}
+use Rattle.segment_manager.specs.Iterating.{names_of}
 
 -- what stands at a place of the list of named objects is the name that is said, and behind the last there is none
 pub name-said : (s : State) (at : ℕ) (said : Instance) → SaysAt s named_objects at said → Answers s (λ d. slice_get (names_of d) at) (Some said.name.now)

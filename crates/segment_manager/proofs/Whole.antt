@@ -1,19 +1,11 @@
 -- The values of a type as the whole numbers of its kind: lists of them, and vectors of them at a place.
-use Rattle.std.proofs.Common.{◌≡◌, refl, sym, ap, subst, ◌∙◌, ℕ, zero, suc, ℤ, Bool, true, ◌&&◌, Some, List, [], ◌∷◌, ◌++◌, length, map, take, drop}
-use Rattle.std.specs.Prelude.{IsTrue, flat_map, insert, option_to_list, remove, slice_set}
-use Rattle.std.specs.List.{list_all}
-use Rattle.std.proofs.lemmas.List.{drop-map, length-map, map-append, take-map}
-use Rattle.raw_region.specs.Format.{current}
-use Rattle.raw_region.specs.Memory.{Cut}
-use Rattle.best_fit.specs.Exchange.{IsExchanged}
-use Rattle.best_fit.specs.Heap.{live_of}
-use Rattle.best_fit.specs.Table.{Table}
-use Rattle.seg_types.specs.declared.kinds.ScalarKind.{ScalarKind}
-use Rattle.seg_types.specs.Kinds.{is_value, size_of, spelling}
-use Rattle.seg_vector.specs.declared.places.Place.{Place}
-use Rattle.seg_vector.specs.Standing.{Stands, place_at}
-use Rattle.seg_vector.specs.Vector.{grown_table, spelled}
-use Rattle.segment_manager.specs.Contents.{HasNoRoom, IsNumbers, IsNumbersGrown, IsNumbersNow}
+use Rattle.segment_manager.proofs.Common.{◌≡◌, refl, sym, ap, subst, ◌∙◌, ℕ, zero, suc, ℤ, Bool, true, ◌&&◌, Some, List}
+use Rattle.segment_manager.proofs.Common.{[], ◌∷◌, ◌++◌, length, map, take, drop, IsTrue, flat_map, insert}
+use Rattle.segment_manager.proofs.Common.{option_to_list, remove, slice_set, list_all, length-map, map-append, take-map}
+use Rattle.segment_manager.proofs.Common.{current, Cut, IsExchanged, live_of, Table, ScalarKind, is_value, size_of}
+use Rattle.segment_manager.proofs.Common.{spelling, Place, Stands, place_at, grown_table, spelled, HasNoRoom, IsNumbers}
+use Rattle.segment_manager.proofs.Common.{IsNumbersGrown, IsNumbersNow}
+use Rattle.std.proofs.lemmas.List.{drop-map}
 use Rattle.segment_manager.proofs.Words.{first, second}
 
 -- ---- lists

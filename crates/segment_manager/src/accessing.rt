@@ -1,11 +1,9 @@
 //! The elements of objects of scalars, read and written.
 ghost use Rattle.std.specs.Prelude.{◌≡◌, ℤ, OnErr, true};
 ghost use Rattle.seg_types.specs.declared.kinds.Kind.TheVariants.{Scalar as ScalarOf};
-ghost use Rattle.seg_types.specs.Commands.{Get, Set, literal_of};
-ghost use Rattle.seg_types.specs.Kinds.{is_value, spelling as spelling_of};
-ghost use Rattle.seg_types.specs.Values.{kind_of_scalar, value_of_scalar};
-ghost use Rattle.segment_manager.specs.Answers.{Element};
-ghost use Rattle.segment_manager.specs.Standing.{Spells, place_at};
+ghost use Rattle.seg_types.specs.{Commands.Get, Commands.Set, Commands.literal_of, Kinds.is_value};
+ghost use Rattle.seg_types.specs.{Kinds.spelling as spelling_of, Values.kind_of_scalar, Values.value_of_scalar};
+ghost use Rattle.segment_manager.specs.{Answers.Element, Standing.Spells, Standing.place_at};
 ghost use Rattle.segment_manager.specs.State.{Answers, IsReplyOfKind, IsStepOfKind, answer_of, done_answer, scalar_answer};
 
 use crate::element::{element, place_of};

@@ -1,10 +1,8 @@
 //! The pairs of objects that are maps whose kinds are not known before.
 ghost use Rattle.std.specs.Prelude.{◌≡◌, OnErr, option_map};
-ghost use Rattle.seg_types.specs.declared.kinds.Kind.TheVariants.{Map as MapOf};
-ghost use Rattle.seg_types.specs.Commands.{Lookup, Put, Remove, literal_of};
-ghost use Rattle.seg_types.specs.Values.{kind_of_scalar, value_of_scalar};
-ghost use Rattle.segment_manager.specs.Keeping.{KeepsWhere, LacksPair};
-ghost use Rattle.segment_manager.specs.Maps.{any_value_answer};
+ghost use Rattle.seg_types.specs.{declared.kinds.Kind.TheVariants.Map as MapOf, Commands.Lookup, Commands.Put};
+ghost use Rattle.seg_types.specs.{Commands.Remove, Commands.literal_of, Values.kind_of_scalar, Values.value_of_scalar};
+ghost use Rattle.segment_manager.specs.{Keeping.KeepsWhere, Keeping.LacksPair, Maps.any_value_answer};
 ghost use Rattle.segment_manager.specs.State.{IsReplyOfKind, IsStepOfKind, truth_answer};
 
 use crate::segment::Segment;

@@ -1,14 +1,11 @@
 //! How an object comes to be: its blocks are taken and its head is written, and when it was filled it gets its entry or is given back.
 ghost use Rattle.std.specs.Prelude.{◌≡◌, ◌^◌, ◌<◌, ◌≤◌, length};
 ghost use Rattle.raw_region.specs.Memory.{Cut};
-ghost use Rattle.seg_types.specs.Keys.{new_key_seen};
-ghost use Rattle.seg_types.specs.Names.{Key as AnyKey, NoKey};
-ghost use Rattle.seg_index.specs.declared.keys.Key.{Key as AnyEntry};
-ghost use Rattle.seg_index.specs.Held.{HasIndex, place_of};
+ghost use Rattle.seg_types.specs.{Keys.new_key_seen, Names.Key as AnyKey, Names.NoKey};
+ghost use Rattle.seg_index.specs.{declared.keys.Key.Key as AnyEntry, Held.HasIndex, Held.place_of};
 ghost use Rattle.segment_manager.specs.Begun.{Begins, BeginsEntry, Ends, GivesAllBack, IsEnding, IsLoose, IsReadyFor, LeadsThere};
-ghost use Rattle.segment_manager.specs.Indexed.{class_of_index};
+ghost use Rattle.segment_manager.specs.{Indexed.class_of_index, State.IsSegment};
 ghost use Rattle.segment_manager.specs.NewObjects.{IsNewKeyOf, IsOfKind};
-ghost use Rattle.segment_manager.specs.State.{IsSegment};
 
 use crate::head::write_head;
 use crate::layout::{HEAD_LEN, value_at};

@@ -1,15 +1,10 @@
 //! Objects constructed, whatever they hold; those of one number, so many times.
 ghost use Rattle.std.specs.Prelude.{◌≡◌, ◌≤◌, replicate, true};
-ghost use Rattle.seg_types.specs.declared.kinds.Kind.TheVariants.{Scalar as ScalarOf};
-ghost use Rattle.seg_types.specs.Commands.{Construct, Numbers};
-ghost use Rattle.seg_types.specs.Keys.{new_key_seen};
-ghost use Rattle.seg_types.specs.Values.{kind_of_scalar, value_of_scalar};
-ghost use Rattle.segment_manager.specs.Directory.{kind_of};
-ghost use Rattle.segment_manager.specs.Filled.{Builds, Constructs, HasBegun};
-ghost use Rattle.segment_manager.specs.NewObjects.{IsOfKind};
-ghost use Rattle.segment_manager.specs.Plan.{bare};
+ghost use Rattle.seg_types.specs.{declared.kinds.Kind.TheVariants.Scalar as ScalarOf, Commands.Construct};
+ghost use Rattle.seg_types.specs.{Commands.Numbers, Keys.new_key_seen, Values.kind_of_scalar, Values.value_of_scalar};
+ghost use Rattle.segment_manager.specs.{Directory.kind_of, Filled.Builds, Filled.Constructs, Filled.HasBegun};
+ghost use Rattle.segment_manager.specs.{NewObjects.IsOfKind, Plan.bare, Counted.RefusesCount, Counted.is_count};
 ghost use Rattle.segment_manager.specs.State.{IsSegment, IsStep, KeepsRefused, handle_answer};
-ghost use Rattle.segment_manager.specs.Counted.{RefusesCount, is_count};
 
 use crate::beginning::{Begun, begin, end};
 use crate::destinations::Destination;

@@ -2,8 +2,7 @@
 ghost use Rattle.std.specs.Prelude.{map};
 ghost use Rattle.seg_types.specs.declared.kinds.Kind.TheVariants.{Text as TextKind, Vector as VectorOf, Texts as TextsKind, Map as MapOf};
 ghost use Rattle.seg_types.specs.Commands.{Bytes, Construct, Elements, FindOrConstruct, Strings, NoPairs};
-ghost use Rattle.segment_manager.specs.Found.{pair_answer};
-ghost use Rattle.segment_manager.specs.Keeping.{HasKey, KeepsWhere};
+ghost use Rattle.segment_manager.specs.{Found.pair_answer, Keeping.HasKey, Keeping.KeepsWhere};
 ghost use Rattle.segment_manager.specs.State.{IsStep, KeepsRefused, handle_answer};
 
 use crate::destinations::{Destination, IndexDestination};

@@ -1,20 +1,13 @@
 //! Objects of numbers constructed from the items of an iterator.
 ghost use Rattle.std.specs.Prelude.{◌≡◌, ◌+◌, ◌*◌, ◌≤◌, IsTrue, true, false};
-ghost use Rattle.std.specs.Bool.{OnTrue};
-ghost use Rattle.std.specs.Iterator.{HoldsAlong};
-ghost use Rattle.std.specs.List.{AllByRecursion};
-ghost use Rattle.raw_region.specs.Format.{current};
-ghost use Rattle.raw_region.specs.Memory.{Cut};
+ghost use Rattle.std.specs.{Bool.OnTrue, Iterator.HoldsAlong, List.AllByRecursion};
+ghost use Rattle.raw_region.specs.{Format.current, Memory.Cut};
 ghost use Rattle.best_fit.specs.Heap.{IsHeap, has_room, live_of};
 ghost use Rattle.seg_types.specs.declared.kinds.Kind.TheVariants.{Scalar as ScalarOf};
-ghost use Rattle.seg_types.specs.Keys.{new_key_seen};
-ghost use Rattle.seg_types.specs.Kinds.{size_of};
-ghost use Rattle.seg_types.specs.Values.{kind_of_scalar, value_of_scalar};
+ghost use Rattle.seg_types.specs.{Keys.new_key_seen, Kinds.size_of, Values.kind_of_scalar, Values.value_of_scalar};
 ghost use Rattle.segment_manager.specs.Begun.{BeginsNumbers, Fills, Finishes, IsLoose, IsNextOfKind, WritesNext};
 ghost use Rattle.segment_manager.specs.Counted.{RefusesCount, is_count};
-ghost use Rattle.segment_manager.specs.Items.{TakesItems};
-ghost use Rattle.segment_manager.specs.NewObjects.{IsOfItsKind};
-ghost use Rattle.segment_manager.specs.State.{IsSegment};
+ghost use Rattle.segment_manager.specs.{Items.TakesItems, NewObjects.IsOfItsKind, State.IsSegment};
 
 use crate::beginning::{Begun, begin, end};
 use crate::destinations::Destination;

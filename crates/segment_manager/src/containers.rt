@@ -1,9 +1,7 @@
 //! The containers of objects: where each stands in its object's block.
 ghost use Rattle.std.specs.Prelude.{◌≡◌, MatchResult};
 ghost use Rattle.segment_manager.specs.Contents.{container_at, place_of_kind};
-ghost use Rattle.segment_manager.specs.Directory.{Object};
-ghost use Rattle.segment_manager.specs.Standing.{HasObject, StandsAt};
-ghost use Rattle.segment_manager.specs.State.{Answers};
+ghost use Rattle.segment_manager.specs.{Directory.Object, Standing.HasObject, Standing.StandsAt, State.Answers};
 ghost use Rattle.segment_manager.specs.ToChange.{IsNotToChange, IsToChange};
 
 use crate::head::read_head;

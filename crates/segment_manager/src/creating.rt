@@ -1,14 +1,10 @@
 //! The making of an empty segment, and the moving of one into another region.
 ghost use Rattle.std.specs.Prelude.{◌≡◌, ◌%◌, []};
-ghost use Rattle.raw_region.specs.Memory.{AreZero, SameBut, SamePlace, bytes_of};
-ghost use Rattle.raw_region.specs.Format.{current};
-ghost use Rattle.best_fit.specs.Heap.{LaysOut, live_of};
-ghost use Rattle.best_fit.specs.Table.{no_table};
+ghost use Rattle.raw_region.specs.{Memory.AreZero, Memory.SameBut, Memory.SamePlace, Memory.bytes_of, Format.current};
+ghost use Rattle.best_fit.specs.{Heap.LaysOut, Heap.live_of, Table.no_table};
 ghost use Rattle.seg_index.specs.Index.{IsIndexAt};
-ghost use Rattle.segment_manager.specs.Calls.{Creates};
-ghost use Rattle.segment_manager.specs.Denotes.{IsHeader};
+ghost use Rattle.segment_manager.specs.{Calls.Creates, Denotes.IsHeader, Relocating.Relocates};
 ghost use Rattle.segment_manager.specs.Layout.{header_len, named_at, reserved_at, unique_at};
-ghost use Rattle.segment_manager.specs.Relocating.{Relocates};
 
 use crate::errors::{CreateError, CreateRefused, RelocateRefused};
 use crate::layout::{FORMAT, FORMAT_AT, MAGIC, MAGIC_AT, NAMED_AT, SIZE_AT, UNIQUE_AT};

@@ -1,9 +1,8 @@
 //! Under which keys objects are made. A name, `UniqueInstance` and `AnonymousInstance` suit objects of each kind; a key that
 //! says a kind suits those of this kind alone.
 ghost use Rattle.std.specs.Prelude.{◌≡◌, ⊤};
-ghost use Rattle.seg_types.specs.declared.kinds.Kind.{Kind as AnyKind};
-ghost use Rattle.seg_types.specs.Keys.{index_key_seen, name_seen, new_key_seen};
-ghost use Rattle.seg_types.specs.Names.{ByKind, ByName, Key as AnyKey, NoKey};
+ghost use Rattle.seg_types.specs.{declared.kinds.Kind.Kind as AnyKind, Keys.index_key_seen, Keys.name_seen};
+ghost use Rattle.seg_types.specs.{Keys.new_key_seen, Names.ByKind, Names.ByName, Names.Key as AnyKey, Names.NoKey};
 ghost use Rattle.segment_manager.specs.NewObjects.{IsOfKind};
 
 use seg_types::{IndexKey, Kind, Name, NewKey};

@@ -1,16 +1,11 @@
 //! Objects destroyed.
 ghost use Rattle.std.specs.Prelude.{◌≡◌, ℕ, OnErr, true, false};
 ghost use Rattle.seg_types.specs.Commands.{Destroy, DestroyPtr};
-ghost use Rattle.seg_types.specs.Keys.{index_key_seen};
-ghost use Rattle.seg_types.specs.Names.{ByHandle, Key as AnyKey};
-ghost use Rattle.segment_manager.specs.Answers.{Truth};
+ghost use Rattle.seg_types.specs.{Keys.index_key_seen, Names.ByHandle, Names.Key as AnyKey};
+ghost use Rattle.segment_manager.specs.{Answers.Truth, Found.is_object_at, Indexed.Seeks, Keeping.KeepsWhere};
+ghost use Rattle.segment_manager.specs.{Keeping.LacksKey, Listed.HasEntries, Listed.IsListed, Step.is_read_only};
 ghost use Rattle.segment_manager.specs.Destroyed.{HoldsEntry, HoldsObject, RemovesAnonymous, RemovesEntry};
-ghost use Rattle.segment_manager.specs.Found.{is_object_at};
-ghost use Rattle.segment_manager.specs.Indexed.{Seeks};
-ghost use Rattle.segment_manager.specs.Keeping.{KeepsWhere, LacksKey};
-ghost use Rattle.segment_manager.specs.Listed.{HasEntries, IsListed};
 ghost use Rattle.segment_manager.specs.State.{Answers, IsStep, gone_answer, truth_answer};
-ghost use Rattle.segment_manager.specs.Step.{is_read_only};
 
 use crate::head::{read_head, read_name};
 use crate::releasing::release_contents;

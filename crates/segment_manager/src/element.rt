@@ -1,7 +1,6 @@
 //! The elements of an object of scalars: each is the bytes that spell it, one after another behind the head and the name.
 ghost use Rattle.std.specs.Prelude.{◌≡◌, ◌+◌, ◌*◌, IsTrue, length};
-ghost use Rattle.raw_region.specs.Format.{current};
-ghost use Rattle.raw_region.specs.Memory.{Has, bytes_of, read};
+ghost use Rattle.raw_region.specs.{Format.current, Memory.Has, Memory.bytes_of, Memory.read};
 ghost use Rattle.best_fit.specs.Heap.{IsChanged, IsHeap, has_room, live_of};
 ghost use Rattle.segment_manager.specs.Directory.{Object};
 ghost use Rattle.segment_manager.specs.Standing.{HasObject, StandsAt, place_in, repeated};

@@ -3,11 +3,9 @@ ghost use Rattle.std.specs.Prelude.{◌≡◌, ◌+◌, ◌%◌, ◌≤◌, ⊤,
 ghost use Rattle.raw_region.specs.Format.{current};
 ghost use Rattle.best_fit.specs.Heap.{IsHeap, has_room, live_of};
 ghost use Rattle.seg_types.specs.Commands.{Bytes, Content, Elements, NoPairs, Numbers, Strings};
-ghost use Rattle.seg_types.specs.Kinds.{is_value};
-ghost use Rattle.seg_types.specs.Values.{kind_of_scalar, value_of_scalar};
-ghost use Rattle.segment_manager.specs.Directory.{value_len};
+ghost use Rattle.seg_types.specs.{Kinds.is_value, Values.kind_of_scalar, Values.value_of_scalar};
+ghost use Rattle.segment_manager.specs.{Directory.value_len, Plan.bare};
 ghost use Rattle.segment_manager.specs.Filled.{IsShapeOf, MakesValue, container_shape, numbers_shape};
-ghost use Rattle.segment_manager.specs.Plan.{bare};
 
 use crate::element::write_elements;
 use crate::maps::map_place;

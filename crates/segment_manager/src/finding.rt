@@ -1,15 +1,10 @@
 //! Objects found by their keys, and the entries of the two indexes.
 ghost use Rattle.std.specs.Prelude.{length, slice_get, Some, ◌≡◌};
-ghost use Rattle.seg_types.specs.declared.kinds.Kind.TheVariants.{Scalar as ScalarOf};
-ghost use Rattle.seg_types.specs.Commands.{Find, NumNamed, NumUnique};
-ghost use Rattle.seg_types.specs.Keys.{key_seen};
-ghost use Rattle.segment_manager.specs.Answers.{Number};
-ghost use Rattle.segment_manager.specs.Denotes.{handles};
+ghost use Rattle.seg_types.specs.{declared.kinds.Kind.TheVariants.Scalar as ScalarOf, Commands.Find, Commands.NumNamed};
+ghost use Rattle.seg_types.specs.{Commands.NumUnique, Keys.key_seen, Names.Key as AnyKey};
+ghost use Rattle.segment_manager.specs.{Answers.Number, Denotes.handles, State.Answers, State.IsReply, Indexed.Seeks};
 ghost use Rattle.segment_manager.specs.Directory.{named_objects, unique_objects};
 ghost use Rattle.segment_manager.specs.Found.{IsBelow, found_answer, handle_at, is_object_at};
-ghost use Rattle.segment_manager.specs.State.{Answers, IsReply};
-ghost use Rattle.seg_types.specs.Names.{Key as AnyKey};
-ghost use Rattle.segment_manager.specs.Indexed.{Seeks};
 
 use crate::head::read_head;
 use crate::segment::Segment;

@@ -1,19 +1,13 @@
 //! Objects found, or constructed where there are none, whatever they hold; those of one number, so many times.
 ghost use Rattle.std.specs.Prelude.{◌≡◌, ◌≤◌, replicate, true};
 ghost use Rattle.seg_types.specs.declared.kinds.Kind.TheVariants.{Scalar as ScalarOf};
-ghost use Rattle.seg_types.specs.Commands.{FindOrConstruct, Numbers};
-ghost use Rattle.seg_types.specs.Keys.{index_key_seen};
-ghost use Rattle.seg_types.specs.Names.{Key as AnyKey};
+ghost use Rattle.seg_types.specs.{Commands.FindOrConstruct, Commands.Numbers, Keys.index_key_seen, Names.Key as AnyKey};
 ghost use Rattle.seg_types.specs.Values.{kind_of_scalar, value_of_scalar};
-ghost use Rattle.segment_manager.specs.Directory.{Object, kind_of};
-ghost use Rattle.segment_manager.specs.Filled.{FindsOrConstructs, with_count};
-ghost use Rattle.segment_manager.specs.Found.{pair_answer};
-ghost use Rattle.segment_manager.specs.Keeping.{HasKey, KeepsWhere};
-ghost use Rattle.segment_manager.specs.NewObjects.{IsNewKeyOf, IsOfKind};
-ghost use Rattle.segment_manager.specs.Plan.{bare};
+ghost use Rattle.segment_manager.specs.{Directory.Object, Directory.kind_of, Filled.FindsOrConstructs};
+ghost use Rattle.segment_manager.specs.{Filled.with_count, Found.pair_answer, Keeping.HasKey, Keeping.KeepsWhere};
+ghost use Rattle.segment_manager.specs.{NewObjects.IsNewKeyOf, NewObjects.IsOfKind, Plan.bare, State.IsSegment};
+ghost use Rattle.segment_manager.specs.{State.IsStep, State.KeepsRefused, Counted.RefusesCount, Counted.is_count};
 ghost use Rattle.segment_manager.specs.Standing.{HasObject, StandsAt, pair_of_kind};
-ghost use Rattle.segment_manager.specs.State.{IsSegment, IsStep, KeepsRefused};
-ghost use Rattle.segment_manager.specs.Counted.{RefusesCount, is_count};
 
 use crate::beginning::begin_at;
 use crate::constructing::build;

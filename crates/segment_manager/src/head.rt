@@ -1,14 +1,10 @@
 //! The head of an object, at the front of its block: its kind and count, its name and its class.
 ghost use Rattle.std.specs.Prelude.{◌≡◌, ◌+◌, ◌<◌, ◌≤◌, ◌^◌, IsTrue, length};
-ghost use Rattle.raw_region.specs.Format.{current};
-ghost use Rattle.raw_region.specs.Memory.{Has, bytes_of};
+ghost use Rattle.raw_region.specs.{Format.current, Memory.Has, Memory.bytes_of};
 ghost use Rattle.best_fit.specs.Heap.{IsChanged, IsHeap, has_room, live_of};
 ghost use Rattle.seg_types.specs.declared.kinds.Class.{Class as ClassOf};
-ghost use Rattle.seg_types.specs.declared.kinds.Kind.{Kind as KindOf};
-ghost use Rattle.seg_types.specs.Kinds.{class_code, code_of};
-ghost use Rattle.segment_manager.specs.Denotes.{padded_name};
-ghost use Rattle.segment_manager.specs.Directory.{Object, padded};
-ghost use Rattle.segment_manager.specs.Layout.{head_len};
+ghost use Rattle.seg_types.specs.{declared.kinds.Kind.Kind as KindOf, Kinds.class_code, Kinds.code_of};
+ghost use Rattle.segment_manager.specs.{Denotes.padded_name, Directory.Object, Directory.padded, Layout.head_len};
 ghost use Rattle.segment_manager.specs.Standing.{HasObject, IsHeadAt, IsHeadOf, StandsAt};
 
 use crate::layout::{HALF, HEAD_LEN, NAME_CLASS_AT, padded};

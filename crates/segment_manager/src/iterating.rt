@@ -1,11 +1,8 @@
 //! The objects of an index, and the names of those that have one, one after another.
-ghost use Rattle.std.specs.Prelude.{◌≡◌, ◌-◌, length};
-ghost use Rattle.std.specs.Iterator.{at_most};
+ghost use Rattle.std.specs.{Prelude.◌≡◌, Prelude.◌-◌, Prelude.length, Iterator.at_most};
 ghost use Rattle.seg_index.specs.declared.index.Index.TheVariants.{Named, Unique};
 ghost use Rattle.seg_index.specs.Held.{entry_count, place_of};
-ghost use Rattle.segment_manager.specs.Indexed.{objects_of};
-ghost use Rattle.segment_manager.specs.Iterating.{GoesOn, GoesOnNames};
-ghost use Rattle.segment_manager.specs.State.{Answers};
+ghost use Rattle.segment_manager.specs.{Indexed.objects_of, Iterating.GoesOn, Iterating.GoesOnNames, State.Answers};
 
 use crate::segment::Segment;
 use crate::telling::Instance;

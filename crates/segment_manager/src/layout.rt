@@ -2,8 +2,7 @@
 //!
 //! All is counted in bytes: of the header from the front of the segment, of an object from its handle. A word has 8.
 ghost use Rattle.std.specs.Prelude.{◌≡◌, ◌+◌, ◌<◌, ◌^◌};
-ghost use Rattle.segment_manager.specs.Directory.{padded as padded_of};
-ghost use Rattle.segment_manager.specs.Layout.{head_len};
+ghost use Rattle.segment_manager.specs.{Directory.padded as padded_of, Layout.head_len};
 
 /// `MSEGFILE`, the lowest byte first.
 pub const MAGIC: u64 = 0x454C_4946_4745_534D;

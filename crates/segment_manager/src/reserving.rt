@@ -1,8 +1,7 @@
 //! Places of the two indexes, reserved and given back.
 ghost use Rattle.std.specs.Prelude.{◌≡◌, ◌≤◌, OnErr};
 ghost use Rattle.seg_types.specs.Commands.{ReserveNamed, ReserveUnique, ShrinkIndexes};
-ghost use Rattle.segment_manager.specs.Indexed.{reserve_of, table_of};
-ghost use Rattle.segment_manager.specs.Keeping.{KeepsWhere};
+ghost use Rattle.segment_manager.specs.{Indexed.reserve_of, Indexed.table_of, Keeping.KeepsWhere};
 ghost use Rattle.segment_manager.specs.State.{IsStep, KeepsRefused, done_answer};
 
 use crate::segment::Segment;

@@ -2,9 +2,7 @@
 ghost use Rattle.std.specs.Prelude.{◌≡◌, ◌+◌, ◌-◌, ◌%◌, IsTrue, length};
 ghost use Rattle.raw_region.specs.Memory.{whole};
 ghost use Rattle.seg_types.specs.Commands.{Free, Size};
-ghost use Rattle.segment_manager.specs.Answers.{Number};
-ghost use Rattle.segment_manager.specs.State.{IsReply, IsSegment};
-ghost use Rattle.segment_manager.specs.Step.{is_read_only};
+ghost use Rattle.segment_manager.specs.{Answers.Number, State.IsReply, State.IsSegment, Step.is_read_only};
 
 use crate::layout::SIZE_AT;
 use crate::modes::Mode;

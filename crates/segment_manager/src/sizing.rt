@@ -1,9 +1,7 @@
 //! A segment whose end moves in its region.
 ghost use Rattle.std.specs.Prelude.{◌≡◌, ◌+◌, ◌%◌, ◌≤◌, false};
-ghost use Rattle.segment_manager.specs.Directory.{Directory};
+ghost use Rattle.segment_manager.specs.{Directory.Directory, State.StandsFor, Step.is_read_only};
 ghost use Rattle.segment_manager.specs.Resized.{Resizes, grown, room_behind, shrunk};
-ghost use Rattle.segment_manager.specs.State.{StandsFor};
-ghost use Rattle.segment_manager.specs.Step.{is_read_only};
 
 use crate::layout::SIZE_AT;
 use crate::segment::Segment;

@@ -3,12 +3,10 @@
 ghost use Rattle.std.specs.Prelude.{◌≡◌, OnErr, false};
 ghost use Rattle.seg_types.specs.declared.kinds.Kind.TheVariants.{Map as MapOf, Vector as VectorOf, Texts as TextsKind};
 ghost use Rattle.seg_types.specs.Commands.{Clear, Reserve, Shrink};
-ghost use Rattle.segment_manager.specs.Contents.{sizes_at, sizes_at_kind};
-ghost use Rattle.segment_manager.specs.Keeping.{HasPlaces, KeepsWhere};
-ghost use Rattle.segment_manager.specs.State.{Answers, IsStep, done_answer};
-ghost use Rattle.segment_manager.specs.Step.{is_read_only};
+ghost use Rattle.segment_manager.specs.{Contents.sizes_at, Contents.sizes_at_kind, Keeping.HasPlaces};
+ghost use Rattle.segment_manager.specs.{Keeping.KeepsWhere, State.Answers, State.IsStep, State.done_answer};
+ghost use Rattle.segment_manager.specs.{Step.is_read_only, ElementLists.array_length_at, ElementLists.length_at_kind};
 ghost use Rattle.segment_manager.specs.Stored.{ChangesStorage, HasContainer, HasEnough, KeepsThere, StepsThere, command_of};
-ghost use Rattle.segment_manager.specs.ElementLists.{array_length_at, length_at_kind};
 
 use crate::segment::Segment;
 use crate::storages::{Change, Stored};

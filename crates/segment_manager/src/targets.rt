@@ -1,11 +1,8 @@
 //! What says which object a call means: a key, which is looked up, or an object that was located before.
 ghost use Rattle.std.specs.Prelude.{⊤, MatchResult};
-ghost use Rattle.seg_types.specs.Keys.{key_seen, name_seen};
-ghost use Rattle.seg_types.specs.Names.{ByHandle, ByName, Key as AnyKey};
-ghost use Rattle.segment_manager.specs.Found.{handle_at};
-ghost use Rattle.segment_manager.specs.Instances.{IsMissing};
+ghost use Rattle.seg_types.specs.{Keys.key_seen, Keys.name_seen, Names.ByHandle, Names.ByName, Names.Key as AnyKey};
+ghost use Rattle.segment_manager.specs.{Found.handle_at, Instances.IsMissing, State.Answers, State.State};
 ghost use Rattle.segment_manager.specs.Located.{IsLocated, IsObject};
-ghost use Rattle.segment_manager.specs.State.{Answers, State};
 
 use crate::head::read_head;
 use crate::segment::Segment;

@@ -2,16 +2,12 @@
 ghost use Rattle.std.specs.Prelude.{length, true, MatchResult, ◌≡◌, Ok, Err, option_map};
 ghost use Rattle.raw_region.specs.Format.{current};
 ghost use Rattle.best_fit.specs.Heap.{IsHeap};
-ghost use Rattle.seg_types.specs.Names.{ByHandle};
+ghost use Rattle.seg_types.specs.{Names.ByHandle, Keys.key_seen};
 ghost use Rattle.seg_index.specs.Held.{HasIndex, entry_count, place_of};
 ghost use Rattle.segment_manager.specs.Directory.{Object, named_objects, unique_objects, count_of};
-ghost use Rattle.segment_manager.specs.Found.{IsBelow, is_object_at};
+ghost use Rattle.segment_manager.specs.{Found.IsBelow, Found.is_object_at, Indexed.objects_of, Standing.HasObject};
+ghost use Rattle.segment_manager.specs.{Standing.StandsAt, State.Answers, Calls.kind_at, Calls.told_at};
 ghost use Rattle.segment_manager.specs.Instances.{IsInstance, IsMissing, SaysAt, SaysOf, own_name};
-ghost use Rattle.segment_manager.specs.Indexed.{objects_of};
-ghost use Rattle.segment_manager.specs.Standing.{HasObject, StandsAt};
-ghost use Rattle.segment_manager.specs.State.{Answers};
-ghost use Rattle.seg_types.specs.Keys.{key_seen};
-ghost use Rattle.segment_manager.specs.Calls.{kind_at, told_at};
 
 use crate::head::{read_head, read_name};
 use crate::segment::Segment;

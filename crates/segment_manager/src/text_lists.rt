@@ -1,12 +1,9 @@
 //! The texts of objects that are vectors of strings, read and changed.
-ghost use Rattle.std.specs.Prelude.{◌≡◌, IsTrue, OnErr, map};
-ghost use Rattle.std.specs.List.{list_all};
+ghost use Rattle.std.specs.{Prelude.◌≡◌, Prelude.IsTrue, Prelude.OnErr, Prelude.map, List.list_all};
 ghost use Rattle.seg_types.specs.declared.kinds.Kind.TheVariants.{Texts as TextsKind};
 ghost use Rattle.seg_types.specs.Commands.{Assign, Erase, Get, Insert, Pop, Push, Quoted, Set};
-ghost use Rattle.segment_manager.specs.Answers.{TextElement};
-ghost use Rattle.segment_manager.specs.Contents.{are_bytes};
+ghost use Rattle.segment_manager.specs.{Answers.TextElement, Contents.are_bytes, TextLists.LeadsOnOfKind};
 ghost use Rattle.segment_manager.specs.State.{IsReplyOfKind, IsStepOfKind, KeepsRefused, answer_of, done_answer, refusal_in};
-ghost use Rattle.segment_manager.specs.TextLists.{LeadsOnOfKind};
 
 use crate::segment::Segment;
 use crate::targets::Target;

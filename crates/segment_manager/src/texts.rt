@@ -3,8 +3,7 @@ ghost use Rattle.std.specs.Prelude.{◌≡◌, Ok, Err, MatchResult, [], ◌∷�
 ghost use Rattle.seg_types.specs.declared.kinds.Kind.TheVariants.{Text as TextKind};
 ghost use Rattle.seg_types.specs.declared.kinds.ScalarKind.TheVariants.{U8 as ByteKind};
 ghost use Rattle.seg_types.specs.Commands.{Append, Assign, Quoted, Set, literal_of};
-ghost use Rattle.segment_manager.specs.Contents.{bytes_at};
-ghost use Rattle.segment_manager.specs.State.{Answers, IsStepOfKind, done_answer};
+ghost use Rattle.segment_manager.specs.{Contents.bytes_at, State.Answers, State.IsStepOfKind, State.done_answer};
 
 use crate::segment::Segment;
 use crate::targets::Target;

@@ -1,17 +1,11 @@
 //! The blocks and gaps of a segment.
 ghost use Rattle.std.specs.Prelude.{◌≡◌, ◌+◌, ℕ, Some, OnErr, OnOk, length, option_map, slice_get};
 ghost use Rattle.raw_region.specs.Memory.{bytes_of};
-ghost use Rattle.block_tags.specs.declared.tile.Role.TheVariants.{Object as ObjectRole};
-ghost use Rattle.block_tags.specs.Tiles.{tiles_of};
-ghost use Rattle.best_fit.specs.Extents.{spans};
-ghost use Rattle.best_fit.specs.FreeTree.{span};
-ghost use Rattle.best_fit.specs.Heap.{IsTileOf};
-ghost use Rattle.best_fit.specs.Table.{same_role};
+ghost use Rattle.block_tags.specs.{declared.tile.Role.TheVariants.Object as ObjectRole, Tiles.tiles_of};
+ghost use Rattle.best_fit.specs.{Extents.spans, FreeTree.span, Heap.IsTileOf, Table.same_role};
 ghost use Rattle.seg_types.specs.Commands.{AllDeallocated, Sanity, ZeroFree};
-ghost use Rattle.segment_manager.specs.Answers.{Truth};
+ghost use Rattle.segment_manager.specs.{Answers.Truth, Directory.live, Iterating.is_own_span};
 ghost use Rattle.segment_manager.specs.Calls.{HasZeroGaps, IsTileOfIndex, as_span};
-ghost use Rattle.segment_manager.specs.Directory.{live};
-ghost use Rattle.segment_manager.specs.Iterating.{is_own_span};
 ghost use Rattle.segment_manager.specs.State.{Answers, IsReply, IsStep, done_answer};
 
 use crate::segment::Segment;

@@ -1,6 +1,5 @@
 //! The elements of objects that are vectors of scalars, read and changed.
-ghost use Rattle.std.specs.Prelude.{◌≡◌, IsTrue, OnErr, map, true};
-ghost use Rattle.std.specs.List.{list_all};
+ghost use Rattle.std.specs.{Prelude.◌≡◌, Prelude.IsTrue, Prelude.OnErr, Prelude.map, Prelude.true, List.list_all};
 ghost use Rattle.seg_types.specs.declared.kinds.Kind.TheVariants.{Vector as VectorOf};
 ghost use Rattle.seg_types.specs.Commands.{Assign, Erase, Get, Insert, Pop, Push, Set, literal_of};
 ghost use Rattle.segment_manager.specs.Answers.{Element};

@@ -1,8 +1,6 @@
 //! All objects of a segment, one after another by their offsets: those without a key too.
-ghost use Rattle.std.specs.Prelude.{◌≡◌, ◌+◌, ◌-◌, ◌<◌, length};
-ghost use Rattle.std.specs.Iterator.{at_most};
-ghost use Rattle.segment_manager.specs.Found.{IsBelow};
-ghost use Rattle.segment_manager.specs.Instances.{SaysAt};
+ghost use Rattle.std.specs.{Prelude.◌≡◌, Prelude.◌+◌, Prelude.◌-◌, Prelude.◌<◌, Prelude.length, Iterator.at_most};
+ghost use Rattle.segment_manager.specs.{Found.IsBelow, Instances.SaysAt};
 ghost use Rattle.segment_manager.specs.Iterating.{GoesOnObjects, GoesOnOwn, IsOwnBlock, own_count};
 
 use crate::segment::Segment;

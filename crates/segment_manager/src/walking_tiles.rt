@@ -1,6 +1,5 @@
 //! The blocks and gaps of a segment, one after another.
-ghost use Rattle.std.specs.Prelude.{◌≡◌, ◌+◌, ◌-◌, ◌<◌, length};
-ghost use Rattle.std.specs.Iterator.{at_most};
+ghost use Rattle.std.specs.{Prelude.◌≡◌, Prelude.◌+◌, Prelude.◌-◌, Prelude.◌<◌, Prelude.length, Iterator.at_most};
 ghost use Rattle.raw_region.specs.Memory.{bytes_of};
 ghost use Rattle.block_tags.specs.Tiles.{tiles_of};
 ghost use Rattle.segment_manager.specs.Iterating.{GoesOnTiles};

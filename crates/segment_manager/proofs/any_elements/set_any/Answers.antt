@@ -1,16 +1,8 @@
 -- The kind of the object that was located says which call it is.
-use Rattle.std.proofs.Common.{sym, subst, Ok}
-use Rattle.seg_types.specs.declared.kinds.ScalarKind.{ScalarKind}
-use Rattle.seg_types.specs.declared.kinds.Kind.{Kind}
-use Rattle.seg_types.specs.declared.kinds.Kind.TheVariants.{Scalar, Text, Vector}
-use Rattle.seg_types.specs.Commands.{Set, literal_of}
-use Rattle.seg_types.specs.Names.{Key}
-use Rattle.seg_types.specs.declared.values.ScalarValue.{ScalarValue}
-use Rattle.seg_types.specs.Values.{kind_of_scalar, value_of_scalar}
-use Rattle.segment_manager.specs.Calls.{kind_at}
-use Rattle.segment_manager.specs.State.{Answers, IsStepOfKind, done_answer}
-use Rattle.segment_manager.proofs.AnyKind.{scalar-kind, vector-kind}
-use Rattle.segment_manager.proofs.AnyStorage.{of_kind-steps}
+use Rattle.segment_manager.proofs.Common.{sym, subst, Ok, ScalarKind, Kind, Scalar, Text, Vector, Set, literal_of, Key}
+use Rattle.segment_manager.proofs.Common.{ScalarValue, kind_of_scalar, value_of_scalar, kind_at, Answers, IsStepOfKind}
+use Rattle.segment_manager.proofs.Common.{done_answer}
+use Rattle.segment_manager.proofs.{AnyKind.scalar-kind, AnyKind.vector-kind, AnyStorage.of_kind-steps}
 use Rattle.segment_manager.proofs.Locating.{kind-by_key, step_of_kind-by_key}
 use Rattle.segment_manager.proofs.any_elements.set_any.Goals as goal
 

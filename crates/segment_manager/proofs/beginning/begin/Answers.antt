@@ -1,11 +1,7 @@
 -- The key says which index gets an entry.
-use Rattle.std.proofs.Common.{◌≡◌, refl, sym, subst, true}
+use Rattle.segment_manager.proofs.Common.{◌≡◌, refl, sym, subst, true, new_key_seen, is_text_name, Begins, IsOfKind}
 use Rattle.seg_types.specs.declared.keys.NewKey.{NewKey}
-use Rattle.seg_types.specs.Keys.{new_key_seen}
 use Rattle.seg_types.specs.Names as names
-use Rattle.seg_types.specs.Names.{is_text_name}
-use Rattle.segment_manager.specs.Begun.{Begins}
-use Rattle.segment_manager.specs.NewObjects.{IsOfKind}
 use Rattle.segment_manager.proofs.NewKeys.{text-is_name}
 use Rattle.segment_manager.proofs.beginning.begin.Goals as goal
 

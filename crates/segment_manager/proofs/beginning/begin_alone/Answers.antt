@@ -1,8 +1,5 @@
 -- The head has room in the block.
-use Rattle.std.proofs.Common.{◌+◌, arith}
-use Rattle.raw_region.specs.Format.{current}
-use Rattle.block_tags.specs.declared.tile.Role.TheVariants.{Object as ObjectRole}
-use Rattle.best_fit.proofs.Laws.{allocated-room}
+use Rattle.segment_manager.proofs.Common.{◌+◌, arith, current, ObjectRole, allocated-room}
 use Rattle.segment_manager.proofs.beginning.begin_alone.Goals as goal
 
 pub write_head-requires-clause-room : goal.write_head-requires-clause-room

@@ -1,12 +1,6 @@
 -- The blocks are requested and the head is written.
-use Rattle.std.proofs.Common.{◌≡◌, ap, subst, ℕ, ◌+◌, inr, length, arith}
-use Rattle.raw_region.specs.Format.{current}
-use Rattle.block_tags.specs.declared.tile.Role.TheVariants.{Object as ObjectRole}
-use Rattle.best_fit.proofs.Laws.{allocated-room}
-use Rattle.seg_index.specs.Held.{place_of}
-use Rattle.segment_manager.specs.Directory.{padded}
-use Rattle.segment_manager.specs.NewObjects.{IsUnmet}
-use Rattle.segment_manager.specs.Standing.{room_for}
+use Rattle.segment_manager.proofs.Common.{◌≡◌, ap, subst, ℕ, ◌+◌, inr, length, arith, current, ObjectRole}
+use Rattle.segment_manager.proofs.Common.{allocated-room, place_of, padded, IsUnmet, room_for}
 use Rattle.segment_manager.proofs.Taking.{meant}
 use Rattle.segment_manager.proofs.beginning.begin_at.Goals as goal
 

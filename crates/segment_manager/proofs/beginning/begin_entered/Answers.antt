@@ -1,7 +1,5 @@
 -- An object has the key, or one is begun.
-use Rattle.segment_manager.proofs.HeldIndexes.{denotes-keys}
-use Rattle.segment_manager.proofs.KeyCalls.{segment-index}
-use Rattle.segment_manager.proofs.NewKeys.{key-short}
+use Rattle.segment_manager.proofs.{HeldIndexes.denotes-keys, KeyCalls.segment-index, NewKeys.key-short}
 use Rattle.segment_manager.proofs.beginning.begin_entered.Goals as goal
 
 pub lookup-requires : goal.lookup-requires

@@ -1,6 +1,5 @@
 -- What the index wants is there, if the object is to have an entry.
-use Rattle.std.proofs.Common.{subst}
-use Rattle.segment_manager.specs.Begun.{IsReadyFor, IsWanted}
+use Rattle.segment_manager.proofs.Common.{subst, IsReadyFor, IsWanted}
 use Rattle.segment_manager.proofs.beginning.enter.Goals as goal
 
 pub add-requires-clause-index : goal.add-requires-clause-index

@@ -1,9 +1,6 @@
 -- The value is made at its place, and then its object is entered or given back.
-use Rattle.seg_types.specs.Commands.{Content}
-use Rattle.segment_manager.specs.Directory.{count_of, kind_of, value_len}
-use Rattle.segment_manager.specs.Plan.{bare}
-use Rattle.segment_manager.proofs.FilledCalls.{builds, ending}
-use Rattle.segment_manager.proofs.Loose.{begun-heap, begun-room}
+use Rattle.segment_manager.proofs.Common.{Content, count_of, kind_of, value_len, bare}
+use Rattle.segment_manager.proofs.{FilledCalls.builds, FilledCalls.ending, Loose.begun-heap, Loose.begun-room}
 use Rattle.segment_manager.proofs.constructing.build.Goals as goal
 
 pub fill-filled-requires-clause-heap : goal.fill-filled-requires-clause-heap

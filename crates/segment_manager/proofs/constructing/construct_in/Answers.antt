@@ -1,9 +1,5 @@
 -- The object is begun, with the shape that its filling has, and then it is filled.
-use Rattle.std.proofs.Common.{sym, subst, Ok, Err}
-use Rattle.seg_types.specs.Keys.{new_key_seen}
-use Rattle.seg_types.specs.Commands.{Content}
-use Rattle.segment_manager.specs.Filled.{IsBegunFor}
-use Rattle.segment_manager.specs.NewObjects.{IsOfKind}
+use Rattle.segment_manager.proofs.Common.{sym, subst, Ok, Err, new_key_seen, Content, IsBegunFor, IsOfKind}
 use Rattle.segment_manager.proofs.FilledCalls.{begun-for, construct-built, construct-not_begun}
 use Rattle.segment_manager.proofs.constructing.construct_in.Goals as goal
 

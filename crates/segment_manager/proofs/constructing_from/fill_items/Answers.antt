@@ -1,9 +1,7 @@
 -- Each turn takes one item more and writes it behind those before it.
-use Rattle.std.proofs.Common.{◌≡◌, sym, ap, subst, ◌∙◌, ◌+◌, ◌*◌, ◌<◌, IsTrue, Fits, w64, arith}
-use Rattle.best_fit.specs.Heap.{has_room, live_of}
-use Rattle.seg_types.specs.Kinds.{size_of}
-use Rattle.segment_manager.proofs.Filling.{filling-more}
-use Rattle.segment_manager.proofs.Pieces.{next-small, room-once_more}
+use Rattle.segment_manager.proofs.Common.{◌≡◌, sym, ap, subst, ◌∙◌, ◌+◌, ◌*◌, ◌<◌, IsTrue, Fits, w64, arith, has_room}
+use Rattle.segment_manager.proofs.Common.{live_of, size_of}
+use Rattle.segment_manager.proofs.{Filling.filling-more, Pieces.next-small, Pieces.room-once_more}
 use Rattle.segment_manager.proofs.constructing_from.fill_items.Goals as goal
 
 pub overflow_add-at : goal.overflow_add-at

@@ -1,5 +1,5 @@
 -- So many items were written, and no others were taken.
-use Rattle.std.proofs.Common.{◌+◌}
+use Rattle.segment_manager.proofs.Common.{◌+◌}
 use Rattle.segment_manager.proofs.Filling.{IsFilling}
 use Rattle.segment_manager.proofs.constructing_from.fill_items.Given as goal
 

@@ -1,10 +1,7 @@
 -- Each turn takes one value more and writes it behind those before it.
-use Rattle.std.proofs.Common.{◌≡◌, sym, ap, subst, ◌+◌, ◌*◌, ◌<◌, IsTrue, Fits, w64, arith}
-use Rattle.best_fit.specs.Heap.{has_room, live_of}
-use Rattle.seg_types.specs.Kinds.{size_of}
-use Rattle.seg_types.specs.Values.{kind_of_scalar, value_of_scalar}
-use Rattle.segment_manager.proofs.Filling.{filling-more, last-holds}
-use Rattle.segment_manager.proofs.Pieces.{next-small, room-once_more}
+use Rattle.segment_manager.proofs.Common.{◌≡◌, sym, ap, subst, ◌+◌, ◌*◌, ◌<◌, IsTrue, Fits, w64, arith, has_room}
+use Rattle.segment_manager.proofs.Common.{live_of, size_of, kind_of_scalar, value_of_scalar}
+use Rattle.segment_manager.proofs.{Filling.filling-more, Filling.last-holds, Pieces.next-small, Pieces.room-once_more}
 use Rattle.segment_manager.proofs.constructing_from.fill_values.Goals as goal
 
 pub overflow_add-at : goal.overflow_add-at

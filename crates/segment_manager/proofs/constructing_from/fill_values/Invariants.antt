@@ -1,6 +1,5 @@
 -- So many values were written, and no others were taken.
-use Rattle.std.proofs.Common.{◌+◌}
-use Rattle.seg_types.specs.Values.{value_of_scalar}
+use Rattle.segment_manager.proofs.Common.{◌+◌, value_of_scalar}
 use Rattle.segment_manager.proofs.Filling.{IsFilling}
 use Rattle.segment_manager.proofs.constructing_from.fill_values.Given as goal
 

@@ -1,7 +1,5 @@
 -- The head says the kind, and how long the name is.
-use Rattle.std.proofs.Common.{◌∙◌, ap, ℕ, ◌+◌}
-use Rattle.segment_manager.specs.Directory.{padded}
-use Rattle.segment_manager.specs.Layout.{head_len}
+use Rattle.segment_manager.proofs.Common.{◌∙◌, ap, ℕ, ◌+◌, padded, head_len}
 use Rattle.segment_manager.proofs.Safely.{of-kind, other-kind}
 use Rattle.segment_manager.proofs.containers.container_in.Goals as goal
 

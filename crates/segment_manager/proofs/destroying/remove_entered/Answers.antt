@@ -1,5 +1,6 @@
 -- The entry leads to an object. Once its contents are released the index is as it was, and its own block is in use.
-use Rattle.segment_manager.proofs.Destroys.{block-still, below-still, entry-below, entry-index, entry-object, index-still, removes-entry}
+use Rattle.segment_manager.proofs.Destroys.{block-still, below-still, entry-below, entry-index, entry-object}
+use Rattle.segment_manager.proofs.Destroys.{index-still, removes-entry}
 use Rattle.segment_manager.proofs.destroying.remove_entered.Goals as goal
 
 pub at-handle-requires-clause-index : goal.at-handle-requires-clause-index

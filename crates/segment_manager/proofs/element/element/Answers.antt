@@ -1,7 +1,5 @@
 -- The element lies in the payload.
-use Rattle.std.proofs.Common.{◌≡◌, ◌+◌, ◌-◌, ◌≤◌, ◌∙◌, ap, arith, length, ℕ}
-use Rattle.raw_region.specs.Memory.{part}
-use Rattle.best_fit.specs.Heap.{live_of}
+use Rattle.segment_manager.proofs.Common.{◌≡◌, ◌+◌, ◌-◌, ◌≤◌, ◌∙◌, ap, arith, length, ℕ, part, live_of}
 use Rattle.segment_manager.proofs.Payloads.{lent, room-live, room-small}
 use Rattle.segment_manager.proofs.element.element.Goals as goal
 

@@ -1,5 +1,5 @@
 -- Each turn writes them once more.
-use Rattle.std.proofs.Common.{◌+◌, ◌<◌, length, arith}
+use Rattle.segment_manager.proofs.Common.{◌+◌, ◌<◌, length, arith}
 use Rattle.segment_manager.proofs.Pieces.{Repeats, next-small, repeats-more, room-once_more}
 use Rattle.segment_manager.proofs.element.write_elements.Goals as goal
 

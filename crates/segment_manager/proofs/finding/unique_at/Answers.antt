@@ -1,12 +1,7 @@
 -- The entry of the index is that of the directory.
-use Rattle.std.proofs.Common.{sym, subst, Some, length}
-use Rattle.std.specs.Prelude.{slice_get}
-use Rattle.seg_index.specs.declared.index.Index.TheVariants.{Unique}
-use Rattle.segment_manager.specs.Found.{IsBelow}
-use Rattle.segment_manager.specs.Indexed.{entries_of, objects_of}
-use Rattle.segment_manager.specs.State.{Answers, State}
-use Rattle.segment_manager.proofs.FindCalls.{at-answers, below-count}
-use Rattle.segment_manager.proofs.KeyCalls.{segment-index}
+use Rattle.segment_manager.proofs.Common.{sym, subst, Some, length, slice_get, Unique, IsBelow, entries_of, objects_of}
+use Rattle.segment_manager.proofs.Common.{Answers, State}
+use Rattle.segment_manager.proofs.{FindCalls.at-answers, FindCalls.below-count, KeyCalls.segment-index}
 use Rattle.segment_manager.proofs.finding.unique_at.Goals as goal
 
 pub at-requires-clause-index : goal.at-requires-clause-index

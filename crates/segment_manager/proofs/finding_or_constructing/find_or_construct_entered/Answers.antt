@@ -1,21 +1,12 @@
 -- An object is found under the entry, or made with one, or a block is refused.
-use Rattle.std.proofs.Common.{◌≡◌, sym, subst, Ok, Err}
-use Rattle.seg_types.specs.Names.{Key}
+use Rattle.segment_manager.proofs.Common.{◌≡◌, sym, subst, Ok, Err, Key, Content, Write, Object, kind_of, Constructs}
+use Rattle.segment_manager.proofs.Common.{FindsOrConstructs, IsBegunFor, with_count, pair_answer, IsNewKeyOf, bare}
+use Rattle.segment_manager.proofs.Common.{StandsAt, pair_of_kind, State}
 use Rattle.seg_types.specs.Commands as asked
-use Rattle.seg_types.specs.Commands.{Content}
-use Rattle.segment_manager.specs.declared.modes.Mode.TheVariants.{Write}
-use Rattle.segment_manager.specs.Directory.{Object, kind_of}
-use Rattle.segment_manager.specs.Filled.{Constructs, FindsOrConstructs, IsBegunFor, with_count}
-use Rattle.segment_manager.specs.Found.{pair_answer}
-use Rattle.segment_manager.specs.NewObjects.{IsNewKeyOf}
-use Rattle.segment_manager.specs.Plan.{bare}
-use Rattle.segment_manager.specs.Standing.{StandsAt, pair_of_kind}
-use Rattle.segment_manager.specs.State.{State}
-use Rattle.segment_manager.proofs.FilledCalls.{begun-for, found-absent, found-all, found-built, found-not_begun, no-object}
-use Rattle.segment_manager.proofs.Here.{has-object}
-use Rattle.segment_manager.proofs.HeldIndexes.{denotes-keys}
+use Rattle.segment_manager.proofs.FilledCalls.{begun-for, found-absent, found-all, found-built, found-not_begun}
+use Rattle.segment_manager.proofs.FilledCalls.{no-object}
+use Rattle.segment_manager.proofs.{Here.has-object, HeldIndexes.denotes-keys, NewKeys.key-seeks, NewKeys.key-short}
 use Rattle.segment_manager.proofs.KeyCalls.{found-answers, place-below, segment-index}
-use Rattle.segment_manager.proofs.NewKeys.{key-seeks, key-short}
 use Rattle.segment_manager.proofs.finding_or_constructing.find_or_construct_entered.Goals as goal
 
 pub lookup-requires : goal.lookup-requires

@@ -1,13 +1,7 @@
 -- The key says which index has the entry.
-use Rattle.std.proofs.Common.{◌≡◌, refl, sym, subst, true}
-use Rattle.seg_types.specs.declared.keys.IndexKey.{IndexKey}
-use Rattle.seg_types.specs.Keys.{index_key_seen}
+use Rattle.segment_manager.proofs.Common.{◌≡◌, refl, sym, subst, true, IndexKey, index_key_seen, is_text_name, kind_of}
+use Rattle.segment_manager.proofs.Common.{FindsOrConstructs, IsOfKind, bare}
 use Rattle.seg_types.specs.Names as names
-use Rattle.seg_types.specs.Names.{is_text_name}
-use Rattle.segment_manager.specs.Directory.{kind_of}
-use Rattle.segment_manager.specs.Filled.{FindsOrConstructs}
-use Rattle.segment_manager.specs.NewObjects.{IsOfKind}
-use Rattle.segment_manager.specs.Plan.{bare}
 use Rattle.segment_manager.proofs.NewKeys.{text-is_name}
 use Rattle.segment_manager.proofs.finding_or_constructing.find_or_construct_in.Goals as goal
 

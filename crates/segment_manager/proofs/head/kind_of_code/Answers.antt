@@ -1,9 +1,6 @@
 -- No two kinds have one code.
-use Rattle.std.proofs.Common.{ap, ◌∙◌, Option}
+use Rattle.segment_manager.proofs.Common.{ap, ◌∙◌, Option, Kind, Text, kind_of_code}
 use Rattle.std.specs.Option.{unwrap_or}
-use Rattle.seg_types.specs.declared.kinds.Kind.{Kind}
-use Rattle.seg_types.specs.declared.kinds.Kind.TheVariants.{Text}
-use Rattle.seg_types.specs.Kinds.{kind_of_code}
 use Rattle.segment_manager.proofs.Codes.{code-read}
 use Rattle.segment_manager.proofs.head.kind_of_code.Goals as goal
 

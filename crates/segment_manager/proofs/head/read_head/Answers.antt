@@ -1,7 +1,5 @@
 -- The halves of two words.
-use Rattle.std.proofs.Common.{◌≡◌, ap, ◌∙◌, ◌+◌, ◌/◌, ◌%◌, ℕ, arith}
-use Rattle.raw_region.specs.Memory.{bytes_of, word_at}
-use Rattle.segment_manager.specs.Directory.{kind_of}
+use Rattle.segment_manager.proofs.Common.{◌≡◌, ap, ◌∙◌, ◌+◌, ◌/◌, ◌%◌, ℕ, arith, bytes_of, word_at, kind_of}
 use Rattle.segment_manager.proofs.Standings.{head-words, standing-room}
 use Rattle.segment_manager.proofs.head.read_head.Goals as goal
 

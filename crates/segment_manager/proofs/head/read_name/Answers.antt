@@ -1,8 +1,5 @@
 -- The name lies in the payload.
-use Rattle.std.proofs.Common.{◌≡◌, ◌+◌, ◌-◌, ◌%◌, ◌≤◌, ◌∙◌, ap, arith, length, ℕ}
-use Rattle.raw_region.specs.Memory.{part}
-use Rattle.best_fit.specs.Heap.{live_of}
-use Rattle.segment_manager.specs.Directory.{Object}
+use Rattle.segment_manager.proofs.Common.{◌≡◌, ◌+◌, ◌-◌, ◌%◌, ◌≤◌, ◌∙◌, ap, arith, length, ℕ, part, live_of, Object}
 use Rattle.segment_manager.proofs.Payloads.{lent, room-live}
 use Rattle.segment_manager.proofs.Standings.{head-words, standing-name, standing-room}
 use Rattle.segment_manager.proofs.head.read_name.Goals as goal

@@ -1,14 +1,7 @@
 -- Two words and the name, one after another.
-use Rattle.std.proofs.Common.{◌≡◌, ◌+◌, ◌∙◌, ap, arith, length, ℕ, IsTrue}
-use Rattle.raw_region.specs.Format.{current}
-use Rattle.raw_region.specs.Memory.{bytes_of, word_at}
-use Rattle.best_fit.specs.Heap.{has_room, live_of}
-use Rattle.best_fit.proofs.Laws.{changed-room}
-use Rattle.seg_types.specs.Kinds.{class_code, code_of}
-use Rattle.segment_manager.specs.Directory.{padded}
-use Rattle.segment_manager.specs.Denotes.{two_halves}
-use Rattle.segment_manager.proofs.NewBlocks.{room-less}
-use Rattle.segment_manager.proofs.Pieces.{HasHead, head-written}
+use Rattle.segment_manager.proofs.Common.{◌≡◌, ◌+◌, ◌∙◌, ap, arith, length, ℕ, IsTrue, current, bytes_of, word_at}
+use Rattle.segment_manager.proofs.Common.{has_room, live_of, changed-room, class_code, code_of, padded, two_halves}
+use Rattle.segment_manager.proofs.{NewBlocks.room-less, Pieces.HasHead, Pieces.head-written}
 use Rattle.segment_manager.proofs.head.write_head.Goals as goal
 
 pub set_word-requires : goal.set_word-requires

@@ -1,8 +1,8 @@
 -- The head says which value the object has, and where it stands.
-use Rattle.segment_manager.proofs.Released.{as_map-place, held-object, number-contents, pairs-contents, some-pairs, some-text, some-texts, some-vector, text-contents, texts-contents, vector-contents}
-use Rattle.std.proofs.Common.{◌∙◌, refl, ap, ℕ, ◌+◌}
-use Rattle.segment_manager.specs.Directory.{padded}
-use Rattle.segment_manager.specs.Layout.{head_len}
+use Rattle.segment_manager.proofs.Released.{as_map-place, held-object, number-contents, pairs-contents, some-pairs}
+use Rattle.segment_manager.proofs.Released.{some-text, some-texts, some-vector, text-contents, texts-contents}
+use Rattle.segment_manager.proofs.Released.{vector-contents}
+use Rattle.segment_manager.proofs.Common.{◌∙◌, refl, ap, ℕ, ◌+◌, padded, head_len}
 use Rattle.segment_manager.proofs.releasing.release_contents.Goals as goal
 
 pub read_head-head-requires : goal.read_head-head-requires

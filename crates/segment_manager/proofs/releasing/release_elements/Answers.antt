@@ -1,6 +1,5 @@
 -- The kind says which type the values are of.
-use Rattle.std.proofs.Common.{sym, subst}
-use Rattle.segment_manager.specs.Destroyed.{ReleasesNumbers}
+use Rattle.segment_manager.proofs.Common.{sym, subst, ReleasesNumbers}
 use Rattle.segment_manager.proofs.releasing.release_elements.Goals as goal
 
 pub returns-in-Bool : goal.returns-in-Bool

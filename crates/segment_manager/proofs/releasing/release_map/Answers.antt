@@ -1,10 +1,7 @@
 -- The map stands at the place.
-use Rattle.std.proofs.Common.{sym, subst}
+use Rattle.segment_manager.proofs.Common.{sym, subst, Releases, IsSomeMap}
 use Rattle.seg_map.specs.declared.places.Place.{Place}
-use Rattle.seg_map.specs.Changing.{Releases}
-use Rattle.seg_map.specs.Places.{IsSomeMap}
-use Rattle.segment_manager.proofs.PairNumbers.{releases-numbers, some-map}
-use Rattle.segment_manager.proofs.ScalarTypes.{of-map}
+use Rattle.segment_manager.proofs.{PairNumbers.releases-numbers, PairNumbers.some-map, ScalarTypes.of-map}
 use Rattle.segment_manager.proofs.releasing.release_map.Goals as goal
 
 pub release-requires : goal.release-requires

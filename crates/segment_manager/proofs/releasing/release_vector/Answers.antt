@@ -1,8 +1,6 @@
 -- The vector stands at the place.
-use Rattle.std.proofs.Common.{sym, subst}
-use Rattle.seg_vector.specs.VectorCalls.{IsSomeVector}
-use Rattle.segment_manager.proofs.Released.{some-values, values-released}
-use Rattle.segment_manager.proofs.ScalarTypes.{of-vector}
+use Rattle.segment_manager.proofs.Common.{sym, subst, IsSomeVector}
+use Rattle.segment_manager.proofs.{Released.some-values, Released.values-released, ScalarTypes.of-vector}
 use Rattle.segment_manager.proofs.releasing.release_vector.Goals as goal
 
 pub release-requires : goal.release-requires

@@ -1,9 +1,5 @@
 -- The index has room or grows, and then the object's block is there, or all is given back.
-use Rattle.std.proofs.Common.{sym, subst}
-use Rattle.std.specs.Prelude.{IfSome, IsTrue}
-use Rattle.raw_region.specs.Memory.{Cut}
-use Rattle.best_fit.specs.Heap.{is_live_in, live_of}
-use Rattle.seg_index.specs.Held.{place_of}
+use Rattle.segment_manager.proofs.Common.{sym, subst, IfSome, IsTrue, Cut, is_live_in, live_of, place_of}
 use Rattle.segment_manager.proofs.Taking.{growth-held, request-unmet}
 use Rattle.segment_manager.proofs.requesting.request.Goals as goal
 

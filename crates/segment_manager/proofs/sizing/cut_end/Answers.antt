@@ -1,7 +1,5 @@
 -- The heap is cut at its end, and the size is written.
-use Rattle.std.proofs.Common.{refl, subst, ◌∙◌}
-use Rattle.segment_manager.specs.Resized.{Resizes, shrunk}
-use Rattle.segment_manager.specs.State.{State}
+use Rattle.segment_manager.proofs.Common.{refl, subst, ◌∙◌, Resizes, shrunk, State}
 use Rattle.segment_manager.proofs.Resizes.{resized-segment, shrinks}
 use Rattle.segment_manager.proofs.sizing.cut_end.Goals as goal
 use Rattle.segment_manager.proofs.sizing.cut_end.Goals.{After-set_header_word}

@@ -1,8 +1,5 @@
 -- The heap's end moves, and the size is written.
-use Rattle.std.proofs.Common.{refl, sym, subst, ◌∙◌, ◌+◌, ◌≤◌}
-use Rattle.segment_manager.specs.Directory.{Directory}
-use Rattle.segment_manager.specs.Resized.{Resizes, grown}
-use Rattle.segment_manager.specs.State.{StandsFor, State}
+use Rattle.segment_manager.proofs.Common.{refl, sym, subst, ◌∙◌, ◌+◌, ◌≤◌, Directory, Resizes, grown, StandsFor, State}
 use Rattle.segment_manager.proofs.Resizes.{fits-small, grows, resized-segment}
 use Rattle.segment_manager.proofs.sizing.extend_end.Goals as goal
 use Rattle.segment_manager.proofs.sizing.extend_end.Goals.{After-set_header_word}

@@ -1,7 +1,6 @@
 -- Each change is the call of that name.
-use Rattle.std.proofs.Common.{sym, subst, Ok}
-use Rattle.segment_manager.specs.declared.storages.Change.{Change}
-use Rattle.segment_manager.specs.Stored.{HasEnough, KeepsThere, StepsThere, command_of}
+use Rattle.segment_manager.proofs.Common.{sym, subst, Ok, Change, HasEnough, StepsThere, command_of}
+use Rattle.segment_manager.specs.Stored.{KeepsThere}
 use Rattle.segment_manager.proofs.storage.change_there.Goals as goal
 
 pub returns-in-Reserve-clause-change : goal.returns-in-Reserve-clause-change

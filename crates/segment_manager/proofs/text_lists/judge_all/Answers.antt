@@ -1,11 +1,6 @@
 -- One text more.
-use Rattle.std.proofs.Common.{◌≡◌, refl, subst, ℕ, zero, suc, ◌+◌, ◌<◌, List, [], ◌∷◌, length, get_or, map, take, true, arith}
-use Rattle.std.specs.Prelude.{IsTrue}
-use Rattle.std.specs.List.{list_all}
-use Rattle.std.proofs.lemmas.Bool.{and_from}
-use Rattle.std.proofs.lemmas.List.{take_all}
-use denote.Ref.{Bor}
-use Rattle.segment_manager.specs.Contents.{are_bytes}
+use Rattle.segment_manager.proofs.Common.{◌≡◌, refl, subst, ℕ, zero, suc, ◌+◌, ◌<◌, List, [], ◌∷◌, length, get_or, map}
+use Rattle.segment_manager.proofs.Common.{take, true, arith, IsTrue, list_all, and_from, take_all, Bor, are_bytes}
 use Rattle.segment_manager.proofs.Words.{first, second}
 use Rattle.segment_manager.proofs.text_lists.judge_all.Goals as goal
 

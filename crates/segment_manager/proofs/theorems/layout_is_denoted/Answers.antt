@@ -1,6 +1,5 @@
 -- The format that is written is the current one.
-use Rattle.std.proofs.Common.{refl}
-use Rattle.raw_region.specs.Format.{current}
+use Rattle.segment_manager.proofs.Common.{refl, current}
 use Rattle.segment_manager.proofs.theorems.layout_is_denoted.Goals as goal
 
 pub returns-clause-format : goal.returns-clause-format

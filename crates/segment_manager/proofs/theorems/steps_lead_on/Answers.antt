@@ -1,7 +1,5 @@
 -- The law is the lemma.
-use Rattle.std.proofs.Common.{refl}
-use Rattle.seg_types.specs.Commands.{Pop}
-use Rattle.segment_manager.specs.Answers.{TextElement}
+use Rattle.segment_manager.proofs.Common.{refl, Pop, TextElement}
 use Rattle.segment_manager.proofs.Unchanged.{step-leads, result-leads, refused-stays}
 use Rattle.segment_manager.proofs.theorems.steps_lead_on.Goals as goal
 

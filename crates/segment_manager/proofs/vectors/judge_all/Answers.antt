@@ -1,11 +1,7 @@
 -- One value more.
-use Rattle.std.proofs.Common.{◌≡◌, refl, sym, ap, subst, ◌∙◌, ◌+◌, ◌++◌, ◌∷◌, [], true, take, suc, arith}
-use Rattle.std.specs.Prelude.{IsTrue}
-use Rattle.std.specs.List.{list_all}
-use Rattle.std.proofs.lemmas.Bool.{and_from}
-use Rattle.std.proofs.lemmas.List.{take_all}
-use Rattle.std.proofs.lemmas.List.Folds.{list_all-append}
-use Rattle.std.proofs.Math.Seq.{take-suc}
+use Rattle.segment_manager.proofs.Common.{◌≡◌, refl, sym, ap, subst, ◌∙◌, ◌+◌, ◌++◌, ◌∷◌, [], true, take, suc, arith}
+use Rattle.segment_manager.proofs.Common.{IsTrue, list_all, and_from, take_all}
+use Rattle.std.proofs.{lemmas.List.Folds.list_all-append, Math.Seq.take-suc}
 use Rattle.segment_manager.proofs.vectors.judge_all.Goals as goal
 
 pub loop-value-init : goal.loop-value-init

@@ -1,7 +1,5 @@
 -- Those before the next one are values.
-use Rattle.std.proofs.Common.{take}
-use Rattle.std.specs.Prelude.{IsTrue}
-use Rattle.std.specs.List.{list_all}
+use Rattle.segment_manager.proofs.Common.{take, IsTrue, list_all}
 use Rattle.segment_manager.proofs.vectors.judge_all.Given as goal
 
 abbrev pub invariant-loop-value : goal.invariant-loop-value

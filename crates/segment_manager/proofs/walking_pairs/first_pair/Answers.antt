@@ -1,10 +1,6 @@
 -- The object is a map of the kinds, and from the least key on its first pair comes.
-use Rattle.std.proofs.Common.{None}
-use Rattle.std.specs.Prelude.{option_map}
-use Rattle.seg_types.specs.Kinds.{lowest}
-use Rattle.seg_map.specs.Places.{item_of}
-use Rattle.segment_manager.specs.Maps.{pair_from}
-use Rattle.segment_manager.specs.Walks.{first_of, item_of_kinds, pairs_at}
+use Rattle.segment_manager.proofs.Common.{None, option_map, lowest, item_of, pair_from, first_of, item_of_kinds}
+use Rattle.segment_manager.proofs.Common.{pairs_at}
 use Rattle.segment_manager.proofs.PairWalks.{first-seen, least-kinds, least-told, not-refused}
 use Rattle.segment_manager.proofs.walking_pairs.first_pair.Goals as goal
 

@@ -1,9 +1,6 @@
 -- The object is a map of the kinds.
-use Rattle.std.proofs.Common.{None}
-use Rattle.std.specs.Prelude.{option_map}
-use Rattle.seg_types.specs.Values.{kind_of_scalar, value_of_scalar}
-use Rattle.segment_manager.specs.Maps.{pair_above}
-use Rattle.segment_manager.specs.Walks.{item_of_kinds, pairs_at}
+use Rattle.segment_manager.proofs.Common.{None, option_map, kind_of_scalar, value_of_scalar, pair_above, item_of_kinds}
+use Rattle.segment_manager.proofs.Common.{pairs_at}
 use Rattle.segment_manager.proofs.PairWalks.{next-seen, not-refused}
 use Rattle.segment_manager.proofs.walking_pairs.next_pair.Goals as goal
 

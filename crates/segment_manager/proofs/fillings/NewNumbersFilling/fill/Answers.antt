@@ -1,5 +1,5 @@
 -- The bytes that are written spell the value.
-use Rattle.std.proofs.Common.{sym, ◌∙◌}
+use Rattle.segment_manager.proofs.Common.{sym, ◌∙◌}
 use Rattle.segment_manager.proofs.NewNumbers.{equal-made}
 use Rattle.segment_manager.proofs.fillings.NewNumbersFilling.fill.Goals as goal
 

@@ -1,5 +1,5 @@
 -- The bytes that are written spell the value.
-use Rattle.seg_types.specs.Values.{kind_of_scalar, value_of_scalar}
+use Rattle.segment_manager.proofs.Common.{kind_of_scalar, value_of_scalar}
 use Rattle.segment_manager.proofs.NewNumbers.{equal-made}
 use Rattle.segment_manager.proofs.fillings.NewScalarsFilling.fill.Goals as goal
 

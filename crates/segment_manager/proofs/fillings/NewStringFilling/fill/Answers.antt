@@ -1,7 +1,5 @@
 -- The string is made without a byte, and then the bytes are put there.
-use Rattle.std.proofs.Common.{subst, sym, []}
-use Rattle.best_fit.specs.Table.{no_table}
-use Rattle.seg_vector.specs.TextCalls.{IsSomeText}
+use Rattle.segment_manager.proofs.Common.{subst, sym, [], no_table, IsSomeText}
 use Rattle.segment_manager.proofs.NewContainers.{string-made}
 use Rattle.segment_manager.proofs.fillings.NewStringFilling.fill.Goals as goal
 

@@ -1,6 +1,5 @@
 -- The vector is made without a text, and then the texts are put there.
-use Rattle.std.proofs.Common.{ℕ, List, map}
-use denote.Ref.{Bor}
+use Rattle.segment_manager.proofs.Common.{ℕ, List, map, Bor}
 use Rattle.segment_manager.proofs.NewTexts.{none-started, texts-made}
 use Rattle.segment_manager.proofs.fillings.NewTextsFilling.fill.Goals as goal
 

@@ -1,6 +1,5 @@
 -- The vector is made without a value, and then the values are put there.
-use Rattle.segment_manager.proofs.NewContainers.{some-started, vector-made}
-use Rattle.segment_manager.proofs.ScalarTypes.{of-vector}
+use Rattle.segment_manager.proofs.{NewContainers.some-started, NewContainers.vector-made, ScalarTypes.of-vector}
 use Rattle.segment_manager.proofs.fillings.NewVectorFilling.fill.Goals as goal
 
 pub assign-requires : goal.assign-requires

@@ -1,8 +1,7 @@
 -- What the iterator over the objects says has the name.
-use Rattle.std.proofs.Common.{refl, sym, subst, Option, List, ℕ}
+use Rattle.segment_manager.proofs.Common.{refl, sym, subst, Option, List, ℕ, Instance, GoesOn, GoesOnNames, NameWalk}
+use Rattle.segment_manager.proofs.Common.{Walk}
 use Rattle.std.specs.Borrow.{Bor}
-use Rattle.segment_manager.specs.declared.telling.Instance.{Instance}
-use Rattle.segment_manager.specs.Iterating.{GoesOn, GoesOnNames, NameWalk, Walk}
 use Rattle.segment_manager.proofs.WalkedInstances.{names-end, names-go_on, names_walk}
 use Rattle.segment_manager.proofs.iterating.NamesIterator.next.Goals as goal
 use Rattle.segment_manager.proofs.iterating.NamesIterator.next.Goals.{in-None, in-Some}

@@ -1,8 +1,6 @@
 -- The kind of the object of the key says which call it is.
-use Rattle.std.proofs.Common.{sym, ◌∙◌}
-use Rattle.seg_types.specs.declared.kinds.Kind.TheVariants.{Text, Texts, Vector}
-use Rattle.seg_types.specs.Names.{Key}
-use Rattle.segment_manager.specs.Stored.{command_of}
+use Rattle.segment_manager.proofs.Common.{sym, ◌∙◌, Text, Vector, Key, command_of}
+use Rattle.seg_types.specs.declared.kinds.Kind.TheVariants.{Texts}
 use Rattle.segment_manager.proofs.AnyStorage.{kind-no_storage, nowhere-steps, otherwise-no_storage}
 use Rattle.segment_manager.proofs.Locating.{enough-by_key, kind-by_key, located-changes}
 use Rattle.segment_manager.proofs.Steps.{refuses-read_only}

@@ -1,10 +1,8 @@
-use Rattle.segment_manager.specs.Stored.{HasEnough, StepsSafely, command_of}
-use Rattle.segment_manager.proofs.KeptContainers.{keeps-cut}
-use Rattle.segment_manager.proofs.Safely.{safe-segment}
+use Rattle.segment_manager.proofs.Common.{HasEnough, StepsSafely, command_of}
+use Rattle.segment_manager.proofs.{KeptContainers.keeps-cut, Safely.safe-segment}
 use Rattle.segment_manager.proofs.StoredCalls.{changes-there, stands-there, storage-changed, storage-missing}
 use Rattle.segment_manager.proofs.segment.Segment.change_stored.Goals as goal
-use Rattle.segment_manager.proofs.segment.Segment.change_stored.Goals.{After-change_there}
-use Rattle.segment_manager.proofs.segment.Segment.change_stored.Given.{Over}
+use Rattle.segment_manager.proofs.segment.Segment.change_stored.{Goals.After-change_there, Given.Over}
 
 -- what the call does, in each goal behind it
 done : (g : Over) (c : After-change_there g) → StepsSafely (record { cut = c.self.inside.heap; mode = c.self.inside.mode })

@@ -1,6 +1,5 @@
 -- The call on the heap, as one on the segment.
-use Rattle.std.proofs.Common.{refl, sym, ◌∙◌}
-use Rattle.seg_types.specs.Keys.{new_key_seen}
+use Rattle.segment_manager.proofs.Common.{refl, sym, ◌∙◌, new_key_seen}
 use Rattle.seg_types.specs.Commands.{Construct}
 use Rattle.segment_manager.proofs.FilledCalls.{made-refused, made-segment, made-step}
 use Rattle.segment_manager.proofs.Steps.{refuses-read_only}

@@ -1,18 +1,9 @@
 -- The object is begun, filled and finished, or refused before.
-use Rattle.std.proofs.Common.{◌≡◌, sym, ap, subst, ◌∙◌, ℕ, ◌*◌, false, Err, Result}
-use Rattle.std.proofs.lemmas.Result.{err_from_is_err_and}
-use Rattle.seg_types.specs.declared.kinds.Kind.TheVariants.{Scalar}
-use Rattle.seg_types.specs.declared.refusals.Refusal.{Refusal}
-use Rattle.seg_types.specs.Keys.{new_key_seen}
-use Rattle.seg_types.specs.Kinds.{size_of}
-use Rattle.seg_types.specs.Values.{value_of_scalar}
-use Rattle.segment_manager.specs.Begun.{IsBegun, IsNotBegun}
-use Rattle.segment_manager.specs.Items.{TakesItems}
-use Rattle.segment_manager.specs.State.{State}
-use Rattle.segment_manager.specs.Step.{is_read_only}
+use Rattle.segment_manager.proofs.Common.{◌≡◌, sym, ap, subst, ◌∙◌, ℕ, ◌*◌, false, Err, Result, err_from_is_err_and}
+use Rattle.segment_manager.proofs.Common.{Scalar, Refusal, new_key_seen, size_of, value_of_scalar, IsBegun, IsNotBegun}
+use Rattle.segment_manager.proofs.Common.{TakesItems, State, is_read_only}
 use Rattle.segment_manager.proofs.ItemCalls.{loose, takes, takes-none, takes-nothing}
-use Rattle.segment_manager.proofs.Loose.{begun-heap, begun-room}
-use Rattle.segment_manager.proofs.Steps.{step-segment}
+use Rattle.segment_manager.proofs.{Loose.begun-heap, Loose.begun-room, Steps.step-segment}
 use Rattle.segment_manager.proofs.segment.Segment.construct_items_of.Goals as goal
 
 pub returns-then-is_read_only : goal.returns-then-is_read_only

@@ -1,8 +1,5 @@
 -- The count of the index is that of the directory.
-use Rattle.std.proofs.Common.{◌≡◌, subst, length}
-use Rattle.seg_index.specs.Held.{entry_count, place_of}
-use Rattle.segment_manager.specs.Indexed.{objects_of}
-use Rattle.segment_manager.specs.State.{Answers, State}
+use Rattle.segment_manager.proofs.Common.{◌≡◌, subst, length, entry_count, place_of, objects_of, Answers, State}
 use Rattle.segment_manager.proofs.FindCalls.{index-counts}
 use Rattle.segment_manager.proofs.segment.Segment.count_of.Goals as goal
 

@@ -1,12 +1,7 @@
 -- The key says which index has the entry.
-use Rattle.std.proofs.Common.{refl, sym, subst, ◌∙◌}
-use Rattle.seg_types.specs.declared.keys.IndexKey.{IndexKey}
-use Rattle.seg_types.specs.Commands.{Destroy}
-use Rattle.seg_types.specs.Keys.{index_key_seen}
+use Rattle.segment_manager.proofs.Common.{refl, sym, subst, ◌∙◌, IndexKey, Destroy, index_key_seen, Truth, KeepsWhere}
+use Rattle.segment_manager.proofs.Common.{LacksKey, IsStep}
 use Rattle.seg_types.specs.Names as names
-use Rattle.segment_manager.specs.Answers.{Truth}
-use Rattle.segment_manager.specs.Keeping.{KeepsWhere, LacksKey}
-use Rattle.segment_manager.specs.State.{IsStep}
 use Rattle.segment_manager.proofs.Steps.{refuses-read_only}
 use Rattle.segment_manager.proofs.segment.Segment.destroy.Goals as goal
 

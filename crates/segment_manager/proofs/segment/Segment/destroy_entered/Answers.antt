@@ -1,13 +1,8 @@
 -- The entry is removed with its object, or there is none.
-use Rattle.std.proofs.Common.{◌≡◌, refl, ap, subst, ◌∙◌, true, false}
-use Rattle.seg_types.specs.Commands.{Destroy}
-use Rattle.segment_manager.specs.Answers.{Truth}
-use Rattle.segment_manager.specs.State.{IsStep, State}
-use Rattle.segment_manager.specs.Step.{is_read_only}
+use Rattle.segment_manager.proofs.Common.{◌≡◌, refl, ap, subst, ◌∙◌, true, false, Destroy, Truth, IsStep, State}
+use Rattle.segment_manager.proofs.Common.{is_read_only}
 use Rattle.segment_manager.proofs.Destroys.{destroys-entered, destroys-none, found-entry}
-use Rattle.segment_manager.proofs.HeldIndexes.{denotes-keys}
-use Rattle.segment_manager.proofs.Steps.{step-segment}
-use Rattle.segment_manager.proofs.Keeping.{keeps-found}
+use Rattle.segment_manager.proofs.{HeldIndexes.denotes-keys, Steps.step-segment, Keeping.keeps-found}
 use Rattle.segment_manager.proofs.segment.Segment.destroy_entered.Goals as goal
 
 pub lookup-requires : goal.lookup-requires

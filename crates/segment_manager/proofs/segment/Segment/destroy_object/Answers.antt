@@ -1,11 +1,7 @@
 -- Its entry goes with it, if it has one.
-use Rattle.std.proofs.Common.{◌≡◌, sym, ap, subst, ◌∙◌, true, false}
-use Rattle.seg_types.specs.Commands.{DestroyPtr}
-use Rattle.segment_manager.specs.Answers.{Truth}
-use Rattle.segment_manager.specs.Found.{is_object_at}
-use Rattle.segment_manager.specs.Listed.{IsAnonymousAt, IsEntryAt}
-use Rattle.segment_manager.specs.State.{Answers, IsStep, State}
-use Rattle.segment_manager.specs.Step.{is_read_only}
+use Rattle.segment_manager.proofs.Common.{◌≡◌, sym, ap, subst, ◌∙◌, true, false, DestroyPtr, Truth, is_object_at}
+use Rattle.segment_manager.proofs.Common.{IsAnonymousAt, Answers, IsStep, State, is_read_only}
+use Rattle.segment_manager.specs.Listed.{IsEntryAt}
 use Rattle.segment_manager.proofs.Destroys.{destroys-anonymous, destroys-ptr, own-entry, own-object}
 use Rattle.segment_manager.proofs.Steps.{step-segment}
 use Rattle.segment_manager.proofs.segment.Segment.destroy_object.Goals as goal

@@ -1,13 +1,6 @@
 -- The object at the entry is read.
-use Rattle.std.proofs.Common.{sym, subst, length}
-use Rattle.raw_region.specs.Format.{current}
-use Rattle.segment_manager.specs.Found.{IsBelow}
-use Rattle.segment_manager.specs.Indexed.{objects_of}
-use Rattle.segment_manager.specs.Instances.{SaysAt}
-use Rattle.segment_manager.specs.State.{State}
-use Rattle.segment_manager.proofs.Calling.{denotes-heap}
-use Rattle.segment_manager.proofs.FindCalls.{below-count}
-use Rattle.segment_manager.proofs.KeyCalls.{segment-index}
+use Rattle.segment_manager.proofs.Common.{sym, subst, length, current, IsBelow, objects_of, SaysAt, State}
+use Rattle.segment_manager.proofs.{Calling.denotes-heap, FindCalls.below-count, KeyCalls.segment-index}
 use Rattle.segment_manager.proofs.Tellings.{entered-object, entered-says}
 use Rattle.segment_manager.proofs.segment.Segment.entered.Goals as goal
 

@@ -1,9 +1,6 @@
 -- The container of the object at the handle.
-use Rattle.std.proofs.Common.{subst}
-use Rattle.segment_manager.specs.Contents.{container_at}
-use Rattle.segment_manager.specs.State.{Answers}
-use Rattle.segment_manager.proofs.Here.{seen-handle, seen-object}
-use Rattle.segment_manager.proofs.Safely.{contains}
+use Rattle.segment_manager.proofs.Common.{subst, container_at, Answers}
+use Rattle.segment_manager.proofs.{Here.seen-handle, Here.seen-object, Safely.contains}
 use Rattle.segment_manager.proofs.segment.Segment.find_container.Goals as goal
 
 pub container_in-requires : goal.container_in-requires

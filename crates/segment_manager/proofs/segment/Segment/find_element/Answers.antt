@@ -1,10 +1,7 @@
 -- The place in the object at the handle.
-use Rattle.std.proofs.Common.{subst, Ok, Err}
-use Rattle.segment_manager.specs.declared.accessing.Place.{Place}
-use Rattle.segment_manager.specs.Standing.{place_at}
-use Rattle.segment_manager.specs.State.{Answers}
-use Rattle.segment_manager.proofs.Here.{seen-handle, seen-object}
-use Rattle.segment_manager.proofs.Places.{places, places-missing}
+use Rattle.segment_manager.proofs.Common.{subst, Ok, Err, Answers}
+use Rattle.segment_manager.specs.{declared.accessing.Place.Place, Standing.place_at}
+use Rattle.segment_manager.proofs.{Here.seen-handle, Here.seen-object, Places.places, Places.places-missing}
 use Rattle.segment_manager.proofs.segment.Segment.find_element.Goals as goal
 
 pub place_of-requires : goal.place_of-requires

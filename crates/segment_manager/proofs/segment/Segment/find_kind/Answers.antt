@@ -1,10 +1,7 @@
 -- The head of the object that was found says its kind and its count.
-use Rattle.std.proofs.Common.{subst}
+use Rattle.segment_manager.proofs.Common.{subst, WrongKind, key_seen, Refused, IsReply}
 use Rattle.seg_types.specs.Commands.{Find}
-use Rattle.seg_types.specs.declared.refusals.Refusal.TheVariants.{WrongKind}
-use Rattle.seg_types.specs.Keys.{key_seen}
-use Rattle.segment_manager.specs.Answers.{Found, Refused}
-use Rattle.segment_manager.specs.State.{IsReply}
+use Rattle.segment_manager.specs.Answers.{Found}
 use Rattle.segment_manager.proofs.FindCalls.{find-absent, find-found, find-other}
 use Rattle.segment_manager.proofs.Here.{seen-handle, seen-object}
 use Rattle.segment_manager.proofs.segment.Segment.find_kind.Goals as goal

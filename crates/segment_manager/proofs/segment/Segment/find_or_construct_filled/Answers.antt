@@ -1,11 +1,9 @@
 -- The call on the heap, as one on the segment.
-use Rattle.std.proofs.Common.{refl, sym, ◌∙◌}
-use Rattle.seg_types.specs.Keys.{index_key_seen}
+use Rattle.segment_manager.proofs.Common.{refl, sym, ◌∙◌, index_key_seen}
 use Rattle.seg_types.specs.Commands.{FindOrConstruct}
 use Rattle.segment_manager.specs.Keeping.{HasKey}
 use Rattle.segment_manager.proofs.FilledCalls.{made-refused, made-segment, made-step}
-use Rattle.segment_manager.proofs.KeptContainers.{keeps-cut}
-use Rattle.segment_manager.proofs.Steps.{refuses-read_only}
+use Rattle.segment_manager.proofs.{KeptContainers.keeps-cut, Steps.refuses-read_only}
 use Rattle.segment_manager.proofs.segment.Segment.find_or_construct_filled.Goals as goal
 
 pub returns-then-is_read_only-clause-step : goal.returns-then-is_read_only-clause-step

@@ -1,11 +1,5 @@
 -- The kind of the object that was located says which call it is.
-use Rattle.std.proofs.Common.{refl}
-use Rattle.seg_types.specs.declared.kinds.ScalarKind.TheVariants.{U8}
-use Rattle.seg_types.specs.declared.kinds.Kind.TheVariants.{Scalar, Text, Vector}
-use Rattle.seg_types.specs.declared.refusals.Refusal.TheVariants.{WrongKind}
-use Rattle.seg_types.specs.Commands.{Get}
-use Rattle.seg_types.specs.Names.{Key}
-use Rattle.segment_manager.specs.State.{scalar_answer}
+use Rattle.segment_manager.proofs.Common.{refl, U8, Scalar, Text, Vector, WrongKind, Get, Key, scalar_answer}
 use Rattle.segment_manager.proofs.AnyKind.{any-missing, located-replies, of_kind-none, other-elements}
 use Rattle.segment_manager.proofs.Locating.{kind-by_key}
 use Rattle.segment_manager.proofs.segment.Segment.get_any.Goals as goal

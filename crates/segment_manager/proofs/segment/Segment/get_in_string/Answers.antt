@@ -1,10 +1,7 @@
 -- The byte is read from the string that is found.
-use Rattle.std.proofs.Common.{refl}
-use Rattle.seg_types.specs.declared.kinds.Kind.TheVariants.{Text}
-use Rattle.seg_types.specs.Commands.{Get}
-use Rattle.segment_manager.proofs.StorageSteps.{no_container-reply, seen-reply}
+use Rattle.segment_manager.proofs.Common.{refl, Text, Get}
+use Rattle.segment_manager.proofs.{StorageSteps.no_container-reply, StorageSteps.seen-reply, ToChange.seen-found}
 use Rattle.segment_manager.proofs.TextAnswers.{text-got, text-standing, text_got-past}
-use Rattle.segment_manager.proofs.ToChange.{seen-found}
 use Rattle.segment_manager.proofs.segment.Segment.get_in_string.Goals as goal
 
 pub get-requires : goal.get-requires

@@ -1,14 +1,8 @@
 -- The bytes at the place are read.
-use Rattle.std.proofs.Common.{◌≡◌, sym, ap, subst, ◌+◌, ◌∙◌, Ok, IsTrue}
-use Rattle.raw_region.specs.Format.{current}
-use Rattle.raw_region.specs.Memory.{bytes_of, read}
-use Rattle.best_fit.specs.Heap.{has_room, live_of}
-use Rattle.seg_types.specs.declared.kinds.ScalarKind.{ScalarKind}
-use Rattle.seg_types.specs.Kinds.{size_of}
-use Rattle.seg_types.specs.declared.kinds.Kind.TheVariants.{Scalar}
-use Rattle.seg_types.specs.Commands.{Get}
+use Rattle.segment_manager.proofs.Common.{◌≡◌, sym, ap, subst, ◌+◌, ◌∙◌, Ok, IsTrue, current, bytes_of, read, has_room}
+use Rattle.segment_manager.proofs.Common.{live_of, ScalarKind, size_of, Scalar, Get, Answers, IsReplyOfKind, State}
+use Rattle.segment_manager.proofs.Common.{scalar_answer}
 use Rattle.segment_manager.specs.Standing.{place_at}
-use Rattle.segment_manager.specs.State.{Answers, IsReplyOfKind, State, scalar_answer}
 use Rattle.segment_manager.proofs.Calling.{denotes-heap}
 use Rattle.segment_manager.proofs.Replies.{place-room, replies-found, replies-missing, scalar-answer}
 use Rattle.segment_manager.proofs.segment.Segment.get_value.Goals as goal

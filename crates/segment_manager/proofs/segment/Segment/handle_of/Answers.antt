@@ -1,9 +1,5 @@
 -- Each form of key is looked for in its own way.
-use Rattle.std.proofs.Common.{sym, subst, None}
-use Rattle.seg_types.specs.Keys.{key_seen}
-use Rattle.seg_types.specs.Names.{ByName, ByKind, ByHandle}
-use Rattle.segment_manager.specs.Found.{handle_at}
-use Rattle.segment_manager.specs.State.{Answers}
+use Rattle.segment_manager.proofs.Common.{sym, subst, None, key_seen, ByName, ByKind, ByHandle, handle_at, Answers}
 use Rattle.segment_manager.proofs.KeyCalls.{anonymous-answers, handle-answers}
 use Rattle.segment_manager.proofs.segment.Segment.handle_of.Goals as goal
 

@@ -1,9 +1,6 @@
 -- The object of the key is read.
-use Rattle.std.proofs.Common.{subst}
-use Rattle.raw_region.specs.Format.{current}
-use Rattle.segment_manager.specs.Instances.{SaysOf}
-use Rattle.segment_manager.proofs.Calling.{denotes-heap}
-use Rattle.segment_manager.proofs.Here.{seen-handle, seen-object}
+use Rattle.segment_manager.proofs.Common.{subst, current, SaysOf}
+use Rattle.segment_manager.proofs.{Calling.denotes-heap, Here.seen-handle, Here.seen-object}
 use Rattle.segment_manager.proofs.Tellings.{key-missing, key-says}
 use Rattle.segment_manager.proofs.segment.Segment.instance.Goals as goal
 

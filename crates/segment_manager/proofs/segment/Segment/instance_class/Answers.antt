@@ -1,5 +1,5 @@
 -- The head says the class.
-use Rattle.seg_types.specs.Keys.{key_seen}
+use Rattle.segment_manager.proofs.Common.{key_seen}
 use Rattle.segment_manager.proofs.Here.{seen-object, seen-tells}
 use Rattle.segment_manager.proofs.segment.Segment.instance_class.Goals as goal
 

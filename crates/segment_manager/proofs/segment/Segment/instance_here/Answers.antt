@@ -1,14 +1,7 @@
 -- The object of the handle is read.
-use Rattle.std.proofs.Common.{sym, subst, true}
-use Rattle.raw_region.specs.Format.{current}
-use Rattle.seg_types.specs.Names.{ByHandle}
-use Rattle.segment_manager.specs.Found.{is_object_at}
-use Rattle.segment_manager.specs.Instances.{SaysOf}
-use Rattle.segment_manager.specs.State.{Answers, State}
-use Rattle.segment_manager.proofs.Calling.{denotes-heap}
+use Rattle.segment_manager.proofs.Common.{sym, subst, true, current, ByHandle, is_object_at, SaysOf, Answers, State}
+use Rattle.segment_manager.proofs.{Calling.denotes-heap, Listed.has-own_object, Tellings.key-says}
 use Rattle.segment_manager.proofs.KeyCalls.{handle-answers}
-use Rattle.segment_manager.proofs.Listed.{has-own_object}
-use Rattle.segment_manager.proofs.Tellings.{key-says}
 use Rattle.segment_manager.proofs.segment.Segment.instance_here.Goals as goal
 
 pub read_instance-requires-clause-heap : goal.read_instance-requires-clause-heap

@@ -1,7 +1,5 @@
 -- The head says the count.
-use Rattle.std.proofs.Common.{◌∙◌}
-use Rattle.seg_types.specs.Keys.{key_seen}
-use Rattle.segment_manager.specs.Directory.{count_of}
+use Rattle.segment_manager.proofs.Common.{◌∙◌, key_seen, count_of}
 use Rattle.segment_manager.proofs.Here.{seen-object, seen-tells}
 use Rattle.segment_manager.proofs.segment.Segment.instance_length.Goals as goal
 

@@ -1,12 +1,7 @@
 -- The name is read behind the head.
-use Rattle.std.proofs.Common.{ℕ, List}
-use Rattle.std.specs.Prelude.{option_map}
-use denote.Ref.{Bor}
-use Rattle.raw_region.specs.Format.{current}
-use Rattle.seg_types.specs.Keys.{key_seen}
+use Rattle.segment_manager.proofs.Common.{ℕ, List, option_map, Bor, current, key_seen}
 use Rattle.segment_manager.specs.Instances.{own_name}
-use Rattle.segment_manager.proofs.Calling.{denotes-heap}
-use Rattle.segment_manager.proofs.Here.{seen-object, seen-tells}
+use Rattle.segment_manager.proofs.{Calling.denotes-heap, Here.seen-object, Here.seen-tells}
 use Rattle.segment_manager.proofs.segment.Segment.instance_name.Goals as goal
 
 pub name_at-requires-clause-heap : goal.name_at-requires-clause-heap

@@ -1,7 +1,5 @@
 -- The handle is an object's where a block in use has it that is for an object.
-use Rattle.std.proofs.Common.{subst}
-use Rattle.segment_manager.specs.Found.{is_object_at}
-use Rattle.segment_manager.specs.State.{Answers, State}
+use Rattle.segment_manager.proofs.Common.{subst, is_object_at, Answers, State}
 use Rattle.segment_manager.proofs.KeyCalls.{dead-answers, role-answers}
 use Rattle.segment_manager.proofs.segment.Segment.is_object.Goals as goal
 

@@ -1,12 +1,9 @@
 -- The head says the class, and with it the key.
-use Rattle.std.proofs.Common.{sym, subst, true, None}
-use Rattle.raw_region.specs.Format.{current}
+use Rattle.segment_manager.proofs.Common.{sym, subst, true, None, current, is_object_at, HasEntries, IsListed, Answers}
+use Rattle.segment_manager.proofs.Common.{State}
 use Rattle.seg_index.specs.declared.index.Index.TheVariants as index
 use Rattle.seg_index.specs.declared.keys.Key.{Key}
 use Rattle.seg_index.specs.declared.keys.Key.TheVariants as entry
-use Rattle.segment_manager.specs.Found.{is_object_at}
-use Rattle.segment_manager.specs.Listed.{HasEntries, IsListed}
-use Rattle.segment_manager.specs.State.{Answers, State}
 use Rattle.segment_manager.proofs.Calling.{denotes-heap}
 use Rattle.segment_manager.proofs.Listed.{has-own_object, listed-kind, listed-name, listed-none}
 use Rattle.segment_manager.proofs.segment.Segment.listed.Goals as goal

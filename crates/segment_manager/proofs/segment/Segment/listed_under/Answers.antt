@@ -1,9 +1,6 @@
 -- An entry that an object has is found.
-use Rattle.std.proofs.Common.{sym, subst, Some, None}
-use Rattle.segment_manager.specs.Listed.{HasEntries, IsListed}
-use Rattle.segment_manager.specs.State.{State}
-use Rattle.segment_manager.proofs.HeldIndexes.{denotes-keys}
-use Rattle.segment_manager.proofs.Listed.{listed-found}
+use Rattle.segment_manager.proofs.Common.{sym, subst, Some, None, HasEntries, IsListed, State}
+use Rattle.segment_manager.proofs.{HeldIndexes.denotes-keys, Listed.listed-found}
 use Rattle.segment_manager.proofs.segment.Segment.listed_under.Goals as goal
 
 pub lookup-requires : goal.lookup-requires

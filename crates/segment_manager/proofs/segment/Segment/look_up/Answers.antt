@@ -1,7 +1,5 @@
 -- The index stands in the heap of the segment, and what is found there is the object of the key.
-use Rattle.std.proofs.Common.{refl, subst, Some, None}
-use Rattle.segment_manager.specs.Found.{handle_at}
-use Rattle.segment_manager.specs.State.{Answers, State}
+use Rattle.segment_manager.proofs.Common.{refl, subst, Some, None, handle_at, Answers, State}
 use Rattle.segment_manager.proofs.KeyCalls.{absent-answers, found-answers, place-below, segment-index, segment-keys}
 use Rattle.segment_manager.proofs.segment.Segment.look_up.Goals as goal
 

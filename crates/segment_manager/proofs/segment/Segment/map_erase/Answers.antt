@@ -1,16 +1,11 @@
 -- The key is erased from the map that is found.
-use Rattle.std.proofs.Common.{refl, sym, ◌∙◌, false, Ok}
-use Rattle.seg_types.specs.declared.kinds.Kind.TheVariants.{Map}
-use Rattle.seg_types.specs.Commands.{Command, Remove, literal_of}
-use Rattle.segment_manager.proofs.KeptContainers.{map-kept}
-use Rattle.segment_manager.proofs.MapAnswers.{erased-there, some-there}
-use Rattle.segment_manager.proofs.MapCalls.{TellsSafely, finds-no_map}
+use Rattle.segment_manager.proofs.Common.{refl, sym, ◌∙◌, false, Ok, Map, Command, Remove, literal_of}
+use Rattle.segment_manager.proofs.{KeptContainers.map-kept, MapAnswers.erased-there, MapAnswers.some-there}
+use Rattle.segment_manager.proofs.{MapCalls.TellsSafely, MapCalls.finds-no_map, ScalarTypes.of-map}
 use Rattle.segment_manager.proofs.Safely.{answer-refused, answer-segment, answer-step}
-use Rattle.segment_manager.proofs.ScalarTypes.{of-map}
 use Rattle.segment_manager.proofs.Steps.{open-writing, refuses_of_kind-read_only}
 use Rattle.segment_manager.proofs.segment.Segment.map_erase.Goals as goal
-use Rattle.segment_manager.proofs.segment.Segment.map_erase.Goals.{After-erase}
-use Rattle.segment_manager.proofs.segment.Segment.map_erase.Given.{Over}
+use Rattle.segment_manager.proofs.segment.Segment.map_erase.{Goals.After-erase, Given.Over}
 
 -- what the call does, in each goal behind it
 done : (g : Over) (c : After-erase g) → TellsSafely (record { cut = c.self.inside.heap; mode = c.self.inside.mode })

@@ -1,8 +1,7 @@
 -- The pair is looked for in the map that is found.
-use Rattle.segment_manager.specs.Maps.{pair_from}
+use Rattle.segment_manager.proofs.Common.{pair_from}
 use Rattle.segment_manager.proofs.MapAnswers.{from-there, some-there}
-use Rattle.segment_manager.proofs.MapCalls.{tells-nothing}
-use Rattle.segment_manager.proofs.ScalarTypes.{of-map}
+use Rattle.segment_manager.proofs.{MapCalls.tells-nothing, ScalarTypes.of-map}
 use Rattle.segment_manager.proofs.segment.Segment.map_first_from.Goals as goal
 
 pub first_from-requires : goal.first_from-requires

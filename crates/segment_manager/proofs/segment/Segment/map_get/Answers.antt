@@ -1,11 +1,7 @@
 -- The value is read from the map that is found.
-use Rattle.std.proofs.Common.{refl}
-use Rattle.seg_types.specs.Commands.{Command, Lookup, literal_of}
-use Rattle.segment_manager.proofs.MapAnswers.{got-there, some-there}
-use Rattle.segment_manager.proofs.MapCalls.{finds-no_map}
-use Rattle.segment_manager.proofs.ScalarTypes.{of-map}
-use Rattle.segment_manager.proofs.Steps.{open-reading}
-use Rattle.segment_manager.proofs.StorageSteps.{step_of_kind-reply}
+use Rattle.segment_manager.proofs.Common.{refl, Command, Lookup, literal_of}
+use Rattle.segment_manager.proofs.{MapAnswers.got-there, MapAnswers.some-there, MapCalls.finds-no_map}
+use Rattle.segment_manager.proofs.{ScalarTypes.of-map, Steps.open-reading, StorageSteps.step_of_kind-reply}
 use Rattle.segment_manager.proofs.segment.Segment.map_get.Goals as goal
 
 pub get-requires : goal.get-requires

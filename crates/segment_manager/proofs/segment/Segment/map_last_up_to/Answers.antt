@@ -1,8 +1,7 @@
 -- The pair is looked for in the map that is found.
-use Rattle.segment_manager.specs.Maps.{pair_up_to}
+use Rattle.segment_manager.proofs.Common.{pair_up_to}
 use Rattle.segment_manager.proofs.MapAnswers.{up_to-there, some-there}
-use Rattle.segment_manager.proofs.MapCalls.{tells-nothing}
-use Rattle.segment_manager.proofs.ScalarTypes.{of-map}
+use Rattle.segment_manager.proofs.{MapCalls.tells-nothing, ScalarTypes.of-map}
 use Rattle.segment_manager.proofs.segment.Segment.map_last_up_to.Goals as goal
 
 pub last_up_to-requires : goal.last_up_to-requires

@@ -1,10 +1,8 @@
 -- The pair is put into the map that is found.
-use Rattle.std.proofs.Common.{◌≡◌, refl, sym, ap, ◌∙◌}
-use Rattle.seg_types.specs.Commands.{Command, Put, literal_of}
+use Rattle.segment_manager.proofs.Common.{◌≡◌, refl, sym, ap, ◌∙◌, Command, Put, literal_of}
 use Rattle.segment_manager.proofs.MapAnswers.{put-there, some-there}
-use Rattle.segment_manager.proofs.MapCalls.{finds-no_map, put_result}
+use Rattle.segment_manager.proofs.{MapCalls.finds-no_map, MapCalls.put_result, ScalarTypes.of-map}
 use Rattle.segment_manager.proofs.Safely.{answer-refused, answer-segment, answer-step}
-use Rattle.segment_manager.proofs.ScalarTypes.{of-map}
 use Rattle.segment_manager.proofs.Steps.{open-writing, refuses_of_kind-read_only}
 use Rattle.segment_manager.proofs.segment.Segment.map_put.Goals as goal
 use Rattle.segment_manager.proofs.segment.Segment.map_put.Goals.{in-Err-put, in-Ok-put}

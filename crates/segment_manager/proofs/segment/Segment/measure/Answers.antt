@@ -1,6 +1,6 @@
 -- The kind of the object of the key says which call it is.
-use Rattle.seg_types.specs.declared.kinds.Kind.TheVariants.{Map, Text, Texts, Vector}
-use Rattle.seg_types.specs.Names.{Key}
+use Rattle.segment_manager.proofs.Common.{Map, Text, Vector, Key}
+use Rattle.seg_types.specs.declared.kinds.Kind.TheVariants.{Texts}
 use Rattle.segment_manager.proofs.AnyStorage.{measures-nowhere, measures-other, otherwise-no_sizes}
 use Rattle.segment_manager.proofs.Locating.{kind-by_key, located-measures}
 use Rattle.segment_manager.proofs.segment.Segment.measure.Goals as goal

@@ -1,8 +1,6 @@
 -- The number of pairs stands in the map that is found.
-use Rattle.std.proofs.Common.{refl, sym, subst, ◌+◌, ◌≤◌, Ok, arith}
-use Rattle.seg_types.specs.declared.kinds.Kind.TheVariants.{Map}
-use Rattle.segment_manager.specs.Contents.{container_at, sizes_at_kind}
-use Rattle.segment_manager.specs.State.{Answers, State}
+use Rattle.segment_manager.proofs.Common.{refl, sym, subst, ◌+◌, ◌≤◌, Ok, arith, Map, container_at, sizes_at_kind}
+use Rattle.segment_manager.proofs.Common.{Answers, State}
 use Rattle.segment_manager.proofs.AnyStorage.{measures-nothing}
 use Rattle.segment_manager.proofs.MapAnswers.{count-room, pairs-measured, place-small}
 use Rattle.segment_manager.proofs.segment.Segment.measure_pairs.Goals as goal

@@ -1,11 +1,6 @@
 -- The sizes are those of the container that is found.
-use Rattle.std.proofs.Common.{subst, Ok, Err}
-use Rattle.seg_types.specs.declared.kinds.Kind.{Kind}
-use Rattle.seg_types.specs.Names.{Key}
-use Rattle.segment_manager.specs.Contents.{container_at, sizes_at_kind}
-use Rattle.segment_manager.specs.State.{Answers, State}
-use Rattle.segment_manager.proofs.AnyStorage.{measures-nothing}
-use Rattle.segment_manager.proofs.StoredCalls.{stands-there}
+use Rattle.segment_manager.proofs.Common.{subst, Ok, Err, Kind, Key, container_at, sizes_at_kind, Answers, State}
+use Rattle.segment_manager.proofs.{AnyStorage.measures-nothing, StoredCalls.stands-there}
 use Rattle.segment_manager.proofs.segment.Segment.measure_stored.Goals as goal
 
 pub sizes-requires : goal.sizes-requires

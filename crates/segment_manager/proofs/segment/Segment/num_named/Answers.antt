@@ -1,8 +1,6 @@
 -- The count of the index is that of the directory.
-use Rattle.std.proofs.Common.{subst}
+use Rattle.segment_manager.proofs.Common.{subst, Number, IsReply, State}
 use Rattle.seg_types.specs.Commands.{NumNamed}
-use Rattle.segment_manager.specs.Answers.{Number}
-use Rattle.segment_manager.specs.State.{IsReply, State}
 use Rattle.segment_manager.proofs.FindCalls.{num_named-replies}
 use Rattle.segment_manager.proofs.segment.Segment.num_named.Goals as goal
 

@@ -1,6 +1,5 @@
 -- A segment has few objects, as many as the tags say.
-use Rattle.std.proofs.Common.{sym, subst, ◌<◌, ◌≤◌, length, arith}
-use Rattle.segment_manager.specs.State.{IsSegment}
+use Rattle.segment_manager.proofs.Common.{sym, subst, ◌<◌, ◌≤◌, length, arith, IsSegment}
 use Rattle.segment_manager.proofs.OwnWalks.{counts-own, objects-few}
 use Rattle.segment_manager.proofs.segment.Segment.object_behind.Goals as goal
 

@@ -1,6 +1,5 @@
 -- The object of the block is found by its handle.
-use Rattle.std.proofs.Common.{refl, subst, ◌+◌, ◌≤◌, arith}
-use Rattle.segment_manager.specs.State.{IsSegment}
+use Rattle.segment_manager.proofs.Common.{refl, subst, ◌+◌, ◌≤◌, arith, IsSegment}
 use Rattle.segment_manager.proofs.OwnWalks.{owner-here, owner-says, owner-short}
 use Rattle.segment_manager.proofs.segment.Segment.object_in.Goals as goal
 

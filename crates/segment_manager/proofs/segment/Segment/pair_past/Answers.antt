@@ -1,8 +1,6 @@
 -- Which of the two calls it is says the bound.
-use Rattle.std.proofs.Common.{sym, subst}
-use Rattle.segment_manager.specs.Maps.{pair_result, told_of_map}
-use Rattle.segment_manager.specs.State.{Answers}
-use Rattle.segment_manager.specs.Walks.{pair_past}
+use Rattle.segment_manager.proofs.Common.{sym, subst, told_of_map, Answers}
+use Rattle.segment_manager.specs.{Maps.pair_result, Walks.pair_past}
 use Rattle.segment_manager.proofs.segment.Segment.pair_past.Goals as goal
 
 pub returns-then-above : goal.returns-then-above

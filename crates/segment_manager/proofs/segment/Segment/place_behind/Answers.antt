@@ -1,6 +1,5 @@
 -- A segment has few tiles.
-use Rattle.std.proofs.Common.{subst, rules, ◌+◌, ◌≤◌}
-use Rattle.segment_manager.specs.State.{IsSegment}
+use Rattle.segment_manager.proofs.Common.{subst, rules, ◌+◌, ◌≤◌, IsSegment}
 use Rattle.segment_manager.proofs.OwnWalks.{tile-below}
 use Rattle.segment_manager.proofs.segment.Segment.place_behind.Goals as goal
 

@@ -1,14 +1,9 @@
 -- The places are there, or they are taken, or their block is refused.
-use Rattle.std.proofs.Common.{◌≡◌, sym, ap, subst, ◌∙◌, false, Ok, Err, Result}
-use Rattle.seg_types.specs.declared.refusals.Refusal.{Refusal}
-use Rattle.seg_types.specs.declared.refusals.Refusal.TheVariants.{NoSpace}
-use Rattle.segment_manager.specs.Indexed.{reserve_of}
-use Rattle.segment_manager.specs.State.{IsStep, State, done_answer}
-use Rattle.segment_manager.specs.Step.{is_read_only}
-use Rattle.segment_manager.proofs.KeyCalls.{segment-index}
+use Rattle.segment_manager.proofs.Common.{◌≡◌, sym, ap, subst, ◌∙◌, false, Ok, Err, Result, Refusal, NoSpace}
+use Rattle.segment_manager.proofs.Common.{reserve_of, IsStep, State, done_answer, is_read_only}
+use Rattle.segment_manager.proofs.{KeyCalls.segment-index, Keeping.keeps-fewer, Keeping.keeps-places}
 use Rattle.segment_manager.proofs.Reserves.{reserve-changes, reserves, reserves-none}
 use Rattle.segment_manager.proofs.Steps.{refuses-read_only, step-segment}
-use Rattle.segment_manager.proofs.Keeping.{keeps-fewer, keeps-places}
 use Rattle.segment_manager.proofs.segment.Segment.reserve_index.Goals as goal
 use Rattle.segment_manager.proofs.segment.Segment.reserve_index.Goals.{in-Ok, in-Err}
 

@@ -1,11 +1,6 @@
 -- The bytes that are written spell the value.
-use Rattle.std.proofs.Common.{◌≡◌, rules, sym, ap, subst, ◌∙◌, ℤ, true}
-use Rattle.seg_types.specs.declared.kinds.Kind.TheVariants.{Scalar}
-use Rattle.seg_types.specs.Kinds.{is_value, spelling}
-use Rattle.seg_types.specs.Names.{Key}
-use Rattle.seg_types.specs.Commands.{Set, literal_of}
-use Rattle.seg_types.specs.Values.{kind_of_scalar, value_of_scalar}
-use Rattle.segment_manager.specs.State.{IsStepOfKind, done_answer}
+use Rattle.segment_manager.proofs.Common.{◌≡◌, rules, sym, ap, subst, ◌∙◌, ℤ, true, Scalar, is_value, spelling, Key}
+use Rattle.segment_manager.proofs.Common.{Set, literal_of, kind_of_scalar, value_of_scalar, IsStepOfKind, done_answer}
 use Rattle.segment_manager.proofs.segment.Segment.set_value.Goals as goal
 
 pub returns-clause-step : goal.returns-clause-step

@@ -1,12 +1,8 @@
 -- One index is shrunk, and then the other.
-use Rattle.std.proofs.Common.{◌≡◌, refl, sym, ap, subst, ◌∙◌, false}
+use Rattle.segment_manager.proofs.Common.{◌≡◌, refl, sym, ap, subst, ◌∙◌, false, Named, Done, IsStep, State}
+use Rattle.segment_manager.proofs.Common.{is_read_only}
 use Rattle.seg_types.specs.Commands.{ShrinkIndexes}
-use Rattle.seg_index.specs.declared.index.Index.TheVariants.{Named}
-use Rattle.segment_manager.specs.Answers.{Done}
-use Rattle.segment_manager.specs.State.{IsStep, State}
-use Rattle.segment_manager.specs.Step.{is_read_only}
-use Rattle.segment_manager.proofs.KeyCalls.{segment-index}
-use Rattle.segment_manager.proofs.Reserves.{shrinks, shrunk-index}
+use Rattle.segment_manager.proofs.{KeyCalls.segment-index, Reserves.shrinks, Reserves.shrunk-index}
 use Rattle.segment_manager.proofs.Steps.{refuses-read_only, step-segment}
 use Rattle.segment_manager.proofs.segment.Segment.shrink_indexes.Goals as goal
 

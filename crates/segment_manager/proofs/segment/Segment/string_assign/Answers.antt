@@ -1,14 +1,9 @@
 -- The bytes are put in the place of those of the string that is found.
-use Rattle.std.proofs.Common.{refl, [], ◌∷◌, arith}
-use Rattle.seg_types.specs.declared.kinds.Kind.TheVariants.{Text}
-use Rattle.seg_types.specs.Commands.{Assign, Quoted}
-use Rattle.segment_manager.specs.Stored.{StepsSafely}
-use Rattle.segment_manager.proofs.Safely.{safe-refused, safe-segment, safe-step}
+use Rattle.segment_manager.proofs.Common.{refl, [], ◌∷◌, arith, Text, Assign, Quoted, StepsSafely}
+use Rattle.segment_manager.proofs.{Safely.safe-refused, Safely.safe-segment, Safely.safe-step, ToChange.seen-to_change}
 use Rattle.segment_manager.proofs.TextAnswers.{fits-bytes, text-assigned, some-text}
-use Rattle.segment_manager.proofs.ToChange.{seen-to_change}
 use Rattle.segment_manager.proofs.segment.Segment.string_assign.Goals as goal
-use Rattle.segment_manager.proofs.segment.Segment.string_assign.Goals.{After-assign}
-use Rattle.segment_manager.proofs.segment.Segment.string_assign.Given.{Over}
+use Rattle.segment_manager.proofs.segment.Segment.string_assign.{Goals.After-assign, Given.Over}
 
 -- what the call does, in each goal behind it
 done : (g : Over) (c : After-assign g) → StepsSafely (record { cut = c.self.inside.heap; mode = c.self.inside.mode })

@@ -1,8 +1,5 @@
 -- The bytes are those of the string that is found.
-use Rattle.std.proofs.Common.{subst, Ok}
-use Rattle.seg_types.specs.declared.kinds.Kind.TheVariants.{Text}
-use Rattle.segment_manager.specs.Contents.{bytes_at}
-use Rattle.segment_manager.specs.State.{Answers, State}
+use Rattle.segment_manager.proofs.Common.{subst, Ok, Text, bytes_at, Answers, State}
 use Rattle.segment_manager.proofs.TextAnswers.{reads-bytes, reads-nothing, text-standing}
 use Rattle.segment_manager.proofs.ToChange.{seen-found}
 use Rattle.segment_manager.proofs.segment.Segment.string_bytes.Goals as goal

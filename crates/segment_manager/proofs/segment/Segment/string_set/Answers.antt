@@ -1,16 +1,9 @@
 -- The byte is written in the string that is found.
-use Rattle.std.proofs.Common.{refl, pos}
-use Rattle.seg_types.specs.declared.kinds.Kind.TheVariants.{Text}
-use Rattle.std.proofs.lemmas.Bool.{lt-ltb}
-use Rattle.seg_types.specs.declared.kinds.ScalarKind.TheVariants.{U8}
-use Rattle.seg_types.specs.Commands.{Set, literal_of}
-use Rattle.segment_manager.specs.Stored.{StepsSafely}
-use Rattle.segment_manager.proofs.Safely.{safe-refused, safe-segment, safe-step}
+use Rattle.segment_manager.proofs.Common.{refl, pos, Text, lt-ltb, U8, Set, literal_of, StepsSafely}
+use Rattle.segment_manager.proofs.{Safely.safe-refused, Safely.safe-segment, Safely.safe-step, ToChange.seen-to_change}
 use Rattle.segment_manager.proofs.TextAnswers.{byte-value, text-set, some-text}
-use Rattle.segment_manager.proofs.ToChange.{seen-to_change}
 use Rattle.segment_manager.proofs.segment.Segment.string_set.Goals as goal
-use Rattle.segment_manager.proofs.segment.Segment.string_set.Goals.{After-set}
-use Rattle.segment_manager.proofs.segment.Segment.string_set.Given.{Over}
+use Rattle.segment_manager.proofs.segment.Segment.string_set.{Goals.After-set, Given.Over}
 
 -- what the call does, in each goal behind it
 done : (g : Over) (c : After-set g) → StepsSafely (record { cut = c.self.inside.heap; mode = c.self.inside.mode })

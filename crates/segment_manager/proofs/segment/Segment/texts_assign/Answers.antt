@@ -1,13 +1,9 @@
 -- The texts are those of the vector of strings that is found.
-use Rattle.std.proofs.Common.{refl, map}
-use Rattle.seg_types.specs.Commands.{Assign, Quoted}
-use Rattle.segment_manager.proofs.TextListCalls.{texts-assigned}
+use Rattle.segment_manager.proofs.Common.{refl, map, Assign, Quoted}
+use Rattle.segment_manager.proofs.{TextListCalls.texts-assigned, TextsHeld.some-texts, ToChange.seen-to_change}
 use Rattle.segment_manager.proofs.TextMoves.{StepsKeeping, kept-refused, kept-segment, kept-step}
-use Rattle.segment_manager.proofs.TextsHeld.{some-texts}
-use Rattle.segment_manager.proofs.ToChange.{seen-to_change}
 use Rattle.segment_manager.proofs.segment.Segment.texts_assign.Goals as goal
-use Rattle.segment_manager.proofs.segment.Segment.texts_assign.Goals.{After-assign}
-use Rattle.segment_manager.proofs.segment.Segment.texts_assign.Given.{Over}
+use Rattle.segment_manager.proofs.segment.Segment.texts_assign.{Goals.After-assign, Given.Over}
 
 -- what the call does, in each goal behind it
 done : (g : Over) (c : After-assign g) → StepsKeeping (record { cut = c.self.inside.heap; mode = c.self.inside.mode })

@@ -1,15 +1,10 @@
 -- The text is left out of the vector of strings that is found.
-use Rattle.std.proofs.Common.{refl}
+use Rattle.segment_manager.proofs.Common.{refl, Erase, StepsSafely}
 use Rattle.seg_types.specs.declared.kinds.Kind.TheVariants.{Texts}
-use Rattle.seg_types.specs.Commands.{Erase}
-use Rattle.segment_manager.specs.Stored.{StepsSafely}
 use Rattle.segment_manager.proofs.Safely.{safe-refused, safe-segment, safe-step}
-use Rattle.segment_manager.proofs.TextListCalls.{text-erased}
-use Rattle.segment_manager.proofs.TextsHeld.{some-texts}
-use Rattle.segment_manager.proofs.ToChange.{seen-to_change}
+use Rattle.segment_manager.proofs.{TextListCalls.text-erased, TextsHeld.some-texts, ToChange.seen-to_change}
 use Rattle.segment_manager.proofs.segment.Segment.texts_erase.Goals as goal
-use Rattle.segment_manager.proofs.segment.Segment.texts_erase.Goals.{After-erase}
-use Rattle.segment_manager.proofs.segment.Segment.texts_erase.Given.{Over}
+use Rattle.segment_manager.proofs.segment.Segment.texts_erase.{Goals.After-erase, Given.Over}
 
 -- what the call does, in each goal behind it
 done : (g : Over) (c : After-erase g) → StepsSafely (record { cut = c.self.inside.heap; mode = c.self.inside.mode })

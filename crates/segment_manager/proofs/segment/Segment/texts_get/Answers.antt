@@ -1,11 +1,8 @@
 -- The text is that of the vector of strings that is found.
-use Rattle.std.proofs.Common.{refl}
+use Rattle.segment_manager.proofs.Common.{refl, Get}
 use Rattle.seg_types.specs.declared.kinds.Kind.TheVariants.{Texts}
-use Rattle.seg_types.specs.Commands.{Get}
 use Rattle.segment_manager.proofs.StorageSteps.{no_container-reply, seen-reply}
-use Rattle.segment_manager.proofs.TextListCalls.{text-got}
-use Rattle.segment_manager.proofs.TextsHeld.{some-texts}
-use Rattle.segment_manager.proofs.ToChange.{seen-found}
+use Rattle.segment_manager.proofs.{TextListCalls.text-got, TextsHeld.some-texts, ToChange.seen-found}
 use Rattle.segment_manager.proofs.segment.Segment.texts_get.Goals as goal
 
 pub get-requires : goal.get-requires

@@ -1,14 +1,9 @@
 -- The last text is taken out of the vector of strings that is found.
-use Rattle.std.proofs.Common.{refl}
-use Rattle.seg_types.specs.Commands.{Pop}
-use Rattle.segment_manager.specs.State.{refusal_in}
-use Rattle.segment_manager.proofs.TextListCalls.{text-popped}
+use Rattle.segment_manager.proofs.Common.{refl, Pop, refusal_in}
+use Rattle.segment_manager.proofs.{TextListCalls.text-popped, TextsHeld.some-texts, ToChange.seen-to_change}
 use Rattle.segment_manager.proofs.TextMoves.{LeadsSafely, led-refused, led-segment, led-step, step-leads-on}
-use Rattle.segment_manager.proofs.TextsHeld.{some-texts}
-use Rattle.segment_manager.proofs.ToChange.{seen-to_change}
 use Rattle.segment_manager.proofs.segment.Segment.texts_pop.Goals as goal
-use Rattle.segment_manager.proofs.segment.Segment.texts_pop.Goals.{After-pop}
-use Rattle.segment_manager.proofs.segment.Segment.texts_pop.Given.{Over}
+use Rattle.segment_manager.proofs.segment.Segment.texts_pop.{Goals.After-pop, Given.Over}
 
 -- what the call does, in each goal behind it
 done : (g : Over) (c : After-pop g) → LeadsSafely (record { cut = c.self.inside.heap; mode = c.self.inside.mode })

@@ -1,14 +1,10 @@
 -- The text is put behind the last of the vector of strings that is found.
-use Rattle.std.proofs.Common.{refl, arith}
-use Rattle.seg_types.specs.Commands.{Push, Quoted}
-use Rattle.segment_manager.proofs.TextAnswers.{fits-bytes}
+use Rattle.segment_manager.proofs.Common.{refl, arith, Push, Quoted}
+use Rattle.segment_manager.proofs.{TextAnswers.fits-bytes, TextsHeld.some-texts, ToChange.seen-to_change}
 use Rattle.segment_manager.proofs.TextListCalls.{text-pushed}
 use Rattle.segment_manager.proofs.TextMoves.{StepsKeeping, kept-refused, kept-segment, kept-step}
-use Rattle.segment_manager.proofs.TextsHeld.{some-texts}
-use Rattle.segment_manager.proofs.ToChange.{seen-to_change}
 use Rattle.segment_manager.proofs.segment.Segment.texts_push.Goals as goal
-use Rattle.segment_manager.proofs.segment.Segment.texts_push.Goals.{After-push}
-use Rattle.segment_manager.proofs.segment.Segment.texts_push.Given.{Over}
+use Rattle.segment_manager.proofs.segment.Segment.texts_push.{Goals.After-push, Given.Over}
 
 -- what the call does, in each goal behind it
 done : (g : Over) (c : After-push g) → StepsKeeping (record { cut = c.self.inside.heap; mode = c.self.inside.mode })

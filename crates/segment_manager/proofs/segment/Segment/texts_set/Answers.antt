@@ -1,16 +1,10 @@
 -- The text is put in the place of another in the vector of strings that is found.
-use Rattle.std.proofs.Common.{refl, arith}
+use Rattle.segment_manager.proofs.Common.{refl, arith, Quoted, Set, StepsSafely}
 use Rattle.seg_types.specs.declared.kinds.Kind.TheVariants.{Texts}
-use Rattle.seg_types.specs.Commands.{Quoted, Set}
-use Rattle.segment_manager.specs.Stored.{StepsSafely}
-use Rattle.segment_manager.proofs.Safely.{safe-refused, safe-segment, safe-step}
-use Rattle.segment_manager.proofs.TextAnswers.{fits-bytes}
-use Rattle.segment_manager.proofs.TextListCalls.{text-set}
-use Rattle.segment_manager.proofs.TextsHeld.{some-texts}
-use Rattle.segment_manager.proofs.ToChange.{seen-to_change}
+use Rattle.segment_manager.proofs.{Safely.safe-refused, Safely.safe-segment, Safely.safe-step, TextAnswers.fits-bytes}
+use Rattle.segment_manager.proofs.{TextListCalls.text-set, TextsHeld.some-texts, ToChange.seen-to_change}
 use Rattle.segment_manager.proofs.segment.Segment.texts_set.Goals as goal
-use Rattle.segment_manager.proofs.segment.Segment.texts_set.Goals.{After-set}
-use Rattle.segment_manager.proofs.segment.Segment.texts_set.Given.{Over}
+use Rattle.segment_manager.proofs.segment.Segment.texts_set.{Goals.After-set, Given.Over}
 
 -- what the call does, in each goal behind it
 done : (g : Over) (c : After-set g) → StepsSafely (record { cut = c.self.inside.heap; mode = c.self.inside.mode })

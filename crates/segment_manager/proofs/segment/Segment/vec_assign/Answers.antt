@@ -1,16 +1,9 @@
 -- The values are put in the place of those of the vector that is found.
-use Rattle.std.proofs.Common.{refl, subst, map}
-use Rattle.seg_types.specs.declared.kinds.Kind.TheVariants.{Vector}
-use Rattle.seg_types.specs.Commands.{Assign, literal_of}
-use Rattle.segment_manager.specs.Stored.{StepsSafely}
-use Rattle.segment_manager.proofs.Safely.{safe-refused, safe-segment, safe-step}
-use Rattle.segment_manager.proofs.ScalarTypes.{of-vector}
-use Rattle.segment_manager.proofs.VectorAnswers.{some-vector, vector-assigned}
-use Rattle.segment_manager.specs.ToChange.{IsNotToChange}
-use Rattle.segment_manager.proofs.ToChange.{vector-to_change}
+use Rattle.segment_manager.proofs.Common.{refl, subst, map, Vector, Assign, literal_of, StepsSafely, IsNotToChange}
+use Rattle.segment_manager.proofs.{Safely.safe-refused, Safely.safe-segment, Safely.safe-step, ScalarTypes.of-vector}
+use Rattle.segment_manager.proofs.{VectorAnswers.some-vector, VectorAnswers.vector-assigned, ToChange.vector-to_change}
 use Rattle.segment_manager.proofs.segment.Segment.vec_assign.Goals as goal
-use Rattle.segment_manager.proofs.segment.Segment.vec_assign.Goals.{After-assign}
-use Rattle.segment_manager.proofs.segment.Segment.vec_assign.Given.{Over}
+use Rattle.segment_manager.proofs.segment.Segment.vec_assign.{Goals.After-assign, Given.Over}
 
 -- what the call does, in each goal behind it
 done : (g : Over) (c : After-assign g) → StepsSafely (record { cut = c.self.inside.heap; mode = c.self.inside.mode })

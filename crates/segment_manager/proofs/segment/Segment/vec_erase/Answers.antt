@@ -1,16 +1,9 @@
 -- The value is left out of the vector that is found.
-use Rattle.std.proofs.Common.{refl, subst}
-use Rattle.seg_types.specs.declared.kinds.Kind.TheVariants.{Vector}
-use Rattle.seg_types.specs.Commands.{Erase}
-use Rattle.segment_manager.specs.Stored.{StepsSafely}
-use Rattle.segment_manager.proofs.Safely.{safe-refused, safe-segment, safe-step}
-use Rattle.segment_manager.proofs.ScalarTypes.{of-vector}
-use Rattle.segment_manager.proofs.VectorAnswers.{some-vector, vector-erased}
-use Rattle.segment_manager.specs.ToChange.{IsNotToChange}
-use Rattle.segment_manager.proofs.ToChange.{vector-to_change}
+use Rattle.segment_manager.proofs.Common.{refl, subst, Vector, Erase, StepsSafely, IsNotToChange}
+use Rattle.segment_manager.proofs.{Safely.safe-refused, Safely.safe-segment, Safely.safe-step, ScalarTypes.of-vector}
+use Rattle.segment_manager.proofs.{VectorAnswers.some-vector, VectorAnswers.vector-erased, ToChange.vector-to_change}
 use Rattle.segment_manager.proofs.segment.Segment.vec_erase.Goals as goal
-use Rattle.segment_manager.proofs.segment.Segment.vec_erase.Goals.{After-erase}
-use Rattle.segment_manager.proofs.segment.Segment.vec_erase.Given.{Over}
+use Rattle.segment_manager.proofs.segment.Segment.vec_erase.{Goals.After-erase, Given.Over}
 
 -- what the call does, in each goal behind it
 done : (g : Over) (c : After-erase g) → StepsSafely (record { cut = c.self.inside.heap; mode = c.self.inside.mode })

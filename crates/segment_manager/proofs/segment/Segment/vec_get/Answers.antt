@@ -1,11 +1,6 @@
 -- The value is read from the vector that is found.
-use Rattle.std.proofs.Common.{refl, subst, Err}
-use Rattle.seg_types.specs.declared.kinds.Kind.TheVariants.{Vector}
-use Rattle.seg_types.specs.Commands.{Get}
-use Rattle.segment_manager.specs.Contents.{container_at}
-use Rattle.segment_manager.specs.State.{Answers}
-use Rattle.segment_manager.proofs.ScalarTypes.{of-vector}
-use Rattle.segment_manager.proofs.StorageSteps.{no_container-reply, seen-reply}
+use Rattle.segment_manager.proofs.Common.{refl, subst, Err, Vector, Get, container_at, Answers}
+use Rattle.segment_manager.proofs.{ScalarTypes.of-vector, StorageSteps.no_container-reply, StorageSteps.seen-reply}
 use Rattle.segment_manager.proofs.VectorAnswers.{seen-at, some-vector, vector-got}
 use Rattle.segment_manager.proofs.segment.Segment.vec_get.Goals as goal
 

@@ -1,16 +1,9 @@
 -- The value is put into the vector that is found.
-use Rattle.std.proofs.Common.{refl, subst}
-use Rattle.seg_types.specs.declared.kinds.Kind.TheVariants.{Vector}
-use Rattle.seg_types.specs.Commands.{Insert, literal_of}
-use Rattle.segment_manager.specs.Stored.{StepsSafely}
-use Rattle.segment_manager.proofs.Safely.{safe-refused, safe-segment, safe-step}
-use Rattle.segment_manager.proofs.ScalarTypes.{of-vector}
-use Rattle.segment_manager.proofs.VectorAnswers.{some-vector, vector-inserted}
-use Rattle.segment_manager.specs.ToChange.{IsNotToChange}
-use Rattle.segment_manager.proofs.ToChange.{vector-to_change}
+use Rattle.segment_manager.proofs.Common.{refl, subst, Vector, Insert, literal_of, StepsSafely, IsNotToChange}
+use Rattle.segment_manager.proofs.{Safely.safe-refused, Safely.safe-segment, Safely.safe-step, ScalarTypes.of-vector}
+use Rattle.segment_manager.proofs.{VectorAnswers.some-vector, VectorAnswers.vector-inserted, ToChange.vector-to_change}
 use Rattle.segment_manager.proofs.segment.Segment.vec_insert.Goals as goal
-use Rattle.segment_manager.proofs.segment.Segment.vec_insert.Goals.{After-insert}
-use Rattle.segment_manager.proofs.segment.Segment.vec_insert.Given.{Over}
+use Rattle.segment_manager.proofs.segment.Segment.vec_insert.{Goals.After-insert, Given.Over}
 
 -- what the call does, in each goal behind it
 done : (g : Over) (c : After-insert g) → StepsSafely (record { cut = c.self.inside.heap; mode = c.self.inside.mode })

@@ -1,15 +1,10 @@
 -- The last value is taken out of the vector that is found.
-use Rattle.std.proofs.Common.{refl, subst}
-use Rattle.seg_types.specs.declared.kinds.Kind.TheVariants.{Vector}
-use Rattle.seg_types.specs.Commands.{Pop}
+use Rattle.segment_manager.proofs.Common.{refl, subst, Vector, Pop, IsNotToChange}
 use Rattle.segment_manager.proofs.Safely.{answer-refused, answer-segment, answer-step}
 use Rattle.segment_manager.proofs.VectorAnswers.{PopsSafely, some-vector, vector-popped}
-use Rattle.segment_manager.proofs.ScalarTypes.{of-vector}
-use Rattle.segment_manager.specs.ToChange.{IsNotToChange}
-use Rattle.segment_manager.proofs.ToChange.{vector-to_change}
+use Rattle.segment_manager.proofs.{ScalarTypes.of-vector, ToChange.vector-to_change}
 use Rattle.segment_manager.proofs.segment.Segment.vec_pop.Goals as goal
-use Rattle.segment_manager.proofs.segment.Segment.vec_pop.Goals.{After-pop}
-use Rattle.segment_manager.proofs.segment.Segment.vec_pop.Given.{Over}
+use Rattle.segment_manager.proofs.segment.Segment.vec_pop.{Goals.After-pop, Given.Over}
 
 -- what the call does, in each goal behind it
 done : (g : Over) (c : After-pop g) → PopsSafely (record { cut = c.self.inside.heap; mode = c.self.inside.mode })

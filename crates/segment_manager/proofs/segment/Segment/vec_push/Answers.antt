@@ -1,16 +1,9 @@
 -- The value is put behind the last of the vector that is found.
-use Rattle.std.proofs.Common.{refl, subst}
-use Rattle.seg_types.specs.declared.kinds.Kind.TheVariants.{Vector}
-use Rattle.seg_types.specs.Commands.{Push, literal_of}
-use Rattle.segment_manager.specs.Stored.{StepsSafely}
-use Rattle.segment_manager.proofs.Safely.{safe-refused, safe-segment, safe-step}
-use Rattle.segment_manager.proofs.ScalarTypes.{of-vector}
-use Rattle.segment_manager.proofs.VectorAnswers.{some-vector, vector-pushed}
-use Rattle.segment_manager.specs.ToChange.{IsNotToChange}
-use Rattle.segment_manager.proofs.ToChange.{vector-to_change}
+use Rattle.segment_manager.proofs.Common.{refl, subst, Vector, Push, literal_of, StepsSafely, IsNotToChange}
+use Rattle.segment_manager.proofs.{Safely.safe-refused, Safely.safe-segment, Safely.safe-step, ScalarTypes.of-vector}
+use Rattle.segment_manager.proofs.{VectorAnswers.some-vector, VectorAnswers.vector-pushed, ToChange.vector-to_change}
 use Rattle.segment_manager.proofs.segment.Segment.vec_push.Goals as goal
-use Rattle.segment_manager.proofs.segment.Segment.vec_push.Goals.{After-push}
-use Rattle.segment_manager.proofs.segment.Segment.vec_push.Given.{Over}
+use Rattle.segment_manager.proofs.segment.Segment.vec_push.{Goals.After-push, Given.Over}
 
 -- what the call does, in each goal behind it
 done : (g : Over) (c : After-push g) → StepsSafely (record { cut = c.self.inside.heap; mode = c.self.inside.mode })

@@ -1,18 +1,10 @@
 -- The bytes are written at the place that is found.
-use Rattle.std.proofs.Common.{◌≡◌, refl, sym, ap, subst, ◌∙◌, ◌+◌, true, false, Ok, length, List, ℕ, IsTrue}
-use Rattle.best_fit.specs.Heap.{has_room, live_of}
-use Rattle.seg_types.specs.declared.kinds.Kind.TheVariants.{Scalar}
-use Rattle.seg_types.specs.Kinds.{size_of}
-use Rattle.seg_types.specs.Names.{Key}
-use Rattle.seg_types.specs.Commands.{Set, literal_of}
-use Rattle.segment_manager.specs.Answers.{Done}
+use Rattle.segment_manager.proofs.Common.{◌≡◌, refl, sym, ap, subst, ◌∙◌, ◌+◌, true, false, Ok, length, List, ℕ, IsTrue}
+use Rattle.segment_manager.proofs.Common.{has_room, live_of, Scalar, size_of, Key, Set, literal_of, Done, Answers}
+use Rattle.segment_manager.proofs.Common.{IsStepOfKind, State, is_read_only}
 use Rattle.segment_manager.specs.Standing.{place_at}
-use Rattle.segment_manager.specs.State.{Answers, IsStepOfKind, State}
-use Rattle.segment_manager.specs.Step.{is_read_only}
-use Rattle.segment_manager.proofs.Blocks.{spelling-length}
-use Rattle.segment_manager.proofs.Replies.{place-room}
-use Rattle.segment_manager.proofs.Steps.{refuses_of_kind-read_only, step_of_kind-segment}
-use Rattle.segment_manager.proofs.Stored.{stores-nothing, stores-number}
+use Rattle.segment_manager.proofs.{Blocks.spelling-length, Replies.place-room, Steps.refuses_of_kind-read_only}
+use Rattle.segment_manager.proofs.{Steps.step_of_kind-segment, Stored.stores-nothing, Stored.stores-number}
 use Rattle.segment_manager.proofs.segment.Segment.write_element.Goals as goal
 
 pub returns-then-is_read_only-clause-step : goal.returns-then-is_read_only-clause-step

@@ -1,5 +1,5 @@
 -- The call is the step of each key that has the object.
-use Rattle.segment_manager.specs.declared.modes.Mode.TheVariants.{Write}
+use Rattle.segment_manager.proofs.Common.{Write}
 use Rattle.segment_manager.proofs.TextAnswers.{text-cleared, text-standing}
 use Rattle.segment_manager.proofs.storages.SegStringStored.clear.Goals as goal
 

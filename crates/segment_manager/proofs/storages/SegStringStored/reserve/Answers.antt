@@ -1,7 +1,6 @@
 -- The call is the step of each key that has the object.
-use Rattle.segment_manager.specs.declared.modes.Mode.TheVariants.{Write}
-use Rattle.segment_manager.proofs.KeptContainers.{text-kept}
-use Rattle.segment_manager.proofs.TextAnswers.{text-reserved, text-standing}
+use Rattle.segment_manager.proofs.Common.{Write}
+use Rattle.segment_manager.proofs.{KeptContainers.text-kept, TextAnswers.text-reserved, TextAnswers.text-standing}
 use Rattle.segment_manager.proofs.storages.SegStringStored.reserve.Goals as goal
 
 pub reserve-requires : goal.reserve-requires

@@ -1,5 +1,5 @@
 -- The sizes are those of each key that has the object.
-use Rattle.segment_manager.specs.declared.modes.Mode.TheVariants.{Write}
+use Rattle.segment_manager.proofs.Common.{Write}
 use Rattle.segment_manager.proofs.TextAnswers.{text-measured, text-standing}
 use Rattle.segment_manager.proofs.storages.SegStringStored.sizes.Goals as goal
 

@@ -1,8 +1,6 @@
 -- The call is the step of each key that has the object.
-use Rattle.segment_manager.specs.declared.modes.Mode.TheVariants.{Write}
-use Rattle.segment_manager.proofs.KeptContainers.{texts-kept}
-use Rattle.segment_manager.proofs.TextListCalls.{texts-reserved}
-use Rattle.segment_manager.proofs.TextsHeld.{some-texts}
+use Rattle.segment_manager.proofs.Common.{Write}
+use Rattle.segment_manager.proofs.{KeptContainers.texts-kept, TextListCalls.texts-reserved, TextsHeld.some-texts}
 use Rattle.segment_manager.proofs.storages.SegTextsStored.reserve.Goals as goal
 
 pub reserve-requires : goal.reserve-requires

@@ -1,7 +1,6 @@
 -- The call is the step of each key that has the object.
-use Rattle.segment_manager.specs.declared.modes.Mode.TheVariants.{Write}
-use Rattle.segment_manager.proofs.TextListCalls.{texts-shrunk}
-use Rattle.segment_manager.proofs.TextsHeld.{some-texts}
+use Rattle.segment_manager.proofs.Common.{Write}
+use Rattle.segment_manager.proofs.{TextListCalls.texts-shrunk, TextsHeld.some-texts}
 use Rattle.segment_manager.proofs.storages.SegTextsStored.shrink.Goals as goal
 
 pub shrink-requires : goal.shrink-requires

@@ -1,7 +1,6 @@
 -- The sizes are those of each key that has the object.
-use Rattle.segment_manager.specs.declared.modes.Mode.TheVariants.{Write}
-use Rattle.segment_manager.proofs.TextListCalls.{texts-measured}
-use Rattle.segment_manager.proofs.TextsHeld.{some-texts}
+use Rattle.segment_manager.proofs.Common.{Write}
+use Rattle.segment_manager.proofs.{TextListCalls.texts-measured, TextsHeld.some-texts}
 use Rattle.segment_manager.proofs.storages.SegTextsStored.sizes.Goals as goal
 
 pub len-requires : goal.len-requires

@@ -1,5 +1,5 @@
 -- What is so of a vector of values is so of one of numbers.
-use Rattle.segment_manager.specs.declared.modes.Mode.TheVariants.{Write}
+use Rattle.segment_manager.proofs.Common.{Write}
 use Rattle.segment_manager.proofs.ScalarTypes.{of-vector}
 use Rattle.segment_manager.proofs.VectorAnswers.{some-vector, there-at, vector-cleared}
 use Rattle.segment_manager.proofs.storages.SegVecStored.clear.Goals as goal

@@ -1,8 +1,5 @@
 -- The role says it.
-use Rattle.std.proofs.Common.{sym, ap, ◌∙◌, Bool, false, Option, Some, None}
-use Rattle.block_tags.specs.declared.tile.Role.{Role}
-use Rattle.block_tags.specs.declared.tile.Role.TheVariants.{Object as ObjectRole}
-use Rattle.best_fit.specs.Table.{same_role}
+use Rattle.segment_manager.proofs.Common.{sym, ap, ◌∙◌, Bool, false, Option, Some, None, Role, ObjectRole, same_role}
 use Rattle.segment_manager.proofs.tiles.Span.is_object.Goals as goal
 
 abbrev said : Option Role → Bool

@@ -1,5 +1,5 @@
 -- The next block of an object is that of the next object.
-use Rattle.std.proofs.Common.{refl, sym, subst, Some, None}
+use Rattle.segment_manager.proofs.Common.{refl, sym, subst, Some, None}
 use Rattle.segment_manager.specs.Iterating.{GoesOnObjects, ObjectWalk}
 use Rattle.segment_manager.proofs.OwnWalks.{block-at, none-left, owner-below}
 use Rattle.segment_manager.proofs.walking_objects.ObjectsIterator.next.Goals as goal

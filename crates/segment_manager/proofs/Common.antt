@@ -1,0 +1,170 @@
+-- The names that most proofs cite, passed on from one place.
+pub use Rattle.std.proofs.Common.{◌%◌, ◌&&◌, ◌*◌, ◌++◌, ◌+◌, ◌-◌, ◌/◌, ◌<◌, ◌==◌, Bool, Equal, Err, Fits, Greater}
+pub use Rattle.std.proofs.Common.{IsTrue, Less, List, None, Ok, Option, Ordering, Result, Some, [], ap, append-nil}
+pub use Rattle.std.proofs.Common.{append_assoc, arith, cond, drop, false, get_or, if◌then◌else◌, inl, inr, length}
+pub use Rattle.std.proofs.Common.{length-append, map, nat_abs, nat_le, nat_lt, not, pos, refl, replicate, rules}
+pub use Rattle.std.proofs.Common.{slice_get, subst, suc, sym, take, true, w64, zero, ◌||◌, ℕ, ℤ, ◌∙◌, ◌∷◌, ◌≡◌, ◌≢◌}
+pub use Rattle.std.proofs.Common.{◌≤◌, ◌⊎◌}
+pub use Rattle.std.proofs.Math.Nat.{mul-le-mul_left}
+pub use Rattle.std.proofs.lemmas.Bool.{and_from, and_parts, and_right, cases_lt, cond-false, cond-true, eq-eqb}
+pub use Rattle.std.proofs.lemmas.Bool.{eqb-false, eqb-true, false≢true, le-leb, le-ltb, leb-true, lt-leb, lt-ltb}
+pub use Rattle.std.proofs.lemmas.Bool.{ltb-false, ltb-true, ne_eqb, or_cases, or_left, or_right}
+pub use Rattle.std.proofs.lemmas.Cmp.{nat_list_cmp_total}
+pub use Rattle.std.proofs.lemmas.List.{flat_map_more, length-map, length-replicate, map-append, take-map, take_all}
+pub use Rattle.std.proofs.lemmas.Option.{none-some, same_Some, slice_get-get_or, slice_get-map, slice_get_past}
+pub use Rattle.std.proofs.lemmas.Option.{slice_get_within}
+pub use Rattle.std.proofs.lemmas.Result.{err_from_is_err_and}
+pub use Rattle.std.specs.Cmp.Lexicographic.{slice_cmp, texts_ties}
+pub use Rattle.std.specs.Iterator.{Yields}
+pub use Rattle.std.specs.List.{AllByRecursion, list_all, list_any}
+pub use Rattle.std.specs.Ordering.{is_eq, is_lt, nat_cmp, ordering_reverse}
+pub use Rattle.std.specs.Prelude.{IfErr, IfSome, MatchOption, MatchResult, OnErr, filter, find, flat_map, fold, insert}
+pub use Rattle.std.specs.Prelude.{int_lt, is_some, option_map, option_to_list, remove, slice_set}
+pub use Rattle.std.specs.Str.{chars, is_utf8}
+pub use denote.Ref.{Bor}
+pub use Rattle.raw_region.proofs.Laws.{Has-same, Same-part, Same-trans, Same-word, SameBut-Same, SamePlace-trans}
+unfoldable pub use Rattle.raw_region.specs.Format.{current}
+pub use Rattle.raw_region.specs.Memory.{AreZero, Cut, Has, Memory, Same, SameBut, SamePlace, bytes_of, part, read}
+unfoldable pub use Rattle.raw_region.specs.Memory.{word_at}
+pub use Rattle.offset_link.proofs.Laws.{Same-link}
+pub use Rattle.offset_link.specs.Link.{link_at}
+pub use Rattle.link_tree.specs.Tree.{Tree, fork, leaf, nodes_of}
+pub use Rattle.block_tags.specs.Format.{is_legal_size}
+pub use Rattle.block_tags.specs.Tiles.{tiles_of}
+pub use Rattle.block_tags.specs.declared.tile.Role.{Role}
+pub use Rattle.block_tags.specs.declared.tile.Role.TheVariants.{Index as IndexRole, Node, Object as ObjectRole, Storage}
+pub use Rattle.block_tags.specs.declared.tile.Tile.{Tile}
+pub use Rattle.best_fit.proofs.Laws.{IsAlone, SameSpread, allocated-is_live, allocated-live, allocated-room}
+pub use Rattle.best_fit.proofs.Laws.{blocks-trans, changed-live, changed-room, found-new, inserted-append, keeps-refl}
+pub use Rattle.best_fit.proofs.Laws.{keeps-trans, laid-heap, lay_out_one, legal_size, list_any-insert, live-spaced}
+pub use Rattle.best_fit.proofs.Laws.{middle-first, placed_is_proper, room_block, spaced-insert}
+pub use Rattle.best_fit.specs.Exchange.{IsExchanged, SameBlockBut, exchanged}
+pub use Rattle.best_fit.specs.Extents.{Extent, LiveSet, end_of, handle, holds, proper_from, spans}
+unfoldable pub use Rattle.best_fit.specs.Extents.{gaps, is_proper}
+pub use Rattle.best_fit.specs.Fit.{added, others, place, released, resized}
+unfoldable pub use Rattle.best_fit.specs.Fit.{regrow}
+pub use Rattle.best_fit.specs.FreeTree.{IsTreeOf, cells_of, gap_front}
+pub use Rattle.best_fit.specs.Heap.{IsAllocated, IsChanged, IsHeap, IsRefused, IsReleased, IsZeroed, Keeps, LaysOut}
+pub use Rattle.best_fit.specs.Heap.{SameBlock, extent_at, has_room, is_live_in, live_of}
+pub use Rattle.best_fit.specs.Table.{Table, is_table, no_table, same_role, serves}
+unfoldable pub use Rattle.best_fit.specs.Table.{cut_table}
+pub use Rattle.seg_types.specs.Commands.{Append, Assign, Command, Content, Destroy, DestroyPtr, Erase, Get, Insert}
+pub use Rattle.seg_types.specs.Commands.{Literal, Lookup, Pop, Push, Put, Quoted, Remove, Set, is_changing, literal_of}
+pub use Rattle.seg_types.specs.Commands.{value_of_literal}
+pub use Rattle.seg_types.specs.Keys.{index_key_seen, key_seen, new_key_seen}
+pub use Rattle.seg_types.specs.Kinds.{class_code, code_of, is_kind_of, is_value, kind_of_code, lowest, same_kind}
+pub use Rattle.seg_types.specs.Kinds.{scalar_code, size_of, spelling}
+pub use Rattle.seg_types.specs.Names.{ByHandle, ByKind, ByName, Key, is_control, is_name, is_printable_name}
+unfoldable pub use Rattle.seg_types.specs.Names.{is_text_name}
+pub use Rattle.seg_types.specs.ScalarLaws.{transitive}
+pub use Rattle.seg_types.specs.Values.{kind_of_scalar, value_of_scalar}
+pub use Rattle.seg_types.specs.declared.keys.IndexKey.{IndexKey}
+pub use Rattle.seg_types.specs.declared.kinds.Class.{Class}
+pub use Rattle.seg_types.specs.declared.kinds.Class.TheVariants.{Anonymous, Named as NamedClass, Unique as UniqueClass}
+pub use Rattle.seg_types.specs.declared.kinds.Kind.{Kind}
+pub use Rattle.seg_types.specs.declared.kinds.Kind.TheVariants.{Map, Map as MapKind, Scalar, Scalar as ScalarOf, Text}
+pub use Rattle.seg_types.specs.declared.kinds.Kind.TheVariants.{Text as TextKind, Texts as TextsKind, Vector}
+pub use Rattle.seg_types.specs.declared.kinds.Kind.TheVariants.{Vector as VectorKind}
+pub use Rattle.seg_types.specs.declared.kinds.ScalarKind.{ScalarKind}
+pub use Rattle.seg_types.specs.declared.kinds.ScalarKind.TheVariants.{Bool as BoolKind, U8}
+pub use Rattle.seg_types.specs.declared.plain.Plain.{Ghosts as Plain}
+pub use Rattle.seg_types.specs.declared.refusals.Refusal.{Refusal}
+pub use Rattle.seg_types.specs.declared.refusals.Refusal.TheVariants.{Exists, NoSpace, NotFound, OutOfRange, ReadOnly}
+pub use Rattle.seg_types.specs.declared.refusals.Refusal.TheVariants.{WrongKind}
+pub use Rattle.seg_types.specs.declared.values.ScalarValue.{ScalarValue}
+pub use Rattle.seg_vector.specs.Standing.{IsOwnBlock, Stands, place_at}
+pub use Rattle.seg_vector.specs.TextCalls.{AssignsText, IsSomeText, IsTextGrown, IsTextNow}
+pub use Rattle.seg_vector.specs.TextsCalls.{AreOthers, AreTextsAssigned, AssignsTexts, IsGivenUp, IsSomeTexts}
+pub use Rattle.seg_vector.specs.TextsCalls.{IsTextsNow, all_texts, new_array, one_more, placed_text, placed_texts}
+pub use Rattle.seg_vector.specs.TextsCalls.{text_blocks, with_array, with_text}
+pub use Rattle.seg_vector.specs.Vector.{IsContainerAt, OwnedText, capacity_for_one, capacity_for_text, spelled}
+unfoldable pub use Rattle.seg_vector.specs.Vector.{grown_table}
+pub use Rattle.seg_vector.specs.VectorCalls.{Assigns, IsOutside, IsSomeVector, IsVectorGrown, IsVectorNow}
+pub use Rattle.seg_vector.specs.VectorCalls.{IsWithoutSpace}
+pub use Rattle.seg_vector.specs.declared.places.Place.{Place, Place as ContainerPlace}
+pub use Rattle.seg_map.specs.Changing.{Erases, IsBesideMap, IsErased, IsFull, IsPut, IsPutAgain, Puts, Releases}
+pub use Rattle.seg_map.specs.Map.{is_key, is_rising, node_len, pair_at, put_pair, remove_pair}
+pub use Rattle.seg_map.specs.Numbers.{IsNumberPairAt, NumberPair, is_number_pair}
+pub use Rattle.seg_map.specs.Places.{FindsItem, FindsItemBefore, FindsLastItem, FindsValue, HoldsMap, IsPairIn}
+pub use Rattle.seg_map.specs.Places.{IsSomeMap, first_pair, item_of, nodes_of_pairs, value_of_pair}
+pub use Rattle.seg_map.specs.declared.places.Place.{Place as MapPlace}
+pub use Rattle.seg_index.proofs.Laws.{prepared}
+pub use Rattle.seg_index.specs.Capacities.{IsReserved, IsRoomy, IsShrunk}
+pub use Rattle.seg_index.specs.Growth.{AddKeeps, Adds, CanGrow, GivesBack, IsGrowth, KeepsRest, beside_table}
+pub use Rattle.seg_index.specs.Growth.{grown_bytes, unlinked, without_link}
+pub use Rattle.seg_index.specs.Held.{HasIndex, IsIndexOf, capacity_at, entry_count, place_of}
+pub use Rattle.seg_index.specs.Index.{IsIndexAt, grown_capacity}
+pub use Rattle.seg_index.specs.Keys.{name_len_at}
+pub use Rattle.seg_index.specs.Lookups.{HasKeys, IsPlace}
+pub use Rattle.seg_index.specs.declared.index.Index.{Index}
+pub use Rattle.seg_index.specs.declared.index.Index.TheVariants.{Named, Unique}
+pub use Rattle.seg_index.specs.declared.keys.Key.{Key as Entry}
+pub use Rattle.seg_index.specs.declared.keys.Key.TheVariants.{Code, Name}
+pub use Rattle.seg_index.specs.declared.keys.Lookup.TheVariants.{Absent, Found}
+pub use Rattle.segment_manager.specs.Answers.{Answer, Done, Element, Made, Number, Refused, TextElement, Truth}
+pub use Rattle.segment_manager.specs.Answers.{is_untouched, refusal_of}
+pub use Rattle.segment_manager.specs.Begun.{Begins, IsAbsentAt, IsBegun, IsBegunAlone, IsBegunEntry, IsHeaded, IsLoose}
+pub use Rattle.segment_manager.specs.Begun.{IsLooseAlone, IsLooseEntry, IsNotBegun, IsReadyFor, IsTakenKey, IsWanted}
+pub use Rattle.segment_manager.specs.Begun.{LeadsThere}
+pub use Rattle.segment_manager.specs.Calls.{IsTileOfIndex, elements_at, elements_of, kind_at}
+pub use Rattle.segment_manager.specs.Changeable.{IsChangeable, IsToChange, IsUnchangeable, IsValueOf}
+pub use Rattle.segment_manager.specs.Contents.{Contents, HasNoRoom, IsBytes, IsBytesGrown, IsBytesNow, IsNumbers}
+pub use Rattle.segment_manager.specs.Contents.{IsNumbersGrown, IsNumbersNow, IsRefilled, are_bytes, bytes_at}
+pub use Rattle.segment_manager.specs.Contents.{container_at, container_place, contents_of, has_values, place_of_kind}
+pub use Rattle.segment_manager.specs.Contents.{sizes_at, sizes_at_kind, sizes_of, sizes_of_kind}
+pub use Rattle.segment_manager.specs.Denotes.{Denotes, IsHeader, IsObjectAt, IsValueAt, handles, padded_name}
+pub use Rattle.segment_manager.specs.Denotes.{two_halves}
+pub use Rattle.segment_manager.specs.Destroyed.{Becomes, Empties, HoldsObject, ReleasesNumbers, emptied}
+pub use Rattle.segment_manager.specs.Directory.{Bytes, Directory, Elements, IsDirectory, Numbers, Object, Pairs, Texts}
+pub use Rattle.segment_manager.specs.Directory.{Value, by_kind, by_name, count_of, empty, extents_of, has_good_name}
+pub use Rattle.segment_manager.specs.Directory.{has_key, has_own_block, insert_by, is_class, is_good_value, is_index}
+pub use Rattle.segment_manager.specs.Directory.{is_object, is_owned_text, kind_of, named_objects, object_at, object_len}
+pub use Rattle.segment_manager.specs.Directory.{padded, put_object, remove_object, replace_object, rises, rises_from}
+pub use Rattle.segment_manager.specs.Directory.{same_bytes, sorted, table_extents, unique_objects, value_extents}
+pub use Rattle.segment_manager.specs.Directory.{value_len, with_changed, with_object, without_object}
+unfoldable pub use Rattle.segment_manager.specs.Directory.{live}
+pub use Rattle.segment_manager.specs.ElementLists.{first_size, length_at_kind, number_or_none}
+pub use Rattle.segment_manager.specs.Filled.{Constructs, FindsOrConstructs, IsBegunFor, IsDenied, IsGiven, IsMadeValue}
+pub use Rattle.segment_manager.specs.Filled.{IsNoValue, MakesValue, with_count}
+pub use Rattle.segment_manager.specs.Found.{IsBelow, handle_at, is_object_at, pair_answer}
+pub use Rattle.segment_manager.specs.Heads.{IsEntry}
+pub use Rattle.segment_manager.specs.Indexed.{Seeks, class_of_index, entries_of, objects_of, order_of, reserve_of}
+pub use Rattle.segment_manager.specs.Indexed.{table_of, with_table_of}
+pub use Rattle.segment_manager.specs.Instances.{IsInstance, IsMissing, SaysAt, SaysOf}
+pub use Rattle.segment_manager.specs.Items.{TakesItems}
+pub use Rattle.segment_manager.specs.Iterating.{GoesOn, GoesOnNames, NameWalk, Walk, is_own, is_own_span, own_spans}
+pub use Rattle.segment_manager.specs.Keeping.{HasPlaces, KeepsWhere, LacksKey}
+pub use Rattle.segment_manager.specs.Layout.{head_len}
+pub use Rattle.segment_manager.specs.Listed.{HasEntries, HasEntry, IsAnonymousAt, IsListed}
+pub use Rattle.segment_manager.specs.Located.{IsLocated}
+pub use Rattle.segment_manager.specs.Maps.{HasPairs, ReleasesPairs, map_at, numbers_in, numbers_of, pair_above}
+pub use Rattle.segment_manager.specs.Maps.{pair_at_end, pair_below, pair_from, pair_up_to, told_of, told_of_map}
+pub use Rattle.segment_manager.specs.Maps.{value_or_absent}
+pub use Rattle.segment_manager.specs.NewObjects.{IsNewKeyOf, IsOfKind, IsRequested, IsRestored, IsUnmet}
+pub use Rattle.segment_manager.specs.Plan.{Need, New, Plan, Refuse, Regrown as RegrownNeed, Reply, Request, bare}
+pub use Rattle.segment_manager.specs.Plan.{class_of, met, name_of, perform, with, with_capacity, with_entry}
+pub use Rattle.segment_manager.specs.Plan.{with_new_index, with_new_object, with_owned_text, with_owned_texts}
+pub use Rattle.segment_manager.specs.Plan.{with_place, with_storage, with_value}
+pub use Rattle.segment_manager.specs.Resized.{Resizes, grown, shrunk}
+pub use Rattle.segment_manager.specs.Standing.{HasObject, IsHeadAt, IsHeadOf, StandsAt, pair_of_kind, repeated}
+pub use Rattle.segment_manager.specs.Standing.{room_for}
+pub use Rattle.segment_manager.specs.State.{Answers, IsReply, IsReplyOfKind, IsSegment, IsStep, IsStepOfKind}
+pub use Rattle.segment_manager.specs.State.{KeepsRefused, LeadsOn, Moves, StandsFor, State, Stays, answer_of}
+pub use Rattle.segment_manager.specs.State.{done_answer, handle_answer, refusal_in, scalar_answer}
+pub use Rattle.segment_manager.specs.Staying.{is_elementwise}
+pub use Rattle.segment_manager.specs.Step.{and_then, changed, effect, element_at, found, found_at, get, is_read_only}
+pub use Rattle.segment_manager.specs.Step.{map_of, pair_of, plan, set, storage_of, texts_of, values_of, with_items}
+pub use Rattle.segment_manager.specs.Step.{with_table}
+unfoldable pub use Rattle.segment_manager.specs.Step.{step, step_of_kind}
+pub use Rattle.segment_manager.specs.Stored.{HasEnough, StandsThere, StepsSafely, StepsThere, command_of}
+pub use Rattle.segment_manager.specs.TextLists.{LeadsOnOfKind}
+pub use Rattle.segment_manager.specs.ToChange.{IsNotToChange}
+pub use Rattle.segment_manager.specs.Walks.{IsMap, first_of, item_of_kinds, item_seen, pairs_at, pairs_of}
+pub use Rattle.segment_manager.specs.declared.beginning.NewEntry.{NewEntry}
+pub use Rattle.segment_manager.specs.declared.head.Head.{Head}
+pub use Rattle.segment_manager.specs.declared.modes.Mode.{Mode}
+pub use Rattle.segment_manager.specs.declared.modes.Mode.TheVariants.{CopyOnWrite, Write}
+pub use Rattle.segment_manager.specs.declared.storages.Change.{Change}
+pub use Rattle.segment_manager.specs.declared.storages.Change.TheVariants.{Clear, Reserve, Shrink}
+pub use Rattle.segment_manager.specs.declared.targets.Object.{Object as Located}
+pub use Rattle.segment_manager.specs.declared.telling.Instance.{Instance}

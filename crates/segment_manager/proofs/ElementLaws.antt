@@ -7,7 +7,6 @@ pub use Rattle.segment_manager.proofs.Steps.{step_of_kind-step, with-found, with
 -- two commands with one plan, and a plan that comes to a refusal
 pub use Rattle.segment_manager.proofs.Refilled.{same_plan-steps}
 -- the literal of a value is read as the value
-pub use Rattle.segment_manager.proofs.Stored.{literal-read}
-pub use Rattle.segment_manager.proofs.VectorCalls.{literals-read}
+pub use Rattle.segment_manager.proofs.Stored.{literal-read, literals-read}
 -- the plans of the commands on a vector or a text, and on an object that is neither
 pub use Rattle.segment_manager.proofs.ContentPlans.{append-other, assign-plan, assign-refused, text-plan, text-refused}

@@ -12,7 +12,7 @@ use Rattle.seg_types.specs.Commands as asked
 use Rattle.segment_manager.specs.ElementLists.{array_at, array_length_at, list_at, numbers_in, texts_at, texts_in}
 use Rattle.segment_manager.specs.ElementLists.{vector_at}
 use Rattle.segment_manager.specs.Step.{owned_text_at}
-use Rattle.segment_manager.proofs.{Codes.numbers-only, TextsHeld.texts-only, VectorSteps.vector-only}
+use Rattle.segment_manager.proofs.{Codes.numbers-only, TextsHeld.texts-only, ItemSteps.vector-only}
 use Rattle.segment_manager.proofs.Steps.{open-reading, step_of_kind-found, step_of_kind-not_found, step_of_kind-other}
 use Rattle.segment_manager.proofs.Steps.{with-found}
 

@@ -7,10 +7,10 @@ use Rattle.segment_manager.proofs.Common.{Directory, object_at, HasPlaces, Keeps
 use Rattle.segment_manager.proofs.Common.{State, StandsFor, pairs_of}
 use Rattle.seg_vector.specs.{TextCalls.ReservesNoBytes, TextsCalls.ReservesNoTexts, VectorCalls.ReservesNothing}
 use Rattle.segment_manager.specs.Keeping.{LacksPair}
-use Rattle.segment_manager.proofs.{MapCalls.HoldsPairs, MapCalls.holds-pairs, TextSteps.HoldsText, TextSteps.holds-text}
-use Rattle.segment_manager.proofs.{TextsHeld.HoldsTexts, TextsHeld.holds-texts, Whole.IsOfKind, Whole.of-whole}
+use Rattle.segment_manager.proofs.{MapCalls.HoldsPairs, MapCalls.holds-pairs, TextsHeld.HoldsTexts}
+use Rattle.segment_manager.proofs.{TextsHeld.holds-texts, Whole.IsOfKind}
 use Rattle.segment_manager.proofs.PairNumbers.{IsScalarOf, erases-numbers}
-use Rattle.segment_manager.proofs.VectorSteps.{HoldsVector, holds-vector}
+use Rattle.segment_manager.proofs.{ItemSteps.HoldsItems, ItemSteps.holds-items, TextAnswers.texts, VectorAnswers.typed}
 
 -- the window is as it was, and so is the segment
 pub keeps-cut : (s t : State) (view : s ≡ t) (new : Cut) (P : Directory → Type 0) → ((d : Directory) → StandsFor s.cut.bytes d → P d → new ≡ s.cut) → KeepsWhere t (record s { cut = new }) P
@@ -32,8 +32,8 @@ enough-places d key o n len capacity is sizes has =
 module _ (s : State) (key : Key) (p : Place) (new : Cut) (n : ℕ) (r : Result (Unit {0}) Refusal) where
   pub text-kept : Answers s (λ d. container_at d key Text) (Ok p) → ReservesNoBytes s.cut new p n r → (d : Directory) → StandsFor s.cut.bytes d → HasPlaces key n d → new ≡ s.cut
   text-kept found each d l has =
-      let h : HoldsText s.cut.bytes d key p = holds-text s.cut.bytes d key p l.denotes (found.answers d l) in
-      (each h.bytes h.table h.text.stands (enough-places d key h.object n _ h.table.capacity h.is (ap sizes_of h.value) has)).1
+      let h : HoldsItems texts s.cut.bytes d key p = holds-items texts s.cut.bytes d key p l.denotes (found.answers d l) in
+      (each h.items h.table h.stands (enough-places d key h.object n _ h.table.capacity h.is (ap sizes_of h.value) has)).1
 
   pub texts-kept : Answers s (λ d. container_at d key TextsKind) (Ok p) → ReservesNoTexts s.cut new p n r → (d : Directory) → StandsFor s.cut.bytes d → HasPlaces key n d → new ≡ s.cut
   texts-kept found each d l has =
@@ -43,9 +43,8 @@ module _ (s : State) (key : Key) (p : Place) (new : Cut) (n : ℕ) (r : Result (
   pub vector-kept : {T : Type 0} (k : ScalarKind) (w : T → ℤ) (size : ℕ) (test : T → Bool) (sp : T → List ℕ) → IsOfKind k w size test sp → Answers s (λ d. container_at d key (Vector k)) (Ok p)
       → ReservesNothing size test sp s.cut new p n r → (d : Directory) → StandsFor s.cut.bytes d → HasPlaces key n d → new ≡ s.cut
   vector-kept k w size test sp law found each d l has =
-      let h : HoldsVector s.cut.bytes d key k p = holds-vector s.cut.bytes d key k p l.denotes (found.answers d l) in
-      of-whole k w size test sp law s.cut.bytes p (λ zs u. n ≤ u.capacity → new ≡ s.cut) (λ xs u stands values e. (each xs u (record { stands = stands; values = values }) e).1) h.numbers h.table h.vector
-      (enough-places d key h.object n _ h.table.capacity h.is (ap sizes_of h.value) has)
+      let h : HoldsItems (typed k w size test sp law) s.cut.bytes d key p = holds-items (typed k w size test sp law) s.cut.bytes d key p l.denotes (found.answers d l) in
+      (each h.items h.table (record { stands = h.stands; values = h.values }) (enough-places d key h.object n _ h.table.capacity h.is (ap sizes_of h.value) has)).1
 
 -- ---- pairs
 

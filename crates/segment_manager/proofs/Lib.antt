@@ -62,9 +62,7 @@ mod MapAnswers
 mod MapWalks
 mod PairWalks
 mod MapLists
-mod VectorSteps
-mod VectorCalls
-mod TextSteps
+mod ItemSteps
 mod StorageSteps
 mod Safely
 mod ScalarTypes

@@ -14,7 +14,7 @@ use Rattle.segment_manager.proofs.{Calling.denotes-heap, Calling.denotes-live, C
 use Rattle.segment_manager.proofs.{Denoted.denotes-replaced, Faces.IsLike, Frame.IsRoomy, Frame.object-roomy, Live.IsIn}
 use Rattle.segment_manager.proofs.{Live.live-same, Order.Apart, Order.Differs, Regrown.InPlace, Regrown.live-less}
 use Rattle.segment_manager.proofs.{Regrown.live-more, Regrown.rest, Rewritten.value_start, Rewritten.with_value}
-use Rattle.segment_manager.proofs.{Standings.standing-room, VectorSteps.one-kind, Words.first, Words.second}
+use Rattle.segment_manager.proofs.{Standings.standing-room, ItemSteps.one-kind, Words.first, Words.second}
 use Rattle.segment_manager.proofs.Exchanged.{all-but-beside, object-held, others-beside}
 use Rattle.segment_manager.proofs.MapBlocks.{BlocksInUse, IsFoundIn, PartedNodes, no-node, nodes, one-by_handle}
 use Rattle.segment_manager.proofs.MapBlocks.{put-parted, removed-parted}

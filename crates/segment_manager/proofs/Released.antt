@@ -14,14 +14,15 @@ use Rattle.seg_map.specs.Changing.{IsGivenUp}
 use Rattle.seg_vector.specs.{TextCalls.ReleasesText, TextsCalls.ReleasesTexts, VectorCalls.Releases}
 use Rattle.segment_manager.specs.Destroyed.{HasNumbers}
 use Rattle.segment_manager.proofs.{Contained.good-with, Contained.start-place, Frame.object-roomy, Here.standing}
-use Rattle.segment_manager.proofs.{Live.IsIn, Rewritten.value_start, Rewritten.with_value, TextSteps.HoldsText}
-use Rattle.segment_manager.proofs.{TextSteps.holds-text, TextsHeld.HoldsTexts, TextsHeld.holds-texts}
+use Rattle.segment_manager.proofs.{Live.IsIn, Rewritten.value_start, Rewritten.with_value, TextsHeld.HoldsTexts}
+use Rattle.segment_manager.proofs.{TextsHeld.holds-texts}
 use Rattle.segment_manager.proofs.Emptied.{changed-itself, emptied-is, emptied-numbers}
 use Rattle.segment_manager.proofs.Exchanged.{Exchange, between, denotes-container}
 use Rattle.segment_manager.proofs.MapCalls.{HoldsPairs, as_map, holds-pairs}
 use Rattle.segment_manager.proofs.ObjectLists.{all-found, each-true, found-handle, key-found}
-use Rattle.segment_manager.proofs.VectorSteps.{HoldsVector, holds-vector}
 use Rattle.segment_manager.proofs.Whole.{IsOfKind, of-whole, stands-whole, whole-now, whole-reached}
+use Rattle.segment_manager.proofs.ItemSteps.{HoldsItems, holds-items, vectors}
+use Rattle.segment_manager.proofs.TextAnswers.{texts}
 
 -- ---- the object of a handle
 
@@ -68,11 +69,11 @@ module _ (b : List ℕ) (h at : ℕ) (head : Head) (said : IsReadAt b h head) (b
       let there : StandsAt b h o = held-stands b h d o s e in
       found-container d (ByHandle h) kind o (place_behind h at) e (sym (said o there).kind ∙ is) (behind-head b h at o head there (said o there) behind)
 
-  read-text : head.kind ≡ Text → HoldsText b d (ByHandle h) (place_behind h at)
-  read-text is = holds-text b d (ByHandle h) (place_behind h at) s.denotes (read-place Text is)
+  read-text : head.kind ≡ Text → HoldsItems texts b d (ByHandle h) (place_behind h at)
+  read-text is = holds-items texts b d (ByHandle h) (place_behind h at) s.denotes (read-place Text is)
 
-  read-vector : (k : ScalarKind) → head.kind ≡ Vector k → HoldsVector b d (ByHandle h) k (place_behind h at)
-  read-vector k is = holds-vector b d (ByHandle h) k (place_behind h at) s.denotes (read-place (Vector k) is)
+  read-vector : (k : ScalarKind) → head.kind ≡ Vector k → HoldsItems (vectors k) b d (ByHandle h) (place_behind h at)
+  read-vector k is = holds-items (vectors k) b d (ByHandle h) (place_behind h at) s.denotes (read-place (Vector k) is)
 
   read-texts : head.kind ≡ TextsKind → HoldsTexts b d (ByHandle h) (place_behind h at)
   read-texts is = holds-texts b d (ByHandle h) (place_behind h at) s.denotes (read-place TextsKind is)
@@ -82,11 +83,11 @@ module _ (b : List ℕ) (h at : ℕ) (head : Head) (said : IsReadAt b h head) (b
 
 module _ (b : List ℕ) (h at : ℕ) (head : Head) (x : HoldsObject b h) (said : IsReadAt b h head) (behind : at ≡ head_len + padded head.name_len) where
   pub some-text : head.kind ≡ Text → IsSomeText b (place_behind h at)
-  some-text is = let t : HoldsText b x.directory (ByHandle h) (place_behind h at) = read-text b h at head said behind x.directory x.object x.stands x.is is in (t.bytes, (t.table, t.text.stands))
+  some-text is = let t : HoldsItems texts b x.directory (ByHandle h) (place_behind h at) = read-text b h at head said behind x.directory x.object x.stands x.is is in (t.items, (t.table, t.stands))
 
   pub some-vector : (k : ScalarKind) → head.kind ≡ Vector k → HasNumbers k b (place_behind h at)
   some-vector k is =
-      let v : HoldsVector b x.directory (ByHandle h) k (place_behind h at) = read-vector b h at head said behind x.directory x.object x.stands x.is k is in (v.numbers, (v.table, v.vector))
+      let v : HoldsItems (vectors k) b x.directory (ByHandle h) (place_behind h at) = read-vector b h at head said behind x.directory x.object x.stands x.is k is in (v.items, (v.table, record { stands = v.stands; values = v.values }))
 
   pub some-texts : head.kind ≡ TextsKind → IsSomeTexts b (place_behind h at)
   some-texts is = let t : HoldsTexts b x.directory (ByHandle h) (place_behind h at) = read-texts b h at head said behind x.directory x.object x.stands x.is is in (t.texts, (t.table, t.stand))
@@ -133,19 +134,19 @@ container-released old new d key o p v k e is at len change said =
 module _ (old new : Cut) (h at : ℕ) (head : Head) (said : IsReadAt old.bytes h head) (behind : at ≡ head_len + padded head.name_len) where
   pub text-contents : head.kind ≡ Text → ReleasesText old new (place_behind h at) → Empties old new h
   text-contents is released d o s e =
-      let x : HoldsText old.bytes d (ByHandle h) (place_behind h at) = read-text old.bytes h at head said behind d o s e is in
+      let x : HoldsItems texts old.bytes d (ByHandle h) (place_behind h at) = read-text old.bytes h at head said behind d o s e is in
       let same : x.object ≡ o = same_Some x.object o (sym x.is ∙ e) in
-      let now : IsTextNow old new (place_behind h at) x.table [] no_table = released x.bytes x.table x.text.stands in
+      let now : IsTextNow old new (place_behind h at) x.table [] no_table = released x.items x.table x.stands in
       subst (λ p. Becomes old new (changed d p (emptied p.value))) same
-      (container-released old new d (ByHandle h) x.object (place_behind h at) (Bytes x.bytes x.table) s.denotes x.is x.value x.at refl now.change now.text.words)
+      (container-released old new d (ByHandle h) x.object (place_behind h at) (Bytes x.items x.table) s.denotes x.is x.value x.at refl now.change now.text.words)
 
   pub vector-contents : (k : ScalarKind) → head.kind ≡ Vector k → ReleasesNumbers k old new (place_behind h at) → Empties old new h
   vector-contents k is released d o s e =
-      let x : HoldsVector old.bytes d (ByHandle h) k (place_behind h at) = read-vector old.bytes h at head said behind d o s e k is in
+      let x : HoldsItems (vectors k) old.bytes d (ByHandle h) (place_behind h at) = read-vector old.bytes h at head said behind d o s e k is in
       let same : x.object ≡ o = same_Some x.object o (sym x.is ∙ e) in
-      let now : IsNumbersNow k old new (place_behind h at) x.table [] no_table = released x.numbers x.table x.vector in
+      let now : IsNumbersNow k old new (place_behind h at) x.table [] no_table = released x.items x.table (record { stands = x.stands; values = x.values }) in
       subst (λ p. Becomes old new (changed d p (emptied p.value))) same
-      (container-released old new d (ByHandle h) x.object (place_behind h at) (Elements k x.numbers x.table) s.denotes x.is x.value x.at refl now.change now.vector.stands.words)
+      (container-released old new d (ByHandle h) x.object (place_behind h at) (Elements k x.items x.table) s.denotes x.is x.value x.at refl now.change now.vector.stands.words)
 
   pub texts-contents : head.kind ≡ TextsKind → ReleasesTexts old new (place_behind h at) → Empties old new h
   texts-contents is released d o s e =

@@ -1,9 +1,9 @@
 -- What destroys no object leaves each where it is.
-use Rattle.segment_manager.proofs.Common.{◌-◌, ◌≡◌, refl, sym, ap, not, subst, ◌∙◌, ℕ, ◌==◌, Bool, true, false, Option}
-use Rattle.segment_manager.proofs.Common.{Some, None, List, [], ◌∷◌, if◌then◌else◌, is_some, find, cond, eqb-true}
-use Rattle.segment_manager.proofs.Common.{false≢true, Extent, LiveSet, handle, resized, Refusal, NoSpace, Kind, Key}
-use Rattle.segment_manager.proofs.Common.{ByHandle, Command, Mode, Object, Directory, has_key, live, replace_object}
-use Rattle.segment_manager.proofs.Common.{Answer, Refused, refusal_of, is_object_at, Plan, met, perform, is_elementwise}
+use Rattle.segment_manager.proofs.Common.{◌≡◌, refl, sym, ap, not, subst, ◌∙◌, ℕ, ◌==◌, Bool, true, false, Option, Some}
+use Rattle.segment_manager.proofs.Common.{None, List, [], ◌∷◌, if◌then◌else◌, is_some, find, cond, eqb-true, false≢true}
+use Rattle.segment_manager.proofs.Common.{Extent, LiveSet, handle, resized, Refusal, NoSpace, Kind, Key, ByHandle}
+use Rattle.segment_manager.proofs.Common.{Command, Mode, Object, Directory, has_key, live, replace_object, Answer}
+use Rattle.segment_manager.proofs.Common.{Refused, refusal_of, is_object_at, Plan, met, perform, is_elementwise}
 use Rattle.segment_manager.proofs.Common.{IsSegment, Moves, State, plan, step, step_of_kind, LeadsOnOfKind}
 use Rattle.segment_manager.specs.Staying.{KeepsObjects, ObjectsStay}
 use Rattle.segment_manager.proofs.KeyCalls.{object-passes}

@@ -9,7 +9,7 @@ use Rattle.segment_manager.proofs.Common.{Literal, literal_of, value_of_literal,
 use Rattle.segment_manager.proofs.Common.{IsValueAt, Numbers, Object, Directory, count_of, has_good_name, is_object}
 use Rattle.segment_manager.proofs.Common.{kind_of, live, object_at, padded, value_extents, value_len, with_changed}
 use Rattle.segment_manager.proofs.Common.{perform, Answers, IsStepOfKind, State, is_read_only, step_of_kind}
-use Rattle.segment_manager.proofs.Common.{SameBut-Same}
+use Rattle.segment_manager.proofs.Common.{SameBut-Same, and_then, map, values_of}
 use Rattle.std.proofs.{Common.negsuc, Common.set, lemmas.List.length-set}
 use Rattle.seg_types.specs.Commands as asked
 use Rattle.segment_manager.specs.{declared.accessing.Place.Place, Standing.place_at}
@@ -31,6 +31,14 @@ literal-read BoolKind (pos (suc zero)) h = refl
 literal-read BoolKind (pos (suc (suc n))) h = absurd (grind arith)
 literal-read BoolKind (negsuc n) h = absurd (cc)
 literal-read k z h = ap (λ (b : Bool). let r : Result ℤ Refusal = if b then Ok z else Err OutOfRange in r) h
+
+-- the literals of values are read as them
+pub literals-read : (k : ScalarKind) (zs : List ℤ) → IsTrue (list_all (is_value k) zs) → values_of k (map (literal_of k) zs) ≡ Ok zs
+literals-read k [] h = refl
+literals-read k (z ∷ zs) h =
+    let one = literal-read k z (first (is_value k z) (list_all (is_value k) zs) h) in
+    let rest = literals-read k zs (second (is_value k z) (list_all (is_value k) zs) h) in
+    λ i. and_then (one i) (rest i)
 
 -- ---- the numbers with another among them
 

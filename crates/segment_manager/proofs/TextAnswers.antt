@@ -1,22 +1,28 @@
 -- What the calls of seg_vector ensure of the text at the place that was found, as the steps of the calls on the object's string.
-use Rattle.segment_manager.proofs.Common.{◌≡◌, refl, sym, ap, subst, ◌∙◌, ℕ, zero, suc, ◌<◌, pos, get_or, Bool, true}
-use Rattle.segment_manager.proofs.Common.{false, Option, Some, None, Result, Ok, Err, List, [], ◌∷◌, ◌++◌, arith}
-use Rattle.segment_manager.proofs.Common.{if◌then◌else◌, IsTrue, nat_le, nat_lt, slice_set, and_from, le-leb, lt-ltb}
-use Rattle.segment_manager.proofs.Common.{slice_get_past, Cut, Table, U8, Text, Refusal, NotFound, WrongKind, is_value}
-use Rattle.segment_manager.proofs.Common.{same_kind, Key, Append, Assign, Get, Quoted, Set, literal_of, Place}
-use Rattle.segment_manager.proofs.Common.{AssignsText, IsSomeText, IsTextGrown, IsTextNow, Element, Refused}
-use Rattle.segment_manager.proofs.Common.{IsBytesGrown, IsBytesNow, are_bytes, bytes_at, container_at, container_place}
-use Rattle.segment_manager.proofs.Common.{place_of_kind, sizes_at_kind, sizes_of, Value, Bytes, Object, kind_of}
-use Rattle.segment_manager.proofs.Common.{object_at, Answers, IsSegment, IsStepOfKind, State, is_read_only, StepsSafely}
+use Rattle.segment_manager.proofs.Common.{◌++◌, ◌<◌, Bool, Err, IsTrue, List, None, Ok, Option, Result, Some, [], ap}
+use Rattle.segment_manager.proofs.Common.{arith, false, get_or, if◌then◌else◌, length, map, nat_abs, nat_le, nat_lt}
+use Rattle.segment_manager.proofs.Common.{pos, refl, slice_get, subst, suc, sym, true, zero, ℕ, ◌∙◌, ◌∷◌, ◌≡◌, and_from}
+use Rattle.segment_manager.proofs.Common.{le-leb, lt-ltb, slice_get-get_or, slice_get-map, slice_get_past, option_map}
+use Rattle.segment_manager.proofs.Common.{slice_set, Cut, Table, Append, Assign, Get, Quoted, Set, literal_of, is_value}
+use Rattle.segment_manager.proofs.Common.{same_kind, Key, Text, U8, Refusal, NotFound, OutOfRange, WrongKind}
+use Rattle.segment_manager.proofs.Common.{AssignsText, IsSomeText, IsTextGrown, IsTextNow, capacity_for_text, Place}
+use Rattle.segment_manager.proofs.Common.{Done, Element, Refused, are_bytes, bytes_at, container_at, container_place}
+use Rattle.segment_manager.proofs.Common.{place_of_kind, sizes_at_kind, sizes_of, Bytes, Object, Value, kind_of}
+use Rattle.segment_manager.proofs.Common.{object_at, live, Reply, perform, Answers, IsSegment, IsStepOfKind, State}
+use Rattle.segment_manager.proofs.Common.{changed, is_read_only, StepsSafely}
 use Rattle.seg_types.specs.Commands.{Clear, Reserve, Shrink}
 use Rattle.seg_vector.specs.TextCalls.{AppendsText, ClearsText, CountsBytePlaces, CountsBytes, GetsByte, ReadsText}
 use Rattle.seg_vector.specs.TextCalls.{ReservesBytes, SetsByte, ShrinksText}
+use Rattle.segment_manager.proofs.AnyStorage.{sizes-found}
+use Rattle.segment_manager.proofs.ContentPlans.{append-plan, byte-past, byte-plan, set_byte-past, set_byte-plan}
+use Rattle.segment_manager.proofs.ContentPlans.{text-plan}
+use Rattle.segment_manager.proofs.ItemSteps.{HoldsItems, ListedGrown, ListedNow, Listing, changes-safely, clears-safely}
+use Rattle.segment_manager.proofs.ItemSteps.{grows-safely, holds-items, items-stay, one-kind, reserves-safely}
+use Rattle.segment_manager.proofs.ItemSteps.{shrinks-safely, so-too, some-items}
+use Rattle.segment_manager.proofs.Steps.{open-reading}
+use Rattle.segment_manager.proofs.Stored.{literal-read}
+use Rattle.segment_manager.proofs.Words.{first, second}
 use Rattle.segment_manager.specs.Contents.{text_bytes}
-use Rattle.segment_manager.proofs.StorageSteps.{clears-text, reserves-bytes, reserves_bytes-no_space, shrinks-text}
-use Rattle.segment_manager.proofs.TextSteps.{HoldsText, appends-bytes, appends-no_space, assigns-bytes}
-use Rattle.segment_manager.proofs.TextSteps.{assigns_bytes-no_space, gets-byte, gets_byte-past, holds-text, sets-byte}
-use Rattle.segment_manager.proofs.TextSteps.{sets_byte-past}
-use Rattle.segment_manager.proofs.{AnyStorage.sizes-found, Safely.done-so, Safely.stays, Words.first, Words.second}
 
 -- ---- bytes
 
@@ -40,49 +46,67 @@ are_bytes-set (b ∷ bs) (suc i) x h g =
 pub byte-value : (x : ℕ) → x < 256 → is_value U8 (pos x) ≡ true
 byte-value x h = and_from (nat_le 0 x) (nat_le x 255) (le-leb 0 x (omega arith)) (le-leb x 255 (omega arith))
 
--- ---- what became of a text, with its bytes below 256
+-- bytes as numbers, with another among them
+bytes-set : (bs : List ℕ) (i x : ℕ) → map nat_abs (slice_set (map pos bs) i (pos x)) ≡ slice_set bs i x
+bytes-set [] i x = refl
+bytes-set (b ∷ bs) zero x = ap (λ ys. x ∷ ys) (bytes-back bs)
+  where
+    bytes-back : (bs : List ℕ) → map nat_abs (map pos bs) ≡ bs
+    bytes-back [] = refl
+    bytes-back (b ∷ bs) = ap (λ ys. b ∷ ys) (bytes-back bs)
+bytes-set (b ∷ bs) (suc i) x = ap (λ ys. b ∷ ys) (bytes-set bs i x)
 
-bytes-now : (old new : Cut) (p : Place) (t : Table) (bs : List ℕ) (u : Table) → IsTrue (are_bytes bs) → IsTextNow old new p t bs u → IsBytesNow old new p t bs u
-bytes-now old new p t bs u small r = record { change = r.change; text = record { stands = r.text; values = small } }
+byte-got : (bs : List ℕ) (i : ℕ) (r : Option ℕ) → slice_get bs i ≡ r → slice_get (map pos bs) i ≡ option_map pos r
+byte-got bs i r e = slice_get-map pos bs i ∙ ap (option_map pos) e
 
-bytes-grown : (old new : Cut) (p : Place) (t : Table) (n : ℕ) (bs : List ℕ) → IsTrue (are_bytes bs) → IsTextGrown old new p t n bs → IsBytesGrown old new p t n bs
-bytes-grown old new p t n bs small r = record { table = r.table; grown = r.grown; now = bytes-now old new p t bs r.table small r.now }
+-- ---- texts
+
+pub text-if : (v : Value) → Text ≡ kind_of v → (bs : List ℕ) × ((t : Table) × (v ≡ Bytes bs t))
+text-if (Bytes bs t) e = (bs, (t, refl))
+text-if v e = absurd (cc)
+
+abbrev pub texts : Listing ℕ
+texts = record {
+  kind = Text;
+  each = 1;
+  spell = λ bs. bs;
+  good = are_bytes;
+  value = λ bs t. Bytes bs t;
+  only = λ v e g. text-if v (one-kind Text (kind_of v) e);
+  of_kind = λ bs t. refl;
+  held = λ bs t. refl;
+  values = λ bs t. refl;
+  sizes = λ bs t. refl;
+  storage = λ bs t. refl;
+  moved = λ bs t u. refl;
+  emptied = λ bs t. refl;
+}
+
+-- what became of a text, with its bytes below 256
+bytes-now : {old new : Cut} {p : Place} {t u : Table} {bs : List ℕ} → IsTrue (are_bytes bs) → IsTextNow old new p t bs u → ListedNow texts old new p t bs u
+bytes-now small r = record { change = r.change; stands = r.text; values = small }
+
+bytes-grown : {old new : Cut} {p : Place} {t : Table} {n : ℕ} {bs : List ℕ} → IsTrue (are_bytes bs) → IsTextGrown old new p t n bs → ListedGrown texts old new p t n bs
+bytes-grown small r = record { table = r.table; grown = r.grown; now = bytes-now small r.now }
 
 -- ---- the calls
-
--- some bytes stand there
-pub text-standing : (s : State) (key : Key) (p : Place) → IsSegment s.cut.bytes → Answers s (λ d. container_at d key Text) (Ok p) → IsSomeText s.cut.bytes p
-text-standing s key p b found =
-    let h : HoldsText s.cut.bytes b.0 key p = holds-text s.cut.bytes b.0 key p b.1.denotes (found.answers b.0 b.1) in
-    (h.bytes, (h.table, h.text.stands))
 
 -- what is read there are the bytes of the key's text
 pub reads-bytes : (s : State) (key : Key) (p : Place) (out : List ℕ) → Answers s (λ d. container_at d key Text) (Ok p) → ReadsText s.cut.bytes p out → Answers s (λ d. bytes_at d key) (Ok out)
 reads-bytes s key p out found reads = record {
   answers = λ d l.
-      let h : HoldsText s.cut.bytes d key p = holds-text s.cut.bytes d key p l.denotes (found.answers d l) in
-      ap Ok (reads h.bytes h.table h.text.stands) ∙ sym (ap text_bytes h.value)
+      let h : HoldsItems texts s.cut.bytes d key p = holds-items texts s.cut.bytes d key p l.denotes (found.answers d l) in
+      ap Ok (reads h.items h.table h.stands) ∙ sym (ap text_bytes h.value)
       ∙ sym (ap (λ (r : Option Object). elim r as (λ _. Result (List ℕ) Refusal) [ None ↦ Err NotFound | Some o ↦ text_bytes o.value ]) h.is);
 }
-
--- one of them
-module _ (s : State) (key : Key) (p : Place) (b : IsSegment s.cut.bytes) (found : Answers s (λ d. container_at d key Text) (Ok p)) where
-  pub text-got : (i x : ℕ) → GetsByte s.cut p i (Ok x) → IsStepOfKind s s key Text (Get key i) (Element U8 (pos x))
-  text-got i x a = gets-byte s key p b found i x (λ bs t h. a bs t h.stands)
-
-  pub text_got-past : (i : ℕ) (e : Refusal) → GetsByte s.cut p i (Err e) → IsStepOfKind s s key Text (Get key i) (Refused e)
-  text_got-past i e a =
-      let o : IsSomeText s.cut.bytes p = text-standing s key p b found in
-      subst (λ (r : Refusal). IsStepOfKind s s key Text (Get key i) (Refused r)) (sym (a o.0 o.1.0 o.1.1).refusal)
-      (gets_byte-past s key p b found i (λ bs t h. slice_get_past bs i (a bs t h.stands).outside))
 
 -- and so are the numbers of them and of their places
 pub text-measured : (s : State) (key : Key) (p : Place) (m n : ℕ) → Answers s (λ d. container_at d key Text) (Ok p) → CountsBytes s.cut.bytes p m → CountsBytePlaces s.cut.bytes p n
     → Answers s (λ d. sizes_at_kind d key Text) (Ok (m, n))
 text-measured s key p m n found a c = record {
   answers = λ d l.
-      let h : HoldsText s.cut.bytes d key p = holds-text s.cut.bytes d key p l.denotes (found.answers d l) in
-      (λ i. Ok (a h.bytes h.table h.text.stands i, c h.bytes h.table h.text.stands i)) ∙ sym (ap sizes_of h.value) ∙ sym (sizes-found d key Text h.object h.is (ap kind_of h.value));
+      let h : HoldsItems texts s.cut.bytes d key p = holds-items texts s.cut.bytes d key p l.denotes (found.answers d l) in
+      (λ i. Ok (a h.items h.table h.stands i, c h.items h.table h.stands i)) ∙ sym (ap sizes_of h.value) ∙ sym (sizes-found d key Text h.object h.is (ap kind_of h.value));
 }
 
 no-text : (v : Value) → same_kind Text (kind_of v) ≡ false → text_bytes v ≡ Err WrongKind
@@ -102,52 +126,58 @@ no-bytes-if why (Some o) e = no-text-if o why (same_kind Text (kind_of o.value))
 pub reads-nothing : (s : State) (key : Key) (why : Refusal) → Answers s (λ d. container_at d key Text) (Err why) → Answers s (λ d. bytes_at d key) (Err why)
 reads-nothing s key why a = record { answers = λ d l. no-bytes-if why (object_at d key) (a.answers d l) }
 
-module _ (s : State) (key : Key) (p : Place) (b : IsSegment s.cut.bytes) (found : Answers s (λ d. container_at d key Text) (Ok p)) (new : Cut) (writing : is_read_only s.mode ≡ false) where
-  some : HoldsText s.cut.bytes b.0 key p
-  some = holds-text s.cut.bytes b.0 key p b.1.denotes (found.answers b.0 b.1)
+module _ (s : State) (key : Key) (p : Place) (b : IsSegment s.cut.bytes) (found : Answers s (λ d. container_at d key Text) (Ok p)) where
+  abbrev some : HoldsItems texts s.cut.bytes b.0 key p
+  some = some-items texts s key p b found
 
   -- some bytes stand there
-  pub some-text : IsSomeText s.cut.bytes p
-  some-text = (some.bytes, (some.table, some.text.stands))
+  pub text-standing : IsSomeText s.cut.bytes p
+  text-standing = (some.items, (some.table, some.stands))
 
-  pub text-appended : (more : List ℕ) (r : Result (Unit {0}) Refusal) → IsTrue (are_bytes more) → AppendsText s.cut new p more r → StepsSafely s new key Text (Append key more) r
-  text-appended more (Ok u) small a =
-      done-so (appends-bytes s key p b found new more writing (λ bs t h. bytes-grown s.cut new p t _ (bs ++ more) (are_bytes-append bs more h.values small) (a bs t h.stands)))
-  text-appended more (Err e) small a =
-      let r = a some.bytes some.table some.text.stands in
-      stays s new key Text (Append key more) e _ r.refusal r.same (appends-no_space s key p b found more writing (λ bs t h. (a bs t h.stands).none))
+  -- one of them
+  pub text-got : (i x : ℕ) → GetsByte s.cut p i (Ok x) → IsStepOfKind s s key Text (Get key i) (Element U8 (pos x))
+  text-got i x a =
+      items-stay texts s key p b found (Get key i) (Element U8 (pos x)) (open-reading s.mode (Get key i) refl)
+      (λ d den h. ap (perform d (live d)) (byte-plan d key h.object h.items h.table h.is h.value i (pos x) (byte-got h.items i (Some x) (a h.items h.table h.stands))))
 
-  pub text-assigned : (bytes : List ℕ) (r : Result (Unit {0}) Refusal) → IsTrue (are_bytes bytes) → AssignsText s.cut new p bytes r → StepsSafely s new key Text (Assign key (Quoted bytes ∷ [])) r
-  text-assigned bytes (Ok u) small a =
-      done-so (assigns-bytes s key p b found new bytes writing (λ bs t h. bytes-grown s.cut new p t _ bytes small (a bs t h.stands)))
-  text-assigned bytes (Err e) small a =
-      let r = a some.bytes some.table some.text.stands in
-      stays s new key Text (Assign key (Quoted bytes ∷ [])) e _ r.refusal r.same (assigns_bytes-no_space s key p b found bytes writing (λ bs t h. (a bs t h.stands).none))
+  pub text_got-past : (i : ℕ) (e : Refusal) → GetsByte s.cut p i (Err e) → IsStepOfKind s s key Text (Get key i) (Refused e)
+  text_got-past i e a =
+      subst (λ (r : Refusal). IsStepOfKind s s key Text (Get key i) (Refused r)) (sym (a some.items some.table some.stands).refusal)
+      (items-stay texts s key p b found (Get key i) (Refused OutOfRange) (open-reading s.mode (Get key i) refl)
+      (λ d den h.
+      ap (perform d (live d)) (byte-past d key h.object h.items h.table h.is h.value i (byte-got h.items i None (slice_get_past h.items i (a h.items h.table h.stands).outside)))))
 
-  pub text-set : (i x : ℕ) (r : Result (Unit {0}) Refusal) → IsTrue (nat_lt x 256) → is_value U8 (pos x) ≡ true → SetsByte s.cut new p i x r → StepsSafely s new key Text (Set key i (literal_of U8 (pos x))) r
-  text-set i x (Ok u) small v a =
-      done-so (sets-byte s key p b found new i x writing v
-      (λ bs t h.
-      let r = a bs t h.stands in
-      (r.0, bytes-now s.cut new p t (slice_set bs i x) t (are_bytes-set bs i x h.values small) r.1)))
-  text-set i x (Err e) small v a =
-      let r = a some.bytes some.table some.text.stands in
-      stays s new key Text (Set key i (literal_of U8 (pos x))) e _ r.refusal r.same
-      (sets_byte-past s key p b found i x writing v (λ bs t h. slice_get_past bs i (a bs t h.stands).outside))
+  module _ (new : Cut) (writing : is_read_only s.mode ≡ false) where
+    pub text-appended : (more : List ℕ) (r : Result (Unit {0}) Refusal) → IsTrue (are_bytes more) → AppendsText s.cut new p more r → StepsSafely s new key Text (Append key more) r
+    text-appended more r small a =
+        grows-safely texts s key p b found new writing (Append key more) (λ bs t. capacity_for_text (length (bs ++ more)) t.capacity) (λ bs. bs ++ more) r
+        (λ d h. append-plan d key h.object h.items h.table h.is h.value more)
+        (λ d h. so-too _ _ _ r (a h.items h.table h.stands) (λ g. bytes-grown (are_bytes-append h.items more h.values small) g))
 
-  -- ---- places
+    pub text-assigned : (bytes : List ℕ) (r : Result (Unit {0}) Refusal) → IsTrue (are_bytes bytes) → AssignsText s.cut new p bytes r → StepsSafely s new key Text (Assign key (Quoted bytes ∷ [])) r
+    text-assigned bytes r small a =
+        grows-safely texts s key p b found new writing (Assign key (Quoted bytes ∷ [])) (λ bs t. length bytes) (λ bs. bytes) r
+        (λ d h. text-plan d key h.object h.items h.table h.is h.value (Quoted bytes ∷ []) bytes refl)
+        (λ d h. so-too _ _ _ r (a h.items h.table h.stands) (λ g. bytes-grown small g))
 
-  pub text-reserved : (n : ℕ) (r : Result (Unit {0}) Refusal) → ReservesBytes s.cut new p n r → StepsSafely s new key Text (Reserve key n) r
-  text-reserved n (Ok u) a =
-      done-so (reserves-bytes s key p b found new n writing (λ bs t h. bytes-grown s.cut new p t n bs h.values (a bs t h.stands)))
-  text-reserved n (Err e) a =
-      let r = a some.bytes some.table some.text.stands in
-      stays s new key Text (Reserve key n) e _ r.refusal r.same (reserves_bytes-no_space s key p b found n writing (λ bs t h. (a bs t h.stands).none))
+    pub text-set : (i x : ℕ) (r : Result (Unit {0}) Refusal) → IsTrue (nat_lt x 256) → is_value U8 (pos x) ≡ true → SetsByte s.cut new p i x r → StepsSafely s new key Text (Set key i (literal_of U8 (pos x))) r
+    text-set i x r small v a =
+        changes-safely texts s key p b found new writing (Set key i (literal_of U8 (pos x))) i (λ bs. slice_set bs i x) r
+        (λ d h within.
+        set_byte-plan d key h.object h.items h.table h.is h.value i (literal_of U8 (pos x)) (pos x) (pos (get_or h.items i 0)) (literal-read U8 (pos x) v)
+        (byte-got h.items i (Some (get_or h.items i 0)) (slice_get-get_or h.items i 0 within))
+        ∙ ap (λ bs. Reply Done (changed d h.object (Bytes bs h.table))) (bytes-set h.items i x))
+        (λ d h past.
+        set_byte-past d key h.object h.items h.table h.is h.value i (literal_of U8 (pos x)) (pos x) (literal-read U8 (pos x) v) (byte-got h.items i None (slice_get_past h.items i past)))
+        (λ d h. so-too _ _ _ r (a h.items h.table h.stands) (λ q. (q.0, bytes-now (are_bytes-set h.items i x h.values small) q.1)))
 
-  pub text-shrunk : ShrinksText s.cut new p → StepsSafely s new key Text (Shrink key) (Ok tt)
-  text-shrunk a =
-      done-so (shrinks-text s key p b found new writing (λ bs t h. bytes-now s.cut new p t bs _ h.values (a bs t h.stands)))
+    -- ---- places
 
-  pub text-cleared : ClearsText s.cut new p → StepsSafely s new key Text (Clear key) (Ok tt)
-  text-cleared a =
-      done-so (clears-text s key p b found new writing (λ bs t h. bytes-now s.cut new p t [] t refl (a bs t h.stands)))
+    pub text-reserved : (n : ℕ) (r : Result (Unit {0}) Refusal) → ReservesBytes s.cut new p n r → StepsSafely s new key Text (Reserve key n) r
+    text-reserved n r a = reserves-safely texts s key p b found new writing n r (λ d h. so-too _ _ _ r (a h.items h.table h.stands) (λ g. bytes-grown h.values g))
+
+    pub text-shrunk : ShrinksText s.cut new p → StepsSafely s new key Text (Shrink key) (Ok tt)
+    text-shrunk a = shrinks-safely texts s key p b found new writing (λ d h. bytes-now h.values (a h.items h.table h.stands))
+
+    pub text-cleared : ClearsText s.cut new p → StepsSafely s new key Text (Clear key) (Ok tt)
+    text-cleared a = clears-safely texts s key p b found new writing (λ d h. bytes-now refl (a h.items h.table h.stands))

@@ -17,7 +17,7 @@ use Rattle.segment_manager.proofs.{Calling.denotes-heap, Calling.denotes-live, C
 use Rattle.segment_manager.proofs.{Contained.start-place, Exchanged.denotes-container, Frame.object-roomy}
 use Rattle.segment_manager.proofs.{Here.standing, Live.IsIn, Live.live-split, ObjectLists.key-found, Refilled.HoldsAt}
 use Rattle.segment_manager.proofs.{Refilled.holds-at, Regrown.rest, Regrown.with_extents, Rewritten.value_start}
-use Rattle.segment_manager.proofs.{Rewritten.with_value, Standings.standing-room, VectorSteps.one-kind}
+use Rattle.segment_manager.proofs.{Rewritten.with_value, Standings.standing-room, ItemSteps.one-kind}
 use Rattle.segment_manager.proofs.Order.{Rising, inserted, live-rises}
 use Rattle.segment_manager.proofs.TextBlocks.{IsPartOther, found-each, others-apart, part-exchange}
 use Rattle.segment_manager.proofs.Words.{AllByRecursion-append, AllByRecursion-behind, AllByRecursion-front, first}

@@ -1,32 +1,31 @@
 -- What the calls of seg_vector ensure of the vector at the place that was found, as the steps of the calls on the object's vector.
-use Rattle.segment_manager.proofs.Common.{◌≡◌, refl, sym, ap, subst, ◌∙◌, ℕ, ◌+◌, ◌-◌, ◌<◌, ◌≤◌, ◌⊎◌, inl, inr, ℤ, Bool}
-use Rattle.segment_manager.proofs.Common.{true, false, Some, Result, Ok, Err, List, [], ◌∷◌, ◌++◌, length, map, take}
-use Rattle.segment_manager.proofs.Common.{arith, IsTrue, insert, option_map, remove, slice_get, slice_set, list_all}
-use Rattle.segment_manager.proofs.Common.{length-map, map-append, take-map, slice_get-map, Cut, live_of, Table}
-use Rattle.segment_manager.proofs.Common.{cut_table, ScalarKind, Vector, Refusal, NoSpace, OutOfRange, size_of, Key}
-use Rattle.segment_manager.proofs.Common.{Assign, Erase, Get, Insert, Pop, Push, Set, literal_of, Place}
-use Rattle.segment_manager.proofs.Common.{capacity_for_one, Assigns, IsOutside, IsSomeVector, IsVectorGrown}
-use Rattle.segment_manager.proofs.Common.{IsVectorNow, IsWithoutSpace, Mode, Element, Refused, HasNoRoom, IsNumbers}
-use Rattle.segment_manager.proofs.Common.{IsNumbersGrown, IsNumbersNow, container_at, sizes_at_kind, sizes_of, kind_of}
-use Rattle.segment_manager.proofs.Common.{Answers, IsSegment, IsStepOfKind, State, answer_of, is_read_only, StandsThere}
-use Rattle.segment_manager.proofs.Common.{StepsSafely}
-use Rattle.seg_types.specs.Commands.{Clear, Reserve, Shrink}
+use Rattle.segment_manager.proofs.Common.{◌++◌, ◌+◌, ◌-◌, ◌<◌, Bool, Err, IsTrue, List, None, Ok, Result, Some, [], ap}
+use Rattle.segment_manager.proofs.Common.{arith, false, get_or, inl, inr, length, map, pos, refl, slice_get, subst, sym}
+use Rattle.segment_manager.proofs.Common.{take, true, ℕ, ℤ, ◌∙◌, ◌∷◌, ◌≡◌, ◌≤◌, ◌⊎◌, le-ltb, lt-ltb, length-map}
+use Rattle.segment_manager.proofs.Common.{map-append, take-map, slice_get-get_or, slice_get-map, slice_get_past}
+use Rattle.segment_manager.proofs.Common.{list_all, flat_map, insert, option_map, remove, slice_set, Cut, Table, Pop}
+use Rattle.segment_manager.proofs.Common.{literal_of, value_of_literal, same_kind, size_of, Key, Vector, ScalarKind}
+use Rattle.segment_manager.proofs.Common.{Refusal, NoSpace, OutOfRange, capacity_for_one, Assigns, IsOutside}
+use Rattle.segment_manager.proofs.Common.{IsSomeVector, IsVectorGrown, IsVectorNow, IsWithoutSpace, Place, Done}
+use Rattle.segment_manager.proofs.Common.{Element, Refused, container_at, sizes_at_kind, Directory, Elements, Value}
+use Rattle.segment_manager.proofs.Common.{is_good_value, kind_of, live, Reply, perform, with_capacity, Answers}
+use Rattle.segment_manager.proofs.Common.{IsSegment, IsStepOfKind, State, answer_of, changed, effect, is_read_only}
+use Rattle.segment_manager.proofs.Common.{StandsThere, StepsSafely, Mode}
+use Rattle.seg_types.specs.Commands as asked
 use Rattle.seg_vector.specs.VectorCalls.{Clears, Counts, CountsPlaces, ErasesFrom, Gets, InsertsInto, IsVector, Pops}
 use Rattle.seg_vector.specs.VectorCalls.{Pushes, Reserves, Sets, Shrinks}
-use Rattle.segment_manager.proofs.{AnyStorage.sizes-found, Safely.AnswersSafely, Safely.done-so, Safely.stays}
-use Rattle.segment_manager.proofs.StorageSteps.{clears-vector, reserves-no_space, reserves-places, shrinks-vector}
-use Rattle.segment_manager.proofs.VectorCalls.{assigns-no_space, assigns-numbers, erases-number, erases-past}
-use Rattle.segment_manager.proofs.VectorCalls.{gets-number, gets-past, inserts-no_space, inserts-number, inserts-past}
-use Rattle.segment_manager.proofs.VectorCalls.{pops-nothing, pops-number, pushes-no_space, pushes-number, sets-number}
-use Rattle.segment_manager.proofs.VectorCalls.{sets-past}
-use Rattle.segment_manager.proofs.VectorSteps.{HoldsVector, holds-vector, stands-vector}
-use Rattle.segment_manager.proofs.Whole.{IsOfKind, of-whole, stands-whole, whole-grown, whole-insert, whole-no_room}
-use Rattle.segment_manager.proofs.Whole.{whole-now, whole-reached, whole-remove, whole-set, whole-values}
-
--- a list without elements
-none-left : {T : Type 0} (xs : List T) → length xs ≤ 0 → xs ≡ []
-none-left [] h = refl
-none-left (x ∷ xs) h = absurd (let l = h in omega arith)
+use Rattle.segment_manager.proofs.Contained.{contents-fit}
+use Rattle.segment_manager.proofs.ContentPlans.{assign-plan, erase-past, erase-plan, get-past, get-plan, insert-past}
+use Rattle.segment_manager.proofs.ContentPlans.{insert-plan, pop-empty, pop-plan, push-plan, set-past, set-plan}
+use Rattle.segment_manager.proofs.ItemSteps.{HoldsItems, ListedGrown, ListedNow, Listing, changes-safely, clears-safely}
+use Rattle.segment_manager.proofs.ItemSteps.{grows-safely, items-full, items-grown, items-measured, items-now}
+use Rattle.segment_manager.proofs.ItemSteps.{items-refused, items-stay, items-steps, reserves-safely, shrinks-safely}
+use Rattle.segment_manager.proofs.ItemSteps.{so-too, some-items, vector-only}
+use Rattle.segment_manager.proofs.Safely.{AnswersSafely, done-so}
+use Rattle.segment_manager.proofs.Steps.{open-reading, open-writing}
+use Rattle.segment_manager.proofs.Stored.{literal-read, literals-read}
+use Rattle.segment_manager.proofs.Whole.{IsOfKind, whole-insert, whole-reached, whole-remove, whole-set, whole-spelled}
+use Rattle.segment_manager.proofs.Whole.{whole-values}
 
 range-not_space : OutOfRange ≡ NoSpace → ⊥
 range-not_space e = cc
@@ -52,10 +51,6 @@ seen-at s t view key l k q p e f a = found-at s key l k q p e f (subst (λ (u : 
 
 -- why nothing was put in
 module _ {old new : Cut} {size : ℕ} where
-  inserted-why : (i : ℕ) (e : Refusal) (n m : ℕ) (t : Table) → IsOutside old new (n + 1) i e ⊎ ((i ≤ n) × IsWithoutSpace old new size m t e) → (new ≡ old) × ((e ≡ OutOfRange) ⊎ (e ≡ NoSpace))
-  inserted-why i e n m t (inl o) = (o.same, inl o.refusal)
-  inserted-why i e n m t (inr o) = (o.1.same, inr o.1.refusal)
-
   inserted-past : (i : ℕ) (e : Refusal) (n m : ℕ) (t : Table) → e ≡ OutOfRange → IsOutside old new (n + 1) i e ⊎ ((i ≤ n) × IsWithoutSpace old new size m t e) → n < i
   inserted-past i e n m t f (inl o) = let l = o.outside in omega arith
   inserted-past i e n m t f (inr o) = absurd (range-not_space (sym f ∙ o.1.refusal))
@@ -65,192 +60,193 @@ module _ {old new : Cut} {size : ℕ} where
   inserted-full i e n m t f (inr o) = o
 
 module _ {T : Type 0} (k : ScalarKind) (w : T → ℤ) (size : ℕ) (test : T → Bool) (sp : T → List ℕ) (law : IsOfKind k w size test sp) where
-  -- ---- what became of a vector of values is so of one of numbers
+  -- ---- vectors of the values
 
-  now-as : (old new : Cut) (p : Place) (t u : Table) (ys : List T) (zs : List ℤ) → map w ys ≡ zs → IsVectorNow size test sp old new p t ys u → IsNumbersNow k old new p t zs u
-  now-as old new p t u ys zs e r =
-      subst (λ (xs : List ℤ). IsNumbersNow k old new p t xs u) e (whole-now k w size test sp law old new p t u ys r.change r.vector.stands r.vector.values)
+  pub typed-only : (v : Value) → same_kind (Vector k) (kind_of v) ≡ true → IsTrue (is_good_value v) → (xs : List T) × ((t : Table) × (v ≡ Elements k (map w xs) t))
+  typed-only v e h =
+      let z : (zs : List ℤ) × ((t : Table) × (v ≡ Elements k zs t)) = vector-only k v e in
+      let good : IsTrue (is_good_value (Elements k z.0 z.1.0)) = subst (λ u. IsTrue (is_good_value u)) z.1.1 h in
+      let r : (xs : List T) × (map w xs ≡ z.0) = whole-reached k w size test sp law z.0 (contents-fit (Elements k z.0 z.1.0) _ refl good).values in
+      (r.0, (z.1.0, z.1.1 ∙ ap (λ (zs : List ℤ). Elements k zs z.1.0) (sym r.1)))
 
-  grown-as : (old new : Cut) (p : Place) (t : Table) (n m : ℕ) (ys : List T) (zs : List ℤ) → n ≡ m → map w ys ≡ zs → IsVectorGrown size test sp old new p t n ys → IsNumbersGrown k old new p t m zs
-  grown-as old new p t n m ys zs f e r =
-      subst (λ (q : ℕ). IsNumbersGrown k old new p t q zs) f
-      (subst (λ (xs : List ℤ). IsNumbersGrown k old new p t n xs) e
-      (whole-grown k w size test sp law old new p t r.table n ys r.grown r.now.change r.now.vector.stands r.now.vector.values))
+  abbrev pub typed : Listing T
+  typed = record {
+    kind = Vector k;
+    each = size;
+    spell = flat_map sp;
+    good = list_all test;
+    value = λ xs t. Elements k (map w xs) t;
+    only = typed-only;
+    of_kind = λ xs t. refl;
+    held = λ xs t. λ i. Some (record { each = sym law.long i; len = length-map xs w i; table = t; bytes = sym (whole-spelled k w size test sp law xs) i });
+    values = λ xs t. sym (whole-values k w size test sp law xs);
+    sizes = λ xs t. λ i. Ok (length-map xs w i, t.capacity);
+    storage = λ xs t. λ i. Ok (sym law.long i, length-map xs w i, t);
+    moved = λ xs t u. refl;
+    emptied = λ xs t. refl;
+  }
 
-  room-as : (old new : Cut) (t : Table) (n m : ℕ) (e : Refusal) → n ≡ m → IsWithoutSpace old new size n t e → HasNoRoom old.bytes (size_of k) m t
-  room-as old new t n m e f r = subst (λ (q : ℕ). HasNoRoom old.bytes (size_of k) q t) f (whole-no_room k w size test sp law old.bytes n t r.none)
+  now-so : {old new : Cut} {p : Place} {t u : Table} {ys : List T} → IsVectorNow size test sp old new p t ys u → ListedNow typed old new p t ys u
+  now-so r = record { change = r.change; stands = r.vector.stands; values = r.vector.values }
 
-  -- what is said of each vector of values at a place is said of each of numbers
-  of-values : (b : List ℕ) (p : Place) (P : List ℤ → Table → Type 0) → ((xs : List T) (t : Table) → IsVector size test sp b p xs t → P (map w xs) t) → (zs : List ℤ) (t : Table) → IsNumbers k b p zs t → P zs t
-  of-values b p P each = of-whole k w size test sp law b p P (λ xs t s v. each xs t (record { stands = s; values = v }))
+  grown-so : {old new : Cut} {p : Place} {t : Table} {n : ℕ} {ys : List T} → IsVectorGrown size test sp old new p t n ys → ListedGrown typed old new p t n ys
+  grown-so r = record { table = r.table; grown = r.grown; now = now-so r.now }
 
   module _ (s : State) (key : Key) (p : Place) (b : IsSegment s.cut.bytes) (found : Answers s (λ d. container_at d key (Vector k)) (Ok p)) where
+    abbrev Holds : Directory → Type 0
+    Holds d = HoldsItems typed s.cut.bytes d key p
+
+    vector : (d : Directory) (h : Holds d) → IsVector size test sp s.cut.bytes p h.items h.table
+    vector d h = record { stands = h.stands; values = h.values }
+
+    some : Holds b.0
+    some = some-items typed s key p b found
+
     -- some vector stands there
     pub some-vector : IsSomeVector size test sp s.cut.bytes p
-    some-vector =
-        let h : (zs : List ℤ) × ((t : Table) × IsNumbers k s.cut.bytes p zs t) = stands-vector s key k p b found in
-        let r : (xs : List T) × (map w xs ≡ h.0) = whole-reached k w size test sp law h.0 h.1.1.values in
-        let both = stands-whole k w size test sp law s.cut.bytes p r.0 h.1.0 (subst (λ (ys : List ℤ). IsNumbers k s.cut.bytes p ys h.1.0) (sym r.1) h.1.1) in
-        (r.0, (h.1.0, record { stands = both.0; values = both.1 }))
+    some-vector = (some.items, (some.table, vector b.0 some))
+
+    -- the index of an element, and one behind them, as their numbers have it
+    within : (xs : List T) (i : ℕ) → i < length xs → slice_get (map w xs) i ≡ Some (get_or (map w xs) i (pos 0))
+    within xs i h = slice_get-get_or (map w xs) i (pos 0) (subst (λ (n : ℕ). i < n) (sym (length-map xs w)) h)
+
+    behind : (xs : List T) (i : ℕ) → length xs ≤ i → slice_get (map w xs) i ≡ None
+    behind xs i h = slice_get_past (map w xs) i (subst (λ (n : ℕ). n ≤ i) (sym (length-map xs w)) h)
 
     -- ---- one value
 
-    pub vector-got : (i : ℕ) (r : Result T Refusal) → Gets size test sp s.cut p i r → IsStepOfKind s s key (Vector k) (Get key i) (answer_of (λ x. Element k (w x)) r)
+    pub vector-got : (i : ℕ) (r : Result T Refusal) → Gets size test sp s.cut p i r → IsStepOfKind s s key (Vector k) (asked.Get key i) (answer_of (λ x. Element k (w x)) r)
     vector-got i (Ok x) a =
-        gets-number s key k p b found i (w x) (of-values s.cut.bytes p (λ zs t. slice_get zs i ≡ Some (w x)) (λ xs t h. slice_get-map w xs i ∙ ap (option_map w) (a xs t h)))
+        items-stay typed s key p b found (asked.Get key i) (Element k (w x)) (open-reading s.mode (asked.Get key i) refl)
+        (λ d den h. ap (perform d (live d)) (get-plan d key h.object k (map w h.items) h.table h.is h.value i (w x) (slice_get-map w h.items i ∙ ap (option_map w) (a h.items h.table (vector d h)))))
     vector-got i (Err e) a =
-        let v = some-vector in
-        subst (λ (q : Refusal). IsStepOfKind s s key (Vector k) (Get key i) (Refused q)) (sym (a v.0 v.1.0 v.1.1).refusal)
-        (gets-past s key k p b found i (of-values s.cut.bytes p (λ zs t. length zs ≤ i) (λ xs t h. subst (λ (n : ℕ). n ≤ i) (sym (length-map xs w)) (a xs t h).outside)))
+        subst (λ (q : Refusal). IsStepOfKind s s key (Vector k) (asked.Get key i) (Refused q)) (sym (a some.items some.table (vector b.0 some)).refusal)
+        (items-stay typed s key p b found (asked.Get key i) (Refused OutOfRange) (open-reading s.mode (asked.Get key i) refl)
+        (λ d den h. ap (perform d (live d)) (get-past d key h.object k (map w h.items) h.table h.is h.value i (behind h.items i (a h.items h.table (vector d h)).outside))))
 
     -- ---- sizes
 
     pub vector-measured : (m n : ℕ) → Counts size test sp s.cut.bytes p m → CountsPlaces size test sp s.cut.bytes p n → Answers s (λ d. sizes_at_kind d key (Vector k)) (Ok (m, n))
-    vector-measured m n a c = record {
-      answers = λ d l.
-          let h : HoldsVector s.cut.bytes d key k p = holds-vector s.cut.bytes d key k p l.denotes (found.answers d l) in
-          let r : (m ≡ length h.numbers) × (n ≡ h.table.capacity) =
-          of-values s.cut.bytes p (λ zs t. (m ≡ length zs) × (n ≡ t.capacity)) (λ xs t v. (a xs t v ∙ sym (length-map xs w), c xs t v)) h.numbers h.table h.vector in
-          (λ i. Ok (r.0 i, r.1 i)) ∙ sym (ap sizes_of h.value) ∙ sym (sizes-found d key (Vector k) h.object h.is (ap kind_of h.value));
-    }
+    vector-measured m n a c = items-measured typed s key p b found m n (λ d h. (a h.items h.table (vector d h), c h.items h.table (vector d h)))
 
     module _ (new : Cut) (writing : is_read_only s.mode ≡ false) where
-      pub vector-set : (i : ℕ) (x : T) (r : Result (Unit {0}) Refusal) → test x ≡ true → Sets size test sp s.cut new p i x r → StepsSafely s new key (Vector k) (Set key i (literal_of k (w x))) r
-      vector-set i x (Ok u) v a =
-          done-so (sets-number s key k p b found new i (w x) writing (sym (law.values x) ∙ v)
-          (of-values s.cut.bytes p (λ zs t. (i < length zs) × IsNumbersNow k s.cut new p t (slice_set zs i (w x)) t)
-          (λ xs t h.
-          let r = a xs t h in
-          (subst (λ (n : ℕ). i < n) (sym (length-map xs w)) r.0, now-as s.cut new p t t (slice_set xs i x) (slice_set (map w xs) i (w x)) (whole-set w xs i x) r.1))))
-      vector-set i x (Err e) v a =
-          let o = some-vector in
-          let r = a o.0 o.1.0 o.1.1 in
-          stays s new key (Vector k) (Set key i (literal_of k (w x))) e _ r.refusal r.same
-          (sets-past s key k p b found i (w x) writing (sym (law.values x) ∙ v)
-          (of-values s.cut.bytes p (λ zs t. length zs ≤ i) (λ xs t h. subst (λ (n : ℕ). n ≤ i) (sym (length-map xs w)) (a xs t h).outside)))
+      as-literal : (x : T) → test x ≡ true → value_of_literal k (literal_of k (w x)) ≡ Ok (w x)
+      as-literal x v = literal-read k (w x) (sym (law.values x) ∙ v)
 
-      pub vector-erased : (i : ℕ) (r : Result (Unit {0}) Refusal) → ErasesFrom size test sp s.cut new p i r → StepsSafely s new key (Vector k) (Erase key i) r
-      vector-erased i (Ok u) a =
-          done-so (erases-number s key k p b found new i writing
-          (of-values s.cut.bytes p (λ zs t. (i < length zs) × IsNumbersNow k s.cut new p t (remove zs i) t)
-          (λ xs t h.
-          let r = a xs t h in
-          (subst (λ (n : ℕ). i < n) (sym (length-map xs w)) r.0, now-as s.cut new p t t (remove xs i) (remove (map w xs) i) (whole-remove w xs i) r.1))))
-      vector-erased i (Err e) a =
-          let o = some-vector in
-          let r = a o.0 o.1.0 o.1.1 in
-          stays s new key (Vector k) (Erase key i) e _ r.refusal r.same
-          (erases-past s key k p b found i writing
-          (of-values s.cut.bytes p (λ zs t. length zs ≤ i) (λ xs t h. subst (λ (n : ℕ). n ≤ i) (sym (length-map xs w)) (a xs t h).outside)))
+      pub vector-set : (i : ℕ) (x : T) (r : Result (Unit {0}) Refusal) → test x ≡ true → Sets size test sp s.cut new p i x r → StepsSafely s new key (Vector k) (asked.Set key i (literal_of k (w x))) r
+      vector-set i x r v a =
+          changes-safely typed s key p b found new writing (asked.Set key i (literal_of k (w x))) i (λ xs. slice_set xs i x) r
+          (λ d h in_range.
+          set-plan d key h.object k (map w h.items) h.table h.is h.value i (literal_of k (w x)) (w x) (get_or (map w h.items) i (pos 0)) (as-literal x v) (within h.items i in_range)
+          ∙ ap (λ zs. Reply Done (changed d h.object (Elements k zs h.table))) (sym (whole-set w h.items i x)))
+          (λ d h past. set-past d key h.object k (map w h.items) h.table h.is h.value i (literal_of k (w x)) (w x) (as-literal x v) (behind h.items i past))
+          (λ d h. so-too _ _ _ r (a h.items h.table (vector d h)) (λ q. (q.0, now-so q.1)))
+
+      pub vector-erased : (i : ℕ) (r : Result (Unit {0}) Refusal) → ErasesFrom size test sp s.cut new p i r → StepsSafely s new key (Vector k) (asked.Erase key i) r
+      vector-erased i r a =
+          changes-safely typed s key p b found new writing (asked.Erase key i) i (λ xs. remove xs i) r
+          (λ d h in_range.
+          erase-plan d key h.object k (map w h.items) h.table h.is h.value i (get_or (map w h.items) i (pos 0)) (within h.items i in_range)
+          ∙ ap (λ zs. Reply Done (changed d h.object (Elements k zs h.table))) (sym (whole-remove w h.items i)))
+          (λ d h past. erase-past d key h.object k (map w h.items) h.table h.is h.value i (behind h.items i past))
+          (λ d h. so-too _ _ _ r (a h.items h.table (vector d h)) (λ q. (q.0, now-so q.1)))
 
       -- ---- one more
 
-      pub vector-pushed : (x : T) (r : Result (Unit {0}) Refusal) → test x ≡ true → Pushes size test sp s.cut new p x r → StepsSafely s new key (Vector k) (Push key (literal_of k (w x))) r
-      vector-pushed x (Ok u) v a =
-          done-so (pushes-number s key k p b found new (w x) writing (sym (law.values x) ∙ v)
-          (of-values s.cut.bytes p (λ zs t. IsNumbersGrown k s.cut new p t (capacity_for_one (length zs) t.capacity) (zs ++ w x ∷ []))
-          (λ xs t h.
-          grown-as s.cut new p t (capacity_for_one (length xs) t.capacity) (capacity_for_one (length (map w xs)) t.capacity) (xs ++ x ∷ []) (map w xs ++ w x ∷ [])
-          (ap (λ (n : ℕ). capacity_for_one n t.capacity) (sym (length-map xs w))) (map-append w xs (x ∷ [])) (a xs t h))))
-      vector-pushed x (Err e) v a =
-          let o = some-vector in
-          let r = a o.0 o.1.0 o.1.1 in
-          stays s new key (Vector k) (Push key (literal_of k (w x))) e _ r.refusal r.same
-          (pushes-no_space s key k p b found (w x) writing (sym (law.values x) ∙ v)
-          (of-values s.cut.bytes p (λ zs t. HasNoRoom s.cut.bytes (size_of k) (capacity_for_one (length zs) t.capacity) t)
-          (λ xs t h.
-          room-as s.cut new t (capacity_for_one (length xs) t.capacity) (capacity_for_one (length (map w xs)) t.capacity) e
-          (ap (λ (n : ℕ). capacity_for_one n t.capacity) (sym (length-map xs w))) (a xs t h))))
+      -- a plan for one more, in words of the values
+      one-more : (d : Directory) (h : Holds d) (zs : List ℤ) (ys : List T) → map w ys ≡ zs
+          → with_capacity (size_of k) (capacity_for_one (length (map w h.items)) h.table.capacity) h.table (λ u. Reply Done (changed d h.object (Elements k zs u)))
+          ≡ with_capacity size (capacity_for_one (length h.items) h.table.capacity) h.table (λ u. Reply Done (changed d h.object (Elements k (map w ys) u)))
+      one-more d h zs ys e = λ i. with_capacity (sym law.long i) (capacity_for_one (length-map h.items w i) h.table.capacity) h.table (λ u. Reply Done (changed d h.object (Elements k (sym e i) u)))
 
-      pub vector-inserted : (i : ℕ) (x : T) (r : Result (Unit {0}) Refusal) → test x ≡ true → InsertsInto size test sp s.cut new p i x r → StepsSafely s new key (Vector k) (Insert key i (literal_of k (w x))) r
+      pub vector-pushed : (x : T) (r : Result (Unit {0}) Refusal) → test x ≡ true → Pushes size test sp s.cut new p x r → StepsSafely s new key (Vector k) (asked.Push key (literal_of k (w x))) r
+      vector-pushed x r v a =
+          grows-safely typed s key p b found new writing (asked.Push key (literal_of k (w x))) (λ xs t. capacity_for_one (length xs) t.capacity) (λ xs. xs ++ x ∷ []) r
+          (λ d h.
+          push-plan d key h.object k (map w h.items) h.table h.is h.value (literal_of k (w x)) (w x) (as-literal x v)
+          ∙ one-more d h (map w h.items ++ w x ∷ []) (h.items ++ x ∷ []) (map-append w h.items (x ∷ [])))
+          (λ d h. so-too _ _ _ r (a h.items h.table (vector d h)) (λ q. grown-so q))
+
+      insert-so : (i : ℕ) (x : T) → test x ≡ true → (d : Directory) (h : Holds d) → i ≤ length h.items
+          → effect d (asked.Insert key i (literal_of k (w x)))
+          ≡ with_capacity size (capacity_for_one (length h.items) h.table.capacity) h.table (λ u. Reply Done (changed d h.object (Elements k (map w (insert h.items i x)) u)))
+      insert-so i x v d h in_range =
+          insert-plan d key h.object k (map w h.items) h.table h.is h.value i (literal_of k (w x)) (w x) (as-literal x v)
+          (le-ltb (length (map w h.items)) i (subst (λ (n : ℕ). i ≤ n) (sym (length-map h.items w)) in_range))
+          ∙ one-more d h (insert (map w h.items) i (w x)) (insert h.items i x) (whole-insert w h.items i x)
+
+      pub vector-inserted : (i : ℕ) (x : T) (r : Result (Unit {0}) Refusal) → test x ≡ true → InsertsInto size test sp s.cut new p i x r → StepsSafely s new key (Vector k) (asked.Insert key i (literal_of k (w x))) r
       vector-inserted i x (Ok u) v a =
-          done-so (inserts-number s key k p b found new i (w x) writing (sym (law.values x) ∙ v)
-          (of-values s.cut.bytes p (λ zs t. (i ≤ length zs) × IsNumbersGrown k s.cut new p t (capacity_for_one (length zs) t.capacity) (insert zs i (w x)))
-          (λ xs t h.
-          let r = a xs t h in (
-            subst (λ (n : ℕ). i ≤ n) (sym (length-map xs w)) r.0,
-            grown-as s.cut new p t (capacity_for_one (length xs) t.capacity) (capacity_for_one (length (map w xs)) t.capacity) (insert xs i x) (insert (map w xs) i (w x))
-                (ap (λ (n : ℕ). capacity_for_one n t.capacity) (sym (length-map xs w))) (whole-insert w xs i x) r.1,
-          ))))
-      vector-inserted i x (Err e) v a = let o = some-vector in not-inserted i x e v a (inserted-why i e (length o.0) (capacity_for_one (length o.0) o.1.0.capacity) o.1.0 (a o.0 o.1.0 o.1.1))
+          done-so (items-steps typed s key p b found new (asked.Insert key i (literal_of k (w x))) Done writing
+          (λ d den h.
+          let r = a h.items h.table (vector d h) in
+          items-grown typed s.cut new d key p den h (insert h.items i x) (capacity_for_one (length h.items) h.table.capacity) (asked.Insert key i (literal_of k (w x))) Done
+          (insert-so i x v d h r.0) (grown-so r.1)))
+      vector-inserted i x (Err e) v a = not-inserted i x e v a (a some.items some.table (vector b.0 some))
         where
-          not-inserted : (i : ℕ) (x : T) (e : Refusal) → test x ≡ true → InsertsInto size test sp s.cut new p i x (Err e) → (new ≡ s.cut) × ((e ≡ OutOfRange) ⊎ (e ≡ NoSpace))
-              → StepsSafely s new key (Vector k) (Insert key i (literal_of k (w x))) (Err e)
-          not-inserted i x e v a (same, inl f) =
-              stays s new key (Vector k) (Insert key i (literal_of k (w x))) e OutOfRange f same
-              (inserts-past s key k p b found i (w x) writing (sym (law.values x) ∙ v)
-              (of-values s.cut.bytes p (λ zs t. length zs < i)
-              (λ xs t h. subst (λ (n : ℕ). n < i) (sym (length-map xs w)) (inserted-past i e (length xs) (capacity_for_one (length xs) t.capacity) t f (a xs t h)))))
-          not-inserted i x e v a (same, inr f) =
-              stays s new key (Vector k) (Insert key i (literal_of k (w x))) e NoSpace f same
-              (inserts-no_space s key k p b found i (w x) writing (sym (law.values x) ∙ v)
-              (of-values s.cut.bytes p (λ zs t. (i ≤ length zs) × HasNoRoom s.cut.bytes (size_of k) (capacity_for_one (length zs) t.capacity) t)
-              (λ xs t h.
-              let q = inserted-full i e (length xs) (capacity_for_one (length xs) t.capacity) t f (a xs t h) in (
-                subst (λ (n : ℕ). i ≤ n) (sym (length-map xs w)) q.0,
-                room-as s.cut new t (capacity_for_one (length xs) t.capacity) (capacity_for_one (length (map w xs)) t.capacity) e
-                    (ap (λ (n : ℕ). capacity_for_one n t.capacity) (sym (length-map xs w))) q.1,
-              ))))
+          not-inserted : (i : ℕ) (x : T) (e : Refusal) → test x ≡ true → InsertsInto size test sp s.cut new p i x (Err e)
+              → IsOutside s.cut new (length some.items + 1) i e ⊎ ((i ≤ length some.items) × IsWithoutSpace s.cut new size (capacity_for_one (length some.items) some.table.capacity) some.table e)
+              → StepsSafely s new key (Vector k) (asked.Insert key i (literal_of k (w x))) (Err e)
+          not-inserted i x e v a (inl o) =
+              items-refused typed s key p b found new writing (asked.Insert key i (literal_of k (w x))) e OutOfRange o.refusal o.same
+              (λ d den h.
+              let past : length h.items < i = inserted-past i e (length h.items) (capacity_for_one (length h.items) h.table.capacity) h.table o.refusal (a h.items h.table (vector d h)) in
+              ap (perform d (live d)) (insert-past d key h.object k (map w h.items) h.table h.is h.value i (literal_of k (w x)) (w x) (as-literal x v)
+              (lt-ltb (length (map w h.items)) i (subst (λ (n : ℕ). n < i) (sym (length-map h.items w)) past))))
+          not-inserted i x e v a (inr o) =
+              items-refused typed s key p b found new writing (asked.Insert key i (literal_of k (w x))) e NoSpace o.1.refusal o.1.same
+              (λ d den h.
+              let n : ℕ = capacity_for_one (length h.items) h.table.capacity in
+              let q = inserted-full i e (length h.items) n h.table o.1.refusal (a h.items h.table (vector d h)) in
+              items-full typed s key p b found new writing (asked.Insert key i (literal_of k (w x))) n (insert h.items i x) d den h (insert-so i x v d h q.0) q.1.none)
 
       -- ---- one less
 
       pub vector-popped : (r : Result T Refusal) → Pops size test sp s.cut new p r → PopsSafely s new key k w r
       vector-popped (Ok x) a = record {
-        step = pops-number s key k p b found new (w x) writing
-            (of-values s.cut.bytes p (λ zs t. (slice_get zs (length zs - 1) ≡ Some (w x)) × IsNumbersNow k s.cut new p t (take (length zs - 1) zs) t)
-            (λ xs t h.
-            let r = a xs t h in
-            let n : length (map w xs) - 1 ≡ length xs - 1 = ap (λ (n : ℕ). n - 1) (length-map xs w) in (
-              ap (λ (m : ℕ). slice_get (map w xs) m) n ∙ slice_get-map w xs (length xs - 1) ∙ ap (option_map w) r.0,
-              now-as s.cut new p t t (take (length xs - 1) xs) (take (length (map w xs) - 1) (map w xs)) (sym (take-map w (length xs - 1) xs) ∙ ap (λ (m : ℕ). take m (map w xs)) (sym n)) r.1,
-            )));
+        step = items-steps typed s key p b found new (asked.Pop key) (Element k (w x)) writing
+            (λ d den h.
+            let r = a h.items h.table (vector d h) in
+            let n : length (map w h.items) - 1 ≡ length h.items - 1 = ap (λ (n : ℕ). n - 1) (length-map h.items w) in
+            items-now typed s.cut new d key p den h (take (length h.items - 1) h.items) h.table (asked.Pop key) (Element k (w x))
+            (pop-plan d key h.object k (map w h.items) h.table h.is h.value (w x)
+            (ap (λ (m : ℕ). slice_get (map w h.items) m) n ∙ slice_get-map w h.items (length h.items - 1) ∙ ap (option_map w) r.0)
+            ∙ ap (λ zs. Reply (Element k (w x)) (changed d h.object (Elements k zs h.table)))
+            (ap (λ (m : ℕ). take m (map w h.items)) n ∙ take-map w (length h.items - 1) h.items)) (now-so r.1));
         refused = tt;
       }
       vector-popped (Err e) a =
-          let o = some-vector in
-          let r = a o.0 o.1.0 o.1.1 in
+          let r = a some.items some.table (vector b.0 some) in
           record {
-            step = subst (λ (q : Refusal). IsStepOfKind s (record s { cut = new }) key (Vector k) (Pop key) (Refused q)) (sym r.refusal)
-                (subst (λ (c : Cut). IsStepOfKind s (record s { cut = c }) key (Vector k) (Pop key) (Refused OutOfRange)) (sym r.same)
-                (pops-nothing s key k p b found writing (of-values s.cut.bytes p (λ zs t. zs ≡ []) (λ xs t h. ap (map w) (none-left xs (a xs t h).outside)))));
+            step = subst (λ (q : Refusal). IsStepOfKind s (record s { cut = new }) key (Vector k) (asked.Pop key) (Refused q)) (sym r.refusal)
+                (subst (λ (c : Cut). IsStepOfKind s (record s { cut = c }) key (Vector k) (asked.Pop key) (Refused OutOfRange)) (sym r.same)
+                (items-stay typed s key p b found (asked.Pop key) (Refused OutOfRange) (open-writing s.mode (asked.Pop key) writing)
+                (λ d den h.
+                let none : length h.items ≤ 0 = (a h.items h.table (vector d h)).outside in
+                let n : length (map w h.items) - 1 ≡ length h.items - 1 = ap (λ (n : ℕ). n - 1) (length-map h.items w) in
+                ap (perform d (live d)) (pop-empty d key h.object k (map w h.items) h.table h.is h.value
+                (ap (λ (m : ℕ). slice_get (map w h.items) m) n ∙ behind h.items (length h.items - 1) (omega arith))))));
             refused = r.same;
           }
 
       -- ---- others in the place of all
 
-      pub vector-assigned : (ys : List T) (r : Result (Unit {0}) Refusal) → IsTrue (list_all test ys) → Assigns size test sp s.cut new p ys r → StepsSafely s new key (Vector k) (Assign key (map (literal_of k) (map w ys))) r
-      vector-assigned ys (Ok u) v a =
-          done-so (assigns-numbers s key k p b found new (map w ys) writing (sym (whole-values k w size test sp law ys) ∙ v)
-          (of-values s.cut.bytes p (λ zs t. IsNumbersGrown k s.cut new p t (length (map w ys)) (map w ys))
-          (λ xs t h. grown-as s.cut new p t (length ys) (length (map w ys)) ys (map w ys) (sym (length-map ys w)) refl (a xs t h))))
-      vector-assigned ys (Err e) v a =
-          let o = some-vector in
-          let r = a o.0 o.1.0 o.1.1 in
-          stays s new key (Vector k) (Assign key (map (literal_of k) (map w ys))) e _ r.refusal r.same
-          (assigns-no_space s key k p b found (map w ys) writing (sym (whole-values k w size test sp law ys) ∙ v)
-          (of-values s.cut.bytes p (λ zs t. HasNoRoom s.cut.bytes (size_of k) (length (map w ys)) t)
-          (λ xs t h. room-as s.cut new t (length ys) (length (map w ys)) e (sym (length-map ys w)) (a xs t h))))
+      pub vector-assigned : (ys : List T) (r : Result (Unit {0}) Refusal) → IsTrue (list_all test ys) → Assigns size test sp s.cut new p ys r
+          → StepsSafely s new key (Vector k) (asked.Assign key (map (literal_of k) (map w ys))) r
+      vector-assigned ys r v a =
+          grows-safely typed s key p b found new writing (asked.Assign key (map (literal_of k) (map w ys))) (λ xs t. length ys) (λ xs. ys) r
+          (λ d h.
+          assign-plan d key h.object k (map w h.items) h.table h.is h.value (map (literal_of k) (map w ys)) (map w ys) (literals-read k (map w ys) (sym (whole-values k w size test sp law ys) ∙ v))
+          ∙ (λ i. with_capacity (sym law.long i) (length-map ys w i) h.table (λ u. Reply Done (changed d h.object (Elements k (map w ys) u)))))
+          (λ d h. so-too _ _ _ r (a h.items h.table (vector d h)) (λ q. grown-so q))
 
       -- ---- places
 
-      pub vector-reserved : (n : ℕ) (r : Result (Unit {0}) Refusal) → Reserves size test sp s.cut new p n r → StepsSafely s new key (Vector k) (Reserve key n) r
-      vector-reserved n (Ok u) a =
-          done-so (reserves-places s key k p b found new n writing
-          (of-values s.cut.bytes p (λ zs t. IsNumbersGrown k s.cut new p t n zs) (λ xs t h. grown-as s.cut new p t n n xs (map w xs) refl refl (a xs t h))))
-      vector-reserved n (Err e) a =
-          let o = some-vector in
-          let r = a o.0 o.1.0 o.1.1 in
-          stays s new key (Vector k) (Reserve key n) e _ r.refusal r.same
-          (reserves-no_space s key k p b found n writing (of-values s.cut.bytes p (λ zs t. HasNoRoom s.cut.bytes (size_of k) n t) (λ xs t h. room-as s.cut new t n n e refl (a xs t h))))
+      pub vector-reserved : (n : ℕ) (r : Result (Unit {0}) Refusal) → Reserves size test sp s.cut new p n r → StepsSafely s new key (Vector k) (asked.Reserve key n) r
+      vector-reserved n r a = reserves-safely typed s key p b found new writing n r (λ d h. so-too _ _ _ r (a h.items h.table (vector d h)) (λ q. grown-so q))
 
-      pub vector-shrunk : Shrinks size test sp s.cut new p → StepsSafely s new key (Vector k) (Shrink key) (Ok tt)
-      vector-shrunk a =
-          done-so (shrinks-vector s key k p b found new writing
-          (of-values s.cut.bytes p (λ zs t. IsNumbersNow k s.cut new p t zs (cut_table (live_of s.cut.bytes) (size_of k) (length zs) t))
-          (λ xs t h.
-          subst (λ (u : Table). IsNumbersNow k s.cut new p t (map w xs) u) (λ i. cut_table (live_of s.cut.bytes) (law.long i) (sym (length-map xs w) i) t)
-          (now-as s.cut new p t (cut_table (live_of s.cut.bytes) size (length xs) t) xs (map w xs) refl (a xs t h)))))
+      pub vector-shrunk : Shrinks size test sp s.cut new p → StepsSafely s new key (Vector k) (asked.Shrink key) (Ok tt)
+      vector-shrunk a = shrinks-safely typed s key p b found new writing (λ d h. now-so (a h.items h.table (vector d h)))
 
-      pub vector-cleared : Clears size test sp s.cut new p → StepsSafely s new key (Vector k) (Clear key) (Ok tt)
-      vector-cleared a =
-          done-so (clears-vector s key k p b found new writing (of-values s.cut.bytes p (λ zs t. IsNumbersNow k s.cut new p t [] t) (λ xs t h. now-as s.cut new p t t [] [] refl (a xs t h))))
+      pub vector-cleared : Clears size test sp s.cut new p → StepsSafely s new key (Vector k) (asked.Clear key) (Ok tt)
+      vector-cleared a = clears-safely typed s key p b found new writing (λ d h. now-so (a h.items h.table (vector d h)))

@@ -1,7 +1,7 @@
 -- The bytes are put behind the others of the string that is found.
 use Rattle.segment_manager.proofs.Common.{refl, arith, Text, Append, StepsSafely}
 use Rattle.segment_manager.proofs.{Safely.safe-refused, Safely.safe-segment, Safely.safe-step, ToChange.seen-to_change}
-use Rattle.segment_manager.proofs.TextAnswers.{fits-bytes, text-appended, some-text}
+use Rattle.segment_manager.proofs.TextAnswers.{fits-bytes, text-appended, text-standing}
 use Rattle.segment_manager.proofs.segment.Segment.string_append.Goals as goal
 use Rattle.segment_manager.proofs.segment.Segment.string_append.{Goals.After-append, Given.Over}
 
@@ -17,7 +17,7 @@ done g c =
 pub append-requires : goal.append-requires
 append-requires g c =
     let place = seen-to_change _ _ c.self.view_is _ _ _ c.in-Ok.ensures in
-    some-text _ _ _ c.self.invariant place.at c.self.inside.heap place.writing
+    text-standing _ _ _ c.self.invariant place.at
 
 pub invariant_of-self : goal.invariant_of-self
 invariant_of-self g c =

@@ -1,7 +1,7 @@
 -- The bytes are put in the place of those of the string that is found.
 use Rattle.segment_manager.proofs.Common.{refl, [], ◌∷◌, arith, Text, Assign, Quoted, StepsSafely}
 use Rattle.segment_manager.proofs.{Safely.safe-refused, Safely.safe-segment, Safely.safe-step, ToChange.seen-to_change}
-use Rattle.segment_manager.proofs.TextAnswers.{fits-bytes, text-assigned, some-text}
+use Rattle.segment_manager.proofs.TextAnswers.{fits-bytes, text-assigned, text-standing}
 use Rattle.segment_manager.proofs.segment.Segment.string_assign.Goals as goal
 use Rattle.segment_manager.proofs.segment.Segment.string_assign.{Goals.After-assign, Given.Over}
 
@@ -17,7 +17,7 @@ done g c =
 pub assign-requires : goal.assign-requires
 assign-requires g c =
     let place = seen-to_change _ _ c.self.view_is _ _ _ c.in-Ok.ensures in
-    some-text _ _ _ c.self.invariant place.at c.self.inside.heap place.writing
+    text-standing _ _ _ c.self.invariant place.at
 
 pub invariant_of-self : goal.invariant_of-self
 invariant_of-self g c =

@@ -1,7 +1,7 @@
 -- The byte is written in the string that is found.
 use Rattle.segment_manager.proofs.Common.{refl, pos, Text, lt-ltb, U8, Set, literal_of, StepsSafely}
 use Rattle.segment_manager.proofs.{Safely.safe-refused, Safely.safe-segment, Safely.safe-step, ToChange.seen-to_change}
-use Rattle.segment_manager.proofs.TextAnswers.{byte-value, text-set, some-text}
+use Rattle.segment_manager.proofs.TextAnswers.{byte-value, text-set, text-standing}
 use Rattle.segment_manager.proofs.segment.Segment.string_set.Goals as goal
 use Rattle.segment_manager.proofs.segment.Segment.string_set.{Goals.After-set, Given.Over}
 
@@ -17,7 +17,7 @@ done g c =
 pub set-requires : goal.set-requires
 set-requires g c =
     let place = seen-to_change _ _ c.self.view_is _ _ _ c.in-Ok.ensures in
-    some-text _ _ _ c.self.invariant place.at c.self.inside.heap place.writing
+    text-standing _ _ _ c.self.invariant place.at
 
 pub invariant_of-self : goal.invariant_of-self
 invariant_of-self g c =

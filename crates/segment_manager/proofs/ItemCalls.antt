@@ -11,18 +11,18 @@ use Rattle.segment_manager.proofs.Common.{Denotes, Numbers, Object, Directory, i
 use Rattle.segment_manager.proofs.Common.{with_object, object_at, IsBegunFor, IsMadeValue, class_of_index, entries_of}
 use Rattle.segment_manager.proofs.Common.{table_of, TakesItems, head_len, IsRestored, room_for, IsSegment, IsStep}
 use Rattle.segment_manager.proofs.Common.{State, StandsFor, is_read_only, effect, step, Plan, Refuse, Reply, perform}
-use Rattle.segment_manager.proofs.Common.{with_new_object}
+use Rattle.segment_manager.proofs.Common.{with_new_object, has_room, live_of}
 use Rattle.seg_types.specs.Names as names
 use Rattle.seg_types.specs.Commands as asked
 use Rattle.segment_manager.specs.Begun.{Fills, Finishes}
 use Rattle.segment_manager.proofs.{Bridge.lookup-absent, Calling.denotes-live, HeldIndexes.denotes-index}
-use Rattle.segment_manager.proofs.{KeyCalls.segment-index, MadeValues.headed-change, NewNumbers.numbers-made}
+use Rattle.segment_manager.proofs.{KeyCalls.segment-index, Loose.begun-room, MadeValues.headed-change}
 use Rattle.segment_manager.proofs.Constructed.{IsMet, IsNewObject, numbers-met, restored-denotes, IsNoObject}
-use Rattle.segment_manager.proofs.NewKeys.{key-seeks, numbers-value}
+use Rattle.segment_manager.proofs.{NewKeys.key-seeks, NewKeys.numbers-value, NewNumbers.numbers-made}
 use Rattle.segment_manager.proofs.NewValues.{IsMadeNever, IsMadeNow, away-in, key-taken, no_key-none, value-built}
 use Rattle.segment_manager.proofs.NewValues.{value-not_begun}
 use Rattle.segment_manager.proofs.Steps.{perform-new, refuses-read_only, by_no_change, by_step, lands, open-writing}
-use Rattle.segment_manager.proofs.Steps.{step-plan, step-refuse}
+use Rattle.segment_manager.proofs.Steps.{step-plan, step-refuse, step-segment}
 
 -- ---- the steps
 
@@ -240,3 +240,44 @@ module _ (S A : Type 0) (gives : S → Option A → S → Type 0) (whole : A →
       record { items = []; step = exists-step c writing t; taken = (refl, refl); unchanged = ap (λ (u : Cut). let r : State = record s { cut = u } in r) t.same }
   takes-none NoSpace c writing low t = record { items = []; step = none-step c writing low t; taken = (refl, refl); unchanged = tt }
   takes-none why c writing low t = absurd t
+
+-- ---- the same, as the segment is named before the call and the kind by the type of the items
+
+module _ (S A : Type 0) (gives : S → Option A → S → Type 0) (whole : A → ℤ) (s t : State) (view : s ≡ t) (b : IsSegment s.cut.bytes) (key : names.Key) (l k : ScalarKind) (same : l ≡ k) (count : ℕ)
+    (writing : is_read_only t.mode ≡ false) (low : 1 ≤ count) (before : S) where
+  writes : is_read_only s.mode ≡ false
+  writes = subst (λ (u : State). is_read_only u.mode ≡ false) (sym view) writing
+
+  none-taken : (why : Refusal) (c : Cut) → IsNotBegun s.cut c key (Scalar l) (size_of l * count) why → TakesItems gives whole s (record s { cut = c }) key k count before before (Err why)
+  none-taken why c not =
+      takes-none S A gives whole s key k count before why c writes low (subst (λ j. IsNotBegun s.cut c key (Scalar j) (size_of j * count) why) same not)
+
+  pub refused-segment : (why : Refusal) (c : Cut) → IsNotBegun s.cut c key (Scalar l) (size_of l * count) why → IsSegment c.bytes
+  refused-segment why c not = step-segment s (record s { cut = c }) _ _ (none-taken why c not).step b
+
+  pub refused-items : (why : Refusal) (c : Cut) (r : Result ℕ Refusal) → r ≡ Err why → IsNotBegun s.cut c key (Scalar l) (size_of l * count) why
+      → TakesItems gives whole t (record s { cut = c }) key k count before before r
+  refused-items why c r is not =
+      subst (λ (q : Result ℕ Refusal). TakesItems gives whole t (record s { cut = c }) key k count before before q) (sym is)
+      (subst (λ (u : State). TakesItems gives whole u (record s { cut = c }) key k count before before (Err why)) view (none-taken why c not))
+
+  module _ (high : count ≤ 1048576) (m : Cut) (h at : ℕ) (entry : Option NewEntry) (begun : IsBegun s.cut m key (Scalar l) count (size_of l * count) h at entry) where
+    begun-so : IsBegun s.cut m key (Scalar k) count (size_of k * count) h at entry
+    begun-so = subst (λ j. IsBegun s.cut m key (Scalar j) count (size_of j * count) h at entry) same begun
+
+    pub items-room : IsTrue (has_room (live_of m.bytes) h (at + size_of k * count))
+    items-room = begun-room entry s.cut m key (Scalar k) count (size_of k * count) h at begun-so
+
+    module _ (w : Cut) (after : S) (enough : Bool) (f : Fills gives whole m w k (h + at) count before after enough) where
+      pub items-loose : (old : Cut) × IsLoose old w h entry
+      items-loose = (s.cut, loose S A gives whole s b key k count writes low high before after entry enough m w h at begun-so f)
+
+      module _ (c : Cut) (result : Result ℕ Refusal) (fin : Finishes w c h entry enough result) where
+        finished : TakesItems gives whole s (record s { cut = c }) key k count before after result
+        finished = takes S A gives whole s b key k count writes low high before after entry enough m w c h at result begun-so f fin
+
+        pub items-segment : IsSegment c.bytes
+        items-segment = step-segment s (record s { cut = c }) _ _ finished.step b
+
+        pub items-taken : TakesItems gives whole t (record s { cut = c }) key k count before after result
+        items-taken = subst (λ (u : State). TakesItems gives whole u (record s { cut = c }) key k count before after result) view finished

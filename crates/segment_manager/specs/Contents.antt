@@ -113,24 +113,6 @@ pub record IsNumbersGrown (k : ScalarKind) (old new : Cut) (p : Place) (t : Tabl
   pub grown : grown_table (live_of old.bytes) (size_of k) n t ≡ Some table
   pub now : IsNumbersNow k old new p t zs table
 
--- ---- bytes
-
--- a text at a place has these bytes
-pub record IsBytes (b : List ℕ) (p : Place) (bs : List ℕ) (t : Table) : Type 0 where
-  pub stands : Stands b p 1 (length bs) t bs
-  pub values : IsTrue (are_bytes bs)
-
--- the text with these bytes and the table u is in the place of one with the table t
-pub record IsBytesNow (old new : Cut) (p : Place) (t : Table) (bs : List ℕ) (u : Table) : Type 0 where
-  pub change : IsExchanged current old new (place_at p) 24 (option_to_list t.extent) (option_to_list u.extent)
-  pub text : IsBytes new.bytes p bs u
-
--- it has n places, or more
-pub record IsBytesGrown (old new : Cut) (p : Place) (t : Table) (n : ℕ) (bs : List ℕ) : Type 0 where
-  pub table : Table
-  pub grown : grown_table (live_of old.bytes) 1 n t ≡ Some table
-  pub now : IsBytesNow old new p t bs table
-
 -- in either: there is no space for n places of so many bytes
 abbrev pub HasNoRoom : List ℕ → ℕ → ℕ → Table → Type 0
 HasNoRoom b each n t = grown_table (live_of b) each n t ≡ None

@@ -1,9 +1,9 @@
 -- The object is begun, filled and finished, or refused before.
-use Rattle.segment_manager.proofs.Common.{◌≡◌, sym, ap, subst, ◌∙◌, ℕ, ◌*◌, false, Err, Result, err_from_is_err_and}
-use Rattle.segment_manager.proofs.Common.{Scalar, Refusal, new_key_seen, size_of, value_of_scalar, IsBegun, IsNotBegun}
-use Rattle.segment_manager.proofs.Common.{TakesItems, State, is_read_only}
-use Rattle.segment_manager.proofs.ItemCalls.{loose, takes, takes-none, takes-nothing}
-use Rattle.segment_manager.proofs.{Loose.begun-heap, Loose.begun-room, Steps.step-segment}
+use Rattle.segment_manager.proofs.Common.{sym, ap, ◌∙◌, ◌*◌, Err, Scalar, new_key_seen, size_of, value_of_scalar, refl}
+use Rattle.segment_manager.proofs.Common.{err_from_is_err_and}
+use Rattle.segment_manager.proofs.ItemCalls.{items-loose, items-room, items-segment, items-taken, refused-items}
+use Rattle.segment_manager.proofs.ItemCalls.{refused-segment, takes-nothing}
+use Rattle.segment_manager.proofs.Loose.{begun-heap}
 use Rattle.segment_manager.proofs.segment.Segment.construct_items_of.Goals as goal
 
 pub returns-then-is_read_only : goal.returns-then-is_read_only
@@ -12,66 +12,39 @@ returns-then-is_read_only g c =
 
 pub invariant_of-self : goal.invariant_of-self
 invariant_of-self g c =
-    let s : State = record { cut = c.self.inside.heap; mode = c.self.inside.mode } in
-    let writing : is_read_only s.mode ≡ false = ap (λ (t : State). is_read_only t.mode) c.self.view_is ∙ sym c.is_read_only.ensures ∙ c.if-is_read_only.false in
-    let not : IsNotBegun s.cut c.begin_numbers.new.heap (new_key_seen c.args.key.now) (Scalar c.args.kind) (size_of c.args.kind * c.args.count) c.in_err-begun.field-0.0 =
-    c.in_err-begun.ensures in
-    step-segment s (record s { cut = c.begin_numbers.new.heap }) _ _
-    (takes-none _ _ g.I.Iterator.next_gives value_of_scalar s (new_key_seen c.args.key.now) c.args.kind c.args.count c.args.items.now c.in_err-begun.field-0.0 c.begin_numbers.new.heap writing c.requires.some not).step c.self.invariant
+    refused-segment _ _ g.I.Iterator.next_gives value_of_scalar _ _ c.self.view_is c.self.invariant (new_key_seen c.args.key.now) c.args.kind c.args.kind refl c.args.count
+    (sym c.is_read_only.ensures ∙ c.if-is_read_only.false) c.requires.some c.args.items.now c.in_err-begun.field-0.0 c.begin_numbers.new.heap c.in_err-begun.ensures
 
 pub returns-in_err-begun : goal.returns-in_err-begun
 returns-in_err-begun g c =
-    let s : State = record { cut = c.self.inside.heap; mode = c.self.inside.mode } in
-    let writing : is_read_only s.mode ≡ false = ap (λ (t : State). is_read_only t.mode) c.self.view_is ∙ sym c.is_read_only.ensures ∙ c.if-is_read_only.false in
-    let not : IsNotBegun s.cut c.begin_numbers.new.heap (new_key_seen c.args.key.now) (Scalar c.args.kind) (size_of c.args.kind * c.args.count) c.in_err-begun.field-0.0 =
-    c.in_err-begun.ensures in
     let p = err_from_is_err_and c.from_residual.result c.from_residual.ensures.1 in
-    subst (λ (r : Result ℕ Refusal). TakesItems g.I.Iterator.next_gives value_of_scalar c.args.self.now (record s { cut = c.begin_numbers.new.heap }) (new_key_seen c.args.key.now) c.args.kind c.args.count c.args.items.now c.args.items.now r) (sym (p.1 ∙ ap Err p.2))
-    (subst (λ t. TakesItems g.I.Iterator.next_gives value_of_scalar t (record s { cut = c.begin_numbers.new.heap }) (new_key_seen c.args.key.now) c.args.kind c.args.count c.args.items.now c.args.items.now (Err c.in_err-begun.field-0.0)) c.self.view_is
-    (takes-none _ _ g.I.Iterator.next_gives value_of_scalar s (new_key_seen c.args.key.now) c.args.kind c.args.count c.args.items.now c.in_err-begun.field-0.0 c.begin_numbers.new.heap writing c.requires.some not))
+    refused-items _ _ g.I.Iterator.next_gives value_of_scalar _ _ c.self.view_is c.self.invariant (new_key_seen c.args.key.now) c.args.kind c.args.kind refl c.args.count
+    (sym c.is_read_only.ensures ∙ c.if-is_read_only.false) c.requires.some c.args.items.now c.in_err-begun.field-0.0 c.begin_numbers.new.heap _ (p.1 ∙ ap Err p.2) c.in_err-begun.ensures
 
 pub fill_values-enough-requires-clause-heap : goal.fill_values-enough-requires-clause-heap
 fill_values-enough-requires-clause-heap g c =
-    let b = c.in_ok-begun.begun in begun-heap b.entry c.self.inside.heap c.begin_numbers.new.heap (new_key_seen c.args.key.now) (Scalar c.args.kind) c.args.count (size_of c.args.kind * c.args.count) b.handle b.at c.in_ok-begun.ensures
+    let b = c.in_ok-begun.begun in
+    begun-heap b.entry c.self.inside.heap c.begin_numbers.new.heap (new_key_seen c.args.key.now) (Scalar c.args.kind) c.args.count (size_of c.args.kind * c.args.count) b.handle b.at c.in_ok-begun.ensures
 
 pub fill_values-enough-requires-clause-room : goal.fill_values-enough-requires-clause-room
 fill_values-enough-requires-clause-room g c =
-    let s : State = record { cut = c.self.inside.heap; mode = c.self.inside.mode } in
-    let b = c.in_ok-begun.begun in
-    let begun : IsBegun s.cut c.begin_numbers.new.heap (new_key_seen c.args.key.now) (Scalar c.args.kind) c.args.count (size_of c.args.kind * c.args.count) b.handle b.at b.entry =
-    c.in_ok-begun.ensures in
-    begun-room b.entry s.cut c.begin_numbers.new.heap (new_key_seen c.args.key.now) (Scalar c.args.kind) c.args.count (size_of c.args.kind * c.args.count) b.handle b.at begun
+    items-room _ _ g.I.Iterator.next_gives value_of_scalar _ _ c.self.view_is c.self.invariant (new_key_seen c.args.key.now) c.args.kind c.args.kind refl c.args.count
+    (sym c.is_read_only.ensures ∙ c.if-is_read_only.false) c.requires.some c.args.items.now c.requires.few c.begin_numbers.new.heap _ _ c.in_ok-begun.begun.entry c.in_ok-begun.ensures
 
 pub finish-requires : goal.finish-requires
 finish-requires g c =
-    let s : State = record { cut = c.self.inside.heap; mode = c.self.inside.mode } in
-    let writing : is_read_only s.mode ≡ false = ap (λ (t : State). is_read_only t.mode) c.self.view_is ∙ sym c.is_read_only.ensures ∙ c.if-is_read_only.false in
-    let b = c.in_ok-begun.begun in
-    let begun : IsBegun s.cut c.begin_numbers.new.heap (new_key_seen c.args.key.now) (Scalar c.args.kind) c.args.count (size_of c.args.kind * c.args.count) b.handle b.at b.entry =
-    c.in_ok-begun.ensures in (
-      s.cut,
-      loose _ _ g.I.Iterator.next_gives value_of_scalar s c.self.invariant (new_key_seen c.args.key.now) c.args.kind c.args.count writing c.requires.some c.requires.few c.args.items.now c.fill_values-enough.new.items b.entry c.fill_values-enough.result
-          c.begin_numbers.new.heap c.fill_values-enough.new.heap b.handle b.at begun c.fill_values-enough.ensures,
-    )
+    items-loose _ _ g.I.Iterator.next_gives value_of_scalar _ _ c.self.view_is c.self.invariant (new_key_seen c.args.key.now) c.args.kind c.args.kind refl c.args.count
+    (sym c.is_read_only.ensures ∙ c.if-is_read_only.false) c.requires.some c.args.items.now c.requires.few c.begin_numbers.new.heap _ _ c.in_ok-begun.begun.entry c.in_ok-begun.ensures
+    c.fill_values-enough.new.heap c.fill_values-enough.new.items c.fill_values-enough.result c.fill_values-enough.ensures
 
 pub invariant_of-self-2 : goal.invariant_of-self-2
 invariant_of-self-2 g c =
-    let s : State = record { cut = c.self.inside.heap; mode = c.self.inside.mode } in
-    let writing : is_read_only s.mode ≡ false = ap (λ (t : State). is_read_only t.mode) c.self.view_is ∙ sym c.is_read_only.ensures ∙ c.if-is_read_only.false in
-    let b = c.in_ok-begun.begun in
-    let begun : IsBegun s.cut c.begin_numbers.new.heap (new_key_seen c.args.key.now) (Scalar c.args.kind) c.args.count (size_of c.args.kind * c.args.count) b.handle b.at b.entry =
-    c.in_ok-begun.ensures in
-    step-segment s (record s { cut = c.finish.new.heap }) _ _
-    (takes _ _ g.I.Iterator.next_gives value_of_scalar s c.self.invariant (new_key_seen c.args.key.now) c.args.kind c.args.count writing c.requires.some c.requires.few c.args.items.now c.fill_values-enough.new.items b.entry c.fill_values-enough.result
-    c.begin_numbers.new.heap c.fill_values-enough.new.heap c.finish.new.heap b.handle b.at c.finish.result begun c.fill_values-enough.ensures c.finish.ensures).step c.self.invariant
+    items-segment _ _ g.I.Iterator.next_gives value_of_scalar _ _ c.self.view_is c.self.invariant (new_key_seen c.args.key.now) c.args.kind c.args.kind refl c.args.count
+    (sym c.is_read_only.ensures ∙ c.if-is_read_only.false) c.requires.some c.args.items.now c.requires.few c.begin_numbers.new.heap _ _ c.in_ok-begun.begun.entry c.in_ok-begun.ensures
+    c.fill_values-enough.new.heap c.fill_values-enough.new.items c.fill_values-enough.result c.fill_values-enough.ensures c.finish.new.heap c.finish.result c.finish.ensures
 
 pub returns : goal.returns
 returns g c =
-    let s : State = record { cut = c.self.inside.heap; mode = c.self.inside.mode } in
-    let writing : is_read_only s.mode ≡ false = ap (λ (t : State). is_read_only t.mode) c.self.view_is ∙ sym c.is_read_only.ensures ∙ c.if-is_read_only.false in
-    let b = c.in_ok-begun.begun in
-    let begun : IsBegun s.cut c.begin_numbers.new.heap (new_key_seen c.args.key.now) (Scalar c.args.kind) c.args.count (size_of c.args.kind * c.args.count) b.handle b.at b.entry =
-    c.in_ok-begun.ensures in
-    subst (λ t. TakesItems g.I.Iterator.next_gives value_of_scalar t (record s { cut = c.finish.new.heap }) (new_key_seen c.args.key.now) c.args.kind c.args.count c.args.items.now c.fill_values-enough.new.items c.finish.result) c.self.view_is
-    (takes _ _ g.I.Iterator.next_gives value_of_scalar s c.self.invariant (new_key_seen c.args.key.now) c.args.kind c.args.count writing c.requires.some c.requires.few c.args.items.now c.fill_values-enough.new.items b.entry c.fill_values-enough.result
-    c.begin_numbers.new.heap c.fill_values-enough.new.heap c.finish.new.heap b.handle b.at c.finish.result begun c.fill_values-enough.ensures c.finish.ensures)
+    items-taken _ _ g.I.Iterator.next_gives value_of_scalar _ _ c.self.view_is c.self.invariant (new_key_seen c.args.key.now) c.args.kind c.args.kind refl c.args.count
+    (sym c.is_read_only.ensures ∙ c.if-is_read_only.false) c.requires.some c.args.items.now c.requires.few c.begin_numbers.new.heap _ _ c.in_ok-begun.begun.entry c.in_ok-begun.ensures
+    c.fill_values-enough.new.heap c.fill_values-enough.new.items c.fill_values-enough.result c.fill_values-enough.ensures c.finish.new.heap c.finish.result c.finish.ensures

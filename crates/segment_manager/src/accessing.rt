@@ -35,15 +35,10 @@ impl Segment {
         requires { O.stands key.now self.now }
         ensures { IsReplyOfKind self.now (O.key key.now) (ScalarOf T.kind) (Get (O.key key.now) index) (answer_of (λ x. Element T.kind (T.whole x)) result) }
     {
-        match self.find_element(key, T::kind(), index) {
-            Err(why) => Err(why),
-            Ok(place) => scalar_is_number::<T>(element(
-                &self.heap,
-                place.handle,
-                place.at,
-                T::SIZE,
-            )).ok_or(Refusal::WrongKind),
-        }
+        let place = self.find_element(key, T::kind(), index)?;
+        scalar_is_number::<T>(element(&self.heap, place.handle, place.at, T::SIZE)).ok_or(
+            Refusal::WrongKind,
+        )
     }
 
     /// The element at `index` in the object of a key, an object of scalars of a kind.
@@ -61,14 +56,12 @@ impl Segment {
         requires { O.stands key.now self.now }
         ensures { IsReplyOfKind self.now (O.key key.now) (ScalarOf kind) (Get (O.key key.now) index) (scalar_answer result) }
     {
-        match self.find_element(key, kind, index) {
-            Err(why) => Err(why),
-            Ok(place) => ScalarValue::read(
-                kind,
-                element(&self.heap, place.handle, place.at, kind.size()),
-            )
-            .ok_or(Refusal::WrongKind),
-        }
+        let place = self.find_element(key, kind, index)?;
+        ScalarValue::read(
+            kind,
+            element(&self.heap, place.handle, place.at, kind.size()),
+        )
+        .ok_or(Refusal::WrongKind)
     }
 
     /// Makes a value the element at `index` in the object of a key, an object of scalars of the type.
@@ -136,13 +129,9 @@ impl Segment {
         if self.is_read_only() {
             return Err(Refusal::ReadOnly);
         }
-        match self.find_element(key, kind, index) {
-            Err(why) => Err(why),
-            Ok(place) => {
-                self.heap.write(place.handle, place.at, spelling);
-                Ok(())
-            }
-        }
+        let place = self.find_element(key, kind, index)?;
+        self.heap.write(place.handle, place.at, spelling);
+        Ok(())
     }
 
     /// Where the element at `index` stands in the object of a key, an object of scalars of a kind.
@@ -158,9 +147,7 @@ impl Segment {
         let Some(handle) = key.handle_in(self) else {
             return Err(Refusal::NotFound);
         };
-        match place_of(&self.heap, handle, kind, index) {
-            Err(why) => Err(why),
-            Ok(at) => Ok(Place { handle, at }),
-        }
+        let at = place_of(&self.heap, handle, kind, index)?;
+        Ok(Place { handle, at })
     }
 }

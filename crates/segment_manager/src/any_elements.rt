@@ -24,14 +24,12 @@ impl Segment {
         requires { O.stands key.now self.now }
         ensures { Answers self.now (λ d. scalar_reply self.now.mode d (O.key key.now) (Get (O.key key.now) index)) (scalar_answer result) }
     {
-        match locate(self, key) {
-            Err(why) => Err(why),
-            Ok(object) => match object.kind {
-                Kind::Scalar(kind) => self.get_value(&object, kind, index),
-                Kind::Vector(kind) => self.get_in_vector(&object, kind, index),
-                Kind::Text => self.get_in_string(&object, index),
-                _ => Err(Refusal::WrongKind),
-            },
+        let object = locate(self, key)?;
+        match object.kind {
+            Kind::Scalar(kind) => self.get_value(&object, kind, index),
+            Kind::Vector(kind) => self.get_in_vector(&object, kind, index),
+            Kind::Text => self.get_in_string(&object, index),
+            _ => Err(Refusal::WrongKind),
         }
     }
 
@@ -59,13 +57,9 @@ impl Segment {
         requires { O.stands key.now self.now }
         ensures { IsReplyOfKind self.now (O.key key.now) TextKind (Get (O.key key.now) index) (scalar_answer result) }
     {
-        match self.find_container(key, Kind::Text) {
-            Err(why) => Err(why),
-            Ok(place) => match (SegString { place }).get(&self.heap, index) {
-                Err(why) => Err(why),
-                Ok(byte) => Ok(ScalarValue::U8(byte)),
-            },
-        }
+        let place = self.find_container(key, Kind::Text)?;
+        let byte = SegString { place }.get(&self.heap, index)?;
+        Ok(ScalarValue::U8(byte))
     }
 
     /// Makes a value the element at `index` in the vector of a key, a vector of the value's kind.
@@ -119,15 +113,13 @@ pub fn set_any<O: Target>(
     ensures step { IsStep segment.old segment.new (Set (O.key key.now) index (literal_of (kind_of_scalar value) (value_of_scalar value))) (done_answer result) }
     ensures refused { OnErr result (segment.new ≡ segment.old) }
 {
-    match locate(segment, key) {
-        Err(why) => Err(why),
-        Ok(object) => match object.kind {
-            Kind::Text => match value {
-                ScalarValue::U8(byte) => segment.string_set(&object, index, byte),
-                _ => Err(Refusal::WrongKind),
-            },
-            Kind::Vector(_) => segment.set_in_vector(&object, index, value),
-            _ => segment.set_value(&object, index, value),
+    let object = locate(segment, key)?;
+    match object.kind {
+        Kind::Text => match value {
+            ScalarValue::U8(byte) => segment.string_set(&object, index, byte),
+            _ => Err(Refusal::WrongKind),
         },
+        Kind::Vector(_) => segment.set_in_vector(&object, index, value),
+        _ => segment.set_value(&object, index, value),
     }
 }

@@ -148,10 +148,8 @@ fn construct_in<F: Filling>(heap: &mut Heap, key: &NewKey, filling: &F) -> Resul
     ensures { Constructs heap.old heap.new (Construct (new_key_seen key.now) (F.content filling.now)) handle_answer result }
 {
     let shape = filling.shape();
-    match begin(heap, key, shape.kind, shape.count, shape.len) {
-        Err(why) => Err(why),
-        Ok(begun) => build(heap, begun, filling),
-    }
+    let begun = begin(heap, key, shape.kind, shape.count, shape.len)?;
+    build(heap, begun, filling)
 }
 
 /// Fills an object that was begun, and has its entry lead there.

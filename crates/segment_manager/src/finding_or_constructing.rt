@@ -199,10 +199,8 @@ fn find_or_construct_entered<F: Filling>(
         Lookup::Found(place) => return found_of(heap, index.at(heap, place), shape.kind),
         Lookup::Absent(place) => place,
     };
-    match begin_at(heap, index, place, shape.kind, name, shape.count, shape.len) {
-        Err(why) => Err(why),
-        Ok(begun) => counted(build(heap, begun, filling), shape.count),
-    }
+    let begun = begin_at(heap, index, place, shape.kind, name, shape.count, shape.len)?;
+    counted(build(heap, begun, filling), shape.count)
 }
 
 /// A handle with the count of its object.
@@ -210,10 +208,8 @@ fn find_or_construct_entered<F: Filling>(
 pub(crate) fn counted(made: Result<Handle, Refusal>, count: u32) -> Result<(Handle, u32), Refusal>
     ensures { result ≡ with_count count made }
 {
-    match made {
-        Err(why) => Err(why),
-        Ok(handle) => Ok((handle, count)),
-    }
+    let handle = made?;
+    Ok((handle, count))
 }
 
 /// The handle of an object of a kind, and how many elements it has (1 where it is a container).

@@ -31,10 +31,8 @@ impl Segment {
         ensures { IsReplyOfKind self.now (O.key key.now) (MapOf K.kind V.kind) (Lookup (O.key key.now) (literal_of K.kind (K.whole at))) (value_answer V.kind V.whole result) }
     {
         judge(at);
-        match self.find_map::<K, V, O>(key) {
-            Err(why) => Err(why),
-            Ok(place) => Ok(SegMap::<K, V>::at(place).get(&self.heap, at, &mut Steps::new())),
-        }
+        let place = self.find_map::<K, V, O>(key)?;
+        Ok(SegMap::<K, V>::at(place).get(&self.heap, at, &mut Steps::new()))
     }
 
     /// The pair with the least key that is not below `from`, of the map of a key, a map of the types.
@@ -52,14 +50,8 @@ impl Segment {
         requires { O.stands key.now self.now }
         ensures { Answers self.now (λ d. told_of_map d (O.key key.now) K.kind V.kind (pair_from (K.whole from))) (pair_result K.whole V.whole result) }
     {
-        match self.find_map::<K, V, O>(key) {
-            Err(why) => Err(why),
-            Ok(place) => Ok(SegMap::<K, V>::at(place).first_from(
-                &self.heap,
-                from,
-                &mut Steps::new(),
-            )),
-        }
+        let place = self.find_map::<K, V, O>(key)?;
+        Ok(SegMap::<K, V>::at(place).first_from(&self.heap, from, &mut Steps::new()))
     }
 
     /// The pair with the least key above `after`, of the map of a key, a map of the types.
@@ -77,14 +69,8 @@ impl Segment {
         requires { O.stands key.now self.now }
         ensures { Answers self.now (λ d. told_of_map d (O.key key.now) K.kind V.kind (pair_above (K.whole after))) (pair_result K.whole V.whole result) }
     {
-        match self.find_map::<K, V, O>(key) {
-            Err(why) => Err(why),
-            Ok(place) => Ok(SegMap::<K, V>::at(place).next_after(
-                &self.heap,
-                after,
-                &mut Steps::new(),
-            )),
-        }
+        let place = self.find_map::<K, V, O>(key)?;
+        Ok(SegMap::<K, V>::at(place).next_after(&self.heap, after, &mut Steps::new()))
     }
 
     /// The pair with the greatest key, of the map of a key, a map of the types; `None` where it has no pair.
@@ -101,10 +87,8 @@ impl Segment {
         requires { O.stands key.now self.now }
         ensures { Answers self.now (λ d. told_of_map d (O.key key.now) K.kind V.kind pair_at_end) (pair_result K.whole V.whole result) }
     {
-        match self.find_map::<K, V, O>(key) {
-            Err(why) => Err(why),
-            Ok(place) => Ok(SegMap::<K, V>::at(place).last(&self.heap, &mut Steps::new())),
-        }
+        let place = self.find_map::<K, V, O>(key)?;
+        Ok(SegMap::<K, V>::at(place).last(&self.heap, &mut Steps::new()))
     }
 
     /// The pair with the greatest key that is not above `to`, of the map of a key, a map of the types.
@@ -122,14 +106,8 @@ impl Segment {
         requires { O.stands key.now self.now }
         ensures { Answers self.now (λ d. told_of_map d (O.key key.now) K.kind V.kind (pair_up_to (K.whole to))) (pair_result K.whole V.whole result) }
     {
-        match self.find_map::<K, V, O>(key) {
-            Err(why) => Err(why),
-            Ok(place) => Ok(SegMap::<K, V>::at(place).last_up_to(
-                &self.heap,
-                to,
-                &mut Steps::new(),
-            )),
-        }
+        let place = self.find_map::<K, V, O>(key)?;
+        Ok(SegMap::<K, V>::at(place).last_up_to(&self.heap, to, &mut Steps::new()))
     }
 
     /// The pair with the greatest key below `before`, of the map of a key, a map of the types. So all pairs are read by falling
@@ -148,14 +126,8 @@ impl Segment {
         requires { O.stands key.now self.now }
         ensures { Answers self.now (λ d. told_of_map d (O.key key.now) K.kind V.kind (pair_below (K.whole before))) (pair_result K.whole V.whole result) }
     {
-        match self.find_map::<K, V, O>(key) {
-            Err(why) => Err(why),
-            Ok(place) => Ok(SegMap::<K, V>::at(place).previous_before(
-                &self.heap,
-                before,
-                &mut Steps::new(),
-            )),
-        }
+        let place = self.find_map::<K, V, O>(key)?;
+        Ok(SegMap::<K, V>::at(place).previous_before(&self.heap, before, &mut Steps::new()))
     }
 
     /// Puts the value of a key into the map of a key, a map of the types, and answers whether the key is new. All other pairs
@@ -183,17 +155,10 @@ impl Segment {
         }
         judge(at);
         judge(value);
-        match self.find_map::<K, V, O>(key) {
-            Err(why) => Err(why),
-            Ok(place) => match SegMap::<K, V>::at(place).put(
-                &mut self.heap,
-                at,
-                value,
-                &mut Steps::new(),
-            ) {
-                Err(_) => Err(Refusal::NoSpace),
-                Ok(new) => Ok(new),
-            },
+        let place = self.find_map::<K, V, O>(key)?;
+        match SegMap::<K, V>::at(place).put(&mut self.heap, at, value, &mut Steps::new()) {
+            Err(_) => Err(Refusal::NoSpace),
+            Ok(new) => Ok(new),
         }
     }
 
@@ -221,10 +186,8 @@ impl Segment {
             return Err(Refusal::ReadOnly);
         }
         judge(at);
-        match self.find_map::<K, V, O>(key) {
-            Err(why) => Err(why),
-            Ok(place) => Ok(SegMap::<K, V>::at(place).erase(&mut self.heap, at, &mut Steps::new())),
-        }
+        let place = self.find_map::<K, V, O>(key)?;
+        Ok(SegMap::<K, V>::at(place).erase(&mut self.heap, at, &mut Steps::new()))
     }
 
     /// Where the map of a key stands, a map of the types.
@@ -236,10 +199,8 @@ impl Segment {
         requires { O.stands key.now self.now }
         ensures { Answers self.now (λ d. map_at d (O.key key.now) K.kind V.kind) result }
     {
-        match self.find_container(key, Kind::Map(K::kind(), V::kind())) {
-            Err(why) => Err(why),
-            Ok(place) => Ok(map_place(place)),
-        }
+        let place = self.find_container(key, Kind::Map(K::kind(), V::kind()))?;
+        Ok(map_place(place))
     }
 }
 

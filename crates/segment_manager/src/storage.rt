@@ -30,15 +30,13 @@ impl Segment {
         requires { O.stands key.now self.now }
         ensures { Answers self.now (λ d. sizes_at d (O.key key.now)) result }
     {
-        match locate(self, key) {
-            Err(why) => Err(why),
-            Ok(object) => match object.kind {
-                Kind::Text => self.measure_stored::<SegString, Object>(&object),
-                Kind::Texts => self.measure_stored::<SegTexts, Object>(&object),
-                Kind::Vector(element) => self.measure_elements(&object, element),
-                Kind::Map(keys, values) => self.measure_pairs(&object, keys, values),
-                _ => Err(Refusal::WrongKind),
-            },
+        let object = locate(self, key)?;
+        match object.kind {
+            Kind::Text => self.measure_stored::<SegString, Object>(&object),
+            Kind::Texts => self.measure_stored::<SegTexts, Object>(&object),
+            Kind::Vector(element) => self.measure_elements(&object, element),
+            Kind::Map(keys, values) => self.measure_pairs(&object, keys, values),
+            _ => Err(Refusal::WrongKind),
         }
     }
 
@@ -64,10 +62,8 @@ impl Segment {
         requires { O.stands key.now self.now }
         ensures { Answers self.now (λ d. sizes_at_kind d (O.key key.now) S.kind) result }
     {
-        match self.find_container(key, S::kind()) {
-            Err(why) => Err(why),
-            Ok(place) => Ok(S::sizes(&self.heap, place)),
-        }
+        let place = self.find_container(key, S::kind())?;
+        Ok(S::sizes(&self.heap, place))
     }
 
     /// The same of a map of two kinds.
@@ -80,10 +76,8 @@ impl Segment {
         requires { O.stands key.now self.now }
         ensures { Answers self.now (λ d. sizes_at_kind d (O.key key.now) (MapOf keys values)) result }
     {
-        match self.find_container(key, Kind::Map(keys, values)) {
-            Err(why) => Err(why),
-            Ok(place) => Ok((self.heap.word(place.handle, place.at + PAIRS), 0)),
-        }
+        let place = self.find_container(key, Kind::Map(keys, values))?;
+        Ok((self.heap.word(place.handle, place.at + PAIRS), 0))
     }
 
     /// Gives the vector or string of a key places for `n` elements, where it has fewer.
@@ -146,14 +140,12 @@ impl Segment {
         if self.is_read_only() {
             return Err(Refusal::ReadOnly);
         }
-        match locate(self, key) {
-            Err(why) => Err(why),
-            Ok(object) => match object.kind {
-                Kind::Text => self.change_stored::<SegString, Object>(&object, change),
-                Kind::Texts => self.change_stored::<SegTexts, Object>(&object, change),
-                Kind::Vector(element) => self.change_elements(&object, element, change),
-                _ => Err(Refusal::WrongKind),
-            },
+        let object = locate(self, key)?;
+        match object.kind {
+            Kind::Text => self.change_stored::<SegString, Object>(&object, change),
+            Kind::Texts => self.change_stored::<SegTexts, Object>(&object, change),
+            Kind::Vector(element) => self.change_elements(&object, element, change),
+            _ => Err(Refusal::WrongKind),
         }
     }
 
@@ -191,10 +183,8 @@ impl Segment {
         ensures change { ChangesStorage self.old self.new (O.key key.now) S.kind (command_of change (O.key key.now)) result }
         ensures enough { KeepsWhere self.old self.new (HasEnough change (O.key key.now)) }
     {
-        match self.find_container(key, S::kind()) {
-            Err(why) => Err(why),
-            Ok(place) => change_there::<S>(&mut self.heap, place, change),
-        }
+        let place = self.find_container(key, S::kind())?;
+        change_there::<S>(&mut self.heap, place, change)
     }
 
     /// How many elements the array of a key has, one scalar or an array of a type.
@@ -208,15 +198,11 @@ impl Segment {
         requires { O.stands key.now self.now }
         ensures { Answers self.now (λ d. array_length_at d (O.key key.now) T.kind) result }
     {
-        match locate(self, key) {
-            Err(why) => Err(why),
-            Ok(object) => {
-                if Kind::Scalar(T::kind()).code() != object.kind.code() {
-                    return Err(Refusal::WrongKind);
-                }
-                Ok(u64::from(object.count))
-            }
+        let object = locate(self, key)?;
+        if Kind::Scalar(T::kind()).code() != object.kind.code() {
+            return Err(Refusal::WrongKind);
         }
+        Ok(u64::from(object.count))
     }
 
     /// How many elements the vector of a key has, a vector of the type.
@@ -230,10 +216,8 @@ impl Segment {
         requires { O.stands key.now self.now }
         ensures { Answers self.now (λ d. length_at_kind d (O.key key.now) (VectorOf T.kind)) result }
     {
-        match self.measure_stored::<SegVec<T>, O>(key) {
-            Err(why) => Err(why),
-            Ok((len, _places)) => Ok(len),
-        }
+        let (len, _places) = self.measure_stored::<SegVec<T>, O>(key)?;
+        Ok(len)
     }
 
     /// How many texts the vector of strings of a key has.
@@ -247,10 +231,8 @@ impl Segment {
         requires { O.stands key.now self.now }
         ensures { Answers self.now (λ d. length_at_kind d (O.key key.now) TextsKind) result }
     {
-        match self.measure_stored::<SegTexts, O>(key) {
-            Err(why) => Err(why),
-            Ok((len, _places)) => Ok(len),
-        }
+        let (len, _places) = self.measure_stored::<SegTexts, O>(key)?;
+        Ok(len)
     }
 
     /// How many pairs the map of a key has, a map of the types.
@@ -264,10 +246,8 @@ impl Segment {
         requires { O.stands key.now self.now }
         ensures { Answers self.now (λ d. length_at_kind d (O.key key.now) (MapOf K.kind V.kind)) result }
     {
-        match self.measure_pairs(key, K::kind(), V::kind()) {
-            Err(why) => Err(why),
-            Ok((len, _places)) => Ok(len),
-        }
+        let (len, _places) = self.measure_pairs(key, K::kind(), V::kind())?;
+        Ok(len)
     }
 }
 

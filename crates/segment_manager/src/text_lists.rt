@@ -22,10 +22,8 @@ impl Segment {
         requires { O.stands key.now self.now }
         ensures { IsReplyOfKind self.now (O.key key.now) TextsKind (Get (O.key key.now) index) (answer_of (λ text. TextElement text.now) result) }
     {
-        match self.find_container(key, Kind::Texts) {
-            Err(why) => Err(why),
-            Ok(place) => SegTexts { place }.get(&self.heap, index),
-        }
+        let place = self.find_container(key, Kind::Texts)?;
+        SegTexts { place }.get(&self.heap, index)
     }
 
     /// Makes bytes the text at `index` in the vector of strings of a key. Its block is asked for while the old text has its own.
@@ -41,10 +39,8 @@ impl Segment {
         ensures step { IsStepOfKind self.old self.new (O.key key.now) TextsKind (Set (O.key key.now) index (Quoted text.now)) (done_answer result) }
         ensures refused { OnErr result (self.new ≡ self.old) }
     {
-        match self.find_to_change(key, Kind::Texts) {
-            Err(why) => Err(why),
-            Ok(place) => SegTexts { place }.set(&mut self.heap, index, text),
-        }
+        let place = self.find_to_change(key, Kind::Texts)?;
+        SegTexts { place }.set(&mut self.heap, index, text)
     }
 
     /// Puts bytes behind the last text of the vector of strings of a key. A full vector gets twice its places first, and at
@@ -62,10 +58,8 @@ impl Segment {
         ensures step { IsStepOfKind self.old self.new (O.key key.now) TextsKind (Push (O.key key.now) (Quoted text.now)) (done_answer result) }
         ensures refused { KeepsRefused self.old self.new result }
     {
-        match self.find_to_change(key, Kind::Texts) {
-            Err(why) => Err(why),
-            Ok(place) => SegTexts { place }.push(&mut self.heap, text),
-        }
+        let place = self.find_to_change(key, Kind::Texts)?;
+        SegTexts { place }.push(&mut self.heap, text)
     }
 
     /// Makes texts those of the vector of strings of a key. One or more get a new array of just so many places and then their
@@ -84,10 +78,8 @@ impl Segment {
         ensures refused { KeepsRefused self.old self.new result }
     {
         judge_all(texts);
-        match self.find_to_change(key, Kind::Texts) {
-            Err(why) => Err(why),
-            Ok(place) => SegTexts { place }.assign(&mut self.heap, texts),
-        }
+        let place = self.find_to_change(key, Kind::Texts)?;
+        SegTexts { place }.assign(&mut self.heap, texts)
     }
 
     /// Takes the last text out of the vector of strings of a key, and gives back its block. The places stay.
@@ -103,10 +95,8 @@ impl Segment {
         ensures step { LeadsOnOfKind self.old self.new (O.key key.now) TextsKind (Pop (O.key key.now)) (refusal_in result) }
         ensures refused { OnErr result (self.new ≡ self.old) }
     {
-        match self.find_to_change(key, Kind::Texts) {
-            Err(why) => Err(why),
-            Ok(place) => SegTexts { place }.pop(&mut self.heap),
-        }
+        let place = self.find_to_change(key, Kind::Texts)?;
+        SegTexts { place }.pop(&mut self.heap)
     }
 
     /// Puts bytes where `index` other texts stand before them in the vector of strings of a key. Those from there on move up. A
@@ -129,10 +119,8 @@ impl Segment {
         ensures step { IsStepOfKind self.old self.new (O.key key.now) TextsKind (Insert (O.key key.now) index (Quoted text.now)) (done_answer result) }
         ensures refused { KeepsRefused self.old self.new result }
     {
-        match self.find_to_change(key, Kind::Texts) {
-            Err(why) => Err(why),
-            Ok(place) => SegTexts { place }.insert(&mut self.heap, index, text),
-        }
+        let place = self.find_to_change(key, Kind::Texts)?;
+        SegTexts { place }.insert(&mut self.heap, index, text)
     }
 
     /// Leaves out the text at `index` in the vector of strings of a key, and gives back its block. Those behind it move down, and
@@ -149,10 +137,8 @@ impl Segment {
         ensures step { IsStepOfKind self.old self.new (O.key key.now) TextsKind (Erase (O.key key.now) index) (done_answer result) }
         ensures refused { OnErr result (self.new ≡ self.old) }
     {
-        match self.find_to_change(key, Kind::Texts) {
-            Err(why) => Err(why),
-            Ok(place) => SegTexts { place }.erase(&mut self.heap, index),
-        }
+        let place = self.find_to_change(key, Kind::Texts)?;
+        SegTexts { place }.erase(&mut self.heap, index)
     }
 }
 

@@ -23,10 +23,8 @@ impl Segment {
         ensures { MatchResult result (λ bytes. Answers self.now (λ d. bytes_at d (O.key key.now)) (Ok bytes.now))
             (λ why. Answers self.now (λ d. bytes_at d (O.key key.now)) (Err why)) }
     {
-        match self.find_container(key, Kind::Text) {
-            Err(why) => Err(why),
-            Ok(place) => Ok(SegString { place }.as_bytes(&self.heap)),
-        }
+        let place = self.find_container(key, Kind::Text)?;
+        Ok(SegString { place }.as_bytes(&self.heap))
     }
 
     /// Makes a byte the one at `index` in the string of a key.
@@ -42,10 +40,8 @@ impl Segment {
         ensures step { IsStepOfKind self.old self.new (O.key key.now) TextKind (Set (O.key key.now) index (literal_of ByteKind (pos byte))) (done_answer result) }
         ensures refused { OnErr result (self.new ≡ self.old) }
     {
-        match self.find_to_change(key, Kind::Text) {
-            Err(why) => Err(why),
-            Ok(place) => SegString { place }.set(&mut self.heap, index, byte),
-        }
+        let place = self.find_to_change(key, Kind::Text)?;
+        SegString { place }.set(&mut self.heap, index, byte)
     }
 
     /// Puts bytes behind those of the string of a key. Where they do not fit, it gets twice its places first, at least 16, and
@@ -62,10 +58,8 @@ impl Segment {
         ensures step { IsStepOfKind self.old self.new (O.key key.now) TextKind (Append (O.key key.now) bytes.now) (done_answer result) }
         ensures refused { OnErr result (self.new ≡ self.old) }
     {
-        match self.find_to_change(key, Kind::Text) {
-            Err(why) => Err(why),
-            Ok(place) => SegString { place }.append(&mut self.heap, bytes),
-        }
+        let place = self.find_to_change(key, Kind::Text)?;
+        SegString { place }.append(&mut self.heap, bytes)
     }
 
     /// Makes bytes those of the string of a key. Where they do not fit, it gets as many places as are needed.
@@ -81,9 +75,7 @@ impl Segment {
         ensures step { IsStepOfKind self.old self.new (O.key key.now) TextKind (Assign (O.key key.now) (Quoted bytes.now ∷ [])) (done_answer result) }
         ensures refused { OnErr result (self.new ≡ self.old) }
     {
-        match self.find_to_change(key, Kind::Text) {
-            Err(why) => Err(why),
-            Ok(place) => SegString { place }.assign(&mut self.heap, bytes),
-        }
+        let place = self.find_to_change(key, Kind::Text)?;
+        SegString { place }.assign(&mut self.heap, bytes)
     }
 }

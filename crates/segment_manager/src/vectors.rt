@@ -23,10 +23,8 @@ impl Segment {
         requires { O.stands key.now self.now }
         ensures { IsReplyOfKind self.now (O.key key.now) (VectorOf T.kind) (Get (O.key key.now) index) (answer_of (λ x. Element T.kind (T.whole x)) result) }
     {
-        match self.find_container(key, Kind::Vector(T::kind())) {
-            Err(why) => Err(why),
-            Ok(place) => SegVec::<T>::at(place).get(&self.heap, index),
-        }
+        let place = self.find_container(key, Kind::Vector(T::kind()))?;
+        SegVec::<T>::at(place).get(&self.heap, index)
     }
 
     /// Makes a value the element at `index` in the vector of a key, a vector of the type.
@@ -48,10 +46,8 @@ impl Segment {
         ensures refused { OnErr result (self.new ≡ self.old) }
     {
         judge(value);
-        match self.find_to_change(key, Kind::Vector(T::kind())) {
-            Err(why) => Err(why),
-            Ok(place) => SegVec::<T>::at(place).set(&mut self.heap, index, value),
-        }
+        let place = self.find_to_change(key, Kind::Vector(T::kind()))?;
+        SegVec::<T>::at(place).set(&mut self.heap, index, value)
     }
 
     /// Puts a value behind the last element of the vector of a key, a vector of the type. A full vector gets twice its places
@@ -69,10 +65,8 @@ impl Segment {
         ensures refused { OnErr result (self.new ≡ self.old) }
     {
         judge(value);
-        match self.find_to_change(key, Kind::Vector(T::kind())) {
-            Err(why) => Err(why),
-            Ok(place) => SegVec::<T>::at(place).push(&mut self.heap, value),
-        }
+        let place = self.find_to_change(key, Kind::Vector(T::kind()))?;
+        SegVec::<T>::at(place).push(&mut self.heap, value)
     }
 
     /// Makes values the elements of the vector of a key, a vector of the type. Where they do not fit, it gets as many places as
@@ -90,10 +84,8 @@ impl Segment {
         ensures refused { OnErr result (self.new ≡ self.old) }
     {
         judge_all(values);
-        match self.find_to_change(key, Kind::Vector(T::kind())) {
-            Err(why) => Err(why),
-            Ok(place) => SegVec::<T>::at(place).assign(&mut self.heap, values),
-        }
+        let place = self.find_to_change(key, Kind::Vector(T::kind()))?;
+        SegVec::<T>::at(place).assign(&mut self.heap, values)
     }
 
     /// Takes the last element out of the vector of a key, a vector of the type. The places stay.
@@ -109,10 +101,8 @@ impl Segment {
         ensures step { IsStepOfKind self.old self.new (O.key key.now) (VectorOf T.kind) (Pop (O.key key.now)) (answer_of (λ x. Element T.kind (T.whole x)) result) }
         ensures refused { OnErr result (self.new ≡ self.old) }
     {
-        match self.find_to_change(key, Kind::Vector(T::kind())) {
-            Err(why) => Err(why),
-            Ok(place) => SegVec::<T>::at(place).pop(&mut self.heap),
-        }
+        let place = self.find_to_change(key, Kind::Vector(T::kind()))?;
+        SegVec::<T>::at(place).pop(&mut self.heap)
     }
 
     /// Puts a value where `index` others stand before it in the vector of a key, a vector of the type. Those from there on move
@@ -136,10 +126,8 @@ impl Segment {
         ensures refused { OnErr result (self.new ≡ self.old) }
     {
         judge(value);
-        match self.find_to_change(key, Kind::Vector(T::kind())) {
-            Err(why) => Err(why),
-            Ok(place) => SegVec::<T>::at(place).insert(&mut self.heap, index, value),
-        }
+        let place = self.find_to_change(key, Kind::Vector(T::kind()))?;
+        SegVec::<T>::at(place).insert(&mut self.heap, index, value)
     }
 
     /// Leaves out the element at `index` in the vector of a key, a vector of the type. Those behind it move down, and the places
@@ -156,10 +144,8 @@ impl Segment {
         ensures step { IsStepOfKind self.old self.new (O.key key.now) (VectorOf T.kind) (Erase (O.key key.now) index) (done_answer result) }
         ensures refused { OnErr result (self.new ≡ self.old) }
     {
-        match self.find_to_change(key, Kind::Vector(T::kind())) {
-            Err(why) => Err(why),
-            Ok(place) => SegVec::<T>::at(place).erase(&mut self.heap, index),
-        }
+        let place = self.find_to_change(key, Kind::Vector(T::kind()))?;
+        SegVec::<T>::at(place).erase(&mut self.heap, index)
     }
 }
 

@@ -11,9 +11,9 @@ returns-in-U8-clause-step g c =
     let key : Key = g.O.Target.key c.args.key.now in
     let k : ScalarKind = kind_of_scalar c.args.value in
     of_kind-steps c.args.segment.now c.string_set.new.self key Text (Set key c.args.index (literal_of k (value_of_scalar c.args.value))) (done_answer c.string_set.result)
-    (subst (λ (n : Kind). Answers c.args.segment.now (λ d. kind_at d key) (Ok n)) c.in-Text.is (kind-by_key c.args.segment.now key c.in-Ok.object c.in-Ok.ensures))
+    (subst (λ (n : Kind). Answers c.args.segment.now (λ d. kind_at d key) (Ok n)) c.in-Text.is (kind-by_key c.args.segment.now key c.in_ok-object.object c.in_ok-object.ensures))
     (subst (λ (v : ScalarValue). IsStepOfKind c.args.segment.now c.string_set.new.self key Text (Set key c.args.index (literal_of (kind_of_scalar v) (value_of_scalar v))) (done_answer c.string_set.result)) (sym c.in-U8.is)
-    (step_of_kind-by_key c.args.segment.now key c.in-Ok.object c.in-Ok.ensures c.string_set.new.self Text (Set key c.args.index _) (done_answer c.string_set.result) c.string_set.ensures.step))
+    (step_of_kind-by_key c.args.segment.now key c.in_ok-object.object c.in_ok-object.ensures c.string_set.new.self Text (Set key c.args.index _) (done_answer c.string_set.result) c.string_set.ensures.step))
 
 pub returns-in-Vector-clause-step : goal.returns-in-Vector-clause-step
 returns-in-Vector-clause-step g c =
@@ -21,13 +21,13 @@ returns-in-Vector-clause-step g c =
     let k : ScalarKind = kind_of_scalar c.args.value in
     of_kind-steps c.args.segment.now c.set_in_vector.new.self key (Vector k) (Set key c.args.index (literal_of k (value_of_scalar c.args.value))) (done_answer c.set_in_vector.result)
     (vector-kind c.args.segment.now key c.in-Vector.field-0 k
-    (subst (λ (n : Kind). Answers c.args.segment.now (λ d. kind_at d key) (Ok n)) c.in-Vector.is (kind-by_key c.args.segment.now key c.in-Ok.object c.in-Ok.ensures)) c.requires.of_kind)
-    (step_of_kind-by_key c.args.segment.now key c.in-Ok.object c.in-Ok.ensures c.set_in_vector.new.self (Vector k) (Set key c.args.index (literal_of k (value_of_scalar c.args.value))) (done_answer c.set_in_vector.result) c.set_in_vector.ensures.step)
+    (subst (λ (n : Kind). Answers c.args.segment.now (λ d. kind_at d key) (Ok n)) c.in-Vector.is (kind-by_key c.args.segment.now key c.in_ok-object.object c.in_ok-object.ensures)) c.requires.of_kind)
+    (step_of_kind-by_key c.args.segment.now key c.in_ok-object.object c.in_ok-object.ensures c.set_in_vector.new.self (Vector k) (Set key c.args.index (literal_of k (value_of_scalar c.args.value))) (done_answer c.set_in_vector.result) c.set_in_vector.ensures.step)
 
 pub returns-in_default-clause-step : goal.returns-in_default-clause-step
 returns-in_default-clause-step g c =
     let key : Key = g.O.Target.key c.args.key.now in
     let k : ScalarKind = kind_of_scalar c.args.value in
     of_kind-steps c.args.segment.now c.set_value.new.self key (Scalar k) (Set key c.args.index (literal_of k (value_of_scalar c.args.value))) (done_answer c.set_value.result)
-    (scalar-kind c.args.segment.now key c.in-Ok.object.kind k (kind-by_key c.args.segment.now key c.in-Ok.object c.in-Ok.ensures) c.requires.of_kind c.in_default.not-Text c.in_default.not-Vector)
-    (step_of_kind-by_key c.args.segment.now key c.in-Ok.object c.in-Ok.ensures c.set_value.new.self (Scalar k) (Set key c.args.index (literal_of k (value_of_scalar c.args.value))) (done_answer c.set_value.result) c.set_value.ensures.step)
+    (scalar-kind c.args.segment.now key c.in_ok-object.object.kind k (kind-by_key c.args.segment.now key c.in_ok-object.object c.in_ok-object.ensures) c.requires.of_kind c.in_default.not-Text c.in_default.not-Vector)
+    (step_of_kind-by_key c.args.segment.now key c.in_ok-object.object c.in_ok-object.ensures c.set_value.new.self (Scalar k) (Set key c.args.index (literal_of k (value_of_scalar c.args.value))) (done_answer c.set_value.result) c.set_value.ensures.step)

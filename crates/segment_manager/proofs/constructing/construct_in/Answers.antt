@@ -1,5 +1,6 @@
 -- The object is begun, with the shape that its filling has, and then it is filled.
-use Rattle.segment_manager.proofs.Common.{sym, subst, Ok, Err, new_key_seen, Content, IsBegunFor, IsOfKind}
+use Rattle.segment_manager.proofs.Common.{err_from_is_err_and, sym, subst, Ok, Err, new_key_seen, Content, IsBegunFor}
+use Rattle.segment_manager.proofs.Common.{IsOfKind}
 use Rattle.segment_manager.proofs.FilledCalls.{begun-for, construct-built, construct-not_begun}
 use Rattle.segment_manager.proofs.constructing.construct_in.Goals as goal
 
@@ -9,20 +10,21 @@ begin-requires-clause-kind g c = subst (IsOfKind (new_key_seen c.args.key.now)) 
 pub build-requires-clause-begun : goal.build-requires-clause-begun
 build-requires-clause-begun g c =
     let key = new_key_seen c.args.key.now in
-    (c.args.heap.now, (c.requires.segment, (key, begun-for c.args.heap.now c.begin.new.heap key (g.F.Filling.content c.args.filling.now) c.shape-shape.result (Ok c.in-Ok.begun) c.shape-shape.ensures c.in-Ok.ensures)))
+    (c.args.heap.now, (c.requires.segment, (key, begun-for c.args.heap.now c.begin.new.heap key (g.F.Filling.content c.args.filling.now) c.shape-shape.result (Ok c.in_ok-begun.begun) c.shape-shape.ensures c.in_ok-begun.ensures)))
 
-pub returns-in-Err : goal.returns-in-Err
-returns-in-Err g c =
+pub returns-in_err-begun : goal.returns-in_err-begun
+returns-in_err-begun g c =
+    let p = err_from_is_err_and c.from_residual.result c.from_residual.ensures.1 in
+    rw (p.1, p.2) (let key = new_key_seen c.args.key.now in
+    let content : Content = g.F.Filling.content c.args.filling.now in
+    construct-not_begun c.args.heap.now c.requires.segment key content c.in_err-begun.field-0.0 c.begin.new.heap
+    (begun-for c.args.heap.now c.begin.new.heap key content c.shape-shape.result (Err c.in_err-begun.field-0.0) c.shape-shape.ensures c.in_err-begun.ensures))
+
+pub returns : goal.returns
+returns g c =
     let key = new_key_seen c.args.key.now in
     let content : Content = g.F.Filling.content c.args.filling.now in
-    construct-not_begun c.args.heap.now c.requires.segment key content c.in-Err.why c.begin.new.heap
-    (begun-for c.args.heap.now c.begin.new.heap key content c.shape-shape.result (Err c.in-Err.why) c.shape-shape.ensures c.in-Err.ensures)
-
-pub returns-in-Ok : goal.returns-in-Ok
-returns-in-Ok g c =
-    let key = new_key_seen c.args.key.now in
-    let content : Content = g.F.Filling.content c.args.filling.now in
-    let b = c.in-Ok.begun in
+    let b = c.in_ok-begun.begun in
     let begun : IsBegunFor c.args.heap.now c.begin.new.heap key content b.handle b.at b.entry =
-    begun-for c.args.heap.now c.begin.new.heap key content c.shape-shape.result (Ok b) c.shape-shape.ensures c.in-Ok.ensures in
+    begun-for c.args.heap.now c.begin.new.heap key content c.shape-shape.result (Ok b) c.shape-shape.ensures c.in_ok-begun.ensures in
     construct-built c.args.heap.now c.requires.segment key content b.entry c.begin.new.heap c.build.new.heap b.handle b.at c.build.result begun c.build.ensures

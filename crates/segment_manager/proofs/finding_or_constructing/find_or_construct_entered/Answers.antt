@@ -1,7 +1,7 @@
 -- An object is found under the entry, or made with one, or a block is refused.
-use Rattle.segment_manager.proofs.Common.{◌≡◌, sym, subst, Ok, Err, Key, Content, Write, Object, kind_of, Constructs}
-use Rattle.segment_manager.proofs.Common.{FindsOrConstructs, IsBegunFor, with_count, pair_answer, IsNewKeyOf, bare}
-use Rattle.segment_manager.proofs.Common.{StandsAt, pair_of_kind, State}
+use Rattle.segment_manager.proofs.Common.{err_from_is_err_and, ◌≡◌, sym, subst, Ok, Err, Key, Content, Write, Object}
+use Rattle.segment_manager.proofs.Common.{kind_of, Constructs, FindsOrConstructs, IsBegunFor, with_count, pair_answer}
+use Rattle.segment_manager.proofs.Common.{IsNewKeyOf, bare, StandsAt, pair_of_kind, State}
 use Rattle.seg_types.specs.Commands as asked
 use Rattle.segment_manager.proofs.FilledCalls.{begun-for, found-absent, found-all, found-built, found-not_begun}
 use Rattle.segment_manager.proofs.FilledCalls.{no-object}
@@ -51,32 +51,33 @@ build-requires-clause-begun g c =
         c.requires.segment,
         (
           key,
-          begun-for c.args.heap.now c.begin_at.new.heap key (g.F.Filling.content c.args.filling.now) c.shape-shape.result (Ok c.in-Ok.begun) is
-              (c.in-Ok.ensures key c.args.entry (subst (IsNewKeyOf c.args.index c.args.entry key c.args.name.now) (sym is.kind) c.requires.key.1) c.in-Absent.ensures.place),
+          begun-for c.args.heap.now c.begin_at.new.heap key (g.F.Filling.content c.args.filling.now) c.shape-shape.result (Ok c.in_ok-begun.begun) is
+              (c.in_ok-begun.ensures key c.args.entry (subst (IsNewKeyOf c.args.index c.args.entry key c.args.name.now) (sym is.kind) c.requires.key.1) c.in-Absent.ensures.place),
         ),
       ),
     )
 
-pub returns-in-Err : goal.returns-in-Err
-returns-in-Err g c =
-    λ key n.
+pub returns-in_err-begun : goal.returns-in_err-begun
+returns-in_err-begun g c =
+    let p = err_from_is_err_and c.from_residual.result c.from_residual.ensures.1 in
+    rw (p.1, p.2) (λ key n.
     let content : Content = g.F.Filling.content c.args.filling.now in
     let is = c.shape-shape.ensures in
     let away = c.in-Absent.ensures.place in
-    found-absent c.args.heap.now c.begin_at.new.heap c.args.index c.args.entry c.in-Absent.place key c.args.name.now (kind_of (bare content)) content (Err c.in-Err.why) n away
-    (found-not_begun c.args.heap.now c.requires.segment key content c.in-Err.why c.begin_at.new.heap
+    found-absent c.args.heap.now c.begin_at.new.heap c.args.index c.args.entry c.in-Absent.place key c.args.name.now (kind_of (bare content)) content (Err c.in_err-begun.field-0.0) n away
+    (found-not_begun c.args.heap.now c.requires.segment key content c.in_err-begun.field-0.0 c.begin_at.new.heap
     (no-object c.args.heap.now c.requires.segment c.args.index c.args.entry c.in-Absent.place key c.args.name.now (kind_of (bare content)) n away)
-    (begun-for c.args.heap.now c.begin_at.new.heap key content c.shape-shape.result (Err c.in-Err.why) is (c.in-Err.ensures key c.args.entry (subst (IsNewKeyOf c.args.index c.args.entry key c.args.name.now) (sym is.kind) n) away)))
+    (begun-for c.args.heap.now c.begin_at.new.heap key content c.shape-shape.result (Err c.in_err-begun.field-0.0) is (c.in_err-begun.ensures key c.args.entry (subst (IsNewKeyOf c.args.index c.args.entry key c.args.name.now) (sym is.kind) n) away))))
 
-pub returns-in-Ok : goal.returns-in-Ok
-returns-in-Ok g c =
+pub returns : goal.returns
+returns g c =
     λ key n.
     let content : Content = g.F.Filling.content c.args.filling.now in
     let is = c.shape-shape.ensures in
     let away = c.in-Absent.ensures.place in
-    let b = c.in-Ok.begun in
+    let b = c.in_ok-begun.begun in
     let begun : IsBegunFor c.args.heap.now c.begin_at.new.heap key content b.handle b.at b.entry =
-    begun-for c.args.heap.now c.begin_at.new.heap key content c.shape-shape.result (Ok b) is (c.in-Ok.ensures key c.args.entry (subst (IsNewKeyOf c.args.index c.args.entry key c.args.name.now) (sym is.kind) n) away) in
+    begun-for c.args.heap.now c.begin_at.new.heap key content c.shape-shape.result (Ok b) is (c.in_ok-begun.ensures key c.args.entry (subst (IsNewKeyOf c.args.index c.args.entry key c.args.name.now) (sym is.kind) n) away) in
     let built : Constructs c.args.heap.now c.build.new.heap (asked.FindOrConstruct key content) pair_answer (with_count c.shape-shape.result.count c.build.result) =
     subst (λ m. Constructs c.args.heap.now c.build.new.heap (asked.FindOrConstruct key content) pair_answer (with_count m c.build.result)) (sym is.count)
     (found-built c.args.heap.now c.requires.segment key content b.entry c.begin_at.new.heap c.build.new.heap b.handle b.at c.build.result begun c.build.ensures) in

@@ -1,5 +1,6 @@
 -- The key is erased from the map that is found.
-use Rattle.segment_manager.proofs.Common.{refl, sym, ◌∙◌, false, Ok, Map, Command, Remove, literal_of}
+use Rattle.segment_manager.proofs.Common.{err_from_is_err_and, refl, sym, ◌∙◌, false, Ok, Map, Command, Remove}
+use Rattle.segment_manager.proofs.Common.{literal_of}
 use Rattle.segment_manager.proofs.{KeptContainers.map-kept, MapAnswers.erased-there, MapAnswers.some-there}
 use Rattle.segment_manager.proofs.{MapCalls.TellsSafely, MapCalls.finds-no_map, ScalarTypes.of-map}
 use Rattle.segment_manager.proofs.Safely.{answer-refused, answer-segment, answer-step}
@@ -13,7 +14,7 @@ done : (g : Over) (c : After-erase g) → TellsSafely (record { cut = c.self.ins
     c.args.key.now) (literal_of g.K.Scalar.kind (g.K.Scalar.whole c.args.at))) (Ok c.erase.result)
 done g c =
     erased-there _ _ _ _ _ _ (of-map g.met.K.Scalar) (of-map g.met.V.Scalar) _ _ c.self.view_is _ _ _ c.at.ensures
-    c.self.invariant c.in-Ok.ensures _ (sym c.is_read_only.ensures ∙ c.if-is_read_only.false) c.args.at c.erase.result
+    c.self.invariant c.in_ok-place.ensures _ (sym c.is_read_only.ensures ∙ c.if-is_read_only.false) c.args.at c.erase.result
     c.judge.ensures c.erase.ensures.erased
 
 pub returns-then-is_read_only-clause-step : goal.returns-then-is_read_only-clause-step
@@ -24,26 +25,27 @@ returns-then-is_read_only-clause-step g c =
 pub erase-requires : goal.erase-requires
 erase-requires g c =
     some-there _ _ _ _ _ _ (of-map g.met.K.Scalar) (of-map g.met.V.Scalar) _ _ c.self.view_is _ _ _ c.at.ensures
-    c.self.invariant c.in-Ok.ensures
+    c.self.invariant c.in_ok-place.ensures
 
-pub returns-in-Err-clause-step : goal.returns-in-Err-clause-step
-returns-in-Err-clause-step g c =
-    let asked : Command = Remove (g.O.Target.key c.args.key.now) (literal_of g.K.Scalar.kind (g.K.Scalar.whole c.args.at)) in
-    finds-no_map _ _ _ _ _ _ (open-writing _ asked (sym c.is_read_only.ensures ∙ c.if-is_read_only.false)) c.in-Err.ensures
+pub returns-in_err-place-clause-step : goal.returns-in_err-place-clause-step
+returns-in_err-place-clause-step g c =
+    let p = err_from_is_err_and c.from_residual.result c.from_residual.ensures.1 in
+    rw (p.1, p.2) (let asked : Command = Remove (g.O.Target.key c.args.key.now) (literal_of g.K.Scalar.kind (g.K.Scalar.whole c.args.at)) in
+    finds-no_map _ _ _ _ _ _ (open-writing _ asked (sym c.is_read_only.ensures ∙ c.if-is_read_only.false)) c.in_err-place.ensures)
 
 pub invariant_of-self : goal.invariant_of-self
 invariant_of-self g c =
     answer-segment _ _ c.self.view_is _ _ _ _ _ (done g (goal.at.invariant_of-self g c).After-erase) c.self.invariant
 
-pub returns-in-Ok-clause-step : goal.returns-in-Ok-clause-step
-returns-in-Ok-clause-step g c =
-    answer-step _ _ c.self.view_is _ _ _ _ _ (done g (goal.at.returns-in-Ok-clause-step g c).After-erase)
+pub returns-clause-step : goal.returns-clause-step
+returns-clause-step g c =
+    answer-step _ _ c.self.view_is _ _ _ _ _ (done g (goal.at.returns-clause-step g c).After-erase)
 
-pub returns-in-Ok-clause-refused : goal.returns-in-Ok-clause-refused
-returns-in-Ok-clause-refused g c =
-    answer-refused _ _ c.self.view_is _ _ _ _ _ (done g (goal.at.returns-in-Ok-clause-refused g c).After-erase)
+pub returns-clause-refused : goal.returns-clause-refused
+returns-clause-refused g c =
+    answer-refused _ _ c.self.view_is _ _ _ _ _ (done g (goal.at.returns-clause-refused g c).After-erase)
 
-pub returns-in-Ok-clause-absent : goal.returns-in-Ok-clause-absent
-returns-in-Ok-clause-absent g c =
+pub returns-clause-absent : goal.returns-clause-absent
+returns-clause-absent g c =
     map-kept _ _ _ _ _ _ (of-map g.met.K.Scalar) (of-map g.met.V.Scalar) _ _ c.self.view_is _ _ _ c.at.ensures
-    c.in-Ok.ensures _ c.args.at c.erase.result c.erase.ensures.erased
+    c.in_ok-place.ensures _ c.args.at c.erase.result c.erase.ensures.erased

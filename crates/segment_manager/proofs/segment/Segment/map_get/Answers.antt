@@ -1,5 +1,5 @@
 -- The value is read from the map that is found.
-use Rattle.segment_manager.proofs.Common.{refl, Command, Lookup, literal_of}
+use Rattle.segment_manager.proofs.Common.{err_from_is_err_and, refl, Command, Lookup, literal_of}
 use Rattle.segment_manager.proofs.{MapAnswers.got-there, MapAnswers.some-there, MapCalls.finds-no_map}
 use Rattle.segment_manager.proofs.{ScalarTypes.of-map, Steps.open-reading, StorageSteps.step_of_kind-reply}
 use Rattle.segment_manager.proofs.segment.Segment.map_get.Goals as goal
@@ -7,14 +7,15 @@ use Rattle.segment_manager.proofs.segment.Segment.map_get.Goals as goal
 pub get-requires : goal.get-requires
 get-requires g c =
     some-there _ _ _ _ _ _ (of-map g.met.K.Scalar) (of-map g.met.V.Scalar) _ _ c.self.view_is _ _ _ c.at.ensures
-    c.self.invariant c.in-Ok.ensures
+    c.self.invariant c.in_ok-place.ensures
 
-pub returns-in-Err : goal.returns-in-Err
-returns-in-Err g c =
-    let asked : Command = Lookup (g.O.Target.key c.args.key.now) (literal_of g.K.Scalar.kind (g.K.Scalar.whole c.args.at)) in
-    step_of_kind-reply _ _ _ _ _ (finds-no_map _ _ _ _ _ _ (open-reading _ asked refl) c.in-Err.ensures)
+pub returns-in_err-place : goal.returns-in_err-place
+returns-in_err-place g c =
+    let p = err_from_is_err_and c.from_residual.result c.from_residual.ensures.1 in
+    rw (p.1, p.2) (let asked : Command = Lookup (g.O.Target.key c.args.key.now) (literal_of g.K.Scalar.kind (g.K.Scalar.whole c.args.at)) in
+    step_of_kind-reply _ _ _ _ _ (finds-no_map _ _ _ _ _ _ (open-reading _ asked refl) c.in_err-place.ensures))
 
-pub returns-in-Ok : goal.returns-in-Ok
-returns-in-Ok g c =
+pub returns : goal.returns
+returns g c =
     got-there _ _ _ _ _ _ (of-map g.met.K.Scalar) (of-map g.met.V.Scalar) _ _ c.self.view_is _ _ _ c.at.ensures
-    c.self.invariant c.in-Ok.ensures c.args.at c.get.result c.judge.ensures c.get.ensures.value
+    c.self.invariant c.in_ok-place.ensures c.args.at c.get.result c.judge.ensures c.get.ensures.value

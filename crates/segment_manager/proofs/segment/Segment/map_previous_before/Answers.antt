@@ -1,5 +1,5 @@
 -- The pair is looked for in the map that is found.
-use Rattle.segment_manager.proofs.Common.{pair_below}
+use Rattle.segment_manager.proofs.Common.{err_from_is_err_and, pair_below}
 use Rattle.segment_manager.proofs.MapAnswers.{below-there, some-there}
 use Rattle.segment_manager.proofs.{MapCalls.tells-nothing, ScalarTypes.of-map}
 use Rattle.segment_manager.proofs.segment.Segment.map_previous_before.Goals as goal
@@ -7,12 +7,14 @@ use Rattle.segment_manager.proofs.segment.Segment.map_previous_before.Goals as g
 pub previous_before-requires : goal.previous_before-requires
 previous_before-requires g c =
     some-there _ _ _ _ _ _ (of-map g.met.K.Scalar) (of-map g.met.V.Scalar) _ _ c.self.view_is _ _ _ c.at.ensures
-    c.self.invariant c.in-Ok.ensures
+    c.self.invariant c.in_ok-place.ensures
 
-pub returns-in-Err : goal.returns-in-Err
-returns-in-Err g c = tells-nothing _ _ _ _ (pair_below (g.K.Scalar.whole c.args.before)) _ c.in-Err.ensures
+pub returns-in_err-place : goal.returns-in_err-place
+returns-in_err-place g c =
+    let p = err_from_is_err_and c.from_residual.result c.from_residual.ensures.1 in
+    rw (p.1, p.2) (tells-nothing _ _ _ _ (pair_below (g.K.Scalar.whole c.args.before)) _ c.in_err-place.ensures)
 
-pub returns-in-Ok : goal.returns-in-Ok
-returns-in-Ok g c =
+pub returns : goal.returns
+returns g c =
     below-there _ _ _ _ _ _ (of-map g.met.K.Scalar) (of-map g.met.V.Scalar) _ _ c.self.view_is _ _ _ c.at.ensures
-    c.self.invariant c.in-Ok.ensures c.args.before c.previous_before.result c.previous_before.ensures.item
+    c.self.invariant c.in_ok-place.ensures c.args.before c.previous_before.result c.previous_before.ensures.item

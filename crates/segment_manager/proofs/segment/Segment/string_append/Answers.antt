@@ -1,5 +1,5 @@
 -- The bytes are put behind the others of the string that is found.
-use Rattle.segment_manager.proofs.Common.{refl, arith, Text, Append, StepsSafely}
+use Rattle.segment_manager.proofs.Common.{err_from_is_err_and, refl, arith, Text, Append, StepsSafely}
 use Rattle.segment_manager.proofs.{Safely.safe-refused, Safely.safe-segment, Safely.safe-step, ToChange.seen-to_change}
 use Rattle.segment_manager.proofs.TextAnswers.{fits-bytes, text-appended, text-standing}
 use Rattle.segment_manager.proofs.segment.Segment.string_append.Goals as goal
@@ -10,24 +10,25 @@ done : (g : Over) (c : After-append g) → StepsSafely (record { cut = c.self.in
     c.append.new.heap (g.O.Target.key c.args.key.now) Text (Append (g.O.Target.key c.args.key.now) c.args.bytes.now)
     c.append.result
 done g c =
-    let place = seen-to_change _ _ c.self.view_is _ _ _ c.in-Ok.ensures in
+    let place = seen-to_change _ _ c.self.view_is _ _ _ c.in_ok-place.ensures in
     text-appended _ _ _ c.self.invariant place.at c.append.new.heap place.writing c.args.bytes.now c.append.result
     (fits-bytes c.args.bytes.now (λ k. omega (arith, c.type_inv.bytes k))) c.append.ensures
 
 pub append-requires : goal.append-requires
 append-requires g c =
-    let place = seen-to_change _ _ c.self.view_is _ _ _ c.in-Ok.ensures in
+    let place = seen-to_change _ _ c.self.view_is _ _ _ c.in_ok-place.ensures in
     text-standing _ _ _ c.self.invariant place.at
 
 pub invariant_of-self : goal.invariant_of-self
 invariant_of-self g c =
     safe-segment _ _ c.self.view_is _ _ _ _ _ (done g (goal.at.invariant_of-self g c).After-append) c.self.invariant
 
-pub returns-in-Err-clause-step : goal.returns-in-Err-clause-step
-returns-in-Err-clause-step g c =
-    c.in-Err.ensures.refused (Append (g.O.Target.key c.args.key.now) c.args.bytes.now) refl
+pub returns-in_err-place-clause-step : goal.returns-in_err-place-clause-step
+returns-in_err-place-clause-step g c =
+    let p = err_from_is_err_and c.from_residual.result c.from_residual.ensures.1 in
+    rw (p.1, p.2) (c.in_err-place.ensures.refused (Append (g.O.Target.key c.args.key.now) c.args.bytes.now) refl)
 
-pub returns-in-Ok : goal.returns-in-Ok
-returns-in-Ok g c =
-    let d = done g (goal.at.returns-in-Ok g c).After-append in
+pub returns : goal.returns
+returns g c =
+    let d = done g (goal.at.returns g c).After-append in
     record { step = safe-step _ _ c.self.view_is _ _ _ _ _ d; refused = safe-refused _ _ c.self.view_is _ _ _ _ _ d }

@@ -1,5 +1,5 @@
 -- The bytes are put in the place of those of the string that is found.
-use Rattle.segment_manager.proofs.Common.{refl, [], ◌∷◌, arith, Text, Assign, Quoted, StepsSafely}
+use Rattle.segment_manager.proofs.Common.{err_from_is_err_and, refl, [], ◌∷◌, arith, Text, Assign, Quoted, StepsSafely}
 use Rattle.segment_manager.proofs.{Safely.safe-refused, Safely.safe-segment, Safely.safe-step, ToChange.seen-to_change}
 use Rattle.segment_manager.proofs.TextAnswers.{fits-bytes, text-assigned, text-standing}
 use Rattle.segment_manager.proofs.segment.Segment.string_assign.Goals as goal
@@ -10,24 +10,25 @@ done : (g : Over) (c : After-assign g) → StepsSafely (record { cut = c.self.in
     c.assign.new.heap (g.O.Target.key c.args.key.now) Text (Assign (g.O.Target.key c.args.key.now) (Quoted
     c.args.bytes.now ∷ [])) c.assign.result
 done g c =
-    let place = seen-to_change _ _ c.self.view_is _ _ _ c.in-Ok.ensures in
+    let place = seen-to_change _ _ c.self.view_is _ _ _ c.in_ok-place.ensures in
     text-assigned _ _ _ c.self.invariant place.at c.assign.new.heap place.writing c.args.bytes.now c.assign.result
     (fits-bytes c.args.bytes.now (λ k. omega (arith, c.type_inv.bytes k))) c.assign.ensures
 
 pub assign-requires : goal.assign-requires
 assign-requires g c =
-    let place = seen-to_change _ _ c.self.view_is _ _ _ c.in-Ok.ensures in
+    let place = seen-to_change _ _ c.self.view_is _ _ _ c.in_ok-place.ensures in
     text-standing _ _ _ c.self.invariant place.at
 
 pub invariant_of-self : goal.invariant_of-self
 invariant_of-self g c =
     safe-segment _ _ c.self.view_is _ _ _ _ _ (done g (goal.at.invariant_of-self g c).After-assign) c.self.invariant
 
-pub returns-in-Err-clause-step : goal.returns-in-Err-clause-step
-returns-in-Err-clause-step g c =
-    c.in-Err.ensures.refused (Assign (g.O.Target.key c.args.key.now) (Quoted c.args.bytes.now ∷ [])) refl
+pub returns-in_err-place-clause-step : goal.returns-in_err-place-clause-step
+returns-in_err-place-clause-step g c =
+    let p = err_from_is_err_and c.from_residual.result c.from_residual.ensures.1 in
+    rw (p.1, p.2) (c.in_err-place.ensures.refused (Assign (g.O.Target.key c.args.key.now) (Quoted c.args.bytes.now ∷ [])) refl)
 
-pub returns-in-Ok : goal.returns-in-Ok
-returns-in-Ok g c =
-    let d = done g (goal.at.returns-in-Ok g c).After-assign in
+pub returns : goal.returns
+returns g c =
+    let d = done g (goal.at.returns g c).After-assign in
     record { step = safe-step _ _ c.self.view_is _ _ _ _ _ d; refused = safe-refused _ _ c.self.view_is _ _ _ _ _ d }

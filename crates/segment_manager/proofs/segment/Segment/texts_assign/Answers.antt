@@ -1,5 +1,5 @@
 -- The texts are those of the vector of strings that is found.
-use Rattle.segment_manager.proofs.Common.{refl, map, Assign, Quoted}
+use Rattle.segment_manager.proofs.Common.{err_from_is_err_and, refl, map, Assign, Quoted}
 use Rattle.segment_manager.proofs.{TextListCalls.texts-assigned, TextsHeld.some-texts, ToChange.seen-to_change}
 use Rattle.segment_manager.proofs.TextMoves.{StepsKeeping, kept-refused, kept-segment, kept-step}
 use Rattle.segment_manager.proofs.segment.Segment.texts_assign.Goals as goal
@@ -10,25 +10,26 @@ done : (g : Over) (c : After-assign g) → StepsKeeping (record { cut = c.self.i
     c.assign.new.heap (g.O.Target.key c.args.key.now) (Assign (g.O.Target.key c.args.key.now) (map Quoted (map (λ
     text. text.now) c.args.texts.now))) c.assign.result
 done g c =
-    let place = seen-to_change _ _ c.self.view_is _ _ _ c.in-Ok.ensures in
+    let place = seen-to_change _ _ c.self.view_is _ _ _ c.in_ok-place.ensures in
     texts-assigned _ _ _ c.self.invariant place.at c.assign.new.heap place.writing (map (λ text. text.now)
     c.args.texts.now) c.assign.result c.judge_all.ensures c.assign.ensures.assigned
 
 pub assign-requires : goal.assign-requires
 assign-requires g c =
-    let place = seen-to_change _ _ c.self.view_is _ _ _ c.in-Ok.ensures in
+    let place = seen-to_change _ _ c.self.view_is _ _ _ c.in_ok-place.ensures in
     some-texts _ _ _ c.self.invariant place.at
 
 pub invariant_of-self : goal.invariant_of-self
 invariant_of-self g c =
     kept-segment _ _ c.self.view_is _ _ _ _ (done g (goal.at.invariant_of-self g c).After-assign) c.self.invariant
 
-pub returns-in-Err-clause-step : goal.returns-in-Err-clause-step
-returns-in-Err-clause-step g c =
-    c.in-Err.ensures.refused (Assign (g.O.Target.key c.args.key.now) (map Quoted (map (λ text. text.now)
-    c.args.texts.now))) refl
+pub returns-in_err-place-clause-step : goal.returns-in_err-place-clause-step
+returns-in_err-place-clause-step g c =
+    let p = err_from_is_err_and c.from_residual.result c.from_residual.ensures.1 in
+    rw (p.1, p.2) (c.in_err-place.ensures.refused (Assign (g.O.Target.key c.args.key.now) (map Quoted (map (λ text. text.now)
+    c.args.texts.now))) refl)
 
-pub returns-in-Ok : goal.returns-in-Ok
-returns-in-Ok g c =
-    let d = done g (goal.at.returns-in-Ok g c).After-assign in
+pub returns : goal.returns
+returns g c =
+    let d = done g (goal.at.returns g c).After-assign in
     record { step = kept-step _ _ c.self.view_is _ _ _ _ d; refused = kept-refused _ _ c.self.view_is _ _ _ _ d }

@@ -1,5 +1,5 @@
 -- The text is put behind the last of the vector of strings that is found.
-use Rattle.segment_manager.proofs.Common.{refl, arith, Push, Quoted}
+use Rattle.segment_manager.proofs.Common.{err_from_is_err_and, refl, arith, Push, Quoted}
 use Rattle.segment_manager.proofs.{TextAnswers.fits-bytes, TextsHeld.some-texts, ToChange.seen-to_change}
 use Rattle.segment_manager.proofs.TextListCalls.{text-pushed}
 use Rattle.segment_manager.proofs.TextMoves.{StepsKeeping, kept-refused, kept-segment, kept-step}
@@ -11,24 +11,25 @@ done : (g : Over) (c : After-push g) → StepsKeeping (record { cut = c.self.ins
     c.push.new.heap (g.O.Target.key c.args.key.now) (Push (g.O.Target.key c.args.key.now) (Quoted c.args.text.now))
     c.push.result
 done g c =
-    let place = seen-to_change _ _ c.self.view_is _ _ _ c.in-Ok.ensures in
+    let place = seen-to_change _ _ c.self.view_is _ _ _ c.in_ok-place.ensures in
     text-pushed _ _ _ c.self.invariant place.at c.push.new.heap place.writing c.args.text.now c.push.result
     (fits-bytes c.args.text.now (λ k. omega (arith, c.type_inv.text k))) c.push.ensures.pushed
 
 pub push-requires : goal.push-requires
 push-requires g c =
-    let place = seen-to_change _ _ c.self.view_is _ _ _ c.in-Ok.ensures in
+    let place = seen-to_change _ _ c.self.view_is _ _ _ c.in_ok-place.ensures in
     some-texts _ _ _ c.self.invariant place.at
 
 pub invariant_of-self : goal.invariant_of-self
 invariant_of-self g c =
     kept-segment _ _ c.self.view_is _ _ _ _ (done g (goal.at.invariant_of-self g c).After-push) c.self.invariant
 
-pub returns-in-Err-clause-step : goal.returns-in-Err-clause-step
-returns-in-Err-clause-step g c =
-    c.in-Err.ensures.refused (Push (g.O.Target.key c.args.key.now) (Quoted c.args.text.now)) refl
+pub returns-in_err-place-clause-step : goal.returns-in_err-place-clause-step
+returns-in_err-place-clause-step g c =
+    let p = err_from_is_err_and c.from_residual.result c.from_residual.ensures.1 in
+    rw (p.1, p.2) (c.in_err-place.ensures.refused (Push (g.O.Target.key c.args.key.now) (Quoted c.args.text.now)) refl)
 
-pub returns-in-Ok : goal.returns-in-Ok
-returns-in-Ok g c =
-    let d = done g (goal.at.returns-in-Ok g c).After-push in
+pub returns : goal.returns
+returns g c =
+    let d = done g (goal.at.returns g c).After-push in
     record { step = kept-step _ _ c.self.view_is _ _ _ _ d; refused = kept-refused _ _ c.self.view_is _ _ _ _ d }

@@ -1,5 +1,5 @@
 -- The text is put in the place of another in the vector of strings that is found.
-use Rattle.segment_manager.proofs.Common.{refl, arith, Quoted, Set, StepsSafely}
+use Rattle.segment_manager.proofs.Common.{err_from_is_err_and, refl, arith, Quoted, Set, StepsSafely}
 use Rattle.seg_types.specs.declared.kinds.Kind.TheVariants.{Texts}
 use Rattle.segment_manager.proofs.{Safely.safe-refused, Safely.safe-segment, Safely.safe-step, TextAnswers.fits-bytes}
 use Rattle.segment_manager.proofs.{TextListCalls.text-set, TextsHeld.some-texts, ToChange.seen-to_change}
@@ -11,24 +11,25 @@ done : (g : Over) (c : After-set g) → StepsSafely (record { cut = c.self.insid
     c.set.new.heap (g.O.Target.key c.args.key.now) Texts (Set (g.O.Target.key c.args.key.now) c.args.index (Quoted
     c.args.text.now)) c.set.result
 done g c =
-    let place = seen-to_change _ _ c.self.view_is _ _ _ c.in-Ok.ensures in
+    let place = seen-to_change _ _ c.self.view_is _ _ _ c.in_ok-place.ensures in
     text-set _ _ _ c.self.invariant place.at c.set.new.heap place.writing c.args.index c.args.text.now c.set.result
     (fits-bytes c.args.text.now (λ k. omega (arith, c.type_inv.text k))) c.set.ensures
 
 pub set-requires : goal.set-requires
 set-requires g c =
-    let place = seen-to_change _ _ c.self.view_is _ _ _ c.in-Ok.ensures in
+    let place = seen-to_change _ _ c.self.view_is _ _ _ c.in_ok-place.ensures in
     some-texts _ _ _ c.self.invariant place.at
 
 pub invariant_of-self : goal.invariant_of-self
 invariant_of-self g c =
     safe-segment _ _ c.self.view_is _ _ _ _ _ (done g (goal.at.invariant_of-self g c).After-set) c.self.invariant
 
-pub returns-in-Err-clause-step : goal.returns-in-Err-clause-step
-returns-in-Err-clause-step g c =
-    c.in-Err.ensures.refused (Set (g.O.Target.key c.args.key.now) c.args.index (Quoted c.args.text.now)) refl
+pub returns-in_err-place-clause-step : goal.returns-in_err-place-clause-step
+returns-in_err-place-clause-step g c =
+    let p = err_from_is_err_and c.from_residual.result c.from_residual.ensures.1 in
+    rw (p.1, p.2) (c.in_err-place.ensures.refused (Set (g.O.Target.key c.args.key.now) c.args.index (Quoted c.args.text.now)) refl)
 
-pub returns-in-Ok : goal.returns-in-Ok
-returns-in-Ok g c =
-    let d = done g (goal.at.returns-in-Ok g c).After-set in
+pub returns : goal.returns
+returns g c =
+    let d = done g (goal.at.returns g c).After-set in
     record { step = safe-step _ _ c.self.view_is _ _ _ _ _ d; refused = safe-refused _ _ c.self.view_is _ _ _ _ _ d }

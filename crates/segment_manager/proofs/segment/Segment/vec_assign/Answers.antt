@@ -1,5 +1,6 @@
 -- The values are put in the place of those of the vector that is found.
-use Rattle.segment_manager.proofs.Common.{refl, subst, map, Vector, Assign, literal_of, StepsSafely, IsNotToChange}
+use Rattle.segment_manager.proofs.Common.{err_from_is_err_and, refl, subst, map, Vector, Assign, literal_of}
+use Rattle.segment_manager.proofs.Common.{StepsSafely, IsNotToChange}
 use Rattle.segment_manager.proofs.{Safely.safe-refused, Safely.safe-segment, Safely.safe-step, ScalarTypes.of-vector}
 use Rattle.segment_manager.proofs.{VectorAnswers.some-vector, VectorAnswers.vector-assigned, ToChange.vector-to_change}
 use Rattle.segment_manager.proofs.segment.Segment.vec_assign.Goals as goal
@@ -10,26 +11,27 @@ done : (g : Over) (c : After-assign g) → StepsSafely (record { cut = c.self.in
     c.assign.new.heap (g.O.Target.key c.args.key.now) (Vector g.T.Scalar.kind) (Assign (g.O.Target.key c.args.key.now)
     (map (literal_of g.T.Scalar.kind) (map g.T.Scalar.whole c.args.values.now))) c.assign.result
 done g c =
-    let place = vector-to_change _ _ c.self.view_is _ _ _ _ _ c.kind.ensures c.at.ensures c.in-Ok.ensures in
+    let place = vector-to_change _ _ c.self.view_is _ _ _ _ _ c.kind.ensures c.at.ensures c.in_ok-place.ensures in
     vector-assigned _ _ _ _ _ (of-vector g.met.T.Scalar) _ _ _ c.self.invariant place.at c.assign.new.heap place.writing
     c.args.values.now c.assign.result c.judge_all.ensures c.assign.ensures
 
 pub assign-requires : goal.assign-requires
 assign-requires g c =
-    let place = vector-to_change _ _ c.self.view_is _ _ _ _ _ c.kind.ensures c.at.ensures c.in-Ok.ensures in
+    let place = vector-to_change _ _ c.self.view_is _ _ _ _ _ c.kind.ensures c.at.ensures c.in_ok-place.ensures in
     some-vector _ _ _ _ _ (of-vector g.met.T.Scalar) _ _ _ c.self.invariant place.at
 
 pub invariant_of-self : goal.invariant_of-self
 invariant_of-self g c =
     safe-segment _ _ c.self.view_is _ _ _ _ _ (done g (goal.at.invariant_of-self g c).After-assign) c.self.invariant
 
-pub returns-in-Err-clause-step : goal.returns-in-Err-clause-step
-returns-in-Err-clause-step g c =
-    (subst (λ l. IsNotToChange c.args.self.now (g.O.Target.key c.args.key.now) (Vector l) c.in-Err.why) c.kind.ensures
-    c.in-Err.ensures).refused (Assign (g.O.Target.key c.args.key.now) (map (literal_of g.T.Scalar.kind) (map
-    g.T.Scalar.whole c.args.values.now))) refl
+pub returns-in_err-place-clause-step : goal.returns-in_err-place-clause-step
+returns-in_err-place-clause-step g c =
+    let p = err_from_is_err_and c.from_residual.result c.from_residual.ensures.1 in
+    rw (p.1, p.2) ((subst (λ l. IsNotToChange c.args.self.now (g.O.Target.key c.args.key.now) (Vector l) c.in_err-place.field-0.0) c.kind.ensures
+    c.in_err-place.ensures).refused (Assign (g.O.Target.key c.args.key.now) (map (literal_of g.T.Scalar.kind) (map
+    g.T.Scalar.whole c.args.values.now))) refl)
 
-pub returns-in-Ok : goal.returns-in-Ok
-returns-in-Ok g c =
-    let d = done g (goal.at.returns-in-Ok g c).After-assign in
+pub returns : goal.returns
+returns g c =
+    let d = done g (goal.at.returns g c).After-assign in
     record { step = safe-step _ _ c.self.view_is _ _ _ _ _ d; refused = safe-refused _ _ c.self.view_is _ _ _ _ _ d }

@@ -1,5 +1,5 @@
 -- The value is left out of the vector that is found.
-use Rattle.segment_manager.proofs.Common.{refl, subst, Vector, Erase, StepsSafely, IsNotToChange}
+use Rattle.segment_manager.proofs.Common.{err_from_is_err_and, refl, subst, Vector, Erase, StepsSafely, IsNotToChange}
 use Rattle.segment_manager.proofs.{Safely.safe-refused, Safely.safe-segment, Safely.safe-step, ScalarTypes.of-vector}
 use Rattle.segment_manager.proofs.{VectorAnswers.some-vector, VectorAnswers.vector-erased, ToChange.vector-to_change}
 use Rattle.segment_manager.proofs.segment.Segment.vec_erase.Goals as goal
@@ -10,25 +10,26 @@ done : (g : Over) (c : After-erase g) → StepsSafely (record { cut = c.self.ins
     c.erase.new.heap (g.O.Target.key c.args.key.now) (Vector g.T.Scalar.kind) (Erase (g.O.Target.key c.args.key.now)
     c.args.index) c.erase.result
 done g c =
-    let place = vector-to_change _ _ c.self.view_is _ _ _ _ _ c.kind.ensures c.at.ensures c.in-Ok.ensures in
+    let place = vector-to_change _ _ c.self.view_is _ _ _ _ _ c.kind.ensures c.at.ensures c.in_ok-place.ensures in
     vector-erased _ _ _ _ _ (of-vector g.met.T.Scalar) _ _ _ c.self.invariant place.at c.erase.new.heap place.writing c.args.index
     c.erase.result c.erase.ensures
 
 pub erase-requires : goal.erase-requires
 erase-requires g c =
-    let place = vector-to_change _ _ c.self.view_is _ _ _ _ _ c.kind.ensures c.at.ensures c.in-Ok.ensures in
+    let place = vector-to_change _ _ c.self.view_is _ _ _ _ _ c.kind.ensures c.at.ensures c.in_ok-place.ensures in
     some-vector _ _ _ _ _ (of-vector g.met.T.Scalar) _ _ _ c.self.invariant place.at
 
 pub invariant_of-self : goal.invariant_of-self
 invariant_of-self g c =
     safe-segment _ _ c.self.view_is _ _ _ _ _ (done g (goal.at.invariant_of-self g c).After-erase) c.self.invariant
 
-pub returns-in-Err-clause-step : goal.returns-in-Err-clause-step
-returns-in-Err-clause-step g c =
-    (subst (λ l. IsNotToChange c.args.self.now (g.O.Target.key c.args.key.now) (Vector l) c.in-Err.why) c.kind.ensures
-    c.in-Err.ensures).refused (Erase (g.O.Target.key c.args.key.now) c.args.index) refl
+pub returns-in_err-place-clause-step : goal.returns-in_err-place-clause-step
+returns-in_err-place-clause-step g c =
+    let p = err_from_is_err_and c.from_residual.result c.from_residual.ensures.1 in
+    rw (p.1, p.2) ((subst (λ l. IsNotToChange c.args.self.now (g.O.Target.key c.args.key.now) (Vector l) c.in_err-place.field-0.0) c.kind.ensures
+    c.in_err-place.ensures).refused (Erase (g.O.Target.key c.args.key.now) c.args.index) refl)
 
-pub returns-in-Ok : goal.returns-in-Ok
-returns-in-Ok g c =
-    let d = done g (goal.at.returns-in-Ok g c).After-erase in
+pub returns : goal.returns
+returns g c =
+    let d = done g (goal.at.returns g c).After-erase in
     record { step = safe-step _ _ c.self.view_is _ _ _ _ _ d; refused = safe-refused _ _ c.self.view_is _ _ _ _ _ d }

@@ -1,22 +1,18 @@
 -- The three words of a container are written, and its storage is given back or shortened to its elements.
 use Rattle.seg_vector.proofs.Words.{◌≡◌, refl, sym, ap, subst, ◌∙◌, inl, ℕ, ◌+◌, ◌%◌, ◌≤◌, Option, Some, None, List}
-use Rattle.seg_vector.proofs.Words.{[], arith, ◌≢◌, ◌*◌, min, ◌∷◌, length, ◌==◌, IsTrue, option_map, option_to_list}
+use Rattle.seg_vector.proofs.Words.{arith, ◌≢◌, ◌*◌, min, ◌∷◌, length, ◌==◌, IsTrue, option_map, option_to_list}
 use Rattle.seg_vector.proofs.Words.{nat_lt, and_from, cond-false, cond-true, eq-eqb, le-leb, leb-true, lt-ltb, ne_eqb}
 use Rattle.seg_vector.proofs.Words.{Cut, bytes_of, word_at, Has, current, SameBut-word, link_at, SameBut-link}
 use Rattle.seg_vector.proofs.Words.{IsExchanged, Extent, LiveSet, handle, holds, shorter, IsChanged, IsReleased}
 use Rattle.seg_vector.proofs.Words.{extent_at, has_room, live_of, IsResized, IsShortened, Table, no_table, same_role}
 use Rattle.seg_vector.proofs.Words.{serves, changed-live, laid-heap, read-same, shorter-IsShorter, spread-refl}
 use Rattle.seg_vector.proofs.Words.{exchange-released, exchange-resized, Role, Storage, Place, IsGivenBack, IsFitted}
-use Rattle.seg_vector.proofs.Words.{Stands, place_at}
+use Rattle.seg_vector.proofs.Words.{Stands, place_at, []}
 use Rattle.best_fit.specs.Table.{cut_table}
 use Rattle.seg_vector.proofs.Runs.{AreHeadWords, IsRun, beside-head, head-wider, none-some, room-head, run-headed}
 use Rattle.seg_vector.proofs.Runs.{run-stands, run-swapped, same-some, stands-run, table, table-full}
 use Rattle.seg_vector.proofs.Storage.{more-times, no-bytes, storage-role}
 use Rattle.best_fit.specs.Fit as fit
-
--- ---- the three words of a container are written, and its storage is given back
-
--- ---- one write after another
 
 -- ---- a container without a place
 
@@ -51,8 +47,6 @@ started {s1} {s2} {new} p each a r c link c2 len c3 cap =
     ∙ link) (SameBut-word m2 m3 _ 8 (at + 8) c3.rest (inl (omega arith)) ∙ subst (λ k. word_at m2 k ≡ 0) one len)
     (subst (λ k. word_at m3 k ≡ 0) two cap)
 
--- ---- the block in which a container stands, once its words are written
-
 -- ---- the storage is given back
 
 -- the words are those of a container without a place
@@ -84,8 +78,6 @@ given-nothing {o = Some x} s link c1 e = none-some link s.words.link
 pub none-left : (o : Option ℕ) → ((x : ℕ) → o ≡ Some x → ⊥) → o ≡ None
 none-left None n = refl
 none-left (Some x) n = absurd (n x refl)
-
--- ---- the storage of a container is shortened to its elements
 
 -- ---- what the table is cut to
 
@@ -121,12 +113,9 @@ fits-nothing {old} {new} {p} {each} {len} {t} {bytes} s e r =
 resized-here : {b e : Cut} (l : LiveSet) {x : Extent} {g n : ℕ} → live_of b.bytes ≡ l → extent_at l g ≡ Some x
     → IsShortened current b e g n → IsResized current b e x (shorter l x n)
 resized-here {b} {e} l {x} {g} {n} live found s =
-    let same = same-extent s.extent x (sym s.found ∙ ap (λ (k : LiveSet). extent_at k g) live ∙ found) in
+    let same = same-some (sym s.found ∙ ap (λ (k : LiveSet). extent_at k g) live ∙ found) in
     subst (λ (k : LiveSet). IsResized current b e x (shorter k x n)) live
     (subst (λ (y : Extent). IsResized current b e y (shorter (live_of b.bytes) y n)) same s.shortened)
-  where
-    same-extent : (a b : Extent) → Some a ≡ Some b → a ≡ b
-    same-extent a b e = cc
 
 -- what the shorter block is
 record Short (x y : Extent) (n : ℕ) : Type 0 where

@@ -1,6 +1,6 @@
 -- The head of a container, its three words and the block that they stand in, through the steps of a call.
-use Rattle.seg_vector.proofs.Words.{◌≡◌, ◌≢◌, refl, sym, ap, subst, ◌∙◌, inl, inr, ℕ, ◌+◌, ◌*◌, ◌<◌, ◌≤◌, Option, Some}
-use Rattle.seg_vector.proofs.Words.{None, List, [], ◌∷◌, length, arith, ◌⊎◌, ◌++◌, append-nil, IsTrue, nat_lt}
+use Rattle.seg_vector.proofs.Words.{◌≡◌, ◌≢◌, refl, sym, ap, subst, ◌∙◌, inl, inr, ℕ, ◌+◌, ◌*◌, ◌<◌, ◌≤◌, Option}
+use Rattle.seg_vector.proofs.Words.{Some, None, List, ◌∷◌, length, arith, ◌⊎◌, ◌++◌, append-nil, IsTrue, nat_lt}
 use Rattle.seg_vector.proofs.Words.{option_to_list, AllByRecursion, and_parts, leb-true, Memory, Cut, SameBut}
 use Rattle.seg_vector.proofs.Words.{bytes_of, word_at, Same, SameBut-wider, SameBut-word, link_at, target_of, Storage}
 use Rattle.seg_vector.proofs.Words.{current, exchanged, without_all, IsExchanged, inserted, Extent, LiveSet, handle}
@@ -10,7 +10,7 @@ use Rattle.seg_vector.proofs.Words.{live-rises, written-keeps, word-same, laid-h
 use Rattle.seg_vector.proofs.Words.{IsFound, IsNone, SameSpread, all-found-in, all-in-use, found-none, exchanged-live}
 use Rattle.seg_vector.proofs.Words.{found-without, IsRoomy, kept, kept-found, exchange-next, exchange-same}
 use Rattle.seg_vector.proofs.Words.{spread-refl, exchange-wide, exchange-written, kept-beside, Place, IsOwnBlock}
-use Rattle.seg_vector.proofs.Words.{Stands, place_at, IsStorage, SameBut-link, IsSwapped, AreOthers}
+use Rattle.seg_vector.proofs.Words.{Stands, place_at, IsStorage, SameBut-link, IsSwapped, AreOthers, []}
 use Rattle.best_fit.specs.Fit as fit
 
 abbrev pub table : ℕ → Option Extent → Table

@@ -1,6 +1,6 @@
 -- The storage of a container that stands at a place: regrown, written in, and read.
 use Rattle.seg_vector.proofs.Words.{◌≡◌, refl, sym, ap, subst, ◌∙◌, inl, inr, ℕ, ◌+◌, ◌*◌, ◌%◌, ◌<◌, ◌≤◌, Bool, true}
-use Rattle.seg_vector.proofs.Words.{false, Option, Some, None, List, [], ◌∷◌, length, arith, if◌then◌else◌, cond, ◌⊎◌}
+use Rattle.seg_vector.proofs.Words.{false, Option, Some, None, List, ◌∷◌, length, arith, if◌then◌else◌, cond, ◌⊎◌}
 use Rattle.seg_vector.proofs.Words.{◌==◌, zero, suc, ◌++◌, length-append, max, ◌-◌, take, drop, ◌&&◌, append-nil}
 use Rattle.seg_vector.proofs.Words.{IsTrue, IfSome, nat_lt, option_map, option_to_list, find, nat_le, AllByRecursion}
 use Rattle.seg_vector.proofs.Words.{list_any, eqb-true, and_from, and_parts, leb-true, le-leb, lt-leb, lt-ltb}
@@ -14,17 +14,16 @@ use Rattle.seg_vector.proofs.Words.{is_live_in, payload_at, Table, is_table, ser
 use Rattle.seg_vector.proofs.Words.{all_of-insert, found-room, live-sound, read-same, room_block, laid-heap}
 use Rattle.seg_vector.proofs.Words.{all-same-but, changed-live, regrow-serves, in_use-all, block_payload, room-less}
 use Rattle.seg_vector.proofs.Words.{IfSome_is, all_keep_proper, legal_size, too_long, spread-refl, exchange-next}
-use Rattle.seg_vector.proofs.Words.{is_legal_size, Place, IsGrown, IsNotGrown, IsOwnBlock, Stands, place_at}
+use Rattle.seg_vector.proofs.Words.{is_legal_size, Place, IsGrown, IsOwnBlock, Stands, place_at, IsWithoutSpace}
 use Rattle.seg_vector.proofs.Words.{IsAppended, IsStorage, capacity_for_one, IsRewritten, IsSwapped, SameBut-link}
+use Rattle.seg_vector.proofs.Words.{Refusal, NoSpace, []}
 use Rattle.best_fit.specs.Extents.{is_proper}
 use Rattle.best_fit.specs.Fit.{regrow}
 use Rattle.seg_vector.specs.Vector.{grown_table}
-use Rattle.seg_vector.proofs.Runs.{IsRun, beside-head, block-written, changed-both, head-room, head-wider, len-written}
-use Rattle.seg_vector.proofs.Runs.{none-some, room-head, run-found, run-headed, run-stands, run-swapped, same-some}
-use Rattle.seg_vector.proofs.Runs.{serves-full, spread-nil, stands-none-of, stands-run, table, table-full}
+use Rattle.seg_vector.proofs.Runs.{IsRun, beside-head, block-written, changed-both, head-room, head-wider}
+use Rattle.seg_vector.proofs.Runs.{len-written, none-some, room-head, run-found, run-headed, run-stands, run-swapped}
+use Rattle.seg_vector.proofs.Runs.{same-some, serves-full, spread-nil, stands-none-of, stands-run, table, table-full}
 use Rattle.best_fit.specs.Fit as fit
-
--- ---- the storage of a container that stands at a place is regrown
 
 -- ---- what stands
 
@@ -84,18 +83,18 @@ grows-not c {each} n {t} f s =
 
 -- there is no space
 pub grows-nothing : {old new : Cut} (each n : ℕ) (t : Table) → t.capacity < n
-    → IsNotGivenRoom old new t.extent (each * n) → IsNotGrown old new each n t
+    → IsNotGivenRoom old new t.extent (each * n) → IsWithoutSpace old new each n t NoSpace
 grows-nothing {old} each n t f p =
     record {
+      refusal = refl;
       none = grown-more (live_of old.bytes) each n t f ∙ ap (option_map (λ x. table n (Some x))) p.none;
       same = p.same;
     }
 
 -- where there are so many places there is no such refusal
-pub not-refused : {old new : Cut} {each n : ℕ} {t : Table} → n ≤ t.capacity → IsNotGrown old new each n t → ⊥
+pub not-refused : {old new : Cut} {each n : ℕ} {t : Table} {e : Refusal} → n ≤ t.capacity
+    → IsWithoutSpace old new each n t e → ⊥
 not-refused {old} {each} {n} {t} f r = let none = sym (grown-same (live_of old.bytes) each n t f) ∙ r.none in cc
-
--- ---- nothing to do
 
 -- ---- the block of the container, once the storage is regrown
 
@@ -119,8 +118,6 @@ come-aligned {old} {o} {g} r =
     let sound = (all_of-insert IsSound r.extent rest
     (live-sound (exchanged (live_of old.bytes) (option_to_list o) (r.extent ∷ [])) r.change.live.proper)).0 in
     omega (arith, r.at, sound.aligned)
-
--- ---- the words
 
 -- ---- the bytes of the elements
 
@@ -204,8 +201,6 @@ grows-more {old} {mid} {s1} {new} {p} {each} n {len} {t} {bytes} more s r c1 lin
           ∙ stored);
       enough = λ less. absurd (omega (arith, less, more));
     }
-
--- ---- the container with more places
 
 -- ---- what the calls of the heap say of the container
 
@@ -367,10 +362,6 @@ append-room {b} {each} wl {g} s e f link =
 pub at-least : (each n : ℕ) → 1 ≤ each → n ≤ each * n
 at-least each n f = grind arith
 
--- ---- a value is put behind the last one, in storage that has a place for it
-
--- ---- one change after another
-
 -- ---- places
 
 -- blocks exchanged, and then those that came written in
@@ -402,6 +393,10 @@ pub wanted-places : (len capacity : ℕ) → len ≤ capacity
     → (len < capacity_for_one len capacity) × (capacity_for_one len capacity ≤ 2 * capacity + 4)
 wanted-places len capacity f = wanted-if (nat_lt len capacity) len capacity refl f
 
+pub wanted-is : {w len capacity n k : ℕ} → w ≡ capacity_for_one len capacity → len ≡ n → capacity ≡ k
+    → w ≡ capacity_for_one n k
+wanted-is e f g = e ∙ (λ i. capacity_for_one (f i) (g i))
+
 table-if : (l : LiveSet) (n : ℕ) (t : Table) {u : Table} (b : Bool) (r : Option Extent) → nat_le n t.capacity ≡ b
     → (if b then Some t else option_map (λ x. table n (Some x)) r) ≡ Some u → n ≤ u.capacity
 table-if l n t {u} true r e f = let same : t ≡ u = cc in subst (λ (v : Table). n ≤ v.capacity) same
@@ -421,8 +416,6 @@ pub has-place : {old mid : Cut} {p : Place} {each len n : ℕ} {t : Table} {byte
 has-place {old} {each} {n} {t} f g =
     let places = table-places (live_of old.bytes) each n t g.grown in
     omega (arith, places, f, g.stands.words.len_word, g.stands.words.capacity)
-
--- ---- bytes of the storage that are read, written over, or left out at the end
 
 -- ---- bytes that memory has
 
@@ -472,8 +465,6 @@ Has-patched {m} {m'} g from bytes more f s h k =
     let c = Has-beside (g + n) (drop n bytes) s (inr (omega arith)) (Has-drop m g n bytes f h) in
     Has-append m' g (take from bytes ++ more) (drop n bytes) (Has-append m' g (take from bytes) more a b)
     (subst (λ j. Has m' (g + j) (drop n bytes)) (sym both) c)
-
--- ---- no write
 
 -- ---- the storage is written in, and the length stays
 
@@ -612,8 +603,6 @@ read-all c {each} {len} k {g} out s is link e =
     ∙ sym (read-part c.bytes g n (omega (arith, r.enough, r.block.inside, r.block.at)))
     ∙ ap (read (bytes_of c.bytes) g) (sym s.long) ∙ storage-has s link
 
--- ---- bytes behind the last one, and requests that no heap meets
-
 -- ---- no extent is as long as a heap may be
 
 ends : (from : ℕ) (xs : List Extent) (to : ℕ) → to < 1073741824 → IsTrue (proper_from from xs to)
@@ -684,7 +673,8 @@ no-regrow c p each k n (Some x) heap t own f =
     (lt-leb (n + 16) x.len (omega (arith, less, f))) refl (too_long c n Storage heap f)
 
 pub too-many : (c : Cut) {p : Place} {each : ℕ} (n : ℕ) {len : ℕ} {t : Table} {bytes : List ℕ}
-    → Stands c.bytes p each len t bytes → 1 ≤ each → 1073741824 < n → IsNotGrown c c each n t
+    → Stands c.bytes p each len t bytes → 1 ≤ each → 1073741824 < n → IsWithoutSpace c c each n t
+    NoSpace
 too-many c {p} {each} n {t} s some f =
     let few = capacity-bytes c s.heap s in let least = at-least each t.capacity some in
     let more = at-least each n some in
@@ -724,8 +714,6 @@ extended-not c {p} {len} {k} {o = None} {bytes} more s f link =
     (subst (λ (ws : List ℕ). IsRewritten c c p 1 len (table k None) ws) (sym (append-nil bytes))
     (unchanged-rewritten c s)))
 extended-not c {o = Some x} more s f link = none-some link s.words.link
-
--- ---- elements move up or down in the storage
 
 -- ---- how many bytes there are before and behind an element
 

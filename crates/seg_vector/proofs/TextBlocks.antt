@@ -1,23 +1,23 @@
 -- The blocks of a vector of texts, its array and those of its texts, among the other blocks of a heap, and through the
 -- steps of a call.
-use Rattle.seg_vector.proofs.Words.{◌≡◌, ◌≢◌, sym, ap, subst, ◌∙◌, ℕ, ◌+◌, ◌%◌, ◌≤◌, Option, Some, None, List, [], ◌∷◌}
+use Rattle.seg_vector.proofs.Words.{◌≡◌, ◌≢◌, sym, ap, subst, ◌∙◌, ℕ, ◌+◌, ◌%◌, ◌≤◌, Option, Some, None, List, ◌∷◌}
 use Rattle.seg_vector.proofs.Words.{◌++◌, ◌==◌, append_assoc, length, arith, inl, inr, refl, zero, suc, ◌-◌, ◌*◌, ◌<◌}
-use Rattle.seg_vector.proofs.Words.{take, drop, Bool, true, false, cond, ◌⊎◌, IsTrue, find, option_to_list, option_map}
-use Rattle.seg_vector.proofs.Words.{slice_get, IfSome, AllByRecursion, list_any, flat_map-append, take-take, drop_all}
-use Rattle.seg_vector.proofs.Words.{slice_get_within, or_left, or_right, Memory, Cut, bytes_of, word_at, SameBut, Has}
-use Rattle.seg_vector.proofs.Words.{current, Storage, link_at, target_of, inserted, without_all, IsExchanged}
-use Rattle.seg_vector.proofs.Words.{SameBlockBut, exchanged, Extent, LiveSet, handle, end_of, IsHeap, extent_at}
-use Rattle.seg_vector.proofs.Words.{live_of, SameBlock, IsChanged, has_room, is_live_in, payload_at, IsReleased, Table}
-use Rattle.seg_vector.proofs.Words.{is_table, no_table, IsFound, IsNone, Rising, SameSpread, all-found-in, all-in-use}
-use Rattle.seg_vector.proofs.Words.{found-inserted, found-none, found-room, live-rises, middle-first, rising-others}
-use Rattle.seg_vector.proofs.Words.{roomy, spread-behind, all_of-inserted, but-apart, exchanged-live, found-without}
-use Rattle.seg_vector.proofs.Words.{inserted-append, laid-heap, without-inserted, kept, kept-found, word-same}
-use Rattle.seg_vector.proofs.Words.{block_payload, room_block, exchange-next, exchange-released, exchange-same}
-use Rattle.seg_vector.proofs.Words.{spread-refl, IsSound, live-sound, Has-same, SameBut-word, read-part, SameBut-link}
-use Rattle.seg_vector.proofs.Words.{Place, IsOwnBlock, place_at, Stands, IsServed, IsSwapped, AreHeldElements}
-use Rattle.seg_vector.proofs.Words.{IsHeldElement, AreSameElements, IsSameElement, AreEvenLinks, IsHeldText, IsTexts}
-use Rattle.seg_vector.proofs.Words.{text_blocks, IsTextsNow, IsTextElement, AreInArray, IsOwnedText, OwnedText}
-use Rattle.seg_vector.proofs.Words.{AreTextLinks}
+use Rattle.seg_vector.proofs.Words.{take, drop, Bool, true, false, cond, ◌⊎◌, IsTrue, find, option_to_list}
+use Rattle.seg_vector.proofs.Words.{option_map, slice_get, IfSome, AllByRecursion, list_any, flat_map-append}
+use Rattle.seg_vector.proofs.Words.{take-take, drop_all, slice_get_within, or_left, or_right, Memory, Cut, bytes_of}
+use Rattle.seg_vector.proofs.Words.{word_at, SameBut, Has, current, Storage, link_at, target_of, inserted}
+use Rattle.seg_vector.proofs.Words.{without_all, IsExchanged, SameBlockBut, exchanged, Extent, LiveSet, handle}
+use Rattle.seg_vector.proofs.Words.{end_of, IsHeap, extent_at, live_of, SameBlock, IsChanged, has_room, is_live_in}
+use Rattle.seg_vector.proofs.Words.{payload_at, IsReleased, Table, is_table, no_table, IsFound, IsNone, Rising}
+use Rattle.seg_vector.proofs.Words.{SameSpread, all-found-in, all-in-use, found-inserted, found-none, found-room}
+use Rattle.seg_vector.proofs.Words.{live-rises, middle-first, rising-others, roomy, spread-behind, all_of-inserted}
+use Rattle.seg_vector.proofs.Words.{but-apart, exchanged-live, found-without, inserted-append, laid-heap}
+use Rattle.seg_vector.proofs.Words.{without-inserted, kept, kept-found, word-same, block_payload, room_block}
+use Rattle.seg_vector.proofs.Words.{exchange-next, exchange-released, exchange-same, spread-refl, IsSound, live-sound}
+use Rattle.seg_vector.proofs.Words.{Has-same, SameBut-word, read-part, SameBut-link, Place, IsOwnBlock, place_at}
+use Rattle.seg_vector.proofs.Words.{Stands, IsServed, IsSwapped, AreHeldElements, IsHeldElement, AreSameElements}
+use Rattle.seg_vector.proofs.Words.{IsSameElement, AreEvenLinks, IsHeldText, IsTexts, text_blocks, IsTextsNow}
+use Rattle.seg_vector.proofs.Words.{IsTextElement, AreInArray, IsOwnedText, OwnedText, AreTextLinks, []}
 use Rattle.best_fit.specs.Extents.{is_proper}
 use Rattle.seg_vector.proofs.Runs.{AreHeadWords, IsHead, IsRun, changed-both, head-exchanged, none-some, same-some}
 use Rattle.seg_vector.proofs.Runs.{serves-full, table, table-full}
@@ -100,7 +100,7 @@ own-array : (l : LiveSet) (h : ℕ) (o : Option Extent) (xs : List Extent)
 own-array l h None xs f n = (tt, (f, n))
 own-array l h (Some x) xs f n = ((f.0, (λ e. n.0 (sym e))), (f.1, n.1))
 
-of-none : (h : ℕ) (xs : List Extent) → IsNone h xs → AllByRecursion (λ (x : Extent). handle x ≢ h) xs
+pub of-none : (h : ℕ) (xs : List Extent) → IsNone h xs → AllByRecursion (λ (x : Extent). handle x ≢ h) xs
 of-none h [] n = tt
 of-none h (x ∷ xs) n = ((λ e. n.0 (sym e)), of-none h xs n.1)
 
@@ -161,8 +161,6 @@ between-own a m b t =
     let tb = text_blocks b in let p = spread-behind arr _ _ (middle-first tm ta tb) in
     subst (λ (xs : List Extent). SameSpread xs (own_blocks (a ++ (m ++ b)) t)) (sym (append_assoc arr tm (ta ++ tb)))
     (subst (λ (xs : List Extent). SameSpread (arr ++ (tm ++ (ta ++ tb))) (arr ++ xs)) (sym (blocks-three a m b)) p)
-
--- ---- a vector of texts of which some are gone and others came: the texts before and behind them stay
 
 -- ---- lists in parts
 
@@ -288,8 +286,6 @@ texts-changed {old} {new} {p} a m m' b {t} {u} s x table fits words array texts 
 pub own-head : {c : Cut} {p : Place} {own : List Extent} → AreOwn c p own → IsHead c p
 own-head w = record { block = w.head; found = w.found; here = w.here; big = w.big }
 
--- ---- its words
-
 -- ---- the change that all steps come to
 
 pub texts-between : {old new : Cut} {p : Place} {ps : List OwnedText} (qs a m m' b : List OwnedText) {t u : Table}
@@ -308,8 +304,6 @@ texts-between {old} {new} {p} qs a m m' b {t} {u} {gone} e f g h s x table fits 
     (subst (λ (xs : List OwnedText). AreHeadWords (bytes_of new.bytes) (place_at p) (length xs) u) f words)
     (subst (AreInArray (bytes_of new.bytes) u) f array) texts served in
     record { change = x; texts = subst (λ (xs : List OwnedText). IsTexts new.bytes p xs u) (sym f) r.texts }
-
--- ---- the texts of a vector of texts are read
 
 -- ---- without a place
 
@@ -425,8 +419,6 @@ block-front c {g} {bytes} out heap t e =
     ap (take n) (e ∙ block_payload c g r.block) ∙ take-take n (r.block.tile.len - 16) (drop g c.bytes)
     (omega (arith, r.enough)) ∙ sym (read-part c.bytes g n (omega (arith, r.enough, r.block.inside, r.block.at)))
     ∙ t.content
-
--- ---- the blocks of texts are given back, one after another
 
 -- ---- one
 
@@ -573,8 +565,6 @@ links-join m at (x ∷ xs) ys l r =
     let e : at + 16 * suc (length xs) ≡ at + 16 + 16 * length xs = omega arith in
     (l.0, l.1, links-join m (at + 16) xs ys l.2 (subst (λ k. AreTextLinks m k ys) e r))
 
--- ---- a call on a vector of texts, step by step: what has changed so far, and the vector's head
-
 -- ---- it begins
 
 -- the array and some texts among the others
@@ -601,10 +591,6 @@ run-begin c {p} a m b {t} e s =
       head = own-head (texts-own c s);
       words = record { link = s.words.link; len_word = s.words.len_word; capacity = s.words.capacity };
     }
-
--- ---- it goes on
-
--- ---- the array
 
 -- ---- the block of an array, and what its links lead to
 

@@ -1,20 +1,21 @@
 -- A vector of texts without texts, with one less or another one, or cut; and a text in a block of its own.
-use Rattle.seg_vector.proofs.Words.{◌≡◌, ◌≢◌, refl, sym, ap, subst, ◌∙◌, ℕ, ◌+◌, ◌*◌, Option, Some, None, List, []}
-use Rattle.seg_vector.proofs.Words.{◌∷◌, ◌++◌, append-nil, arith, length, inl, inr, ◌⊎◌, suc, ◌-◌, ◌<◌, ◌≤◌}
-use Rattle.seg_vector.proofs.Words.{length-append, take, drop, zero, ◌%◌, if◌then◌else◌, append_assoc, option_to_list}
-use Rattle.seg_vector.proofs.Words.{IsTrue, remove, slice_get, IfSome, ⊤, option_map, slice_set, AllByRecursion}
-use Rattle.seg_vector.proofs.Words.{eq-eqb, ne_eqb, length-drop, length-take, take-append-drop, slice_get_within}
-use Rattle.seg_vector.proofs.Words.{Memory, Cut, bytes_of, word_at, Has, Same, read, current, link_at, target_of}
-use Rattle.seg_vector.proofs.Words.{without_all, exchanged, inserted, Extent, handle, end_of, LiveSet, IsChanged}
-use Rattle.seg_vector.proofs.Words.{live_of, SameBlock, IsAllocated, IsHeap, Table, no_table, is_table, SameSpread}
+use Rattle.seg_vector.proofs.Words.{◌≡◌, ◌≢◌, refl, sym, ap, subst, ◌∙◌, ℕ, ◌+◌, ◌*◌, Option, Some, None, List, ◌∷◌}
+use Rattle.seg_vector.proofs.Words.{◌++◌, append-nil, arith, length, inl, inr, ◌⊎◌, suc, ◌-◌, ◌<◌, ◌≤◌, length-append}
+use Rattle.seg_vector.proofs.Words.{take, drop, zero, ◌%◌, if◌then◌else◌, append_assoc, option_to_list, IsTrue}
+use Rattle.seg_vector.proofs.Words.{remove, slice_get, IfSome, ⊤, option_map, slice_set, AllByRecursion, eq-eqb}
+use Rattle.seg_vector.proofs.Words.{ne_eqb, length-drop, length-take, take-append-drop, slice_get_within, Memory, Cut}
+use Rattle.seg_vector.proofs.Words.{bytes_of, word_at, Has, Same, read, current, link_at, target_of, without_all}
+use Rattle.seg_vector.proofs.Words.{exchanged, inserted, Extent, handle, end_of, LiveSet, IsChanged, live_of}
+use Rattle.seg_vector.proofs.Words.{SameBlock, IsAllocated, IsHeap, Table, no_table, is_table, SameSpread}
 use Rattle.seg_vector.proofs.Words.{exchange-next, exchange-same, exchange-wide, found-room, laid-heap, last-first}
 use Rattle.seg_vector.proofs.Words.{spread-refl, IsNone, kept, shorter-IsShorter, word-same, IsFound, all-found-in}
 use Rattle.seg_vector.proofs.Words.{allocated-room, exchange-taken, exchanged-live, kept-found, live-rises}
 use Rattle.seg_vector.proofs.Words.{place-serves, still_allocated, SameBlock-trans, rising-others, Storage, shorter}
 use Rattle.seg_vector.proofs.Words.{place, Has-same, Place, IsGivenBack, IsFitted, Stands, place_at, IsOwnBlock}
-use Rattle.seg_vector.proofs.Words.{AreHeldElements, IsSwapped, AreSameElements, IsHeldElement, IsTextPlaced, IsServed}
-use Rattle.seg_vector.proofs.Words.{IsTextReplaced, IsTexts, IsTextsNow, text_blocks, IsHeldText, placed_text}
-use Rattle.seg_vector.proofs.Words.{AreOthers, AreInArray, IsStorage, OwnedText, AreTextLinks, IsOwnedText}
+use Rattle.seg_vector.proofs.Words.{AreHeldElements, IsSwapped, AreSameElements, IsHeldElement, IsTextPlaced}
+use Rattle.seg_vector.proofs.Words.{IsServed, IsTextReplaced, IsTexts, IsTextsNow, text_blocks, IsHeldText}
+use Rattle.seg_vector.proofs.Words.{placed_text, AreOthers, AreInArray, IsStorage, OwnedText, AreTextLinks}
+use Rattle.seg_vector.proofs.Words.{IsOwnedText, Refusal, IsWithoutFit, []}
 use Rattle.best_fit.specs.Table.{cut_table}
 use Rattle.seg_vector.proofs.Fewer.{cut-some}
 use Rattle.seg_vector.proofs.Runs.{AreHeadWords, IsHead, IsRun, beside-head, block-written, head-exchanged, head-kept}
@@ -22,19 +23,12 @@ use Rattle.seg_vector.proofs.Runs.{head-room, head-wider, len-written, none-some
 use Rattle.seg_vector.proofs.Runs.{run-swapped, same-some, serves-full, table, table-full, words-kept}
 use Rattle.seg_vector.proofs.Storage.{length-read, no-bytes}
 use Rattle.seg_vector.proofs.TextBlocks.{IsArrayLeft, all-split, array-left, drop-at, element-beside, element-in}
-use Rattle.seg_vector.proofs.TextBlocks.{element-trans, even-block, found-texts, held-element, links-join, links-moved}
-use Rattle.seg_vector.proofs.TextBlocks.{links-split, no-array, none-of, one-of, own-head, own_blocks, run-begin}
-use Rattle.seg_vector.proofs.TextBlocks.{swapped-none, texts-between, texts-own}
+use Rattle.seg_vector.proofs.TextBlocks.{element-trans, even-block, found-texts, held-element, links-join}
+use Rattle.seg_vector.proofs.TextBlocks.{links-moved, links-split, no-array, none-of, of-none, one-of, own-head}
+use Rattle.seg_vector.proofs.TextBlocks.{own_blocks, run-begin, swapped-none, texts-between, texts-own}
 use Rattle.seg_vector.proofs.Typed.{set-pieces}
 
--- ---- a vector of texts without texts, and then without an array
-
 -- ---- the elements of the array
-
-flipped : (h : ℕ) (xs : List Extent) → AllByRecursion (λ (y : Extent). h ≢ handle y) xs
-    → AllByRecursion (λ (y : Extent). handle y ≢ h) xs
-flipped h [] n = tt
-flipped h (x ∷ xs) n = ((λ e. n.0 (sym e)), flipped h xs n.1)
 
 pub held-elements : {b : List ℕ} {p : Place} {ps : List OwnedText} {c g : ℕ} (n : ℕ) {o : Option Extent}
     → IsTexts b p ps (table c o) → link_at (bytes_of b) (place_at p) ≡ Some g → n ≡ length ps → AreHeldElements b g n ps
@@ -47,7 +41,7 @@ held-elements {b} {ps} {c} n {o = Some x} s link e =
       long = sym e;
       links = s.words.array;
       live = found-texts (live_of b) ps s.held;
-      apart = flipped (handle x) (text_blocks ps) s.others.0;
+      apart = of-none (handle x) (text_blocks ps) s.others.0;
       others = s.others.1;
     })
 
@@ -146,8 +140,6 @@ head-after {old} {p} {ps} {t} s x =
     let w = texts-own old s in
     head-kept (own-head w) x (all-split (λ (z : Extent). p.handle ≢ handle z) (option_to_list t.extent)
     (text_blocks ps) w.none).1
-
--- ---- a text is left out: its block is given back, and the elements behind it move down
 
 -- ---- the list around one text
 
@@ -294,8 +286,6 @@ erased-by {s1} {s2} {s3} {p} {ps} {g} i n s e link is x1 c2 m2 c3 word =
     (k - i - 1)) is m2)) (subst (λ k. IsChanged current s2 s3 k 8) at c3)
     (subst (λ k. word_at (bytes_of s3.bytes) k ≡ length ps - 1) at (word ∙ ap (λ k. k - 1) is))
 
--- ---- the array of a vector of texts is cut where it stands
-
 -- ---- the array as bytes
 
 abbrev pub raw : Memory → ℕ → Option Extent → List ℕ
@@ -392,8 +382,6 @@ shrunk {old} {new} {ps} {t} s f =
     (cut-links (live_of old.bytes) (bytes_of old.bytes) (bytes_of new.bytes) ps t.capacity t.extent s.words.array
     w.words.storage) tt tt
 
--- ---- a text in a block of its own, beside all that there was
-
 -- ---- what is asked for
 
 empty-placed : (l : LiveSet) (bytes : List ℕ) → length bytes ≡ 0
@@ -441,6 +429,16 @@ placed-some {old} {mid} {new} bytes {h} f a c has =
       owned = subst (λ k. Has (bytes_of new.bytes) k bytes) (zero_at ∙ at) has;
       served = (f, place-serves (live_of old.bytes) (length bytes) Storage b.extent b.placed);
     }
+
+pub not-placed : {old new : Cut} (bytes : List ℕ) {e : Refusal} → 0 < length bytes
+    → IsWithoutFit old new (place (live_of old.bytes) (length bytes) Storage) e
+    → IsWithoutFit old new (placed_text (live_of old.bytes) bytes) e
+not-placed {old} bytes f r = record {
+  refusal = r.refusal;
+  none = some-placed (live_of old.bytes) bytes f ∙ ap (option_map (λ (x : Extent).
+      let q : OwnedText = record { bytes = bytes; extent = Some x } in q)) r.none;
+  same = r.same;
+}
 
 -- ---- the vector beside it
 

@@ -1,22 +1,23 @@
 -- The array of a vector of texts with more places, one text more in it, and what was asked for given up.
 use Rattle.seg_vector.proofs.Words.{◌≡◌, ◌≢◌, refl, sym, ap, subst, ◌∙◌, ℕ, ◌+◌, ◌*◌, ◌<◌, ◌≤◌, Option, Some, None}
-use Rattle.seg_vector.proofs.Words.{List, [], ◌∷◌, ◌++◌, arith, length, if◌then◌else◌, inl, inr, ◌⊎◌, ◌%◌, append-nil}
+use Rattle.seg_vector.proofs.Words.{List, ◌∷◌, ◌++◌, arith, length, if◌then◌else◌, inl, inr, ◌⊎◌, ◌%◌, append-nil}
 use Rattle.seg_vector.proofs.Words.{◌-◌, length-append, take, drop, Bool, true, false, max, IsTrue, Result, Ok, Err}
 use Rattle.seg_vector.proofs.Words.{MatchResult, option_map, option_to_list, IfSome, nat_lt, insert, AllByRecursion}
 use Rattle.seg_vector.proofs.Words.{and_from, lt-ltb, eqb-true, le-ltb, length-drop, length-take, take-append-drop}
-use Rattle.seg_vector.proofs.Words.{Memory, Cut, bytes_of, word_at, current, Storage, link_at, IsNotWidened, IsWidened}
-use Rattle.seg_vector.proofs.Words.{exchanged, IsExchanged, IsRestored, Extent, LiveSet, handle, end_of, place, added}
-use Rattle.seg_vector.proofs.Words.{others, resized, Allocates, IsAllocated, IsChanged, IsHeap, IsReleased, IsResized}
-use Rattle.seg_vector.proofs.Words.{SameBlock, extent_at, live_of, has_room, IsShortened, is_live_in, Table, serves}
-use Rattle.seg_vector.proofs.Words.{is_table, IsFound, IsNone, SameBlock-trans, exchange-order, exchange-released}
-use Rattle.seg_vector.proofs.Words.{exchange-resized, exchange-taken, found-none, kept, kept-found, last-first}
-use Rattle.seg_vector.proofs.Words.{live-rises, middle-first, place-serves, regrow-serves, spread-refl, found-room}
-use Rattle.seg_vector.proofs.Words.{two-apart, laid-heap, taken-back, widened-back, Differs, keeps-refl, lay_out_one}
-use Rattle.seg_vector.proofs.Words.{others-past, rising-insert, Has-same, Place, place_at, AreSameElements, IsAdopted}
-use Rattle.seg_vector.proofs.Words.{IsAsked, IsNotAsked, IsSwapped, taken, widened, AreEvenLinks, IsReady, IsPutAsked}
-use Rattle.seg_vector.proofs.Words.{IsPutReady, IsServed, room_of, IsRefusedPut, IsTextNotPlaced, IsTextPlaced}
-use Rattle.seg_vector.proofs.Words.{AreOthers, IsTexts, IsTextsNow, IsStillAtFirst, IsTextPutIn, placed_text}
-use Rattle.seg_vector.proofs.Words.{with_array, AreTextLinks, OwnedText, IsOwnedText, capacity_for_one}
+use Rattle.seg_vector.proofs.Words.{Memory, Cut, bytes_of, word_at, current, Storage, link_at, IsNotWidened}
+use Rattle.seg_vector.proofs.Words.{IsWidened, exchanged, IsExchanged, IsRestored, Extent, LiveSet, handle, end_of}
+use Rattle.seg_vector.proofs.Words.{place, others, resized, Refusal, IsAllocated, IsChanged, IsHeap, IsReleased}
+use Rattle.seg_vector.proofs.Words.{IsResized, SameBlock, extent_at, live_of, has_room, IsShortened, is_live_in}
+use Rattle.seg_vector.proofs.Words.{Table, serves, is_table, IsFound, IsNone, SameBlock-trans, exchange-order}
+use Rattle.seg_vector.proofs.Words.{exchange-released, exchange-resized, exchange-taken, found-none, kept, kept-found}
+use Rattle.seg_vector.proofs.Words.{last-first, live-rises, middle-first, place-serves, regrow-serves, spread-refl}
+use Rattle.seg_vector.proofs.Words.{found-room, two-apart, laid-heap, taken-back, widened-back, Differs, keeps-refl}
+use Rattle.seg_vector.proofs.Words.{lay_out_one, others-past, rising-insert, Has-same, Place, place_at}
+use Rattle.seg_vector.proofs.Words.{AreSameElements, IsAdopted, IsAsked, IsWithoutFit, IsSwapped, taken, widened}
+use Rattle.seg_vector.proofs.Words.{AreEvenLinks, IsReady, IsPutAsked, IsPutReady, IsServed, room_of, IsRefusedPut}
+use Rattle.seg_vector.proofs.Words.{TakesStorage, IsTextPlaced, IsGivenUp, IsOutside, PutsInto, one_more, AreOthers}
+use Rattle.seg_vector.proofs.Words.{IsTexts, IsTextsNow, IsStillAtFirst, IsTextPutIn, placed_text, with_array}
+use Rattle.seg_vector.proofs.Words.{AreTextLinks, OwnedText, IsOwnedText, capacity_for_one, exchanged-live, []}
 use Rattle.best_fit.specs.Fit.{regrow}
 use Rattle.seg_vector.specs.Vector.{grown_table}
 use Rattle.seg_vector.proofs.Runs.{AreHeadWords, IsHead, IsRun, beside-head, block-written, head-kept, head-wider}
@@ -30,19 +31,18 @@ use Rattle.seg_vector.proofs.TextCalls.{held-elements, loose-kept, run-others, t
 use Rattle.seg_vector.proofs.Typed.{has-element}
 use Rattle.best_fit.specs.Fit as fit
 
--- ---- the array of a vector of texts with more places, once it was asked for
-
 -- ---- it is asked for
 
-asked-new : {E : Type 0} → (old new : Cut) (o : Option Extent) (n : ℕ) (r : Result ℕ E)
-    → regrow (live_of old.bytes) o n ≡ place (live_of old.bytes) n Storage → Allocates current old new n Storage r
-    → MatchResult r (IsAsked old new o n) (λ e. IsNotAsked old new o n)
+asked-new : (old new : Cut) (o : Option Extent) (n : ℕ) (r : Result ℕ Refusal)
+    → regrow (live_of old.bytes) o n ≡ place (live_of old.bytes) n Storage → TakesStorage old new n r
+    → MatchResult r (IsAsked old new o n) (IsWithoutFit old new (regrow (live_of old.bytes) o n))
 asked-new old new o n (Ok g) e a = taken a (e ∙ a.placed)
-asked-new old new o n (Err f) e a = record { none = e ∙ a.none; same = a.same }
+asked-new old new o n (Err f) e a = record { refusal = a.refusal; none = e ∙ a.none; same = a.same }
 
-pub asked-none : {E : Type 0} → (old new : Cut) {p : Place} {ps : List OwnedText} {c : ℕ} (n : ℕ) {o : Option Extent}
-    (r : Result ℕ E) → IsTexts old.bytes p ps (table c o) → link_at (bytes_of old.bytes) (place_at p) ≡ None
-    → Allocates current old new n Storage r → MatchResult r (IsAsked old new o n) (λ e. IsNotAsked old new o n)
+pub asked-none : (old new : Cut) {p : Place} {ps : List OwnedText} {c : ℕ} (n : ℕ) {o : Option Extent}
+    (r : Result ℕ Refusal) → IsTexts old.bytes p ps (table c o) → link_at (bytes_of old.bytes) (place_at p) ≡ None
+    → TakesStorage old new n r
+    → MatchResult r (IsAsked old new o n) (IsWithoutFit old new (regrow (live_of old.bytes) o n))
 asked-none old new n {o = None} r s link a = asked-new old new None n r (regrow-new (live_of old.bytes) n) a
 asked-none old new n {o = Some x} r s link a = none-some link s.words.link
 
@@ -59,13 +59,13 @@ pub asked-wide : {old new : Cut} {p : Place} {ps : List OwnedText} {t : Table} {
     → link_at (bytes_of old.bytes) (place_at p) ≡ Some g → IsWidened current old new g n → IsAsked old new t.extent n g
 asked-wide s link w = widened w (array-of s link w.found)
 
-pub asked-beside : {E : Type 0} → {old mid : Cut} (new : Cut) {p : Place} {ps : List OwnedText} {t : Table} {g n : ℕ}
-    (r : Result ℕ E) → IsTexts old.bytes p ps t → link_at (bytes_of old.bytes) (place_at p) ≡ Some g
-    → IsNotWidened old mid g n → Allocates current mid new n Storage r
-    → MatchResult r (IsAsked old new t.extent n) (λ e. IsNotAsked old new t.extent n)
+pub asked-beside : {old mid : Cut} (new : Cut) {p : Place} {ps : List OwnedText} {t : Table} {g n : ℕ}
+    (r : Result ℕ Refusal) → IsTexts old.bytes p ps t → link_at (bytes_of old.bytes) (place_at p) ≡ Some g
+    → IsNotWidened old mid g n → TakesStorage mid new n r
+    → MatchResult r (IsAsked old new t.extent n) (IsWithoutFit old new (regrow (live_of old.bytes) t.extent n))
 asked-beside {old} new {t} {n} r s link w a =
     asked-new old new t.extent n r (ap (λ o. regrow (live_of old.bytes) o n) (array-of s link w.found) ∙ w.regrown)
-    (subst (λ (k : Cut). Allocates current k new n Storage r) w.same a)
+    (subst (λ (k : Cut). TakesStorage k new n r) w.same a)
 
 -- ---- the table
 
@@ -514,8 +514,6 @@ pub too-many-texts : (c : Cut) {p : Place} {ps : List OwnedText} {t : Table} (n 
     → 1073741824 < n → grown_table (live_of c.bytes) 16 n t ≡ None
 too-many-texts c n s f = (too-many c n (texts-stand s) (omega arith) f).none
 
--- ---- a text that stands in its block is put into the vector: the elements behind it move up
-
 -- ---- before it is put
 
 pub none-array : (b : Cut) {p : Place} {ps : List OwnedText} {t : Table} → IsTexts b.bytes p ps t
@@ -547,7 +545,7 @@ same-loose m m' bytes (Some x) k s w =
     let full = serves-full x (length bytes) s.1 in
     Has-same m m' _ _ (handle x) bytes k.0.payload (omega arith) (omega (arith, full)) w
 
-flip-each : (y : Extent) (xs : List Extent) → AllByRecursion (λ (w : Extent). handle y ≢ handle w) xs
+pub flip-each : (y : Extent) (xs : List Extent) → AllByRecursion (λ (w : Extent). handle y ≢ handle w) xs
     → AllByRecursion (λ (w : Extent). AllByRecursion (λ (v : Extent). handle w ≢ handle v) (y ∷ [])) xs
 flip-each y [] d = tt
 flip-each y (x ∷ xs) d = (((λ f. d.0 (sym f)), tt), flip-each y xs d.1)
@@ -750,12 +748,7 @@ room-some {b} {r} {o = Some x} s link e =
     let g_is = same-some (sym s.words.link ∙ link) in
     let is : Some (x.len - 16) ≡ Some r = ap (option_map (λ (x : Extent). x.len - 16))
     (sym s.own.0 ∙ ap (λ k. extent_at (live_of b) k) g_is) ∙ e in
-    sym (some-is (x.len - 16) r is)
-  where
-    some-is : (a b : ℕ) → Some a ≡ Some b → a ≡ b
-    some-is a b e = cc
-
--- ---- a text put into a vector of texts: with a place for it, or in an array with more places
+    sym (same-some is)
 
 -- ---- with a place for it
 
@@ -831,9 +824,11 @@ same-first : (old new : Cut) (ps : List OwnedText) (t : Table) (bytes : List ℕ
     → IsStillAtFirst old new ps t bytes
 same-first old new ps t bytes e = record { text = λ f none. e; array = λ none. e }
 
-pub within-err : {s0 s1 : Cut} {p : Place} {ps : List OwnedText} {t : Table} {bytes : List ℕ} → IsTexts s0.bytes p ps t
-    → length ps < t.capacity → IsTextNotPlaced s0 s1 bytes → IsRefusedPut s0 s1 ps t bytes
+pub within-err : {s0 s1 : Cut} {p : Place} {ps : List OwnedText} {t : Table} {bytes : List ℕ} {e : Refusal}
+    → IsTexts s0.bytes p ps t → length ps < t.capacity
+    → IsWithoutFit s0 s1 (placed_text (live_of s0.bytes) bytes) e → IsRefusedPut s0 s1 ps t bytes e
 within-err {s0} {s1} {ps} {t} {bytes} s space r = record {
+  refusal = r.refusal;
   none = ap (after (live_of s0.bytes) t bytes) (same-grown-one (live_of s0.bytes) ps t space)
       ∙ ap (λ l. placed_text l bytes) (array-is (live_of s0.bytes) t) ∙ r.none;
   restored = restored-same s0 s1 s.heap r.same;
@@ -843,7 +838,7 @@ within-err {s0} {s1} {ps} {t} {bytes} s space r = record {
 -- ---- the first block that is asked for
 
 -- a text that is put in had both
-pub first-put : {old new : Cut} {p : Place} {ps : List OwnedText} {t : Table} {i : ℕ} {bytes : List ℕ}
+first-put : {old new : Cut} {p : Place} {ps : List OwnedText} {t : Table} {i : ℕ} {bytes : List ℕ}
     → IsTextPutIn old new p ps t i bytes → IsStillAtFirst old new ps t bytes
 first-put {old} {ps} {t} {bytes} w =
     let l = live_of old.bytes in
@@ -857,6 +852,20 @@ first-put {old} {ps} {t} {bytes} w =
           absurd (cc);
       array = λ none. let both = sym w.grown ∙ none in absurd (cc);
     }
+
+-- what is answered where the index is inside
+pub put-answered : (old new : Cut) (p : Place) (ps : List OwnedText) (t : Table) {i : ℕ} (bytes : List ℕ)
+    (r : Result (Unit {0}) Refusal) → i ≤ length ps → PutsInto old new p ps t i bytes r
+    → MatchResult r (λ u. (i ≤ length ps) × IsTextPutIn old new p ps t i bytes) (λ e.
+    IsOutside old new (length ps + 1) i e ⊎ ((i ≤ length ps) × IsGivenUp old new
+    (one_more (live_of old.bytes) ps t bytes) e))
+put-answered old new p ps t bytes (Ok u) f h = (f, h)
+put-answered old new p ps t bytes (Err e) f h = inr (f, record { refusal = h.refusal; none = h.none; restored = h.restored })
+
+pub first-answered : (old new : Cut) (p : Place) (ps : List OwnedText) (t : Table) (i : ℕ) (bytes : List ℕ)
+    (r : Result (Unit {0}) Refusal) → PutsInto old new p ps t i bytes r → IsStillAtFirst old new ps t bytes
+first-answered old new p ps t i bytes (Ok u) h = first-put h
+first-answered old new p ps t i bytes (Err e) h = h.first
 
 -- ---- in an array with more places
 
@@ -881,6 +890,15 @@ others-none y [] d = refl
 others-none y (z ∷ zs) d = others-past (handle y) z zs (λ e. d.0 (omega (arith, e)))
     ∙ ap (λ (ws : List Extent). z ∷ ws) (others-none y zs d.1)
 
+-- a block that is new is put in among the others
+pub came-alone : {a b : Cut} {x : Extent} → IsSwapped a b [] (x ∷ []) → live_of b.bytes ≡ resized (live_of a.bytes) x
+came-alone {a} {b} {x} s =
+    let l = live_of a.bytes in
+    let f = rising-insert 128 x l.extents (live-rises (exchanged l [] (x ∷ [])) s.live.proper) in
+    exchanged-live a b 0 0 [] _ _ s
+    ∙ ap (λ (zs : List Extent). let k : LiveSet = record l { extents = fit.insert x zs } in k)
+    (sym (others-none x l.extents f.differs))
+
 pub record IsAskedExtent (first mid : Cut) (o : Option Extent) (n : ℕ) : Type 0 where
   pub extent : Extent
   pub regrown : regrow (live_of first.bytes) o n ≡ Some extent
@@ -894,15 +912,7 @@ asked-extent {first} {mid} {n} (widened w is) = record {
   live = lay_out_one current mid.bytes (resized (live_of first.bytes) w.after) w.change.live;
 }
 asked-extent {first} {mid} (taken a e) =
-    let l = live_of first.bytes in
-    let f = rising-insert 128 a.extent l.extents (live-rises (added l a.extent) a.live.proper) in
-    record {
-      extent = a.extent;
-      regrown = e;
-      live = lay_out_one current mid.bytes (added l a.extent) a.live
-          ∙ ap (λ (zs : List Extent). let s : LiveSet = record l { extents = fit.insert a.extent zs } in s)
-          (sym (others-none a.extent l.extents f.differs));
-    }
+    record { extent = a.extent; regrown = e; live = came-alone (exchange-taken _ first mid _ _ _ 0 0 a) }
 
 more-array : (l : LiveSet) (t : Table) (n : ℕ) (y : Extent) → t.capacity < n
     → with_array l t (table n (Some y)) ≡ resized l y
@@ -930,23 +940,25 @@ growing-ok {s0} {s1} {t} {n} i {bytes} more wanted a pl ad now =
       now = now;
     }
 
-pub growing-none : {s0 s1 : Cut} {p : Place} {ps : List OwnedText} {t : Table} (n : ℕ) (bytes : List ℕ)
+pub growing-none : {s0 s1 : Cut} {p : Place} {ps : List OwnedText} {t : Table} (n : ℕ) (bytes : List ℕ) {e : Refusal}
     → IsTexts s0.bytes p ps t → t.capacity < n → n ≡ capacity_for_one (length ps) t.capacity
-    → IsNotAsked s0 s1 t.extent (16 * n) → IsRefusedPut s0 s1 ps t bytes
+    → IsWithoutFit s0 s1 (regrow (live_of s0.bytes) t.extent (16 * n)) e → IsRefusedPut s0 s1 ps t bytes e
 growing-none {s0} {s1} {ps} {t} n bytes s more wanted r = record {
+  refusal = r.refusal;
   none = ap (after (live_of s0.bytes) t bytes) (ap (λ k. grown_table (live_of s0.bytes) 16 k t) (sym wanted)
       ∙ not-grown (live_of s0.bytes) n t more r.none);
   restored = restored-same s0 s1 s.heap r.same;
   first = same-first s0 s1 ps t bytes r.same;
 }
 
-pub growing-err : {s0 s1 s2 new : Cut} (ps : List OwnedText) (t : Table) {g : ℕ} (n : ℕ) {bytes : List ℕ}
+pub growing-err : {s0 s1 s2 new : Cut} (ps : List OwnedText) (t : Table) {g : ℕ} (n : ℕ) {bytes : List ℕ} {e : Refusal}
     → t.capacity < n → n ≡ capacity_for_one (length ps) t.capacity → t.capacity ≤ length ps
-    → IsAsked s0 s1 t.extent (16 * n) g → IsTextNotPlaced s1 s2 bytes
-    → IsRestored current s0 new → IsRefusedPut s0 new ps t bytes
+    → IsAsked s0 s1 t.extent (16 * n) g → IsWithoutFit s1 s2 (placed_text (live_of s1.bytes) bytes) e
+    → IsRestored current s0 new → IsRefusedPut s0 new ps t bytes e
 growing-err {s0} {s1} ps t n {bytes} more wanted full a r back =
     let l = live_of s0.bytes in let x = asked-extent a in
     record {
+      refusal = r.refusal;
       none = ap (after l t bytes) (ap (λ k. grown_table l 16 k t) (sym wanted) ∙ grown-to l n t more x.regrown)
           ∙ ap (λ (s : LiveSet). placed_text s bytes) (more-array l t n x.extent more ∙ sym x.live) ∙ r.none;
       restored = back;

@@ -1,31 +1,29 @@
 -- Other texts for a vector, laid out beside those that it has.
-use Rattle.seg_vector.proofs.Words.{◌≡◌, ◌≢◌, refl, sym, ap, subst, ◌∙◌, inl, ℕ, zero, suc, ◌+◌, ◌*◌, ◌<◌, ◌≤◌, Option}
-use Rattle.seg_vector.proofs.Words.{Some, None, List, [], ◌∷◌, ◌++◌, append-nil, append_assoc, arith, length}
+use Rattle.seg_vector.proofs.Words.{◌≡◌, ◌≢◌, refl, sym, ap, subst, ◌∙◌, inl, ℕ, zero, suc, ◌+◌, ◌*◌, ◌<◌, ◌≤◌}
+use Rattle.seg_vector.proofs.Words.{Option, Some, None, List, ◌∷◌, ◌++◌, append-nil, append_assoc, arith, length}
 use Rattle.seg_vector.proofs.Words.{length-append, drop, map, slice_index_or, Bor, ◌%◌, inr, if◌then◌else◌, false}
 use Rattle.seg_vector.proofs.Words.{◌==◌, Ok, IfSome, IsTrue, option_map, option_to_list, AllByRecursion}
 use Rattle.seg_vector.proofs.Words.{flat_map-append, ne_eqb, drop_all, Memory, Cut, bytes_of, word_at, current}
 use Rattle.seg_vector.proofs.Words.{link_at, exchanged, inserted, without_all, IsRestored, SameBlockBut, IsExchanged}
 use Rattle.seg_vector.proofs.Words.{Extent, LiveSet, handle, others, resized, place, IsChanged, IsHeap, SameBlock}
-use Rattle.seg_vector.proofs.Words.{extent_at, has_room, live_of, IsAllocated, IsRefused, IsReleased, is_live_in}
-use Rattle.seg_vector.proofs.Words.{Differs, IsFound, IsNone, all-found-in, all-in-use, changed-live, exchange-next}
-use Rattle.seg_vector.proofs.Words.{exchange-order, exchange-same, exchanged-live, found-room, kept, laid-heap}
-use Rattle.seg_vector.proofs.Words.{last-first, live-rises, others-past, rising-insert, rising-others, roomy}
-use Rattle.seg_vector.proofs.Words.{spread-refl, exchange-released, exchange-taken, keeps-refl, place-serves, too_long}
+use Rattle.seg_vector.proofs.Words.{extent_at, has_room, live_of, IsAllocated, NoSpace, Refusal, IsReleased}
+use Rattle.seg_vector.proofs.Words.{is_live_in, IsFound, IsNone, all-found-in, all-in-use, changed-live}
+use Rattle.seg_vector.proofs.Words.{exchange-next, exchange-order, exchange-same, exchanged-live, found-room, kept}
+use Rattle.seg_vector.proofs.Words.{laid-heap, last-first, live-rises, rising-others, roomy, spread-refl}
+use Rattle.seg_vector.proofs.Words.{exchange-released, exchange-taken, keeps-refl, place-serves, too_long}
 use Rattle.seg_vector.proofs.Words.{kept-beside, Storage, Table, no_table, AreLaid, AreLaidUpTo, AreLaidOut}
-use Rattle.seg_vector.proofs.Words.{AreNotLaidOut, AreSameElements, IsServed, IsSwapped, IsTextNotPlaced, IsTextPlaced}
+use Rattle.seg_vector.proofs.Words.{AreNotLaidOut, AreSameElements, IsServed, IsSwapped, IsWithoutFit, IsTextPlaced}
 use Rattle.seg_vector.proofs.Words.{AreHeldElements, AreOthers, placed_text, placed_texts, text_blocks, with_text}
 use Rattle.seg_vector.proofs.Words.{all_texts, new_array, AreTextsAssigned, AssignsTexts, IsTexts, IsTextsNow}
-use Rattle.seg_vector.proofs.Words.{ReleasesTexts, AreTextLinks, IsOwnedText, OwnedText, Place, place_at}
+use Rattle.seg_vector.proofs.Words.{ReleasesTexts, AreTextLinks, IsOwnedText, OwnedText, Place, place_at, []}
 use Rattle.seg_vector.proofs.Runs.{AreHeadWords, IsHead, block-written, changed-both, head-exchanged, len-written}
-use Rattle.seg_vector.proofs.Runs.{run-none, run-swapped, serves-full, table}
+use Rattle.seg_vector.proofs.Runs.{run-none, run-swapped, same-some, serves-full, table}
 use Rattle.seg_vector.proofs.TextBlocks.{all-join, all-split, element-beside, element-in, element-trans, even-block}
-use Rattle.seg_vector.proofs.TextBlocks.{found-live, links-join, links-moved, own-head, own_blocks, run-begin}
-use Rattle.seg_vector.proofs.TextBlocks.{texts-between, texts-own}
+use Rattle.seg_vector.proofs.TextBlocks.{found-live, links-join, links-moved, of-none, own-head, own_blocks}
+use Rattle.seg_vector.proofs.TextBlocks.{run-begin, texts-between, texts-own}
 use Rattle.seg_vector.proofs.TextCalls.{come-even, run-others, texts-still}
-use Rattle.seg_vector.proofs.TextGrowth.{all-kept, new-table, same-loose}
+use Rattle.seg_vector.proofs.TextGrowth.{all-kept, came-alone, flip-each, new-table, same-loose}
 use Rattle.best_fit.specs.Fit as fit
-
--- ---- an array and texts that are laid out beside all that a heap holds, one after another
 
 -- ---- blocks that came
 
@@ -46,11 +44,6 @@ are-come {a} {b} {gone} {come} x =
       others = rising-others come rest (live-rises (exchanged l gone come) x.live.proper);
     }
 
-none-of-one : (y : Extent) (xs : List Extent) → AllByRecursion (λ (w : Extent). handle y ≢ handle w) xs
-    → AllByRecursion (λ (w : Extent). IsNone (handle w) (y ∷ [])) xs
-none-of-one y [] d = tt
-none-of-one y (x ∷ xs) d = (((λ f. d.0 (sym f)), tt), none-of-one y xs d.1)
-
 none-of-none : (xs : List Extent) → AllByRecursion (λ (w : Extent). IsNone (handle w) []) xs
 none-of-none [] = tt
 none-of-none (x ∷ xs) = (tt, none-of-none xs)
@@ -69,20 +62,6 @@ blocks-more qs q = flat_map-append (λ (w : OwnedText). option_to_list w.extent)
     ∙ ap (λ (xs : List Extent). text_blocks qs ++ xs) (append-nil (option_to_list q.extent))
 
 -- ---- the live set
-
-others-none : (y : Extent) (zs : List Extent) → Differs y zs → others (handle y) zs ≡ zs
-others-none y [] d = refl
-others-none y (z ∷ zs) d = others-past (handle y) z zs (λ e. d.0 (omega (arith, e)))
-    ∙ ap (λ (ws : List Extent). z ∷ ws) (others-none y zs d.1)
-
--- a block that is new is put in among the others
-pub came-alone : {a b : Cut} {x : Extent} → IsSwapped a b [] (x ∷ []) → live_of b.bytes ≡ resized (live_of a.bytes) x
-came-alone {a} {b} {x} s =
-    let l = live_of a.bytes in
-    let f = rising-insert 128 x l.extents (live-rises (exchanged l [] (x ∷ [])) s.live.proper) in
-    exchanged-live a b 0 0 [] _ _ s
-    ∙ ap (λ (zs : List Extent). let k : LiveSet = record l { extents = fit.insert x zs } in k)
-    (sym (others-none x l.extents f.differs))
 
 with-text_in : {a b : Cut} (bytes : List ℕ) (o : Option Extent) → IsSwapped a b [] (option_to_list o)
     → live_of b.bytes ≡ with_text (live_of a.bytes) (record { bytes = bytes; extent = o })
@@ -173,7 +152,7 @@ laid-next {old} {now} {mid} {new} {y} {i} n {bytes} {more} a split below big pl 
     let stay : AllByRecursion (SameBlock (bytes_of mid.bytes) (bytes_of new.bytes))
     (text_blocks (a.texts ++ (q ∷ []))) =
     subst (AllByRecursion (SameBlock (bytes_of mid.bytes) (bytes_of new.bytes))) (sym blocks)
-    (all-kept (tb ++ oq) there.heap x2 there.found.1 (none-of-one y (tb ++ oq) there.others.0)) in
+    (all-kept (tb ++ oq) there.heap x2 there.found.1 (flip-each y (tb ++ oq) there.others.0)) in
     let live : live_of new.bytes ≡ with_text (live_of now.bytes) q = changed-live _ mid new _ 16 c ∙ with-text-live q
     pl.change in
     record {
@@ -195,9 +174,9 @@ laid-next {old} {now} {mid} {new} {y} {i} n {bytes} {more} a split below big pl 
 
 -- ---- it ends
 
-pub laid-stops : {old now new : Cut} {y : Extent} {i : ℕ} {bytes : List ℕ} {more : List (List ℕ)}
+pub laid-stops : {old now new : Cut} {y : Extent} {i : ℕ} {bytes : List ℕ} {more : List (List ℕ)} {e : Refusal}
     → AreLaid old now y i more → drop i more ≡ bytes ∷ drop (i + 1) more → i ≤ length more
-    → IsTextNotPlaced now new bytes → AreLaidUpTo old new y i more
+    → IsWithoutFit now new (placed_text (live_of now.bytes) bytes) e → AreLaidUpTo old new y i more
 laid-stops {old} {now} {y} {i} {bytes} {more} a split within r =
     subst (λ (c : Cut). AreLaidUpTo old c y i more) (sym r.same) (record {
       laid = a;
@@ -251,11 +230,8 @@ laid-room {mid} {y} {i} n array at a pl below big =
 pub found-big : (c : Cut) (array n : ℕ) {y : Extent} → IsHeap current c.bytes
     → IsTrue (has_room (live_of c.bytes) array n) → extent_at (live_of c.bytes) array ≡ Some y → n + 16 ≤ y.len
 found-big c array n {y} heap room found =
-    let r = roomy c array n heap room in let same = same-extent r.extent y (sym r.found ∙ found) in
-    subst (λ (x : Extent). n + 16 ≤ x.len) same r.room
-  where
-    same-extent : (a b : Extent) → Some a ≡ Some b → a ≡ b
-    same-extent a b e = cc
+    let r = roomy c array n heap room in
+    subst (λ (x : Extent). n + 16 ≤ x.len) (same-some (sym r.found ∙ found)) r.room
 
 pub laid-put : {old now mid new : Cut} {y : Extent} {i : ℕ} (n array : ℕ) {bytes : List ℕ} {more : List (List ℕ)}
     {block : Option ℕ} → handle y ≡ array → AreLaid old now y i more → drop i more ≡ bytes ∷ drop (i + 1) more → i < n
@@ -305,24 +281,26 @@ fitted l more {y} f e none =
 -- ---- nothing is laid out
 
 unchanged : (c : Cut) (more : List (List ℕ)) → IsHeap current c.bytes → all_texts (live_of c.bytes) more ≡ None
-    → AreNotLaidOut c c more
+    → AreNotLaidOut c c more NoSpace
 unchanged c more heap e =
     record {
+      refusal = refl;
       none = e;
       restored = record { laid = heap; keeps = keeps-refl c (live_of c.bytes).extents };
       first = λ none. refl;
     }
 
 pub out-of-reach : (c : Cut) (n : ℕ) (more : List (List ℕ)) → IsHeap current c.bytes → n ≡ length more → 1073741824 < n
-    → AreNotLaidOut c c more
+    → AreNotLaidOut c c more NoSpace
 out-of-reach c n more heap e f = unchanged c more heap (no-array (live_of c.bytes) more (omega (arith, e, f))
     (too_long c (16 * length more) Storage heap (omega (arith, e, f))))
 
-pub no-space : {old new : Cut} (n : ℕ) (more : List (List ℕ)) → IsHeap current old.bytes → 0 < n → n ≡ length more
-    → IsRefused old new (16 * n) Storage → AreNotLaidOut old new more
-no-space {old} n more heap some e r = subst (λ (c : Cut). AreNotLaidOut old c more) (sym r.same)
-    (unchanged old more heap (no-array (live_of old.bytes) more (omega (arith, e, some))
-    (subst (λ k. place (live_of old.bytes) (16 * k) Storage ≡ None) e r.none)))
+pub no-space : {old new : Cut} (n : ℕ) (more : List (List ℕ)) {f : Refusal} → IsHeap current old.bytes → 0 < n
+    → n ≡ length more → IsWithoutFit old new (place (live_of old.bytes) (16 * n) Storage) f
+    → AreNotLaidOut old new more f
+no-space {old} {new} n more heap some e r = subst (AreNotLaidOut old new more) (sym r.refusal)
+    (subst (λ (c : Cut). AreNotLaidOut old c more NoSpace) (sym r.same) (unchanged old more heap (no-array (live_of old.bytes) more (omega (arith, e, some))
+    (subst (λ k. place (live_of old.bytes) (16 * k) Storage ≡ None) e r.none))))
 
 -- ---- the array
 
@@ -382,11 +360,6 @@ laid-out {old} {mid} {new} {k} {more} t e w all =
 
 -- ---- not all of them
 
-not-this : (y : Extent) (xs : List Extent) → AllByRecursion (λ (w : Extent). handle y ≢ handle w) xs
-    → AllByRecursion (λ (w : Extent). handle w ≢ handle y) xs
-not-this y [] d = tt
-not-this y (x ∷ xs) d = ((λ f. d.0 (sym f)), not-this y xs d.1)
-
 pub laid-held : {old mid new : Cut} {n k g : ℕ} {more : List (List ℕ)} → (t : IsArrayTaken old mid n g)
     → n ≡ length more → (w : AreLaidUpTo mid new t.block k more) → AreHeldElements new.bytes g k w.laid.texts
 laid-held {new} {k} t e w =
@@ -398,7 +371,7 @@ laid-held {new} {k} t e w =
       long = w.laid.long;
       links = w.laid.links;
       live = come.found.1;
-      apart = not-this t.block tb come.others.0;
+      apart = of-none (handle t.block) tb come.others.0;
       others = come.others.1;
     })
 
@@ -444,13 +417,15 @@ swapped-back {old} {new} x = record {
 
 pub taken-off : {old mid new left last : Cut} {n k g : ℕ} {more : List (List ℕ)} → (t : IsArrayTaken old mid n g)
     → n ≡ length more → 0 < n → (w : AreLaidUpTo mid new t.block k more) → k ≢ n
-    → IsSwapped new left (text_blocks w.laid.texts) [] → IsReleased current left last g → AreNotLaidOut old last more
+    → IsSwapped new left (text_blocks w.laid.texts) [] → IsReleased current left last g
+    → AreNotLaidOut old last more NoSpace
 taken-off {old} {mid} {new} {left} {last} {n} {k} {more} t e some w short x r =
     let y = t.block in let a = w.laid in let alone = array-alone t w x in
     let gone = exchange-released current left last y 0 0 (subst (IsReleased current left last) (sym t.at) r) in
     let fit : place (live_of old.bytes) (16 * length more) Storage ≡ Some y =
     subst (λ i. place (live_of old.bytes) (16 * i) Storage ≡ Some y) e t.placed in
     record {
+      refusal = refl;
       none = in-array (live_of old.bytes) more (omega (arith, e, some)) fit
           ∙ ap (λ (l : LiveSet). placed_texts l more) (sym (came-alone t.change)) ∙ a.placed
           ∙ ap (option_map (λ (qs : List OwnedText). a.texts ++ qs))
@@ -461,8 +436,6 @@ taken-off {old} {mid} {new} {left} {last} {n} {k} {more} t e some w short x r =
   where
     below : (k n m : ℕ) → k ≢ n → n ≡ m → k ≤ m → k < m
     below k n m d e f = grind arith
-
--- ---- a vector of texts that are laid out beside those that it had, which are released then
 
 -- ---- blocks that stay where the vector's own ones are released and its words are written
 

@@ -1,21 +1,21 @@
 -- Vectors of values and texts, from what is known of their bytes.
-use Rattle.seg_vector.proofs.Words.{◌≡◌, refl, sym, ap, subst, ◌∙◌, ℕ, zero, suc, ◌+◌, ◌*◌, ◌<◌, Bool, true, List, []}
+use Rattle.seg_vector.proofs.Words.{◌≡◌, refl, sym, ap, subst, ◌∙◌, ℕ, zero, suc, ◌+◌, ◌*◌, ◌<◌, Bool, true, List}
 use Rattle.seg_vector.proofs.Words.{◌∷◌, ◌++◌, length, take, drop, append_assoc, arith, ◌-◌, ◌≤◌, max, false}
 use Rattle.seg_vector.proofs.Words.{if◌then◌else◌, length-append, append-nil, IsTrue, Some, flat_map, insert, remove}
 use Rattle.seg_vector.proofs.Words.{slice_get, slice_set, nat_le, option_to_list, list_all, and_from, and_parts}
 use Rattle.seg_vector.proofs.Words.{leb-true, list_all-append, take-append-drop, length-set, length-take}
-use Rattle.seg_vector.proofs.Words.{flat_map-append, take-append-add, drop-append-add, take-append_seam, length-insert}
-use Rattle.seg_vector.proofs.Words.{length-remove, part, patched, Cut, bytes_of, word_at, current, IsExchanged}
-use Rattle.seg_vector.proofs.Words.{IsChanged, IsHeap, has_room, live_of, Table, no_table, NoSpace, Place, Erases}
-use Rattle.seg_vector.proofs.Words.{Extends, Fits, GivesBack, Inserts, IsFitted, IsGivenBack, IsRewritten, Overwrites}
-use Rattle.seg_vector.proofs.Words.{ReadsOne, Truncates, Appends, IsAppended, IsGrown, IsNotGrown, IsStanding, Stands}
-use Rattle.seg_vector.proofs.Words.{place_at, IsText, IsTextGrown, IsTextNow, capacity_for_one, capacity_for_text}
-use Rattle.seg_vector.proofs.Words.{IsVector, IsVectorGrown, IsVectorNow, IsWithoutSpace, Starts}
+use Rattle.seg_vector.proofs.Words.{flat_map-append, take-append-add, drop-append-add, take-append_seam}
+use Rattle.seg_vector.proofs.Words.{length-insert, length-remove, part, patched, Cut, bytes_of, word_at, current}
+use Rattle.seg_vector.proofs.Words.{IsExchanged, IsChanged, IsHeap, has_room, live_of, Table, no_table, Refusal}
+use Rattle.seg_vector.proofs.Words.{Place, Erases, Result, Ok, Err, MatchResult, Extends, Fits, GivesBack, Inserts}
+use Rattle.seg_vector.proofs.Words.{IsFitted, IsGivenBack, IsRewritten, Overwrites, ReadsOne, Truncates, Appends}
+use Rattle.seg_vector.proofs.Words.{IsAppended, IsGrown, Grows, IsStanding, Stands, place_at, IsText, IsTextGrown}
+use Rattle.seg_vector.proofs.Words.{IsTextNow, capacity_for_one, capacity_for_text, IsVector, IsVectorGrown}
+use Rattle.seg_vector.proofs.Words.{IsVectorNow, IsWithoutSpace, Starts, []}
 use Rattle.best_fit.specs.Table.{cut_table}
 use Rattle.seg_vector.proofs.Runs.{head-exchanged, same-some, table}
-use Rattle.seg_vector.proofs.Storage.{at-least, capacity-bytes, exchange-then, unchanged-rewritten}
-
--- ---- the spellings of the elements of a list, one after another
+use Rattle.seg_vector.proofs.Storage.{capacity-bytes, exchange-then, has-place, not-refused, unchanged-rewritten}
+use Rattle.seg_vector.proofs.Storage.{wanted-places}
 
 -- ---- what holds of each
 
@@ -224,20 +224,12 @@ pub text-started : {old new : Cut} {p : Place} → IsHeap current old.bytes
     → IsTextNow old new p no_table [] no_table
 text-started {p} heap r c s = record { change = head-exchanged p heap r c; text = s }
 
-pub wanted-is : {w len capacity n k : ℕ} → w ≡ capacity_for_one len capacity → len ≡ n → capacity ≡ k
-    → w ≡ capacity_for_one n k
-wanted-is e f g = e ∙ (λ i. capacity_for_one (f i) (g i))
-
 -- ---- what the calls on bytes do, for vectors. Their element size is the type's.
 
--- what is done where the storage is grown, or cannot be
-abbrev pub HasGrown : Cut → Cut → Place → ℕ → ℕ → Type 0
+-- what is done where the storage is grown, to so many places as the length and the capacity say
+abbrev pub HasGrown : Cut → Cut → Place → ℕ → (ℕ → ℕ → ℕ) → Type 0
 HasGrown old mid p k n = (len : ℕ) (t : Table) (bytes : List ℕ) → Stands old.bytes p k len t bytes
-    → IsGrown old mid p k n len t bytes
-
-abbrev pub HasNotGrown : Cut → Cut → Place → ℕ → ℕ → Type 0
-HasNotGrown old mid p k n = (len : ℕ) (t : Table) (bytes : List ℕ) → Stands old.bytes p k len t bytes
-    → IsNotGrown old mid k n t
+    → IsGrown old mid p k (n len t.capacity) len t bytes
 
 module _ {T : Type 0} {size : ℕ} {test : T → Bool} {sp : T → List ℕ} (old mid : Cut) {p : Place} {k : ℕ} {xs : List T}
     {t : Table} (e : k ≡ size) (v : IsVector size test sp old.bytes p xs t) where
@@ -247,21 +239,36 @@ module _ {T : Type 0} {size : ℕ} {test : T → Bool} {sp : T → List ℕ} (ol
   pub is-standing : IsStanding old.bytes p k
   is-standing = (length xs, (t, (flat_map sp xs, stands-at)))
 
-  pub small-capacity : 1 ≤ size → t.capacity < 1073741824
-  small-capacity some =
-      let few = capacity-bytes old v.stands.heap v.stands in let least = at-least size t.capacity some in
-      omega (arith, few, least)
+  pub grown-of : (n : ℕ → ℕ → ℕ) → HasGrown old mid p k n
+      → IsGrown old mid p size (n (length xs) t.capacity) (length xs) t (flat_map sp xs)
+  grown-of n h = subst (λ j. IsGrown old mid p j (n (length xs) t.capacity) (length xs) t (flat_map sp xs)) e
+      (h (length xs) t (flat_map sp xs) stands-at)
 
-  pub grown-of : {n m : ℕ} → n ≡ m → HasGrown old mid p k n → IsGrown old mid p size m (length xs) t (flat_map sp xs)
-  grown-of {n = n} f h = subst (λ j. IsGrown old mid p size j (length xs) t (flat_map sp xs)) f
-      (subst (λ j. IsGrown old mid p j n (length xs) t (flat_map sp xs)) e
-      (h (length xs) t (flat_map sp xs) stands-at))
+  pub without-space : (n : ℕ → ℕ → ℕ) {f : Refusal} → ((len : ℕ) (u : Table) (bytes : List ℕ)
+      → Stands old.bytes p k len u bytes → IsWithoutSpace old mid k (n len u.capacity) u f)
+      → IsWithoutSpace old mid size (n (length xs) t.capacity) t f
+  without-space n {f = f} h = subst (λ j. IsWithoutSpace old mid j (n (length xs) t.capacity) t f) e
+      (h (length xs) t (flat_map sp xs) stands-at)
 
-  pub without-space : {n m : ℕ} → n ≡ m → HasNotGrown old mid p k n → IsWithoutSpace old mid size m t NoSpace
-  without-space {n = n} {m = m} f h =
-      let r : IsNotGrown old mid size m t = subst (λ j. IsNotGrown old mid size j t) f
-      (subst (λ j. IsNotGrown old mid j n t) e (h (length xs) t (flat_map sp xs) stands-at)) in
-      record { refusal = refl; none = r.none; same = r.same }
+  -- so many places as are asked for
+  pub reserved-of : (n : ℕ) (r : Result (Unit {0}) Refusal) → Grows old mid p k n r
+      → MatchResult r (λ u. IsVectorGrown size test sp old mid p t n xs) (IsWithoutSpace old mid size n t)
+  reserved-of n (Ok u) h = vector-grown v (grown-of (λ len capacity. n) h)
+  reserved-of n (Err f) h = without-space (λ len capacity. n) h
+
+  pub reserved-enough : (n : ℕ) (r : Result (Unit {0}) Refusal) → Grows old mid p k n r → n ≤ t.capacity
+      → (r ≡ Ok tt) × (mid ≡ old)
+  reserved-enough n (Ok tt) h less = (refl, (grown-of (λ len capacity. n) h).enough less)
+  reserved-enough n (Err f) h less = absurd (not-refused less (without-space (λ len capacity. n) h))
+
+  -- one element more: it has a place then
+  pub stands-for-one : HasGrown old mid p k capacity_for_one → IsStanding mid.bytes p size
+  stands-for-one h = let grown = grown-of capacity_for_one h in
+      (length xs, (grown.table, (flat_map sp xs, grown.stands)))
+
+  pub space-for-one : HasGrown old mid p k capacity_for_one
+      → word_at (bytes_of mid.bytes) (p.handle + p.at + 8) < word_at (bytes_of mid.bytes) (p.handle + p.at + 16)
+  space-for-one h = has-place (wanted-places (length xs) t.capacity v.stands.fits).0 (grown-of capacity_for_one h)
 
   pub cut-now : (n : ℕ) → ((x : T) → test x ≡ true → length (sp x) ≡ size) → n ≤ length xs → Truncates old mid p k n
       → IsVectorNow size test sp old mid p t (take n xs) t
@@ -375,13 +382,15 @@ module _ (old mid : Cut) {p : Place} {bytes : List ℕ} {t : Table} (v : IsText 
   pub few-bytes : t.capacity < 1073741824
   few-bytes = let few : 1 * t.capacity < 1073741824 = capacity-bytes old v.heap v in omega (arith, few)
 
-  pub text-without-space : {n m : ℕ} → n ≡ m → HasNotGrown old mid p 1 n → IsWithoutSpace old mid 1 m t NoSpace
-  text-without-space {m = m} f h =
-      let r : IsNotGrown old mid 1 m t = subst (λ j. IsNotGrown old mid 1 j t) f (h (length bytes) t bytes v) in
-      record { refusal = refl; none = r.none; same = r.same }
+  pub text-reserved : (n : ℕ) (r : Result (Unit {0}) Refusal) → Grows old mid p 1 n r
+      → MatchResult r (λ u. IsTextGrown old mid p t n bytes) (IsWithoutSpace old mid 1 n t)
+  text-reserved n (Ok u) h = text-grown (h (length bytes) t bytes v)
+  text-reserved n (Err f) h = h (length bytes) t bytes v
 
-  pub text-grown-of : {n m : ℕ} → n ≡ m → HasGrown old mid p 1 n → IsGrown old mid p 1 m (length bytes) t bytes
-  text-grown-of f h = subst (λ j. IsGrown old mid p 1 j (length bytes) t bytes) f (h (length bytes) t bytes v)
+  pub text-enough : (n : ℕ) (r : Result (Unit {0}) Refusal) → Grows old mid p 1 n r → n ≤ t.capacity
+      → (r ≡ Ok tt) × (mid ≡ old)
+  text-enough n (Ok tt) h less = (refl, (h (length bytes) t bytes v).enough less)
+  text-enough n (Err f) h less = absurd (not-refused less (h (length bytes) t bytes v))
 
   pub text-cleared : Truncates old mid p 1 0 → IsTextNow old mid p t [] t
   text-cleared h = text-now [] (h (length bytes) t bytes v) refl refl

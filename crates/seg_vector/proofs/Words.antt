@@ -12,6 +12,7 @@ pub use Rattle.std.proofs.lemmas.List.{drop_at, take_all, length-map}
 pub use Rattle.std.proofs.lemmas.List.Edits.{length-insert, length-remove}
 pub use Rattle.std.proofs.lemmas.List.Folds.{list_all-append}
 pub use Rattle.std.proofs.lemmas.Option.{slice_get_within}
+pub use Rattle.std.proofs.lemmas.Result.{err_from_is_err_and}
 pub use Rattle.std.specs.List.{AllByRecursion, list_all, list_any}
 pub use Rattle.std.specs.Prelude.{IsTrue, nat_lt, option_to_list, option_map, IfSome, flat_map, insert, remove}
 pub use Rattle.std.specs.Prelude.{slice_get, slice_set, nat_le, find, Result, Err, MatchResult, ⊤}
@@ -43,22 +44,24 @@ pub use Rattle.offset_link.specs.Link.{link_at, target_of}
 pub use Rattle.raw_region.proofs.Laws.{SameBut-wider, SameBut-word, Has-same, read-part}
 pub use Rattle.raw_region.specs.Format.{current}
 pub use Rattle.raw_region.specs.Memory.{Memory, Cut, SameBut, bytes_of, word_at, Same, Has, part, patched, read}
+pub use Rattle.seg_types.specs.declared.refusals.Refusal.{Refusal}
 pub use Rattle.seg_types.specs.declared.refusals.Refusal.TheVariants.{NoSpace}
 pub use Rattle.seg_vector.specs.Elements.{IsGivenBack, IsFitted, Erases, Extends, Fits, GivesBack, Inserts}
 pub use Rattle.seg_vector.specs.Elements.{IsRewritten, Overwrites, ReadsOne, Truncates}
-pub use Rattle.seg_vector.specs.Standing.{IsOwnBlock, Stands, place_at, Appends, IsAppended, IsGrown, IsNotGrown}
+pub use Rattle.seg_vector.specs.Standing.{IsOwnBlock, Stands, place_at, Appends, IsAppended, IsGrown, Grows}
 pub use Rattle.seg_vector.specs.Standing.{IsStanding}
 pub use Rattle.seg_vector.specs.TextCalls.{IsText, IsTextGrown, IsTextNow}
 pub use Rattle.seg_vector.specs.TextLists.{AreLaid, AreLaidUpTo, AreLaidOut, AreNotLaidOut}
-pub use Rattle.seg_vector.specs.TextParts.{IsSwapped, AreSameElements, IsServed, IsTextNotPlaced, IsTextPlaced}
+pub use Rattle.seg_vector.specs.TextParts.{IsSwapped, AreSameElements, IsServed, TakesStorage, IsTextPlaced}
 pub use Rattle.seg_vector.specs.TextParts.{AreHeldElements, IsHeldElement, IsSameElement, AreEvenLinks, IsAdopted}
-pub use Rattle.seg_vector.specs.TextParts.{IsAsked, IsNotAsked, taken, widened, IsReady, IsPutAsked, IsPutReady}
-pub use Rattle.seg_vector.specs.TextParts.{room_of, IsRefusedPut, IsTextReplaced}
+pub use Rattle.seg_vector.specs.TextParts.{IsAsked, taken, widened, IsReady, IsPutAsked, IsPutReady}
+pub use Rattle.seg_vector.specs.TextParts.{room_of, IsRefusedPut, IsTextReplaced, PutsInto}
 pub use Rattle.seg_vector.specs.TextsCalls.{AreOthers, placed_text, placed_texts, text_blocks, with_text, all_texts}
 pub use Rattle.seg_vector.specs.TextsCalls.{new_array, AreTextsAssigned, AssignsTexts, IsTexts, IsTextsNow}
 pub use Rattle.seg_vector.specs.TextsCalls.{ReleasesTexts, IsHeldText, IsTextElement, IsStillAtFirst, IsTextPutIn}
-pub use Rattle.seg_vector.specs.TextsCalls.{with_array}
+pub use Rattle.seg_vector.specs.TextsCalls.{with_array, one_more, IsGivenUp, IsWithoutFit}
 pub use Rattle.seg_vector.specs.Vector.{IsStorage, AreTextLinks, IsOwnedText, OwnedText, capacity_for_one}
 pub use Rattle.seg_vector.specs.Vector.{capacity_for_text, AreInArray}
 pub use Rattle.seg_vector.specs.VectorCalls.{IsVector, IsVectorGrown, IsVectorNow, IsWithoutSpace, Starts}
+pub use Rattle.seg_vector.specs.VectorCalls.{IsOutside}
 pub use Rattle.seg_vector.specs.declared.places.Place.{Place}

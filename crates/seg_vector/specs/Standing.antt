@@ -7,8 +7,10 @@ use Rattle.best_fit.specs.Exchange.{IsExchanged}
 use Rattle.best_fit.specs.Extents.{Extent, LiveSet, handle}
 use Rattle.best_fit.specs.Heap.{IsHeap, extent_at, has_room, live_of}
 use Rattle.best_fit.specs.Table.{Table, is_table}
+use Rattle.seg_types.specs.declared.refusals.Refusal.{Refusal}
+use Rattle.seg_types.specs.declared.refusals.Refusal.TheVariants.{NoSpace}
 use Rattle.seg_vector.specs.declared.places.Place.{Place}
-use Rattle.seg_vector.specs.Vector.{IsContainerAt, grown_table}
+use Rattle.seg_vector.specs.Vector.{IsContainerAt, capacity_for_one, grown_table}
 
 -- where the three words stand
 abbrev pub place_at : Place → ℕ
@@ -41,14 +43,21 @@ pub record IsGrown (old new : Cut) (p : Place) (each n len : ℕ) (t : Table) (b
   pub stands : Stands new.bytes p each len table bytes
   pub enough : n ≤ t.capacity → new ≡ old
 
--- there is no space for so many, and nothing changes
-pub record IsNotGrown (old new : Cut) (each n : ℕ) (t : Table) : Type 0 where
+-- there is no space for so many places, and nothing changes
+pub record IsWithoutSpace (old new : Cut) (each n : ℕ) (t : Table) (e : Refusal) : Type 0 where
+  pub refusal : e ≡ NoSpace
   pub none : grown_table (live_of old.bytes) each n t ≡ None
   pub same : new ≡ old
 
-abbrev pub Grows : {E : Type 0} → Cut → Cut → Place → ℕ → ℕ → Result (Unit {0}) E → Type 0
+abbrev pub Grows : Cut → Cut → Place → ℕ → ℕ → Result (Unit {0}) Refusal → Type 0
 Grows old new p each n result =
-    (len : ℕ) (t : Table) (bytes : List ℕ) → Stands old.bytes p each len t bytes → MatchResult result (λ u. IsGrown old new p each n len t bytes) (λ e. IsNotGrown old new each n t)
+    (len : ℕ) (t : Table) (bytes : List ℕ) → Stands old.bytes p each len t bytes → MatchResult result (λ u. IsGrown old new p each n len t bytes) (IsWithoutSpace old new each n t)
+
+-- one place more than there are elements, at least
+abbrev pub GrowsForOne : Cut → Cut → Place → ℕ → Result (Unit {0}) Refusal → Type 0
+GrowsForOne old new p each result =
+    (len : ℕ) (t : Table) (bytes : List ℕ) → Stands old.bytes p each len t bytes → let n = capacity_for_one len t.capacity in
+    MatchResult result (λ u. IsGrown old new p each n len t bytes) (IsWithoutSpace old new each n t)
 
 -- one element more, in a place that there was
 pub record IsAppended (old new : Cut) (p : Place) (each len : ℕ) (t : Table) (bytes more : List ℕ) : Type 0 where

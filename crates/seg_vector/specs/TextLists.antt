@@ -8,6 +8,8 @@ use Rattle.best_fit.specs.Exchange.{IsRestored}
 use Rattle.best_fit.specs.Extents.{Extent, handle}
 use Rattle.best_fit.specs.Fit.{place, resized}
 use Rattle.best_fit.specs.Heap.{extent_at, live_of}
+use Rattle.seg_types.specs.declared.refusals.Refusal.{Refusal}
+use Rattle.seg_types.specs.declared.refusals.Refusal.TheVariants.{NoSpace}
 use Rattle.seg_vector.specs.TextParts.{IsServed, IsSwapped}
 use Rattle.seg_vector.specs.TextsCalls.{all_texts, new_array, placed_texts, text_blocks}
 use Rattle.seg_vector.specs.Vector.{AreTextLinks, IsOwnedText, OwnedText}
@@ -45,10 +47,11 @@ pub record AreLaidOut (old new : Cut) (more : List (List ℕ)) (array : ℕ) : T
   pub served : AllByRecursion IsServed texts
 
 -- one of them has no space; where it is the array, nothing changes
-pub record AreNotLaidOut (old new : Cut) (more : List (List ℕ)) : Type 0 where
+pub record AreNotLaidOut (old new : Cut) (more : List (List ℕ)) (e : Refusal) : Type 0 where
+  pub refusal : e ≡ NoSpace
   pub none : all_texts (live_of old.bytes) more ≡ None
   pub restored : IsRestored current old new
   pub first : new_array (live_of old.bytes) (length more) ≡ None → new ≡ old
 
-abbrev pub LaysOut : {E : Type 0} → Cut → Cut → List (List ℕ) → Result ℕ E → Type 0
-LaysOut old new more result = MatchResult result (AreLaidOut old new more) (λ e. AreNotLaidOut old new more)
+abbrev pub LaysOut : Cut → Cut → List (List ℕ) → Result ℕ Refusal → Type 0
+LaysOut old new more result = MatchResult result (AreLaidOut old new more) (AreNotLaidOut old new more)

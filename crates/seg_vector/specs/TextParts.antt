@@ -6,12 +6,14 @@ use Rattle.raw_region.specs.Format.{current}
 use Rattle.offset_link.specs.Link.{link_at}
 use Rattle.best_fit.specs.Exchange.{IsExchanged, IsRestored, IsWidened}
 use Rattle.best_fit.specs.Extents.{Extent, handle}
-use Rattle.best_fit.specs.Fit.{regrow}
+use Rattle.best_fit.specs.Fit.{place, regrow}
 use Rattle.best_fit.specs.Heap.{IsAllocated, IsChanged, IsHeap, SameBlock, extent_at, has_room, live_of}
 use Rattle.best_fit.specs.Table.{Table, is_table, serves}
 use Rattle.block_tags.specs.declared.tile.Role.TheVariants.{Storage}
+use Rattle.seg_types.specs.declared.refusals.Refusal.{Refusal}
+use Rattle.seg_types.specs.declared.refusals.Refusal.TheVariants.{NoSpace}
 use Rattle.seg_vector.specs.declared.places.Place.{Place}
-use Rattle.seg_vector.specs.TextsCalls.{AreOthers, IsStillAtFirst, IsTextPutIn, IsTexts, IsTextsNow, one_more, placed_text, text_blocks}
+use Rattle.seg_vector.specs.TextsCalls.{AreOthers, IsStillAtFirst, IsWithoutFit, IsTextPutIn, IsTexts, IsTextsNow, one_more, placed_text, text_blocks}
 use Rattle.seg_vector.specs.Standing.{place_at}
 use Rattle.seg_vector.specs.Vector.{AreTextLinks, IsOwnedText, OwnedText, capacity_for_one, grown_table}
 
@@ -54,6 +56,10 @@ pub record IsSameElement (m m' : Memory) (a b : ℕ) : Type 0 where
 abbrev pub AreSameElements : Memory → Memory → ℕ → ℕ → ℕ → Type 0
 AreSameElements m m' a b n = (j : ℕ) → j < n → IsSameElement m m' (a + 16 * j) (b + 16 * j)
 
+-- a block of storage is taken into use
+abbrev pub TakesStorage : Cut → Cut → ℕ → Result ℕ Refusal → Type 0
+TakesStorage old new n result = MatchResult result (IsAllocated current old new n Storage) (IsWithoutFit old new (place (live_of old.bytes) n Storage))
+
 -- ---- the block of a text
 
 -- it serves the text, and an empty one has none
@@ -70,12 +76,8 @@ pub record IsTextPlaced (old new : Cut) (bytes : List ℕ) (block : Option ℕ) 
   pub owned : IsOwnedText (bytes_of new.bytes) text
   pub served : IsServed text
 
-pub record IsTextNotPlaced (old new : Cut) (bytes : List ℕ) : Type 0 where
-  pub none : placed_text (live_of old.bytes) bytes ≡ None
-  pub same : new ≡ old
-
-abbrev pub PlacesText : {E : Type 0} → Cut → Cut → List ℕ → Result (Option ℕ) E → Type 0
-PlacesText old new bytes result = MatchResult result (IsTextPlaced old new bytes) (λ e. IsTextNotPlaced old new bytes)
+abbrev pub PlacesText : Cut → Cut → List ℕ → Result (Option ℕ) Refusal → Type 0
+PlacesText old new bytes result = MatchResult result (IsTextPlaced old new bytes) (IsWithoutFit old new (placed_text (live_of old.bytes) bytes))
 
 -- ---- an element that is written
 
@@ -100,13 +102,10 @@ pub data IsAsked (old new : Cut) (o : Option Extent) (n g : ℕ) : Type 0 where
   widened : (w : IsWidened current old new g n) → o ≡ Some w.before → IsAsked old new o n g
   taken : (a : IsAllocated current old new n Storage g) → regrow (live_of old.bytes) o n ≡ Some a.extent → IsAsked old new o n g
 
-pub record IsNotAsked (old new : Cut) (o : Option Extent) (n : ℕ) : Type 0 where
-  pub none : regrow (live_of old.bytes) o n ≡ None
-  pub same : new ≡ old
-
-abbrev pub AsksArray : {E : Type 0} → Cut → Cut → Place → ℕ → Result ℕ E → Type 0
+abbrev pub AsksArray : Cut → Cut → Place → ℕ → Result ℕ Refusal → Type 0
 AsksArray old new p n result =
-    (ps : List OwnedText) (t : Table) → IsTexts old.bytes p ps t → MatchResult result (IsAsked old new t.extent (16 * n)) (λ e. IsNotAsked old new t.extent (16 * n))
+    (ps : List OwnedText) (t : Table) → IsTexts old.bytes p ps t
+    → MatchResult result (IsAsked old new t.extent (16 * n)) (IsWithoutFit old new (regrow (live_of old.bytes) t.extent (16 * n)))
 
 -- An array was asked for, and other blocks were taken into use since; the vector is as it was.
 pub record IsReady (now : Cut) (p : Place) (g n : ℕ) : Type 0 where
@@ -195,13 +194,14 @@ GivesUp old new p g room =
 
 -- ---- a text put in, once the index is known to be inside
 
-pub record IsRefusedPut (old new : Cut) (ps : List OwnedText) (t : Table) (bytes : List ℕ) : Type 0 where
+pub record IsRefusedPut (old new : Cut) (ps : List OwnedText) (t : Table) (bytes : List ℕ) (e : Refusal) : Type 0 where
+  pub refusal : e ≡ NoSpace
   pub none : one_more (live_of old.bytes) ps t bytes ≡ None
   pub restored : IsRestored current old new
   pub first : IsStillAtFirst old new ps t bytes
 
-abbrev pub PutsInto : {E : Type 0} → Cut → Cut → Place → List OwnedText → Table → ℕ → List ℕ → Result (Unit {0}) E → Type 0
-PutsInto old new p ps t i bytes result = MatchResult result (λ u. IsTextPutIn old new p ps t i bytes) (λ e. IsRefusedPut old new ps t bytes)
+abbrev pub PutsInto : Cut → Cut → Place → List OwnedText → Table → ℕ → List ℕ → Result (Unit {0}) Refusal → Type 0
+PutsInto old new p ps t i bytes result = MatchResult result (λ u. IsTextPutIn old new p ps t i bytes) (IsRefusedPut old new ps t bytes)
 
 -- there is a place for it
 pub record HasPlace (b : List ℕ) (p : Place) (i : ℕ) : Type 0 where
@@ -211,7 +211,7 @@ pub record HasPlace (b : List ℕ) (p : Place) (i : ℕ) : Type 0 where
   pub inside : i ≤ length ps
   pub space : length ps < t.capacity
 
-abbrev pub InsertsWithin : {E : Type 0} → Cut → Cut → Place → ℕ → List ℕ → Result (Unit {0}) E → Type 0
+abbrev pub InsertsWithin : Cut → Cut → Place → ℕ → List ℕ → Result (Unit {0}) Refusal → Type 0
 InsertsWithin old new p i bytes result = (ps : List OwnedText) (t : Table) → IsTexts old.bytes p ps t → i ≤ length ps → length ps < t.capacity → PutsInto old new p ps t i bytes result
 
 -- there is none, and n places are asked for
@@ -223,6 +223,6 @@ pub record IsFull (b : List ℕ) (p : Place) (i n : ℕ) : Type 0 where
   pub full : t.capacity ≤ length ps
   pub wanted : n ≡ capacity_for_one (length ps) t.capacity
 
-abbrev pub InsertsGrowing : {E : Type 0} → Cut → Cut → Place → ℕ → List ℕ → ℕ → Result (Unit {0}) E → Type 0
+abbrev pub InsertsGrowing : Cut → Cut → Place → ℕ → List ℕ → ℕ → Result (Unit {0}) Refusal → Type 0
 InsertsGrowing old new p i bytes n result =
     (ps : List OwnedText) (t : Table) → IsTexts old.bytes p ps t → i ≤ length ps → t.capacity ≤ length ps → n ≡ capacity_for_one (length ps) t.capacity → PutsInto old new p ps t i bytes result

@@ -7,8 +7,9 @@ use Rattle.best_fit.specs.Exchange.{IsExchanged}
 use Rattle.best_fit.specs.Heap.{live_of}
 use Rattle.best_fit.specs.Table.{Table, cut_table, no_table}
 use Rattle.seg_types.specs.declared.refusals.Refusal.{Refusal}
-use Rattle.seg_types.specs.declared.refusals.Refusal.TheVariants.{NoSpace, OutOfRange}
+use Rattle.seg_types.specs.declared.refusals.Refusal.TheVariants.{OutOfRange}
 use Rattle.seg_vector.specs.declared.places.Place.{Place}
+pub use Rattle.seg_vector.specs.Standing.{IsWithoutSpace}
 use Rattle.seg_vector.specs.Standing.{Stands, place_at}
 use Rattle.seg_vector.specs.Vector.{capacity_for_one, grown_table}
 
@@ -38,12 +39,6 @@ pub record IsVectorGrown {T : Type 0} (size : ℕ) (is_value : T → Bool) (spel
 pub record IsOutside (old new : Cut) (end i : ℕ) (e : Refusal) : Type 0 where
   pub refusal : e ≡ OutOfRange
   pub outside : end ≤ i
-  pub same : new ≡ old
-
--- there is no space for so many places, and nothing changes
-pub record IsWithoutSpace (old new : Cut) (each n : ℕ) (t : Table) (e : Refusal) : Type 0 where
-  pub refusal : e ≡ NoSpace
-  pub none : grown_table (live_of old.bytes) each n t ≡ None
   pub same : new ≡ old
 
 -- ---- what is read

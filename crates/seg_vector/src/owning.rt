@@ -1,23 +1,42 @@
-//! The blocks of the texts of a vector.
-ghost use Rattle.std.specs.Prelude.{List, [], option_to_list};
-ghost use Rattle.seg_vector.specs.TextParts.{AreHeldElements, IsHeldElement, IsSwapped, PlacesText};
+//! The blocks of the texts of a vector, and those of other texts: these are laid out while those that they replace are in use.
+ghost use Rattle.std.specs.Prelude.{ℕ, ◌*◌, ◌<◌, IsTrue, List, [], length, map, option_to_list};
+ghost use Rattle.raw_region.specs.Format.{current};
+ghost use Rattle.best_fit.specs.Heap.{IsHeap, has_room, live_of};
+ghost use Rattle.best_fit.specs.Table.{Table as ATable};
+ghost use Rattle.seg_vector.specs.TextLists.{LaysOut, LaysTexts};
+ghost use Rattle.seg_vector.specs.TextParts.{AreHeldElements, IsHeldElement, IsSwapped, PlacesText, TakesStorage};
 ghost use Rattle.seg_vector.specs.TextsCalls.{IsSomeTexts, IsTexts, text_blocks};
 ghost use Rattle.seg_vector.specs.Vector.{OwnedText};
-ghost use Rattle.raw_region.specs.Format.{current};
-ghost use Rattle.best_fit.specs.Heap.{IsHeap};
-ghost use Rattle.best_fit.specs.Table.{Table as ATable};
 
 use crate::places::{ELEMENT, LEN, Place};
+use crate::sizing::LIMIT;
+use crate::text_arrays::put_element;
 use best_fit::{Heap, NoSpace};
 use block_tags::Role;
 use raw_region::Steps;
+use seg_types::Refusal;
+
+/// Takes a block of storage for `n` bytes into use, and answers its handle.
+///
+/// # Errors
+///
+/// `NoSpace` where no gap is long enough. Nothing changes.
+pub fn take(heap: &mut Heap, n: u64) -> Result<u64, Refusal>
+    requires { IsHeap current heap.old.bytes }
+    ensures { TakesStorage heap.old heap.new n result }
+{
+    match heap.allocate(n, Role::Storage, &mut Steps::new()) {
+        Err(NoSpace) => Err(Refusal::NoSpace),
+        Ok(block) => Ok(block),
+    }
+}
 
 /// Takes a block for the bytes of a text into use, and writes them in it. It answers the block's handle. An empty text needs none.
 ///
 /// # Errors
 ///
 /// `NoSpace` where no gap is long enough. Nothing changes.
-pub fn place_text(heap: &mut Heap, text: &[u8]) -> Result<Option<u64>, NoSpace>
+pub fn place_text(heap: &mut Heap, text: &[u8]) -> Result<Option<u64>, Refusal>
     requires { IsHeap current heap.old.bytes }
     ensures { PlacesText heap.old heap.new text.now result }
 {
@@ -25,13 +44,9 @@ pub fn place_text(heap: &mut Heap, text: &[u8]) -> Result<Option<u64>, NoSpace>
     if len == 0 {
         return Ok(None);
     }
-    match heap.allocate(len, Role::Storage, &mut Steps::new()) {
-        Err(NoSpace) => Err(NoSpace),
-        Ok(block) => {
-            heap.write(block, 0, text);
-            Ok(Some(block))
-        }
-    }
+    let block = take(heap, len)?;
+    heap.write(block, 0, text);
+    Ok(Some(block))
 }
 
 /// Gives back the block of the text whose element stands at an offset in the block of an array. An empty text has none.
@@ -63,4 +78,47 @@ pub fn release_all(heap: &mut Heap, place: Place)
     if let Some(array) = heap.link(place.handle, place.at) {
         release_texts(heap, array, len);
     }
+}
+
+/// Takes a block into use for each text that is not empty, one after another, and writes their elements from the beginning of an
+/// array on. It stops at the first text for which no gap is long enough, and answers how many there are before it.
+pub fn place_texts(heap: &mut Heap, array: u64, texts: &[&[u8]]) -> u64
+    requires heap { IsHeap current heap.old.bytes }
+    requires room { IsTrue (has_room (live_of heap.old.bytes) array (16 * length texts.now)) }
+    ensures { LaysTexts heap.old heap.new array (map (λ text. text.now) texts.now) result }
+{
+    let n = texts.len() as u64;
+    for i in 0..n {
+        let text = texts[i as usize];
+        match place_text(heap, text) {
+            Err(_) => return i,
+            Ok(block) => put_element(heap, array, ELEMENT * i, block, text.len() as u64),
+        }
+    }
+    n
+}
+
+/// Takes an array of as many places as there are texts into use, and then a block for each text that is not empty, and writes the
+/// elements and the texts. It answers the array's handle.
+///
+/// # Errors
+///
+/// `NoSpace` where one of them has no gap that is long enough. The same blocks are in use as before, with the same bytes.
+pub fn lay_out(heap: &mut Heap, texts: &[&[u8]]) -> Result<u64, Refusal>
+    requires heap { IsHeap current heap.old.bytes }
+    requires some { 0 < length texts.now }
+    ensures { LaysOut heap.old heap.new (map (λ text. text.now) texts.now) result }
+{
+    let n = texts.len() as u64;
+    if n > LIMIT {
+        return Err(Refusal::NoSpace);
+    }
+    let array = take(heap, ELEMENT * n)?;
+    let placed = place_texts(heap, array, texts);
+    if placed == n {
+        return Ok(array);
+    }
+    release_texts(heap, array, placed);
+    heap.deallocate(array, &mut Steps::new());
+    Err(Refusal::NoSpace)
 }

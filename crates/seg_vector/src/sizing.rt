@@ -1,20 +1,109 @@
-//! Vectors that need places for more values, or have fewer.
-ghost use Rattle.std.specs.Prelude.{◌≡◌, ◌+◌, ◌*◌, ◌<◌, ◌≤◌, ◌++◌, length, List};
-ghost use Rattle.best_fit.specs.Table.{Table as ATable};
+//! The storage of a container at a place: it has none at the beginning, gets more of it, has it cut, and gives it back.
+ghost use Rattle.std.specs.Prelude.{◌≡◌, ℕ, ◌+◌, ◌*◌, ◌%◌, ◌^◌, ◌<◌, ◌≤◌, IsTrue, []};
+ghost use Rattle.raw_region.specs.Format.{current};
+ghost use Rattle.raw_region.specs.Memory.{bytes_of, word_at};
+ghost use Rattle.best_fit.specs.Heap.{IsChanged, IsHeap, has_room, live_of};
+ghost use Rattle.best_fit.specs.Table.{no_table};
+ghost use Rattle.seg_vector.specs.Elements.{Fits, GivesBack};
+ghost use Rattle.seg_vector.specs.Standing.{Grows, GrowsForOne, IsStanding, Stands, place_at};
 ghost use Rattle.seg_vector.specs.Vector.{capacity_for_one as places_for_one};
-ghost use Rattle.seg_vector.specs.VectorCalls.{Assigns, Clears, InsertsInto, IsSomeVector, IsVector, IsVectorNow, Pushes, PutsAll, Releases, Reserves, ReservesNothing, Shrinks};
 
-use crate::accessing::truncate;
-use crate::fitting::fit;
-use crate::growing;
-use crate::places::Place;
-use crate::starting::give_back;
-use crate::values::{insert_value, put_value};
-use crate::vectors::SegVec;
+use crate::places::{CAPACITY, LEN, Place};
 use best_fit::{Heap, NoSpace};
-use seg_types::{Plain, Refusal};
+use raw_region::Steps;
+use seg_types::Refusal;
 
-/// The capacity that a vector has for one element more.
+/// No heap is longer.
+pub const LIMIT: u64 = 1073741824;
+
+/// Makes the three words at a place those of a container without a place, whatever they were. Storage that they led to is
+/// not given back.
+pub fn start(heap: &mut Heap, place: Place)
+    requires heap { IsHeap current heap.old.bytes }
+    requires aligned { place.at % 8 ≡ 0 }
+    requires room { IsTrue (has_room (live_of heap.old.bytes) place.handle (place.at + 24)) }
+    ensures change { IsChanged current heap.old heap.new (place_at place) 24 }
+    ensures stands { (each : ℕ) → Stands heap.new.bytes place each 0 no_table [] }
+{
+    heap.set_link(place.handle, place.at, None);
+    heap.set_word(place.handle, place.at + LEN, 0);
+    heap.set_word(place.handle, place.at + CAPACITY, 0);
+}
+
+/// Gives the storage of the container at a place back. It has no element and no place then.
+pub fn give_back(heap: &mut Heap, place: Place, each: u64)
+    requires { IsStanding heap.old.bytes place each }
+    ensures { GivesBack heap.old heap.new place each }
+{
+    let storage = heap.link(place.handle, place.at);
+    start(heap, place);
+    if let Some(storage) = storage {
+        heap.deallocate(storage, &mut Steps::new());
+    }
+}
+
+/// Makes the capacity of the container at a place its length. The storage is shortened to it, as far as a block can be, and
+/// given back where there is no element.
+pub fn fit(heap: &mut Heap, place: Place, each: u64)
+    requires stands { IsStanding heap.old.bytes place each }
+    requires some { 1 ≤ each }
+    ensures { Fits heap.old heap.new place each }
+{
+    let len = heap.word(place.handle, place.at + LEN);
+    if len == 0 {
+        give_back(heap, place, each);
+        return;
+    }
+    if let Some(storage) = heap.link(place.handle, place.at) {
+        heap.set_word(place.handle, place.at + CAPACITY, len);
+        heap.shrink_in_place(storage, each * len, &mut Steps::new());
+    }
+}
+
+/// Makes room for `n` elements of `each` bytes in the container at a place: nothing is done where its capacity is `n` or
+/// more, and else its storage is regrown to hold just so many.
+///
+/// # Errors
+///
+/// `NoSpace` where a new block is needed and has no gap that is long enough. Nothing changes.
+pub fn grow(heap: &mut Heap, place: Place, each: u64, n: u64) -> Result<(), Refusal>
+    requires stands { IsStanding heap.old.bytes place each }
+    requires small { each * n < 2 ^ 64 }
+    ensures { Grows heap.old heap.new place each n result }
+{
+    if n <= heap.word(place.handle, place.at + CAPACITY) {
+        return Ok(());
+    }
+    let used = each * heap.word(place.handle, place.at + LEN);
+    let storage = heap.link(place.handle, place.at);
+    match heap.regrow(storage, each * n, used) {
+        Err(NoSpace) => Err(Refusal::NoSpace),
+        Ok(new) => {
+            heap.set_link(place.handle, place.at, Some(new));
+            heap.set_word(place.handle, place.at + CAPACITY, n);
+            Ok(())
+        }
+    }
+}
+
+/// The same for any number of elements of 1 to 4096 bytes.
+///
+/// # Errors
+///
+/// `NoSpace` where a new block is needed and has no gap that is long enough. Nothing changes.
+pub fn reserve(heap: &mut Heap, place: Place, each: u64, n: u64) -> Result<(), Refusal>
+    requires stands { IsStanding heap.old.bytes place each }
+    requires some { 1 ≤ each }
+    requires short { each ≤ 4096 }
+    ensures { Grows heap.old heap.new place each n result }
+{
+    if n > LIMIT {
+        return Err(Refusal::NoSpace);
+    }
+    grow(heap, place, each, n)
+}
+
+/// The capacity that a container has for one element more.
 pub fn capacity_for_one(len: u64, capacity: u64) -> u64
     requires { 2 * capacity < 18446744073709551616 }
     ensures { result ≡ places_for_one len capacity }
@@ -26,118 +115,19 @@ pub fn capacity_for_one(len: u64, capacity: u64) -> u64
     }
 }
 
-impl<T: Plain> SegVec<T> {
-    /// Puts a value behind the last one. A full vector gets twice its places first, and at least 4.
-    ///
-    /// # Errors
-    ///
-    /// `NoSpace` where it is full and its storage cannot be regrown. Nothing changes.
-    pub fn push(self, heap: &mut Heap, value: T) -> Result<(), Refusal>
-        requires { IsSomeVector T.SIZE T.is_value T.spelling heap.old.bytes self.place }
-        ensures { Pushes T.SIZE T.is_value T.spelling heap.old heap.new self.place value result }
-    {
-        let wanted = capacity_for_one(self.len(heap), self.capacity(heap));
-        match growing::reserve(heap, self.place, T::SIZE, wanted) {
-            Err(NoSpace) => Err(Refusal::NoSpace),
-            Ok(()) => {
-                put_value(heap, self.place, value);
-                Ok(())
-            }
-        }
-    }
-
-    /// Puts a value where `index` others stand before it. Those from there on move up. A full vector gets twice its places
-    /// first, and at least 4.
-    ///
-    /// # Errors
-    ///
-    /// `OutOfRange` where there are not so many others, and else `NoSpace` where the vector is full and its storage cannot be
-    /// regrown. Nothing changes.
-    pub fn insert(self, heap: &mut Heap, index: u64, value: T) -> Result<(), Refusal>
-        requires { IsSomeVector T.SIZE T.is_value T.spelling heap.old.bytes self.place }
-        ensures { InsertsInto T.SIZE T.is_value T.spelling heap.old heap.new self.place index value result }
-    {
-        let len = self.len(heap);
-        if index > len {
-            return Err(Refusal::OutOfRange);
-        }
-        let wanted = capacity_for_one(len, self.capacity(heap));
-        match growing::reserve(heap, self.place, T::SIZE, wanted) {
-            Err(NoSpace) => Err(Refusal::NoSpace),
-            Ok(()) => {
-                insert_value(heap, self.place, index, value);
-                Ok(())
-            }
-        }
-    }
-
-    /// Makes places for `n` values, where there are fewer, and else changes nothing. The values stay.
-    ///
-    /// # Errors
-    ///
-    /// `NoSpace` where there are fewer and the storage cannot be regrown. Nothing changes.
-    pub fn reserve(self, heap: &mut Heap, n: u64) -> Result<(), Refusal>
-        requires { IsSomeVector T.SIZE T.is_value T.spelling heap.old.bytes self.place }
-        ensures reserved { Reserves T.SIZE T.is_value T.spelling heap.old heap.new self.place n result }
-        ensures enough { ReservesNothing T.SIZE T.is_value T.spelling heap.old heap.new self.place n result }
-    {
-        match growing::reserve(heap, self.place, T::SIZE, n) {
-            Err(NoSpace) => Err(Refusal::NoSpace),
-            Ok(()) => Ok(()),
-        }
-    }
-
-    /// Leaves these values in place of those that there are. There are places for just so many, where there were fewer.
-    ///
-    /// # Errors
-    ///
-    /// `NoSpace` where there are fewer places and the storage cannot be regrown. Nothing changes.
-    pub fn assign(self, heap: &mut Heap, values: &[T]) -> Result<(), Refusal>
-        requires { IsSomeVector T.SIZE T.is_value T.spelling heap.old.bytes self.place }
-        ensures { Assigns T.SIZE T.is_value T.spelling heap.old heap.new self.place values.now result }
-    {
-        match growing::reserve(heap, self.place, T::SIZE, values.len() as u64) {
-            Err(NoSpace) => Err(Refusal::NoSpace),
-            Ok(()) => {
-                self.clear(heap);
-                put_all(heap, self.place, values);
-                Ok(())
-            }
-        }
-    }
-
-    /// Makes the capacity the number of values. The storage is shortened to it, as far as a block can be, and given back
-    /// where there is no value.
-    pub fn shrink(self, heap: &mut Heap)
-        requires { IsSomeVector T.SIZE T.is_value T.spelling heap.old.bytes self.place }
-        ensures { Shrinks T.SIZE T.is_value T.spelling heap.old heap.new self.place }
-    {
-        fit(heap, self.place, T::SIZE);
-    }
-
-    /// Leaves no value. The places stay.
-    pub fn clear(self, heap: &mut Heap)
-        requires { IsSomeVector T.SIZE T.is_value T.spelling heap.old.bytes self.place }
-        ensures { Clears T.SIZE T.is_value T.spelling heap.old heap.new self.place }
-    {
-        truncate(heap, self.place, T::SIZE, 0);
-    }
-
-    /// Gives the storage back. There is no value and no place then.
-    pub fn release(self, heap: &mut Heap)
-        requires { IsSomeVector T.SIZE T.is_value T.spelling heap.old.bytes self.place }
-        ensures { Releases T.SIZE T.is_value T.spelling heap.old heap.new self.place }
-    {
-        give_back(heap, self.place, T::SIZE);
-    }
-}
-
-/// Puts values behind the last one, one after another, where there are places for all of them.
-fn put_all<T: Plain>(heap: &mut Heap, place: Place, values: &[T])
-    requires { (xs : List T) × ((t : ATable) × (IsVector T.SIZE T.is_value T.spelling heap.old.bytes place xs t × (length xs + length values.now ≤ t.capacity))) }
-    ensures { PutsAll T.SIZE T.is_value T.spelling heap.old heap.new place values.now }
+/// Makes room for one element more, of 1 to 4096 bytes, behind the `len` that there are. A full container gets twice its
+/// places, and at least 4.
+///
+/// # Errors
+///
+/// `NoSpace` where it is full and its storage cannot be regrown. Nothing changes.
+pub fn grow_for_one(heap: &mut Heap, place: Place, each: u64, len: u64) -> Result<(), Refusal>
+    requires stands { IsStanding heap.old.bytes place each }
+    requires some { 1 ≤ each }
+    requires short { each ≤ 4096 }
+    requires len { len ≡ word_at (bytes_of heap.old.bytes) (place.handle + place.at + 8) }
+    ensures { GrowsForOne heap.old heap.new place each result }
 {
-    for value in values {
-        put_value(heap, place, *value);
-    }
+    let capacity = heap.word(place.handle, place.at + CAPACITY);
+    reserve(heap, place, each, capacity_for_one(len, capacity))
 }

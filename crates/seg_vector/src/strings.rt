@@ -6,13 +6,10 @@ ghost use Rattle.seg_vector.specs.Standing.{place_at};
 ghost use Rattle.seg_vector.specs.TextCalls.{AppendsText, AssignsText, ClearsText, CountsBytePlaces, CountsBytes, GetsByte, IsSomeText, ReadsText, ReleasesText, ReservesBytes, ReservesNoBytes, SetsByte, ShrinksText, StartsText};
 ghost use Rattle.seg_vector.specs.Vector.{capacity_for_text as places_for_text};
 
-use crate::accessing::{elements, set_element, truncate};
-use crate::appending::extend;
-use crate::fitting::fit;
-use crate::growing::{self, LIMIT};
+use crate::elements::{elements, extend, set_element, truncate};
 use crate::places::{CAPACITY, LEN, Place};
-use crate::starting::{give_back, start};
-use best_fit::{Heap, NoSpace};
+use crate::sizing::{self, LIMIT, fit, give_back, start};
+use best_fit::Heap;
 use seg_types::Refusal;
 
 /// A text at a place in a heap: three words there (the link to its storage, its length and its capacity), and a block of
@@ -116,10 +113,7 @@ impl SegString {
         ensures reserved { ReservesBytes heap.old heap.new self.place n result }
         ensures enough { ReservesNoBytes heap.old heap.new self.place n result }
     {
-        match growing::reserve(heap, self.place, 1, n) {
-            Err(NoSpace) => Err(Refusal::NoSpace),
-            Ok(()) => Ok(()),
-        }
+        sizing::reserve(heap, self.place, 1, n)
     }
 
     /// Leaves these bytes in place of those that there are. There are places for just so many, where there were fewer.
@@ -131,14 +125,10 @@ impl SegString {
         requires { IsSomeText heap.old.bytes self.place }
         ensures { AssignsText heap.old heap.new self.place bytes.now result }
     {
-        match growing::reserve(heap, self.place, 1, bytes.len() as u64) {
-            Err(NoSpace) => Err(Refusal::NoSpace),
-            Ok(()) => {
-                self.clear(heap);
-                extend(heap, self.place, bytes);
-                Ok(())
-            }
-        }
+        sizing::reserve(heap, self.place, 1, bytes.len() as u64)?;
+        self.clear(heap);
+        extend(heap, self.place, bytes);
+        Ok(())
     }
 
     /// Puts bytes behind the last one. Where there are not places for all of them, there are twice as many as before, and at
@@ -157,13 +147,9 @@ impl SegString {
         }
         let needed = self.len(heap) + more;
         let wanted = capacity_for_text(needed, self.capacity(heap));
-        match growing::reserve(heap, self.place, 1, wanted) {
-            Err(NoSpace) => Err(Refusal::NoSpace),
-            Ok(()) => {
-                extend(heap, self.place, bytes);
-                Ok(())
-            }
-        }
+        sizing::reserve(heap, self.place, 1, wanted)?;
+        extend(heap, self.place, bytes);
+        Ok(())
     }
 
     /// Makes the capacity the number of bytes. The storage is shortened to it, as far as a block can be, and given back where

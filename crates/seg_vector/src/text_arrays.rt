@@ -1,20 +1,84 @@
-//! The array of a vector of texts with more places: its links are distances, and are moved as links.
-ghost use Rattle.std.specs.Prelude.{◌≡◌, Some, ◌+◌, ◌*◌, ◌%◌, ◌^◌, ◌<◌, ◌≤◌, IsTrue, List, length, true, false};
+//! The array of a vector of texts: elements of a link, which is a distance, and a length. They are moved as a link and a word,
+//! within it and to one with more places.
+ghost use Rattle.std.specs.Prelude.{◌≡◌, Some, ◌+◌, ◌*◌, ◌%◌, ◌^◌, ◌<◌, ◌≤◌, ◌⊎◌, IfSome, IsTrue, true, false};
 ghost use Rattle.raw_region.specs.Format.{current};
-ghost use Rattle.best_fit.specs.Exchange.{IsNotWidened, IsWidened};
-ghost use Rattle.best_fit.specs.Heap.{IsChanged, IsHeap, has_room, is_live_in, live_of};
-ghost use Rattle.seg_vector.specs.TextParts.{Adopts, AsksArray, GivesUp, HasArrayRoom, HasPlace, InsertsGrowing, InsertsWithin, IsFull, IsPutAsked, IsReady, IsToBeGivenUp, PutsIn};
-ghost use Rattle.seg_vector.specs.TextsCalls.{IsSomeTexts};
-ghost use Rattle.seg_vector.specs.Standing.{place_at};
 ghost use Rattle.raw_region.specs.Memory.{bytes_of, word_at};
 ghost use Rattle.offset_link.specs.Link.{link_at};
+ghost use Rattle.best_fit.specs.Exchange.{IsNotWidened, IsWidened};
+ghost use Rattle.best_fit.specs.Heap.{IsChanged, IsHeap, has_room, is_live_in, live_of};
+ghost use Rattle.seg_vector.specs.TextParts.{Adopts, AreEvenLinks, AreSameElements, AsksArray, GivesUp, HasArrayRoom, HasPlace, InsertsGrowing, InsertsWithin, IsFull, IsPutAsked, IsReady, IsSameElement, IsToBeGivenUp, PutsIn};
+ghost use Rattle.seg_vector.specs.TextsCalls.{IsSomeTexts};
+ghost use Rattle.seg_vector.specs.Standing.{place_at};
 
-use crate::owning::place_text;
+use crate::owning::{place_text, take};
 use crate::places::{CAPACITY, ELEMENT, LEN, Place};
-use crate::text_elements::{carry_down, carry_up, put_element};
-use best_fit::{Heap, NoSpace};
-use block_tags::Role;
+use best_fit::Heap;
 use raw_region::Steps;
+use seg_types::Refusal;
+
+/// Writes the element at an offset in a block: a link to the block of a text, or nowhere, and its length.
+pub fn put_element(heap: &mut Heap, array: u64, at: u64, text: Option<u64>, len: u64)
+    requires heap { IsHeap current heap.old.bytes }
+    requires whole { at % 8 ≡ 0 }
+    requires room { IsTrue (has_room (live_of heap.old.bytes) array (at + 16)) }
+    requires target { IfSome text (λ target. target % 16 ≡ 0) }
+    ensures change { IsChanged current heap.old heap.new (array + at) 16 }
+    ensures link { link_at (bytes_of heap.new.bytes) (array + at) ≡ text }
+    ensures len_word { word_at (bytes_of heap.new.bytes) (array + at + 8) ≡ len }
+{
+    heap.set_link(array, at, text);
+    heap.set_word(array, at + LEN, len);
+}
+
+/// Makes the element at an offset in one block that at an offset in another, or in the same one: a link that leads where its
+/// link leads, and its length.
+pub fn carry_element(heap: &mut Heap, from: u64, from_at: u64, to: u64, to_at: u64)
+    requires heap { IsHeap current heap.old.bytes }
+    requires from_whole { from_at % 8 ≡ 0 }
+    requires to_whole { to_at % 8 ≡ 0 }
+    requires source { IsTrue (has_room (live_of heap.old.bytes) from (from_at + 16)) }
+    requires target { IsTrue (has_room (live_of heap.old.bytes) to (to_at + 16)) }
+    requires even { IfSome (link_at (bytes_of heap.old.bytes) (from + from_at)) (λ target. target % 16 ≡ 0) }
+    ensures change { IsChanged current heap.old heap.new (to + to_at) 16 }
+    ensures carried { IsSameElement (bytes_of heap.old.bytes) (bytes_of heap.new.bytes) (from + from_at) (to + to_at) }
+{
+    let text = heap.link(from, from_at);
+    let len = heap.word(from, from_at + LEN);
+    put_element(heap, to, to_at, text, len);
+}
+
+/// Makes the `n` elements from `to_at` on in the block `to` those from `from_at` on in the block `from`, the first one first.
+/// It may be one block, where they move down.
+pub fn carry_down(heap: &mut Heap, from: u64, from_at: u64, to: u64, to_at: u64, n: u64)
+    requires heap { IsHeap current heap.old.bytes }
+    requires from_whole { from_at % 8 ≡ 0 }
+    requires to_whole { to_at % 8 ≡ 0 }
+    requires source { IsTrue (has_room (live_of heap.old.bytes) from (from_at + 16 * n)) }
+    requires target { IsTrue (has_room (live_of heap.old.bytes) to (to_at + 16 * n)) }
+    requires even { AreEvenLinks (bytes_of heap.old.bytes) (from + from_at) n }
+    requires apart { (to + to_at ≤ from + from_at) ⊎ (from + from_at + 16 * n ≤ to + to_at) }
+    ensures change { IsChanged current heap.old heap.new (to + to_at) (16 * n) }
+    ensures carried { AreSameElements (bytes_of heap.old.bytes) (bytes_of heap.new.bytes) (from + from_at) (to + to_at) n }
+{
+    for i in 0..n {
+        carry_element(heap, from, from_at + ELEMENT * i, to, to_at + ELEMENT * i);
+    }
+}
+
+/// Moves the `n` elements from `at` on in a block up by one place, the last one first.
+pub fn carry_up(heap: &mut Heap, array: u64, at: u64, n: u64)
+    requires heap { IsHeap current heap.old.bytes }
+    requires whole { at % 8 ≡ 0 }
+    requires room { IsTrue (has_room (live_of heap.old.bytes) array (at + 16 * n + 16)) }
+    requires even { AreEvenLinks (bytes_of heap.old.bytes) (array + at) n }
+    ensures change { IsChanged current heap.old heap.new (array + at + 16) (16 * n) }
+    ensures carried { AreSameElements (bytes_of heap.old.bytes) (bytes_of heap.new.bytes) (array + at) (array + at + 16) n }
+{
+    for i in 0..n {
+        let place = at + ELEMENT * (n - 1 - i);
+        carry_element(heap, array, place, array, place + ELEMENT);
+    }
+}
 
 /// Makes the block of a handle have room for `n` bytes where it stands, and answers whether it has: it is long enough, or it is
 /// lengthened. Else nothing changes.
@@ -37,21 +101,17 @@ pub fn widen(heap: &mut Heap, handle: u64, n: u64) -> bool
 /// # Errors
 ///
 /// `NoSpace` where a new block is needed and has no gap that is long enough. Nothing changes.
-pub fn ask_array(heap: &mut Heap, place: Place, n: u64) -> Result<u64, NoSpace>
+pub fn ask_array(heap: &mut Heap, place: Place, n: u64) -> Result<u64, Refusal>
     requires texts { IsSomeTexts heap.old.bytes place }
     requires small { 16 * n < 2 ^ 64 }
     ensures { AsksArray heap.old heap.new place n result }
 {
-    match heap.link(place.handle, place.at) {
-        None => heap.allocate(ELEMENT * n, Role::Storage, &mut Steps::new()),
-        Some(array) => {
-            if widen(heap, array, ELEMENT * n) {
-                Ok(array)
-            } else {
-                heap.allocate(ELEMENT * n, Role::Storage, &mut Steps::new())
-            }
+    if let Some(array) = heap.link(place.handle, place.at) {
+        if widen(heap, array, ELEMENT * n) {
+            return Ok(array);
         }
     }
+    take(heap, ELEMENT * n)
 }
 
 /// Writes the link and the capacity of the container at a place. Its length stays.
@@ -137,17 +197,13 @@ pub fn give_up(heap: &mut Heap, place: Place, array: u64, room: u64)
 /// # Errors
 ///
 /// `NoSpace` where no gap is long enough for the text. Nothing changes.
-pub fn insert_within(heap: &mut Heap, place: Place, index: u64, text: &[u8]) -> Result<(), NoSpace>
+pub fn insert_within(heap: &mut Heap, place: Place, index: u64, text: &[u8]) -> Result<(), Refusal>
     requires { HasPlace heap.old.bytes place index }
     ensures { InsertsWithin heap.old heap.new place index text.now result }
 {
-    match place_text(heap, text) {
-        Err(NoSpace) => Err(NoSpace),
-        Ok(block) => {
-            put_in(heap, place, index, block, text.len() as u64);
-            Ok(())
-        }
-    }
+    let block = place_text(heap, text)?;
+    put_in(heap, place, index, block, text.len() as u64);
+    Ok(())
 }
 
 /// Puts a text where `index` others stand before it, in an array of `n` places, since there is no place for it. The array is
@@ -162,23 +218,21 @@ pub fn insert_growing(
     index: u64,
     text: &[u8],
     n: u64,
-) -> Result<(), NoSpace>
+) -> Result<(), Refusal>
     requires { IsFull heap.old.bytes place index n }
     ensures { InsertsGrowing heap.old heap.new place index text.now n result }
 {
     let room = array_room(heap, place);
-    match ask_array(heap, place, n) {
-        Err(NoSpace) => Err(NoSpace),
-        Ok(array) => match place_text(heap, text) {
-            Err(NoSpace) => {
-                give_up(heap, place, array, room);
-                Err(NoSpace)
-            }
-            Ok(block) => {
-                adopt(heap, place, array, n);
-                put_in(heap, place, index, block, text.len() as u64);
-                Ok(())
-            }
-        },
+    let array = ask_array(heap, place, n)?;
+    match place_text(heap, text) {
+        Err(refusal) => {
+            give_up(heap, place, array, room);
+            Err(refusal)
+        }
+        Ok(block) => {
+            adopt(heap, place, array, n);
+            put_in(heap, place, index, block, text.len() as u64);
+            Ok(())
+        }
     }
 }

@@ -4,9 +4,7 @@ ghost use Rattle.raw_region.specs.Memory.{bytes_of, word_at};
 ghost use Rattle.seg_vector.specs.Elements.{Inserts, Overwrites};
 ghost use Rattle.seg_vector.specs.Standing.{Appends, IsStanding};
 
-use crate::accessing::set_element;
-use crate::appending::put_last;
-use crate::moving::insert_element;
+use crate::elements::{insert_element, put_last, set_element};
 use crate::places::Place;
 use best_fit::Heap;
 use seg_types::Plain;

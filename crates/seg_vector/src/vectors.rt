@@ -1,15 +1,15 @@
 //! Vectors of values of a fixed number of bytes.
-ghost use Rattle.std.specs.Prelude.{◌≡◌, ◌+◌, ◌%◌, IsTrue};
+ghost use Rattle.std.specs.Prelude.{◌≡◌, ◌+◌, ◌%◌, ◌≤◌, ◌++◌, IsTrue, List, length};
 ghost use Rattle.raw_region.specs.Format.{current};
 ghost use Rattle.best_fit.specs.Heap.{IsChanged, IsHeap, has_room, live_of};
+ghost use Rattle.best_fit.specs.Table.{Table as ATable};
 ghost use Rattle.seg_vector.specs.Standing.{place_at};
-ghost use Rattle.seg_vector.specs.VectorCalls.{Counts, CountsPlaces, ErasesFrom, Gets, IsSomeVector, Pops, Sets, Starts};
+ghost use Rattle.seg_vector.specs.VectorCalls.{Assigns, Clears, Counts, CountsPlaces, ErasesFrom, Gets, InsertsInto, IsSomeVector, IsVector, Pops, Pushes, PutsAll, Releases, Reserves, ReservesNothing, Sets, Shrinks, Starts};
 
-use crate::accessing::{element, truncate};
-use crate::moving::erase_element;
+use crate::elements::{element, erase_element, truncate};
 use crate::places::{CAPACITY, LEN, Place};
-use crate::starting::start;
-use crate::values::overwrite_value;
+use crate::sizing::{self, fit, give_back, grow_for_one, start};
+use crate::values::{insert_value, overwrite_value, put_value};
 use best_fit::Heap;
 use seg_types::{Plain, Refusal};
 use std::marker::PhantomData;
@@ -112,13 +112,9 @@ impl<T: Plain> SegVec<T> {
         if len == 0 {
             return Err(Refusal::OutOfRange);
         }
-        match self.get(heap, len - 1) {
-            Err(refusal) => Err(refusal),
-            Ok(value) => {
-                truncate(heap, self.place, T::SIZE, len - 1);
-                Ok(value)
-            }
-        }
+        let value = self.get(heap, len - 1)?;
+        truncate(heap, self.place, T::SIZE, len - 1);
+        Ok(value)
     }
 
     /// Leaves out the value with `index` others before it. Those behind it move down, and the places stay.
@@ -135,5 +131,103 @@ impl<T: Plain> SegVec<T> {
         }
         erase_element(heap, self.place, T::SIZE, index);
         Ok(())
+    }
+
+    /// Puts a value behind the last one. A full vector gets twice its places first, and at least 4.
+    ///
+    /// # Errors
+    ///
+    /// `NoSpace` where it is full and its storage cannot be regrown. Nothing changes.
+    pub fn push(self, heap: &mut Heap, value: T) -> Result<(), Refusal>
+        requires { IsSomeVector T.SIZE T.is_value T.spelling heap.old.bytes self.place }
+        ensures { Pushes T.SIZE T.is_value T.spelling heap.old heap.new self.place value result }
+    {
+        let len = self.len(heap);
+        grow_for_one(heap, self.place, T::SIZE, len)?;
+        put_value(heap, self.place, value);
+        Ok(())
+    }
+
+    /// Puts a value where `index` others stand before it. Those from there on move up. A full vector gets twice its places
+    /// first, and at least 4.
+    ///
+    /// # Errors
+    ///
+    /// `OutOfRange` where there are not so many others, and else `NoSpace` where the vector is full and its storage cannot be
+    /// regrown. Nothing changes.
+    pub fn insert(self, heap: &mut Heap, index: u64, value: T) -> Result<(), Refusal>
+        requires { IsSomeVector T.SIZE T.is_value T.spelling heap.old.bytes self.place }
+        ensures { InsertsInto T.SIZE T.is_value T.spelling heap.old heap.new self.place index value result }
+    {
+        let len = self.len(heap);
+        if index > len {
+            return Err(Refusal::OutOfRange);
+        }
+        grow_for_one(heap, self.place, T::SIZE, len)?;
+        insert_value(heap, self.place, index, value);
+        Ok(())
+    }
+
+    /// Makes places for `n` values, where there are fewer, and else changes nothing. The values stay.
+    ///
+    /// # Errors
+    ///
+    /// `NoSpace` where there are fewer and the storage cannot be regrown. Nothing changes.
+    pub fn reserve(self, heap: &mut Heap, n: u64) -> Result<(), Refusal>
+        requires { IsSomeVector T.SIZE T.is_value T.spelling heap.old.bytes self.place }
+        ensures reserved { Reserves T.SIZE T.is_value T.spelling heap.old heap.new self.place n result }
+        ensures enough { ReservesNothing T.SIZE T.is_value T.spelling heap.old heap.new self.place n result }
+    {
+        sizing::reserve(heap, self.place, T::SIZE, n)
+    }
+
+    /// Leaves these values in place of those that there are. There are places for just so many, where there were fewer.
+    ///
+    /// # Errors
+    ///
+    /// `NoSpace` where there are fewer places and the storage cannot be regrown. Nothing changes.
+    pub fn assign(self, heap: &mut Heap, values: &[T]) -> Result<(), Refusal>
+        requires { IsSomeVector T.SIZE T.is_value T.spelling heap.old.bytes self.place }
+        ensures { Assigns T.SIZE T.is_value T.spelling heap.old heap.new self.place values.now result }
+    {
+        sizing::reserve(heap, self.place, T::SIZE, values.len() as u64)?;
+        self.clear(heap);
+        put_all(heap, self.place, values);
+        Ok(())
+    }
+
+    /// Makes the capacity the number of values. The storage is shortened to it, as far as a block can be, and given back
+    /// where there is no value.
+    pub fn shrink(self, heap: &mut Heap)
+        requires { IsSomeVector T.SIZE T.is_value T.spelling heap.old.bytes self.place }
+        ensures { Shrinks T.SIZE T.is_value T.spelling heap.old heap.new self.place }
+    {
+        fit(heap, self.place, T::SIZE);
+    }
+
+    /// Leaves no value. The places stay.
+    pub fn clear(self, heap: &mut Heap)
+        requires { IsSomeVector T.SIZE T.is_value T.spelling heap.old.bytes self.place }
+        ensures { Clears T.SIZE T.is_value T.spelling heap.old heap.new self.place }
+    {
+        truncate(heap, self.place, T::SIZE, 0);
+    }
+
+    /// Gives the storage back. There is no value and no place then.
+    pub fn release(self, heap: &mut Heap)
+        requires { IsSomeVector T.SIZE T.is_value T.spelling heap.old.bytes self.place }
+        ensures { Releases T.SIZE T.is_value T.spelling heap.old heap.new self.place }
+    {
+        give_back(heap, self.place, T::SIZE);
+    }
+}
+
+/// Puts values behind the last one, one after another, where there are places for all of them.
+fn put_all<T: Plain>(heap: &mut Heap, place: Place, values: &[T])
+    requires { (xs : List T) × ((t : ATable) × (IsVector T.SIZE T.is_value T.spelling heap.old.bytes place xs t × (length xs + length values.now ≤ t.capacity))) }
+    ensures { PutsAll T.SIZE T.is_value T.spelling heap.old heap.new place values.now }
+{
+    for value in values {
+        put_value(heap, place, *value);
     }
 }

@@ -1,14 +1,20 @@
 -- The block holds the text.
-use Rattle.seg_vector.proofs.Words.{◌+◌, arith, length, allocated-room}
-use Rattle.seg_vector.proofs.TextCalls.{placed-empty, placed-some}
+use Rattle.seg_vector.proofs.Words.{◌+◌, arith, length, allocated-room, err_from_is_err_and}
+use Rattle.seg_vector.proofs.TextCalls.{not-placed, placed-empty, placed-some}
 use Rattle.seg_vector.proofs.owning.place_text.Goals as goal
 
 pub returns-then-len-eq0 : goal.returns-then-len-eq0
 returns-then-len-eq0 c = placed-empty c.args.heap.now c.args.text.now c.requires (omega (arith, c.if-len-eq0.true))
 
 pub write-requires : goal.write-requires
-write-requires c = allocated-room _ _ _ _ _ _ (0 + length c.args.text.now) c.in-Ok.ensures.answer (omega arith)
+write-requires c = allocated-room _ _ _ _ _ _ (0 + length c.args.text.now) c.in_ok-block.ensures (omega arith)
 
-pub returns-in-Ok : goal.returns-in-Ok
-returns-in-Ok c = placed-some c.args.text.now (omega (arith, c.if-len-eq0.false)) c.in-Ok.ensures.answer
+pub returns : goal.returns
+returns c = placed-some c.args.text.now (omega (arith, c.if-len-eq0.false)) c.in_ok-block.ensures
     c.write.ensures.change c.write.ensures.content
+
+pub returns-in_err-block : goal.returns-in_err-block
+returns-in_err-block c =
+    let p = err_from_is_err_and c.from_residual.result c.from_residual.ensures.1 in
+    rw (p.1, p.2)
+    (not-placed c.args.text.now (omega (arith, c.if-len-eq0.false)) c.in_err-block.ensures)

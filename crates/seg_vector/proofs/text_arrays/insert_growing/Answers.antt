@@ -1,5 +1,6 @@
 -- The array is asked for, then the text, and then the array is adopted and the text put in; or all is given up.
 use Rattle.seg_vector.proofs.Words.{sym, ap, subst, ◌*◌, length, Cut, IsAsked, option_to_list}
+use Rattle.seg_vector.proofs.Words.{err_from_is_err_and}
 use Rattle.seg_vector.proofs.TextGrowth.{asked-heap, growing-err, growing-none, growing-ok, growing-ready, more-places}
 use Rattle.seg_vector.proofs.TextGrowth.{small-wanted}
 use Rattle.seg_vector.proofs.text_arrays.insert_growing.Goals as goal
@@ -9,7 +10,7 @@ ask_array-requires-clause-small c = small-wanted c.args.heap.now c.args.n c.requ
     c.requires.wanted
 
 pub place_text-requires : goal.place_text-requires
-place_text-requires c = asked-heap (c.in-Ok.ensures c.requires.ps c.requires.t c.requires.texts)
+place_text-requires c = asked-heap (c.in_ok-array.ensures c.requires.ps c.requires.t c.requires.texts)
 
 pub give_up-requires : goal.give_up-requires
 give_up-requires c =
@@ -20,8 +21,8 @@ give_up-requires c =
       t = r.t;
       n = c.args.n;
       texts = r.texts;
-      asked = subst (λ (k : Cut). IsAsked c.args.heap.now k r.t.extent (16 * c.args.n) c.in-Ok.array)
-          (sym c.in-Err-place_text.ensures.same) (c.in-Ok.ensures r.ps r.t r.texts);
+      asked = subst (λ (k : Cut). IsAsked c.args.heap.now k r.t.extent (16 * c.args.n) c.in_ok-array.array)
+          (sym c.in-Err.ensures.same) (c.in_ok-array.ensures r.ps r.t r.texts);
       was = c.array_room-room.ensures r.ps r.t r.texts;
     }
 
@@ -33,19 +34,19 @@ adopt-requires c =
       mid = c.ask_array.new.heap;
       ps = r.ps;
       t = r.t;
-      loose = option_to_list c.in-Ok-place_text.ensures.text.extent;
+      loose = option_to_list c.in-Ok.ensures.text.extent;
       texts = r.texts;
       more = (more-places c.args.heap.now c.args.n r.texts r.full r.wanted).0;
-      asked = c.in-Ok.ensures r.ps r.t r.texts;
-      since = c.in-Ok-place_text.ensures.change;
+      asked = c.in_ok-array.ensures r.ps r.t r.texts;
+      since = c.in-Ok.ensures.change;
     }
 
 pub put_in-requires : goal.put_in-requires
 put_in-requires c =
-    let r = c.requires in let pl = c.in-Ok-place_text.ensures in
+    let r = c.requires in let pl = c.in-Ok.ensures in
     let both = more-places c.args.heap.now c.args.n r.texts r.full r.wanted in
     let ad = c.adopt.ensures c.args.heap.now c.ask_array.new.heap r.ps r.t (option_to_list pl.text.extent) r.texts
-    both.0 (c.in-Ok.ensures r.ps r.t r.texts) pl.change in
+    both.0 (c.in_ok-array.ensures r.ps r.t r.texts) pl.change in
     record {
       first = c.args.heap.now;
       ps = r.ps;
@@ -58,24 +59,26 @@ put_in-requires c =
       at = pl.at;
     }
 
+pub returns-in_err-array : goal.returns-in_err-array
+returns-in_err-array c ps t s inside full wanted =
+    let p = err_from_is_err_and c.from_residual.result c.from_residual.ensures.1 in
+    rw (p.1, p.2)
+    (growing-none c.args.n c.args.text.now s (more-places c.args.heap.now c.args.n s full wanted).0 wanted
+    (c.in_err-array.ensures ps t s))
+
 pub returns-in-Err : goal.returns-in-Err
 returns-in-Err c ps t s inside full wanted =
-    growing-none c.args.n c.args.text.now s (more-places c.args.heap.now c.args.n s full wanted).0 wanted
-    (c.in-Err.ensures ps t s)
-
-pub returns-in-Err-place_text : goal.returns-in-Err-place_text
-returns-in-Err-place_text c ps t s inside full wanted =
-    let a = c.in-Ok.ensures ps t s in
-    let asked : IsAsked c.args.heap.now c.place_text.new.heap t.extent (16 * c.args.n) c.in-Ok.array =
-    subst (λ (k : Cut). IsAsked c.args.heap.now k t.extent (16 * c.args.n) c.in-Ok.array)
-    (sym c.in-Err-place_text.ensures.same) a in
+    let a = c.in_ok-array.ensures ps t s in
+    let asked : IsAsked c.args.heap.now c.place_text.new.heap t.extent (16 * c.args.n) c.in_ok-array.array =
+    subst (λ (k : Cut). IsAsked c.args.heap.now k t.extent (16 * c.args.n) c.in_ok-array.array)
+    (sym c.in-Err.ensures.same) a in
     growing-err ps t c.args.n (more-places c.args.heap.now c.args.n s full wanted).0 wanted full a
-    c.in-Err-place_text.ensures
+    c.in-Err.ensures
     (c.give_up.ensures c.args.heap.now ps t c.args.n s asked (c.array_room-room.ensures ps t s))
 
-pub returns-in-Ok-place_text : goal.returns-in-Ok-place_text
-returns-in-Ok-place_text c ps t s inside full wanted =
-    let pl = c.in-Ok-place_text.ensures in let a = c.in-Ok.ensures ps t s in
+pub returns-in-Ok : goal.returns-in-Ok
+returns-in-Ok c ps t s inside full wanted =
+    let pl = c.in-Ok.ensures in let a = c.in_ok-array.ensures ps t s in
     let both = more-places c.args.heap.now c.args.n s full wanted in
     let ad = c.adopt.ensures c.args.heap.now c.ask_array.new.heap ps t (option_to_list pl.text.extent) s both.0 a
     pl.change in

@@ -6,50 +6,50 @@ use Rattle.seg_vector.proofs.TextsLaid.{assigned, assigns-some, fitted, laid-eve
 use Rattle.seg_vector.proofs.texts.SegTexts.assign.Goals as goal
 
 pub release-requires : goal.release-requires
-release-requires c = (c.requires.0, (c.requires.1.0, laid-still c.requires.1.1 c.in-Ok.ensures))
+release-requires c = (c.requires.0, (c.requires.1.0, laid-still c.requires.1.1 c.in_ok-array.ensures))
 
 pub point_to-requires-clause-heap : goal.point_to-requires-clause-heap
 point_to-requires-clause-heap c =
-    let still = laid-still c.requires.1.1 c.in-Ok.ensures in
+    let still = laid-still c.requires.1.1 c.in_ok-array.ensures in
     (c.release.ensures c.requires.0 c.requires.1.0 still).texts.heap
 
 pub point_to-requires-clause-room : goal.point_to-requires-clause-room
 point_to-requires-clause-room c =
-    let still = laid-still c.requires.1.1 c.in-Ok.ensures in
+    let still = laid-still c.requires.1.1 c.in_ok-array.ensures in
     (c.release.ensures c.requires.0 c.requires.1.0 still).texts.room
 
 pub point_to-requires-clause-even : goal.point_to-requires-clause-even
-point_to-requires-clause-even c = laid-even c.in-Ok.ensures
+point_to-requires-clause-even c = laid-even c.in_ok-array.ensures
 
 pub overflow_add-self : goal.overflow_add-self
 overflow_add-self c = let small = place-small c.args.self.place c.requires.1.1.heap c.requires.1.1.room in omega arith
 
 pub set_word-requires : goal.set_word-requires
 set_word-requires c =
-    let still = laid-still c.requires.1.1 c.in-Ok.ensures in
+    let still = laid-still c.requires.1.1 c.in_ok-array.ensures in
     changed-room _ _ _ _ 24 c.args.self.place.handle (c.args.self.place.at + 8 + 8) c.point_to.ensures.change
     (len-room c.release.new.heap.bytes c.args.self.place
     (c.release.ensures c.requires.0 c.requires.1.0 still).texts.room)
 
-pub returns-in-Ok-clause-assigned : goal.returns-in-Ok-clause-assigned
-returns-in-Ok-clause-assigned c =
+pub returns-clause-assigned : goal.returns-clause-assigned
+returns-clause-assigned c =
     let more = map (λ text. text.now) c.args.texts.now in
     let long = length-map c.args.texts.now (λ text. text.now) in
     let some = some-texts (length c.args.texts.now) c.if-is_empty.ensures in
     assigns-some c.args.heap.now c.set_word.new.self c.args.self.place more (omega (arith, long, some))
-    (λ ps t s. assigned (length c.args.texts.now) s c.in-Ok.ensures (sym long) some c.release.ensures
+    (λ ps t s. assigned (length c.args.texts.now) s c.in_ok-array.ensures (sym long) some c.release.ensures
     c.point_to.ensures.change c.point_to.ensures.link c.point_to.ensures.capacity c.set_word.ensures.change
     c.set_word.ensures.word)
 
-pub returns-in-Ok-clause-first : goal.returns-in-Ok-clause-first
-returns-in-Ok-clause-first c = λ none.
+pub returns-clause-first : goal.returns-clause-first
+returns-clause-first c = λ none.
     let more = map (λ text. text.now) c.args.texts.now in
     let long = length-map c.args.texts.now (λ text. text.now) in
     let some = some-texts (length c.args.texts.now) c.if-is_empty.ensures in
-    absurd (fitted (live_of c.args.heap.now.bytes) more (omega (arith, long, some)) c.in-Ok.ensures.fit
+    absurd (fitted (live_of c.args.heap.now.bytes) more (omega (arith, long, some)) c.in_ok-array.ensures.fit
     (ap (new_array (live_of c.args.heap.now.bytes)) long ∙ none))
 
-pub returns-in-Err-clause-first : goal.returns-in-Err-clause-first
-returns-in-Err-clause-first c = λ none.
+pub returns-in_err-array-clause-first : goal.returns-in_err-array-clause-first
+returns-in_err-array-clause-first c = λ none.
     let long = length-map c.args.texts.now (λ text. text.now) in
-    c.in-Err.ensures.first (ap (new_array (live_of c.args.heap.now.bytes)) long ∙ none)
+    c.in_err-array.ensures.first (ap (new_array (live_of c.args.heap.now.bytes)) long ∙ none)

@@ -1,5 +1,5 @@
 -- Nothing is asked for, or an array, which the vector has then.
-use Rattle.seg_vector.proofs.Words.{refl, ◌<◌, arith, [], live_of}
+use Rattle.seg_vector.proofs.Words.{refl, ◌<◌, arith, [], live_of, err_from_is_err_and}
 use Rattle.seg_vector.proofs.TextGrowth.{asked-alone, not-grown, reserved, reserved-same, too-many-texts}
 use Rattle.seg_vector.proofs.texts.SegTexts.reserve.Goals as goal
 
@@ -13,7 +13,7 @@ returns-then-n-gt-LIMIT-clause-reserved c ps t s =
 
 pub adopt-requires : goal.adopt-requires
 adopt-requires c =
-    let t = c.requires.1.0 in let a = c.in-Ok.ensures c.requires.0 t c.requires.1.1 in
+    let t = c.requires.1.0 in let a = c.in_ok-array.ensures c.requires.0 t c.requires.1.1 in
     record {
       first = c.args.heap.now;
       mid = c.ask_array.new.heap;
@@ -26,20 +26,21 @@ adopt-requires c =
       since = asked-alone a;
     }
 
-pub returns-in-Err-clause-reserved : goal.returns-in-Err-clause-reserved
-returns-in-Err-clause-reserved c ps t s =
-    let e = c.in-Err.ensures ps t s in
-    record {
-      refusal = refl;
+pub returns-in_err-array-clause-reserved : goal.returns-in_err-array-clause-reserved
+returns-in_err-array-clause-reserved c ps t s =
+    let e = c.in_err-array.ensures ps t s in
+    let p = err_from_is_err_and c.from_residual.result c.from_residual.ensures.1 in
+    rw (p.1, p.2) (record {
+      refusal = e.refusal;
       none = not-grown (live_of c.args.heap.now.bytes) c.args.n t
           (omega (arith, c.if-n-capacity.false, c.capacity.ensures ps t s)) e.none;
       same = e.same;
-    }
+    })
 
-pub returns-in-Ok-clause-reserved : goal.returns-in-Ok-clause-reserved
-returns-in-Ok-clause-reserved c ps t s =
+pub returns-clause-reserved : goal.returns-clause-reserved
+returns-clause-reserved c ps t s =
     let more : t.capacity < c.args.n = omega (arith, c.if-n-capacity.false, c.capacity.ensures ps t s) in
-    let a = c.in-Ok.ensures ps t s in
+    let a = c.in_ok-array.ensures ps t s in
     reserved s more (c.adopt.ensures c.args.heap.now c.ask_array.new.heap ps t [] s more a (asked-alone a))
 
 pub returns-then-n-capacity-clause-enough : goal.returns-then-n-capacity-clause-enough
@@ -49,10 +50,10 @@ pub returns-then-n-gt-LIMIT-clause-enough : goal.returns-then-n-gt-LIMIT-clause-
 returns-then-n-gt-LIMIT-clause-enough c =
     λ ps t s less. absurd (omega (arith, less, c.if-n-capacity.false, c.capacity.ensures ps t s))
 
-pub returns-in-Err-clause-enough : goal.returns-in-Err-clause-enough
-returns-in-Err-clause-enough c =
+pub returns-in_err-array-clause-enough : goal.returns-in_err-array-clause-enough
+returns-in_err-array-clause-enough c =
     λ ps t s less. absurd (omega (arith, less, c.if-n-capacity.false, c.capacity.ensures ps t s))
 
-pub returns-in-Ok-clause-enough : goal.returns-in-Ok-clause-enough
-returns-in-Ok-clause-enough c =
+pub returns-clause-enough : goal.returns-clause-enough
+returns-clause-enough c =
     λ ps t s less. absurd (omega (arith, less, c.if-n-capacity.false, c.capacity.ensures ps t s))

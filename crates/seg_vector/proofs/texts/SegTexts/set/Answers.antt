@@ -10,7 +10,7 @@ replace_text-requires-clause-texts c = (
   (
     c.requires.1.0,
     (
-      texts-still c.requires.1.1 c.in-Ok.ensures.change,
+      texts-still c.requires.1.1 c.in_ok-block.ensures.change,
       omega
           (arith, c.if-index-len.false, c.len.ensures c.requires.0 c.requires.1.0 c.requires.1.1),
     ),
@@ -18,17 +18,17 @@ replace_text-requires-clause-texts c = (
 )
 
 pub replace_text-requires-clause-target : goal.replace_text-requires-clause-target
-replace_text-requires-clause-target c = subst (λ o. IfSome o (λ target. target % 16 ≡ 0)) (sym c.in-Ok.ensures.at)
-    (come-even c.in-Ok.ensures.text.extent c.in-Ok.ensures.change)
+replace_text-requires-clause-target c = subst (λ o. IfSome o (λ target. target % 16 ≡ 0)) (sym c.in_ok-block.ensures.at)
+    (come-even c.in_ok-block.ensures.text.extent c.in_ok-block.ensures.change)
 
-pub returns-in-Ok : goal.returns-in-Ok
-returns-in-Ok c ps t s =
+pub returns : goal.returns
+returns c ps t s =
     let q = has-element ps c.args.index (omega (arith, c.if-index-len.false, c.len.ensures ps t s)) in
     record {
       before = q.0;
       found = q.1;
-      text = c.in-Ok.ensures.text;
-      placed = c.in-Ok.ensures.placed;
-      now = text-set s q.1 c.in-Ok.ensures (c.replace_text.ensures ps t q.0 (texts-still s c.in-Ok.ensures.change) q.1)
+      text = c.in_ok-block.ensures.text;
+      placed = c.in_ok-block.ensures.placed;
+      now = text-set s q.1 c.in_ok-block.ensures (c.replace_text.ensures ps t q.0 (texts-still s c.in_ok-block.ensures.change) q.1)
           refl;
     }

@@ -1,5 +1,5 @@
 -- The storage grows, and then the values are put in from the front.
-use Rattle.seg_vector.proofs.Words.{arith, length, refl, [], live_of}
+use Rattle.seg_vector.proofs.Words.{arith, length, [], live_of, err_from_is_err_and}
 use Rattle.seg_vector.proofs.Storage.{table-places}
 use Rattle.seg_vector.proofs.Typed.{grown-of, grown-then, now-then, without-space}
 use Rattle.seg_vector.proofs.vectors.SegVec.assign.Goals as goal
@@ -8,13 +8,13 @@ pub clear-requires : goal.clear-requires
 clear-requires g c =
     let t = c.requires.1.0 in
     let grown = grown-of c.args.heap.now c.reserve.new.heap c.SIZE.ensures c.requires.1.1
-    {n = (length c.args.values.now)} refl (λ n u bytes s. c.in-Ok.ensures n u bytes s) in
+    (λ len capacity. length c.args.values.now) (λ n u bytes s. c.in_ok-reserve.ensures n u bytes s) in
     (c.requires.0, (grown.table, record { stands = grown.stands; values = c.requires.1.1.values }))
 
 pub put_all-requires : goal.put_all-requires
 put_all-requires g c =
     let grown = grown-of c.args.heap.now c.reserve.new.heap c.SIZE.ensures c.requires.1.1
-    {n = (length c.args.values.now)} refl (λ n u bytes s. c.in-Ok.ensures n u bytes s) in
+    (λ len capacity. length c.args.values.now) (λ n u bytes s. c.in_ok-reserve.ensures n u bytes s) in
     let places = table-places (live_of c.args.heap.now.bytes) g.T.Plain.SIZE (length c.args.values.now) c.requires.1.0
     grown.grown in (
       [],
@@ -28,14 +28,17 @@ put_all-requires g c =
       ),
     )
 
-pub returns-in-Err : goal.returns-in-Err
-returns-in-Err g c xs t v = without-space c.args.heap.now c.reserve.new.heap c.SIZE.ensures v
-    {n = (length c.args.values.now)} refl (λ n u bytes s. c.in-Err.ensures n u bytes s)
+pub returns-in_err-reserve : goal.returns-in_err-reserve
+returns-in_err-reserve g c xs t v =
+    let p = err_from_is_err_and c.from_residual.result c.from_residual.ensures.1 in
+    rw (p.1, p.2)
+    (without-space c.args.heap.now c.reserve.new.heap c.SIZE.ensures v (λ len capacity. length c.args.values.now)
+    (λ n u bytes s. c.in_err-reserve.ensures n u bytes s))
 
-pub returns-in-Ok : goal.returns-in-Ok
-returns-in-Ok g c xs t v =
-    let grown = grown-of c.args.heap.now c.reserve.new.heap c.SIZE.ensures v {n = (length c.args.values.now)} refl
-    (λ n u bytes s. c.in-Ok.ensures n u bytes s) in
+pub returns : goal.returns
+returns g c xs t v =
+    let grown = grown-of c.args.heap.now c.reserve.new.heap c.SIZE.ensures v
+    (λ len capacity. length c.args.values.now) (λ n u bytes s. c.in_ok-reserve.ensures n u bytes s) in
     let places = table-places (live_of c.args.heap.now.bytes) g.T.Plain.SIZE (length c.args.values.now) t grown.grown in
     let cleared = c.clear.ensures xs grown.table (record { stands = grown.stands; values = v.values }) in
     grown-then xs grown

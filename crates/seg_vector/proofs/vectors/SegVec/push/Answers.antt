@@ -1,42 +1,34 @@
 -- The storage grows, and then the value is put in.
-use Rattle.seg_vector.proofs.Words.{arith, length, refl, flat_map}
-use Rattle.seg_vector.proofs.Storage.{has-place, wanted-places}
-use Rattle.seg_vector.proofs.Typed.{appended-now, grown-of, grown-then, small-capacity, wanted-is, without-space}
+use Rattle.seg_vector.proofs.Words.{◌∙◌, sym, refl, capacity_for_one, err_from_is_err_and}
+use Rattle.seg_vector.proofs.Typed.{appended-now, grown-of, grown-then, space-for-one, stands-for-one, without-space}
 use Rattle.seg_vector.proofs.vectors.SegVec.push.Goals as goal
 
-pub capacity_for_one-wanted-requires : goal.capacity_for_one-wanted-requires
-capacity_for_one-wanted-requires g c =
-    let few = small-capacity c.args.heap.now c.args.heap.now refl c.requires.1.1 g.met.T.Plain.sizes.0 in
-    omega (arith, few, c.capacity.ensures c.requires.0 c.requires.1.0 c.requires.1.1)
+pub grow_for_one-requires-clause-len : goal.grow_for_one-requires-clause-len
+grow_for_one-requires-clause-len g c = c.len-len.ensures c.requires.0 c.requires.1.0 c.requires.1.1
+    ∙ sym c.requires.1.1.stands.words.len_word
 
 pub put_value-requires-clause-stands : goal.put_value-requires-clause-stands
 put_value-requires-clause-stands g c =
-    let wanted = wanted-is c.capacity_for_one-wanted.ensures (c.len.ensures c.requires.0 c.requires.1.0 c.requires.1.1)
-    (c.capacity.ensures c.requires.0 c.requires.1.0 c.requires.1.1) in
-    let grown = grown-of c.args.heap.now c.reserve.new.heap c.SIZE.ensures c.requires.1.1 wanted
-    (λ n u bytes s. c.in-Ok.ensures n u bytes s) in
-    (length c.requires.0, (grown.table, (flat_map g.T.Plain.spelling c.requires.0, grown.stands)))
+    stands-for-one c.args.heap.now c.grow_for_one.new.heap c.SIZE.ensures c.requires.1.1
+    (λ n u bytes s. c.in_ok-grow_for_one.ensures n u bytes s)
 
 pub put_value-requires-clause-space : goal.put_value-requires-clause-space
 put_value-requires-clause-space g c =
-    let v = c.requires.1.1 in
-    let wanted = wanted-is c.capacity_for_one-wanted.ensures (c.len.ensures c.requires.0 c.requires.1.0 v)
-    (c.capacity.ensures c.requires.0 c.requires.1.0 v) in
-    let grown = grown-of c.args.heap.now c.reserve.new.heap c.SIZE.ensures v wanted
-    (λ n u bytes s. c.in-Ok.ensures n u bytes s) in
-    has-place (wanted-places (length c.requires.0) c.requires.1.0.capacity v.stands.fits).0 grown
+    space-for-one c.args.heap.now c.grow_for_one.new.heap c.SIZE.ensures c.requires.1.1
+    (λ n u bytes s. c.in_ok-grow_for_one.ensures n u bytes s)
 
-pub returns-in-Err : goal.returns-in-Err
-returns-in-Err g c xs t v =
-    let wanted = wanted-is c.capacity_for_one-wanted.ensures (c.len.ensures xs t v) (c.capacity.ensures xs t v) in
-    without-space c.args.heap.now c.reserve.new.heap c.SIZE.ensures v wanted
-    (λ n u bytes s. c.in-Err.ensures n u bytes s)
+pub returns-in_err-grow_for_one : goal.returns-in_err-grow_for_one
+returns-in_err-grow_for_one g c xs t v =
+    let p = err_from_is_err_and c.from_residual.result c.from_residual.ensures.1 in
+    rw (p.1, p.2)
+    (without-space c.args.heap.now c.grow_for_one.new.heap c.SIZE.ensures v capacity_for_one
+    (λ n u bytes s. c.in_err-grow_for_one.ensures n u bytes s))
 
-pub returns-in-Ok : goal.returns-in-Ok
-returns-in-Ok g c xs t v =
-    let wanted = wanted-is c.capacity_for_one-wanted.ensures (c.len.ensures xs t v) (c.capacity.ensures xs t v) in
-    let grown = grown-of c.args.heap.now c.reserve.new.heap c.SIZE.ensures v wanted
-    (λ n u bytes s. c.in-Ok.ensures n u bytes s) in
+pub returns : goal.returns
+returns g c xs t v =
+    let grown = grown-of c.args.heap.now c.grow_for_one.new.heap c.SIZE.ensures v capacity_for_one
+    (λ n u bytes s. c.in_ok-grow_for_one.ensures n u bytes s) in
     grown-then xs grown
-    (appended-now c.reserve.new.heap c.put_value.new.heap refl (record { stands = grown.stands; values = v.values })
-    c.args.value c.put_value.ensures.value c.put_value.ensures.appended)
+    (appended-now c.grow_for_one.new.heap c.put_value.new.heap refl
+    (record { stands = grown.stands; values = v.values }) c.args.value c.put_value.ensures.value
+    c.put_value.ensures.appended)

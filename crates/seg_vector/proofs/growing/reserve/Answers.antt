@@ -1,6 +1,0 @@
--- No gap is so long.
-use Rattle.seg_vector.proofs.Storage.{too-many}
-use Rattle.seg_vector.proofs.growing.reserve.Goals as goal
-
-pub returns-then-n-gt-LIMIT : goal.returns-then-n-gt-LIMIT
-returns-then-n-gt-LIMIT c len t bytes s = too-many c.args.heap.now c.args.n s c.requires.some c.if-n-gt-LIMIT.true

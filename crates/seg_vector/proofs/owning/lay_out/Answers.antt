@@ -1,0 +1,55 @@
+-- The array is taken into use, and then the texts; or all is given back.
+use Rattle.seg_vector.proofs.Words.{sym, length, map, length-map, err_from_is_err_and}
+use Rattle.seg_vector.proofs.TextsLaid.{array-live, array-taken, laid-held, laid-out, no-space, out-of-reach}
+use Rattle.seg_vector.proofs.TextsLaid.{taken-off}
+use Rattle.seg_vector.proofs.owning.lay_out.Goals as goal
+
+pub returns-then-n-gt-LIMIT : goal.returns-then-n-gt-LIMIT
+returns-then-n-gt-LIMIT c =
+    out-of-reach c.args.heap.now (length c.args.texts.now) (map (λ text. text.now) c.args.texts.now) c.requires.heap
+    (sym (length-map c.args.texts.now (λ text. text.now))) c.if-n-gt-LIMIT.true
+
+pub place_texts-placed-requires-clause-heap : goal.place_texts-placed-requires-clause-heap
+place_texts-placed-requires-clause-heap c = (array-taken (length c.args.texts.now) c.in_ok-array.ensures).heap
+
+pub place_texts-placed-requires-clause-room : goal.place_texts-placed-requires-clause-room
+place_texts-placed-requires-clause-room c = (array-taken (length c.args.texts.now) c.in_ok-array.ensures).room
+
+pub returns-then-placed-n : goal.returns-then-placed-n
+returns-then-placed-n c =
+    let n = length c.args.texts.now in let t = array-taken n c.in_ok-array.ensures in
+    laid-out t (sym (length-map c.args.texts.now (λ text. text.now)))
+    (c.place_texts-placed.ensures t.block t.at t.found) c.if-placed-n.true
+
+pub release_texts-requires : goal.release_texts-requires
+release_texts-requires c =
+    let n = length c.args.texts.now in let t = array-taken n c.in_ok-array.ensures in
+    let w = c.place_texts-placed.ensures t.block t.at t.found in
+    (w.laid.texts, laid-held t (sym (length-map c.args.texts.now (λ text. text.now))) w)
+
+pub deallocate-requires : goal.deallocate-requires
+deallocate-requires c =
+    let n = length c.args.texts.now in
+    let more = map (λ text. text.now) c.args.texts.now in
+    let t = array-taken n c.in_ok-array.ensures in
+    let w = c.place_texts-placed.ensures t.block t.at t.found in
+    let h = laid-held t (sym (length-map c.args.texts.now (λ text. text.now))) w in
+    array-live t w (c.release_texts.ensures w.laid.texts h)
+
+pub returns-in_err-array : goal.returns-in_err-array
+returns-in_err-array c =
+    let p = err_from_is_err_and c.from_residual.result c.from_residual.ensures.1 in
+    rw (p.1, p.2)
+    (no-space (length c.args.texts.now) (map (λ text. text.now) c.args.texts.now) c.requires.heap c.requires.some
+    (sym (length-map c.args.texts.now (λ text. text.now))) c.in_err-array.ensures)
+
+pub returns : goal.returns
+returns c =
+    let n = length c.args.texts.now in
+    let more = map (λ text. text.now) c.args.texts.now in
+    let e = sym (length-map c.args.texts.now (λ text. text.now)) in
+    let t = array-taken n c.in_ok-array.ensures in
+    let w = c.place_texts-placed.ensures t.block t.at t.found in
+    let h = laid-held t e w in
+    taken-off t e c.requires.some w c.if-placed-n.false
+    (c.release_texts.ensures w.laid.texts h) c.deallocate.ensures.released

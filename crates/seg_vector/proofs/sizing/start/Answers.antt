@@ -1,0 +1,38 @@
+-- Three words are written one after another.
+use Rattle.seg_vector.proofs.Words.{◌+◌, arith, changed-room}
+use Rattle.seg_vector.proofs.Fewer.{started}
+use Rattle.seg_vector.proofs.Runs.{changed-both}
+use Rattle.seg_vector.proofs.Storage.{capacity-room, len-room, link-room, place-small}
+use Rattle.seg_vector.proofs.sizing.start.Goals as goal
+
+pub overflow_add-place : goal.overflow_add-place
+overflow_add-place c = let small = place-small c.args.place c.requires.heap c.requires.room in omega arith
+
+pub overflow_add-place-2 : goal.overflow_add-place-2
+overflow_add-place-2 c = let small = place-small c.args.place c.requires.heap c.requires.room in omega arith
+
+pub set_link-requires-clause-room : goal.set_link-requires-clause-room
+set_link-requires-clause-room c = link-room c.args.heap.now.bytes c.args.place c.requires.room
+
+pub set_word-requires : goal.set_word-requires
+set_word-requires c = changed-room _ _ _ _ 8 c.args.place.handle (c.args.place.at + 8 + 8) c.set_link.ensures.change
+    (len-room c.args.heap.now.bytes c.args.place c.requires.room)
+
+pub set_word-requires-2 : goal.set_word-requires-2
+set_word-requires-2 c = changed-room _ _ _ _ 8 c.args.place.handle (c.args.place.at + 16 + 8) c.set_word.ensures.change
+    (changed-room _ _ _ _ 8 c.args.place.handle (c.args.place.at + 16 + 8) c.set_link.ensures.change
+    (capacity-room c.args.heap.now.bytes c.args.place c.requires.room))
+
+pub returns-clause-change : goal.returns-clause-change
+returns-clause-change c = changed-both (c.args.place.handle + c.args.place.at) 24
+    (changed-both (c.args.place.handle + c.args.place.at) 24
+    c.set_link.ensures.change c.set_word.ensures.change (omega arith) (omega arith) (omega arith) (omega arith))
+    c.set_word-2.ensures.change (omega arith) (omega arith) (omega arith) (omega arith)
+
+pub returns-clause-stands : goal.returns-clause-stands
+returns-clause-stands c each = started c.args.place each c.requires.aligned c.requires.room
+    (changed-both (c.args.place.handle + c.args.place.at) 24 (changed-both (c.args.place.handle + c.args.place.at) 24
+    c.set_link.ensures.change c.set_word.ensures.change (omega arith) (omega arith) (omega arith) (omega arith))
+    c.set_word-2.ensures.change (omega arith) (omega arith) (omega arith) (omega arith))
+    c.set_link.ensures.leads c.set_word.ensures.change c.set_word.ensures.word c.set_word-2.ensures.change
+    c.set_word-2.ensures.word

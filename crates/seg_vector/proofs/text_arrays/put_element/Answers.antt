@@ -1,0 +1,27 @@
+-- A link, and a word behind it.
+use Rattle.seg_vector.proofs.Words.{◌∙◌, inl, ◌+◌, ◌<◌, arith, SameBut-link, live_of, changed-room, room-less}
+use Rattle.seg_vector.proofs.Runs.{changed-both}
+use Rattle.seg_vector.proofs.Storage.{room-small}
+use Rattle.seg_vector.proofs.text_arrays.put_element.Goals as goal
+
+pub set_link-requires-clause-room : goal.set_link-requires-clause-room
+set_link-requires-clause-room c = room-less (live_of c.args.heap.now.bytes) c.args.array (c.args.at + 16)
+    (c.args.at + 8) (omega arith) c.requires.room
+
+pub overflow_add-at : goal.overflow_add-at
+overflow_add-at c = let small : c.args.at + 16 < 1073741824 = room-small c.args.heap.now c.args.array (c.args.at + 16)
+    c.requires.heap c.requires.room in omega arith
+
+pub set_word-requires : goal.set_word-requires
+set_word-requires c = changed-room _ _ _ _ 8 c.args.array (c.args.at + 8 + 8) c.set_link.ensures.change
+    (room-less (live_of c.args.heap.now.bytes) c.args.array (c.args.at + 16) (c.args.at + 8 + 8) (omega arith)
+    c.requires.room)
+
+pub returns-clause-change : goal.returns-clause-change
+returns-clause-change c = changed-both (c.args.array + c.args.at) 16
+    c.set_link.ensures.change c.set_word.ensures.change (omega arith) (omega arith) (omega arith) (omega arith)
+
+pub returns-clause-link : goal.returns-clause-link
+returns-clause-link c =
+    SameBut-link _ _ _ 8 (c.args.array + c.args.at) c.set_word.ensures.change.rest (inl (omega arith))
+    ∙ c.set_link.ensures.leads

@@ -1,0 +1,115 @@
+//! The elements of a container at a place: read, written over, left out, and put in where there is a place.
+ghost use Rattle.std.specs.Prelude.{◌≡◌, ◌+◌, ◌<◌, ◌≤◌, length};
+ghost use Rattle.raw_region.specs.Memory.{bytes_of, word_at};
+ghost use Rattle.seg_vector.specs.Elements.{Erases, Extends, Inserts, Overwrites, ReadsAll, ReadsOne, Truncates};
+ghost use Rattle.seg_vector.specs.Standing.{Appends, IsStanding};
+
+use crate::places::{LEN, Place};
+use best_fit::Heap;
+
+/// The bytes of all elements, of `each` bytes each.
+pub fn elements(heap: &Heap, place: Place, each: u64) -> &[u8]
+    requires { IsStanding heap.now.bytes place each }
+    ensures { ReadsAll heap.now.bytes place each result.now }
+{
+    let len = heap.word(place.handle, place.at + LEN);
+    match heap.link(place.handle, place.at) {
+        None => &[],
+        Some(storage) => &heap.block(storage)[..(each * len) as usize],
+    }
+}
+
+/// The bytes of the element with `index` others before it.
+pub fn element(heap: &Heap, place: Place, each: u64, index: u64) -> &[u8]
+    requires stands { IsStanding heap.now.bytes place each }
+    requires inside { index < word_at (bytes_of heap.now.bytes) (place.handle + place.at + 8) }
+    ensures { ReadsOne heap.now.bytes place each index result.now }
+{
+    let all = elements(heap, place, each);
+    let from = (each * index) as usize;
+    &all[from..from + each as usize]
+}
+
+/// Writes over the element with `index` others before it.
+pub fn set_element(heap: &mut Heap, place: Place, each: u64, index: u64, bytes: &[u8])
+    requires stands { IsStanding heap.old.bytes place each }
+    requires inside { index < word_at (bytes_of heap.old.bytes) (place.handle + place.at + 8) }
+    requires long { length bytes.now ≡ each }
+    ensures { Overwrites heap.old heap.new place each index bytes.now }
+{
+    if let Some(storage) = heap.link(place.handle, place.at) {
+        heap.write(storage, each * index, bytes);
+    }
+}
+
+/// Leaves the first `n` elements.
+pub fn truncate(heap: &mut Heap, place: Place, each: u64, n: u64)
+    requires stands { IsStanding heap.old.bytes place each }
+    requires fewer { n ≤ word_at (bytes_of heap.old.bytes) (place.handle + place.at + 8) }
+    ensures { Truncates heap.old heap.new place each n }
+{
+    heap.set_word(place.handle, place.at + LEN, n);
+}
+
+/// Writes an element of `each` bytes behind the last one, where the capacity is above the length.
+pub fn put_last(heap: &mut Heap, place: Place, each: u64, bytes: &[u8])
+    requires stands { IsStanding heap.old.bytes place each }
+    requires space { word_at (bytes_of heap.old.bytes) (place.handle + place.at + 8) < word_at (bytes_of heap.old.bytes) (place.handle + place.at + 16) }
+    requires some { 1 ≤ each }
+    requires long { length bytes.now ≡ each }
+    ensures { Appends heap.old heap.new place each bytes.now }
+{
+    let len = heap.word(place.handle, place.at + LEN);
+    if let Some(storage) = heap.link(place.handle, place.at) {
+        heap.write(storage, each * len, bytes);
+        heap.set_word(place.handle, place.at + LEN, len + 1);
+    }
+}
+
+/// Writes bytes behind the last one of a container of elements of a byte each, where the capacity allows.
+pub fn extend(heap: &mut Heap, place: Place, bytes: &[u8])
+    requires stands { IsStanding heap.old.bytes place 1 }
+    requires space { word_at (bytes_of heap.old.bytes) (place.handle + place.at + 8) + length bytes.now ≤ word_at (bytes_of heap.old.bytes) (place.handle + place.at + 16) }
+    ensures { Extends heap.old heap.new place bytes.now }
+{
+    let len = heap.word(place.handle, place.at + LEN);
+    if let Some(storage) = heap.link(place.handle, place.at) {
+        heap.write(storage, len, bytes);
+        heap.set_word(place.handle, place.at + LEN, len + bytes.len() as u64);
+    }
+}
+
+/// Puts an element of `each` bytes where `index` others stand before it, where the capacity is above the length. Those
+/// from there on move up.
+pub fn insert_element(heap: &mut Heap, place: Place, each: u64, index: u64, bytes: &[u8])
+    requires stands { IsStanding heap.old.bytes place each }
+    requires space { word_at (bytes_of heap.old.bytes) (place.handle + place.at + 8) < word_at (bytes_of heap.old.bytes) (place.handle + place.at + 16) }
+    requires inside { index ≤ word_at (bytes_of heap.old.bytes) (place.handle + place.at + 8) }
+    requires some { 1 ≤ each }
+    requires long { length bytes.now ≡ each }
+    ensures { Inserts heap.old heap.new place each index bytes.now }
+{
+    let len = heap.word(place.handle, place.at + LEN);
+    if let Some(storage) = heap.link(place.handle, place.at) {
+        let from = each * index;
+        let behind = each * (len - index);
+        heap.copy(storage, from, storage, from + each, behind);
+        heap.write(storage, from, bytes);
+        heap.set_word(place.handle, place.at + LEN, len + 1);
+    }
+}
+
+/// Leaves out the element with `index` others before it. Those behind it move down.
+pub fn erase_element(heap: &mut Heap, place: Place, each: u64, index: u64)
+    requires stands { IsStanding heap.old.bytes place each }
+    requires inside { index < word_at (bytes_of heap.old.bytes) (place.handle + place.at + 8) }
+    ensures { Erases heap.old heap.new place each index }
+{
+    let len = heap.word(place.handle, place.at + LEN);
+    if let Some(storage) = heap.link(place.handle, place.at) {
+        let from = each * index;
+        let behind = each * (len - index - 1);
+        heap.copy(storage, from + each, storage, from, behind);
+        heap.set_word(place.handle, place.at + LEN, len - 1);
+    }
+}

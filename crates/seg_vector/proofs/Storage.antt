@@ -233,16 +233,16 @@ pub capacity-room : (b : List ℕ) (p : Place) → IsTrue (has_room (live_of b) 
 capacity-room b p room = room-less (live_of b) p.handle (p.at + 24) (p.at + 16 + 8) (omega arith) room
 
 pub len-read : {b : List ℕ} {p : Place} {each len : ℕ} (k : ℕ) {t : Table} {bytes : List ℕ}
-    → Stands b p each len t bytes → k ≡ word_at (bytes_of b) (p.handle + (p.at + 8)) → k ≡ len
-len-read {b} k s e = e ∙ ap (word_at (bytes_of b)) (omega arith) ∙ s.words.len_word
+    → Stands b p each len t bytes → k ≡ word_at (bytes_of b) (place_at p + 8) → k ≡ len
+len-read k s e = e ∙ s.words.len_word
 
 pub capacity-read : {b : List ℕ} {p : Place} {each len : ℕ} (k : ℕ) {t : Table} {bytes : List ℕ}
-    → Stands b p each len t bytes → k ≡ word_at (bytes_of b) (p.handle + (p.at + 16)) → k ≡ t.capacity
-capacity-read {b} k s e = e ∙ ap (word_at (bytes_of b)) (omega arith) ∙ s.words.capacity
+    → Stands b p each len t bytes → k ≡ word_at (bytes_of b) (place_at p + 16) → k ≡ t.capacity
+capacity-read k s e = e ∙ s.words.capacity
 
 pub storage-read : {b : List ℕ} {p : Place} {each len : ℕ} (k : ℕ) {t : Table} {bytes : List ℕ} (storage : Option ℕ)
     → Stands b p each len t bytes → storage ≡ link_at (bytes_of b) (p.handle + p.at)
-    → k ≡ word_at (bytes_of b) (p.handle + (p.at + 8))
+    → k ≡ word_at (bytes_of b) (place_at p + 8)
     → IfSome storage (λ g. IsTrue (has_room (live_of b) g (each * k)))
 storage-read {b} {each} k {t} storage s e f =
     subst (λ o. IfSome o (λ g. IsTrue (has_room (live_of b) g (each * k)))) (sym (e ∙ s.words.link))
@@ -252,7 +252,7 @@ storage-read {b} {each} k {t} storage s e f =
 pub given-of : {old mid : Cut} {p : Place} {each : ℕ} (n : ℕ) {len : ℕ} (k : ℕ) {g : ℕ} {t : Table} {bytes : List ℕ}
     (storage : Option ℕ) → Stands old.bytes p each len t bytes
     → storage ≡ link_at (bytes_of old.bytes) (p.handle + p.at)
-    → k ≡ word_at (bytes_of old.bytes) (p.handle + (p.at + 8))
+    → k ≡ word_at (bytes_of old.bytes) (place_at p + 8)
     → IsGivenRoom current old mid (block_of (live_of old.bytes) storage) (each * n) (each * k) g
     → IsGivenRoom current old mid t.extent (each * n) (each * len) g
 given-of {old} {mid} {each} n {len} k {g} storage s e f r =
@@ -836,7 +836,7 @@ pub part-room : {l : LiveSet} {each i n g : ℕ} (k : ℕ) → k ≤ each * i + 
 part-room {l} {each} {i} {n} {g} k f q = room-less l g (each * i + each + n) k f q.room
 
 pub erase-fits : (c : Cut) {p : Place} {each len : ℕ} (k : ℕ) {g : ℕ} (i : ℕ) {t : Table} {bytes : List ℕ}
-    → Stands c.bytes p each len t bytes → k ≡ word_at (bytes_of c.bytes) (p.handle + (p.at + 8))
+    → Stands c.bytes p each len t bytes → k ≡ word_at (bytes_of c.bytes) (place_at p + 8)
     → i < word_at (bytes_of c.bytes) (p.handle + p.at + 8) → link_at (bytes_of c.bytes) (place_at p) ≡ Some g
     → Fitting (live_of c.bytes) each i (each * (k - i - 1)) g
 erase-fits c {each} {len} k i s e inside link =
@@ -847,7 +847,7 @@ erase-fits c {each} {len} k i s e inside link =
     fitting c i (each * (k - i - 1)) len s link s.fits (sym split ∙ ap (λ j. each * j) whole)
 
 pub insert-fits : (c : Cut) {p : Place} {each len : ℕ} (k : ℕ) {g : ℕ} (i : ℕ) {t : Table} {bytes : List ℕ}
-    → Stands c.bytes p each len t bytes → k ≡ word_at (bytes_of c.bytes) (p.handle + (p.at + 8))
+    → Stands c.bytes p each len t bytes → k ≡ word_at (bytes_of c.bytes) (place_at p + 8)
     → i ≤ word_at (bytes_of c.bytes) (p.handle + p.at + 8) → word_at (bytes_of c.bytes) (p.handle + p.at + 8) < word_at
     (bytes_of c.bytes) (p.handle + p.at + 16)
     → link_at (bytes_of c.bytes) (place_at p) ≡ Some g → Fitting (live_of c.bytes) each i (each * (k - i)) g

@@ -130,10 +130,6 @@ given-up-all {old} {mid} {new} {t} {gone} x g =
 
 -- ---- the word
 
-pub texts-len : {b : List ℕ} {p : Place} {ps : List OwnedText} (k : ℕ) {t : Table} → IsTexts b p ps t
-    → k ≡ word_at (bytes_of b) (p.handle + (p.at + 8)) → k ≡ length ps
-texts-len {b} k s e = e ∙ ap (word_at (bytes_of b)) (omega arith) ∙ s.words.len_word
-
 pub head-after : {old mid : Cut} {p : Place} {ps : List OwnedText} {t : Table} → IsTexts old.bytes p ps t
     → IsSwapped old mid (text_blocks ps) [] → IsHead mid p
 head-after {old} {p} {ps} {t} s x =

@@ -468,8 +468,8 @@ since-link {first} {mid} {now} {p} {ps} {t} {g} n {loose} s more a since =
     }))
 
 pub since-len : {now : Cut} {p : Place} {g n : ℕ} (k : ℕ) → (r : IsReady now p g n)
-    → k ≡ word_at (bytes_of now.bytes) (p.handle + (p.at + 8)) → k ≡ length r.ps
-since-len {now} k r e = e ∙ ap (word_at (bytes_of now.bytes)) (omega arith) ∙ (ready r).run.words.len_word
+    → k ≡ word_at (bytes_of now.bytes) (place_at p + 8) → k ≡ length r.ps
+since-len k r e = e ∙ (ready r).run.words.len_word
 
 -- ---- more places, and the same texts
 
@@ -624,7 +624,7 @@ put_in {first} {now} {b1} {b2} {new} {p} {ps} {t} {y} {m} {z} i r inside c1 m1 c
 pub put-by : {first now b1 b2 new : Cut} {p : Place} {ps : List OwnedText} {t : Table} {y : Extent} {m : ℕ}
     {z : OwnedText} (i : ℕ) {g : ℕ} (n len : ℕ) (block : Option ℕ) → IsPutReady first now p ps t y m z → i ≤ length ps
     → block ≡ option_map handle z.extent → len ≡ length z.bytes → link_at (bytes_of now.bytes) (place_at p) ≡ Some g
-    → n ≡ word_at (bytes_of now.bytes) (p.handle + (p.at + 8))
+    → n ≡ word_at (bytes_of now.bytes) (place_at p + 8)
     → IsChanged current now b1 (g + 16 * i + 16) (16 * (n - i))
     → AreSameElements (bytes_of now.bytes) (bytes_of b1.bytes) (g + 16 * i) (g + 16 * i + 16) (n - i)
     → IsChanged current b1 b2 (g + 16 * i) 16 → link_at (bytes_of b2.bytes) (g + 16 * i) ≡ block
@@ -634,7 +634,7 @@ pub put-by : {first now b1 b2 new : Cut} {p : Place} {ps : List OwnedText} {t : 
 put-by {now} {b1} {b2} {new} {p} {ps} {y} i n len block r inside at_is len_is leads n_is c1 m1 c2 link word c3 last =
     let at : p.handle + (p.at + 8) ≡ p.handle + p.at + 8 = omega arith in
     let g_is = same-some (sym leads ∙ r.link) in
-    let k_is : n ≡ length ps = n_is ∙ ap (word_at (bytes_of now.bytes)) at ∙ r.len_word in
+    let k_is : n ≡ length ps = n_is ∙ r.len_word in
     put_in {b1 = b1} {b2 = b2} {new = new} i r inside
     (subst (λ k. IsChanged current now b1 (handle y + 16 * i + 16) (16 * (k - i))) k_is
     (subst (λ h. IsChanged current now b1 (h + 16 * i + 16) (16 * (n - i))) g_is c1))
@@ -655,7 +655,7 @@ pub record IsPutPlace (now : Cut) (p : Place) (g i k : ℕ) : Type 0 where
   pub inside : i ≤ k
   pub room : IsTrue (has_room (live_of now.bytes) g (16 * k + 16))
   pub even : AreEvenLinks (bytes_of now.bytes) g k
-  pub count : word_at (bytes_of now.bytes) (p.handle + (p.at + 8)) ≡ k
+  pub count : word_at (bytes_of now.bytes) (place_at p + 8) ≡ k
 
 pub put-place : {now : Cut} {p : Place} {g i : ℕ} {block : Option ℕ} {len : ℕ} → (r : IsPutAsked now p i block len)
     → link_at (bytes_of now.bytes) (place_at p) ≡ Some g → IsPutPlace now p g i (length r.ps)
@@ -663,7 +663,6 @@ put-place {now} {p} {g} r leads =
     let w = r.ready in let y = r.y in let k = length r.ps in let g_is = same-some (sym w.link ∙ leads) in
     let space = w.space in let big = put-big w in let q = put-run w in
     let found = (run-found q).0 in
-    let at : p.handle + (p.at + 8) ≡ p.handle + p.at + 8 = omega arith in
     record {
       heap = q.heap;
       head = q.head;
@@ -677,7 +676,7 @@ put-place {now} {p} {g} r leads =
           w.links) e.1).0) (even-block (live_of r.first.bytes) e.0.extent w.texts.heap.proper
           (one-of (IsFound (live_of r.first.bytes).extents) r.ps j
           (found-texts (live_of r.first.bytes) r.ps w.texts.held) e.1));
-      count = ap (word_at (bytes_of now.bytes)) at ∙ w.len_word;
+      count = w.len_word;
     }
 
 pub put-even : {now : Cut} {p : Place} {i : ℕ} {block : Option ℕ} {len : ℕ} → IsPutAsked now p i block len

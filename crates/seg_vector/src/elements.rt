@@ -4,7 +4,7 @@ ghost use Rattle.raw_region.specs.Memory.{bytes_of, word_at};
 ghost use Rattle.seg_vector.specs.Elements.{Erases, Extends, Inserts, Overwrites, ReadsAll, ReadsOne, Truncates};
 ghost use Rattle.seg_vector.specs.Standing.{Appends, IsStanding};
 
-use crate::places::{LEN, Place};
+use crate::places::{LEN, Place, len_of, link_of};
 use best_fit::Heap;
 
 /// The bytes of all elements, of `each` bytes each.
@@ -12,8 +12,8 @@ pub fn elements(heap: &Heap, place: Place, each: u64) -> &[u8]
     requires { IsStanding heap.now.bytes place each }
     ensures { ReadsAll heap.now.bytes place each result.now }
 {
-    let len = heap.word(place.handle, place.at + LEN);
-    match heap.link(place.handle, place.at) {
+    let len = len_of(heap, place);
+    match link_of(heap, place) {
         None => &[],
         Some(storage) => &heap.block(storage)[..(each * len) as usize],
     }
@@ -37,7 +37,7 @@ pub fn set_element(heap: &mut Heap, place: Place, each: u64, index: u64, bytes: 
     requires long { length bytes.now ≡ each }
     ensures { Overwrites heap.old heap.new place each index bytes.now }
 {
-    if let Some(storage) = heap.link(place.handle, place.at) {
+    if let Some(storage) = link_of(heap, place) {
         heap.write(storage, each * index, bytes);
     }
 }
@@ -59,8 +59,8 @@ pub fn put_last(heap: &mut Heap, place: Place, each: u64, bytes: &[u8])
     requires long { length bytes.now ≡ each }
     ensures { Appends heap.old heap.new place each bytes.now }
 {
-    let len = heap.word(place.handle, place.at + LEN);
-    if let Some(storage) = heap.link(place.handle, place.at) {
+    let len = len_of(heap, place);
+    if let Some(storage) = link_of(heap, place) {
         heap.write(storage, each * len, bytes);
         heap.set_word(place.handle, place.at + LEN, len + 1);
     }
@@ -72,8 +72,8 @@ pub fn extend(heap: &mut Heap, place: Place, bytes: &[u8])
     requires space { word_at (bytes_of heap.old.bytes) (place.handle + place.at + 8) + length bytes.now ≤ word_at (bytes_of heap.old.bytes) (place.handle + place.at + 16) }
     ensures { Extends heap.old heap.new place bytes.now }
 {
-    let len = heap.word(place.handle, place.at + LEN);
-    if let Some(storage) = heap.link(place.handle, place.at) {
+    let len = len_of(heap, place);
+    if let Some(storage) = link_of(heap, place) {
         heap.write(storage, len, bytes);
         heap.set_word(place.handle, place.at + LEN, len + bytes.len() as u64);
     }
@@ -89,8 +89,8 @@ pub fn insert_element(heap: &mut Heap, place: Place, each: u64, index: u64, byte
     requires long { length bytes.now ≡ each }
     ensures { Inserts heap.old heap.new place each index bytes.now }
 {
-    let len = heap.word(place.handle, place.at + LEN);
-    if let Some(storage) = heap.link(place.handle, place.at) {
+    let len = len_of(heap, place);
+    if let Some(storage) = link_of(heap, place) {
         let from = each * index;
         let behind = each * (len - index);
         heap.copy(storage, from, storage, from + each, behind);
@@ -105,8 +105,8 @@ pub fn erase_element(heap: &mut Heap, place: Place, each: u64, index: u64)
     requires inside { index < word_at (bytes_of heap.old.bytes) (place.handle + place.at + 8) }
     ensures { Erases heap.old heap.new place each index }
 {
-    let len = heap.word(place.handle, place.at + LEN);
-    if let Some(storage) = heap.link(place.handle, place.at) {
+    let len = len_of(heap, place);
+    if let Some(storage) = link_of(heap, place) {
         let from = each * index;
         let behind = each * (len - index - 1);
         heap.copy(storage, from + each, storage, from, behind);

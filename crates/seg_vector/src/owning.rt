@@ -8,7 +8,7 @@ ghost use Rattle.seg_vector.specs.TextParts.{AreHeldElements, IsHeldElement, IsS
 ghost use Rattle.seg_vector.specs.TextsCalls.{IsSomeTexts, IsTexts, text_blocks};
 ghost use Rattle.seg_vector.specs.Vector.{OwnedText};
 
-use crate::places::{ELEMENT, LEN, Place};
+use crate::places::{ELEMENT, Place, len_of, link_of};
 use crate::sizing::LIMIT;
 use crate::text_arrays::put_element;
 use best_fit::{Heap, NoSpace};
@@ -74,8 +74,8 @@ pub fn release_all(heap: &mut Heap, place: Place)
     requires { IsSomeTexts heap.old.bytes place }
     ensures { (ps : List OwnedText) (t : ATable) → IsTexts heap.old.bytes place ps t → IsSwapped heap.old heap.new (text_blocks ps) [] }
 {
-    let len = heap.word(place.handle, place.at + LEN);
-    if let Some(array) = heap.link(place.handle, place.at) {
+    let len = len_of(heap, place);
+    if let Some(array) = link_of(heap, place) {
         release_texts(heap, array, len);
     }
 }

@@ -1,4 +1,12 @@
-//! Where a container stands.
+//! Where a container stands, and what its three words say.
+ghost use Rattle.std.specs.Prelude.{◌≡◌, ◌+◌, ◌%◌, IsTrue};
+ghost use Rattle.raw_region.specs.Format.{current};
+ghost use Rattle.raw_region.specs.Memory.{bytes_of, word_at};
+ghost use Rattle.offset_link.specs.Link.{link_at};
+ghost use Rattle.best_fit.specs.Heap.{IsHeap, has_room, live_of};
+ghost use Rattle.seg_vector.specs.Standing.{place_at};
+
+use best_fit::Heap;
 
 /// A place in the block of a handle: `at` bytes behind the handle.
 #[derive(Clone, Copy, Debug)]
@@ -16,3 +24,30 @@ pub const CAPACITY: u64 = 16;
 
 /// The bytes of an element of a vector of texts: the link to the block of its text, and the text's length.
 pub const ELEMENT: u64 = 16;
+
+/// Where the link leads.
+pub fn link_of(heap: &Heap, place: Place) -> Option<u64>
+    requires aligned { place.at % 8 ≡ 0 }
+    requires room { IsTrue (has_room (live_of heap.now.bytes) place.handle (place.at + 24)) }
+    ensures { result ≡ link_at (bytes_of heap.now.bytes) (place_at place) }
+{
+    heap.link(place.handle, place.at)
+}
+
+/// The length.
+pub fn len_of(heap: &Heap, place: Place) -> u64
+    requires heap { IsHeap current heap.now.bytes }
+    requires room { IsTrue (has_room (live_of heap.now.bytes) place.handle (place.at + 24)) }
+    ensures { result ≡ word_at (bytes_of heap.now.bytes) (place_at place + 8) }
+{
+    heap.word(place.handle, place.at + LEN)
+}
+
+/// The capacity.
+pub fn capacity_of(heap: &Heap, place: Place) -> u64
+    requires heap { IsHeap current heap.now.bytes }
+    requires room { IsTrue (has_room (live_of heap.now.bytes) place.handle (place.at + 24)) }
+    ensures { result ≡ word_at (bytes_of heap.now.bytes) (place_at place + 16) }
+{
+    heap.word(place.handle, place.at + CAPACITY)
+}

@@ -8,7 +8,7 @@ ghost use Rattle.seg_vector.specs.Elements.{Fits, GivesBack};
 ghost use Rattle.seg_vector.specs.Standing.{Grows, GrowsForOne, IsStanding, Stands, place_at};
 ghost use Rattle.seg_vector.specs.Vector.{capacity_for_one as places_for_one};
 
-use crate::places::{CAPACITY, LEN, Place};
+use crate::places::{CAPACITY, LEN, Place, capacity_of, len_of, link_of};
 use best_fit::{Heap, NoSpace};
 use raw_region::Steps;
 use seg_types::Refusal;
@@ -35,7 +35,7 @@ pub fn give_back(heap: &mut Heap, place: Place, each: u64)
     requires { IsStanding heap.old.bytes place each }
     ensures { GivesBack heap.old heap.new place each }
 {
-    let storage = heap.link(place.handle, place.at);
+    let storage = link_of(heap, place);
     start(heap, place);
     if let Some(storage) = storage {
         heap.deallocate(storage, &mut Steps::new());
@@ -49,12 +49,12 @@ pub fn fit(heap: &mut Heap, place: Place, each: u64)
     requires some { 1 ≤ each }
     ensures { Fits heap.old heap.new place each }
 {
-    let len = heap.word(place.handle, place.at + LEN);
+    let len = len_of(heap, place);
     if len == 0 {
         give_back(heap, place, each);
         return;
     }
-    if let Some(storage) = heap.link(place.handle, place.at) {
+    if let Some(storage) = link_of(heap, place) {
         heap.set_word(place.handle, place.at + CAPACITY, len);
         heap.shrink_in_place(storage, each * len, &mut Steps::new());
     }
@@ -71,11 +71,11 @@ pub fn grow(heap: &mut Heap, place: Place, each: u64, n: u64) -> Result<(), Refu
     requires small { each * n < 2 ^ 64 }
     ensures { Grows heap.old heap.new place each n result }
 {
-    if n <= heap.word(place.handle, place.at + CAPACITY) {
+    if n <= capacity_of(heap, place) {
         return Ok(());
     }
-    let used = each * heap.word(place.handle, place.at + LEN);
-    let storage = heap.link(place.handle, place.at);
+    let used = each * len_of(heap, place);
+    let storage = link_of(heap, place);
     match heap.regrow(storage, each * n, used) {
         Err(NoSpace) => Err(Refusal::NoSpace),
         Ok(new) => {
@@ -128,6 +128,6 @@ pub fn grow_for_one(heap: &mut Heap, place: Place, each: u64, len: u64) -> Resul
     requires len { len ≡ word_at (bytes_of heap.old.bytes) (place.handle + place.at + 8) }
     ensures { GrowsForOne heap.old heap.new place each result }
 {
-    let capacity = heap.word(place.handle, place.at + CAPACITY);
+    let capacity = capacity_of(heap, place);
     reserve(heap, place, each, capacity_for_one(len, capacity))
 }

@@ -7,7 +7,7 @@ ghost use Rattle.seg_vector.specs.TextCalls.{AppendsText, AssignsText, ClearsTex
 ghost use Rattle.seg_vector.specs.Vector.{capacity_for_text as places_for_text};
 
 use crate::elements::{elements, extend, set_element, truncate};
-use crate::places::{CAPACITY, LEN, Place};
+use crate::places::{Place, capacity_of, len_of};
 use crate::sizing::{self, LIMIT, fit, give_back, start};
 use best_fit::Heap;
 use seg_types::Refusal;
@@ -53,7 +53,7 @@ impl SegString {
         requires { IsSomeText heap.now.bytes self.place }
         ensures { CountsBytes heap.now.bytes self.place result }
     {
-        heap.word(self.place.handle, self.place.at + LEN)
+        len_of(heap, self.place)
     }
 
     /// The number of bytes that the storage has places for.
@@ -61,7 +61,7 @@ impl SegString {
         requires { IsSomeText heap.now.bytes self.place }
         ensures { CountsBytePlaces heap.now.bytes self.place result }
     {
-        heap.word(self.place.handle, self.place.at + CAPACITY)
+        capacity_of(heap, self.place)
     }
 
     /// All bytes.

@@ -11,7 +11,7 @@ ghost use Rattle.seg_vector.specs.TextsCalls.{IsSomeTexts};
 ghost use Rattle.seg_vector.specs.Standing.{place_at};
 
 use crate::owning::{place_text, take};
-use crate::places::{CAPACITY, ELEMENT, LEN, Place};
+use crate::places::{CAPACITY, ELEMENT, LEN, Place, len_of, link_of};
 use best_fit::Heap;
 use raw_region::Steps;
 use seg_types::Refusal;
@@ -106,7 +106,7 @@ pub fn ask_array(heap: &mut Heap, place: Place, n: u64) -> Result<u64, Refusal>
     requires small { 16 * n < 2 ^ 64 }
     ensures { AsksArray heap.old heap.new place n result }
 {
-    if let Some(array) = heap.link(place.handle, place.at) {
+    if let Some(array) = link_of(heap, place) {
         if widen(heap, array, ELEMENT * n) {
             return Ok(array);
         }
@@ -135,8 +135,8 @@ pub fn adopt(heap: &mut Heap, place: Place, array: u64, n: u64)
     requires { IsReady heap.old place array n }
     ensures { Adopts heap.old heap.new place array n }
 {
-    let len = heap.word(place.handle, place.at + LEN);
-    match heap.link(place.handle, place.at) {
+    let len = len_of(heap, place);
+    match link_of(heap, place) {
         None => point_to(heap, place, array, n),
         Some(old) => {
             if old == array {
@@ -156,8 +156,8 @@ pub fn put_in(heap: &mut Heap, place: Place, index: u64, text: Option<u64>, text
     requires { IsPutAsked heap.old place index text text_len }
     ensures { PutsIn heap.old heap.new place index text text_len }
 {
-    let len = heap.word(place.handle, place.at + LEN);
-    if let Some(array) = heap.link(place.handle, place.at) {
+    let len = len_of(heap, place);
+    if let Some(array) = link_of(heap, place) {
         carry_up(heap, array, ELEMENT * index, len - index);
         put_element(heap, array, ELEMENT * index, text, text_len);
         heap.set_word(place.handle, place.at + LEN, len + 1);
@@ -169,7 +169,7 @@ pub fn array_room(heap: &Heap, place: Place) -> u64
     requires { IsSomeTexts heap.now.bytes place }
     ensures { HasArrayRoom heap.now.bytes place result }
 {
-    match heap.link(place.handle, place.at) {
+    match link_of(heap, place) {
         None => 0,
         Some(array) => heap.room(array),
     }
@@ -180,7 +180,7 @@ pub fn give_up(heap: &mut Heap, place: Place, array: u64, room: u64)
     requires { IsToBeGivenUp heap.old place array room }
     ensures { GivesUp heap.old heap.new place array room }
 {
-    match heap.link(place.handle, place.at) {
+    match link_of(heap, place) {
         None => heap.deallocate(array, &mut Steps::new()),
         Some(old) => {
             if old == array {

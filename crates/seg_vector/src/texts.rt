@@ -9,7 +9,7 @@ ghost use Rattle.seg_vector.specs.TextsCalls.{AssignsTexts, ClearsTexts, CountsT
 ghost use Rattle.seg_vector.specs.Vector.{OwnedText};
 
 use crate::owning::{lay_out, place_text, release_all, release_text};
-use crate::places::{CAPACITY, ELEMENT, LEN, Place};
+use crate::places::{ELEMENT, LEN, Place, capacity_of, len_of, link_of};
 use crate::sizing::{LIMIT, capacity_for_one, fit, give_back, start};
 use crate::text_arrays::{
     adopt, ask_array, carry_down, insert_growing, insert_within, point_to, put_element,
@@ -46,7 +46,7 @@ impl SegTexts {
         requires { IsSomeTexts heap.now.bytes self.place }
         ensures { CountsTexts heap.now.bytes self.place result }
     {
-        heap.word(self.place.handle, self.place.at + LEN)
+        len_of(heap, self.place)
     }
 
     /// The number of texts that the array has places for.
@@ -54,7 +54,7 @@ impl SegTexts {
         requires { IsSomeTexts heap.now.bytes self.place }
         ensures { CountsTextPlaces heap.now.bytes self.place result }
     {
-        heap.word(self.place.handle, self.place.at + CAPACITY)
+        capacity_of(heap, self.place)
     }
 
     /// The text with `index` others before it.
@@ -69,7 +69,7 @@ impl SegTexts {
         if index >= self.len(heap) {
             return Err(Refusal::OutOfRange);
         }
-        match heap.link(self.place.handle, self.place.at) {
+        match link_of(heap, self.place) {
             None => unreachable!(),
             Some(array) => Ok(text_at(heap, array, ELEMENT * index)),
         }
@@ -146,7 +146,7 @@ impl SegTexts {
         if index >= len {
             return Err(Refusal::OutOfRange);
         }
-        match heap.link(self.place.handle, self.place.at) {
+        match link_of(heap, self.place) {
             None => unreachable!(),
             Some(array) => {
                 let at = ELEMENT * index;
@@ -253,7 +253,7 @@ fn replace_text(heap: &mut Heap, place: Place, index: u64, text: Option<u64>, le
     requires target { IfSome text (λ target. target % 16 ≡ 0) }
     ensures { ReplacesText heap.old heap.new place index text len }
 {
-    if let Some(array) = heap.link(place.handle, place.at) {
+    if let Some(array) = link_of(heap, place) {
         release_text(heap, array, ELEMENT * index);
         put_element(heap, array, ELEMENT * index, text, len);
     }

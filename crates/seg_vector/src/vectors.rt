@@ -7,7 +7,7 @@ ghost use Rattle.seg_vector.specs.Standing.{place_at};
 ghost use Rattle.seg_vector.specs.VectorCalls.{Assigns, Clears, Counts, CountsPlaces, ErasesFrom, Gets, InsertsInto, IsSomeVector, IsVector, Pops, Pushes, PutsAll, Releases, Reserves, ReservesNothing, Sets, Shrinks, Starts};
 
 use crate::elements::{element, erase_element, truncate};
-use crate::places::{CAPACITY, LEN, Place};
+use crate::places::{Place, capacity_of, len_of};
 use crate::sizing::{self, fit, give_back, grow_for_one, start};
 use crate::values::{insert_value, overwrite_value, put_value};
 use best_fit::Heap;
@@ -54,7 +54,7 @@ impl<T: Plain> SegVec<T> {
         requires { IsSomeVector T.SIZE T.is_value T.spelling heap.now.bytes self.place }
         ensures { Counts T.SIZE T.is_value T.spelling heap.now.bytes self.place result }
     {
-        heap.word(self.place.handle, self.place.at + LEN)
+        len_of(heap, self.place)
     }
 
     /// The number of values that the storage has places for.
@@ -62,7 +62,7 @@ impl<T: Plain> SegVec<T> {
         requires { IsSomeVector T.SIZE T.is_value T.spelling heap.now.bytes self.place }
         ensures { CountsPlaces T.SIZE T.is_value T.spelling heap.now.bytes self.place result }
     {
-        heap.word(self.place.handle, self.place.at + CAPACITY)
+        capacity_of(heap, self.place)
     }
 
     /// The value with `index` others before it.

@@ -2,26 +2,16 @@
 use Rattle.seg_vector.proofs.Words.{take, drop, ◌++◌, ℕ, ◌*◌, ◌+◌, ◌-◌, sym, subst, ◌∙◌, arith, Stands, IsRewritten}
 use Rattle.seg_vector.proofs.Words.{live_of, changed-room}
 use Rattle.seg_vector.proofs.elements.erase_element.Goals.{In-Some}
-use Rattle.seg_vector.proofs.Storage.{Fitting, erase-fits, erased, len-read, len-room, link-room, part-room}
-use Rattle.seg_vector.proofs.Storage.{stands-small}
+use Rattle.seg_vector.proofs.Storage.{Fitting, erase-fits, erased, len-read, len-room, part-room, stands-small}
 use Rattle.seg_vector.proofs.elements.erase_element.Goals as goal
 
 pub overflow_add-place : goal.overflow_add-place
 overflow_add-place c = let small = stands-small c.requires.stands.1.1.1 in omega arith
 
-pub overflow_add-place-in-Some : goal.overflow_add-place-in-Some
-overflow_add-place-in-Some c = let small = stands-small c.requires.stands.1.1.1 in omega arith
-
-pub word-len-requires : goal.word-len-requires
-word-len-requires c = len-room c.args.heap.now.bytes c.args.place c.requires.stands.1.1.1.room
-
-pub link-requires-clause-room : goal.link-requires-clause-room
-link-requires-clause-room c = link-room c.args.heap.now.bytes c.args.place c.requires.stands.1.1.1.room
-
 fits : (c : In-Some) → Fitting (live_of c.args.heap.now.bytes) c.args.each c.args.index
-    (c.args.each * (c.word-len.result - c.args.index - 1)) c.in-Some.storage
-fits c = erase-fits c.args.heap.now c.word-len.result c.args.index c.requires.stands.1.1.1 c.word-len.ensures
-    c.requires.inside (sym c.link.ensures ∙ c.in-Some.is)
+    (c.args.each * (c.len_of-len.result - c.args.index - 1)) c.in-Some.storage
+fits c = erase-fits c.args.heap.now c.len_of-len.result c.args.index c.requires.stands.1.1.1 c.len_of-len.ensures
+    c.requires.inside (sym c.link_of.ensures ∙ c.in-Some.is)
 
 pub overflow_mul-from : goal.overflow_mul-from
 overflow_mul-from c = omega (arith, (fits (goal.at.overflow_mul-from c).In-Some).small)
@@ -37,7 +27,7 @@ copy-requires-clause-source c = (fits (goal.at.copy-requires-clause-source c).In
 
 pub copy-requires-clause-target : goal.copy-requires-clause-target
 copy-requires-clause-target c =
-    part-room (c.args.each * c.args.index + c.args.each * (c.word-len.result - c.args.index - 1)) (omega arith)
+    part-room (c.args.each * c.args.index + c.args.each * (c.len_of-len.result - c.args.index - 1)) (omega arith)
     (fits (goal.at.copy-requires-clause-target c).In-Some)
 
 pub set_word-requires : goal.set_word-requires
@@ -46,11 +36,11 @@ set_word-requires c = changed-room _ _ _ _ _ c.args.place.handle (c.args.place.a
 
 pub returns-in-Some : goal.returns-in-Some
 returns-in-Some c len t bytes s =
-    let is = len-read c.word-len.result s c.word-len.ensures in
+    let is = len-read c.len_of-len.result s c.len_of-len.ensures in
     let at : ℕ = c.args.each * c.args.index in
     let now = subst (λ n. Stands c.args.heap.now.bytes c.args.place c.args.each n t bytes) (sym is) s in
     subst (λ n. IsRewritten c.args.heap.now c.set_word.new.self c.args.place c.args.each (n - 1) t
     (take at bytes ++ drop (at + c.args.each) bytes)) is
     (erased {old = c.args.heap.now} {s1 = c.copy.new.self} {new = c.set_word.new.self} c.args.index now
-    (omega (arith, c.requires.inside, now.words.len_word)) (sym c.link.ensures ∙ c.in-Some.is)
+    (omega (arith, c.requires.inside, now.words.len_word)) (sym c.link_of.ensures ∙ c.in-Some.is)
     c.copy.ensures.change c.copy.ensures.content c.set_word.ensures.change c.set_word.ensures.word)

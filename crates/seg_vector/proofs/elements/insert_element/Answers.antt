@@ -2,26 +2,17 @@
 use Rattle.seg_vector.proofs.Words.{take, drop, ◌++◌, ℕ, ◌*◌, ◌+◌, ◌-◌, sym, subst, ◌∙◌, arith, IsTrue, Stands}
 use Rattle.seg_vector.proofs.Words.{IsRewritten, IsChanged, live_of, has_room, current, changed-room}
 use Rattle.seg_vector.proofs.elements.insert_element.Goals.{In-Some}
-use Rattle.seg_vector.proofs.Storage.{Fitting, at-least, capacity-bytes, insert-fits, len-read, len-room, link-room}
-use Rattle.seg_vector.proofs.Storage.{part-room, put_in, stands-small}
+use Rattle.seg_vector.proofs.Storage.{Fitting, at-least, capacity-bytes, insert-fits, len-read, len-room, part-room}
+use Rattle.seg_vector.proofs.Storage.{put_in, stands-small}
 use Rattle.seg_vector.proofs.elements.insert_element.Goals as goal
 
 pub overflow_add-place : goal.overflow_add-place
 overflow_add-place c = let small = stands-small c.requires.stands.1.1.1 in omega arith
 
-pub overflow_add-place-in-Some : goal.overflow_add-place-in-Some
-overflow_add-place-in-Some c = let small = stands-small c.requires.stands.1.1.1 in omega arith
-
-pub word-len-requires : goal.word-len-requires
-word-len-requires c = len-room c.args.heap.now.bytes c.args.place c.requires.stands.1.1.1.room
-
-pub link-requires-clause-room : goal.link-requires-clause-room
-link-requires-clause-room c = link-room c.args.heap.now.bytes c.args.place c.requires.stands.1.1.1.room
-
 fits : (c : In-Some) → Fitting (live_of c.args.heap.now.bytes) c.args.each c.args.index
-    (c.args.each * (c.word-len.result - c.args.index)) c.in-Some.storage
-fits c = insert-fits c.args.heap.now c.word-len.result c.args.index c.requires.stands.1.1.1 c.word-len.ensures
-    c.requires.inside c.requires.space (sym c.link.ensures ∙ c.in-Some.is)
+    (c.args.each * (c.len_of-len.result - c.args.index)) c.in-Some.storage
+fits c = insert-fits c.args.heap.now c.len_of-len.result c.args.index c.requires.stands.1.1.1 c.len_of-len.ensures
+    c.requires.inside c.requires.space (sym c.link_of.ensures ∙ c.in-Some.is)
 
 pub overflow_mul-from : goal.overflow_mul-from
 overflow_mul-from c = omega (arith, (fits (goal.at.overflow_mul-from c).In-Some).small)
@@ -34,7 +25,7 @@ overflow_add-from c = omega (arith, (fits (goal.at.overflow_add-from c).In-Some)
 
 pub copy-requires-clause-source : goal.copy-requires-clause-source
 copy-requires-clause-source c =
-    part-room (c.args.each * c.args.index + c.args.each * (c.word-len.result - c.args.index)) (omega arith)
+    part-room (c.args.each * c.args.index + c.args.each * (c.len_of-len.result - c.args.index)) (omega arith)
     (fits (goal.at.copy-requires-clause-source c).In-Some)
 
 pub copy-requires-clause-target : goal.copy-requires-clause-target
@@ -49,7 +40,7 @@ write-requires c =
 
 pub overflow_add-len : goal.overflow_add-len
 overflow_add-len c =
-    let s = c.requires.stands.1.1.1 in let is = len-read c.word-len.result s c.word-len.ensures in
+    let s = c.requires.stands.1.1.1 in let is = len-read c.len_of-len.result s c.len_of-len.ensures in
     let few = capacity-bytes c.args.heap.now s.heap s in
     let least = at-least c.args.each c.requires.stands.1.0.capacity c.requires.some in
     omega (arith, is, few, least, s.fits)
@@ -61,7 +52,7 @@ set_word-requires c = changed-room _ _ _ _ _ c.args.place.handle (c.args.place.a
 
 pub returns-in-Some : goal.returns-in-Some
 returns-in-Some c len t bytes s =
-    let is = len-read c.word-len.result s c.word-len.ensures in
+    let is = len-read c.len_of-len.result s c.len_of-len.ensures in
     let at : ℕ = c.args.each * c.args.index in
     let now = subst (λ n. Stands c.args.heap.now.bytes c.args.place c.args.each n t bytes) (sym is) s in
     subst (λ n. IsRewritten c.args.heap.now c.set_word.new.self c.args.place c.args.each (n + 1) t
@@ -69,7 +60,7 @@ returns-in-Some c len t bytes s =
     (put_in {old = c.args.heap.now} {s1 = c.copy.new.self} {s2 = c.write.new.self} {new = c.set_word.new.self}
     c.args.index c.args.bytes.now now (omega (arith, c.requires.inside, now.words.len_word))
     (omega (arith, c.requires.space, now.words.len_word, now.words.capacity)) c.requires.long
-    (sym c.link.ensures ∙ c.in-Some.is)
+    (sym c.link_of.ensures ∙ c.in-Some.is)
     c.copy.ensures.change c.copy.ensures.content
     (subst (λ k. IsChanged current c.copy.new.self c.write.new.self (c.in-Some.storage + at) k) c.requires.long
     c.write.ensures.change) c.write.ensures.content

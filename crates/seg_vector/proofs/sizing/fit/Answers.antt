@@ -2,45 +2,35 @@
 use Rattle.seg_vector.proofs.Words.{◌≡◌, sym, subst, ◌∙◌, ◌+◌, ◌*◌, arith, IsTrue, current, bytes_of, word_at}
 use Rattle.seg_vector.proofs.Words.{IsChanged, IsShortened, is_live_in, changed-live}
 use Rattle.seg_vector.proofs.Fewer.{fits-nothing, fitted}
-use Rattle.seg_vector.proofs.Storage.{capacity-bytes, len-read, len-room, link-room, more-times, stands-small}
-use Rattle.seg_vector.proofs.Storage.{storage-live}
+use Rattle.seg_vector.proofs.Storage.{capacity-bytes, len-read, more-times, stands-small, storage-live}
 use Rattle.seg_vector.proofs.sizing.fit.Goals as goal
 
 pub overflow_add-place : goal.overflow_add-place
 overflow_add-place c = let small = stands-small c.requires.stands.1.1.1 in omega arith
 
-pub overflow_add-place-in-Some : goal.overflow_add-place-in-Some
-overflow_add-place-in-Some c = let small = stands-small c.requires.stands.1.1.1 in omega arith
-
-pub word-len-requires : goal.word-len-requires
-word-len-requires c = len-room c.args.heap.now.bytes c.args.place c.requires.stands.1.1.1.room
-
-pub link-requires-clause-room : goal.link-requires-clause-room
-link-requires-clause-room c = link-room c.args.heap.now.bytes c.args.place c.requires.stands.1.1.1.room
-
 pub returns-then-len-eq0 : goal.returns-then-len-eq0
 returns-then-len-eq0 c len t bytes s =
-    let is = len-read c.word-len.result s c.word-len.ensures in
+    let is = len-read c.len_of-len.result s c.len_of-len.ensures in
     fits-nothing s (sym is ∙ c.if-len-eq0.true) (c.give_back.ensures len t bytes s)
 
 pub overflow_mul-each : goal.overflow_mul-each
 overflow_mul-each c =
-    let s = c.requires.stands.1.1.1 in let is = len-read c.word-len.result s c.word-len.ensures in
-    let few = more-times c.args.each c.word-len.result c.requires.stands.1.0.capacity (omega (arith, is, s.fits)) in
+    let s = c.requires.stands.1.1.1 in let is = len-read c.len_of-len.result s c.len_of-len.ensures in
+    let few = more-times c.args.each c.len_of-len.result c.requires.stands.1.0.capacity (omega (arith, is, s.fits)) in
     let small = capacity-bytes c.args.heap.now s.heap s in
     omega (arith, few, small)
 
 pub shrink_in_place-requires : goal.shrink_in_place-requires
 shrink_in_place-requires c =
     subst (λ l. IsTrue (is_live_in l c.in-Some.storage)) (sym (changed-live _ _ _ _ 8 c.set_word.ensures.change))
-    (storage-live c.requires.stands.1.1.1 (sym c.link.ensures ∙ c.in-Some.is))
+    (storage-live c.requires.stands.1.1.1 (sym c.link_of.ensures ∙ c.in-Some.is))
 
 pub returns-in-Some : goal.returns-in-Some
 returns-in-Some c len t bytes s =
-    let is = len-read c.word-len.result s c.word-len.ensures in
+    let is = len-read c.len_of-len.result s c.len_of-len.ensures in
     let at : c.args.place.handle + (c.args.place.at + 16) ≡ c.args.place.handle + c.args.place.at + 16 = omega arith in
     fitted {old = c.args.heap.now} {mid = c.set_word.new.self} {new = c.shrink_in_place.new.self}
-    (omega (arith, is, c.if-len-eq0.false)) s (sym c.link.ensures ∙ c.in-Some.is)
+    (omega (arith, is, c.if-len-eq0.false)) s (sym c.link_of.ensures ∙ c.in-Some.is)
     (subst (λ k. IsChanged current c.args.heap.now c.set_word.new.self k 8) at c.set_word.ensures.change)
     (subst (λ k. word_at (bytes_of c.set_word.new.self.bytes) k ≡ len) at (c.set_word.ensures.word ∙ is))
     (subst (λ k. IsShortened current c.set_word.new.self c.shrink_in_place.new.self c.in-Some.storage

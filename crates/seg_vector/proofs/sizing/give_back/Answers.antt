@@ -1,22 +1,19 @@
 -- The words are written, and then the block is given back.
 use Rattle.seg_vector.proofs.Words.{sym, subst, ◌∙◌, IsTrue, is_live_in, changed-live}
 use Rattle.seg_vector.proofs.Fewer.{given-back, given-nothing, none-left}
-use Rattle.seg_vector.proofs.Storage.{link-room, storage-live}
+use Rattle.seg_vector.proofs.Storage.{storage-live}
 use Rattle.seg_vector.proofs.sizing.give_back.Goals as goal
-
-pub link-storage-requires-clause-room : goal.link-storage-requires-clause-room
-link-storage-requires-clause-room c = link-room c.args.heap.now.bytes c.args.place c.requires.1.1.1.room
 
 pub deallocate-requires : goal.deallocate-requires
 deallocate-requires c =
     subst (λ l. IsTrue (is_live_in l c.in-Some.storage)) (sym (changed-live _ _ _ _ 24 c.start.ensures.change))
-    (storage-live c.requires.1.1.1 (sym c.link-storage.ensures ∙ c.in-Some.is))
+    (storage-live c.requires.1.1.1 (sym c.link_of-storage.ensures ∙ c.in-Some.is))
 
 pub returns-in-Some : goal.returns-in-Some
-returns-in-Some c len t bytes s = given-back s (sym c.link-storage.ensures ∙ c.in-Some.is) c.start.ensures.change
+returns-in-Some c len t bytes s = given-back s (sym c.link_of-storage.ensures ∙ c.in-Some.is) c.start.ensures.change
     (c.start.ensures.stands c.args.each) c.deallocate.ensures.released
 
 pub returns-in_default : goal.returns-in_default
 returns-in_default c len t bytes s =
-    given-nothing s (sym c.link-storage.ensures ∙ none-left c.link-storage.result c.in_default.not-Some)
+    given-nothing s (sym c.link_of-storage.ensures ∙ none-left c.link_of-storage.result c.in_default.not-Some)
     c.start.ensures.change (c.start.ensures.stands c.args.each)

@@ -1,26 +1,20 @@
 -- The vector's words are those that they were, until they are written.
-use Rattle.seg_vector.proofs.Words.{sym, ap, subst, ◌∙◌, ◌⊎◌, ◌+◌, ◌*◌, ◌<◌, ◌≤◌, Some, arith, IsTrue, length, current}
+use Rattle.seg_vector.proofs.Words.{sym, ap, subst, ◌∙◌, ◌⊎◌, ◌+◌, ◌*◌, ◌<◌, ◌≤◌, Some, IsTrue, length, current}
 use Rattle.seg_vector.proofs.Words.{bytes_of, IsChanged, has_room, live_of, changed-room, laid-heap, AreSameElements}
 use Rattle.seg_vector.proofs.Runs.{head-room}
-use Rattle.seg_vector.proofs.Storage.{len-room, link-room, live-if, place-small}
+use Rattle.seg_vector.proofs.Storage.{live-if}
 use Rattle.seg_vector.proofs.TextGrowth.{adopt-none, adopt-other, adopt-same, ready, ready-even, ready-new, since-len}
 use Rattle.seg_vector.proofs.TextGrowth.{since-link}
 use Rattle.seg_vector.proofs.text_arrays.adopt.Goals as goal
 
-pub overflow_add-place : goal.overflow_add-place
-overflow_add-place c =
-    let q = ready c.requires in
-    let small = place-small c.args.place q.run.heap (head-room q.run.head) in
-    omega arith
+pub len_of-len-requires-clause-heap : goal.len_of-len-requires-clause-heap
+len_of-len-requires-clause-heap c = (ready c.requires).run.heap
 
-pub word-len-requires : goal.word-len-requires
-word-len-requires c = len-room c.args.heap.now.bytes c.args.place (head-room (ready c.requires).run.head)
+pub len_of-len-requires-clause-room : goal.len_of-len-requires-clause-room
+len_of-len-requires-clause-room c = head-room (ready c.requires).run.head
 
-pub link-requires-clause-whole : goal.link-requires-clause-whole
-link-requires-clause-whole c = c.requires.texts.aligned
-
-pub link-requires-clause-room : goal.link-requires-clause-room
-link-requires-clause-room c = link-room c.args.heap.now.bytes c.args.place (head-room (ready c.requires).run.head)
+pub link_of-requires-clause-room : goal.link_of-requires-clause-room
+link_of-requires-clause-room c = head-room (ready c.requires).run.head
 
 pub point_to-requires-clause-heap : goal.point_to-requires-clause-heap
 point_to-requires-clause-heap c = (ready c.requires).run.heap
@@ -45,26 +39,26 @@ carry_down-requires-clause-heap c = (ready c.requires).run.heap
 
 pub carry_down-requires-clause-source : goal.carry_down-requires-clause-source
 carry_down-requires-clause-source c =
-    let w = ready-new c.requires (sym c.link.ensures ∙ c.in-Some.is) c.if-old-array.false in
+    let w = ready-new c.requires (sym c.link_of.ensures ∙ c.in-Some.is) c.if-old-array.false in
     subst (λ k. IsTrue (has_room (live_of c.args.heap.now.bytes) c.in-Some.old (0 + 16 * k)))
-    (sym (since-len c.word-len.result c.requires c.word-len.ensures)) w.source
+    (sym (since-len c.len_of-len.result c.requires c.len_of-len.ensures)) w.source
 
 pub carry_down-requires-clause-target : goal.carry_down-requires-clause-target
 carry_down-requires-clause-target c =
-    let w = ready-new c.requires (sym c.link.ensures ∙ c.in-Some.is) c.if-old-array.false in
+    let w = ready-new c.requires (sym c.link_of.ensures ∙ c.in-Some.is) c.if-old-array.false in
     subst (λ k. IsTrue (has_room (live_of c.args.heap.now.bytes) c.args.array (0 + 16 * k)))
-    (sym (since-len c.word-len.result c.requires c.word-len.ensures)) w.target
+    (sym (since-len c.len_of-len.result c.requires c.len_of-len.ensures)) w.target
 
 pub carry_down-requires-clause-even : goal.carry_down-requires-clause-even
 carry_down-requires-clause-even c j f =
-    let w = ready-new c.requires (sym c.link.ensures ∙ c.in-Some.is) c.if-old-array.false in
-    w.even j (subst (λ k. j < k) (since-len c.word-len.result c.requires c.word-len.ensures) f)
+    let w = ready-new c.requires (sym c.link_of.ensures ∙ c.in-Some.is) c.if-old-array.false in
+    w.even j (subst (λ k. j < k) (since-len c.len_of-len.result c.requires c.len_of-len.ensures) f)
 
 pub carry_down-requires-clause-apart : goal.carry_down-requires-clause-apart
 carry_down-requires-clause-apart c =
-    let w = ready-new c.requires (sym c.link.ensures ∙ c.in-Some.is) c.if-old-array.false in
+    let w = ready-new c.requires (sym c.link_of.ensures ∙ c.in-Some.is) c.if-old-array.false in
     subst (λ k. (c.args.array + 0 ≤ c.in-Some.old + 0) ⊎ (c.in-Some.old + 0 + 16 * k ≤ c.args.array + 0))
-    (sym (since-len c.word-len.result c.requires c.word-len.ensures)) w.apart
+    (sym (since-len c.len_of-len.result c.requires c.len_of-len.ensures)) w.apart
 
 pub point_to-requires-else-old-array-clause-heap : goal.point_to-requires-else-old-array-clause-heap
 point_to-requires-else-old-array-clause-heap c = laid-heap _ _ c.carry_down.ensures.change.live
@@ -79,26 +73,26 @@ point_to-requires-else-old-array-clause-even c = ready-even c.requires
 
 pub deallocate-requires : goal.deallocate-requires
 deallocate-requires c =
-    let w = ready-new c.requires (sym c.link.ensures ∙ c.in-Some.is) c.if-old-array.false in
+    let w = ready-new c.requires (sym c.link_of.ensures ∙ c.in-Some.is) c.if-old-array.false in
     live-if c.in-Some.old (0 + 16 * length c.requires.ps) (live_of c.point_to-else-old-array.new.heap.bytes).extents
     (changed-room _ _ _ _ 24 c.in-Some.old (0 + 16 * length c.requires.ps) c.point_to-else-old-array.ensures.change
     (changed-room _ _ _ _ _ c.in-Some.old (0 + 16 * length c.requires.ps) c.carry_down.ensures.change w.source))
 
 pub returns-in-None : goal.returns-in-None
 returns-in-None c first mid ps t loose s more a since =
-    adopt-none c.args.n s more a since (since-link c.args.n s more a since ∙ sym c.link.ensures ∙ c.in-None.is)
+    adopt-none c.args.n s more a since (since-link c.args.n s more a since ∙ sym c.link_of.ensures ∙ c.in-None.is)
     c.point_to.ensures.change c.point_to.ensures.link c.point_to.ensures.len_word c.point_to.ensures.capacity
 
 pub returns-then-old-array : goal.returns-then-old-array
 returns-then-old-array c first mid ps t loose s more a since =
-    adopt-same c.args.n s more a since (since-link c.args.n s more a since ∙ sym c.link.ensures ∙ c.in-Some.is
+    adopt-same c.args.n s more a since (since-link c.args.n s more a since ∙ sym c.link_of.ensures ∙ c.in-Some.is
     ∙ ap (λ k. Some k) c.if-old-array.true) c.point_to-then-old-array.ensures.change
     c.point_to-then-old-array.ensures.link c.point_to-then-old-array.ensures.len_word
     c.point_to-then-old-array.ensures.capacity
 
 pub returns-else-old-array : goal.returns-else-old-array
 returns-else-old-array c first mid ps t loose s more a since =
-    let n = since-len {now = c.args.heap.now} {p = c.args.place} {g = c.args.array} {n = c.args.n} c.word-len.result
+    let n = since-len {now = c.args.heap.now} {p = c.args.place} {g = c.args.array} {n = c.args.n} c.len_of-len.result
     (record {
       first = first;
       mid = mid;
@@ -109,8 +103,8 @@ returns-else-old-array c first mid ps t loose s more a since =
       more = more;
       asked = a;
       since = since;
-    }) c.word-len.ensures in
-    adopt-other c.args.n s more a since (since-link c.args.n s more a since ∙ sym c.link.ensures ∙ c.in-Some.is)
+    }) c.len_of-len.ensures in
+    adopt-other c.args.n s more a since (since-link c.args.n s more a since ∙ sym c.link_of.ensures ∙ c.in-Some.is)
     c.if-old-array.false
     (subst (λ k. IsChanged current c.args.heap.now c.carry_down.new.heap (c.args.array + 0) (16 * k)) n
     c.carry_down.ensures.change)

@@ -1,19 +1,16 @@
 -- The room is that of the block.
 use Rattle.seg_vector.proofs.Words.{refl, sym, ◌∙◌, ◌*◌, length, live_of}
-use Rattle.seg_vector.proofs.Storage.{link-room, live-if}
+use Rattle.seg_vector.proofs.Storage.{live-if}
 use Rattle.seg_vector.proofs.TextCalls.{held-elements}
 use Rattle.seg_vector.proofs.TextGrowth.{room-none, room-some}
 use Rattle.seg_vector.proofs.text_arrays.array_room.Goals as goal
 
-pub link-requires-clause-room : goal.link-requires-clause-room
-link-requires-clause-room c = link-room c.args.heap.now.bytes c.args.place c.requires.1.1.room
-
 pub room-requires : goal.room-requires
 room-requires c = live-if c.in-Some.array (16 * length c.requires.0) (live_of c.args.heap.now.bytes).extents
-    (held-elements (length c.requires.0) c.requires.1.1 (sym c.link.ensures ∙ c.in-Some.is) refl).room
+    (held-elements (length c.requires.0) c.requires.1.1 (sym c.link_of.ensures ∙ c.in-Some.is) refl).room
 
 pub returns-in-None : goal.returns-in-None
-returns-in-None c ps t s = room-none s (sym c.link.ensures ∙ c.in-None.is)
+returns-in-None c ps t s = room-none s (sym c.link_of.ensures ∙ c.in-None.is)
 
 pub returns-in-Some : goal.returns-in-Some
-returns-in-Some c ps t s = room-some s (sym c.link.ensures ∙ c.in-Some.is) c.room.ensures
+returns-in-Some c ps t s = room-some s (sym c.link_of.ensures ∙ c.in-Some.is) c.room.ensures

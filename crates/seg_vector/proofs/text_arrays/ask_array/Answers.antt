@@ -1,27 +1,24 @@
 -- The old array has the room, or a new block is asked for.
 use Rattle.seg_vector.proofs.Words.{sym, subst, ◌∙◌, ◌*◌, refl, length, Cut, current, IsHeap, TakesStorage, live_of}
 use Rattle.seg_vector.proofs.Fewer.{none-left}
-use Rattle.seg_vector.proofs.Storage.{link-room, live-if}
+use Rattle.seg_vector.proofs.Storage.{live-if}
 use Rattle.seg_vector.proofs.TextCalls.{held-elements}
 use Rattle.seg_vector.proofs.TextGrowth.{asked-beside, asked-none, asked-wide}
-use Rattle.seg_vector.proofs.text_arrays.ask_array.Goals as goal
 use Rattle.seg_vector.proofs.text_arrays.ask_array.Goals.{in-Some+else-widen, in_default}
-
-pub link-requires-clause-room : goal.link-requires-clause-room
-link-requires-clause-room c = link-room c.args.heap.now.bytes c.args.place c.requires.texts.1.1.room
+use Rattle.seg_vector.proofs.text_arrays.ask_array.Goals as goal
 
 pub widen-requires-clause-live : goal.widen-requires-clause-live
 widen-requires-clause-live c =
     live-if c.in-Some.array (16 * length c.requires.texts.0) (live_of c.args.heap.now.bytes).extents
-    (held-elements (length c.requires.texts.0) c.requires.texts.1.1 (sym c.link.ensures ∙ c.in-Some.is) refl).room
+    (held-elements (length c.requires.texts.0) c.requires.texts.1.1 (sym c.link_of.ensures ∙ c.in-Some.is) refl).room
 
 pub returns-then-widen : goal.returns-then-widen
-returns-then-widen c ps t s = asked-wide s (sym c.link.ensures ∙ c.in-Some.is) (c.widen.ensures.wide c.if-widen.true)
+returns-then-widen c ps t s = asked-wide s (sym c.link_of.ensures ∙ c.in-Some.is) (c.widen.ensures.wide c.if-widen.true)
 
 pub take-requires : goal.take-requires
 take-requires c =
     let heap = c.requires.texts.1.1.heap in
-    elim c.match-link.branch [
+    elim c.match-link_of.branch [
       | in-Some+else-widen w ↦ subst (λ (k : Cut). IsHeap current k.bytes)
           (sym (w.heap-is ∙ (w.widen.ensures.not w.if-widen.false).same)) heap
       | in_default w ↦ subst (λ (k : Cut). IsHeap current k.bytes) (sym w.heap-is) heap
@@ -30,11 +27,11 @@ take-requires c =
 pub returns : goal.returns
 returns c ps t s =
     let n = 16 * c.args.n in let new = c.take.new.heap in
-    elim c.match-link.branch [
-      | in-Some+else-widen w ↦ asked-beside new c.take.result s (sym c.link.ensures ∙ w.in-Some.is)
+    elim c.match-link_of.branch [
+      | in-Some+else-widen w ↦ asked-beside new c.take.result s (sym c.link_of.ensures ∙ w.in-Some.is)
           (w.widen.ensures.not w.if-widen.false)
           (subst (λ (k : Cut). TakesStorage k new n c.take.result) w.heap-is c.take.ensures)
       | in_default w ↦ asked-none c.args.heap.now new n c.take.result s
-          (sym c.link.ensures ∙ none-left c.link.result w.in_default.not-Some)
+          (sym c.link_of.ensures ∙ none-left c.link_of.result w.in_default.not-Some)
           (subst (λ (k : Cut). TakesStorage k new n c.take.result) w.heap-is c.take.ensures)
     ]

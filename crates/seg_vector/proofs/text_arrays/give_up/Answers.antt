@@ -1,16 +1,11 @@
 -- The block is shortened again, or given back.
-use Rattle.seg_vector.proofs.Words.{sym, ap, ◌∙◌, ◌+◌, Some, arith, live_of, room-less}
+use Rattle.seg_vector.proofs.Words.{sym, ap, ◌∙◌, Some}
 use Rattle.seg_vector.proofs.Runs.{head-room}
 use Rattle.seg_vector.proofs.TextGrowth.{asked-link, asked-live, asked-run, undone-none, undone-other, undone-same}
 use Rattle.seg_vector.proofs.text_arrays.give_up.Goals as goal
 
-pub link-requires-clause-whole : goal.link-requires-clause-whole
-link-requires-clause-whole c = c.requires.texts.aligned
-
-pub link-requires-clause-room : goal.link-requires-clause-room
-link-requires-clause-room c =
-    room-less (live_of c.args.heap.now.bytes) c.args.place.handle (c.args.place.at + 24) (c.args.place.at + 8)
-    (omega arith) (head-room (asked-run c.requires.n c.requires.texts c.requires.asked).run.head)
+pub link_of-requires-clause-room : goal.link_of-requires-clause-room
+link_of-requires-clause-room c = head-room (asked-run c.requires.n c.requires.texts c.requires.asked).run.head
 
 pub deallocate-requires : goal.deallocate-requires
 deallocate-requires c = asked-live c.requires.n c.requires.texts c.requires.asked
@@ -23,14 +18,14 @@ shrink_in_place-requires c = asked-live c.requires.n c.requires.texts c.requires
 
 pub returns-in-None : goal.returns-in-None
 returns-in-None c first ps t n s a e =
-    undone-none s a (asked-link n s a ∙ sym c.link.ensures ∙ c.in-None.is) c.deallocate.ensures.released
+    undone-none s a (asked-link n s a ∙ sym c.link_of.ensures ∙ c.in-None.is) c.deallocate.ensures.released
 
 pub returns-then-old-array : goal.returns-then-old-array
 returns-then-old-array c first ps t n s a e =
-    undone-same s a (asked-link n s a ∙ sym c.link.ensures ∙ c.in-Some.is ∙ ap (λ k. Some k) c.if-old-array.true) e
+    undone-same s a (asked-link n s a ∙ sym c.link_of.ensures ∙ c.in-Some.is ∙ ap (λ k. Some k) c.if-old-array.true) e
     c.shrink_in_place.ensures.shortened
 
 pub returns-else-old-array : goal.returns-else-old-array
 returns-else-old-array c first ps t n s a e =
-    undone-other s a (asked-link n s a ∙ sym c.link.ensures ∙ c.in-Some.is) c.if-old-array.false
+    undone-other s a (asked-link n s a ∙ sym c.link_of.ensures ∙ c.in-Some.is) c.if-old-array.false
     c.deallocate-else-old-array.ensures.released

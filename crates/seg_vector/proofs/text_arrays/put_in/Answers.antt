@@ -3,64 +3,60 @@ use Rattle.seg_vector.proofs.Words.{◌≡◌, sym, ◌∙◌, ◌+◌, ◌-◌,
 use Rattle.seg_vector.proofs.Words.{laid-heap, room-less}
 use Rattle.seg_vector.proofs.Fewer.{none-left}
 use Rattle.seg_vector.proofs.Runs.{head-room}
-use Rattle.seg_vector.proofs.Storage.{len-room, link-room, place-small, room-small}
+use Rattle.seg_vector.proofs.Storage.{len-room, place-small, room-small}
 use Rattle.seg_vector.proofs.TextBlocks.{even-from}
 use Rattle.seg_vector.proofs.TextGrowth.{put-by, put-even, put-place, put-run}
 use Rattle.seg_vector.proofs.text_arrays.put_in.Goals as goal
 
-pub overflow_add-place : goal.overflow_add-place
-overflow_add-place c =
-    let q = put-run c.requires.ready in let small = place-small c.args.place q.heap (head-room q.head) in omega arith
+pub len_of-len-requires-clause-heap : goal.len_of-len-requires-clause-heap
+len_of-len-requires-clause-heap c = (put-run c.requires.ready).heap
 
-pub word-len-requires : goal.word-len-requires
-word-len-requires c = len-room c.args.heap.now.bytes c.args.place (head-room (put-run c.requires.ready).head)
+pub len_of-len-requires-clause-room : goal.len_of-len-requires-clause-room
+len_of-len-requires-clause-room c = head-room (put-run c.requires.ready).head
 
-pub link-requires-clause-whole : goal.link-requires-clause-whole
-link-requires-clause-whole c = c.requires.ready.texts.aligned
-
-pub link-requires-clause-room : goal.link-requires-clause-room
-link-requires-clause-room c = link-room c.args.heap.now.bytes c.args.place (head-room (put-run c.requires.ready).head)
+pub link_of-requires-clause-room : goal.link_of-requires-clause-room
+link_of-requires-clause-room c = head-room (put-run c.requires.ready).head
 
 pub overflow_mul-index : goal.overflow_mul-index
 overflow_mul-index c =
-    let w = put-place c.requires (sym c.link.ensures ∙ c.in-Some.is) in
+    let w = put-place c.requires (sym c.link_of.ensures ∙ c.in-Some.is) in
     let small = room-small c.args.heap.now c.in-Some.array (16 * length c.requires.ps + 16) w.heap w.room in
     omega (arith, small, w.inside)
 
 pub overflow_mul-index-in-Some : goal.overflow_mul-index-in-Some
 overflow_mul-index-in-Some c =
-    let w = put-place c.requires (sym c.link.ensures ∙ c.in-Some.is) in
+    let w = put-place c.requires (sym c.link_of.ensures ∙ c.in-Some.is) in
     let small = room-small c.args.heap.now c.in-Some.array (16 * length c.requires.ps + 16) w.heap w.room in
     omega (arith, small, w.inside)
 
 pub overflow_sub-len : goal.overflow_sub-len
 overflow_sub-len c =
-    let w = put-place c.requires (sym c.link.ensures ∙ c.in-Some.is) in
-    omega (arith, w.inside, w.count, c.word-len.ensures)
+    let w = put-place c.requires (sym c.link_of.ensures ∙ c.in-Some.is) in
+    omega (arith, w.inside, w.count, c.len_of-len.ensures)
 
 pub carry_up-requires-clause-heap : goal.carry_up-requires-clause-heap
-carry_up-requires-clause-heap c = (put-place c.requires (sym c.link.ensures ∙ c.in-Some.is)).heap
+carry_up-requires-clause-heap c = (put-place c.requires (sym c.link_of.ensures ∙ c.in-Some.is)).heap
 
 pub carry_up-requires-clause-room : goal.carry_up-requires-clause-room
 carry_up-requires-clause-room c =
-    let w = put-place c.requires (sym c.link.ensures ∙ c.in-Some.is) in
-    let n : c.word-len.result ≡ length c.requires.ps = c.word-len.ensures ∙ w.count in
+    let w = put-place c.requires (sym c.link_of.ensures ∙ c.in-Some.is) in
+    let n : c.len_of-len.result ≡ length c.requires.ps = c.len_of-len.ensures ∙ w.count in
     room-less (live_of c.args.heap.now.bytes) c.in-Some.array (16 * length c.requires.ps + 16)
-    (16 * c.args.index + 16 * (c.word-len.result - c.args.index) + 16) (omega (arith, n, w.inside)) w.room
+    (16 * c.args.index + 16 * (c.len_of-len.result - c.args.index) + 16) (omega (arith, n, w.inside)) w.room
 
 pub carry_up-requires-clause-even : goal.carry_up-requires-clause-even
 carry_up-requires-clause-even c =
-    let w = put-place c.requires (sym c.link.ensures ∙ c.in-Some.is) in
-    let n : c.word-len.result ≡ length c.requires.ps = c.word-len.ensures ∙ w.count in
+    let w = put-place c.requires (sym c.link_of.ensures ∙ c.in-Some.is) in
+    let n : c.len_of-len.result ≡ length c.requires.ps = c.len_of-len.ensures ∙ w.count in
     even-from (bytes_of c.args.heap.now.bytes) c.in-Some.array (c.in-Some.array + 16 * c.args.index) c.args.index
-    (c.word-len.result - c.args.index) (length c.requires.ps) w.even (omega arith) (omega (arith, n, w.inside))
+    (c.len_of-len.result - c.args.index) (length c.requires.ps) w.even (omega arith) (omega (arith, n, w.inside))
 
 pub put_element-requires-clause-heap : goal.put_element-requires-clause-heap
 put_element-requires-clause-heap c = laid-heap _ _ c.carry_up.ensures.change.live
 
 pub put_element-requires-clause-room : goal.put_element-requires-clause-room
 put_element-requires-clause-room c =
-    let w = put-place c.requires (sym c.link.ensures ∙ c.in-Some.is) in
+    let w = put-place c.requires (sym c.link_of.ensures ∙ c.in-Some.is) in
     changed-room _ _ _ _ _ c.in-Some.array (16 * c.args.index + 16) c.carry_up.ensures.change
     (room-less (live_of c.args.heap.now.bytes) c.in-Some.array (16 * length c.requires.ps + 16)
     (16 * c.args.index + 16) (omega (arith, w.inside)) w.room)
@@ -70,12 +66,12 @@ put_element-requires-clause-target c = put-even c.requires
 
 pub overflow_add-len : goal.overflow_add-len
 overflow_add-len c =
-    let w = put-place c.requires (sym c.link.ensures ∙ c.in-Some.is) in
+    let w = put-place c.requires (sym c.link_of.ensures ∙ c.in-Some.is) in
     let small = room-small c.args.heap.now c.in-Some.array (16 * length c.requires.ps + 16) w.heap w.room in
-    omega (arith, small, w.count, c.word-len.ensures)
+    omega (arith, small, w.count, c.len_of-len.ensures)
 
-pub overflow_add-place-in-Some : goal.overflow_add-place-in-Some
-overflow_add-place-in-Some c =
+pub overflow_add-place : goal.overflow_add-place
+overflow_add-place c =
     let q = put-run c.requires.ready in let small = place-small c.args.place q.heap (head-room q.head) in omega arith
 
 pub set_word-requires : goal.set_word-requires
@@ -85,12 +81,12 @@ set_word-requires c = changed-room _ _ _ _ 16 c.args.place.handle (c.args.place.
 
 pub returns-in-Some : goal.returns-in-Some
 returns-in-Some c first ps t y m z r inside at len =
-    put-by c.args.index c.word-len.result c.args.text_len c.args.text r inside at len
-    (sym c.link.ensures ∙ c.in-Some.is) c.word-len.ensures c.carry_up.ensures.change c.carry_up.ensures.carried
+    put-by c.args.index c.len_of-len.result c.args.text_len c.args.text r inside at len
+    (sym c.link_of.ensures ∙ c.in-Some.is) c.len_of-len.ensures c.carry_up.ensures.change c.carry_up.ensures.carried
     c.put_element.ensures.change c.put_element.ensures.link c.put_element.ensures.len_word
     c.set_word.ensures.change c.set_word.ensures.word
 
 pub returns-in_default : goal.returns-in_default
 returns-in_default c first ps t y m z r inside at len =
-    let none = sym c.link.ensures ∙ none-left c.link.result c.in_default.not-Some in
+    let none = sym c.link_of.ensures ∙ none-left c.link_of.result c.in_default.not-Some in
     absurd (let no_link = sym none ∙ r.link in cc)

@@ -3,29 +3,26 @@ use Rattle.seg_vector.proofs.Words.{refl, sym, ◌∙◌, ◌+◌, ◌-◌, ◌*
 use Rattle.seg_vector.proofs.Words.{room-less}
 use Rattle.seg_vector.proofs.texts.SegTexts.erase.Goals.{After-release_text}
 use Rattle.seg_vector.proofs.Runs.{IsHead, head-room}
-use Rattle.seg_vector.proofs.Storage.{len-room, link-room, place-small, room-small}
+use Rattle.seg_vector.proofs.Storage.{len-room, place-small, room-small}
 use Rattle.seg_vector.proofs.TextBlocks.{IsArrayLeft, even-from, no-array}
 use Rattle.seg_vector.proofs.TextCalls.{erased-by, held-elements, left}
 use Rattle.seg_vector.proofs.Typed.{has-element}
 use Rattle.seg_vector.proofs.texts.SegTexts.erase.Goals as goal
 
-pub link-requires-clause-room : goal.link-requires-clause-room
-link-requires-clause-room c = link-room c.args.heap.now.bytes c.args.self.place c.requires.1.1.room
-
 pub unreachable-requires : goal.unreachable-requires
 unreachable-requires c =
-    let none = no-array c.args.heap.now c.requires.1.1 (sym c.link.ensures ∙ c.in-None.is) in
+    let none = no-array c.args.heap.now c.requires.1.1 (sym c.link_of.ensures ∙ c.in-None.is) in
     omega (arith, none, c.len-len.ensures c.requires.0 c.requires.1.0 c.requires.1.1, c.if-index-len.false)
 
 pub overflow_mul-at : goal.overflow_mul-at
 overflow_mul-at c =
-    let h = held-elements (length c.requires.0) c.requires.1.1 (sym c.link.ensures ∙ c.in-Some.is) refl in
+    let h = held-elements (length c.requires.0) c.requires.1.1 (sym c.link_of.ensures ∙ c.in-Some.is) refl in
     let small = room-small c.args.heap.now c.in-Some.array (16 * length c.requires.0) h.heap h.room in
     omega (arith, small, c.if-index-len.false, c.len-len.ensures c.requires.0 c.requires.1.0 c.requires.1.1)
 
 pub overflow_add-at : goal.overflow_add-at
 overflow_add-at c =
-    let h = held-elements (length c.requires.0) c.requires.1.1 (sym c.link.ensures ∙ c.in-Some.is) refl in
+    let h = held-elements (length c.requires.0) c.requires.1.1 (sym c.link_of.ensures ∙ c.in-Some.is) refl in
     let small = room-small c.args.heap.now c.in-Some.array (16 * length c.requires.0) h.heap h.room in
     omega (arith, small, c.if-index-len.false, c.len-len.ensures c.requires.0 c.requires.1.0 c.requires.1.1)
 
@@ -35,7 +32,7 @@ release_text-requires c =
     (omega (arith, c.if-index-len.false, c.len-len.ensures c.requires.0 c.requires.1.0 c.requires.1.1)) in (
       q.0,
       (left c.args.heap.now c.args.heap.now c.args.index c.requires.1.1 q.1
-          (sym c.link.ensures ∙ c.in-Some.is)).element,
+          (sym c.link_of.ensures ∙ c.in-Some.is)).element,
     )
 
 left-at : (c : After-release_text) → IsArrayLeft c.release_text.new.heap c.in-Some.array (length c.requires.0) × IsHead
@@ -44,7 +41,7 @@ left-at c =
     let q = has-element c.requires.0 c.args.index
     (omega (arith, c.if-index-len.false, c.len-len.ensures c.requires.0 c.requires.1.0 c.requires.1.1)) in
     let w = left c.args.heap.now c.release_text.new.heap c.args.index c.requires.1.1 q.1
-    (sym c.link.ensures ∙ c.in-Some.is) in
+    (sym c.link_of.ensures ∙ c.in-Some.is) in
     w.after (c.release_text.ensures q.0 w.element)
 
 pub carry_down-requires-clause-heap : goal.carry_down-requires-clause-heap
@@ -85,11 +82,11 @@ pub returns : goal.returns
 returns c ps t s =
     let n = c.len-len.ensures ps t s in
     let q = has-element ps c.args.index (omega (arith, c.if-index-len.false, n)) in
-    let w = left c.args.heap.now c.release_text.new.heap c.args.index s q.1 (sym c.link.ensures ∙ c.in-Some.is) in
+    let w = left c.args.heap.now c.release_text.new.heap c.args.index s q.1 (sym c.link_of.ensures ∙ c.in-Some.is) in
     record {
       before = q.0;
       found = q.1;
-      now = erased-by c.args.index c.len-len.result s q.1 (sym c.link.ensures ∙ c.in-Some.is) n
+      now = erased-by c.args.index c.len-len.result s q.1 (sym c.link_of.ensures ∙ c.in-Some.is) n
           (c.release_text.ensures q.0 w.element) c.carry_down.ensures.change c.carry_down.ensures.carried
           c.set_word.ensures.change c.set_word.ensures.word;
     }

@@ -1,16 +1,13 @@
 -- The element is in the array.
 use Rattle.seg_vector.proofs.Words.{sym, ap, ◌∙◌, ◌+◌, ◌*◌, ◌<◌, arith, length, Some, option_map, OwnedText}
-use Rattle.seg_vector.proofs.Storage.{link-room, room-small}
+use Rattle.seg_vector.proofs.Storage.{room-small}
 use Rattle.seg_vector.proofs.TextBlocks.{element-of, no-array}
 use Rattle.seg_vector.proofs.Typed.{has-element}
 use Rattle.seg_vector.proofs.texts.SegTexts.get.Goals as goal
 
-pub link-requires-clause-room : goal.link-requires-clause-room
-link-requires-clause-room c = link-room c.args.heap.now.bytes c.args.self.place c.requires.1.1.room
-
 pub unreachable-requires : goal.unreachable-requires
 unreachable-requires c =
-    let none = no-array c.args.heap.now c.requires.1.1 (sym c.link.ensures ∙ c.in-None.is) in
+    let none = no-array c.args.heap.now c.requires.1.1 (sym c.link_of.ensures ∙ c.in-None.is) in
     omega (arith, none, c.len.ensures c.requires.0 c.requires.1.0 c.requires.1.1, c.if-index-len.false)
 
 pub overflow_mul-index : goal.overflow_mul-index
@@ -18,7 +15,7 @@ overflow_mul-index c =
     let inside : c.args.index < length c.requires.0 =
     omega (arith, c.if-index-len.false, c.len.ensures c.requires.0 c.requires.1.0 c.requires.1.1) in
     let q = has-element c.requires.0 c.args.index inside in
-    let e = element-of c.args.heap.now c.args.index c.requires.1.1 (sym c.link.ensures ∙ c.in-Some.is) q.1 in
+    let e = element-of c.args.heap.now c.args.index c.requires.1.1 (sym c.link_of.ensures ∙ c.in-Some.is) q.1 in
     let small = room-small c.args.heap.now c.in-Some.array (16 * c.args.index + 16) e.heap e.room in
     omega (arith, small)
 
@@ -27,11 +24,11 @@ text_at-requires c =
     let inside : c.args.index < length c.requires.0 =
     omega (arith, c.if-index-len.false, c.len.ensures c.requires.0 c.requires.1.0 c.requires.1.1) in
     let q = has-element c.requires.0 c.args.index inside in
-    (q.0, element-of c.args.heap.now c.args.index c.requires.1.1 (sym c.link.ensures ∙ c.in-Some.is) q.1)
+    (q.0, element-of c.args.heap.now c.args.index c.requires.1.1 (sym c.link_of.ensures ∙ c.in-Some.is) q.1)
 
 pub returns : goal.returns
 returns c ps t s =
     let inside : c.args.index < length ps = omega (arith, c.if-index-len.false, c.len.ensures ps t s) in
     let q = has-element ps c.args.index inside in
-    let e = element-of c.args.heap.now c.args.index s (sym c.link.ensures ∙ c.in-Some.is) q.1 in
+    let e = element-of c.args.heap.now c.args.index s (sym c.link_of.ensures ∙ c.in-Some.is) q.1 in
     ap (option_map (λ (q : OwnedText). q.bytes)) q.1 ∙ ap (λ bs. Some bs) (sym (c.text_at.ensures q.0 e))

@@ -1,27 +1,16 @@
 -- A request: the least gap that is long enough is the first of the tree.
-use Rattle.std.proofs.Common.{◌≡◌, refl, sym, ap, subst, ◌∙◌, ℕ, ◌+◌, ◌-◌, ◌^◌, ◌<◌, ◌≤◌, ◌⊎◌, inl, inr, true, false, List, [], ◌∷◌, ◌++◌, length, arith, IsTrue}
-use Rattle.std.proofs.lemmas.Option.{none-some, same_Some}
-use Rattle.std.specs.Prelude.{Option, Some, None, map, filter, option_map, if◌then◌else◌}
-use Rattle.std.proofs.lemmas.Bool.{cases_Bool, and_from, leb-true, lt-leb, cond-true, cond-false}
-use Rattle.std.proofs.lemmas.Int.Digits.{all_below_base_digits_of, length-digits_of-le, length-digits_of_step, number_digits_of, number_lt}
-use Rattle.raw_region.specs.Memory.{Cut, bytes_of}
-use Rattle.block_tags.specs.declared.tile.Role.{Role}
-use Rattle.block_tags.specs.declared.tile.Tile.{Tile}
-use Rattle.raw_region.specs.Format.{current}
-use Rattle.block_tags.specs.Tiles.{has_tags}
-use Rattle.block_tags.specs.Windows.{SaysTiles}
+use Rattle.best_fit.proofs.Common.{◌≡◌, refl, sym, ap, subst, ◌∙◌, ℕ, ◌+◌, ◌-◌, ◌^◌, ◌<◌, ◌≤◌, ◌⊎◌, inl, inr, true}
+use Rattle.best_fit.proofs.Common.{false, List, [], ◌∷◌, ◌++◌, length, arith, IsTrue, none-some, same_Some, Option}
+use Rattle.best_fit.proofs.Common.{Some, None, map, filter, option_map, if◌then◌else◌, cases_Bool, and_from, leb-true}
+use Rattle.best_fit.proofs.Common.{lt-leb, cond-true, cond-false, Cut, bytes_of, Role, Tile, current, has_tags}
+use Rattle.best_fit.proofs.Common.{SaysTiles, bits, nodes_of, is_in, leads, all_from, none_some, Extent, Gap, LiveSet}
+use Rattle.best_fit.proofs.Common.{gaps, added, fit, least, place, precedes, room, share, IsTreeOf, cells_of, is_red}
+use Rattle.best_fit.proofs.Common.{payloads, sorted_gaps, gap_of, gaps_of, gaps_in, len_in, links_among, plain}
+use Rattle.best_fit.proofs.Common.{tiles_in, Good, Good-is_good, is_good-Good, AreSome, HasTree, OutOfTree, Regrown}
+use Rattle.best_fit.proofs.Common.{is_long, node_of, IsAllocated, IsHeap, Keeps, LaysOut, live_of}
+use Rattle.std.proofs.lemmas.Int.Digits.{all_below_base_digits_of, length-digits_of-le, length-digits_of_step}
+use Rattle.std.proofs.lemmas.Int.Digits.{number_digits_of, number_lt}
 use Rattle.std.specs.Int.Digits.{digits_of}
-use Rattle.std.proofs.lemmas.Option.{same_Some}
-use Rattle.link_tree.specs.Tree.{bits, nodes_of}
-use Rattle.link_tree.specs.Nodes.{is_in, leads}
-use Rattle.link_tree.proofs.Laws.{all_from, none_some}
-use Rattle.best_fit.specs.Extents.{Extent, Gap, LiveSet, gaps}
-use Rattle.best_fit.specs.Fit.{added, fit, least, place, precedes, room, share}
-use Rattle.best_fit.specs.FreeTree.{IsTreeOf, cells_of, is_red, payloads, sorted_gaps}
-use Rattle.best_fit.specs.GapNodes.{gap_of, gaps_of, gaps_in, len_in, links_among, plain, tiles_in}
-use Rattle.best_fit.specs.GapLaws.{Good, Good-is_good, is_good-Good}
-use Rattle.best_fit.specs.GapTrees.{AreSome, HasTree, OutOfTree, Regrown, is_long, node_of}
-use Rattle.best_fit.specs.Heap.{IsAllocated, IsHeap, Keeps, LaysOut, live_of}
 use Rattle.best_fit.proofs.Frames.{keeps-trans}
 use Rattle.best_fit.proofs.FreeTrees.{all_gaps, fits_one, in_here}
 use Rattle.best_fit.proofs.GapFacts.{FreeAt, NodeAt, node_at}

@@ -1,26 +1,20 @@
 -- A block is put behind all others: the window is longer, and the bytes that it has more are a tile in use.
-use Rattle.std.proofs.Common.{◌≡◌, refl, sym, ap, subst, ◌∙◌, ℕ, ◌+◌, ◌-◌, ◌%◌, ◌<◌, ◌≤◌, inl, inr, false, List, [], ◌∷◌, ◌++◌, length, arith, IsTrue, ◌==◌}
-use Rattle.std.specs.Prelude.{Some}
-use Rattle.std.specs.List.{list_any}
-use Rattle.std.proofs.lemmas.List.{append-nil}
-use Rattle.std.proofs.lemmas.Bool.{false≢true, eq-eqb, or_left, or_right}
-use Rattle.raw_region.specs.Memory.{Cut, Same, bytes_of, cut_at, whole}
-use Rattle.raw_region.specs.Format.{current}
-use Rattle.block_tags.specs.declared.tile.Role.TheVariants.{Object}
-use Rattle.block_tags.specs.declared.tile.Tile.{Tile}
-use Rattle.block_tags.specs.Format.{is_legal_size}
-use Rattle.block_tags.specs.Lists.{free_tile, used_for, with_free, with_use_at}
-use Rattle.block_tags.specs.Windows.{CanAppend, FrontSaysTiles, MayBeUsed, SaysTiles, SameBesideTags}
-use Rattle.block_tags.proofs.Laws.{front_is_a_window, tiles_are_read_off}
-use Rattle.best_fit.specs.Ends.{HasBlockBehind, HasEndMoved, KeepsTo, block_behind, of_size}
-use Rattle.best_fit.specs.Extents.{Extent, Gap, LiveSet, end_of, handle, proper_from}
-use Rattle.best_fit.specs.Fit.{others, released}
-use Rattle.best_fit.specs.FreeTree.{IsTreeOf, payloads, sorted_gaps}
-use Rattle.best_fit.specs.GapNodes.{gaps_in, gaps_of, tiles_in}
-use Rattle.best_fit.specs.Heap.{IsHeap, IsReleased, Keeps, LaysOut, is_live_in, live_of}
+use Rattle.best_fit.proofs.Common.{◌≡◌, refl, sym, ap, subst, ◌∙◌, ℕ, ◌+◌, ◌-◌, ◌%◌, ◌<◌, ◌≤◌, inl, inr, false, List}
+use Rattle.best_fit.proofs.Common.{[], ◌∷◌, ◌++◌, length, arith, IsTrue, ◌==◌, Some, list_any, append-nil, false≢true}
+use Rattle.best_fit.proofs.Common.{eq-eqb, or_left, or_right, Cut, Same, bytes_of, whole, current, Object, Tile}
+use Rattle.best_fit.proofs.Common.{is_legal_size, free_tile, used_for, with_use_at, FrontSaysTiles, MayBeUsed}
+use Rattle.best_fit.proofs.Common.{SaysTiles, SameBesideTags, front_is_a_window, tiles_are_read_off, HasBlockBehind}
+use Rattle.best_fit.proofs.Common.{HasEndMoved, KeepsTo, of_size, Extent, Gap, LiveSet, end_of, handle, proper_from}
+use Rattle.best_fit.proofs.Common.{others, released, IsTreeOf, payloads, sorted_gaps, gaps_in, gaps_of, tiles_in}
+use Rattle.best_fit.proofs.Common.{IsHeap, IsReleased, Keeps, LaysOut, is_live_in, live_of}
+use Rattle.raw_region.specs.Memory.{cut_at}
+use Rattle.block_tags.specs.Lists.{with_free}
+use Rattle.block_tags.specs.Windows.{CanAppend}
+use Rattle.best_fit.specs.Ends.{block_behind}
 use Rattle.best_fit.proofs.Allocating.{heap_tree}
 use Rattle.best_fit.proofs.Around.{Away, apart_joined, changed_at-around, row_away, tile_in-around}
-use Rattle.best_fit.proofs.Carrying.{Carries, carried_blocks, carried_tree, ends-then, keeps_to-then, resized_ends, resized_same}
+use Rattle.best_fit.proofs.Carrying.{Carries, carried_blocks, carried_tree, ends-then, keeps_to-then, resized_ends}
+use Rattle.best_fit.proofs.Carrying.{resized_same}
 use Rattle.best_fit.proofs.Changes.{is_proper-IsProper}
 use Rattle.best_fit.proofs.Joins.{extents_of-append}
 use Rattle.best_fit.proofs.Laid.{IsLegal, SaysHeap, heap-says, legal_size, said_row, says-live}

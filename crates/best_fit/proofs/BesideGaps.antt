@@ -1,19 +1,10 @@
 -- Where only links and colours of gaps and word 24 change, all bytes beside the gaps stay, those of tags too.
-use Rattle.std.proofs.Common.{◌≡◌, refl, sym, ap, subst, ◌∙◌, ℕ, zero, suc, ◌+◌, ◌-◌, ◌*◌, ◌<◌, ◌≤◌, ◌⊎◌, inl, inr, List, [], ◌∷◌, length, arith, nat_lt}
-use Rattle.std.specs.Prelude.{Some, map}
-use Rattle.std.specs.List.{AllByRecursion}
-use Rattle.std.proofs.lemmas.Bool.{cases_lt, lt-ltb, or_left}
-use Rattle.raw_region.specs.Memory.{Memory, Cut, Same, bytes_of, word_at}
-use Rattle.raw_region.specs.Format.{current}
-use Rattle.block_tags.specs.declared.tile.Role.{Role}
-use Rattle.block_tags.specs.declared.tile.Tile.{Tile}
-use Rattle.block_tags.specs.Tiles.{AreTags, is_free, tag_word}
-use Rattle.block_tags.specs.Windows.{SaysTiles}
-use Rattle.best_fit.specs.Extents.{gaps}
-use Rattle.best_fit.specs.GapNodes.{gap_of, gaps_of, lies_in_block, plain, tiles_in}
-use Rattle.best_fit.specs.GapTrees.{Regrown}
-use Rattle.best_fit.specs.Heap.{live_of}
-use Rattle.best_fit.specs.Rebuilding.{AreBytes, IsBesideGap}
+use Rattle.best_fit.proofs.Common.{◌≡◌, refl, sym, ap, subst, ◌∙◌, ℕ, zero, suc, ◌+◌, ◌-◌, ◌*◌, ◌<◌, ◌≤◌, ◌⊎◌, inl}
+use Rattle.best_fit.proofs.Common.{inr, List, [], ◌∷◌, length, arith, nat_lt, Some, map, AllByRecursion, cases_lt}
+use Rattle.best_fit.proofs.Common.{lt-ltb, or_left, Memory, Cut, Same, bytes_of, word_at, current, Role, Tile}
+use Rattle.best_fit.proofs.Common.{AreTags, is_free, tag_word, SaysTiles, gaps, gap_of, gaps_of, lies_in_block, plain}
+use Rattle.best_fit.proofs.Common.{tiles_in, Regrown, live_of, AreBytes}
+use Rattle.best_fit.specs.Rebuilding.{IsBesideGap}
 use Rattle.best_fit.proofs.Laid.{SaysHeap, gaps-live_in, legal_size, said_row, says-live}
 use Rattle.best_fit.proofs.Regrowths.{empty_not, head_same, plain_used, regrown_block, tail_same}
 use Rattle.best_fit.proofs.Rows.{unused, used, use_cases, used-not_free, gaps_of-free, gaps_of-used}

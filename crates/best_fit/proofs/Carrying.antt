@@ -1,21 +1,14 @@
 -- Tiles that stand in two memories, with the same payloads: their blocks and their tree are the same. And a window that ends elsewhere.
-use Rattle.std.proofs.Common.{◌≡◌, sym, ap, subst, ◌∙◌, ℕ, ◌+◌, ◌-◌, ◌/◌, ◌%◌, ◌≤◌, true, List, ◌++◌, length, take, drop, arith, ◌==◌, append_assoc}
-use Rattle.std.specs.Prelude.{Option, slice_index}
-use Rattle.std.specs.List.{AllByRecursion}
+use Rattle.best_fit.proofs.Common.{◌≡◌, sym, ap, subst, ◌∙◌, ℕ, ◌+◌, ◌-◌, ◌/◌, ◌%◌, ◌≤◌, true, List, ◌++◌, length}
+use Rattle.best_fit.proofs.Common.{take, drop, arith, ◌==◌, append_assoc, Option, slice_index, AllByRecursion}
+use Rattle.best_fit.proofs.Common.{length-append, Memory, Cut, Same, SamePlace, bytes_of, part, whole, word_at}
+use Rattle.best_fit.proofs.Common.{Same-trans, Same-word, length-part, part-at, whole-cut_at, Tile, IsTree, is_in}
+use Rattle.best_fit.proofs.Common.{tree_same, link_at, target_of, KeepsTo, Extent, IsTreeOf, cells_of, payloads}
+use Rattle.best_fit.proofs.Common.{sorted_gaps, gaps_of, Keeps, SameBlock}
 use Rattle.std.proofs.Math.Seq.{drop-append_seam, take-append_seam}
-use Rattle.std.proofs.lemmas.List.{drop-drop, length-append}
-use Rattle.raw_region.specs.Memory.{Memory, Cut, Same, SamePlace, bytes_of, cut_at, part, whole, word_at}
-use Rattle.raw_region.proofs.Laws.{Same-trans, Same-word, length-part, part-at, whole-cut_at}
-use Rattle.block_tags.specs.declared.tile.Tile.{Tile}
-use Rattle.link_tree.specs.Tree.{IsTree}
-use Rattle.link_tree.specs.Nodes.{is_in}
-use Rattle.link_tree.proofs.Laws.{tree_same}
-use Rattle.offset_link.specs.Link.{link_at, target_of}
-use Rattle.best_fit.specs.Ends.{EndsAt, KeepsTo}
-use Rattle.best_fit.specs.Extents.{Extent}
-use Rattle.best_fit.specs.FreeTree.{IsTreeOf, cells_of, payloads, sorted_gaps}
-use Rattle.best_fit.specs.GapNodes.{gaps_of}
-use Rattle.best_fit.specs.Heap.{Keeps, SameBlock}
+use Rattle.std.proofs.lemmas.List.{drop-drop}
+use Rattle.raw_region.specs.Memory.{cut_at}
+use Rattle.best_fit.specs.Ends.{EndsAt}
 use Rattle.best_fit.proofs.Frames.{blocks-trans}
 use Rattle.best_fit.proofs.GapFacts.{free_at, in_around, row_lies}
 use Rattle.best_fit.proofs.GapOrder.{in_sorted}

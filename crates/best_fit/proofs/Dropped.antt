@@ -1,29 +1,22 @@
 -- The gap at the end is dropped: the window is shorter, and ends behind the last block.
-use Rattle.std.proofs.Common.{◌≡◌, refl, sym, ap, subst, ◌∙◌, ℕ, ◌+◌, ◌-◌, ◌<◌, ◌≤◌, Bool, true, false, List, [], ◌∷◌, ◌++◌, length, arith, IsTrue}
-use Rattle.std.specs.Prelude.{Some, None}
-use Rattle.std.proofs.lemmas.Bool.{both_ways}
-use Rattle.std.proofs.lemmas.List.{append-nil, length-append}
-use Rattle.std.proofs.lemmas.Option.{same_Some, none-some}
-use Rattle.raw_region.specs.Memory.{Cut, Same, bytes_of, cut_at, whole}
-use Rattle.raw_region.specs.Format.{current}
-use Rattle.block_tags.specs.declared.tile.Tile.{Tile}
-use Rattle.block_tags.specs.Lists.{last_in, without_last}
-use Rattle.block_tags.specs.Tiles.{is_free}
-use Rattle.block_tags.specs.Windows.{FrontSaysTiles, HasFreeLast, SaysTiles, SameBesideTags}
-use Rattle.block_tags.proofs.Laws.{AreTags-Fill, front_is_a_window, tiles_are_read_off}
-use Rattle.best_fit.specs.Ends.{HasEndMoved, KeepsTo, last_end, least_size, of_size}
-use Rattle.best_fit.specs.Extents.{Extent}
-use Rattle.best_fit.specs.FreeTree.{IsTreeOf, payloads, sorted_gaps}
-use Rattle.best_fit.specs.GapNodes.{gaps_in, gaps_of, tiles_in}
-use Rattle.best_fit.specs.GapTrees.{HasTree}
-use Rattle.best_fit.specs.Heap.{LaysOut, live_of}
+use Rattle.best_fit.proofs.Common.{◌≡◌, refl, sym, ap, subst, ◌∙◌, ℕ, ◌+◌, ◌-◌, ◌<◌, ◌≤◌, Bool, true, false, List, []}
+use Rattle.best_fit.proofs.Common.{◌∷◌, ◌++◌, length, arith, IsTrue, Some, None, both_ways, append-nil, length-append}
+use Rattle.best_fit.proofs.Common.{same_Some, none-some, Cut, Same, bytes_of, whole, current, Tile, last_in}
+use Rattle.best_fit.proofs.Common.{without_last, is_free, FrontSaysTiles, SaysTiles, SameBesideTags}
+use Rattle.best_fit.proofs.Common.{front_is_a_window, tiles_are_read_off, HasEndMoved, KeepsTo, last_end, least_size}
+use Rattle.best_fit.proofs.Common.{of_size, Extent, IsTreeOf, payloads, sorted_gaps, gaps_in, gaps_of, tiles_in}
+use Rattle.best_fit.proofs.Common.{HasTree, LaysOut, live_of}
+use Rattle.raw_region.specs.Memory.{cut_at}
+use Rattle.block_tags.specs.Windows.{HasFreeLast}
+use Rattle.block_tags.proofs.Laws.{AreTags-Fill}
 use Rattle.best_fit.proofs.Around.{apart_front}
 use Rattle.best_fit.proofs.Carrying.{Carries, carried_blocks, carried_tree, resized_ends, resized_same, then-ends}
 use Rattle.best_fit.proofs.Joins.{extents_of-around_free}
 use Rattle.best_fit.proofs.Laid.{IsLegal, SaysHeap, legal_size, said_row, says-live}
 use Rattle.best_fit.proofs.Placed.{lays_out}
 use Rattle.best_fit.proofs.Regrowths.{tree_says}
-use Rattle.best_fit.proofs.Rows.{Apart, Fill-Row, Row, extents_of, extents_of-free, extents_of-used, unused, used, use_cases, unused-free}
+use Rattle.best_fit.proofs.Rows.{Apart, Fill-Row, Row, extents_of, extents_of-free, extents_of-used, unused, used}
+use Rattle.best_fit.proofs.Rows.{use_cases, unused-free}
 use Rattle.best_fit.proofs.Steps.{In, in_front, inside, low_beside, tag_in}
 
 -- ---- where the last block ends

@@ -1,19 +1,16 @@
 -- A block that comes in the place of another.
-use Rattle.std.proofs.Common.{◌≡◌, refl, sym, ap, subst, ◌∙◌, inl, ℕ, ◌+◌, ◌-◌, ◌%◌, ◌<◌, ◌≤◌, Bool, true, false, Option, Some, None, List, [], ◌∷◌, arith, if◌then◌else◌}
-use Rattle.std.specs.Prelude.{IsTrue, IfSome, option_map, min, Result, Ok, Err, MatchResult}
-use Rattle.std.proofs.lemmas.Bool.{and_from, le-leb, leb-true, lt-leb}
-use Rattle.std.specs.List.{AllByRecursion}
-use Rattle.std.proofs.lemmas.Bool.{both_ways}
-use Rattle.std.proofs.lemmas.Option.{same_Some}
-use Rattle.raw_region.proofs.Laws.{Same-read, Same-trans, SameBut-word}
-use Rattle.raw_region.specs.Memory.{Memory, Cut, SameBut, bytes_of, read}
-use Rattle.block_tags.specs.declared.tile.Role.TheVariants.{Storage}
-use Rattle.raw_region.specs.Format.{current}
-use Rattle.best_fit.specs.Exchange.{exchanged, without_all, IsExchanged, SameBlockBut, IsRegrown, IsReplaced, IsGivenRoom, IsNotGivenRoom, Regrows, Replaces}
-use Rattle.best_fit.specs.Table.{serves, same_role}
-use Rattle.best_fit.specs.Extents.{Extent, LiveSet, handle, end_of, holds, is_proper}
-use Rattle.best_fit.specs.Fit.{insert, others, added, released, place, regrow, longer}
-use Rattle.best_fit.specs.Heap.{Allocates, IsAllocated, IsChanged, IsExtended, IsResized, IsHeap, IsReleased, LaysOut, SameBlock, Keeps, extent_at, has_room, live_of}
+use Rattle.best_fit.proofs.Common.{◌≡◌, refl, sym, ap, subst, ◌∙◌, inl, ℕ, ◌+◌, ◌-◌, ◌%◌, ◌<◌, ◌≤◌, Bool, true, false}
+use Rattle.best_fit.proofs.Common.{Option, Some, None, List, [], ◌∷◌, arith, if◌then◌else◌, IsTrue, IfSome}
+use Rattle.best_fit.proofs.Common.{option_map, min, Result, and_from, le-leb, leb-true, lt-leb, AllByRecursion}
+use Rattle.best_fit.proofs.Common.{both_ways, same_Some, Same-trans, SameBut-word, Memory, Cut, SameBut, bytes_of}
+use Rattle.best_fit.proofs.Common.{read, Storage, current, exchanged, without_all, IsExchanged, SameBlockBut}
+use Rattle.best_fit.proofs.Common.{IsGivenRoom, Regrows, serves, same_role, Extent, LiveSet, handle, end_of, holds}
+use Rattle.best_fit.proofs.Common.{is_proper, insert, others, added, released, place, regrow, longer, Allocates}
+use Rattle.best_fit.proofs.Common.{IsAllocated, IsChanged, IsExtended, IsResized, IsHeap, IsReleased, LaysOut}
+use Rattle.best_fit.proofs.Common.{SameBlock, Keeps, extent_at, has_room, live_of}
+use Rattle.std.specs.Prelude.{Ok, Err, MatchResult}
+use Rattle.raw_region.proofs.Laws.{Same-read}
+use Rattle.best_fit.specs.Exchange.{IsRegrown, IsReplaced, IsNotGivenRoom, Replaces}
 use Rattle.best_fit.proofs.LayOut.{lay_out_one}
 use Rattle.best_fit.proofs.Writes.{Room, room_block}
 use Rattle.best_fit.proofs.Frames.{keeps-refl, keeps-trans}
@@ -21,7 +18,8 @@ use Rattle.best_fit.proofs.Allocated.{allocated-live, changed-live}
 use Rattle.best_fit.proofs.Order.{AllByRecursion-insert_from}
 use Rattle.best_fit.proofs.Placing.{longer-IsLonger, place-holds}
 use Rattle.best_fit.proofs.Serving.{place-serves}
-use Rattle.best_fit.proofs.Spacing.{IsAlone, in_use, in_use-alone, in_use-all, exchange-back, exchange-moved, live-spaced, spaced-insert, all_of-insert, keeps-of, written-keeps}
+use Rattle.best_fit.proofs.Spacing.{IsAlone, in_use, in_use-alone, in_use-all, exchange-back, exchange-moved}
+use Rattle.best_fit.proofs.Spacing.{live-spaced, spaced-insert, all_of-insert, keeps-of, written-keeps}
 
 -- the extent of a block with room
 pub record IsRoomy (l : LiveSet) (h n : ℕ) : Type 0 where

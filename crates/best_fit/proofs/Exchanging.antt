@@ -1,18 +1,17 @@
 -- Blocks exchanged several times, one after another: what all of it comes to, and what stays.
-use Rattle.std.proofs.Common.{◌≡◌, ◌≢◌, refl, sym, ap, subst, ◌∙◌, inl, inr, ◌⊎◌, ℕ, ◌+◌, ◌<◌, ◌≤◌, Some, List, [], ◌∷◌, ◌++◌, ◌==◌, arith}
-use Rattle.std.specs.Prelude.{IsTrue, find, ⊤}
-use Rattle.std.specs.List.{AllByRecursion}
-use Rattle.raw_region.specs.Memory.{Memory, Cut, bytes_of}
-use Rattle.raw_region.proofs.Laws.{Same-refl, Same-trans, SamePlace-trans}
-use Rattle.block_tags.specs.declared.tile.Role.{Role}
-use Rattle.best_fit.specs.Exchange.{IsExchanged, SameBlockBut, exchanged, inserted, without_all}
-use Rattle.best_fit.specs.Extents.{Extent, LiveSet, handle, end_of, is_proper}
-use Rattle.best_fit.specs.Fit.{insert, others, released}
-use Rattle.best_fit.specs.Heap.{IsAllocated, IsChanged, IsHeap, IsReleased, IsResized, Keeps, LaysOut, SameBlock, extent_at, has_room, live_of}
+use Rattle.best_fit.proofs.Common.{◌≡◌, ◌≢◌, refl, sym, ap, subst, ◌∙◌, inl, inr, ◌⊎◌, ℕ, ◌+◌, ◌<◌, ◌≤◌, Some, List}
+use Rattle.best_fit.proofs.Common.{[], ◌∷◌, ◌++◌, ◌==◌, arith, IsTrue, find, ⊤, AllByRecursion, Memory, Cut, bytes_of}
+use Rattle.best_fit.proofs.Common.{Same-refl, Same-trans, SamePlace-trans, Role, IsExchanged, SameBlockBut, exchanged}
+use Rattle.best_fit.proofs.Common.{inserted, without_all, Extent, LiveSet, handle, end_of, is_proper, insert, others}
+use Rattle.best_fit.proofs.Common.{released, IsAllocated, IsChanged, IsHeap, IsReleased, IsResized, Keeps, LaysOut}
+use Rattle.best_fit.proofs.Common.{SameBlock, extent_at, has_room, live_of}
 use Rattle.best_fit.proofs.Allocated.{changed-keeps_block}
 use Rattle.best_fit.proofs.Exchanges.{all-same-but}
 use Rattle.best_fit.proofs.LayOut.{lay_out_one}
-use Rattle.best_fit.proofs.Spacing.{Apart, Differs, IsAlone, IsAmong, LiesBeside, IsFresh, Rising, above, all_of-insert, all_of-inserted, among, apart-inserted, below, found-less, found-more, found-new, in_use, in_use-alone, inserted-comm, live-rises, rising-insert, rising-inserted, without-inserted}
+use Rattle.best_fit.proofs.Spacing.{Apart, Differs, IsAlone, IsAmong, LiesBeside, IsFresh, Rising, above}
+use Rattle.best_fit.proofs.Spacing.{all_of-insert, all_of-inserted, among, apart-inserted, below, found-less}
+use Rattle.best_fit.proofs.Spacing.{found-more, found-new, in_use, in_use-alone, inserted-comm, live-rises}
+use Rattle.best_fit.proofs.Spacing.{rising-insert, rising-inserted, without-inserted}
 
 -- ---- two lists of extents that come to the same among others
 

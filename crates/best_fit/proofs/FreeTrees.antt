@@ -1,25 +1,17 @@
 -- The tree of gaps as link_tree sees it, and what its calls leave.
-use Rattle.std.proofs.Common.{◌≡◌, refl, sym, ap, subst, ◌∙◌, ℕ, ◌+◌, ◌-◌, ◌/◌, ◌%◌, ◌≤◌, ◌⊎◌, inl, inr, Bool, true, false, ◌&&◌, ◌||◌, List, [], ◌∷◌, ◌++◌, length, arith, ◌==◌, IsTrue, length-append, append_assoc}
-use Rattle.std.specs.Prelude.{Option, Some, None, map, if◌then◌else◌}
-use Rattle.std.specs.List.{list_all}
-use Rattle.std.proofs.lemmas.Bool.{cases_Bool, or_cases, or_left, or_right, eqb-true, eq-eqb, cond-true, cond_both}
-use Rattle.raw_region.specs.Memory.{Cut, SameBut, SamePlace, bytes_of}
-use Rattle.raw_region.proofs.Laws.{SameBut-word}
-use Rattle.block_tags.specs.declared.tile.Tile.{Tile}
-use Rattle.block_tags.specs.Format.{is_legal_size}
-use Rattle.block_tags.specs.Windows.{SaysTiles}
-use Rattle.block_tags.proofs.Laws.{good_tags_say_tiles, header_may_change, tiles_are_read_off}
-use Rattle.link_tree.specs.Tree.{Cell, Tree, IsTree, IsSearchTree, nodes_of, rises}
-use Rattle.link_tree.specs.Nodes.{is_in, leads}
-use Rattle.link_tree.proofs.Laws.{root_in, tree_same, all_from}
-use Rattle.offset_link.specs.Link.{link_at}
-use Rattle.offset_link.proofs.Laws.{SameBut-link}
-use Rattle.best_fit.specs.Extents.{Gap}
-use Rattle.best_fit.specs.Fit.{precedes}
-use Rattle.best_fit.specs.FreeTree.{cells_of, insert_gap, payloads, sorted_gaps}
-use Rattle.best_fit.specs.GapNodes.{Kept, comes_before, gap_cells, gap_of, gaps_of, gaps_in, is_gap_node, is_kept, kept_of, len_in, links_among, plain, tiles_in}
-use Rattle.best_fit.specs.GapLaws.{length-payloads, Good, GapNode-is_gap_node, Good-is_good, is_good-Good, links_at, cells_at}
-use Rattle.best_fit.specs.GapTrees.{AreSome, Fits, HasTree, Regrown, Rises}
+use Rattle.best_fit.proofs.Common.{◌≡◌, refl, sym, ap, subst, ◌∙◌, ℕ, ◌+◌, ◌-◌, ◌/◌, ◌%◌, ◌≤◌, ◌⊎◌, inl, inr, Bool}
+use Rattle.best_fit.proofs.Common.{true, false, ◌&&◌, ◌||◌, List, [], ◌∷◌, ◌++◌, length, arith, ◌==◌, IsTrue}
+use Rattle.best_fit.proofs.Common.{length-append, append_assoc, Option, Some, None, map, if◌then◌else◌, list_all}
+use Rattle.best_fit.proofs.Common.{cases_Bool, or_cases, or_left, or_right, eqb-true, eq-eqb, cond-true, cond_both}
+use Rattle.best_fit.proofs.Common.{Cut, SameBut, SamePlace, bytes_of, SameBut-word, Tile, is_legal_size, SaysTiles}
+use Rattle.best_fit.proofs.Common.{good_tags_say_tiles, header_may_change, tiles_are_read_off, Cell, Tree, IsTree}
+use Rattle.best_fit.proofs.Common.{IsSearchTree, nodes_of, rises, is_in, leads, tree_same, all_from, link_at}
+use Rattle.best_fit.proofs.Common.{SameBut-link, Gap, precedes, cells_of, insert_gap, payloads, sorted_gaps, Kept}
+use Rattle.best_fit.proofs.Common.{comes_before, gap_cells, gap_of, gaps_of, gaps_in, is_gap_node, is_kept, kept_of}
+use Rattle.best_fit.proofs.Common.{len_in, links_among, plain, tiles_in, Good, GapNode-is_gap_node, Good-is_good}
+use Rattle.best_fit.proofs.Common.{is_good-Good, links_at, cells_at, AreSome, Fits, HasTree, Regrown, Rises}
+use Rattle.link_tree.proofs.Laws.{root_in}
+use Rattle.best_fit.specs.GapLaws.{length-payloads}
 use Rattle.best_fit.proofs.GapFacts.{len_in_row, node_at, said_of, apart_of}
 use Rattle.best_fit.proofs.GapOrder.{NoneAt, in_sorted, none_above, sorted-rises}
 use Rattle.best_fit.proofs.GapSetters.{cell_stays}

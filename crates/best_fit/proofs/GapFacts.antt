@@ -1,19 +1,11 @@
 -- A gap as a node: where it lies, what its fields say, and that no two nodes share a byte.
-use Rattle.std.proofs.Common.{◌≡◌, refl, sym, ap, subst, ◌∙◌, ℕ, ◌+◌, ◌-◌, ◌/◌, ◌%◌, ◌≤◌, ◌⊎◌, inl, inr, true, false, List, [], ◌∷◌, ◌++◌, length, arith, ◌==◌}
-use Rattle.std.specs.Prelude.{Option, Some, None, find}
-use Rattle.std.proofs.lemmas.Bool.{false≢true, or_cases, or_left, or_right, eqb-true, eq-eqb, ne_eqb, cond-true, cond-false}
-use Rattle.std.proofs.lemmas.Option.{same_Some}
-use Rattle.raw_region.specs.Memory.{Cut, bytes_of, word_at}
-use Rattle.block_tags.specs.declared.tile.Tile.{Tile}
-use Rattle.block_tags.specs.Lists.{tile_in}
-use Rattle.block_tags.specs.Tiles.{tile_at}
-use Rattle.block_tags.specs.Windows.{HasTileAt, SaysTiles}
-use Rattle.block_tags.proofs.Laws.{good_tags_say_tiles, one_tile_at_an_offset, tile_is_read_off, tiles_are_read_off}
-use Rattle.link_tree.specs.Nodes.{is_in}
-use Rattle.best_fit.specs.Extents.{Gap}
-use Rattle.best_fit.specs.FreeTree.{is_red, payloads}
-use Rattle.best_fit.specs.GapNodes.{gap_of, gaps_of, gaps_in, len_in, tiles_in}
-use Rattle.best_fit.specs.GapLaws.{Good, GapNode}
+use Rattle.best_fit.proofs.Common.{◌≡◌, refl, sym, ap, subst, ◌∙◌, ℕ, ◌+◌, ◌-◌, ◌/◌, ◌%◌, ◌≤◌, ◌⊎◌, inl, inr, true}
+use Rattle.best_fit.proofs.Common.{false, List, [], ◌∷◌, ◌++◌, length, arith, ◌==◌, Option, Some, None, find}
+use Rattle.best_fit.proofs.Common.{false≢true, or_cases, or_left, or_right, eqb-true, eq-eqb, ne_eqb, cond-true}
+use Rattle.best_fit.proofs.Common.{cond-false, same_Some, Cut, bytes_of, word_at, Tile, tile_in, tile_at, HasTileAt}
+use Rattle.best_fit.proofs.Common.{SaysTiles, good_tags_say_tiles, one_tile_at_an_offset, tile_is_read_off}
+use Rattle.best_fit.proofs.Common.{tiles_are_read_off, is_in, Gap, is_red, payloads, gap_of, gaps_of, gaps_in, len_in}
+use Rattle.best_fit.proofs.Common.{tiles_in, Good, GapNode}
 use Rattle.best_fit.proofs.Around.{row_reaches}
 use Rattle.best_fit.proofs.Laid.{said_row, legal_size}
 use Rattle.best_fit.proofs.Rows.{Row, Apart, is_merged-Apart, unused, used, use_cases, gaps_of-free, gaps_of-used}

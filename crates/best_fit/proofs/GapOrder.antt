@@ -1,16 +1,13 @@
 -- Gaps in their order, and their payloads: one put in, one taken out, and the first that is long enough.
-use Rattle.std.proofs.Common.{◌≡◌, refl, sym, ap, subst, ◌∙◌, ℕ, ◌+◌, ◌<◌, ◌≤◌, ◌⊎◌, inl, inr, Bool, true, false, ◌&&◌, ◌||◌, not, List, [], ◌∷◌, ◌++◌, arith, nat_lt, nat_le, ◌==◌}
-use Rattle.std.specs.Prelude.{Option, Some, None, filter, find, option_map, if◌then◌else◌}
-use Rattle.std.specs.List.{list_all, AllByRecursion}
-use Rattle.std.proofs.lemmas.Bool.{both_ways, cases_Bool, cases_eq, cases_lt, and_from, or_left, or_right, leb-true, le-leb, eq-eqb, ne_eqb, cond-true, cond-false, cond_both, lt-ltb, le-ltb, lt-leb}
-use Rattle.link_tree.specs.Tree.{rises}
-use Rattle.link_tree.specs.Nodes.{first_not, has_place, is_in, put, without}
+use Rattle.best_fit.proofs.Common.{◌≡◌, refl, sym, ap, subst, ◌∙◌, ℕ, ◌+◌, ◌<◌, ◌≤◌, ◌⊎◌, inl, inr, Bool, true, false}
+use Rattle.best_fit.proofs.Common.{◌&&◌, ◌||◌, not, List, [], ◌∷◌, ◌++◌, arith, nat_lt, nat_le, ◌==◌, Option, Some}
+use Rattle.best_fit.proofs.Common.{None, filter, find, option_map, if◌then◌else◌, list_all, AllByRecursion, both_ways}
+use Rattle.best_fit.proofs.Common.{cases_Bool, cases_eq, cases_lt, and_from, or_left, or_right, leb-true, le-leb}
+use Rattle.best_fit.proofs.Common.{eq-eqb, ne_eqb, cond-true, cond-false, cond_both, lt-ltb, le-ltb, lt-leb, rises}
+use Rattle.best_fit.proofs.Common.{first_not, has_place, is_in, put, without, Gap, least, precedes, insert_gap}
+use Rattle.best_fit.proofs.Common.{payloads, sorted_gaps, comes_before, is_too_short, len_in, Fits, Rises, is_long}
+use Rattle.best_fit.proofs.Common.{node_of}
 use Rattle.link_tree.proofs.Laws.{rises_put, without_none}
-use Rattle.best_fit.specs.Extents.{Gap}
-use Rattle.best_fit.specs.Fit.{least, precedes}
-use Rattle.best_fit.specs.FreeTree.{insert_gap, payloads, sorted_gaps}
-use Rattle.best_fit.specs.GapNodes.{comes_before, is_too_short, len_in}
-use Rattle.best_fit.specs.GapTrees.{Fits, Rises, is_long, node_of}
 use Rattle.best_fit.specs.GapLaws.{Comes, comes-Comes, Comes-comes, comes-trans, comes_transitive}
 
 -- ---- one put in before others

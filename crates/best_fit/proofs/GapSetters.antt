@@ -1,24 +1,15 @@
 -- What each setter does to the window.
-use Rattle.std.proofs.Common.{◌≡◌, refl, sym, ap, subst, ◌∙◌, ℕ, ◌+◌, ◌-◌, ◌/◌, ◌%◌, ◌<◌, ◌≤◌, ◌⊎◌, inl, inr, Bool, true, false, ◌&&◌, ◌||◌, not, List, [], ◌∷◌, ◌++◌, length, arith, ◌==◌}
-use Rattle.std.specs.Prelude.{Option, Some, None, IfSome, map}
-use Rattle.std.proofs.lemmas.Bool.{and_parts, and_from}
-use Rattle.raw_region.specs.Memory.{Memory, Cut, SameBut, SamePlace, bytes_of, patched, word_at}
-use Rattle.raw_region.specs.Regions.{with_bytes}
-use Rattle.raw_region.proofs.Laws.{word_written-SameBut, Same-word, SameBut-word}
-use Rattle.block_tags.specs.declared.tile.Role.{Role}
-use Rattle.block_tags.specs.declared.tile.Tile.{Tile}
-use Rattle.block_tags.specs.Lists.{IsBesideTags, of_colour, tile_in, with_red_at}
-use Rattle.raw_region.specs.Format.{current}
-use Rattle.block_tags.specs.Tiles.{is_free, may_be_red}
-use Rattle.block_tags.specs.Windows.{MayHaveColour, SaysTiles, SameBesideTags}
-use Rattle.block_tags.proofs.Laws.{one_tile_at_an_offset, payload_may_change}
-use Rattle.link_tree.specs.Tree.{Cell}
-use Rattle.link_tree.specs.Nodes.{is_in, leads, with_left, with_right, with_red}
-use Rattle.offset_link.specs.Link.{link, link_at, link_word, target_of}
-use Rattle.offset_link.proofs.Laws.{SameBut-link}
-use Rattle.best_fit.specs.FreeTree.{cells_of, is_red, payloads}
-use Rattle.best_fit.specs.GapNodes.{gaps_in, gap_cells, is_gap_node, links_among, plain, tiles_in}
-use Rattle.best_fit.specs.GapLaws.{GapNode, is_gap_node-GapNode, links_at}
+use Rattle.best_fit.proofs.Common.{◌≡◌, refl, sym, ap, subst, ◌∙◌, ℕ, ◌+◌, ◌-◌, ◌/◌, ◌%◌, ◌<◌, ◌≤◌, ◌⊎◌, inl, inr}
+use Rattle.best_fit.proofs.Common.{Bool, true, false, ◌&&◌, ◌||◌, not, List, [], ◌∷◌, ◌++◌, length, arith, ◌==◌}
+use Rattle.best_fit.proofs.Common.{Option, Some, None, IfSome, map, and_parts, and_from, Memory, Cut, SameBut}
+use Rattle.best_fit.proofs.Common.{SamePlace, bytes_of, patched, word_at, with_bytes, word_written-SameBut, Same-word}
+use Rattle.best_fit.proofs.Common.{SameBut-word, Role, Tile, IsBesideTags, of_colour, tile_in, with_red_at, current}
+use Rattle.best_fit.proofs.Common.{is_free, may_be_red, MayHaveColour, SaysTiles, SameBesideTags}
+use Rattle.best_fit.proofs.Common.{one_tile_at_an_offset, payload_may_change, Cell, is_in, leads, link_at, target_of}
+use Rattle.best_fit.proofs.Common.{SameBut-link, cells_of, is_red, payloads, gaps_in, gap_cells, is_gap_node}
+use Rattle.best_fit.proofs.Common.{links_among, plain, tiles_in, GapNode, is_gap_node-GapNode, links_at}
+use Rattle.link_tree.specs.Nodes.{with_left, with_right, with_red}
+use Rattle.offset_link.specs.Link.{link, link_word}
 use Rattle.best_fit.proofs.Around.{Away, away_front, changed_at-around}
 use Rattle.best_fit.proofs.GapFacts.{NodeAt, node_at, nodes_apart, node_colour, tile_colour}
 use Rattle.best_fit.proofs.GapSteps.{Changed, one_cell}

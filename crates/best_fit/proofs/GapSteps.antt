@@ -1,22 +1,17 @@
 -- One field of a gap changes: the nodes, their order, the other cells and all else stay.
-use Rattle.std.proofs.Common.{◌≡◌, refl, sym, ap, subst, ◌∙◌, ℕ, ◌+◌, ◌-◌, ◌<◌, ◌≤◌, ◌⊎◌, inl, inr, Bool, true, false, ◌&&◌, ◌||◌, not, List, [], ◌∷◌, length, arith, nat_lt, nat_le, ◌==◌, IsTrue}
-use Rattle.std.specs.Prelude.{Option, None, map, if◌then◌else◌}
-use Rattle.std.specs.List.{list_all, cons_option}
-use Rattle.std.proofs.lemmas.Bool.{false≢true, both_ways, cases_Bool, cases_eq, and_parts, or_cases, eq-eqb, ne_eqb, leb-true, ltb-true, cond-true, cond-false, not-true}
-use Rattle.raw_region.specs.Memory.{Cut, SamePlace, bytes_of}
-use Rattle.block_tags.specs.declared.tile.Tile.{Tile}
-use Rattle.block_tags.specs.Format.{is_legal_size}
-use Rattle.block_tags.specs.Lists.{IsBesideTags}
-use Rattle.block_tags.specs.Tiles.{is_free, is_merged}
-use Rattle.block_tags.specs.Windows.{SaysTiles}
-use Rattle.block_tags.proofs.Laws.{good_tags_say_tiles, tiles_are_read_off}
-use Rattle.link_tree.specs.Tree.{Cell}
-use Rattle.link_tree.specs.Nodes.{is_in, leads}
-use Rattle.link_tree.proofs.Laws.{all_from}
-use Rattle.best_fit.specs.Extents.{Gap}
-use Rattle.best_fit.specs.FreeTree.{cells_of, payloads}
-use Rattle.best_fit.specs.GapNodes.{as_gap, comes_before, gap_cells, gaps_of, gaps_in, is_gap_node, is_good, is_kept, is_too_short, kept_of, lies_in_block, links_among, plain, tiles_in}
-use Rattle.best_fit.specs.GapLaws.{Good, GapNode, GapNode-is_gap_node, Good-is_good, is_gap_node-GapNode, links_at, cells_at, cells_off}
+use Rattle.best_fit.proofs.Common.{◌≡◌, refl, sym, ap, subst, ◌∙◌, ℕ, ◌+◌, ◌-◌, ◌<◌, ◌≤◌, ◌⊎◌, inl, inr, Bool, true}
+use Rattle.best_fit.proofs.Common.{false, ◌&&◌, ◌||◌, not, List, [], ◌∷◌, length, arith, nat_lt, nat_le, ◌==◌, IsTrue}
+use Rattle.best_fit.proofs.Common.{Option, None, map, if◌then◌else◌, list_all, cons_option, false≢true, both_ways}
+use Rattle.best_fit.proofs.Common.{cases_Bool, cases_eq, and_parts, or_cases, eq-eqb, ne_eqb, leb-true, ltb-true}
+use Rattle.best_fit.proofs.Common.{cond-true, cond-false, Cut, SamePlace, bytes_of, Tile, is_legal_size, IsBesideTags}
+use Rattle.best_fit.proofs.Common.{is_free, is_merged, SaysTiles, good_tags_say_tiles, tiles_are_read_off, Cell}
+use Rattle.best_fit.proofs.Common.{is_in, leads, all_from, Gap, cells_of, payloads, as_gap, comes_before, gap_cells}
+use Rattle.best_fit.proofs.Common.{gaps_of, gaps_in, is_gap_node, is_kept, is_too_short, kept_of, lies_in_block}
+use Rattle.best_fit.proofs.Common.{links_among, plain, tiles_in, Good, GapNode, GapNode-is_gap_node, Good-is_good}
+use Rattle.best_fit.proofs.Common.{is_gap_node-GapNode, links_at, cells_at}
+use Rattle.std.proofs.lemmas.Bool.{not-true}
+use Rattle.best_fit.specs.GapNodes.{is_good}
+use Rattle.best_fit.specs.GapLaws.{cells_off}
 use Rattle.best_fit.proofs.GapFacts.{Disjoint, NodeAt, node_at, row_disjoint}
 use Rattle.best_fit.proofs.Laid.{legal_size}
 use Rattle.best_fit.proofs.Rows.{Apart-is_merged}

@@ -1,22 +1,12 @@
 -- A block is given back: its free neighbours leave the tree, and the gap that it becomes with them enters it.
-use Rattle.std.proofs.Common.{◌≡◌, refl, sym, ap, subst, ◌∙◌, ℕ, ◌+◌, ◌-◌, ◌*◌, ◌≤◌, false, List, [], ◌∷◌, ◌++◌, length, append_assoc, arith}
-use Rattle.std.specs.Prelude.{Option, Some, None, map}
-use Rattle.raw_region.specs.Memory.{Cut, bytes_of}
-use Rattle.block_tags.specs.declared.tile.Tile.{Tile}
-use Rattle.raw_region.specs.Format.{current}
-use Rattle.block_tags.specs.Lists.{first_in, last_in, next_in, previous_in, with_red_at, with_use_at, without_last}
-use Rattle.block_tags.specs.Windows.{HasTileAt, MayBeUsed, MayHaveColour, SaysTiles, SameBesideTags}
-use Rattle.link_tree.specs.Tree.{IsTree, bits}
-use Rattle.link_tree.specs.Nodes.{is_in}
-use Rattle.link_tree.proofs.Laws.{tree_same}
-use Rattle.offset_link.specs.Link.{link_at, target_of}
-use Rattle.best_fit.specs.Extents.{Gap, LiveSet}
-use Rattle.best_fit.specs.Fit.{others, released}
-use Rattle.best_fit.specs.FreeTree.{IsTreeOf, cells_of, payloads, sorted_gaps}
-use Rattle.best_fit.specs.GapNodes.{gap_of, gaps_of, gaps_in, plain, tiles_in}
-use Rattle.best_fit.specs.GapTrees.{HasTree, LacksOne, Regrown, node_of, of_option, start_of}
-use Rattle.best_fit.specs.Heap.{IsHeap, IsReleased, Keeps, LaysOut, live_of}
-use Rattle.best_fit.specs.Tiling.{joined_before, joined_free_at}
+use Rattle.best_fit.proofs.Common.{◌≡◌, refl, sym, ap, subst, ◌∙◌, ℕ, ◌+◌, ◌-◌, ◌*◌, ◌≤◌, false, List, [], ◌∷◌, ◌++◌}
+use Rattle.best_fit.proofs.Common.{length, append_assoc, arith, Option, Some, None, map, Cut, bytes_of, Tile, current}
+use Rattle.best_fit.proofs.Common.{first_in, last_in, next_in, previous_in, with_red_at, with_use_at, without_last}
+use Rattle.best_fit.proofs.Common.{HasTileAt, MayBeUsed, MayHaveColour, SaysTiles, SameBesideTags, IsTree, bits}
+use Rattle.best_fit.proofs.Common.{is_in, tree_same, link_at, target_of, Gap, LiveSet, others, released, IsTreeOf}
+use Rattle.best_fit.proofs.Common.{cells_of, payloads, sorted_gaps, gap_of, gaps_of, gaps_in, plain, tiles_in}
+use Rattle.best_fit.proofs.Common.{HasTree, LacksOne, Regrown, node_of, of_option, start_of, IsHeap, IsReleased}
+use Rattle.best_fit.proofs.Common.{Keeps, LaysOut, live_of, joined_before, joined_free_at}
 use Rattle.best_fit.proofs.Allocating.{bits-le, heap_tree}
 use Rattle.best_fit.proofs.Around.{Away, away_front, next_in-around, previous_in-around}
 use Rattle.best_fit.proofs.Frames.{keeps-others, keeps-trans}

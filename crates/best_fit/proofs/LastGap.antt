@@ -1,22 +1,10 @@
 -- The gap at the end of a heap, where there is one: it leaves the tree and is dropped.
-use Rattle.std.proofs.Common.{◌≡◌, refl, sym, ap, subst, ◌∙◌, ℕ, ◌+◌, ◌-◌, ◌≤◌, true, false, List, [], ◌∷◌, ◌++◌, length, arith}
-use Rattle.std.specs.Prelude.{Option, Some, None, map}
-use Rattle.std.proofs.lemmas.Bool.{cond-false, cond-true}
-use Rattle.std.proofs.lemmas.List.{append-nil}
-use Rattle.std.proofs.lemmas.Option.{same_Some, none-some}
-use Rattle.raw_region.specs.Memory.{Cut, bytes_of}
-use Rattle.raw_region.specs.Format.{current}
-use Rattle.raw_region.proofs.Laws.{Same-refl}
-use Rattle.block_tags.specs.declared.tile.Tile.{Tile}
-use Rattle.block_tags.specs.Lists.{last_in}
-use Rattle.block_tags.specs.Tiles.{is_free}
-use Rattle.link_tree.specs.Nodes.{is_in}
-use Rattle.best_fit.specs.Ends.{HasEndMoved, KeepsTo, last_end, least_size, of_size}
-use Rattle.best_fit.specs.Extents.{Extent, Gap, LiveSet}
-use Rattle.best_fit.specs.FreeTree.{payloads}
-use Rattle.best_fit.specs.GapNodes.{gap_of, gaps_in, gaps_of, plain, tiles_in}
-use Rattle.best_fit.specs.GapTrees.{HasTree, Regrown, gap_offset, node_of}
-use Rattle.best_fit.specs.Heap.{IsHeap, LaysOut, live_of}
+use Rattle.best_fit.proofs.Common.{◌≡◌, refl, sym, ap, subst, ◌∙◌, ℕ, ◌+◌, ◌-◌, ◌≤◌, true, false, List, [], ◌∷◌, ◌++◌}
+use Rattle.best_fit.proofs.Common.{length, arith, Option, Some, None, map, cond-false, cond-true, append-nil}
+use Rattle.best_fit.proofs.Common.{same_Some, none-some, Cut, bytes_of, current, Same-refl, Tile, last_in, is_free}
+use Rattle.best_fit.proofs.Common.{is_in, HasEndMoved, KeepsTo, last_end, least_size, of_size, Extent, Gap, LiveSet}
+use Rattle.best_fit.proofs.Common.{payloads, gap_of, gaps_in, gaps_of, plain, tiles_in, HasTree, Regrown, gap_offset}
+use Rattle.best_fit.proofs.Common.{node_of, IsHeap, LaysOut, live_of}
 use Rattle.best_fit.proofs.Allocating.{heap_tree}
 use Rattle.best_fit.proofs.Around.{last_in-EndsWith}
 use Rattle.best_fit.proofs.Carrying.{then-keeps_to}

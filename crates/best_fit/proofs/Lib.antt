@@ -1,3 +1,4 @@
+mod Common
 mod Allocated
 mod Allocating
 mod Around

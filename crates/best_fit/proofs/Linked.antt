@@ -1,12 +1,8 @@
 -- Links in a block, which begins at a multiple of 16.
-use Rattle.std.proofs.Common.{◌≡◌, sym, ap, subst, ◌∙◌, ℕ, ◌+◌, ◌-◌, ◌*◌, ◌%◌, ◌≤◌, ◌∷◌, ◌++◌, length, arith, IsTrue}
-use Rattle.raw_region.specs.Memory.{Cut, SameBut, SamePlace, bytes_of, part, patched, read}
-use Rattle.raw_region.specs.Regions.{with_bytes}
-use Rattle.raw_region.proofs.Laws.{length-part, read-part}
-use Rattle.raw_region.specs.Format.{current}
-use Rattle.offset_link.specs.Relinked.{relinked}
+use Rattle.best_fit.proofs.Common.{◌≡◌, sym, ap, subst, ◌∙◌, ℕ, ◌+◌, ◌-◌, ◌*◌, ◌%◌, ◌≤◌, ◌∷◌, ◌++◌, length, arith}
+use Rattle.best_fit.proofs.Common.{IsTrue, Cut, SameBut, SamePlace, bytes_of, part, patched, read, with_bytes}
+use Rattle.best_fit.proofs.Common.{length-part, read-part, current, relinked, IsChanged, IsHeap, has_room, live_of}
 use Rattle.offset_link.proofs.Laws.{length-relinked}
-use Rattle.best_fit.specs.Heap.{IsChanged, IsHeap, has_room, live_of}
 use Rattle.best_fit.proofs.GapFacts.{in_around, row_aligned}
 use Rattle.best_fit.proofs.Laid.{said_row}
 use Rattle.best_fit.proofs.Writes.{Block, Room, bytes_changed, bytes_read, payload_changed, room_block}

@@ -1,9 +1,7 @@
 -- A node's cell changes, and nothing else that a tree of nodes is told of.
-use Rattle.std.proofs.Common.{refl, ℕ}
+use Rattle.best_fit.proofs.Common.{refl, ℕ, GapNode, Gaps}
 use Rattle.link_tree.specs.Frame.{SameBesideCells}
-use Rattle.best_fit.specs.GapLaws.{GapNode}
 use Rattle.best_fit.specs.contracts.heap.nodes.GapsNodes.TheImpl.{ghosts}
-use Rattle.best_fit.specs.declared.heap.nodes.Gaps.{Gaps}
 use Rattle.best_fit.proofs.GapSteps.{Changed, nodes_stay, order_stays, probes_stay, kept_stays}
 
 pub same_beside_cells : (old new : Gaps) (n : ℕ) → GapNode old.window n → Changed old.window new.window n → SameBesideCells ghosts old new

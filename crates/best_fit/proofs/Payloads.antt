@@ -1,15 +1,10 @@
 -- A block's payload lent to be written: whatever is left there, the heap stays one.
-use Rattle.std.proofs.Common.{◌≡◌, refl, sym, ap, subst, ◌∙◌, ℕ, ◌+◌, ◌-◌, ◌≤◌, List, length, arith, IsTrue}
-use Rattle.std.specs.Prelude.{Some, None}
-use Rattle.std.specs.List.{length_refill, refill}
-use Rattle.raw_region.specs.Memory.{Cut, Has, SameBut, bytes_of, part, patched}
-use Rattle.raw_region.specs.Regions.{with_bytes}
-use Rattle.raw_region.proofs.Laws.{length-part, length-patched, patched-Has, patched-SameBut, refill-all, with_bytes-SamePlace}
-use Rattle.raw_region.specs.Format.{current}
-use Rattle.block_tags.specs.declared.tile.Tile.{Tile}
-use Rattle.block_tags.specs.Lists.{tile_in}
-use Rattle.block_tags.specs.Windows.{HasTileAt, SaysTiles}
-use Rattle.best_fit.specs.Heap.{IsChanged, IsHeap, LoansWriteOneBlock, is_live_in, live_of, payload_len, with_payload}
+use Rattle.best_fit.proofs.Common.{◌≡◌, refl, sym, ap, subst, ◌∙◌, ℕ, ◌+◌, ◌-◌, ◌≤◌, List, length, arith, IsTrue}
+use Rattle.best_fit.proofs.Common.{Some, None, length_refill, refill, Cut, Has, SameBut, bytes_of, part, patched}
+use Rattle.best_fit.proofs.Common.{with_bytes, length-part, length-patched, patched-Has, patched-SameBut, refill-all}
+use Rattle.best_fit.proofs.Common.{with_bytes-SamePlace, current, Tile, tile_in, HasTileAt, SaysTiles, IsChanged}
+use Rattle.best_fit.proofs.Common.{IsHeap, is_live_in, live_of}
+use Rattle.best_fit.specs.Heap.{LoansWriteOneBlock, payload_len, with_payload}
 use Rattle.best_fit.proofs.Writes.{Block, Room, block_len, block_tile, live_block, payload_changed}
 
 -- a live block of the window that a heap is seen as

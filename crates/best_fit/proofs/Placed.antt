@@ -1,26 +1,13 @@
 -- A gap that is not in the tree becomes a block, and what is left of it a gap.
-use Rattle.std.proofs.Common.{◌≡◌, refl, sym, ap, subst, ◌∙◌, ℕ, ◌+◌, ◌-◌, ◌≤◌, inl, inr, Bool, true, false, List, [], ◌∷◌, ◌++◌, length, arith, nat_le, length-append}
-use Rattle.std.specs.Prelude.{Option, Some}
-use Rattle.raw_region.specs.Memory.{Cut, bytes_of}
-use Rattle.block_tags.specs.declared.tile.Role.{Role}
-use Rattle.block_tags.specs.declared.tile.Tile.{Tile}
-use Rattle.raw_region.specs.Format.{current}
-use Rattle.raw_region.proofs.Laws.{Same-word}
-use Rattle.block_tags.specs.Lists.{free_tile, of_colour, tile_in, with_red_at, with_use_at}
-use Rattle.block_tags.specs.Tiles.{is_free}
-use Rattle.block_tags.specs.Windows.{HasTileAt, MayBeUsed, MayHaveColour, SaysTiles, SameBesideTags}
-use Rattle.block_tags.proofs.Laws.{one_tile_at_an_offset, tiles_are_read_off}
-use Rattle.link_tree.specs.Tree.{IsTree}
-use Rattle.link_tree.specs.Nodes.{is_in}
-use Rattle.link_tree.proofs.Laws.{tree_same}
-use Rattle.offset_link.specs.Link.{link_at, target_of}
-use Rattle.best_fit.specs.Extents.{Extent, Gap, LiveSet, gaps}
-use Rattle.best_fit.specs.Fit.{added, insert, share}
-use Rattle.best_fit.specs.FreeTree.{IsTreeOf, cells_of, is_red, payloads, sorted_gaps}
-use Rattle.best_fit.specs.GapNodes.{gap_of, gaps_of, gaps_in, tiles_in}
-use Rattle.best_fit.specs.GapLaws.{GapNode, is_good-Good}
-use Rattle.best_fit.specs.GapTrees.{HasTree, LacksOne, OutOfTree, Regrown, node_of}
-use Rattle.best_fit.specs.Heap.{Keeps, LaysOut, live_of}
+use Rattle.best_fit.proofs.Common.{◌≡◌, refl, sym, ap, subst, ◌∙◌, ℕ, ◌+◌, ◌-◌, ◌≤◌, inl, inr, Bool, true, false}
+use Rattle.best_fit.proofs.Common.{List, [], ◌∷◌, ◌++◌, length, arith, nat_le, length-append, Option, Some, Cut}
+use Rattle.best_fit.proofs.Common.{bytes_of, Role, Tile, current, Same-word, free_tile, of_colour, tile_in}
+use Rattle.best_fit.proofs.Common.{with_red_at, with_use_at, is_free, HasTileAt, MayBeUsed, MayHaveColour, SaysTiles}
+use Rattle.best_fit.proofs.Common.{SameBesideTags, one_tile_at_an_offset, tiles_are_read_off, IsTree, is_in}
+use Rattle.best_fit.proofs.Common.{tree_same, link_at, target_of, Extent, Gap, LiveSet, gaps, added, insert, share}
+use Rattle.best_fit.proofs.Common.{IsTreeOf, cells_of, is_red, payloads, sorted_gaps, gap_of, gaps_of, gaps_in}
+use Rattle.best_fit.proofs.Common.{tiles_in, GapNode, is_good-Good, HasTree, LacksOne, OutOfTree, Regrown, node_of}
+use Rattle.best_fit.proofs.Common.{Keeps, LaysOut, live_of}
 use Rattle.best_fit.specs.Tiling.{cut_at}
 use Rattle.best_fit.proofs.Around.{Away, away_front, changed_at-around}
 use Rattle.best_fit.proofs.Frames.{keeps-insert, keeps-trans}
@@ -31,9 +18,11 @@ use Rattle.best_fit.proofs.GapSteps.{same_gaps}
 use Rattle.best_fit.proofs.Joins.{extents_of-append}
 use Rattle.best_fit.proofs.Laid.{SaysHeap, gaps-live_in, legal_size, live_in, said_row, says-LaysOut, says-live}
 use Rattle.best_fit.proofs.Regrowths.{regrown_keeps, regrown_live, step_cell, tree_says, used_stays}
-use Rattle.best_fit.proofs.Rows.{Apart, Apart-is_merged, extents_of, extents_of-free, gaps_of-free, gaps_of-used, used-not_free, gaps_of-append}
+use Rattle.best_fit.proofs.Rows.{Apart, Apart-is_merged, extents_of, extents_of-free, gaps_of-free, gaps_of-used}
+use Rattle.best_fit.proofs.Rows.{used-not_free, gaps_of-append}
 use Rattle.best_fit.proofs.Steps.{In, around_keeps, in_back, step_header}
-use Rattle.best_fit.proofs.Takes.{Taking, taking, taking_stands, taking_used, mid_said, mid_same, new_same, taken_black, taken_header, taken_keeps, taken_says, taken_size, new_extents}
+use Rattle.best_fit.proofs.Takes.{Taking, taking, taking_stands, taking_used, mid_said, mid_same, new_same}
+use Rattle.best_fit.proofs.Takes.{taken_black, taken_header, taken_keeps, taken_says, taken_size, new_extents}
 
 -- tags and a tree of all gaps lay out what they say
 pub lays_out : (c : Cut) → SaysHeap c (tiles_in c) → IsTreeOf (bytes_of c.bytes) 24 (payloads (sorted_gaps (gaps_in c))) → LaysOut current c.bytes (live_of c.bytes)

@@ -1,23 +1,13 @@
 -- The gaps of a window are put into a tree, one after the other.
-use Rattle.std.proofs.Common.{◌≡◌, refl, sym, ap, subst, ◌∙◌, ℕ, ◌+◌, ◌⊎◌, inl, inr, true, false, List, [], ◌∷◌, ◌++◌, length, append_assoc, length-append, arith, ◌==◌}
-use Rattle.std.specs.Prelude.{Option, None, is_some, map}
-use Rattle.std.proofs.lemmas.Bool.{false≢true, or_cases, or_left, or_right}
-use Rattle.std.proofs.lemmas.List.{append-nil}
-use Rattle.raw_region.specs.Memory.{Cut, SameBut, bytes_of}
-use Rattle.raw_region.specs.Format.{current}
-use Rattle.block_tags.specs.declared.tile.Tile.{Tile}
-use Rattle.block_tags.specs.Windows.{SaysTiles}
-use Rattle.block_tags.proofs.Laws.{tiles_are_read_off}
-use Rattle.link_tree.specs.Tree.{Tree, IsSearchTree, nodes_of}
-use Rattle.link_tree.specs.Nodes.{has_place, is_in, put}
-use Rattle.offset_link.specs.Link.{link_at}
-use Rattle.best_fit.specs.Extents.{Gap}
-use Rattle.best_fit.specs.FreeTree.{payloads, sorted_gaps}
-use Rattle.best_fit.specs.GapNodes.{comes_before, gap_cells, gap_of, gaps_in, gaps_of, is_gap_node, kept_of, plain, tiles_in}
-use Rattle.best_fit.specs.GapLaws.{GapNode-is_gap_node, is_good-Good}
-use Rattle.best_fit.specs.GapTrees.{AreSome, Fits, HasTree, Regrown, Rises, node_of}
-use Rattle.best_fit.specs.Heap.{IsHeap, LaysOut}
-use Rattle.best_fit.specs.Rebuilding.{AreBytes, IsNextGap, IsRebuilt}
+use Rattle.best_fit.proofs.Common.{◌≡◌, refl, sym, ap, subst, ◌∙◌, ℕ, ◌+◌, ◌⊎◌, inl, inr, true, false, List, [], ◌∷◌}
+use Rattle.best_fit.proofs.Common.{◌++◌, length, append_assoc, length-append, arith, ◌==◌, Option, None, is_some, map}
+use Rattle.best_fit.proofs.Common.{false≢true, or_cases, or_left, or_right, append-nil, Cut, SameBut, bytes_of}
+use Rattle.best_fit.proofs.Common.{current, Tile, SaysTiles, tiles_are_read_off, Tree, IsSearchTree, nodes_of}
+use Rattle.best_fit.proofs.Common.{has_place, is_in, put, link_at, Gap, payloads, sorted_gaps, comes_before}
+use Rattle.best_fit.proofs.Common.{gap_cells, gap_of, gaps_in, gaps_of, is_gap_node, kept_of, plain, tiles_in}
+use Rattle.best_fit.proofs.Common.{GapNode-is_gap_node, is_good-Good, AreSome, Fits, HasTree, Regrown, Rises, node_of}
+use Rattle.best_fit.proofs.Common.{IsHeap, LaysOut, AreBytes}
+use Rattle.best_fit.specs.Rebuilding.{IsNextGap, IsRebuilt}
 use Rattle.best_fit.proofs.BesideGaps.{beside_gaps}
 use Rattle.best_fit.proofs.FreeTrees.{all_gaps, in_here}
 use Rattle.best_fit.proofs.GapFacts.{said_of}

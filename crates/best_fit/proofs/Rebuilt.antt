@@ -1,33 +1,22 @@
 -- The links of all gaps are made null, and the tree empty.
-use Rattle.std.proofs.Common.{◌≡◌, refl, sym, ap, subst, ◌∙◌, ℕ, ◌+◌, ◌-◌, ◌%◌, ◌≤◌, ◌⊎◌, inl, inr, true, false, ◌&&◌, ◌||◌, not, List, [], ◌∷◌, ◌++◌, length, append_assoc, arith, nat_le, ◌==◌, IsTrue}
-use Rattle.std.specs.Prelude.{Option, Some, None, is_some, map}
-use Rattle.std.specs.List.{AllByRecursion, list_all}
-use Rattle.std.proofs.lemmas.Bool.{false≢true, and_parts, and_from, or_cases, or_left, or_right}
-use Rattle.std.proofs.lemmas.List.{append-nil}
-use Rattle.raw_region.specs.Memory.{Memory, Cut, SameBut, SamePlace, bytes_of, word_at}
-use Rattle.raw_region.specs.Format.{current}
-use Rattle.block_tags.specs.declared.tile.Role.{Role}
-use Rattle.block_tags.specs.declared.tile.Role.TheVariants.{Object, Index, Storage, Node}
-use Rattle.block_tags.specs.declared.tile.Tile.{Tile}
-use Rattle.block_tags.specs.Format.{is_legal_size}
-use Rattle.block_tags.specs.Tiles.{are_tags, has_tags, is_merged, is_tile, may_be_red, tag_word, tiles_of}
-use Rattle.block_tags.specs.Windows.{SaysTiles}
-use Rattle.block_tags.proofs.Laws.{good_tags_say_tiles, header_may_change, one_tile_at_an_offset, payload_may_change, tiles_are_read_off}
-use Rattle.link_tree.specs.Tree.{leaf, IsSearchTree}
-use Rattle.link_tree.specs.Nodes.{is_in, leads}
-use Rattle.offset_link.specs.Link.{link_at}
-use Rattle.offset_link.proofs.Laws.{SameBut-link}
-use Rattle.best_fit.specs.Extents.{Gap}
-use Rattle.best_fit.specs.FreeTree.{cells_of, payloads}
-use Rattle.best_fit.specs.GapNodes.{comes_before, gap_cells, gap_of, gaps_in, gaps_of, kept_of, links_among, plain, tiles_in}
-use Rattle.best_fit.specs.GapLaws.{Good}
-use Rattle.best_fit.specs.GapTrees.{AreSome, HasTree, Regrown}
+use Rattle.best_fit.proofs.Common.{◌≡◌, refl, sym, ap, subst, ◌∙◌, ℕ, ◌+◌, ◌-◌, ◌%◌, ◌≤◌, ◌⊎◌, inl, inr, true, false}
+use Rattle.best_fit.proofs.Common.{◌&&◌, ◌||◌, not, List, [], ◌∷◌, ◌++◌, length, append_assoc, arith, nat_le, ◌==◌}
+use Rattle.best_fit.proofs.Common.{IsTrue, Option, Some, None, is_some, map, AllByRecursion, list_all, false≢true}
+use Rattle.best_fit.proofs.Common.{and_parts, and_from, or_cases, or_left, or_right, append-nil, Memory, Cut, SameBut}
+use Rattle.best_fit.proofs.Common.{SamePlace, bytes_of, word_at, current, Role, Object, Index, Storage, Node, Tile}
+use Rattle.best_fit.proofs.Common.{is_legal_size, has_tags, is_merged, may_be_red, tag_word, tiles_of, SaysTiles}
+use Rattle.best_fit.proofs.Common.{good_tags_say_tiles, header_may_change, one_tile_at_an_offset, payload_may_change}
+use Rattle.best_fit.proofs.Common.{tiles_are_read_off, leaf, IsSearchTree, is_in, leads, link_at, SameBut-link, Gap}
+use Rattle.best_fit.proofs.Common.{cells_of, payloads, comes_before, gap_cells, gap_of, gaps_in, gaps_of, kept_of}
+use Rattle.best_fit.proofs.Common.{links_among, plain, tiles_in, Good, AreSome, HasTree, Regrown}
+use Rattle.block_tags.specs.Tiles.{are_tags, is_tile}
 use Rattle.best_fit.proofs.Around.{row_back, row_end, row_front, row_reaches}
 use Rattle.best_fit.proofs.FreeTrees.{regrown, rooted}
 use Rattle.best_fit.proofs.GapFacts.{NodeAt, in_around, listed_at, node_from, row_aligned}
 use Rattle.best_fit.proofs.GapSteps.{kept_round}
 use Rattle.best_fit.proofs.Laid.{SaysHeap, said_row}
-use Rattle.best_fit.proofs.Rows.{Apart, Row, is_merged-Apart, Apart-is_merged, unused, used, use_cases, gaps_of-free, gaps_of-used}
+use Rattle.best_fit.proofs.Rows.{Apart, Row, is_merged-Apart, Apart-is_merged, unused, used, use_cases, gaps_of-free}
+use Rattle.best_fit.proofs.Rows.{gaps_of-used}
 use Rattle.best_fit.proofs.Steps.{all_joined}
 use Rattle.best_fit.proofs.Turns.{Ended, Passed, Turn, free_if, gaps_past_block, gaps_past_gap}
 

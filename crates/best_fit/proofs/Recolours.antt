@@ -1,23 +1,11 @@
 -- The colour of a block's tile changes.
-use Rattle.std.proofs.Common.{◌≡◌, refl, sym, ap, subst, ◌∙◌, ℕ, ◌+◌, ◌-◌, ◌<◌, ◌≤◌, Bool, true, false, ◌||◌, not, List, [], ◌∷◌, ◌++◌, length, arith, IsTrue}
-use Rattle.std.specs.Prelude.{Option, Some}
-use Rattle.std.specs.List.{AllByRecursion}
-use Rattle.std.proofs.lemmas.Option.{none-some}
-use Rattle.raw_region.specs.Memory.{Cut, Same, SameBut, bytes_of, word_at}
-use Rattle.block_tags.specs.declared.tile.Role.{Role}
-use Rattle.block_tags.specs.declared.tile.Role.TheVariants.{Node}
-use Rattle.block_tags.specs.declared.tile.Tile.{Tile}
-use Rattle.raw_region.specs.Format.{current}
-use Rattle.raw_region.proofs.Laws.{Same-word}
-use Rattle.block_tags.specs.Lists.{of_colour, tile_in, with_red_at, IsBesideTags}
-use Rattle.block_tags.specs.Tiles.{may_be_red}
-use Rattle.block_tags.specs.Windows.{MayHaveColour, SaysTiles, SameBesideTags}
-use Rattle.block_tags.proofs.Laws.{one_tile_at_an_offset}
-use Rattle.offset_link.specs.Link.{target_of}
-use Rattle.best_fit.specs.Extents.{Extent, LiveSet, handle, end_of}
-use Rattle.best_fit.specs.Fit.{others}
-use Rattle.best_fit.specs.FreeTree.{IsFreeTree, cells_of, is_red}
-use Rattle.best_fit.specs.Heap.{IsHeap, IsRecoloured, Keeps, LaysOut, live_of}
+use Rattle.best_fit.proofs.Common.{◌≡◌, refl, sym, ap, subst, ◌∙◌, ℕ, ◌+◌, ◌-◌, ◌<◌, ◌≤◌, Bool, true, false, ◌||◌}
+use Rattle.best_fit.proofs.Common.{not, List, [], ◌∷◌, ◌++◌, length, arith, IsTrue, Option, Some, AllByRecursion}
+use Rattle.best_fit.proofs.Common.{none-some, Cut, Same, SameBut, bytes_of, word_at, Role, Node, Tile, current}
+use Rattle.best_fit.proofs.Common.{Same-word, of_colour, tile_in, with_red_at, IsBesideTags, may_be_red}
+use Rattle.best_fit.proofs.Common.{MayHaveColour, SaysTiles, SameBesideTags, one_tile_at_an_offset, target_of, Extent}
+use Rattle.best_fit.proofs.Common.{LiveSet, handle, end_of, others, IsFreeTree, cells_of, is_red, IsHeap}
+use Rattle.best_fit.proofs.Common.{IsRecoloured, Keeps, LaysOut, live_of}
 use Rattle.best_fit.proofs.Around.{Away, away_front, changed_at-around}
 use Rattle.best_fit.proofs.GapFacts.{NodeAt, node_colour, tile_colour}
 use Rattle.best_fit.proofs.GapSetters.{beside_recoloured, cell_stays, tile_in-other}

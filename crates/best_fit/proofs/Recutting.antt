@@ -1,24 +1,14 @@
 -- A block takes the gap behind it, which leaves the tree, and what is cut off enters it.
-use Rattle.std.proofs.Common.{◌≡◌, refl, sym, ap, subst, ◌∙◌, ℕ, ◌+◌, ◌-◌, ◌*◌, ◌≤◌, Bool, true, false, List, [], ◌∷◌, ◌++◌, length, arith, nat_le}
-use Rattle.std.specs.Prelude.{Option, Some, map, min}
-use Rattle.raw_region.specs.Memory.{Memory, Cut, bytes_of}
-use Rattle.block_tags.specs.declared.tile.Tile.{Tile}
-use Rattle.raw_region.specs.Format.{current}
+use Rattle.best_fit.proofs.Common.{◌≡◌, refl, sym, ap, subst, ◌∙◌, ℕ, ◌+◌, ◌-◌, ◌*◌, ◌≤◌, Bool, true, false, List, []}
+use Rattle.best_fit.proofs.Common.{◌∷◌, ◌++◌, length, arith, nat_le, Option, Some, map, min, Memory, Cut, bytes_of}
+use Rattle.best_fit.proofs.Common.{Tile, current, first_in, free_tile, next_in, tile_in, HasTileAt, SaysTiles}
+use Rattle.best_fit.proofs.Common.{SameBesideTags, IsTree, bits, is_in, tree_same, link_at, target_of, Extent, Gap}
+use Rattle.best_fit.proofs.Common.{LiveSet, handle, end_of, gap_after, others, resized, share, IsTreeOf, cells_of}
+use Rattle.best_fit.proofs.Common.{payloads, sorted_gaps, gap_of, gaps_of, gaps_in, plain, tiles_in, HasTree}
+use Rattle.best_fit.proofs.Common.{LacksOne, Regrown, node_of, of_option, IsHeap, Keeps, LaysOut, SameBlock, live_of}
+use Rattle.best_fit.proofs.Common.{IsCut, free_len, joined_free_at}
 use Rattle.raw_region.proofs.Laws.{Same-part}
-use Rattle.block_tags.specs.Lists.{first_in, free_tile, next_in, tile_in}
-use Rattle.block_tags.specs.Windows.{HasTileAt, SaysTiles, SameBesideTags}
-use Rattle.link_tree.specs.Tree.{IsTree, bits}
-use Rattle.link_tree.specs.Nodes.{is_in}
-use Rattle.link_tree.proofs.Laws.{tree_same}
-use Rattle.offset_link.specs.Link.{link_at, target_of}
-use Rattle.best_fit.specs.Extents.{Extent, Gap, LiveSet, handle, end_of}
-use Rattle.best_fit.specs.Fit.{gap_after, others, resized, share}
-use Rattle.best_fit.specs.FreeTree.{IsTreeOf, cells_of, payloads, sorted_gaps}
-use Rattle.best_fit.specs.GapNodes.{gap_of, gaps_of, gaps_in, plain, tiles_in}
-use Rattle.best_fit.specs.GapTrees.{HasTree, LacksOne, Regrown, node_of, of_option}
-use Rattle.best_fit.specs.Heap.{IsHeap, Keeps, LaysOut, SameBlock, live_of}
-use Rattle.best_fit.specs.Resizes.{IsCut}
-use Rattle.best_fit.specs.Tiling.{cut_at, free_len, joined_free_at}
+use Rattle.best_fit.specs.Tiling.{cut_at}
 use Rattle.best_fit.proofs.Allocating.{heap_tree, bits-le}
 use Rattle.best_fit.proofs.Around.{Away, away_front, next_in-around}
 use Rattle.best_fit.proofs.Frames.{SameBlock-trans, keeps-insert, keeps-others, keeps-trans}
@@ -29,8 +19,10 @@ use Rattle.best_fit.proofs.Joins.{rest_of}
 use Rattle.best_fit.proofs.GivingBack.{back_parts, same_rest}
 use Rattle.best_fit.proofs.Laid.{SaysHeap, heap-says, said_row}
 use Rattle.best_fit.proofs.Placed.{lays_out}
-use Rattle.best_fit.proofs.Regrowths.{SplitsAlike, regrown_block, regrown_keeps, regrown_live, splits_alike, tree_says}
-use Rattle.best_fit.proofs.Resizes.{gap_is, joins, t_cell, t_cut_at, t_cuts, t_gaps, t_in, t_joins, t_keeps, t_live, t_says, t_stands0, t_stands1, t_still, t_word}
+use Rattle.best_fit.proofs.Regrowths.{SplitsAlike, regrown_block, regrown_keeps, regrown_live, splits_alike}
+use Rattle.best_fit.proofs.Regrowths.{tree_says}
+use Rattle.best_fit.proofs.Resizes.{gap_is, joins, t_cell, t_cut_at, t_cuts, t_gaps, t_in, t_joins, t_keeps, t_live}
+use Rattle.best_fit.proofs.Resizes.{t_says, t_stands0, t_stands1, t_still, t_word}
 use Rattle.best_fit.proofs.Rows.{Apart-is_merged, extent_of, gaps_of-used, gaps_of-append}
 use Rattle.best_fit.proofs.Steps.{In}
 use Rattle.best_fit.proofs.Writes.{Block}

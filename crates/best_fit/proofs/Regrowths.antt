@@ -1,23 +1,10 @@
 -- What stays where only links and colours of gaps, and word 24, change.
-use Rattle.std.proofs.Common.{◌≡◌, refl, sym, ap, subst, ◌∙◌, ℕ, ◌+◌, ◌-◌, ◌%◌, ◌<◌, ◌≤◌, ◌⊎◌, inl, inr, Bool, true, false, ◌&&◌, not, List, [], ◌∷◌, ◌++◌, length, arith, nat_lt, nat_le}
-use Rattle.std.specs.Prelude.{Some, map}
-use Rattle.std.specs.List.{cons_option}
-use Rattle.std.proofs.lemmas.Bool.{and_from, or_left, or_right, le-leb, lt-ltb}
-use Rattle.raw_region.specs.Memory.{Cut, bytes_of, word_at}
-use Rattle.block_tags.specs.declared.tile.Role.{Role}
-use Rattle.block_tags.specs.declared.tile.Tile.{Tile}
-use Rattle.raw_region.specs.Format.{current}
-use Rattle.raw_region.proofs.Laws.{Same-word}
-use Rattle.block_tags.specs.Lists.{tile_in}
-use Rattle.block_tags.specs.Tiles.{is_free}
-use Rattle.block_tags.specs.Windows.{SaysTiles, SameBesideTags}
-use Rattle.offset_link.specs.Link.{target_of}
-use Rattle.best_fit.specs.Extents.{Gap}
-use Rattle.best_fit.specs.FreeTree.{cells_of}
-use Rattle.best_fit.specs.GapNodes.{lies_in_block, plain, tiles_in}
-use Rattle.best_fit.specs.GapLaws.{is_good-Good}
-use Rattle.best_fit.specs.GapTrees.{HasTree, Regrown}
-use Rattle.best_fit.specs.Heap.{Keeps, SameBlock, as_extent, live_of}
+use Rattle.best_fit.proofs.Common.{◌≡◌, refl, sym, ap, subst, ◌∙◌, ℕ, ◌+◌, ◌-◌, ◌%◌, ◌<◌, ◌≤◌, ◌⊎◌, inl, inr, Bool}
+use Rattle.best_fit.proofs.Common.{true, false, ◌&&◌, not, List, [], ◌∷◌, ◌++◌, length, arith, nat_lt, nat_le, Some}
+use Rattle.best_fit.proofs.Common.{map, cons_option, and_from, or_left, or_right, le-leb, lt-ltb, Cut, bytes_of}
+use Rattle.best_fit.proofs.Common.{word_at, Role, Tile, current, Same-word, tile_in, is_free, SaysTiles}
+use Rattle.best_fit.proofs.Common.{SameBesideTags, target_of, Gap, cells_of, lies_in_block, plain, tiles_in}
+use Rattle.best_fit.proofs.Common.{is_good-Good, HasTree, Regrown, Keeps, SameBlock, as_extent, live_of}
 use Rattle.best_fit.proofs.GapFacts.{apart_of, said_of, tile_colour}
 use Rattle.best_fit.proofs.GapSetters.{cell_stays}
 use Rattle.best_fit.proofs.Laid.{SaysHeap, said_row}

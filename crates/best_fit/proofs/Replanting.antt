@@ -1,25 +1,20 @@
 -- A gap is taken out of the tree, or put into it.
-use Rattle.std.proofs.Common.{◌≡◌, refl, sym, ap, subst, ◌∙◌, ℕ, ◌+◌, ◌-◌, ◌≤◌, ◌⊎◌, inl, inr, Bool, true, ◌&&◌, List, ◌∷◌, ◌++◌, length, arith, IsTrue}
-use Rattle.std.specs.Prelude.{Option, Some, None, map}
-use Rattle.std.specs.List.{list_all}
-use Rattle.std.proofs.lemmas.Bool.{false≢true, both_ways, cases_eq, and_from}
-use Rattle.raw_region.specs.Memory.{Cut, SameBut, SamePlace, bytes_of}
+use Rattle.best_fit.proofs.Common.{◌≡◌, refl, sym, ap, subst, ◌∙◌, ℕ, ◌+◌, ◌-◌, ◌≤◌, ◌⊎◌, inl, inr, Bool, true, ◌&&◌}
+use Rattle.best_fit.proofs.Common.{List, ◌∷◌, ◌++◌, length, arith, IsTrue, Option, Some, None, map, list_all}
+use Rattle.best_fit.proofs.Common.{false≢true, both_ways, cases_eq, and_from, Cut, SameBut, SamePlace, bytes_of, Tile}
+use Rattle.best_fit.proofs.Common.{is_legal_size, SaysTiles, good_tags_say_tiles, header_may_change}
+use Rattle.best_fit.proofs.Common.{payload_may_change, tiles_are_read_off, Cell, Tree, leaf, fork, IsTree}
+use Rattle.best_fit.proofs.Common.{IsSearchTree, nodes_of, bits, is_in, leads, put, without, has_place, tree_same}
+use Rattle.best_fit.proofs.Common.{all_from, link_at, SameBut-link, Gap, cells_of, payloads, sorted_gaps, Kept}
+use Rattle.best_fit.proofs.Common.{comes_before, gap_cells, gaps_of, gaps_in, is_gap_node, kept_of, links_among}
+use Rattle.best_fit.proofs.Common.{plain, tiles_in, Good, GapNode-is_gap_node, Good-is_good, is_good-Good}
+use Rattle.best_fit.proofs.Common.{is_gap_node-GapNode, AreSome, HasTree, LacksOne, Regrown, node_of}
 use Rattle.raw_region.proofs.Laws.{SameBut-wider}
-use Rattle.block_tags.specs.declared.tile.Tile.{Tile}
-use Rattle.block_tags.specs.Format.{is_legal_size}
-use Rattle.block_tags.specs.Windows.{SaysTiles}
-use Rattle.block_tags.proofs.Laws.{good_tags_say_tiles, header_may_change, payload_may_change, tiles_are_read_off}
-use Rattle.link_tree.specs.Tree.{Cell, Tree, leaf, fork, root_of, Holds, IsTree, IsSearchTree, nodes_of, bits}
-use Rattle.link_tree.specs.Nodes.{is_in, leads, put, without, has_place}
-use Rattle.link_tree.proofs.Laws.{bits_most, in_left, in_middle, in_parts, in_right, tree_same, all_from}
-use Rattle.offset_link.specs.Link.{link_at}
-use Rattle.offset_link.proofs.Laws.{SameBut-link}
-use Rattle.best_fit.specs.Extents.{Gap}
-use Rattle.best_fit.specs.FreeTree.{cells_of, payloads, sorted_gaps}
-use Rattle.best_fit.specs.GapNodes.{Kept, comes_before, gap_cells, gaps_of, gaps_in, is_gap_node, kept_of, links_among, plain, tiles_in}
-use Rattle.best_fit.specs.GapLaws.{Good, GapNode-is_gap_node, Good-is_good, is_good-Good, is_gap_node-GapNode, few_gaps_in}
-use Rattle.best_fit.specs.GapTrees.{AreSome, HasTree, LacksOne, Regrown, node_of}
-use Rattle.best_fit.proofs.FreeTrees.{all_gaps, fits_one, in_here, in_other, none_in, none_front, none_round, regrown, rooted, search_tree, some_drop}
+use Rattle.link_tree.specs.Tree.{root_of, Holds}
+use Rattle.link_tree.proofs.Laws.{bits_most, in_left, in_middle, in_parts, in_right}
+use Rattle.best_fit.specs.GapLaws.{few_gaps_in}
+use Rattle.best_fit.proofs.FreeTrees.{all_gaps, fits_one, in_here, in_other, none_in, none_front, none_round, regrown}
+use Rattle.best_fit.proofs.FreeTrees.{rooted, search_tree, some_drop}
 use Rattle.best_fit.proofs.GapFacts.{NodeAt, node_from, nodes_apart, said_of}
 use Rattle.best_fit.proofs.GapOrder.{fits-sorted, in_sorted, place_sorted, put_is, sorted-around, without-inserted}
 use Rattle.best_fit.proofs.GapSetters.{beside_cell}

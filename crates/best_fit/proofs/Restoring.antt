@@ -1,9 +1,6 @@
 -- A block that was placed and is given back.
-use Rattle.std.proofs.Common.{◌≡◌, ◌-◌, IsTrue}
-use Rattle.std.specs.Prelude.{ℕ, Some}
-use Rattle.block_tags.specs.declared.tile.Role.{Role}
-use Rattle.best_fit.specs.Extents.{Extent, LiveSet, is_proper}
-use Rattle.best_fit.specs.Fit.{GivingBackRestores, added, place}
+use Rattle.best_fit.proofs.Common.{◌≡◌, ◌-◌, IsTrue, ℕ, Some, Role, Extent, LiveSet, is_proper, added, place}
+use Rattle.best_fit.specs.Fit.{GivingBackRestores}
 use Rattle.best_fit.proofs.Changes.{is_proper-IsProper, is_proper-place}
 use Rattle.best_fit.proofs.Order.{others-insert_same}
 use Rattle.best_fit.proofs.Placing.{IfSome_is}

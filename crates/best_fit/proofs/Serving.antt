@@ -1,12 +1,7 @@
 -- What a request is given serves it.
-use Rattle.std.proofs.Common.{◌≡◌, refl, ℕ, IsTrue}
-use Rattle.std.specs.Prelude.{Option, Some, None, IfSome, option_map}
-use Rattle.std.proofs.lemmas.Bool.{and_from, eq-eqb}
-use Rattle.block_tags.specs.declared.tile.Role.{Role}
+use Rattle.best_fit.proofs.Common.{◌≡◌, refl, ℕ, IsTrue, Option, Some, None, IfSome, option_map, and_from, eq-eqb}
+use Rattle.best_fit.proofs.Common.{Role, Extent, Gap, LiveSet, holds, fit, place, room, share, same_role, serves}
 use Rattle.block_tags.specs.Tiles.{role_bits}
-use Rattle.best_fit.specs.Extents.{Extent, Gap, LiveSet, holds}
-use Rattle.best_fit.specs.Fit.{fit, place, room, share}
-use Rattle.best_fit.specs.Table.{same_role, serves}
 use Rattle.best_fit.proofs.Placing.{IfSome_is, place-holds}
 
 role_of_front : (n : ℕ) (role : Role) (o : Option Gap)

@@ -1,17 +1,15 @@
 -- Extents put in by offset, and how they stand: the order of the puts does not matter, what was put in can be taken out, and each is beside the others.
-use Rattle.std.proofs.Common.{◌≡◌, refl, sym, ap, subst, ◌∙◌, ℕ, ◌+◌, ◌-◌, ◌%◌, ◌<◌, ◌≤◌, ◌≢◌, Bool, true, false, ◌&&◌, ◌==◌, Some, None, List, [], ◌∷◌, arith, if◌then◌else◌, cond, inl, inr}
-use Rattle.std.specs.Prelude.{IsTrue, nat_lt, ⊤, find}
-use Rattle.std.specs.List.{AllByRecursion, list_any}
-use Rattle.std.proofs.lemmas.Bool.{and_parts, leb-true, eqb-true, eq-eqb, ne_eqb, le-leb, and_from, or_left, or_right, or_cases}
-use Rattle.raw_region.proofs.Laws.{SameBut-Same, SameBut-word}
-use Rattle.raw_region.specs.Memory.{Memory, Cut, SameBut, SamePlace, bytes_of}
-use Rattle.best_fit.specs.Exchange.{inserted, without_all, exchanged}
-use Rattle.best_fit.specs.Extents.{Extent, LiveSet, handle, end_of, holds, is_hole, is_proper, proper_from}
-use Rattle.block_tags.specs.Format.{is_legal_size}
-use Rattle.best_fit.specs.Fit.{insert, others, added}
-use Rattle.best_fit.specs.Heap.{SameBlock, Keeps, extent_at, has_room}
+use Rattle.best_fit.proofs.Common.{◌≡◌, refl, sym, ap, subst, ◌∙◌, ℕ, ◌+◌, ◌-◌, ◌%◌, ◌<◌, ◌≤◌, ◌≢◌, Bool, true, false}
+use Rattle.best_fit.proofs.Common.{◌&&◌, ◌==◌, Some, None, List, [], ◌∷◌, arith, if◌then◌else◌, inl, inr, IsTrue}
+use Rattle.best_fit.proofs.Common.{nat_lt, ⊤, find, AllByRecursion, list_any, and_parts, leb-true, eqb-true, eq-eqb}
+use Rattle.best_fit.proofs.Common.{ne_eqb, le-leb, and_from, or_left, or_right, or_cases, SameBut-Same, SameBut-word}
+use Rattle.best_fit.proofs.Common.{Memory, Cut, SameBut, SamePlace, bytes_of, inserted, without_all, exchanged}
+use Rattle.best_fit.proofs.Common.{Extent, LiveSet, handle, end_of, holds, is_hole, is_proper, proper_from}
+use Rattle.best_fit.proofs.Common.{is_legal_size, insert, others, added, SameBlock, Keeps, extent_at, has_room}
+use Rattle.std.proofs.Common.{cond}
 use Rattle.best_fit.proofs.Order.{AllByRecursion-insert_from, insert-comm, list_any-insert}
-use Rattle.best_fit.proofs.Proper.{is_hole-IsHole, insert-here, insert-past, others-here, others-past, proper_from-IsFirst}
+use Rattle.best_fit.proofs.Proper.{is_hole-IsHole, insert-here, insert-past, others-here, others-past}
+use Rattle.best_fit.proofs.Proper.{proper_from-IsFirst}
 
 -- ---- what stands nowhere twice
 

@@ -1,20 +1,11 @@
 -- The lengths of all gaps, added up along the tree of the gaps.
-use Rattle.std.proofs.Common.{◌≡◌, refl, sym, ap, ◌∙◌, ℕ, ◌+◌, ◌-◌, ◌<◌, ◌≤◌, Bool, true, List, [], ◌∷◌, length, arith, ◌==◌}
+use Rattle.best_fit.proofs.Common.{◌≡◌, refl, sym, ap, ◌∙◌, ℕ, ◌+◌, ◌-◌, ◌<◌, ◌≤◌, Bool, true, List, [], ◌∷◌, length}
+use Rattle.best_fit.proofs.Common.{arith, ◌==◌, cond_both, eq-eqb, or_left, or_right, Cut, current, Tile, nodes_of}
+use Rattle.best_fit.proofs.Common.{is_in, Gap, free_bytes, precedes, insert_gap, payloads, sorted_gaps, gap_of}
+use Rattle.best_fit.proofs.Common.{gaps_in, gaps_of, len_in, tiles_in, Fits, HasTree, IsHeap, live_of}
 use Rattle.std.specs.Prelude.{sum_by}
 use Rattle.std.specs.List.{FoldsTo}
-use Rattle.std.proofs.lemmas.Bool.{cond_both, eq-eqb, or_left, or_right}
 use Rattle.std.proofs.lemmas.List.Sums.{sum_by-cons}
-use Rattle.raw_region.specs.Memory.{Cut}
-use Rattle.raw_region.specs.Format.{current}
-use Rattle.block_tags.specs.declared.tile.Tile.{Tile}
-use Rattle.link_tree.specs.Tree.{nodes_of}
-use Rattle.link_tree.specs.Nodes.{is_in}
-use Rattle.best_fit.specs.Extents.{Gap, free_bytes}
-use Rattle.best_fit.specs.Fit.{precedes}
-use Rattle.best_fit.specs.FreeTree.{insert_gap, payloads, sorted_gaps}
-use Rattle.best_fit.specs.GapNodes.{gap_of, gaps_in, gaps_of, len_in, tiles_in}
-use Rattle.best_fit.specs.GapTrees.{Fits, HasTree}
-use Rattle.best_fit.specs.Heap.{IsHeap, live_of}
 use Rattle.best_fit.proofs.Around.{row_reaches}
 use Rattle.best_fit.proofs.GapOrder.{fits-sorted}
 use Rattle.best_fit.proofs.Laid.{heap-gaps, heap-says, legal_size, said_row}

@@ -1,14 +1,7 @@
 -- A walk over the tiles of a window that changes on the way: each turn passes one tile.
-use Rattle.std.proofs.Common.{◌≡◌, sym, ap, subst, ◌∙◌, ℕ, ◌-◌, ◌<◌, true, false, List, [], ◌∷◌, ◌++◌, length}
-use Rattle.std.specs.Prelude.{Option, Some, None, is_some}
-use Rattle.std.proofs.lemmas.Bool.{both_ways}
-use Rattle.std.proofs.lemmas.List.{append-nil}
-use Rattle.raw_region.specs.Memory.{Cut}
-use Rattle.block_tags.specs.declared.tile.Tile.{Tile}
-use Rattle.block_tags.specs.Lists.{first_in, next_in}
-use Rattle.block_tags.specs.Windows.{HasTileAt, SaysTiles}
-use Rattle.best_fit.specs.Extents.{Gap}
-use Rattle.best_fit.specs.GapNodes.{gap_of, gaps_of}
+use Rattle.best_fit.proofs.Common.{◌≡◌, sym, ap, subst, ◌∙◌, ℕ, ◌-◌, ◌<◌, true, false, List, [], ◌∷◌, ◌++◌, length}
+use Rattle.best_fit.proofs.Common.{Option, Some, None, is_some, both_ways, append-nil, Cut, Tile, first_in, next_in}
+use Rattle.best_fit.proofs.Common.{HasTileAt, SaysTiles, Gap, gap_of, gaps_of}
 use Rattle.best_fit.proofs.Rows.{unused, used, use_cases, gaps_of-append, gaps_of-free, gaps_of-used}
 use Rattle.best_fit.proofs.Walks.{Meets, first_here, meets, next_here, next_nearer, none_left, passed_on, to_go}
 

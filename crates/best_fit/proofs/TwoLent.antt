@@ -1,22 +1,18 @@
 -- Two ranges lent together, of which the first stays as it is.
-use Rattle.std.proofs.Common.{◌≡◌, refl, sym, ap, subst, ◌∙◌, ℕ, ◌+◌, ◌-◌, ◌≤◌, inl, inr, List, ◌++◌, length, take, drop, zero-add, arith}
+use Rattle.best_fit.proofs.Common.{◌≡◌, refl, sym, ap, subst, ◌∙◌, ℕ, ◌+◌, ◌-◌, ◌≤◌, inl, inr, List, ◌++◌, length}
+use Rattle.best_fit.proofs.Common.{take, drop, zero-add, arith, length_refill, refill, slice_index, Cut, part}
+use Rattle.best_fit.proofs.Common.{patched, length-part, length-patched, part-at, refill-all, whole-cut_at, Tile}
+use Rattle.best_fit.proofs.Common.{current, IsHeap, live_of, payload_at, tiles_in}
 use Rattle.std.specs.Fn.{Once}
-use Rattle.std.specs.List.{length_refill, refill}
-use Rattle.std.specs.Prelude.{slice_index}
 use denote.Ref.{Bor, MutBor}
-use Rattle.raw_region.specs.Memory.{Cut, part, patched}
 use Rattle.raw_region.specs.Regions.{IsApart}
 use Rattle.raw_region.specs.LentTwo.{with_two}
-use Rattle.raw_region.proofs.Laws.{length-part, length-patched, part-at, patched-all, refill-all, same_bytes, whole-cut_at}
-use Rattle.block_tags.specs.declared.tile.Tile.{Tile}
-use Rattle.raw_region.specs.Format.{current}
-use Rattle.best_fit.specs.Heap.{IsHeap, live_of, payload_at}
+use Rattle.raw_region.proofs.Laws.{patched-all, same_bytes}
 use Rattle.best_fit.specs.Pairs.{CallsOnTwo}
 use Rattle.best_fit.proofs.GapFacts.{Disjoint, in_around, row_disjoint}
 use Rattle.best_fit.proofs.Laid.{heap-says, said_row}
 use Rattle.best_fit.proofs.Steps.{In}
 use Rattle.best_fit.proofs.Writes.{Block, block_payload}
-use Rattle.best_fit.specs.GapNodes.{tiles_in}
 
 -- what is put where it stood changes nothing
 patched_same : (b : List ℕ) (from n : ℕ) → from + n ≤ length b → patched b from (part b from n) ≡ b

@@ -1,26 +1,23 @@
 -- A block that was lengthened where it stands, and is shortened by as much again.
-use Rattle.std.proofs.Common.{◌≡◌, refl, sym, ap, subst, ◌∙◌, inl, inr, ◌⊎◌, ℕ, ◌+◌, ◌-◌, ◌%◌, ◌<◌, ◌≤◌, Bool, true, false, ◌==◌, Option, Some, None, List, [], ◌∷◌, min, arith, if◌then◌else◌}
-use Rattle.std.specs.Prelude.{IsTrue, nat_le, nat_lt, option_map}
-use Rattle.std.proofs.lemmas.Bool.{eq-eqb, le-leb, lt-leb, lt-ltb, or_left, or_right}
-use Rattle.std.specs.List.{AllByRecursion}
-use Rattle.std.proofs.lemmas.Option.{same_Some}
-use Rattle.raw_region.specs.Memory.{Memory, Cut, bytes_of, word_at}
-use Rattle.raw_region.specs.Format.{current}
-use Rattle.block_tags.specs.declared.tile.Role.TheVariants.{Storage}
+use Rattle.best_fit.proofs.Common.{◌≡◌, refl, sym, ap, subst, ◌∙◌, inl, inr, ◌⊎◌, ℕ, ◌+◌, ◌-◌, ◌%◌, ◌<◌, ◌≤◌, Bool}
+use Rattle.best_fit.proofs.Common.{true, false, ◌==◌, Option, Some, None, List, [], ◌∷◌, min, arith, if◌then◌else◌}
+use Rattle.best_fit.proofs.Common.{IsTrue, nat_le, nat_lt, option_map, eq-eqb, le-leb, lt-leb, lt-ltb, or_left}
+use Rattle.best_fit.proofs.Common.{or_right, AllByRecursion, same_Some, Memory, Cut, bytes_of, word_at, current}
+use Rattle.best_fit.proofs.Common.{Storage, Extent, LiveSet, handle, end_of, holds, is_proper, added, gap_after}
+use Rattle.best_fit.proofs.Common.{insert, is_extent, longer, others, place, regrow, released, resized, room, share}
+use Rattle.best_fit.proofs.Common.{shorter, IsAllocated, IsExtended, IsHeap, IsReleased, IsResized, IsShortened}
+use Rattle.best_fit.proofs.Common.{Keeps, LaysOut, SameBlock, extent_at, live_of, Role}
 use Rattle.best_fit.specs.Exchange.{IsNotWidened, IsRestored, IsWidened}
-use Rattle.best_fit.specs.Extents.{Extent, LiveSet, handle, end_of, holds, is_proper}
-use Rattle.best_fit.specs.Fit.{added, gap_after, insert, is_extent, longer, others, place, regrow, released, resized, room, share, shorter}
-use Rattle.best_fit.specs.Heap.{IsAllocated, IsExtended, IsHeap, IsReleased, IsResized, IsShortened, Keeps, LaysOut, SameBlock, extent_at, live_of}
 use Rattle.best_fit.proofs.Changes.{IsNeighbour, is_extent-IsNeighbour, is_proper-IsProper, is_proper-longer, next_to}
 use Rattle.best_fit.proofs.Frames.{SameBlock-refl, keeps-refl, keeps-trans}
 use Rattle.best_fit.proofs.LayOut.{lay_out_one}
-use Rattle.block_tags.specs.declared.tile.Role.{Role}
 use Rattle.best_fit.proofs.Lengths.{may_cut, shorter_cut, shorter_same}
 use Rattle.best_fit.proofs.Placing.{IfSome_is, longer-IsLonger, share-IsShare}
 use Rattle.best_fit.proofs.Proper.{IsHole, behind, behind-here, behind-past, next_of}
 use Rattle.best_fit.proofs.Exchanges.{lengthened_at, not_lengthened, regrow-short}
 use Rattle.best_fit.proofs.Order.{AllByRecursion-insert_from}
-use Rattle.best_fit.proofs.Spacing.{Differs, IsAmong, IsFresh, Rising, found-new, in_use, live-rises, others-insert, rising-insert}
+use Rattle.best_fit.proofs.Spacing.{Differs, IsAmong, IsFresh, Rising, found-new, in_use, live-rises, others-insert}
+use Rattle.best_fit.proofs.Spacing.{rising-insert}
 
 -- ---- what stands behind a block of another length
 

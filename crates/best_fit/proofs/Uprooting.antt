@@ -1,18 +1,8 @@
 -- A tile that is free is taken out of the tree, and any other is not in it.
-use Rattle.std.proofs.Common.{◌≡◌, refl, sym, ap, subst, ◌∙◌, ℕ, ◌+◌, ◌≤◌, true, List, [], ◌∷◌, ◌++◌, length, arith}
-use Rattle.std.specs.Prelude.{Option, Some, None}
-use Rattle.std.proofs.lemmas.Bool.{cond-true, cond-false}
-use Rattle.std.proofs.lemmas.Option.{same_Some}
-use Rattle.raw_region.specs.Memory.{Cut}
-use Rattle.block_tags.specs.declared.tile.Tile.{Tile}
-use Rattle.block_tags.specs.Tiles.{is_free}
-use Rattle.link_tree.specs.Nodes.{is_in}
-use Rattle.link_tree.proofs.Laws.{none_some}
-use Rattle.best_fit.specs.Extents.{Gap}
-use Rattle.best_fit.specs.FreeTree.{payloads}
-use Rattle.best_fit.specs.GapNodes.{gaps_of}
-use Rattle.best_fit.specs.GapLaws.{is_good-Good}
-use Rattle.best_fit.specs.GapTrees.{HasTree, Regrown, gap_offset, of_option, offset_of}
+use Rattle.best_fit.proofs.Common.{◌≡◌, refl, sym, ap, subst, ◌∙◌, ℕ, ◌+◌, ◌≤◌, true, List, [], ◌∷◌, ◌++◌, length}
+use Rattle.best_fit.proofs.Common.{arith, Option, Some, None, cond-true, cond-false, same_Some, Cut, Tile, is_free}
+use Rattle.best_fit.proofs.Common.{is_in, none_some, Gap, payloads, gaps_of, is_good-Good, HasTree, Regrown}
+use Rattle.best_fit.proofs.Common.{gap_offset, of_option, offset_of}
 use Rattle.best_fit.proofs.FreeTrees.{in_here}
 use Rattle.best_fit.proofs.GapFacts.{node_at}
 use Rattle.best_fit.proofs.Rows.{unused, used, use_cases, unused-free, used-not_free, gaps_of-free, gaps_of-used}

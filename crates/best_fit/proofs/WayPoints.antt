@@ -1,20 +1,13 @@
 -- Way-points lead to blocks in use, and a walk may begin at one.
-use Rattle.std.proofs.Common.{◌≡◌, ◌≢◌, refl, sym, ap, subst, ◌∙◌, ℕ, zero, suc, ◌+◌, ◌-◌, ◌<◌, ◌≤◌, ◌⊎◌, inl, inr, Bool, true, false, ◌||◌, List, [], ◌∷◌, ◌++◌, length, append_assoc, replicate, slice_index, arith, ◌==◌, IsTrue}
-use Rattle.std.specs.Prelude.{Option, Some, None, is_some, IfSome}
-use Rattle.std.specs.List.{list_any}
-use Rattle.std.proofs.lemmas.Bool.{both_ways, cases_eq, eq-eqb, ne_eqb, or_left, or_right}
-use Rattle.raw_region.specs.Memory.{Cut}
-use Rattle.block_tags.specs.declared.tile.Role.{Role}
-use Rattle.block_tags.specs.declared.tile.Tile.{Tile}
-use Rattle.raw_region.specs.Format.{current}
-use Rattle.block_tags.specs.Lists.{next_in, tile_in}
-use Rattle.block_tags.specs.Windows.{SaysTiles}
-use Rattle.block_tags.proofs.Laws.{next_stands_behind, tiles_are_read_off}
-use Rattle.best_fit.specs.declared.way_points.WayPoints.{WayPoints}
-use Rattle.best_fit.specs.Extents.{Extent, LiveSet, handle}
-use Rattle.best_fit.specs.Fit.{added, longer, others, released, resized, shorter}
-use Rattle.best_fit.specs.Heap.{IsAllocated, IsExtended, IsHeap, IsReleased, IsShortened, LaysOut, is_live_in, live_of}
-use Rattle.best_fit.specs.WayPoints.{AreNone, IsHeld, IsNoted, LeadToBlocks}
+use Rattle.best_fit.proofs.Common.{◌≡◌, ◌≢◌, refl, sym, ap, subst, ◌∙◌, ℕ, zero, suc, ◌+◌, ◌-◌, ◌<◌, ◌≤◌, ◌⊎◌, inl}
+use Rattle.best_fit.proofs.Common.{inr, Bool, true, false, ◌||◌, List, [], ◌∷◌, ◌++◌, length, append_assoc, replicate}
+use Rattle.best_fit.proofs.Common.{slice_index, arith, ◌==◌, IsTrue, Option, Some, None, is_some, IfSome, list_any}
+use Rattle.best_fit.proofs.Common.{both_ways, cases_eq, eq-eqb, ne_eqb, or_left, or_right, Cut, Role, Tile, current}
+use Rattle.best_fit.proofs.Common.{next_in, tile_in, SaysTiles, next_stands_behind, tiles_are_read_off, WayPoints}
+use Rattle.best_fit.proofs.Common.{Extent, LiveSet, handle, added, longer, others, released, resized, shorter}
+use Rattle.best_fit.proofs.Common.{IsAllocated, IsExtended, IsHeap, IsReleased, IsShortened, LaysOut, is_live_in}
+use Rattle.best_fit.proofs.Common.{live_of, IsHeld, IsNoted, LeadToBlocks}
+use Rattle.best_fit.specs.WayPoints.{AreNone}
 use Rattle.best_fit.proofs.Allocated.{allocated-is_live}
 use Rattle.best_fit.proofs.Around.{row_back}
 use Rattle.best_fit.proofs.Joins.{row_before}

@@ -1,17 +1,14 @@
 -- The last tile is free and dropped, or the window ends there already.
-use Rattle.std.proofs.Common.{◌≡◌, ap, sym, ◌∙◌, ℕ, ◌+◌, ◌*◌, ◌≤◌, arith, List, ◌++◌, ◌∷◌, [], length}
-use Rattle.std.specs.Prelude.{Some}
-use Rattle.link_tree.specs.Tree.{bits}
-use Rattle.best_fit.specs.Extents.{Gap}
-use Rattle.best_fit.specs.GapNodes.{gap_of, gaps_in, gaps_of, tiles_in}
-use Rattle.best_fit.specs.GapTrees.{HasTree, Regrown}
+use Rattle.best_fit.proofs.Common.{◌≡◌, ap, sym, ◌∙◌, ℕ, ◌+◌, ◌*◌, ◌≤◌, arith, List, ◌++◌, ◌∷◌, [], length, Some}
+use Rattle.best_fit.proofs.Common.{bits, Gap, gap_of, gaps_in, gaps_of, tiles_in, HasTree, Regrown}
 use Rattle.best_fit.proofs.Allocating.{heap_tree}
 use Rattle.best_fit.proofs.Laid.{heap-says}
-use Rattle.best_fit.proofs.LastGap.{LastGap, end_cut, ends_there, last_gap, last_gaps, last_listed, last_node, last_small, last_tree, left_alone}
+use Rattle.best_fit.proofs.LastGap.{LastGap, end_cut, ends_there, last_gap, last_gaps, last_listed, last_node}
+use Rattle.best_fit.proofs.LastGap.{last_small, last_tree, left_alone}
 use Rattle.best_fit.proofs.Replanting.{few_bits}
 use Rattle.best_fit.proofs.Walks.{window_tiled}
-use Rattle.best_fit.proofs.ending.cut_gap.Goals as goal
 use Rattle.best_fit.proofs.ending.cut_gap.Goals.{After-gap_at, After-take_out}
+use Rattle.best_fit.proofs.ending.cut_gap.Goals as goal
 
 pub last-last-requires-clause-tiles : goal.last-last-requires-clause-tiles
 last-last-requires-clause-tiles c = window_tiled c.args.touches.now.gaps.now.window c.requires.heap

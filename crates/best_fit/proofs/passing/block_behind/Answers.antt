@@ -1,9 +1,5 @@
 -- The tile behind a block is one in use, or a gap, behind which another one in use stands.
-use Rattle.std.proofs.Common.{◌≡◌, sym, subst, ◌∙◌, ◌-◌, List, arith}
-use Rattle.raw_region.specs.Memory.{Cut}
-use Rattle.block_tags.specs.declared.tile.Tile.{Tile}
-use Rattle.block_tags.specs.Lists.{next_in}
-use Rattle.block_tags.specs.Windows.{HasTileAt, SaysTiles}
+use Rattle.best_fit.proofs.Common.{◌≡◌, sym, subst, ◌∙◌, ◌-◌, List, arith, Cut, Tile, next_in, HasTileAt, SaysTiles}
 use Rattle.best_fit.proofs.Walks.{left_goes_on, left_next}
 use Rattle.best_fit.proofs.WayPoints.{Beyond, beyond_next, beyond_other, left_behind, used_is_live}
 use Rattle.best_fit.proofs.Writes.{block_tile, live_block}

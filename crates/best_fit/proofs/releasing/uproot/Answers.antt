@@ -1,5 +1,5 @@
 -- There is a gap, or the tree stays.
-use Rattle.std.proofs.Common.{sym, ◌∙◌, arith}
+use Rattle.best_fit.proofs.Common.{sym, ◌∙◌, arith}
 use Rattle.best_fit.proofs.Uprooting.{one_gap, one_listed, one_small}
 use Rattle.best_fit.proofs.releasing.uproot.Goals as goal
 

@@ -1,12 +1,9 @@
 -- Each turn of the walk passes one tile.
-use Rattle.std.proofs.Common.{sym, subst, ◌∙◌, ◌+◌, List, arith}
-use Rattle.block_tags.specs.declared.tile.Tile.{Tile}
-use Rattle.best_fit.specs.declared.way_points.WayPoints.{WayPoints}
-use Rattle.best_fit.specs.WayPoints.{LeadToBlocks}
+use Rattle.best_fit.proofs.Common.{sym, subst, ◌∙◌, ◌+◌, List, arith, Tile, WayPoints, LeadToBlocks}
 use Rattle.best_fit.proofs.Walks.{left_start, left_next, left_goes_on, left_nearer, window_tiled}
 use Rattle.best_fit.proofs.WayPoints.{none-lead, noted-lead, used_is_live}
-use Rattle.best_fit.proofs.walking.way_points.Goals as goal
 use Rattle.best_fit.proofs.walking.way_points.Goals.{then-is_some, else-is_some}
+use Rattle.best_fit.proofs.walking.way_points.Goals as goal
 
 pub first-ahead-requires : goal.first-ahead-requires
 first-ahead-requires c = window_tiled c.args.window.now c.requires

@@ -1,7 +1,5 @@
 -- Each block that was passed may be noted.
-use Rattle.std.proofs.Common.{List, length}
-use Rattle.block_tags.specs.declared.tile.Tile.{Tile}
-use Rattle.best_fit.specs.WayPoints.{LeadToBlocks}
+use Rattle.best_fit.proofs.Common.{List, length, Tile, LeadToBlocks}
 use Rattle.best_fit.proofs.Walks.{Left, to_go}
 use Rattle.best_fit.proofs.walking.way_points.Given as goal
 

@@ -1,12 +1,10 @@
 -- Whatever is written to the payload of a block, the heap stays one.
-use Rattle.std.proofs.Common.{◌≡◌, refl, sym, subst, ap, ◌∙◌, ◌-◌, arith}
-use Rattle.raw_region.specs.Memory.{Cut, part}
-use Rattle.best_fit.specs.Heap.{live_of, payload_at}
+use Rattle.best_fit.proofs.Common.{◌≡◌, refl, sym, subst, ap, ◌∙◌, ◌-◌, arith, Cut, part, live_of, payload_at}
 use Rattle.best_fit.proofs.Payloads.{ReadAt, live_at, payload_written, read_at, with_payload-lent}
 use Rattle.best_fit.proofs.Writes.{block_payload}
 use Rattle.best_fit.proofs.WayPoints.{held-same}
-use Rattle.best_fit.proofs.heap.Heap.block_mut.Goals as goal
 use Rattle.best_fit.proofs.heap.Heap.block_mut.Goals.{After-tile_at-len}
+use Rattle.best_fit.proofs.heap.Heap.block_mut.Goals as goal
 
 pub overflow_sub-handle : goal.overflow_sub-handle
 overflow_sub-handle c = let low = (live_at c.args.self.now c.self.inside.gaps.window c.args.handle (cc) c.self.invariant.heap c.requires).low in omega arith

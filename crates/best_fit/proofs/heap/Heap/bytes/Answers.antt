@@ -1,7 +1,5 @@
 -- The bytes lie in a block, and so in the window.
-use Rattle.std.proofs.Common.{◌≡◌, sym, ap, ◌∙◌, ◌+◌, arith}
-use Rattle.raw_region.specs.Memory.{Cut, bytes_of, read}
-use Rattle.raw_region.proofs.Laws.{read-part}
+use Rattle.best_fit.proofs.Common.{◌≡◌, sym, ap, ◌∙◌, ◌+◌, arith, Cut, bytes_of, read, read-part}
 use Rattle.best_fit.proofs.Linked.{spot}
 use Rattle.best_fit.proofs.heap.Heap.bytes.Goals as goal
 

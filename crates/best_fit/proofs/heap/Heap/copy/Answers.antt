@@ -1,8 +1,5 @@
 -- The bytes lie in two blocks, and no tag changes.
-use Rattle.std.proofs.Common.{◌≡◌, sym, subst, ◌+◌, arith}
-use Rattle.raw_region.specs.Memory.{Cut, bytes_of, read}
-use Rattle.raw_region.specs.Format.{current}
-use Rattle.best_fit.specs.Heap.{IsChanged}
+use Rattle.best_fit.proofs.Common.{◌≡◌, sym, subst, ◌+◌, arith, Cut, bytes_of, read, current, IsChanged}
 use Rattle.best_fit.proofs.Linked.{bytes_copied, spot}
 use Rattle.best_fit.proofs.WayPoints.{held-same}
 use Rattle.best_fit.proofs.heap.Heap.copy.Goals as goal

@@ -1,11 +1,6 @@
 -- What is done to the window is done to the heap.
-use Rattle.std.proofs.Common.{◌≡◌, subst, ◌*◌, ◌+◌, ◌≤◌, length, arith}
-use Rattle.raw_region.specs.Memory.{Cut}
-use Rattle.link_tree.specs.Tree.{bits}
-use Rattle.best_fit.specs.GapNodes.{gaps_in}
-use Rattle.raw_region.specs.Format.{current}
-use Rattle.best_fit.specs.Ends.{least_size, of_size}
-use Rattle.best_fit.specs.Heap.{LaysOut, heap_touches, live_of}
+use Rattle.best_fit.proofs.Common.{◌≡◌, subst, ◌*◌, ◌+◌, ◌≤◌, length, arith, Cut, bits, gaps_in, current, least_size}
+use Rattle.best_fit.proofs.Common.{of_size, LaysOut, heap_touches, live_of}
 use Rattle.best_fit.proofs.Allocating.{heap_bits}
 use Rattle.best_fit.proofs.WayPoints.{held-on}
 use Rattle.best_fit.proofs.heap.Heap.cut_end.Goals as goal

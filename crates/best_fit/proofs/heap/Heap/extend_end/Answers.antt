@@ -1,17 +1,11 @@
 -- A block is put behind all others, and given back.
-use Rattle.std.proofs.Common.{◌≡◌, ap, subst, ◌+◌, ◌≤◌, List, length, arith}
-use Rattle.raw_region.specs.Memory.{Cut}
-use Rattle.raw_region.specs.Format.{current}
-use Rattle.link_tree.specs.Tree.{bits}
-use Rattle.best_fit.specs.Ends.{HasBlockBehind, HasEndMoved, of_size}
-use Rattle.best_fit.specs.Extents.{Gap}
-use Rattle.best_fit.specs.GapNodes.{gaps_in}
-use Rattle.best_fit.specs.Heap.{heap_touches, live_of}
+use Rattle.best_fit.proofs.Common.{◌≡◌, ap, subst, ◌+◌, ◌≤◌, List, length, arith, Cut, current, bits, HasBlockBehind}
+use Rattle.best_fit.proofs.Common.{HasEndMoved, of_size, Gap, gaps_in, heap_touches, live_of}
 use Rattle.best_fit.proofs.Allocating.{heap_bits}
 use Rattle.best_fit.proofs.Appended.{behind_heap, behind_live, end_moved}
 use Rattle.best_fit.proofs.WayPoints.{held-on}
-use Rattle.best_fit.proofs.heap.Heap.extend_end.Goals as goal
 use Rattle.best_fit.proofs.heap.Heap.extend_end.Goals.{After-append_block-at}
+use Rattle.best_fit.proofs.heap.Heap.extend_end.Goals as goal
 
 -- the block behind all others, and where it begins
 block : (c : After-append_block-at) → HasBlockBehind current c.self.inside.gaps.window c.append_block-at.new.touches.gaps.now.window c.args.extra

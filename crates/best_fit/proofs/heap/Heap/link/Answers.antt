@@ -1,5 +1,5 @@
 -- The link lies in a block.
-use Rattle.std.proofs.Common.{arith}
+use Rattle.best_fit.proofs.Common.{arith}
 use Rattle.best_fit.proofs.Linked.{spot}
 use Rattle.best_fit.proofs.heap.Heap.link.Goals as goal
 

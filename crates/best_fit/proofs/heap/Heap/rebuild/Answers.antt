@@ -1,6 +1,5 @@
 -- An empty tree is written, and then one of all gaps.
-use Rattle.std.proofs.Common.{length}
-use Rattle.raw_region.specs.Memory.{bytes_of}
+use Rattle.best_fit.proofs.Common.{length, bytes_of}
 use Rattle.best_fit.proofs.Planted.{rebuilt, rebuilt_heap}
 use Rattle.best_fit.proofs.Rebuilt.{tagged_says, tagged_too}
 use Rattle.best_fit.proofs.heap.Heap.rebuild.Goals as goal

@@ -1,10 +1,7 @@
 -- The block has the room, or it is lengthened, or it is replaced.
-use Rattle.std.proofs.Common.{sym, subst, IsTrue}
-use Rattle.std.specs.Prelude.{IfSome}
-use Rattle.raw_region.specs.Memory.{Cut}
-use Rattle.raw_region.specs.Format.{current}
-use Rattle.best_fit.specs.Exchange.{Regrows, IsGivenRoom, block_of}
-use Rattle.best_fit.specs.Heap.{IsHeap, has_room, live_of}
+use Rattle.best_fit.proofs.Common.{sym, subst, IsTrue, IfSome, Cut, current, Regrows, IsGivenRoom, IsHeap, has_room}
+use Rattle.best_fit.proofs.Common.{live_of}
+use Rattle.best_fit.specs.Exchange.{block_of}
 use Rattle.best_fit.proofs.Exchanges.{given-same, given-longer, not_longer-same, regrows-replaced, regrows-none}
 use Rattle.best_fit.proofs.Allocated.{has_room-names}
 use Rattle.best_fit.proofs.heap.Heap.regrow.Goals as goal

@@ -1,9 +1,6 @@
 -- The new block is taken while the old one is in use.
-use Rattle.std.proofs.Common.{◌≡◌, ◌+◌, subst, arith, IsTrue}
-use Rattle.raw_region.specs.Memory.{bytes_of, read}
-use Rattle.raw_region.specs.Format.{current}
-use Rattle.best_fit.specs.Heap.{IsChanged, has_room, live_of}
-use Rattle.block_tags.specs.declared.tile.Role.TheVariants.{Storage}
+use Rattle.best_fit.proofs.Common.{◌≡◌, ◌+◌, subst, arith, IsTrue, bytes_of, read, current, IsChanged, has_room}
+use Rattle.best_fit.proofs.Common.{live_of, Storage}
 use Rattle.best_fit.proofs.Allocated.{allocated-room, allocated-room_before, changed-room, has_room-names}
 use Rattle.best_fit.proofs.Exchanges.{allocated-fits, replaced}
 use Rattle.best_fit.proofs.heap.Heap.replace.Goals as goal

@@ -1,9 +1,6 @@
 -- The tile of the block says its length.
-use Rattle.std.proofs.Common.{◌≡◌, sym, subst, ap, ◌∙◌, ◌-◌, arith, IsTrue}
-use Rattle.std.specs.Prelude.{Some, option_map}
-use Rattle.raw_region.specs.Memory.{Cut}
-use Rattle.best_fit.specs.Extents.{Extent}
-use Rattle.best_fit.specs.Heap.{is_live_in, live_of, extent_at}
+use Rattle.best_fit.proofs.Common.{◌≡◌, sym, subst, ap, ◌∙◌, ◌-◌, arith, IsTrue, Some, option_map, Cut, Extent}
+use Rattle.best_fit.proofs.Common.{is_live_in, live_of, extent_at}
 use Rattle.best_fit.proofs.Writes.{live_block, block_tile, block_len}
 use Rattle.best_fit.proofs.heap.Heap.room.Goals as goal
 

@@ -1,8 +1,5 @@
 -- The link lies in the header, and no tag changes.
-use Rattle.std.proofs.Common.{◌≡◌, sym, subst}
-use Rattle.raw_region.specs.Memory.{Cut}
-use Rattle.raw_region.specs.Format.{current}
-use Rattle.best_fit.specs.Heap.{IsChanged}
+use Rattle.best_fit.proofs.Common.{◌≡◌, sym, subst, Cut, current, IsChanged}
 use Rattle.best_fit.proofs.Writes.{header_changed}
 use Rattle.best_fit.proofs.WayPoints.{held-same}
 use Rattle.best_fit.proofs.heap.Heap.set_header_link.Goals as goal

@@ -1,8 +1,6 @@
 -- A node's tile may have any colour.
-use Rattle.std.proofs.Common.{◌≡◌, sym, subst, ◌-◌, arith, IsTrue}
-use Rattle.raw_region.specs.Memory.{Cut}
-use Rattle.raw_region.specs.Format.{current}
-use Rattle.best_fit.specs.Heap.{IsRecoloured, is_node_in, live_of}
+use Rattle.best_fit.proofs.Common.{◌≡◌, sym, subst, ◌-◌, arith, IsTrue, Cut, current, IsRecoloured, is_node_in}
+use Rattle.best_fit.proofs.Common.{live_of}
 use Rattle.best_fit.proofs.Recolours.{node_may, recoloured}
 use Rattle.best_fit.proofs.Writes.{node_block}
 use Rattle.best_fit.proofs.WayPoints.{held-same}

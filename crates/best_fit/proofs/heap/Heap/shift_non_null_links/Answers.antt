@@ -1,8 +1,5 @@
 -- The links lie in blocks, and no tag changes.
-use Rattle.std.proofs.Common.{◌≡◌, refl, sym, subst, ◌+◌, ◌*◌, arith}
-use Rattle.raw_region.specs.Memory.{Cut}
-use Rattle.raw_region.specs.Format.{current}
-use Rattle.best_fit.specs.Heap.{IsChanged}
+use Rattle.best_fit.proofs.Common.{◌≡◌, refl, sym, subst, ◌+◌, ◌*◌, arith, Cut, current, IsChanged}
 use Rattle.best_fit.proofs.Linked.{links_changed, spot}
 use Rattle.best_fit.proofs.WayPoints.{held-same}
 use Rattle.best_fit.proofs.heap.Heap.shift_non_null_links.Goals as goal

@@ -1,16 +1,12 @@
 -- Two blocks share no byte, and whatever is written to the payload of the second, the heap stays one.
-use Rattle.std.proofs.Common.{◌≡◌, sym, subst, ap, ◌∙◌, ◌-◌, List, ℕ, arith}
-use Rattle.std.specs.List.{refill}
-use Rattle.raw_region.specs.Memory.{part, patched}
-use Rattle.raw_region.specs.Regions.{with_bytes}
-use Rattle.best_fit.specs.Heap.{live_of, payload_at}
+use Rattle.best_fit.proofs.Common.{◌≡◌, sym, subst, ap, ◌∙◌, ◌-◌, List, ℕ, arith, refill, part, patched, with_bytes}
+use Rattle.best_fit.proofs.Common.{live_of, payload_at, IsHeld}
 use Rattle.best_fit.proofs.Payloads.{ReadAt, live_at, payload_written, read_at, with_payload-lent}
 use Rattle.best_fit.proofs.TwoLent.{all_lent, blocks_apart, called_at, payload_lent}
-use Rattle.best_fit.specs.WayPoints.{IsHeld}
 use Rattle.best_fit.proofs.WayPoints.{held-same}
 use Rattle.best_fit.proofs.heap.Heap.two.Given.{Over}
-use Rattle.best_fit.proofs.heap.Heap.two.Goals as goal
 use Rattle.best_fit.proofs.heap.Heap.two.Goals.{After-bytes_mut-bytes, After-on_two}
+use Rattle.best_fit.proofs.heap.Heap.two.Goals as goal
 
 pub overflow_sub-first : goal.overflow_sub-first
 overflow_sub-first g c = let low = (live_at c.args.self.now c.self.inside.gaps.window c.args.first (cc) c.self.invariant.heap c.requires.first).low in omega arith

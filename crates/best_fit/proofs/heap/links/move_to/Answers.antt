@@ -1,8 +1,6 @@
 -- What stands at the end of the way.
-use Rattle.std.proofs.Common.{◌≡◌, sym, subst, ◌+◌, ◌*◌, ◌≤◌, ℕ, length}
-use Rattle.raw_region.specs.Memory.{bytes_of, patched}
-use Rattle.raw_region.specs.Regions.{with_bytes}
-use Rattle.offset_link.specs.Relinked.{KeepTargets, relinked}
+use Rattle.best_fit.proofs.Common.{◌≡◌, sym, subst, ◌+◌, ◌*◌, ◌≤◌, ℕ, length, bytes_of, patched, with_bytes}
+use Rattle.best_fit.proofs.Common.{KeepTargets, relinked}
 use Rattle.best_fit.proofs.heap.links.move_to.Goals as goal
 
 pub shift-requires-clause-target : goal.shift-requires-clause-target

@@ -1,5 +1,5 @@
 -- A tree of one node, or of none.
-use Rattle.std.proofs.Common.{◌<◌, ◌≤◌, length, arith}
+use Rattle.best_fit.proofs.Common.{◌<◌, ◌≤◌, length, arith}
 use Rattle.best_fit.proofs.Fresh.{none_links, planted_links, planted_none, planted_one}
 use Rattle.best_fit.proofs.heap.nodes.plant_first.Goals as goal
 

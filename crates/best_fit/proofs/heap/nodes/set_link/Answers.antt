@@ -1,5 +1,5 @@
 -- A link is eight bytes.
-use Rattle.std.proofs.Common.{Some, None}
+use Rattle.best_fit.proofs.Common.{Some, None}
 use Rattle.best_fit.proofs.GapSetters.{link-SameBut}
 use Rattle.best_fit.proofs.heap.nodes.set_link.Goals as goal
 

@@ -1,7 +1,5 @@
 -- The second link is beside the first.
-use Rattle.std.proofs.Common.{◌∙◌, ◌+◌, inl, arith}
-use Rattle.raw_region.specs.Memory.{bytes_of}
-use Rattle.offset_link.proofs.Laws.{SameBut-link}
+use Rattle.best_fit.proofs.Common.{◌∙◌, ◌+◌, inl, arith, bytes_of, SameBut-link}
 use Rattle.best_fit.proofs.heap.planting.clear.Goals as goal
 
 pub returns-clause-left : goal.returns-clause-left

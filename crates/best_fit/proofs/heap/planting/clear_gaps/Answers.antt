@@ -1,11 +1,11 @@
 -- Each turn of the walk passes one tile, and makes its links null where it is a gap.
-use Rattle.std.proofs.Common.{ap, ◌∙◌, not, arith, length}
-use Rattle.raw_region.specs.Memory.{Cut}
-use Rattle.best_fit.specs.GapNodes.{tiles_in}
-use Rattle.best_fit.proofs.Rebuilt.{Cleared, cleared_block, cleared_gap, cleared_start, emptied, emptied_rest, link_place, tagged_says}
-use Rattle.best_fit.proofs.Turns.{Passed, passed_goes_on, passed_has, passed_in, passed_nearer, turn, walk_end, walk_start}
-use Rattle.best_fit.proofs.heap.planting.clear_gaps.Goals as goal
+use Rattle.best_fit.proofs.Common.{ap, ◌∙◌, not, arith, length, Cut, tiles_in}
+use Rattle.best_fit.proofs.Rebuilt.{Cleared, cleared_block, cleared_gap, cleared_start, emptied, emptied_rest}
+use Rattle.best_fit.proofs.Rebuilt.{link_place, tagged_says}
+use Rattle.best_fit.proofs.Turns.{Passed, passed_goes_on, passed_has, passed_in, passed_nearer, turn, walk_end}
+use Rattle.best_fit.proofs.Turns.{walk_start}
 use Rattle.best_fit.proofs.heap.planting.clear_gaps.Goals.{then-is_none, else-is_none}
+use Rattle.best_fit.proofs.heap.planting.clear_gaps.Goals as goal
 
 pub first-ahead-requires : goal.first-ahead-requires
 first-ahead-requires c =

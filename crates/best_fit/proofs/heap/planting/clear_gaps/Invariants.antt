@@ -1,5 +1,5 @@
 -- The links of the gaps among the tiles that are passed are null, and nothing else has changed.
-use Rattle.std.proofs.Common.{length}
+use Rattle.best_fit.proofs.Common.{length}
 use Rattle.best_fit.proofs.Rebuilt.{Cleared}
 use Rattle.best_fit.proofs.Turns.{Walk}
 use Rattle.best_fit.proofs.Walks.{to_go}

@@ -1,5 +1,5 @@
 -- A byte fits in eight bits.
-use Rattle.std.proofs.Common.{arith}
+use Rattle.best_fit.proofs.Common.{arith}
 use Rattle.best_fit.proofs.heap.planting.hold_bytes.Goals as goal
 
 pub returns : goal.returns

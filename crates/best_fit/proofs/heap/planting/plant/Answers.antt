@@ -1,5 +1,5 @@
 -- `insert` puts the node in, and the new root is stored.
-use Rattle.std.proofs.Common.{ap, ◌∙◌, ℕ, Bool}
+use Rattle.best_fit.proofs.Common.{ap, ◌∙◌, ℕ, Bool}
 use Rattle.best_fit.proofs.FreeTrees.{root_leads, search_tree}
 use Rattle.best_fit.proofs.GapSetters.{target_whole}
 use Rattle.best_fit.proofs.Planted.{is_a_node, next_place, next_tree}

@@ -1,13 +1,11 @@
 -- Each turn of the walk passes one tile, and puts it into the tree where it is a gap.
-use Rattle.std.proofs.Common.{ap, ◌∙◌, not, refl, [], arith, length}
-use Rattle.raw_region.specs.Memory.{Cut}
-use Rattle.best_fit.specs.declared.heap.nodes.Gaps.{Gaps}
-use Rattle.best_fit.specs.GapNodes.{gap_of, gaps_of, tiles_in}
+use Rattle.best_fit.proofs.Common.{ap, ◌∙◌, not, refl, [], arith, length, Cut, Gaps, gap_of, gaps_of, tiles_in}
 use Rattle.best_fit.proofs.Planted.{HasPlanted, next_gap, planted_all, planted_block, planted_gap, planted_start}
 use Rattle.best_fit.proofs.Regrowths.{tree_says}
-use Rattle.best_fit.proofs.Turns.{Passed, passed_goes_on, passed_has, passed_in, passed_nearer, turn, walk_end, walk_start}
-use Rattle.best_fit.proofs.heap.planting.plant_gaps.Goals as goal
+use Rattle.best_fit.proofs.Turns.{Passed, passed_goes_on, passed_has, passed_in, passed_nearer, turn, walk_end}
+use Rattle.best_fit.proofs.Turns.{walk_start}
 use Rattle.best_fit.proofs.heap.planting.plant_gaps.Goals.{then-is_none, else-is_none}
+use Rattle.best_fit.proofs.heap.planting.plant_gaps.Goals as goal
 
 pub first-ahead-requires : goal.first-ahead-requires
 first-ahead-requires c = let w = c.args.gaps.now.window in record { tiles = tiles_in w; said = (tree_says w [] c.requires).said }

@@ -1,5 +1,5 @@
 -- The tree has the gaps among the tiles that are passed, and nothing else has changed.
-use Rattle.std.proofs.Common.{length}
+use Rattle.best_fit.proofs.Common.{length}
 use Rattle.best_fit.proofs.Planted.{HasPlanted}
 use Rattle.best_fit.proofs.Turns.{Walk}
 use Rattle.best_fit.proofs.Walks.{to_go}

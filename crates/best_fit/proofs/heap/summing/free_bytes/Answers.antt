@@ -1,9 +1,7 @@
 -- The walk goes to each gap once.
-use Rattle.std.proofs.Common.{◌≡◌, refl, sym, ◌∙◌, arith, rules, zero-add}
-use Rattle.link_tree.specs.Tree.{nodes_of}
-use Rattle.best_fit.specs.Extents.{free_bytes}
-use Rattle.best_fit.specs.Heap.{live_of}
-use Rattle.best_fit.specs.GapNodes.{gaps_in, is_gap_node, len_in}
+use Rattle.best_fit.proofs.Common.{◌≡◌, refl, sym, ◌∙◌, arith, zero-add, nodes_of, free_bytes, live_of, gaps_in}
+use Rattle.best_fit.proofs.Common.{is_gap_node, len_in}
+use Rattle.std.proofs.Common.{rules}
 use Rattle.best_fit.proofs.Allocating.{heap_tree}
 use Rattle.best_fit.proofs.FreeTrees.{root_leads, search_tree, tree_nodes}
 use Rattle.best_fit.proofs.Sums.{adds_up, tree_summed}

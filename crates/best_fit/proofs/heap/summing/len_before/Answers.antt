@@ -1,15 +1,11 @@
 -- The tag of a gap lies before its payload, and tells the length of its tile.
-use Rattle.std.proofs.Common.{◌≡◌, false, Bool, IsTrue, ◌+◌, ◌-◌, ◌*◌, ◌/◌, ap, subst, sym, ◌∙◌, arith}
-use Rattle.std.proofs.lemmas.Bool.{false≢true}
-use Rattle.raw_region.specs.Memory.{bytes_of, word_at}
-use Rattle.block_tags.specs.declared.tile.Tile.{Tile}
-use Rattle.block_tags.specs.Tiles.{tile_at}
-use Rattle.block_tags.proofs.Laws.{tile_is_read_off}
-use Rattle.best_fit.specs.GapLaws.{is_gap_node-GapNode}
-use Rattle.best_fit.specs.GapNodes.{tiles_in}
+use Rattle.best_fit.proofs.Common.{◌≡◌, false, Bool, IsTrue, ◌+◌, ◌-◌, ◌*◌, ◌/◌, ap, subst, sym, ◌∙◌, arith}
+use Rattle.best_fit.proofs.Common.{false≢true, bytes_of, word_at, Tile, tile_at, tile_is_read_off}
+use Rattle.best_fit.proofs.Common.{is_gap_node-GapNode, tiles_in}
 use Rattle.best_fit.proofs.GapFacts.{node_at, node_len}
+use Rattle.best_fit.proofs.heap.summing.len_before.Goals.{then-node-lt-TAG-via-then-node-lt-TAG}
+use Rattle.best_fit.proofs.heap.summing.len_before.Goals.{then-node-lt-TAG-via-else-node-lt-TAG+then-not-in_range}
 use Rattle.best_fit.proofs.heap.summing.len_before.Goals as goal
-use Rattle.best_fit.proofs.heap.summing.len_before.Goals.{then-node-lt-TAG-via-then-node-lt-TAG, then-node-lt-TAG-via-else-node-lt-TAG+then-not-in_range}
 
 pub returns-then-node-lt-TAG : goal.returns-then-node-lt-TAG
 returns-then-node-lt-TAG c = λ node.

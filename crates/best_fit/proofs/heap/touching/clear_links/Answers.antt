@@ -1,5 +1,5 @@
 -- The two links of a gap that no tree has are beside all other nodes.
-use Rattle.std.proofs.Common.{arith}
+use Rattle.best_fit.proofs.Common.{arith}
 use Rattle.best_fit.proofs.Replanting.{cleared_kept, cleared_node, cleared_tree, lacking_node}
 use Rattle.best_fit.proofs.heap.touching.clear_links.Goals as goal
 

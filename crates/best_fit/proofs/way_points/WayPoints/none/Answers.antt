@@ -1,5 +1,5 @@
 -- Zero is no handle.
-use Rattle.best_fit.specs.WayPoints.{place_of}
+use Rattle.best_fit.proofs.Common.{place_of}
 use Rattle.best_fit.proofs.WayPoints.{none-noted}
 use Rattle.best_fit.proofs.way_points.WayPoints.none.Goals as goal
 

@@ -1,6 +1,5 @@
 -- What is noted in the wider pieces was noted before.
-use Rattle.std.proofs.Common.{ℕ}
-use Rattle.best_fit.specs.WayPoints.{IsNoted}
+use Rattle.best_fit.proofs.Common.{ℕ, IsNoted}
 use Rattle.best_fit.proofs.way_points.WayPoints.widen.Given as goal
 
 abbrev pub invariant-pieces : goal.invariant-pieces

@@ -1,7 +1,5 @@
 -- The length is that of the tile.
-use Rattle.std.proofs.Common.{◌-◌, sym, ap, ◌∙◌, arith, nat_lt}
-use Rattle.block_tags.specs.declared.tile.Tile.{Tile}
-use Rattle.best_fit.specs.GapLaws.{is_gap_node-GapNode}
+use Rattle.best_fit.proofs.Common.{◌-◌, sym, ap, ◌∙◌, arith, nat_lt, Tile, is_gap_node-GapNode}
 use Rattle.best_fit.proofs.GapFacts.{node_at, node_tile, node_read, node_len}
 use Rattle.best_fit.proofs.heap.nodes.GapsNodes.before_probe.Goals as goal
 

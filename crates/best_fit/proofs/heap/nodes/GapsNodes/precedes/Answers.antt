@@ -1,9 +1,6 @@
 -- The lengths are those of the two tiles.
-use Rattle.std.proofs.Common.{◌≡◌, ◌-◌, ℕ, ◌<◌, ◌≤◌, Bool, ◌&&◌, ◌||◌, sym, ap, ◌∙◌, arith, nat_lt, ◌==◌}
-use Rattle.std.proofs.lemmas.Bool.{lt-ltb, le-ltb, eq-eqb, ne_eqb, or_left}
-use Rattle.block_tags.specs.declared.tile.Tile.{Tile}
-use Rattle.best_fit.specs.GapNodes.{gaps_in, len_in}
-use Rattle.best_fit.specs.GapLaws.{is_gap_node-GapNode}
+use Rattle.best_fit.proofs.Common.{◌≡◌, ◌-◌, ℕ, ◌<◌, ◌≤◌, Bool, ◌&&◌, ◌||◌, sym, ap, ◌∙◌, arith, nat_lt, ◌==◌, lt-ltb}
+use Rattle.best_fit.proofs.Common.{le-ltb, eq-eqb, ne_eqb, or_left, Tile, gaps_in, len_in, is_gap_node-GapNode}
 use Rattle.best_fit.proofs.GapFacts.{node_at, node_tile, node_read, node_len}
 use Rattle.best_fit.proofs.heap.nodes.GapsNodes.precedes.Goals as goal
 

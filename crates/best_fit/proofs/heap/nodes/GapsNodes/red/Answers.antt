@@ -1,8 +1,5 @@
 -- The colour is that of the tile.
-use Rattle.std.proofs.Common.{◌-◌, sym, ap, ◌∙◌, arith}
-use Rattle.block_tags.specs.declared.tile.Tile.{Tile}
-use Rattle.link_tree.specs.Tree.{Cell}
-use Rattle.best_fit.specs.GapLaws.{cells_at, is_gap_node-GapNode}
+use Rattle.best_fit.proofs.Common.{◌-◌, sym, ap, ◌∙◌, arith, Tile, Cell, cells_at, is_gap_node-GapNode}
 use Rattle.best_fit.proofs.GapFacts.{node_at, node_tile, node_read, node_colour}
 use Rattle.best_fit.proofs.heap.nodes.GapsNodes.red.Goals as goal
 

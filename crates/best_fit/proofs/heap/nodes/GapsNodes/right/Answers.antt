@@ -1,7 +1,5 @@
 -- The link stands 8 bytes behind.
-use Rattle.std.proofs.Common.{sym, ap, ◌∙◌, arith}
-use Rattle.link_tree.specs.Tree.{Cell}
-use Rattle.best_fit.specs.GapLaws.{cells_at, is_gap_node-GapNode}
+use Rattle.best_fit.proofs.Common.{sym, ap, ◌∙◌, arith, Cell, cells_at, is_gap_node-GapNode}
 use Rattle.best_fit.proofs.GapFacts.{node_at}
 use Rattle.best_fit.proofs.heap.nodes.GapsNodes.right.Goals as goal
 

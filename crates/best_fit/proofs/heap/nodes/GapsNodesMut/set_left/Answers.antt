@@ -1,5 +1,5 @@
 -- One link changes.
-use Rattle.best_fit.specs.GapLaws.{is_gap_node-GapNode}
+use Rattle.best_fit.proofs.Common.{is_gap_node-GapNode}
 use Rattle.best_fit.proofs.GapSetters.{target_whole, link_fits, left_changed, left_cells}
 use Rattle.best_fit.proofs.NodesStay.{same_beside_cells}
 use Rattle.best_fit.proofs.heap.nodes.GapsNodesMut.set_left.Goals as goal

@@ -1,6 +1,5 @@
 -- One colour changes.
-use Rattle.std.proofs.Common.{◌-◌, arith}
-use Rattle.best_fit.specs.GapLaws.{is_gap_node-GapNode}
+use Rattle.best_fit.proofs.Common.{◌-◌, arith, is_gap_node-GapNode}
 use Rattle.best_fit.proofs.GapFacts.{node_at}
 use Rattle.best_fit.proofs.GapSetters.{gap_may, red_changed, red_cells}
 use Rattle.best_fit.proofs.NodesStay.{same_beside_cells}

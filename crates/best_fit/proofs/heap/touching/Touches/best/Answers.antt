@@ -1,8 +1,6 @@
 -- The tree of the gaps is a search tree, and its first node that is long enough is the least gap that is.
-use Rattle.std.proofs.Common.{ap, ◌∙◌, arith}
-use Rattle.link_tree.specs.Tree.{IsSearchTree}
-use Rattle.link_tree.specs.Nodes.{first_not}
-use Rattle.best_fit.specs.GapNodes.{comes_before, gap_cells, gaps_in, is_too_short}
+use Rattle.best_fit.proofs.Common.{ap, ◌∙◌, arith, IsSearchTree, first_not, comes_before, gap_cells, gaps_in}
+use Rattle.best_fit.proofs.Common.{is_too_short}
 use Rattle.best_fit.proofs.FreeTrees.{root_leads, search_tree, tree_size}
 use Rattle.best_fit.proofs.GapOrder.{first_is_least}
 use Rattle.best_fit.proofs.Replanting.{few_bits}

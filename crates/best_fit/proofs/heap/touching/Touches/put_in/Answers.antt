@@ -1,8 +1,6 @@
 -- The links are made null, `insert` puts the node in, and the new root is stored.
-use Rattle.std.proofs.Common.{ap, ◌∙◌, ℕ, Bool, ◌++◌, arith}
-use Rattle.link_tree.specs.Tree.{IsSearchTree}
-use Rattle.best_fit.specs.GapNodes.{comes_before, gap_cells, gaps_in}
-use Rattle.best_fit.specs.GapTrees.{HasTree}
+use Rattle.best_fit.proofs.Common.{ap, ◌∙◌, ℕ, Bool, ◌++◌, arith, IsSearchTree, comes_before, gap_cells, gaps_in}
+use Rattle.best_fit.proofs.Common.{HasTree}
 use Rattle.best_fit.proofs.FreeTrees.{root_leads, search_tree, tree_size}
 use Rattle.best_fit.proofs.GapSetters.{target_whole}
 use Rattle.best_fit.proofs.Replanting.{few_bits, node_inside, put_place, put_tree, taken_rest}

@@ -1,7 +1,5 @@
 -- `remove` takes the node out, and the new root is stored.
-use Rattle.std.proofs.Common.{ap, ◌∙◌, ℕ, Bool, arith}
-use Rattle.link_tree.specs.Tree.{IsSearchTree}
-use Rattle.best_fit.specs.GapNodes.{comes_before, gap_cells, gaps_in}
+use Rattle.best_fit.proofs.Common.{ap, ◌∙◌, ℕ, Bool, arith, IsSearchTree, comes_before, gap_cells, gaps_in}
 use Rattle.best_fit.proofs.FreeTrees.{root_leads, search_tree, tree_size}
 use Rattle.best_fit.proofs.GapSetters.{target_whole}
 use Rattle.best_fit.proofs.Replanting.{few_bits, in_tree_of, node_inside, node_of_tree, taken_rest, taken_tree}

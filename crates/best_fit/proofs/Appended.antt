@@ -26,16 +26,20 @@ use Rattle.best_fit.proofs.Steps.{In, in_front, inside, low_beside, tag_in}
 use Rattle.best_fit.proofs.Writes.{laid-heap}
 
 -- the size is legal where it is that of a segment and so many bytes more
-longer_legal : (n extra : ℕ) → IsLegal n → 32 ≤ extra → extra % 16 ≡ 0 → n + extra ≤ 1073741824 → IsTrue (is_legal_size (n + extra))
+longer_legal : (n extra : ℕ) → IsLegal n → 32 ≤ extra → extra % 16 ≡ 0 → n + extra ≤ 1073741824
+    → IsTrue (is_legal_size (n + extra))
 longer_legal n extra g long whole most =
-    let low = g.low in let even = g.whole in let w : (n + extra) % 16 ≡ 0 = omega arith in let l : 176 ≤ n + extra = omega arith in grind arith
+    let low = g.low in let even = g.whole in let w : (n + extra) % 16 ≡ 0 = omega arith in
+    let l : 176 ≤ n + extra = omega arith in grind arith
 
 by_hole : (a b : ℕ) → IsHole a b → a ≤ b
 by_hole a b (inl e) = omega arith
 by_hole a b (inr l) = omega arith
 
-module _ (c c1 : Cut) (extra : ℕ) (heap : IsHeap current c.bytes) (long : 32 ≤ extra) (multiple : extra % 16 ≡ 0) (small : length c.bytes + extra ≤ 1073741824)
-    (fits : length c.before + (length c.bytes + extra) ≤ length (whole c)) (e1 : c1 ≡ cut_at (whole c) (length c.before) (length c.bytes + extra)) where
+module _ (c c1 : Cut) (extra : ℕ) (heap : IsHeap current c.bytes) (long : 32 ≤ extra) (multiple : extra % 16 ≡ 0)
+    (small : length c.bytes + extra ≤ 1073741824)
+    (fits : length c.before + (length c.bytes + extra) ≤ length (whole c))
+    (e1 : c1 ≡ cut_at (whole c) (length c.before) (length c.bytes + extra)) where
   abbrev ts : List Tile
   ts = tiles_in c
 
@@ -61,12 +65,15 @@ module _ (c c1 : Cut) (extra : ℕ) (heap : IsHeap current c.bytes) (long : 32 �
       record {
         tiles = tiles_in c;
         said = front1;
-        size = subst (λ k. IsTrue (is_legal_size k)) (sym size1) (longer_legal (length c.bytes) extra size_c long multiple small);
+        size = subst (λ k. IsTrue (is_legal_size k)) (sym size1)
+            (longer_legal (length c.bytes) extra size_c long multiple small);
         room = omega arith;
       }
 
-  module _ (c2 : Cut) (tags2 : (us : List Tile) → FrontSaysTiles c1 (length c.bytes) us → SaysTiles c2 (with_free us (length c.bytes - 16) (length c1.bytes - 16)))
-      (rest2 : (us : List Tile) → FrontSaysTiles c1 (length c.bytes) us → SameBesideTags c1 c2 us (with_free us (length c.bytes - 16) (length c1.bytes - 16))) where
+  module _ (c2 : Cut) (tags2 : (us : List Tile) → FrontSaysTiles c1 (length c.bytes) us
+      → SaysTiles c2 (with_free us (length c.bytes - 16) (length c1.bytes - 16)))
+      (rest2 : (us : List Tile) → FrontSaysTiles c1 (length c.bytes) us
+      → SameBesideTags c1 c2 us (with_free us (length c.bytes - 16) (length c1.bytes - 16))) where
     abbrev free : Tile
     free = free_tile (length c.bytes - 16) (length c1.bytes - 16 - (length c.bytes - 16))
 
@@ -74,16 +81,30 @@ module _ (c c1 : Cut) (extra : ℕ) (heap : IsHeap current c.bytes) (long : 32 �
     said2 = tags2 (tiles_in c) front1
 
     away : Away (length c.bytes - 16) (tiles_in c)
-    away = row_away 128 (tiles_in c) (length c.bytes - 16) (length c.bytes - 16) (said_row c (tiles_in c) says.said) (omega arith)
+    away = row_away 128 (tiles_in c) (length c.bytes - 16) (length c.bytes - 16)
+        (said_row c (tiles_in c) says.said) (omega arith)
 
     -- what the change of its use needs
     pub can_use : MayBeUsed c2 (length c.bytes - 16) (Some Object)
-    can_use = record { tiles = tiles_in c ++ free ∷ []; said = said2; tile = free; stands = tile_in-around (length c.bytes - 16) free [] refl (tiles_in c) away; colour = refl }
+    can_use = record {
+      tiles = tiles_in c ++ free ∷ [];
+      said = said2;
+      tile = free;
+      stands = tile_in-around (length c.bytes - 16) free [] refl (tiles_in c) away;
+      colour = refl;
+    }
 
-    module _ (c3 : Cut) (tags3 : (us : List Tile) → SaysTiles c2 us → SaysTiles c3 (with_use_at (length c.bytes - 16) (Some Object) us))
-        (rest3 : (us : List Tile) → SaysTiles c2 us → SameBesideTags c2 c3 us (with_use_at (length c.bytes - 16) (Some Object) us)) where
+    module _ (c3 : Cut) (tags3 : (us : List Tile) → SaysTiles c2 us
+        → SaysTiles c3 (with_use_at (length c.bytes - 16) (Some Object) us))
+        (rest3 : (us : List Tile) → SaysTiles c2 us
+        → SameBesideTags c2 c3 us (with_use_at (length c.bytes - 16) (Some Object) us)) where
       abbrev used : Tile
-      used = record { offset = length c.bytes - 16; len = length c1.bytes - 16 - (length c.bytes - 16); use_of = Some Object; red = false }
+      used = record {
+        offset = length c.bytes - 16;
+        len = length c1.bytes - 16 - (length c.bytes - 16);
+        use_of = Some Object;
+        red = false;
+      }
 
       list3 : with_use_at (length c.bytes - 16) (Some Object) (tiles_in c ++ free ∷ []) ≡ tiles_in c ++ used ∷ []
       list3 = changed_at-around (length c.bytes - 16) free [] refl (used_for (Some Object)) (tiles_in c) away
@@ -107,13 +128,17 @@ module _ (c c1 : Cut) (extra : ℕ) (heap : IsHeap current c.bytes) (long : 32 �
       row_c = said_row c (tiles_in c) says.said
 
       -- a byte beside all three lists of tags stays
-      byte_stays : (k : ℕ) → k < length c.bytes - 16 → (t : Tile) → In t (tiles_in c) → t.offset + 16 ≤ k → k < t.offset + t.len → bytes_of c3.bytes k ≡ bytes_of c.bytes k
+      byte_stays : (k : ℕ) → k < length c.bytes - 16 → (t : Tile) → In t (tiles_in c) → t.offset + 16 ≤ k
+          → k < t.offset + t.len → bytes_of c3.bytes k ≡ bytes_of c.bytes k
       byte_stays k l t i low high =
           let s1 = size1 in let s2 = size2 in
           let a = inside 128 t (tiles_in c) (length c.bytes - 16) k row_c i low high in
-          let b = inside 128 t (tiles_in c ++ free ∷ []) (length c2.bytes - 16) k (said_row c2 (tiles_in c ++ free ∷ []) said2) (in_front t (tiles_in c) (free ∷ []) i) low high in
-          let d = inside 128 t (tiles_in c ++ used ∷ []) (length c3.bytes - 16) k (said_row c3 (tiles_in c ++ used ∷ []) said3) (in_front t (tiles_in c) (used ∷ []) i) low high in
-          beside3.bytes k b.beside d.beside (omega arith) ∙ beside2.bytes k a.beside b.beside (omega arith) ∙ same1.at k (omega arith) (omega arith)
+          let b = inside 128 t (tiles_in c ++ free ∷ []) (length c2.bytes - 16) k
+          (said_row c2 (tiles_in c ++ free ∷ []) said2) (in_front t (tiles_in c) (free ∷ []) i) low high in
+          let d = inside 128 t (tiles_in c ++ used ∷ []) (length c3.bytes - 16) k
+          (said_row c3 (tiles_in c ++ used ∷ []) said3) (in_front t (tiles_in c) (used ∷ []) i) low high in
+          beside3.bytes k b.beside d.beside (omega arith) ∙ beside2.bytes k a.beside b.beside (omega arith)
+          ∙ same1.at k (omega arith) (omega arith)
 
       header_stays : Same (bytes_of c.bytes) (bytes_of c3.bytes) 0 128
       header_stays =
@@ -121,8 +146,10 @@ module _ (c c1 : Cut) (extra : ℕ) (heap : IsHeap current c.bytes) (long : 32 �
           record {
             at = λ k low high.
                 let a = low_beside 128 (tiles_in c) (length c.bytes - 16) k row_c high in
-                let b = low_beside 128 (tiles_in c ++ free ∷ []) (length c2.bytes - 16) k (said_row c2 (tiles_in c ++ free ∷ []) said2) high in
-                let d = low_beside 128 (tiles_in c ++ used ∷ []) (length c3.bytes - 16) k (said_row c3 (tiles_in c ++ used ∷ []) said3) high in
+                let b = low_beside 128 (tiles_in c ++ free ∷ []) (length c2.bytes - 16) k
+                (said_row c2 (tiles_in c ++ free ∷ []) said2) high in
+                let d = low_beside 128 (tiles_in c ++ used ∷ []) (length c3.bytes - 16) k
+                (said_row c3 (tiles_in c ++ used ∷ []) said3) high in
                 beside3.bytes k b d (omega arith) ∙ beside2.bytes k a b (omega arith) ∙ same1.at k low (omega arith);
           }
 
@@ -130,10 +157,13 @@ module _ (c c1 : Cut) (extra : ℕ) (heap : IsHeap current c.bytes) (long : 32 �
       carries =
           record {
             row = row_c;
-            old = λ t i. tag_in current (bytes_of c.bytes) 128 0 (tiles_in c) (length c.bytes - 16) t says.said.tags row_c i;
-            new = λ t i. tag_in current (bytes_of c3.bytes) 128 0 (tiles_in c ++ used ∷ []) (length c3.bytes - 16) t said3.tags (said_row c3 (tiles_in c ++ used ∷ []) said3) (in_front t (tiles_in c) (used ∷ []) i);
+            old = λ t i. tag_in current (bytes_of c.bytes) 128 0 (tiles_in c) (length c.bytes - 16)
+                t says.said.tags row_c i;
+            new = λ t i. tag_in current (bytes_of c3.bytes) 128 0 (tiles_in c ++ used ∷ []) (length c3.bytes - 16) t
+                said3.tags (said_row c3 (tiles_in c ++ used ∷ []) said3) (in_front t (tiles_in c) (used ∷ []) i);
             payload = λ t i. record {
-              at = λ k low high. let a = inside 128 t (tiles_in c) (length c.bytes - 16) k row_c i low high in let l = a.high in byte_stays k (omega arith) t i low high;
+              at = λ k low high. let a = inside 128 t (tiles_in c) (length c.bytes - 16) k row_c i low high in
+                  let l = a.high in byte_stays k (omega arith) t i low high;
             };
             header = header_stays;
           }
@@ -145,18 +175,22 @@ module _ (c c1 : Cut) (extra : ℕ) (heap : IsHeap current c.bytes) (long : 32 �
       says3 =
           record {
             said = subst (SaysTiles c3) (sym list_is) said3;
-            apart = subst (Apart false) (sym list_is) (apart_joined false (tiles_in c) (used ∷ []) says.apart (λ a no. absurd (false≢true no), tt));
+            apart = subst (Apart false) (sym list_is)
+                (apart_joined false (tiles_in c) (used ∷ []) says.apart (λ a no. absurd (false≢true no), tt));
           }
 
       -- the gaps are the same
       pub gaps3 : gaps_in c3 ≡ gaps_in c
       gaps3 =
-          ap gaps_of list_is ∙ gaps_of-append (tiles_in c) (used ∷ []) ∙ ap (λ (gs : List Gap). gaps_of (tiles_in c) ++ gs) (gaps_of-used used [] Object refl) ∙ append-nil (gaps_of (tiles_in c))
+          ap gaps_of list_is ∙ gaps_of-append (tiles_in c) (used ∷ [])
+          ∙ ap (λ (gs : List Gap). gaps_of (tiles_in c) ++ gs) (gaps_of-used used [] Object refl)
+          ∙ append-nil (gaps_of (tiles_in c))
 
       tree3 : IsTreeOf (bytes_of c3.bytes) 24 (payloads (sorted_gaps (gaps_in c3)))
       tree3 =
           subst (λ (gs : List Gap). IsTreeOf (bytes_of c3.bytes) 24 (payloads (sorted_gaps gs))) (sym gaps3)
-          (carried_tree (bytes_of c.bytes) (bytes_of c3.bytes) (tiles_in c) (length c.bytes - 16) carries (heap_tree c heap).tree)
+          (carried_tree (bytes_of c.bytes) (bytes_of c3.bytes) (tiles_in c) (length c.bytes - 16) carries
+          (heap_tree c heap).tree)
 
       extents3 : extents_of (tiles_in c3) ≡ (live_of c.bytes).extents ++ block_behind (length c.bytes) extra ∷ []
       unfolding live_of
@@ -166,17 +200,24 @@ module _ (c c1 : Cut) (extra : ℕ) (heap : IsHeap current c.bytes) (long : 32 �
           ap extents_of list_is ∙ extents_of-append (tiles_in c) (used ∷ [])
           ∙ (λ i. extents_of (tiles_in c) ++ record { offset = length c.bytes - 16; len = len i; role = Object } ∷ [])
 
-      live3 : live_of c3.bytes ≡ record { size = length c.bytes + extra; extents = (live_of c.bytes).extents ++ block_behind (length c.bytes) extra ∷ [] }
-      live3 = let e = size3 in let x = extents3 in says-live c3 (tiles_in c3) says3 ∙ (λ i. record { size = e i; extents = x i })
+      live3 : live_of c3.bytes ≡ record {
+        size = length c.bytes + extra;
+        extents = (live_of c.bytes).extents ++ block_behind (length c.bytes) extra ∷ [];
+      }
+      live3 = let e = size3 in let x = extents3 in says-live c3 (tiles_in c3) says3
+          ∙ (λ i. record { size = e i; extents = x i })
 
-      blocks3 : (unfolded : (live_of c.bytes).extents ≡ extents_of (tiles_in c)) → KeepsTo c c3 (length c.bytes + extra) (live_of c.bytes).extents
+      blocks3 : (unfolded : (live_of c.bytes).extents ≡ extents_of (tiles_in c))
+          → KeepsTo c c3 (length c.bytes + extra) (live_of c.bytes).extents
       blocks3 e =
           record {
             place = ends-then c c2 c3 (length c.bytes + extra)
-                (ends-then c c1 c2 (length c.bytes + extra) (resized_ends c c1 (length c.bytes + extra) e1 fits) beside2.place beside2.size) beside3.place beside3.size;
+                (ends-then c c1 c2 (length c.bytes + extra) (resized_ends c c1 (length c.bytes + extra) e1 fits)
+                beside2.place beside2.size) beside3.place beside3.size;
             front = record { at = λ k low high. header_stays.at k low (omega arith) };
             behind = record { at = λ k low high. header_stays.at k (omega arith) high };
-            blocks = rw e (carried_blocks (bytes_of c.bytes) (bytes_of c3.bytes) (tiles_in c) (length c.bytes - 16) carries);
+            blocks = rw e (carried_blocks (bytes_of c.bytes) (bytes_of c3.bytes) (tiles_in c)
+                (length c.bytes - 16) carries);
           }
 
       own_extents : (live_of c.bytes).extents ≡ extents_of (tiles_in c)
@@ -184,23 +225,35 @@ module _ (c c1 : Cut) (extra : ℕ) (heap : IsHeap current c.bytes) (long : 32 �
       own_extents = refl
 
       pub has_block_behind : HasBlockBehind current c c3 extra
-      has_block_behind = record { live = subst (LaysOut current c3.bytes) live3 (lays_out c3 says3 tree3); keeps = blocks3 own_extents }
+      has_block_behind = record {
+        live = subst (LaysOut current c3.bytes) live3 (lays_out c3 says3 tree3);
+        keeps = blocks3 own_extents;
+      }
 
 -- the same of a size that is that of the window
 pub record LongerWindow (c : Cut) (extra size : ℕ) (c1 : Cut) : Type 0 where
   pub room : CanAppend c1 size
-  pub used : (c2 : Cut) → ((us : List Tile) → FrontSaysTiles c1 size us → SaysTiles c2 (with_free us (size - 16) (length c1.bytes - 16)))
-      → ((us : List Tile) → FrontSaysTiles c1 size us → SameBesideTags c1 c2 us (with_free us (size - 16) (length c1.bytes - 16))) → MayBeUsed c2 (size - 16) (Some Object)
-  pub block : (c2 : Cut) → ((us : List Tile) → FrontSaysTiles c1 size us → SaysTiles c2 (with_free us (size - 16) (length c1.bytes - 16)))
-      → ((us : List Tile) → FrontSaysTiles c1 size us → SameBesideTags c1 c2 us (with_free us (size - 16) (length c1.bytes - 16)))
+  pub used : (c2 : Cut)
+      → ((us : List Tile) → FrontSaysTiles c1 size us → SaysTiles c2 (with_free us (size - 16) (length c1.bytes - 16)))
+      → ((us : List Tile) → FrontSaysTiles c1 size us
+      → SameBesideTags c1 c2 us (with_free us (size - 16) (length c1.bytes - 16)))
+      → MayBeUsed c2 (size - 16) (Some Object)
+  pub block : (c2 : Cut)
+      → ((us : List Tile) → FrontSaysTiles c1 size us → SaysTiles c2 (with_free us (size - 16) (length c1.bytes - 16)))
+      → ((us : List Tile) → FrontSaysTiles c1 size us
+      → SameBesideTags c1 c2 us (with_free us (size - 16) (length c1.bytes - 16)))
       → (c3 : Cut) → ((us : List Tile) → SaysTiles c2 us → SaysTiles c3 (with_use_at (size - 16) (Some Object) us))
-      → ((us : List Tile) → SaysTiles c2 us → SameBesideTags c2 c3 us (with_use_at (size - 16) (Some Object) us)) → HasBlockBehind current c c3 extra × (gaps_in c3 ≡ gaps_in c)
+      → ((us : List Tile) → SaysTiles c2 us → SameBesideTags c2 c3 us (with_use_at (size - 16) (Some Object) us))
+      → HasBlockBehind current c c3 extra × (gaps_in c3 ≡ gaps_in c)
 
-pub longer_window : (c : Cut) (extra : ℕ) → IsHeap current c.bytes → 32 ≤ extra → extra % 16 ≡ 0 → length c.bytes + extra ≤ 1073741824
-    → length c.before + (length c.bytes + extra) ≤ length (whole c) → (size : ℕ) → size ≡ length c.bytes → (c1 : Cut) → c1 ≡ cut_at (whole c) (length c.before) (size + extra)
+pub longer_window : (c : Cut) (extra : ℕ) → IsHeap current c.bytes → 32 ≤ extra → extra % 16 ≡ 0
+    → length c.bytes + extra ≤ 1073741824
+    → length c.before + (length c.bytes + extra) ≤ length (whole c) → (size : ℕ) → size ≡ length c.bytes → (c1 : Cut)
+    → c1 ≡ cut_at (whole c) (length c.before) (size + extra)
     → LongerWindow c extra size c1
 longer_window c extra heap long multiple small fits size s c1 e =
-    let e1 : c1 ≡ cut_at (whole c) (length c.before) (length c.bytes + extra) = e ∙ ap (λ n. cut_at (whole c) (length c.before) (n + extra)) s in
+    let e1 : c1 ≡ cut_at (whole c) (length c.before) (length c.bytes + extra) = e
+    ∙ ap (λ n. cut_at (whole c) (length c.before) (n + extra)) s in
     subst (λ n. LongerWindow c extra n c1) (sym s) (record {
       room = can_append c c1 extra heap long multiple small fits e1;
       used = λ c2 tags2 rest2. can_use c c1 extra heap long multiple small fits e1 c2 tags2 rest2;
@@ -213,31 +266,44 @@ longer_window c extra heap long multiple small fits size s c1 e =
 -- ---- and it is given back
 
 -- the last of proper extents begins where the others end, or later
-last_reaches : (from : ℕ) (xs : List Extent) (y : Extent) (to : ℕ) → IsTrue (proper_from from (xs ++ y ∷ []) to) → from ≤ y.offset
+last_reaches : (from : ℕ) (xs : List Extent) (y : Extent) (to : ℕ) → IsTrue (proper_from from (xs ++ y ∷ []) to)
+    → from ≤ y.offset
 last_reaches from [] y to h = by_hole from y.offset (proper_from-IsFirst from y [] to h).hole
 last_reaches from (x ∷ xs) y to h =
     let f = proper_from-IsFirst from x (xs ++ y ∷ []) to h in
     let on = last_reaches (end_of x) xs y to f.rest in let first = by_hole from x.offset f.hole in omega arith
 
 -- it is taken out by its handle
-pub others-last : (from : ℕ) (xs : List Extent) (y : Extent) (to : ℕ) → IsTrue (proper_from from (xs ++ y ∷ []) to) → others (handle y) (xs ++ y ∷ []) ≡ xs
+pub others-last : (from : ℕ) (xs : List Extent) (y : Extent) (to : ℕ) → IsTrue (proper_from from (xs ++ y ∷ []) to)
+    → others (handle y) (xs ++ y ∷ []) ≡ xs
 others-last from [] y to h = others-here (handle y) y [] refl
 others-last from (x ∷ xs) y to h =
     let f = proper_from-IsFirst from x (xs ++ y ∷ []) to h in
     let on = last_reaches (end_of x) xs y to f.rest in let long = f.block.long in
-    others-past (handle y) x (xs ++ y ∷ []) (λ e. omega arith) ∙ ap (λ (zs : List Extent). x ∷ zs) (others-last (end_of x) xs y to f.rest)
+    others-past (handle y) x (xs ++ y ∷ []) (λ e. omega arith)
+    ∙ ap (λ (zs : List Extent). x ∷ zs) (others-last (end_of x) xs y to f.rest)
 
 -- and in use
-pub live-last : (xs : List Extent) (y : Extent) → IsTrue (list_any (λ (x : Extent). handle x == handle y) (xs ++ y ∷ []))
+pub live-last : (xs : List Extent) (y : Extent)
+    → IsTrue (list_any (λ (x : Extent). handle x == handle y) (xs ++ y ∷ []))
 live-last [] y = or_left (handle y == handle y) false (eq-eqb (handle y) (handle y) refl)
-live-last (x ∷ xs) y = or_right (handle x == handle y) (list_any (λ (z : Extent). handle z == handle y) (xs ++ y ∷ [])) (live-last xs y)
+live-last (x ∷ xs) y = or_right (handle x == handle y)
+    (list_any (λ (z : Extent). handle z == handle y) (xs ++ y ∷ [])) (live-last xs y)
 
 -- what laid out the block behind all others lays out the others once it is given back
-module _ (old mid : Cut) (extra at : ℕ) (b : HasBlockBehind current old mid extra) (is : at + 16 ≡ length old.bytes) where
+module _ (old mid : Cut) (extra at : ℕ) (b : HasBlockBehind current old mid extra)
+    (is : at + 16 ≡ length old.bytes) where
   abbrev live_mid : LiveSet
-  live_mid = record { size = length old.bytes + extra; extents = (live_of old.bytes).extents ++ block_behind (length old.bytes) extra ∷ [] }
+  live_mid = record {
+    size = length old.bytes + extra;
+    extents = (live_of old.bytes).extents ++ block_behind
+        (length old.bytes) extra ∷ [];
+  }
 
-  mid_is : live_of mid.bytes ≡ record { size = length old.bytes + extra; extents = (live_of old.bytes).extents ++ block_behind (length old.bytes) extra ∷ [] }
+  mid_is : live_of mid.bytes ≡ record {
+    size = length old.bytes + extra;
+    extents = (live_of old.bytes).extents ++ block_behind (length old.bytes) extra ∷ [];
+  }
   mid_is = lay_out_one current mid.bytes live_mid b.live
 
   handle_is : handle (block_behind (length old.bytes) extra) ≡ at + 16
@@ -248,14 +314,16 @@ module _ (old mid : Cut) (extra at : ℕ) (b : HasBlockBehind current old mid ex
 
   pub behind_live : IsTrue (is_live_in (live_of mid.bytes) (at + 16))
   behind_live =
-      rw mid_is (subst (λ h. IsTrue (list_any (λ (x : Extent). handle x == h) live_mid.extents)) handle_is (live-last (live_of old.bytes).extents (block_behind (length old.bytes) extra)))
+      rw mid_is (subst (λ h. IsTrue (list_any (λ (x : Extent). handle x == h) live_mid.extents)) handle_is
+      (live-last (live_of old.bytes).extents (block_behind (length old.bytes) extra)))
 
   others_are : others (at + 16) (live_of mid.bytes).extents ≡ (live_of old.bytes).extents
   others_are =
       let p = is_proper-IsProper live_mid b.live.proper in
       ap (λ (l : LiveSet). others (at + 16) l.extents) mid_is
       ∙ subst (λ h. others h live_mid.extents ≡ (live_of old.bytes).extents) handle_is
-      (others-last 128 (live_of old.bytes).extents (block_behind (length old.bytes) extra) (length old.bytes + extra - 16) p.list)
+      (others-last 128 (live_of old.bytes).extents (block_behind (length old.bytes) extra)
+      (length old.bytes + extra - 16) p.list)
 
   module _ (new : Cut) (r : IsReleased current mid new (at + 16)) where
     size_mid : length mid.bytes ≡ length old.bytes + extra
@@ -271,5 +339,6 @@ module _ (old mid : Cut) (extra at : ℕ) (b : HasBlockBehind current old mid ex
     end_moved =
         record {
           live = subst (LaysOut current new.bytes) live_new r.live;
-          keeps = keeps_to-then old mid new (length old.bytes + extra) (live_of old.bytes).extents b.keeps (subst (Keeps mid new) others_are r.keeps) size_new;
+          keeps = keeps_to-then old mid new (length old.bytes + extra) (live_of old.bytes).extents b.keeps
+              (subst (Keeps mid new) others_are r.keeps) size_new;
         }

@@ -43,7 +43,8 @@ module _ (m m' : Memory) (small : (k : ℕ) → m k < 256) (small' : (k : ℕ) �
   in_word : (at : ℕ) → word_at m' at ≡ word_at m at → (k : ℕ) → at ≤ k → k < at + 8 → m' k ≡ m k
   in_word at e k low high = same_bytes 8 at (sym (word-number_at m' at) ∙ e ∙ word-number_at m at) k low high
 
-  in_tag : (at : ℕ) → word_at m' at ≡ word_at m at → word_at m' (at + 8) ≡ word_at m (at + 8) → (k : ℕ) → at ≤ k → k < at + 16 → m' k ≡ m k
+  in_tag : (at : ℕ) → word_at m' at ≡ word_at m at → word_at m' (at + 8) ≡ word_at m (at + 8) → (k : ℕ) → at ≤ k
+      → k < at + 16 → m' k ≡ m k
   in_tag at e f k low high = by_place (cases_lt k (at + 8))
     where
       by_place : (k < at + 8) ⊎ (at + 8 ≤ k) → m' k ≡ m k
@@ -55,22 +56,26 @@ module _ (m m' : Memory) (small : (k : ℕ) → m k < 256) (small' : (k : ℕ) �
   behind k at offset n o low (inr l) = omega arith
 
   -- the bytes from a tile on
-  same_from : (at before : ℕ) (ts us : List Tile) (end : ℕ) → AreTags current m at before ts end → AreTags current m' at before us end → map plain us ≡ map plain ts
+  same_from : (at before : ℕ) (ts us : List Tile) (end : ℕ) → AreTags current m at before ts end
+      → AreTags current m' at before us end → map plain us ≡ map plain ts
       → ((t : Tile) (role : Role) → In t ts → t.use_of ≡ Some role → Same m m' (t.offset + 16) (t.offset + t.len))
       → (k : ℕ) → at ≤ k → k < end + 16 → AllByRecursion (IsBesideGap k) (gaps_of ts) → m' k ≡ m k
-  same_from at before [] [] end a b p pays k low high beside = let e = a.0 in in_tag at (b.1 ∙ sym a.1) (b.2 ∙ sym a.2) k low (omega arith)
+  same_from at before [] [] end a b p pays k low high beside = let e = a.0 in
+      in_tag at (b.1 ∙ sym a.1) (b.2 ∙ sym a.2) k low (omega arith)
   same_from at before [] (u ∷ us) end a b p pays k low high beside = absurd (empty_not (plain u) (map plain us) (sym p))
   same_from at before (t ∷ ts) [] end a b p pays k low high beside = absurd (empty_not (plain t) (map plain ts) p)
   same_from at before (t ∷ ts) (u ∷ us) end a b p pays k low high beside =
       let head = head_same (plain u) (plain t) (map plain us) (map plain ts) p in
       let tail = tail_same (plain u) (plain t) (map plain us) (map plain ts) p in
       let len : u.len ≡ t.len = ap (λ (v : Tile). v.len) head in
-      let b' : AreTags current m' (at + t.len) t.len us end = subst (λ n. AreTags current m' (at + n) n us end) len b.4 in
+      let b' : AreTags current m' (at + t.len) t.len us end =
+      subst (λ n. AreTags current m' (at + n) n us end) len b.4 in
       let o : t.offset ≡ at = a.0 in
       let on = same_from (at + t.len) t.len ts us end a.4 b' tail (λ v role i e. pays v role (inr i) e) k in
       elim (use_cases t) [
         | unused e ↦
-            let all : AllByRecursion (IsBesideGap k) (gap_of t ∷ gaps_of ts) = subst (AllByRecursion (IsBesideGap k)) (gaps_of-free t ts e) beside in
+            let all : AllByRecursion (IsBesideGap k) (gap_of t ∷ gaps_of ts) = subst (AllByRecursion (IsBesideGap k))
+            (gaps_of-free t ts e) beside in
             on (behind k at t.offset t.len o low all.0) high all.1
         | used role e ↦
             let black = used-not_free t role e in
@@ -85,11 +90,14 @@ module _ (m m' : Memory) (small : (k : ℕ) → m k < 256) (small' : (k : ℕ) �
             ]
       ]
 
-module _ (old new : Cut) (says : SaysHeap old (tiles_in old)) (said : SaysTiles new (tiles_in new)) (r : Regrown old new) (small : AreBytes old.bytes) (small' : AreBytes new.bytes) where
+module _ (old new : Cut) (says : SaysHeap old (tiles_in old)) (said : SaysTiles new (tiles_in new))
+    (r : Regrown old new) (small : AreBytes old.bytes) (small' : AreBytes new.bytes) where
   gaps_old : gaps (live_of old.bytes) ≡ gaps_of (tiles_in old)
-  gaps_old = ap gaps (says-live old (tiles_in old) says) ∙ gaps-live_in (length old.bytes) (tiles_in old) (said_row old (tiles_in old) says.said) says.apart
+  gaps_old = ap gaps (says-live old (tiles_in old) says) ∙ gaps-live_in (length old.bytes) (tiles_in old)
+      (said_row old (tiles_in old) says.said) says.apart
 
-  pub beside_gaps : (k : ℕ) → k < length old.bytes → (k < 24) ⊎ (32 ≤ k) → AllByRecursion (IsBesideGap k) (gaps (live_of old.bytes)) → bytes_of new.bytes k ≡ bytes_of old.bytes k
+  pub beside_gaps : (k : ℕ) → k < length old.bytes → (k < 24) ⊎ (32 ≤ k)
+      → AllByRecursion (IsBesideGap k) (gaps (live_of old.bytes)) → bytes_of new.bytes k ≡ bytes_of old.bytes k
   beside_gaps k high away beside = by_place (cases_lt k 128)
     where
       tags : AreTags current (bytes_of new.bytes) 128 0 (tiles_in new) (length old.bytes - 16)
@@ -99,5 +107,7 @@ module _ (old new : Cut) (says : SaysHeap old (tiles_in old)) (said : SaysTiles 
       by_place (inl l) = r.bytes k (or_left (nat_lt k 128) (lies_in_block (tiles_in old) k) (lt-ltb k 128 l)) away
       by_place (inr l) =
           let least = (legal_size (length old.bytes) says.said.size).low in
-          same_from (bytes_of old.bytes) (bytes_of new.bytes) small small' 128 0 (tiles_in old) (tiles_in new) (length old.bytes - 16) says.said.tags tags r.tiles
-          (λ t role i e. (regrown_block old new says.said said r t i role e).payload) k l (omega arith) (subst (AllByRecursion (IsBesideGap k)) gaps_old beside)
+          same_from (bytes_of old.bytes) (bytes_of new.bytes) small small' 128 0 (tiles_in old) (tiles_in new)
+          (length old.bytes - 16) says.said.tags tags r.tiles
+          (λ t role i e. (regrown_block old new says.said said r t i role e).payload) k l (omega arith)
+          (subst (AllByRecursion (IsBesideGap k)) gaps_old beside)

@@ -1,4 +1,5 @@
--- Tiles that stand in two memories, with the same payloads: their blocks and their tree are the same. And a window that ends elsewhere.
+-- Tiles that stand in two memories, with the same payloads: their blocks and their tree are the same. And a window
+-- that ends elsewhere.
 use Rattle.best_fit.proofs.Common.{◌≡◌, sym, ap, subst, ◌∙◌, ℕ, ◌+◌, ◌-◌, ◌/◌, ◌%◌, ◌≤◌, true, List, ◌++◌, length}
 use Rattle.best_fit.proofs.Common.{take, drop, arith, ◌==◌, append_assoc, Option, slice_index, AllByRecursion}
 use Rattle.best_fit.proofs.Common.{length-append, Memory, Cut, Same, SamePlace, bytes_of, part, whole, word_at}
@@ -32,10 +33,13 @@ module _ (m m' : Memory) (ts : List Tile) (end : ℕ) (c : Carries m m' ts end) 
 
   -- the blocks among them stay
   pub carried_blocks : AllByRecursion (SameBlock m m') (extents_of ts)
-  carried_blocks = all_used (SameBlock m m') ts (λ t i role e. record { payload = c.payload t i; colour = ap (λ w. w % 16) (tag_stays t i) })
+  carried_blocks = all_used (SameBlock m m') ts
+      (λ t i role e. record { payload = c.payload t i; colour = ap (λ w. w % 16) (tag_stays t i) })
 
-  link_stays : (t : Tile) → In t ts → (n : ℕ) → t.offset + 16 ≤ n → n + 8 ≤ t.offset + t.len → link_at m' n ≡ link_at m n
-  link_stays t i n low high = ap (target_of n) (Same-word m m' (t.offset + 16) (t.offset + t.len) n (c.payload t i) low high)
+  link_stays : (t : Tile) → In t ts → (n : ℕ) → t.offset + 16 ≤ n → n + 8 ≤ t.offset + t.len
+      → link_at m' n ≡ link_at m n
+  link_stays t i n low high =
+      ap (target_of n) (Same-word m m' (t.offset + 16) (t.offset + t.len) n (c.payload t i) low high)
 
   -- the fields of the gaps among them stay
   carried_cell : (n : ℕ) → is_in n (payloads (gaps_of ts)) ≡ true → cells_of m' n ≡ cells_of m n
@@ -45,7 +49,8 @@ module _ (m m' : Memory) (ts : List Tile) (end : ℕ) (c : Carries m m' ts end) 
       let lies = row_lies 128 ts end f.tile c.row i in
       let at = f.at in let long = lies.long in
       let tag : f.tile.offset + 8 ≡ n - 8 = omega arith in
-      cell_stays m m' n (link_stays f.tile i n (omega arith) (omega arith)) (link_stays f.tile i (n + 8) (omega arith) (omega arith))
+      cell_stays m m' n (link_stays f.tile i n (omega arith) (omega arith))
+      (link_stays f.tile i (n + 8) (omega arith) (omega arith))
       (ap (λ w. w / 2 % 2 == 1) (subst (λ k. word_at m' k ≡ word_at m k) tag (tag_stays f.tile i)))
 
   -- the root is in the header
@@ -53,13 +58,15 @@ module _ (m m' : Memory) (ts : List Tile) (end : ℕ) (c : Carries m m' ts end) 
   carried_root = ap (target_of 24) (Same-word m m' 0 128 24 c.header (omega arith) (omega arith))
 
   -- and so does their tree
-  pub carried_tree : IsTreeOf m 24 (payloads (sorted_gaps (gaps_of ts))) → IsTreeOf m' 24 (payloads (sorted_gaps (gaps_of ts)))
+  pub carried_tree : IsTreeOf m 24 (payloads (sorted_gaps (gaps_of ts)))
+      → IsTreeOf m' 24 (payloads (sorted_gaps (gaps_of ts)))
   carried_tree old =
       record {
         tree = old.tree;
         linked = subst (λ (o : Option ℕ). IsTree (cells_of m') o old.tree) (sym carried_root)
             (tree_same (cells_of m) (cells_of m') (link_at m 24) old.tree
-            (λ n i. carried_cell n (sym (in_sorted n (gaps_of ts)) ∙ ap (λ (ns : List ℕ). is_in n ns) (sym old.lists) ∙ i)) old.linked);
+            (λ n i. carried_cell n (sym (in_sorted n (gaps_of ts)) ∙ ap (λ (ns : List ℕ). is_in n ns) (sym old.lists)
+            ∙ i)) old.linked);
         red_black = old.red_black;
         lists = old.lists;
       }
@@ -71,7 +78,8 @@ in_three : (c : Cut) → whole c ≡ c.before ++ (c.bytes ++ c.after)
 in_three c = append_assoc c.before c.bytes c.after
 
 behind_base : (c : Cut) → drop (length c.before) (whole c) ≡ c.bytes ++ c.after
-behind_base c = ap (λ (l : List ℕ). drop (length c.before) l) (in_three c) ∙ drop-append_seam c.before (c.bytes ++ c.after)
+behind_base c = ap (λ (l : List ℕ). drop (length c.before) l) (in_three c)
+    ∙ drop-append_seam c.before (c.bytes ++ c.after)
 
 behind_window : (c : Cut) → drop (length c.before + length c.bytes) (whole c) ≡ c.after
 behind_window c =
@@ -82,14 +90,16 @@ own_bytes : (c : Cut) → part (whole c) (length c.before) (length c.bytes) ≡ 
 own_bytes c = ap (λ (l : List ℕ). take (length c.bytes) l) (behind_base c) ∙ take-append_seam c.bytes c.after
 
 own_before : (c : Cut) → take (length c.before) (whole c) ≡ c.before
-own_before c = ap (λ (l : List ℕ). take (length c.before) l) (in_three c) ∙ take-append_seam c.before (c.bytes ++ c.after)
+own_before c = ap (λ (l : List ℕ). take (length c.before) l) (in_three c)
+    ∙ take-append_seam c.before (c.bytes ++ c.after)
 
 dropped_twice : (l : List ℕ) (base n m : ℕ) → drop (n - m) (drop (base + m) l) ≡ drop (m - n) (drop (base + n) l)
 dropped_twice l base n m =
     let e : base + m + (n - m) ≡ base + n + (m - n) = omega arith in
     drop-drop (n - m) (base + m) l ∙ ap (λ (k : ℕ). drop k l) e ∙ sym (drop-drop (m - n) (base + n) l)
 
-module _ (c d : Cut) (size : ℕ) (e : d ≡ cut_at (whole c) (length c.before) size) (inside : length c.before + size ≤ length (whole c)) where
+module _ (c d : Cut) (size : ℕ) (e : d ≡ cut_at (whole c) (length c.before) size)
+    (inside : length c.before + size ≤ length (whole c)) where
   -- it has the same place in the region
   pub resized_ends : EndsAt c d size
   resized_ends =
@@ -97,7 +107,8 @@ module _ (c d : Cut) (size : ℕ) (e : d ≡ cut_at (whole c) (length c.before) 
         before = own_before c;
         bytes = length-part (whole c) (length c.before) size inside;
         capacity = ap (λ (l : List ℕ). length l) (whole-cut_at (whole c) (length c.before) size);
-        after = dropped_twice (whole c) (length c.before) (length c.bytes) size ∙ ap (λ (l : List ℕ). drop (size - length c.bytes) l) (behind_window c);
+        after = dropped_twice (whole c) (length c.before) (length c.bytes) size
+            ∙ ap (λ (l : List ℕ). drop (size - length c.bytes) l) (behind_window c);
       })
 
   -- and the same bytes as far as both go
@@ -105,17 +116,25 @@ module _ (c d : Cut) (size : ℕ) (e : d ≡ cut_at (whole c) (length c.before) 
   resized_same n a b =
       subst (λ (v : Cut). Same (bytes_of c.bytes) (bytes_of v.bytes) 0 n) (sym e) (record {
         at = λ k low high.
-            part-at (whole c) (length c.before) size k (omega arith) ∙ sym (part-at (whole c) (length c.before) (length c.bytes) k (omega arith))
+            part-at (whole c) (length c.before) size k (omega arith)
+            ∙ sym (part-at (whole c) (length c.before) (length c.bytes) k (omega arith))
             ∙ ap (λ (l : List ℕ). slice_index l k) (own_bytes c);
       })
 
 -- ---- what stays before the end moves, and after
 
-length_whole : (a b : Cut) → b.before ≡ a.before → b.after ≡ a.after → length b.bytes ≡ length a.bytes → length (whole b) ≡ length (whole a)
+length_whole : (a b : Cut) → b.before ≡ a.before → b.after ≡ a.after → length b.bytes ≡ length a.bytes
+    → length (whole b) ≡ length (whole a)
 length_whole a b e f g =
     let first : length b.before ≡ length a.before = ap (λ (l : List ℕ). length l) e in
     let last : length b.after ≡ length a.after = ap (λ (l : List ℕ). length l) f in
-    omega (arith, length-append (a.before ++ a.bytes) a.after, length-append a.before a.bytes, length-append (b.before ++ b.bytes) b.after, length-append b.before b.bytes)
+    omega (
+      arith,
+      length-append (a.before ++ a.bytes) a.after,
+      length-append a.before a.bytes,
+      length-append (b.before ++ b.bytes) b.after,
+      length-append b.before b.bytes,
+    )
 
 pub ends-then : (a b c : Cut) (n : ℕ) → EndsAt a b n → SamePlace b c → length c.bytes ≡ length b.bytes → EndsAt a c n
 ends-then a b c n p place size =
@@ -136,7 +155,8 @@ then-ends a b c n place size p =
           ∙ ap (λ (k : ℕ). drop (n - k) b.after) size ∙ ap (λ (l : List ℕ). drop (n - length a.bytes) l) place.after;
     }
 
-pub keeps_to-then : (a b c : Cut) (n : ℕ) (xs : List Extent) → KeepsTo a b n xs → Keeps b c xs → length c.bytes ≡ length b.bytes → KeepsTo a c n xs
+pub keeps_to-then : (a b c : Cut) (n : ℕ) (xs : List Extent) → KeepsTo a b n xs → Keeps b c xs
+    → length c.bytes ≡ length b.bytes → KeepsTo a c n xs
 keeps_to-then a b c n xs p q size =
     record {
       place = ends-then a b c n p.place q.place size;
@@ -145,7 +165,8 @@ keeps_to-then a b c n xs p q size =
       blocks = blocks-trans (bytes_of a.bytes) (bytes_of b.bytes) (bytes_of c.bytes) xs p.blocks q.blocks;
     }
 
-pub then-keeps_to : (a b c : Cut) (n : ℕ) (xs : List Extent) → Keeps a b xs → length b.bytes ≡ length a.bytes → KeepsTo b c n xs → KeepsTo a c n xs
+pub then-keeps_to : (a b c : Cut) (n : ℕ) (xs : List Extent) → Keeps a b xs → length b.bytes ≡ length a.bytes
+    → KeepsTo b c n xs → KeepsTo a c n xs
 then-keeps_to a b c n xs p size q =
     record {
       place = then-ends a b c n p.place size q.place;

@@ -25,7 +25,8 @@ use Rattle.best_fit.proofs.Steps.{In, in_front, inside, low_beside, tag_in}
 abbrev pub EndsUsed : List Tile → Type 0
 EndsUsed ts = (t : Tile) → last_in ts ≡ Some t → is_free t ≡ false
 
-ends_on : (from at : ℕ) (t : Tile) (ts : List Tile) (end : ℕ) → Row at (t ∷ ts) end → EndsUsed (t ∷ ts) → last_end from (extents_of (t ∷ ts)) ≡ end
+ends_on : (from at : ℕ) (t : Tile) (ts : List Tile) (end : ℕ) → Row at (t ∷ ts) end → EndsUsed (t ∷ ts)
+    → last_end from (extents_of (t ∷ ts)) ≡ end
 ends_on from at t [] end r u =
     let o = r.0 in let on : at + t.len ≡ end = r.3 in
     elim (use_cases t) [
@@ -33,10 +34,12 @@ ends_on from at t [] end r u =
       | used role e ↦ ap (λ (xs : List Extent). last_end from xs) (extents_of-used t [] role e) ∙ omega arith
     ]
 ends_on from at t (v ∷ ts) end r u =
-    let rest : (start : ℕ) → last_end start (extents_of (v ∷ ts)) ≡ end = λ start. ends_on start (at + t.len) v ts end r.3 u in
+    let rest : (start : ℕ) → last_end start (extents_of (v ∷ ts)) ≡ end = λ start. ends_on start
+    (at + t.len) v ts end r.3 u in
     elim (use_cases t) [
       | unused e ↦ ap (λ (xs : List Extent). last_end from xs) (extents_of-free t (v ∷ ts) e) ∙ rest from
-      | used role e ↦ ap (λ (xs : List Extent). last_end from xs) (extents_of-used t (v ∷ ts) role e) ∙ rest (t.offset + t.len)
+      | used role e ↦ ap (λ (xs : List Extent). last_end from xs) (extents_of-used t (v ∷ ts) role e)
+          ∙ rest (t.offset + t.len)
     ]
 
 -- the last block ends where the tiles do
@@ -45,9 +48,11 @@ ends_used [] end r u = r
 ends_used (t ∷ ts) end r u = ends_on 128 128 t ts end r u
 
 -- before a free tile stands none that is free
-pub used_before : (b : Bool) (front : List Tile) (t : Tile) → Apart b (front ++ t ∷ []) → IsTrue (is_free t) → EndsUsed front
+pub used_before : (b : Bool) (front : List Tile) (t : Tile) → Apart b (front ++ t ∷ [])
+    → IsTrue (is_free t) → EndsUsed front
 used_before b [] t a f v e = absurd (none-some v e)
-used_before b (u ∷ []) t a f v e = subst (λ (w : Tile). is_free w ≡ false) (same_Some u v e) (not_free (is_free u) (λ h. a.1.0 h f))
+used_before b (u ∷ []) t a f v e = subst (λ (w : Tile). is_free w ≡ false) (same_Some u v e)
+    (not_free (is_free u) (λ h. a.1.0 h f))
   where
     not_free : (x : Bool) → (IsTrue x → ⊥) → x ≡ false
     not_free true n = absurd (n refl)
@@ -73,7 +78,8 @@ at_most n = omega arith
 length_cut : (c : Cut) → length (whole c) ≡ length c.before + (length c.bytes + length c.after)
 length_cut c = omega (arith, length-append (c.before ++ c.bytes) c.after, length-append c.before c.bytes)
 
-module _ (c : Cut) (front : List Tile) (t : Tile) (list : tiles_in c ≡ front ++ t ∷ []) (free : t.use_of ≡ None) (tree : HasTree c (gaps_of front)) where
+module _ (c : Cut) (front : List Tile) (t : Tile) (list : tiles_in c ≡ front ++ t ∷ []) (free : t.use_of ≡ None)
+    (tree : HasTree c (gaps_of front)) where
   says : SaysHeap c (tiles_in c)
   says = tree_says c (gaps_of front) tree
 
@@ -82,12 +88,19 @@ module _ (c : Cut) (front : List Tile) (t : Tile) (list : tiles_in c ≡ front +
 
   -- what the drop needs
   pub has_free_last : HasFreeLast c
-  has_free_last = record { tiles = front ++ t ∷ []; said = said; last = t; ends = last_behind front t; free = unused-free t free }
+  has_free_last = record {
+    tiles = front ++ t ∷ [];
+    said = said;
+    last = t;
+    ends = last_behind front t;
+    free = unused-free t free;
+  }
 
   row_c : Row 128 (front ++ t ∷ []) (length c.bytes - 16)
   row_c = said_row c (front ++ t ∷ []) said
 
-  module _ (d : Cut) (n : ℕ) (tags : (ts : List Tile) → SaysTiles c ts → FrontSaysTiles d n (without_last ts)) (rest : (ts : List Tile) → SaysTiles c ts → SameBesideTags c d ts (without_last ts)) where
+  module _ (d : Cut) (n : ℕ) (tags : (ts : List Tile) → SaysTiles c ts → FrontSaysTiles d n (without_last ts))
+      (rest : (ts : List Tile) → SaysTiles c ts → SameBesideTags c d ts (without_last ts)) where
     front_d : FrontSaysTiles d n front
     front_d = subst (FrontSaysTiles d n) (without_behind front t) (tags (front ++ t ∷ []) said)
 
@@ -99,7 +112,8 @@ module _ (c : Cut) (front : List Tile) (t : Tile) (list : tiles_in c ≡ front +
     drop_fits = let within = front_d.within in omega (arith, length_cut d)
 
     row_d : Row 128 front (n - 16)
-    row_d = Fill-Row current 128 front (n - 16) (AreTags-Fill current (bytes_of d.bytes) 128 0 front (n - 16) front_d.tags)
+    row_d = Fill-Row current 128 front (n - 16)
+        (AreTags-Fill current (bytes_of d.bytes) 128 0 front (n - 16) front_d.tags)
 
     module _ (e : Cut) (is : e ≡ cut_at (whole d) (length d.before) n) where
       size_e : length e.bytes ≡ n
@@ -111,7 +125,8 @@ module _ (c : Cut) (front : List Tile) (t : Tile) (list : tiles_in c ≡ front +
       said_e : SaysTiles e front
       said_e =
           let s = size_e in let within = front_d.within in
-          (front_is_a_window e d front (omega arith) (record { at = λ k low high. sym (same_d.at k low (omega arith)) })).1
+          (front_is_a_window e d front (omega arith)
+          (record { at = λ k low high. sym (same_d.at k low (omega arith)) })).1
           (subst (λ k. FrontSaysTiles d k front) (sym size_e) front_d)
 
       legal_n : IsLegal n
@@ -120,7 +135,8 @@ module _ (c : Cut) (front : List Tile) (t : Tile) (list : tiles_in c ≡ front +
       shorter : n ≤ length c.bytes
       shorter = let within = front_d.within in let s = beside.size in omega arith
 
-      byte_stays : (u : Tile) → In u front → (k : ℕ) → u.offset + 16 ≤ k → k < u.offset + u.len → bytes_of e.bytes k ≡ bytes_of c.bytes k
+      byte_stays : (u : Tile) → In u front → (k : ℕ) → u.offset + 16 ≤ k → k < u.offset + u.len
+          → bytes_of e.bytes k ≡ bytes_of c.bytes k
       byte_stays u i k low high =
           let a = inside 128 u (front ++ t ∷ []) (length c.bytes - 16) k row_c (in_front u front (t ∷ []) i) low high in
           let b = inside 128 u front (n - 16) k row_d i low high in
@@ -133,15 +149,18 @@ module _ (c : Cut) (front : List Tile) (t : Tile) (list : tiles_in c ≡ front +
           record {
             at = λ k low high.
                 same_d.at k low (omega arith)
-                ∙ beside.bytes k (low_beside 128 (front ++ t ∷ []) (length c.bytes - 16) k row_c high) (low_beside 128 front (n - 16) k row_d high) (omega arith);
+                ∙ beside.bytes k (low_beside 128 (front ++ t ∷ []) (length c.bytes - 16) k row_c high)
+                (low_beside 128 front (n - 16) k row_d high) (omega arith);
           }
 
       carries : Carries (bytes_of c.bytes) (bytes_of e.bytes) front (n - 16)
       carries =
           record {
             row = row_d;
-            old = λ u i. tag_in current (bytes_of c.bytes) 128 0 (front ++ t ∷ []) (length c.bytes - 16) u said.tags row_c (in_front u front (t ∷ []) i);
-            new = λ u i. tag_in current (bytes_of e.bytes) 128 0 front (length e.bytes - 16) u said_e.tags (said_row e front said_e) i;
+            old = λ u i. tag_in current (bytes_of c.bytes) 128 0 (front ++ t ∷ []) (length c.bytes - 16) u said.tags
+                row_c (in_front u front (t ∷ []) i);
+            new = λ u i. tag_in current (bytes_of e.bytes) 128 0 front (length e.bytes - 16) u said_e.tags
+                (said_row e front said_e) i;
             payload = λ u i. record { at = λ k low high. byte_stays u i k low high };
             header = header_stays;
           }
@@ -153,7 +172,10 @@ module _ (c : Cut) (front : List Tile) (t : Tile) (list : tiles_in c ≡ front +
       apart_c = subst (Apart false) list says.apart
 
       says_e : SaysHeap e (tiles_in e)
-      says_e = record { said = subst (SaysTiles e) (sym list_e) said_e; apart = subst (Apart false) (sym list_e) (apart_front false front (t ∷ []) apart_c) }
+      says_e = record {
+        said = subst (SaysTiles e) (sym list_e) said_e;
+        apart = subst (Apart false) (sym list_e) (apart_front false front (t ∷ []) apart_c);
+      }
 
       tree_e : IsTreeOf (bytes_of e.bytes) 24 (payloads (sorted_gaps (gaps_in e)))
       tree_e =
@@ -167,11 +189,13 @@ module _ (c : Cut) (front : List Tile) (t : Tile) (list : tiles_in c ≡ front +
       least_is : least_size (live_of c.bytes) ≡ n
       least_is =
           let l = legal_n in let least = l.low in
-          let ends = ap (λ (xs : List Extent). last_end 128 xs) extents_c ∙ ends_used front (n - 16) row_d (used_before false front t apart_c (unused-free t free)) in
+          let ends = ap (λ (xs : List Extent). last_end 128 xs) extents_c
+          ∙ ends_used front (n - 16) row_d (used_before false front t apart_c (unused-free t free)) in
           omega arith
 
       live_e : live_of e.bytes ≡ of_size (live_of c.bytes) n
-      live_e = let s = size_e in let x = ap extents_of list_e ∙ sym extents_c in says-live e (tiles_in e) says_e ∙ (λ i. record { size = s i; extents = x i })
+      live_e = let s = size_e in let x = ap extents_of list_e ∙ sym extents_c in says-live e (tiles_in e) says_e
+          ∙ (λ i. record { size = s i; extents = x i })
 
       keeps_e : KeepsTo c e n (live_of c.bytes).extents
       keeps_e =

@@ -23,14 +23,16 @@ pub inserted-append : (xs ys zs : List Extent) → inserted (xs ++ ys) zs ≡ in
 inserted-append [] ys zs = refl
 inserted-append (x ∷ xs) ys zs = ap (insert x) (inserted-append xs ys zs)
 
-inserted-three : (xs ys ws zs : List Extent) → inserted (xs ++ (ys ++ ws)) zs ≡ inserted xs (inserted ys (inserted ws zs))
+inserted-three : (xs ys ws zs : List Extent) → inserted (xs ++ (ys ++ ws)) zs ≡ inserted xs
+    (inserted ys (inserted ws zs))
 inserted-three xs ys ws zs = inserted-append xs (ys ++ ws) zs ∙ ap (inserted xs) (inserted-append ys ws zs)
 
 -- those in the middle come first
 pub middle-first : (xs ys ws : List Extent) → SameSpread (xs ++ (ys ++ ws)) (ys ++ (xs ++ ws))
 middle-first xs ys ws = record {
   same = λ zs r.
-      let a : Apart xs ys = apart-inserted 128 xs ys (inserted ws zs) (subst (Rising 128) (inserted-three xs ys ws zs) r) in
+      let a : Apart xs ys = apart-inserted 128 xs ys (inserted ws zs)
+      (subst (Rising 128) (inserted-three xs ys ws zs) r) in
       inserted-three xs ys ws zs ∙ inserted-comm xs ys (inserted ws zs) a ∙ sym (inserted-three ys xs ws zs);
 }
 
@@ -53,13 +55,15 @@ pub spread-behind : (xs ys ws : List Extent) → SameSpread ys ws → SameSpread
 spread-behind xs ys ws p = record {
   same = λ zs r.
       let two : Rising 128 (inserted xs (inserted ys zs)) = subst (Rising 128) (inserted-append xs ys zs) r in
-      inserted-append xs ys zs ∙ ap (inserted xs) (p.same zs (rising-inserted 128 xs (inserted ys zs) two).0) ∙ sym (inserted-append xs ws zs);
+      inserted-append xs ys zs ∙ ap (inserted xs) (p.same zs (rising-inserted 128 xs (inserted ys zs) two).0)
+      ∙ sym (inserted-append xs ws zs);
 }
 
 -- the same ones before others
 pub spread-before : (xs ys ws : List Extent) → SameSpread xs ys → SameSpread (xs ++ ws) (ys ++ ws)
 spread-before xs ys ws p = record {
-  same = λ zs r. inserted-append xs ws zs ∙ p.same (inserted ws zs) (subst (Rising 128) (inserted-append xs ws zs) r) ∙ sym (inserted-append ys ws zs);
+  same = λ zs r. inserted-append xs ws zs ∙ p.same (inserted ws zs) (subst (Rising 128) (inserted-append xs ws zs) r)
+      ∙ sym (inserted-append ys ws zs);
 }
 
 -- ---- live sets
@@ -68,7 +72,8 @@ abbrev of_extents : LiveSet → List Extent → LiveSet
 of_extents l xs = record l { extents = xs }
 
 -- of those that came some are gone again
-pub left-over : (l : LiveSet) (gone come again left : List Extent) → SameSpread come (again ++ left) → IsTrue (is_proper (exchanged l gone come))
+pub left-over : (l : LiveSet) (gone come again left : List Extent) → SameSpread come (again ++ left)
+    → IsTrue (is_proper (exchanged l gone come))
     → without_all again (exchanged l gone come).extents ≡ inserted left (without_all gone l.extents)
 left-over l gone come again left x h =
     let w : List Extent = without_all gone l.extents in
@@ -77,25 +82,34 @@ left-over l gone come again left x h =
     ap (without_all again) parts ∙ without-inserted 128 again (inserted left w) (subst (Rising 128) parts up)
 
 -- and others come in their place
-pub exchanged-twice : (l : LiveSet) (gone come again left more : List Extent) → SameSpread come (again ++ left) → IsTrue (is_proper (exchanged l gone come))
+pub exchanged-twice : (l : LiveSet) (gone come again left more : List Extent) → SameSpread come (again ++ left)
+    → IsTrue (is_proper (exchanged l gone come))
     → exchanged (exchanged l gone come) again more ≡ exchanged l gone (more ++ left)
 exchanged-twice l gone come again left more x h =
-    ap (λ xs. of_extents l (inserted more xs)) (left-over l gone come again left x h) ∙ ap (of_extents l) (sym (inserted-append more left (without_all gone l.extents)))
+    ap (λ xs. of_extents l (inserted more xs)) (left-over l gone come again left x h)
+    ∙ ap (of_extents l) (sym (inserted-append more left (without_all gone l.extents)))
 
 -- the live set afterwards
-pub exchanged-live : (a b : Cut) (from n : ℕ) (gone come : List Extent) (format : ℕ) → IsExchanged format a b from n gone come → live_of b.bytes ≡ exchanged (live_of a.bytes) gone come
+pub exchanged-live : (a b : Cut) (from n : ℕ) (gone come : List Extent) (format : ℕ)
+    → IsExchanged format a b from n gone come → live_of b.bytes ≡ exchanged (live_of a.bytes) gone come
 exchanged-live a b from n gone come format p = lay_out_one format b.bytes (exchanged (live_of a.bytes) gone come) p.live
 
 -- ---- what stays
 
-but-both : (a b c : Memory) (from n : ℕ) (xs : List Extent) → AllByRecursion (SameBlockBut a b from n) xs → AllByRecursion (SameBlockBut b c from n) xs → AllByRecursion (SameBlockBut a c from n) xs
+but-both : (a b c : Memory) (from n : ℕ) (xs : List Extent) → AllByRecursion (SameBlockBut a b from n) xs
+    → AllByRecursion (SameBlockBut b c from n) xs → AllByRecursion (SameBlockBut a c from n) xs
 but-both a b c from n [] p q = tt
-but-both a b c from n (x ∷ xs) p q =
-    (record { payload = λ k f g h. q.0.payload k f g h ∙ p.0.payload k f g h; colour = q.0.colour ∙ p.0.colour }, but-both a b c from n xs p.1 q.1)
+but-both a b c from n (x ∷ xs) p q = (
+  record { payload = λ k f g h. q.0.payload k f g h ∙ p.0.payload k f g h; colour = q.0.colour ∙ p.0.colour },
+  but-both a b c from n xs p.1 q.1,
+)
 
--- Blocks are exchanged, and then some of those that came for others. Each block that is written in, but for the n bytes, is gone and comes.
-pub exchange-next : (format : ℕ) (a b c : Cut) (from n : ℕ) (gone come again left more : List Extent) → SameSpread come (again ++ left)
-    → IsExchanged format a b from n gone come → IsExchanged format b c from n again more → IsExchanged format a c from n gone (more ++ left)
+-- Blocks are exchanged, and then some of those that came for others. Each block that is written in, but for the n
+-- bytes, is gone and comes.
+pub exchange-next : (format : ℕ) (a b c : Cut) (from n : ℕ) (gone come again left more : List Extent)
+    → SameSpread come (again ++ left)
+    → IsExchanged format a b from n gone come → IsExchanged format b c from n again more
+    → IsExchanged format a c from n gone (more ++ left)
 exchange-next format a b c from n gone come again left more x p q =
     let l : LiveSet = live_of a.bytes in
     let A : Memory = bytes_of a.bytes in
@@ -105,9 +119,11 @@ exchange-next format a b c from n gone come again left more x p q =
     let stay : without_all again (live_of b.bytes).extents ≡ inserted left (without_all gone l.extents) =
     ap (λ (s : LiveSet). without_all again s.extents) now ∙ left-over l gone come again left x p.live.proper in
     let second : AllByRecursion (SameBlockBut B C from n) (without_all gone l.extents) =
-    (all_of-inserted (SameBlockBut B C from n) left (without_all gone l.extents) (subst (AllByRecursion (SameBlockBut B C from n)) stay q.blocks)).1 in
+    (all_of-inserted (SameBlockBut B C from n) left (without_all gone l.extents)
+    (subst (AllByRecursion (SameBlockBut B C from n)) stay q.blocks)).1 in
     record {
-      live = subst (LaysOut format c.bytes) (ap (λ (s : LiveSet). exchanged s again more) now ∙ exchanged-twice l gone come again left more x p.live.proper) q.live;
+      live = subst (LaysOut format c.bytes) (ap (λ (s : LiveSet). exchanged s again more) now
+          ∙ exchanged-twice l gone come again left more x p.live.proper) q.live;
       place = SamePlace-trans a b c p.place q.place;
       front = Same-trans A B C 0 24 p.front q.front;
       behind = Same-trans A B C 32 128 p.behind q.behind;
@@ -115,24 +131,43 @@ exchange-next format a b c from n gone come again left more x p q =
     }
 
 -- in another order
-pub exchange-order : (format : ℕ) (a b : Cut) (from n : ℕ) (gone come other : List Extent) → SameSpread come other → IsExchanged format a b from n gone come → IsExchanged format a b from n gone other
+pub exchange-order : (format : ℕ) (a b : Cut) (from n : ℕ) (gone come other : List Extent) → SameSpread come other
+    → IsExchanged format a b from n gone come → IsExchanged format a b from n gone other
 exchange-order format a b from n gone come other x p =
     let l : LiveSet = live_of a.bytes in
     let w : List Extent = without_all gone l.extents in
     let up : Rising 128 (inserted come w) = live-rises (of_extents l (inserted come w)) p.live.proper in
-    record { live = subst (LaysOut format b.bytes) (ap (of_extents l) (x.same w up)) p.live; place = p.place; front = p.front; behind = p.behind; blocks = p.blocks }
+    record {
+      live = subst (LaysOut format b.bytes) (ap (of_extents l) (x.same w up)) p.live;
+      place = p.place;
+      front = p.front;
+      behind = p.behind;
+      blocks = p.blocks;
+    }
 
 wide-side : (from n k : ℕ) → (k < 0) ⊎ (0 + 0 ≤ k)
 wide-side from n k = inr (omega arith)
 
 -- where nothing of the blocks that stay changes, nothing but any n bytes does
-but-wide : (a b : Memory) (from n : ℕ) (xs : List Extent) → AllByRecursion (SameBlockBut a b 0 0) xs → AllByRecursion (SameBlockBut a b from n) xs
+but-wide : (a b : Memory) (from n : ℕ) (xs : List Extent) → AllByRecursion (SameBlockBut a b 0 0) xs
+    → AllByRecursion (SameBlockBut a b from n) xs
 but-wide a b from n [] p = tt
-but-wide a b from n (x ∷ xs) p = (record { payload = λ k f g h. p.0.payload k f g (wide-side from n k); colour = p.0.colour }, but-wide a b from n xs p.1)
+but-wide a b from n (x ∷ xs) p = (
+  record { payload = λ k f g h. p.0.payload k f g (wide-side from n k); colour = p.0.colour },
+  but-wide a b from n xs p.1,
+)
 
-pub exchange-wide : (format : ℕ) (a b : Cut) (from n : ℕ) (gone come : List Extent) → IsExchanged format a b 0 0 gone come → IsExchanged format a b from n gone come
+pub exchange-wide : (format : ℕ) (a b : Cut) (from n : ℕ) (gone come : List Extent)
+    → IsExchanged format a b 0 0 gone come → IsExchanged format a b from n gone come
 exchange-wide format a b from n gone come p =
-    record { live = p.live; place = p.place; front = p.front; behind = p.behind; blocks = but-wide (bytes_of a.bytes) (bytes_of b.bytes) from n (without_all gone (live_of a.bytes).extents) p.blocks }
+    record {
+      live = p.live;
+      place = p.place;
+      front = p.front;
+      behind = p.behind;
+      blocks = but-wide (bytes_of a.bytes) (bytes_of b.bytes) from n
+          (without_all gone (live_of a.bytes).extents) p.blocks;
+    }
 
 -- ---- the calls of the heap, as exchanges
 
@@ -141,13 +176,17 @@ but-refl m from n [] = tt
 but-refl m from n (x ∷ xs) = (record { payload = λ k a b c. refl; colour = refl }, but-refl m from n xs)
 
 -- blocks in use go and come back
-pub back-again : (l : LiveSet) (xs rest : List Extent) → IsTrue (is_proper l) → l.extents ≡ inserted xs rest → exchanged l xs xs ≡ l
+pub back-again : (l : LiveSet) (xs rest : List Extent) → IsTrue (is_proper l)
+    → l.extents ≡ inserted xs rest → exchanged l xs xs ≡ l
 back-again l xs rest h e =
     let up : Rising 128 (inserted xs rest) = subst (Rising 128) e (live-rises l h) in
-    ap (λ ys. of_extents l (inserted xs (without_all xs ys))) e ∙ ap (λ ys. of_extents l (inserted xs ys)) (without-inserted 128 xs rest up) ∙ ap (of_extents l) (sym e)
+    ap (λ ys. of_extents l (inserted xs (without_all xs ys))) e ∙ ap (λ ys. of_extents l (inserted xs ys))
+    (without-inserted 128 xs rest up) ∙ ap (of_extents l) (sym e)
 
 -- nothing changed: to begin with, where these blocks are written in then
-pub exchange-same : (format : ℕ) (a : Cut) (from n : ℕ) (xs rest : List Extent) → LaysOut format a.bytes (live_of a.bytes) → (live_of a.bytes).extents ≡ inserted xs rest → IsExchanged format a a from n xs xs
+pub exchange-same : (format : ℕ) (a : Cut) (from n : ℕ) (xs rest : List Extent)
+    → LaysOut format a.bytes (live_of a.bytes) → (live_of a.bytes).extents ≡ inserted xs rest
+    → IsExchanged format a a from n xs xs
 exchange-same format a from n xs rest h e = record {
   live = subst (LaysOut format a.bytes) (sym (back-again (live_of a.bytes) xs rest h.proper e)) h;
   place = record { before = refl; after = refl };
@@ -157,7 +196,8 @@ exchange-same format a from n xs rest h e = record {
 }
 
 -- a block was taken into use
-pub exchange-taken : (format : ℕ) (old new : Cut) (m : ℕ) (role : Role) (h from n : ℕ) → (a : IsAllocated format old new m role h) → IsExchanged format old new from n [] (a.extent ∷ [])
+pub exchange-taken : (format : ℕ) (old new : Cut) (m : ℕ) (role : Role) (h from n : ℕ)
+    → (a : IsAllocated format old new m role h) → IsExchanged format old new from n [] (a.extent ∷ [])
 exchange-taken format old new m role h from n a = record {
   live = a.live;
   place = a.keeps.place;
@@ -167,36 +207,45 @@ exchange-taken format old new m role h from n a = record {
 }
 
 -- one was given back
-pub exchange-released : (format : ℕ) (old new : Cut) (x : Extent) (from n : ℕ) → IsReleased format old new (handle x) → IsExchanged format old new from n (x ∷ []) []
+pub exchange-released : (format : ℕ) (old new : Cut) (x : Extent) (from n : ℕ) → IsReleased format old new (handle x)
+    → IsExchanged format old new from n (x ∷ []) []
 exchange-released format old new x from n r = record {
   live = r.live;
   place = r.keeps.place;
   front = r.keeps.front;
   behind = r.keeps.behind;
-  blocks = all-same-but (bytes_of old.bytes) (bytes_of new.bytes) from n (others (handle x) (live_of old.bytes).extents) r.keeps.blocks;
+  blocks = all-same-but (bytes_of old.bytes) (bytes_of new.bytes) from n
+      (others (handle x) (live_of old.bytes).extents) r.keeps.blocks;
 }
 
 -- one has another length
-pub exchange-resized : (format : ℕ) (old new : Cut) (x y : Extent) (from n : ℕ) → handle y ≡ handle x → IsResized format old new x y → IsExchanged format old new from n (x ∷ []) (y ∷ [])
+pub exchange-resized : (format : ℕ) (old new : Cut) (x y : Extent) (from n : ℕ) → handle y ≡ handle x
+    → IsResized format old new x y → IsExchanged format old new from n (x ∷ []) (y ∷ [])
 exchange-resized format old new x y from n e r = record {
-  live = subst (λ k. LaysOut format new.bytes (of_extents (live_of old.bytes) (insert y (others k (live_of old.bytes).extents)))) e r.live;
+  live = subst (λ k. LaysOut format new.bytes
+      (of_extents (live_of old.bytes) (insert y (others k (live_of old.bytes).extents)))) e r.live;
   place = r.keeps.place;
   front = r.keeps.front;
   behind = r.keeps.behind;
-  blocks = all-same-but (bytes_of old.bytes) (bytes_of new.bytes) from n (others (handle x) (live_of old.bytes).extents) r.keeps.blocks;
+  blocks = all-same-but (bytes_of old.bytes) (bytes_of new.bytes) from n
+      (others (handle x) (live_of old.bytes).extents) r.keeps.blocks;
 }
 
 -- one was written in
-pub exchange-written : (format : ℕ) (old new : Cut) (x : Extent) (rest : List Extent) (len at k from n : ℕ) → LaysOut format old.bytes (live_of old.bytes) → (live_of old.bytes).extents ≡ inserted (x ∷ []) rest
-    → IsTrue (has_room (live_of old.bytes) (handle x) len) → IsChanged format old new at k → handle x ≤ at → at + k ≤ handle x + len → IsExchanged format old new from n (x ∷ []) (x ∷ [])
+pub exchange-written : (format : ℕ) (old new : Cut) (x : Extent) (rest : List Extent) (len at k from n : ℕ)
+    → LaysOut format old.bytes (live_of old.bytes) → (live_of old.bytes).extents ≡ inserted (x ∷ []) rest
+    → IsTrue (has_room (live_of old.bytes) (handle x) len) → IsChanged format old new at k → handle x ≤ at
+    → at + k ≤ handle x + len → IsExchanged format old new from n (x ∷ []) (x ∷ [])
 exchange-written format old new x rest len at k from n h e room c low high =
-    let kept : Keeps old new (released (live_of old.bytes) (handle x)).extents = changed-keeps_block format old new at k (handle x) len c room (omega arith) high in
+    let kept : Keeps old new (released (live_of old.bytes) (handle x)).extents = changed-keeps_block format old new at
+    k (handle x) len c room (omega arith) high in
     record {
       live = subst (LaysOut format new.bytes) (sym (back-again (live_of old.bytes) (x ∷ []) rest h.proper e)) c.live;
       place = c.place;
       front = kept.front;
       behind = kept.behind;
-      blocks = all-same-but (bytes_of old.bytes) (bytes_of new.bytes) from n (others (handle x) (live_of old.bytes).extents) kept.blocks;
+      blocks = all-same-but (bytes_of old.bytes) (bytes_of new.bytes) from n
+          (others (handle x) (live_of old.bytes).extents) kept.blocks;
     }
 
 -- ---- what is found
@@ -206,38 +255,50 @@ abbrev pub IsNone : ℕ → List Extent → Type 0
 IsNone h = AllByRecursion (λ (z : Extent). h ≢ handle z)
 
 -- what is found is found without others
-pub found-without : (h : ℕ) (y : Extent) (xs zs : List Extent) → IsNone h xs → find (λ (w : Extent). handle w == h) zs ≡ Some y → find (λ (w : Extent). handle w == h) (without_all xs zs) ≡ Some y
+pub found-without : (h : ℕ) (y : Extent) (xs zs : List Extent) → IsNone h xs → find (λ (w : Extent). handle w == h) zs
+    ≡ Some y → find (λ (w : Extent). handle w == h) (without_all xs zs) ≡ Some y
 found-without h y [] zs n e = e
 found-without h y (x ∷ xs) zs n e = found-without h y xs (others (handle x) zs) n.1 (found-less h (handle x) y zs n.0 e)
 
 -- and among others
-pub found-inserted : (h : ℕ) (y : Extent) (xs zs : List Extent) → IsNone h xs → find (λ (w : Extent). handle w == h) zs ≡ Some y → find (λ (w : Extent). handle w == h) (inserted xs zs) ≡ Some y
+pub found-inserted : (h : ℕ) (y : Extent) (xs zs : List Extent) → IsNone h xs
+    → find (λ (w : Extent). handle w == h) zs ≡ Some y → find (λ (w : Extent). handle w == h) (inserted xs zs) ≡ Some y
 found-inserted h y [] zs n e = e
-found-inserted h y (x ∷ xs) zs n e = found-more h x y (inserted xs zs) (λ f. n.0 (sym f)) (found-inserted h y xs zs n.1 e)
+found-inserted h y (x ∷ xs) zs n e = found-more h x y (inserted xs zs) (λ f. n.0 (sym f))
+    (found-inserted h y xs zs n.1 e)
 
 -- each that was put in is found
 abbrev pub IsFound : List Extent → Extent → Type 0
 IsFound zs y = find (λ (w : Extent). handle w == handle y) zs ≡ Some y
 
-found-with : (x : Extent) (xs zs : List Extent) → Differs x xs → AllByRecursion (IsFound zs) xs → AllByRecursion (IsFound (insert x zs)) xs
+found-with : (x : Extent) (xs zs : List Extent) → Differs x xs → AllByRecursion (IsFound zs) xs
+    → AllByRecursion (IsFound (insert x zs)) xs
 found-with x [] zs d f = tt
-found-with x (y ∷ ys) zs d f = (found-more (handle y) x y zs (λ e. d.0 (omega (arith, e))) f.0, found-with x ys zs d.1 f.1)
+found-with x (y ∷ ys) zs d f = (
+  found-more (handle y) x y zs (λ e. d.0 (omega (arith, e))) f.0,
+  found-with x ys zs d.1 f.1,
+)
 
 pub all-found-in : (xs zs : List Extent) → Rising 128 (inserted xs zs) → AllByRecursion (IsFound (inserted xs zs)) xs
 all-found-in [] zs r = tt
 all-found-in (x ∷ xs) zs r =
-    let f : IsFresh 128 x (inserted xs zs) = rising-insert 128 x (inserted xs zs) r in
-    (found-new x (inserted xs zs) f.differs, found-with x xs (inserted xs zs) (all_of-inserted (λ (y : Extent). x.offset ≢ y.offset) xs zs f.differs).0 (all-found-in xs zs f.rest))
+    let f : IsFresh 128 x (inserted xs zs) = rising-insert 128 x (inserted xs zs) r in (
+      found-new x (inserted xs zs) f.differs,
+      found-with x xs (inserted xs zs)
+          (all_of-inserted (λ (y : Extent). x.offset ≢ y.offset) xs zs f.differs).0 (all-found-in xs zs f.rest),
+    )
 
 -- Blocks that are found, no two of them one, are put in among the others.
 pub record AreInUse (zs xs : List Extent) : Type 0 where
   pub is : zs ≡ inserted xs (without_all xs zs)
 
-none-among : (x : Extent) (xs : List Extent) → AllByRecursion (λ (y : Extent). handle x ≢ handle y) xs → AllByRecursion (λ (y : Extent). handle y ≢ handle x) xs
+none-among : (x : Extent) (xs : List Extent) → AllByRecursion (λ (y : Extent). handle x ≢ handle y) xs
+    → AllByRecursion (λ (y : Extent). handle y ≢ handle x) xs
 none-among x [] n = tt
 none-among x (y ∷ ys) n = ((λ e. n.0 (sym e)), none-among x ys n.1)
 
-found-others : (h : ℕ) (xs zs : List Extent) → AllByRecursion (λ (y : Extent). handle y ≢ h) xs → AllByRecursion (IsFound zs) xs → AllByRecursion (IsFound (others h zs)) xs
+found-others : (h : ℕ) (xs zs : List Extent) → AllByRecursion (λ (y : Extent). handle y ≢ h) xs
+    → AllByRecursion (IsFound zs) xs → AllByRecursion (IsFound (others h zs)) xs
 found-others h [] zs n f = tt
 found-others h (y ∷ ys) zs n f = (found-less (handle y) h y zs n.0 f.0, found-others h ys zs n.1 f.1)
 
@@ -250,8 +311,10 @@ pub all-in-use : (xs zs : List Extent) → Rising 128 zs → AreOthers xs → Al
 all-in-use [] zs r d f = record { is = refl }
 all-in-use (x ∷ xs) zs r d f =
     let a : IsAmong (handle x) x zs = among 128 (handle x) x zs r f.0 in
-    let fresh : IsFresh 128 x (others (handle x) zs) = rising-insert 128 x (others (handle x) zs) (subst (Rising 128) a.is r) in
-    let below : AreInUse (others (handle x) zs) xs = all-in-use xs (others (handle x) zs) fresh.rest d.1 (found-others (handle x) xs zs (none-among x xs d.0) f.1) in
+    let fresh : IsFresh 128 x (others (handle x) zs) = rising-insert 128 x (others (handle x) zs)
+    (subst (Rising 128) a.is r) in
+    let below : AreInUse (others (handle x) zs) xs = all-in-use xs (others (handle x) zs) fresh.rest d.1
+    (found-others (handle x) xs zs (none-among x xs d.0) f.1) in
     record { is = a.is ∙ ap (insert x) below.is }
 
 -- extents that stand one after another are no two of them one
@@ -262,17 +325,21 @@ others-of x (y ∷ ys) d = ((λ e. d.0 (omega (arith, e))), others-of x ys d.1)
 pub rising-others : (xs zs : List Extent) → Rising 128 (inserted xs zs) → AreOthers xs
 rising-others [] zs r = tt
 rising-others (x ∷ xs) zs r =
-    let f : IsFresh 128 x (inserted xs zs) = rising-insert 128 x (inserted xs zs) r in
-    (others-of x xs (all_of-inserted (λ (y : Extent). x.offset ≢ y.offset) xs zs f.differs).0, rising-others xs zs f.rest)
+    let f : IsFresh 128 x (inserted xs zs) = rising-insert 128 x (inserted xs zs) r in (
+      others-of x xs (all_of-inserted (λ (y : Extent). x.offset ≢ y.offset) xs zs f.differs).0,
+      rising-others xs zs f.rest,
+    )
 
 -- and none of the others
-apart-none : (h : ℕ) (y : Extent) (xs zs : List Extent) → handle y ≡ h → zs ≡ insert y (others h zs) → Apart xs zs → IsNone h xs
+apart-none : (h : ℕ) (y : Extent) (xs zs : List Extent) → handle y ≡ h → zs ≡ insert y (others h zs)
+    → Apart xs zs → IsNone h xs
 apart-none h y [] zs at e a = tt
 apart-none h y (x ∷ xs) zs at e a =
     let d = all_of-insert (λ (w : Extent). x.offset ≢ w.offset) y (others h zs) (subst (Differs x) e a.0) in
     ((λ f. d.0 (omega (arith, at, f))), apart-none h y xs zs at e a.1)
 
-pub found-none : (h : ℕ) (y : Extent) (xs zs : List Extent) → Rising 128 (inserted xs zs) → find (λ (w : Extent). handle w == h) zs ≡ Some y → IsNone h xs
+pub found-none : (h : ℕ) (y : Extent) (xs zs : List Extent) → Rising 128 (inserted xs zs)
+    → find (λ (w : Extent). handle w == h) zs ≡ Some y → IsNone h xs
 found-none h y xs zs r e =
     let both = rising-inserted 128 xs zs r in
     let a : IsAmong h y zs = among 128 h y zs both.0 e in
@@ -280,11 +347,13 @@ found-none h y xs zs r e =
 
 -- ---- one block that stays
 
-all-found-if : (P : Extent → Type 0) (h : ℕ) (x z : Extent) (zs : List Extent) → AllByRecursion P (insert x (others h zs)) → P x
+all-found-if : (P : Extent → Type 0) (h : ℕ) (x z : Extent) (zs : List Extent)
+    → AllByRecursion P (insert x (others h zs)) → P x
 all-found-if P h x z zs a = (all_of-insert P x (others h zs) a).0
 
 -- what holds of each block that stays holds of one that is found and is not gone
-pub stays : (P : Extent → Type 0) (l : LiveSet) (h : ℕ) (y : Extent) (gone : List Extent) → IsTrue (is_proper l) → extent_at l h ≡ Some y → IsNone h gone → Rising 128 (without_all gone l.extents)
+pub stays : (P : Extent → Type 0) (l : LiveSet) (h : ℕ) (y : Extent) (gone : List Extent) → IsTrue (is_proper l)
+    → extent_at l h ≡ Some y → IsNone h gone → Rising 128 (without_all gone l.extents)
     → AllByRecursion P (without_all gone l.extents) → P y
 stays P l h y gone p e n r a =
     let zs : List Extent = without_all gone l.extents in
@@ -292,57 +361,81 @@ stays P l h y gone p e n r a =
     (all_of-insert P y (others h zs) (subst (AllByRecursion P) w.is a)).0
 
 -- those that stay rise
-pub rest-rises : (l : LiveSet) (gone come : List Extent) → IsTrue (is_proper (exchanged l gone come)) → Rising 128 (without_all gone l.extents)
-rest-rises l gone come p = (rising-inserted 128 come (without_all gone l.extents) (live-rises (exchanged l gone come) p)).0
+pub rest-rises : (l : LiveSet) (gone come : List Extent) → IsTrue (is_proper (exchanged l gone come))
+    → Rising 128 (without_all gone l.extents)
+rest-rises l gone come p =
+    (rising-inserted 128 come (without_all gone l.extents) (live-rises (exchanged l gone come) p)).0
 
 -- what an exchange keeps of one block that is not gone, but for the n bytes
-pub kept-but : (a b : Cut) (from n h : ℕ) (y : Extent) (gone come : List Extent) (format : ℕ) → IsHeap format a.bytes → IsExchanged format a b from n gone come → extent_at (live_of a.bytes) h ≡ Some y → IsNone h gone
+pub kept-but : (a b : Cut) (from n h : ℕ) (y : Extent) (gone come : List Extent) (format : ℕ) → IsHeap format a.bytes
+    → IsExchanged format a b from n gone come → extent_at (live_of a.bytes) h ≡ Some y → IsNone h gone
     → SameBlockBut (bytes_of a.bytes) (bytes_of b.bytes) from n y
 kept-but a b from n h y gone come format heap p e d =
-    stays (SameBlockBut (bytes_of a.bytes) (bytes_of b.bytes) from n) (live_of a.bytes) h y gone heap.proper e d (rest-rises (live_of a.bytes) gone come p.live.proper) p.blocks
+    stays (SameBlockBut (bytes_of a.bytes) (bytes_of b.bytes) from n) (live_of a.bytes) h y gone heap.proper e d
+    (rest-rises (live_of a.bytes) gone come p.live.proper) p.blocks
 
 -- it is in use still
-pub kept-found : (a b : Cut) (from n h : ℕ) (y : Extent) (gone come : List Extent) (format : ℕ) → IsExchanged format a b from n gone come → extent_at (live_of a.bytes) h ≡ Some y → IsNone h gone
+pub kept-found : (a b : Cut) (from n h : ℕ) (y : Extent) (gone come : List Extent) (format : ℕ)
+    → IsExchanged format a b from n gone come → extent_at (live_of a.bytes) h ≡ Some y → IsNone h gone
     → extent_at (live_of b.bytes) h ≡ Some y
 kept-found a b from n h y gone come format p e d =
     let l : LiveSet = live_of a.bytes in
     let zs : List Extent = without_all gone l.extents in
     let here : find (λ (w : Extent). handle w == h) zs ≡ Some y = found-without h y gone l.extents d e in
     let none : IsNone h come = found-none h y come zs (live-rises (exchanged l gone come) p.live.proper) here in
-    ap (λ (s : LiveSet). extent_at s h) (exchanged-live a b from n gone come format p) ∙ found-inserted h y come zs none here
+    ap (λ (s : LiveSet). extent_at s h) (exchanged-live a b from n gone come format p)
+    ∙ found-inserted h y come zs none here
 
 -- all of it, where nothing of the blocks that stay changes
-pub kept : (a b : Cut) (h : ℕ) (y : Extent) (gone come : List Extent) (format : ℕ) → IsHeap format a.bytes → IsExchanged format a b 0 0 gone come → extent_at (live_of a.bytes) h ≡ Some y → IsNone h gone
+pub kept : (a b : Cut) (h : ℕ) (y : Extent) (gone come : List Extent) (format : ℕ) → IsHeap format a.bytes
+    → IsExchanged format a b 0 0 gone come → extent_at (live_of a.bytes) h ≡ Some y → IsNone h gone
     → SameBlock (bytes_of a.bytes) (bytes_of b.bytes) y
 kept a b h y gone come format heap p e d =
-    let s : SameBlockBut (bytes_of a.bytes) (bytes_of b.bytes) 0 0 y = kept-but a b 0 0 h y gone come format heap p e d in
+    let s : SameBlockBut (bytes_of a.bytes) (bytes_of b.bytes) 0 0 y = kept-but a b 0 0 h y gone
+    come format heap p e d in
     record { payload = record { at = λ k f g. s.payload k f g (wide-side 0 0 k) }; colour = s.colour }
 
-beside-but : (m m' : Memory) (from n : ℕ) (x y : Extent) → handle x ≤ from → from + n ≤ end_of x → LiesBeside x y → SameBlockBut m m' from n y → SameBlock m m' y
-beside-but m m' from n x y f g (above h) s = record { payload = record { at = λ k a b. s.payload k a b (inl (omega arith)) }; colour = s.colour }
-beside-but m m' from n x y f g (below h) s = record { payload = record { at = λ k a b. s.payload k a b (inr (omega arith)) }; colour = s.colour }
+beside-but : (m m' : Memory) (from n : ℕ) (x y : Extent) → handle x ≤ from → from + n ≤ end_of x → LiesBeside x y
+    → SameBlockBut m m' from n y → SameBlock m m' y
+beside-but m m' from n x y f g (above h) s =
+    record { payload = record { at = λ k a b. s.payload k a b (inl (omega arith)) }; colour = s.colour }
+beside-but m m' from n x y f g (below h) s =
+    record { payload = record { at = λ k a b. s.payload k a b (inr (omega arith)) }; colour = s.colour }
 
 -- a block that stays but for n bytes stays, where these are in another block
-pub but-apart : (l : LiveSet) (m m' : Memory) (from n g h : ℕ) (x y : Extent) → IsTrue (is_proper l) → extent_at l g ≡ Some x → handle x ≤ from → from + n ≤ end_of x → g ≢ h → extent_at l h ≡ Some y
+pub but-apart : (l : LiveSet) (m m' : Memory) (from n g h : ℕ) (x y : Extent) → IsTrue (is_proper l)
+    → extent_at l g ≡ Some x → handle x ≤ from → from + n ≤ end_of x → g ≢ h → extent_at l h ≡ Some y
     → SameBlockBut m m' from n y → SameBlock m m' y
 but-apart l m m' from n g h x y p ex low high other e s =
     let alone : IsAlone 128 x (others g l.extents) = in_use-alone l g x p ex in
-    let rest : Rising 128 (others g l.extents) = (rising-insert 128 x (others g l.extents) (subst (Rising 128) (in_use l g x p ex).is (live-rises l p))).rest in
-    let w : IsAmong h y (others g l.extents) = among 128 h y (others g l.extents) rest (found-less h g y l.extents (λ f. other (sym f)) e) in
-    let beside : LiesBeside x y = (all_of-insert (LiesBeside x) y (others h (others g l.extents)) (subst (AllByRecursion (LiesBeside x)) w.is alone.beside)).0 in
+    let rest : Rising 128 (others g l.extents) =
+    (rising-insert 128 x (others g l.extents) (subst (Rising 128) (in_use l g x p ex).is (live-rises l p))).rest in
+    let w : IsAmong h y (others g l.extents) = among 128 h y (others g l.extents) rest
+    (found-less h g y l.extents (λ f. other (sym f)) e) in
+    let beside : LiesBeside x y =
+    (all_of-insert (LiesBeside x) y (others h (others g l.extents))
+    (subst (AllByRecursion (LiesBeside x)) w.is alone.beside)).0 in
     beside-but m m' from n x y low high beside s
 
 -- and where the n bytes are those of another block
-pub kept-beside : (a b : Cut) (from n g h : ℕ) (x y : Extent) (gone come : List Extent) (format : ℕ) → IsHeap format a.bytes → IsExchanged format a b from n gone come
-    → extent_at (live_of a.bytes) g ≡ Some x → handle x ≤ from → from + n ≤ end_of x → g ≢ h → extent_at (live_of a.bytes) h ≡ Some y → IsNone h gone
+pub kept-beside : (a b : Cut) (from n g h : ℕ) (x y : Extent) (gone come : List Extent) (format : ℕ)
+    → IsHeap format a.bytes → IsExchanged format a b from n gone come
+    → extent_at (live_of a.bytes) g ≡ Some x → handle x ≤ from → from + n ≤ end_of x → g ≢ h
+    → extent_at (live_of a.bytes) h ≡ Some y → IsNone h gone
     → SameBlock (bytes_of a.bytes) (bytes_of b.bytes) y
 kept-beside a b from n g h x y gone come format heap p ex low high other e d =
-    but-apart (live_of a.bytes) (bytes_of a.bytes) (bytes_of b.bytes) from n g h x y heap.proper ex low high other e (kept-but a b from n h y gone come format heap p e d)
+    but-apart (live_of a.bytes) (bytes_of a.bytes) (bytes_of b.bytes) from n g h x y heap.proper ex low high other e
+    (kept-but a b from n h y gone come format heap p e d)
 
 -- two blocks in use lie apart
-pub two-apart : (l : LiveSet) (x y : Extent) → IsTrue (is_proper l) → extent_at l (handle x) ≡ Some x → extent_at l (handle y) ≡ Some y → handle x ≢ handle y → (end_of x ≤ y.offset) ⊎ (end_of y ≤ x.offset)
+pub two-apart : (l : LiveSet) (x y : Extent) → IsTrue (is_proper l) → extent_at l (handle x) ≡ Some x
+    → extent_at l (handle y) ≡ Some y → handle x ≢ handle y → (end_of x ≤ y.offset) ⊎ (end_of y ≤ x.offset)
 two-apart l x y p ex ey other =
     let alone : IsAlone 128 x (others (handle x) l.extents) = in_use-alone l (handle x) x p ex in
-    let rest : Rising 128 (others (handle x) l.extents) = (rising-insert 128 x (others (handle x) l.extents) (subst (Rising 128) (in_use l (handle x) x p ex).is (live-rises l p))).rest in
-    let w : IsAmong (handle y) y (others (handle x) l.extents) = among 128 (handle y) y (others (handle x) l.extents) rest (found-less (handle y) (handle x) y l.extents (λ f. other (sym f)) ey) in
-    elim (all_of-insert (LiesBeside x) y (others (handle y) (others (handle x) l.extents)) (subst (AllByRecursion (LiesBeside x)) w.is alone.beside)).0 [ above h ↦ inr h | below h ↦ inl h ]
+    let rest : Rising 128 (others (handle x) l.extents) =
+    (rising-insert 128 x (others (handle x) l.extents)
+    (subst (Rising 128) (in_use l (handle x) x p ex).is (live-rises l p))).rest in
+    let w : IsAmong (handle y) y (others (handle x) l.extents) = among 128 (handle y) y (others (handle x) l.extents)
+    rest (found-less (handle y) (handle x) y l.extents (λ f. other (sym f)) ey) in
+    elim (all_of-insert (LiesBeside x) y (others (handle y) (others (handle x) l.extents))
+    (subst (AllByRecursion (LiesBeside x)) w.is alone.beside)).0 [ above h ↦ inr h | below h ↦ inl h ]

@@ -23,11 +23,26 @@ pub record FreeAt (ts : List Tile) (n : ℕ) : Type 0 where
 
 free_behind : (t : Tile) (ts : List Tile) (n : ℕ) → FreeAt ts n → FreeAt (t ∷ ts) n
 free_behind t ts n f =
-    record { front = t ∷ f.front; tile = f.tile; back = f.back; list = ap (λ (us : List Tile). t ∷ us) f.list; free = f.free; at = f.at }
+    record {
+      front = t ∷ f.front;
+      tile = f.tile;
+      back = f.back;
+      list = ap (λ (us : List Tile). t ∷ us) f.list;
+      free = f.free;
+      at = f.at;
+    }
 
-free_here : (t : Tile) (ts : List Tile) (n : ℕ) → t.use_of ≡ None → (is_in n (payloads (gaps_of ts)) ≡ true → FreeAt ts n)
+free_here : (t : Tile) (ts : List Tile) (n : ℕ) → t.use_of ≡ None
+    → (is_in n (payloads (gaps_of ts)) ≡ true → FreeAt ts n)
     → ((n == t.offset + 16) ≡ true) ⊎ (is_in n (payloads (gaps_of ts)) ≡ true) → FreeAt (t ∷ ts) n
-free_here t ts n e rest (inl h) = record { front = []; tile = t; back = ts; list = refl; free = e; at = sym (eqb-true n (t.offset + 16) h) }
+free_here t ts n e rest (inl h) = record {
+  front = [];
+  tile = t;
+  back = ts;
+  list = refl;
+  free = e;
+  at = sym (eqb-true n (t.offset + 16) h);
+}
 free_here t ts n e rest (inr h) = free_behind t ts n (rest h)
 
 -- the payload of a gap is that of a free tile
@@ -36,8 +51,10 @@ free_at [] n h = absurd (false≢true h)
 free_at (t ∷ ts) n h =
     elim (use_cases t) [
       | unused e ↦ free_here t ts n e (free_at ts n)
-          (or_cases (n == t.offset + 16) (is_in n (payloads (gaps_of ts))) (subst (λ (gs : List Gap). is_in n (payloads gs) ≡ true) (gaps_of-free t ts e) h))
-      | used role e ↦ free_behind t ts n (free_at ts n (subst (λ (gs : List Gap). is_in n (payloads gs) ≡ true) (gaps_of-used t ts role e) h))
+          (or_cases (n == t.offset + 16) (is_in n (payloads (gaps_of ts)))
+          (subst (λ (gs : List Gap). is_in n (payloads gs) ≡ true) (gaps_of-free t ts e) h))
+      | used role e ↦ free_behind t ts n
+          (free_at ts n (subst (λ (gs : List Gap). is_in n (payloads gs) ≡ true) (gaps_of-used t ts role e) h))
     ]
 
 -- and back
@@ -47,12 +64,15 @@ listed_at ts n f = subst (λ (us : List Tile). is_in n (payloads (gaps_of us)) �
     in_front : (front : List Tile) → is_in n (payloads (gaps_of (front ++ (f.tile ∷ f.back)))) ≡ true
     in_front [] =
         subst (λ (gs : List Gap). is_in n (payloads gs) ≡ true) (sym (gaps_of-free f.tile f.back f.free))
-        (or_left (n == f.tile.offset + 16) (is_in n (payloads (gaps_of f.back))) (eq-eqb n (f.tile.offset + 16) (sym f.at)))
+        (or_left (n == f.tile.offset + 16) (is_in n (payloads (gaps_of f.back)))
+        (eq-eqb n (f.tile.offset + 16) (sym f.at)))
     in_front (u ∷ us) =
         elim (use_cases u) [
-          | unused e ↦ subst (λ (gs : List Gap). is_in n (payloads gs) ≡ true) (sym (gaps_of-free u (us ++ (f.tile ∷ f.back)) e))
+          | unused e ↦ subst (λ (gs : List Gap). is_in n (payloads gs) ≡ true)
+              (sym (gaps_of-free u (us ++ (f.tile ∷ f.back)) e))
               (or_right (n == u.offset + 16) (is_in n (payloads (gaps_of (us ++ (f.tile ∷ f.back))))) (in_front us))
-          | used role e ↦ subst (λ (gs : List Gap). is_in n (payloads gs) ≡ true) (sym (gaps_of-used u (us ++ (f.tile ∷ f.back)) role e)) (in_front us)
+          | used role e ↦ subst (λ (gs : List Gap). is_in n (payloads gs) ≡ true)
+              (sym (gaps_of-used u (us ++ (f.tile ∷ f.back)) role e)) (in_front us)
         ]
 
 -- ---- two tiles of a row
@@ -95,9 +115,11 @@ row_disjoint at (v ∷ ts) end t u r (inr h) (inl f) =
 row_disjoint at (v ∷ ts) end t u r (inr h) (inr i) = row_disjoint (at + v.len) ts end t u r.3 h i
 
 -- the tiles of a row begin at multiples of 16
-pub row_aligned : (at : ℕ) (ts : List Tile) (end : ℕ) (t : Tile) → at % 16 ≡ 0 → Row at ts end → In t ts → t.offset % 16 ≡ 0
+pub row_aligned : (at : ℕ) (ts : List Tile) (end : ℕ) (t : Tile) → at % 16 ≡ 0 → Row at ts end
+    → In t ts → t.offset % 16 ≡ 0
 row_aligned at [] end t a r h = absurd h
-row_aligned at (u ∷ ts) end t a r (inl e) = let o : u.offset ≡ t.offset = ap (λ (w : Tile). w.offset) e in let b = r.0 in omega arith
+row_aligned at (u ∷ ts) end t a r (inl e) = let o : u.offset ≡ t.offset = ap (λ (w : Tile). w.offset) e in
+    let b = r.0 in omega arith
 row_aligned at (u ∷ ts) end t a r (inr h) = let l = r.2 in row_aligned (at + u.len) ts end t (omega arith) r.3 h
 
 -- ---- the length of a gap
@@ -112,14 +134,18 @@ len_here g gs n h =
     ap (λ (o : Option Gap). elim o as (λ _. ℕ) [ None ↦ 0 | Some k ↦ k.len ])
     (cond-true (g.offset + 16 == n) (Some g) (find (λ (k : Gap). k.offset + 16 == n) gs) (eq-eqb (g.offset + 16) n h))
 
-pub len_in_row : (at : ℕ) (front : List Tile) (t : Tile) (back : List Tile) (end n : ℕ) → Row at (front ++ (t ∷ back)) end → t.use_of ≡ None → t.offset + 16 ≡ n
+pub len_in_row : (at : ℕ) (front : List Tile) (t : Tile) (back : List Tile) (end n : ℕ)
+    → Row at (front ++ (t ∷ back)) end → t.use_of ≡ None → t.offset + 16 ≡ n
     → len_in (gaps_of (front ++ (t ∷ back))) n ≡ t.len
-len_in_row at [] t back end n r e o = ap (λ (gs : List Gap). len_in gs n) (gaps_of-free t back e) ∙ len_here (gap_of t) (gaps_of back) n o
+len_in_row at [] t back end n r e o = ap (λ (gs : List Gap). len_in gs n) (gaps_of-free t back e)
+    ∙ len_here (gap_of t) (gaps_of back) n o
 len_in_row at (u ∷ us) t back end n r e o =
     let rest = len_in_row (at + u.len) us t back end n r.3 e o in
-    let far = (row_lies (at + u.len) (us ++ (t ∷ back)) end t r.3 (in_around us t back)).low in let b = r.0 in let long = r.1 in
+    let far = (row_lies (at + u.len) (us ++ (t ∷ back)) end t r.3 (in_around us t back)).low in
+    let b = r.0 in let long = r.1 in
     elim (use_cases u) [
-      | unused f ↦ ap (λ (gs : List Gap). len_in gs n) (gaps_of-free u (us ++ (t ∷ back)) f) ∙ len_past (gap_of u) (gaps_of (us ++ (t ∷ back))) n (λ same. omega arith) ∙ rest
+      | unused f ↦ ap (λ (gs : List Gap). len_in gs n) (gaps_of-free u (us ++ (t ∷ back)) f)
+          ∙ len_past (gap_of u) (gaps_of (us ++ (t ∷ back))) n (λ same. omega arith) ∙ rest
       | used role f ↦ ap (λ (gs : List Gap). len_in gs n) (gaps_of-used u (us ++ (t ∷ back)) role f) ∙ rest
     ]
 
@@ -149,7 +175,8 @@ apart_of c g =
     subst (Apart false) (sym (tiles_are_read_off c good.0 good.1)) (is_merged-Apart good.0 good.2)
 
 -- a free tile is a node, whatever its links are
-pub node_from : (c : Cut) (n : ℕ) → SaysTiles c (tiles_in c) → Apart false (tiles_in c) → is_in n (payloads (gaps_in c)) ≡ true → NodeAt c n
+pub node_from : (c : Cut) (n : ℕ) → SaysTiles c (tiles_in c) → Apart false (tiles_in c)
+    → is_in n (payloads (gaps_in c)) ≡ true → NodeAt c n
 node_from c n said apart listed =
     let row = said_row c (tiles_in c) said in
     let f = free_at (tiles_in c) n listed in
@@ -165,7 +192,8 @@ node_from c n said apart listed =
       row = row;
       free_tile = f;
       is_in_list = i;
-      stands = ap (λ (ts : List Tile). tile_in ts f.tile.offset) f.list ∙ one_tile_at_an_offset c f.front f.tile f.back (subst (SaysTiles c) f.list said);
+      stands = ap (λ (ts : List Tile). tile_in ts f.tile.offset) f.list ∙ one_tile_at_an_offset c f.front f.tile
+          f.back (subst (SaysTiles c) f.list said);
       low = omega arith;
       whole = omega arith;
       long = long;
@@ -180,15 +208,23 @@ node_at c n g = node_from c n (said_of c g.good) (apart_of c g.good) g.listed
 pub node_tile : (c : Cut) (n at : ℕ) → NodeAt c n → at + 16 ≡ n → HasTileAt c at
 node_tile c n at d e =
     let o = d.free_tile.at in let same : d.free_tile.tile.offset ≡ at = omega arith in
-    record { tiles = tiles_in c; said = d.said; tile = d.free_tile.tile; stands = subst (λ k. tile_in (tiles_in c) k ≡ Some d.free_tile.tile) same d.stands }
+    record {
+      tiles = tiles_in c;
+      said = d.said;
+      tile = d.free_tile.tile;
+      stands = subst (λ k. tile_in (tiles_in c) k ≡ Some d.free_tile.tile) same d.stands;
+    }
 
-pub node_read : (c : Cut) (n at : ℕ) → (d : NodeAt c n) → at + 16 ≡ n → (t : Tile) → ((ts : List Tile) → SaysTiles c ts → tile_in ts at ≡ Some t) → t ≡ d.free_tile.tile
+pub node_read : (c : Cut) (n at : ℕ) → (d : NodeAt c n) → at + 16 ≡ n → (t : Tile)
+    → ((ts : List Tile) → SaysTiles c ts → tile_in ts at ≡ Some t) → t ≡ d.free_tile.tile
 node_read c n at d e t is =
     let o = d.free_tile.at in let same : d.free_tile.tile.offset ≡ at = omega arith in
-    same_Some t d.free_tile.tile (sym (is (tiles_in c) d.said) ∙ subst (λ k. tile_in (tiles_in c) k ≡ Some d.free_tile.tile) same d.stands)
+    same_Some t d.free_tile.tile (sym (is (tiles_in c) d.said)
+    ∙ subst (λ k. tile_in (tiles_in c) k ≡ Some d.free_tile.tile) same d.stands)
 
 -- its colour is the tile's, and so is its length
-pub tile_colour : (c : Cut) (ts : List Tile) (t : Tile) (n : ℕ) → SaysTiles c ts → tile_in ts t.offset ≡ Some t → t.offset + 16 ≡ n → is_red (bytes_of c.bytes) n ≡ t.red
+pub tile_colour : (c : Cut) (ts : List Tile) (t : Tile) (n : ℕ) → SaysTiles c ts → tile_in ts t.offset ≡ Some t
+    → t.offset + 16 ≡ n → is_red (bytes_of c.bytes) n ≡ t.red
 tile_colour c ts t n said stands o =
     let read : tile_at (bytes_of c.bytes) t.offset ≡ t = tile_is_read_off c ts t.offset t said stands in
     let red : (word_at (bytes_of c.bytes) (t.offset + 8) / 2 % 2 == 1) ≡ t.red = ap (λ (u : Tile). u.red) read in
@@ -202,11 +238,14 @@ pub node_len : (c : Cut) (n : ℕ) → (d : NodeAt c n) → len_in (gaps_in c) n
 node_len c n d =
     let f = d.free_tile in
     ap (λ (ts : List Tile). len_in (gaps_of ts) n) f.list
-    ∙ len_in_row 128 f.front f.tile f.back (length c.bytes - 16) n (subst (λ (ts : List Tile). Row 128 ts (length c.bytes - 16)) f.list d.row) f.free f.at
+    ∙ len_in_row 128 f.front f.tile f.back (length c.bytes - 16) n
+    (subst (λ (ts : List Tile). Row 128 ts (length c.bytes - 16)) f.list d.row) f.free f.at
 
 -- two nodes share no byte
 pub nodes_apart : (c : Cut) (n m : ℕ) → NodeAt c n → NodeAt c m → (m ≡ n → ⊥) → (m + 32 ≤ n) ⊎ (n + 32 ≤ m)
-nodes_apart c n m d e other = by_case (row_disjoint 128 (tiles_in c) (length c.bytes - 16) d.free_tile.tile e.free_tile.tile d.row d.is_in_list e.is_in_list)
+nodes_apart c n m d e other =
+    by_case (row_disjoint 128 (tiles_in c) (length c.bytes - 16) d.free_tile.tile e.free_tile.tile d.row
+    d.is_in_list e.is_in_list)
   where
     by_case : Disjoint d.free_tile.tile e.free_tile.tile → (m + 32 ≤ n) ⊎ (n + 32 ≤ m)
     by_case (inl same) =

@@ -30,7 +30,9 @@ merged-plain (t ∷ u ∷ ts) = ap (λ (b : Bool). not (is_free t && is_free u) 
 
 block-plain : (ts : List Tile) (k : ℕ) → lies_in_block (map plain ts) k ≡ lies_in_block ts k
 block-plain [] k = refl
-block-plain (t ∷ ts) k = ap (λ (b : Bool). (not (is_free t) && nat_le (t.offset + 16) k && nat_lt k (t.offset + t.len)) || b) (block-plain ts k)
+block-plain (t ∷ ts) k =
+    ap (λ (b : Bool). (not (is_free t) && nat_le (t.offset + 16) k && nat_lt k (t.offset + t.len)) || b)
+    (block-plain ts k)
 
 pub same_gaps : (ts us : List Tile) → map plain us ≡ map plain ts → gaps_of us ≡ gaps_of ts
 same_gaps ts us e = sym (gaps_of-plain us) ∙ ap gaps_of e ∙ gaps_of-plain ts
@@ -55,16 +57,30 @@ record InBlock (ts : List Tile) (k : ℕ) : Type 0 where
   high : k < tile.offset + tile.len
 
 block_step : (t : Tile) (ts : List Tile) (k : ℕ) → (lies_in_block ts k ≡ true → InBlock ts k)
-    → ((not (is_free t) && nat_le (t.offset + 16) k && nat_lt k (t.offset + t.len)) ≡ true) ⊎ (lies_in_block ts k ≡ true) → InBlock (t ∷ ts) k
+    → ((not (is_free t) && nat_le (t.offset + 16) k && nat_lt k (t.offset + t.len)) ≡ true)
+    ⊎ (lies_in_block ts k ≡ true) → InBlock (t ∷ ts) k
 block_step t ts k rest (inl e) =
     let two = and_parts (not (is_free t) && nat_le (t.offset + 16) k) (nat_lt k (t.offset + t.len)) e in
     let one = and_parts (not (is_free t)) (nat_le (t.offset + 16) k) two.0 in
-    record { tile = t; listed = inl refl; in_use = not-true (is_free t) one.0; low = leb-true (t.offset + 16) k one.1; high = ltb-true k (t.offset + t.len) two.1 }
-block_step t ts k rest (inr e) = let i = rest e in record { tile = i.tile; listed = inr i.listed; in_use = i.in_use; low = i.low; high = i.high }
+    record {
+      tile = t;
+      listed = inl refl;
+      in_use = not-true (is_free t) one.0;
+      low = leb-true (t.offset + 16) k one.1;
+      high = ltb-true k (t.offset + t.len) two.1;
+    }
+block_step t ts k rest (inr e) = let i = rest e in record {
+  tile = i.tile;
+  listed = inr i.listed;
+  in_use = i.in_use;
+  low = i.low;
+  high = i.high;
+}
 
 in_block : (ts : List Tile) (k : ℕ) → lies_in_block ts k ≡ true → InBlock ts k
 in_block [] k h = absurd (false≢true h)
-in_block (t ∷ ts) k h = block_step t ts k (in_block ts k) (or_cases (not (is_free t) && nat_le (t.offset + 16) k && nat_lt k (t.offset + t.len)) (lies_in_block ts k) h)
+in_block (t ∷ ts) k h = block_step t ts k (in_block ts k)
+    (or_cases (not (is_free t) && nat_le (t.offset + 16) k && nat_lt k (t.offset + t.len)) (lies_in_block ts k) h)
 
 -- it lies beside all tags, and not in a gap
 record IsClear (c : Cut) (n k : ℕ) : Type 0 where
@@ -75,36 +91,62 @@ record IsClear (c : Cut) (n k : ℕ) : Type 0 where
 kept_clear : (c : Cut) (n k : ℕ) → NodeAt c n → 144 ≤ length c.bytes → is_kept (tiles_in c) k ≡ true → IsClear c n k
 kept_clear c n k d least h = by_place (or_cases (nat_lt k 128) (lies_in_block (tiles_in c) k) h)
   where
-    off : (t : Tile) → is_free t ≡ false → d.free_tile.tile.use_of ≡ None → t.offset + 16 ≤ k → k < t.offset + t.len → Disjoint d.free_tile.tile t → (k < n) ⊎ (n + 16 ≤ k)
-    off t used free low high (inl e) = absurd (both_ways (is_free t) used (ap is_free (sym e) ∙ ap (λ (u : Option _). is_free (record d.free_tile.tile { use_of = u })) free))
+    off : (t : Tile) → is_free t ≡ false → d.free_tile.tile.use_of ≡ None → t.offset + 16 ≤ k → k < t.offset + t.len
+        → Disjoint d.free_tile.tile t → (k < n) ⊎ (n + 16 ≤ k)
+    off t used free low high (inl e) =
+        absurd (both_ways (is_free t) used (ap is_free (sym e)
+        ∙ ap (λ (u : Option _). is_free (record d.free_tile.tile { use_of = u })) free))
     off t used free low high (inr (inl l)) = let at = d.free_tile.at in let long = d.long in inr (omega arith)
     off t used free low high (inr (inr l)) = let at = d.free_tile.at in inl (omega arith)
 
     by_place : (nat_lt k 128 ≡ true) ⊎ (lies_in_block (tiles_in c) k ≡ true) → IsClear c n k
     by_place (inl e) =
         let l = ltb-true k 128 e in let low = d.low in
-        record { beside = low_beside 128 (tiles_in c) (length c.bytes - 16) k d.row l; below = omega arith; away = inl (omega arith) }
+        record {
+          beside = low_beside 128 (tiles_in c) (length c.bytes - 16) k d.row l;
+          below = omega arith;
+          away = inl (omega arith);
+        }
     by_place (inr e) =
         let b = in_block (tiles_in c) k e in
         let i = inside 128 b.tile (tiles_in c) (length c.bytes - 16) k d.row b.listed b.low b.high in
-        record { beside = i.beside; below = i.high; away = off b.tile b.in_use d.free_tile.free b.low b.high (row_disjoint 128 (tiles_in c) (length c.bytes - 16) d.free_tile.tile b.tile d.row d.is_in_list b.listed) }
+        record {
+          beside = i.beside;
+          below = i.high;
+          away = off b.tile b.in_use d.free_tile.free b.low b.high
+              (row_disjoint 128 (tiles_in c) (length c.bytes - 16) d.free_tile.tile b.tile d.row d.is_in_list b.listed);
+        }
 
 -- a change of the links and the colour of one gap keeps what is kept
-module _ (c d : Cut) (n : ℕ) (node : NodeAt c n) (place : SamePlace c d) (size : length d.bytes ≡ length c.bytes) (tiles : map plain (tiles_in d) ≡ map plain (tiles_in c))
-    (bytes : (k : ℕ) → IsBesideTags (tiles_in c) k → k < length c.bytes - 16 → (k < n) ⊎ (n + 16 ≤ k) → bytes_of d.bytes k ≡ bytes_of c.bytes k) where
-  byte_stays : (k : ℕ) → (if is_kept (tiles_in d) k then bytes_of d.bytes k else 0) ≡ (if is_kept (tiles_in c) k then bytes_of c.bytes k else 0)
-  byte_stays k = ap (λ (b : Bool). if (nat_lt k 128 || b) then bytes_of d.bytes k else 0) (same_block (tiles_in c) (tiles_in d) k tiles) ∙ by_test (cases_Bool (is_kept (tiles_in c) k))
+module _ (c d : Cut) (n : ℕ) (node : NodeAt c n) (place : SamePlace c d) (size : length d.bytes ≡ length c.bytes)
+    (tiles : map plain (tiles_in d) ≡ map plain (tiles_in c))
+    (bytes : (k : ℕ) → IsBesideTags (tiles_in c) k → k < length c.bytes - 16 → (k < n) ⊎ (n + 16 ≤ k)
+    → bytes_of d.bytes k ≡ bytes_of c.bytes k) where
+  byte_stays : (k : ℕ) → (if is_kept (tiles_in d) k then bytes_of d.bytes k else 0)
+      ≡ (if is_kept (tiles_in c) k then bytes_of c.bytes k else 0)
+  byte_stays k = ap (λ (b : Bool). if (nat_lt k 128 || b) then bytes_of d.bytes k else 0)
+      (same_block (tiles_in c) (tiles_in d) k tiles) ∙ by_test (cases_Bool (is_kept (tiles_in c) k))
     where
-      by_test : (is_kept (tiles_in c) k ≡ true) ⊎ (is_kept (tiles_in c) k ≡ false) → (if is_kept (tiles_in c) k then bytes_of d.bytes k else 0) ≡ (if is_kept (tiles_in c) k then bytes_of c.bytes k else 0)
+      by_test : (is_kept (tiles_in c) k ≡ true) ⊎ (is_kept (tiles_in c) k ≡ false)
+          → (if is_kept (tiles_in c) k then bytes_of d.bytes k else 0)
+          ≡ (if is_kept (tiles_in c) k then bytes_of c.bytes k else 0)
       by_test (inl t) =
           let l = (legal_size (length c.bytes) node.said.size).low in
           let clear = kept_clear c n k node l t in
-          cond-true (is_kept (tiles_in c) k) (bytes_of d.bytes k) 0 t ∙ bytes k clear.beside clear.below clear.away ∙ sym (cond-true (is_kept (tiles_in c) k) (bytes_of c.bytes k) 0 t)
-      by_test (inr f) = cond-false (is_kept (tiles_in c) k) (bytes_of d.bytes k) 0 f ∙ sym (cond-false (is_kept (tiles_in c) k) (bytes_of c.bytes k) 0 f)
+          cond-true (is_kept (tiles_in c) k) (bytes_of d.bytes k) 0 t ∙ bytes k clear.beside clear.below clear.away
+          ∙ sym (cond-true (is_kept (tiles_in c) k) (bytes_of c.bytes k) 0 t)
+      by_test (inr f) = cond-false (is_kept (tiles_in c) k) (bytes_of d.bytes k) 0 f
+          ∙ sym (cond-false (is_kept (tiles_in c) k) (bytes_of c.bytes k) 0 f)
 
   pub kept_round : kept_of d ≡ kept_of c
   unfolding kept_of
-  kept_round = λ i. record { before = place.before i; after = place.after i; size = size i; tiles = tiles i; byte = λ k. byte_stays k i }
+  kept_round = λ i. record {
+    before = place.before i;
+    after = place.after i;
+    size = size i;
+    tiles = tiles i;
+    byte = λ k. byte_stays k i;
+  }
 
 -- ---- one field
 
@@ -115,9 +157,11 @@ pub record Changed (c d : Cut) (n : ℕ) : Type 0 where
   pub tiles : map plain us ≡ map plain (tiles_in c)
   pub place : SamePlace c d
   pub size : length d.bytes ≡ length c.bytes
-  pub bytes : (k : ℕ) → IsBesideTags (tiles_in c) k → k < length c.bytes - 16 → (k < n) ⊎ (n + 16 ≤ k) → bytes_of d.bytes k ≡ bytes_of c.bytes k
+  pub bytes : (k : ℕ) → IsBesideTags (tiles_in c) k → k < length c.bytes - 16 → (k < n) ⊎ (n + 16 ≤ k)
+      → bytes_of d.bytes k ≡ bytes_of c.bytes k
   pub links : links_among (bytes_of d.bytes) (payloads (gaps_in c)) n ≡ true
-  pub others : (m : ℕ) → is_in m (payloads (gaps_in c)) ≡ true → (m ≡ n → ⊥) → cells_of (bytes_of d.bytes) m ≡ cells_of (bytes_of c.bytes) m
+  pub others : (m : ℕ) → is_in m (payloads (gaps_in c)) ≡ true → (m ≡ n → ⊥) → cells_of (bytes_of d.bytes) m
+      ≡ cells_of (bytes_of c.bytes) m
 
 module _ (c d : Cut) (n : ℕ) (g : GapNode c n) (h : Changed c d n) where
   node : NodeAt c n
@@ -132,23 +176,28 @@ module _ (c d : Cut) (n : ℕ) (g : GapNode c n) (h : Changed c d n) where
   pub gaps_stay : gaps_in d ≡ gaps_in c
   gaps_stay = same_gaps (tiles_in c) (tiles_in d) same_tiles
 
-  links_d : (m : ℕ) → is_in m (payloads (gaps_in c)) ≡ true → links_among (bytes_of d.bytes) (payloads (gaps_in c)) m ≡ true
+  links_d : (m : ℕ) → is_in m (payloads (gaps_in c)) ≡ true
+      → links_among (bytes_of d.bytes) (payloads (gaps_in c)) m ≡ true
   links_d m i = by_place (cases_eq m n)
     where
       by_place : (m ≡ n) ⊎ (m ≡ n → ⊥) → links_among (bytes_of d.bytes) (payloads (gaps_in c)) m ≡ true
       by_place (inl e) = subst (λ k. links_among (bytes_of d.bytes) (payloads (gaps_in c)) k ≡ true) (sym e) h.links
       by_place (inr o) =
-          subst (λ (x : Cell). (leads (λ k. is_in k (payloads (gaps_in c))) x.left && leads (λ k. is_in k (payloads (gaps_in c))) x.right) ≡ true) (sym (h.others m i o))
+          subst (λ (x : Cell). (leads (λ k. is_in k (payloads (gaps_in c))) x.left && leads
+          (λ k. is_in k (payloads (gaps_in c))) x.right) ≡ true) (sym (h.others m i o))
           (links_at c m (record { good = g.good; listed = i }))
 
   pub good_stays : Good d
   good_stays =
-      let size : IsTrue (is_legal_size (length d.bytes)) = subst (λ k. IsTrue (is_legal_size k)) (sym h.size) g.good.size in
-      let merged : IsTrue (is_merged h.us) = same_merged (tiles_in c) h.us h.tiles ∙ Apart-is_merged false (tiles_in c) node.apart in
+      let size : IsTrue (is_legal_size (length d.bytes)) = subst (λ k. IsTrue (is_legal_size k))
+      (sym h.size) g.good.size in
+      let merged : IsTrue (is_merged h.us) = same_merged (tiles_in c) h.us h.tiles
+      ∙ Apart-is_merged false (tiles_in c) node.apart in
       record {
         size = size;
         tags = (good_tags_say_tiles d size).1 (h.us, h.said, merged);
-        links = subst (λ (gs : List Gap). list_all (links_among (bytes_of d.bytes) (payloads gs)) (payloads gs) ≡ true) (sym gaps_stay)
+        links = subst (λ (gs : List Gap). list_all (links_among (bytes_of d.bytes) (payloads gs))
+            (payloads gs) ≡ true) (sym gaps_stay)
             (all_from (links_among (bytes_of d.bytes) (payloads (gaps_in c))) (payloads (gaps_in c)) links_d);
       }
 
@@ -168,14 +217,17 @@ module _ (c d : Cut) (n : ℕ) (g : GapNode c n) (h : Changed c d n) where
   kept_stays = kept_round c d n node h.place h.size same_tiles h.bytes
 
   -- the cells, where one of them becomes another
-  pub one_cell : (f : Cell → Cell) → cells_of (bytes_of d.bytes) n ≡ f (cells_of (bytes_of c.bytes) n) → gap_cells d ≡ (λ (m : ℕ). if m == n then f (gap_cells c m) else gap_cells c m)
+  pub one_cell : (f : Cell → Cell) → cells_of (bytes_of d.bytes) n ≡ f (cells_of (bytes_of c.bytes) n)
+      → gap_cells d ≡ (λ (m : ℕ). if m == n then f (gap_cells c m) else gap_cells c m)
   one_cell f own = λ i m. at m i
     where
       at_node : (m : ℕ) → is_gap_node c m ≡ true → (m ≡ n → ⊥) → gap_cells d m ≡ gap_cells c m
       at_node m e o =
-          cells_at d m (ap (λ (p : ℕ → Bool). p m) nodes_stay ∙ e) ∙ h.others m (is_gap_node-GapNode c m e).listed o ∙ sym (cells_at c m e)
+          cells_at d m (ap (λ (p : ℕ → Bool). p m) nodes_stay ∙ e) ∙ h.others m (is_gap_node-GapNode c m e).listed o
+          ∙ sym (cells_at c m e)
 
-      other : (m : ℕ) → (m ≡ n → ⊥) → (is_gap_node c m ≡ true) ⊎ (is_gap_node c m ≡ false) → gap_cells d m ≡ gap_cells c m
+      other : (m : ℕ) → (m ≡ n → ⊥) → (is_gap_node c m ≡ true) ⊎ (is_gap_node c m ≡ false)
+          → gap_cells d m ≡ gap_cells c m
       other m o (inl e) = at_node m e o
       other m o (inr e) = cells_off d m (ap (λ (p : ℕ → Bool). p m) nodes_stay ∙ e) ∙ sym (cells_off c m e)
 
@@ -188,5 +240,7 @@ module _ (c d : Cut) (n : ℕ) (g : GapNode c n) (h : Changed c d n) where
       at m = by_place (cases_eq m n)
         where
           by_place : (m ≡ n) ⊎ (m ≡ n → ⊥) → gap_cells d m ≡ (if m == n then f (gap_cells c m) else gap_cells c m)
-          by_place (inl e) = subst (λ k. gap_cells d k ≡ f (gap_cells c k)) (sym e) here ∙ sym (cond-true (m == n) (f (gap_cells c m)) (gap_cells c m) (eq-eqb m n e))
-          by_place (inr o) = other m o (cases_Bool (is_gap_node c m)) ∙ sym (cond-false (m == n) (f (gap_cells c m)) (gap_cells c m) (ne_eqb m n o))
+          by_place (inl e) = subst (λ k. gap_cells d k ≡ f (gap_cells c k)) (sym e) here
+              ∙ sym (cond-true (m == n) (f (gap_cells c m)) (gap_cells c m) (eq-eqb m n e))
+          by_place (inr o) = other m o (cases_Bool (is_gap_node c m))
+              ∙ sym (cond-false (m == n) (f (gap_cells c m)) (gap_cells c m) (ne_eqb m n o))

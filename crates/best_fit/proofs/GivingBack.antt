@@ -47,13 +47,16 @@ start-plain (t ∷ []) at = refl
 start-plain (t ∷ u ∷ ts) at = start-plain (u ∷ ts) at
 
 same_init : (ts us : List Tile) → map plain us ≡ map plain ts → gaps_of (without_last us) ≡ gaps_of (without_last ts)
-same_init ts us e = same_gaps (without_last ts) (without_last us) (init-plain us ∙ ap without_last e ∙ sym (init-plain ts))
+same_init ts us e = same_gaps (without_last ts) (without_last us)
+    (init-plain us ∙ ap without_last e ∙ sym (init-plain ts))
 
 pub same_rest : (ts us : List Tile) → map plain us ≡ map plain ts → gaps_of (rest_of us) ≡ gaps_of (rest_of ts)
 same_rest ts us e = same_gaps (rest_of ts) (rest_of us) (rest-plain us ∙ ap rest_of e ∙ sym (rest-plain ts))
 
-same_start : (ts us : List Tile) (at : ℕ) → map plain us ≡ map plain ts → start_of (last_in us) at ≡ start_of (last_in ts) at
-same_start ts us at e = sym (start-plain us at) ∙ ap (λ (vs : List Tile). start_of (last_in vs) at) e ∙ start-plain ts at
+same_start : (ts us : List Tile) (at : ℕ) → map plain us ≡ map plain ts
+    → start_of (last_in us) at ≡ start_of (last_in ts) at
+same_start ts us at e = sym (start-plain us at) ∙ ap (λ (vs : List Tile). start_of (last_in vs) at) e
+    ∙ start-plain ts at
 
 pub regrown-trans : (a b c : Cut) → Regrown a b → Regrown b c → Regrown a c
 regrown-trans a b c r s =
@@ -64,7 +67,8 @@ regrown-trans a b c r s =
       bytes = λ k i o. s.bytes k (kept_same (tiles_in a) (tiles_in b) k r.tiles ∙ i) o ∙ r.bytes k i o;
     }
 
--- What is known before the last step: the gap that the block has become is to be put into the tree of the others, and with it there the
+-- What is known before the last step: the gap that the block has become is to be put into the tree of the others, and
+-- with it there the
 -- block is given back.
 pub record GivenBack (w four : Cut) (at start : ℕ) : Type 0 where
   pub front : List Gap
@@ -81,7 +85,8 @@ module _ (w : Cut) (at : ℕ) (heap : IsHeap current w.bytes) (b : Block w (at +
   begins = let e = b.at in omega arith
 
   away : Away at b.front
-  away = subst (λ k. Away k b.front) begins (away_front 128 b.front b.tile b.back (length w.bytes - 16) (said_row w (b.front ++ (b.tile ∷ b.back)) b.said))
+  away = subst (λ k. Away k b.front) begins (away_front 128 b.front b.tile b.back (length w.bytes - 16)
+      (said_row w (b.front ++ (b.tile ∷ b.back)) b.said))
 
   abbrev init : List Gap
   init = gaps_of (without_last b.front)
@@ -109,7 +114,8 @@ module _ (w : Cut) (at : ℕ) (heap : IsHeap current w.bytes) (b : Block w (at +
 
   all_gaps : gaps_in w ≡ (init ++ last) ++ (first ++ tail)
   all_gaps =
-      ap gaps_of b.list ∙ gaps_of-append b.front (b.tile ∷ b.back) ∙ ap (λ (hs : List Gap). gaps_of b.front ++ hs) (gaps_of-used b.tile b.back b.role b.in_use)
+      ap gaps_of b.list ∙ gaps_of-append b.front (b.tile ∷ b.back) ∙ ap (λ (hs : List Gap). gaps_of b.front ++ hs)
+      (gaps_of-used b.tile b.back b.role b.in_use)
       ∙ ap (λ (hs : List Gap). hs ++ gaps_of b.back) front_gaps ∙ ap (λ (hs : List Gap). (init ++ last) ++ hs) back_gaps
 
   -- before the first call
@@ -122,12 +128,17 @@ module _ (w : Cut) (at : ℕ) (heap : IsHeap current w.bytes) (b : Block w (at +
     pub rest : Regrown w d
     pub steps : count ≤ start + 32 * bits (length (gaps_in w) + 1) + 34
 
-  pub half_uprooted : (d : Cut) (start n count : ℕ) → HasTree d ((init ++ last) ++ tail) → Regrown w d → n ≤ start + 2 → count ≤ n + 32 * bits (length ((init ++ last) ++ (first ++ tail)) + 1) + 32
+  pub half_uprooted : (d : Cut) (start n count : ℕ) → HasTree d ((init ++ last) ++ tail) → Regrown w d → n ≤ start + 2
+      → count ≤ n + 32 * bits (length ((init ++ last) ++ (first ++ tail)) + 1) + 32
       → HalfUprooted d start count
   half_uprooted d start n count tree rest low high =
       let few = first_tree.some.few in
       let b1 = bits-le (length ((init ++ last) ++ (first ++ tail)) + 1) (length (gaps_in w) + 1) (omega arith) in
-      record { tree = subst (λ (hs : List Gap). HasTree d hs) (append_assoc init last tail) tree; rest = rest; steps = omega arith }
+      record {
+        tree = subst (λ (hs : List Gap). HasTree d hs) (append_assoc init last tail) tree;
+        rest = rest;
+        steps = omega arith;
+      }
 
   -- and so has the gap before
   pub record Uprooted (d : Cut) (start count : ℕ) : Type 0 where
@@ -135,10 +146,12 @@ module _ (w : Cut) (at : ℕ) (heap : IsHeap current w.bytes) (b : Block w (at +
     pub rest : Regrown w d
     pub steps : count ≤ start + 64 * bits (length (gaps_in w) + 1) + 66
 
-  pub uprooted : (d1 d : Cut) (start n count : ℕ) → HalfUprooted d1 start n → HasTree d (init ++ tail) → Regrown d1 d → count ≤ n + 32 * bits (length (init ++ (last ++ tail)) + 1) + 32 → Uprooted d start count
+  pub uprooted : (d1 d : Cut) (start n count : ℕ) → HalfUprooted d1 start n → HasTree d (init ++ tail) → Regrown d1 d
+      → count ≤ n + 32 * bits (length (init ++ (last ++ tail)) + 1) + 32 → Uprooted d start count
   uprooted d1 d start n count half tree rest high =
       let few = half.tree.some.few in let low = half.steps in
-      let same : length (gaps_in d1) ≡ length (gaps_in w) = ap (λ (hs : List Gap). length hs) (same_gaps (tiles_in w) (tiles_in d1) half.rest.tiles) in
+      let same : length (gaps_in d1) ≡ length (gaps_in w) = ap (λ (hs : List Gap). length hs)
+      (same_gaps (tiles_in w) (tiles_in d1) half.rest.tiles) in
       let b2 = bits-le (length (init ++ (last ++ tail)) + 1) (length (gaps_in w) + 1) (omega arith) in
       record { tree = tree; rest = regrown-trans w d1 d half.rest rest; steps = omega arith }
 
@@ -159,7 +172,8 @@ module _ (w : Cut) (at : ℕ) (heap : IsHeap current w.bytes) (b : Block w (at +
     begins_d = ap (λ (t : Tile). t.offset) s.tiles ∙ begins
 
     same_gaps_d : init ++ tail ≡ gaps_of (without_last s.front') ++ gaps_of (rest_of s.back')
-    same_gaps_d = sym (ap (λ (hs : List Gap). hs ++ gaps_of (rest_of s.back')) (same_init b.front s.front' s.fronts) ∙ ap (λ (hs : List Gap). init ++ hs) (same_rest b.back s.back' s.backs))
+    same_gaps_d = sym (ap (λ (hs : List Gap). hs ++ gaps_of (rest_of s.back')) (same_init b.front s.front' s.fronts)
+        ∙ ap (λ (hs : List Gap). init ++ hs) (same_rest b.back s.back' s.backs))
 
     tree_d : HasTree d (gaps_of (without_last s.front') ++ gaps_of (rest_of s.back'))
     tree_d = subst (λ (hs : List Gap). HasTree d hs) same_gaps_d h
@@ -167,21 +181,29 @@ module _ (w : Cut) (at : ℕ) (heap : IsHeap current w.bytes) (b : Block w (at +
     pub r_colour : MayHaveColour d at false
     r_colour = colour_may d says_d at s.front' s.tile' s.back' b.role s.list used_d begins_d
 
-    module _ (one : Cut) (paint : (ts : List Tile) → SaysTiles d ts → SaysTiles one (with_red_at at false ts)) (paint_same : (ts : List Tile) → SaysTiles d ts → SameBesideTags d one ts (with_red_at at false ts)) where
+    module _ (one : Cut) (paint : (ts : List Tile) → SaysTiles d ts → SaysTiles one (with_red_at at false ts))
+        (paint_same : (ts : List Tile) → SaysTiles d ts → SameBesideTags d one ts (with_red_at at false ts)) where
       pub r_use : MayBeUsed one at None
       r_use = use_may d says_d at s.front' s.tile' s.back' b.role s.list used_d begins_d one paint paint_same
 
-      module _ (two : Cut) (change : (ts : List Tile) → SaysTiles one ts → SaysTiles two (with_use_at at None ts)) (change_same : (ts : List Tile) → SaysTiles one ts → SameBesideTags one two ts (with_use_at at None ts)) where
+      module _ (two : Cut) (change : (ts : List Tile) → SaysTiles one ts → SaysTiles two (with_use_at at None ts))
+          (change_same : (ts : List Tile) → SaysTiles one ts → SameBesideTags one two ts (with_use_at at None ts)) where
         pub r_stands2 : HasTileAt two at
-        r_stands2 = stands2 d says_d at s.front' s.tile' s.back' b.role s.list used_d begins_d one paint paint_same two change change_same
+        r_stands2 = stands2 d says_d at s.front' s.tile' s.back' b.role s.list used_d begins_d one paint
+            paint_same two change change_same
 
-        module _ (three : Cut) (join : (ts : List Tile) → SaysTiles two ts → SaysTiles three (joined_free_at at ts)) (join_same : (ts : List Tile) → SaysTiles two ts → SameBesideTags two three ts (joined_free_at at ts)) where
+        module _ (three : Cut) (join : (ts : List Tile) → SaysTiles two ts → SaysTiles three (joined_free_at at ts))
+            (join_same : (ts : List Tile) → SaysTiles two ts → SameBesideTags two three ts (joined_free_at at ts)) where
           pub r_stands3 : HasTileAt three at
-          r_stands3 = stands3 d says_d at s.front' s.tile' s.back' b.role s.list used_d begins_d one paint paint_same two change change_same three join join_same
+          r_stands3 = stands3 d says_d at s.front' s.tile' s.back' b.role s.list used_d begins_d one paint paint_same
+              two change change_same three join join_same
 
-          module _ (four : Cut) (last_join : (ts : List Tile) → SaysTiles three ts → SaysTiles four (joined_before at ts)) (last_same : (ts : List Tile) → SaysTiles three ts → SameBesideTags three four ts (joined_before at ts)) where
+          module _ (four : Cut) (last_join : (ts : List Tile) → SaysTiles three ts
+              → SaysTiles four (joined_before at ts)) (last_same : (ts : List Tile) → SaysTiles three ts
+              → SameBesideTags three four ts (joined_before at ts)) where
             f : Freed d four at s.front' s.back'
-            f = freed d says_d at s.front' s.tile' s.back' b.role s.list used_d begins_d one paint paint_same two change change_same three join join_same four last_join last_same
+            f = freed d says_d at s.front' s.tile' s.back' b.role s.list used_d begins_d one paint paint_same two
+                change change_same three join join_same four last_join last_same
 
             xs : List Gap
             xs = gaps_of (without_last s.front')
@@ -196,7 +218,8 @@ module _ (w : Cut) (at : ℕ) (heap : IsHeap current w.bytes) (b : Block w (at +
             unfolding xs ys
             lacks =
                 let hs = gaps_of (without_last s.front') ++ gaps_of (rest_of s.back') in
-                let root : link_at (bytes_of four.bytes) 24 ≡ link_at (bytes_of d.bytes) 24 = ap (target_of 24) f.word in
+                let root : link_at (bytes_of four.bytes) 24 ≡ link_at (bytes_of d.bytes) 24 =
+                ap (target_of 24) f.word in
                 let old = tree_d.tree in
                 record {
                   said = f.says.said;
@@ -205,8 +228,10 @@ module _ (w : Cut) (at : ℕ) (heap : IsHeap current w.bytes) (b : Block w (at +
                   tree = record {
                     tree = old.tree;
                     linked = subst (λ (l : Option ℕ). IsTree (cells_of (bytes_of four.bytes)) l old.tree) (sym root)
-                        (tree_same (cells_of (bytes_of d.bytes)) (cells_of (bytes_of four.bytes)) (link_at (bytes_of d.bytes) 24) old.tree
-                        (λ m i. f.cell m (sym (in_sorted m hs) ∙ ap (λ (ns : List ℕ). is_in m ns) (sym old.lists) ∙ i)) old.linked);
+                        (tree_same (cells_of (bytes_of d.bytes)) (cells_of (bytes_of four.bytes))
+                        (link_at (bytes_of d.bytes) 24) old.tree
+                        (λ m i. f.cell m (sym (in_sorted m hs) ∙ ap (λ (ns : List ℕ). is_in m ns) (sym old.lists)
+                        ∙ i)) old.linked);
                     red_black = old.red_black;
                     lists = old.lists;
                   };
@@ -221,7 +246,8 @@ module _ (w : Cut) (at : ℕ) (heap : IsHeap current w.bytes) (b : Block w (at +
             unfolding xs ys
             few_left =
                 let few = tree_d.some.few in
-                let same : length (gaps_in d) ≡ length (gaps_in w) = ap (λ (hs : List Gap). length hs) (same_gaps (tiles_in w) (tiles_in d) r.tiles) in
+                let same : length (gaps_in d) ≡ length (gaps_in w) = ap (λ (hs : List Gap). length hs)
+                (same_gaps (tiles_in w) (tiles_in d) r.tiles) in
                 omega arith
 
             module _ (e : Cut) (planted : HasTree e (xs ++ (gap_of f.whole ∷ ys))) (regrown : Regrown four e) where
@@ -237,14 +263,30 @@ module _ (w : Cut) (at : ℕ) (heap : IsHeap current w.bytes) (b : Block w (at +
               released_block : IsReleased current w e (at + 16)
               released_block =
                   let xs_ = (live_of w.bytes).extents in
-                  let first_keeps = keeps-others w d (at + 16) xs_ (regrown_keeps w d (heap-says w heap).said says_d.said r) in
-                  let second_keeps : Keeps d four (others (at + 16) xs_) = subst (λ (l : LiveSet). Keeps d four (others (at + 16) l.extents)) (regrown_live w d r) f.keeps in
-                  let third_keeps : Keeps four e (others (at + 16) xs_) = subst (λ (l : LiveSet). Keeps four e l.extents) live_four (regrown_keeps four e f.says.said says_e.said regrown) in
+                  let first_keeps = keeps-others w d (at + 16) xs_
+                  (regrown_keeps w d (heap-says w heap).said says_d.said r) in
+                  let second_keeps : Keeps d four (others (at + 16) xs_) =
+                  subst (λ (l : LiveSet). Keeps d four (others (at + 16) l.extents)) (regrown_live w d r) f.keeps in
+                  let third_keeps : Keeps four e (others (at + 16) xs_) =
+                  subst (λ (l : LiveSet). Keeps four e l.extents) live_four
+                  (regrown_keeps four e f.says.said says_e.said regrown) in
                   record {
                     live = subst (LaysOut current e.bytes) (regrown_live four e regrown ∙ live_four)
-                        (lays_out e says_e (subst (λ (hs : List Gap). IsTreeOf (bytes_of e.bytes) 24 (payloads (sorted_gaps hs))) (sym gaps_e) planted.tree));
-                    keeps = keeps-trans w four e (others (at + 16) xs_) (keeps-trans w d four (others (at + 16) xs_) first_keeps second_keeps) third_keeps;
+                        (lays_out e says_e
+                        (subst (λ (hs : List Gap). IsTreeOf (bytes_of e.bytes) 24 (payloads (sorted_gaps hs)))
+                        (sym gaps_e) planted.tree));
+                    keeps = keeps-trans w four e (others (at + 16) xs_)
+                        (keeps-trans w d four (others (at + 16) xs_) first_keeps second_keeps) third_keeps;
                   }
 
             pub given_back : GivenBack w four at (start_of (last_in b.front) at)
-            given_back = record { front = xs; gap = gap_of f.whole; back = ys; node = new_node; lacks = lacks; small = start_small; few = few_left; released = released_block }
+            given_back = record {
+              front = xs;
+              gap = gap_of f.whole;
+              back = ys;
+              node = new_node;
+              lacks = lacks;
+              small = start_small;
+              few = few_left;
+              released = released_block;
+            }

@@ -33,9 +33,11 @@ last_gap w at (Some t) e g =
     elim (use_cases t) [
       | unused f ↦
           let ends = last_in-EndsWith (tiles_in w) t (sym e) in
-          let there : Some t.offset ≡ Some at = sym (cond-true (is_free t) (Some t.offset) None (unused-free t f)) ∙ g in
+          let there : Some t.offset ≡ Some at =
+          sym (cond-true (is_free t) (Some t.offset) None (unused-free t f)) ∙ g in
           record { front = ends.front; tile = t; list = ends.list; free = f; offset = same_Some t.offset at there }
-      | used role f ↦ absurd (none-some at (sym (cond-false (is_free t) (Some t.offset) None (used-not_free t role f)) ∙ g))
+      | used role f ↦ absurd
+          (none-some at (sym (cond-false (is_free t) (Some t.offset) None (used-not_free t role f)) ∙ g))
     ]
 
 cons_not : (x : Tile) (xs : List Tile) → x ∷ xs ≡ [] → ⊥
@@ -50,7 +52,8 @@ module _ (w : Cut) (heap : IsHeap current w.bytes) (at : ℕ) (l : LastGap w at)
   one = record { gap = gap_of l.tile; list = refl; offset = sym l.offset }
 
   pub last_gaps : gaps_in w ≡ gaps_of l.front ++ (gap_of l.tile ∷ [])
-  last_gaps = ap gaps_of l.list ∙ gaps_of-append l.front (l.tile ∷ []) ∙ ap (λ (hs : List Gap). gaps_of l.front ++ hs) (gaps_of-free l.tile [] l.free)
+  last_gaps = ap gaps_of l.list ∙ gaps_of-append l.front (l.tile ∷ []) ∙ ap (λ (hs : List Gap). gaps_of l.front ++ hs)
+      (gaps_of-free l.tile [] l.free)
 
   -- the tree has it as the last
   pub last_tree : HasTree w (gaps_of l.front ++ (gap_of l.tile ∷ []))
@@ -71,7 +74,8 @@ module _ (w : Cut) (heap : IsHeap current w.bytes) (at : ℕ) (l : LastGap w at)
     alike = splits_alike (tiles_in d) l.front l.tile [] (r.tiles ∙ ap (λ (ts : List Tile). map plain ts) l.list)
 
     -- what the drop needs
-    pub left_alone : (front : List Tile) × (t : Tile) × (tiles_in d ≡ front ++ t ∷ []) × (t.use_of ≡ None) × HasTree d (gaps_of front)
+    pub left_alone : (front : List Tile) × (t : Tile) × (tiles_in d ≡ front ++ t ∷ []) × (t.use_of ≡ None)
+        × HasTree d (gaps_of front)
     left_alone =
         let s = alike in
         let none : s.back' ≡ [] = none_plain s.back' s.backs in (
@@ -79,15 +83,18 @@ module _ (w : Cut) (heap : IsHeap current w.bytes) (at : ℕ) (l : LastGap w at)
           s.tile',
           s.list ∙ ap (λ (ts : List Tile). s.front' ++ s.tile' ∷ ts) none,
           ap (λ (t : Tile). t.use_of) s.tiles ∙ l.free,
-          subst (λ (gs : List Gap). HasTree d gs) (append-nil (gaps_of l.front) ∙ sym (same_gaps l.front s.front' s.fronts)) tree,
+          subst (λ (gs : List Gap). HasTree d gs) (append-nil (gaps_of l.front)
+              ∙ sym (same_gaps l.front s.front' s.fronts)) tree,
         )
 
     live_same : live_of d.bytes ≡ live_of w.bytes
     live_same = regrown_live w d r
 
-    pub end_cut : (e : Cut) → HasEndMoved current d e (least_size (live_of d.bytes)) → HasEndMoved current w e (least_size (live_of w.bytes))
+    pub end_cut : (e : Cut) → HasEndMoved current d e (least_size (live_of d.bytes))
+        → HasEndMoved current w e (least_size (live_of w.bytes))
     end_cut e m =
-        let k : KeepsTo d e (least_size (live_of w.bytes)) (live_of w.bytes).extents = subst (λ (x : LiveSet). KeepsTo d e (least_size x) x.extents) live_same m.keeps in
+        let k : KeepsTo d e (least_size (live_of w.bytes)) (live_of w.bytes).extents =
+        subst (λ (x : LiveSet). KeepsTo d e (least_size x) x.extents) live_same m.keeps in
         record {
           live = subst (λ (x : LiveSet). LaysOut current e.bytes (of_size x (least_size x))) live_same m.live;
           keeps = then-keeps_to w d e (least_size (live_of w.bytes)) (live_of w.bytes).extents
@@ -121,10 +128,12 @@ no_gap (Some u) g t e =
       | used role f ↦ subst (λ (v : Tile). is_free v ≡ false) (same_Some u t e) (used-not_free u role f)
     ]
 
-pub ends_there : (w : Cut) (o : Option Tile) → IsHeap current w.bytes → o ≡ last_in (tiles_in w) → gap_offset o ≡ None → HasEndMoved current w w (least_size (live_of w.bytes))
+pub ends_there : (w : Cut) (o : Option Tile) → IsHeap current w.bytes → o ≡ last_in (tiles_in w) → gap_offset o ≡ None
+    → HasEndMoved current w w (least_size (live_of w.bytes))
 ends_there w o heap e g =
     let says = heap-says w heap in
     let size = legal_size (length w.bytes) says.said.size in let low = size.low in
     let uses : EndsUsed (tiles_in w) = λ t last. no_gap o g t (e ∙ last) in
-    let ends = ap (λ (xs : List Extent). last_end 128 xs) (live_extents w) ∙ ends_used (tiles_in w) (length w.bytes - 16) (said_row w (tiles_in w) says.said) uses in
+    let ends = ap (λ (xs : List Extent). last_end 128 xs) (live_extents w)
+    ∙ ends_used (tiles_in w) (length w.bytes - 16) (said_row w (tiles_in w) says.said) uses in
     same_end w (least_size (live_of w.bytes)) heap (omega arith)

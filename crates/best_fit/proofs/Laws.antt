@@ -16,7 +16,8 @@ pub use Rattle.best_fit.proofs.Order.{AllByRecursion-insert, AllByRecursion-inse
 pub use Rattle.best_fit.proofs.Proper.{others-here, others-past, proper_from-hole, proper_from-reaches}
 -- what stays twice stays, and what of it is kept with a block less
 pub use Rattle.best_fit.proofs.Frames.{AllByRecursion-beside, IsBeside, SameBlock-trans, blocks-trans, keeps-insert, keeps-others, keeps-refl, keeps-trans}
--- a block that was placed is live, with room for what was asked for, and so are those before it; and still where payloads change
+-- a block that was placed is live, with room for what was asked for, and so are those before it; and still where
+-- payloads change
 pub use Rattle.best_fit.proofs.Allocated.{changed-header_blocks, allocated-is_live, allocated-live, allocated-room, allocated-room_before, changed-keeps, changed-keeps_block, changed-live, changed-room, holds-fewer, is_red-payload, names-has_room, released-live, resized-live, still_allocated, still_allocated-block}
 -- a tile is free or in use, and what the gaps and the live set of tiles are then
 pub use Rattle.best_fit.proofs.Rows.{Fill-Row, free-unused, gaps_of-append, gaps_of-free, gaps_of-used, span_between-none, span_between-some, spans_from-row, unused, use_cases, used}

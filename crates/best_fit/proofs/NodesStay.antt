@@ -4,7 +4,8 @@ use Rattle.link_tree.specs.Frame.{SameBesideCells}
 use Rattle.best_fit.specs.contracts.heap.nodes.GapsNodes.TheImpl.{ghosts}
 use Rattle.best_fit.proofs.GapSteps.{Changed, nodes_stay, order_stays, probes_stay, kept_stays}
 
-pub same_beside_cells : (old new : Gaps) (n : ℕ) → GapNode old.window n → Changed old.window new.window n → SameBesideCells ghosts old new
+pub same_beside_cells : (old new : Gaps) (n : ℕ) → GapNode old.window n → Changed old.window new.window n
+    → SameBesideCells ghosts old new
 same_beside_cells old new n g changed =
     record {
       nodes = nodes_stay old.window new.window n g changed;

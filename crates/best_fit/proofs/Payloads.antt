@@ -15,11 +15,18 @@ pub record LiveAt (c : Cut) (h : ℕ) : Type 0 where
   pub inside : h + (block.tile.len - 16) ≤ length c.bytes
   pub long : 32 ≤ block.tile.len
 
-pub live_at : (v c : Cut) (h : ℕ) → v ≡ c → IsHeap current c.bytes → IsTrue (is_live_in (live_of v.bytes) h) → LiveAt c h
+pub live_at : (v c : Cut) (h : ℕ) → v ≡ c → IsHeap current c.bytes
+    → IsTrue (is_live_in (live_of v.bytes) h) → LiveAt c h
 live_at v c h e heap live =
     let b = live_block c h heap (subst (λ (u : Cut). IsTrue (is_live_in (live_of u.bytes) h)) e live) in
     let o = b.at in let low = b.low in let long = b.long in let ends = b.inside in
-    record { block = b; low = omega arith; tile = block_tile c h (h - 16) b (omega arith); inside = omega arith; long = long }
+    record {
+      block = b;
+      low = omega arith;
+      tile = block_tile c h (h - 16) b (omega arith);
+      inside = omega arith;
+      long = long;
+    }
 
 -- such a block, whose tile was read
 pub record ReadAt (c : Cut) (h len : ℕ) : Type 0 where
@@ -29,7 +36,8 @@ pub record ReadAt (c : Cut) (h len : ℕ) : Type 0 where
   pub inside : h + (len - 16) ≤ length c.bytes
   pub long : 32 ≤ len
 
-pub read_at : (v c : Cut) (h : ℕ) → v ≡ c → IsHeap current c.bytes → IsTrue (is_live_in (live_of v.bytes) h) → (t : Tile) → ((ts : List Tile) → SaysTiles c ts → tile_in ts (h - 16) ≡ Some t) → ReadAt c h t.len
+pub read_at : (v c : Cut) (h : ℕ) → v ≡ c → IsHeap current c.bytes → IsTrue (is_live_in (live_of v.bytes) h)
+    → (t : Tile) → ((ts : List Tile) → SaysTiles c ts → tile_in ts (h - 16) ≡ Some t) → ReadAt c h t.len
 read_at v c h e heap live t is =
     let s = live_at v c h e heap live in
     let low = s.low in let inside = s.inside in let long = s.long in
@@ -41,11 +49,15 @@ pub payload_written : (c : Cut) (h n : ℕ) (ws : List ℕ) → IsHeap current c
 payload_written c h n ws heap b e =
     let o = b.at in let long = b.long in let ends = b.inside in
     let us = refill n (part c.bytes h n) ws in
-    let len : length us ≡ n = sym (length_refill n (part c.bytes h n) ws (sym (length-part c.bytes h n (omega arith)))) in
+    let len : length us ≡ n =
+    sym (length_refill n (part c.bytes h n) ws (sym (length-part c.bytes h n (omega arith)))) in
     let inside : h + length us ≤ length c.bytes = omega arith in
     let room : Room c h n = record { block = b; enough = omega arith } in
-    payload_changed c (with_bytes c (patched c.bytes h us)) h n h n heap (with_bytes-SamePlace c (patched c.bytes h us)) (length-patched c.bytes h us inside) room (omega arith) (omega arith)
-    (subst (λ (k : ℕ). SameBut (bytes_of c.bytes) (bytes_of (patched c.bytes h us)) h k) len (patched-SameBut c.bytes h us inside))
+    payload_changed c (with_bytes c (patched c.bytes h us)) h n h n heap
+    (with_bytes-SamePlace c (patched c.bytes h us)) (length-patched c.bytes h us inside) room
+    (omega arith) (omega arith)
+    (subst (λ (k : ℕ). SameBut (bytes_of c.bytes) (bytes_of (patched c.bytes h us)) h k) len
+    (patched-SameBut c.bytes h us inside))
 
 pub payload_len-tile : (c : Cut) (h : ℕ) → (b : Block c h) → payload_len (live_of c.bytes) h ≡ b.tile.len - 16
 payload_len-tile c h b = ap (λ o. elim o as (λ _. ℕ) [ None ↦ 0 | Some x ↦ x.len - 16 ]) b.extent
@@ -54,7 +66,8 @@ pub with_payload-lent : (v c : Cut) (h n : ℕ) (ws : List ℕ) → v ≡ c → 
     → with_bytes c (patched c.bytes h (refill n (part c.bytes h n) ws)) ≡ with_payload v h ws
 unfolding with_payload
 with_payload-lent v c h n ws e b len =
-    ap (λ k. with_bytes c (patched c.bytes h (refill k (part c.bytes h k) ws))) (len ∙ sym (payload_len-tile c h b)) ∙ ap (λ (u : Cut). with_payload u h ws) (sym e)
+    ap (λ k. with_bytes c (patched c.bytes h (refill k (part c.bytes h k) ws))) (len ∙ sym (payload_len-tile c h b))
+    ∙ ap (λ (u : Cut). with_payload u h ws) (sym e)
 
 pub loans_write_one_block : LoansWriteOneBlock
 loans_write_one_block c h ws heap live size =
@@ -64,6 +77,12 @@ loans_write_one_block c h ws heap live size =
     let o = b.at in let long = b.long in let ends = b.inside in
     let inside : h + length ws ≤ length c.bytes = omega arith in
     let is : with_bytes c (patched c.bytes h ws) ≡ with_payload c h ws =
-    ap (λ (us : List ℕ). with_bytes c (patched c.bytes h us)) (sym (refill-all (length ws) (part c.bytes h (length ws)) ws refl)) ∙ with_payload-lent c c h (length ws) ws refl b n in
+    ap (λ (us : List ℕ). with_bytes c (patched c.bytes h us))
+    (sym (refill-all (length ws) (part c.bytes h (length ws)) ws refl))
+    ∙ with_payload-lent c c h (length ws) ws refl b n in
     let P : Cut → Type 0 = λ (d : Cut). IsChanged current c d h (length ws) × Has (bytes_of d.bytes) h ws in
-    subst P is (subst (λ (us : List ℕ). IsChanged current c (with_bytes c (patched c.bytes h us)) h (length ws)) (refill-all (length ws) (part c.bytes h (length ws)) ws refl) (payload_written c h (length ws) ws heap b n), patched-Has c.bytes h ws inside)
+    subst P is (
+      subst (λ (us : List ℕ). IsChanged current c (with_bytes c (patched c.bytes h us)) h (length ws))
+          (refill-all (length ws) (part c.bytes h (length ws)) ws refl) (payload_written c h (length ws) ws heap b n),
+      patched-Has c.bytes h ws inside,
+    )

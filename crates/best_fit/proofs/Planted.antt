@@ -35,7 +35,9 @@ in_longer : (n : ℕ) (xs ys : List Gap) → is_in n (payloads xs) ≡ true → 
 in_longer n [] ys i = absurd (false≢true i)
 in_longer n (x ∷ xs) ys i = by_place (or_cases (n == x.offset + 16) (is_in n (payloads xs)) i) (in_longer n xs ys)
   where
-    by_place : ((n == x.offset + 16) ≡ true) ⊎ (is_in n (payloads xs) ≡ true) → (is_in n (payloads xs) ≡ true → is_in n (payloads (xs ++ ys)) ≡ true) → is_in n (payloads (x ∷ (xs ++ ys))) ≡ true
+    by_place : ((n == x.offset + 16) ≡ true) ⊎ (is_in n (payloads xs) ≡ true)
+        → (is_in n (payloads xs) ≡ true → is_in n (payloads (xs ++ ys)) ≡ true)
+        → is_in n (payloads (x ∷ (xs ++ ys))) ≡ true
     by_place (inl e) rest = or_left (n == x.offset + 16) (is_in n (payloads (xs ++ ys))) e
     by_place (inr e) rest = or_right (n == x.offset + 16) (is_in n (payloads (xs ++ ys))) (rest e)
 
@@ -56,7 +58,8 @@ module _ (c : Cut) (xs : List Gap) (g : Gap) (node : ℕ) (is : node ≡ node_of
   pub is_a_node : is_gap_node c node ≡ true
   is_a_node = GapNode-is_gap_node c node (record {
     good = is_good-Good c n.tree.good;
-    listed = subst (λ k. is_in k (payloads (gaps_in c)) ≡ true) (sym is) (subst (λ (gs : List Gap). is_in (node_of g) (payloads gs) ≡ true) (sym n.gaps) (in_here xs g n.behind));
+    listed = subst (λ k. is_in k (payloads (gaps_in c)) ≡ true) (sym is)
+        (subst (λ (gs : List Gap). is_in (node_of g) (payloads gs) ≡ true) (sym n.gaps) (in_here xs g n.behind));
   })
 
   with_next : AreSome (gaps_in c) (xs ++ (g ∷ []))
@@ -86,11 +89,14 @@ module _ (c : Cut) (xs : List Gap) (g : Gap) (node : ℕ) (is : node ≡ node_of
 
   pub next_tree : (d e : Cut) → (root : Option ℕ)
       → ((t : Tree) → IsSearchTree (comes_before (gaps_in c)) (gap_cells c) (link_at (bytes_of c.bytes) 24) t
-      → (grown : Tree) × IsSearchTree (comes_before (gaps_in d)) (gap_cells d) root grown × (nodes_of grown ≡ put (comes_before (gaps_in c)) node (nodes_of t)))
+      → (grown : Tree) × IsSearchTree (comes_before (gaps_in d)) (gap_cells d) root grown
+      × (nodes_of grown ≡ put (comes_before (gaps_in c)) node (nodes_of t)))
       → is_gap_node d ≡ is_gap_node c → kept_of d ≡ kept_of c
-      → link_at (bytes_of e.bytes) 24 ≡ root → length e.bytes ≡ length d.bytes → SameBut (bytes_of d.bytes) (bytes_of e.bytes) 24 8 → HasTree e (xs ++ (g ∷ []))
+      → link_at (bytes_of e.bytes) 24 ≡ root → length e.bytes ≡ length d.bytes
+      → SameBut (bytes_of d.bytes) (bytes_of e.bytes) 24 8 → HasTree e (xs ++ (g ∷ []))
   unfolding before_it
-  next_tree d e root grows nodes kept leads_to size same = grown_tree c d e xs g [] node is with_next before_it root grows is_a_node nodes kept leads_to size same
+  next_tree d e root grows nodes kept leads_to size same = grown_tree c d e xs g [] node is with_next before_it root
+      grows is_a_node nodes kept leads_to size same
 
 -- ---- the walk
 
@@ -103,7 +109,8 @@ pub planted_start : (c : Cut) → HasTree c [] → HasPlanted c c [] (tiles_in c
 planted_start c h = record { change = regrown-refl c; tree = h }
 
 -- a block is passed as it is
-pub planted_block : (old new next : Cut) (tile : Tile) (t : Turn new (HasPlanted old new) tile) → is_some tile.use_of ≡ true → next ≡ new → Passed next (HasPlanted old next) tile.offset
+pub planted_block : (old new next : Cut) (tile : Tile) (t : Turn new (HasPlanted old new) tile)
+    → is_some tile.use_of ≡ true → next ≡ new → Passed next (HasPlanted old next) tile.offset
 planted_block old new next tile t some e =
     let P : Cut → Type 0 = λ (c : Cut). Passed c (HasPlanted old c) tile.offset in
     subst P (sym e) (record {
@@ -112,11 +119,15 @@ planted_block old new next tile t some e =
       back = t.back;
       said = t.said;
       offset = refl;
-      holds = record { change = t.holds.change; tree = subst (HasTree new) (sym (gaps_past_block t.passed tile some)) t.holds.tree };
+      holds = record {
+        change = t.holds.change;
+        tree = subst (HasTree new) (sym (gaps_past_block t.passed tile some)) t.holds.tree;
+      };
     })
 
 -- a gap is put into the tree, and passed
-module _ (old new : Cut) (tile : Tile) (t : Turn new (HasPlanted old new) tile) (none : is_some tile.use_of ≡ false) where
+module _ (old new : Cut) (tile : Tile) (t : Turn new (HasPlanted old new) tile)
+    (none : is_some tile.use_of ≡ false) where
   free : tile.use_of ≡ None
   free = free_if tile none
 
@@ -127,19 +138,23 @@ module _ (old new : Cut) (tile : Tile) (t : Turn new (HasPlanted old new) tile) 
   next_gap =
       record {
         behind = gaps_of t.back;
-        gaps = ap gaps_of tiles ∙ gaps_of-append t.passed (tile ∷ t.back) ∙ ap (λ (gs : List Gap). gaps_of t.passed ++ gs) (gaps_of-free tile t.back free);
+        gaps = ap gaps_of tiles ∙ gaps_of-append t.passed (tile ∷ t.back)
+            ∙ ap (λ (gs : List Gap). gaps_of t.passed ++ gs) (gaps_of-free tile t.back free);
         tree = t.holds.tree;
       }
 
-  pub planted_gap : (next : Cut) → HasTree next (gaps_of t.passed ++ (gap_of tile ∷ [])) → Regrown new next → Passed next (HasPlanted old next) tile.offset
+  pub planted_gap : (next : Cut) → HasTree next (gaps_of t.passed ++ (gap_of tile ∷ [])) → Regrown new next
+      → Passed next (HasPlanted old next) tile.offset
   planted_gap next h r =
       let says = tree_says next (gaps_of t.passed ++ (gap_of tile ∷ [])) h in
-      let s : SplitsAlike (tiles_in next) t.passed tile t.back = splits_alike (tiles_in next) t.passed tile t.back (r.tiles ∙ ap (λ (us : List Tile). map plain us) tiles) in
+      let s : SplitsAlike (tiles_in next) t.passed tile t.back = splits_alike (tiles_in next) t.passed tile t.back
+      (r.tiles ∙ ap (λ (us : List Tile). map plain us) tiles) in
       let front = same_gaps t.passed s.front' s.fronts in
       let one = same_gaps (tile ∷ []) (s.tile' ∷ []) (ap (λ (u : Tile). u ∷ []) s.tiles) in
       let list : gaps_of t.passed ++ (gap_of tile ∷ []) ≡ gaps_of (s.front' ++ (s.tile' ∷ [])) =
       ap (λ (gs : List Gap). gaps_of t.passed ++ gs) (sym (gaps_of-free tile [] free))
-      ∙ sym (gaps_of-append s.front' (s.tile' ∷ []) ∙ ap (λ (gs : List Gap). gs ++ gaps_of (s.tile' ∷ [])) front ∙ ap (λ (gs : List Gap). gaps_of t.passed ++ gs) one) in
+      ∙ sym (gaps_of-append s.front' (s.tile' ∷ []) ∙ ap (λ (gs : List Gap). gs ++ gaps_of (s.tile' ∷ [])) front
+      ∙ ap (λ (gs : List Gap). gaps_of t.passed ++ gs) one) in
       record {
         passed = s.front';
         tile = s.tile';
@@ -151,11 +166,13 @@ module _ (old new : Cut) (tile : Tile) (t : Turn new (HasPlanted old new) tile) 
 
 -- at the end the tree has all gaps
 pub planted_all : (old new : Cut) → Ended new (HasPlanted old new) → HasTree new (gaps_in new)
-planted_all old new e = subst (λ (us : List Tile). HasTree new (gaps_of us)) (sym (tiles_are_read_off new e.tiles e.said)) e.holds.tree
+planted_all old new e = subst (λ (us : List Tile). HasTree new (gaps_of us))
+    (sym (tiles_are_read_off new e.tiles e.said)) e.holds.tree
 
 -- ---- the heap
 
-module _ (old mid new : Cut) (says : SaysHeap old (tiles_in old)) (empty : Regrown old mid) (change : Regrown mid new) (h : HasTree new (gaps_in new)) where
+module _ (old mid new : Cut) (says : SaysHeap old (tiles_in old)) (empty : Regrown old mid) (change : Regrown mid new)
+    (h : HasTree new (gaps_in new)) where
   says_new : SaysHeap new (tiles_in new)
   says_new = tree_says new (gaps_in new) h
 

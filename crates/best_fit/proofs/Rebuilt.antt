@@ -33,13 +33,15 @@ may_be_too (Some Node) h = h
 tile_too : (t : Tile) → IsTrue (is_tile 0 t) → IsTrue (is_tile current t)
 tile_too t h =
     let two = and_parts (nat_le 32 t.len && (t.len % 16 == 0)) (not t.red || may_be_red 0 t.use_of) h in
-    and_from (nat_le 32 t.len && (t.len % 16 == 0)) (not t.red || may_be_red current t.use_of) two.0 (by_colour (or_cases (not t.red) (may_be_red 0 t.use_of) two.1))
+    and_from (nat_le 32 t.len && (t.len % 16 == 0)) (not t.red || may_be_red current t.use_of) two.0
+    (by_colour (or_cases (not t.red) (may_be_red 0 t.use_of) two.1))
   where
     by_colour : (not t.red ≡ true) ⊎ (may_be_red 0 t.use_of ≡ true) → (not t.red || may_be_red current t.use_of) ≡ true
     by_colour (inl e) = or_left (not t.red) (may_be_red current t.use_of) e
     by_colour (inr e) = or_right (not t.red) (may_be_red current t.use_of) (may_be_too t.use_of e)
 
-tags_too : (m : Memory) (at before : ℕ) (ts : List Tile) (end : ℕ) → IsTrue (are_tags 0 m at before ts end) → IsTrue (are_tags current m at before ts end)
+tags_too : (m : Memory) (at before : ℕ) (ts : List Tile) (end : ℕ) → IsTrue (are_tags 0 m at before ts end)
+    → IsTrue (are_tags current m at before ts end)
 tags_too m at before [] end h = h
 tags_too m at before (t ∷ ts) end h =
     let here = t.offset == at in
@@ -57,10 +59,12 @@ tags_too m at before (t ∷ ts) end h =
 pub tagged_too : (m : Memory) (size : ℕ) → IsTrue (has_tags 0 m size) → IsTrue (has_tags current m size)
 tagged_too m size h =
     let two = and_parts (are_tags 0 m 128 0 (tiles_of m size) (size - 16)) (is_merged (tiles_of m size)) h in
-    and_from (are_tags current m 128 0 (tiles_of m size) (size - 16)) (is_merged (tiles_of m size)) (tags_too m 128 0 (tiles_of m size) (size - 16) two.0) two.1
+    and_from (are_tags current m 128 0 (tiles_of m size) (size - 16)) (is_merged (tiles_of m size))
+    (tags_too m 128 0 (tiles_of m size) (size - 16) two.0) two.1
 
 -- they say tiles
-pub tagged_says : (c : Cut) → IsTrue (is_legal_size (length c.bytes)) → IsTrue (has_tags current (bytes_of c.bytes) (length c.bytes)) → SaysHeap c (tiles_in c)
+pub tagged_says : (c : Cut) → IsTrue (is_legal_size (length c.bytes))
+    → IsTrue (has_tags current (bytes_of c.bytes) (length c.bytes)) → SaysHeap c (tiles_in c)
 tagged_says c size tags =
     let good = (good_tags_say_tiles c size).0 tags in
     let says : SaysHeap c good.0 = record { said = good.1; apart = is_merged-Apart good.0 good.2 } in
@@ -91,11 +95,13 @@ pub record LinkPlace (c : Cut) (at : ℕ) : Type 0 where
 pub link_place : (old new : Cut) (tile : Tile) → Turn new (Cleared old new) tile → LinkPlace new tile.offset
 link_place old new tile t =
     let m = t.meets in let long = m.long in let within = m.within in let size = m.size in
-    let aligned = row_aligned 128 (t.passed ++ (tile ∷ t.back)) (length new.bytes - 16) tile (omega arith) (said_row new (t.passed ++ (tile ∷ t.back)) t.said) (in_around t.passed tile t.back) in
+    let aligned = row_aligned 128 (t.passed ++ (tile ∷ t.back)) (length new.bytes - 16) tile (omega arith)
+    (said_row new (t.passed ++ (tile ∷ t.back)) t.said) (in_around t.passed tile t.back) in
     record { whole = omega arith; inside = omega arith; small = omega arith }
 
 -- a block is passed as it is
-pub cleared_block : (old new next : Cut) (tile : Tile) (t : Turn new (Cleared old new) tile) → is_some tile.use_of ≡ true → next ≡ new → Passed next (Cleared old next) tile.offset
+pub cleared_block : (old new next : Cut) (tile : Tile) (t : Turn new (Cleared old new) tile)
+    → is_some tile.use_of ≡ true → next ≡ new → Passed next (Cleared old next) tile.offset
 cleared_block old new next tile t some e =
     let z = t.holds in
     let P : Cut → Type 0 = λ (c : Cut). Passed c (Cleared old c) tile.offset in
@@ -114,25 +120,33 @@ cleared_block old new next tile t some e =
     })
 
 -- null links before the bytes that change stay null
-null_kept : (m m' : Memory) (at : ℕ) (ts : List Tile) (end from n : ℕ) → Row at ts end → end ≤ from → SameBut m m' from n → AllByRecursion (IsNull m) (gaps_of ts) → AllByRecursion (IsNull m') (gaps_of ts)
+null_kept : (m m' : Memory) (at : ℕ) (ts : List Tile) (end from n : ℕ) → Row at ts end → end ≤ from
+    → SameBut m m' from n → AllByRecursion (IsNull m) (gaps_of ts) → AllByRecursion (IsNull m') (gaps_of ts)
 null_kept m m' at [] end from n r l same null = tt
 null_kept m m' at (t ∷ ts) end from n r l same null =
     let o = r.0 in let long = r.1 in let on = row_reaches (at + t.len) ts end r.3 in
     elim (use_cases t) [
       | used role e ↦
-          subst (AllByRecursion (IsNull m')) (sym (gaps_of-used t ts role e)) (null_kept m m' (at + t.len) ts end from n r.3 l same (subst (AllByRecursion (IsNull m)) (gaps_of-used t ts role e) null))
+          subst (AllByRecursion (IsNull m')) (sym (gaps_of-used t ts role e))
+          (null_kept m m' (at + t.len) ts end from n r.3 l same
+          (subst (AllByRecursion (IsNull m)) (gaps_of-used t ts role e) null))
       | unused e ↦
-          let all : AllByRecursion (IsNull m) (gap_of t ∷ gaps_of ts) = subst (AllByRecursion (IsNull m)) (gaps_of-free t ts e) null in
+          let all : AllByRecursion (IsNull m) (gap_of t ∷ gaps_of ts) = subst (AllByRecursion (IsNull m))
+          (gaps_of-free t ts e) null in
           let left = SameBut-link m m' from n (t.offset + 16) same (inl (omega arith)) in
           let right = SameBut-link m m' from n (t.offset + 16 + 8) same (inl (omega arith)) in
-          let both : AllByRecursion (IsNull m') (gap_of t ∷ gaps_of ts) = ((left ∙ all.0.0, right ∙ all.0.1), null_kept m m' (at + t.len) ts end from n r.3 l same all.1) in
+          let both : AllByRecursion (IsNull m') (gap_of t ∷ gaps_of ts) =
+          ((left ∙ all.0.0, right ∙ all.0.1), null_kept m m' (at + t.len) ts end from n r.3 l same all.1) in
           subst (AllByRecursion (IsNull m')) (sym (gaps_of-free t ts e)) both
     ]
 
 -- the links of a gap are made null, and it is passed
-module _ (old new next : Cut) (tile : Tile) (t : Turn new (Cleared old new) tile) (says : SaysHeap old (tiles_in old)) (none : is_some tile.use_of ≡ false)
-    (left : link_at (bytes_of next.bytes) (tile.offset + 16) ≡ None) (right : link_at (bytes_of next.bytes) (tile.offset + 16 + 8) ≡ None)
-    (size : length next.bytes ≡ length new.bytes) (place : SamePlace new next) (same : SameBut (bytes_of new.bytes) (bytes_of next.bytes) (tile.offset + 16) 16) where
+module _ (old new next : Cut) (tile : Tile) (t : Turn new (Cleared old new) tile) (says : SaysHeap old (tiles_in old))
+    (none : is_some tile.use_of ≡ false)
+    (left : link_at (bytes_of next.bytes) (tile.offset + 16) ≡ None)
+    (right : link_at (bytes_of next.bytes) (tile.offset + 16 + 8) ≡ None)
+    (size : length next.bytes ≡ length new.bytes) (place : SamePlace new next)
+    (same : SameBut (bytes_of new.bytes) (bytes_of next.bytes) (tile.offset + 16) 16) where
   abbrev ts : List Tile
   ts = t.passed ++ (tile ∷ t.back)
 
@@ -145,15 +159,20 @@ module _ (old new next : Cut) (tile : Tile) (t : Turn new (Cleared old new) tile
   says_next : SaysTiles next ts
   says_next =
       let long = t.meets.long in
-      payload_may_change new next ts tile.offset tile t.said (one_tile_at_an_offset new t.passed tile t.back t.said) size (tile.offset + 16) 16 (omega arith) (omega arith) same
+      payload_may_change new next ts tile.offset tile t.said (one_tile_at_an_offset new t.passed tile t.back t.said)
+      size (tile.offset + 16) 16 (omega arith) (omega arith) same
 
   node : NodeAt new (tile.offset + 16)
   node =
-      node_from new (tile.offset + 16) (subst (SaysTiles new) (sym tiles) t.said) (subst (Apart false) (t.holds.list ∙ sym tiles) says.apart)
-      (listed_at (tiles_in new) (tile.offset + 16) (record { front = t.passed; tile = tile; back = t.back; list = tiles; free = free; at = refl }))
+      node_from new (tile.offset + 16) (subst (SaysTiles new) (sym tiles) t.said)
+      (subst (Apart false) (t.holds.list ∙ sym tiles) says.apart)
+      (listed_at (tiles_in new) (tile.offset + 16)
+      (record { front = t.passed; tile = tile; back = t.back; list = tiles; free = free; at = refl }))
 
   kept : kept_of next ≡ kept_of new
-  kept = kept_round new next (tile.offset + 16) node place size (ap (λ (us : List Tile). map plain us) (tiles_are_read_off next ts says_next ∙ sym tiles)) (λ k beside below away. same.at k away)
+  kept = kept_round new next (tile.offset + 16) node place size
+      (ap (λ (us : List Tile). map plain us) (tiles_are_read_off next ts says_next ∙ sym tiles))
+      (λ k beside below away. same.at k away)
 
   null : AllByRecursion (IsNull (bytes_of next.bytes)) (gaps_of t.passed ++ (gap_of tile ∷ []))
   null =
@@ -161,7 +180,8 @@ module _ (old new next : Cut) (tile : Tile) (t : Turn new (Cleared old new) tile
       let front = row_front 128 t.passed (tile ∷ t.back) (length new.bytes - 16) row in
       let ends = (row_back 128 t.passed (tile ∷ t.back) (length new.bytes - 16) row).0 in
       all_joined (IsNull (bytes_of next.bytes)) (gaps_of t.passed) (gap_of tile ∷ [])
-      (null_kept (bytes_of new.bytes) (bytes_of next.bytes) 128 t.passed (row_end 128 t.passed) (tile.offset + 16) 16 front (omega arith) same t.holds.null) ((left, right), tt)
+      (null_kept (bytes_of new.bytes) (bytes_of next.bytes) 128 t.passed (row_end 128 t.passed) (tile.offset + 16) 16
+      front (omega arith) same t.holds.null) ((left, right), tt)
 
   pub cleared_gap : Passed next (Cleared old next) tile.offset
   cleared_gap =
@@ -181,16 +201,19 @@ module _ (old new next : Cut) (tile : Tile) (t : Turn new (Cleared old new) tile
 
 -- ---- the tree is empty
 
-null_links : (m : Memory) (ns : List ℕ) (gs : List Gap) → AllByRecursion (IsNull m) gs → list_all (links_among m ns) (payloads gs) ≡ true
+null_links : (m : Memory) (ns : List ℕ) (gs : List Gap) → AllByRecursion (IsNull m) gs
+    → list_all (links_among m ns) (payloads gs) ≡ true
 null_links m ns [] h = refl
 null_links m ns (g ∷ gs) h =
     and_from (links_among m ns (g.offset + 16)) (list_all (links_among m ns) (payloads gs))
-    (and_from (leads (λ k. is_in k ns) (cells_of m (g.offset + 16)).left) (leads (λ k. is_in k ns) (cells_of m (g.offset + 16)).right)
+    (and_from (leads (λ k. is_in k ns) (cells_of m (g.offset + 16)).left)
+    (leads (λ k. is_in k ns) (cells_of m (g.offset + 16)).right)
     (ap (λ (o : Option ℕ). leads (λ k. is_in k ns) o) h.0.0) (ap (λ (o : Option ℕ). leads (λ k. is_in k ns) o) h.0.1))
     (null_links m ns gs h.1)
 
 module _ (old c d : Cut) (says : SaysHeap old (tiles_in old)) (end : Ended c (Cleared old c))
-    (root : link_at (bytes_of d.bytes) 24 ≡ None) (size : length d.bytes ≡ length c.bytes) (place : SamePlace c d) (same : SameBut (bytes_of c.bytes) (bytes_of d.bytes) 24 8) where
+    (root : link_at (bytes_of d.bytes) 24 ≡ None) (size : length d.bytes ≡ length c.bytes) (place : SamePlace c d)
+    (same : SameBut (bytes_of c.bytes) (bytes_of d.bytes) 24 8) where
   tiles_c : tiles_in c ≡ end.tiles
   tiles_c = tiles_are_read_off c end.tiles end.said
 
@@ -201,19 +224,28 @@ module _ (old c d : Cut) (says : SaysHeap old (tiles_in old)) (end : Ended c (Cl
   good =
       record {
         size = end.said.size;
-        tags = (good_tags_say_tiles c end.said.size).1 (end.tiles, end.said, Apart-is_merged false end.tiles (subst (Apart false) list says.apart));
-        links = null_links (bytes_of c.bytes) (payloads (gaps_in c)) (gaps_in c) (subst (λ (us : List Tile). AllByRecursion (IsNull (bytes_of c.bytes)) (gaps_of us)) (sym tiles_c) end.holds.null);
+        tags = (good_tags_say_tiles c end.said.size).1
+            (end.tiles, end.said, Apart-is_merged false end.tiles (subst (Apart false) list says.apart));
+        links = null_links (bytes_of c.bytes) (payloads (gaps_in c)) (gaps_in c)
+            (subst (λ (us : List Tile). AllByRecursion (IsNull (bytes_of c.bytes)) (gaps_of us))
+            (sym tiles_c) end.holds.null);
       }
 
   some : AreSome (gaps_in c) []
   some = record { fits = tt; rises = tt; listed = λ n i. absurd (false≢true i); few = omega arith }
 
   empty : IsSearchTree (comes_before (gaps_in c)) (gap_cells c) None leaf
-  empty = record { tree = record { root = refl; holds = tt }; ordered = refl; red_black = record { root = refl; no_red_pair = refl; black = (0, refl) } }
+  empty = record {
+    tree = record { root = refl; holds = tt };
+    ordered = refl;
+    red_black = record { root = refl; no_red_pair = refl; black = (0, refl) };
+  }
 
   pub emptied : HasTree d []
   emptied = rooted c d [] leaf None good some empty refl root size same
 
   pub emptied_rest : Regrown old d
   emptied_rest =
-      regrown old c d end.holds.kept place size (tiles_are_read_off d end.tiles (header_may_change c d end.tiles end.said size 24 8 (omega arith) same) ∙ sym tiles_c) same
+      regrown old c d end.holds.kept place size
+      (tiles_are_read_off d end.tiles (header_may_change c d end.tiles end.said size 24 8 (omega arith) same)
+      ∙ sym tiles_c) same

@@ -33,7 +33,8 @@ node_may c h at red n e =
     colour false t u = refl
 
 module _ (c d : Cut) (h at : ℕ) (red : Bool) (heap : IsHeap current c.bytes) (b : Block c h) (e : at + 16 ≡ h)
-    (tags : (ts : List Tile) → SaysTiles c ts → SaysTiles d (with_red_at at red ts)) (rest : (ts : List Tile) → SaysTiles c ts → SameBesideTags c d ts (with_red_at at red ts))
+    (tags : (ts : List Tile) → SaysTiles c ts → SaysTiles d (with_red_at at red ts)) (rest : (ts : List Tile)
+    → SaysTiles c ts → SameBesideTags c d ts (with_red_at at red ts))
     (word : SameBut (bytes_of c.bytes) (bytes_of d.bytes) (at + 8) 8) where
   abbrev front : List Tile
   front = b.front
@@ -54,7 +55,8 @@ module _ (c d : Cut) (h at : ℕ) (red : Bool) (heap : IsHeap current c.bytes) (
   row = said_row c (front ++ (tile ∷ back)) b.said
 
   list : with_red_at at red (front ++ (tile ∷ back)) ≡ painted
-  list = changed_at-around at tile back begins (of_colour red) front (subst (λ k. Away k front) begins (away_front 128 front tile back (length c.bytes - 16) row))
+  list = changed_at-around at tile back begins (of_colour red) front
+      (subst (λ k. Away k front) begins (away_front 128 front tile back (length c.bytes - 16) row))
 
   said : SaysTiles d painted
   said = subst (SaysTiles d) list (tags (front ++ (tile ∷ back)) b.said)
@@ -62,24 +64,31 @@ module _ (c d : Cut) (h at : ℕ) (red : Bool) (heap : IsHeap current c.bytes) (
   same : SameBesideTags c d (front ++ (tile ∷ back)) painted
   same = subst (SameBesideTags c d (front ++ (tile ∷ back))) list (rest (front ++ (tile ∷ back)) b.said)
 
-  beside : (k : ℕ) → IsBesideTags (front ++ (tile ∷ back)) k → k < length c.bytes - 16 → bytes_of d.bytes k ≡ bytes_of c.bytes k
+  beside : (k : ℕ) → IsBesideTags (front ++ (tile ∷ back)) k → k < length c.bytes - 16
+      → bytes_of d.bytes k ≡ bytes_of c.bytes k
   beside k i l = same.bytes k i (beside_recoloured front tile red back k i) l
 
   -- a payload of any tile stays
-  payload_byte : (t : Tile) → In t (front ++ (tile ∷ back)) → (k : ℕ) → t.offset + 16 ≤ k → k < t.offset + t.len → bytes_of d.bytes k ≡ bytes_of c.bytes k
-  payload_byte t i k low high = let j = inside 128 t (front ++ (tile ∷ back)) (length c.bytes - 16) k row i low high in beside k j.beside j.high
+  payload_byte : (t : Tile) → In t (front ++ (tile ∷ back)) → (k : ℕ) → t.offset + 16 ≤ k → k < t.offset + t.len
+      → bytes_of d.bytes k ≡ bytes_of c.bytes k
+  payload_byte t i k low high = let j = inside 128 t (front ++ (tile ∷ back)) (length c.bytes - 16) k row i low
+      high in beside k j.beside j.high
 
   -- so do the fields of a gap
-  gap_word : (m k : ℕ) → NodeAt c m → m ≤ k → k + 8 ≤ m + 16 → word_at (bytes_of d.bytes) k ≡ word_at (bytes_of c.bytes) k
+  gap_word : (m k : ℕ) → NodeAt c m → m ≤ k → k + 8 ≤ m + 16
+      → word_at (bytes_of d.bytes) k ≡ word_at (bytes_of c.bytes) k
   gap_word m k n low high =
       let t = n.free_tile in let p = t.at in let long = n.long in
       let here : In t.tile (front ++ (tile ∷ back)) = subst (λ (ts : List Tile). In t.tile ts) b.list n.is_in_list in
-      Same-word (bytes_of c.bytes) (bytes_of d.bytes) k (k + 8) k (record { at = λ j low' high'. payload_byte t.tile here j (omega arith) (omega arith) }) (omega arith) (omega arith)
+      Same-word (bytes_of c.bytes) (bytes_of d.bytes) k (k + 8) k
+      (record { at = λ j low' high'. payload_byte t.tile here j (omega arith) (omega arith) })
+      (omega arith) (omega arith)
 
   gap_red : (m : ℕ) → NodeAt c m → is_red (bytes_of d.bytes) m ≡ is_red (bytes_of c.bytes) m
   gap_red m n =
       let u = n.free_tile.tile in let p = n.free_tile.at in
-      let stands : tile_in (front ++ (tile ∷ back)) u.offset ≡ Some u = ap (λ (ts : List Tile). tile_in ts u.offset) (sym b.list) ∙ n.stands in
+      let stands : tile_in (front ++ (tile ∷ back)) u.offset ≡ Some u = ap (λ (ts : List Tile). tile_in ts u.offset)
+      (sym b.list) ∙ n.stands in
       let far : tile.offset ≡ u.offset → ⊥ = λ q.
       (let here : Some u ≡ Some tile = sym stands ∙ ap (λ k. tile_in (front ++ (tile ∷ back)) k) (sym q) ∙ b.stands in
       let one : u ≡ tile = cc in
@@ -89,13 +98,20 @@ module _ (c d : Cut) (h at : ℕ) (red : Bool) (heap : IsHeap current c.bytes) (
 
   gap_cell : (m : ℕ) → NodeAt c m → cells_of (bytes_of d.bytes) m ≡ cells_of (bytes_of c.bytes) m
   gap_cell m n =
-      cell_stays (bytes_of c.bytes) (bytes_of d.bytes) m (ap (target_of m) (gap_word m m n (omega arith) (omega arith))) (ap (target_of (m + 8)) (gap_word m (m + 8) n (omega arith) (omega arith))) (gap_red m n)
+      cell_stays (bytes_of c.bytes) (bytes_of d.bytes) m
+      (ap (target_of m) (gap_word m m n (omega arith) (omega arith)))
+      (ap (target_of (m + 8)) (gap_word m (m + 8) n (omega arith) (omega arith))) (gap_red m n)
 
   says : SaysHeap d painted
-  says = record { said = said; apart = apart_recoloured false front tile red back (subst (Apart false) b.list (heap-says c heap).apart) }
+  says = record {
+    said = said;
+    apart = apart_recoloured false front tile red back
+        (subst (Apart false) b.list (heap-says c heap).apart);
+  }
 
   free : IsFreeTree current (bytes_of d.bytes) (live_of c.bytes)
-  free = free_stays c d heap (ap (target_of 24) (step_word c d (front ++ (tile ∷ back)) painted b.said said same)) gap_cell
+  free = free_stays c d heap
+      (ap (target_of 24) (step_word c d (front ++ (tile ∷ back)) painted b.said said same)) gap_cell
 
   live_same : live_in (length d.bytes) painted ≡ live_of c.bytes
   unfolding live_of
@@ -105,7 +121,9 @@ module _ (c d : Cut) (h at : ℕ) (red : Bool) (heap : IsHeap current c.bytes) (
 
   laid : LaysOut current d.bytes (live_of c.bytes)
   laid =
-      subst (LaysOut current d.bytes) live_same (says-LaysOut d painted says (subst (λ (l : LiveSet). IsFreeTree current (bytes_of d.bytes) l) (sym live_same) free))
+      subst (LaysOut current d.bytes) live_same
+      (says-LaysOut d painted says
+      (subst (λ (l : LiveSet). IsFreeTree current (bytes_of d.bytes) l) (sym live_same) free))
 
   old_extents : (live_of c.bytes).extents ≡ extents_of front ++ (extent_of tile b.role ∷ extents_of back)
   unfolding live_of
@@ -113,16 +131,21 @@ module _ (c d : Cut) (h at : ℕ) (red : Bool) (heap : IsHeap current c.bytes) (
 
   left_extents : others h (live_of c.bytes).extents ≡ extents_of front ++ extents_of back
   left_extents =
-      ap (others h) old_extents ∙ others_between 128 front tile back (length c.bytes - 16) (extent_of tile b.role) h row refl b.at
+      ap (others h) old_extents ∙ others_between 128 front tile back (length c.bytes - 16)
+      (extent_of tile b.role) h row refl b.at
 
   keeps : Keeps c d (others h (live_of c.bytes).extents)
-  keeps = subst (Keeps c d) (sym left_extents) (around_keeps c d front (tile ∷ []) (record tile { red = red } ∷ []) back b.said said same)
+  keeps = subst (Keeps c d) (sym left_extents)
+      (around_keeps c d front (tile ∷ []) (record tile { red = red } ∷ []) back b.said said same)
 
-  payloads : AllByRecursion (λ (x : Extent). Same (bytes_of c.bytes) (bytes_of d.bytes) (handle x) (end_of x)) (live_of c.bytes).extents
+  payloads : AllByRecursion (λ (x : Extent). Same (bytes_of c.bytes) (bytes_of d.bytes) (handle x) (end_of x))
+      (live_of c.bytes).extents
   unfolding live_of
   payloads =
-      subst (λ (ts : List Tile). AllByRecursion (λ (x : Extent). Same (bytes_of c.bytes) (bytes_of d.bytes) (handle x) (end_of x)) (extents_of ts)) (sym b.list)
-      (all_extents (λ (x : Extent). Same (bytes_of c.bytes) (bytes_of d.bytes) (handle x) (end_of x)) (front ++ (tile ∷ back))
+      subst (λ (ts : List Tile). AllByRecursion (λ (x : Extent). Same (bytes_of c.bytes) (bytes_of d.bytes) (handle x)
+      (end_of x)) (extents_of ts)) (sym b.list)
+      (all_extents (λ (x : Extent). Same (bytes_of c.bytes) (bytes_of d.bytes) (handle x) (end_of x))
+      (front ++ (tile ∷ back))
       (λ t i role. record { at = λ k low high. payload_byte t i k low high }))
 
   pub recoloured : IsRecoloured current c d h red

@@ -36,10 +36,16 @@ same_free : (ts us : List Tile) → map plain us ≡ map plain ts → free_len (
 same_free ts us e = sym (free-plain us) ∙ ap (λ (vs : List Tile). free_len (first_in vs)) e ∙ free-plain ts
 
 -- the front of a block that stays, stays
-front_block : (m m' : Memory) (x : Extent) (k : ℕ) → k ≤ x.len → SameBlock m m' x → SameBlock m m' (record x { len = k })
-front_block m m' x k l s = record { payload = Same-part m m' (handle x) (end_of x) (handle x) (x.offset + k) s.payload (omega arith) (omega arith); colour = s.colour }
+front_block : (m m' : Memory) (x : Extent) (k : ℕ) → k ≤ x.len → SameBlock m m' x
+    → SameBlock m m' (record x { len = k })
+front_block m m' x k l s = record {
+  payload = Same-part m m' (handle x) (end_of x) (handle x) (x.offset + k) s.payload
+      (omega arith) (omega arith);
+  colour = s.colour;
+}
 
--- What is known once the block has taken the gap behind it and is cut, or not: if it is, the gap that is cut off is to be put into the
+-- What is known once the block has taken the gap behind it and is cut, or not: if it is, the gap that is cut off is
+-- to be put into the
 -- tree of the others.
 pub record Recut (w new : Cut) (at wanted : ℕ) (is_cut : Bool) : Type 0 where
   pub front : List Gap
@@ -49,22 +55,26 @@ pub record Recut (w new : Cut) (at wanted : ℕ) (is_cut : Bool) : Type 0 where
   pub lacks : is_cut ≡ true → LacksOne new front gap back
   pub few : length (front ++ back) ≤ length (gaps_in w)
   pub whole : is_cut ≡ false → IsCut current w new (at + 16) wanted
-  pub split : is_cut ≡ true → (e : Cut) → HasTree e (front ++ (gap ∷ back)) → Regrown new e → IsCut current w e (at + 16) wanted
+  pub split : is_cut ≡ true → (e : Cut) → HasTree e (front ++ (gap ∷ back)) → Regrown new e
+      → IsCut current w e (at + 16) wanted
 
 module _ (w : Cut) (at : ℕ) (heap : IsHeap current w.bytes) (b : Block w (at + 16)) (wanted : ℕ) where
   begins : b.tile.offset ≡ at
   begins = let e = b.at in omega arith
 
   away : Away at b.front
-  away = subst (λ k. Away k b.front) begins (away_front 128 b.front b.tile b.back (length w.bytes - 16) (said_row w (b.front ++ (b.tile ∷ b.back)) b.said))
+  away = subst (λ k. Away k b.front) begins (away_front 128 b.front b.tile b.back (length w.bytes - 16)
+      (said_row w (b.front ++ (b.tile ∷ b.back)) b.said))
 
   pub behind_is : next_in (b.front ++ (b.tile ∷ b.back)) at ≡ first_in b.back
   behind_is = next_in-around at b.tile b.back begins b.front away
 
   gaps_w : gaps_in w ≡ gaps_of b.front ++ (gaps_of (of_option (first_in b.back)) ++ gaps_of (rest_of b.back))
   gaps_w =
-      ap gaps_of b.list ∙ gaps_of-append b.front (b.tile ∷ b.back) ∙ ap (λ (hs : List Gap). gaps_of b.front ++ hs) (gaps_of-used b.tile b.back b.role b.in_use)
-      ∙ ap (λ (hs : List Gap). gaps_of b.front ++ hs) (ap gaps_of (back_parts b.back) ∙ gaps_of-append (of_option (first_in b.back)) (rest_of b.back))
+      ap gaps_of b.list ∙ gaps_of-append b.front (b.tile ∷ b.back) ∙ ap (λ (hs : List Gap). gaps_of b.front ++ hs)
+      (gaps_of-used b.tile b.back b.role b.in_use)
+      ∙ ap (λ (hs : List Gap). gaps_of b.front ++ hs) (ap gaps_of (back_parts b.back)
+      ∙ gaps_of-append (of_option (first_in b.back)) (rest_of b.back))
 
   pub tree_w : HasTree w (gaps_of b.front ++ (gaps_of (of_option (first_in b.back)) ++ gaps_of (rest_of b.back)))
   tree_w = subst (λ (hs : List Gap). HasTree w hs) gaps_w (heap_tree w heap)
@@ -73,7 +83,11 @@ module _ (w : Cut) (at : ℕ) (heap : IsHeap current w.bytes) (b : Block w (at +
   x = extent_of b.tile b.role
 
   abbrev y : Extent
-  y = record { offset = b.tile.offset; len = share (b.tile.len + gap_after (live_of w.bytes) (extent_of b.tile b.role)) wanted; role = b.role }
+  y = record {
+    offset = b.tile.offset;
+    len = share (b.tile.len + gap_after (live_of w.bytes) (extent_of b.tile b.role)) wanted;
+    role = b.role;
+  }
 
   -- the gap behind has left the tree, after this many touches of some before
   pub record TailUprooted (d : Cut) (before count : ℕ) : Type 0 where
@@ -81,11 +95,16 @@ module _ (w : Cut) (at : ℕ) (heap : IsHeap current w.bytes) (b : Block w (at +
     pub rest : Regrown w d
     pub steps : count ≤ before + 32 * bits (length (gaps_in w) + 1) + 33
 
-  pub tail_uprooted : (d : Cut) (before n count : ℕ) → HasTree d (gaps_of b.front ++ gaps_of (rest_of b.back)) → Regrown w d → n ≤ before + 1
-      → count ≤ n + 32 * bits (length (gaps_of b.front ++ (gaps_of (of_option (first_in b.back)) ++ gaps_of (rest_of b.back))) + 1) + 32 → TailUprooted d before count
+  pub tail_uprooted : (d : Cut) (before n count : ℕ) → HasTree d (gaps_of b.front ++ gaps_of (rest_of b.back))
+      → Regrown w d → n ≤ before + 1
+      → count ≤ n + 32
+      * bits (length (gaps_of b.front ++ (gaps_of (of_option (first_in b.back)) ++ gaps_of (rest_of b.back))) + 1)
+      + 32 → TailUprooted d before count
   tail_uprooted d before n count tree rest low high =
       let few = tree_w.some.few in
-      let most = bits-le (length (gaps_of b.front ++ (gaps_of (of_option (first_in b.back)) ++ gaps_of (rest_of b.back))) + 1) (length (gaps_in w) + 1) (omega arith) in
+      let most = bits-le
+      (length (gaps_of b.front ++ (gaps_of (of_option (first_in b.back)) ++ gaps_of (rest_of b.back))) + 1)
+      (length (gaps_in w) + 1) (omega arith) in
       record { tree = tree; rest = rest; steps = omega arith }
 
   pub few_steps : bits (length (gaps_in w) + 1) ≤ 41
@@ -109,7 +128,8 @@ module _ (w : Cut) (at : ℕ) (heap : IsHeap current w.bytes) (b : Block w (at +
 
     tree_d : HasTree d (gaps_of s.front' ++ gaps_of (rest_of s.back'))
     tree_d = subst (λ (hs : List Gap). HasTree d hs)
-        (sym (ap (λ (hs : List Gap). hs ++ gaps_of (rest_of s.back')) (same_gaps b.front s.front' s.fronts) ∙ ap (λ (hs : List Gap). gaps_of b.front ++ hs) (same_rest b.back s.back' s.backs))) h
+        (sym (ap (λ (hs : List Gap). hs ++ gaps_of (rest_of s.back')) (same_gaps b.front s.front' s.fronts)
+        ∙ ap (λ (hs : List Gap). gaps_of b.front ++ hs) (same_rest b.back s.back' s.backs))) h
 
     abbrev j : ℕ
     j = (t_joins d says_d at s.front' s.tile' s.back' b.role s.list used_d begins_d wanted).gap
@@ -119,83 +139,121 @@ module _ (w : Cut) (at : ℕ) (heap : IsHeap current w.bytes) (b : Block w (at +
     long_d =
         let l : s.tile'.len ≡ b.tile.len = ap (λ (t : Tile). t.len) s.tiles in
         let g : j ≡ gap_after (live_of w.bytes) (extent_of b.tile b.role) =
-        sym (t_joins d says_d at s.front' s.tile' s.back' b.role s.list used_d begins_d wanted).len ∙ same_free b.back s.back' s.backs ∙ (joins w heap (at + 16) at b begins wanted).len
+        sym (t_joins d says_d at s.front' s.tile' s.back' b.role s.list used_d begins_d wanted).len
+        ∙ same_free b.back s.back' s.backs ∙ (joins w heap (at + 16) at b begins wanted).len
         ∙ sym (gap_is w heap (at + 16) at b begins wanted) in
         omega arith
 
     pub c_stands0 : HasTileAt d at
     c_stands0 = t_stands0 d says_d at s.front' s.tile' s.back' b.role s.list used_d begins_d wanted
 
-    module _ (mid : Cut) (join : (ts : List Tile) → SaysTiles d ts → SaysTiles mid (joined_free_at at ts)) (join_same : (ts : List Tile) → SaysTiles d ts → SameBesideTags d mid ts (joined_free_at at ts)) where
+    module _ (mid : Cut) (join : (ts : List Tile) → SaysTiles d ts → SaysTiles mid (joined_free_at at ts))
+        (join_same : (ts : List Tile) → SaysTiles d ts → SameBesideTags d mid ts (joined_free_at at ts)) where
       pub c_stands1 : HasTileAt mid at
       c_stands1 = t_stands1 d says_d at s.front' s.tile' s.back' b.role s.list used_d begins_d wanted mid join join_same
 
-      module _ (new : Cut) (cut : (ts : List Tile) → SaysTiles mid ts → SaysTiles new (cut_at at wanted ts)) (cut_same : (ts : List Tile) → SaysTiles mid ts → SameBesideTags mid new ts (cut_at at wanted ts)) where
+      module _ (new : Cut) (cut : (ts : List Tile) → SaysTiles mid ts → SaysTiles new (cut_at at wanted ts))
+          (cut_same : (ts : List Tile) → SaysTiles mid ts → SameBesideTags mid new ts (cut_at at wanted ts)) where
         says_new : SaysHeap new (tiles_in new)
-        says_new = t_says d says_d at s.front' s.tile' s.back' b.role s.list used_d begins_d wanted mid join join_same new cut cut_same
+        says_new = t_says d says_d at s.front' s.tile' s.back' b.role s.list used_d begins_d wanted mid join
+            join_same new cut cut_same
 
         y_is : record { offset = s.tile'.offset; len = share (s.tile'.len + j) wanted; role = b.role } ≡ y
         y_is = let l = long_d in λ i. record { offset = offset_d i; len = share (l i) wanted; role = b.role }
 
         live_new : live_of new.bytes ≡ resized (live_of w.bytes) y
         live_new =
-            t_live d says_d at s.front' s.tile' s.back' b.role s.list used_d begins_d wanted mid join join_same new cut cut_same
-            ∙ ap (λ (l : LiveSet). resized l (record { offset = s.tile'.offset; len = share (s.tile'.len + j) wanted; role = b.role })) (regrown_live w d r)
+            t_live d says_d at s.front' s.tile' s.back' b.role s.list used_d begins_d wanted mid join
+            join_same new cut cut_same
+            ∙ ap (λ (l : LiveSet). resized l (record {
+              offset = s.tile'.offset;
+              len = share (s.tile'.len + j) wanted;
+              role = b.role;
+            })) (regrown_live w d r)
             ∙ ap (resized (live_of w.bytes)) y_is
 
         keeps_new : Keeps w new (others (handle x) (live_of w.bytes).extents)
         keeps_new =
-            let first = keeps-others w d (at + 16) (live_of w.bytes).extents (regrown_keeps w d (heap-says w heap).said says_d.said r) in
+            let first = keeps-others w d (at + 16) (live_of w.bytes).extents
+            (regrown_keeps w d (heap-says w heap).said says_d.said r) in
             let second = subst (λ (l : LiveSet). Keeps d new (others (at + 16) l.extents)) (regrown_live w d r)
-            (t_keeps d says_d at s.front' s.tile' s.back' b.role s.list used_d begins_d wanted mid join join_same new cut cut_same) in
-            subst (λ k. Keeps w new (others (k + 16) (live_of w.bytes).extents)) (sym begins) (keeps-trans w d new (others (at + 16) (live_of w.bytes).extents) first second)
+            (t_keeps d says_d at s.front' s.tile' s.back' b.role s.list used_d begins_d wanted mid join
+            join_same new cut cut_same) in
+            subst (λ k. Keeps w new (others (k + 16) (live_of w.bytes).extents)) (sym begins)
+            (keeps-trans w d new (others (at + 16) (live_of w.bytes).extents) first second)
 
         abbrev both : Extent
-        both = record x { len = min b.tile.len (share (b.tile.len + gap_after (live_of w.bytes) (extent_of b.tile b.role)) wanted) }
+        both = record x
+            { len = min b.tile.len (share (b.tile.len + gap_after (live_of w.bytes) (extent_of b.tile b.role)) wanted) }
 
         still_new : SameBlock (bytes_of w.bytes) (bytes_of new.bytes) both
         still_new =
-            let i : In b.tile (tiles_in w) = subst (λ (ts : List Tile). In b.tile ts) (sym b.list) (in_around b.front b.tile b.back) in
-            let first = front_block (bytes_of w.bytes) (bytes_of d.bytes) x (min b.tile.len (share (b.tile.len + gap_after (live_of w.bytes) (extent_of b.tile b.role)) wanted)) (omega arith)
+            let i : In b.tile (tiles_in w) = subst (λ (ts : List Tile). In b.tile ts) (sym b.list)
+            (in_around b.front b.tile b.back) in
+            let first = front_block (bytes_of w.bytes) (bytes_of d.bytes) x
+            (min b.tile.len
+            (share (b.tile.len + gap_after (live_of w.bytes) (extent_of b.tile b.role)) wanted)) (omega arith)
             (regrown_block w d (heap-says w heap).said says_d.said r b.tile i b.role b.in_use) in
             let l = long_d in let n : s.tile'.len ≡ b.tile.len = ap (λ (t : Tile). t.len) s.tiles in
-            let second = subst (λ (z : Extent). SameBlock (bytes_of d.bytes) (bytes_of new.bytes) z) (λ i. record { offset = offset_d i; len = min (n i) (share (l i) wanted); role = b.role })
-            (t_still d says_d at s.front' s.tile' s.back' b.role s.list used_d begins_d wanted mid join join_same new cut cut_same) in
+            let second = subst (λ (z : Extent). SameBlock (bytes_of d.bytes) (bytes_of new.bytes) z)
+            (λ i. record { offset = offset_d i; len = min (n i) (share (l i) wanted); role = b.role })
+            (t_still d says_d at s.front' s.tile' s.back' b.role s.list used_d begins_d wanted mid join
+            join_same new cut cut_same) in
             SameBlock-trans (bytes_of w.bytes) (bytes_of d.bytes) (bytes_of new.bytes) both first second
 
-        tree_new : IsTreeOf (bytes_of new.bytes) 24 (payloads (sorted_gaps (gaps_of s.front' ++ gaps_of (rest_of s.back'))))
+        tree_new : IsTreeOf (bytes_of new.bytes) 24
+            (payloads (sorted_gaps (gaps_of s.front' ++ gaps_of (rest_of s.back'))))
         tree_new =
             let hs = gaps_of s.front' ++ gaps_of (rest_of s.back') in
-            let root : link_at (bytes_of new.bytes) 24 ≡ link_at (bytes_of d.bytes) 24 = ap (target_of 24) (t_word d says_d at s.front' s.tile' s.back' b.role s.list used_d begins_d wanted mid join join_same new cut cut_same) in
-            let cell = t_cell d says_d at s.front' s.tile' s.back' b.role s.list used_d begins_d wanted mid join join_same new cut cut_same in
+            let root : link_at (bytes_of new.bytes) 24 ≡ link_at (bytes_of d.bytes) 24 =
+            ap (target_of 24) (t_word d says_d at s.front' s.tile' s.back' b.role s.list used_d begins_d wanted mid
+            join join_same new cut cut_same) in
+            let cell = t_cell d says_d at s.front' s.tile' s.back' b.role s.list used_d begins_d wanted mid join
+            join_same new cut cut_same in
             let old = tree_d.tree in
             record {
               tree = old.tree;
               linked = subst (λ (l : Option ℕ). IsTree (cells_of (bytes_of new.bytes)) l old.tree) (sym root)
-                  (tree_same (cells_of (bytes_of d.bytes)) (cells_of (bytes_of new.bytes)) (link_at (bytes_of d.bytes) 24) old.tree
-                  (λ m i. cell m (sym (in_sorted m hs) ∙ ap (λ (ns : List ℕ). is_in m ns) (sym old.lists) ∙ i)) old.linked);
+                  (tree_same (cells_of (bytes_of d.bytes)) (cells_of (bytes_of new.bytes))
+                  (link_at (bytes_of d.bytes) 24) old.tree
+                  (λ m i. cell m (sym (in_sorted m hs) ∙ ap (λ (ns : List ℕ). is_in m ns) (sym old.lists)
+                  ∙ i)) old.linked);
               red_black = old.red_black;
               lists = old.lists;
             }
 
-        gaps_new : gaps_in new ≡ gaps_of s.front' ++ (gaps_of (t_cuts d says_d at s.front' s.tile' s.back' b.role s.list used_d begins_d wanted).left ++ gaps_of (rest_of s.back'))
-        gaps_new = t_gaps d says_d at s.front' s.tile' s.back' b.role s.list used_d begins_d wanted mid join join_same new cut cut_same
+        gaps_new : gaps_in new ≡ gaps_of s.front'
+            ++ (gaps_of (t_cuts d says_d at s.front' s.tile' s.back' b.role s.list used_d begins_d wanted).left
+            ++ gaps_of (rest_of s.back'))
+        gaps_new = t_gaps d says_d at s.front' s.tile' s.back' b.role s.list used_d begins_d wanted mid join
+            join_same new cut cut_same
 
         -- whether a rest is left
-        c_cut : (left : Bool) → ((ts : List Tile) (t : Tile) → SaysTiles mid ts → tile_in ts at ≡ Some t → left ≡ nat_le (wanted + 32) t.len) → nat_le (wanted + 32) (b.tile.len + gap_after (live_of w.bytes) (extent_of b.tile b.role)) ≡ left
+        c_cut : (left : Bool) → ((ts : List Tile) (t : Tile) → SaysTiles mid ts → tile_in ts at ≡ Some t
+            → left ≡ nat_le (wanted + 32) t.len)
+            → nat_le (wanted + 32) (b.tile.len + gap_after (live_of w.bytes) (extent_of b.tile b.role)) ≡ left
         c_cut left is =
             let h1 = c_stands1 in
-            subst (λ k. nat_le (wanted + 32) k ≡ left) long_d (sym (is h1.tiles (record s.tile' { len = s.tile'.len + j }) h1.said (t_cut_at d says_d at s.front' s.tile' s.back' b.role s.list used_d begins_d wanted mid join join_same new cut cut_same h1.tiles h1.said)))
+            subst (λ k. nat_le (wanted + 32) k ≡ left) long_d
+            (sym (is h1.tiles (record s.tile' { len = s.tile'.len + j }) h1.said
+            (t_cut_at d says_d at s.front' s.tile' s.back' b.role s.list used_d begins_d wanted mid join join_same
+            new cut cut_same h1.tiles h1.said)))
 
-        c_whole : nat_le (wanted + 32) (b.tile.len + gap_after (live_of w.bytes) (extent_of b.tile b.role)) ≡ false → IsCut current w new (at + 16) wanted
+        c_whole : nat_le (wanted + 32) (b.tile.len + gap_after (live_of w.bytes) (extent_of b.tile b.role)) ≡ false
+            → IsCut current w new (at + 16) wanted
         c_whole e =
             let gs : gaps_in new ≡ gaps_of s.front' ++ gaps_of (rest_of s.back') =
-            gaps_new ∙ ap (λ (ts : List Tile). gaps_of s.front' ++ (gaps_of ts ++ gaps_of (rest_of s.back'))) ((t_cuts d says_d at s.front' s.tile' s.back' b.role s.list used_d begins_d wanted).keeps (subst (λ k. nat_le (wanted + 32) k ≡ false) (sym long_d) e)) in
+            gaps_new ∙ ap (λ (ts : List Tile). gaps_of s.front' ++ (gaps_of ts ++ gaps_of (rest_of s.back')))
+            ((t_cuts d says_d at s.front' s.tile' s.back' b.role s.list used_d begins_d wanted).keeps
+            (subst (λ k. nat_le (wanted + 32) k ≡ false) (sym long_d) e)) in
             record {
               extent = x;
               found = b.extent;
               resized = record {
-                live = subst (LaysOut current new.bytes) live_new (lays_out new says_new (subst (λ (hs : List Gap). IsTreeOf (bytes_of new.bytes) 24 (payloads (sorted_gaps hs))) (sym gs) tree_new));
+                live = subst (LaysOut current new.bytes) live_new
+                    (lays_out new says_new
+                    (subst (λ (hs : List Gap). IsTreeOf (bytes_of new.bytes) 24 (payloads (sorted_gaps hs)))
+                    (sym gs) tree_new));
                 keeps = keeps_new;
                 still = still_new;
               };
@@ -214,13 +272,16 @@ module _ (w : Cut) (at : ℕ) (heap : IsHeap current w.bytes) (b : Block w (at +
         backs : List Gap
         backs = gaps_of (rest_of s.back')
 
-        c_lacks : nat_le (wanted + 32) (b.tile.len + gap_after (live_of w.bytes) (extent_of b.tile b.role)) ≡ true → LacksOne new fronts rest_gap backs
+        c_lacks : nat_le (wanted + 32) (b.tile.len + gap_after (live_of w.bytes) (extent_of b.tile b.role)) ≡ true
+            → LacksOne new fronts rest_gap backs
         unfolding rest_gap fronts backs
         c_lacks e =
             record {
               said = says_new.said;
               merged = Apart-is_merged false (tiles_in new) says_new.apart;
-              gaps = gaps_new ∙ ap (λ (ts : List Tile). gaps_of s.front' ++ (gaps_of ts ++ gaps_of (rest_of s.back'))) ((t_cuts d says_d at s.front' s.tile' s.back' b.role s.list used_d begins_d wanted).splits (subst (λ k. nat_le (wanted + 32) k ≡ true) (sym long_d) e));
+              gaps = gaps_new ∙ ap (λ (ts : List Tile). gaps_of s.front' ++ (gaps_of ts ++ gaps_of (rest_of s.back')))
+                  ((t_cuts d says_d at s.front' s.tile' s.back' b.role s.list used_d begins_d wanted).splits
+                  (subst (λ k. nat_le (wanted + 32) k ≡ true) (sym long_d) e));
               tree = tree_new;
             }
 
@@ -228,10 +289,13 @@ module _ (w : Cut) (at : ℕ) (heap : IsHeap current w.bytes) (b : Block w (at +
         unfolding fronts backs
         c_few =
             let few = tree_d.some.few in
-            let same : length (gaps_in d) ≡ length (gaps_in w) = ap (λ (hs : List Gap). length hs) (same_gaps (tiles_in w) (tiles_in d) r.tiles) in
+            let same : length (gaps_in d) ≡ length (gaps_in w) = ap (λ (hs : List Gap). length hs)
+            (same_gaps (tiles_in w) (tiles_in d) r.tiles) in
             omega arith
 
-        module _ (e : Cut) (planted : HasTree e (fronts ++ (rest_gap ∷ backs))) (regrown : Regrown new e) (split : nat_le (wanted + 32) (b.tile.len + gap_after (live_of w.bytes) (extent_of b.tile b.role)) ≡ true) where
+        module _ (e : Cut) (planted : HasTree e (fronts ++ (rest_gap ∷ backs))) (regrown : Regrown new e)
+            (split : nat_le (wanted + 32)
+            (b.tile.len + gap_after (live_of w.bytes) (extent_of b.tile b.role)) ≡ true) where
           says_e : SaysHeap e (tiles_in e)
           says_e = tree_says e (fronts ++ (rest_gap ∷ backs)) planted
 
@@ -240,25 +304,34 @@ module _ (w : Cut) (at : ℕ) (heap : IsHeap current w.bytes) (b : Block w (at +
 
           c_split : IsCut current w e (at + 16) wanted
           c_split =
-              let last = subst (λ (l : LiveSet). Keeps new e l.extents) live_new (regrown_keeps new e says_new.said says_e.said regrown) in
+              let last = subst (λ (l : LiveSet). Keeps new e l.extents) live_new
+              (regrown_keeps new e says_new.said says_e.said regrown) in
               let keep_last = keeps-insert new e y (others (handle x) (live_of w.bytes).extents) last in
               let l = long_d in
               let whole = subst (λ (z : Extent). SameBlock (bytes_of new.bytes) (bytes_of e.bytes) z) y_is
-              (regrown_block new e says_new.said says_e.said regrown (record s.tile' { len = share (s.tile'.len + j) wanted })
-              (t_in d says_d at s.front' s.tile' s.back' b.role s.list used_d begins_d wanted mid join join_same new cut cut_same) b.role used_d) in
-              let third = front_block (bytes_of new.bytes) (bytes_of e.bytes) y (min b.tile.len (share (b.tile.len + gap_after (live_of w.bytes) (extent_of b.tile b.role)) wanted)) (omega arith) whole in
+              (regrown_block new e says_new.said says_e.said regrown
+              (record s.tile' { len = share (s.tile'.len + j) wanted })
+              (t_in d says_d at s.front' s.tile' s.back' b.role s.list used_d begins_d wanted mid join join_same new
+              cut cut_same) b.role used_d) in
+              let third = front_block (bytes_of new.bytes) (bytes_of e.bytes) y
+              (min b.tile.len (share (b.tile.len + gap_after (live_of w.bytes) (extent_of b.tile b.role)) wanted))
+              (omega arith) whole in
               record {
                 extent = x;
                 found = b.extent;
                 resized = record {
                   live = subst (LaysOut current e.bytes) (regrown_live new e regrown ∙ live_new)
-                      (lays_out e says_e (subst (λ (hs : List Gap). IsTreeOf (bytes_of e.bytes) 24 (payloads (sorted_gaps hs))) (sym gaps_e) planted.tree));
+                      (lays_out e says_e
+                      (subst (λ (hs : List Gap). IsTreeOf (bytes_of e.bytes) 24 (payloads (sorted_gaps hs)))
+                      (sym gaps_e) planted.tree));
                   keeps = keeps-trans w new e (others (handle x) (live_of w.bytes).extents) keeps_new keep_last;
-                  still = SameBlock-trans (bytes_of w.bytes) (bytes_of new.bytes) (bytes_of e.bytes) both still_new third;
+                  still = SameBlock-trans (bytes_of w.bytes) (bytes_of new.bytes)
+                      (bytes_of e.bytes) both still_new third;
                 };
               }
 
-        pub recut : (left : Bool) → ((ts : List Tile) (t : Tile) → SaysTiles mid ts → tile_in ts at ≡ Some t → left ≡ nat_le (wanted + 32) t.len) → Recut w new at wanted left
+        pub recut : (left : Bool) → ((ts : List Tile) (t : Tile) → SaysTiles mid ts → tile_in ts at ≡ Some t
+            → left ≡ nat_le (wanted + 32) t.len) → Recut w new at wanted left
         recut left is =
             record {
               front = fronts;

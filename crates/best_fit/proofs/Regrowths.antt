@@ -25,13 +25,15 @@ same_extents ts us e = sym (extents-plain us) ∙ ap extents_of e ∙ extents-pl
 -- the live set stays
 pub regrown_live : (c d : Cut) → Regrown c d → live_of d.bytes ≡ live_of c.bytes
 unfolding live_of
-regrown_live c d r = let e = same_extents (tiles_in c) (tiles_in d) r.tiles in λ i. record { size = r.size i; extents = e i }
+regrown_live c d r = let e = same_extents (tiles_in c) (tiles_in d) r.tiles in
+    λ i. record { size = r.size i; extents = e i }
 
 -- ---- the blocks stay
 
 -- a tile in use is as it was
 pub plain_used : (t : Tile) → is_free t ≡ false → plain t ≡ t
-plain_used t e = let red : (not (is_free t) && t.red) ≡ t.red = ap (λ (b : Bool). not b && t.red) e in λ i. record t { red = red i }
+plain_used t e = let red : (not (is_free t) && t.red) ≡ t.red = ap (λ (b : Bool). not b && t.red) e in
+    λ i. record t { red = red i }
 
 in_plain : (t : Tile) (ts : List Tile) → In t ts → In (plain t) (map plain ts)
 in_plain t [] h = absurd h
@@ -48,36 +50,44 @@ used_stays t ts us e taken h =
     let plainly = subst (λ (v : Tile). In v (map plain ts)) (plain_used t taken) (in_plain t ts h) in
     from_plain t us (subst (λ (vs : List Tile). In t vs) (sym e) plainly) taken
 
-in_any : (t : Tile) (ts : List Tile) (k : ℕ) → In t ts → is_free t ≡ false → t.offset + 16 ≤ k → k < t.offset + t.len → lies_in_block ts k ≡ true
+in_any : (t : Tile) (ts : List Tile) (k : ℕ) → In t ts → is_free t ≡ false → t.offset + 16 ≤ k → k < t.offset + t.len
+    → lies_in_block ts k ≡ true
 in_any t [] k h e low high = absurd h
 in_any t (u ∷ us) k (inl p) e low high =
-    let P : Tile → Type 0 = λ (v : Tile). (not (is_free v) && nat_le (v.offset + 16) k && nat_lt k (v.offset + v.len)) ≡ true in
+    let P : Tile → Type 0 =
+    λ (v : Tile). (not (is_free v) && nat_le (v.offset + 16) k && nat_lt k (v.offset + v.len)) ≡ true in
     or_left (not (is_free u) && nat_le (u.offset + 16) k && nat_lt k (u.offset + u.len)) (lies_in_block us k)
     (subst P (sym p) (and_from (not (is_free t) && nat_le (t.offset + 16) k) (nat_lt k (t.offset + t.len))
-    (and_from (not (is_free t)) (nat_le (t.offset + 16) k) (ap not e) (le-leb (t.offset + 16) k low)) (lt-ltb k (t.offset + t.len) high)))
+    (and_from (not (is_free t)) (nat_le (t.offset + 16) k) (ap not e) (le-leb (t.offset + 16) k low))
+    (lt-ltb k (t.offset + t.len) high)))
 in_any t (u ∷ us) k (inr h) e low high =
-    or_right (not (is_free u) && nat_le (u.offset + 16) k && nat_lt k (u.offset + u.len)) (lies_in_block us k) (in_any t us k h e low high)
+    or_right (not (is_free u) && nat_le (u.offset + 16) k && nat_lt k (u.offset + u.len)) (lies_in_block us k)
+    (in_any t us k h e low high)
 
 module _ (c d : Cut) (said : SaysTiles c (tiles_in c)) (says : SaysTiles d (tiles_in d)) (r : Regrown c d) where
   row : Row 128 (tiles_in c) (length c.bytes - 16)
   row = said_row c (tiles_in c) said
 
-  tag : (t : Tile) (role : Role) → In t (tiles_in c) → t.use_of ≡ Some role → word_at (bytes_of d.bytes) (t.offset + 8) ≡ word_at (bytes_of c.bytes) (t.offset + 8)
+  tag : (t : Tile) (role : Role) → In t (tiles_in c) → t.use_of ≡ Some role
+      → word_at (bytes_of d.bytes) (t.offset + 8) ≡ word_at (bytes_of c.bytes) (t.offset + 8)
   tag t role i e =
       let used = used-not_free t role e in
       let j = used_stays t (tiles_in c) (tiles_in d) r.tiles used i in
       let one = tag_in current (bytes_of c.bytes) 128 0 (tiles_in c) (length c.bytes - 16) t said.tags row i in
-      let two = tag_in current (bytes_of d.bytes) 128 0 (tiles_in d) (length d.bytes - 16) t says.tags (said_row d (tiles_in d) says) j in
+      let two = tag_in current (bytes_of d.bytes) 128 0 (tiles_in d) (length d.bytes - 16) t says.tags
+      (said_row d (tiles_in d) says) j in
       two.word ∙ sym one.word
 
-  pub regrown_block : (t : Tile) → In t (tiles_in c) → (role : Role) → t.use_of ≡ Some role → SameBlock (bytes_of c.bytes) (bytes_of d.bytes) (extent_of t role)
+  pub regrown_block : (t : Tile) → In t (tiles_in c) → (role : Role) → t.use_of ≡ Some role
+      → SameBlock (bytes_of c.bytes) (bytes_of d.bytes) (extent_of t role)
   regrown_block t i role e =
       let used = used-not_free t role e in
       record {
         payload = record {
           at = λ k low high.
               let j = inside 128 t (tiles_in c) (length c.bytes - 16) k row i low high in let a = j.low in
-              let kept = or_right (nat_lt k 128) (lies_in_block (tiles_in c) k) (in_any t (tiles_in c) k i used low high) in
+              let kept = or_right (nat_lt k 128) (lies_in_block (tiles_in c) k)
+              (in_any t (tiles_in c) k i used low high) in
               r.bytes k kept (inr (omega arith));
         };
         colour = ap (λ w. w % 16) (tag t role i e);
@@ -116,24 +126,44 @@ head_same x y xs ys e = cc
 pub tail_same : (x y : Tile) (xs ys : List Tile) → x ∷ xs ≡ y ∷ ys → xs ≡ ys
 tail_same x y xs ys e = cc
 
-pub splits_alike : (us front : List Tile) (t : Tile) (back : List Tile) → map plain us ≡ map plain (front ++ (t ∷ back)) → SplitsAlike us front t back
+pub splits_alike : (us front : List Tile) (t : Tile) (back : List Tile)
+    → map plain us ≡ map plain (front ++ (t ∷ back)) → SplitsAlike us front t back
 splits_alike [] [] t back e = absurd (empty_not (plain t) (map plain back) e)
 splits_alike [] (f ∷ fs) t back e = absurd (empty_not (plain f) (map plain (fs ++ (t ∷ back))) e)
 splits_alike (u ∷ us) [] t back e =
-    record { front' = []; tile' = u; back' = us; list = refl; fronts = refl; tiles = head_same (plain u) (plain t) (map plain us) (map plain back) e; backs = tail_same (plain u) (plain t) (map plain us) (map plain back) e }
+    record {
+      front' = [];
+      tile' = u;
+      back' = us;
+      list = refl;
+      fronts = refl;
+      tiles = head_same (plain u) (plain t) (map plain us) (map plain back) e;
+      backs = tail_same (plain u) (plain t) (map plain us) (map plain back) e;
+    }
 splits_alike (u ∷ us) (f ∷ fs) t back e =
     let head = head_same (plain u) (plain f) (map plain us) (map plain (fs ++ (t ∷ back))) e in
     let r = splits_alike us fs t back (tail_same (plain u) (plain f) (map plain us) (map plain (fs ++ (t ∷ back))) e) in
     let fronts = r.fronts in
-    record { front' = u ∷ r.front'; tile' = r.tile'; back' = r.back'; list = ap (λ (vs : List Tile). u ∷ vs) r.list; fronts = λ i. head i ∷ fronts i; tiles = r.tiles; backs = r.backs }
+    record {
+      front' = u ∷ r.front';
+      tile' = r.tile';
+      back' = r.back';
+      list = ap (λ (vs : List Tile). u ∷ vs) r.list;
+      fronts = λ i. head i ∷ fronts i;
+      tiles = r.tiles;
+      backs = r.backs;
+    }
 
 -- ---- a gap that stands before and afterwards
 
-module _ (old new : Cut) (ts us : List Tile) (said : SaysTiles old ts) (says : SaysTiles new us) (same : SameBesideTags old new ts us) (u : Tile) (m : ℕ) (i : In u ts) (j : In u us) (at : u.offset + 16 ≡ m) (long : 32 ≤ u.len)
+module _ (old new : Cut) (ts us : List Tile) (said : SaysTiles old ts) (says : SaysTiles new us)
+    (same : SameBesideTags old new ts us) (u : Tile) (m : ℕ) (i : In u ts) (j : In u us)
+    (at : u.offset + 16 ≡ m) (long : 32 ≤ u.len)
     (here : tile_in ts u.offset ≡ Some u) (there : tile_in us u.offset ≡ Some u) where
   word_stays : (k : ℕ) → m ≤ k → k + 8 ≤ m + 16 → word_at (bytes_of new.bytes) k ≡ word_at (bytes_of old.bytes) k
   word_stays k low high =
-      let new_row : Row 128 us (length old.bytes - 16) = subst (λ n. Row 128 us (n - 16)) same.size (said_row new us says) in
+      let new_row : Row 128 us (length old.bytes - 16) = subst (λ n. Row 128 us (n - 16)) same.size
+      (said_row new us says) in
       Same-word (bytes_of old.bytes) (bytes_of new.bytes) k (k + 8) k (record {
         at = λ l a b.
             let p = inside 128 u ts (length old.bytes - 16) l (said_row old ts said) i (omega arith) (omega arith) in
@@ -143,5 +173,7 @@ module _ (old new : Cut) (ts us : List Tile) (said : SaysTiles old ts) (says : S
 
   pub step_cell : cells_of (bytes_of new.bytes) m ≡ cells_of (bytes_of old.bytes) m
   step_cell =
-      cell_stays (bytes_of old.bytes) (bytes_of new.bytes) m (ap (target_of m) (word_stays m (omega arith) (omega arith))) (ap (target_of (m + 8)) (word_stays (m + 8) (omega arith) (omega arith)))
+      cell_stays (bytes_of old.bytes) (bytes_of new.bytes) m
+      (ap (target_of m) (word_stays m (omega arith) (omega arith)))
+      (ap (target_of (m + 8)) (word_stays (m + 8) (omega arith) (omega arith)))
       (tile_colour new us u m says there at ∙ sym (tile_colour old ts u m said here at))

@@ -5,9 +5,11 @@ use Rattle.best_fit.proofs.Changes.{is_proper-IsProper, is_proper-place}
 use Rattle.best_fit.proofs.Order.{others-insert_same}
 use Rattle.best_fit.proofs.Placing.{IfSome_is}
 
-pub placed_is_proper : (live : LiveSet) (n : ℕ) (role : Role) (x : Extent) → IsTrue (is_proper live) → place live n role ≡ Some x → IsTrue (is_proper (added live x))
+pub placed_is_proper : (live : LiveSet) (n : ℕ) (role : Role) (x : Extent) → IsTrue (is_proper live)
+    → place live n role ≡ Some x → IsTrue (is_proper (added live x))
 placed_is_proper live n role x proper e =
-    IfSome_is (λ (y : Extent). IsTrue (is_proper (added live y))) (place live n role) x e (is_proper-place live (is_proper-IsProper live proper) n role)
+    IfSome_is (λ (y : Extent). IsTrue (is_proper (added live y))) (place live n role) x e
+    (is_proper-place live (is_proper-IsProper live proper) n role)
 
 pub giving_back_restores : GivingBackRestores
 giving_back_restores live n role x proper e =

@@ -1,4 +1,5 @@
--- Extents put in by offset, and how they stand: the order of the puts does not matter, what was put in can be taken out, and each is beside the others.
+-- Extents put in by offset, and how they stand: the order of the puts does not matter, what was put in can be taken
+-- out, and each is beside the others.
 use Rattle.best_fit.proofs.Common.{◌≡◌, refl, sym, ap, subst, ◌∙◌, ℕ, ◌+◌, ◌-◌, ◌%◌, ◌<◌, ◌≤◌, ◌≢◌, Bool, true, false}
 use Rattle.best_fit.proofs.Common.{◌&&◌, ◌==◌, Some, None, List, [], ◌∷◌, arith, if◌then◌else◌, inl, inr, IsTrue}
 use Rattle.best_fit.proofs.Common.{nat_lt, ⊤, find, AllByRecursion, list_any, and_parts, leb-true, eqb-true, eq-eqb}
@@ -29,7 +30,8 @@ Rising n (x ∷ xs) = (n ≤ x.offset) × Rising (x.offset + 1) xs
 -- ---- putting in
 
 -- one extent before or after some others
-pub insert-inserted : (x : Extent) (ys zs : List Extent) → Differs x ys → insert x (inserted ys zs) ≡ inserted ys (insert x zs)
+pub insert-inserted : (x : Extent) (ys zs : List Extent) → Differs x ys
+    → insert x (inserted ys zs) ≡ inserted ys (insert x zs)
 insert-inserted x [] zs n = refl
 insert-inserted x (y ∷ ys) zs n = insert-comm x y (inserted ys zs) n.0 ∙ ap (insert y) (insert-inserted x ys zs n.1)
 
@@ -40,18 +42,21 @@ inserted-comm (x ∷ xs) ys zs n = ap (insert x) (inserted-comm xs ys zs n.1) �
 
 -- ---- what holds of each
 
-all_of-if : (P : Extent → Type 0) (b : Bool) (x z : Extent) (zs ws : List Extent) → (AllByRecursion P ws → P x × AllByRecursion P zs)
+all_of-if : (P : Extent → Type 0) (b : Bool) (x z : Extent) (zs ws : List Extent)
+    → (AllByRecursion P ws → P x × AllByRecursion P zs)
     → AllByRecursion P (if b then x ∷ z ∷ zs else z ∷ ws) → P x × AllByRecursion P (z ∷ zs)
 all_of-if P true x z zs ws k h = (h.0, h.1)
 all_of-if P false x z zs ws k h = ((k h.1).0, (h.0, (k h.1).1))
 
 -- what holds of all with one more holds of that one and of the others
-pub all_of-insert : (P : Extent → Type 0) (x : Extent) (zs : List Extent) → AllByRecursion P (insert x zs) → P x × AllByRecursion P zs
+pub all_of-insert : (P : Extent → Type 0) (x : Extent) (zs : List Extent) → AllByRecursion P (insert x zs)
+    → P x × AllByRecursion P zs
 all_of-insert P x [] h = h
 all_of-insert P x (z ∷ zs) h = all_of-if P (nat_lt x.offset z.offset) x z zs (insert x zs) (all_of-insert P x zs) h
 
 -- the same of many put in
-pub all_of-inserted : (P : Extent → Type 0) (xs zs : List Extent) → AllByRecursion P (inserted xs zs) → AllByRecursion P xs × AllByRecursion P zs
+pub all_of-inserted : (P : Extent → Type 0) (xs zs : List Extent) → AllByRecursion P (inserted xs zs)
+    → AllByRecursion P xs × AllByRecursion P zs
 all_of-inserted P [] zs h = (tt, h)
 all_of-inserted P (x ∷ xs) zs h =
     let outer : P x × AllByRecursion P (inserted xs zs) = all_of-insert P x (inserted xs zs) h in
@@ -66,7 +71,8 @@ rising-weak m n (x ∷ xs) f h = (omega (arith, h.0), h.1)
 
 rising-differs : (x : Extent) (n : ℕ) (zs : List Extent) → x.offset < n → Rising n zs → Differs x zs
 rising-differs x n [] f h = tt
-rising-differs x n (z ∷ zs) f h = ((λ e. omega (arith, h.0)), rising-differs x (z.offset + 1) zs (omega (arith, h.0)) h.1)
+rising-differs x n (z ∷ zs) f h =
+    ((λ e. omega (arith, h.0)), rising-differs x (z.offset + 1) zs (omega (arith, h.0)) h.1)
 
 -- a hole ends where it begins or later
 pub hole-order : (a b : ℕ) → IsTrue (is_hole a b) → a ≤ b
@@ -91,7 +97,8 @@ pub record IsFresh (n : ℕ) (x : Extent) (zs : List Extent) : Type 0 where
   pub rest : Rising n zs
   pub differs : Differs x zs
 
-fresh-if : (n : ℕ) (b : Bool) (x z : Extent) (zs ws : List Extent) → (Rising (z.offset + 1) ws → IsFresh (z.offset + 1) x zs)
+fresh-if : (n : ℕ) (b : Bool) (x z : Extent) (zs ws : List Extent)
+    → (Rising (z.offset + 1) ws → IsFresh (z.offset + 1) x zs)
     → Rising n (if b then x ∷ z ∷ zs else z ∷ ws) → IsFresh n x (z ∷ zs)
 fresh-if n true x z zs ws k h = record {
   from = h.0;
@@ -100,12 +107,17 @@ fresh-if n true x z zs ws k h = record {
 }
 fresh-if n false x z zs ws k h =
     let below : IsFresh (z.offset + 1) x zs = k h.1 in
-    record { from = omega (arith, h.0, below.from); rest = (h.0, below.rest); differs = ((λ e. omega (arith, below.from)), below.differs) }
+    record {
+      from = omega (arith, h.0, below.from);
+      rest = (h.0, below.rest);
+      differs = ((λ e. omega (arith, below.from)), below.differs);
+    }
 
 -- an extent in a list that rises is fresh among the others
 pub rising-insert : (n : ℕ) (x : Extent) (zs : List Extent) → Rising n (insert x zs) → IsFresh n x zs
 rising-insert n x [] h = record { from = h.0; rest = tt; differs = tt }
-rising-insert n x (z ∷ zs) h = fresh-if n (nat_lt x.offset z.offset) x z zs (insert x zs) (rising-insert (z.offset + 1) x zs) h
+rising-insert n x (z ∷ zs) h = fresh-if n (nat_lt x.offset z.offset) x z zs (insert x zs)
+    (rising-insert (z.offset + 1) x zs) h
 
 -- extents in a list that rises are apart from the others, which rise
 pub rising-inserted : (n : ℕ) (xs zs : List Extent) → Rising n (inserted xs zs) → Rising n zs × Apart xs zs
@@ -120,7 +132,8 @@ pub apart-inserted : (n : ℕ) (xs ys zs : List Extent) → Rising n (inserted x
 apart-inserted n [] ys zs h = tt
 apart-inserted n (x ∷ xs) ys zs h =
     let outer : IsFresh n x (inserted xs (inserted ys zs)) = rising-insert n x (inserted xs (inserted ys zs)) h in
-    let below : Differs x (inserted ys zs) = (all_of-inserted (λ (y : Extent). x.offset ≢ y.offset) xs (inserted ys zs) outer.differs).1 in
+    let below : Differs x (inserted ys zs) =
+    (all_of-inserted (λ (y : Extent). x.offset ≢ y.offset) xs (inserted ys zs) outer.differs).1 in
     ((all_of-inserted (λ (y : Extent). x.offset ≢ y.offset) ys zs below).0, apart-inserted n xs ys zs outer.rest)
 
 -- ---- apart
@@ -158,7 +171,8 @@ pub record IsAlone (n : ℕ) (x : Extent) (zs : List Extent) : Type 0 where
 
 alone-if : (n : ℕ) (b : Bool) (x z : Extent) (zs ws : List Extent) → (Spaced (end_of z) ws → IsAlone (end_of z) x zs)
     → Spaced n (if b then x ∷ z ∷ zs else z ∷ ws) → IsAlone n x (z ∷ zs)
-alone-if n true x z zs ws k h = record { from = h.0; beside = (below h.1.0, spaced-beside x (end_of z) zs (omega (arith, h.1.0)) h.1.1) }
+alone-if n true x z zs ws k h =
+    record { from = h.0; beside = (below h.1.0, spaced-beside x (end_of z) zs (omega (arith, h.1.0)) h.1.1) }
 alone-if n false x z zs ws k h =
     let rest : IsAlone (end_of z) x zs = k h.1 in
     record { from = omega (arith, h.0, rest.from); beside = (above rest.from, rest.beside) }
@@ -166,11 +180,13 @@ alone-if n false x z zs ws k h =
 -- so an extent among others has them all beside it
 pub spaced-insert : (n : ℕ) (x : Extent) (zs : List Extent) → Spaced n (insert x zs) → IsAlone n x zs
 spaced-insert n x [] h = record { from = h.0; beside = tt }
-spaced-insert n x (z ∷ zs) h = alone-if n (nat_lt x.offset z.offset) x z zs (insert x zs) (spaced-insert (end_of z) x zs) h
+spaced-insert n x (z ∷ zs) h = alone-if n (nat_lt x.offset z.offset) x z zs (insert x zs)
+    (spaced-insert (end_of z) x zs) h
 
 -- ---- taking out
 
-others-if : (b : Bool) (x z : Extent) (zs ws : List Extent) → x.offset ≢ z.offset → others (handle x) ws ≡ zs → others (handle x) (if b then x ∷ z ∷ zs else z ∷ ws) ≡ z ∷ zs
+others-if : (b : Bool) (x z : Extent) (zs ws : List Extent) → x.offset ≢ z.offset → others (handle x) ws ≡ zs
+    → others (handle x) (if b then x ∷ z ∷ zs else z ∷ ws) ≡ z ∷ zs
 others-if true x z zs ws n e = others-here (handle x) x (z ∷ zs) refl
 others-if false x z zs ws n e = others-past (handle x) z ws (λ f. n (omega (arith, f))) ∙ ap (λ vs. z ∷ vs) e
 
@@ -212,7 +228,8 @@ insert-front : (x : Extent) (zs : List Extent) → Rising (x.offset + 1) zs → 
 insert-front x [] r = refl
 insert-front x (w ∷ ws) r = insert-here x w ws (omega (arith, r.0))
 
-among-if : (n h : ℕ) (x z : Extent) (zs : List Extent) → Rising n (z ∷ zs) → (find (λ (y : Extent). handle y == h) zs ≡ Some x → IsAmong h x zs) → (b : Bool) → (handle z == h) ≡ b
+among-if : (n h : ℕ) (x z : Extent) (zs : List Extent) → Rising n (z ∷ zs)
+    → (find (λ (y : Extent). handle y == h) zs ≡ Some x → IsAmong h x zs) → (b : Bool) → (handle z == h) ≡ b
     → cond b (Some z) (find (λ (y : Extent). handle y == h) zs) ≡ Some x → IsAmong h x (z ∷ zs)
 among-if n h x z zs r k true e f =
     let same : z ≡ x = cc in
@@ -224,13 +241,16 @@ among-if n h x z zs r k true e f =
 among-if n h x z zs r k false e f =
     let rest : IsAmong h x zs = k f in
     let n' : handle z ≢ h = λ g. cc (eq-eqb (handle z) h g) in
-    let below : IsFresh (z.offset + 1) x (others h zs) = rising-insert (z.offset + 1) x (others h zs) (subst (Rising (z.offset + 1)) rest.is r.1) in
+    let below : IsFresh (z.offset + 1) x (others h zs) = rising-insert (z.offset + 1) x (others h zs)
+    (subst (Rising (z.offset + 1)) rest.is r.1) in
     record {
       at = rest.at;
-      is = ap (λ ys. z ∷ ys) rest.is ∙ sym (insert-past x z (others h zs) (omega (arith, below.from))) ∙ ap (insert x) (sym (others-past h z zs n'));
+      is = ap (λ ys. z ∷ ys) rest.is ∙ sym (insert-past x z (others h zs) (omega (arith, below.from)))
+          ∙ ap (insert x) (sym (others-past h z zs n'));
     }
 
-pub among : (n h : ℕ) (x : Extent) (xs : List Extent) → Rising n xs → find (λ (y : Extent). handle y == h) xs ≡ Some x → IsAmong h x xs
+pub among : (n h : ℕ) (x : Extent) (xs : List Extent) → Rising n xs → find (λ (y : Extent). handle y == h) xs ≡ Some x
+    → IsAmong h x xs
 among n h x [] r e = absurd (cc)
 among n h x (z ∷ zs) r e = among-if n h x z zs r (among (z.offset + 1) h x zs r.1) (handle z == h) refl e
 
@@ -239,38 +259,51 @@ pub in_use : (l : LiveSet) (h : ℕ) (x : Extent) → IsTrue (is_proper l) → e
 in_use l h x p e = among 128 h x l.extents (live-rises l p) e
 
 -- it is beside the others
-pub in_use-alone : (l : LiveSet) (h : ℕ) (x : Extent) → IsTrue (is_proper l) → extent_at l h ≡ Some x → IsAlone 128 x (others h l.extents)
-in_use-alone l h x p e = spaced-insert 128 x (others h l.extents) (subst (Spaced 128) (in_use l h x p e).is (live-spaced l p))
+pub in_use-alone : (l : LiveSet) (h : ℕ) (x : Extent) → IsTrue (is_proper l) → extent_at l h ≡ Some x
+    → IsAlone 128 x (others h l.extents)
+in_use-alone l h x p e = spaced-insert 128 x (others h l.extents)
+    (subst (Spaced 128) (in_use l h x p e).is (live-spaced l p))
 
 -- what holds of each block holds of it and of the others
-pub in_use-all : (P : Extent → Type 0) (l : LiveSet) (h : ℕ) (x : Extent) → IsTrue (is_proper l) → extent_at l h ≡ Some x → AllByRecursion P l.extents → P x × AllByRecursion P (others h l.extents)
+pub in_use-all : (P : Extent → Type 0) (l : LiveSet) (h : ℕ) (x : Extent) → IsTrue (is_proper l)
+    → extent_at l h ≡ Some x → AllByRecursion P l.extents → P x × AllByRecursion P (others h l.extents)
 in_use-all P l h x p e a = all_of-insert P x (others h l.extents) (subst (AllByRecursion P) (in_use l h x p e).is a)
 
 abbrev with : LiveSet → List Extent → LiveSet
 with l xs = record l { extents = xs }
 
 -- a block exchanged for itself
-pub exchange-back : (l : LiveSet) (h : ℕ) (x : Extent) → IsTrue (is_proper l) → extent_at l h ≡ Some x → exchanged l (x ∷ []) (x ∷ []) ≡ l
+pub exchange-back : (l : LiveSet) (h : ℕ) (x : Extent) → IsTrue (is_proper l) → extent_at l h ≡ Some x
+    → exchanged l (x ∷ []) (x ∷ []) ≡ l
 exchange-back l h x p e =
     let a : IsAmong h x l.extents = in_use l h x p e in
     ap (λ k. with l (insert x (others k l.extents))) a.at ∙ ap (with l) (sym a.is)
 
 -- a new block, and then an old one released
-pub exchange-moved : (l : LiveSet) (h : ℕ) (x y : Extent) → IsTrue (is_proper l) → extent_at l h ≡ Some x → IsTrue (is_proper (added l y)) → others h (insert y l.extents) ≡ insert y (others h l.extents)
+pub exchange-moved : (l : LiveSet) (h : ℕ) (x y : Extent) → IsTrue (is_proper l) → extent_at l h ≡ Some x
+    → IsTrue (is_proper (added l y)) → others h (insert y l.extents) ≡ insert y (others h l.extents)
 exchange-moved l h x y p e q =
     let a : IsAmong h x l.extents = in_use l h x p e in
     let rest : List Extent = others h l.extents in
     let fresh : Differs x rest = (rising-insert 128 x rest (subst (Rising 128) a.is (live-rises l p))).differs in
-    let new : Differs y (insert x rest) = subst (Differs y) a.is (rising-insert 128 y l.extents (live-rises (added l y) q)).differs in
-    let both : (y.offset ≢ x.offset) × Differs y rest = all_of-insert (λ (z : Extent). y.offset ≢ z.offset) x rest new in
-    let apart : Differs x (insert y rest) = AllByRecursion-insert_from (λ (z : Extent). x.offset ≢ z.offset) y rest (λ s. both.0 (sym s)) fresh in
-    ap (λ zs. others h (insert y zs)) a.is ∙ ap (others h) (insert-comm y x rest both.0) ∙ ap (λ k. others k (insert x (insert y rest))) (sym a.at) ∙ others-insert x (insert y rest) apart
+    let new : Differs y (insert x rest) = subst (Differs y) a.is
+    (rising-insert 128 y l.extents (live-rises (added l y) q)).differs in
+    let both : (y.offset ≢ x.offset) × Differs y rest =
+    all_of-insert (λ (z : Extent). y.offset ≢ z.offset) x rest new in
+    let apart : Differs x (insert y rest) = AllByRecursion-insert_from (λ (z : Extent). x.offset ≢ z.offset) y rest
+    (λ s. both.0 (sym s)) fresh in
+    ap (λ zs. others h (insert y zs)) a.is ∙ ap (others h) (insert-comm y x rest both.0)
+    ∙ ap (λ k. others k (insert x (insert y rest))) (sym a.at) ∙ others-insert x (insert y rest) apart
 
 -- ---- room
 
-any-if : (s t : Extent → Bool) (xs : List Extent) → ((x : Extent) → s x ≡ true → t x ≡ true) → list_any s xs ≡ true → list_any t xs ≡ true
+any-if : (s t : Extent → Bool) (xs : List Extent) → ((x : Extent) → s x ≡ true → t x ≡ true)
+    → list_any s xs ≡ true → list_any t xs ≡ true
 any-if s t [] k h = absurd (cc)
-any-if s t (x ∷ xs) k h = elim (or_cases (s x) (list_any s xs) h) [ inl f ↦ or_left (t x) (list_any t xs) (k x f) | inr f ↦ or_right (t x) (list_any t xs) (any-if s t xs k f) ]
+any-if s t (x ∷ xs) k h = elim (or_cases (s x) (list_any s xs) h) [
+  | inl f ↦ or_left (t x) (list_any t xs) (k x f)
+  | inr f ↦ or_right (t x) (list_any t xs) (any-if s t xs k f)
+]
 
 -- a block with room has room for less
 pub room-less : (l : LiveSet) (h n k : ℕ) → k ≤ n → IsTrue (has_room l h n) → IsTrue (has_room l h k)
@@ -281,11 +314,13 @@ room-less l h n k f t =
 
 -- an extent that is found with its length has the room
 pub room-new : (l : LiveSet) (x : Extent) (n : ℕ) → n + 16 ≤ x.len → IsTrue (has_room (added l x) (handle x) n)
-room-new l x n f = list_any-insert (λ (y : Extent). (handle y == handle x) && holds y n) x l.extents (and_from (handle x == handle x) (holds x n) (eq-eqb (handle x) (handle x) refl) (le-leb (n + 16) x.len f))
+room-new l x n f = list_any-insert (λ (y : Extent). (handle y == handle x) && holds y n) x l.extents
+    (and_from (handle x == handle x) (holds x n) (eq-eqb (handle x) (handle x) refl) (le-leb (n + 16) x.len f))
 
 -- ---- what stays
 
-beside-same : (m m' : Memory) (x y : Extent) (from n : ℕ) → SameBut m m' from n → handle x ≤ from → from + n ≤ end_of x → LiesBeside x y → SameBlock m m' y
+beside-same : (m m' : Memory) (x y : Extent) (from n : ℕ) → SameBut m m' from n → handle x ≤ from
+    → from + n ≤ end_of x → LiesBeside x y → SameBlock m m' y
 beside-same m m' x y from n s f g (above h) = record {
   payload = SameBut-Same m m' from n (handle y) (end_of y) s (inl (omega arith));
   colour = ap (λ w. w % 16) (SameBut-word m m' from n (y.offset + 8) s (inl (omega arith)));
@@ -295,13 +330,16 @@ beside-same m m' x y from n s f g (below h) = record {
   colour = ap (λ w. w % 16) (SameBut-word m m' from n (y.offset + 8) s (inr (omega arith)));
 }
 
-all-beside : (m m' : Memory) (x : Extent) (ys : List Extent) (from n : ℕ) → SameBut m m' from n → handle x ≤ from → from + n ≤ end_of x
+all-beside : (m m' : Memory) (x : Extent) (ys : List Extent) (from n : ℕ) → SameBut m m' from n
+    → handle x ≤ from → from + n ≤ end_of x
     → AllByRecursion (LiesBeside x) ys → AllByRecursion (SameBlock m m') ys
 all-beside m m' x [] from n s f g h = tt
-all-beside m m' x (y ∷ ys) from n s f g h = (beside-same m m' x y from n s f g h.0, all-beside m m' x ys from n s f g h.1)
+all-beside m m' x (y ∷ ys) from n s f g h =
+    (beside-same m m' x y from n s f g h.0, all-beside m m' x ys from n s f g h.1)
 
 -- bytes written in a block
-pub written-keeps : (a b : Cut) (x : Extent) (ys : List Extent) (from n : ℕ) → IsAlone 128 x ys → SamePlace a b → SameBut (bytes_of a.bytes) (bytes_of b.bytes) from n
+pub written-keeps : (a b : Cut) (x : Extent) (ys : List Extent) (from n : ℕ) → IsAlone 128 x ys → SamePlace a b
+    → SameBut (bytes_of a.bytes) (bytes_of b.bytes) from n
     → handle x ≤ from → from + n ≤ end_of x → Keeps a b ys
 written-keeps a b x ys from n alone place s f g =
     let low = alone.from in
@@ -313,58 +351,83 @@ written-keeps a b x ys from n alone place s f g =
     }
 
 -- what is kept of these blocks
-pub keeps-of : (a b : Cut) (xs ys : List Extent) → Keeps a b xs → (AllByRecursion (SameBlock (bytes_of a.bytes) (bytes_of b.bytes)) xs → AllByRecursion (SameBlock (bytes_of a.bytes) (bytes_of b.bytes)) ys) → Keeps a b ys
+pub keeps-of : (a b : Cut) (xs ys : List Extent) → Keeps a b xs
+    → (AllByRecursion (SameBlock (bytes_of a.bytes) (bytes_of b.bytes)) xs
+    → AllByRecursion (SameBlock (bytes_of a.bytes) (bytes_of b.bytes)) ys) → Keeps a b ys
 keeps-of a b xs ys k f = record { place = k.place; front = k.front; behind = k.behind; blocks = f k.blocks }
 
 -- ---- what is found
 
 -- with another put in, and with another taken out
-found-more-if : (t : Extent → Bool) (b : Bool) (y x z : Extent) (zs ws : List Extent) → t y ≡ false → (find t zs ≡ Some x → find t ws ≡ Some x) → find t (z ∷ zs) ≡ Some x
+found-more-if : (t : Extent → Bool) (b : Bool) (y x z : Extent) (zs ws : List Extent) → t y ≡ false
+    → (find t zs ≡ Some x → find t ws ≡ Some x) → find t (z ∷ zs) ≡ Some x
     → find t (if b then y ∷ z ∷ zs else z ∷ ws) ≡ Some x
 found-more-if t true y x z zs ws n k e = ap (λ b. cond b (Some y) (find t (z ∷ zs))) n ∙ e
 found-more-if t false y x z zs ws n k e = found-more-head t x z zs ws k (t z) e
   where
-    found-more-head : (t : Extent → Bool) (x z : Extent) (zs ws : List Extent) → (find t zs ≡ Some x → find t ws ≡ Some x) → (b : Bool) → cond b (Some z) (find t zs) ≡ Some x → cond b (Some z) (find t ws) ≡ Some x
+    found-more-head : (t : Extent → Bool) (x z : Extent) (zs ws : List Extent)
+        → (find t zs ≡ Some x → find t ws ≡ Some x) → (b : Bool) → cond b (Some z) (find t zs) ≡ Some x
+        → cond b (Some z) (find t ws) ≡ Some x
     found-more-head t x z zs ws k true e = e
     found-more-head t x z zs ws k false e = k e
 
-pub found-more : (h : ℕ) (y x : Extent) (zs : List Extent) → handle y ≢ h → find (λ (w : Extent). handle w == h) zs ≡ Some x → find (λ (w : Extent). handle w == h) (insert y zs) ≡ Some x
+pub found-more : (h : ℕ) (y x : Extent) (zs : List Extent) → handle y ≢ h → find (λ (w : Extent). handle w == h) zs
+    ≡ Some x → find (λ (w : Extent). handle w == h) (insert y zs) ≡ Some x
 found-more h y x [] n e = absurd (cc)
-found-more h y x (z ∷ zs) n e = found-more-if (λ (w : Extent). handle w == h) (nat_lt y.offset z.offset) y x z zs (insert y zs) (ne_eqb (handle y) h n) (found-more h y x zs n) e
+found-more h y x (z ∷ zs) n e = found-more-if (λ (w : Extent). handle w == h) (nat_lt y.offset z.offset) y x z zs
+    (insert y zs) (ne_eqb (handle y) h n) (found-more h y x zs n) e
 
-found-less-if : (h g : ℕ) (x z : Extent) (zs : List Extent) → h ≢ g → (find (λ (w : Extent). handle w == h) zs ≡ Some x → find (λ (w : Extent). handle w == h) (others g zs) ≡ Some x)
-    → (a b : Bool) → (handle z == h) ≡ a → (handle z == g) ≡ b → cond a (Some z) (find (λ (w : Extent). handle w == h) zs) ≡ Some x
+found-less-if : (h g : ℕ) (x z : Extent) (zs : List Extent) → h ≢ g
+    → (find (λ (w : Extent). handle w == h) zs ≡ Some x → find (λ (w : Extent). handle w == h) (others g zs) ≡ Some x)
+    → (a b : Bool) → (handle z == h) ≡ a → (handle z == g) ≡ b
+    → cond a (Some z) (find (λ (w : Extent). handle w == h) zs) ≡ Some x
     → find (λ (w : Extent). handle w == h) (if b then zs else z ∷ others g zs) ≡ Some x
 found-less-if h g x z zs n k true true p q e = absurd (n (sym (eqb-true (handle z) h p) ∙ eqb-true (handle z) g q))
 found-less-if h g x z zs n k false true p q e = e
-found-less-if h g x z zs n k true false p q e = ap (λ b. cond b (Some z) (find (λ (w : Extent). handle w == h) (others g zs))) p ∙ e
-found-less-if h g x z zs n k false false p q e = ap (λ b. cond b (Some z) (find (λ (w : Extent). handle w == h) (others g zs))) p ∙ k e
+found-less-if h g x z zs n k true false p q e =
+    ap (λ b. cond b (Some z) (find (λ (w : Extent). handle w == h) (others g zs))) p ∙ e
+found-less-if h g x z zs n k false false p q e =
+    ap (λ b. cond b (Some z) (find (λ (w : Extent). handle w == h) (others g zs))) p ∙ k e
 
-pub found-less : (h g : ℕ) (x : Extent) (zs : List Extent) → h ≢ g → find (λ (w : Extent). handle w == h) zs ≡ Some x → find (λ (w : Extent). handle w == h) (others g zs) ≡ Some x
+pub found-less : (h g : ℕ) (x : Extent) (zs : List Extent) → h ≢ g → find (λ (w : Extent). handle w == h) zs ≡ Some x
+    → find (λ (w : Extent). handle w == h) (others g zs) ≡ Some x
 found-less h g x [] n e = absurd (cc)
-found-less h g x (z ∷ zs) n e = found-less-if h g x z zs n (found-less h g x zs n) (handle z == h) (handle z == g) refl refl e
+found-less h g x (z ∷ zs) n e = found-less-if h g x z zs n (found-less h g x zs n) (handle z == h)
+    (handle z == g) refl refl e
 
-found-new-if : (b : Bool) (y z : Extent) (zs ws : List Extent) → y.offset ≢ z.offset → find (λ (w : Extent). handle w == handle y) ws ≡ Some y
+found-new-if : (b : Bool) (y z : Extent) (zs ws : List Extent) → y.offset ≢ z.offset
+    → find (λ (w : Extent). handle w == handle y) ws ≡ Some y
     → find (λ (w : Extent). handle w == handle y) (if b then y ∷ z ∷ zs else z ∷ ws) ≡ Some y
-found-new-if true y z zs ws n e = ap (λ b. cond b (Some y) (find (λ (w : Extent). handle w == handle y) (z ∷ zs))) (eq-eqb (handle y) (handle y) refl)
-found-new-if false y z zs ws n e = ap (λ b. cond b (Some z) (find (λ (w : Extent). handle w == handle y) ws)) (ne_eqb (handle z) (handle y) (λ f. n (omega (arith, f)))) ∙ e
+found-new-if true y z zs ws n e = ap (λ b. cond b (Some y) (find (λ (w : Extent). handle w == handle y) (z ∷ zs)))
+    (eq-eqb (handle y) (handle y) refl)
+found-new-if false y z zs ws n e = ap (λ b. cond b (Some z) (find (λ (w : Extent). handle w == handle y) ws))
+    (ne_eqb (handle z) (handle y) (λ f. n (omega (arith, f)))) ∙ e
 
 -- the one that was put in
-pub found-new : (y : Extent) (zs : List Extent) → Differs y zs → find (λ (w : Extent). handle w == handle y) (insert y zs) ≡ Some y
+pub found-new : (y : Extent) (zs : List Extent) → Differs y zs
+    → find (λ (w : Extent). handle w == handle y) (insert y zs) ≡ Some y
 found-new y [] n = ap (λ b. cond b (Some y) None) (eq-eqb (handle y) (handle y) refl)
 found-new y (z ∷ zs) n = found-new-if (nat_lt y.offset z.offset) y z zs (insert y zs) n.0 (found-new y zs n.1)
 
 -- an extent that is found with its length has the room
-found-room_in : (h n : ℕ) (x : Extent) (zs : List Extent) → find (λ (w : Extent). handle w == h) zs ≡ Some x → n + 16 ≤ x.len → IsTrue (list_any (λ (w : Extent). (handle w == h) && holds w n) zs)
+found-room_in : (h n : ℕ) (x : Extent) (zs : List Extent) → find (λ (w : Extent). handle w == h) zs ≡ Some x
+    → n + 16 ≤ x.len → IsTrue (list_any (λ (w : Extent). (handle w == h) && holds w n) zs)
 found-room_in h n x [] e f = absurd (cc)
 found-room_in h n x (z ∷ zs) e f = found-room-if h n x z zs (found-room_in h n x zs) f (handle z == h) refl e
   where
-    found-room-if : (h n : ℕ) (x z : Extent) (zs : List Extent) → (find (λ (w : Extent). handle w == h) zs ≡ Some x → n + 16 ≤ x.len → IsTrue (list_any (λ (w : Extent). (handle w == h) && holds w n) zs))
-        → n + 16 ≤ x.len → (b : Bool) → (handle z == h) ≡ b → cond b (Some z) (find (λ (w : Extent). handle w == h) zs) ≡ Some x → IsTrue (list_any (λ (w : Extent). (handle w == h) && holds w n) (z ∷ zs))
+    found-room-if : (h n : ℕ) (x z : Extent) (zs : List Extent)
+        → (find (λ (w : Extent). handle w == h) zs ≡ Some x → n + 16 ≤ x.len
+        → IsTrue (list_any (λ (w : Extent). (handle w == h) && holds w n) zs))
+        → n + 16 ≤ x.len → (b : Bool) → (handle z == h) ≡ b
+        → cond b (Some z) (find (λ (w : Extent). handle w == h) zs) ≡ Some x
+        → IsTrue (list_any (λ (w : Extent). (handle w == h) && holds w n) (z ∷ zs))
     found-room-if h n x z zs k f true p e =
         let same : x ≡ z = cc in
-        or_left ((handle z == h) && holds z n) (list_any (λ (w : Extent). (handle w == h) && holds w n) zs) (and_from (handle z == h) (holds z n) p (le-leb (n + 16) z.len (subst (λ (w : Extent). n + 16 ≤ w.len) same f)))
-    found-room-if h n x z zs k f false p e = or_right ((handle z == h) && holds z n) (list_any (λ (w : Extent). (handle w == h) && holds w n) zs) (k e f)
+        or_left ((handle z == h) && holds z n) (list_any (λ (w : Extent). (handle w == h) && holds w n) zs)
+        (and_from (handle z == h) (holds z n) p (le-leb (n + 16) z.len (subst (λ (w : Extent). n + 16 ≤ w.len) same f)))
+    found-room-if h n x z zs k f false p e = or_right ((handle z == h) && holds z n)
+        (list_any (λ (w : Extent). (handle w == h) && holds w n) zs) (k e f)
 
-pub found-room : (l : LiveSet) (h n : ℕ) (x : Extent) → extent_at l h ≡ Some x → n + 16 ≤ x.len → IsTrue (has_room l h n)
+pub found-room : (l : LiveSet) (h n : ℕ) (x : Extent) → extent_at l h ≡ Some x → n + 16 ≤ x.len
+    → IsTrue (has_room l h n)
 found-room l h n x e f = found-room_in h n x l.extents e f

@@ -13,7 +13,8 @@ pub record Walk (c : Cut) (P : List Tile → List Tile → Type 0) (ahead : Opti
   pub here : ahead ≡ first_in rest
   pub holds : P passed rest
 
-pub walk_start : (c : Cut) (P : List Tile → List Tile → Type 0) (ts : List Tile) → SaysTiles c ts → P [] ts → (ahead : Option Tile) → ((us : List Tile) → SaysTiles c us → ahead ≡ first_in us) → Walk c P ahead
+pub walk_start : (c : Cut) (P : List Tile → List Tile → Type 0) (ts : List Tile) → SaysTiles c ts → P [] ts
+    → (ahead : Option Tile) → ((us : List Tile) → SaysTiles c us → ahead ≡ first_in us) → Walk c P ahead
 walk_start c P ts said holds ahead is = record { passed = []; rest = ts; said = said; here = is ts said; holds = holds }
 
 -- the tile that the walk has come to
@@ -24,11 +25,19 @@ pub record Turn (c : Cut) (P : List Tile → List Tile → Type 0) (tile : Tile)
   pub holds : P passed (tile ∷ back)
   pub meets : Meets c tile
 
-pub turn : (c : Cut) (P : List Tile → List Tile → Type 0) (ahead : Option Tile) → Walk c P ahead → (tile : Tile) → ahead ≡ Some tile → Turn c P tile
+pub turn : (c : Cut) (P : List Tile → List Tile → Type 0) (ahead : Option Tile) → Walk c P ahead → (tile : Tile)
+    → ahead ≡ Some tile → Turn c P tile
 turn c P ahead w tile is =
     let h = first_here tile ahead w.rest is w.here in
-    let said : SaysTiles c (w.passed ++ (tile ∷ h.back)) = subst (λ (ts : List Tile). SaysTiles c (w.passed ++ ts)) h.list w.said in
-    record { passed = w.passed; back = h.back; said = said; holds = subst (P w.passed) h.list w.holds; meets = meets c w.passed tile h.back said }
+    let said : SaysTiles c (w.passed ++ (tile ∷ h.back)) =
+    subst (λ (ts : List Tile). SaysTiles c (w.passed ++ ts)) h.list w.said in
+    record {
+      passed = w.passed;
+      back = h.back;
+      said = said;
+      holds = subst (P w.passed) h.list w.holds;
+      meets = meets c w.passed tile h.back said;
+    }
 
 -- The tile at an offset is passed: what is left of the walk are the tiles behind it. Its colour may have changed.
 pub record Passed (c : Cut) (P : List Tile → List Tile → Type 0) (at : ℕ) : Type 0 where
@@ -43,19 +52,30 @@ pub passed_has : (c : Cut) (P : List Tile → List Tile → Type 0) (at : ℕ) �
 passed_has c P at p = subst (HasTileAt c) p.offset (meets c p.passed p.tile p.back p.said).has
 
 -- in an equal window
-pub passed_in : (P : Cut → List Tile → List Tile → Type 0) (at : ℕ) (c d : Cut) → d ≡ c → Passed c (P c) at → Passed d (P d) at
+pub passed_in : (P : Cut → List Tile → List Tile → Type 0) (at : ℕ) (c d : Cut) → d ≡ c
+    → Passed c (P c) at → Passed d (P d) at
 passed_in P at c d e p = let Q : Cut → Type 0 = λ (x : Cut). Passed x (P x) at in subst Q (sym e) p
 
 -- the tile behind it is the next one
-behind_it : (c : Cut) (P : List Tile → List Tile → Type 0) (at : ℕ) → (p : Passed c P at) → (next : Option Tile) → ((ts : List Tile) → SaysTiles c ts → next ≡ next_in ts at) → next ≡ first_in p.back
+behind_it : (c : Cut) (P : List Tile → List Tile → Type 0) (at : ℕ) → (p : Passed c P at) → (next : Option Tile)
+    → ((ts : List Tile) → SaysTiles c ts → next ≡ next_in ts at) → next ≡ first_in p.back
 behind_it c P at p next is =
-    next_here c p.passed p.tile p.back p.said next (subst (λ k. (ts : List Tile) → SaysTiles c ts → next ≡ next_in ts k) (sym p.offset) is)
+    next_here c p.passed p.tile p.back p.said next
+    (subst (λ k. (ts : List Tile) → SaysTiles c ts → next ≡ next_in ts k) (sym p.offset) is)
 
-pub passed_goes_on : (c : Cut) (P : List Tile → List Tile → Type 0) (at : ℕ) → Passed c P at → (next : Option Tile) → ((ts : List Tile) → SaysTiles c ts → next ≡ next_in ts at) → Walk c P next
+pub passed_goes_on : (c : Cut) (P : List Tile → List Tile → Type 0) (at : ℕ) → Passed c P at → (next : Option Tile)
+    → ((ts : List Tile) → SaysTiles c ts → next ≡ next_in ts at) → Walk c P next
 passed_goes_on c P at p next is =
-    record { passed = p.passed ++ (p.tile ∷ []); rest = p.back; said = passed_on c p.passed p.tile p.back p.said; here = behind_it c P at p next is; holds = p.holds }
+    record {
+      passed = p.passed ++ (p.tile ∷ []);
+      rest = p.back;
+      said = passed_on c p.passed p.tile p.back p.said;
+      here = behind_it c P at p next is;
+      holds = p.holds;
+    }
 
-pub passed_nearer : (c : Cut) (P : List Tile → List Tile → Type 0) (n : ℕ) (tile : Tile) → Passed c P tile.offset → length c.bytes ≡ n → (ahead next : Option Tile) → ahead ≡ Some tile
+pub passed_nearer : (c : Cut) (P : List Tile → List Tile → Type 0) (n : ℕ) (tile : Tile) → Passed c P tile.offset
+    → length c.bytes ≡ n → (ahead next : Option Tile) → ahead ≡ Some tile
     → ((ts : List Tile) → SaysTiles c ts → next ≡ next_in ts tile.offset) → to_go n next < to_go n ahead
 passed_nearer c P n tile p size ahead next here is =
     subst (λ (o : Option Tile). to_go n next < to_go n o) (sym here)
@@ -69,12 +89,14 @@ pub record Ended (c : Cut) (P : List Tile → List Tile → Type 0) : Type 0 whe
   pub said : SaysTiles c tiles
   pub holds : P tiles []
 
-pub walk_end : (c : Cut) (P : List Tile → List Tile → Type 0) (ahead : Option Tile) → Walk c P ahead → ahead ≡ None → Ended c P
+pub walk_end : (c : Cut) (P : List Tile → List Tile → Type 0) (ahead : Option Tile) → Walk c P ahead
+    → ahead ≡ None → Ended c P
 walk_end c P ahead w end =
     let none = none_left w.rest (sym end ∙ w.here) in
     record {
       tiles = w.passed;
-      said = subst (SaysTiles c) (append-nil w.passed) (subst (λ (ts : List Tile). SaysTiles c (w.passed ++ ts)) none w.said);
+      said = subst (SaysTiles c) (append-nil w.passed)
+          (subst (λ (ts : List Tile). SaysTiles c (w.passed ++ ts)) none w.said);
       holds = subst (P w.passed) none w.holds;
     }
 
@@ -86,11 +108,15 @@ free_if t none = elim (use_cases t) [
   | used role e ↦ absurd (both_ways (is_some t.use_of) none (ap is_some e))
 ]
 
-pub gaps_past_block : (passed : List Tile) (t : Tile) → is_some t.use_of ≡ true → gaps_of (passed ++ (t ∷ [])) ≡ gaps_of passed
+pub gaps_past_block : (passed : List Tile) (t : Tile) → is_some t.use_of ≡ true
+    → gaps_of (passed ++ (t ∷ [])) ≡ gaps_of passed
 gaps_past_block passed t some = elim (use_cases t) [
   | unused e ↦ absurd (both_ways (is_some t.use_of) (ap is_some e) some)
-  | used role e ↦ gaps_of-append passed (t ∷ []) ∙ ap (λ (gs : List Gap). gaps_of passed ++ gs) (gaps_of-used t [] role e) ∙ append-nil (gaps_of passed)
+  | used role e ↦ gaps_of-append passed (t ∷ []) ∙ ap (λ (gs : List Gap). gaps_of passed ++ gs)
+      (gaps_of-used t [] role e) ∙ append-nil (gaps_of passed)
 ]
 
-pub gaps_past_gap : (passed : List Tile) (t : Tile) → t.use_of ≡ None → gaps_of (passed ++ (t ∷ [])) ≡ gaps_of passed ++ (gap_of t ∷ [])
-gaps_past_gap passed t free = gaps_of-append passed (t ∷ []) ∙ ap (λ (gs : List Gap). gaps_of passed ++ gs) (gaps_of-free t [] free)
+pub gaps_past_gap : (passed : List Tile) (t : Tile) → t.use_of ≡ None → gaps_of (passed ++ (t ∷ [])) ≡ gaps_of
+    passed ++ (gap_of t ∷ [])
+gaps_past_gap passed t free = gaps_of-append passed (t ∷ []) ∙ ap (λ (gs : List Gap). gaps_of passed ++ gs)
+    (gaps_of-free t [] free)

@@ -22,16 +22,20 @@ pub option_offset : (o : Option Tile) → gap_offset o ≡ offset_of (gaps_of (o
 option_offset None = refl
 option_offset (Some t) =
     elim (use_cases t) [
-      | unused e ↦ cond-true (is_free t) (Some t.offset) None (unused-free t e) ∙ sym (ap offset_of (gaps_of-free t [] e))
-      | used role e ↦ cond-false (is_free t) (Some t.offset) None (used-not_free t role e) ∙ sym (ap offset_of (gaps_of-used t [] role e))
+      | unused e ↦ cond-true (is_free t) (Some t.offset) None (unused-free t e)
+          ∙ sym (ap offset_of (gaps_of-free t [] e))
+      | used role e ↦ cond-false (is_free t) (Some t.offset) None (used-not_free t role e)
+          ∙ sym (ap offset_of (gaps_of-used t [] role e))
     ]
 
 pub option_few : (o : Option Tile) → length (gaps_of (of_option o)) ≤ 1
 option_few None = omega arith
 option_few (Some t) =
     elim (use_cases t) [
-      | unused e ↦ let n : length (gaps_of (t ∷ [])) ≡ 1 = ap (λ (gs : List Gap). length gs) (gaps_of-free t [] e) in omega arith
-      | used role e ↦ let n : length (gaps_of (t ∷ [])) ≡ 0 = ap (λ (gs : List Gap). length gs) (gaps_of-used t [] role e) in omega arith
+      | unused e ↦ let n : length (gaps_of (t ∷ [])) ≡ 1 = ap (λ (gs : List Gap). length gs)
+          (gaps_of-free t [] e) in omega arith
+      | used role e ↦ let n : length (gaps_of (t ∷ [])) ≡ 0 = ap (λ (gs : List Gap). length gs)
+          (gaps_of-used t [] role e) in omega arith
     ]
 
 -- ---- one that is there
@@ -47,7 +51,8 @@ module _ (c : Cut) (xs gs ys : List Gap) (at : ℕ) (o : One gs at) (h : HasTree
 
   pub one_small : at + 16 ≤ 1073741824
   one_small =
-      let d = node_at c (at + 16) (record { good = is_good-Good c h.good; listed = h.some.listed (at + 16) one_listed }) in
+      let d = node_at c (at + 16)
+      (record { good = is_good-Good c h.good; listed = h.some.listed (at + 16) one_listed }) in
       let long = d.long in let ends = d.ends in let size = d.size in omega arith
 
 pub none_tree : (c : Cut) (xs gs ys : List Gap) → gs ≡ [] → HasTree c (xs ++ (gs ++ ys)) → HasTree c (xs ++ ys)
@@ -55,4 +60,9 @@ none_tree c xs gs ys e h = subst (λ (ks : List Gap). HasTree c (xs ++ (ks ++ ys
 
 -- what does not change is regrown
 pub regrown-refl : (c : Cut) → Regrown c c
-regrown-refl c = record { place = record { before = refl; after = refl }; size = refl; tiles = refl; bytes = λ k i o. refl }
+regrown-refl c = record {
+  place = record { before = refl; after = refl };
+  size = refl;
+  tiles = refl;
+  bytes = λ k i o. refl;
+}

@@ -32,89 +32,109 @@ pub none-lead : (p : WayPoints) (b : List ℕ) → AreNone p → LeadToBlocks p 
 none-lead p b none h n = absurd (none h n)
 
 -- one more handle
-pub noted-lead : (p q : WayPoints) (b : List ℕ) (a : ℕ) → LeadToBlocks p b → IsTrue (is_live_in (live_of b) a) → ((h : ℕ) → IsNoted q h → (h ≡ a) ⊎ IsNoted p h) → LeadToBlocks q b
+pub noted-lead : (p q : WayPoints) (b : List ℕ) (a : ℕ) → LeadToBlocks p b → IsTrue (is_live_in (live_of b) a)
+    → ((h : ℕ) → IsNoted q h → (h ≡ a) ⊎ IsNoted p h) → LeadToBlocks q b
 noted-lead p q b a lead live more h n =
     elim (more h n) [ inl e ↦ subst (λ (k : ℕ). IsTrue (is_live_in (live_of b) k)) (sym e) live | inr o ↦ lead h o ]
 
 -- ---- blocks that stay in use
 
 -- where all blocks of a live set are among those of the next one
-pub held-on : (p : WayPoints) (b b' : List ℕ) (live : LiveSet) → LeadToBlocks p b → LaysOut current b' live → ((h : ℕ) → IsTrue (is_live_in (live_of b) h) → IsTrue (is_live_in live h)) → IsHeld b' p
+pub held-on : (p : WayPoints) (b b' : List ℕ) (live : LiveSet) → LeadToBlocks p b → LaysOut current b' live
+    → ((h : ℕ) → IsTrue (is_live_in (live_of b) h) → IsTrue (is_live_in live h)) → IsHeld b' p
 held-on p b b' live lead laid stay =
     record {
       heap = laid-heap b' live laid;
-      points = λ h n. subst (λ (v : LiveSet). IsTrue (is_live_in v h)) (sym (lay_out_one current b' live laid)) (stay h (lead h n));
+      points = λ h n. subst (λ (v : LiveSet). IsTrue (is_live_in v h)) (sym (lay_out_one current b' live laid))
+          (stay h (lead h n));
     }
 
 -- the same blocks
 pub held-same : (p : WayPoints) (b b' : List ℕ) → LeadToBlocks p b → LaysOut current b' (live_of b) → IsHeld b' p
 held-same p b b' lead laid = held-on p b b' (live_of b) lead laid (λ h l. l)
 
-pub added-stay : (live : LiveSet) (x : Extent) (h : ℕ) → IsTrue (is_live_in live h) → IsTrue (is_live_in (added live x) h)
+pub added-stay : (live : LiveSet) (x : Extent) (h : ℕ) → IsTrue (is_live_in live h)
+    → IsTrue (is_live_in (added live x) h)
 added-stay live x h l = list_any-insert_others (λ (y : Extent). handle y == h) x live.extents l
 
-pub released-stay : (live : LiveSet) (k h : ℕ) → h ≢ k → IsTrue (is_live_in live h) → IsTrue (is_live_in (released live k) h)
+pub released-stay : (live : LiveSet) (k h : ℕ) → h ≢ k → IsTrue (is_live_in live h)
+    → IsTrue (is_live_in (released live k) h)
 released-stay live k h n l =
-    list_any-others (λ (y : Extent). handle y == h) k live.extents (λ y e. ne_eqb (handle y) h (λ same. n (sym same ∙ e))) l
+    list_any-others (λ (y : Extent). handle y == h) k live.extents
+    (λ y e. ne_eqb (handle y) h (λ same. n (sym same ∙ e))) l
 
-pub resized-stay : (live : LiveSet) (y : Extent) (h : ℕ) → IsTrue (is_live_in live h) → IsTrue (is_live_in (resized live y) h)
+pub resized-stay : (live : LiveSet) (y : Extent) (h : ℕ) → IsTrue (is_live_in live h)
+    → IsTrue (is_live_in (resized live y) h)
 resized-stay live y h l =
     elim (cases_eq (handle y) h) [
-      | inl e ↦ list_any-insert (λ (x : Extent). handle x == h) y (others (handle y) live.extents) (eq-eqb (handle y) h e)
+      | inl e ↦ list_any-insert (λ (x : Extent). handle x == h) y
+          (others (handle y) live.extents) (eq-eqb (handle y) h e)
       | inr n ↦ added-stay (released live (handle y)) y h (released-stay live (handle y) h (λ e. n (sym e)) l)
     ]
 
 -- ---- tiles in use
 
 -- a tile of another handle tells nothing
-skip_tile : (h : ℕ) (t : Tile) (ts : List Tile) → (t.offset + 16 ≡ h → ⊥) → list_any (λ (x : Extent). handle x == h) (extents_of (t ∷ ts)) ≡ list_any (λ (x : Extent). handle x == h) (extents_of ts)
+skip_tile : (h : ℕ) (t : Tile) (ts : List Tile) → (t.offset + 16 ≡ h → ⊥) → list_any (λ (x : Extent). handle x == h)
+    (extents_of (t ∷ ts)) ≡ list_any (λ (x : Extent). handle x == h) (extents_of ts)
 skip_tile h t ts n =
     elim (use_cases t) [
       | unused f ↦ ap (λ xs. list_any (λ (x : Extent). handle x == h) xs) (extents_of-free t ts f)
       | used role f ↦
           ap (λ xs. list_any (λ (x : Extent). handle x == h) xs) (extents_of-used t ts role f)
-          ∙ ap (λ (b : Bool). b || list_any (λ (x : Extent). handle x == h) (extents_of ts)) (ne_eqb (t.offset + 16) h n)
+          ∙ ap (λ (b : Bool). b || list_any (λ (x : Extent). handle x == h) (extents_of ts))
+          (ne_eqb (t.offset + 16) h n)
     ]
 
 -- nor do those before a tile that does not stand behind it
-skip_front : (h at : ℕ) (front : List Tile) (t : Tile) (back : List Tile) (end : ℕ) → Row at (front ++ (t ∷ back)) end → t.offset + 16 ≤ h
-    → list_any (λ (x : Extent). handle x == h) (extents_of (front ++ (t ∷ back))) ≡ list_any (λ (x : Extent). handle x == h) (extents_of (t ∷ back))
+skip_front : (h at : ℕ) (front : List Tile) (t : Tile) (back : List Tile) (end : ℕ)
+    → Row at (front ++ (t ∷ back)) end → t.offset + 16 ≤ h
+    → list_any (λ (x : Extent). handle x == h) (extents_of (front ++ (t ∷ back))) ≡ list_any
+    (λ (x : Extent). handle x == h) (extents_of (t ∷ back))
 skip_front h at [] t back end r l = refl
 skip_front h at (u ∷ us) t back end r l =
     let ends = row_before at u us t back end r in let long = r.1 in
     skip_tile h u (us ++ (t ∷ back)) (λ e. omega arith) ∙ skip_front h (at + u.len) us t back end r.3 l
 
 -- nor those behind it
-none_behind : (h at : ℕ) (ts : List Tile) (end : ℕ) → Row at ts end → h < at + 16 → list_any (λ (x : Extent). handle x == h) (extents_of ts) ≡ false
+none_behind : (h at : ℕ) (ts : List Tile) (end : ℕ) → Row at ts end → h < at + 16
+    → list_any (λ (x : Extent). handle x == h) (extents_of ts) ≡ false
 none_behind h at [] end r l = refl
 none_behind h at (t ∷ ts) end r l =
-    let o = r.0 in let long = r.1 in skip_tile h t ts (λ e. omega arith) ∙ none_behind h (at + t.len) ts end r.3 (omega arith)
+    let o = r.0 in let long = r.1 in skip_tile h t ts (λ e. omega arith)
+    ∙ none_behind h (at + t.len) ts end r.3 (omega arith)
 
 -- the tiles that are left, as a row
-row_left : (c : Cut) (passed : List Tile) (t : Tile) (back : List Tile) → SaysTiles c (passed ++ (t ∷ back)) → Row (t.offset + t.len) back (length c.bytes - 16)
+row_left : (c : Cut) (passed : List Tile) (t : Tile) (back : List Tile) → SaysTiles c (passed ++ (t ∷ back))
+    → Row (t.offset + t.len) back (length c.bytes - 16)
 row_left c passed t back said =
     let r = row_back 128 passed (t ∷ back) (length c.bytes - 16) (said_row c (passed ++ (t ∷ back)) said) in
     subst (λ k. Row (k + t.len) back (length c.bytes - 16)) (sym r.0) r.3
 
 -- what a tile at or behind a handle tells of it
-pub names_told : (c : Cut) (h : ℕ) (t : Tile) → (n : Next c (StillNames c h) t) → h ≤ t.offset + 16 → (answer : Bool) → ((t.offset + 16 ≡ h) → answer ≡ is_some t.use_of) → ((t.offset + 16 ≡ h → ⊥) → answer ≡ false)
+pub names_told : (c : Cut) (h : ℕ) (t : Tile) → (n : Next c (StillNames c h) t) → h ≤ t.offset + 16 → (answer : Bool)
+    → ((t.offset + 16 ≡ h) → answer ≡ is_some t.use_of) → ((t.offset + 16 ≡ h → ⊥) → answer ≡ false)
     → answer ≡ is_live_in (live_of c.bytes) h
 names_told c h t n l answer same other =
     let long = n.meets.long in
-    let none = none_behind h (t.offset + t.len) n.back (length c.bytes - 16) (row_left c n.passed t n.back n.said) (omega arith) in
+    let none = none_behind h (t.offset + t.len) n.back (length c.bytes - 16) (row_left c n.passed t n.back n.said)
+    (omega arith) in
     elim (cases_eq (t.offset + 16) h) [
       | inl e ↦ elim (use_cases t) [
-        | unused f ↦ same e ∙ ap is_some f ∙ sym none ∙ sym (ap (λ xs. list_any (λ (x : Extent). handle x == h) xs) (extents_of-free t n.back f)) ∙ n.holds
+        | unused f ↦ same e ∙ ap is_some f ∙ sym none
+            ∙ sym (ap (λ xs. list_any (λ (x : Extent). handle x == h) xs) (extents_of-free t n.back f)) ∙ n.holds
         | used role f ↦
             same e ∙ ap is_some f
-            ∙ sym (ap (λ (b : Bool). b || list_any (λ (x : Extent). handle x == h) (extents_of n.back)) (eq-eqb (t.offset + 16) h e))
+            ∙ sym (ap (λ (b : Bool). b || list_any (λ (x : Extent). handle x == h) (extents_of n.back))
+            (eq-eqb (t.offset + 16) h e))
             ∙ sym (ap (λ xs. list_any (λ (x : Extent). handle x == h) xs) (extents_of-used t n.back role f)) ∙ n.holds
       ]
       | inr d ↦ other d ∙ sym none ∙ sym (skip_tile h t n.back d) ∙ n.holds
     ]
 
 -- a walk that looks for a handle may begin at a block that does not stand behind it
-pub left_from : (c : Cut) (h known : ℕ) → IsHeap current c.bytes → IsTrue (is_live_in (live_of c.bytes) known) → known ≤ h → (t : Tile) → ((ts : List Tile) → SaysTiles c ts → tile_in ts (known - 16) ≡ Some t)
+pub left_from : (c : Cut) (h known : ℕ) → IsHeap current c.bytes → IsTrue (is_live_in (live_of c.bytes) known)
+    → known ≤ h → (t : Tile) → ((ts : List Tile) → SaysTiles c ts → tile_in ts (known - 16) ≡ Some t)
     → Left c (Some t) (StillNames c h)
 left_from c h known heap live l t is =
     let b = live_block c known heap live in let o = b.at in
@@ -124,30 +144,41 @@ left_from c h known heap live l t is =
       rest = b.tile ∷ b.back;
       said = b.said;
       here = ap (λ (u : Tile). Some u) same;
-      holds = sym (skip_front h 128 b.front b.tile b.back (length c.bytes - 16) (said_row c (b.front ++ (b.tile ∷ b.back)) b.said) (omega arith))
+      holds = sym (skip_front h 128 b.front b.tile b.back (length c.bytes - 16)
+          (said_row c (b.front ++ (b.tile ∷ b.back)) b.said) (omega arith))
           ∙ ap (λ ts. list_any (λ (x : Extent). handle x == h) (extents_of ts)) (sym b.list) ∙ names_start c h;
     }
 
-any_used : (passed : List Tile) (t : Tile) (back : List Tile) → is_some t.use_of ≡ true → IsTrue (list_any (λ (x : Extent). handle x == t.offset + 16) (extents_of (passed ++ (t ∷ back))))
+any_used : (passed : List Tile) (t : Tile) (back : List Tile) → is_some t.use_of ≡ true
+    → IsTrue (list_any (λ (x : Extent). handle x == t.offset + 16) (extents_of (passed ++ (t ∷ back))))
 any_used [] t back some =
     elim (use_cases t) [
       | unused f ↦ absurd (both_ways (is_some t.use_of) (ap is_some f) some)
       | used role f ↦
-          subst (λ xs. IsTrue (list_any (λ (x : Extent). handle x == t.offset + 16) xs)) (sym (extents_of-used t back role f))
-          (or_left (t.offset + 16 == t.offset + 16) (list_any (λ (x : Extent). handle x == t.offset + 16) (extents_of back)) (eq-eqb (t.offset + 16) (t.offset + 16) refl))
+          subst (λ xs. IsTrue (list_any (λ (x : Extent). handle x == t.offset + 16) xs))
+          (sym (extents_of-used t back role f))
+          (or_left (t.offset + 16 == t.offset + 16)
+          (list_any (λ (x : Extent). handle x == t.offset + 16) (extents_of back))
+          (eq-eqb (t.offset + 16) (t.offset + 16) refl))
     ]
 any_used (u ∷ us) t back some =
     elim (use_cases u) [
-      | unused f ↦ subst (λ xs. IsTrue (list_any (λ (x : Extent). handle x == t.offset + 16) xs)) (sym (extents_of-free u (us ++ (t ∷ back)) f)) (any_used us t back some)
+      | unused f ↦ subst (λ xs. IsTrue (list_any (λ (x : Extent). handle x == t.offset + 16) xs))
+          (sym (extents_of-free u (us ++ (t ∷ back)) f)) (any_used us t back some)
       | used role f ↦
-          subst (λ xs. IsTrue (list_any (λ (x : Extent). handle x == t.offset + 16) xs)) (sym (extents_of-used u (us ++ (t ∷ back)) role f))
-          (or_right (u.offset + 16 == t.offset + 16) (list_any (λ (x : Extent). handle x == t.offset + 16) (extents_of (us ++ (t ∷ back)))) (any_used us t back some))
+          subst (λ xs. IsTrue (list_any (λ (x : Extent). handle x == t.offset + 16) xs))
+          (sym (extents_of-used u (us ++ (t ∷ back)) role f))
+          (or_right (u.offset + 16 == t.offset + 16)
+          (list_any (λ (x : Extent). handle x == t.offset + 16) (extents_of (us ++ (t ∷ back))))
+          (any_used us t back some))
     ]
 
 -- a tile in use is a block
-pub used_is_live : (c : Cut) (P : List Tile → Type 0) (t : Tile) → Next c P t → is_some t.use_of ≡ true → IsTrue (is_live_in (live_of c.bytes) (t.offset + 16))
+pub used_is_live : (c : Cut) (P : List Tile → Type 0) (t : Tile) → Next c P t → is_some t.use_of ≡ true
+    → IsTrue (is_live_in (live_of c.bytes) (t.offset + 16))
 used_is_live c P t n some =
-    subst (λ xs. IsTrue (list_any (λ (x : Extent). handle x == t.offset + 16) xs)) (sym (live_extents c ∙ ap extents_of (tiles_are_read_off c (n.passed ++ (t ∷ n.back)) n.said)))
+    subst (λ xs. IsTrue (list_any (λ (x : Extent). handle x == t.offset + 16) xs))
+    (sym (live_extents c ∙ ap extents_of (tiles_are_read_off c (n.passed ++ (t ∷ n.back)) n.said)))
     (any_used n.passed t n.back some)
 
 -- ---- the tiles behind a block
@@ -156,7 +187,8 @@ used_is_live c P t n some =
 abbrev pub Beyond : Cut → ℕ → List Tile → Type 0
 Beyond c k ts = (at : ℕ) × Row at ts (length c.bytes - 16) × (k ≤ at)
 
-pub left_behind : (c : Cut) (h : ℕ) → IsHeap current c.bytes → IsTrue (is_live_in (live_of c.bytes) h) → (next : Option Tile) → ((ts : List Tile) → SaysTiles c ts → next ≡ next_in ts (h - 16)) → Left c next (Beyond c h)
+pub left_behind : (c : Cut) (h : ℕ) → IsHeap current c.bytes → IsTrue (is_live_in (live_of c.bytes) h)
+    → (next : Option Tile) → ((ts : List Tile) → SaysTiles c ts → next ≡ next_in ts (h - 16)) → Left c next (Beyond c h)
 left_behind c h heap live next is =
     let b = live_block c h heap live in let o = b.at in let long = b.long in
     let at : h - 16 ≡ b.tile.offset = omega arith in
@@ -164,7 +196,8 @@ left_behind c h heap live next is =
       passed = b.front ++ (b.tile ∷ []);
       rest = b.back;
       said = subst (SaysTiles c) (sym (append_assoc b.front (b.tile ∷ []) b.back)) b.said;
-      here = is (b.front ++ (b.tile ∷ b.back)) b.said ∙ ap (next_in (b.front ++ (b.tile ∷ b.back))) at ∙ next_stands_behind c b.front b.tile b.back b.said;
+      here = is (b.front ++ (b.tile ∷ b.back)) b.said ∙ ap (next_in (b.front ++ (b.tile ∷ b.back))) at
+          ∙ next_stands_behind c b.front b.tile b.back b.said;
       holds = (b.tile.offset + b.tile.len, row_left c b.front b.tile b.back b.said, omega arith);
     }
 
@@ -183,7 +216,8 @@ pub record Nearest (c : Cut) (h known : ℕ) : Type 0 where
   pub block : Block c known
   pub near : known ≤ h
 
-pub nearest_block : (c : Cut) (p : WayPoints) (h known : ℕ) → IsHeld c.bytes p → (o : Option ℕ) → IfSome o (λ k. IsNoted p k × (k ≤ h)) → o ≡ Some known → Nearest c h known
+pub nearest_block : (c : Cut) (p : WayPoints) (h known : ℕ) → IsHeld c.bytes p → (o : Option ℕ)
+    → IfSome o (λ k. IsNoted p k × (k ≤ h)) → o ≡ Some known → Nearest c h known
 nearest_block c p h known held o is e =
     let two : IsNoted p known × (known ≤ h) = subst (λ v. IfSome v (λ k. IsNoted p k × (k ≤ h))) e is in
     let live = held.points known two.0 in
@@ -191,33 +225,51 @@ nearest_block c p h known held o is e =
 
 -- ---- what each call of the heap leaves
 
-extended_cases : (p : WayPoints) (old new : Cut) (h n : ℕ) (r : Bool) → IsHeld old.bytes p → (x : IsExtended current old new h n r) → (o : Option Extent) → longer (live_of old.bytes) x.extent n ≡ o → IsHeld new.bytes p
+extended_cases : (p : WayPoints) (old new : Cut) (h n : ℕ) (r : Bool) → IsHeld old.bytes p
+    → (x : IsExtended current old new h n r) → (o : Option Extent) → longer (live_of old.bytes) x.extent n
+    ≡ o → IsHeld new.bytes p
 extended_cases p old new h n r held x None e = subst (λ (v : Cut). IsHeld v.bytes p) (sym (x.refused e).1) held
 extended_cases p old new h n r held x (Some y) e =
-    held-on p old.bytes new.bytes (resized (live_of old.bytes) y) held.points (x.lengthened y e).1.live (resized-stay (live_of old.bytes) y)
+    held-on p old.bytes new.bytes (resized (live_of old.bytes) y) held.points (x.lengthened y e).1.live
+    (resized-stay (live_of old.bytes) y)
 
-pub extended-held : (p : WayPoints) (old new : Cut) (h n : ℕ) (r : Bool) → IsHeld old.bytes p → IsExtended current old new h n r → IsHeld new.bytes p
-extended-held p old new h n r held x = extended_cases p old new h n r held x (longer (live_of old.bytes) x.extent n) refl
+pub extended-held : (p : WayPoints) (old new : Cut) (h n : ℕ) (r : Bool) → IsHeld old.bytes p
+    → IsExtended current old new h n r → IsHeld new.bytes p
+extended-held p old new h n r held x = extended_cases p old new h n r held x
+    (longer (live_of old.bytes) x.extent n) refl
 
-pub shortened-held : (p : WayPoints) (old new : Cut) (h n : ℕ) → LeadToBlocks p old.bytes → IsShortened current old new h n → IsHeld new.bytes p
+pub shortened-held : (p : WayPoints) (old new : Cut) (h n : ℕ) → LeadToBlocks p old.bytes
+    → IsShortened current old new h n → IsHeld new.bytes p
 shortened-held p old new h n lead x =
-    held-on p old.bytes new.bytes (resized (live_of old.bytes) (shorter (live_of old.bytes) x.extent n)) lead x.shortened.live
+    held-on p old.bytes new.bytes (resized (live_of old.bytes) (shorter (live_of old.bytes) x.extent n)) lead
+    x.shortened.live
     (resized-stay (live_of old.bytes) (shorter (live_of old.bytes) x.extent n))
 
-pub released-held : (p : WayPoints) (old new : Cut) (k : ℕ) → ((h : ℕ) → IsNoted p h → (h ≢ k) × IsTrue (is_live_in (live_of old.bytes) h)) → IsReleased current old new k → IsHeld new.bytes p
+pub released-held : (p : WayPoints) (old new : Cut) (k : ℕ)
+    → ((h : ℕ) → IsNoted p h → (h ≢ k) × IsTrue (is_live_in (live_of old.bytes) h))
+    → IsReleased current old new k → IsHeld new.bytes p
 released-held p old new k lead x =
     record {
       heap = laid-heap new.bytes (released (live_of old.bytes) k) x.live;
-      points = λ h n. subst (λ (v : LiveSet). IsTrue (is_live_in v h)) (sym (lay_out_one current new.bytes (released (live_of old.bytes) k) x.live))
+      points = λ h n. subst (λ (v : LiveSet). IsTrue (is_live_in v h))
+          (sym (lay_out_one current new.bytes (released (live_of old.bytes) k) x.live))
           (released-stay (live_of old.bytes) k h (lead h n).0 (lead h n).1);
     }
 
 -- with the new block among the way-points, or not
-pub allocated-held : (p q : WayPoints) (old new : Cut) (n : ℕ) (role : Role) (a : ℕ) → LeadToBlocks p old.bytes → IsAllocated current old new n role a → ((h : ℕ) → IsNoted q h → (h ≡ a) ⊎ IsNoted p h) → IsHeld new.bytes q
+pub allocated-held : (p q : WayPoints) (old new : Cut) (n : ℕ) (role : Role) (a : ℕ) → LeadToBlocks p old.bytes
+    → IsAllocated current old new n role a → ((h : ℕ) → IsNoted q h → (h ≡ a) ⊎ IsNoted p h) → IsHeld new.bytes q
 allocated-held p q old new n role a lead x more =
-    let held = held-on p old.bytes new.bytes (added (live_of old.bytes) x.extent) lead x.live (added-stay (live_of old.bytes) x.extent) in
-    record { heap = held.heap; points = noted-lead p q new.bytes a held.points (allocated-is_live current old new n role a x) more }
+    let held = held-on p old.bytes new.bytes (added (live_of old.bytes) x.extent) lead x.live
+    (added-stay (live_of old.bytes) x.extent) in
+    record {
+      heap = held.heap;
+      points = noted-lead p q new.bytes a held.points (allocated-is_live current old new n role a x) more;
+    }
 
 -- none leads to the block k, and each to a block in use
-pub passed-lead : (p : WayPoints) (c d : Cut) (k : ℕ) → c ≡ d → ((h : ℕ) → IsNoted p h → (h ≢ k) × IsTrue (is_live_in (live_of c.bytes) h)) → (h : ℕ) → IsNoted p h → (h ≢ k) × IsTrue (is_live_in (live_of d.bytes) h)
-passed-lead p c d k e lead h n = ((lead h n).0, subst (λ (v : Cut). IsTrue (is_live_in (live_of v.bytes) h)) e (lead h n).1)
+pub passed-lead : (p : WayPoints) (c d : Cut) (k : ℕ) → c ≡ d
+    → ((h : ℕ) → IsNoted p h → (h ≢ k) × IsTrue (is_live_in (live_of c.bytes) h)) → (h : ℕ) → IsNoted p h
+    → (h ≢ k) × IsTrue (is_live_in (live_of d.bytes) h)
+passed-lead p c d k e lead h n =
+    ((lead h n).0, subst (λ (v : Cut). IsTrue (is_live_in (live_of v.bytes) h)) e (lead h n).1)

@@ -17,63 +17,86 @@ last-last-requires-clause-tiles c = window_tiled c.args.touches.now.gaps.now.win
 gap : (c : After-gap_at) (at : ℕ) → c.gap_at.result ≡ Some at → LastGap c.args.touches.now.gaps.now.window at
 gap c at there =
     let w = c.args.touches.now.gaps.now.window in
-    last_gap w at c.last-last.result (c.last-last.ensures.tile (tiles_in w) (heap-says w c.requires.heap).said) (sym c.gap_at.ensures ∙ there)
+    last_gap w at c.last-last.result (c.last-last.ensures.tile (tiles_in w) (heap-says w c.requires.heap).said)
+    (sym c.gap_at.ensures ∙ there)
 
 pub overflow_add-at : goal.overflow_add-at
 overflow_add-at c =
-    let small = last_small c.args.touches.now.gaps.now.window c.requires.heap c.in-Some.at (gap (goal.at.overflow_add-at c).After-gap_at c.in-Some.at c.in-Some.is) in omega arith
+    let small = last_small c.args.touches.now.gaps.now.window c.requires.heap c.in-Some.at
+    (gap (goal.at.overflow_add-at c).After-gap_at c.in-Some.at c.in-Some.is) in omega arith
 
 -- the window has not changed
 same : (c : After-gap_at) → c.last-last.new.self.gaps.now.window ≡ c.args.touches.now.gaps.now.window
 same c = cc
 
 -- the tree has the gap as the last
-tree : (c : After-gap_at) (at : ℕ) (l : LastGap c.args.touches.now.gaps.now.window at) → HasTree c.last-last.new.self.gaps.now.window (gaps_of l.front ++ (gap_of l.tile ∷ []))
+tree : (c : After-gap_at) (at : ℕ) (l : LastGap c.args.touches.now.gaps.now.window at)
+    → HasTree c.last-last.new.self.gaps.now.window (gaps_of l.front ++ (gap_of l.tile ∷ []))
 tree c at l = let f = same c in rw f (last_tree c.args.touches.now.gaps.now.window c.requires.heap at l)
 
 pub take_out-requires-clause-tree : goal.take_out-requires-clause-tree
 take_out-requires-clause-tree c =
-    let p = (goal.at.take_out-requires-clause-tree c).After-gap_at in let l = gap p c.in-Some.at c.in-Some.is in
-    (gaps_of l.front ++ (gap_of l.tile ∷ []), tree p c.in-Some.at l, last_listed c.args.touches.now.gaps.now.window c.requires.heap c.in-Some.at l)
+    let p = (goal.at.take_out-requires-clause-tree c).After-gap_at in let l = gap p c.in-Some.at c.in-Some.is in (
+      gaps_of l.front ++ (gap_of l.tile ∷ []),
+      tree p c.in-Some.at l,
+      last_listed c.args.touches.now.gaps.now.window
+          c.requires.heap c.in-Some.at l,
+    )
 
 -- it has left the tree
-left : (c : After-take_out) (l : LastGap c.args.touches.now.gaps.now.window c.in-Some.at) → HasTree c.last-last.new.self.gaps.now.window (gaps_of l.front ++ (gap_of l.tile ∷ []))
+left : (c : After-take_out) (l : LastGap c.args.touches.now.gaps.now.window c.in-Some.at)
+    → HasTree c.last-last.new.self.gaps.now.window (gaps_of l.front ++ (gap_of l.tile ∷ []))
     → HasTree c.take_out.new.self.gaps.now.window (gaps_of l.front ++ [])
-left c l = c.take_out.ensures.tree (gaps_of l.front) (gap_of l.tile) [] (last_node c.args.touches.now.gaps.now.window c.requires.heap c.in-Some.at l)
+left c l = c.take_out.ensures.tree (gaps_of l.front) (gap_of l.tile) []
+    (last_node c.args.touches.now.gaps.now.window c.requires.heap c.in-Some.at l)
 
-rest : (c : After-take_out) → c.last-last.new.self.gaps.now.window ≡ c.args.touches.now.gaps.now.window → Regrown c.args.touches.now.gaps.now.window c.take_out.new.self.gaps.now.window
+rest : (c : After-take_out) → c.last-last.new.self.gaps.now.window ≡ c.args.touches.now.gaps.now.window
+    → Regrown c.args.touches.now.gaps.now.window c.take_out.new.self.gaps.now.window
 rest c f = rw f at c.take_out.ensures.rest
 
 -- few touches more
-counted : (c : After-take_out) (l : LastGap c.args.touches.now.gaps.now.window c.in-Some.at) → HasTree c.last-last.new.self.gaps.now.window (gaps_of l.front ++ (gap_of l.tile ∷ []))
-    → c.take_out.new.self.count ≤ c.args.touches.now.count + 32 * bits (length (gaps_in c.args.touches.now.gaps.now.window) + 1) + 33
+counted : (c : After-take_out) (l : LastGap c.args.touches.now.gaps.now.window c.in-Some.at)
+    → HasTree c.last-last.new.self.gaps.now.window (gaps_of l.front ++ (gap_of l.tile ∷ []))
+    → c.take_out.new.self.count ≤ c.args.touches.now.count + 32
+    * bits (length (gaps_in c.args.touches.now.gaps.now.window) + 1) + 33
 counted c l t =
-    let one = c.last-last.ensures.touched in let more = c.take_out.ensures.steps (gaps_of l.front ++ (gap_of l.tile ∷ [])) t in
-    let e : length (gaps_of l.front ++ (gap_of l.tile ∷ [])) ≡ length (gaps_in c.args.touches.now.gaps.now.window) = sym (ap (λ (gs : List Gap). length gs) (last_gaps c.args.touches.now.gaps.now.window c.requires.heap c.in-Some.at l)) in
+    let one = c.last-last.ensures.touched in
+    let more = c.take_out.ensures.steps (gaps_of l.front ++ (gap_of l.tile ∷ [])) t in
+    let e : length (gaps_of l.front ++ (gap_of l.tile ∷ [])) ≡ length (gaps_in c.args.touches.now.gaps.now.window) =
+    sym (ap (λ (gs : List Gap). length gs)
+    (last_gaps c.args.touches.now.gaps.now.window c.requires.heap c.in-Some.at l)) in
     let f = ap (λ n. bits (n + 1)) e in omega arith
 
 pub drop_gap-requires-clause-tree : goal.drop_gap-requires-clause-tree
 drop_gap-requires-clause-tree c =
-    let g = goal.at.drop_gap-requires-clause-tree c in let p = g.After-gap_at in let l = gap p c.in-Some.at c.in-Some.is in
-    left_alone c.args.touches.now.gaps.now.window c.requires.heap c.in-Some.at l c.take_out.new.self.gaps.now.window (left g.After-take_out l (tree p c.in-Some.at l)) (rest g.After-take_out (same p))
+    let g = goal.at.drop_gap-requires-clause-tree c in let p = g.After-gap_at in
+    let l = gap p c.in-Some.at c.in-Some.is in
+    left_alone c.args.touches.now.gaps.now.window c.requires.heap c.in-Some.at l c.take_out.new.self.gaps.now.window
+    (left g.After-take_out l (tree p c.in-Some.at l)) (rest g.After-take_out (same p))
 
 pub drop_gap-requires-clause-room : goal.drop_gap-requires-clause-room
 drop_gap-requires-clause-room c =
-    let g = goal.at.drop_gap-requires-clause-room c in let p = g.After-gap_at in let l = gap p c.in-Some.at c.in-Some.is in let w = c.args.touches.now.gaps.now.window in
-    let high = counted g.After-take_out l (tree p c.in-Some.at l) in let low = few_bits w (gaps_in w) (heap_tree w c.requires.heap) in let room = c.requires.room in omega arith
+    let g = goal.at.drop_gap-requires-clause-room c in let p = g.After-gap_at in
+    let l = gap p c.in-Some.at c.in-Some.is in let w = c.args.touches.now.gaps.now.window in
+    let high = counted g.After-take_out l (tree p c.in-Some.at l) in
+    let low = few_bits w (gaps_in w) (heap_tree w c.requires.heap) in let room = c.requires.room in omega arith
 
 pub returns-in-Some-clause-moved : goal.returns-in-Some-clause-moved
 returns-in-Some-clause-moved c =
-    let g = goal.at.returns-in-Some-clause-moved c in let p = g.After-gap_at in let l = gap p c.in-Some.at c.in-Some.is in
-    end_cut c.args.touches.now.gaps.now.window c.requires.heap c.in-Some.at l c.take_out.new.self.gaps.now.window (left g.After-take_out l (tree p c.in-Some.at l)) (rest g.After-take_out (same p))
+    let g = goal.at.returns-in-Some-clause-moved c in let p = g.After-gap_at in
+    let l = gap p c.in-Some.at c.in-Some.is in
+    end_cut c.args.touches.now.gaps.now.window c.requires.heap c.in-Some.at l c.take_out.new.self.gaps.now.window
+    (left g.After-take_out l (tree p c.in-Some.at l)) (rest g.After-take_out (same p))
     c.drop_gap.new.touches.gaps.now.window c.drop_gap.ensures.moved
 
 pub returns-in-Some-clause-steps : goal.returns-in-Some-clause-steps
 returns-in-Some-clause-steps c =
-    let g = goal.at.returns-in-Some-clause-steps c in let p = g.After-gap_at in let l = gap p c.in-Some.at c.in-Some.is in
+    let g = goal.at.returns-in-Some-clause-steps c in let p = g.After-gap_at in
+    let l = gap p c.in-Some.at c.in-Some.is in
     let high = counted g.After-take_out l (tree p c.in-Some.at l) in let one = c.drop_gap.ensures.touched in omega arith
 
 pub returns-in_default-clause-moved : goal.returns-in_default-clause-moved
 returns-in_default-clause-moved c =
     let w = c.args.touches.now.gaps.now.window in let f : c.last-last.new.self.gaps.now.window ≡ w = cc in
-    rw f (ends_there w c.last-last.result c.requires.heap (c.last-last.ensures.tile (tiles_in w) (heap-says w c.requires.heap).said) (sym c.gap_at.ensures ∙ c.in_default.is))
+    rw f (ends_there w c.last-last.result c.requires.heap
+    (c.last-last.ensures.tile (tiles_in w) (heap-says w c.requires.heap).said) (sym c.gap_at.ensures ∙ c.in_default.is))

@@ -3,14 +3,19 @@ use Rattle.best_fit.proofs.Dropped.{drop_fits, gap_dropped, has_free_last}
 use Rattle.best_fit.proofs.ending.drop_gap.Goals as goal
 
 pub drop_last-size-requires-clause-tile : goal.drop_last-size-requires-clause-tile
-drop_last-size-requires-clause-tile c = has_free_last c.args.touches.now.gaps.now.window c.requires.tree.0 c.requires.tree.1 c.requires.tree.2 c.requires.tree.3 c.requires.tree.4
+drop_last-size-requires-clause-tile c = has_free_last c.args.touches.now.gaps.now.window c.requires.tree.0
+    c.requires.tree.1 c.requires.tree.2 c.requires.tree.3 c.requires.tree.4
 
 pub resize-requires : goal.resize-requires
 resize-requires c = record {
-  inside = drop_fits c.args.touches.now.gaps.now.window c.requires.tree.0 c.requires.tree.1 c.requires.tree.2 c.requires.tree.3 c.requires.tree.4 c.drop_last-size.new.self.gaps.now.window c.drop_last-size.result c.drop_last-size.ensures.tags c.drop_last-size.ensures.rest;
+  inside = drop_fits c.args.touches.now.gaps.now.window c.requires.tree.0 c.requires.tree.1 c.requires.tree.2
+      c.requires.tree.3 c.requires.tree.4 c.drop_last-size.new.self.gaps.now.window c.drop_last-size.result
+      c.drop_last-size.ensures.tags c.drop_last-size.ensures.rest;
 }
 
 pub returns-clause-moved : goal.returns-clause-moved
 returns-clause-moved c =
-    gap_dropped c.args.touches.now.gaps.now.window c.requires.tree.0 c.requires.tree.1 c.requires.tree.2 c.requires.tree.3 c.requires.tree.4
-    c.drop_last-size.new.self.gaps.now.window c.drop_last-size.result c.drop_last-size.ensures.tags c.drop_last-size.ensures.rest c.resize.new.self.gaps.now.window c.resize.ensures.cut
+    gap_dropped c.args.touches.now.gaps.now.window c.requires.tree.0 c.requires.tree.1 c.requires.tree.2
+    c.requires.tree.3 c.requires.tree.4
+    c.drop_last-size.new.self.gaps.now.window c.drop_last-size.result c.drop_last-size.ensures.tags
+    c.drop_last-size.ensures.rest c.resize.new.self.gaps.now.window c.resize.ensures.cut

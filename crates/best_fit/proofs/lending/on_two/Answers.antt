@@ -7,6 +7,8 @@ pub returns : goal.returns
 returns g c =
     let b = c.args.bytes.now in let e = c.two_mut-read.ensures in (
       c.change.new.arg3,
-      called g.F.FnOnce c.args.change (part b c.args.a.from c.args.a.len) (part b c.args.b.from c.args.b.len) c.change.ensures e.a e.b,
-      second_written b c.args.a.from c.args.a.len c.args.b.from c.args.b.len c.two_mut-read.result.0.now c.change.new.arg3 c.requires.a_inside e.a,
+      called g.F.FnOnce c.args.change (part b c.args.a.from c.args.a.len) (part b c.args.b.from c.args.b.len)
+          c.change.ensures e.a e.b,
+      second_written b c.args.a.from c.args.a.len c.args.b.from c.args.b.len c.two_mut-read.result.0.now
+          c.change.new.arg3 c.requires.a_inside e.a,
     )

@@ -10,8 +10,10 @@ first-ahead-requires c = window_tiled c.args.window.now c.requires
 
 pub tiles-init : goal.tiles-init
 tiles-init c =
-    let w = c.args.window.now in
-    (left_start w (λ (ts : List Tile). Unit {0}) c.requires c.first-ahead.result c.first-ahead.ensures tt, none-lead c.none-points.result w.bytes c.none-points.ensures)
+    let w = c.args.window.now in (
+      left_start w (λ (ts : List Tile). Unit {0}) c.requires c.first-ahead.result c.first-ahead.ensures tt,
+      none-lead c.none-points.result w.bytes c.none-points.ensures,
+    )
 
 pub overflow_add-tile : goal.overflow_add-tile
 overflow_add-tile c =
@@ -21,23 +23,28 @@ overflow_add-tile c =
 
 pub next-ahead-requires : goal.next-ahead-requires
 next-ahead-requires c =
-    let w = c.args.window.now in (left_next w c.tiles.ahead (λ (ts : List Tile). Unit {0}) c.tiles.invariant.0 c.in-Some.tile c.in-Some.is).meets.has
+    let w = c.args.window.now in
+    (left_next w c.tiles.ahead (λ (ts : List Tile). Unit {0}) c.tiles.invariant.0 c.in-Some.tile c.in-Some.is).meets.has
 
 pub tiles-smaller : goal.tiles-smaller
 tiles-smaller c =
     let w = c.args.window.now in
     let n = left_next w c.tiles.ahead (λ (ts : List Tile). Unit {0}) c.tiles.invariant.0 c.in-Some.tile c.in-Some.is in
-    left_nearer w (λ (ts : List Tile). Unit {0}) c.in-Some.tile n c.tiles.ahead c.next-ahead.result c.in-Some.is c.next-ahead.ensures
+    left_nearer w (λ (ts : List Tile). Unit {0}) c.in-Some.tile n c.tiles.ahead c.next-ahead.result
+    c.in-Some.is c.next-ahead.ensures
 
 pub tiles-preserved : goal.tiles-preserved
 tiles-preserved c =
     let w = c.args.window.now in let t = c.in-Some.tile in
     let n = left_next w c.tiles.ahead (λ (ts : List Tile). Unit {0}) c.tiles.invariant.0 t c.in-Some.is in (
-      left_goes_on w (λ (ts : List Tile). Unit {0}) (λ (ts : List Tile). Unit {0}) t n c.next-ahead.result c.next-ahead.ensures tt,
+      left_goes_on w (λ (ts : List Tile). Unit {0}) (λ (ts : List Tile). Unit {0}) t n c.next-ahead.result
+          c.next-ahead.ensures tt,
       elim c.if-is_some.branch [
         | then-is_some v ↦
             subst (λ (p : WayPoints). LeadToBlocks p w.bytes) (sym v.points-is)
-            (noted-lead c.tiles.points v.note.new.self w.bytes (t.offset + 16) c.tiles.invariant.1 (used_is_live w (λ (ts : List Tile). Unit {0}) t n (sym c.is_some.ensures ∙ v.if-is_some.true)) v.note.ensures)
+            (noted-lead c.tiles.points v.note.new.self w.bytes (t.offset + 16) c.tiles.invariant.1
+            (used_is_live w (λ (ts : List Tile). Unit {0}) t n (sym c.is_some.ensures ∙ v.if-is_some.true))
+            v.note.ensures)
         | else-is_some v ↦ subst (λ (p : WayPoints). LeadToBlocks p w.bytes) (sym v.points-is) c.tiles.invariant.1
       ],
     )

@@ -7,14 +7,18 @@ use Rattle.best_fit.proofs.heap.Heap.block_mut.Goals.{After-tile_at-len}
 use Rattle.best_fit.proofs.heap.Heap.block_mut.Goals as goal
 
 pub overflow_sub-handle : goal.overflow_sub-handle
-overflow_sub-handle c = let low = (live_at c.args.self.now c.self.inside.gaps.window c.args.handle (cc) c.self.invariant.heap c.requires).low in omega arith
+overflow_sub-handle c = let low =
+    (live_at c.args.self.now c.self.inside.gaps.window c.args.handle (cc) c.self.invariant.heap
+    c.requires).low in omega arith
 
 pub tile_at-len-requires : goal.tile_at-len-requires
-tile_at-len-requires c = (live_at c.args.self.now c.self.inside.gaps.window c.args.handle (cc) c.self.invariant.heap c.requires).tile
+tile_at-len-requires c =
+    (live_at c.args.self.now c.self.inside.gaps.window c.args.handle (cc) c.self.invariant.heap c.requires).tile
 
 -- the block, whose tile was read
 block : (c : After-tile_at-len) → ReadAt c.self.inside.gaps.window c.args.handle c.tile_at-len.result.len
-block c = read_at c.args.self.now c.self.inside.gaps.window c.args.handle (cc) c.self.invariant.heap c.requires c.tile_at-len.result c.tile_at-len.ensures
+block c = read_at c.args.self.now c.self.inside.gaps.window c.args.handle (cc) c.self.invariant.heap c.requires
+    c.tile_at-len.result c.tile_at-len.ensures
 
 pub overflow_sub-len : goal.overflow_sub-len
 overflow_sub-len c = let long = (block (goal.at.overflow_sub-len c).After-tile_at-len).long in omega arith
@@ -25,11 +29,13 @@ bytes_mut-requires c = let inside = (block (goal.at.bytes_mut-requires c).After-
 pub invariant_of-self-lent : goal.invariant_of-self-lent
 invariant_of-self-lent c =
     let w = c.self.inside.gaps.window in let b = block (goal.at.invariant_of-self-lent c).After-tile_at-len in
-    λ ws. held-same c.self.inside.points c.self.inside.gaps.window.bytes _ c.self.invariant.points (payload_written w c.args.handle (c.tile_at-len.result.len - 16) ws c.self.invariant.heap b.block b.payload).live
+    λ ws. held-same c.self.inside.points c.self.inside.gaps.window.bytes _ c.self.invariant.points
+    (payload_written w c.args.handle (c.tile_at-len.result.len - 16) ws c.self.invariant.heap b.block b.payload).live
 
 pub returns : goal.returns
 returns c =
-    let w = c.self.inside.gaps.window in let h = c.args.handle in let e : c.args.self.now ≡ w = cc in let b = block (goal.at.returns c).After-tile_at-len in (
+    let w = c.self.inside.gaps.window in let h = c.args.handle in let e : c.args.self.now ≡ w = cc in
+    let b = block (goal.at.returns c).After-tile_at-len in (
       (refl, λ ws. with_payload-lent c.args.self.now w h (c.tile_at-len.result.len - 16) ws e b.block b.payload),
       record {
         writes_back = tt;

@@ -5,30 +5,50 @@ use Rattle.best_fit.proofs.WayPoints.{held-same}
 use Rattle.best_fit.proofs.heap.Heap.copy.Goals as goal
 
 pub overflow_add-from : goal.overflow_add-from
-overflow_add-from c = let s = spot c.args.self.now c.self.inside.gaps.window c.args.from c.args.from_at c.args.n (cc) c.self.invariant.heap c.requires.source in let i = s.inside in let z = s.size in omega arith
+overflow_add-from c = let s = spot c.args.self.now c.self.inside.gaps.window c.args.from c.args.from_at c.args.n (cc)
+    c.self.invariant.heap c.requires.source in let i = s.inside in let z = s.size in omega arith
 
 pub overflow_add-to : goal.overflow_add-to
-overflow_add-to c = let s = spot c.args.self.now c.self.inside.gaps.window c.args.to c.args.to_at c.args.n (cc) c.self.invariant.heap c.requires.target in let i = s.inside in let z = s.size in omega arith
+overflow_add-to c = let s = spot c.args.self.now c.self.inside.gaps.window c.args.to c.args.to_at c.args.n (cc)
+    c.self.invariant.heap c.requires.target in let i = s.inside in let z = s.size in omega arith
 
 pub move_within-requires-clause-source : goal.move_within-requires-clause-source
-move_within-requires-clause-source c = (spot c.args.self.now c.self.inside.gaps.window c.args.from c.args.from_at c.args.n (cc) c.self.invariant.heap c.requires.source).inside
+move_within-requires-clause-source c =
+    (spot c.args.self.now c.self.inside.gaps.window c.args.from c.args.from_at c.args.n (cc) c.self.invariant.heap
+    c.requires.source).inside
 
 pub move_within-requires-clause-target : goal.move_within-requires-clause-target
-move_within-requires-clause-target c = (spot c.args.self.now c.self.inside.gaps.window c.args.to c.args.to_at c.args.n (cc) c.self.invariant.heap c.requires.target).inside
+move_within-requires-clause-target c =
+    (spot c.args.self.now c.self.inside.gaps.window c.args.to c.args.to_at c.args.n (cc) c.self.invariant.heap
+    c.requires.target).inside
 
 pub invariant_of-self : goal.invariant_of-self
 invariant_of-self c =
-    let w = c.self.inside.gaps.window in let a = spot c.args.self.now c.self.inside.gaps.window c.args.from c.args.from_at c.args.n (cc) c.self.invariant.heap c.requires.source in let b = spot c.args.self.now c.self.inside.gaps.window c.args.to c.args.to_at c.args.n (cc) c.self.invariant.heap c.requires.target in
-    held-same c.self.inside.points c.self.inside.gaps.window.bytes c.move_within.new.self.bytes c.self.invariant.points (bytes_copied w c.move_within.new.self (c.args.from + c.args.from_at) c.args.to c.args.to_at c.args.n c.self.invariant.heap b a.inside c.move_within.ensures.moved).0.live
+    let w = c.self.inside.gaps.window in let a = spot c.args.self.now c.self.inside.gaps.window c.args.from
+    c.args.from_at c.args.n (cc) c.self.invariant.heap c.requires.source in
+    let b = spot c.args.self.now c.self.inside.gaps.window c.args.to c.args.to_at c.args.n (cc)
+    c.self.invariant.heap c.requires.target in
+    held-same c.self.inside.points c.self.inside.gaps.window.bytes c.move_within.new.self.bytes
+    c.self.invariant.points (bytes_copied w c.move_within.new.self (c.args.from + c.args.from_at) c.args.to
+    c.args.to_at c.args.n c.self.invariant.heap b a.inside c.move_within.ensures.moved).0.live
 
 pub returns-clause-change : goal.returns-clause-change
 returns-clause-change c =
-    let w = c.self.inside.gaps.window in let e : c.args.self.now ≡ w = cc in let a = spot c.args.self.now c.self.inside.gaps.window c.args.from c.args.from_at c.args.n (cc) c.self.invariant.heap c.requires.source in let b = spot c.args.self.now c.self.inside.gaps.window c.args.to c.args.to_at c.args.n (cc) c.self.invariant.heap c.requires.target in
+    let w = c.self.inside.gaps.window in let e : c.args.self.now ≡ w = cc in
+    let a = spot c.args.self.now c.self.inside.gaps.window c.args.from c.args.from_at c.args.n (cc)
+    c.self.invariant.heap c.requires.source in let b = spot c.args.self.now c.self.inside.gaps.window c.args.to
+    c.args.to_at c.args.n (cc) c.self.invariant.heap c.requires.target in
     subst (λ (v : Cut). IsChanged current v c.move_within.new.self (c.args.to + c.args.to_at) c.args.n) (sym e)
-    (bytes_copied w c.move_within.new.self (c.args.from + c.args.from_at) c.args.to c.args.to_at c.args.n c.self.invariant.heap b a.inside c.move_within.ensures.moved).0
+    (bytes_copied w c.move_within.new.self (c.args.from + c.args.from_at) c.args.to c.args.to_at c.args.n
+    c.self.invariant.heap b a.inside c.move_within.ensures.moved).0
 
 pub returns-clause-content : goal.returns-clause-content
 returns-clause-content c =
-    let w = c.self.inside.gaps.window in let e : c.args.self.now ≡ w = cc in let a = spot c.args.self.now c.self.inside.gaps.window c.args.from c.args.from_at c.args.n (cc) c.self.invariant.heap c.requires.source in let b = spot c.args.self.now c.self.inside.gaps.window c.args.to c.args.to_at c.args.n (cc) c.self.invariant.heap c.requires.target in
-    subst (λ (v : Cut). read (bytes_of c.move_within.new.self.bytes) (c.args.to + c.args.to_at) c.args.n ≡ read (bytes_of v.bytes) (c.args.from + c.args.from_at) c.args.n) (sym e)
-    (bytes_copied w c.move_within.new.self (c.args.from + c.args.from_at) c.args.to c.args.to_at c.args.n c.self.invariant.heap b a.inside c.move_within.ensures.moved).1
+    let w = c.self.inside.gaps.window in let e : c.args.self.now ≡ w = cc in
+    let a = spot c.args.self.now c.self.inside.gaps.window c.args.from c.args.from_at c.args.n (cc)
+    c.self.invariant.heap c.requires.source in let b = spot c.args.self.now c.self.inside.gaps.window c.args.to
+    c.args.to_at c.args.n (cc) c.self.invariant.heap c.requires.target in
+    subst (λ (v : Cut). read (bytes_of c.move_within.new.self.bytes) (c.args.to + c.args.to_at) c.args.n
+    ≡ read (bytes_of v.bytes) (c.args.from + c.args.from_at) c.args.n) (sym e)
+    (bytes_copied w c.move_within.new.self (c.args.from + c.args.from_at) c.args.to c.args.to_at c.args.n
+    c.self.invariant.heap b a.inside c.move_within.ensures.moved).1

@@ -8,13 +8,18 @@ use Rattle.best_fit.proofs.heap.Heap.cut_end.Goals as goal
 pub invariant_of-self : goal.invariant_of-self
 invariant_of-self c =
     let w = c.self.inside.gaps.window in let f : c.new-touches.result.gaps.now.window ≡ w = cc in
-    held-on c.self.inside.points w.bytes c.cut_gap.new.touches.gaps.now.window.bytes (of_size (live_of w.bytes) (least_size (live_of w.bytes))) c.self.invariant.points
-    (subst (λ (v : Cut). LaysOut current c.cut_gap.new.touches.gaps.now.window.bytes (of_size (live_of v.bytes) (least_size (live_of v.bytes)))) f c.cut_gap.ensures.moved.live) (λ h l. l)
+    held-on c.self.inside.points w.bytes c.cut_gap.new.touches.gaps.now.window.bytes
+    (of_size (live_of w.bytes) (least_size (live_of w.bytes))) c.self.invariant.points
+    (subst (λ (v : Cut). LaysOut current c.cut_gap.new.touches.gaps.now.window.bytes
+    (of_size (live_of v.bytes) (least_size (live_of v.bytes)))) f c.cut_gap.ensures.moved.live) (λ h l. l)
 
 pub returns-clause-steps : goal.returns-clause-steps
 returns-clause-steps c =
-    let w = c.self.inside.gaps.window in let e : w ≡ c.args.self.now = cc in let f : c.new-touches.result.gaps.now.window ≡ w = cc in
+    let w = c.self.inside.gaps.window in let e : w ≡ c.args.self.now = cc in
+    let f : c.new-touches.result.gaps.now.window ≡ w = cc in
     let bound : c.cut_gap.new.touches.count ≤ c.new-touches.result.count + 32 * bits (length (gaps_in w) + 1) + 34 =
-    subst (λ (v : Cut). c.cut_gap.new.touches.count ≤ c.new-touches.result.count + 32 * bits (length (gaps_in v) + 1) + 34) f c.cut_gap.ensures.steps in
-    let zero = c.new-touches.ensures.count in let same = heap_bits w c.self.invariant.heap in let n = c.count.ensures in let added = c.add.ensures in
+    subst (λ (v : Cut). c.cut_gap.new.touches.count ≤ c.new-touches.result.count + 32 * bits (length (gaps_in v) + 1)
+    + 34) f c.cut_gap.ensures.steps in
+    let zero = c.new-touches.ensures.count in let same = heap_bits w c.self.invariant.heap in
+    let n = c.count.ensures in let added = c.add.ensures in
     subst (λ (v : Cut). c.add.new.self ≤ c.args.steps.now + heap_touches (live_of v.bytes)) e (omega arith)

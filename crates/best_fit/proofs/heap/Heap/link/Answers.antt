@@ -4,10 +4,14 @@ use Rattle.best_fit.proofs.Linked.{spot}
 use Rattle.best_fit.proofs.heap.Heap.link.Goals as goal
 
 pub overflow_add-handle : goal.overflow_add-handle
-overflow_add-handle c = let s = spot c.args.self.now c.self.inside.gaps.window c.args.handle c.args.at 8 (cc) c.self.invariant.heap c.requires.room in let i = s.inside in let z = s.size in omega arith
+overflow_add-handle c = let s = spot c.args.self.now c.self.inside.gaps.window c.args.handle c.args.at 8 (cc)
+    c.self.invariant.heap c.requires.room in let i = s.inside in let z = s.size in omega arith
 
 pub load-requires-clause-aligned : goal.load-requires-clause-aligned
-load-requires-clause-aligned c = let s = spot c.args.self.now c.self.inside.gaps.window c.args.handle c.args.at 8 (cc) c.self.invariant.heap c.requires.room in let a = s.aligned in omega arith
+load-requires-clause-aligned c = let s = spot c.args.self.now c.self.inside.gaps.window c.args.handle c.args.at 8 (cc)
+    c.self.invariant.heap c.requires.room in let a = s.aligned in omega arith
 
 pub load-requires-clause-inside : goal.load-requires-clause-inside
-load-requires-clause-inside c = (spot c.args.self.now c.self.inside.gaps.window c.args.handle c.args.at 8 (cc) c.self.invariant.heap c.requires.room).inside
+load-requires-clause-inside c =
+    (spot c.args.self.now c.self.inside.gaps.window c.args.handle c.args.at 8 (cc)
+    c.self.invariant.heap c.requires.room).inside

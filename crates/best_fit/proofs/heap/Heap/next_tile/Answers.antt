@@ -17,4 +17,5 @@ pub returns-clause-span : goal.returns-clause-span
 returns-clause-span c i stands =
     let e : c.args.self.now ≡ c.self.inside.gaps.window = cc in
     heap_span c.self.inside.gaps.window c.args.self.now c.self.invariant.heap e (i + 1) c.next.result
-    (heap_next c.self.inside.gaps.window c.args.self.now c.self.invariant.heap e c.args.tile c.next.result c.next.ensures i stands)
+    (heap_next c.self.inside.gaps.window c.args.self.now c.self.invariant.heap e c.args.tile c.next.result
+    c.next.ensures i stands)

@@ -14,8 +14,11 @@ room-requires c =
 
 pub returns-then-room-n : goal.returns-then-room-n
 returns-then-room-n c =
-    subst (λ o. IsGivenRoom current c.args.self.now c.args.self.now (block_of (live_of c.args.self.now.bytes) o) c.args.n c.args.used c.in-Some.handle) (sym c.in-Some.is)
-    (given-same c.args.self.now c.in-Some.handle c.args.n c.args.used c.requires.heap (subst (λ o. IfSome o (λ h. IsTrue (has_room (live_of c.args.self.now.bytes) h c.args.used))) c.in-Some.is c.requires.room) c.room.result c.room.ensures c.if-room-n.true)
+    subst (λ o. IsGivenRoom current c.args.self.now c.args.self.now (block_of (live_of c.args.self.now.bytes) o)
+    c.args.n c.args.used c.in-Some.handle) (sym c.in-Some.is)
+    (given-same c.args.self.now c.in-Some.handle c.args.n c.args.used c.requires.heap
+    (subst (λ o. IfSome o (λ h. IsTrue (has_room (live_of c.args.self.now.bytes) h c.args.used))) c.in-Some.is
+    c.requires.room) c.room.result c.room.ensures c.if-room-n.true)
 
 pub try_extend-requires : goal.try_extend-requires
 try_extend-requires c =
@@ -25,28 +28,47 @@ try_extend-requires c =
 
 pub returns-then-try_extend : goal.returns-then-try_extend
 returns-then-try_extend c =
-    subst (λ o. IsGivenRoom current c.args.self.now c.try_extend.new.self (block_of (live_of c.args.self.now.bytes) o) c.args.n c.args.used c.in-Some.handle) (sym c.in-Some.is)
-    (given-longer c.args.self.now c.try_extend.new.self c.in-Some.handle c.args.n c.args.used c.try_extend.result c.requires.heap (subst (λ o. IfSome o (λ h. IsTrue (has_room (live_of c.args.self.now.bytes) h c.args.used))) c.in-Some.is c.requires.room) c.room.result c.room.ensures c.if-room-n.false c.try_extend.ensures.extended c.if-try_extend.true)
+    subst (λ o. IsGivenRoom current c.args.self.now c.try_extend.new.self (block_of (live_of c.args.self.now.bytes) o)
+    c.args.n c.args.used c.in-Some.handle) (sym c.in-Some.is)
+    (given-longer c.args.self.now c.try_extend.new.self c.in-Some.handle c.args.n c.args.used c.try_extend.result
+    c.requires.heap (subst (λ o. IfSome o (λ h. IsTrue (has_room (live_of c.args.self.now.bytes) h c.args.used)))
+    c.in-Some.is c.requires.room) c.room.result c.room.ensures c.if-room-n.false
+    c.try_extend.ensures.extended c.if-try_extend.true)
 
 pub replace-requires-clause-room : goal.replace-requires-clause-room
 replace-requires-clause-room c =
     subst (λ (v : Cut). IsTrue (has_room (live_of v.bytes) c.in-Some.handle c.args.used))
-    (sym (not_longer-same c.args.self.now c.try_extend.new.self c.in-Some.handle c.args.n c.args.used c.try_extend.result c.requires.heap (subst (λ o. IfSome o (λ h. IsTrue (has_room (live_of c.args.self.now.bytes) h c.args.used))) c.in-Some.is c.requires.room) c.room.result c.room.ensures c.if-room-n.false c.try_extend.ensures.extended c.if-try_extend.false))
-    (subst (λ o. IfSome o (λ h. IsTrue (has_room (live_of c.args.self.now.bytes) h c.args.used))) c.in-Some.is c.requires.room)
+    (sym (not_longer-same c.args.self.now c.try_extend.new.self c.in-Some.handle c.args.n c.args.used
+    c.try_extend.result c.requires.heap
+    (subst (λ o. IfSome o (λ h. IsTrue (has_room (live_of c.args.self.now.bytes) h c.args.used))) c.in-Some.is
+    c.requires.room) c.room.result c.room.ensures c.if-room-n.false
+    c.try_extend.ensures.extended c.if-try_extend.false))
+    (subst (λ o. IfSome o (λ h. IsTrue (has_room (live_of c.args.self.now.bytes) h c.args.used)))
+    c.in-Some.is c.requires.room)
 
 pub returns-in-None : goal.returns-in-None
 returns-in-None c =
-    subst (λ o. Regrows current c.args.self.now c.allocate.new.self o c.args.n c.args.used c.allocate.result) (sym c.in-None.is)
+    subst (λ o. Regrows current c.args.self.now c.allocate.new.self o c.args.n c.args.used c.allocate.result)
+    (sym c.in-None.is)
     (regrows-none c.args.self.now c.allocate.new.self c.args.n c.args.used c.allocate.result c.allocate.ensures.answer)
 
 pub returns-else-try_extend : goal.returns-else-try_extend
 returns-else-try_extend c =
-    subst (λ o. Regrows current c.args.self.now c.replace.new.self o c.args.n c.args.used c.replace.result) (sym c.in-Some.is)
-    (regrows-replaced c.args.self.now c.try_extend.new.self c.replace.new.self c.in-Some.handle c.args.n c.args.used c.try_extend.result c.replace.result c.requires.heap (subst (λ o. IfSome o (λ h. IsTrue (has_room (live_of c.args.self.now.bytes) h c.args.used))) c.in-Some.is c.requires.room)
-    c.room.result c.room.ensures c.if-room-n.false c.try_extend.ensures.extended c.if-try_extend.false c.replace.ensures)
+    subst (λ o. Regrows current c.args.self.now c.replace.new.self o c.args.n c.args.used c.replace.result)
+    (sym c.in-Some.is)
+    (regrows-replaced c.args.self.now c.try_extend.new.self c.replace.new.self c.in-Some.handle c.args.n c.args.used
+    c.try_extend.result c.replace.result c.requires.heap
+    (subst (λ o. IfSome o (λ h. IsTrue (has_room (live_of c.args.self.now.bytes) h c.args.used)))
+    c.in-Some.is c.requires.room)
+    c.room.result c.room.ensures c.if-room-n.false c.try_extend.ensures.extended
+    c.if-try_extend.false c.replace.ensures)
 
 pub replace-requires-clause-heap : goal.replace-requires-clause-heap
 replace-requires-clause-heap c =
     subst (λ (v : Cut). IsHeap current v.bytes)
-    (sym (not_longer-same c.args.self.now c.try_extend.new.self c.in-Some.handle c.args.n c.args.used c.try_extend.result c.requires.heap (subst (λ o. IfSome o (λ h. IsTrue (has_room (live_of c.args.self.now.bytes) h c.args.used))) c.in-Some.is c.requires.room) c.room.result c.room.ensures c.if-room-n.false c.try_extend.ensures.extended c.if-try_extend.false))
+    (sym (not_longer-same c.args.self.now c.try_extend.new.self c.in-Some.handle c.args.n c.args.used
+    c.try_extend.result c.requires.heap
+    (subst (λ o. IfSome o (λ h. IsTrue (has_room (live_of c.args.self.now.bytes) h c.args.used))) c.in-Some.is
+    c.requires.room) c.room.result c.room.ensures c.if-room-n.false
+    c.try_extend.ensures.extended c.if-try_extend.false))
     c.requires.heap

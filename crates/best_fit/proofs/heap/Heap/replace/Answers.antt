@@ -9,7 +9,8 @@ pub copy-requires-clause-source : goal.copy-requires-clause-source
 copy-requires-clause-source c =
     let n : c.args.used ≡ 0 + c.args.used = omega arith in
     subst (λ k. IsTrue (has_room (live_of c.allocate.new.self.bytes) c.args.handle k)) n
-    (allocated-room_before current c.args.self.now c.allocate.new.self c.args.n Storage c.in_ok-new.new c.args.handle c.args.used c.in_ok-new.ensures.answer c.requires.room)
+    (allocated-room_before current c.args.self.now c.allocate.new.self c.args.n Storage c.in_ok-new.new c.args.handle
+    c.args.used c.in_ok-new.ensures.answer c.requires.room)
 
 pub copy-requires-clause-target : goal.copy-requires-clause-target
 copy-requires-clause-target c =
@@ -21,17 +22,25 @@ copy-requires-clause-target c =
 pub deallocate-requires : goal.deallocate-requires
 deallocate-requires c =
     let n : c.in_ok-new.new + 0 ≡ c.in_ok-new.new = omega arith in
-    let change = subst (λ k. IsChanged current c.allocate.new.self c.copy.new.self k c.args.used) n c.copy.ensures.change in
+    let change = subst (λ k. IsChanged current c.allocate.new.self c.copy.new.self k c.args.used) n
+    c.copy.ensures.change in
     has_room-names c.args.handle c.args.used (live_of c.copy.new.self.bytes).extents
-    (changed-room current c.allocate.new.self c.copy.new.self c.in_ok-new.new c.args.used c.args.handle c.args.used change
-    (allocated-room_before current c.args.self.now c.allocate.new.self c.args.n Storage c.in_ok-new.new c.args.handle c.args.used c.in_ok-new.ensures.answer c.requires.room))
+    (changed-room current c.allocate.new.self c.copy.new.self c.in_ok-new.new c.args.used
+    c.args.handle c.args.used change
+    (allocated-room_before current c.args.self.now c.allocate.new.self c.args.n Storage c.in_ok-new.new c.args.handle
+    c.args.used c.in_ok-new.ensures.answer c.requires.room))
 
 pub returns : goal.returns
 returns c =
     let n : c.in_ok-new.new + 0 ≡ c.in_ok-new.new = omega arith in
     let o : c.args.handle + 0 ≡ c.args.handle = omega arith in
-    let change = subst (λ k. IsChanged current c.allocate.new.self c.copy.new.self k c.args.used) n c.copy.ensures.change in
-    let moved = subst (λ k. read (bytes_of c.copy.new.self.bytes) k c.args.used ≡ read (bytes_of c.allocate.new.self.bytes) (c.args.handle + 0) c.args.used) n c.copy.ensures.content in
-    let content = subst (λ k. read (bytes_of c.copy.new.self.bytes) c.in_ok-new.new c.args.used ≡ read (bytes_of c.allocate.new.self.bytes) k c.args.used) o moved in
-    replaced c.args.self.now c.allocate.new.self c.copy.new.self c.deallocate.new.self c.args.handle c.args.n c.args.used c.in_ok-new.new c.requires.heap c.requires.room c.requires.fits
-    c.in_ok-new.ensures.answer (allocated-fits c.args.self.now c.allocate.new.self c.args.n c.in_ok-new.new c.in_ok-new.ensures.answer) change content c.deallocate.ensures.released
+    let change = subst (λ k. IsChanged current c.allocate.new.self c.copy.new.self k c.args.used) n
+    c.copy.ensures.change in
+    let moved = subst (λ k. read (bytes_of c.copy.new.self.bytes) k c.args.used
+    ≡ read (bytes_of c.allocate.new.self.bytes) (c.args.handle + 0) c.args.used) n c.copy.ensures.content in
+    let content = subst (λ k. read (bytes_of c.copy.new.self.bytes) c.in_ok-new.new c.args.used
+    ≡ read (bytes_of c.allocate.new.self.bytes) k c.args.used) o moved in
+    replaced c.args.self.now c.allocate.new.self c.copy.new.self c.deallocate.new.self c.args.handle c.args.n
+    c.args.used c.in_ok-new.new c.requires.heap c.requires.room c.requires.fits
+    c.in_ok-new.ensures.answer (allocated-fits c.args.self.now c.allocate.new.self c.args.n c.in_ok-new.new
+    c.in_ok-new.ensures.answer) change content c.deallocate.ensures.released

@@ -7,10 +7,14 @@ use Rattle.best_fit.proofs.heap.Heap.set_header_link.Goals as goal
 pub invariant_of-self : goal.invariant_of-self
 invariant_of-self c =
     let w = c.self.inside.gaps.window in let e = c.set_link.ensures in let q = c.requires in
-    held-same c.self.inside.points c.self.inside.gaps.window.bytes c.set_link.new.window.bytes c.self.invariant.points (header_changed w c.set_link.new.window c.args.at c.self.invariant.heap e.place e.len q.whole q.below q.other e.rest).live
+    held-same c.self.inside.points c.self.inside.gaps.window.bytes c.set_link.new.window.bytes c.self.invariant.points
+    (header_changed w c.set_link.new.window c.args.at c.self.invariant.heap e.place e.len q.whole
+    q.below q.other e.rest).live
 
 pub returns-clause-change : goal.returns-clause-change
 returns-clause-change c =
-    let w = c.self.inside.gaps.window in let e = c.set_link.ensures in let q = c.requires in let same : c.args.self.now ≡ w = cc in
+    let w = c.self.inside.gaps.window in let e = c.set_link.ensures in let q = c.requires in
+    let same : c.args.self.now ≡ w = cc in
     subst (λ (v : Cut). IsChanged current v c.set_link.new.window c.args.at 8) (sym same)
-    (header_changed w c.set_link.new.window c.args.at c.self.invariant.heap e.place e.len q.whole q.below q.other e.rest)
+    (header_changed w c.set_link.new.window c.args.at c.self.invariant.heap e.place e.len
+    q.whole q.below q.other e.rest)

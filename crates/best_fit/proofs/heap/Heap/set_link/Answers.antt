@@ -5,23 +5,30 @@ use Rattle.best_fit.proofs.WayPoints.{held-same}
 use Rattle.best_fit.proofs.heap.Heap.set_link.Goals as goal
 
 pub overflow_add-handle : goal.overflow_add-handle
-overflow_add-handle c = let s = spot c.args.self.now c.self.inside.gaps.window c.args.handle c.args.at 8 (cc) c.self.invariant.heap c.requires.room in let i = s.inside in let z = s.size in omega arith
+overflow_add-handle c = let s = spot c.args.self.now c.self.inside.gaps.window c.args.handle c.args.at 8 (cc)
+    c.self.invariant.heap c.requires.room in let i = s.inside in let z = s.size in omega arith
 
 pub set_link-requires-clause-aligned : goal.set_link-requires-clause-aligned
-set_link-requires-clause-aligned c = let s = spot c.args.self.now c.self.inside.gaps.window c.args.handle c.args.at 8 (cc) c.self.invariant.heap c.requires.room in let a = s.aligned in omega arith
+set_link-requires-clause-aligned c = let s = spot c.args.self.now c.self.inside.gaps.window c.args.handle c.args.at 8
+    (cc) c.self.invariant.heap c.requires.room in let a = s.aligned in omega arith
 
 pub set_link-requires-clause-inside : goal.set_link-requires-clause-inside
-set_link-requires-clause-inside c = (spot c.args.self.now c.self.inside.gaps.window c.args.handle c.args.at 8 (cc) c.self.invariant.heap c.requires.room).inside
+set_link-requires-clause-inside c =
+    (spot c.args.self.now c.self.inside.gaps.window c.args.handle c.args.at 8 (cc)
+    c.self.invariant.heap c.requires.room).inside
 
 pub invariant_of-self : goal.invariant_of-self
 invariant_of-self c =
-    let w = c.self.inside.gaps.window in let s = spot c.args.self.now w c.args.handle c.args.at 8 (cc) c.self.invariant.heap c.requires.room in
+    let w = c.self.inside.gaps.window in let s = spot c.args.self.now w c.args.handle c.args.at 8 (cc)
+    c.self.invariant.heap c.requires.room in
     let e = c.set_link.ensures in
-    held-same c.self.inside.points c.self.inside.gaps.window.bytes c.set_link.new.window.bytes c.self.invariant.points (link_changed w c.set_link.new.window c.args.handle c.args.at c.self.invariant.heap s e.place e.len e.rest).live
+    held-same c.self.inside.points c.self.inside.gaps.window.bytes c.set_link.new.window.bytes c.self.invariant.points
+    (link_changed w c.set_link.new.window c.args.handle c.args.at c.self.invariant.heap s e.place e.len e.rest).live
 
 pub returns-clause-change : goal.returns-clause-change
 returns-clause-change c =
-    let w = c.self.inside.gaps.window in let s = spot c.args.self.now w c.args.handle c.args.at 8 (cc) c.self.invariant.heap c.requires.room in
+    let w = c.self.inside.gaps.window in let s = spot c.args.self.now w c.args.handle c.args.at 8 (cc)
+    c.self.invariant.heap c.requires.room in
     let e = c.set_link.ensures in let same : c.args.self.now ≡ w = cc in
     subst (λ (v : Cut). IsChanged current v c.set_link.new.window (c.args.handle + c.args.at) 8) (sym same)
     (link_changed w c.set_link.new.window c.args.handle c.args.at c.self.invariant.heap s e.place e.len e.rest)

@@ -5,31 +5,47 @@ use Rattle.best_fit.proofs.WayPoints.{held-same}
 use Rattle.best_fit.proofs.heap.Heap.shift_non_null_links.Goals as goal
 
 pub overflow_add-from : goal.overflow_add-from
-overflow_add-from c = let s = spot c.args.self.now c.self.inside.gaps.window c.args.from c.args.from_at (8 * c.args.n) (cc) c.self.invariant.heap c.requires.source in let i = s.inside in let z = s.size in omega arith
+overflow_add-from c = let s = spot c.args.self.now c.self.inside.gaps.window c.args.from c.args.from_at (8 * c.args.n)
+    (cc) c.self.invariant.heap c.requires.source in let i = s.inside in let z = s.size in omega arith
 
 pub overflow_add-to : goal.overflow_add-to
-overflow_add-to c = let s = spot c.args.self.now c.self.inside.gaps.window c.args.to c.args.to_at (8 * c.args.n) (cc) c.self.invariant.heap c.requires.target in let i = s.inside in let z = s.size in omega arith
+overflow_add-to c = let s = spot c.args.self.now c.self.inside.gaps.window c.args.to c.args.to_at (8 * c.args.n) (cc)
+    c.self.invariant.heap c.requires.target in let i = s.inside in let z = s.size in omega arith
 
 pub move_non_null_to-requires-clause-source_whole : goal.move_non_null_to-requires-clause-source_whole
-move_non_null_to-requires-clause-source_whole c = let s = spot c.args.self.now c.self.inside.gaps.window c.args.from c.args.from_at (8 * c.args.n) (cc) c.self.invariant.heap c.requires.source in let a = s.aligned in let f = c.requires.from_whole in let t = c.requires.to_whole in omega arith
+move_non_null_to-requires-clause-source_whole c = let s = spot c.args.self.now c.self.inside.gaps.window c.args.from
+    c.args.from_at (8 * c.args.n) (cc) c.self.invariant.heap c.requires.source in let a = s.aligned in
+    let f = c.requires.from_whole in let t = c.requires.to_whole in omega arith
 
 pub move_non_null_to-requires-clause-target_whole : goal.move_non_null_to-requires-clause-target_whole
-move_non_null_to-requires-clause-target_whole c = let s = spot c.args.self.now c.self.inside.gaps.window c.args.to c.args.to_at (8 * c.args.n) (cc) c.self.invariant.heap c.requires.target in let a = s.aligned in let f = c.requires.from_whole in let t = c.requires.to_whole in omega arith
+move_non_null_to-requires-clause-target_whole c = let s = spot c.args.self.now c.self.inside.gaps.window c.args.to
+    c.args.to_at (8 * c.args.n) (cc) c.self.invariant.heap c.requires.target in let a = s.aligned in
+    let f = c.requires.from_whole in let t = c.requires.to_whole in omega arith
 
 pub move_non_null_to-requires-clause-source : goal.move_non_null_to-requires-clause-source
-move_non_null_to-requires-clause-source c = (spot c.args.self.now c.self.inside.gaps.window c.args.from c.args.from_at (8 * c.args.n) (cc) c.self.invariant.heap c.requires.source).inside
+move_non_null_to-requires-clause-source c =
+    (spot c.args.self.now c.self.inside.gaps.window c.args.from c.args.from_at (8 * c.args.n) (cc)
+    c.self.invariant.heap c.requires.source).inside
 
 pub move_non_null_to-requires-clause-target : goal.move_non_null_to-requires-clause-target
-move_non_null_to-requires-clause-target c = (spot c.args.self.now c.self.inside.gaps.window c.args.to c.args.to_at (8 * c.args.n) (cc) c.self.invariant.heap c.requires.target).inside
+move_non_null_to-requires-clause-target c =
+    (spot c.args.self.now c.self.inside.gaps.window c.args.to c.args.to_at (8 * c.args.n) (cc) c.self.invariant.heap
+    c.requires.target).inside
 
 pub invariant_of-self : goal.invariant_of-self
 invariant_of-self c =
-    let w = c.self.inside.gaps.window in let s = spot c.args.self.now c.self.inside.gaps.window c.args.to c.args.to_at (8 * c.args.n) (cc) c.self.invariant.heap c.requires.target in
-    held-same c.self.inside.points c.self.inside.gaps.window.bytes c.move_non_null_to.new.window.bytes c.self.invariant.points
-    (links_changed w c.move_non_null_to.new.window c.args.to c.args.to_at (c.args.from + c.args.from_at) c.args.n (c.args.to + c.args.to_at) c.self.invariant.heap s refl c.move_non_null_to.ensures.written).live
+    let w = c.self.inside.gaps.window in let s = spot c.args.self.now c.self.inside.gaps.window c.args.to c.args.to_at
+    (8 * c.args.n) (cc) c.self.invariant.heap c.requires.target in
+    held-same c.self.inside.points c.self.inside.gaps.window.bytes c.move_non_null_to.new.window.bytes
+    c.self.invariant.points
+    (links_changed w c.move_non_null_to.new.window c.args.to c.args.to_at (c.args.from + c.args.from_at) c.args.n
+    (c.args.to + c.args.to_at) c.self.invariant.heap s refl c.move_non_null_to.ensures.written).live
 
 pub returns-clause-change : goal.returns-clause-change
 returns-clause-change c =
-    let w = c.self.inside.gaps.window in let s = spot c.args.self.now c.self.inside.gaps.window c.args.to c.args.to_at (8 * c.args.n) (cc) c.self.invariant.heap c.requires.target in let same : c.args.self.now ≡ w = cc in
-    subst (λ (v : Cut). IsChanged current v c.move_non_null_to.new.window (c.args.to + c.args.to_at) (8 * c.args.n)) (sym same)
-    (links_changed w c.move_non_null_to.new.window c.args.to c.args.to_at (c.args.from + c.args.from_at) c.args.n (c.args.to + c.args.to_at) c.self.invariant.heap s refl c.move_non_null_to.ensures.written)
+    let w = c.self.inside.gaps.window in let s = spot c.args.self.now c.self.inside.gaps.window c.args.to c.args.to_at
+    (8 * c.args.n) (cc) c.self.invariant.heap c.requires.target in let same : c.args.self.now ≡ w = cc in
+    subst (λ (v : Cut). IsChanged current v c.move_non_null_to.new.window (c.args.to + c.args.to_at)
+    (8 * c.args.n)) (sym same)
+    (links_changed w c.move_non_null_to.new.window c.args.to c.args.to_at (c.args.from + c.args.from_at) c.args.n
+    (c.args.to + c.args.to_at) c.self.invariant.heap s refl c.move_non_null_to.ensures.written)

@@ -9,9 +9,11 @@ shift_non_null-requires-clause-target c =
 
 pub returns-clause-lead : goal.returns-clause-lead
 returns-clause-lead c =
-    subst (λ (k : ℕ). KeepTargets (bytes_of c.args.window.now.bytes) (bytes_of c.shift_non_null.new.w.bytes) c.args.source k c.args.n) c.way.ensures.reaches c.shift_non_null.ensures.lead
+    subst (λ (k : ℕ). KeepTargets (bytes_of c.args.window.now.bytes) (bytes_of c.shift_non_null.new.w.bytes)
+    c.args.source k c.args.n) c.way.ensures.reaches c.shift_non_null.ensures.lead
 
 pub returns-clause-written : goal.returns-clause-written
 returns-clause-written c =
-    subst (λ (k : ℕ). c.shift_non_null.new.w ≡ with_bytes c.args.window.now (patched c.args.window.now.bytes k (relinked (bytes_of c.args.window.now.bytes) c.args.source k c.args.n)))
+    subst (λ (k : ℕ). c.shift_non_null.new.w ≡ with_bytes c.args.window.now
+    (patched c.args.window.now.bytes k (relinked (bytes_of c.args.window.now.bytes) c.args.source k c.args.n)))
     c.way.ensures.reaches c.shift_non_null.ensures.written

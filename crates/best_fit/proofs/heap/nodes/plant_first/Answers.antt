@@ -7,16 +7,20 @@ pub returns-then-size-gt-FIRST_GAP-clause-live : goal.returns-then-size-gt-FIRST
 returns-then-size-gt-FIRST_GAP-clause-live c =
     let w = c.args.window.now in
     let l : 144 < length w.bytes = let e = c.size.ensures in let t = c.if-size-gt-FIRST_GAP.true in omega arith in
-    let a = c.set_link.ensures in let b = c.set_link-then-size-gt-FIRST_GAP.ensures in let d = c.set_link-then-size-gt-FIRST_GAP-2.ensures in
-    planted_one w c.set_link.new.window c.set_link-then-size-gt-FIRST_GAP.new.window c.set_link-then-size-gt-FIRST_GAP-2.new.window c.requires.laid l
+    let a = c.set_link.ensures in let b = c.set_link-then-size-gt-FIRST_GAP.ensures in
+    let d = c.set_link-then-size-gt-FIRST_GAP-2.ensures in
+    planted_one w c.set_link.new.window c.set_link-then-size-gt-FIRST_GAP.new.window
+    c.set_link-then-size-gt-FIRST_GAP-2.new.window c.requires.laid l
     a.leads a.len a.rest b.leads b.len b.rest d.leads d.len d.rest
 
 pub returns-then-size-gt-FIRST_GAP-clause-links : goal.returns-then-size-gt-FIRST_GAP-clause-links
 returns-then-size-gt-FIRST_GAP-clause-links c =
     let w = c.args.window.now in
     let l : 144 < length w.bytes = let e = c.size.ensures in let t = c.if-size-gt-FIRST_GAP.true in omega arith in
-    let a = c.set_link.ensures in let b = c.set_link-then-size-gt-FIRST_GAP.ensures in let d = c.set_link-then-size-gt-FIRST_GAP-2.ensures in
-    planted_links w c.set_link.new.window c.set_link-then-size-gt-FIRST_GAP.new.window c.set_link-then-size-gt-FIRST_GAP-2.new.window c.requires.laid l
+    let a = c.set_link.ensures in let b = c.set_link-then-size-gt-FIRST_GAP.ensures in
+    let d = c.set_link-then-size-gt-FIRST_GAP-2.ensures in
+    planted_links w c.set_link.new.window c.set_link-then-size-gt-FIRST_GAP.new.window
+    c.set_link-then-size-gt-FIRST_GAP-2.new.window c.requires.laid l
     a.leads a.len a.rest b.leads b.len b.rest d.leads d.len d.rest
 
 pub returns-else-size-gt-FIRST_GAP-clause-live : goal.returns-else-size-gt-FIRST_GAP-clause-live

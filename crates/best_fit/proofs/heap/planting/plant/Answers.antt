@@ -11,7 +11,8 @@ insert-changed-requires-clause-root c =
     let r = c.requires in rw c.load-root.ensures (root_leads c.args.gaps.now.window r.0 r.3.tree)
 
 pub insert-changed-requires-clause-node : goal.insert-changed-requires-clause-node
-insert-changed-requires-clause-node c = let r = c.requires in is_a_node c.args.gaps.now.window r.0 r.1 c.args.node r.2 r.3
+insert-changed-requires-clause-node c = let r = c.requires in
+    is_a_node c.args.gaps.now.window r.0 r.1 c.args.node r.2 r.3
 
 pub insert-changed-requires-clause-tree : goal.insert-changed-requires-clause-tree
 insert-changed-requires-clause-tree c =
@@ -22,20 +23,25 @@ pub set_link-requires-clause-inside : goal.set_link-requires-clause-inside
 set_link-requires-clause-inside c =
     let r = c.requires in
     node_inside c.insert-changed.new.nodes.window c.args.node
-    (ap (λ (p : ℕ → Bool). p c.args.node) c.insert-changed.ensures.same.nodes ∙ is_a_node c.args.gaps.now.window r.0 r.1 c.args.node r.2 r.3)
+    (ap (λ (p : ℕ → Bool). p c.args.node) c.insert-changed.ensures.same.nodes
+    ∙ is_a_node c.args.gaps.now.window r.0 r.1 c.args.node r.2 r.3)
 
 pub set_link-requires-clause-target : goal.set_link-requires-clause-target
-set_link-requires-clause-target c = target_whole c.insert-changed.new.nodes.window c.insert-changed.result.root c.insert-changed.ensures.root
+set_link-requires-clause-target c = target_whole c.insert-changed.new.nodes.window c.insert-changed.result.root
+    c.insert-changed.ensures.root
 
 pub returns-clause-tree : goal.returns-clause-tree
 returns-clause-tree c = λ xs g is n.
     let w = c.args.gaps.now.window in let d = c.insert-changed.new.nodes.window in let e = c.set_link.new.window in
     next_tree w xs g c.args.node is n d e c.insert-changed.result.root
     (λ t s. c.insert-changed.ensures.tree t (rw c.load-root.ensures s))
-    c.insert-changed.ensures.same.nodes c.insert-changed.ensures.same.kept c.set_link.ensures.leads c.set_link.ensures.len c.set_link.ensures.rest
+    c.insert-changed.ensures.same.nodes c.insert-changed.ensures.same.kept c.set_link.ensures.leads
+    c.set_link.ensures.len c.set_link.ensures.rest
 
 pub returns-clause-rest : goal.returns-clause-rest
 returns-clause-rest c =
-    let r = c.requires in let w = c.args.gaps.now.window in let d = c.insert-changed.new.nodes.window in let e = c.set_link.new.window in
-    taken_rest w d e c.args.node (ap (λ (p : ℕ → Bool). p c.args.node) c.insert-changed.ensures.same.nodes ∙ is_a_node w r.0 r.1 c.args.node r.2 r.3)
+    let r = c.requires in let w = c.args.gaps.now.window in let d = c.insert-changed.new.nodes.window in
+    let e = c.set_link.new.window in
+    taken_rest w d e c.args.node (ap (λ (p : ℕ → Bool). p c.args.node) c.insert-changed.ensures.same.nodes
+    ∙ is_a_node w r.0 r.1 c.args.node r.2 r.3)
     c.insert-changed.ensures.same.kept c.set_link.ensures.place c.set_link.ensures.len c.set_link.ensures.rest

@@ -8,12 +8,14 @@ use Rattle.best_fit.proofs.heap.planting.plant_gaps.Goals.{then-is_none, else-is
 use Rattle.best_fit.proofs.heap.planting.plant_gaps.Goals as goal
 
 pub first-ahead-requires : goal.first-ahead-requires
-first-ahead-requires c = let w = c.args.gaps.now.window in record { tiles = tiles_in w; said = (tree_says w [] c.requires).said }
+first-ahead-requires c = let w = c.args.gaps.now.window in
+    record { tiles = tiles_in w; said = (tree_says w [] c.requires).said }
 
 pub tiles-init : goal.tiles-init
 tiles-init c =
     let w = c.args.gaps.now.window in
-    walk_start w (HasPlanted w w) (tiles_in w) (tree_says w [] c.requires).said (planted_start w c.requires) c.first-ahead.result c.first-ahead.ensures
+    walk_start w (HasPlanted w w) (tiles_in w) (tree_says w [] c.requires).said (planted_start w c.requires)
+    c.first-ahead.result c.first-ahead.ensures
 
 pub overflow_add-tile : goal.overflow_add-tile
 overflow_add-tile c =
@@ -29,32 +31,42 @@ plant-requires c =
 
 pub next-ahead-requires : goal.next-ahead-requires
 next-ahead-requires c =
-    let w = c.args.gaps.now.window in let now = c.tiles.gaps.window in let next = c.if-is_none.gaps.window in let tile = c.in-Some.tile in
+    let w = c.args.gaps.now.window in let now = c.tiles.gaps.window in let next = c.if-is_none.gaps.window in
+    let tile = c.in-Some.tile in
     let t = turn now (HasPlanted w now) c.tiles.ahead c.tiles.invariant tile c.in-Some.is in
     passed_has next (HasPlanted w next) tile.offset (elim c.if-is_none.branch [
       | then-is_none v ↦
-          let e = v.plant.ensures in let out = v.plant.new.gaps.window in let none = c.is_none.ensures ∙ ap not v.if-is_none.true in
+          let e = v.plant.ensures in let out = v.plant.new.gaps.window in let none = c.is_none.ensures
+          ∙ ap not v.if-is_none.true in
           passed_in (λ (x : Cut). HasPlanted w x) tile.offset out next (ap (λ (g : Gaps). g.window) v.gaps-is)
-          (planted_gap w now tile t none out (e.tree (gaps_of t.passed) (gap_of tile) refl (next_gap w now tile t none)) e.rest)
-      | else-is_none v ↦ planted_block w now next tile t (c.is_none.ensures ∙ ap not v.if-is_none.false) (ap (λ (g : Gaps). g.window) v.gaps-is)
+          (planted_gap w now tile t none out
+          (e.tree (gaps_of t.passed) (gap_of tile) refl (next_gap w now tile t none)) e.rest)
+      | else-is_none v ↦ planted_block w now next tile t (c.is_none.ensures ∙ ap not v.if-is_none.false)
+          (ap (λ (g : Gaps). g.window) v.gaps-is)
     ])
 
-passed : (c : goal.After-next-ahead) → Passed c.if-is_none.gaps.window (HasPlanted c.args.gaps.now.window c.if-is_none.gaps.window) c.in-Some.tile.offset
+passed : (c : goal.After-next-ahead)
+    → Passed c.if-is_none.gaps.window (HasPlanted c.args.gaps.now.window c.if-is_none.gaps.window) c.in-Some.tile.offset
 passed c =
-    let w = c.args.gaps.now.window in let now = c.tiles.gaps.window in let next = c.if-is_none.gaps.window in let tile = c.in-Some.tile in
+    let w = c.args.gaps.now.window in let now = c.tiles.gaps.window in let next = c.if-is_none.gaps.window in
+    let tile = c.in-Some.tile in
     let t = turn now (HasPlanted w now) c.tiles.ahead c.tiles.invariant tile c.in-Some.is in
     elim c.if-is_none.branch [
       | then-is_none v ↦
-          let e = v.plant.ensures in let out = v.plant.new.gaps.window in let none = c.is_none.ensures ∙ ap not v.if-is_none.true in
+          let e = v.plant.ensures in let out = v.plant.new.gaps.window in let none = c.is_none.ensures
+          ∙ ap not v.if-is_none.true in
           passed_in (λ (x : Cut). HasPlanted w x) tile.offset out next (ap (λ (g : Gaps). g.window) v.gaps-is)
-          (planted_gap w now tile t none out (e.tree (gaps_of t.passed) (gap_of tile) refl (next_gap w now tile t none)) e.rest)
-      | else-is_none v ↦ planted_block w now next tile t (c.is_none.ensures ∙ ap not v.if-is_none.false) (ap (λ (g : Gaps). g.window) v.gaps-is)
+          (planted_gap w now tile t none out
+          (e.tree (gaps_of t.passed) (gap_of tile) refl (next_gap w now tile t none)) e.rest)
+      | else-is_none v ↦ planted_block w now next tile t (c.is_none.ensures ∙ ap not v.if-is_none.false)
+          (ap (λ (g : Gaps). g.window) v.gaps-is)
     ]
 
 pub tiles-smaller : goal.tiles-smaller
 tiles-smaller c =
     let w = c.args.gaps.now.window in let next = c.if-is_none.gaps.window in let p = passed c in
-    passed_nearer next (HasPlanted w next) (length w.bytes) c.in-Some.tile p p.holds.change.size c.tiles.ahead c.next-ahead.result c.in-Some.is c.next-ahead.ensures
+    passed_nearer next (HasPlanted w next) (length w.bytes) c.in-Some.tile p p.holds.change.size c.tiles.ahead
+    c.next-ahead.result c.in-Some.is c.next-ahead.ensures
 
 pub tiles-preserved : goal.tiles-preserved
 tiles-preserved c =

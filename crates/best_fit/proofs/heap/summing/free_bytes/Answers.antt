@@ -8,7 +8,8 @@ use Rattle.best_fit.proofs.Sums.{adds_up, tree_summed}
 use Rattle.best_fit.proofs.heap.summing.free_bytes.Goals as goal
 
 pub walk-requires-clause-root : goal.walk-requires-clause-root
-walk-requires-clause-root c = let w = c.args.gaps.now.window in rw c.load-root.ensures (root_leads w (gaps_in w) (heap_tree w c.requires))
+walk-requires-clause-root c = let w = c.args.gaps.now.window in
+    rw c.load-root.ensures (root_leads w (gaps_in w) (heap_tree w c.requires))
 
 pub walk-requires-clause-tree : goal.walk-requires-clause-tree
 walk-requires-clause-tree c =
@@ -21,6 +22,9 @@ returns c =
     let summed = tree_summed w c.requires h in
     let walked = c.walk.ensures.walked h.tree.tree (rw c.load-root.ensures (search_tree w (gaps_in w) h)) in
     let few = summed.few in
-    let added = adds_up _ (λ p. p.1.now.window ≡ w) (λ p. p.0.ghost_name) (λ p. p.0.now) (len_in (gaps_in w)) (is_gap_node w)
-    (λ p x q sees good room step. search rules) (nodes_of h.tree.tree) _ _ (tree_nodes w (gaps_in w) h) refl (omega arith) walked in
-    let name = sym added.0 in let all : _ ≡ free_bytes (live_of w.bytes) = added.1 ∙ zero-add _ ∙ summed.all in search rules
+    let added = adds_up _ (λ p. p.1.now.window ≡ w) (λ p. p.0.ghost_name) (λ p. p.0.now)
+    (len_in (gaps_in w)) (is_gap_node w)
+    (λ p x q sees good room step. search rules) (nodes_of h.tree.tree) _ _ (tree_nodes w (gaps_in w) h)
+    refl (omega arith) walked in
+    let name = sym added.0 in let all : _ ≡ free_bytes (live_of w.bytes) = added.1 ∙ zero-add _
+    ∙ summed.all in search rules

@@ -12,13 +12,16 @@ returns-then-node-lt-TAG c = λ node.
     let w = c.args.window.now in let d = node_at w c.args.node (is_gap_node-GapNode w c.args.node node) in
     elim c.then-node-lt-TAG.branch [
       | then-node-lt-TAG-via-then-node-lt-TAG v ↦ let small = v.if-node-lt-TAG.true in absurd (omega arith)
-      | then-node-lt-TAG-via-else-node-lt-TAG+then-not-in_range v ↦ let long = d.long in let no : IsTrue false = subst (λ (b : Bool). IsTrue b) v.if-not-in_range.true (v.in_range.ensures.1 (omega arith)) in absurd (false≢true no)
+      | then-node-lt-TAG-via-else-node-lt-TAG+then-not-in_range v ↦ let long = d.long in
+          let no : IsTrue false = subst (λ (b : Bool). IsTrue b) v.if-not-in_range.true
+          (v.in_range.ensures.1 (omega arith)) in absurd (false≢true no)
     ]
 
 pub returns : goal.returns
 returns c = λ node.
     let w = c.args.window.now in let d = node_at w c.args.node (is_gap_node-GapNode w c.args.node node) in
-    let read : tile_at (bytes_of w.bytes) d.free_tile.tile.offset ≡ d.free_tile.tile = tile_is_read_off w (tiles_in w) d.free_tile.tile.offset d.free_tile.tile d.said d.stands in
+    let read : tile_at (bytes_of w.bytes) d.free_tile.tile.offset ≡ d.free_tile.tile = tile_is_read_off w (tiles_in w)
+    d.free_tile.tile.offset d.free_tile.tile d.said d.stands in
     let word : d.free_tile.tile.offset + 8 ≡ c.args.node - 16 + 8 = omega arith in
     ap (λ k. k / 16 * 16) (c.read_u64.ensures ∙ ap (word_at (bytes_of w.bytes)) (sym word))
     ∙ ap (λ (t : Tile). t.len) read ∙ sym (node_len w c.args.node d)

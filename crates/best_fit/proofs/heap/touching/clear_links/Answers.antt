@@ -4,19 +4,24 @@ use Rattle.best_fit.proofs.Replanting.{cleared_kept, cleared_node, cleared_tree,
 use Rattle.best_fit.proofs.heap.touching.clear_links.Goals as goal
 
 pub set_link-requires-clause-aligned : goal.set_link-requires-clause-aligned
-set_link-requires-clause-aligned c = let t = c.requires.gap in let d = lacking_node c.args.gaps.now.window t.0 t.1 t.2 c.args.node t.3 t.4 in let whole = d.whole in omega arith
+set_link-requires-clause-aligned c = let t = c.requires.gap in let d = lacking_node c.args.gaps.now.window t.0 t.1 t.2
+    c.args.node t.3 t.4 in let whole = d.whole in omega arith
 
 pub set_link-requires-clause-inside : goal.set_link-requires-clause-inside
-set_link-requires-clause-inside c = let t = c.requires.gap in let d = lacking_node c.args.gaps.now.window t.0 t.1 t.2 c.args.node t.3 t.4 in let long = d.long in let ends = d.ends in omega arith
+set_link-requires-clause-inside c = let t = c.requires.gap in let d = lacking_node c.args.gaps.now.window t.0 t.1 t.2
+    c.args.node t.3 t.4 in let long = d.long in let ends = d.ends in omega arith
 
 pub overflow_add-node : goal.overflow_add-node
-overflow_add-node c = let t = c.requires.gap in let d = lacking_node c.args.gaps.now.window t.0 t.1 t.2 c.args.node t.3 t.4 in let long = d.long in let ends = d.ends in let size = d.size in omega arith
+overflow_add-node c = let t = c.requires.gap in let d = lacking_node c.args.gaps.now.window t.0 t.1 t.2 c.args.node
+    t.3 t.4 in let long = d.long in let ends = d.ends in let size = d.size in omega arith
 
 pub set_link-requires-2-clause-aligned : goal.set_link-requires-2-clause-aligned
-set_link-requires-2-clause-aligned c = let t = c.requires.gap in let d = lacking_node c.args.gaps.now.window t.0 t.1 t.2 c.args.node t.3 t.4 in let whole = d.whole in omega arith
+set_link-requires-2-clause-aligned c = let t = c.requires.gap in let d = lacking_node c.args.gaps.now.window t.0 t.1
+    t.2 c.args.node t.3 t.4 in let whole = d.whole in omega arith
 
 pub set_link-requires-2-clause-inside : goal.set_link-requires-2-clause-inside
-set_link-requires-2-clause-inside c = let t = c.requires.gap in let d = lacking_node c.args.gaps.now.window t.0 t.1 t.2 c.args.node t.3 t.4 in let long = d.long in let ends = d.ends in let len = c.set_link.ensures.len in omega arith
+set_link-requires-2-clause-inside c = let t = c.requires.gap in let d = lacking_node c.args.gaps.now.window t.0 t.1
+    t.2 c.args.node t.3 t.4 in let long = d.long in let ends = d.ends in let len = c.set_link.ensures.len in omega arith
 
 pub returns-clause-tree : goal.returns-clause-tree
 returns-clause-tree c = λ xs g ys is l.

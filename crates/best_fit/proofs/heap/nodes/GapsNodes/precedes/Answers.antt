@@ -5,49 +5,70 @@ use Rattle.best_fit.proofs.GapFacts.{node_at, node_tile, node_read, node_len}
 use Rattle.best_fit.proofs.heap.nodes.GapsNodes.precedes.Goals as goal
 
 pub overflow_sub-a : goal.overflow_sub-a
-overflow_sub-a c = let w = c.args.self.now.window in let d = node_at w c.args.a (is_gap_node-GapNode w c.args.a c.requires.first) in let low = d.low in omega arith
+overflow_sub-a c = let w = c.args.self.now.window in
+    let d = node_at w c.args.a (is_gap_node-GapNode w c.args.a c.requires.first) in let low = d.low in omega arith
 
 pub tile_at-first-requires : goal.tile_at-first-requires
-tile_at-first-requires c = let w = c.args.self.now.window in let d = node_at w c.args.a (is_gap_node-GapNode w c.args.a c.requires.first) in node_tile w c.args.a (c.args.a - 16) d (omega arith)
+tile_at-first-requires c = let w = c.args.self.now.window in
+    let d = node_at w c.args.a (is_gap_node-GapNode w c.args.a c.requires.first) in
+    node_tile w c.args.a (c.args.a - 16) d (omega arith)
 
 pub overflow_sub-b : goal.overflow_sub-b
-overflow_sub-b c = let w = c.args.self.now.window in let d = node_at w c.args.b (is_gap_node-GapNode w c.args.b c.requires.second) in let low = d.low in omega arith
+overflow_sub-b c = let w = c.args.self.now.window in
+    let d = node_at w c.args.b (is_gap_node-GapNode w c.args.b c.requires.second) in let low = d.low in omega arith
 
 pub tile_at-second-requires : goal.tile_at-second-requires
-tile_at-second-requires c = let w = c.args.self.now.window in let d = node_at w c.args.b (is_gap_node-GapNode w c.args.b c.requires.second) in node_tile w c.args.b (c.args.b - 16) d (omega arith)
+tile_at-second-requires c = let w = c.args.self.now.window in
+    let d = node_at w c.args.b (is_gap_node-GapNode w c.args.b c.requires.second) in
+    node_tile w c.args.b (c.args.b - 16) d (omega arith)
 
 -- the order, by what is read
 shorter : (k l a b p q : ℕ) → p ≡ k → q ≡ l → p < q → nat_lt p q ≡ (nat_lt k l || ((k == l) && nat_lt a b))
-shorter k l a b p q e f h = lt-ltb p q h ∙ sym (or_left (nat_lt k l) ((k == l) && nat_lt a b) (lt-ltb k l (omega arith)))
+shorter k l a b p q e f h = lt-ltb p q h
+    ∙ sym (or_left (nat_lt k l) ((k == l) && nat_lt a b) (lt-ltb k l (omega arith)))
 
 as_long : (k l a b p q : ℕ) → p ≡ k → q ≡ l → q ≤ p → p ≡ q → nat_lt a b ≡ (nat_lt k l || ((k == l) && nat_lt a b))
 as_long k l a b p q e f h same =
-    sym (ap (λ (x : Bool). x || ((k == l) && nat_lt a b)) (le-ltb k l (omega arith)) ∙ ap (λ (x : Bool). x && nat_lt a b) (eq-eqb k l (omega arith)))
+    sym (ap (λ (x : Bool). x || ((k == l) && nat_lt a b)) (le-ltb k l (omega arith))
+    ∙ ap (λ (x : Bool). x && nat_lt a b) (eq-eqb k l (omega arith)))
 
 longer : (k l a b p q : ℕ) → p ≡ k → q ≡ l → q ≤ p → (p ≡ q → ⊥) → (p == q) ≡ (nat_lt k l || ((k == l) && nat_lt a b))
 longer k l a b p q e f h other =
-    ne_eqb p q other ∙ sym (ap (λ (x : Bool). x || ((k == l) && nat_lt a b)) (le-ltb k l (omega arith)) ∙ ap (λ (x : Bool). x && nat_lt a b) (ne_eqb k l (λ same. other (omega arith))))
+    ne_eqb p q other ∙ sym (ap (λ (x : Bool). x || ((k == l) && nat_lt a b)) (le-ltb k l (omega arith))
+    ∙ ap (λ (x : Bool). x && nat_lt a b) (ne_eqb k l (λ same. other (omega arith))))
 
 pub returns-then-first-second : goal.returns-then-first-second
 returns-then-first-second c =
-    let w = c.args.self.now.window in let d = node_at w c.args.a (is_gap_node-GapNode w c.args.a c.requires.first) in let f = node_at w c.args.b (is_gap_node-GapNode w c.args.b c.requires.second) in
-    shorter (len_in (gaps_in w) c.args.a) (len_in (gaps_in w) c.args.b) c.args.a c.args.b c.tile_at-first.result.len c.tile_at-second.result.len
-    (ap (λ (t : Tile). t.len) (node_read w c.args.a (c.args.a - 16) d (omega arith) c.tile_at-first.result c.tile_at-first.ensures) ∙ sym (node_len w c.args.a d))
-    (ap (λ (t : Tile). t.len) (node_read w c.args.b (c.args.b - 16) f (omega arith) c.tile_at-second.result c.tile_at-second.ensures) ∙ sym (node_len w c.args.b f))
+    let w = c.args.self.now.window in let d = node_at w c.args.a (is_gap_node-GapNode w c.args.a c.requires.first) in
+    let f = node_at w c.args.b (is_gap_node-GapNode w c.args.b c.requires.second) in
+    shorter (len_in (gaps_in w) c.args.a) (len_in (gaps_in w) c.args.b) c.args.a c.args.b c.tile_at-first.result.len
+    c.tile_at-second.result.len
+    (ap (λ (t : Tile). t.len) (node_read w c.args.a (c.args.a - 16) d (omega arith) c.tile_at-first.result
+    c.tile_at-first.ensures) ∙ sym (node_len w c.args.a d))
+    (ap (λ (t : Tile). t.len) (node_read w c.args.b (c.args.b - 16) f (omega arith) c.tile_at-second.result
+    c.tile_at-second.ensures) ∙ sym (node_len w c.args.b f))
     (omega arith)
 
 pub returns-then-first-second-2 : goal.returns-then-first-second-2
 returns-then-first-second-2 c =
-    let w = c.args.self.now.window in let d = node_at w c.args.a (is_gap_node-GapNode w c.args.a c.requires.first) in let f = node_at w c.args.b (is_gap_node-GapNode w c.args.b c.requires.second) in
-    as_long (len_in (gaps_in w) c.args.a) (len_in (gaps_in w) c.args.b) c.args.a c.args.b c.tile_at-first.result.len c.tile_at-second.result.len
-    (ap (λ (t : Tile). t.len) (node_read w c.args.a (c.args.a - 16) d (omega arith) c.tile_at-first.result c.tile_at-first.ensures) ∙ sym (node_len w c.args.a d))
-    (ap (λ (t : Tile). t.len) (node_read w c.args.b (c.args.b - 16) f (omega arith) c.tile_at-second.result c.tile_at-second.ensures) ∙ sym (node_len w c.args.b f))
+    let w = c.args.self.now.window in let d = node_at w c.args.a (is_gap_node-GapNode w c.args.a c.requires.first) in
+    let f = node_at w c.args.b (is_gap_node-GapNode w c.args.b c.requires.second) in
+    as_long (len_in (gaps_in w) c.args.a) (len_in (gaps_in w) c.args.b) c.args.a c.args.b c.tile_at-first.result.len
+    c.tile_at-second.result.len
+    (ap (λ (t : Tile). t.len) (node_read w c.args.a (c.args.a - 16) d (omega arith) c.tile_at-first.result
+    c.tile_at-first.ensures) ∙ sym (node_len w c.args.a d))
+    (ap (λ (t : Tile). t.len) (node_read w c.args.b (c.args.b - 16) f (omega arith) c.tile_at-second.result
+    c.tile_at-second.ensures) ∙ sym (node_len w c.args.b f))
     (omega arith) (omega arith)
 
 pub returns-else-first-second-2 : goal.returns-else-first-second-2
 returns-else-first-second-2 c =
-    let w = c.args.self.now.window in let d = node_at w c.args.a (is_gap_node-GapNode w c.args.a c.requires.first) in let f = node_at w c.args.b (is_gap_node-GapNode w c.args.b c.requires.second) in
-    longer (len_in (gaps_in w) c.args.a) (len_in (gaps_in w) c.args.b) c.args.a c.args.b c.tile_at-first.result.len c.tile_at-second.result.len
-    (ap (λ (t : Tile). t.len) (node_read w c.args.a (c.args.a - 16) d (omega arith) c.tile_at-first.result c.tile_at-first.ensures) ∙ sym (node_len w c.args.a d))
-    (ap (λ (t : Tile). t.len) (node_read w c.args.b (c.args.b - 16) f (omega arith) c.tile_at-second.result c.tile_at-second.ensures) ∙ sym (node_len w c.args.b f))
+    let w = c.args.self.now.window in let d = node_at w c.args.a (is_gap_node-GapNode w c.args.a c.requires.first) in
+    let f = node_at w c.args.b (is_gap_node-GapNode w c.args.b c.requires.second) in
+    longer (len_in (gaps_in w) c.args.a) (len_in (gaps_in w) c.args.b) c.args.a c.args.b c.tile_at-first.result.len
+    c.tile_at-second.result.len
+    (ap (λ (t : Tile). t.len) (node_read w c.args.a (c.args.a - 16) d (omega arith) c.tile_at-first.result
+    c.tile_at-first.ensures) ∙ sym (node_len w c.args.a d))
+    (ap (λ (t : Tile). t.len) (node_read w c.args.b (c.args.b - 16) f (omega arith) c.tile_at-second.result
+    c.tile_at-second.ensures) ∙ sym (node_len w c.args.b f))
     (omega arith) c.if-first-second-2.false

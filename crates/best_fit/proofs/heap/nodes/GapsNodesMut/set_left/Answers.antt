@@ -16,10 +16,13 @@ set_link-requires-clause-target c = target_whole c.args.self.now.window c.args.t
 pub returns-clause-cells : goal.returns-clause-cells
 returns-clause-cells c =
     let said = c.set_link.ensures in
-    left_cells c.args.self.now.window c.set_link.new.window c.args.node c.args.to (is_gap_node-GapNode c.args.self.now.window c.args.node c.requires.node) c.requires.target said.leads said.len said.place said.rest
+    left_cells c.args.self.now.window c.set_link.new.window c.args.node c.args.to
+    (is_gap_node-GapNode c.args.self.now.window c.args.node c.requires.node) c.requires.target said.leads
+    said.len said.place said.rest
 
 pub returns-clause-same : goal.returns-clause-same
 returns-clause-same c =
     let said = c.set_link.ensures in let g = is_gap_node-GapNode c.args.self.now.window c.args.node c.requires.node in
     same_beside_cells c.args.self.now (record { window = c.set_link.new.window }) c.args.node g
-    (left_changed c.args.self.now.window c.set_link.new.window c.args.node c.args.to g c.requires.target said.leads said.len said.place said.rest)
+    (left_changed c.args.self.now.window c.set_link.new.window c.args.node c.args.to g c.requires.target said.leads
+    said.len said.place said.rest)

@@ -6,18 +6,25 @@ use Rattle.best_fit.proofs.NodesStay.{same_beside_cells}
 use Rattle.best_fit.proofs.heap.nodes.GapsNodesMut.set_red.Goals as goal
 
 pub overflow_sub-node : goal.overflow_sub-node
-overflow_sub-node c = let w = c.args.self.now.window in let d = node_at w c.args.node (is_gap_node-GapNode w c.args.node c.requires) in let low = d.low in omega arith
+overflow_sub-node c = let w = c.args.self.now.window in
+    let d = node_at w c.args.node (is_gap_node-GapNode w c.args.node c.requires) in let low = d.low in omega arith
 
 pub set_red-requires : goal.set_red-requires
-set_red-requires c = let w = c.args.self.now.window in let g = is_gap_node-GapNode w c.args.node c.requires in let d = node_at w c.args.node g in let low = d.low in gap_may w c.args.node (c.args.node - 16) c.args.red g (omega arith)
+set_red-requires c = let w = c.args.self.now.window in let g = is_gap_node-GapNode w c.args.node c.requires in
+    let d = node_at w c.args.node g in let low = d.low in
+    gap_may w c.args.node (c.args.node - 16) c.args.red g (omega arith)
 
 pub returns-clause-cells : goal.returns-clause-cells
 returns-clause-cells c =
-    let w = c.args.self.now.window in let g = is_gap_node-GapNode w c.args.node c.requires in let low = (node_at w c.args.node g).low in
-    red_cells w c.set_red.new.window c.args.node (c.args.node - 16) c.args.red g (omega arith) c.set_red.ensures.tags c.set_red.ensures.rest
+    let w = c.args.self.now.window in let g = is_gap_node-GapNode w c.args.node c.requires in
+    let low = (node_at w c.args.node g).low in
+    red_cells w c.set_red.new.window c.args.node (c.args.node - 16) c.args.red g (omega arith)
+    c.set_red.ensures.tags c.set_red.ensures.rest
 
 pub returns-clause-same : goal.returns-clause-same
 returns-clause-same c =
-    let w = c.args.self.now.window in let g = is_gap_node-GapNode w c.args.node c.requires in let low = (node_at w c.args.node g).low in
-    let changed = red_changed w c.set_red.new.window c.args.node (c.args.node - 16) c.args.red g (omega arith) c.set_red.ensures.tags c.set_red.ensures.rest in
+    let w = c.args.self.now.window in let g = is_gap_node-GapNode w c.args.node c.requires in
+    let low = (node_at w c.args.node g).low in
+    let changed = red_changed w c.set_red.new.window c.args.node (c.args.node - 16) c.args.red g (omega arith)
+    c.set_red.ensures.tags c.set_red.ensures.rest in
     same_beside_cells c.args.self.now (record { window = c.set_red.new.window }) c.args.node g changed

@@ -17,13 +17,18 @@ set_link-requires-clause-target c = target_whole c.args.self.now.window c.args.t
 pub returns-clause-cells : goal.returns-clause-cells
 returns-clause-cells c =
     let said = c.set_link.ensures in
-    right_cells c.args.self.now.window c.set_link.new.window c.args.node c.args.to (is_gap_node-GapNode c.args.self.now.window c.args.node c.requires.node) c.requires.target said.leads said.len said.place said.rest
+    right_cells c.args.self.now.window c.set_link.new.window c.args.node c.args.to
+    (is_gap_node-GapNode c.args.self.now.window c.args.node c.requires.node) c.requires.target said.leads
+    said.len said.place said.rest
 
 pub returns-clause-same : goal.returns-clause-same
 returns-clause-same c =
     let said = c.set_link.ensures in let g = is_gap_node-GapNode c.args.self.now.window c.args.node c.requires.node in
     same_beside_cells c.args.self.now (record { window = c.set_link.new.window }) c.args.node g
-    (right_changed c.args.self.now.window c.set_link.new.window c.args.node c.args.to g c.requires.target said.leads said.len said.place said.rest)
+    (right_changed c.args.self.now.window c.set_link.new.window c.args.node c.args.to g c.requires.target said.leads
+    said.len said.place said.rest)
 
 pub overflow_add-node : goal.overflow_add-node
-overflow_add-node c = let d = node_at c.args.self.now.window c.args.node (is_gap_node-GapNode c.args.self.now.window c.args.node c.requires.node) in let long = d.long in let ends = d.ends in let size = d.size in omega arith
+overflow_add-node c = let d = node_at c.args.self.now.window c.args.node
+    (is_gap_node-GapNode c.args.self.now.window c.args.node c.requires.node) in let long = d.long in
+    let ends = d.ends in let size = d.size in omega arith

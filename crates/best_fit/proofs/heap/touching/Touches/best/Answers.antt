@@ -7,7 +7,8 @@ use Rattle.best_fit.proofs.Replanting.{few_bits}
 use Rattle.best_fit.proofs.heap.touching.Touches.best.Goals as goal
 
 pub find_first_not_before-found-requires-clause-root : goal.find_first_not_before-found-requires-clause-root
-find_first_not_before-found-requires-clause-root c = let w = c.args.self.now.gaps.now.window in rw c.load-root.ensures (root_leads w c.requires.tree.0 c.requires.tree.1)
+find_first_not_before-found-requires-clause-root c = let w = c.args.self.now.gaps.now.window in
+    rw c.load-root.ensures (root_leads w c.requires.tree.0 c.requires.tree.1)
 
 pub find_first_not_before-found-requires-clause-tree : goal.find_first_not_before-found-requires-clause-tree
 find_first_not_before-found-requires-clause-tree c =
@@ -17,7 +18,8 @@ find_first_not_before-found-requires-clause-tree c =
 pub overflow_add-self : goal.overflow_add-self
 overflow_add-self c =
     let w = c.args.self.now.gaps.now.window in let hs = c.requires.tree.0 in let h = c.requires.tree.1 in
-    let s : IsSearchTree (comes_before (gaps_in w)) (gap_cells w) c.load-root.result h.tree.tree = rw c.load-root.ensures (search_tree w hs h) in
+    let s : IsSearchTree (comes_before (gaps_in w)) (gap_cells w) c.load-root.result h.tree.tree =
+    rw c.load-root.ensures (search_tree w hs h) in
     let steps = rw (tree_size w hs h) at (c.find_first_not_before-found.ensures.steps h.tree.tree s) in
     let few = few_bits w hs h in let room = c.requires.room in
     omega arith
@@ -25,7 +27,8 @@ overflow_add-self c =
 pub returns-clause-first : goal.returns-clause-first
 returns-clause-first c = λ hs h.
     let w = c.args.self.now.gaps.now.window in
-    let s : IsSearchTree (comes_before (gaps_in w)) (gap_cells w) c.load-root.result h.tree.tree = rw c.load-root.ensures (search_tree w hs h) in
+    let s : IsSearchTree (comes_before (gaps_in w)) (gap_cells w) c.load-root.result h.tree.tree =
+    rw c.load-root.ensures (search_tree w hs h) in
     c.find_first_not_before-found.ensures.first h.tree.tree s
     ∙ ap (first_not (is_too_short (gaps_in w) c.args.wanted)) h.tree.lists
     ∙ first_is_least (gaps_in w) c.args.wanted hs h.some.fits
@@ -33,13 +36,15 @@ returns-clause-first c = λ hs h.
 pub returns-clause-steps : goal.returns-clause-steps
 returns-clause-steps c = λ hs h.
     let w = c.args.self.now.gaps.now.window in
-    let s : IsSearchTree (comes_before (gaps_in w)) (gap_cells w) c.load-root.result h.tree.tree = rw c.load-root.ensures (search_tree w hs h) in
+    let s : IsSearchTree (comes_before (gaps_in w)) (gap_cells w) c.load-root.result h.tree.tree =
+    rw c.load-root.ensures (search_tree w hs h) in
     let steps = rw (tree_size w hs h) at (c.find_first_not_before-found.ensures.steps h.tree.tree s) in
     omega arith
 
 pub returns-clause-exact : goal.returns-clause-exact
 returns-clause-exact c = λ hs h.
     let w = c.args.self.now.gaps.now.window in
-    let s : IsSearchTree (comes_before (gaps_in w)) (gap_cells w) c.load-root.result h.tree.tree = rw c.load-root.ensures (search_tree w hs h) in
+    let s : IsSearchTree (comes_before (gaps_in w)) (gap_cells w) c.load-root.result h.tree.tree =
+    rw c.load-root.ensures (search_tree w hs h) in
     let exact = c.find_first_not_before-found.ensures.exact h.tree.tree s in
     omega arith

@@ -15,42 +15,56 @@ insert-changed-requires-clause-root c =
 pub insert-changed-requires-clause-tree : goal.insert-changed-requires-clause-tree
 insert-changed-requires-clause-tree c =
     let t = c.requires.tree in let w = c.args.self.now.gaps.now.window in let b = c.clear_links.new.gaps.window in
-    let h : HasTree b (t.0 ++ t.2) = c.clear_links.ensures.tree t.0 t.1 t.2 t.3 t.4 in
-    (h.tree.tree, rw c.load-root.ensures (search_tree b (t.0 ++ t.2) h), put_place w b b b t.0 t.1 t.2 c.args.node t.3 t.4 h c.clear_links.ensures.kept)
+    let h : HasTree b (t.0 ++ t.2) = c.clear_links.ensures.tree t.0 t.1 t.2 t.3 t.4 in (
+      h.tree.tree,
+      rw c.load-root.ensures (search_tree b (t.0 ++ t.2) h),
+      put_place w b b b t.0 t.1 t.2 c.args.node t.3
+          t.4 h c.clear_links.ensures.kept,
+    )
 
 pub overflow_add-self-2 : goal.overflow_add-self-2
 overflow_add-self-2 c =
     let t = c.requires.tree in let b = c.clear_links.new.gaps.window in let hs = t.0 ++ t.2 in
     let h : HasTree b (t.0 ++ t.2) = c.clear_links.ensures.tree t.0 t.1 t.2 t.3 t.4 in
-    let s : IsSearchTree (comes_before (gaps_in b)) (gap_cells b) c.load-root.result h.tree.tree = rw c.load-root.ensures (search_tree b hs h) in
+    let s : IsSearchTree (comes_before (gaps_in b)) (gap_cells b) c.load-root.result h.tree.tree =
+    rw c.load-root.ensures (search_tree b hs h) in
     let steps = rw (tree_size b hs h) at (c.insert-changed.ensures.steps h.tree.tree s) in
     let few = few_bits b hs h in let room = c.requires.room in
     omega arith
 
 pub set_link-requires-clause-inside : goal.set_link-requires-clause-inside
 set_link-requires-clause-inside c =
-    node_inside c.insert-changed.new.nodes.window c.args.node (ap (λ (p : ℕ → Bool). p c.args.node) c.insert-changed.ensures.same.nodes ∙ c.clear_links.ensures.node)
+    node_inside c.insert-changed.new.nodes.window c.args.node
+    (ap (λ (p : ℕ → Bool). p c.args.node) c.insert-changed.ensures.same.nodes ∙ c.clear_links.ensures.node)
 
 pub set_link-requires-clause-target : goal.set_link-requires-clause-target
-set_link-requires-clause-target c = target_whole c.insert-changed.new.nodes.window c.insert-changed.result.root c.insert-changed.ensures.root
+set_link-requires-clause-target c = target_whole c.insert-changed.new.nodes.window c.insert-changed.result.root
+    c.insert-changed.ensures.root
 
 pub returns-clause-tree : goal.returns-clause-tree
 returns-clause-tree c = λ xs g ys is l.
-    let w = c.args.self.now.gaps.now.window in let b = c.clear_links.new.gaps.window in let d = c.insert-changed.new.nodes.window in let e = c.set_link.new.window in
-    put_tree w b d e xs g ys c.args.node is l (c.clear_links.ensures.tree xs g ys is l) c.clear_links.ensures.kept c.insert-changed.result.root
+    let w = c.args.self.now.gaps.now.window in let b = c.clear_links.new.gaps.window in
+    let d = c.insert-changed.new.nodes.window in let e = c.set_link.new.window in
+    put_tree w b d e xs g ys c.args.node is l (c.clear_links.ensures.tree xs g ys is l) c.clear_links.ensures.kept
+    c.insert-changed.result.root
     (λ t s. c.insert-changed.ensures.tree t (rw c.load-root.ensures s))
-    c.clear_links.ensures.node c.insert-changed.ensures.same.nodes c.insert-changed.ensures.same.kept c.set_link.ensures.leads c.set_link.ensures.len c.set_link.ensures.rest
+    c.clear_links.ensures.node c.insert-changed.ensures.same.nodes c.insert-changed.ensures.same.kept
+    c.set_link.ensures.leads c.set_link.ensures.len c.set_link.ensures.rest
 
 pub returns-clause-rest : goal.returns-clause-rest
 returns-clause-rest c =
-    let w = c.args.self.now.gaps.now.window in let d = c.insert-changed.new.nodes.window in let e = c.set_link.new.window in
-    taken_rest w d e c.args.node (ap (λ (p : ℕ → Bool). p c.args.node) c.insert-changed.ensures.same.nodes ∙ c.clear_links.ensures.node)
-    (c.insert-changed.ensures.same.kept ∙ c.clear_links.ensures.kept) c.set_link.ensures.place c.set_link.ensures.len c.set_link.ensures.rest
+    let w = c.args.self.now.gaps.now.window in let d = c.insert-changed.new.nodes.window in
+    let e = c.set_link.new.window in
+    taken_rest w d e c.args.node (ap (λ (p : ℕ → Bool). p c.args.node) c.insert-changed.ensures.same.nodes
+    ∙ c.clear_links.ensures.node)
+    (c.insert-changed.ensures.same.kept ∙ c.clear_links.ensures.kept) c.set_link.ensures.place
+    c.set_link.ensures.len c.set_link.ensures.rest
 
 pub returns-clause-steps : goal.returns-clause-steps
 returns-clause-steps c = λ xs g ys is l.
     let b = c.clear_links.new.gaps.window in
     let h : HasTree b (xs ++ ys) = c.clear_links.ensures.tree xs g ys is l in
-    let s : IsSearchTree (comes_before (gaps_in b)) (gap_cells b) c.load-root.result h.tree.tree = rw c.load-root.ensures (search_tree b (xs ++ ys) h) in
+    let s : IsSearchTree (comes_before (gaps_in b)) (gap_cells b) c.load-root.result h.tree.tree =
+    rw c.load-root.ensures (search_tree b (xs ++ ys) h) in
     let steps = rw (tree_size b (xs ++ ys) h) at (c.insert-changed.ensures.steps h.tree.tree s) in
     omega arith

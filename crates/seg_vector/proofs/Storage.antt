@@ -341,24 +341,6 @@ appended {old} {s1} {each} {len} {c} {g} {o = Some x} {bytes} more f s long link
     (omega (arith, sum, total, long, step)) (Has-append ms g bytes more front back_) c2 word in
     record { change = r.change; stands = r.stands }
 
--- there is room for one more
-append-room_in : {b : List ℕ} {p : Place} {each len c g : ℕ} {o : Option Extent} {bytes : List ℕ}
-    → Stands b p each len (table c o) bytes → len < c → link_at (bytes_of b) (place_at p) ≡ Some g
-    → IsTrue (has_room (live_of b) g (each * len + each))
-append-room_in {o = None} s f link = none-some s.words.link link
-append-room_in {b} {each} {len} {c} {o = Some x} s f link =
-    let g_is = same-some (sym s.words.link ∙ link) in let full = table-full each c x s.table in
-    let within = more-times each (len + 1) c (omega arith) in
-    let step : each * (len + 1) ≡ each * len + each = omega arith in
-    subst (λ k. IsTrue (has_room (live_of b) k (each * len + each))) g_is
-    (found-room (live_of b) (handle x) (each * len + each) x s.own.0 (omega (arith, full, within, step)))
-
-pub append-room : {b : List ℕ} {p : Place} {each len : ℕ} (wl : ℕ) {g : ℕ} {t : Table} {bytes : List ℕ}
-    → Stands b p each len t bytes → wl ≡ len → wl < t.capacity → link_at (bytes_of b) (place_at p) ≡ Some g
-    → IsTrue (has_room (live_of b) g (each * wl + each))
-append-room {b} {each} wl {g} s e f link =
-    subst (λ k. IsTrue (has_room (live_of b) g (each * k + each))) (sym e) (append-room_in s (omega (arith, e, f)) link)
-
 pub at-least : (each n : ℕ) → 1 ≤ each → n ≤ each * n
 at-least each n f = grind arith
 

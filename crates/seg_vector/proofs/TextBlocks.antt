@@ -307,25 +307,25 @@ texts-between {old} {new} {p} qs a m m' b {t} {u} {gone} e f g h s x table fits 
 
 -- ---- without a place
 
+pub none-stands : {b : List ℕ} {p : Place} → Stands b p 16 0 no_table [] → IsTexts b p [] no_table
+none-stands s = record {
+  heap = s.heap;
+  words = record
+      { link = s.words.link; len_word = s.words.len_word; capacity = s.words.capacity; array = refl; texts = tt };
+  aligned = s.aligned;
+  room = s.room;
+  table = s.table;
+  fits = s.fits;
+  own = tt;
+  held = tt;
+  apart = tt;
+  others = tt;
+}
+
 pub texts-started : {old new : Cut} {p : Place} → IsHeap current old.bytes
     → IsTrue (has_room (live_of old.bytes) p.handle (p.at + 24)) → IsChanged current old new (place_at p) 24
     → Stands new.bytes p 16 0 no_table [] → IsTextsNow old new p [] [] [] no_table
-texts-started {p} heap r c s = record {
-  change = head-exchanged p heap r c;
-  texts = record {
-    heap = s.heap;
-    words = record
-        { link = s.words.link; len_word = s.words.len_word; capacity = s.words.capacity; array = refl; texts = tt };
-    aligned = s.aligned;
-    room = s.room;
-    table = s.table;
-    fits = s.fits;
-    own = tt;
-    held = tt;
-    apart = tt;
-    others = tt;
-  };
-}
+texts-started {p} heap r c s = record { change = head-exchanged p heap r c; texts = none-stands s }
 
 -- ---- one of many
 

@@ -22,8 +22,8 @@ use Rattle.seg_vector.proofs.Runs.{AreHeadWords, IsHead, IsRun, beside-head, blo
 use Rattle.seg_vector.proofs.Runs.{head-room, head-wider, len-written, none-some, room-head, run-found, run-headed}
 use Rattle.seg_vector.proofs.Runs.{run-swapped, same-some, serves-full, table, table-full, words-kept}
 use Rattle.seg_vector.proofs.Storage.{length-read, no-bytes}
-use Rattle.seg_vector.proofs.TextBlocks.{IsArrayLeft, all-split, array-left, drop-at, element-beside, element-in}
-use Rattle.seg_vector.proofs.TextBlocks.{element-trans, even-block, found-texts, held-element, links-join}
+use Rattle.seg_vector.proofs.TextBlocks.{none-stands, IsArrayLeft, all-split, array-left, drop-at, element-beside}
+use Rattle.seg_vector.proofs.TextBlocks.{element-in, element-trans, even-block, found-texts, held-element, links-join}
 use Rattle.seg_vector.proofs.TextBlocks.{links-moved, links-split, no-array, none-of, of-none, one-of, own-head}
 use Rattle.seg_vector.proofs.TextBlocks.{own_blocks, run-begin, swapped-none, texts-between, texts-own}
 use Rattle.seg_vector.proofs.Typed.{set-pieces}
@@ -78,43 +78,6 @@ cleared {old} {mid} {new} {p} {ps} {t} s x c word =
     words (no-links (bytes_of new.bytes) t.capacity t.extent) tt tt
 
 -- ---- no array
-
-no-bytes-stored : (m : Memory) (c : ℕ) (o : Option Extent) → IsStorage m (table c o) []
-no-bytes-stored m c None = refl
-no-bytes-stored m c (Some x) = refl
-
-pub stands-none : {b : List ℕ} {p : Place} {t : Table} → IsTexts b p [] t → Stands b p 16 0 t []
-stands-none {b} {t} s = record {
-  heap = s.heap;
-  words = record {
-    link = s.words.link;
-    len_word = s.words.len_word;
-    capacity = s.words.capacity;
-    storage = no-bytes-stored
-        (bytes_of b) t.capacity t.extent;
-  };
-  aligned = s.aligned;
-  room = s.room;
-  table = s.table;
-  fits = omega arith;
-  long = omega arith;
-  own = s.own;
-}
-
-pub none-stands : {b : List ℕ} {p : Place} → Stands b p 16 0 no_table [] → IsTexts b p [] no_table
-none-stands s = record {
-  heap = s.heap;
-  words = record
-      { link = s.words.link; len_word = s.words.len_word; capacity = s.words.capacity; array = refl; texts = tt };
-  aligned = s.aligned;
-  room = s.room;
-  table = s.table;
-  fits = s.fits;
-  own = tt;
-  held = tt;
-  apart = tt;
-  others = tt;
-}
 
 pub given-up-all : {old mid new : Cut} {p : Place} {t : Table} {gone : List Extent}
     → IsTextsNow old mid p gone (option_to_list t.extent) [] t → IsGivenBack mid new p 16 t
@@ -315,6 +278,14 @@ texts-stand {b} {ps} {t} s = record {
   long = raw-long (bytes_of b) t.capacity t.extent ps s.words.array;
   own = s.own;
 }
+
+raw-none : (m : Memory) (o : Option Extent) → raw m 0 o ≡ []
+raw-none m None = refl
+raw-none m (Some x) = refl
+
+pub stands-none : {b : List ℕ} {p : Place} {t : Table} → IsTexts b p [] t → Stands b p 16 0 t []
+stands-none {b} {p} {t} s = subst (λ (xs : List ℕ). Stands b p 16 0 t xs) (raw-none (bytes_of b) t.extent)
+    (texts-stand s)
 
 -- ---- the same bytes are the same elements
 

@@ -18,6 +18,7 @@ use Rattle.seg_vector.proofs.Words.{AreEvenLinks, IsReady, IsPutAsked, IsPutRead
 use Rattle.seg_vector.proofs.Words.{TakesStorage, IsTextPlaced, IsGivenUp, IsOutside, PutsInto, one_more, AreOthers}
 use Rattle.seg_vector.proofs.Words.{IsTexts, IsTextsNow, IsStillAtFirst, IsTextPutIn, placed_text, with_array}
 use Rattle.seg_vector.proofs.Words.{AreTextLinks, OwnedText, IsOwnedText, capacity_for_one, exchanged-live, []}
+use Rattle.seg_vector.proofs.Words.{IsPointed}
 use Rattle.best_fit.specs.Fit.{regrow}
 use Rattle.seg_vector.specs.Vector.{grown_table}
 use Rattle.seg_vector.proofs.Runs.{AreHeadWords, IsHead, IsRun, beside-head, block-written, head-kept, head-wider}
@@ -165,13 +166,11 @@ first-place {first} {mid} {now} {ps} {g} n s a since =
 
 adopt-place : {first old new : Cut} {p : Place} {ps : List OwnedText} {t : Table} {g n : ℕ} {loose : List Extent}
     → IsTexts first.bytes p ps t → t.capacity < n → IsInPlace first old p ps t g n loose
-    → IsChanged current old new (place_at p) 24 → link_at (bytes_of new.bytes) (place_at p) ≡ Some g
-    → word_at (bytes_of new.bytes) (place_at p + 8) ≡ word_at (bytes_of old.bytes) (place_at p + 8)
-    → word_at (bytes_of new.bytes) (place_at p + 16) ≡ n → IsAdopted first old new p ps t g n loose
-adopt-place {first} {old} {new} {p} {ps} {t} {g} {n} {loose} s more q c link len cap =
-    let y = q.array in let r = q.run in let fits = s.fits in
+    → IsPointed old new p g n → IsAdopted first old new p ps t g n loose
+adopt-place {first} {old} {new} {p} {ps} {t} {g} {n} {loose} s more q d =
+    let y = q.array in let r = q.run in let fits = s.fits in let c = d.change in
     let words : AreHeadWords (bytes_of new.bytes) (place_at p) (length ps) (table n (Some y)) =
-    record { link = link ∙ ap (λ k. Some k) q.at; len_word = len ∙ r.words.len_word; capacity = cap } in
+    record { link = d.link ∙ ap (λ k. Some k) q.at; len_word = d.len_word ∙ r.words.len_word; capacity = d.capacity } in
     let apart = (own-facts (live_of first.bytes) p.handle t.extent s.own).2 in
     let found = all-split (IsFound (live_of old.bytes).extents) loose (y ∷ []) (run-found r) in
     let none = all-split (λ (z : Extent). p.handle ≢ handle z) loose (y ∷ [])
@@ -187,9 +186,9 @@ adopt-place {first} {old} {new} {p} {ps} {t} {g} {n} {loose} s more q c link len
       serves = q.serving;
       change = exchange-order _ _ new _ 24 (option_to_list t.extent) (loose ++ (y ∷ [])) _ (last-first loose (y ∷ []))
           (run-headed r c words).change;
-      link = link;
+      link = d.link;
       len_word = words.len_word;
-      capacity = cap;
+      capacity = d.capacity;
       links = subst (λ k. AreTextLinks (bytes_of new.bytes) k ps) (sym q.at) links;
       stay = all-beside-head loose r.heap r.head c found.0 none.0;
     }
@@ -198,27 +197,21 @@ adopt-place {first} {old} {new} {p} {ps} {t} {g} {n} {loose} s more q c link len
 pub adopt-none : {first mid old new : Cut} {p : Place} {ps : List OwnedText} {c g : ℕ} (n : ℕ) {o : Option Extent}
     {loose : List Extent} → IsTexts first.bytes p ps (table c o) → c < n → IsAsked first mid o (16 * n) g
     → IsSwapped mid old [] loose
-    → link_at (bytes_of first.bytes) (place_at p) ≡ None → IsChanged current old new (place_at p) 24
-    → link_at (bytes_of new.bytes) (place_at p) ≡ Some g
-    → word_at (bytes_of new.bytes) (place_at p + 8) ≡ word_at (bytes_of old.bytes) (place_at p + 8)
-    → word_at (bytes_of new.bytes) (place_at p + 16) ≡ n → IsAdopted first old new p ps (table c o) g n loose
-adopt-none n {o = Some x} s more a since was ch link len cap = none-some was s.words.link
-adopt-none n {o = None} s more (widened w is) since was ch link len cap = absurd (cc)
-adopt-none n {o = None} s more (taken a e) since was ch link len cap = adopt-place s more (first-place n s a since) ch
-    link len cap
+    → link_at (bytes_of first.bytes) (place_at p) ≡ None → IsPointed old new p g n
+    → IsAdopted first old new p ps (table c o) g n loose
+adopt-none n {o = Some x} s more a since was d = none-some was s.words.link
+adopt-none n {o = None} s more (widened w is) since was d = absurd (cc)
+adopt-none n {o = None} s more (taken a e) since was d = adopt-place s more (first-place n s a since) d
 
 -- the same one
 pub adopt-same : {first mid old new : Cut} {p : Place} {ps : List OwnedText} {c g : ℕ} (n : ℕ) {o : Option Extent}
     {loose : List Extent} → IsTexts first.bytes p ps (table c o) → c < n → IsAsked first mid o (16 * n) g
     → IsSwapped mid old [] loose
-    → link_at (bytes_of first.bytes) (place_at p) ≡ Some g → IsChanged current old new (place_at p) 24
-    → link_at (bytes_of new.bytes) (place_at p) ≡ Some g
-    → word_at (bytes_of new.bytes) (place_at p + 8) ≡ word_at (bytes_of old.bytes) (place_at p + 8)
-    → word_at (bytes_of new.bytes) (place_at p + 16) ≡ n → IsAdopted first old new p ps (table c o) g n loose
-adopt-same n {o = None} s more a since was ch link len cap = none-some s.words.link was
-adopt-same n {o = Some x} s more (widened w is) since was ch link len cap =
-    adopt-place s more (wide-place n s w is since) ch link len cap
-adopt-same n {o = Some x} s more (taken a e) since was ch link len cap =
+    → link_at (bytes_of first.bytes) (place_at p) ≡ Some g → IsPointed old new p g n
+    → IsAdopted first old new p ps (table c o) g n loose
+adopt-same n {o = None} s more a since was d = none-some s.words.link was
+adopt-same n {o = Some x} s more (widened w is) since was d = adopt-place s more (wide-place n s w is since) d
+adopt-same n {o = Some x} s more (taken a e) since was d =
     let g_is = same-some (sym s.words.link ∙ was) in
     absurd (new-other (handle x) a s.own.0 (g_is ∙ a.at))
 
@@ -277,12 +270,10 @@ adopt-beside : {first mid old a1 a2 new : Cut} {p : Place} {ps : List OwnedText}
     → regrow (live_of first.bytes) (Some x) (16 * n) ≡ Some a.extent → IsSwapped mid old [] loose
     → IsChanged current old a1 (g + 0) (16 * length ps)
     → AreSameElements (bytes_of old.bytes) (bytes_of a1.bytes) (handle x + 0) (g + 0) (length ps)
-    → IsChanged current a1 a2 (place_at p) 24 → link_at (bytes_of a2.bytes) (place_at p) ≡ Some g
-    → word_at (bytes_of a2.bytes) (place_at p + 8) ≡ word_at (bytes_of a1.bytes) (place_at p + 8)
-    → word_at (bytes_of a2.bytes) (place_at p + 16) ≡ n → IsReleased current a2 new (handle x)
+    → IsPointed a1 a2 p g n → IsReleased current a2 new (handle x)
     → IsAdopted first old new p ps (table c (Some x)) g n loose
-adopt-beside {first} {old} {a1} {a2} {new} {p} {ps} {c} {g} n {x} {loose} s more a grow since c1 carried c2 link len
-    cap rel =
+adopt-beside {first} {old} {a1} {a2} {new} {p} {ps} {c} {g} n {x} {loose} s more a grow since c1 carried d rel =
+    let c2 = d.change in
     let t = table c (Some x) in let y = a.extent in let k = length ps in let u = table n (Some y) in
     let g_is = a.at in let b = beside s a since in let fits = s.fits in let full = table-full 16 c x s.table in
     let serving = place-serves (live_of first.bytes) (16 * n) Storage y a.placed in
@@ -295,7 +286,11 @@ adopt-beside {first} {old} {a1} {a2} {new} {p} {ps} {c} {g} n {x} {loose} s more
     big in
     let r1 = run-swapped (loose ++ (x ∷ [])) (middle-first loose (y ∷ []) (x ∷ [])) b.run x1 (none.1.0, tt) in
     let words : AreHeadWords (bytes_of a2.bytes) (place_at p) k u =
-    record { link = link ∙ ap (λ k. Some k) g_is; len_word = len ∙ r1.words.len_word; capacity = cap } in
+    record {
+      link = d.link ∙ ap (λ k. Some k) g_is;
+      len_word = d.len_word ∙ r1.words.len_word;
+      capacity = d.capacity;
+    } in
     let r2 = run-headed r1 c2 words in let x3 = exchange-released _ a2 new x 0 0 rel in
     let r3 = run-swapped (y ∷ loose) (last-first (y ∷ loose) (x ∷ [])) r2 x3 (b.other, tt) in
     let found1 = run-found r1 in let found2 = run-found r2 in
@@ -336,20 +331,16 @@ pub adopt-other : {first mid old a1 a2 new : Cut} {p : Place} {ps : List OwnedTe
     → IsAsked first mid o (16 * n) g → IsSwapped mid old [] loose
     → link_at (bytes_of first.bytes) (place_at p) ≡ Some h → h ≢ g → IsChanged current old a1 (g + 0) (16 * length ps)
     → AreSameElements (bytes_of old.bytes) (bytes_of a1.bytes) (h + 0) (g + 0) (length ps)
-    → IsChanged current a1 a2 (place_at p) 24 → link_at (bytes_of a2.bytes) (place_at p) ≡ Some g
-    → word_at (bytes_of a2.bytes) (place_at p + 8) ≡ word_at (bytes_of a1.bytes) (place_at p + 8)
-    → word_at (bytes_of a2.bytes) (place_at p + 16) ≡ n → IsReleased current a2 new h
-    → IsAdopted first old new p ps (table c o) g n loose
-adopt-other n {o = None} s more a since was differ c1 carried c2 link len cap rel = none-some s.words.link was
-adopt-other n {o = Some x} s more (widened w is) since was differ c1 carried c2 link len cap rel =
+    → IsPointed a1 a2 p g n → IsReleased current a2 new h → IsAdopted first old new p ps (table c o) g n loose
+adopt-other n {o = None} s more a since was differ c1 carried d rel = none-some s.words.link was
+adopt-other n {o = Some x} s more (widened w is) since was differ c1 carried d rel =
     let h_is = same-some (sym s.words.link ∙ was) in
     absurd (differ (sym h_is ∙ ap (λ (z : Extent). handle z) (same-some is) ∙ w.at))
-adopt-other {old} {a1} {a2} {new} {ps} {g} n {o = Some x} s more (taken a e) since was differ c1 carried c2 link len
-    cap rel =
+adopt-other {old} {a1} {a2} {new} {ps} {g} n {o = Some x} s more (taken a e) since was differ c1 carried d rel =
     let h_is = same-some (sym was ∙ s.words.link) in
     adopt-beside {new = new} n s more a e since c1
     (subst (λ k. AreSameElements (bytes_of old.bytes) (bytes_of a1.bytes) (k + 0) (g + 0) (length ps)) h_is
-    carried) c2 link len cap (subst (IsReleased current a2 new) h_is rel)
+    carried) d (subst (IsReleased current a2 new) h_is rel)
 
 -- ---- what is known of the heap once an array was asked for
 
@@ -389,6 +380,21 @@ ready-in {first} n {o = Some x} {loose} s (taken a e) since =
       found = b.new_found;
       big = serves-full a.extent (16 * n) (place-serves (live_of first.bytes) (16 * n) Storage _ a.placed);
     }
+
+abbrev pub ready-of : {first mid now : Cut} {p : Place} {ps : List OwnedText} {t : Table} {g : ℕ} (n : ℕ)
+    {loose : List Extent} → IsTexts first.bytes p ps t → t.capacity < n → IsAsked first mid t.extent (16 * n) g
+    → IsSwapped mid now [] loose → IsReady now p g n
+ready-of {first} {mid} {ps = ps} {t} n {loose} s more a since = record {
+  first = first;
+  mid = mid;
+  ps = ps;
+  t = t;
+  loose = loose;
+  texts = s;
+  more = more;
+  asked = a;
+  since = since;
+}
 
 pub ready : {now : Cut} {p : Place} {g n : ℕ} → (r : IsReady now p g n) → IsReadyRun r.first now p r.ps r.t g n
 ready {n} r = ready-in n r.texts r.asked r.since
@@ -448,24 +454,6 @@ ready-new_in {first} {now} {p} {ps} {c} {g} {h} n {o = Some x} {loose} s more (t
 pub ready-new : {now : Cut} {p : Place} {g h n : ℕ} → (r : IsReady now p g n)
     → link_at (bytes_of now.bytes) (place_at p) ≡ Some h → h ≢ g → IsReadyNew now g h n (length r.ps)
 ready-new {n} r was differ = ready-new_in n r.texts r.more r.asked r.since (sym (ready-link r) ∙ was) differ
-
-pub since-link : {first mid now : Cut} {p : Place} {ps : List OwnedText} {t : Table} {g : ℕ} (n : ℕ)
-    {loose : List Extent} → IsTexts first.bytes p ps t → t.capacity < n → IsAsked first mid t.extent (16 * n) g
-    → IsSwapped mid now [] loose
-    → link_at (bytes_of first.bytes) (place_at p) ≡ link_at (bytes_of now.bytes) (place_at p)
-since-link {first} {mid} {now} {p} {ps} {t} {g} n {loose} s more a since =
-    sym (ready-link {now = now} {p = p} {g = g} {n = n}
-    (record {
-      first = first;
-      mid = mid;
-      ps = ps;
-      t = t;
-      loose = loose;
-      texts = s;
-      more = more;
-      asked = a;
-      since = since;
-    }))
 
 pub since-len : {now : Cut} {p : Place} {g n : ℕ} (k : ℕ) → (r : IsReady now p g n)
     → k ≡ word_at (bytes_of now.bytes) (place_at p + 8) → k ≡ length r.ps
@@ -859,7 +847,8 @@ pub put-answered : (old new : Cut) (p : Place) (ps : List OwnedText) (t : Table)
     IsOutside old new (length ps + 1) i e ⊎ ((i ≤ length ps) × IsGivenUp old new
     (one_more (live_of old.bytes) ps t bytes) e))
 put-answered old new p ps t bytes (Ok u) f h = (f, h)
-put-answered old new p ps t bytes (Err e) f h = inr (f, record { refusal = h.refusal; none = h.none; restored = h.restored })
+put-answered old new p ps t bytes (Err e) f h =
+    inr (f, record { refusal = h.refusal; none = h.none; restored = h.restored })
 
 pub first-answered : (old new : Cut) (p : Place) (ps : List OwnedText) (t : Table) (i : ℕ) (bytes : List ℕ)
     (r : Result (Unit {0}) Refusal) → PutsInto old new p ps t i bytes r → IsStillAtFirst old new ps t bytes

@@ -16,6 +16,7 @@ use Rattle.seg_vector.proofs.Words.{AreNotLaidOut, AreSameElements, IsServed, Is
 use Rattle.seg_vector.proofs.Words.{AreHeldElements, AreOthers, placed_text, placed_texts, text_blocks, with_text}
 use Rattle.seg_vector.proofs.Words.{all_texts, new_array, AreTextsAssigned, AssignsTexts, IsTexts, IsTextsNow}
 use Rattle.seg_vector.proofs.Words.{ReleasesTexts, AreTextLinks, IsOwnedText, OwnedText, Place, place_at, []}
+use Rattle.seg_vector.proofs.Words.{IsPointed}
 use Rattle.seg_vector.proofs.Runs.{AreHeadWords, IsHead, block-written, changed-both, head-exchanged, len-written}
 use Rattle.seg_vector.proofs.Runs.{run-none, run-swapped, same-some, serves-full, table}
 use Rattle.seg_vector.proofs.TextBlocks.{all-join, all-split, element-beside, element-in, element-trans, even-block}
@@ -299,7 +300,8 @@ pub no-space : {old new : Cut} (n : ℕ) (more : List (List ℕ)) {f : Refusal} 
     → n ≡ length more → IsWithoutFit old new (place (live_of old.bytes) (16 * n) Storage) f
     → AreNotLaidOut old new more f
 no-space {old} {new} n more heap some e r = subst (AreNotLaidOut old new more) (sym r.refusal)
-    (subst (λ (c : Cut). AreNotLaidOut old c more NoSpace) (sym r.same) (unchanged old more heap (no-array (live_of old.bytes) more (omega (arith, e, some))
+    (subst (λ (c : Cut). AreNotLaidOut old c more NoSpace) (sym r.same)
+    (unchanged old more heap (no-array (live_of old.bytes) more (omega (arith, e, some))
     (subst (λ k. place (live_of old.bytes) (16 * k) Storage ≡ None) e r.none))))
 
 -- ---- the array
@@ -522,17 +524,16 @@ laid-still s w = texts-still s w.change
 pub assigned : {old now rel led new : Cut} {p : Place} {ps : List OwnedText} {t : Table} {g : ℕ} (n : ℕ)
     {more : List (List ℕ)} → IsTexts old.bytes p ps t → (w : AreLaidOut old now more g) → n ≡ length more → 0 < n
     → ReleasesTexts now rel p
-    → IsChanged current rel led (place_at p) 24 → link_at (bytes_of led.bytes) (place_at p) ≡ Some g
-    → word_at (bytes_of led.bytes) (place_at p + 16) ≡ n
-    → IsChanged current led new (p.handle + (p.at + 8)) 8 → word_at (bytes_of new.bytes) (p.handle + (p.at + 8)) ≡ n
+    → IsPointed rel led p g n → IsChanged current led new (p.handle + (p.at + 8)) 8
+    → word_at (bytes_of new.bytes) (p.handle + (p.at + 8)) ≡ n
     → AreTextsAssigned old new p ps t more
-assigned {rel} {led} {new} {p} {ps} {t} n s w e some r c link capacity d word =
+assigned {rel} {led} {new} {p} {ps} {t} n s w e some r q d word =
     let at : p.handle + (p.at + 8) ≡ place_at p + 8 = omega arith in
     let u = table n (Some w.block) in
     let d' : IsChanged current led new (place_at p + 8) 8 = subst (λ k. IsChanged current led new k 8) at d in
-    let both = changed-both (place_at p) 24 c d' (omega arith) (omega arith) (omega arith) (omega arith) in
+    let both = changed-both (place_at p) 24 q.change d' (omega arith) (omega arith) (omega arith) (omega arith) in
     let before : AreHeadWords (bytes_of led.bytes) (place_at p) (word_at (bytes_of led.bytes) (place_at p + 8)) u =
-    record { link = link ∙ ap (λ k. Some k) w.at; len_word = refl; capacity = capacity } in
+    record { link = q.link ∙ ap (λ k. Some k) w.at; len_word = refl; capacity = q.capacity } in
     let words = len-written n refl d'.rest (subst (λ k. word_at (bytes_of new.bytes) k ≡ n) at word) before in
     assigned-at s w e some (r ps t (laid-still s w)) both words
 

@@ -55,7 +55,7 @@ pub use Rattle.seg_vector.specs.TextLists.{AreLaid, AreLaidUpTo, AreLaidOut, Are
 pub use Rattle.seg_vector.specs.TextParts.{IsSwapped, AreSameElements, IsServed, TakesStorage, IsTextPlaced}
 pub use Rattle.seg_vector.specs.TextParts.{AreHeldElements, IsHeldElement, IsSameElement, AreEvenLinks, IsAdopted}
 pub use Rattle.seg_vector.specs.TextParts.{IsAsked, taken, widened, IsReady, IsPutAsked, IsPutReady}
-pub use Rattle.seg_vector.specs.TextParts.{room_of, IsRefusedPut, IsTextReplaced, PutsInto}
+pub use Rattle.seg_vector.specs.TextParts.{room_of, IsRefusedPut, IsTextReplaced, PutsInto, IsPointed}
 pub use Rattle.seg_vector.specs.TextsCalls.{AreOthers, placed_text, placed_texts, text_blocks, with_text, all_texts}
 pub use Rattle.seg_vector.specs.TextsCalls.{new_array, AreTextsAssigned, AssignsTexts, IsTexts, IsTextsNow}
 pub use Rattle.seg_vector.specs.TextsCalls.{ReleasesTexts, IsHeldText, IsTextElement, IsStillAtFirst, IsTextPutIn}

@@ -107,6 +107,13 @@ AsksArray old new p n result =
     (ps : List OwnedText) (t : Table) → IsTexts old.bytes p ps t
     → MatchResult result (IsAsked old new t.extent (16 * n)) (IsWithoutFit old new (regrow (live_of old.bytes) t.extent (16 * n)))
 
+-- the link and the capacity at a place are these
+pub record IsPointed (old new : Cut) (p : Place) (g n : ℕ) : Type 0 where
+  pub change : IsChanged current old new (place_at p) 24
+  pub link : link_at (bytes_of new.bytes) (place_at p) ≡ Some g
+  pub len_word : word_at (bytes_of new.bytes) (place_at p + 8) ≡ word_at (bytes_of old.bytes) (place_at p + 8)
+  pub capacity : word_at (bytes_of new.bytes) (place_at p + 16) ≡ n
+
 -- An array was asked for, and other blocks were taken into use since; the vector is as it was.
 pub record IsReady (now : Cut) (p : Place) (g n : ℕ) : Type 0 where
   pub first : Cut
@@ -133,9 +140,7 @@ pub record IsAdopted (first old new : Cut) (p : Place) (ps : List OwnedText) (t 
   pub stay : AllByRecursion (SameBlock (bytes_of old.bytes) (bytes_of new.bytes)) loose
 
 abbrev pub Adopts : Cut → Cut → Place → ℕ → ℕ → Type 0
-Adopts old new p g n =
-    (first mid : Cut) (ps : List OwnedText) (t : Table) (loose : List Extent) → IsTexts first.bytes p ps t → t.capacity < n → IsAsked first mid t.extent (16 * n) g → IsSwapped mid old [] loose
-    → IsAdopted first old new p ps t g n loose
+Adopts old new p g n = (r : IsReady old p g n) → IsAdopted r.first old new p r.ps r.t g n r.loose
 
 -- ---- one text more
 

@@ -1,14 +1,13 @@
 //! The array of a vector of texts: elements of a link, which is a distance, and a length. They are moved as a link and a word,
 //! within it and to one with more places.
-ghost use Rattle.std.specs.Prelude.{◌≡◌, Some, ◌+◌, ◌*◌, ◌%◌, ◌^◌, ◌<◌, ◌≤◌, ◌⊎◌, IfSome, IsTrue, true, false};
+ghost use Rattle.std.specs.Prelude.{◌≡◌, ◌+◌, ◌*◌, ◌%◌, ◌^◌, ◌<◌, ◌≤◌, ◌⊎◌, IfSome, IsTrue, true, false};
 ghost use Rattle.raw_region.specs.Format.{current};
 ghost use Rattle.raw_region.specs.Memory.{bytes_of, word_at};
 ghost use Rattle.offset_link.specs.Link.{link_at};
 ghost use Rattle.best_fit.specs.Exchange.{IsNotWidened, IsWidened};
 ghost use Rattle.best_fit.specs.Heap.{IsChanged, IsHeap, has_room, is_live_in, live_of};
-ghost use Rattle.seg_vector.specs.TextParts.{Adopts, AreEvenLinks, AreSameElements, AsksArray, GivesUp, HasArrayRoom, HasPlace, InsertsGrowing, InsertsWithin, IsFull, IsPutAsked, IsReady, IsSameElement, IsToBeGivenUp, PutsIn};
+ghost use Rattle.seg_vector.specs.TextParts.{Adopts, AreEvenLinks, AreSameElements, AsksArray, GivesUp, HasArrayRoom, HasPlace, InsertsGrowing, InsertsWithin, IsFull, IsPointed, IsPutAsked, IsReady, IsSameElement, IsToBeGivenUp, PutsIn};
 ghost use Rattle.seg_vector.specs.TextsCalls.{IsSomeTexts};
-ghost use Rattle.seg_vector.specs.Standing.{place_at};
 
 use crate::owning::{place_text, take};
 use crate::places::{CAPACITY, ELEMENT, LEN, Place, len_of, link_of};
@@ -120,10 +119,7 @@ pub fn point_to(heap: &mut Heap, place: Place, array: u64, n: u64)
     requires aligned { place.at % 8 ≡ 0 }
     requires room { IsTrue (has_room (live_of heap.old.bytes) place.handle (place.at + 24)) }
     requires even { array % 16 ≡ 0 }
-    ensures change { IsChanged current heap.old heap.new (place_at place) 24 }
-    ensures link { link_at (bytes_of heap.new.bytes) (place_at place) ≡ Some array }
-    ensures len_word { word_at (bytes_of heap.new.bytes) (place_at place + 8) ≡ word_at (bytes_of heap.old.bytes) (place_at place + 8) }
-    ensures capacity { word_at (bytes_of heap.new.bytes) (place_at place + 16) ≡ n }
+    ensures { IsPointed heap.old heap.new place array n }
 {
     heap.set_link(place.handle, place.at, Some(array));
     heap.set_word(place.handle, place.at + CAPACITY, n);

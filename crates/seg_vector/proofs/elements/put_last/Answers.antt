@@ -1,43 +1,32 @@
 -- The element lies in the storage, and the length in the container's own block.
-use Rattle.seg_vector.proofs.Words.{◌≡◌, sym, subst, ap, ◌∙◌, ◌+◌, ◌*◌, ◌<◌, arith, IsTrue, length, current}
+use Rattle.seg_vector.proofs.Words.{sym, subst, ap, ◌∙◌, ◌+◌, ◌*◌, ◌<◌, ◌-◌, arith, IsTrue, length, current}
 use Rattle.seg_vector.proofs.Words.{IsChanged, has_room, live_of, bytes_of, Has, changed-room}
-use Rattle.seg_vector.proofs.Storage.{append-room, appended, at-least, len-read, len-room, room-small, stands-small}
+use Rattle.seg_vector.proofs.elements.put_last.Goals.{In-Some}
+use Rattle.seg_vector.proofs.Storage.{Fitting, appended, at-least, insert-fits, len-read, len-room, part-room}
+use Rattle.seg_vector.proofs.Storage.{stands-small}
 use Rattle.seg_vector.proofs.elements.put_last.Goals as goal
 
 pub overflow_add-place : goal.overflow_add-place
 overflow_add-place c = let small = stands-small c.requires.stands.1.1.1 in omega arith
 
+fits : (c : In-Some) → Fitting (live_of c.args.heap.now.bytes) c.args.each c.len_of-len.result
+    (c.args.each * (c.len_of-len.result - c.len_of-len.result)) c.in-Some.storage
+fits c = insert-fits c.args.heap.now c.len_of-len.result c.len_of-len.result c.requires.stands.1.1.1
+    c.len_of-len.ensures (omega (arith, c.len_of-len.ensures)) c.requires.space (sym c.link_of.ensures ∙ c.in-Some.is)
+
 pub overflow_mul-each : goal.overflow_mul-each
-overflow_mul-each c =
-    let small = room-small c.args.heap.now c.in-Some.storage (c.args.each * c.len_of-len.result + c.args.each)
-    c.requires.stands.1.1.1.heap (append-room c.len_of-len.result c.requires.stands.1.1.1
-    (len-read c.len_of-len.result c.requires.stands.1.1.1 c.len_of-len.ensures)
-    (let is : c.len_of-len.result ≡ c.requires.stands.0 = len-read c.len_of-len.result c.requires.stands.1.1.1
-    c.len_of-len.ensures in omega
-    (arith, is, c.requires.space, c.requires.stands.1.1.1.words.len_word, c.requires.stands.1.1.1.words.capacity))
-    (sym c.link_of.ensures ∙ c.in-Some.is)) in
-    omega (arith, small)
+overflow_mul-each c = omega (arith, (fits (goal.at.overflow_mul-each c).In-Some).small)
 
 pub overflow_add-len : goal.overflow_add-len
 overflow_add-len c =
-    let small = room-small c.args.heap.now c.in-Some.storage (c.args.each * c.len_of-len.result + c.args.each)
-    c.requires.stands.1.1.1.heap (append-room c.len_of-len.result c.requires.stands.1.1.1
-    (len-read c.len_of-len.result c.requires.stands.1.1.1 c.len_of-len.ensures)
-    (let is : c.len_of-len.result ≡ c.requires.stands.0 = len-read c.len_of-len.result c.requires.stands.1.1.1
-    c.len_of-len.ensures in omega
-    (arith, is, c.requires.space, c.requires.stands.1.1.1.words.len_word, c.requires.stands.1.1.1.words.capacity))
-    (sym c.link_of.ensures ∙ c.in-Some.is)) in
     let least = at-least c.args.each c.len_of-len.result c.requires.some in
-    omega (arith, small, least)
+    omega (arith, (fits (goal.at.overflow_add-len c).In-Some).small, least)
 
 pub write-requires : goal.write-requires
-write-requires c = subst (λ k. IsTrue (has_room (live_of c.args.heap.now.bytes) c.in-Some.storage
-    (c.args.each * c.len_of-len.result + k))) (sym c.requires.long) (append-room c.len_of-len.result c.requires.stands.1.1.1
-    (len-read c.len_of-len.result c.requires.stands.1.1.1 c.len_of-len.ensures)
-    (let is : c.len_of-len.result ≡ c.requires.stands.0 = len-read c.len_of-len.result c.requires.stands.1.1.1
-    c.len_of-len.ensures in omega
-    (arith, is, c.requires.space, c.requires.stands.1.1.1.words.len_word, c.requires.stands.1.1.1.words.capacity))
-    (sym c.link_of.ensures ∙ c.in-Some.is))
+write-requires c =
+    let k = c.args.each * c.len_of-len.result in
+    subst (λ w. IsTrue (has_room (live_of c.args.heap.now.bytes) c.in-Some.storage (k + w))) (sym c.requires.long)
+    (part-room (k + c.args.each) (omega arith) (fits (goal.at.write-requires c).In-Some))
 
 pub set_word-requires : goal.set_word-requires
 set_word-requires c = changed-room _ _ _ _ _ c.args.place.handle (c.args.place.at + 8 + 8) c.write.ensures.change

@@ -9,11 +9,13 @@ overflow_add-place c = let small = stands-small c.requires.stands.1.1.1 in omega
 
 pub regrow-requires-clause-room : goal.regrow-requires-clause-room
 regrow-requires-clause-room c =
-    storage-read c.len_of.result c.link_of-storage.result c.requires.stands.1.1.1 c.link_of-storage.ensures c.len_of.ensures
+    storage-read c.len_of.result c.link_of-storage.result c.requires.stands.1.1.1
+    c.link_of-storage.ensures c.len_of.ensures
 
 pub set_link-requires-clause-room : goal.set_link-requires-clause-room
 set_link-requires-clause-room c = link-room c.regrow.new.self.bytes c.args.place
-    (mid-room c.requires.stands.1.1.1 (given-of c.args.n c.len_of.result c.link_of-storage.result c.requires.stands.1.1.1
+    (mid-room c.requires.stands.1.1.1
+    (given-of c.args.n c.len_of.result c.link_of-storage.result c.requires.stands.1.1.1
     c.link_of-storage.ensures c.len_of.ensures c.in-Ok.ensures))
 
 pub set_link-requires-clause-target : goal.set_link-requires-clause-target
@@ -43,7 +45,8 @@ returns-in-Ok c len t bytes s =
     let capacity = capacity-read c.capacity_of.result s c.capacity_of.ensures in
     let at : c.args.place.handle + (c.args.place.at + 16) ≡ c.args.place.handle + c.args.place.at + 16 = omega arith in
     grows-more {new = c.set_word.new.self} c.args.n (omega (arith, capacity, c.if-n-capacity_of.false)) s
-    (given-of c.args.n c.len_of.result c.link_of-storage.result s c.link_of-storage.ensures c.len_of.ensures c.in-Ok.ensures)
+    (given-of c.args.n c.len_of.result c.link_of-storage.result s c.link_of-storage.ensures
+    c.len_of.ensures c.in-Ok.ensures)
     c.set_link.ensures.change c.set_link.ensures.leads
     (subst (λ k. IsChanged current c.set_link.new.self c.set_word.new.self k 8) at c.set_word.ensures.change)
     (subst (λ k. word_at (bytes_of c.set_word.new.self.bytes) k ≡ c.args.n) at c.set_word.ensures.word)

@@ -4,7 +4,7 @@ use Rattle.seg_vector.proofs.Words.{bytes_of, IsChanged, has_room, live_of, chan
 use Rattle.seg_vector.proofs.Runs.{head-room}
 use Rattle.seg_vector.proofs.Storage.{live-if}
 use Rattle.seg_vector.proofs.TextGrowth.{adopt-none, adopt-other, adopt-same, ready, ready-even, ready-new, since-len}
-use Rattle.seg_vector.proofs.TextGrowth.{since-link}
+use Rattle.seg_vector.proofs.TextGrowth.{ready-link}
 use Rattle.seg_vector.proofs.text_arrays.adopt.Goals as goal
 
 pub len_of-len-requires-clause-heap : goal.len_of-len-requires-clause-heap
@@ -79,37 +79,21 @@ deallocate-requires c =
     (changed-room _ _ _ _ _ c.in-Some.old (0 + 16 * length c.requires.ps) c.carry_down.ensures.change w.source))
 
 pub returns-in-None : goal.returns-in-None
-returns-in-None c first mid ps t loose s more a since =
-    adopt-none c.args.n s more a since (since-link c.args.n s more a since ∙ sym c.link_of.ensures ∙ c.in-None.is)
-    c.point_to.ensures.change c.point_to.ensures.link c.point_to.ensures.len_word c.point_to.ensures.capacity
+returns-in-None c r = adopt-none c.args.n r.texts r.more r.asked r.since
+    (sym (ready-link r) ∙ sym c.link_of.ensures ∙ c.in-None.is) c.point_to.ensures
 
 pub returns-then-old-array : goal.returns-then-old-array
-returns-then-old-array c first mid ps t loose s more a since =
-    adopt-same c.args.n s more a since (since-link c.args.n s more a since ∙ sym c.link_of.ensures ∙ c.in-Some.is
-    ∙ ap (λ k. Some k) c.if-old-array.true) c.point_to-then-old-array.ensures.change
-    c.point_to-then-old-array.ensures.link c.point_to-then-old-array.ensures.len_word
-    c.point_to-then-old-array.ensures.capacity
+returns-then-old-array c r = adopt-same c.args.n r.texts r.more r.asked r.since
+    (sym (ready-link r) ∙ sym c.link_of.ensures ∙ c.in-Some.is ∙ ap (λ k. Some k) c.if-old-array.true)
+    c.point_to-then-old-array.ensures
 
 pub returns-else-old-array : goal.returns-else-old-array
-returns-else-old-array c first mid ps t loose s more a since =
-    let n = since-len {now = c.args.heap.now} {p = c.args.place} {g = c.args.array} {n = c.args.n} c.len_of-len.result
-    (record {
-      first = first;
-      mid = mid;
-      ps = ps;
-      t = t;
-      loose = loose;
-      texts = s;
-      more = more;
-      asked = a;
-      since = since;
-    }) c.len_of-len.ensures in
-    adopt-other c.args.n s more a since (since-link c.args.n s more a since ∙ sym c.link_of.ensures ∙ c.in-Some.is)
-    c.if-old-array.false
+returns-else-old-array c r =
+    let n = since-len c.len_of-len.result r c.len_of-len.ensures in
+    adopt-other c.args.n r.texts r.more r.asked r.since
+    (sym (ready-link r) ∙ sym c.link_of.ensures ∙ c.in-Some.is) c.if-old-array.false
     (subst (λ k. IsChanged current c.args.heap.now c.carry_down.new.heap (c.args.array + 0) (16 * k)) n
     c.carry_down.ensures.change)
     (subst (AreSameElements (bytes_of c.args.heap.now.bytes) (bytes_of c.carry_down.new.heap.bytes)
     (c.in-Some.old + 0) (c.args.array + 0)) n c.carry_down.ensures.carried)
-    c.point_to-else-old-array.ensures.change c.point_to-else-old-array.ensures.link
-    c.point_to-else-old-array.ensures.len_word c.point_to-else-old-array.ensures.capacity
-    c.deallocate.ensures.released
+    c.point_to-else-old-array.ensures c.deallocate.ensures.released

@@ -1,8 +1,7 @@
 -- The array is asked for, then the text, and then the array is adopted and the text put in; or all is given up.
-use Rattle.seg_vector.proofs.Words.{sym, ap, subst, ◌*◌, length, Cut, IsAsked, option_to_list}
-use Rattle.seg_vector.proofs.Words.{err_from_is_err_and}
-use Rattle.seg_vector.proofs.TextGrowth.{asked-heap, growing-err, growing-none, growing-ok, growing-ready, more-places}
-use Rattle.seg_vector.proofs.TextGrowth.{small-wanted}
+use Rattle.seg_vector.proofs.Words.{sym, ap, subst, ◌*◌, length, Cut, IsAsked, err_from_is_err_and}
+use Rattle.seg_vector.proofs.TextGrowth.{asked-heap, growing-err, growing-none, growing-ok, growing-ready}
+use Rattle.seg_vector.proofs.TextGrowth.{more-places, ready-of, small-wanted}
 use Rattle.seg_vector.proofs.text_arrays.insert_growing.Goals as goal
 
 pub ask_array-requires-clause-small : goal.ask_array-requires-clause-small
@@ -29,24 +28,15 @@ give_up-requires c =
 pub adopt-requires : goal.adopt-requires
 adopt-requires c =
     let r = c.requires in
-    record {
-      first = c.args.heap.now;
-      mid = c.ask_array.new.heap;
-      ps = r.ps;
-      t = r.t;
-      loose = option_to_list c.in-Ok.ensures.text.extent;
-      texts = r.texts;
-      more = (more-places c.args.heap.now c.args.n r.texts r.full r.wanted).0;
-      asked = c.in_ok-array.ensures r.ps r.t r.texts;
-      since = c.in-Ok.ensures.change;
-    }
+    ready-of c.args.n r.texts (more-places c.args.heap.now c.args.n r.texts r.full r.wanted).0
+    (c.in_ok-array.ensures r.ps r.t r.texts) c.in-Ok.ensures.change
 
 pub put_in-requires : goal.put_in-requires
 put_in-requires c =
     let r = c.requires in let pl = c.in-Ok.ensures in
     let both = more-places c.args.heap.now c.args.n r.texts r.full r.wanted in
-    let ad = c.adopt.ensures c.args.heap.now c.ask_array.new.heap r.ps r.t (option_to_list pl.text.extent) r.texts
-    both.0 (c.in_ok-array.ensures r.ps r.t r.texts) pl.change in
+    let ad = c.adopt.ensures
+    (ready-of c.args.n r.texts both.0 (c.in_ok-array.ensures r.ps r.t r.texts) pl.change) in
     record {
       first = c.args.heap.now;
       ps = r.ps;
@@ -80,8 +70,7 @@ pub returns-in-Ok : goal.returns-in-Ok
 returns-in-Ok c ps t s inside full wanted =
     let pl = c.in-Ok.ensures in let a = c.in_ok-array.ensures ps t s in
     let both = more-places c.args.heap.now c.args.n s full wanted in
-    let ad = c.adopt.ensures c.args.heap.now c.ask_array.new.heap ps t (option_to_list pl.text.extent) s both.0 a
-    pl.change in
+    let ad = c.adopt.ensures (ready-of c.args.n s both.0 a pl.change) in
     let ready = growing-ready s both.1 pl ad in
     growing-ok c.args.index both.0 wanted a pl ad
     (c.put_in.ensures c.args.heap.now ps t ad.array c.args.n pl.text ready inside pl.at (ap length (sym pl.same)))

@@ -15,22 +15,14 @@ pub set_word-requires : goal.set_word-requires
 set_word-requires c = changed-room _ _ _ _ 8 c.args.place.handle (c.args.place.at + 16 + 8) c.set_link.ensures.change
     (capacity-room c.args.heap.now.bytes c.args.place c.requires.room)
 
-pub returns-clause-change : goal.returns-clause-change
-returns-clause-change c = changed-both (c.args.place.handle + c.args.place.at) 24
-    c.set_link.ensures.change c.set_word.ensures.change (omega arith) (omega arith) (omega arith) (omega arith)
-
-pub returns-clause-link : goal.returns-clause-link
-returns-clause-link c =
-    SameBut-link _ _ _ 8 (c.args.place.handle + c.args.place.at) c.set_word.ensures.change.rest (inl (omega arith))
-    ∙ c.set_link.ensures.leads
-
-pub returns-clause-len_word : goal.returns-clause-len_word
-returns-clause-len_word c =
-    SameBut-word _ _ _ 8 (c.args.place.handle + c.args.place.at + 8) c.set_word.ensures.change.rest (inl (omega arith))
-    ∙ SameBut-word _ _ _ 8 (c.args.place.handle + c.args.place.at + 8) c.set_link.ensures.change.rest
-    (inr (omega arith))
-
-pub returns-clause-capacity : goal.returns-clause-capacity
-returns-clause-capacity c =
-    let at : c.args.place.handle + (c.args.place.at + 16) ≡ c.args.place.handle + c.args.place.at + 16 = omega arith in
-    subst (λ k. word_at (bytes_of c.set_word.new.self.bytes) k ≡ c.args.n) at c.set_word.ensures.word
+pub returns : goal.returns
+returns c =
+    let at = c.args.place.handle + c.args.place.at in let one = c.set_link.ensures in let two = c.set_word.ensures in
+    let word : c.args.place.handle + (c.args.place.at + 16) ≡ at + 16 = omega arith in
+    record {
+      change = changed-both at 24 one.change two.change (omega arith) (omega arith) (omega arith) (omega arith);
+      link = SameBut-link _ _ _ 8 at two.change.rest (inl (omega arith)) ∙ one.leads;
+      len_word = SameBut-word _ _ _ 8 (at + 8) two.change.rest (inl (omega arith))
+          ∙ SameBut-word _ _ _ 8 (at + 8) one.change.rest (inr (omega arith));
+      capacity = subst (λ k. word_at (bytes_of c.set_word.new.self.bytes) k ≡ c.args.n) word two.word;
+    }

@@ -9,13 +9,15 @@ use Rattle.seg_vector.proofs.texts.replace_text.Goals as goal
 
 pub overflow_mul-index : goal.overflow_mul-index
 overflow_mul-index c =
-    let h = held-elements (length c.requires.texts.0) c.requires.texts.1.1.0 (sym c.link_of.ensures ∙ c.in-Some.is) refl in
+    let h = held-elements (length c.requires.texts.0) c.requires.texts.1.1.0
+    (sym c.link_of.ensures ∙ c.in-Some.is) refl in
     let small = room-small c.args.heap.now c.in-Some.array (16 * length c.requires.texts.0) h.heap h.room in
     omega (arith, small, c.requires.texts.1.1.1)
 
 pub overflow_mul-index-in-Some : goal.overflow_mul-index-in-Some
 overflow_mul-index-in-Some c =
-    let h = held-elements (length c.requires.texts.0) c.requires.texts.1.1.0 (sym c.link_of.ensures ∙ c.in-Some.is) refl in
+    let h = held-elements (length c.requires.texts.0) c.requires.texts.1.1.0
+    (sym c.link_of.ensures ∙ c.in-Some.is) refl in
     let small = room-small c.args.heap.now c.in-Some.array (16 * length c.requires.texts.0) h.heap h.room in
     omega (arith, small, c.requires.texts.1.1.1)
 

@@ -38,7 +38,7 @@ returns-clause-assigned c =
     let some = some-texts (length c.args.texts.now) c.if-is_empty.ensures in
     assigns-some c.args.heap.now c.set_word.new.self c.args.self.place more (omega (arith, long, some))
     (λ ps t s. assigned (length c.args.texts.now) s c.in_ok-array.ensures (sym long) some c.release.ensures
-    c.point_to.ensures.change c.point_to.ensures.link c.point_to.ensures.capacity c.set_word.ensures.change
+    c.point_to.ensures c.set_word.ensures.change
     c.set_word.ensures.word)
 
 pub returns-clause-first : goal.returns-clause-first

@@ -1,6 +1,6 @@
 -- Nothing is asked for, or an array, which the vector has then.
-use Rattle.seg_vector.proofs.Words.{refl, ◌<◌, arith, [], live_of, err_from_is_err_and}
-use Rattle.seg_vector.proofs.TextGrowth.{asked-alone, not-grown, reserved, reserved-same, too-many-texts}
+use Rattle.seg_vector.proofs.Words.{refl, ◌<◌, arith, live_of, err_from_is_err_and}
+use Rattle.seg_vector.proofs.TextGrowth.{asked-alone, not-grown, ready-of, reserved, reserved-same, too-many-texts}
 use Rattle.seg_vector.proofs.texts.SegTexts.reserve.Goals as goal
 
 pub returns-then-n-capacity-clause-reserved : goal.returns-then-n-capacity-clause-reserved
@@ -14,17 +14,8 @@ returns-then-n-gt-LIMIT-clause-reserved c ps t s =
 pub adopt-requires : goal.adopt-requires
 adopt-requires c =
     let t = c.requires.1.0 in let a = c.in_ok-array.ensures c.requires.0 t c.requires.1.1 in
-    record {
-      first = c.args.heap.now;
-      mid = c.ask_array.new.heap;
-      ps = c.requires.0;
-      t = t;
-      loose = [];
-      texts = c.requires.1.1;
-      more = omega (arith, c.if-n-capacity.false, c.capacity.ensures c.requires.0 t c.requires.1.1);
-      asked = a;
-      since = asked-alone a;
-    }
+    ready-of c.args.n c.requires.1.1
+    (omega (arith, c.if-n-capacity.false, c.capacity.ensures c.requires.0 t c.requires.1.1)) a (asked-alone a)
 
 pub returns-in_err-array-clause-reserved : goal.returns-in_err-array-clause-reserved
 returns-in_err-array-clause-reserved c ps t s =
@@ -41,7 +32,7 @@ pub returns-clause-reserved : goal.returns-clause-reserved
 returns-clause-reserved c ps t s =
     let more : t.capacity < c.args.n = omega (arith, c.if-n-capacity.false, c.capacity.ensures ps t s) in
     let a = c.in_ok-array.ensures ps t s in
-    reserved s more (c.adopt.ensures c.args.heap.now c.ask_array.new.heap ps t [] s more a (asked-alone a))
+    reserved s more (c.adopt.ensures (ready-of c.args.n s more a (asked-alone a)))
 
 pub returns-then-n-capacity-clause-enough : goal.returns-then-n-capacity-clause-enough
 returns-then-n-capacity-clause-enough c = λ ps t s less. (refl, refl)

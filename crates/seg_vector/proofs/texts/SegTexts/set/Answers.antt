@@ -29,6 +29,7 @@ returns c ps t s =
       found = q.1;
       text = c.in_ok-block.ensures.text;
       placed = c.in_ok-block.ensures.placed;
-      now = text-set s q.1 c.in_ok-block.ensures (c.replace_text.ensures ps t q.0 (texts-still s c.in_ok-block.ensures.change) q.1)
+      now = text-set s q.1 c.in_ok-block.ensures
+          (c.replace_text.ensures ps t q.0 (texts-still s c.in_ok-block.ensures.change) q.1)
           refl;
     }

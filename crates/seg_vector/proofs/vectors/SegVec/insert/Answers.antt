@@ -25,11 +25,12 @@ insert_value-requires-clause-inside g c =
     omega (arith, c.if-index-len.false, c.len-len.ensures c.requires.0 c.requires.1.0 v, grown.stands.words.len_word)
 
 pub returns-in_err-grow_for_one : goal.returns-in_err-grow_for_one
-returns-in_err-grow_for_one g c xs t v = let p = err_from_is_err_and c.from_residual.result c.from_residual.ensures.1 in rw (p.1, p.2) (inr (
-  omega (arith, c.if-index-len.false, c.len-len.ensures xs t v),
-  without-space c.args.heap.now c.grow_for_one.new.heap c.SIZE.ensures v capacity_for_one
-      (λ n u bytes s. c.in_err-grow_for_one.ensures n u bytes s),
-))
+returns-in_err-grow_for_one g c xs t v = let p = err_from_is_err_and c.from_residual.result
+    c.from_residual.ensures.1 in rw (p.1, p.2) (inr (
+      omega (arith, c.if-index-len.false, c.len-len.ensures xs t v),
+      without-space c.args.heap.now c.grow_for_one.new.heap c.SIZE.ensures v capacity_for_one
+          (λ n u bytes s. c.in_err-grow_for_one.ensures n u bytes s),
+    ))
 
 pub returns : goal.returns
 returns g c xs t v =

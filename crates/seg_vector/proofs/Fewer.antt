@@ -11,8 +11,8 @@ use Rattle.seg_vector.proofs.Words.{Stands, place_at, []}
 use Rattle.best_fit.specs.Table.{cut_table}
 use Rattle.seg_vector.proofs.Runs.{AreHeadWords, IsRun, beside-head, head-wider, none-some, room-head, run-headed}
 use Rattle.seg_vector.proofs.Runs.{run-stands, run-swapped, same-some, stands-run, table, table-full}
-use Rattle.seg_vector.proofs.Storage.{more-times, no-bytes, storage-role}
-use Rattle.best_fit.specs.Fit as fit
+use Rattle.seg_vector.proofs.Storage.{storage-role}
+use Rattle.seg_vector.proofs.Bytes.{more-times, no-bytes}
 
 -- ---- a container without a place
 

@@ -1,10 +1,12 @@
 pub mod Words
 pub mod Runs
+pub mod Bytes
 pub mod Storage
 pub mod Fewer
 pub mod Typed
 pub mod TextBlocks
 pub mod TextCalls
 pub mod TextGrowth
+pub mod TextPuts
 pub mod TextsLaid
 pub mod Laws

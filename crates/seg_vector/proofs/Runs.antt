@@ -11,7 +11,6 @@ use Rattle.seg_vector.proofs.Words.{IsFound, IsNone, SameSpread, all-found-in, a
 use Rattle.seg_vector.proofs.Words.{found-without, IsRoomy, kept, kept-found, exchange-next, exchange-same}
 use Rattle.seg_vector.proofs.Words.{spread-refl, exchange-wide, exchange-written, kept-beside, Place, IsOwnBlock}
 use Rattle.seg_vector.proofs.Words.{Stands, place_at, IsStorage, SameBut-link, IsSwapped, AreOthers, []}
-use Rattle.best_fit.specs.Fit as fit
 
 abbrev pub table : ℕ → Option Extent → Table
 table c o = record { capacity = c; extent = o }

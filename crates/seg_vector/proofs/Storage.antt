@@ -1,16 +1,16 @@
 -- The storage of a container that stands at a place: regrown, written in, and read.
 use Rattle.seg_vector.proofs.Words.{◌≡◌, refl, sym, ap, subst, ◌∙◌, inl, inr, ℕ, ◌+◌, ◌*◌, ◌%◌, ◌<◌, ◌≤◌, Bool, true}
 use Rattle.seg_vector.proofs.Words.{false, Option, Some, None, List, ◌∷◌, length, arith, if◌then◌else◌, cond, ◌⊎◌}
-use Rattle.seg_vector.proofs.Words.{◌==◌, zero, suc, ◌++◌, length-append, max, ◌-◌, take, drop, ◌&&◌, append-nil}
-use Rattle.seg_vector.proofs.Words.{IsTrue, IfSome, nat_lt, option_map, option_to_list, find, nat_le, AllByRecursion}
-use Rattle.seg_vector.proofs.Words.{list_any, eqb-true, and_from, and_parts, leb-true, le-leb, lt-leb, lt-ltb}
-use Rattle.seg_vector.proofs.Words.{ltb-true, or_cases, or_left, or_right, eq-eqb, length-take, length-drop, drop_at}
-use Rattle.seg_vector.proofs.Words.{take-take, Memory, Cut, SameBut, Has, bytes_of, read, word_at, patched, read-part}
-use Rattle.seg_vector.proofs.Words.{SameBut-word, link_at, Storage, current, CarriesOver, IsGivenRoom, IsNotGivenRoom}
-use Rattle.seg_vector.proofs.Words.{block_of, exchanged, without_all, IsExchanged, IsRegrown, Extent, LiveSet, handle}
-use Rattle.seg_vector.proofs.Words.{holds, end_of, is_block, is_hole, proper_from, others, resized, longer, place}
-use Rattle.seg_vector.proofs.Words.{is_extent, shorter, IsChanged, IsHeap, LaysOut, extent_at, has_room, live_of}
-use Rattle.seg_vector.proofs.Words.{is_live_in, payload_at, Table, is_table, serves, same_role, table_link, IsSound}
+use Rattle.seg_vector.proofs.Words.{◌==◌, ◌++◌, length-append, max, ◌-◌, take, drop, ◌&&◌, append-nil, IsTrue, IfSome}
+use Rattle.seg_vector.proofs.Words.{nat_lt, option_map, option_to_list, find, nat_le, AllByRecursion, list_any}
+use Rattle.seg_vector.proofs.Words.{eqb-true, and_from, and_parts, leb-true, le-leb, lt-leb, lt-ltb, ltb-true}
+use Rattle.seg_vector.proofs.Words.{or_cases, or_left, or_right, eq-eqb, length-take, length-drop, take-take, Memory}
+use Rattle.seg_vector.proofs.Words.{Cut, SameBut, Has, bytes_of, read, word_at, patched, read-part, SameBut-word}
+use Rattle.seg_vector.proofs.Words.{link_at, Storage, current, CarriesOver, IsGivenRoom, IsNotGivenRoom, block_of}
+use Rattle.seg_vector.proofs.Words.{exchanged, without_all, IsExchanged, IsRegrown, Extent, LiveSet, handle, holds}
+use Rattle.seg_vector.proofs.Words.{end_of, is_block, is_hole, proper_from, others, resized, longer, place, is_extent}
+use Rattle.seg_vector.proofs.Words.{shorter, IsChanged, IsHeap, LaysOut, extent_at, has_room, live_of, is_live_in}
+use Rattle.seg_vector.proofs.Words.{payload_at, Table, is_table, serves, same_role, table_link, IsSound}
 use Rattle.seg_vector.proofs.Words.{all_of-insert, found-room, live-sound, read-same, room_block, laid-heap}
 use Rattle.seg_vector.proofs.Words.{all-same-but, changed-live, regrow-serves, in_use-all, block_payload, room-less}
 use Rattle.seg_vector.proofs.Words.{IfSome_is, all_keep_proper, legal_size, too_long, spread-refl, exchange-next}
@@ -23,13 +23,10 @@ use Rattle.seg_vector.specs.Vector.{grown_table}
 use Rattle.seg_vector.proofs.Runs.{IsRun, beside-head, block-written, changed-both, head-room, head-wider}
 use Rattle.seg_vector.proofs.Runs.{len-written, none-some, room-head, run-found, run-headed, run-stands, run-swapped}
 use Rattle.seg_vector.proofs.Runs.{same-some, serves-full, spread-nil, stands-none-of, stands-run, table, table-full}
-use Rattle.best_fit.specs.Fit as fit
+use Rattle.seg_vector.proofs.Bytes.{more-times, no-bytes, Has-append, Has-take, Has-drop, Has-beside, Has-patched}
+use Rattle.seg_vector.proofs.Bytes.{length-patch, take-none}
 
 -- ---- what stands
-
--- products
-pub more-times : (each m n : ℕ) → m ≤ n → each * m ≤ each * n
-more-times each m n f = grind arith
 
 -- the storage of a table holds its elements
 storage-room : (l : LiveSet) (h each len c : ℕ) (o : Option Extent) → IsTrue (is_table Storage each (table c o))
@@ -120,10 +117,6 @@ come-aligned {old} {o} {g} r =
     omega (arith, r.at, sound.aligned)
 
 -- ---- the bytes of the elements
-
-pub no-bytes : {A : Type 0} → (xs : List A) → length xs ≡ 0 → xs ≡ []
-no-bytes [] e = refl
-no-bytes (x ∷ xs) e = absurd (omega (arith, e))
 
 carried-storage : (m m' : Memory) (each len c : ℕ) (o : Option Extent) (y : Extent) (bytes : List ℕ)
     → IsTrue (is_table Storage each (table c o)) → len ≤ c → length bytes ≡ each * len
@@ -270,20 +263,6 @@ not_given-of {old} {mid} {each} n storage s e r =
     subst (λ o. IsNotGivenRoom old mid o (each * n)) (ap (block_of (live_of old.bytes)) (e ∙ s.words.link)
     ∙ stands-block s) r
 
--- ---- an element is written behind the last one
-
-pub read-append : (m : Memory) (at a b : ℕ) → read m at (a + b) ≡ read m at a ++ read m (at + a) b
-read-append m at zero b = let e1 : 0 + b ≡ b = omega arith in let e2 : at ≡ at + 0 = omega arith in ap (read m at) e1
-    ∙ ap (λ k. read m k b) e2
-read-append m at (suc a) b =
-    let e1 : suc a + b ≡ suc (a + b) = omega arith in
-    let e2 : at + 1 + a ≡ at + suc a = omega arith in
-    ap (read m at) e1 ∙ ap (λ ws. m at ∷ ws) (read-append m (at + 1) a b ∙ ap (λ k. read m (at + 1) a ++ read m k b) e2)
-
-pub Has-append : (m : Memory) (at : ℕ) (xs ys : List ℕ) → Has m at xs → Has m (at + length xs) ys → Has m at (xs ++ ys)
-Has-append m at xs ys h k = ap (read m at) (length-append xs ys) ∙ read-append m at (length xs) (length ys)
-    ∙ (λ i. h i ++ k i)
-
 -- ---- bytes of the storage and the length are written
 
 -- bytes of the storage are written
@@ -399,55 +378,6 @@ has-place {old} {each} {n} {t} f g =
     let places = table-places (live_of old.bytes) each n t g.grown in
     omega (arith, places, f, g.stands.words.len_word, g.stands.words.capacity)
 
--- ---- bytes that memory has
-
-pub length-read : (m : Memory) (at n : ℕ) → length (read m at n) ≡ n
-length-read m at zero = refl
-length-read m at (suc n) = ap (λ k. suc k) (length-read m (at + 1) n)
-
-read-take : (m : Memory) (at k n : ℕ) → k ≤ n → take k (read m at n) ≡ read m at k
-read-take m at zero n f = refl
-read-take m at (suc k) zero f = absurd (omega arith)
-read-take m at (suc k) (suc n) f = ap (λ ws. m at ∷ ws) (read-take m (at + 1) k n (omega arith))
-
-read-drop : (m : Memory) (at k n : ℕ) → drop k (read m at (k + n)) ≡ read m (at + k) n
-read-drop m at k n = ap (drop k) (read-append m at k n) ∙ drop_at (read m at k) (read m (at + k) n) k
-    (length-read m at k)
-
-pub Has-take : (m : Memory) (at k : ℕ) (bytes : List ℕ) → k ≤ length bytes → Has m at bytes → Has m at (take k bytes)
-Has-take m at k bytes f h =
-    let e : length (take k bytes) ≡ k = omega (arith, length-take k bytes, f) in
-    ap (read m at) e ∙ sym (read-take m at k (length bytes) f) ∙ ap (take k) h
-
-pub Has-drop : (m : Memory) (at k : ℕ) (bytes : List ℕ) → k ≤ length bytes → Has m at bytes
-    → Has m (at + k) (drop k bytes)
-Has-drop m at k bytes f h =
-    let e : length (drop k bytes) ≡ length bytes - k = omega (arith, length-drop k bytes) in
-    let sum : k + (length bytes - k) ≡ length bytes = omega (arith, f) in
-    ap (read m (at + k)) e ∙ sym (read-drop m at k (length bytes - k)) ∙ ap (drop k) (ap (read m at) sum ∙ h)
-
--- bytes beside those that are written
-pub Has-beside : {m m' : Memory} {from n : ℕ} (at : ℕ) (bytes : List ℕ) → SameBut m m' from n
-    → (at + length bytes ≤ from) ⊎ (from + n ≤ at) → Has m at bytes → Has m' at bytes
-Has-beside {m} {m'} at bytes s (inl f) h = read-same m m' at (at + length bytes) at (length bytes)
-    (record { at = λ k a b. s.at k (inl (omega (arith, f, b))) }) (omega arith) (omega arith) ∙ h
-Has-beside {m} {m'} at bytes s (inr f) h = read-same m m' at (at + length bytes) at (length bytes)
-    (record { at = λ k a b. s.at k (inr (omega (arith, f, a))) }) (omega arith) (omega arith) ∙ h
-
-Has-patched : {m m' : Memory} (g from : ℕ) (bytes more : List ℕ) → from + length more ≤ length bytes
-    → SameBut m m' (g + from) (length more) → Has m g bytes → Has m' (g + from) more
-    → Has m' g (patched bytes from more)
-Has-patched {m} {m'} g from bytes more f s h k =
-    let n : ℕ = from + length more in
-    let short : length (take from bytes) ≡ from = omega (arith, length-take from bytes, f) in
-    let both : length (take from bytes ++ more) ≡ n = omega (arith, length-append (take from bytes) more, short) in
-    let a = Has-beside g (take from bytes) s (inl (omega (arith, short)))
-    (Has-take m g from bytes (omega (arith, f)) h) in
-    let b : Has m' (g + length (take from bytes)) more = subst (λ j. Has m' (g + j) more) (sym short) k in
-    let c = Has-beside (g + n) (drop n bytes) s (inr (omega arith)) (Has-drop m g n bytes f h) in
-    Has-append m' g (take from bytes ++ more) (drop n bytes) (Has-append m' g (take from bytes) more a b)
-    (subst (λ j. Has m' (g + j) (drop n bytes)) (sym both) c)
-
 -- ---- the storage is written in, and the length stays
 
 -- what the storage has, of a container with a block
@@ -466,19 +396,6 @@ pub unchanged : (c : Cut) (from n : ℕ) → IsHeap current c.bytes → IsChange
 unchanged c from n heap =
     record { place = record { before = refl; after = refl }; live = heap; rest = record { at = λ k f. refl } }
 
-length-patch : (bytes : List ℕ) (from : ℕ) (more : List ℕ) → from + length more ≤ length bytes
-    → length (patched bytes from more) ≡ length bytes
-length-patch bytes from more f =
-    omega (
-      arith,
-      length-append (take from bytes ++ more) (drop (from + length more) bytes),
-      length-append
-          (take from bytes) more,
-      length-take from bytes,
-      length-drop (from + length more) bytes,
-      f,
-    )
-
 -- an element is written over
 pub overwritten : {old new : Cut} {p : Place} {each len g : ℕ} (i : ℕ) {t : Table} {bytes : List ℕ} (more : List ℕ)
     → Stands old.bytes p each len t bytes → i < len → length more ≡ each
@@ -496,11 +413,6 @@ overwritten {new} {p} {each} {len} {g} i {t} {bytes} more s f e link c1 content 
     ∙ (written-run (each * i) s link c1 (omega (arith, inside, total, less))).words.len_word)
 
 -- ---- elements are left out at the end
-
-take-none : (k : ℕ) (bytes : List ℕ) → bytes ≡ [] → take k bytes ≡ []
-take-none zero bytes e = refl
-take-none (suc k) [] e = refl
-take-none (suc k) (b ∷ bs) e = absurd (cc)
 
 cut-storage : {old new : Cut} {p : Place} {each len c : ℕ} (k : ℕ) {o : Option Extent} {bytes : List ℕ}
     → Stands old.bytes p each len (table c o) bytes → k ≤ length bytes → IsChanged current old new (place_at p) 24

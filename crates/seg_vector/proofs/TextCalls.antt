@@ -21,12 +21,12 @@ use Rattle.seg_vector.proofs.Fewer.{cut-some}
 use Rattle.seg_vector.proofs.Runs.{AreHeadWords, IsHead, IsRun, beside-head, block-written, head-exchanged, head-kept}
 use Rattle.seg_vector.proofs.Runs.{head-room, head-wider, len-written, none-some, room-head, run-found, run-headed}
 use Rattle.seg_vector.proofs.Runs.{run-swapped, same-some, serves-full, table, table-full, words-kept}
-use Rattle.seg_vector.proofs.Storage.{length-read, no-bytes}
 use Rattle.seg_vector.proofs.TextBlocks.{none-stands, IsArrayLeft, all-split, array-left, drop-at, element-beside}
 use Rattle.seg_vector.proofs.TextBlocks.{element-in, element-trans, even-block, found-texts, held-element, links-join}
 use Rattle.seg_vector.proofs.TextBlocks.{links-moved, links-split, no-array, none-of, of-none, one-of, own-head}
 use Rattle.seg_vector.proofs.TextBlocks.{own_blocks, run-begin, swapped-none, texts-between, texts-own}
 use Rattle.seg_vector.proofs.Typed.{set-pieces}
+use Rattle.seg_vector.proofs.Bytes.{length-read, no-bytes}
 
 -- ---- the elements of the array
 

@@ -23,8 +23,8 @@ use Rattle.seg_vector.proofs.TextBlocks.{all-join, all-split, element-beside, el
 use Rattle.seg_vector.proofs.TextBlocks.{found-live, links-join, links-moved, of-none, own-head, own_blocks}
 use Rattle.seg_vector.proofs.TextBlocks.{run-begin, texts-between, texts-own}
 use Rattle.seg_vector.proofs.TextCalls.{come-even, run-others, texts-still}
-use Rattle.seg_vector.proofs.TextGrowth.{all-kept, came-alone, flip-each, new-table, same-loose}
-use Rattle.best_fit.specs.Fit as fit
+use Rattle.seg_vector.proofs.TextGrowth.{all-kept, new-table}
+use Rattle.seg_vector.proofs.TextPuts.{came-alone, flip-each, same-loose}
 
 -- ---- blocks that came
 

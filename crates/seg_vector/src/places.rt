@@ -25,7 +25,7 @@ pub const CAPACITY: u64 = 16;
 /// The bytes of an element of a vector of texts: the link to the block of its text, and the text's length.
 pub const ELEMENT: u64 = 16;
 
-/// Where the link leads.
+/// Where the link of the container at a place leads.
 pub fn link_of(heap: &Heap, place: Place) -> Option<u64>
     requires aligned { place.at % 8 ≡ 0 }
     requires room { IsTrue (has_room (live_of heap.now.bytes) place.handle (place.at + 24)) }
@@ -34,7 +34,7 @@ pub fn link_of(heap: &Heap, place: Place) -> Option<u64>
     heap.link(place.handle, place.at)
 }
 
-/// The length.
+/// The length of the container at a place.
 pub fn len_of(heap: &Heap, place: Place) -> u64
     requires heap { IsHeap current heap.now.bytes }
     requires room { IsTrue (has_room (live_of heap.now.bytes) place.handle (place.at + 24)) }
@@ -43,7 +43,7 @@ pub fn len_of(heap: &Heap, place: Place) -> u64
     heap.word(place.handle, place.at + LEN)
 }
 
-/// The capacity.
+/// The capacity of the container at a place.
 pub fn capacity_of(heap: &Heap, place: Place) -> u64
     requires heap { IsHeap current heap.now.bytes }
     requires room { IsTrue (has_room (live_of heap.now.bytes) place.handle (place.at + 24)) }

@@ -2,7 +2,8 @@
 use Rattle.seg_vector.proofs.Words.{◌≡◌, sym, subst, ◌∙◌, ◌+◌, ◌*◌, arith, IsTrue, current, bytes_of, word_at}
 use Rattle.seg_vector.proofs.Words.{IsChanged, IsShortened, is_live_in, changed-live}
 use Rattle.seg_vector.proofs.Fewer.{fits-nothing, fitted}
-use Rattle.seg_vector.proofs.Storage.{capacity-bytes, len-read, more-times, stands-small, storage-live}
+use Rattle.seg_vector.proofs.Storage.{capacity-bytes, len-read, stands-small, storage-live}
+use Rattle.seg_vector.proofs.Bytes.{more-times}
 use Rattle.seg_vector.proofs.sizing.fit.Goals as goal
 
 pub overflow_add-place : goal.overflow_add-place

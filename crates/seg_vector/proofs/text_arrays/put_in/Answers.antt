@@ -5,7 +5,7 @@ use Rattle.seg_vector.proofs.Fewer.{none-left}
 use Rattle.seg_vector.proofs.Runs.{head-room}
 use Rattle.seg_vector.proofs.Storage.{len-room, place-small, room-small}
 use Rattle.seg_vector.proofs.TextBlocks.{even-from}
-use Rattle.seg_vector.proofs.TextGrowth.{put-by, put-even, put-place, put-run}
+use Rattle.seg_vector.proofs.TextPuts.{put-by, put-even, put-place, put-run}
 use Rattle.seg_vector.proofs.text_arrays.put_in.Goals as goal
 
 pub len_of-len-requires-clause-heap : goal.len_of-len-requires-clause-heap

@@ -1,0 +1,89 @@
+-- Bytes that memory has: one list behind another, their fronts and ends, and some of them written over.
+use Rattle.seg_vector.proofs.Words.{◌≡◌, refl, sym, ap, subst, ◌∙◌, inl, inr, ℕ, ◌+◌, ◌*◌, ◌≤◌, List, ◌∷◌, length}
+use Rattle.seg_vector.proofs.Words.{arith, ◌⊎◌, zero, suc, ◌++◌, length-append, ◌-◌, take, drop, length-take}
+use Rattle.seg_vector.proofs.Words.{length-drop, drop_at, Memory, SameBut, Has, read, patched, read-same, []}
+
+-- products
+pub more-times : (each m n : ℕ) → m ≤ n → each * m ≤ each * n
+more-times each m n f = grind arith
+
+pub no-bytes : {A : Type 0} → (xs : List A) → length xs ≡ 0 → xs ≡ []
+no-bytes [] e = refl
+no-bytes (x ∷ xs) e = absurd (omega (arith, e))
+
+pub read-append : (m : Memory) (at a b : ℕ) → read m at (a + b) ≡ read m at a ++ read m (at + a) b
+read-append m at zero b = let e1 : 0 + b ≡ b = omega arith in let e2 : at ≡ at + 0 = omega arith in ap (read m at) e1
+    ∙ ap (λ k. read m k b) e2
+read-append m at (suc a) b =
+    let e1 : suc a + b ≡ suc (a + b) = omega arith in
+    let e2 : at + 1 + a ≡ at + suc a = omega arith in
+    ap (read m at) e1 ∙ ap (λ ws. m at ∷ ws) (read-append m (at + 1) a b ∙ ap (λ k. read m (at + 1) a ++ read m k b) e2)
+
+pub Has-append : (m : Memory) (at : ℕ) (xs ys : List ℕ) → Has m at xs → Has m (at + length xs) ys → Has m at (xs ++ ys)
+Has-append m at xs ys h k = ap (read m at) (length-append xs ys) ∙ read-append m at (length xs) (length ys)
+    ∙ (λ i. h i ++ k i)
+
+pub length-read : (m : Memory) (at n : ℕ) → length (read m at n) ≡ n
+length-read m at zero = refl
+length-read m at (suc n) = ap (λ k. suc k) (length-read m (at + 1) n)
+
+read-take : (m : Memory) (at k n : ℕ) → k ≤ n → take k (read m at n) ≡ read m at k
+read-take m at zero n f = refl
+read-take m at (suc k) zero f = absurd (omega arith)
+read-take m at (suc k) (suc n) f = ap (λ ws. m at ∷ ws) (read-take m (at + 1) k n (omega arith))
+
+read-drop : (m : Memory) (at k n : ℕ) → drop k (read m at (k + n)) ≡ read m (at + k) n
+read-drop m at k n = ap (drop k) (read-append m at k n) ∙ drop_at (read m at k) (read m (at + k) n) k
+    (length-read m at k)
+
+pub Has-take : (m : Memory) (at k : ℕ) (bytes : List ℕ) → k ≤ length bytes → Has m at bytes → Has m at (take k bytes)
+Has-take m at k bytes f h =
+    let e : length (take k bytes) ≡ k = omega (arith, length-take k bytes, f) in
+    ap (read m at) e ∙ sym (read-take m at k (length bytes) f) ∙ ap (take k) h
+
+pub Has-drop : (m : Memory) (at k : ℕ) (bytes : List ℕ) → k ≤ length bytes → Has m at bytes
+    → Has m (at + k) (drop k bytes)
+Has-drop m at k bytes f h =
+    let e : length (drop k bytes) ≡ length bytes - k = omega (arith, length-drop k bytes) in
+    let sum : k + (length bytes - k) ≡ length bytes = omega (arith, f) in
+    ap (read m (at + k)) e ∙ sym (read-drop m at k (length bytes - k)) ∙ ap (drop k) (ap (read m at) sum ∙ h)
+
+-- bytes beside those that are written
+pub Has-beside : {m m' : Memory} {from n : ℕ} (at : ℕ) (bytes : List ℕ) → SameBut m m' from n
+    → (at + length bytes ≤ from) ⊎ (from + n ≤ at) → Has m at bytes → Has m' at bytes
+Has-beside {m} {m'} at bytes s (inl f) h = read-same m m' at (at + length bytes) at (length bytes)
+    (record { at = λ k a b. s.at k (inl (omega (arith, f, b))) }) (omega arith) (omega arith) ∙ h
+Has-beside {m} {m'} at bytes s (inr f) h = read-same m m' at (at + length bytes) at (length bytes)
+    (record { at = λ k a b. s.at k (inr (omega (arith, f, a))) }) (omega arith) (omega arith) ∙ h
+
+pub Has-patched : {m m' : Memory} (g from : ℕ) (bytes more : List ℕ) → from + length more ≤ length bytes
+    → SameBut m m' (g + from) (length more) → Has m g bytes → Has m' (g + from) more
+    → Has m' g (patched bytes from more)
+Has-patched {m} {m'} g from bytes more f s h k =
+    let n : ℕ = from + length more in
+    let short : length (take from bytes) ≡ from = omega (arith, length-take from bytes, f) in
+    let both : length (take from bytes ++ more) ≡ n = omega (arith, length-append (take from bytes) more, short) in
+    let a = Has-beside g (take from bytes) s (inl (omega (arith, short)))
+    (Has-take m g from bytes (omega (arith, f)) h) in
+    let b : Has m' (g + length (take from bytes)) more = subst (λ j. Has m' (g + j) more) (sym short) k in
+    let c = Has-beside (g + n) (drop n bytes) s (inr (omega arith)) (Has-drop m g n bytes f h) in
+    Has-append m' g (take from bytes ++ more) (drop n bytes) (Has-append m' g (take from bytes) more a b)
+    (subst (λ j. Has m' (g + j) (drop n bytes)) (sym both) c)
+
+pub length-patch : (bytes : List ℕ) (from : ℕ) (more : List ℕ) → from + length more ≤ length bytes
+    → length (patched bytes from more) ≡ length bytes
+length-patch bytes from more f =
+    omega (
+      arith,
+      length-append (take from bytes ++ more) (drop (from + length more) bytes),
+      length-append
+          (take from bytes) more,
+      length-take from bytes,
+      length-drop (from + length more) bytes,
+      f,
+    )
+
+pub take-none : (k : ℕ) (bytes : List ℕ) → bytes ≡ [] → take k bytes ≡ []
+take-none zero bytes e = refl
+take-none (suc k) [] e = refl
+take-none (suc k) (b ∷ bs) e = absurd (cc)

@@ -1,0 +1,512 @@
+-- A text put into a vector of texts, with a place for it or in an array with more places; and an array given up.
+use Rattle.seg_vector.proofs.Words.{◌≡◌, ◌≢◌, refl, sym, ap, subst, ◌∙◌, ℕ, ◌+◌, ◌*◌, ◌<◌, ◌≤◌, Option, Some, None}
+use Rattle.seg_vector.proofs.Words.{List, ◌∷◌, arith, length, if◌then◌else◌, inl, inr, ◌⊎◌, ◌%◌, append-nil, ◌-◌}
+use Rattle.seg_vector.proofs.Words.{length-append, take, drop, Bool, true, false, max, IsTrue, Result, Ok, Err}
+use Rattle.seg_vector.proofs.Words.{MatchResult, option_map, option_to_list, IfSome, nat_lt, insert, AllByRecursion}
+use Rattle.seg_vector.proofs.Words.{lt-ltb, eqb-true, le-ltb, length-drop, length-take, take-append-drop, Memory, Cut}
+use Rattle.seg_vector.proofs.Words.{bytes_of, word_at, current, link_at, exchanged, IsRestored, Extent, LiveSet}
+use Rattle.seg_vector.proofs.Words.{handle, others, resized, Refusal, IsChanged, IsHeap, IsReleased, SameBlock}
+use Rattle.seg_vector.proofs.Words.{extent_at, live_of, has_room, IsShortened, is_live_in, Table, IsFound, IsNone}
+use Rattle.seg_vector.proofs.Words.{exchange-order, exchange-taken, last-first, live-rises, spread-refl, found-room}
+use Rattle.seg_vector.proofs.Words.{laid-heap, taken-back, widened-back, Differs, keeps-refl, lay_out_one}
+use Rattle.seg_vector.proofs.Words.{others-past, rising-insert, Has-same, Place, place_at, AreSameElements, IsAdopted}
+use Rattle.seg_vector.proofs.Words.{IsAsked, IsWithoutFit, IsSwapped, taken, widened, AreEvenLinks, IsPutAsked}
+use Rattle.seg_vector.proofs.Words.{IsPutReady, IsServed, room_of, IsRefusedPut, IsTextPlaced, IsGivenUp, IsOutside}
+use Rattle.seg_vector.proofs.Words.{PutsInto, one_more, IsTexts, IsTextsNow, IsStillAtFirst, IsTextPutIn, placed_text}
+use Rattle.seg_vector.proofs.Words.{with_array, AreTextLinks, OwnedText, IsOwnedText, capacity_for_one}
+use Rattle.seg_vector.proofs.Words.{exchanged-live, []}
+use Rattle.best_fit.specs.Fit.{regrow}
+use Rattle.seg_vector.specs.Vector.{grown_table}
+use Rattle.seg_vector.proofs.Runs.{AreHeadWords, IsHead, IsRun, beside-head, block-written, head-kept, head-wider}
+use Rattle.seg_vector.proofs.Runs.{len-written, none-some, own-facts, run-found, run-headed, run-none, run-swapped}
+use Rattle.seg_vector.proofs.Runs.{same-some, serves-full, table, table-full}
+use Rattle.seg_vector.proofs.Storage.{capacity-bytes, grown-same}
+use Rattle.seg_vector.proofs.TextBlocks.{element-beside, element-in, element-trans, even-block, found-live}
+use Rattle.seg_vector.proofs.TextBlocks.{found-texts, links-at, links-join, links-moved, links-split, one-of}
+use Rattle.seg_vector.proofs.TextBlocks.{own-head, run-begin, texts-between, texts-own}
+use Rattle.seg_vector.proofs.TextCalls.{loose-kept, run-others, texts-stand, texts-still}
+use Rattle.seg_vector.proofs.Typed.{has-element}
+use Rattle.seg_vector.proofs.TextGrowth.{grown-to, not-grown, all-beside-head, new-other, IsReadyRun, ready-in, ready}
+use Rattle.seg_vector.proofs.TextGrowth.{asked-alone, new-table}
+use Rattle.best_fit.specs.Fit as fit
+
+-- ---- before it is put
+
+pub none-array : (b : Cut) {p : Place} {ps : List OwnedText} {t : Table} → IsTexts b.bytes p ps t
+    → IsNone p.handle (option_to_list t.extent)
+none-array b {p} {t} s = (own-facts (live_of b.bytes) p.handle t.extent s.own).2
+
+pub put-run : {first now : Cut} {p : Place} {ps : List OwnedText} {t : Table} {y : Extent} {m : ℕ} {z : OwnedText}
+    → IsPutReady first now p ps t y m z
+    → IsRun first now p (option_to_list t.extent) (y ∷ option_to_list z.extent) (length ps) (table m (Some y))
+put-run {first} {t} {y} {z} r =
+    record {
+      change = r.change;
+      heap = laid-heap _ _ r.change.live;
+      head = head-kept (own-head (texts-own first r.texts)) r.change (none-array first r.texts);
+      words = record { link = r.link; len_word = r.len_word; capacity = r.capacity };
+    }
+
+pub put-big : {first now : Cut} {p : Place} {ps : List OwnedText} {t : Table} {y : Extent} {m : ℕ} {z : OwnedText}
+    → IsPutReady first now p ps t y m z → 16 * m + 16 ≤ y.len
+put-big {y} {m} r = table-full 16 m y r.table
+
+-- ---- the text
+
+pub same-loose : (m m' : Memory) (bytes : List ℕ) (o : Option Extent)
+    → AllByRecursion (SameBlock m m') (option_to_list o) → IsServed (record { bytes = bytes; extent = o })
+    → IsOwnedText m (record { bytes = bytes; extent = o }) → IsOwnedText m' (record { bytes = bytes; extent = o })
+same-loose m m' bytes None k s w = w
+same-loose m m' bytes (Some x) k s w =
+    let full = serves-full x (length bytes) s.1 in
+    Has-same m m' _ _ (handle x) bytes k.0.payload (omega arith) (omega (arith, full)) w
+
+pub flip-each : (y : Extent) (xs : List Extent) → AllByRecursion (λ (w : Extent). handle y ≢ handle w) xs
+    → AllByRecursion (λ (w : Extent). AllByRecursion (λ (v : Extent). handle w ≢ handle v) (y ∷ [])) xs
+flip-each y [] d = tt
+flip-each y (x ∷ xs) d = (((λ f. d.0 (sym f)), tt), flip-each y xs d.1)
+
+-- ---- the elements
+
+put-links : (m0 m3 : Memory) (g i : ℕ) (ps : List OwnedText) (z : OwnedText) → i ≤ length ps → AreTextLinks m0 g ps
+    → AreSameElements m0 m3 g g i → AreSameElements m0 m3 (g + 16 * i) (g + 16 * i + 16) (length ps - i)
+    → link_at m3 (g + 16 * i) ≡ option_map handle z.extent → word_at m3 (g + 16 * i + 8) ≡ length z.bytes
+    → AreTextLinks m3 g (insert ps i z)
+put-links m0 m3 g i ps z f l front back link len =
+    let fl : length (take i ps) ≡ i = omega (arith, length-take i ps, f) in
+    let bl : length (drop i ps) ≡ length ps - i = omega (arith, length-drop i ps) in
+    let parts = links-split m0 g (take i ps) (drop i ps) (subst (AreTextLinks m0 g) (sym (take-append-drop i ps)) l) in
+    let behind : AreTextLinks m0 (g + 16 * i) (drop i ps) = subst (λ k. AreTextLinks m0 (g + 16 * k) (drop i ps)) fl
+    parts.1 in
+    let a = links-moved m0 m3 g g (take i ps) parts.0 (subst (AreSameElements m0 m3 g g) (sym fl) front) in
+    let b = links-moved m0 m3 (g + 16 * i) (g + 16 * i + 16) (drop i ps) behind
+    (subst (AreSameElements m0 m3 (g + 16 * i) (g + 16 * i + 16)) (sym bl) back) in
+    links-join m3 g (take i ps) (z ∷ drop i ps) a (subst (λ k. AreTextLinks m3 (g + 16 * k) (z ∷ drop i ps)) (sym fl)
+    (link, len, b))
+
+-- ---- the vector afterwards
+
+put_in : {first now b1 b2 new : Cut} {p : Place} {ps : List OwnedText} {t : Table} {y : Extent} {m : ℕ} {z : OwnedText}
+    (i : ℕ) → IsPutReady first now p ps t y m z → i ≤ length ps
+    → IsChanged current now b1 (handle y + 16 * i + 16) (16 * (length ps - i))
+    → AreSameElements (bytes_of now.bytes) (bytes_of b1.bytes) (handle y + 16 * i) (handle y + 16 * i + 16)
+    (length ps - i)
+    → IsChanged current b1 b2 (handle y + 16 * i) 16 → link_at (bytes_of b2.bytes) (handle y + 16 * i) ≡ option_map
+    handle z.extent → word_at (bytes_of b2.bytes) (handle y + 16 * i + 8) ≡ length z.bytes
+    → IsChanged current b2 new (place_at p + 8) 8 → word_at (bytes_of new.bytes) (place_at p + 8) ≡ length ps + 1
+    → IsTextsNow first new p (option_to_list t.extent) (y ∷ option_to_list z.extent) (insert ps i z) (table m (Some y))
+put_in {first} {now} {b1} {b2} {new} {p} {ps} {t} {y} {m} {z} i r inside c1 m1 c2 link len c3 word =
+    let k = length ps in let u = table m (Some y) in let gone = option_to_list t.extent in
+    let ez = option_to_list z.extent in
+    let come : List Extent = y ∷ ez in
+    let at = place_at p in let space = r.space in let big = put-big r in
+    let first_head = own-head (texts-own first r.texts) in let r0 = put-run r in
+    let none = run-none first_head (none-array first r.texts) r0 in
+    let found0 = run-found r0 in
+    let x1 = block-written (16 * m) r0.heap found0.0 c1 (omega arith) (omega (arith, inside, space)) big in
+    let r1 = run-swapped ez (spread-refl come) r0 x1 (none.0, tt) in
+    let found1 = run-found r1 in
+    let x2 = block-written (16 * m) r1.heap found1.0 c2 (omega arith) (omega (arith, inside, space)) big in
+    let r2 = run-swapped ez (spread-refl come) r1 x2 (none.0, tt) in
+    let found2 = run-found r2 in
+    let c3' = head-wider p c3 (omega arith) (omega arith) in
+    let r3 = run-headed r2 c3' (len-written (k + 1) refl c3.rest word r2.words) in
+    let y3 = beside-head (handle y) r2.heap r2.head c3' found2.0 none.0 in
+    let front : AreSameElements (bytes_of now.bytes) (bytes_of new.bytes) (handle y) (handle y) i = λ j f.
+    element-trans (element-trans (element-beside (handle y + 16 * j) c1.rest (inl (omega (arith, f))))
+    (element-beside (handle y + 16 * j) c2.rest (inl (omega (arith, f)))))
+    (element-in (handle y + 16 * j) y3 (omega arith) (omega (arith, f, inside, space, big))) in
+    let back : AreSameElements (bytes_of now.bytes) (bytes_of new.bytes) (handle y + 16 * i) (handle y + 16 * i + 16)
+    (k - i) = λ j f.
+    element-trans (element-trans (m1 j f)
+    (element-beside (handle y + 16 * i + 16 + 16 * j) c2.rest (inr (omega arith))))
+    (element-in (handle y + 16 * i + 16 + 16 * j) y3 (omega arith) (omega (arith, f, inside, space, big))) in
+    let own = element-in (handle y + 16 * i) y3 (omega arith) (omega (arith, inside, space, big)) in
+    let links = put-links (bytes_of now.bytes) (bytes_of new.bytes) (handle y) i ps z inside r.links front back
+    (own.link ∙ link) (own.len_word ∙ len) in
+    let apart = flip-each y ez (run-others r0).0 in
+    let t1 = loose-kept z.bytes z.extent r0.heap x1 found0.1 apart r.served r.owned in
+    let t2 = loose-kept z.bytes z.extent r1.heap x2 t1.1 apart r.served t1.0 in
+    let t3 = same-loose (bytes_of b2.bytes) (bytes_of new.bytes) z.bytes z.extent
+    (all-beside-head ez r2.heap r2.head c3' found2.1 none.1) r.served t2.0 in
+    let long : length (insert ps i z) ≡ k + 1 =
+    omega (arith, length-append (take i ps) (z ∷ drop i ps), length-take i ps, length-drop i ps, inside) in
+    texts-between (insert ps i z) (take i ps) [] (z ∷ []) (drop i ps) {u = u} (sym (take-append-drop i ps)) refl
+    (sym (append-nil gone)) (ap (λ (xs : List Extent). y ∷ xs) (sym (append-nil ez)))
+    r.texts r3.change r.table (omega (arith, long, space))
+    (subst (λ w. AreHeadWords (bytes_of new.bytes) at w u) (sym long) r3.words) links (t3, tt) (r.served, tt)
+
+-- as the calls say it
+pub put-by : {first now b1 b2 new : Cut} {p : Place} {ps : List OwnedText} {t : Table} {y : Extent} {m : ℕ}
+    {z : OwnedText} (i : ℕ) {g : ℕ} (n len : ℕ) (block : Option ℕ) → IsPutReady first now p ps t y m z → i ≤ length ps
+    → block ≡ option_map handle z.extent → len ≡ length z.bytes → link_at (bytes_of now.bytes) (place_at p) ≡ Some g
+    → n ≡ word_at (bytes_of now.bytes) (place_at p + 8)
+    → IsChanged current now b1 (g + 16 * i + 16) (16 * (n - i))
+    → AreSameElements (bytes_of now.bytes) (bytes_of b1.bytes) (g + 16 * i) (g + 16 * i + 16) (n - i)
+    → IsChanged current b1 b2 (g + 16 * i) 16 → link_at (bytes_of b2.bytes) (g + 16 * i) ≡ block
+    → word_at (bytes_of b2.bytes) (g + 16 * i + 8) ≡ len
+    → IsChanged current b2 new (p.handle + (p.at + 8)) 8 → word_at (bytes_of new.bytes) (p.handle + (p.at + 8)) ≡ n + 1
+    → IsTextsNow first new p (option_to_list t.extent) (y ∷ option_to_list z.extent) (insert ps i z) (table m (Some y))
+put-by {now} {b1} {b2} {new} {p} {ps} {y} i n len block r inside at_is len_is leads n_is c1 m1 c2 link word c3 last =
+    let at : p.handle + (p.at + 8) ≡ p.handle + p.at + 8 = omega arith in
+    let g_is = same-some (sym leads ∙ r.link) in
+    let k_is : n ≡ length ps = n_is ∙ r.len_word in
+    put_in {b1 = b1} {b2 = b2} {new = new} i r inside
+    (subst (λ k. IsChanged current now b1 (handle y + 16 * i + 16) (16 * (k - i))) k_is
+    (subst (λ h. IsChanged current now b1 (h + 16 * i + 16) (16 * (n - i))) g_is c1))
+    (subst (λ k. AreSameElements (bytes_of now.bytes) (bytes_of b1.bytes) (handle y + 16 * i) (handle y + 16 * i + 16)
+    (k - i)) k_is
+    (subst (λ h. AreSameElements (bytes_of now.bytes) (bytes_of b1.bytes) (h + 16 * i) (h + 16 * i + 16) (n - i))
+    g_is m1)) (subst (λ h. IsChanged current b1 b2 (h + 16 * i) 16) g_is c2)
+    (subst (λ h. link_at (bytes_of b2.bytes) (h + 16 * i) ≡ block) g_is link ∙ at_is)
+    (subst (λ h. word_at (bytes_of b2.bytes) (h + 16 * i + 8) ≡ len) g_is word ∙ len_is)
+    (subst (λ k. IsChanged current b2 new k 8) at c3) (subst (λ k. word_at (bytes_of new.bytes) k ≡ length ps + 1) at
+    (last ∙ ap (λ k. k + 1) k_is))
+
+-- ---- what the calls of a put need
+
+pub record IsPutPlace (now : Cut) (p : Place) (g i k : ℕ) : Type 0 where
+  pub heap : IsHeap current now.bytes
+  pub head : IsHead now p
+  pub inside : i ≤ k
+  pub room : IsTrue (has_room (live_of now.bytes) g (16 * k + 16))
+  pub even : AreEvenLinks (bytes_of now.bytes) g k
+  pub count : word_at (bytes_of now.bytes) (place_at p + 8) ≡ k
+
+pub put-place : {now : Cut} {p : Place} {g i : ℕ} {block : Option ℕ} {len : ℕ} → (r : IsPutAsked now p i block len)
+    → link_at (bytes_of now.bytes) (place_at p) ≡ Some g → IsPutPlace now p g i (length r.ps)
+put-place {now} {p} {g} r leads =
+    let w = r.ready in let y = r.y in let k = length r.ps in let g_is = same-some (sym w.link ∙ leads) in
+    let space = w.space in let big = put-big w in let q = put-run w in
+    let found = (run-found q).0 in
+    record {
+      heap = q.heap;
+      head = q.head;
+      inside = r.inside;
+      room = subst (λ h. IsTrue (has_room (live_of now.bytes) h (16 * k + 16))) g_is
+          (found-room (live_of now.bytes) (handle y) (16 * k + 16) y found (omega (arith, big, space)));
+      even = λ j f.
+          let e = has-element r.ps j f in
+          subst (λ o. IfSome o (λ target. target % 16 ≡ 0))
+          (sym (links-at (bytes_of now.bytes) g r.ps j (subst (λ h. AreTextLinks (bytes_of now.bytes) h r.ps) g_is
+          w.links) e.1).0) (even-block (live_of r.first.bytes) e.0.extent w.texts.heap.proper
+          (one-of (IsFound (live_of r.first.bytes).extents) r.ps j
+          (found-texts (live_of r.first.bytes) r.ps w.texts.held) e.1));
+      count = w.len_word;
+    }
+
+pub put-even : {now : Cut} {p : Place} {i : ℕ} {block : Option ℕ} {len : ℕ} → IsPutAsked now p i block len
+    → IfSome block (λ target. target % 16 ≡ 0)
+put-even {now} {p} r =
+    let q = put-run r.ready in
+    subst (λ o. IfSome o (λ target. target % 16 ≡ 0)) (sym r.at)
+    (even-block (live_of now.bytes) r.z.extent q.heap.proper (run-found q).1)
+
+-- ---- an array that was asked for is given up
+
+pub asked-run : {first mid : Cut} {p : Place} {ps : List OwnedText} {t : Table} {g : ℕ} (n : ℕ)
+    → IsTexts first.bytes p ps t → IsAsked first mid t.extent (16 * n) g → IsReadyRun first mid p ps t g n
+asked-run n s a = ready-in n s a (asked-alone a)
+
+pub asked-link : {first mid : Cut} {p : Place} {ps : List OwnedText} {t : Table} {g : ℕ} (n : ℕ)
+    → IsTexts first.bytes p ps t → IsAsked first mid t.extent (16 * n) g
+    → link_at (bytes_of first.bytes) (place_at p) ≡ link_at (bytes_of mid.bytes) (place_at p)
+asked-link n s a = s.words.link ∙ sym (asked-run n s a).run.words.link
+
+pub asked-live : {first mid : Cut} {p : Place} {ps : List OwnedText} {t : Table} {g : ℕ} (n : ℕ)
+    → IsTexts first.bytes p ps t → IsAsked first mid t.extent (16 * n) g → IsTrue (is_live_in (live_of mid.bytes) g)
+asked-live {first} {mid} {p} {ps} {t} {g} n s a =
+    let q = asked-run n s a in
+    subst (λ k. IsTrue (is_live_in (live_of mid.bytes) k)) (sym q.at)
+    (found-live (handle q.array) (live_of mid.bytes).extents q.found)
+
+pub undone-none : {first mid new : Cut} {p : Place} {ps : List OwnedText} {c g n : ℕ} {o : Option Extent}
+    → IsTexts first.bytes p ps (table c o) → IsAsked first mid o n g
+    → link_at (bytes_of first.bytes) (place_at p) ≡ None → IsReleased current mid new g → IsRestored current first new
+undone-none {o = Some x} s a was r = none-some was s.words.link
+undone-none {o = None} s (widened w is) was r = absurd (cc)
+undone-none {mid} {new} {g} {n} {o = None} s (taken a e) was r = taken-back _ mid new n g _ a r
+
+pub undone-other : {first mid new : Cut} {p : Place} {ps : List OwnedText} {c g h n : ℕ} {o : Option Extent}
+    → IsTexts first.bytes p ps (table c o) → IsAsked first mid o n g
+    → link_at (bytes_of first.bytes) (place_at p) ≡ Some h → h ≢ g
+    → IsReleased current mid new g → IsRestored current first new
+undone-other {o = None} s a was differ r = none-some s.words.link was
+undone-other {o = Some x} s (widened w is) was differ r =
+    let h_is = same-some (sym s.words.link ∙ was) in
+    absurd (differ (sym h_is ∙ ap (λ (z : Extent). handle z) (same-some is) ∙ w.at))
+undone-other {mid} {new} {g} {n} {o = Some x} s (taken a e) was differ r = taken-back _ mid new n g _ a r
+
+pub undone-same : {first mid new : Cut} {p : Place} {ps : List OwnedText} {c g n room : ℕ} {o : Option Extent}
+    → IsTexts first.bytes p ps (table c o) → IsAsked first mid o n g
+    → link_at (bytes_of first.bytes) (place_at p) ≡ Some g → room ≡ room_of o
+    → IsShortened current mid new g room → IsRestored current first new
+undone-same {o = None} s a was e r = none-some s.words.link was
+undone-same {mid} {new} {g} {n} {room} {o = Some x} s (widened w is) was e r =
+    widened-back _ mid new g n room s.heap w (e ∙ ap (λ (z : Extent). z.len - 16) (same-some is)) r
+undone-same {o = Some x} s (taken a e') was e r =
+    let g_is = same-some (sym s.words.link ∙ was) in
+    absurd (new-other (handle x) a s.own.0 (g_is ∙ a.at))
+
+-- ---- the room of the array
+
+pub room-none : {b : List ℕ} {p : Place} {ps : List OwnedText} {c : ℕ} {o : Option Extent} → IsTexts b p ps (table c o)
+    → link_at (bytes_of b) (place_at p) ≡ None → 0 ≡ room_of o
+room-none {o = None} s link = refl
+room-none {o = Some x} s link = none-some link s.words.link
+
+pub room-some : {b : List ℕ} {p : Place} {ps : List OwnedText} {c g r : ℕ} {o : Option Extent}
+    → IsTexts b p ps (table c o) → link_at (bytes_of b) (place_at p) ≡ Some g
+    → option_map (λ (x : Extent). x.len - 16) (extent_at (live_of b) g) ≡ Some r → r ≡ room_of o
+room-some {o = None} s link e = none-some s.words.link link
+room-some {b} {r} {o = Some x} s link e =
+    let g_is = same-some (sym s.words.link ∙ link) in
+    let is : Some (x.len - 16) ≡ Some r = ap (option_map (λ (x : Extent). x.len - 16))
+    (sym s.own.0 ∙ ap (λ k. extent_at (live_of b) k) g_is) ∙ e in
+    sym (same-some is)
+
+-- ---- with a place for it
+
+pub record IsWithin (first now : Cut) (p : Place) (ps : List OwnedText) (t : Table) (z : OwnedText) : Type 0 where
+  pub array : Extent
+  pub extent : t.extent ≡ Some array
+  pub ready : IsPutReady first now p ps t array t.capacity z
+
+pub within : {s0 s1 : Cut} {p : Place} {ps : List OwnedText} {c : ℕ} {o : Option Extent} {bytes : List ℕ}
+    {block : Option ℕ} → IsTexts s0.bytes p ps (table c o) → length ps < c → (pl : IsTextPlaced s0 s1 bytes block)
+    → IsWithin s0 s1 p ps (table c o) pl.text
+within {c} {o = None} s space pl = let none : c ≡ 0 = eqb-true c 0 s.table in absurd (omega arith)
+within {s0} {s1} {p} {ps} {c} {o = Some x} s space pl =
+    let ez = option_to_list pl.text.extent in
+    let r0 = run-begin s0 [] [] ps refl s in
+    let r1 = run-swapped (x ∷ []) (spread-refl (x ∷ [])) r0 pl.change tt in
+    let still = texts-still s pl.change in
+    record {
+      array = x;
+      extent = refl;
+      ready = record {
+        texts = s;
+        table = s.table;
+        space = space;
+        change = exchange-order _ s0 s1 _ 24 _ _ _ (last-first ez (x ∷ [])) r1.change;
+        link = still.words.link;
+        len_word = still.words.len_word;
+        capacity = still.words.capacity;
+        links = still.words.array;
+        owned = pl.owned;
+        served = pl.served;
+      };
+    }
+
+wanted-same : (k c : ℕ) → k < c → capacity_for_one k c ≡ c
+wanted-same k c f = ap (λ b. if b then c else max 4 (2 * c)) (lt-ltb k c f)
+
+same-grown-one : (l : LiveSet) (ps : List OwnedText) (t : Table) → length ps < t.capacity
+    → grown_table l 16 (capacity_for_one (length ps) t.capacity) t ≡ Some t
+same-grown-one l ps t f = ap (λ n. grown_table l 16 n t) (wanted-same (length ps) t.capacity f) ∙ grown-same l 16
+    t.capacity t (omega arith)
+
+array-is : (l : LiveSet) (t : Table) → with_array l t t ≡ l
+array-is l t = ap (λ b. if b then (elim t.extent as (λ _. LiveSet) [ None ↦ l | Some x ↦ resized l x ]) else l)
+    (le-ltb t.capacity t.capacity (omega arith))
+
+pub within-ok : {s0 s1 new : Cut} {p : Place} (ps : List OwnedText) {c : ℕ} (i : ℕ) (o : Option Extent)
+    {bytes : List ℕ} {block : Option ℕ} → length ps < c → (pl : IsTextPlaced s0 s1 bytes block) → {y : Extent}
+    → o ≡ Some y → IsTextsNow s0 new p (option_to_list o) (y ∷ option_to_list pl.text.extent) (insert ps i pl.text)
+    (table c (Some y)) → IsTextPutIn s0 new p ps (table c o) i bytes
+within-ok ps i None space pl e now = absurd (cc)
+within-ok {s0} {new} {p} ps {c} i (Some x) {bytes} space pl {y} e now =
+    let t = table c (Some x) in
+    let same : x ≡ y = cc in
+    record {
+      table = t;
+      grown = same-grown-one (live_of s0.bytes) ps t space;
+      text = pl.text;
+      placed = ap (λ l. placed_text l bytes) (array-is (live_of s0.bytes) t) ∙ pl.placed;
+      now = subst (λ (w : Extent). IsTextsNow s0 new p (x ∷ []) (w ∷ option_to_list pl.text.extent)
+          (insert ps i pl.text) (table c (Some w))) (sym same) now;
+    }
+
+abbrev after : LiveSet → Table → List ℕ → Option Table → Option OwnedText
+after l t bytes o = elim o [ None ↦ None | Some u ↦ placed_text (with_array l t u) bytes ]
+
+pub restored-same : (a b : Cut) → IsHeap current a.bytes → b ≡ a → IsRestored current a b
+restored-same a b heap e = subst (IsRestored current a) (sym e)
+    (record { laid = heap; keeps = keeps-refl a (live_of a.bytes).extents })
+
+-- where nothing changes, nothing does at first
+same-first : (old new : Cut) (ps : List OwnedText) (t : Table) (bytes : List ℕ) → new ≡ old
+    → IsStillAtFirst old new ps t bytes
+same-first old new ps t bytes e = record { text = λ f none. e; array = λ none. e }
+
+pub within-err : {s0 s1 : Cut} {p : Place} {ps : List OwnedText} {t : Table} {bytes : List ℕ} {e : Refusal}
+    → IsTexts s0.bytes p ps t → length ps < t.capacity
+    → IsWithoutFit s0 s1 (placed_text (live_of s0.bytes) bytes) e → IsRefusedPut s0 s1 ps t bytes e
+within-err {s0} {s1} {ps} {t} {bytes} s space r = record {
+  refusal = r.refusal;
+  none = ap (after (live_of s0.bytes) t bytes) (same-grown-one (live_of s0.bytes) ps t space)
+      ∙ ap (λ l. placed_text l bytes) (array-is (live_of s0.bytes) t) ∙ r.none;
+  restored = restored-same s0 s1 s.heap r.same;
+  first = same-first s0 s1 ps t bytes r.same;
+}
+
+-- ---- the first block that is asked for
+
+-- a text that is put in had both
+first-put : {old new : Cut} {p : Place} {ps : List OwnedText} {t : Table} {i : ℕ} {bytes : List ℕ}
+    → IsTextPutIn old new p ps t i bytes → IsStillAtFirst old new ps t bytes
+first-put {old} {ps} {t} {bytes} w =
+    let l = live_of old.bytes in
+    record {
+      text = λ f none.
+          let tables : Some t ≡ Some w.table = sym (same-grown-one l ps t f) ∙ w.grown in
+          let same : t ≡ w.table = cc in
+          let placed : placed_text l bytes ≡ Some w.text = ap (λ s. placed_text s bytes) (sym (array-is l t))
+          ∙ ap (λ (u : Table). placed_text (with_array l t u) bytes) same ∙ w.placed in
+          let both = sym placed ∙ none in
+          absurd (cc);
+      array = λ none. let both = sym w.grown ∙ none in absurd (cc);
+    }
+
+-- what is answered where the index is inside
+pub put-answered : (old new : Cut) (p : Place) (ps : List OwnedText) (t : Table) {i : ℕ} (bytes : List ℕ)
+    (r : Result (Unit {0}) Refusal) → i ≤ length ps → PutsInto old new p ps t i bytes r
+    → MatchResult r (λ u. (i ≤ length ps) × IsTextPutIn old new p ps t i bytes) (λ e.
+    IsOutside old new (length ps + 1) i e ⊎ ((i ≤ length ps) × IsGivenUp old new
+    (one_more (live_of old.bytes) ps t bytes) e))
+put-answered old new p ps t bytes (Ok u) f h = (f, h)
+put-answered old new p ps t bytes (Err e) f h =
+    inr (f, record { refusal = h.refusal; none = h.none; restored = h.restored })
+
+pub first-answered : (old new : Cut) (p : Place) (ps : List OwnedText) (t : Table) (i : ℕ) (bytes : List ℕ)
+    (r : Result (Unit {0}) Refusal) → PutsInto old new p ps t i bytes r → IsStillAtFirst old new ps t bytes
+first-answered old new p ps t i bytes (Ok u) h = first-put h
+first-answered old new p ps t i bytes (Err e) h = h.first
+
+-- ---- in an array with more places
+
+pub growing-ready : {s0 s1 s2 s3 : Cut} {p : Place} {ps : List OwnedText} {t : Table} {g n : ℕ} {bytes : List ℕ}
+    {block : Option ℕ} → IsTexts s0.bytes p ps t → length ps < n → (pl : IsTextPlaced s1 s2 bytes block)
+    → (ad : IsAdopted s0 s2 s3 p ps t g n (option_to_list pl.text.extent)) → IsPutReady s0 s3 p ps t ad.array n pl.text
+growing-ready {s2} {s3} {ps} {n} s space pl ad = record {
+  texts = s;
+  table = new-table n ad.array (omega (arith, space)) ad.serves;
+  space = space;
+  change = ad.change;
+  link = ad.link ∙ ap (λ k. Some k) ad.at;
+  len_word = ad.len_word;
+  capacity = ad.capacity;
+  links = subst (λ k. AreTextLinks (bytes_of s3.bytes) k ps) ad.at ad.links;
+  owned = same-loose (bytes_of s2.bytes) (bytes_of s3.bytes) pl.text.bytes pl.text.extent ad.stay pl.served pl.owned;
+  served = pl.served;
+}
+
+others-none : (y : Extent) (zs : List Extent) → Differs y zs → others (handle y) zs ≡ zs
+others-none y [] d = refl
+others-none y (z ∷ zs) d = others-past (handle y) z zs (λ e. d.0 (omega (arith, e)))
+    ∙ ap (λ (ws : List Extent). z ∷ ws) (others-none y zs d.1)
+
+-- a block that is new is put in among the others
+pub came-alone : {a b : Cut} {x : Extent} → IsSwapped a b [] (x ∷ []) → live_of b.bytes ≡ resized (live_of a.bytes) x
+came-alone {a} {b} {x} s =
+    let l = live_of a.bytes in
+    let f = rising-insert 128 x l.extents (live-rises (exchanged l [] (x ∷ [])) s.live.proper) in
+    exchanged-live a b 0 0 [] _ _ s
+    ∙ ap (λ (zs : List Extent). let k : LiveSet = record l { extents = fit.insert x zs } in k)
+    (sym (others-none x l.extents f.differs))
+
+pub record IsAskedExtent (first mid : Cut) (o : Option Extent) (n : ℕ) : Type 0 where
+  pub extent : Extent
+  pub regrown : regrow (live_of first.bytes) o n ≡ Some extent
+  pub live : live_of mid.bytes ≡ resized (live_of first.bytes) extent
+
+pub asked-extent : {first mid : Cut} {o : Option Extent} {n g : ℕ} → IsAsked first mid o n g
+    → IsAskedExtent first mid o n
+asked-extent {first} {mid} {n} (widened w is) = record {
+  extent = w.after;
+  regrown = ap (λ q. regrow (live_of first.bytes) q n) is ∙ w.regrown;
+  live = lay_out_one current mid.bytes (resized (live_of first.bytes) w.after) w.change.live;
+}
+asked-extent {first} {mid} (taken a e) =
+    record { extent = a.extent; regrown = e; live = came-alone (exchange-taken _ first mid _ _ _ 0 0 a) }
+
+more-array : (l : LiveSet) (t : Table) (n : ℕ) (y : Extent) → t.capacity < n
+    → with_array l t (table n (Some y)) ≡ resized l y
+more-array l t n y f = ap (λ b. if b then resized l y else l) (lt-ltb t.capacity n f)
+
+same-block : {n : ℕ} {a b : Extent} → Some (table n (Some a)) ≡ Some (table n (Some b)) → a ≡ b
+same-block e = same-some (ap (λ (t : Table). t.extent) (same-some e))
+
+pub growing-ok : {s0 s1 s2 s3 new : Cut} {p : Place} {ps : List OwnedText} {t : Table} {g n : ℕ} (i : ℕ)
+    {bytes : List ℕ} {block : Option ℕ} → t.capacity < n → n ≡ capacity_for_one (length ps) t.capacity
+    → IsAsked s0 s1 t.extent (16 * n) g
+    → (pl : IsTextPlaced s1 s2 bytes block) → (ad : IsAdopted s0 s2 s3 p ps t g n (option_to_list pl.text.extent))
+    → IsTextsNow s0 new p (option_to_list t.extent) (ad.array ∷ option_to_list pl.text.extent) (insert ps i pl.text)
+    (table n (Some ad.array)) → IsTextPutIn s0 new p ps t i bytes
+growing-ok {s0} {s1} {t} {n} i {bytes} more wanted a pl ad now =
+    let l = live_of s0.bytes in let x = asked-extent a in
+    let same = same-block (sym (grown-to l n t more x.regrown) ∙ ad.grown) in
+    let live : with_array l t (table n (Some ad.array)) ≡ live_of s1.bytes = more-array l t n ad.array more
+    ∙ ap (λ (y : Extent). resized l y) (sym same) ∙ sym x.live in
+    record {
+      table = table n (Some ad.array);
+      grown = subst (λ k. grown_table l 16 k t ≡ Some (table n (Some ad.array))) wanted ad.grown;
+      text = pl.text;
+      placed = ap (λ (s : LiveSet). placed_text s bytes) live ∙ pl.placed;
+      now = now;
+    }
+
+pub growing-none : {s0 s1 : Cut} {p : Place} {ps : List OwnedText} {t : Table} (n : ℕ) (bytes : List ℕ) {e : Refusal}
+    → IsTexts s0.bytes p ps t → t.capacity < n → n ≡ capacity_for_one (length ps) t.capacity
+    → IsWithoutFit s0 s1 (regrow (live_of s0.bytes) t.extent (16 * n)) e → IsRefusedPut s0 s1 ps t bytes e
+growing-none {s0} {s1} {ps} {t} n bytes s more wanted r = record {
+  refusal = r.refusal;
+  none = ap (after (live_of s0.bytes) t bytes) (ap (λ k. grown_table (live_of s0.bytes) 16 k t) (sym wanted)
+      ∙ not-grown (live_of s0.bytes) n t more r.none);
+  restored = restored-same s0 s1 s.heap r.same;
+  first = same-first s0 s1 ps t bytes r.same;
+}
+
+pub growing-err : {s0 s1 s2 new : Cut} (ps : List OwnedText) (t : Table) {g : ℕ} (n : ℕ) {bytes : List ℕ} {e : Refusal}
+    → t.capacity < n → n ≡ capacity_for_one (length ps) t.capacity → t.capacity ≤ length ps
+    → IsAsked s0 s1 t.extent (16 * n) g → IsWithoutFit s1 s2 (placed_text (live_of s1.bytes) bytes) e
+    → IsRestored current s0 new → IsRefusedPut s0 new ps t bytes e
+growing-err {s0} {s1} ps t n {bytes} more wanted full a r back =
+    let l = live_of s0.bytes in let x = asked-extent a in
+    record {
+      refusal = r.refusal;
+      none = ap (after l t bytes) (ap (λ k. grown_table l 16 k t) (sym wanted) ∙ grown-to l n t more x.regrown)
+          ∙ ap (λ (s : LiveSet). placed_text s bytes) (more-array l t n x.extent more ∙ sym x.live) ∙ r.none;
+      restored = back;
+      first = record {
+        text = λ f none. absurd (omega (arith, f, full));
+        array = λ none. let both = sym (ap (λ k. grown_table l 16 k t) (sym wanted) ∙ grown-to l n t more x.regrown)
+            ∙ none in absurd (cc);
+      };
+    }
+
+full-if : (k c : ℕ) (b : Bool) → nat_lt k c ≡ b → c ≤ k → (if b then c else max 4 (2 * c)) ≡ max 4 (2 * c)
+full-if k c true e f = absurd (grind arith)
+full-if k c false e f = refl
+
+-- more than there were
+pub wanted-more : (n k c : ℕ) → c ≤ k → n ≡ capacity_for_one k c → n ≡ max 4 (2 * c)
+wanted-more n k c f e = e ∙ full-if k c (nat_lt k c) refl f
+
+-- ---- what the calls need
+
+pub few-places : (c : Cut) {p : Place} {ps : List OwnedText} {t : Table} → IsTexts c.bytes p ps t
+    → 16 * t.capacity < 1073741824
+few-places c s = capacity-bytes c s.heap (texts-stand s)
+
+more-if : (n k c : ℕ) → c ≤ k → n ≡ max 4 (2 * c) → k ≤ c → (c < n) × (k < n)
+more-if n k c f e g = (omega (arith, e), omega (arith, e, g))
+
+pub more-places : (c : Cut) {p : Place} {ps : List OwnedText} {t : Table} (n : ℕ) → IsTexts c.bytes p ps t
+    → t.capacity ≤ length ps → n ≡ capacity_for_one (length ps) t.capacity → (t.capacity < n) × (length ps < n)
+more-places c {ps} {t} n s f e = more-if n (length ps) t.capacity f (wanted-more n (length ps) t.capacity f e) s.fits
+
+pub small-wanted : (c : Cut) {p : Place} {ps : List OwnedText} {t : Table} (n : ℕ) → IsTexts c.bytes p ps t
+    → t.capacity ≤ length ps → n ≡ capacity_for_one (length ps) t.capacity → 16 * n < 18446744073709551616
+small-wanted c {ps} {t} n s f e = let few : 16 * t.capacity < 1073741824 = few-places c s in let is : n ≡ max 4
+    (2 * t.capacity) = wanted-more n (length ps) t.capacity f e in omega (arith, few, is)

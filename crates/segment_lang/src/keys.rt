@@ -29,6 +29,7 @@ fn bare_name(word: &[u8]) -> Option<Name<'_>>
 }
 
 /// The entry of an index: a name, or `@` and a kind.
+#[inline(always)]
 pub fn index_key<'a>(word: Word<'a>, scratch: &'a mut Text) -> Option<IndexKey<'a>>
     ensures { option_map index_key_seen result ≡ name_key (whole current) (word_of word.entry) }
 {

@@ -1,18 +1,17 @@
 -- The three words of a container are written, and its storage is given back or shortened to its elements.
 use Rattle.seg_vector.proofs.Words.{◌≡◌, refl, sym, ap, subst, ◌∙◌, inl, ℕ, ◌+◌, ◌%◌, ◌≤◌, Option, Some, None, List}
-use Rattle.seg_vector.proofs.Words.{arith, ◌≢◌, ◌*◌, min, ◌∷◌, length, ◌==◌, IsTrue, option_map, option_to_list}
-use Rattle.seg_vector.proofs.Words.{nat_lt, and_from, cond-false, cond-true, eq-eqb, le-leb, leb-true, lt-ltb, ne_eqb}
-use Rattle.seg_vector.proofs.Words.{Cut, bytes_of, word_at, Has, current, SameBut-word, link_at, SameBut-link}
-use Rattle.seg_vector.proofs.Words.{IsExchanged, Extent, LiveSet, handle, holds, shorter, IsChanged, IsReleased}
-use Rattle.seg_vector.proofs.Words.{extent_at, has_room, live_of, IsResized, IsShortened, Table, no_table, same_role}
-use Rattle.seg_vector.proofs.Words.{serves, changed-live, laid-heap, read-same, shorter-IsShorter, spread-refl}
-use Rattle.seg_vector.proofs.Words.{exchange-released, exchange-resized, Role, Storage, Place, IsGivenBack, IsFitted}
-use Rattle.seg_vector.proofs.Words.{Stands, place_at, []}
-use Rattle.best_fit.specs.Table.{cut_table}
+use Rattle.seg_vector.proofs.Words.{arith, ◌≢◌, ◌*◌, min, ◌∷◌, length, ◌==◌, IsTrue, option_map, option_to_list, nat_lt}
+use Rattle.seg_vector.proofs.Words.{and_from, cond-false, cond-true, eq-eqb, le-leb, leb-true, lt-ltb, ne_eqb, Cut}
+use Rattle.seg_vector.proofs.Words.{bytes_of, word_at, Has, current, SameBut-word, link_at, SameBut-link, IsExchanged}
+use Rattle.seg_vector.proofs.Words.{Extent, LiveSet, handle, holds, shorter, IsChanged, IsReleased, extent_at, has_room}
+use Rattle.seg_vector.proofs.Words.{live_of, IsResized, IsShortened, Table, no_table, same_role, serves, changed-live}
+use Rattle.seg_vector.proofs.Words.{laid-heap, read-same, shorter-IsShorter, spread-refl, exchange-released}
+use Rattle.seg_vector.proofs.Words.{exchange-resized, Role, Storage, Place, IsGivenBack, IsFitted, Stands, place_at, []}
 use Rattle.seg_vector.proofs.Runs.{AreHeadWords, IsRun, beside-head, head-wider, none-some, room-head, run-headed}
 use Rattle.seg_vector.proofs.Runs.{run-stands, run-swapped, same-some, stands-run, table, table-full}
 use Rattle.seg_vector.proofs.Storage.{storage-role}
 use Rattle.seg_vector.proofs.Bytes.{more-times, no-bytes}
+use Rattle.best_fit.specs.Table.{cut_table}
 
 -- ---- a container without a place
 

@@ -10,3 +10,14 @@ pub mod TextGrowth
 pub mod TextPuts
 pub mod TextsLaid
 pub mod Laws
+pub use Words.*
+pub use Runs.*
+pub use Bytes.*
+pub use Storage.*
+pub use Fewer.*
+pub use Typed.*
+pub use TextBlocks.*
+pub use TextCalls.*
+pub use TextGrowth.*
+pub use TextPuts.*
+pub use TextsLaid.*

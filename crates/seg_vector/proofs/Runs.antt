@@ -1,16 +1,14 @@
 -- The head of a container, its three words and the block that they stand in, through the steps of a call.
-use Rattle.seg_vector.proofs.Words.{◌≡◌, ◌≢◌, refl, sym, ap, subst, ◌∙◌, inl, inr, ℕ, ◌+◌, ◌*◌, ◌<◌, ◌≤◌, Option}
-use Rattle.seg_vector.proofs.Words.{Some, None, List, ◌∷◌, length, arith, ◌⊎◌, ◌++◌, append-nil, IsTrue, nat_lt}
-use Rattle.seg_vector.proofs.Words.{option_to_list, AllByRecursion, and_parts, leb-true, Memory, Cut, SameBut}
-use Rattle.seg_vector.proofs.Words.{bytes_of, word_at, Same, SameBut-wider, SameBut-word, link_at, target_of, Storage}
-use Rattle.seg_vector.proofs.Words.{current, exchanged, without_all, IsExchanged, inserted, Extent, LiveSet, handle}
-use Rattle.seg_vector.proofs.Words.{holds, place, IsChanged, IsHeap, LaysOut, SameBlock, extent_at, has_room, live_of}
-use Rattle.seg_vector.proofs.Words.{Table, is_table, serves, same_role, table_link, found-room, in_use-alone}
-use Rattle.seg_vector.proofs.Words.{live-rises, written-keeps, word-same, laid-heap, roomy, changed-live, written-but}
-use Rattle.seg_vector.proofs.Words.{IsFound, IsNone, SameSpread, all-found-in, all-in-use, found-none, exchanged-live}
-use Rattle.seg_vector.proofs.Words.{found-without, IsRoomy, kept, kept-found, exchange-next, exchange-same}
-use Rattle.seg_vector.proofs.Words.{spread-refl, exchange-wide, exchange-written, kept-beside, Place, IsOwnBlock}
-use Rattle.seg_vector.proofs.Words.{Stands, place_at, IsStorage, SameBut-link, IsSwapped, AreOthers, []}
+use Rattle.seg_vector.proofs.Words as W
+use W.{◌≡◌, ◌≢◌, refl, sym, ap, subst, ◌∙◌, inl, inr, ℕ, ◌+◌, ◌*◌, ◌<◌, ◌≤◌, Option, Some, None, List, ◌∷◌, length}
+use W.{arith, ◌⊎◌, ◌++◌, append-nil, IsTrue, nat_lt, option_to_list, AllByRecursion, and_parts, leb-true, Memory, Cut}
+use W.{SameBut, bytes_of, word_at, Same, SameBut-wider, SameBut-word, link_at, target_of, Storage, current, exchanged}
+use W.{without_all, IsExchanged, inserted, Extent, LiveSet, handle, holds, place, IsChanged, IsHeap, LaysOut, SameBlock}
+use W.{extent_at, has_room, live_of, Table, is_table, serves, same_role, table_link, found-room, in_use-alone}
+use W.{live-rises, written-keeps, word-same, laid-heap, roomy, changed-live, written-but, IsFound, IsNone, SameSpread}
+use W.{all-found-in, all-in-use, found-none, exchanged-live, found-without, IsRoomy, kept, kept-found, exchange-next}
+use W.{exchange-same, spread-refl, exchange-wide, exchange-written, kept-beside, Place, IsOwnBlock, Stands, place_at}
+use W.{IsStorage, SameBut-link, IsSwapped, AreOthers, []}
 
 abbrev pub table : ℕ → Option Extent → Table
 table c o = record { capacity = c; extent = o }

@@ -1,28 +1,24 @@
 -- The blocks of a vector of texts, its array and those of its texts, among the other blocks of a heap, and through the
 -- steps of a call.
-use Rattle.seg_vector.proofs.Words.{◌≡◌, ◌≢◌, sym, ap, subst, ◌∙◌, ℕ, ◌+◌, ◌%◌, ◌≤◌, Option, Some, None, List, ◌∷◌}
-use Rattle.seg_vector.proofs.Words.{◌++◌, ◌==◌, append_assoc, length, arith, inl, inr, refl, zero, suc, ◌-◌, ◌*◌, ◌<◌}
-use Rattle.seg_vector.proofs.Words.{take, drop, Bool, true, false, cond, ◌⊎◌, IsTrue, find, option_to_list}
-use Rattle.seg_vector.proofs.Words.{option_map, slice_get, IfSome, AllByRecursion, list_any, flat_map-append}
-use Rattle.seg_vector.proofs.Words.{take-take, drop_all, slice_get_within, or_left, or_right, Memory, Cut, bytes_of}
-use Rattle.seg_vector.proofs.Words.{word_at, SameBut, Has, current, Storage, link_at, target_of, inserted}
-use Rattle.seg_vector.proofs.Words.{without_all, IsExchanged, SameBlockBut, exchanged, Extent, LiveSet, handle}
-use Rattle.seg_vector.proofs.Words.{end_of, IsHeap, extent_at, live_of, SameBlock, IsChanged, has_room, is_live_in}
-use Rattle.seg_vector.proofs.Words.{payload_at, IsReleased, Table, is_table, no_table, IsFound, IsNone, Rising}
-use Rattle.seg_vector.proofs.Words.{SameSpread, all-found-in, all-in-use, found-inserted, found-none, found-room}
-use Rattle.seg_vector.proofs.Words.{live-rises, middle-first, rising-others, roomy, spread-behind, all_of-inserted}
-use Rattle.seg_vector.proofs.Words.{but-apart, exchanged-live, found-without, inserted-append, laid-heap}
-use Rattle.seg_vector.proofs.Words.{without-inserted, kept, kept-found, word-same, block_payload, room_block}
-use Rattle.seg_vector.proofs.Words.{exchange-next, exchange-released, exchange-same, spread-refl, IsSound, live-sound}
-use Rattle.seg_vector.proofs.Words.{Has-same, SameBut-word, read-part, SameBut-link, Place, IsOwnBlock, place_at}
-use Rattle.seg_vector.proofs.Words.{Stands, IsServed, IsSwapped, AreHeldElements, IsHeldElement, AreSameElements}
-use Rattle.seg_vector.proofs.Words.{IsSameElement, AreEvenLinks, IsHeldText, IsTexts, text_blocks, IsTextsNow}
-use Rattle.seg_vector.proofs.Words.{IsTextElement, AreInArray, IsOwnedText, OwnedText, AreTextLinks, []}
-use Rattle.best_fit.specs.Extents.{is_proper}
+use Rattle.seg_vector.proofs.Words as W
+use W.{◌≡◌, ◌≢◌, sym, ap, subst, ◌∙◌, ℕ, ◌+◌, ◌%◌, ◌≤◌, Option, Some, None, List, ◌∷◌, ◌++◌, ◌==◌, append_assoc, length}
+use W.{arith, inl, inr, refl, zero, suc, ◌-◌, ◌*◌, ◌<◌, take, drop, Bool, true, false, cond, ◌⊎◌, IsTrue, find}
+use W.{option_to_list, option_map, slice_get, IfSome, AllByRecursion, list_any, flat_map-append, take-take, drop_all}
+use W.{slice_get_within, or_left, or_right, Memory, Cut, bytes_of, word_at, SameBut, Has, current, Storage, link_at}
+use W.{target_of, inserted, without_all, IsExchanged, SameBlockBut, exchanged, Extent, LiveSet, handle, end_of, IsHeap}
+use W.{extent_at, live_of, SameBlock, IsChanged, has_room, is_live_in, payload_at, IsReleased, Table, is_table}
+use W.{no_table, IsFound, IsNone, Rising, SameSpread, all-found-in, all-in-use, found-inserted, found-none, found-room}
+use W.{live-rises, middle-first, rising-others, roomy, spread-behind, all_of-inserted, but-apart, exchanged-live}
+use W.{found-without, inserted-append, laid-heap, without-inserted, kept, kept-found, word-same, block_payload}
+use W.{room_block, exchange-next, exchange-released, exchange-same, spread-refl, IsSound, live-sound, Has-same}
+use W.{SameBut-word, read-part, SameBut-link, Place, IsOwnBlock, place_at, Stands, IsServed, IsSwapped, AreHeldElements}
+use W.{IsHeldElement, AreSameElements, IsSameElement, AreEvenLinks, IsHeldText, IsTexts, text_blocks, IsTextsNow}
+use W.{IsTextElement, AreInArray, IsOwnedText, OwnedText, AreTextLinks, []}
 use Rattle.seg_vector.proofs.Runs.{AreHeadWords, IsHead, IsRun, changed-both, head-exchanged, none-some, same-some}
 use Rattle.seg_vector.proofs.Runs.{serves-full, table, table-full}
 use Rattle.seg_vector.proofs.Storage.{all-found, live-if}
 use Rattle.seg_vector.proofs.Typed.{has-element}
+use Rattle.best_fit.specs.Extents.{is_proper}
 
 -- ---- the blocks of a vector of texts, its array and those of its texts, among the other blocks of a heap
 

@@ -1,22 +1,17 @@
 -- A vector of texts without texts, with one less or another one, or cut; and a text in a block of its own.
-use Rattle.seg_vector.proofs.Words.{◌≡◌, ◌≢◌, refl, sym, ap, subst, ◌∙◌, ℕ, ◌+◌, ◌*◌, Option, Some, None, List, ◌∷◌}
-use Rattle.seg_vector.proofs.Words.{◌++◌, append-nil, arith, length, inl, inr, ◌⊎◌, suc, ◌-◌, ◌<◌, ◌≤◌, length-append}
-use Rattle.seg_vector.proofs.Words.{take, drop, zero, ◌%◌, if◌then◌else◌, append_assoc, option_to_list, IsTrue}
-use Rattle.seg_vector.proofs.Words.{remove, slice_get, IfSome, ⊤, option_map, slice_set, AllByRecursion, eq-eqb}
-use Rattle.seg_vector.proofs.Words.{ne_eqb, length-drop, length-take, take-append-drop, slice_get_within, Memory, Cut}
-use Rattle.seg_vector.proofs.Words.{bytes_of, word_at, Has, Same, read, current, link_at, target_of, without_all}
-use Rattle.seg_vector.proofs.Words.{exchanged, inserted, Extent, handle, end_of, LiveSet, IsChanged, live_of}
-use Rattle.seg_vector.proofs.Words.{SameBlock, IsAllocated, IsHeap, Table, no_table, is_table, SameSpread}
-use Rattle.seg_vector.proofs.Words.{exchange-next, exchange-same, exchange-wide, found-room, laid-heap, last-first}
-use Rattle.seg_vector.proofs.Words.{spread-refl, IsNone, kept, shorter-IsShorter, word-same, IsFound, all-found-in}
-use Rattle.seg_vector.proofs.Words.{allocated-room, exchange-taken, exchanged-live, kept-found, live-rises}
-use Rattle.seg_vector.proofs.Words.{place-serves, still_allocated, SameBlock-trans, rising-others, Storage, shorter}
-use Rattle.seg_vector.proofs.Words.{place, Has-same, Place, IsGivenBack, IsFitted, Stands, place_at, IsOwnBlock}
-use Rattle.seg_vector.proofs.Words.{AreHeldElements, IsSwapped, AreSameElements, IsHeldElement, IsTextPlaced}
-use Rattle.seg_vector.proofs.Words.{IsServed, IsTextReplaced, IsTexts, IsTextsNow, text_blocks, IsHeldText}
-use Rattle.seg_vector.proofs.Words.{placed_text, AreOthers, AreInArray, IsStorage, OwnedText, AreTextLinks}
-use Rattle.seg_vector.proofs.Words.{IsOwnedText, Refusal, IsWithoutFit, []}
-use Rattle.best_fit.specs.Table.{cut_table}
+use Rattle.seg_vector.proofs.Words as W
+use W.{◌≡◌, ◌≢◌, refl, sym, ap, subst, ◌∙◌, ℕ, ◌+◌, ◌*◌, Option, Some, None, List, ◌∷◌, ◌++◌, append-nil, arith, length}
+use W.{inl, inr, ◌⊎◌, suc, ◌-◌, ◌<◌, ◌≤◌, length-append, take, drop, zero, ◌%◌, if◌then◌else◌, append_assoc}
+use W.{option_to_list, IsTrue, remove, slice_get, IfSome, ⊤, option_map, slice_set, AllByRecursion, eq-eqb, ne_eqb}
+use W.{length-drop, length-take, take-append-drop, slice_get_within, Memory, Cut, bytes_of, word_at, Has, Same, read}
+use W.{current, link_at, target_of, without_all, exchanged, inserted, Extent, handle, end_of, LiveSet, IsChanged}
+use W.{live_of, SameBlock, IsAllocated, IsHeap, Table, no_table, is_table, SameSpread, exchange-next, exchange-same}
+use W.{exchange-wide, found-room, laid-heap, last-first, spread-refl, IsNone, kept, shorter-IsShorter, word-same}
+use W.{IsFound, all-found-in, allocated-room, exchange-taken, exchanged-live, kept-found, live-rises, place-serves}
+use W.{still_allocated, SameBlock-trans, rising-others, Storage, shorter, place, Has-same, Place, IsGivenBack, IsFitted}
+use W.{Stands, place_at, IsOwnBlock, AreHeldElements, IsSwapped, AreSameElements, IsHeldElement, IsTextPlaced, IsServed}
+use W.{IsTextReplaced, IsTexts, IsTextsNow, text_blocks, IsHeldText, placed_text, AreOthers, AreInArray, IsStorage}
+use W.{OwnedText, AreTextLinks, IsOwnedText, Refusal, IsWithoutFit, []}
 use Rattle.seg_vector.proofs.Fewer.{cut-some}
 use Rattle.seg_vector.proofs.Runs.{AreHeadWords, IsHead, IsRun, beside-head, block-written, head-exchanged, head-kept}
 use Rattle.seg_vector.proofs.Runs.{head-room, head-wider, len-written, none-some, room-head, run-found, run-headed}
@@ -27,6 +22,7 @@ use Rattle.seg_vector.proofs.TextBlocks.{links-moved, links-split, no-array, non
 use Rattle.seg_vector.proofs.TextBlocks.{own_blocks, run-begin, swapped-none, texts-between, texts-own}
 use Rattle.seg_vector.proofs.Typed.{set-pieces}
 use Rattle.seg_vector.proofs.Bytes.{length-read, no-bytes}
+use Rattle.best_fit.specs.Table.{cut_table}
 
 -- ---- the elements of the array
 
@@ -157,15 +153,15 @@ pub removed-length : (ps : List OwnedText) (i : ℕ) {q : OwnedText} → slice_g
 removed-length ps i {q} e = let below : i < length ps = slice_get_within ps i q e in omega
     (arith, length-append (take i ps) (drop (suc i) ps), length-take i ps, length-drop (suc i) ps, below)
 
-pub erased : {s0 s1 s2 s3 : Cut} {p : Place} {ps : List OwnedText} {c g : ℕ} (i : ℕ) {o : Option Extent}
+pub text-erased : {s0 s1 s2 s3 : Cut} {p : Place} {ps : List OwnedText} {c g : ℕ} (i : ℕ) {o : Option Extent}
     {q : OwnedText} → IsTexts s0.bytes p ps (table c o) → slice_get ps i ≡ Some q
     → link_at (bytes_of s0.bytes) (place_at p) ≡ Some g
     → IsSwapped s0 s1 (option_to_list q.extent) [] → IsChanged current s1 s2 (g + 16 * i) (16 * (length ps - i - 1))
     → AreSameElements (bytes_of s1.bytes) (bytes_of s2.bytes) (g + 16 * i + 16) (g + 16 * i) (length ps - i - 1)
     → IsChanged current s2 s3 (place_at p + 8) 8 → word_at (bytes_of s3.bytes) (place_at p + 8) ≡ length ps - 1
     → IsTextsNow s0 s3 p (option_to_list o ++ option_to_list q.extent) (option_to_list o) (remove ps i) (table c o)
-erased i {o = None} s e link x1 c2 m2 c3 word = none-some s.words.link link
-erased {s0} {s1} {s2} {s3} {p} {ps} {c} i {o = Some x} {q} s e link x1 c2 m2 c3 word =
+text-erased i {o = None} s e link x1 c2 m2 c3 word = none-some s.words.link link
+text-erased {s0} {s1} {s2} {s3} {p} {ps} {c} i {o = Some x} {q} s e link x1 c2 m2 c3 word =
     let t = table c (Some x) in let at = place_at p in
     let n : ℕ = length ps - i - 1 in
     let eq = option_to_list q.extent in
@@ -239,7 +235,7 @@ pub erased-by : {s0 s1 s2 s3 : Cut} {p : Place} {ps : List OwnedText} {g : ℕ} 
 erased-by {s1} {s2} {s3} {p} {ps} {g} i n s e link is x1 c2 m2 c3 word =
     let up : g + (16 * i + 16) ≡ g + 16 * i + 16 = omega arith in
     let at : p.handle + (p.at + 8) ≡ p.handle + p.at + 8 = omega arith in
-    erased {s2 = s2} {s3 = s3} i s e link x1 (subst (λ k. IsChanged current s1 s2 (g + 16 * i) (16 * (k - i - 1))) is
+    text-erased {s2 = s2} {s3 = s3} i s e link x1 (subst (λ k. IsChanged current s1 s2 (g + 16 * i) (16 * (k - i - 1))) is
     c2) (subst (λ k. AreSameElements (bytes_of s1.bytes) (bytes_of s2.bytes) k (g + 16 * i) (length ps - i - 1)) up
     (subst (λ k. AreSameElements (bytes_of s1.bytes) (bytes_of s2.bytes) (g + (16 * i + 16)) (g + 16 * i)
     (k - i - 1)) is m2)) (subst (λ k. IsChanged current s2 s3 k 8) at c3)

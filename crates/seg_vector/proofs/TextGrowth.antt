@@ -1,19 +1,15 @@
 -- The array of a vector of texts with more places, one text more in it, and what was asked for given up.
-use Rattle.seg_vector.proofs.Words.{◌≡◌, ◌≢◌, refl, sym, ap, subst, ◌∙◌, ℕ, ◌+◌, ◌*◌, ◌<◌, ◌≤◌, Option, Some, None}
-use Rattle.seg_vector.proofs.Words.{List, ◌∷◌, ◌++◌, arith, length, inl, inr, ◌⊎◌, ◌%◌, append-nil, ◌-◌, IsTrue}
-use Rattle.seg_vector.proofs.Words.{Result, Ok, Err, MatchResult, option_map, option_to_list, IfSome, nat_lt}
-use Rattle.seg_vector.proofs.Words.{AllByRecursion, and_from, lt-ltb, Memory, Cut, bytes_of, word_at, current}
-use Rattle.seg_vector.proofs.Words.{Storage, link_at, IsNotWidened, IsWidened, exchanged, IsExchanged, Extent}
-use Rattle.seg_vector.proofs.Words.{LiveSet, handle, end_of, place, Refusal, IsAllocated, IsChanged, IsHeap}
-use Rattle.seg_vector.proofs.Words.{IsReleased, IsResized, SameBlock, extent_at, live_of, has_room, Table, serves}
-use Rattle.seg_vector.proofs.Words.{is_table, IsFound, IsNone, SameBlock-trans, exchange-order, exchange-released}
-use Rattle.seg_vector.proofs.Words.{exchange-resized, exchange-taken, found-none, kept, kept-found, last-first}
-use Rattle.seg_vector.proofs.Words.{live-rises, middle-first, place-serves, regrow-serves, spread-refl, found-room}
-use Rattle.seg_vector.proofs.Words.{two-apart, laid-heap, Place, place_at, AreSameElements, IsAdopted, IsAsked}
-use Rattle.seg_vector.proofs.Words.{IsWithoutFit, IsSwapped, taken, widened, AreEvenLinks, IsReady, TakesStorage}
-use Rattle.seg_vector.proofs.Words.{AreOthers, IsTexts, IsTextsNow, AreTextLinks, OwnedText, [], IsPointed}
-use Rattle.best_fit.specs.Fit.{regrow}
-use Rattle.seg_vector.specs.Vector.{grown_table}
+use Rattle.seg_vector.proofs.Words as W
+use W.{◌≡◌, ◌≢◌, refl, sym, ap, subst, ◌∙◌, ℕ, ◌+◌, ◌*◌, ◌<◌, ◌≤◌, Option, Some, None, List, ◌∷◌, ◌++◌, arith, length}
+use W.{inl, inr, ◌⊎◌, ◌%◌, append-nil, ◌-◌, IsTrue, Result, Ok, Err, MatchResult, option_map, option_to_list, IfSome}
+use W.{nat_lt, AllByRecursion, and_from, lt-ltb, Memory, Cut, bytes_of, word_at, current, Storage, link_at}
+use W.{IsNotWidened, IsWidened, exchanged, IsExchanged, Extent, LiveSet, handle, end_of, place, Refusal, IsAllocated}
+use W.{IsChanged, IsHeap, IsReleased, IsResized, SameBlock, extent_at, live_of, has_room, Table, serves, is_table}
+use W.{IsFound, IsNone, SameBlock-trans, exchange-order, exchange-released, exchange-resized, exchange-taken}
+use W.{found-none, kept, kept-found, last-first, live-rises, middle-first, place-serves, regrow-serves, spread-refl}
+use W.{found-room, two-apart, laid-heap, Place, place_at, AreSameElements, IsAdopted, IsAsked, IsWithoutFit, IsSwapped}
+use W.{taken, widened, AreEvenLinks, IsReady, TakesStorage, AreOthers, IsTexts, IsTextsNow, AreTextLinks, OwnedText, []}
+use W.{IsPointed}
 use Rattle.seg_vector.proofs.Runs.{AreHeadWords, IsHead, IsRun, beside-head, block-written, none-some, own-facts}
 use Rattle.seg_vector.proofs.Runs.{run-found, run-headed, run-none, run-swapped, same-some, serves-full, table}
 use Rattle.seg_vector.proofs.Runs.{table-full}
@@ -21,6 +17,8 @@ use Rattle.seg_vector.proofs.Storage.{grown-more, grown-same, regrow-new, storag
 use Rattle.seg_vector.proofs.TextBlocks.{all-split, element-in, element-trans, even-block, even-held, links-moved}
 use Rattle.seg_vector.proofs.TextBlocks.{own-head, run-begin, swapped-none, texts-between, texts-own}
 use Rattle.seg_vector.proofs.TextCalls.{held-elements, run-others, texts-stand}
+use Rattle.best_fit.specs.Fit.{regrow}
+use Rattle.seg_vector.specs.Vector.{grown_table}
 
 -- ---- it is asked for
 

@@ -1,33 +1,29 @@
 -- A text put into a vector of texts, with a place for it or in an array with more places; and an array given up.
-use Rattle.seg_vector.proofs.Words.{◌≡◌, ◌≢◌, refl, sym, ap, subst, ◌∙◌, ℕ, ◌+◌, ◌*◌, ◌<◌, ◌≤◌, Option, Some, None}
-use Rattle.seg_vector.proofs.Words.{List, ◌∷◌, arith, length, if◌then◌else◌, inl, inr, ◌⊎◌, ◌%◌, append-nil, ◌-◌}
-use Rattle.seg_vector.proofs.Words.{length-append, take, drop, Bool, true, false, max, IsTrue, Result, Ok, Err}
-use Rattle.seg_vector.proofs.Words.{MatchResult, option_map, option_to_list, IfSome, nat_lt, insert, AllByRecursion}
-use Rattle.seg_vector.proofs.Words.{lt-ltb, eqb-true, le-ltb, length-drop, length-take, take-append-drop, Memory, Cut}
-use Rattle.seg_vector.proofs.Words.{bytes_of, word_at, current, link_at, exchanged, IsRestored, Extent, LiveSet}
-use Rattle.seg_vector.proofs.Words.{handle, others, resized, Refusal, IsChanged, IsHeap, IsReleased, SameBlock}
-use Rattle.seg_vector.proofs.Words.{extent_at, live_of, has_room, IsShortened, is_live_in, Table, IsFound, IsNone}
-use Rattle.seg_vector.proofs.Words.{exchange-order, exchange-taken, last-first, live-rises, spread-refl, found-room}
-use Rattle.seg_vector.proofs.Words.{laid-heap, taken-back, widened-back, Differs, keeps-refl, lay_out_one}
-use Rattle.seg_vector.proofs.Words.{others-past, rising-insert, Has-same, Place, place_at, AreSameElements, IsAdopted}
-use Rattle.seg_vector.proofs.Words.{IsAsked, IsWithoutFit, IsSwapped, taken, widened, AreEvenLinks, IsPutAsked}
-use Rattle.seg_vector.proofs.Words.{IsPutReady, IsServed, room_of, IsRefusedPut, IsTextPlaced, IsGivenUp, IsOutside}
-use Rattle.seg_vector.proofs.Words.{PutsInto, one_more, IsTexts, IsTextsNow, IsStillAtFirst, IsTextPutIn, placed_text}
-use Rattle.seg_vector.proofs.Words.{with_array, AreTextLinks, OwnedText, IsOwnedText, capacity_for_one}
-use Rattle.seg_vector.proofs.Words.{exchanged-live, []}
-use Rattle.best_fit.specs.Fit.{regrow}
-use Rattle.seg_vector.specs.Vector.{grown_table}
+use Rattle.seg_vector.proofs.Words as W
+use W.{◌≡◌, ◌≢◌, refl, sym, ap, subst, ◌∙◌, ℕ, ◌+◌, ◌*◌, ◌<◌, ◌≤◌, Option, Some, None, List, ◌∷◌, arith, length}
+use W.{if◌then◌else◌, inl, inr, ◌⊎◌, ◌%◌, append-nil, ◌-◌, length-append, take, drop, Bool, true, false, max, IsTrue}
+use W.{Result, Ok, Err, MatchResult, option_map, option_to_list, IfSome, nat_lt, insert, AllByRecursion, lt-ltb}
+use W.{eqb-true, le-ltb, length-drop, length-take, take-append-drop, Memory, Cut, bytes_of, word_at, current, link_at}
+use W.{exchanged, IsRestored, Extent, LiveSet, handle, others, resized, Refusal, IsChanged, IsHeap, IsReleased}
+use W.{SameBlock, extent_at, live_of, has_room, IsShortened, is_live_in, Table, IsFound, IsNone, exchange-order}
+use W.{exchange-taken, last-first, live-rises, spread-refl, found-room, laid-heap, taken-back, widened-back, Differs}
+use W.{keeps-refl, lay_out_one, others-past, rising-insert, Has-same, Place, place_at, AreSameElements, IsAdopted}
+use W.{IsAsked, IsWithoutFit, IsSwapped, taken, widened, AreEvenLinks, IsPutAsked, IsPutReady, IsServed, room_of}
+use W.{IsRefusedPut, IsTextPlaced, IsGivenUp, IsOutside, PutsInto, one_more, IsTexts, IsTextsNow, IsStillAtFirst}
+use W.{IsTextPutIn, placed_text, with_array, AreTextLinks, OwnedText, IsOwnedText, capacity_for_one, exchanged-live, []}
 use Rattle.seg_vector.proofs.Runs.{AreHeadWords, IsHead, IsRun, beside-head, block-written, head-kept, head-wider}
 use Rattle.seg_vector.proofs.Runs.{len-written, none-some, own-facts, run-found, run-headed, run-none, run-swapped}
 use Rattle.seg_vector.proofs.Runs.{same-some, serves-full, table, table-full}
 use Rattle.seg_vector.proofs.Storage.{capacity-bytes, grown-same}
-use Rattle.seg_vector.proofs.TextBlocks.{element-beside, element-in, element-trans, even-block, found-live}
-use Rattle.seg_vector.proofs.TextBlocks.{found-texts, links-at, links-join, links-moved, links-split, one-of}
-use Rattle.seg_vector.proofs.TextBlocks.{own-head, run-begin, texts-between, texts-own}
+use Rattle.seg_vector.proofs.TextBlocks.{element-beside, element-in, element-trans, even-block, found-live, found-texts}
+use Rattle.seg_vector.proofs.TextBlocks.{links-at, links-join, links-moved, links-split, one-of, own-head, run-begin}
+use Rattle.seg_vector.proofs.TextBlocks.{texts-between, texts-own}
 use Rattle.seg_vector.proofs.TextCalls.{loose-kept, run-others, texts-stand, texts-still}
 use Rattle.seg_vector.proofs.Typed.{has-element}
 use Rattle.seg_vector.proofs.TextGrowth.{grown-to, not-grown, all-beside-head, new-other, IsReadyRun, ready-in, ready}
 use Rattle.seg_vector.proofs.TextGrowth.{asked-alone, new-table}
+use Rattle.best_fit.specs.Fit.{regrow}
+use Rattle.seg_vector.specs.Vector.{grown_table}
 use Rattle.best_fit.specs.Fit as fit
 
 -- ---- before it is put

@@ -1,27 +1,22 @@
 -- Other texts for a vector, laid out beside those that it has.
-use Rattle.seg_vector.proofs.Words.{◌≡◌, ◌≢◌, refl, sym, ap, subst, ◌∙◌, inl, ℕ, zero, suc, ◌+◌, ◌*◌, ◌<◌, ◌≤◌}
-use Rattle.seg_vector.proofs.Words.{Option, Some, None, List, ◌∷◌, ◌++◌, append-nil, append_assoc, arith, length}
-use Rattle.seg_vector.proofs.Words.{length-append, drop, map, slice_index_or, Bor, ◌%◌, inr, if◌then◌else◌, false}
-use Rattle.seg_vector.proofs.Words.{◌==◌, Ok, IfSome, IsTrue, option_map, option_to_list, AllByRecursion}
-use Rattle.seg_vector.proofs.Words.{flat_map-append, ne_eqb, drop_all, Memory, Cut, bytes_of, word_at, current}
-use Rattle.seg_vector.proofs.Words.{link_at, exchanged, inserted, without_all, IsRestored, SameBlockBut, IsExchanged}
-use Rattle.seg_vector.proofs.Words.{Extent, LiveSet, handle, others, resized, place, IsChanged, IsHeap, SameBlock}
-use Rattle.seg_vector.proofs.Words.{extent_at, has_room, live_of, IsAllocated, NoSpace, Refusal, IsReleased}
-use Rattle.seg_vector.proofs.Words.{is_live_in, IsFound, IsNone, all-found-in, all-in-use, changed-live}
-use Rattle.seg_vector.proofs.Words.{exchange-next, exchange-order, exchange-same, exchanged-live, found-room, kept}
-use Rattle.seg_vector.proofs.Words.{laid-heap, last-first, live-rises, rising-others, roomy, spread-refl}
-use Rattle.seg_vector.proofs.Words.{exchange-released, exchange-taken, keeps-refl, place-serves, too_long}
-use Rattle.seg_vector.proofs.Words.{kept-beside, Storage, Table, no_table, AreLaid, AreLaidUpTo, AreLaidOut}
-use Rattle.seg_vector.proofs.Words.{AreNotLaidOut, AreSameElements, IsServed, IsSwapped, IsWithoutFit, IsTextPlaced}
-use Rattle.seg_vector.proofs.Words.{AreHeldElements, AreOthers, placed_text, placed_texts, text_blocks, with_text}
-use Rattle.seg_vector.proofs.Words.{all_texts, new_array, AreTextsAssigned, AssignsTexts, IsTexts, IsTextsNow}
-use Rattle.seg_vector.proofs.Words.{ReleasesTexts, AreTextLinks, IsOwnedText, OwnedText, Place, place_at, []}
-use Rattle.seg_vector.proofs.Words.{IsPointed}
+use Rattle.seg_vector.proofs.Words as W
+use W.{◌≡◌, ◌≢◌, refl, sym, ap, subst, ◌∙◌, inl, ℕ, zero, suc, ◌+◌, ◌*◌, ◌<◌, ◌≤◌, Option, Some, None, List, ◌∷◌, ◌++◌}
+use W.{append-nil, append_assoc, arith, length, length-append, drop, map, slice_index_or, Bor, ◌%◌, inr, if◌then◌else◌}
+use W.{false, ◌==◌, Ok, IfSome, IsTrue, option_map, option_to_list, AllByRecursion, flat_map-append, ne_eqb, drop_all}
+use W.{Memory, Cut, bytes_of, word_at, current, link_at, exchanged, inserted, without_all, IsRestored, SameBlockBut}
+use W.{IsExchanged, Extent, LiveSet, handle, others, resized, place, IsChanged, IsHeap, SameBlock, extent_at, has_room}
+use W.{live_of, IsAllocated, NoSpace, Refusal, IsReleased, is_live_in, IsFound, IsNone, all-found-in, all-in-use}
+use W.{changed-live, exchange-next, exchange-order, exchange-same, exchanged-live, found-room, kept, laid-heap}
+use W.{last-first, live-rises, rising-others, roomy, spread-refl, exchange-released, exchange-taken, keeps-refl}
+use W.{place-serves, too_long, kept-beside, Storage, Table, no_table, AreLaid, AreLaidUpTo, AreLaidOut, AreNotLaidOut}
+use W.{AreSameElements, IsServed, IsSwapped, IsWithoutFit, IsTextPlaced, AreHeldElements, AreOthers, placed_text}
+use W.{placed_texts, text_blocks, with_text, all_texts, new_array, AreTextsAssigned, AssignsTexts, IsTexts, IsTextsNow}
+use W.{ReleasesTexts, AreTextLinks, IsOwnedText, OwnedText, Place, place_at, [], IsPointed}
 use Rattle.seg_vector.proofs.Runs.{AreHeadWords, IsHead, block-written, changed-both, head-exchanged, len-written}
 use Rattle.seg_vector.proofs.Runs.{run-none, run-swapped, same-some, serves-full, table}
 use Rattle.seg_vector.proofs.TextBlocks.{all-join, all-split, element-beside, element-in, element-trans, even-block}
-use Rattle.seg_vector.proofs.TextBlocks.{found-live, links-join, links-moved, of-none, own-head, own_blocks}
-use Rattle.seg_vector.proofs.TextBlocks.{run-begin, texts-between, texts-own}
+use Rattle.seg_vector.proofs.TextBlocks.{found-live, links-join, links-moved, of-none, own-head, own_blocks, run-begin}
+use Rattle.seg_vector.proofs.TextBlocks.{texts-between, texts-own}
 use Rattle.seg_vector.proofs.TextCalls.{come-even, run-others, texts-still}
 use Rattle.seg_vector.proofs.TextGrowth.{all-kept, new-table}
 use Rattle.seg_vector.proofs.TextPuts.{came-alone, flip-each, same-loose}
@@ -272,9 +267,9 @@ in-array l more f e = ap (texts_after l more)
     (new-array l (length more) f ∙ ap (option_map (λ (x : Extent). table (length more) (Some x))) e)
 
 -- an array that fits has space
-pub fitted : (l : LiveSet) (more : List (List ℕ)) {y : Extent} → 0 < length more
+pub laid-fitted : (l : LiveSet) (more : List (List ℕ)) {y : Extent} → 0 < length more
     → place l (16 * length more) Storage ≡ Some y → new_array l (length more) ≡ None → ⊥
-fitted l more {y} f e none =
+laid-fitted l more {y} f e none =
     let some : new_array l (length more) ≡ Some (table (length more) (Some y)) = new-array l (length more) f
     ∙ ap (option_map (λ (x : Extent). table (length more) (Some x))) e in
     let both = sym some ∙ none in cc
@@ -433,7 +428,7 @@ taken-off {old} {mid} {new} {left} {last} {n} {k} {more} t e some w short x r =
           ∙ ap (option_map (λ (qs : List OwnedText). a.texts ++ qs))
           (w.stopped (below k n (length more) short e w.within));
       restored = swapped-back (exchange-next _ old left last 0 0 [] _ _ [] [] (spread-refl (y ∷ [])) alone gone);
-      first = λ none. absurd (fitted (live_of old.bytes) more (omega (arith, e, some)) fit none);
+      first = λ none. absurd (laid-fitted (live_of old.bytes) more (omega (arith, e, some)) fit none);
     }
   where
     below : (k n m : ℕ) → k ≢ n → n ≡ m → k ≤ m → k < m

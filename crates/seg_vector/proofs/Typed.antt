@@ -1,21 +1,18 @@
 -- Vectors of values and texts, from what is known of their bytes.
-use Rattle.seg_vector.proofs.Words.{◌≡◌, refl, sym, ap, subst, ◌∙◌, ℕ, zero, suc, ◌+◌, ◌*◌, ◌<◌, Bool, true, List}
-use Rattle.seg_vector.proofs.Words.{◌∷◌, ◌++◌, length, take, drop, append_assoc, arith, ◌-◌, ◌≤◌, max, false}
-use Rattle.seg_vector.proofs.Words.{if◌then◌else◌, length-append, append-nil, IsTrue, Some, flat_map, insert, remove}
-use Rattle.seg_vector.proofs.Words.{slice_get, slice_set, nat_le, option_to_list, list_all, and_from, and_parts}
-use Rattle.seg_vector.proofs.Words.{leb-true, list_all-append, take-append-drop, length-set, length-take}
-use Rattle.seg_vector.proofs.Words.{flat_map-append, take-append-add, drop-append-add, take-append_seam}
-use Rattle.seg_vector.proofs.Words.{length-insert, length-remove, part, patched, Cut, bytes_of, word_at, current}
-use Rattle.seg_vector.proofs.Words.{IsExchanged, IsChanged, IsHeap, has_room, live_of, Table, no_table, Refusal}
-use Rattle.seg_vector.proofs.Words.{Place, Erases, Result, Ok, Err, MatchResult, Extends, Fits, GivesBack, Inserts}
-use Rattle.seg_vector.proofs.Words.{IsFitted, IsGivenBack, IsRewritten, Overwrites, ReadsOne, Truncates, Appends}
-use Rattle.seg_vector.proofs.Words.{IsAppended, IsGrown, Grows, IsStanding, Stands, place_at, IsText, IsTextGrown}
-use Rattle.seg_vector.proofs.Words.{IsTextNow, capacity_for_one, capacity_for_text, IsVector, IsVectorGrown}
-use Rattle.seg_vector.proofs.Words.{IsVectorNow, IsWithoutSpace, Starts, []}
-use Rattle.best_fit.specs.Table.{cut_table}
+use Rattle.seg_vector.proofs.Words as W
+use W.{◌≡◌, refl, sym, ap, subst, ◌∙◌, ℕ, zero, suc, ◌+◌, ◌*◌, ◌<◌, Bool, true, List, ◌∷◌, ◌++◌, length, take, drop}
+use W.{append_assoc, arith, ◌-◌, ◌≤◌, max, false, if◌then◌else◌, length-append, append-nil, IsTrue, Some, flat_map}
+use W.{insert, remove, slice_get, slice_set, nat_le, option_to_list, list_all, and_from, and_parts, leb-true}
+use W.{list_all-append, take-append-drop, length-set, length-take, flat_map-append, take-append-add, drop-append-add}
+use W.{take-append_seam, length-insert, length-remove, part, patched, Cut, bytes_of, word_at, current, IsExchanged}
+use W.{IsChanged, IsHeap, has_room, live_of, Table, no_table, Refusal, Place, Erases, Result, Ok, Err, MatchResult}
+use W.{Extends, Fits, GivesBack, Inserts, IsFitted, IsGivenBack, IsRewritten, Overwrites, ReadsOne, Truncates, Appends}
+use W.{IsAppended, IsGrown, Grows, IsStanding, Stands, place_at, IsText, IsTextGrown, IsTextNow, capacity_for_one}
+use W.{capacity_for_text, IsVector, IsVectorGrown, IsVectorNow, IsWithoutSpace, Starts, []}
 use Rattle.seg_vector.proofs.Runs.{head-exchanged, same-some, table}
 use Rattle.seg_vector.proofs.Storage.{capacity-bytes, exchange-then, has-place, not-refused, unchanged-rewritten}
 use Rattle.seg_vector.proofs.Storage.{wanted-places}
+use Rattle.best_fit.specs.Table.{cut_table}
 
 -- ---- what holds of each
 

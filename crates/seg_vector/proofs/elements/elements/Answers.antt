@@ -1,6 +1,6 @@
 -- The elements are the first bytes of the storage.
-use Rattle.seg_vector.proofs.Words.{sym, ap, ◌∙◌, ◌*◌, arith, length}
-use Rattle.seg_vector.proofs.Storage.{elements-fit, len-read, read-all, room-small, some-room, storage-live}
+use Rattle.seg_vector.proofs.{sym, ap, ◌∙◌, ◌*◌, arith, length, elements-fit, len-read, read-all, room-small, some-room}
+use Rattle.seg_vector.proofs.{storage-live}
 use Rattle.seg_vector.proofs.elements.elements.Goals as goal
 
 pub block-requires : goal.block-requires

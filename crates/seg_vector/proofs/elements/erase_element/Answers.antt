@@ -1,8 +1,7 @@
 -- Those behind the element move down, and the length is written.
-use Rattle.seg_vector.proofs.Words.{take, drop, ◌++◌, ℕ, ◌*◌, ◌+◌, ◌-◌, sym, subst, ◌∙◌, arith, Stands, IsRewritten}
-use Rattle.seg_vector.proofs.Words.{live_of, changed-room}
+use Rattle.seg_vector.proofs.{take, drop, ◌++◌, ℕ, ◌*◌, ◌+◌, ◌-◌, sym, subst, ◌∙◌, arith, Stands, IsRewritten, live_of}
+use Rattle.seg_vector.proofs.{changed-room, Fitting, erase-fits, erased, len-read, len-room, part-room, stands-small}
 use Rattle.seg_vector.proofs.elements.erase_element.Goals.{In-Some}
-use Rattle.seg_vector.proofs.Storage.{Fitting, erase-fits, erased, len-read, len-room, part-room, stands-small}
 use Rattle.seg_vector.proofs.elements.erase_element.Goals as goal
 
 pub overflow_add-place : goal.overflow_add-place

@@ -1,9 +1,7 @@
 -- The bytes are written, and then the length.
-use Rattle.seg_vector.proofs.Words.{sym, ap, subst, ◌∙◌, ◌+◌, arith, length, current, Has, bytes_of, IsChanged}
-use Rattle.seg_vector.proofs.Words.{changed-room}
-use Rattle.seg_vector.proofs.Fewer.{none-left}
-use Rattle.seg_vector.proofs.Storage.{capacity-bytes, extended, extended-not, len-read, len-room, some-room}
-use Rattle.seg_vector.proofs.Storage.{stands-small}
+use Rattle.seg_vector.proofs.{sym, ap, subst, ◌∙◌, ◌+◌, arith, length, current, Has, bytes_of, IsChanged, changed-room}
+use Rattle.seg_vector.proofs.{none-left, capacity-bytes, extended, extended-not, len-read, len-room, some-room}
+use Rattle.seg_vector.proofs.{stands-small}
 use Rattle.seg_vector.proofs.elements.extend.Goals as goal
 
 pub overflow_add-place : goal.overflow_add-place

@@ -1,9 +1,8 @@
 -- Those from the place on move up, the element is written, and then the length.
-use Rattle.seg_vector.proofs.Words.{take, drop, ◌++◌, ℕ, ◌*◌, ◌+◌, ◌-◌, sym, subst, ◌∙◌, arith, IsTrue, Stands}
-use Rattle.seg_vector.proofs.Words.{IsRewritten, IsChanged, live_of, has_room, current, changed-room}
+use Rattle.seg_vector.proofs.{take, drop, ◌++◌, ℕ, ◌*◌, ◌+◌, ◌-◌, sym, subst, ◌∙◌, arith, IsTrue, Stands, IsRewritten}
+use Rattle.seg_vector.proofs.{IsChanged, live_of, has_room, current, changed-room, Fitting, at-least, capacity-bytes}
+use Rattle.seg_vector.proofs.{insert-fits, len-read, len-room, part-room, put_in, stands-small}
 use Rattle.seg_vector.proofs.elements.insert_element.Goals.{In-Some}
-use Rattle.seg_vector.proofs.Storage.{Fitting, at-least, capacity-bytes, insert-fits, len-read, len-room, part-room}
-use Rattle.seg_vector.proofs.Storage.{put_in, stands-small}
 use Rattle.seg_vector.proofs.elements.insert_element.Goals as goal
 
 pub overflow_add-place : goal.overflow_add-place

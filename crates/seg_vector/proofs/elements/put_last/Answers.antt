@@ -1,9 +1,8 @@
 -- The element lies in the storage, and the length in the container's own block.
-use Rattle.seg_vector.proofs.Words.{sym, subst, ap, ◌∙◌, ◌+◌, ◌*◌, ◌<◌, ◌-◌, arith, IsTrue, length, current}
-use Rattle.seg_vector.proofs.Words.{IsChanged, has_room, live_of, bytes_of, Has, changed-room}
+use Rattle.seg_vector.proofs.{sym, subst, ap, ◌∙◌, ◌+◌, ◌*◌, ◌<◌, ◌-◌, arith, IsTrue, length, current, IsChanged}
+use Rattle.seg_vector.proofs.{has_room, live_of, bytes_of, Has, changed-room, Fitting, appended, at-least, insert-fits}
+use Rattle.seg_vector.proofs.{len-read, len-room, part-room, stands-small}
 use Rattle.seg_vector.proofs.elements.put_last.Goals.{In-Some}
-use Rattle.seg_vector.proofs.Storage.{Fitting, appended, at-least, insert-fits, len-read, len-room, part-room}
-use Rattle.seg_vector.proofs.Storage.{stands-small}
 use Rattle.seg_vector.proofs.elements.put_last.Goals as goal
 
 pub overflow_add-place : goal.overflow_add-place

@@ -1,6 +1,6 @@
 -- The element lies in the storage.
-use Rattle.seg_vector.proofs.Words.{sym, subst, ◌∙◌, ◌+◌, ◌*◌, arith, IsTrue, has_room, live_of}
-use Rattle.seg_vector.proofs.Storage.{element-fits, overwritten, room-small, some-room}
+use Rattle.seg_vector.proofs.{sym, subst, ◌∙◌, ◌+◌, ◌*◌, arith, IsTrue, has_room, live_of, element-fits, overwritten}
+use Rattle.seg_vector.proofs.{room-small, some-room}
 use Rattle.seg_vector.proofs.elements.set_element.Goals as goal
 
 pub overflow_mul-each : goal.overflow_mul-each

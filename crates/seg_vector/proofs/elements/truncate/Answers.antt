@@ -1,6 +1,5 @@
 -- The length is written, and the storage stays.
-use Rattle.seg_vector.proofs.Words.{arith}
-use Rattle.seg_vector.proofs.Storage.{len-room, stands-small, truncated}
+use Rattle.seg_vector.proofs.{arith, len-room, stands-small, truncated}
 use Rattle.seg_vector.proofs.elements.truncate.Goals as goal
 
 pub overflow_add-place : goal.overflow_add-place

@@ -1,7 +1,6 @@
 -- The array is taken into use, and then the texts; or all is given back.
-use Rattle.seg_vector.proofs.Words.{sym, length, map, length-map, err_from_is_err_and}
-use Rattle.seg_vector.proofs.TextsLaid.{array-live, array-taken, laid-held, laid-out, no-space, out-of-reach}
-use Rattle.seg_vector.proofs.TextsLaid.{taken-off}
+use Rattle.seg_vector.proofs.{sym, length, map, length-map, err_from_is_err_and, array-live, array-taken, laid-held}
+use Rattle.seg_vector.proofs.{laid-out, no-space, out-of-reach, taken-off}
 use Rattle.seg_vector.proofs.owning.lay_out.Goals as goal
 
 pub returns-then-n-gt-LIMIT : goal.returns-then-n-gt-LIMIT

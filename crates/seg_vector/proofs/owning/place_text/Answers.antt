@@ -1,6 +1,6 @@
 -- The block holds the text.
-use Rattle.seg_vector.proofs.Words.{◌+◌, arith, length, allocated-room, err_from_is_err_and}
-use Rattle.seg_vector.proofs.TextCalls.{not-placed, placed-empty, placed-some}
+use Rattle.seg_vector.proofs.{◌+◌, arith, length, allocated-room, err_from_is_err_and, not-placed, placed-empty}
+use Rattle.seg_vector.proofs.{placed-some}
 use Rattle.seg_vector.proofs.owning.place_text.Goals as goal
 
 pub returns-then-len-eq0 : goal.returns-then-len-eq0

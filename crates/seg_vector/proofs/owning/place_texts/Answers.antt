@@ -1,7 +1,7 @@
 -- The next text is placed, and its element is written.
-use Rattle.seg_vector.proofs.Words.{◌≡◌, sym, ap, ◌∙◌, ◌*◌, arith, length, map, length-map, extent_at, live_of, roomy}
-use Rattle.seg_vector.proofs.TextsLaid.{drop-next, found-big, laid-all, laid-begin, laid-heap-of, laid-put, laid-room}
-use Rattle.seg_vector.proofs.TextsLaid.{laid-stops, text-even, text-heap}
+use Rattle.seg_vector.proofs.{◌≡◌, sym, ap, ◌∙◌, ◌*◌, arith, length, map, length-map, extent_at, live_of, roomy}
+use Rattle.seg_vector.proofs.{drop-next, found-big, laid-all, laid-begin, laid-heap-of, laid-put, laid-room, laid-stops}
+use Rattle.seg_vector.proofs.{text-even, text-heap}
 use Rattle.seg_vector.proofs.owning.place_texts.Goals as goal
 
 pub loop-i-init : goal.loop-i-init

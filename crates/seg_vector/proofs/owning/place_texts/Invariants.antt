@@ -1,5 +1,5 @@
 -- The texts before the next one are laid out.
-use Rattle.seg_vector.proofs.Words.{◌≡◌, map, Some, Extent, handle, extent_at, live_of, AreLaid}
+use Rattle.seg_vector.proofs.{◌≡◌, map, Some, Extent, handle, extent_at, live_of, AreLaid}
 use Rattle.seg_vector.proofs.owning.place_texts.Given as goal
 
 abbrev pub invariant-loop-i : goal.invariant-loop-i

@@ -1,7 +1,5 @@
 -- The array has as many elements as the vector has texts.
-use Rattle.seg_vector.proofs.Words.{sym, ◌∙◌}
-use Rattle.seg_vector.proofs.Fewer.{none-left}
-use Rattle.seg_vector.proofs.TextCalls.{held-elements, released-nothing}
+use Rattle.seg_vector.proofs.{sym, ◌∙◌, none-left, held-elements, released-nothing}
 use Rattle.seg_vector.proofs.owning.release_all.Goals as goal
 
 pub release_texts-requires : goal.release_texts-requires

@@ -1,7 +1,6 @@
 -- The block is one that is in use.
-use Rattle.seg_vector.proofs.Words.{◌+◌, ◌∙◌, sym, arith, live_of, room-less}
-use Rattle.seg_vector.proofs.Fewer.{none-left}
-use Rattle.seg_vector.proofs.TextBlocks.{element-live, released-none, released-some}
+use Rattle.seg_vector.proofs.{◌+◌, ◌∙◌, sym, arith, live_of, room-less, none-left, element-live, released-none}
+use Rattle.seg_vector.proofs.{released-some}
 use Rattle.seg_vector.proofs.owning.release_text.Goals as goal
 
 pub link-requires-clause-room : goal.link-requires-clause-room

@@ -1,8 +1,6 @@
 -- The next text is released, and those behind it are left.
-use Rattle.seg_vector.proofs.Words.{◌*◌, arith}
-use Rattle.seg_vector.proofs.Storage.{room-small}
-use Rattle.seg_vector.proofs.TextBlocks.{element-left, releases-begin, releases-end, releases-next}
-use Rattle.seg_vector.proofs.Typed.{has-element}
+use Rattle.seg_vector.proofs.{◌*◌, arith, room-small, element-left, releases-begin, releases-end, releases-next}
+use Rattle.seg_vector.proofs.{has-element}
 use Rattle.seg_vector.proofs.owning.release_texts.Goals as goal
 
 pub loop-i-init : goal.loop-i-init

@@ -1,5 +1,5 @@
 -- The blocks of the texts from the next one on are in use still.
-use Rattle.seg_vector.proofs.Words.{List, drop, AreHeldElements, IsSwapped, text_blocks, OwnedText}
+use Rattle.seg_vector.proofs.{List, drop, AreHeldElements, IsSwapped, text_blocks, OwnedText}
 use Rattle.seg_vector.proofs.owning.release_texts.Given as goal
 
 abbrev pub invariant-loop-i : goal.invariant-loop-i

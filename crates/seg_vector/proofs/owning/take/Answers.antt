@@ -1,5 +1,5 @@
 -- It is the block of the call.
-use Rattle.seg_vector.proofs.Words.{refl}
+use Rattle.seg_vector.proofs.{refl}
 use Rattle.seg_vector.proofs.owning.take.Goals as goal
 
 pub returns-in-Err : goal.returns-in-Err

@@ -1,6 +1,5 @@
 -- The word is in its block.
-use Rattle.seg_vector.proofs.Words.{◌∙◌, ap, arith, bytes_of, word_at}
-use Rattle.seg_vector.proofs.Storage.{capacity-room, place-small}
+use Rattle.seg_vector.proofs.{◌∙◌, ap, arith, bytes_of, word_at, capacity-room, place-small}
 use Rattle.seg_vector.proofs.places.capacity_of.Goals as goal
 
 pub overflow_add-place : goal.overflow_add-place

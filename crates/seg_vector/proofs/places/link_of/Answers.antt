@@ -1,5 +1,5 @@
 -- The link is in its block.
-use Rattle.seg_vector.proofs.Storage.{link-room}
+use Rattle.seg_vector.proofs.{link-room}
 use Rattle.seg_vector.proofs.places.link_of.Goals as goal
 
 pub link-requires-clause-room : goal.link-requires-clause-room

@@ -1,9 +1,7 @@
 -- The capacity is written, and the storage shortened.
-use Rattle.seg_vector.proofs.Words.{◌≡◌, sym, subst, ◌∙◌, ◌+◌, ◌*◌, arith, IsTrue, current, bytes_of, word_at}
-use Rattle.seg_vector.proofs.Words.{IsChanged, IsShortened, is_live_in, changed-live}
-use Rattle.seg_vector.proofs.Fewer.{fits-nothing, fitted}
-use Rattle.seg_vector.proofs.Storage.{capacity-bytes, len-read, stands-small, storage-live}
-use Rattle.seg_vector.proofs.Bytes.{more-times}
+use Rattle.seg_vector.proofs.{◌≡◌, sym, subst, ◌∙◌, ◌+◌, ◌*◌, arith, IsTrue, current, bytes_of, word_at, IsChanged}
+use Rattle.seg_vector.proofs.{IsShortened, is_live_in, changed-live, fits-nothing, fitted, capacity-bytes, len-read}
+use Rattle.seg_vector.proofs.{stands-small, storage-live, more-times}
 use Rattle.seg_vector.proofs.sizing.fit.Goals as goal
 
 pub overflow_add-place : goal.overflow_add-place

@@ -1,7 +1,6 @@
 -- The words are written, and then the block is given back.
-use Rattle.seg_vector.proofs.Words.{sym, subst, ◌∙◌, IsTrue, is_live_in, changed-live}
-use Rattle.seg_vector.proofs.Fewer.{given-back, given-nothing, none-left}
-use Rattle.seg_vector.proofs.Storage.{storage-live}
+use Rattle.seg_vector.proofs.{sym, subst, ◌∙◌, IsTrue, is_live_in, changed-live, given-back, given-nothing, none-left}
+use Rattle.seg_vector.proofs.{storage-live}
 use Rattle.seg_vector.proofs.sizing.give_back.Goals as goal
 
 pub deallocate-requires : goal.deallocate-requires

@@ -1,7 +1,7 @@
 -- The storage is regrown, and then the link and the capacity are written.
-use Rattle.seg_vector.proofs.Words.{◌≡◌, subst, ◌+◌, arith, current, IsChanged, bytes_of, word_at, changed-room}
-use Rattle.seg_vector.proofs.Storage.{capacity-read, capacity-room, come-aligned, given-of, grows-more, grows-not}
-use Rattle.seg_vector.proofs.Storage.{grows-nothing, link-room, mid-room, not_given-of, stands-small, storage-read}
+use Rattle.seg_vector.proofs.{◌≡◌, subst, ◌+◌, arith, current, IsChanged, bytes_of, word_at, changed-room}
+use Rattle.seg_vector.proofs.{capacity-read, capacity-room, come-aligned, given-of, grows-more, grows-not}
+use Rattle.seg_vector.proofs.{grows-nothing, link-room, mid-room, not_given-of, stands-small, storage-read}
 use Rattle.seg_vector.proofs.sizing.grow.Goals as goal
 
 pub overflow_add-place : goal.overflow_add-place

@@ -1,6 +1,6 @@
 -- The capacity is the word.
-use Rattle.seg_vector.proofs.Words.{subst, ◌∙◌, arith, MatchResult, IsGrown, IsWithoutSpace}
-use Rattle.seg_vector.proofs.Storage.{at-least, capacity-bytes, capacity-read, wanted-is}
+use Rattle.seg_vector.proofs.{subst, ◌∙◌, arith, MatchResult, IsGrown, IsWithoutSpace, at-least, capacity-bytes}
+use Rattle.seg_vector.proofs.{capacity-read, wanted-is}
 use Rattle.seg_vector.proofs.sizing.grow_for_one.Goals as goal
 
 pub capacity_for_one-requires : goal.capacity_for_one-requires

@@ -1,5 +1,5 @@
 -- No gap is so long.
-use Rattle.seg_vector.proofs.Storage.{too-many}
+use Rattle.seg_vector.proofs.{too-many}
 use Rattle.seg_vector.proofs.sizing.reserve.Goals as goal
 
 pub returns-then-n-gt-LIMIT : goal.returns-then-n-gt-LIMIT

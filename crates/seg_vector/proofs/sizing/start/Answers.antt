@@ -1,8 +1,6 @@
 -- Three words are written one after another.
-use Rattle.seg_vector.proofs.Words.{◌+◌, arith, changed-room}
-use Rattle.seg_vector.proofs.Fewer.{started}
-use Rattle.seg_vector.proofs.Runs.{changed-both}
-use Rattle.seg_vector.proofs.Storage.{capacity-room, len-room, link-room, place-small}
+use Rattle.seg_vector.proofs.{◌+◌, arith, changed-room, started, changed-both, capacity-room, len-room, link-room}
+use Rattle.seg_vector.proofs.{place-small}
 use Rattle.seg_vector.proofs.sizing.start.Goals as goal
 
 pub overflow_add-place : goal.overflow_add-place

@@ -1,10 +1,8 @@
 -- The vector's words are those that they were, until they are written.
-use Rattle.seg_vector.proofs.Words.{sym, ap, subst, ◌∙◌, ◌⊎◌, ◌+◌, ◌*◌, ◌<◌, ◌≤◌, Some, IsTrue, length, current}
-use Rattle.seg_vector.proofs.Words.{bytes_of, IsChanged, has_room, live_of, changed-room, laid-heap, AreSameElements}
-use Rattle.seg_vector.proofs.Runs.{head-room}
-use Rattle.seg_vector.proofs.Storage.{live-if}
-use Rattle.seg_vector.proofs.TextGrowth.{adopt-none, adopt-other, adopt-same, ready, ready-even, ready-new, since-len}
-use Rattle.seg_vector.proofs.TextGrowth.{ready-link}
+use Rattle.seg_vector.proofs.{sym, ap, subst, ◌∙◌, ◌⊎◌, ◌+◌, ◌*◌, ◌<◌, ◌≤◌, Some, IsTrue, length, current, bytes_of}
+use Rattle.seg_vector.proofs.{IsChanged, has_room, live_of, changed-room, laid-heap, AreSameElements, head-room}
+use Rattle.seg_vector.proofs.{live-if, adopt-none, adopt-other, adopt-same, ready, ready-even, ready-new, since-len}
+use Rattle.seg_vector.proofs.{ready-link}
 use Rattle.seg_vector.proofs.text_arrays.adopt.Goals as goal
 
 pub len_of-len-requires-clause-heap : goal.len_of-len-requires-clause-heap

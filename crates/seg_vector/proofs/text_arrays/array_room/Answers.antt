@@ -1,8 +1,5 @@
 -- The room is that of the block.
-use Rattle.seg_vector.proofs.Words.{refl, sym, ◌∙◌, ◌*◌, length, live_of}
-use Rattle.seg_vector.proofs.Storage.{live-if}
-use Rattle.seg_vector.proofs.TextCalls.{held-elements}
-use Rattle.seg_vector.proofs.TextPuts.{room-none, room-some}
+use Rattle.seg_vector.proofs.{refl, sym, ◌∙◌, ◌*◌, length, live_of, live-if, held-elements, room-none, room-some}
 use Rattle.seg_vector.proofs.text_arrays.array_room.Goals as goal
 
 pub room-requires : goal.room-requires

@@ -1,9 +1,6 @@
 -- The old array has the room, or a new block is asked for.
-use Rattle.seg_vector.proofs.Words.{sym, subst, ◌∙◌, ◌*◌, refl, length, Cut, current, IsHeap, TakesStorage, live_of}
-use Rattle.seg_vector.proofs.Fewer.{none-left}
-use Rattle.seg_vector.proofs.Storage.{live-if}
-use Rattle.seg_vector.proofs.TextCalls.{held-elements}
-use Rattle.seg_vector.proofs.TextGrowth.{asked-beside, asked-none, asked-wide}
+use Rattle.seg_vector.proofs.{sym, subst, ◌∙◌, ◌*◌, refl, length, Cut, current, IsHeap, TakesStorage, live_of}
+use Rattle.seg_vector.proofs.{none-left, live-if, held-elements, asked-beside, asked-none, asked-wide}
 use Rattle.seg_vector.proofs.text_arrays.ask_array.Goals.{in-Some+else-widen, in_default}
 use Rattle.seg_vector.proofs.text_arrays.ask_array.Goals as goal
 

@@ -1,9 +1,7 @@
 -- The next element is put in its place, and it is the one that it was.
-use Rattle.seg_vector.proofs.Words.{◌≡◌, subst, ◌+◌, ◌*◌, ◌%◌, ◌<◌, arith, IfSome, current, bytes_of, link_at}
-use Rattle.seg_vector.proofs.Words.{IsChanged, live_of, changed-room, laid-heap, room-less, AreSameElements}
-use Rattle.seg_vector.proofs.Words.{IsSameElement}
-use Rattle.seg_vector.proofs.Storage.{room-small, unchanged}
-use Rattle.seg_vector.proofs.TextBlocks.{carried-changed, carried-next, even-now, source-stays}
+use Rattle.seg_vector.proofs.{◌≡◌, subst, ◌+◌, ◌*◌, ◌%◌, ◌<◌, arith, IfSome, current, bytes_of, link_at, IsChanged}
+use Rattle.seg_vector.proofs.{live_of, changed-room, laid-heap, room-less, AreSameElements, IsSameElement, room-small}
+use Rattle.seg_vector.proofs.{unchanged, carried-changed, carried-next, even-now, source-stays}
 use Rattle.seg_vector.proofs.text_arrays.carry_down.Goals as goal
 
 pub loop-i-init : goal.loop-i-init

@@ -1,5 +1,5 @@
 -- So many are put in their places, and nothing else changed.
-use Rattle.seg_vector.proofs.Words.{◌+◌, ◌*◌, current, bytes_of, IsChanged, AreSameElements}
+use Rattle.seg_vector.proofs.{◌+◌, ◌*◌, current, bytes_of, IsChanged, AreSameElements}
 use Rattle.seg_vector.proofs.text_arrays.carry_down.Given as goal
 
 abbrev pub invariant-loop-i : goal.invariant-loop-i

@@ -1,7 +1,6 @@
 -- What is read is what is written.
-use Rattle.seg_vector.proofs.Words.{◌≡◌, ap, sym, subst, ◌∙◌, ◌+◌, ◌%◌, ◌<◌, arith, IfSome, bytes_of, word_at}
-use Rattle.seg_vector.proofs.Words.{live_of, room-less}
-use Rattle.seg_vector.proofs.Storage.{room-small}
+use Rattle.seg_vector.proofs.{◌≡◌, ap, sym, subst, ◌∙◌, ◌+◌, ◌%◌, ◌<◌, arith, IfSome, bytes_of, word_at, live_of}
+use Rattle.seg_vector.proofs.{room-less, room-small}
 use Rattle.seg_vector.proofs.text_arrays.carry_element.Goals as goal
 
 pub link-text-requires-clause-room : goal.link-text-requires-clause-room

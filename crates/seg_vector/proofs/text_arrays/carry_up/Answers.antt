@@ -1,8 +1,7 @@
 -- The last element that has not moved moves up, and it is the one that it was.
-use Rattle.seg_vector.proofs.Words.{◌≡◌, subst, ◌+◌, ◌-◌, ◌*◌, ◌%◌, ◌<◌, arith, IfSome, current, bytes_of, link_at}
-use Rattle.seg_vector.proofs.Words.{IsChanged, live_of, changed-room, laid-heap, room-less, IsSameElement}
-use Rattle.seg_vector.proofs.Storage.{room-small, unchanged}
-use Rattle.seg_vector.proofs.TextBlocks.{even-now, up-changed, up-next, up-source}
+use Rattle.seg_vector.proofs.{◌≡◌, subst, ◌+◌, ◌-◌, ◌*◌, ◌%◌, ◌<◌, arith, IfSome, current, bytes_of, link_at, IsChanged}
+use Rattle.seg_vector.proofs.{live_of, changed-room, laid-heap, room-less, IsSameElement, room-small, unchanged}
+use Rattle.seg_vector.proofs.{even-now, up-changed, up-next, up-source}
 use Rattle.seg_vector.proofs.text_arrays.carry_up.Goals as goal
 
 pub loop-i-init : goal.loop-i-init

@@ -1,6 +1,5 @@
 -- So many are put in their places, the last ones, and nothing else changed.
-use Rattle.seg_vector.proofs.Words.{◌+◌, ◌-◌, ◌*◌, current, bytes_of, IsChanged}
-use Rattle.seg_vector.proofs.TextBlocks.{AreUp}
+use Rattle.seg_vector.proofs.{◌+◌, ◌-◌, ◌*◌, current, bytes_of, IsChanged, AreUp}
 use Rattle.seg_vector.proofs.text_arrays.carry_up.Given as goal
 
 abbrev pub invariant-loop-i : goal.invariant-loop-i

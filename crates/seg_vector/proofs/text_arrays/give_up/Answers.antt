@@ -1,7 +1,6 @@
 -- The block is shortened again, or given back.
-use Rattle.seg_vector.proofs.Words.{sym, ap, ◌∙◌, Some}
-use Rattle.seg_vector.proofs.Runs.{head-room}
-use Rattle.seg_vector.proofs.TextPuts.{asked-link, asked-live, asked-run, undone-none, undone-other, undone-same}
+use Rattle.seg_vector.proofs.{sym, ap, ◌∙◌, Some, head-room, asked-link, asked-live, asked-run, undone-none}
+use Rattle.seg_vector.proofs.{undone-other, undone-same}
 use Rattle.seg_vector.proofs.text_arrays.give_up.Goals as goal
 
 pub link_of-requires-clause-room : goal.link_of-requires-clause-room

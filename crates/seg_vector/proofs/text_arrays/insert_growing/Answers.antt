@@ -1,8 +1,6 @@
 -- The array is asked for, then the text, and then the array is adopted and the text put in; or all is given up.
-use Rattle.seg_vector.proofs.Words.{sym, ap, subst, ◌*◌, length, Cut, IsAsked, err_from_is_err_and}
-use Rattle.seg_vector.proofs.TextGrowth.{asked-heap, ready-of}
-use Rattle.seg_vector.proofs.TextPuts.{growing-err, growing-none, growing-ok, growing-ready, more-places}
-use Rattle.seg_vector.proofs.TextPuts.{small-wanted}
+use Rattle.seg_vector.proofs.{sym, ap, subst, ◌*◌, length, Cut, IsAsked, err_from_is_err_and, asked-heap, ready-of}
+use Rattle.seg_vector.proofs.{growing-err, growing-none, growing-ok, growing-ready, more-places, small-wanted}
 use Rattle.seg_vector.proofs.text_arrays.insert_growing.Goals as goal
 
 pub ask_array-requires-clause-small : goal.ask_array-requires-clause-small

@@ -1,6 +1,5 @@
 -- The text is placed, and put in.
-use Rattle.seg_vector.proofs.Words.{sym, ap, length, err_from_is_err_and}
-use Rattle.seg_vector.proofs.TextPuts.{within, within-err, within-ok}
+use Rattle.seg_vector.proofs.{sym, ap, length, err_from_is_err_and, within, within-err, within-ok}
 use Rattle.seg_vector.proofs.text_arrays.insert_within.Goals as goal
 
 pub put_in-requires : goal.put_in-requires

@@ -1,8 +1,6 @@
 -- A link, and the word of the capacity.
-use Rattle.seg_vector.proofs.Words.{◌≡◌, subst, ◌∙◌, inl, inr, ◌+◌, arith, bytes_of, word_at, SameBut-word}
-use Rattle.seg_vector.proofs.Words.{SameBut-link, changed-room}
-use Rattle.seg_vector.proofs.Runs.{changed-both}
-use Rattle.seg_vector.proofs.Storage.{capacity-room, link-room, place-small}
+use Rattle.seg_vector.proofs.{◌≡◌, subst, ◌∙◌, inl, inr, ◌+◌, arith, bytes_of, word_at, SameBut-word, SameBut-link}
+use Rattle.seg_vector.proofs.{changed-room, changed-both, capacity-room, link-room, place-small}
 use Rattle.seg_vector.proofs.text_arrays.point_to.Goals as goal
 
 pub set_link-requires-clause-room : goal.set_link-requires-clause-room

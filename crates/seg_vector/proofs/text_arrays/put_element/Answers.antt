@@ -1,7 +1,6 @@
 -- A link, and a word behind it.
-use Rattle.seg_vector.proofs.Words.{◌∙◌, inl, ◌+◌, ◌<◌, arith, SameBut-link, live_of, changed-room, room-less}
-use Rattle.seg_vector.proofs.Runs.{changed-both}
-use Rattle.seg_vector.proofs.Storage.{room-small}
+use Rattle.seg_vector.proofs.{◌∙◌, inl, ◌+◌, ◌<◌, arith, SameBut-link, live_of, changed-room, room-less, changed-both}
+use Rattle.seg_vector.proofs.{room-small}
 use Rattle.seg_vector.proofs.text_arrays.put_element.Goals as goal
 
 pub set_link-requires-clause-room : goal.set_link-requires-clause-room

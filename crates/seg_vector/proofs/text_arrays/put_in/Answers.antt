@@ -1,11 +1,7 @@
 -- Those behind move up, the element is written, and then the length.
-use Rattle.seg_vector.proofs.Words.{◌≡◌, sym, ◌∙◌, ◌+◌, ◌-◌, ◌*◌, arith, length, bytes_of, live_of, changed-room}
-use Rattle.seg_vector.proofs.Words.{laid-heap, room-less}
-use Rattle.seg_vector.proofs.Fewer.{none-left}
-use Rattle.seg_vector.proofs.Runs.{head-room}
-use Rattle.seg_vector.proofs.Storage.{len-room, place-small, room-small}
-use Rattle.seg_vector.proofs.TextBlocks.{even-from}
-use Rattle.seg_vector.proofs.TextPuts.{put-by, put-even, put-place, put-run}
+use Rattle.seg_vector.proofs.{◌≡◌, sym, ◌∙◌, ◌+◌, ◌-◌, ◌*◌, arith, length, bytes_of, live_of, changed-room, laid-heap}
+use Rattle.seg_vector.proofs.{room-less, none-left, head-room, len-room, place-small, room-small, even-from, put-by}
+use Rattle.seg_vector.proofs.{put-even, put-place, put-run}
 use Rattle.seg_vector.proofs.text_arrays.put_in.Goals as goal
 
 pub len_of-len-requires-clause-heap : goal.len_of-len-requires-clause-heap

@@ -1,5 +1,5 @@
 -- The block is long enough, or it is lengthened.
-use Rattle.seg_vector.proofs.Words.{not-wide, wide-longer, wide-same}
+use Rattle.seg_vector.proofs.{not-wide, wide-longer, wide-same}
 use Rattle.seg_vector.proofs.text_arrays.widen.Goals as goal
 
 pub returns-then-room-n : goal.returns-then-room-n

@@ -1,10 +1,6 @@
 -- The text before is released, and then the element is written.
-use Rattle.seg_vector.proofs.Words.{refl, sym, ◌∙◌, ◌+◌, ◌*◌, arith, length, live_of, room-less}
-use Rattle.seg_vector.proofs.Fewer.{none-left}
-use Rattle.seg_vector.proofs.Storage.{room-small}
-use Rattle.seg_vector.proofs.TextBlocks.{no-array}
-use Rattle.seg_vector.proofs.TextCalls.{held-elements, left, text-replaced}
-use Rattle.seg_vector.proofs.Typed.{has-element}
+use Rattle.seg_vector.proofs.{refl, sym, ◌∙◌, ◌+◌, ◌*◌, arith, length, live_of, room-less, none-left, room-small}
+use Rattle.seg_vector.proofs.{no-array, held-elements, left, text-replaced, has-element}
 use Rattle.seg_vector.proofs.texts.replace_text.Goals as goal
 
 pub overflow_mul-index : goal.overflow_mul-index

@@ -1,8 +1,6 @@
 -- The text is the front of its block.
-use Rattle.seg_vector.proofs.Words.{◌≡◌, sym, ap, ◌∙◌, ◌+◌, ◌<◌, arith, length, take, bytes_of, word_at, live_of}
-use Rattle.seg_vector.proofs.Words.{room-less}
-use Rattle.seg_vector.proofs.Storage.{room-small}
-use Rattle.seg_vector.proofs.TextBlocks.{block-front, block-live, empty-text, text-block}
+use Rattle.seg_vector.proofs.{◌≡◌, sym, ap, ◌∙◌, ◌+◌, ◌<◌, arith, length, take, bytes_of, word_at, live_of, room-less}
+use Rattle.seg_vector.proofs.{room-small, block-front, block-live, empty-text, text-block}
 use Rattle.seg_vector.proofs.texts.text_at.Goals as goal
 
 pub link-requires : goal.link-requires

@@ -1,5 +1,5 @@
 -- The bytes that are put in are the value's.
-use Rattle.seg_vector.proofs.Words.{subst, List, ℕ, arith, Inserts}
+use Rattle.seg_vector.proofs.{subst, List, ℕ, arith, Inserts}
 use Rattle.seg_vector.proofs.values.insert_by.Goals as goal
 
 pub returns-clause-inserted : goal.returns-clause-inserted

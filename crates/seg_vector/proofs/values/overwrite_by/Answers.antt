@@ -1,5 +1,5 @@
 -- The bytes that are written are the value's.
-use Rattle.seg_vector.proofs.Words.{subst, List, ℕ, arith, Overwrites}
+use Rattle.seg_vector.proofs.{subst, List, ℕ, arith, Overwrites}
 use Rattle.seg_vector.proofs.values.overwrite_by.Goals as goal
 
 pub returns-clause-written : goal.returns-clause-written

@@ -1,5 +1,5 @@
 -- The bytes that are put in are the value's.
-use Rattle.seg_vector.proofs.Words.{subst, List, ℕ, arith, Appends}
+use Rattle.seg_vector.proofs.{subst, List, ℕ, arith, Appends}
 use Rattle.seg_vector.proofs.values.put_by.Goals as goal
 
 pub returns-clause-appended : goal.returns-clause-appended

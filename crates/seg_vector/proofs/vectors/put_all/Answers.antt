@@ -1,8 +1,7 @@
 -- One value more stands behind the others.
-use Rattle.seg_vector.proofs.Words.{◌≡◌, sym, ap, subst, ◌∙◌, refl, ◌+◌, ◌<◌, ◌++◌, ◌∷◌, [], append-nil, append_assoc}
-use Rattle.seg_vector.proofs.Words.{length, length-append, take, arith, suc, flat_map, length-take, take_all}
-use Rattle.seg_vector.proofs.Words.{take-suc, IsVectorNow}
-use Rattle.seg_vector.proofs.Typed.{appended-now, has-space, now-then, unchanged-now}
+use Rattle.seg_vector.proofs.{◌≡◌, sym, ap, subst, ◌∙◌, refl, ◌+◌, ◌<◌, ◌++◌, ◌∷◌, [], append-nil, append_assoc, length}
+use Rattle.seg_vector.proofs.{length-append, take, arith, suc, flat_map, length-take, take_all, take-suc, IsVectorNow}
+use Rattle.seg_vector.proofs.{appended-now, has-space, now-then, unchanged-now}
 use Rattle.seg_vector.proofs.vectors.put_all.Goals as goal
 
 pub loop-value-init : goal.loop-value-init

@@ -1,5 +1,5 @@
 -- Those before the next one stand behind the others.
-use Rattle.seg_vector.proofs.Words.{◌+◌, ◌≤◌, ◌++◌, length, take, List, Table, IsVector, IsVectorNow}
+use Rattle.seg_vector.proofs.{◌+◌, ◌≤◌, ◌++◌, length, take, List, Table, IsVector, IsVectorNow}
 use Rattle.seg_vector.proofs.vectors.put_all.Given as goal
 
 abbrev pub invariant-loop-value : goal.invariant-loop-value

@@ -1,8 +1,7 @@
 -- The storage grows, and then the bytes are put in behind the others.
-use Rattle.seg_vector.proofs.Words.{◌++◌, arith, length, length-append, subst, live_of, capacity_for_text, IsGrown}
-use Rattle.seg_vector.proofs.Words.{IsWithoutSpace, err_from_is_err_and}
-use Rattle.seg_vector.proofs.Storage.{table-places, too-many}
-use Rattle.seg_vector.proofs.Typed.{few-bytes, text-extended, text-grown-then, text-space, text-wanted, wanted-bytes}
+use Rattle.seg_vector.proofs.{◌++◌, arith, length, length-append, subst, live_of, capacity_for_text, IsGrown}
+use Rattle.seg_vector.proofs.{IsWithoutSpace, err_from_is_err_and, table-places, too-many, few-bytes, text-extended}
+use Rattle.seg_vector.proofs.{text-grown-then, text-space, text-wanted, wanted-bytes}
 use Rattle.seg_vector.proofs.strings.SegString.append.Goals as goal
 
 pub overflow_add-needed : goal.overflow_add-needed

@@ -1,7 +1,6 @@
 -- The storage grows, and then the bytes are put in from the front.
-use Rattle.seg_vector.proofs.Words.{arith, length, [], live_of, err_from_is_err_and}
-use Rattle.seg_vector.proofs.Storage.{table-places}
-use Rattle.seg_vector.proofs.Typed.{text-extended, text-grown-then, text-space, text-then}
+use Rattle.seg_vector.proofs.{arith, length, [], live_of, err_from_is_err_and, table-places, text-extended}
+use Rattle.seg_vector.proofs.{text-grown-then, text-space, text-then}
 use Rattle.seg_vector.proofs.strings.SegString.assign.Goals as goal
 
 pub clear-requires : goal.clear-requires

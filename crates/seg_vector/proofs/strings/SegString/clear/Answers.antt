@@ -1,5 +1,5 @@
 -- No byte is left.
-use Rattle.seg_vector.proofs.Typed.{text-cleared}
+use Rattle.seg_vector.proofs.{text-cleared}
 use Rattle.seg_vector.proofs.strings.SegString.clear.Goals as goal
 
 pub returns : goal.returns

@@ -1,5 +1,5 @@
 -- The words are those of a text without a place.
-use Rattle.seg_vector.proofs.Typed.{text-started}
+use Rattle.seg_vector.proofs.{text-started}
 use Rattle.seg_vector.proofs.strings.SegString.new.Goals as goal
 
 pub returns-clause-text : goal.returns-clause-text

@@ -1,5 +1,5 @@
 -- No byte is left, and no place.
-use Rattle.seg_vector.proofs.Typed.{text-released}
+use Rattle.seg_vector.proofs.{text-released}
 use Rattle.seg_vector.proofs.strings.SegString.release.Goals as goal
 
 pub returns : goal.returns

@@ -1,5 +1,5 @@
 -- The storage grows, and the bytes stay.
-use Rattle.seg_vector.proofs.Typed.{text-enough, text-reserved}
+use Rattle.seg_vector.proofs.{text-enough, text-reserved}
 use Rattle.seg_vector.proofs.strings.SegString.reserve.Goals as goal
 
 pub returns-clause-reserved : goal.returns-clause-reserved

@@ -1,6 +1,5 @@
 -- One byte is written.
-use Rattle.seg_vector.proofs.Words.{◌<◌, arith, length}
-use Rattle.seg_vector.proofs.Typed.{byte-set}
+use Rattle.seg_vector.proofs.{◌<◌, arith, length, byte-set}
 use Rattle.seg_vector.proofs.strings.SegString.set.Goals as goal
 
 pub returns : goal.returns

@@ -1,5 +1,5 @@
 -- The bytes stay.
-use Rattle.seg_vector.proofs.Typed.{text-fitted}
+use Rattle.seg_vector.proofs.{text-fitted}
 use Rattle.seg_vector.proofs.strings.SegString.shrink.Goals as goal
 
 pub returns : goal.returns

@@ -1,8 +1,7 @@
 -- Other texts are laid out, then those before are released, and then the words are written.
-use Rattle.seg_vector.proofs.Words.{sym, ap, ◌∙◌, ◌+◌, arith, length, map, length-map, live_of, changed-room}
-use Rattle.seg_vector.proofs.Words.{new_array}
-use Rattle.seg_vector.proofs.Storage.{len-room, place-small}
-use Rattle.seg_vector.proofs.TextsLaid.{assigned, assigns-some, fitted, laid-even, laid-still, some-texts}
+use Rattle.seg_vector.proofs.{sym, ap, ◌∙◌, ◌+◌, arith, length, map, length-map, live_of, changed-room, new_array}
+use Rattle.seg_vector.proofs.{len-room, place-small, assigned, assigns-some, laid-fitted, laid-even}
+use Rattle.seg_vector.proofs.{laid-still, some-texts}
 use Rattle.seg_vector.proofs.texts.SegTexts.assign.Goals as goal
 
 pub release-requires : goal.release-requires
@@ -46,7 +45,7 @@ returns-clause-first c = λ none.
     let more = map (λ text. text.now) c.args.texts.now in
     let long = length-map c.args.texts.now (λ text. text.now) in
     let some = some-texts (length c.args.texts.now) c.if-is_empty.ensures in
-    absurd (fitted (live_of c.args.heap.now.bytes) more (omega (arith, long, some)) c.in_ok-array.ensures.fit
+    absurd (laid-fitted (live_of c.args.heap.now.bytes) more (omega (arith, long, some)) c.in_ok-array.ensures.fit
     (ap (new_array (live_of c.args.heap.now.bytes)) long ∙ none))
 
 pub returns-in_err-array-clause-first : goal.returns-in_err-array-clause-first

@@ -1,8 +1,6 @@
 -- The texts are released, and then the length is written.
-use Rattle.seg_vector.proofs.Words.{◌≡◌, subst, ◌+◌, arith, current, bytes_of, word_at, IsChanged, live_of, room-less}
-use Rattle.seg_vector.proofs.Runs.{head-room}
-use Rattle.seg_vector.proofs.Storage.{place-small}
-use Rattle.seg_vector.proofs.TextCalls.{cleared, head-after}
+use Rattle.seg_vector.proofs.{◌≡◌, subst, ◌+◌, arith, current, bytes_of, word_at, IsChanged, live_of, room-less}
+use Rattle.seg_vector.proofs.{head-room, place-small, cleared, head-after}
 use Rattle.seg_vector.proofs.texts.SegTexts.clear.Goals as goal
 
 pub overflow_add-self : goal.overflow_add-self

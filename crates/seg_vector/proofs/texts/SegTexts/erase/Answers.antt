@@ -1,12 +1,8 @@
 -- The block of the text is released, those behind it move down, and then the length is written.
-use Rattle.seg_vector.proofs.Words.{refl, sym, ◌∙◌, ◌+◌, ◌-◌, ◌*◌, arith, length, bytes_of, live_of, changed-room}
-use Rattle.seg_vector.proofs.Words.{room-less}
+use Rattle.seg_vector.proofs.{refl, sym, ◌∙◌, ◌+◌, ◌-◌, ◌*◌, arith, length, bytes_of, live_of, changed-room, room-less}
+use Rattle.seg_vector.proofs.{IsHead, head-room, len-room, place-small, room-small, IsArrayLeft, even-from, no-array}
+use Rattle.seg_vector.proofs.{erased-by, held-elements, left, has-element}
 use Rattle.seg_vector.proofs.texts.SegTexts.erase.Goals.{After-release_text}
-use Rattle.seg_vector.proofs.Runs.{IsHead, head-room}
-use Rattle.seg_vector.proofs.Storage.{len-room, place-small, room-small}
-use Rattle.seg_vector.proofs.TextBlocks.{IsArrayLeft, even-from, no-array}
-use Rattle.seg_vector.proofs.TextCalls.{erased-by, held-elements, left}
-use Rattle.seg_vector.proofs.Typed.{has-element}
 use Rattle.seg_vector.proofs.texts.SegTexts.erase.Goals as goal
 
 pub unreachable-requires : goal.unreachable-requires

@@ -1,8 +1,6 @@
 -- The element is in the array.
-use Rattle.seg_vector.proofs.Words.{sym, ap, ◌∙◌, ◌+◌, ◌*◌, ◌<◌, arith, length, Some, option_map, OwnedText}
-use Rattle.seg_vector.proofs.Storage.{room-small}
-use Rattle.seg_vector.proofs.TextBlocks.{element-of, no-array}
-use Rattle.seg_vector.proofs.Typed.{has-element}
+use Rattle.seg_vector.proofs.{sym, ap, ◌∙◌, ◌+◌, ◌*◌, ◌<◌, arith, length, Some, option_map, OwnedText, room-small}
+use Rattle.seg_vector.proofs.{element-of, no-array, has-element}
 use Rattle.seg_vector.proofs.texts.SegTexts.get.Goals as goal
 
 pub unreachable-requires : goal.unreachable-requires

@@ -1,7 +1,5 @@
 -- No array has so many places. What the call for an index inside answers is the answer.
-use Rattle.seg_vector.proofs.Words.{arith}
-use Rattle.seg_vector.proofs.Storage.{wanted-is}
-use Rattle.seg_vector.proofs.TextPuts.{few-places, first-answered, put-answered}
+use Rattle.seg_vector.proofs.{arith, wanted-is, few-places, first-answered, put-answered}
 use Rattle.seg_vector.proofs.texts.SegTexts.insert.Goals as goal
 
 pub capacity_for_one-wanted-requires : goal.capacity_for_one-wanted-requires

@@ -1,5 +1,5 @@
 -- The words are those of a vector without a place.
-use Rattle.seg_vector.proofs.TextBlocks.{texts-started}
+use Rattle.seg_vector.proofs.{texts-started}
 use Rattle.seg_vector.proofs.texts.SegTexts.new.Goals as goal
 
 pub returns-clause-texts : goal.returns-clause-texts

@@ -1,6 +1,5 @@
 -- The texts are released, and then the array is given back.
-use Rattle.seg_vector.proofs.Words.{[]}
-use Rattle.seg_vector.proofs.TextCalls.{given-up-all, stands-none}
+use Rattle.seg_vector.proofs.{[], given-up-all, stands-none}
 use Rattle.seg_vector.proofs.texts.SegTexts.release.Goals as goal
 
 pub give_back-requires : goal.give_back-requires

@@ -1,6 +1,6 @@
 -- Nothing is asked for, or an array, which the vector has then.
-use Rattle.seg_vector.proofs.Words.{refl, ◌<◌, arith, live_of, err_from_is_err_and}
-use Rattle.seg_vector.proofs.TextGrowth.{asked-alone, not-grown, ready-of, reserved, reserved-same, too-many-texts}
+use Rattle.seg_vector.proofs.{refl, ◌<◌, arith, live_of, err_from_is_err_and, asked-alone, not-grown, ready-of}
+use Rattle.seg_vector.proofs.{reserved, reserved-same, too-many-texts}
 use Rattle.seg_vector.proofs.texts.SegTexts.reserve.Goals as goal
 
 pub returns-then-n-capacity-clause-reserved : goal.returns-then-n-capacity-clause-reserved

@@ -1,7 +1,5 @@
 -- The text is placed, and then its element is written.
-use Rattle.seg_vector.proofs.Words.{◌≡◌, refl, sym, subst, ◌%◌, arith, IfSome}
-use Rattle.seg_vector.proofs.TextCalls.{come-even, text-set, texts-still}
-use Rattle.seg_vector.proofs.Typed.{has-element}
+use Rattle.seg_vector.proofs.{◌≡◌, refl, sym, subst, ◌%◌, arith, IfSome, come-even, text-set, texts-still, has-element}
 use Rattle.seg_vector.proofs.texts.SegTexts.set.Goals as goal
 
 pub replace_text-requires-clause-texts : goal.replace_text-requires-clause-texts

@@ -1,6 +1,5 @@
 -- A vector of texts is a container of elements of 16 bytes.
-use Rattle.seg_vector.proofs.Words.{length, bytes_of}
-use Rattle.seg_vector.proofs.TextCalls.{raw, shrunk, texts-stand}
+use Rattle.seg_vector.proofs.{length, bytes_of, raw, shrunk, texts-stand}
 use Rattle.seg_vector.proofs.texts.SegTexts.shrink.Goals as goal
 
 pub fit-requires-clause-stands : goal.fit-requires-clause-stands

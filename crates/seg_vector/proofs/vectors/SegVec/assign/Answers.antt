@@ -1,7 +1,6 @@
 -- The storage grows, and then the values are put in from the front.
-use Rattle.seg_vector.proofs.Words.{arith, length, [], live_of, err_from_is_err_and}
-use Rattle.seg_vector.proofs.Storage.{table-places}
-use Rattle.seg_vector.proofs.Typed.{grown-of, grown-then, now-then, without-space}
+use Rattle.seg_vector.proofs.{arith, length, [], live_of, err_from_is_err_and, table-places, grown-of, grown-then}
+use Rattle.seg_vector.proofs.{now-then, without-space}
 use Rattle.seg_vector.proofs.vectors.SegVec.assign.Goals as goal
 
 pub clear-requires : goal.clear-requires

@@ -1,6 +1,5 @@
 -- The first none of the values are left.
-use Rattle.seg_vector.proofs.Words.{arith}
-use Rattle.seg_vector.proofs.Typed.{cut-now}
+use Rattle.seg_vector.proofs.{arith, cut-now}
 use Rattle.seg_vector.proofs.vectors.SegVec.clear.Goals as goal
 
 pub returns : goal.returns

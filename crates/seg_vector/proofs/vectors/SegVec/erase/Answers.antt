@@ -1,6 +1,5 @@
 -- The bytes of the others are left.
-use Rattle.seg_vector.proofs.Words.{◌<◌, arith, length}
-use Rattle.seg_vector.proofs.Typed.{erased-now}
+use Rattle.seg_vector.proofs.{◌<◌, arith, length, erased-now}
 use Rattle.seg_vector.proofs.vectors.SegVec.erase.Goals as goal
 
 pub returns : goal.returns

@@ -1,6 +1,5 @@
 -- The bytes of an element spell its value, and no other.
-use Rattle.seg_vector.proofs.Words.{sym, ap, ◌∙◌, ◌<◌, arith, length, Some}
-use Rattle.seg_vector.proofs.Typed.{all-at, element-spells, has-element, is-standing}
+use Rattle.seg_vector.proofs.{sym, ap, ◌∙◌, ◌<◌, arith, length, Some, all-at, element-spells, has-element, is-standing}
 use Rattle.seg_vector.proofs.vectors.SegVec.get.Goals as goal
 
 pub element-requires-clause-stands : goal.element-requires-clause-stands

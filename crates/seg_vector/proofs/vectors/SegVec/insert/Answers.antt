@@ -1,6 +1,6 @@
 -- The storage grows, and then the value is put in.
-use Rattle.seg_vector.proofs.Words.{◌≤◌, ◌∙◌, arith, inr, length, refl, sym, capacity_for_one, err_from_is_err_and}
-use Rattle.seg_vector.proofs.Typed.{grown-of, grown-then, inserted-now, space-for-one, stands-for-one, without-space}
+use Rattle.seg_vector.proofs.{◌≤◌, ◌∙◌, arith, inr, length, refl, sym, capacity_for_one, err_from_is_err_and, grown-of}
+use Rattle.seg_vector.proofs.{grown-then, inserted-now, space-for-one, stands-for-one, without-space}
 use Rattle.seg_vector.proofs.vectors.SegVec.insert.Goals as goal
 
 pub grow_for_one-requires-clause-len : goal.grow_for_one-requires-clause-len

@@ -1,5 +1,5 @@
 -- The words are those of a vector without a place.
-use Rattle.seg_vector.proofs.Typed.{vector-started}
+use Rattle.seg_vector.proofs.{vector-started}
 use Rattle.seg_vector.proofs.vectors.SegVec.new.Goals as goal
 
 pub returns-clause-vector : goal.returns-clause-vector

@@ -1,6 +1,5 @@
 -- The last value is read, and then left out.
-use Rattle.seg_vector.proofs.Words.{◌≡◌, subst, ◌-◌, arith, length, take, slice_get, Some, IsVectorNow}
-use Rattle.seg_vector.proofs.Typed.{cut-now}
+use Rattle.seg_vector.proofs.{◌≡◌, subst, ◌-◌, arith, length, take, slice_get, Some, IsVectorNow, cut-now}
 use Rattle.seg_vector.proofs.vectors.SegVec.pop.Goals as goal
 
 pub returns : goal.returns

@@ -1,6 +1,6 @@
 -- The storage grows, and then the value is put in.
-use Rattle.seg_vector.proofs.Words.{◌∙◌, sym, refl, capacity_for_one, err_from_is_err_and}
-use Rattle.seg_vector.proofs.Typed.{appended-now, grown-of, grown-then, space-for-one, stands-for-one, without-space}
+use Rattle.seg_vector.proofs.{◌∙◌, sym, refl, capacity_for_one, err_from_is_err_and, appended-now, grown-of, grown-then}
+use Rattle.seg_vector.proofs.{space-for-one, stands-for-one, without-space}
 use Rattle.seg_vector.proofs.vectors.SegVec.push.Goals as goal
 
 pub grow_for_one-requires-clause-len : goal.grow_for_one-requires-clause-len

@@ -1,5 +1,5 @@
 -- No value is left.
-use Rattle.seg_vector.proofs.Typed.{released-now}
+use Rattle.seg_vector.proofs.{released-now}
 use Rattle.seg_vector.proofs.vectors.SegVec.release.Goals as goal
 
 pub returns : goal.returns

@@ -1,5 +1,5 @@
 -- The storage grows, and the values stay.
-use Rattle.seg_vector.proofs.Typed.{reserved-enough, reserved-of}
+use Rattle.seg_vector.proofs.{reserved-enough, reserved-of}
 use Rattle.seg_vector.proofs.vectors.SegVec.reserve.Goals as goal
 
 pub returns-clause-reserved : goal.returns-clause-reserved

@@ -1,6 +1,5 @@
 -- The bytes are those of the value.
-use Rattle.seg_vector.proofs.Words.{◌<◌, arith, length, refl}
-use Rattle.seg_vector.proofs.Typed.{set-now}
+use Rattle.seg_vector.proofs.{◌<◌, arith, length, refl, set-now}
 use Rattle.seg_vector.proofs.vectors.SegVec.set.Goals as goal
 
 pub returns : goal.returns

@@ -1,5 +1,5 @@
 -- The values stay.
-use Rattle.seg_vector.proofs.Typed.{fitted-now}
+use Rattle.seg_vector.proofs.{fitted-now}
 use Rattle.seg_vector.proofs.vectors.SegVec.shrink.Goals as goal
 
 pub returns : goal.returns

@@ -11,7 +11,7 @@ use W.{others, resized, longer, place, is_extent, shorter, IsChanged, IsHeap, La
 use W.{is_live_in, payload_at, Table, is_table, serves, same_role, table_link, IsSound, all_of-insert, found-room}
 use W.{live-sound, read-same, room_block, laid-heap, all-same-but, changed-live, regrow-serves, in_use-all}
 use W.{block_payload, room-less, IfSome_is, all_keep_proper, legal_size, too_long, spread-refl, exchange-next}
-use W.{is_legal_size, Place, IsGrown, IsOwnBlock, Stands, place_at, IsWithoutSpace, IsAppended, IsStorage}
+use W.{is_legal_size, Place, IsGrown, IsOwnBlock, Stands, place_at, IsWithoutSpace, IsStorage}
 use W.{capacity_for_one, IsRewritten, IsSwapped, SameBut-link, Refusal, NoSpace, []}
 use Rattle.seg_vector.proofs.Runs.{IsRun, beside-head, block-written, changed-both, head-room, head-wider, len-written}
 use Rattle.seg_vector.proofs.Runs.{none-some, room-head, run-found, run-headed, run-stands, run-swapped, same-some}
@@ -294,28 +294,6 @@ rewritten {s1} {p} {each} {c} from len2 {o = Some x} bytes2 s link c1 within fit
           (omega arith) (omega (arith, long, full, less)) ∙ whole);
     }
 
--- the bytes and the length are written
-pub appended : {old s1 new : Cut} {p : Place} {each len c g : ℕ} {o : Option Extent} {bytes : List ℕ} (more : List ℕ)
-    → len < c → Stands old.bytes p each len (table c o) bytes
-    → length more ≡ each → link_at (bytes_of old.bytes) (place_at p) ≡ Some g
-    → IsChanged current old s1 (g + each * len) (length more) → Has (bytes_of s1.bytes) (g + each * len) more
-    → IsChanged current s1 new (p.handle + (p.at + 8)) 8 → word_at (bytes_of new.bytes) (p.handle + (p.at + 8)) ≡ len
-    + 1 → IsAppended old new p each len (table c o) bytes more
-appended {o = None} more f s long link c1 content c2 word = none-some s.words.link link
-appended {old} {s1} {each} {len} {c} {g} {o = Some x} {bytes} more f s long link c1 content c2 word =
-    let m = bytes_of old.bytes in let ms = bytes_of s1.bytes in
-    let g_is = same-some (sym s.words.link ∙ link) in
-    let within = more-times each (len + 1) c (omega arith) in
-    let step : each * (len + 1) ≡ each * len + each = omega arith in
-    let total = s.long in let sum = length-append bytes more in
-    let front : Has ms g bytes = read-same m ms g (g + each * len) g (length bytes)
-    (record { at = λ k a b. c1.rest.at k (inl (omega arith)) }) (omega arith) (omega (arith, total))
-    ∙ subst (λ k. Has m k bytes) g_is s.words.storage in
-    let back_ : Has ms (g + length bytes) more = subst (λ k. Has ms k more) (omega (arith, total)) content in
-    let r = rewritten (each * len) (len + 1) (bytes ++ more) s link c1 (omega (arith, long, within, step)) (omega arith)
-    (omega (arith, sum, total, long, step)) (Has-append ms g bytes more front back_) c2 word in
-    record { change = r.change; stands = r.stands }
-
 pub at-least : (each n : ℕ) → 1 ≤ each → n ≤ each * n
 at-least each n f = grind arith
 
@@ -576,34 +554,38 @@ too-many c {p} {each} n {t} s some f =
     } in
     grows-nothing each n t (omega (arith, few, least, f)) r
 
--- ---- bytes more
+-- ---- elements more
 
-pub extended : {old s1 new : Cut} {p : Place} {len g : ℕ} {t : Table} {bytes : List ℕ} (more : List ℕ)
-    → Stands old.bytes p 1 len t bytes → len + length more ≤ t.capacity
+pub extended : {old s1 new : Cut} {p : Place} {each len g : ℕ} (n : ℕ) {t : Table} {bytes : List ℕ} (more : List ℕ)
+    → Stands old.bytes p each len t bytes → len + n ≤ t.capacity → length more ≡ each * n
     → link_at (bytes_of old.bytes) (place_at p) ≡ Some g
-    → IsChanged current old s1 (g + len) (length more) → Has (bytes_of s1.bytes) (g + len) more
+    → IsChanged current old s1 (g + each * len) (length more) → Has (bytes_of s1.bytes) (g + each * len) more
     → IsChanged current s1 new (p.handle + (p.at + 8)) 8 → word_at (bytes_of new.bytes) (p.handle + (p.at + 8)) ≡ len
-    + length more → IsRewritten old new p 1 (len + length more) t (bytes ++ more)
-extended {old} {s1} {len} {g} {bytes} more s f link c1 content c2 word =
+    + n → IsRewritten old new p each (len + n) t (bytes ++ more)
+extended {old} {s1} {each} {len} {g} n {t} {bytes} more s f long link c1 content c2 word =
     let m = bytes_of old.bytes in let ms = bytes_of s1.bytes in let total = s.long in
-    let sum = length-append bytes more in let has = storage-has s link in
-    let front : Has ms g bytes = read-same m ms g (g + len) g (length bytes)
-    (record { at = λ k a b. c1.rest.at k (inl (omega arith)) }) (omega arith) (omega (arith, total)) ∙ has in
+    let sum = length-append bytes more in let less = more-times each (len + n) t.capacity f in
+    let step : each * (len + n) ≡ each * len + each * n = omega arith in
+    let front : Has ms g bytes = read-same m ms g (g + each * len) g (length bytes)
+    (record { at = λ k a b. c1.rest.at k (inl (omega arith)) }) (omega arith) (omega (arith, total))
+    ∙ storage-has s link in
     let behind : Has ms (g + length bytes) more = subst (λ k. Has ms k more) (omega (arith, total)) content in
-    rewritten len (len + length more) (bytes ++ more) s link c1 (omega (arith, f)) f (omega (arith, sum, total))
-    (Has-append ms g bytes more front behind) c2 word
+    rewritten (each * len) (len + n) (bytes ++ more) s link c1 (omega (arith, long, less, step)) f
+    (omega (arith, sum, total, long, step)) (Has-append ms g bytes more front behind) c2 word
 
-pub extended-not : (c : Cut) {p : Place} {len k : ℕ} {o : Option Extent} {bytes : List ℕ} (more : List ℕ)
-    → Stands c.bytes p 1 len (table k o) bytes → len + length more ≤ k → link_at (bytes_of c.bytes) (place_at p) ≡ None
-    → IsRewritten c c p 1 (len + length more) (table k o) (bytes ++ more)
-extended-not c {p} {len} {k} {o = None} {bytes} more s f link =
+pub extended-not : (c : Cut) {p : Place} {each len k : ℕ} (n : ℕ) {o : Option Extent} {bytes : List ℕ} (more : List ℕ)
+    → Stands c.bytes p each len (table k o) bytes → len + n ≤ k → length more ≡ each * n
+    → link_at (bytes_of c.bytes) (place_at p) ≡ None → IsRewritten c c p each (len + n) (table k o) (bytes ++ more)
+extended-not c {p} {each} {len} {k} n {o = None} {bytes} more s f long link =
     let none = eqb-true k 0 s.table in
-    let empty = no-bytes more (omega (arith, f, none)) in
-    subst (λ (ws : List ℕ). IsRewritten c c p 1 (len + length ws) (table k None) (bytes ++ ws)) (sym empty)
-    (subst (λ j. IsRewritten c c p 1 j (table k None) (bytes ++ [])) (let e : len ≡ len + 0 = omega arith in e)
-    (subst (λ (ws : List ℕ). IsRewritten c c p 1 len (table k None) ws) (sym (append-nil bytes))
+    let no : n ≡ 0 = omega (arith, f, none) in
+    let nothing : each * 0 ≡ 0 = omega arith in
+    let empty = no-bytes more (long ∙ ap (λ j. each * j) no ∙ nothing) in
+    subst (λ (ws : List ℕ). IsRewritten c c p each (len + n) (table k None) (bytes ++ ws)) (sym empty)
+    (subst (λ j. IsRewritten c c p each j (table k None) (bytes ++ [])) (let e : len ≡ len + n = omega (arith, no) in e)
+    (subst (λ (ws : List ℕ). IsRewritten c c p each len (table k None) ws) (sym (append-nil bytes))
     (unchanged-rewritten c s)))
-extended-not c {o = Some x} more s f link = none-some link s.words.link
+extended-not c n {o = Some x} more s f long link = none-some link s.words.link
 
 -- ---- how many bytes there are before and behind an element
 

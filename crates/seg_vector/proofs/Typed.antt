@@ -6,8 +6,8 @@ use W.{insert, remove, slice_get, slice_set, nat_le, option_to_list, list_all, a
 use W.{list_all-append, take-append-drop, length-set, length-take, flat_map-append, take-append-add, drop-append-add}
 use W.{take-append_seam, length-insert, length-remove, part, patched, Cut, bytes_of, word_at, current, IsExchanged}
 use W.{IsChanged, IsHeap, has_room, live_of, Table, no_table, Refusal, Place, Erases, Result, Ok, Err, MatchResult}
-use W.{Extends, Fits, GivesBack, Inserts, IsFitted, IsGivenBack, IsRewritten, Overwrites, ReadsOne, Truncates, Appends}
-use W.{IsAppended, IsGrown, Grows, IsStanding, Stands, place_at, IsText, IsTextGrown, IsTextNow, capacity_for_one}
+use W.{Extends, Fits, GivesBack, Inserts, IsFitted, IsGivenBack, IsRewritten, Overwrites, ReadsOne, Truncates}
+use W.{IsGrown, Grows, IsStanding, Stands, place_at, IsText, IsTextGrown, IsTextNow, capacity_for_one}
 use W.{capacity_for_text, IsVector, IsVectorGrown, IsVectorNow, IsWithoutSpace, Starts, []}
 use Rattle.seg_vector.proofs.Runs.{head-exchanged, same-some, table}
 use Rattle.seg_vector.proofs.Storage.{capacity-bytes, exchange-then, has-place, not-refused, unchanged-rewritten}
@@ -287,18 +287,15 @@ module _ {T : Type 0} {size : ℕ} {test : T → Bool} {sp : T → List ℕ} (ol
       (subst (λ l. IsTrue (list_all test l)) (sym (set-pieces xs i y f))
       (all-edit test xs i (suc i) (y ∷ []) v.values (all-one test y good)))
 
-  pub appended-now : (y : T) → test y ≡ true → Appends old mid p k (sp y)
+  pub appended-now : (y : T) → test y ≡ true → Extends old mid p k 1 (sp y)
       → IsVectorNow size test sp old mid p t (xs ++ y ∷ []) t
   appended-now y good h =
-      let r = subst (λ j. IsAppended old mid p j (length xs) t (flat_map sp xs) (sp y)) e
+      let r : IsRewritten old mid p size (length xs + 1) t (flat_map sp xs ++ sp y) =
+      subst (λ j. IsRewritten old mid p j (length xs + 1) t (flat_map sp xs ++ sp y)) e
       (h (length xs) t (flat_map sp xs) stands-at) in
-      let one = append-nil (sp y) in let last = and_from (test y) true good refl in
-      record {
-        change = r.change;
-        vector = vector-of test sp (xs ++ y ∷ []) r.stands (sym (length-append xs (y ∷ [])))
-            (ap (λ bs. flat_map sp xs ++ bs) (sym one) ∙ sym (flat_map-append sp xs (y ∷ [])))
-            (all-both test xs (y ∷ []) v.values (all-one test y good));
-      }
+      vector-now test sp (xs ++ y ∷ []) r (sym (length-append xs (y ∷ [])))
+      (ap (λ bs. flat_map sp xs ++ bs) (sym (append-nil (sp y))) ∙ sym (flat_map-append sp xs (y ∷ [])))
+      (all-both test xs (y ∷ []) v.values (all-one test y good))
 
   pub inserted-now : (i : ℕ) (y : T) → ((x : T) → test x ≡ true → length (sp x) ≡ size) → i ≤ length xs → test y ≡ true
       → Inserts old mid p k i (sp y) → IsVectorNow size test sp old mid p t (insert xs i y) t
@@ -404,7 +401,7 @@ module _ (old mid : Cut) {p : Place} {bytes : List ℕ} {t : Table} (v : IsText 
       (drop (i + 1) bytes) ∙ ap (λ k. take i bytes ++ (x ∷ drop k bytes)) next ∙ sym (set-pieces bytes i x f) in
       text-now (slice_set bytes i x) r (sym (length-set bytes i x)) is
 
-  pub text-extended : (more : List ℕ) → Extends old mid p more → IsTextNow old mid p t (bytes ++ more) t
+  pub text-extended : (more : List ℕ) → Extends old mid p 1 (length more) more → IsTextNow old mid p t (bytes ++ more) t
   text-extended more h = text-now (bytes ++ more) (h (length bytes) t bytes v) (sym (length-append bytes more)) refl
 
   pub text-fitted : Fits old mid p 1 → IsTextNow old mid p t bytes (cut_table (live_of old.bytes) 1 (length bytes) t)

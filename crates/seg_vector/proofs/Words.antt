@@ -47,8 +47,8 @@ pub use Rattle.raw_region.specs.Memory.{Memory, Cut, SameBut, bytes_of, word_at,
 pub use Rattle.seg_types.specs.declared.refusals.Refusal.{Refusal}
 pub use Rattle.seg_types.specs.declared.refusals.Refusal.TheVariants.{NoSpace}
 pub use Rattle.seg_vector.specs.Elements.{IsGivenBack, IsFitted, Erases, Extends, Fits, GivesBack, Inserts}
-pub use Rattle.seg_vector.specs.Elements.{IsRewritten, Overwrites, ReadsOne, Truncates}
-pub use Rattle.seg_vector.specs.Standing.{IsOwnBlock, Stands, place_at, Appends, IsAppended, IsGrown, Grows}
+pub use Rattle.seg_vector.specs.Elements.{IsRewritten, Overwrites, PutsAt, ReadsOne, Truncates}
+pub use Rattle.seg_vector.specs.Standing.{IsOwnBlock, Stands, place_at, IsGrown, Grows}
 pub use Rattle.seg_vector.specs.Standing.{IsStanding}
 pub use Rattle.seg_vector.specs.TextCalls.{IsText, IsTextGrown, IsTextNow}
 pub use Rattle.seg_vector.specs.TextLists.{AreLaid, AreLaidUpTo, AreLaidOut, AreNotLaidOut}

@@ -1,10 +1,12 @@
 -- The elements of a container that stands at a place: read, written over, and fewer or more of them in the places that there are.
-use Rattle.std.specs.Prelude.{◌≡◌, ℕ, ◌+◌, ◌-◌, ◌*◌, List, [], ◌++◌, length, take, drop, option_to_list}
-use Rattle.raw_region.specs.Memory.{Cut, part, patched}
+use Rattle.std.specs.Prelude.{◌≡◌, ℕ, ◌+◌, ◌-◌, ◌*◌, ◌<◌, ◌≤◌, List, [], ◌++◌, length, take, drop, option_to_list}
+use Rattle.raw_region.specs.Memory.{Cut, bytes_of, part, patched, word_at}
 use Rattle.raw_region.specs.Format.{current}
 use Rattle.best_fit.specs.Exchange.{IsExchanged}
 use Rattle.best_fit.specs.Heap.{live_of}
 use Rattle.best_fit.specs.Table.{Table, cut_table, no_table}
+use Rattle.seg_vector.specs.declared.elements.Spot.{Spot}
+use Rattle.seg_vector.specs.declared.elements.Spot.TheVariants.{End, Over, Before}
 use Rattle.seg_vector.specs.declared.places.Place.{Place}
 use Rattle.seg_vector.specs.Standing.{Stands, place_at}
 
@@ -43,9 +45,24 @@ Erases old new p each i =
     (len : ℕ) (t : Table) (bytes : List ℕ) → Stands old.bytes p each len t bytes
     → IsRewritten old new p each (len - 1) t (take (each * i) bytes ++ drop (each * i + each) bytes)
 
--- bytes more, of elements of a byte each
-abbrev pub Extends : Cut → Cut → Place → List ℕ → Type 0
-Extends old new p more = (len : ℕ) (t : Table) (bytes : List ℕ) → Stands old.bytes p 1 len t bytes → IsRewritten old new p 1 (len + length more) t (bytes ++ more)
+-- n elements more, behind the last one
+abbrev pub Extends : Cut → Cut → Place → ℕ → ℕ → List ℕ → Type 0
+Extends old new p each n more =
+    (len : ℕ) (t : Table) (bytes : List ℕ) → Stands old.bytes p each len t bytes
+    → IsRewritten old new p each (len + n) t (bytes ++ more)
+
+-- where an element is put: behind the last one and before another one where there is a place more, and over one that is there
+abbrev pub HasSpot : List ℕ → Place → Spot → Type 0
+HasSpot b p End = word_at (bytes_of b) (place_at p + 8) < word_at (bytes_of b) (place_at p + 16)
+HasSpot b p (Over i) = i < word_at (bytes_of b) (place_at p + 8)
+HasSpot b p (Before i) =
+    (word_at (bytes_of b) (place_at p + 8) < word_at (bytes_of b) (place_at p + 16))
+    × (i ≤ word_at (bytes_of b) (place_at p + 8))
+
+abbrev pub PutsAt : Cut → Cut → Place → ℕ → Spot → List ℕ → Type 0
+PutsAt old new p each End more = Extends old new p each 1 more
+PutsAt old new p each (Over i) more = Overwrites old new p each i more
+PutsAt old new p each (Before i) more = Inserts old new p each i more
 
 -- ---- fewer places
 

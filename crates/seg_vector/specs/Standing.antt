@@ -1,5 +1,5 @@
 -- A container at a place in a heap: its three words in a block, and its storage, which is a block of its own.
-use Rattle.std.specs.Prelude.{◌≡◌, ◌≢◌, ℕ, ◌+◌, ◌*◌, ◌%◌, ◌≤◌, ⊤, IsTrue, Option, Some, None, Result, MatchResult, List, ◌++◌, length, option_to_list}
+use Rattle.std.specs.Prelude.{◌≡◌, ◌≢◌, ℕ, ◌+◌, ◌*◌, ◌%◌, ◌≤◌, ⊤, IsTrue, Option, Some, None, Result, MatchResult, List, length, option_to_list}
 use Rattle.raw_region.specs.Memory.{Cut, bytes_of}
 use Rattle.block_tags.specs.declared.tile.Role.TheVariants.{Storage}
 use Rattle.raw_region.specs.Format.{current}
@@ -58,12 +58,3 @@ abbrev pub GrowsForOne : Cut → Cut → Place → ℕ → Result (Unit {0}) Ref
 GrowsForOne old new p each result =
     (len : ℕ) (t : Table) (bytes : List ℕ) → Stands old.bytes p each len t bytes → let n = capacity_for_one len t.capacity in
     MatchResult result (λ u. IsGrown old new p each n len t bytes) (IsWithoutSpace old new each n t)
-
--- one element more, in a place that there was
-pub record IsAppended (old new : Cut) (p : Place) (each len : ℕ) (t : Table) (bytes more : List ℕ) : Type 0 where
-  pub change : IsExchanged current old new (place_at p) 24 (option_to_list t.extent) (option_to_list t.extent)
-  pub stands : Stands new.bytes p each (len + 1) t (bytes ++ more)
-
-abbrev pub Appends : Cut → Cut → Place → ℕ → List ℕ → Type 0
-Appends old new p each more =
-    (len : ℕ) (t : Table) (bytes : List ℕ) → Stands old.bytes p each len t bytes → IsAppended old new p each len t bytes more

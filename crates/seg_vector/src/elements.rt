@@ -1,8 +1,8 @@
 //! The elements of a container at a place: read, written over, left out, and put in where there is a place.
-ghost use Rattle.std.specs.Prelude.{◌≡◌, ◌+◌, ◌<◌, ◌≤◌, length};
+ghost use Rattle.std.specs.Prelude.{◌≡◌, ◌+◌, ◌*◌, ◌<◌, ◌≤◌, length};
 ghost use Rattle.raw_region.specs.Memory.{bytes_of, word_at};
-ghost use Rattle.seg_vector.specs.Elements.{Erases, Extends, Inserts, Overwrites, ReadsAll, ReadsOne, Truncates};
-ghost use Rattle.seg_vector.specs.Standing.{Appends, IsStanding};
+ghost use Rattle.seg_vector.specs.Elements.{Erases, Extends, HasSpot, Inserts, Overwrites, PutsAt, ReadsAll, ReadsOne, Truncates};
+ghost use Rattle.seg_vector.specs.Standing.{IsStanding};
 
 use crate::places::{LEN, Place, len_of, link_of};
 use best_fit::Heap;
@@ -51,31 +51,18 @@ pub fn truncate(heap: &mut Heap, place: Place, each: u64, n: u64)
     heap.set_word(place.handle, place.at + LEN, n);
 }
 
-/// Writes an element of `each` bytes behind the last one, where the capacity is above the length.
-pub fn put_last(heap: &mut Heap, place: Place, each: u64, bytes: &[u8])
+/// Writes `n` elements of `each` bytes behind the last one, where the capacity allows.
+pub fn extend(heap: &mut Heap, place: Place, each: u64, n: u64, bytes: &[u8])
     requires stands { IsStanding heap.old.bytes place each }
-    requires space { word_at (bytes_of heap.old.bytes) (place.handle + place.at + 8) < word_at (bytes_of heap.old.bytes) (place.handle + place.at + 16) }
+    requires space { word_at (bytes_of heap.old.bytes) (place.handle + place.at + 8) + n ≤ word_at (bytes_of heap.old.bytes) (place.handle + place.at + 16) }
     requires some { 1 ≤ each }
-    requires long { length bytes.now ≡ each }
-    ensures { Appends heap.old heap.new place each bytes.now }
+    requires long { length bytes.now ≡ each * n }
+    ensures { Extends heap.old heap.new place each n bytes.now }
 {
     let len = len_of(heap, place);
     if let Some(storage) = link_of(heap, place) {
         heap.write(storage, each * len, bytes);
-        heap.set_word(place.handle, place.at + LEN, len + 1);
-    }
-}
-
-/// Writes bytes behind the last one of a container of elements of a byte each, where the capacity allows.
-pub fn extend(heap: &mut Heap, place: Place, bytes: &[u8])
-    requires stands { IsStanding heap.old.bytes place 1 }
-    requires space { word_at (bytes_of heap.old.bytes) (place.handle + place.at + 8) + length bytes.now ≤ word_at (bytes_of heap.old.bytes) (place.handle + place.at + 16) }
-    ensures { Extends heap.old heap.new place bytes.now }
-{
-    let len = len_of(heap, place);
-    if let Some(storage) = link_of(heap, place) {
-        heap.write(storage, len, bytes);
-        heap.set_word(place.handle, place.at + LEN, len + bytes.len() as u64);
+        heap.set_word(place.handle, place.at + LEN, len + n);
     }
 }
 
@@ -111,5 +98,31 @@ pub fn erase_element(heap: &mut Heap, place: Place, each: u64, index: u64)
         let behind = each * (len - index - 1);
         heap.copy(storage, from + each, storage, from, behind);
         heap.set_word(place.handle, place.at + LEN, len - 1);
+    }
+}
+
+/// Where an element is put.
+#[derive(Clone, Copy)]
+pub enum Spot {
+    /// Behind the last one.
+    End,
+    /// Over the one with so many others before it.
+    Over(u64),
+    /// Where so many others stand before it. Those from there on move up.
+    Before(u64),
+}
+
+/// Puts an element of `each` bytes at a spot.
+pub fn put_at(heap: &mut Heap, place: Place, each: u64, spot: Spot, bytes: &[u8])
+    requires stands { IsStanding heap.old.bytes place each }
+    requires spot { HasSpot heap.old.bytes place spot }
+    requires some { 1 ≤ each }
+    requires long { length bytes.now ≡ each }
+    ensures { PutsAt heap.old heap.new place each spot bytes.now }
+{
+    match spot {
+        Spot::End => extend(heap, place, each, 1, bytes),
+        Spot::Over(index) => set_element(heap, place, each, index, bytes),
+        Spot::Before(index) => insert_element(heap, place, each, index, bytes),
     }
 }

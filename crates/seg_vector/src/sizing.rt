@@ -1,5 +1,5 @@
 //! The storage of a container at a place: it has none at the beginning, gets more of it, has it cut, and gives it back.
-ghost use Rattle.std.specs.Prelude.{◌≡◌, ℕ, ◌+◌, ◌*◌, ◌%◌, ◌^◌, ◌<◌, ◌≤◌, IsTrue, []};
+ghost use Rattle.std.specs.Prelude.{◌≡◌, ℕ, ◌+◌, ◌*◌, ◌%◌, ◌<◌, ◌≤◌, IsTrue, []};
 ghost use Rattle.raw_region.specs.Format.{current};
 ghost use Rattle.raw_region.specs.Memory.{bytes_of, word_at};
 ghost use Rattle.best_fit.specs.Heap.{IsChanged, IsHeap, has_room, live_of};
@@ -60,33 +60,8 @@ pub fn fit(heap: &mut Heap, place: Place, each: u64)
     }
 }
 
-/// Makes room for `n` elements of `each` bytes in the container at a place: nothing is done where its capacity is `n` or
-/// more, and else its storage is regrown to hold just so many.
-///
-/// # Errors
-///
-/// `NoSpace` where a new block is needed and has no gap that is long enough. Nothing changes.
-pub fn grow(heap: &mut Heap, place: Place, each: u64, n: u64) -> Result<(), Refusal>
-    requires stands { IsStanding heap.old.bytes place each }
-    requires small { each * n < 2 ^ 64 }
-    ensures { Grows heap.old heap.new place each n result }
-{
-    if n <= capacity_of(heap, place) {
-        return Ok(());
-    }
-    let used = each * len_of(heap, place);
-    let storage = link_of(heap, place);
-    match heap.regrow(storage, each * n, used) {
-        Err(NoSpace) => Err(Refusal::NoSpace),
-        Ok(new) => {
-            heap.set_link(place.handle, place.at, Some(new));
-            heap.set_word(place.handle, place.at + CAPACITY, n);
-            Ok(())
-        }
-    }
-}
-
-/// The same for any number of elements of 1 to 4096 bytes.
+/// Makes room for `n` elements of `each` bytes, 1 to 4096, in the container at a place: nothing is done where its capacity
+/// is `n` or more, and else its storage is regrown to hold just so many.
 ///
 /// # Errors
 ///
@@ -100,7 +75,19 @@ pub fn reserve(heap: &mut Heap, place: Place, each: u64, n: u64) -> Result<(), R
     if n > LIMIT {
         return Err(Refusal::NoSpace);
     }
-    grow(heap, place, each, n)
+    if n <= capacity_of(heap, place) {
+        return Ok(());
+    }
+    let used = each * len_of(heap, place);
+    let storage = link_of(heap, place);
+    match heap.regrow(storage, each * n, used) {
+        Err(NoSpace) => Err(Refusal::NoSpace),
+        Ok(new) => {
+            heap.set_link(place.handle, place.at, Some(new));
+            heap.set_word(place.handle, place.at + CAPACITY, n);
+            Ok(())
+        }
+    }
 }
 
 /// The capacity that a container has for one element more.

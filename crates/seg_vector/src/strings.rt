@@ -125,9 +125,10 @@ impl SegString {
         requires { IsSomeText heap.old.bytes self.place }
         ensures { AssignsText heap.old heap.new self.place bytes.now result }
     {
-        sizing::reserve(heap, self.place, 1, bytes.len() as u64)?;
+        let n = bytes.len() as u64;
+        sizing::reserve(heap, self.place, 1, n)?;
         self.clear(heap);
-        extend(heap, self.place, bytes);
+        extend(heap, self.place, 1, n, bytes);
         Ok(())
     }
 
@@ -148,7 +149,7 @@ impl SegString {
         let needed = self.len(heap) + more;
         let wanted = capacity_for_text(needed, self.capacity(heap));
         sizing::reserve(heap, self.place, 1, wanted)?;
-        extend(heap, self.place, bytes);
+        extend(heap, self.place, 1, more, bytes);
         Ok(())
     }
 

@@ -6,10 +6,10 @@ ghost use Rattle.best_fit.specs.Table.{Table as ATable};
 ghost use Rattle.seg_vector.specs.Standing.{place_at};
 ghost use Rattle.seg_vector.specs.VectorCalls.{Assigns, Clears, Counts, CountsPlaces, ErasesFrom, Gets, InsertsInto, IsSomeVector, IsVector, Pops, Pushes, PutsAll, Releases, Reserves, ReservesNothing, Sets, Shrinks, Starts};
 
-use crate::elements::{element, erase_element, truncate};
+use crate::elements::{Spot, element, erase_element, truncate};
 use crate::places::{Place, capacity_of, len_of};
 use crate::sizing::{self, fit, give_back, grow_for_one, start};
-use crate::values::{insert_value, overwrite_value, put_value};
+use crate::values::put_value;
 use best_fit::Heap;
 use seg_types::{Plain, Refusal};
 use std::marker::PhantomData;
@@ -95,7 +95,7 @@ impl<T: Plain> SegVec<T> {
         if index >= self.len(heap) {
             return Err(Refusal::OutOfRange);
         }
-        overwrite_value(heap, self.place, index, value);
+        put_value(heap, self.place, Spot::Over(index), value);
         Ok(())
     }
 
@@ -144,7 +144,7 @@ impl<T: Plain> SegVec<T> {
     {
         let len = self.len(heap);
         grow_for_one(heap, self.place, T::SIZE, len)?;
-        put_value(heap, self.place, value);
+        put_value(heap, self.place, Spot::End, value);
         Ok(())
     }
 
@@ -164,7 +164,7 @@ impl<T: Plain> SegVec<T> {
             return Err(Refusal::OutOfRange);
         }
         grow_for_one(heap, self.place, T::SIZE, len)?;
-        insert_value(heap, self.place, index, value);
+        put_value(heap, self.place, Spot::Before(index), value);
         Ok(())
     }
 
@@ -228,6 +228,6 @@ fn put_all<T: Plain>(heap: &mut Heap, place: Place, values: &[T])
     ensures { PutsAll T.SIZE T.is_value T.spelling heap.old heap.new place values.now }
 {
     for value in values {
-        put_value(heap, place, *value);
+        put_value(heap, place, Spot::End, *value);
     }
 }

@@ -1,23 +1,36 @@
--- The bytes are written, and then the length.
-use Rattle.seg_vector.proofs.{sym, ap, subst, ◌∙◌, ◌+◌, arith, length, current, Has, bytes_of, IsChanged, changed-room}
-use Rattle.seg_vector.proofs.{none-left, capacity-bytes, extended, extended-not, len-read, len-room, some-room}
-use Rattle.seg_vector.proofs.{stands-small}
+-- The elements lie in the storage, and the length in the container's own block.
+use Rattle.seg_vector.proofs.{◌≡◌, sym, ap, subst, ◌∙◌, ◌+◌, ◌*◌, ◌≤◌, ℕ, arith, length, current, Has, bytes_of, IsChanged}
+use Rattle.seg_vector.proofs.{at-least, none-left, capacity-bytes, changed-room, extended, extended-not, len-read, len-room}
+use Rattle.seg_vector.proofs.{more-times, some-room, stands-small}
 use Rattle.seg_vector.proofs.elements.extend.Goals as goal
 
 pub overflow_add-place : goal.overflow_add-place
 overflow_add-place c = let small = stands-small c.requires.stands.1.1.1 in omega arith
 
+pub overflow_mul-each : goal.overflow_mul-each
+overflow_mul-each c =
+    let s = c.requires.stands.1.1.1 in let is = len-read c.len_of-len.result s c.len_of-len.ensures in
+    let small = capacity-bytes c.args.heap.now s.heap s in
+    let less = more-times c.args.each c.len_of-len.result c.requires.stands.1.0.capacity (omega (arith, is, s.fits)) in
+    omega (arith, small, less)
+
 pub write-requires : goal.write-requires
 write-requires c =
     let s = c.requires.stands.1.1.1 in let is = len-read c.len_of-len.result s c.len_of-len.ensures in
-    some-room (c.len_of-len.result + length c.args.bytes.now) s (sym c.link_of.ensures ∙ c.in-Some.is)
-    (omega (arith, is, c.requires.space, s.words.len_word, s.words.capacity))
+    let n : ℕ = c.len_of-len.result + c.args.n in
+    let within : n ≤ c.requires.stands.1.0.capacity =
+    omega (arith, is, c.requires.space, s.words.len_word, s.words.capacity) in
+    let less = more-times c.args.each n c.requires.stands.1.0.capacity within in
+    let step : c.args.each * n ≡ c.args.each * c.len_of-len.result + c.args.each * c.args.n = omega arith in
+    some-room (c.args.each * c.len_of-len.result + length c.args.bytes.now) s (sym c.link_of.ensures ∙ c.in-Some.is)
+    (omega (arith, less, step, c.requires.long))
 
 pub overflow_add-len : goal.overflow_add-len
 overflow_add-len c =
     let s = c.requires.stands.1.1.1 in let is = len-read c.len_of-len.result s c.len_of-len.ensures in
     let small = capacity-bytes c.args.heap.now s.heap s in
-    omega (arith, is, small, c.requires.space, s.words.len_word, s.words.capacity)
+    let least = at-least c.args.each c.requires.stands.1.0.capacity c.requires.some in
+    omega (arith, is, small, least, c.requires.space, s.words.len_word, s.words.capacity)
 
 pub set_word-requires : goal.set_word-requires
 set_word-requires c = changed-room _ _ _ _ _ c.args.place.handle (c.args.place.at + 8 + 8) c.write.ensures.change
@@ -26,15 +39,16 @@ set_word-requires c = changed-room _ _ _ _ _ c.args.place.handle (c.args.place.a
 pub returns-in-Some : goal.returns-in-Some
 returns-in-Some c len t bytes s =
     let is = len-read c.len_of-len.result s c.len_of-len.ensures in
-    extended {old = c.args.heap.now} {s1 = c.write.new.self} {new = c.set_word.new.self} c.args.bytes.now s
-    (omega (arith, c.requires.space, s.words.len_word, s.words.capacity)) (sym c.link_of.ensures ∙ c.in-Some.is)
-    (subst (λ k. IsChanged current c.args.heap.now c.write.new.self (c.in-Some.storage + k) (length c.args.bytes.now))
-    is c.write.ensures.change)
-    (subst (λ k. Has (bytes_of c.write.new.self.bytes) (c.in-Some.storage + k) c.args.bytes.now) is
+    extended {old = c.args.heap.now} {s1 = c.write.new.self} {new = c.set_word.new.self} c.args.n c.args.bytes.now s
+    (omega (arith, c.requires.space, s.words.len_word, s.words.capacity)) c.requires.long
+    (sym c.link_of.ensures ∙ c.in-Some.is)
+    (subst (λ k. IsChanged current c.args.heap.now c.write.new.self (c.in-Some.storage + c.args.each * k)
+    (length c.args.bytes.now)) is c.write.ensures.change)
+    (subst (λ k. Has (bytes_of c.write.new.self.bytes) (c.in-Some.storage + c.args.each * k) c.args.bytes.now) is
     c.write.ensures.content)
-    c.set_word.ensures.change (c.set_word.ensures.word ∙ ap (λ k. k + length c.args.bytes.now) is)
+    c.set_word.ensures.change (c.set_word.ensures.word ∙ ap (λ k. k + c.args.n) is)
 
 pub returns-in_default : goal.returns-in_default
-returns-in_default c len t bytes s = extended-not c.args.heap.now c.args.bytes.now s
-    (omega (arith, c.requires.space, s.words.len_word, s.words.capacity))
+returns-in_default c len t bytes s = extended-not c.args.heap.now c.args.n c.args.bytes.now s
+    (omega (arith, c.requires.space, s.words.len_word, s.words.capacity)) c.requires.long
     (sym c.link_of.ensures ∙ none-left c.link_of.result c.in_default.not-Some)

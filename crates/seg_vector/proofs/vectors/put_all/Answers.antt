@@ -13,8 +13,8 @@ put_value-requires-clause-stands g c =
     let ys = c.requires.0 ++ take c.loop-value.value-index c.args.values.now in
     (length ys, (c.requires.1.0, (flat_map g.T.Plain.spelling ys, w.vector.stands)))
 
-pub put_value-requires-clause-space : goal.put_value-requires-clause-space
-put_value-requires-clause-space g c =
+pub put_value-requires-clause-spot : goal.put_value-requires-clause-spot
+put_value-requires-clause-spot g c =
     let w = c.loop-value.invariant c.requires.0 c.requires.1.0 c.requires.1.1.0 c.requires.1.1.1 in
     let front = take c.loop-value.value-index c.args.values.now in
     let few : length (c.requires.0 ++ front) < c.requires.1.0.capacity =
@@ -39,7 +39,7 @@ loop-value-preserved g c xs t v f =
     subst (λ zs. IsVectorNow g.T.Plain.SIZE g.T.Plain.is_value g.T.Plain.spelling c.args.heap.now c.put_value.new.heap
     c.args.place t zs t) whole (now-then t w.change
     (appended-now c.loop-value.heap c.put_value.new.heap refl w.vector y c.put_value.ensures.value
-    c.put_value.ensures.appended))
+    c.put_value.ensures.put))
 
 pub returns : goal.returns
 returns g c xs t v f =

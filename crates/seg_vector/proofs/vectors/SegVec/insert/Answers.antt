@@ -7,22 +7,21 @@ pub grow_for_one-requires-clause-len : goal.grow_for_one-requires-clause-len
 grow_for_one-requires-clause-len g c = c.len-len.ensures c.requires.0 c.requires.1.0 c.requires.1.1
     ∙ sym c.requires.1.1.stands.words.len_word
 
-pub insert_value-requires-clause-stands : goal.insert_value-requires-clause-stands
-insert_value-requires-clause-stands g c =
+pub put_value-requires-clause-stands : goal.put_value-requires-clause-stands
+put_value-requires-clause-stands g c =
     stands-for-one c.args.heap.now c.grow_for_one.new.heap c.SIZE.ensures c.requires.1.1
     (λ n u bytes s. c.in_ok-grow_for_one.ensures n u bytes s)
 
-pub insert_value-requires-clause-space : goal.insert_value-requires-clause-space
-insert_value-requires-clause-space g c =
-    space-for-one c.args.heap.now c.grow_for_one.new.heap c.SIZE.ensures c.requires.1.1
-    (λ n u bytes s. c.in_ok-grow_for_one.ensures n u bytes s)
-
-pub insert_value-requires-clause-inside : goal.insert_value-requires-clause-inside
-insert_value-requires-clause-inside g c =
+pub put_value-requires-clause-spot : goal.put_value-requires-clause-spot
+put_value-requires-clause-spot g c =
     let v = c.requires.1.1 in
     let grown = grown-of c.args.heap.now c.grow_for_one.new.heap c.SIZE.ensures v capacity_for_one
-    (λ n u bytes s. c.in_ok-grow_for_one.ensures n u bytes s) in
-    omega (arith, c.if-index-len.false, c.len-len.ensures c.requires.0 c.requires.1.0 v, grown.stands.words.len_word)
+    (λ n u bytes s. c.in_ok-grow_for_one.ensures n u bytes s) in (
+      space-for-one c.args.heap.now c.grow_for_one.new.heap c.SIZE.ensures v
+          (λ n u bytes s. c.in_ok-grow_for_one.ensures n u bytes s),
+      omega
+          (arith, c.if-index-len.false, c.len-len.ensures c.requires.0 c.requires.1.0 v, grown.stands.words.len_word),
+    )
 
 pub returns-in_err-grow_for_one : goal.returns-in_err-grow_for_one
 returns-in_err-grow_for_one g c xs t v = let p = err_from_is_err_and c.from_residual.result
@@ -38,7 +37,7 @@ returns g c xs t v =
     (λ n u bytes s. c.in_ok-grow_for_one.ensures n u bytes s) in
     let inside : c.args.index ≤ length xs = omega (arith, c.if-index-len.false, c.len-len.ensures xs t v) in (
       inside,
-      grown-then xs grown (inserted-now c.grow_for_one.new.heap c.insert_value.new.heap refl
+      grown-then xs grown (inserted-now c.grow_for_one.new.heap c.put_value.new.heap refl
           (record { stands = grown.stands; values = v.values }) c.args.index c.args.value g.met.T.Plain.spells
-          inside c.insert_value.ensures.value c.insert_value.ensures.inserted),
+          inside c.put_value.ensures.value c.put_value.ensures.put),
     )

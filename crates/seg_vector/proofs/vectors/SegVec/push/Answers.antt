@@ -12,8 +12,8 @@ put_value-requires-clause-stands g c =
     stands-for-one c.args.heap.now c.grow_for_one.new.heap c.SIZE.ensures c.requires.1.1
     (λ n u bytes s. c.in_ok-grow_for_one.ensures n u bytes s)
 
-pub put_value-requires-clause-space : goal.put_value-requires-clause-space
-put_value-requires-clause-space g c =
+pub put_value-requires-clause-spot : goal.put_value-requires-clause-spot
+put_value-requires-clause-spot g c =
     space-for-one c.args.heap.now c.grow_for_one.new.heap c.SIZE.ensures c.requires.1.1
     (λ n u bytes s. c.in_ok-grow_for_one.ensures n u bytes s)
 
@@ -31,4 +31,4 @@ returns g c xs t v =
     grown-then xs grown
     (appended-now c.grow_for_one.new.heap c.put_value.new.heap refl
     (record { stands = grown.stands; values = v.values }) c.args.value c.put_value.ensures.value
-    c.put_value.ensures.appended)
+    c.put_value.ensures.put)

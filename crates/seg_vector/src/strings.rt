@@ -125,10 +125,10 @@ impl SegString {
         requires { IsSomeText heap.old.bytes self.place }
         ensures { AssignsText heap.old heap.new self.place bytes.now result }
     {
-        let n = bytes.len() as u64;
-        sizing::reserve(heap, self.place, 1, n)?;
+        let len = bytes.len() as u64;
+        sizing::reserve(heap, self.place, 1, len)?;
         self.clear(heap);
-        extend(heap, self.place, 1, n, bytes);
+        extend(heap, self.place, 1, len, bytes);
         Ok(())
     }
 

@@ -18,8 +18,7 @@ use Rattle.seg_vector.proofs.Runs.{none-some, room-head, run-found, run-headed, 
 use Rattle.seg_vector.proofs.Runs.{serves-full, spread-nil, stands-none-of, stands-run, table, table-full}
 use Rattle.seg_vector.proofs.Bytes.{more-times, no-bytes, Has-append, Has-take, Has-drop, Has-beside, Has-patched}
 use Rattle.seg_vector.proofs.Bytes.{length-patch, take-none}
-use Rattle.best_fit.specs.Extents.{is_proper}
-use Rattle.best_fit.specs.Fit.{regrow}
+use Rattle.best_fit.specs.{Extents.is_proper, Fit.regrow}
 use Rattle.seg_vector.specs.Vector.{grown_table}
 
 -- ---- what stands

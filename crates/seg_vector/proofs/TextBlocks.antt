@@ -15,8 +15,7 @@ use W.{SameBut-word, read-part, SameBut-link, Place, IsOwnBlock, place_at, Stand
 use W.{IsHeldElement, AreSameElements, IsSameElement, AreEvenLinks, IsHeldText, IsTexts, text_blocks, IsTextsNow}
 use W.{IsTextElement, AreInArray, IsOwnedText, OwnedText, AreTextLinks, []}
 use Rattle.seg_vector.proofs.Runs.{AreHeadWords, IsHead, IsRun, changed-both, head-exchanged, none-some, same-some}
-use Rattle.seg_vector.proofs.Runs.{serves-full, table, table-full}
-use Rattle.seg_vector.proofs.Storage.{all-found, live-if}
+use Rattle.seg_vector.proofs.{Runs.serves-full, Runs.table, Runs.table-full, Storage.all-found, Storage.live-if}
 use Rattle.seg_vector.proofs.Typed.{has-element}
 use Rattle.best_fit.specs.Extents.{is_proper}
 

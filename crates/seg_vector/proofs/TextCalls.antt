@@ -12,16 +12,14 @@ use W.{still_allocated, SameBlock-trans, rising-others, Storage, shorter, place,
 use W.{Stands, place_at, IsOwnBlock, AreHeldElements, IsSwapped, AreSameElements, IsHeldElement, IsTextPlaced, IsServed}
 use W.{IsTextReplaced, IsTexts, IsTextsNow, text_blocks, IsHeldText, placed_text, AreOthers, AreInArray, IsStorage}
 use W.{OwnedText, AreTextLinks, IsOwnedText, Refusal, IsWithoutFit, []}
-use Rattle.seg_vector.proofs.Fewer.{cut-some}
 use Rattle.seg_vector.proofs.Runs.{AreHeadWords, IsHead, IsRun, beside-head, block-written, head-exchanged, head-kept}
 use Rattle.seg_vector.proofs.Runs.{head-room, head-wider, len-written, none-some, room-head, run-found, run-headed}
-use Rattle.seg_vector.proofs.Runs.{run-swapped, same-some, serves-full, table, table-full, words-kept}
 use Rattle.seg_vector.proofs.TextBlocks.{none-stands, IsArrayLeft, all-split, array-left, drop-at, element-beside}
 use Rattle.seg_vector.proofs.TextBlocks.{element-in, element-trans, even-block, found-texts, held-element, links-join}
 use Rattle.seg_vector.proofs.TextBlocks.{links-moved, links-split, no-array, none-of, of-none, one-of, own-head}
+use Rattle.seg_vector.proofs.{Fewer.cut-some, Typed.set-pieces, Bytes.length-read, Bytes.no-bytes}
+use Rattle.seg_vector.proofs.Runs.{run-swapped, same-some, serves-full, table, table-full, words-kept}
 use Rattle.seg_vector.proofs.TextBlocks.{own_blocks, run-begin, swapped-none, texts-between, texts-own}
-use Rattle.seg_vector.proofs.Typed.{set-pieces}
-use Rattle.seg_vector.proofs.Bytes.{length-read, no-bytes}
 use Rattle.best_fit.specs.Table.{cut_table}
 
 -- ---- the elements of the array

@@ -13,15 +13,13 @@ use W.{IsRefusedPut, IsTextPlaced, IsGivenUp, IsOutside, PutsInto, one_more, IsT
 use W.{IsTextPutIn, placed_text, with_array, AreTextLinks, OwnedText, IsOwnedText, capacity_for_one, exchanged-live, []}
 use Rattle.seg_vector.proofs.Runs.{AreHeadWords, IsHead, IsRun, beside-head, block-written, head-kept, head-wider}
 use Rattle.seg_vector.proofs.Runs.{len-written, none-some, own-facts, run-found, run-headed, run-none, run-swapped}
-use Rattle.seg_vector.proofs.Runs.{same-some, serves-full, table, table-full}
-use Rattle.seg_vector.proofs.Storage.{capacity-bytes, grown-same}
 use Rattle.seg_vector.proofs.TextBlocks.{element-beside, element-in, element-trans, even-block, found-live, found-texts}
 use Rattle.seg_vector.proofs.TextBlocks.{links-at, links-join, links-moved, links-split, one-of, own-head, run-begin}
+use Rattle.seg_vector.proofs.TextGrowth.{grown-to, not-grown, all-beside-head, new-other, IsReadyRun, ready-in, ready}
+use Rattle.seg_vector.proofs.{Runs.same-some, Runs.serves-full, Runs.table, Runs.table-full, Typed.has-element}
+use Rattle.seg_vector.proofs.{Storage.capacity-bytes, Storage.grown-same, TextGrowth.asked-alone, TextGrowth.new-table}
 use Rattle.seg_vector.proofs.TextBlocks.{texts-between, texts-own}
 use Rattle.seg_vector.proofs.TextCalls.{loose-kept, run-others, texts-stand, texts-still}
-use Rattle.seg_vector.proofs.Typed.{has-element}
-use Rattle.seg_vector.proofs.TextGrowth.{grown-to, not-grown, all-beside-head, new-other, IsReadyRun, ready-in, ready}
-use Rattle.seg_vector.proofs.TextGrowth.{asked-alone, new-table}
 use Rattle.best_fit.specs.Fit.{regrow}
 use Rattle.seg_vector.specs.Vector.{grown_table}
 use Rattle.best_fit.specs.Fit as fit

@@ -9,9 +9,8 @@ use W.{IsChanged, IsHeap, has_room, live_of, Table, no_table, Refusal, Place, Er
 use W.{Extends, Fits, GivesBack, Inserts, IsFitted, IsGivenBack, IsRewritten, Overwrites, ReadsOne, Truncates}
 use W.{IsGrown, Grows, IsStanding, Stands, place_at, IsText, IsTextGrown, IsTextNow, capacity_for_one}
 use W.{capacity_for_text, IsVector, IsVectorGrown, IsVectorNow, IsWithoutSpace, Starts, []}
-use Rattle.seg_vector.proofs.Runs.{head-exchanged, same-some, table}
 use Rattle.seg_vector.proofs.Storage.{capacity-bytes, exchange-then, has-place, not-refused, unchanged-rewritten}
-use Rattle.seg_vector.proofs.Storage.{wanted-places}
+use Rattle.seg_vector.proofs.{Runs.head-exchanged, Runs.same-some, Runs.table, Storage.wanted-places}
 use Rattle.best_fit.specs.Table.{cut_table}
 
 -- ---- what holds of each

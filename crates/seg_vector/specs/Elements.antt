@@ -1,14 +1,10 @@
 -- The elements of a container that stands at a place: read, written over, and fewer or more of them in the places that there are.
 use Rattle.std.specs.Prelude.{◌≡◌, ℕ, ◌+◌, ◌-◌, ◌*◌, ◌<◌, ◌≤◌, List, [], ◌++◌, length, take, drop, option_to_list}
-use Rattle.raw_region.specs.Memory.{Cut, bytes_of, part, patched, word_at}
-use Rattle.raw_region.specs.Format.{current}
-use Rattle.best_fit.specs.Exchange.{IsExchanged}
-use Rattle.best_fit.specs.Heap.{live_of}
-use Rattle.best_fit.specs.Table.{Table, cut_table, no_table}
-use Rattle.seg_vector.specs.declared.elements.Spot.{Spot}
+use Rattle.raw_region.specs.{Memory.Cut, Memory.bytes_of, Memory.part, Memory.patched, Memory.word_at, Format.current}
+use Rattle.best_fit.specs.{Exchange.IsExchanged, Heap.live_of, Table.Table, Table.cut_table, Table.no_table}
+use Rattle.seg_vector.specs.{declared.elements.Spot.Spot, Standing.Stands, Standing.place_at}
 use Rattle.seg_vector.specs.declared.elements.Spot.TheVariants.{End, Over, Before}
 use Rattle.seg_vector.specs.declared.places.Place.{Place}
-use Rattle.seg_vector.specs.Standing.{Stands, place_at}
 
 -- the container has other elements in the places that there were; of all other blocks no byte changes but its own 24
 pub record IsRewritten (old new : Cut) (p : Place) (each len : ℕ) (t : Table) (bytes : List ℕ) : Type 0 where

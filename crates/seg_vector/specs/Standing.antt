@@ -1,14 +1,10 @@
 -- A container at a place in a heap: its three words in a block, and its storage, which is a block of its own.
 use Rattle.std.specs.Prelude.{◌≡◌, ◌≢◌, ℕ, ◌+◌, ◌*◌, ◌%◌, ◌≤◌, ⊤, IsTrue, Option, Some, None, Result, MatchResult, List, length, option_to_list}
-use Rattle.raw_region.specs.Memory.{Cut, bytes_of}
+use Rattle.raw_region.specs.{Memory.Cut, Memory.bytes_of, Format.current}
 use Rattle.block_tags.specs.declared.tile.Role.TheVariants.{Storage}
-use Rattle.raw_region.specs.Format.{current}
-use Rattle.best_fit.specs.Exchange.{IsExchanged}
-use Rattle.best_fit.specs.Extents.{Extent, LiveSet, handle}
-use Rattle.best_fit.specs.Heap.{IsHeap, extent_at, has_room, live_of}
-use Rattle.best_fit.specs.Table.{Table, is_table}
-use Rattle.seg_types.specs.declared.refusals.Refusal.{Refusal}
-use Rattle.seg_types.specs.declared.refusals.Refusal.TheVariants.{NoSpace}
+use Rattle.best_fit.specs.{Exchange.IsExchanged, Extents.Extent, Extents.LiveSet, Extents.handle}
+use Rattle.best_fit.specs.{Heap.IsHeap, Heap.extent_at, Heap.has_room, Heap.live_of, Table.Table, Table.is_table}
+use Rattle.seg_types.specs.{declared.refusals.Refusal.Refusal, declared.refusals.Refusal.TheVariants.NoSpace}
 use Rattle.seg_vector.specs.declared.places.Place.{Place}
 use Rattle.seg_vector.specs.Vector.{IsContainerAt, capacity_for_one, grown_table}
 

@@ -1,15 +1,10 @@
 -- A text at a place, and what its calls answer and do: elements of a byte each, under their own bytes.
 use Rattle.std.specs.Prelude.{◌≡◌, ℕ, ◌<◌, ◌≤◌, Some, Result, Ok, MatchResult, List, [], ◌++◌, length, slice_get, slice_set, option_to_list}
-use Rattle.raw_region.specs.Memory.{Cut}
-use Rattle.raw_region.specs.Format.{current}
-use Rattle.best_fit.specs.Exchange.{IsExchanged}
-use Rattle.best_fit.specs.Heap.{live_of}
-use Rattle.best_fit.specs.Table.{Table, cut_table, no_table}
+use Rattle.raw_region.specs.{Memory.Cut, Format.current}
+use Rattle.best_fit.specs.{Exchange.IsExchanged, Heap.live_of, Table.Table, Table.cut_table, Table.no_table}
 use Rattle.seg_types.specs.declared.refusals.Refusal.{Refusal}
-use Rattle.seg_vector.specs.declared.places.Place.{Place}
-use Rattle.seg_vector.specs.Standing.{Stands, place_at}
-use Rattle.seg_vector.specs.Vector.{capacity_for_text, grown_table}
-use Rattle.seg_vector.specs.VectorCalls.{IsOutside, IsWithoutSpace}
+use Rattle.seg_vector.specs.{declared.places.Place.Place, Vector.capacity_for_text, Vector.grown_table}
+use Rattle.seg_vector.specs.{Standing.Stands, Standing.place_at, VectorCalls.IsOutside, VectorCalls.IsWithoutSpace}
 
 -- the text at a place has these bytes
 abbrev pub IsText : List ℕ → Place → List ℕ → Table → Type 0

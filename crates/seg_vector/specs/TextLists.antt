@@ -1,15 +1,11 @@
 -- An array with texts, laid out beside all that a heap holds.
 use Rattle.std.specs.Prelude.{◌≡◌, ℕ, ◌*◌, ◌<◌, ◌≤◌, Some, None, Result, MatchResult, List, [], ◌∷◌, ◌++◌, drop, length, option_map}
 use Rattle.std.specs.List.{AllByRecursion}
-use Rattle.raw_region.specs.Memory.{Cut, bytes_of}
-use Rattle.raw_region.specs.Format.{current}
+use Rattle.raw_region.specs.{Memory.Cut, Memory.bytes_of, Format.current}
 use Rattle.block_tags.specs.declared.tile.Role.TheVariants.{Storage}
 use Rattle.best_fit.specs.Exchange.{IsRestored}
-use Rattle.best_fit.specs.Extents.{Extent, handle}
-use Rattle.best_fit.specs.Fit.{place, resized}
-use Rattle.best_fit.specs.Heap.{extent_at, live_of}
-use Rattle.seg_types.specs.declared.refusals.Refusal.{Refusal}
-use Rattle.seg_types.specs.declared.refusals.Refusal.TheVariants.{NoSpace}
+use Rattle.best_fit.specs.{Extents.Extent, Extents.handle, Fit.place, Fit.resized, Heap.extent_at, Heap.live_of}
+use Rattle.seg_types.specs.{declared.refusals.Refusal.Refusal, declared.refusals.Refusal.TheVariants.NoSpace}
 use Rattle.seg_vector.specs.TextParts.{IsServed, IsSwapped}
 use Rattle.seg_vector.specs.TextsCalls.{all_texts, new_array, placed_texts, text_blocks}
 use Rattle.seg_vector.specs.Vector.{AreTextLinks, IsOwnedText, OwnedText}

@@ -1,21 +1,16 @@
 -- The parts of what the calls of a vector of texts do: elements of an array, and the blocks of texts.
 use Rattle.std.specs.Prelude.{◌≡◌, ◌≢◌, ℕ, ◌+◌, ◌-◌, ◌*◌, ◌%◌, ◌<◌, ◌≤◌, IsTrue, IfSome, Option, Some, None, List, [], ◌∷◌, insert, length, option_map, option_to_list, Result, MatchResult, slice_get}
 use Rattle.std.specs.List.{AllByRecursion}
-use Rattle.raw_region.specs.Memory.{Memory, Cut, bytes_of, word_at}
-use Rattle.raw_region.specs.Format.{current}
+use Rattle.raw_region.specs.{Memory.Memory, Memory.Cut, Memory.bytes_of, Memory.word_at, Format.current}
 use Rattle.offset_link.specs.Link.{link_at}
-use Rattle.best_fit.specs.Exchange.{IsExchanged, IsRestored, IsWidened}
-use Rattle.best_fit.specs.Extents.{Extent, handle}
-use Rattle.best_fit.specs.Fit.{place, regrow}
+use Rattle.best_fit.specs.{Exchange.IsExchanged, Exchange.IsRestored, Exchange.IsWidened, Fit.place, Fit.regrow}
+use Rattle.best_fit.specs.{Extents.Extent, Extents.handle, Table.Table, Table.is_table, Table.serves}
 use Rattle.best_fit.specs.Heap.{IsAllocated, IsChanged, IsHeap, SameBlock, extent_at, has_room, live_of}
-use Rattle.best_fit.specs.Table.{Table, is_table, serves}
 use Rattle.block_tags.specs.declared.tile.Role.TheVariants.{Storage}
-use Rattle.seg_types.specs.declared.refusals.Refusal.{Refusal}
-use Rattle.seg_types.specs.declared.refusals.Refusal.TheVariants.{NoSpace}
-use Rattle.seg_vector.specs.declared.places.Place.{Place}
-use Rattle.seg_vector.specs.TextsCalls.{AreOthers, IsStillAtFirst, IsWithoutFit, IsTextPutIn, IsTexts, IsTextsNow, one_more, placed_text, text_blocks}
-use Rattle.seg_vector.specs.Standing.{place_at}
+use Rattle.seg_types.specs.{declared.refusals.Refusal.Refusal, declared.refusals.Refusal.TheVariants.NoSpace}
+use Rattle.seg_vector.specs.{declared.places.Place.Place, Standing.place_at}
 use Rattle.seg_vector.specs.Vector.{AreTextLinks, IsOwnedText, OwnedText, capacity_for_one, grown_table}
+use Rattle.seg_vector.specs.TextsCalls.{AreOthers, IsStillAtFirst, IsWithoutFit, IsTextPutIn, IsTexts, IsTextsNow, one_more, placed_text, text_blocks}
 
 -- blocks are gone and others came, and nothing in those that stay changes
 abbrev pub IsSwapped : Cut → Cut → List Extent → List Extent → Type 0

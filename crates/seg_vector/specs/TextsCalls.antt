@@ -3,21 +3,15 @@
 use Rattle.std.specs.Prelude.{◌≡◌, ◌≢◌, ℕ, ◌+◌, ◌-◌, ◌*◌, ◌%◌, ◌<◌, ◌≤◌, ◌⊎◌, ⊤, ◌==◌, nat_lt, if◌then◌else◌, IsTrue, Option, Some, None, Result, Ok, MatchResult, List, [], ◌∷◌, ◌++◌, length, insert, remove, flat_map, slice_get, slice_set, option_map, option_to_list}
 use Rattle.std.specs.List.{AllByRecursion}
 use denote.Ref.{Bor}
-use Rattle.raw_region.specs.Memory.{Cut, bytes_of, word_at}
-use Rattle.raw_region.specs.Format.{current}
+use Rattle.raw_region.specs.{Memory.Cut, Memory.bytes_of, Memory.word_at, Format.current}
 use Rattle.block_tags.specs.declared.tile.Role.TheVariants.{Storage}
 use Rattle.offset_link.specs.Link.{link_at}
-use Rattle.best_fit.specs.Exchange.{IsExchanged, IsRestored}
-use Rattle.best_fit.specs.Extents.{Extent, LiveSet, handle}
-use Rattle.best_fit.specs.Fit.{place, resized}
-use Rattle.best_fit.specs.Heap.{IsHeap, extent_at, has_room, live_of}
+use Rattle.best_fit.specs.{Exchange.IsExchanged, Exchange.IsRestored, Extents.Extent, Extents.LiveSet, Extents.handle}
+use Rattle.best_fit.specs.{Fit.place, Fit.resized, Heap.IsHeap, Heap.extent_at, Heap.has_room, Heap.live_of}
 use Rattle.best_fit.specs.Table.{Table, cut_table, is_table, no_table, serves}
-use Rattle.seg_types.specs.declared.refusals.Refusal.{Refusal}
-use Rattle.seg_types.specs.declared.refusals.Refusal.TheVariants.{NoSpace}
-use Rattle.seg_vector.specs.declared.places.Place.{Place}
-use Rattle.seg_vector.specs.Standing.{IsOwnBlock, place_at}
+use Rattle.seg_types.specs.{declared.refusals.Refusal.Refusal, declared.refusals.Refusal.TheVariants.NoSpace}
+use Rattle.seg_vector.specs.{declared.places.Place.Place, Standing.IsOwnBlock, Standing.place_at, VectorCalls.IsOutside}
 use Rattle.seg_vector.specs.Vector.{IsOwnedText, IsTextsAt, OwnedText, capacity_for_one, grown_table}
-use Rattle.seg_vector.specs.VectorCalls.{IsOutside}
 
 -- the blocks of texts
 abbrev pub text_blocks : List OwnedText → List Extent

@@ -4,11 +4,9 @@ use Rattle.std.specs.List.{AllByRecursion, list_all}
 use Rattle.raw_region.specs.Memory.{Memory, Has, word_at}
 use Rattle.offset_link.specs.Link.{link_at}
 use Rattle.block_tags.specs.declared.tile.Role.TheVariants.{Storage}
-use Rattle.best_fit.specs.Extents.{Extent, LiveSet, handle}
-use Rattle.best_fit.specs.Fit.{regrow}
+use Rattle.best_fit.specs.{Extents.Extent, Extents.LiveSet, Extents.handle, Fit.regrow}
 use Rattle.best_fit.specs.Table.{Table, is_table, table_link}
-use Rattle.seg_types.specs.declared.kinds.ScalarKind.{ScalarKind}
-use Rattle.seg_types.specs.Kinds.{spelling}
+use Rattle.seg_types.specs.{declared.kinds.ScalarKind.ScalarKind, Kinds.spelling}
 
 -- the capacity that a vector has for one element more
 abbrev pub capacity_for_one : ℕ → ℕ → ℕ

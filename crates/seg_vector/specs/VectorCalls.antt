@@ -1,17 +1,12 @@
 -- A vector at a place, of any type whose values are spelled by `size` bytes, and what its calls answer and do.
 use Rattle.std.specs.Prelude.{◌≡◌, ℕ, ◌+◌, ◌-◌, ◌<◌, ◌≤◌, ◌⊎◌, Bool, IsTrue, Some, None, Result, Ok, MatchResult, List, [], ◌∷◌, ◌++◌, length, take, insert, remove, slice_get, slice_set, flat_map, option_to_list}
 use Rattle.std.specs.List.{list_all}
-use Rattle.raw_region.specs.Memory.{Cut}
-use Rattle.raw_region.specs.Format.{current}
-use Rattle.best_fit.specs.Exchange.{IsExchanged}
-use Rattle.best_fit.specs.Heap.{live_of}
-use Rattle.best_fit.specs.Table.{Table, cut_table, no_table}
-use Rattle.seg_types.specs.declared.refusals.Refusal.{Refusal}
-use Rattle.seg_types.specs.declared.refusals.Refusal.TheVariants.{OutOfRange}
+use Rattle.raw_region.specs.{Memory.Cut, Format.current}
+use Rattle.best_fit.specs.{Exchange.IsExchanged, Heap.live_of, Table.Table, Table.cut_table, Table.no_table}
+use Rattle.seg_types.specs.{declared.refusals.Refusal.Refusal, declared.refusals.Refusal.TheVariants.OutOfRange}
 use Rattle.seg_vector.specs.declared.places.Place.{Place}
+use Rattle.seg_vector.specs.{Standing.Stands, Standing.place_at, Vector.capacity_for_one, Vector.grown_table}
 pub use Rattle.seg_vector.specs.Standing.{IsWithoutSpace}
-use Rattle.seg_vector.specs.Standing.{Stands, place_at}
-use Rattle.seg_vector.specs.Vector.{capacity_for_one, grown_table}
 
 -- the vector at a place has these elements
 pub record IsVector {T : Type 0} (size : ℕ) (is_value : T → Bool) (spelling : T → List ℕ) (b : List ℕ) (p : Place) (xs : List T) (t : Table) : Type 0 where

@@ -1,12 +1,10 @@
 //! The blocks of the texts of a vector, and those of other texts: these are laid out while those that they replace are in use.
 ghost use Rattle.std.specs.Prelude.{ℕ, ◌*◌, ◌<◌, IsTrue, List, [], length, map, option_to_list};
 ghost use Rattle.raw_region.specs.Format.{current};
-ghost use Rattle.best_fit.specs.Heap.{IsHeap, has_room, live_of};
-ghost use Rattle.best_fit.specs.Table.{Table as ATable};
-ghost use Rattle.seg_vector.specs.TextLists.{LaysOut, LaysTexts};
+ghost use Rattle.best_fit.specs.{Heap.IsHeap, Heap.has_room, Heap.live_of, Table.Table as ATable};
+ghost use Rattle.seg_vector.specs.{TextLists.LaysOut, TextLists.LaysTexts, Vector.OwnedText};
 ghost use Rattle.seg_vector.specs.TextParts.{AreHeldElements, IsHeldElement, IsSwapped, PlacesText, TakesStorage};
 ghost use Rattle.seg_vector.specs.TextsCalls.{IsSomeTexts, IsTexts, text_blocks};
-ghost use Rattle.seg_vector.specs.Vector.{OwnedText};
 
 use crate::places::{ELEMENT, Place, len_of, link_of};
 use crate::sizing::LIMIT;

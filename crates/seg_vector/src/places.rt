@@ -1,7 +1,6 @@
 //! Where a container stands, and what its three words say.
 ghost use Rattle.std.specs.Prelude.{◌≡◌, ◌+◌, ◌%◌, IsTrue};
-ghost use Rattle.raw_region.specs.Format.{current};
-ghost use Rattle.raw_region.specs.Memory.{bytes_of, word_at};
+ghost use Rattle.raw_region.specs.{Format.current, Memory.bytes_of, Memory.word_at};
 ghost use Rattle.offset_link.specs.Link.{link_at};
 ghost use Rattle.best_fit.specs.Heap.{IsHeap, has_room, live_of};
 ghost use Rattle.seg_vector.specs.Standing.{place_at};

@@ -1,12 +1,9 @@
 //! The storage of a container at a place: it has none at the beginning, gets more of it, has it cut, and gives it back.
 ghost use Rattle.std.specs.Prelude.{◌≡◌, ℕ, ◌+◌, ◌*◌, ◌%◌, ◌<◌, ◌≤◌, IsTrue, []};
-ghost use Rattle.raw_region.specs.Format.{current};
-ghost use Rattle.raw_region.specs.Memory.{bytes_of, word_at};
-ghost use Rattle.best_fit.specs.Heap.{IsChanged, IsHeap, has_room, live_of};
-ghost use Rattle.best_fit.specs.Table.{no_table};
-ghost use Rattle.seg_vector.specs.Elements.{Fits, GivesBack};
+ghost use Rattle.raw_region.specs.{Format.current, Memory.bytes_of, Memory.word_at};
+ghost use Rattle.best_fit.specs.{Heap.IsChanged, Heap.IsHeap, Heap.has_room, Heap.live_of, Table.no_table};
+ghost use Rattle.seg_vector.specs.{Elements.Fits, Elements.GivesBack, Vector.capacity_for_one as places_for_one};
 ghost use Rattle.seg_vector.specs.Standing.{Grows, GrowsForOne, IsStanding, Stands, place_at};
-ghost use Rattle.seg_vector.specs.Vector.{capacity_for_one as places_for_one};
 
 use crate::places::{CAPACITY, LEN, Place, capacity_of, len_of, link_of};
 use best_fit::{Heap, NoSpace};

@@ -2,9 +2,8 @@
 ghost use Rattle.std.specs.Prelude.{◌≡◌, ◌+◌, ◌*◌, ◌%◌, ◌<◌, ◌≤◌, IsTrue};
 ghost use Rattle.raw_region.specs.Format.{current};
 ghost use Rattle.best_fit.specs.Heap.{IsChanged, IsHeap, has_room, live_of};
-ghost use Rattle.seg_vector.specs.Standing.{place_at};
+ghost use Rattle.seg_vector.specs.{Standing.place_at, Vector.capacity_for_text as places_for_text};
 ghost use Rattle.seg_vector.specs.TextCalls.{AppendsText, AssignsText, ClearsText, CountsBytePlaces, CountsBytes, GetsByte, IsSomeText, ReadsText, ReleasesText, ReservesBytes, ReservesNoBytes, SetsByte, ShrinksText, StartsText};
-ghost use Rattle.seg_vector.specs.Vector.{capacity_for_text as places_for_text};
 
 use crate::elements::{elements, extend, set_element, truncate};
 use crate::places::{Place, capacity_of, len_of};

@@ -1,8 +1,7 @@
 //! The array of a vector of texts: elements of a link, which is a distance, and a length. They are moved as a link and a word,
 //! within it and to one with more places.
 ghost use Rattle.std.specs.Prelude.{◌≡◌, ◌+◌, ◌*◌, ◌%◌, ◌^◌, ◌<◌, ◌≤◌, ◌⊎◌, IfSome, IsTrue, true, false};
-ghost use Rattle.raw_region.specs.Format.{current};
-ghost use Rattle.raw_region.specs.Memory.{bytes_of, word_at};
+ghost use Rattle.raw_region.specs.{Format.current, Memory.bytes_of, Memory.word_at};
 ghost use Rattle.offset_link.specs.Link.{link_at};
 ghost use Rattle.best_fit.specs.Exchange.{IsNotWidened, IsWidened};
 ghost use Rattle.best_fit.specs.Heap.{IsChanged, IsHeap, has_room, is_live_in, live_of};

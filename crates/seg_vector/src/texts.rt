@@ -1,12 +1,9 @@
 //! Vectors of texts: an array of links and lengths, and a block for each text that is not empty.
 ghost use Rattle.std.specs.Prelude.{◌≡◌, ◌+◌, ◌%◌, ◌<◌, None, IfSome, IsTrue, List, length, map};
 ghost use Rattle.raw_region.specs.Format.{current};
-ghost use Rattle.best_fit.specs.Heap.{IsChanged, IsHeap, has_room, live_of};
-ghost use Rattle.best_fit.specs.Table.{Table as ATable};
-ghost use Rattle.seg_vector.specs.Standing.{place_at};
-ghost use Rattle.seg_vector.specs.TextParts.{ReplacesText};
+ghost use Rattle.best_fit.specs.{Heap.IsChanged, Heap.IsHeap, Heap.has_room, Heap.live_of, Table.Table as ATable};
+ghost use Rattle.seg_vector.specs.{Standing.place_at, TextParts.ReplacesText, Vector.OwnedText};
 ghost use Rattle.seg_vector.specs.TextsCalls.{AssignsTexts, ClearsTexts, CountsTextPlaces, CountsTexts, ErasesText, GetsText, InsertsText, IsSomeTexts, IsTextElement, IsTexts, PopsText, PushesText, ReleasesTexts, ReservesNoTexts, ReservesTexts, SetsText, ShrinksTexts, StartsTexts, StaysAtFirst, new_array};
-ghost use Rattle.seg_vector.specs.Vector.{OwnedText};
 
 use crate::owning::{lay_out, place_text, release_all, release_text};
 use crate::places::{ELEMENT, LEN, Place, capacity_of, len_of, link_of};

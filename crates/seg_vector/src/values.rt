@@ -1,7 +1,6 @@
 //! Values put among the elements of a container, in the places that there are.
 ghost use Rattle.std.specs.Prelude.{◌≡◌, ◌≤◌, true};
-ghost use Rattle.seg_vector.specs.Elements.{HasSpot, PutsAt};
-ghost use Rattle.seg_vector.specs.Standing.{IsStanding};
+ghost use Rattle.seg_vector.specs.{Elements.HasSpot, Elements.PutsAt, Standing.IsStanding};
 
 use crate::elements::{Spot, put_at};
 use crate::places::Place;

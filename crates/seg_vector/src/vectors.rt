@@ -1,8 +1,7 @@
 //! Vectors of values of a fixed number of bytes.
 ghost use Rattle.std.specs.Prelude.{◌≡◌, ◌+◌, ◌%◌, ◌≤◌, ◌++◌, IsTrue, List, length};
 ghost use Rattle.raw_region.specs.Format.{current};
-ghost use Rattle.best_fit.specs.Heap.{IsChanged, IsHeap, has_room, live_of};
-ghost use Rattle.best_fit.specs.Table.{Table as ATable};
+ghost use Rattle.best_fit.specs.{Heap.IsChanged, Heap.IsHeap, Heap.has_room, Heap.live_of, Table.Table as ATable};
 ghost use Rattle.seg_vector.specs.Standing.{place_at};
 ghost use Rattle.seg_vector.specs.VectorCalls.{Assigns, Clears, Counts, CountsPlaces, ErasesFrom, Gets, InsertsInto, IsSomeVector, IsVector, Pops, Pushes, PutsAll, Releases, Reserves, ReservesNothing, Sets, Shrinks, Starts};
 

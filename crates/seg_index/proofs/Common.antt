@@ -1,16 +1,13 @@
 -- The names that most proofs cite, passed on from one place.
-pub use Rattle.std.proofs.Common.{Bool, IsTrue, List, [], ap, ap₂, arith, bit_and, false, get_or, inl, inr, length}
-pub use Rattle.std.proofs.Common.{min, refl, subst, suc, sym, true, zero, ℕ, ◌%◌, ◌*◌, ◌+◌, ◌-◌, ◌/◌, ◌<◌, ◌==◌, ◌^◌}
-pub use Rattle.std.proofs.Common.{◌∙◌, ◌∷◌, ◌≡◌, ◌≢◌, ◌≤◌}
+pub use Rattle.std.proofs.Common.{Bool, IsTrue, List, [], ap, ap₂, arith, bit_and, false, get_or, inl, inr, length, min}
+pub use Rattle.std.proofs.Common.{refl, subst, suc, sym, true, zero, ℕ, ◌%◌, ◌*◌, ◌+◌, ◌-◌, ◌/◌, ◌<◌, ◌==◌, ◌^◌, ◌∙◌}
+pub use Rattle.std.proofs.{Common.◌∷◌, Common.◌≡◌, Common.◌≢◌, Common.◌≤◌, lemmas.Cmp.nat_list_cmp_total}
 pub use Rattle.std.proofs.lemmas.Bool.{and_from, and_parts, cases_lt, leb-true}
-pub use Rattle.std.proofs.lemmas.Cmp.{nat_list_cmp_total}
 pub use Rattle.std.proofs.lemmas.List.Edits.{length-insert, length-remove}
 pub use Rattle.std.proofs.lemmas.Option.{none-some, same_Some, slice_get-get_or}
-pub use Rattle.std.specs.Cmp.Lexicographic.{slice_cmp}
-pub use Rattle.std.specs.List.{AllByRecursion, slice_range}
-pub use Rattle.std.specs.Ordering.{nat_cmp, ordering_reverse}
+pub use Rattle.std.specs.{Cmp.Lexicographic.slice_cmp, declared.cmp.Ordering.Ordering}
+pub use Rattle.std.specs.{List.AllByRecursion, List.slice_range, Ordering.nat_cmp, Ordering.ordering_reverse}
 pub use Rattle.std.specs.Prelude.{IfSome, None, Option, Some, insert, nat_lt, remove, slice_get, unwrap_or}
-pub use Rattle.std.specs.declared.cmp.Ordering.{Ordering}
 pub use Rattle.std.specs.declared.cmp.Ordering.TheVariants.{Equal, Greater, Less}
 pub use Rattle.best_fit.proofs.Laws.{allocated-live, among, changed-keeps, found-less, found-new, found-room}
 pub use Rattle.best_fit.proofs.Laws.{laid-heap, live-rises, released-live, rising-insert, room-less, room_block}
@@ -23,20 +20,15 @@ pub use Rattle.block_tags.specs.declared.tile.Role.{Role}
 pub use Rattle.byteorder.specs.Endian.{big_number}
 pub use Rattle.link_tree.specs.Tree.{bits}
 pub use Rattle.offset_link.proofs.Laws.{Same-link, SameBut-link}
-pub use Rattle.offset_link.specs.Link.{link_at}
-pub use Rattle.offset_link.specs.Relinked.{AllLead, KeepTargets}
+pub use Rattle.offset_link.specs.{Link.link_at, Relinked.AllLead, Relinked.KeepTargets}
 pub use Rattle.raw_region.proofs.Laws.{Same-part, Same-word, SameBut-word, SamePlace-trans}
-pub use Rattle.raw_region.specs.Format.{current}
-pub use Rattle.raw_region.specs.Memory.{Cut, Memory, Same, bytes_of, read}
+pub use Rattle.raw_region.specs.{Format.current, Memory.Cut, Memory.Memory, Memory.Same, Memory.bytes_of, Memory.read}
 unfoldable pub use Rattle.raw_region.specs.Memory.{word_at}
-pub use Rattle.seg_index.specs.Beginnings.{AreBytes, front}
+pub use Rattle.seg_index.specs.{Beginnings.AreBytes, Beginnings.front, Held.IsIndexOf, Held.capacity_at, Held.place_of}
 pub use Rattle.seg_index.specs.Comparing.{HasEntry, comparisons_in, middle, order_at}
-unfoldable pub use Rattle.seg_index.specs.Comparing.{comparisons_among}
 pub use Rattle.seg_index.specs.Growth.{IsBlockFor, KeepsRest, beside_table, unlinked, without_link}
-pub use Rattle.seg_index.specs.Held.{IsIndexOf, capacity_at, place_of}
-pub use Rattle.seg_index.specs.Index.{AreEntries, AreLinks, grown_capacity}
-pub use Rattle.seg_index.specs.Keys.{name_at, name_len_at}
-pub use Rattle.seg_index.specs.Lookups.{AreKeys, IsPlaceIn, order}
+pub use Rattle.seg_index.specs.{Index.AreEntries, Index.AreLinks, Index.grown_capacity, Keys.name_at, Keys.name_len_at}
+pub use Rattle.seg_index.specs.{Lookups.AreKeys, Lookups.IsPlaceIn, Lookups.order, declared.keys.Lookup.Lookup}
 pub use Rattle.seg_index.specs.declared.keys.Key.{Key}
-pub use Rattle.seg_index.specs.declared.keys.Lookup.{Lookup}
 pub use Rattle.seg_index.specs.declared.keys.Lookup.TheVariants.{Absent, Found}
+unfoldable pub use Rattle.seg_index.specs.Comparing.{comparisons_among}

@@ -1,9 +1,8 @@
 -- How many comparisons a search has made, and how many are left.
 use Rattle.seg_index.proofs.Common.{◌≡◌, refl, sym, ap, ◌∙◌, ℕ, zero, suc, ◌+◌, ◌-◌, ◌/◌, ◌<◌, ◌≤◌, inl, inr, Bool}
 use Rattle.seg_index.proofs.Common.{true, false, arith, cases_lt, Ordering, Less, Equal, Greater, bits}
-use Rattle.seg_index.proofs.Common.{comparisons_among, middle}
+use Rattle.seg_index.proofs.{Common.comparisons_among, Common.middle, Orders.bits_half}
 use Rattle.std.proofs.Common.{lt-ltb, le-ltb}
-use Rattle.seg_index.proofs.Orders.{bits_half}
 
 -- ---- one turn of a search
 

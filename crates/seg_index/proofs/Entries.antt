@@ -3,18 +3,15 @@ use Rattle.seg_index.proofs.Common.{◌≡◌, refl, sym, ap, subst, ◌∙◌, 
 use Rattle.seg_index.proofs.Common.{get_or, Option, Some, None, slice_get, unwrap_or, nat_lt, and_parts, leb-true}
 use Rattle.seg_index.proofs.Common.{none-some, same_Some, slice_get-get_or, Cut, Memory, bytes_of, word_at, link_at}
 use Rattle.seg_index.proofs.Common.{Extent, handle, holds, others, extent_at, has_room, live_of, Table, same_role}
-use Rattle.seg_index.proofs.Common.{serves, found-room, room-less, Key, Lookup, Found, Absent, comparisons_in}
-use Rattle.seg_index.proofs.Common.{order_at, beside_table, IsIndexOf, place_of, AreLinks, AreKeys, IsPlaceIn, order}
-use Rattle.std.proofs.lemmas.Bool.{eqb-true}
-use Rattle.std.proofs.lemmas.Option.{slice_get_within}
+use Rattle.seg_index.proofs.Common.{serves, found-room, room-less, Key, Lookup, Found, Absent, comparisons_in, order_at}
+use Rattle.seg_index.proofs.Common.{beside_table, IsIndexOf, place_of, AreLinks, AreKeys, IsPlaceIn, order}
+use Rattle.seg_index.proofs.Counting.{none_left, same_comparisons}
+use Rattle.seg_index.proofs.{Links.all_at, Links.at_links, Links.entry_here, Links.links_at, Rooms.Inside, Rooms.inside}
+use Rattle.std.proofs.{lemmas.Bool.eqb-true, lemmas.Option.slice_get_within}
 use Rattle.block_tags.specs.declared.tile.Role.TheVariants.{Index as IndexRole}
-use Rattle.seg_index.specs.declared.index.Index.{Index}
+use Rattle.seg_index.specs.{declared.index.Index.Index, Lookups.HasKey, Lookups.HasKeys, Lookups.IsPlace}
 use Rattle.seg_index.specs.declared.index.Index.TheVariants.{Named, Unique}
 use Rattle.seg_index.specs.Comparing.{comparisons}
-use Rattle.seg_index.specs.Lookups.{HasKey, HasKeys, IsPlace}
-use Rattle.seg_index.proofs.Counting.{none_left, same_comparisons}
-use Rattle.seg_index.proofs.Links.{all_at, at_links, entry_here, links_at}
-use Rattle.seg_index.proofs.Rooms.{Inside, inside}
 
 -- ---- the place of an index
 

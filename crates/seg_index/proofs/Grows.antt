@@ -2,15 +2,11 @@
 use Rattle.seg_index.proofs.Common.{◌≡◌, refl, sym, ap, subst, ◌∙◌, ℕ, ◌+◌, ◌*◌, ◌<◌, ◌≤◌, List, arith, IsTrue, Option}
 use Rattle.seg_index.proofs.Common.{Some, None, current, Cut, Same, bytes_of, Same-word, Role, link_at, Same-link}
 use Rattle.seg_index.proofs.Common.{Extent, LiveSet, IsAllocated, IsChanged, IsReleased, extent_at, has_room, live_of}
-use Rattle.seg_index.proofs.Common.{Table, changed-keeps, found-less, released-live, IsBlockFor, IsIndexOf}
-use Rattle.seg_index.proofs.Common.{capacity_at, grown_capacity}
+use Rattle.seg_index.proofs.Common.{Table, changed-keeps, found-less, released-live, IsBlockFor, IsIndexOf, capacity_at}
+use Rattle.seg_index.proofs.{Common.grown_capacity, Changing.same_live, Entries.InHeader}
+use Rattle.seg_index.proofs.{Requested.not_its_own, Requested.taken_block, Staying.found_still, Staying.other_block}
 use Rattle.block_tags.specs.declared.tile.Role.TheVariants.{Index as IndexRole}
-use Rattle.seg_index.specs.Growth.{CanGrow, IsGrowth}
-use Rattle.seg_index.specs.Held.{entry_count}
-use Rattle.seg_index.proofs.Changing.{same_live}
-use Rattle.seg_index.proofs.Entries.{InHeader}
-use Rattle.seg_index.proofs.Requested.{not_its_own, taken_block}
-use Rattle.seg_index.proofs.Staying.{found_still, other_block}
+use Rattle.seg_index.specs.{Growth.CanGrow, Growth.IsGrowth, Held.entry_count}
 
 -- the words of an index
 record Words (a b : Cut) (at : ℕ) : Type 0 where
@@ -52,15 +48,15 @@ pub taken : {a b : Cut} {at n h : ℕ} {role : Role} (g : Option ℕ) → CanGro
     → InHeader at → CanGrow b at g
 taken {a} {b} g can d w = still_grows g (words_in a b d.keeps.behind w) (λ k x q e. found_still k x d e) can
 
-pub released : {a b : Cut} {at h : ℕ} (g : Option ℕ) → CanGrow a at g → IsReleased current a b h → (g ≡ Some h → ⊥)
+pub growth-released : {a b : Cut} {at h : ℕ} (g : Option ℕ) → CanGrow a at g → IsReleased current a b h → (g ≡ Some h → ⊥)
     → InHeader at → CanGrow b at g
-released {a} {b} {h = h} g can d other w = still_grows g (words_in a b d.keeps.behind w) (λ k x q e.
+growth-released {a} {b} {h = h} g can d other w = still_grows g (words_in a b d.keeps.behind w) (λ k x q e.
     ap (λ (l : LiveSet). extent_at l k) (released-live current a b h d)
     ∙ found-less k h x (live_of a.bytes).extents (other_block g q other) e) can
 
-pub written : {a b : Cut} {at n : ℕ} (g : Option ℕ) (h k : ℕ) → CanGrow a at g → IsChanged current a b (h + k) n
+pub growth-written : {a b : Cut} {at n : ℕ} (g : Option ℕ) (h k : ℕ) → CanGrow a at g → IsChanged current a b (h + k) n
     → IsTrue (has_room (live_of a.bytes) h (k + n)) → InHeader at → CanGrow b at g
-written {a} {b} {n = n} g h k can d room w =
+growth-written {a} {b} {n = n} g h k can d room w =
     let keeps = changed-keeps current a b h k n d room in
     still_grows g (words_in a b keeps.behind w)
     (λ j x q e. ap (λ (l : LiveSet). extent_at l j) (same_live d) ∙ e) can

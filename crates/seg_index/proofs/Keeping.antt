@@ -2,12 +2,9 @@
 use Rattle.seg_index.proofs.Common.{◌≡◌, ap, subst, ◌∙◌, ℕ, ◌+◌, ◌≤◌, inl, inr, List, arith, IsTrue, AllByRecursion}
 use Rattle.seg_index.proofs.Common.{Option, Some, None, current, Cut, bytes_of, Same-part, SamePlace-trans, Extent}
 use Rattle.seg_index.proofs.Common.{LiveSet, others, IsChanged, Keeps, SameBlock, has_room, live_of, changed-keeps}
-use Rattle.seg_index.proofs.Common.{KeepsRest, without_link}
+use Rattle.seg_index.proofs.{Common.KeepsRest, Common.without_link, Changing.same_live, Entries.InHeader}
 use Rattle.raw_region.proofs.Laws.{Same-trans, SameBut-Same}
-use Rattle.best_fit.proofs.Laws.{AllByRecursion-others, blocks-trans, changed-header_blocks}
-use Rattle.best_fit.proofs.Laws.{others-comm}
-use Rattle.seg_index.proofs.Changing.{same_live}
-use Rattle.seg_index.proofs.Entries.{InHeader}
+use Rattle.best_fit.proofs.Laws.{AllByRecursion-others, blocks-trans, changed-header_blocks, others-comm}
 
 abbrev AllSame : Cut → Cut → List Extent → Type 0
 AllSame a b = AllByRecursion (SameBlock (bytes_of a.bytes) (bytes_of b.bytes))

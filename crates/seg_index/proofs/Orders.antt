@@ -2,13 +2,11 @@
 use Rattle.seg_index.proofs.Common.{◌≡◌, ap, ◌∙◌, ℕ, ◌+◌, ◌/◌, ◌<◌, ◌≤◌, ◌^◌, arith, ordering_reverse, Ordering, Less}
 use Rattle.seg_index.proofs.Common.{Greater, nat_list_cmp_total, bits, Memory, Key, order, name_at}
 use Rattle.std.specs.Cmp.{IsTotalOrder}
-use Rattle.std.proofs.lemmas.Cmp.{nat_cmp_total}
-use Rattle.std.proofs.lemmas.Int.Digits.{length-digits_of_step}
+use Rattle.std.proofs.{lemmas.Cmp.nat_cmp_total, lemmas.Int.Digits.length-digits_of_step}
 use Rattle.best_fit.proofs.Laws.{bits-le}
 use Rattle.link_tree.proofs.Laws.{bits_most}
-use Rattle.seg_index.specs.declared.keys.Key.TheVariants.{Name, Code}
+use Rattle.seg_index.specs.{declared.keys.Key.TheVariants.Name, declared.keys.Key.TheVariants.Code, Keys.code_at}
 use Rattle.seg_index.specs.Lookups.{order_of_two}
-use Rattle.seg_index.specs.Keys.{code_at}
 
 greater_on : {K : Type 0} {R : K → K → Ordering} → IsTotalOrder R → (x y z : K) → R x y ≡ Less → R x z ≡ Greater
     → R y z ≡ Greater

@@ -3,12 +3,10 @@ use Rattle.seg_index.proofs.Common.{◌≡◌, sym, ap, subst, ◌∙◌, ℕ, �
 use Rattle.seg_index.proofs.Common.{Some, cases_lt, none-some, current, Cut, bytes_of, Role, link_at, Extent, LiveSet}
 use Rattle.seg_index.proofs.Common.{added, place, IsAllocated, IsHeap, extent_at, live_of, Table, serves}
 use Rattle.seg_index.proofs.Common.{allocated-live, found-new, live-rises, rising-insert, IsBlockFor, IsIndexOf}
+use Rattle.seg_index.proofs.{Entries.placed, Rooms.all_found, Rooms.first}
 use Rattle.block_tags.specs.declared.tile.Role.TheVariants.{Index as IndexRole}
 use Rattle.best_fit.specs.Fit.{insert}
-use Rattle.best_fit.proofs.Laws.{IsFresh, place-serves}
-use Rattle.best_fit.proofs.Laws.{too_long}
-use Rattle.seg_index.proofs.Entries.{placed}
-use Rattle.seg_index.proofs.Rooms.{all_found, first}
+use Rattle.best_fit.proofs.Laws.{IsFresh, place-serves, too_long}
 
 -- ---- what it is
 

@@ -4,8 +4,7 @@ use Rattle.seg_index.proofs.Common.{IsTrue, ◌==◌, AllByRecursion, Option, So
 use Rattle.seg_index.proofs.Common.{Extent, LiveSet, handle, IsHeap, extent_at, has_room, is_live_in, live_of, among}
 use Rattle.seg_index.proofs.Common.{live-rises, room_block}
 use Rattle.std.proofs.Common.{◌||◌, cond}
-use Rattle.std.specs.List.{list_any}
-use Rattle.std.specs.Prelude.{find}
+use Rattle.std.specs.{List.list_any, Prelude.find}
 
 -- the first extent of a handle
 abbrev pub first : ℕ → List Extent → Option Extent

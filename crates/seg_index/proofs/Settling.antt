@@ -1,24 +1,23 @@
 -- An index that goes into another block.
-use Rattle.seg_index.proofs.Common.{◌≡◌, refl, sym, ap, ap₂, subst, ◌∙◌, ℕ, ◌+◌, ◌-◌, ◌*◌, ◌%◌, ◌^◌, ◌<◌, ◌≤◌, min}
-use Rattle.seg_index.proofs.Common.{inl, inr, List, [], ◌∷◌, length, arith, IsTrue, Option, Some, None, IfSome, insert}
+use Rattle.seg_index.proofs.Common.{◌≡◌, refl, sym, ap, ap₂, subst, ◌∙◌, ℕ, ◌+◌, ◌-◌, ◌*◌, ◌%◌, ◌^◌, ◌<◌, ◌≤◌, min, inl}
+use Rattle.seg_index.proofs.Common.{inr, List, [], ◌∷◌, length, arith, IsTrue, Option, Some, None, IfSome, insert}
 use Rattle.seg_index.proofs.Common.{nat_lt, unwrap_or, AllByRecursion, and_from, and_parts, leb-true, same_Some}
 use Rattle.seg_index.proofs.Common.{current, Cut, Memory, bytes_of, word_at, SameBut-word, Role, link_at, KeepTargets}
 use Rattle.seg_index.proofs.Common.{SameBut-link, Extent, LiveSet, handle, holds, others, IsAllocated, IsChanged}
 use Rattle.seg_index.proofs.Common.{IsHeap, IsReleased, extent_at, has_room, is_live_in, live_of, Table, same_role}
 use Rattle.seg_index.proofs.Common.{serves, found-room, room-less, room_block, IsBlockFor, KeepsRest, unlinked}
+use Rattle.seg_index.proofs.Keeping.{keeps_words, keeps_written, others_without, rest_of, rest_others, rest_trans}
 use Rattle.seg_index.proofs.Common.{without_link, IsIndexOf, AreLinks}
+use Rattle.seg_index.proofs.Changing.{changed_heap, changed_trans, same_live, taken_others}
+use Rattle.seg_index.proofs.Entries.{InHeader, leads_from, no_entries, placed}
+use Rattle.seg_index.proofs.{Keeping.rest_without, Staying.still_released, Staying.still_taken, Staying.still_written}
+use Rattle.seg_index.proofs.Links.{entry_here, insert_links, links_moved}
+use Rattle.seg_index.proofs.Requested.{meant, not_its_own, taken_block}
+use Rattle.seg_index.proofs.Rooms.{found_handle, found_live, inside}
 use Rattle.std.proofs.lemmas.Bool.{lt-ltb}
 use Rattle.block_tags.specs.declared.tile.Role.TheVariants.{Index as IndexRole}
 use Rattle.best_fit.proofs.Laws.{block_aligned}
 use Rattle.seg_index.specs.Held.{IsIndexIn}
-use Rattle.seg_index.proofs.Changing.{changed_heap, changed_trans, same_live, taken_others}
-use Rattle.seg_index.proofs.Entries.{InHeader, leads_from, no_entries, placed}
-use Rattle.seg_index.proofs.Keeping.{keeps_words, keeps_written, others_without, rest_of, rest_others, rest_trans}
-use Rattle.seg_index.proofs.Keeping.{rest_without}
-use Rattle.seg_index.proofs.Links.{entry_here, insert_links, links_moved}
-use Rattle.seg_index.proofs.Requested.{meant, not_its_own, taken_block}
-use Rattle.seg_index.proofs.Rooms.{found_handle, found_live, inside}
-use Rattle.seg_index.proofs.Staying.{still_released, still_taken, still_written}
 
 -- ---- a block that is offered
 

@@ -1,26 +1,21 @@
 -- An index whose capacity becomes the number of its entries.
-use Rattle.seg_index.proofs.Common.{◌≡◌, refl, sym, ap, subst, ◌∙◌, ℕ, ◌+◌, ◌*◌, ◌%◌, ◌≤◌, inl, inr, min, List, []}
-use Rattle.seg_index.proofs.Common.{◌∷◌, length, arith, IsTrue, ◌==◌, Option, Some, None, nat_lt, AllByRecursion}
-use Rattle.seg_index.proofs.Common.{and_from, and_parts, leb-true, none-some, same_Some, current, Cut, bytes_of}
-use Rattle.seg_index.proofs.Common.{word_at, Same-word, SameBut-word, Role, link_at, Same-link, SameBut-link, Extent}
-use Rattle.seg_index.proofs.Common.{LiveSet, handle, holds, others, released, IsChanged, IsReleased, LaysOut}
-use Rattle.seg_index.proofs.Common.{extent_at, live_of, Table, same_role, serves, among, found-new, laid-heap}
-use Rattle.seg_index.proofs.Common.{live-rises, rising-insert, KeepsRest, IsIndexOf, AreLinks}
+use Rattle.seg_index.proofs.Common.{◌≡◌, refl, sym, ap, subst, ◌∙◌, ℕ, ◌+◌, ◌*◌, ◌%◌, ◌≤◌, inl, inr, min, List, [], ◌∷◌}
+use Rattle.seg_index.proofs.Common.{length, arith, IsTrue, ◌==◌, Option, Some, None, nat_lt, AllByRecursion, and_from}
+use Rattle.seg_index.proofs.Common.{and_parts, leb-true, none-some, same_Some, current, Cut, bytes_of, word_at}
+use Rattle.seg_index.proofs.Common.{Same-word, SameBut-word, Role, link_at, Same-link, SameBut-link, Extent, LiveSet}
+use Rattle.seg_index.proofs.Common.{handle, holds, others, released, IsChanged, IsReleased, LaysOut, extent_at, live_of}
+use Rattle.seg_index.proofs.Common.{Table, same_role, serves, among, found-new, laid-heap, live-rises, rising-insert}
+use Rattle.seg_index.proofs.{Common.KeepsRest, Common.IsIndexOf, Common.AreLinks, Links.links_moved}
+use Rattle.seg_index.proofs.{Changing.changed_heap, Changing.changed_trans, Changing.same_live, Staying.still_released}
+use Rattle.seg_index.proofs.Entries.{InHeader, Placed, bare, beside, no_entries, table_cases}
+use Rattle.seg_index.proofs.Keeping.{keeps_words, rest_of, rest_others, rest_trans}
+use Rattle.seg_index.proofs.Settling.{Headed, headed_released_keeps}
 use Rattle.std.specs.Prelude.{option_map}
 use Rattle.std.proofs.lemmas.Bool.{cond-false, cond-true, eq-eqb, le-leb, lt-ltb, ne_eqb}
 use Rattle.block_tags.specs.declared.tile.Role.TheVariants.{Index as IndexRole}
-use Rattle.best_fit.specs.Fit.{resized, shorter}
-use Rattle.best_fit.specs.Heap.{IsResized, IsShortened}
-use Rattle.best_fit.specs.Table.{cut_table, no_table}
-use Rattle.best_fit.proofs.Laws.{keeps-refl, resized-live}
-use Rattle.best_fit.proofs.Laws.{Rising, shorter-IsShorter}
+use Rattle.best_fit.specs.{Fit.resized, Fit.shorter, Heap.IsResized, Heap.IsShortened, Table.cut_table, Table.no_table}
+use Rattle.best_fit.proofs.Laws.{keeps-refl, resized-live, Rising, shorter-IsShorter}
 use Rattle.seg_index.specs.Capacities.{IsShrunk, with_cut}
-use Rattle.seg_index.proofs.Changing.{changed_heap, changed_trans, same_live}
-use Rattle.seg_index.proofs.Entries.{InHeader, Placed, bare, beside, no_entries, table_cases}
-use Rattle.seg_index.proofs.Keeping.{keeps_words, rest_of, rest_others, rest_trans}
-use Rattle.seg_index.proofs.Links.{links_moved}
-use Rattle.seg_index.proofs.Settling.{Headed, headed_released_keeps}
-use Rattle.seg_index.proofs.Staying.{still_released}
 
 -- ---- what a table is cut to
 

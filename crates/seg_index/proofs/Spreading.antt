@@ -5,8 +5,7 @@ use Rattle.seg_index.proofs.Common.{length-remove, current, Cut, bytes_of, word_
 use Rattle.seg_index.proofs.Common.{SameBut-link, Extent, LiveSet, handle, IsChanged, extent_at, live_of, Table}
 use Rattle.seg_index.proofs.Common.{room-less, KeepsRest, beside_table, IsIndexOf, AreEntries, AreLinks}
 use Rattle.seg_index.proofs.Changing.{changed_heap, same_live}
-use Rattle.seg_index.proofs.Entries.{InHeader, Placed, beside}
-use Rattle.seg_index.proofs.Keeping.{keeps_both}
+use Rattle.seg_index.proofs.{Entries.InHeader, Entries.Placed, Entries.beside, Keeping.keeps_both}
 use Rattle.seg_index.proofs.Links.{insert_all, insert_links, links_moved, remove_all, remove_links}
 
 -- other links in the block, and then their number in the header

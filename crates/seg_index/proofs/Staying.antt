@@ -4,13 +4,11 @@ use Rattle.seg_index.proofs.Common.{Some, None, IfSome, AllByRecursion, none-som
 use Rattle.seg_index.proofs.Common.{bytes_of, Same-part, Same-word, Role, link_at, Same-link, Extent, LiveSet, handle}
 use Rattle.seg_index.proofs.Common.{added, others, released, IsAllocated, IsChanged, IsHeap, IsReleased, SameBlock}
 use Rattle.seg_index.proofs.Common.{extent_at, has_room, live_of, Table, changed-keeps, found-less, laid-heap}
-use Rattle.seg_index.proofs.Common.{released-live, IsIndexOf, AreEntries}
+use Rattle.seg_index.proofs.{Common.released-live, Common.IsIndexOf, Common.AreEntries, Links.links_moved}
+use Rattle.seg_index.proofs.Changing.{changed_heap, same_live}
+use Rattle.seg_index.proofs.{Entries.InHeader, Entries.long_enough, Entries.table_cases, Rooms.all_found, Rooms.first}
 use Rattle.best_fit.specs.Extents.{end_of}
 use Rattle.best_fit.proofs.Laws.{exchange-taken, kept-found}
-use Rattle.seg_index.proofs.Changing.{changed_heap, same_live}
-use Rattle.seg_index.proofs.Entries.{InHeader, long_enough, table_cases}
-use Rattle.seg_index.proofs.Links.{links_moved}
-use Rattle.seg_index.proofs.Rooms.{all_found, first}
 
 -- the words and the links of an index are as they were, and its block is still in use
 pub record Around (a b : Cut) (at : ℕ) (t : Table) : Type 0 where

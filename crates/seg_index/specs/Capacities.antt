@@ -1,14 +1,12 @@
 -- What a call leaves that gives an index another capacity.
 use Rattle.std.specs.Prelude.{◌≡◌, ℕ, ◌+◌, ◌*◌, ◌<◌, ◌≤◌, Some, None, Result, MatchResult, List, length, ◌==◌}
 use Rattle.std.specs.Prelude.{if◌then◌else◌}
-use Rattle.raw_region.specs.Format.{current}
-use Rattle.raw_region.specs.Memory.{Cut, bytes_of}
+use Rattle.raw_region.specs.{Format.current, Memory.Cut, Memory.bytes_of}
 use Rattle.block_tags.specs.declared.tile.Role.TheVariants.{Index as IndexRole}
 use Rattle.offset_link.specs.Link.{link_at}
 use Rattle.best_fit.specs.Extents.{Extent, LiveSet, handle}
 use Rattle.best_fit.specs.Fit.{added, place, released, resized, shorter}
-use Rattle.best_fit.specs.Heap.{IsRefused, LaysOut, heap_touches, live_of}
-use Rattle.best_fit.specs.Table.{Table, cut_table}
+use Rattle.best_fit.specs.{Heap.IsRefused, Heap.LaysOut, Heap.heap_touches, Heap.live_of, Table.Table, Table.cut_table}
 use Rattle.seg_index.specs.Growth.{KeepsRest, beside_table, unlinked, without_link}
 use Rattle.seg_index.specs.Held.{IsIndexOf, capacity_at}
 

@@ -1,13 +1,11 @@
 -- How many keys a binary search compares with the one that is looked up.
 use Rattle.std.specs.Prelude.{ℕ, zero, suc, ◌+◌, ◌-◌, ◌*◌, ◌/◌, true, false, List, length, nat_lt, slice_get, unwrap_or}
-use Rattle.std.specs.Prelude.{IsTrue}
-use Rattle.std.specs.declared.cmp.Ordering.{Ordering}
+use Rattle.std.specs.{Prelude.IsTrue, declared.cmp.Ordering.Ordering}
 use Rattle.std.specs.declared.cmp.Ordering.TheVariants.{Less, Equal, Greater}
 use Rattle.raw_region.specs.Memory.{Cut, Memory, bytes_of}
 use Rattle.offset_link.specs.Link.{link_at}
 use Rattle.best_fit.specs.Heap.{has_room, live_of}
-use Rattle.seg_index.specs.declared.keys.Key.{Key}
-use Rattle.seg_index.specs.Lookups.{HasKey, Leads, order}
+use Rattle.seg_index.specs.{declared.keys.Key.Key, Lookups.HasKey, Lookups.Leads, Lookups.order}
 
 -- the key that is compared where those from `low` on and below `high` are left
 abbrev pub middle : ℕ → ℕ → ℕ

@@ -1,17 +1,13 @@
 -- What the calls of an index leave in a heap.
 use Rattle.std.specs.Prelude.{◌≡◌, ℕ, ◌+◌, ◌*◌, ◌<◌, ◌≤◌, Option, Some, None, Result, MatchResult, IfSome, List, IsTrue}
 use Rattle.std.specs.List.{AllByRecursion}
-use Rattle.raw_region.specs.Memory.{Cut, Same, SamePlace, bytes_of}
+use Rattle.raw_region.specs.{Memory.Cut, Memory.Same, Memory.SamePlace, Memory.bytes_of, Format.current}
 use Rattle.block_tags.specs.declared.tile.Role.TheVariants.{Index as IndexRole}
-use Rattle.raw_region.specs.Format.{current}
-use Rattle.best_fit.specs.Extents.{Extent, LiveSet, handle}
 use Rattle.best_fit.specs.Heap.{extent_at, IsAllocated, IsRefused, IsReleased, Keeps, LaysOut, SameBlock, is_live_in}
-use Rattle.best_fit.specs.Heap.{live_of}
+use Rattle.best_fit.specs.{Extents.Extent, Extents.LiveSet, Extents.handle, Heap.live_of, Table.Table, Table.serves}
 use Rattle.best_fit.specs.Fit.{others, released}
 use Rattle.offset_link.specs.Link.{link_at}
-use Rattle.seg_index.specs.Held.{IsIndexIn, IsIndexOf, capacity_at, entry_count}
-use Rattle.best_fit.specs.Table.{Table, serves}
-use Rattle.seg_index.specs.Index.{grown_capacity}
+use Rattle.seg_index.specs.{Held.IsIndexIn, Held.IsIndexOf, Held.capacity_at, Held.entry_count, Index.grown_capacity}
 use Rattle.seg_index.specs.declared.growing.Growth.{Growth}
 
 -- the bytes that a full index asks for

@@ -1,15 +1,11 @@
 -- An index of a heap, with its block.
 use Rattle.std.specs.Prelude.{◌≡◌, ℕ, ◌+◌, ◌%◌, ◌≤◌, Some, IfSome, List, length, IsTrue}
 use Rattle.std.specs.List.{AllByRecursion}
-use Rattle.raw_region.specs.Memory.{Cut, bytes_of, word_at}
+use Rattle.raw_region.specs.{Memory.Cut, Memory.bytes_of, Memory.word_at, Format.current}
 use Rattle.block_tags.specs.declared.tile.Role.TheVariants.{Index as IndexRole}
-use Rattle.raw_region.specs.Format.{current}
-use Rattle.best_fit.specs.Extents.{handle}
-use Rattle.best_fit.specs.Heap.{IsHeap, extent_at, live_of}
-use Rattle.best_fit.specs.Table.{Table, is_table}
-use Rattle.seg_index.specs.declared.index.Index.{Index}
+use Rattle.best_fit.specs.{Extents.handle, Heap.IsHeap, Heap.extent_at, Heap.live_of, Table.Table, Table.is_table}
+use Rattle.seg_index.specs.{declared.index.Index.Index, Index.IsIndexAt}
 use Rattle.seg_index.specs.declared.index.Index.TheVariants.{Named, Unique}
-use Rattle.seg_index.specs.Index.{IsIndexAt}
 
 -- where the three words of an index stand in the header
 abbrev pub place_of : Index → ℕ

@@ -1,8 +1,7 @@
 -- What an index compares of the objects that it leads to, each by its handle, at which its payload begins: two words,
 -- and the name.
 use Rattle.std.specs.Prelude.{ℕ, ◌+◌, ◌/◌, ◌%◌, Bool, List, nat_lt}
-use Rattle.std.specs.Cmp.Lexicographic.{slice_cmp}
-use Rattle.std.specs.Ordering.{nat_cmp, is_lt}
+use Rattle.std.specs.{Cmp.Lexicographic.slice_cmp, Ordering.nat_cmp, Ordering.is_lt}
 use Rattle.raw_region.specs.Memory.{Memory, read, word_at}
 
 -- the code of the kind, and the count, are the halves of the first word

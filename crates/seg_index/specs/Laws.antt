@@ -1,18 +1,13 @@
 -- What holds of indexes beside other calls of their heap.
 use Rattle.std.specs.Prelude.{◌≡◌, ℕ, ◌+◌, ◌%◌, ◌<◌, ◌≤◌, ◌==◌, if◌then◌else◌, Option, Some, List, [], ◌∷◌, IsTrue}
 use Rattle.std.specs.declared.cmp.Ordering.{Ordering}
-use Rattle.raw_region.specs.Format.{current}
-use Rattle.raw_region.specs.Memory.{Cut, Memory, bytes_of}
+use Rattle.raw_region.specs.{Format.current, Memory.Cut, Memory.Memory, Memory.bytes_of}
 use Rattle.block_tags.specs.declared.tile.Role.{Role}
 use Rattle.link_tree.specs.Tree.{bits}
 use Rattle.offset_link.specs.Link.{link_at}
-use Rattle.best_fit.specs.Heap.{IsAllocated, IsChanged, IsReleased, has_room, live_of}
-use Rattle.best_fit.specs.Table.{Table}
-use Rattle.seg_index.specs.declared.index.Index.{Index}
-use Rattle.seg_index.specs.declared.keys.Key.TheVariants.{Code}
-use Rattle.seg_index.specs.Comparing.{comparisons, comparisons_among}
-use Rattle.seg_index.specs.Growth.{CanGrow, IsGrowth}
-use Rattle.seg_index.specs.Held.{IsIndexOf, place_of}
+use Rattle.best_fit.specs.{Heap.IsAllocated, Heap.IsChanged, Heap.IsReleased, Heap.has_room, Heap.live_of, Table.Table}
+use Rattle.seg_index.specs.{declared.index.Index.Index, Growth.CanGrow, Growth.IsGrowth, Held.IsIndexOf, Held.place_of}
+use Rattle.seg_index.specs.{declared.keys.Key.TheVariants.Code, Comparing.comparisons, Comparing.comparisons_among}
 
 -- the link of an index leads to this block
 abbrev pub IsItsBlock : Cut → Index → ℕ → Type 0

@@ -1,21 +1,15 @@
 -- Keys of the objects that an index leads to, and what a look-up answers.
 use Rattle.std.specs.Prelude.{◌≡◌, ℕ, ◌+◌, ◌*◌, ◌<◌, ◌≤◌, Some, List, length, IsTrue, slice_get}
-use Rattle.std.specs.List.{AllByRecursion}
-use Rattle.std.specs.Cmp.Lexicographic.{slice_cmp}
+use Rattle.std.specs.{List.AllByRecursion, Cmp.Lexicographic.slice_cmp, declared.cmp.Ordering.Ordering}
 use Rattle.std.specs.Ordering.{nat_cmp}
-use Rattle.std.specs.declared.cmp.Ordering.{Ordering}
 use Rattle.std.specs.declared.cmp.Ordering.TheVariants.{Less, Equal, Greater}
-use Rattle.raw_region.specs.Memory.{Cut, Memory, bytes_of}
+use Rattle.raw_region.specs.{Memory.Cut, Memory.Memory, Memory.bytes_of, Format.current}
 use Rattle.offset_link.specs.Link.{link_at}
-use Rattle.best_fit.specs.Heap.{IsHeap, has_room, live_of}
-use Rattle.raw_region.specs.Format.{current}
-use Rattle.best_fit.specs.Table.{Table}
+use Rattle.best_fit.specs.{Heap.IsHeap, Heap.has_room, Heap.live_of, Table.Table}
 use Rattle.seg_index.specs.declared.keys.Key.{Key}
 use Rattle.seg_index.specs.declared.keys.Key.TheVariants.{Name, Code}
-use Rattle.seg_index.specs.declared.keys.Lookup.{Lookup}
+use Rattle.seg_index.specs.{declared.keys.Lookup.Lookup, Held.IsIndexOf, Keys.name_len_at, Keys.name_at, Keys.code_at}
 use Rattle.seg_index.specs.declared.keys.Lookup.TheVariants.{Found, Absent}
-use Rattle.seg_index.specs.Held.{IsIndexOf}
-use Rattle.seg_index.specs.Keys.{name_len_at, name_at, code_at}
 
 -- how the key of an object stands to a key
 abbrev pub order : Memory → Key → ℕ → Ordering

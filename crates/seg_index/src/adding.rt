@@ -1,16 +1,12 @@
 //! An entry more.
 ghost use Rattle.std.specs.Prelude.{◌≡◌, ℕ, ◌+◌, ◌-◌, ◌*◌, ◌%◌, ◌<◌, ◌≤◌, IsTrue, List, Some, insert, length};
-ghost use Rattle.raw_region.specs.Format.{current};
-ghost use Rattle.raw_region.specs.Memory.{bytes_of};
-ghost use Rattle.offset_link.specs.Link.{link_at};
-ghost use Rattle.offset_link.specs.Relinked.{AllLead, KeepTargets};
-ghost use Rattle.best_fit.specs.Fit.{others};
+ghost use Rattle.raw_region.specs.{Format.current, Memory.bytes_of};
+ghost use Rattle.offset_link.specs.{Link.link_at, Relinked.AllLead, Relinked.KeepTargets};
+ghost use Rattle.best_fit.specs.{Fit.others, Table.Table as ATable};
 ghost use Rattle.best_fit.specs.Heap.{IsChanged, IsHeap, LaysOut, has_room, heap_touches, live_of};
-ghost use Rattle.best_fit.specs.Table.{Table as ATable};
 ghost use Rattle.seg_index.specs.Growth.{AddKeeps, Adds, CanGrow, IsBlockFor, KeepsRest, beside_table, grown_live};
-ghost use Rattle.seg_index.specs.Growth.{unlinked};
+ghost use Rattle.seg_index.specs.{Growth.unlinked, Index.grown_capacity};
 ghost use Rattle.seg_index.specs.Held.{HasIndex, IsIndexIn, IsIndexOf, capacity_at, entry_count, place_of};
-ghost use Rattle.seg_index.specs.Index.{grown_capacity};
 
 use crate::growing::{Growth, LINK, grown};
 use crate::index::Index;

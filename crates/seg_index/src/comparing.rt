@@ -1,14 +1,11 @@
 //! The one way from an entry to the key that it leads to: each comparison is counted.
 ghost use Rattle.std.specs.Prelude.{◌≡◌, ℕ, ◌+◌, ◌*◌, ◌%◌, ◌^◌, ◌<◌, ◌≤◌, Some, IsTrue};
-ghost use Rattle.std.specs.Cmp.Lexicographic.{slice_cmp};
-ghost use Rattle.std.specs.Ordering.{nat_cmp};
-ghost use Rattle.raw_region.specs.Memory.{bytes_of};
-ghost use Rattle.raw_region.specs.Format.{current};
+ghost use Rattle.std.specs.{Cmp.Lexicographic.slice_cmp, Ordering.nat_cmp};
+ghost use Rattle.raw_region.specs.{Memory.bytes_of, Format.current};
 ghost use Rattle.best_fit.specs.Heap.{IsHeap, has_room, live_of};
 ghost use Rattle.seg_index.specs.Beginnings.{front as front_of_bytes, key_front};
-ghost use Rattle.seg_index.specs.Comparing.{HasEntry, order_at};
+ghost use Rattle.seg_index.specs.{Comparing.HasEntry, Comparing.order_at, Keys.name_at, Keys.name_len_at};
 ghost use Rattle.seg_index.specs.Lookups.{HasKey, order};
-ghost use Rattle.seg_index.specs.Keys.{name_at, name_len_at};
 
 use crate::fronts::{front_at, front_of_key, hold_bytes};
 use crate::keys::Key;

@@ -1,7 +1,6 @@
 //! How names begin: their first eight bytes as one number, which tells most names apart in one step.
 ghost use Rattle.std.specs.Prelude.{◌≡◌, ◌+◌, IsTrue};
-ghost use Rattle.raw_region.specs.Format.{current};
-ghost use Rattle.raw_region.specs.Memory.{bytes_of};
+ghost use Rattle.raw_region.specs.{Format.current, Memory.bytes_of};
 ghost use Rattle.best_fit.specs.Heap.{IsHeap, has_room, live_of};
 ghost use Rattle.seg_index.specs.Beginnings.{AreBytes, front, key_front};
 ghost use Rattle.seg_index.specs.Keys.{name_at, name_len_at};

@@ -1,13 +1,11 @@
 //! The block that a full index grows into.
 ghost use Rattle.std.specs.Prelude.{◌≡◌, ◌≢◌, ℕ, ◌+◌, ◌*◌, ◌%◌, ◌^◌, ◌<◌, ◌≤◌, IfSome, IsTrue, List, length};
 ghost use Rattle.std.specs.List.{AllByRecursion};
-ghost use Rattle.raw_region.specs.Format.{current};
-ghost use Rattle.raw_region.specs.Memory.{bytes_of};
+ghost use Rattle.raw_region.specs.{Format.current, Memory.bytes_of};
 ghost use Rattle.offset_link.specs.Link.{link_at};
 ghost use Rattle.best_fit.specs.Heap.{IsHeap, LaysOut, heap_touches, is_live_in, live_of};
 ghost use Rattle.seg_index.specs.Growth.{GivesBack, IsBlockFor, IsHeld, KeepsRest, Prepares, Restores, unlinked};
-ghost use Rattle.seg_index.specs.Held.{HasIndex, IsIndexIn, place_of};
-ghost use Rattle.seg_index.specs.Index.{AreLinks, grown_capacity};
+ghost use Rattle.seg_index.specs.{Held.HasIndex, Held.IsIndexIn, Held.place_of, Index.AreLinks, Index.grown_capacity};
 
 use crate::index::Index;
 use best_fit::{Heap, NoSpace};

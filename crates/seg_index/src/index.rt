@@ -1,13 +1,10 @@
 //! The two indexes of a heap, and what they answer.
 ghost use Rattle.std.specs.Prelude.{◌≡◌, ℕ, ◌+◌, ◌<◌, ◌≤◌, List, [], Some, length, slice_get};
-ghost use Rattle.raw_region.specs.Memory.{bytes_of};
+ghost use Rattle.raw_region.specs.{Memory.bytes_of, Format.current};
 ghost use Rattle.link_tree.specs.Tree.{bits};
-ghost use Rattle.raw_region.specs.Format.{current};
-ghost use Rattle.best_fit.specs.Heap.{IsChanged};
-ghost use Rattle.best_fit.specs.Table.{Table as ATable, no_table};
-ghost use Rattle.seg_index.specs.Comparing.{comparisons};
+ghost use Rattle.best_fit.specs.{Heap.IsChanged, Table.Table as ATable, Table.no_table};
+ghost use Rattle.seg_index.specs.{Comparing.comparisons, Lookups.HasKeys, Lookups.IsPlace};
 ghost use Rattle.seg_index.specs.Held.{HasIndex, IsIndexOf, capacity_at, entry_count, place_of};
-ghost use Rattle.seg_index.specs.Lookups.{HasKeys, IsPlace};
 
 use crate::comparing::Comparisons;
 use crate::keys::{Key, Lookup};

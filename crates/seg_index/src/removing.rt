@@ -1,8 +1,7 @@
 //! An entry less.
 ghost use Rattle.std.specs.Prelude.{◌≡◌, ℕ, ◌<◌, List, length, remove};
 ghost use Rattle.raw_region.specs.Format.{current};
-ghost use Rattle.best_fit.specs.Heap.{LaysOut, live_of};
-ghost use Rattle.best_fit.specs.Table.{Table as ATable};
+ghost use Rattle.best_fit.specs.{Heap.LaysOut, Heap.live_of, Table.Table as ATable};
 ghost use Rattle.seg_index.specs.Growth.{KeepsRest, beside_table};
 ghost use Rattle.seg_index.specs.Held.{HasIndex, IsIndexOf, entry_count, place_of};
 

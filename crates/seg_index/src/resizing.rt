@@ -1,7 +1,6 @@
 //! An index with more places, or with no more than it has entries.
 ghost use Rattle.std.specs.Prelude.{◌≡◌, ◌+◌, ◌*◌, ℕ, ◌≤◌, List, length};
-ghost use Rattle.best_fit.specs.Heap.{heap_touches, live_of};
-ghost use Rattle.best_fit.specs.Table.{Table as ATable};
+ghost use Rattle.best_fit.specs.{Heap.heap_touches, Heap.live_of, Table.Table as ATable};
 ghost use Rattle.seg_index.specs.Capacities.{IsShrunk, Reserves, reserve_steps};
 ghost use Rattle.seg_index.specs.Held.{HasIndex, IsIndexOf, place_of};
 

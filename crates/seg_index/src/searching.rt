@@ -2,9 +2,7 @@
 ghost use Rattle.std.specs.Prelude.{◌≡◌, ℕ, ◌^◌, ◌<◌, ◌≤◌};
 ghost use Rattle.raw_region.specs.Memory.{bytes_of};
 ghost use Rattle.link_tree.specs.Tree.{bits};
-ghost use Rattle.seg_index.specs.Beginnings.{key_front};
-ghost use Rattle.seg_index.specs.Comparing.{comparisons_in};
-ghost use Rattle.seg_index.specs.Lookups.{AreKeys, IsPlaceIn};
+ghost use Rattle.seg_index.specs.{Beginnings.key_front, Comparing.comparisons_in, Lookups.AreKeys, Lookups.IsPlaceIn};
 
 use crate::comparing::Comparisons;
 use crate::keys::Lookup;

@@ -2,10 +2,8 @@
 use Rattle.seg_map.proofs.Common.{◌≡◌, sym, ap, ◌∙◌, ℕ, inl, inr, Bool, true, false, not, ◌||◌, List, [], ◌∷◌, Option}
 use Rattle.seg_map.proofs.Common.{Some, None, IfSome, cases_Bool, eqb-true, false≢true, or_cases, is_in, Chains}
 use Rattle.seg_map.proofs.Common.{IsStrict, Pair, pair_at, nodes_of_pairs, pair_node, before_key, comes_before, stands}
-use Rattle.seg_map.proofs.Common.{stands_before}
+use Rattle.seg_map.proofs.{Common.stands_before, Entering.HaveKeys, PutLists.absent_here, PutLists.either_one}
 use Rattle.std.proofs.lemmas.Bool.{true≢false, false_from_ne_true}
-use Rattle.seg_map.proofs.Entering.{HaveKeys}
-use Rattle.seg_map.proofs.PutLists.{absent_here, either_one}
 
 -- ---- what is known of a beginning
 

@@ -10,12 +10,9 @@ pub use mathlib.Core.List.{reverse}
 pub use Rattle.best_fit.proofs.Laws.{beside_cell, cell_stays, changed-keeps, changed-live, changed-room, found-less}
 pub use Rattle.best_fit.proofs.Laws.{found-room, is_proper-IsProper, laid-heap, lay_out_one, live-rises, room-less}
 pub use Rattle.best_fit.proofs.Laws.{roomy}
-pub use Rattle.best_fit.specs.Exchange.{SameBlockBut}
-pub use Rattle.best_fit.specs.Extents.{Extent, LiveSet, end_of, handle, is_proper}
-pub use Rattle.best_fit.specs.Fit.{others, released}
-pub use Rattle.best_fit.specs.FreeTree.{cells_of}
 pub use Rattle.best_fit.specs.Heap.{IsAllocated, IsChanged, IsHeap, Keeps, LaysOut, SameBlock, extent_at, has_room}
-pub use Rattle.best_fit.specs.Heap.{is_live_in}
+pub use Rattle.best_fit.specs.{Exchange.SameBlockBut, Fit.others, Fit.released, FreeTree.cells_of, Heap.is_live_in}
+pub use Rattle.best_fit.specs.Extents.{Extent, LiveSet, end_of, handle, is_proper}
 unfoldable pub use Rattle.best_fit.specs.Heap.{live_of}
 pub use Rattle.block_tags.specs.declared.tile.Role.TheVariants.{Node}
 pub use Rattle.link_tree.proofs.Laws.{all_from, entry_same, holds_same, root_in, tree_same}
@@ -28,14 +25,13 @@ pub use Rattle.raw_region.proofs.Laws.{Has-same, Same-trans, Same-word, SameBut-
 pub use Rattle.raw_region.specs.Format.{current}
 pub use Rattle.raw_region.specs.Memory.{Cut, Has, Memory, Same, SamePlace, bytes_of, read, word_at}
 pub use Rattle.seg_types.specs.Plain.{value_in}
-pub use Rattle.seg_map.specs.Changing.{IsBesideMap, IsErased, IsHeaded, IsLoose, IsMade, IsPlanted}
-pub use Rattle.seg_map.specs.Linking.{IsKeyTree, Linked, Unlinked, keys_in}
-pub use Rattle.seg_map.specs.Map.{IsPairAt, Pair, is_key, is_rising, node_len, pair_at, put_pair, remove_pair}
 pub use Rattle.seg_map.specs.PairLaws.{Chains, Good, In, IsStrict, PairNode, PairNode-is_pair_node, cells_at, disjoint}
-pub use Rattle.seg_map.specs.PairLaws.{is_pair_node-PairNode, lies, node_block, node_place, passing}
 pub use Rattle.seg_map.specs.PairNodes.{before_key, comes_before, is_kept, is_link_byte, is_other, links_among}
-pub use Rattle.seg_map.specs.PairNodes.{pair_cells, stands, stands_before}
-unfoldable pub use Rattle.seg_map.specs.PairNodes.{is_pair_node, kept_of, key_at, key_of, own_nodes}
 pub use Rattle.seg_map.specs.Places.{HoldsMap, IsPairIn, final_pair, first_pair, is_passed, last_pair, nodes_of_pairs}
-pub use Rattle.seg_map.specs.Places.{pair_node}
+pub use Rattle.seg_map.specs.Changing.{IsBesideMap, IsErased, IsHeaded, IsLoose, IsMade, IsPlanted}
+pub use Rattle.seg_map.specs.{Linking.IsKeyTree, Linking.Linked, Linking.Unlinked, Linking.keys_in, Places.pair_node}
+pub use Rattle.seg_map.specs.Map.{IsPairAt, Pair, is_key, is_rising, node_len, pair_at, put_pair, remove_pair}
+pub use Rattle.seg_map.specs.PairLaws.{is_pair_node-PairNode, lies, node_block, node_place, passing}
+pub use Rattle.seg_map.specs.PairNodes.{pair_cells, stands, stands_before}
 pub use Rattle.seg_map.specs.Searches.{entry_in, exit_in}
+unfoldable pub use Rattle.seg_map.specs.PairNodes.{is_pair_node, kept_of, key_at, key_of, own_nodes}

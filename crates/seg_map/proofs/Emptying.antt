@@ -6,17 +6,14 @@ use Rattle.seg_map.proofs.Common.{SamePlace-trans, Same-trans, link_at, IsTree, 
 use Rattle.seg_map.proofs.Common.{is_in, root_in, SameBlockBut, Extent, LiveSet, handle, is_proper, others, released}
 use Rattle.seg_map.proofs.Common.{cells_of, LaysOut, extent_at, live_of, found-less, lay_out_one, live-rises, Chains}
 use Rattle.seg_map.proofs.Common.{In, IsStrict, Pair, is_key, is_rising, pair_at, remove_pair, HoldsMap, nodes_of_pairs}
-use Rattle.seg_map.proofs.Common.{pair_node, IsBesideMap, IsErased}
+use Rattle.seg_map.proofs.{Common.pair_node, Common.IsBesideMap, Common.IsErased, Leaving.in_from, Leaving.nodes_in}
+use Rattle.seg_map.proofs.{Payloads.begins_behind, Payloads.own_handle, FoundPairs.either_right, FoundPairs.rising_rest}
+use Rattle.seg_map.proofs.{Entering.Laws, Staying.AtNode, Staying.at_node}
+use Rattle.seg_map.proofs.PairLists.{Below, in_nodes, removed_all, removed_length, rising_below}
 use Rattle.best_fit.specs.Exchange.{exchanged, without_all}
 use Rattle.best_fit.proofs.Laws.{Rising, others-comm, rising-weak}
 use Rattle.seg_types.specs.declared.plain.Plain.{Ghosts as Plain}
-use Rattle.seg_map.proofs.Payloads.{begins_behind, own_handle}
 use Rattle.seg_map.specs.Changing.{IsGivenUp}
-use Rattle.seg_map.proofs.Entering.{Laws}
-use Rattle.seg_map.proofs.FoundPairs.{either_right, rising_rest}
-use Rattle.seg_map.proofs.Leaving.{in_from, nodes_in}
-use Rattle.seg_map.proofs.PairLists.{Below, in_nodes, removed_all, removed_length, rising_below}
-use Rattle.seg_map.proofs.Staying.{AtNode, at_node}
 
 -- ---- extents taken out one after another
 

@@ -3,10 +3,9 @@ use Rattle.seg_map.proofs.Common.{◌≡◌, refl, ap, ◌∙◌, ℕ, ◌+◌, 
 use Rattle.seg_map.proofs.Common.{◌||◌, not, List, [], ◌∷◌, arith, nat_lt, nat_le, ◌==◌, both_ways, or_left, or_right}
 use Rattle.seg_map.proofs.Common.{eq-eqb, le-leb, lt-ltb, Cut, SamePlace, bytes_of, word_at, is_in, Extent, handle}
 use Rattle.seg_map.proofs.Common.{end_of, Keeps, SameBlock, live_of, is_kept, is_link_byte, is_other, kept_of, Good, In}
-use Rattle.seg_map.proofs.Common.{PairNode, node_place}
+use Rattle.seg_map.proofs.{Common.PairNode, Common.node_place, PairSteps.any_at, PairSteps.block_apart}
 use Rattle.std.proofs.lemmas.Bool.{le-ltb, lt-leb}
 use Rattle.seg_map.specs.PairNodes.{Kept, lies_in_block}
-use Rattle.seg_map.proofs.PairSteps.{any_at, block_apart}
 
 -- the live set is kept
 pub live_stays : (c d : Cut) (ns ms : List ℕ) → kept_of ms d ≡ kept_of ns c → live_of d.bytes ≡ live_of c.bytes

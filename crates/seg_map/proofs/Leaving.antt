@@ -6,21 +6,16 @@ use Rattle.seg_map.proofs.Common.{current, Cut, bytes_of, SamePlace-trans, Same-
 use Rattle.seg_map.proofs.Common.{without, Extent, LiveSet, handle, released, LaysOut, is_live_in, live_of, found-less}
 use Rattle.seg_map.proofs.Common.{found-room, laid-heap, lay_out_one, roomy, Pair, IsPairAt, pair_at, remove_pair}
 use Rattle.seg_map.proofs.Common.{HoldsMap, IsPairIn, nodes_of_pairs, pair_node, own_nodes, Good, IsKeyTree, Unlinked}
+use Rattle.seg_map.proofs.PairLists.{in_nodes, none_left, not_among, other_nodes, removed_all, removed_length}
 use Rattle.seg_map.proofs.Common.{keys_in, IsBesideMap, IsErased, IsHeaded, exit_in}
+use Rattle.seg_map.proofs.Entering.{AreIn, Laws, count_pairs, found_in, good, keys, listed, other_block}
+use Rattle.seg_map.proofs.{FoundLists.each, Rewriting.beside, Rewriting.rewritten, Frames.live_stays}
+use Rattle.seg_map.proofs.{Searching.lent_own, Searching.lent_tree, Staying.Still, Staying.at_node, Staying.map_stays}
+use Rattle.seg_map.proofs.{PairLists.removed_rising, PairLists.without_nodes, PairSteps.any_at, PairSteps.target_whole}
 use Rattle.best_fit.specs.Heap.{IsReleased}
 use Rattle.best_fit.proofs.Laws.{released-live}
 use Rattle.seg_types.specs.declared.plain.Plain.{Ghosts as Plain}
-use Rattle.seg_map.specs.Linking.{CanUnlink}
-use Rattle.seg_map.specs.Changing.{IsTaken}
-use Rattle.seg_map.proofs.Entering.{AreIn, Laws, count_pairs, found_in, good, keys, listed, other_block}
-use Rattle.seg_map.proofs.FoundLists.{each}
-use Rattle.seg_map.proofs.Searching.{lent_own, lent_tree}
-use Rattle.seg_map.proofs.PairLists.{in_nodes, none_left, not_among, other_nodes, removed_all, removed_length}
-use Rattle.seg_map.proofs.PairLists.{removed_rising, without_nodes}
-use Rattle.seg_map.proofs.PairSteps.{any_at, target_whole}
-use Rattle.seg_map.proofs.Rewriting.{beside, rewritten}
-use Rattle.seg_map.proofs.Staying.{Still, at_node, map_stays}
-use Rattle.seg_map.proofs.Frames.{live_stays}
+use Rattle.seg_map.specs.{Linking.CanUnlink, Changing.IsTaken}
 
 -- the object's block is no node
 pub apart_all : {K V : Type 0} (kp : Plain K) (vp : Plain V) (live : LiveSet) (h : ℕ) (ps : List (Pair K V))

@@ -21,3 +21,18 @@ mod NewPairs
 mod Overwriting
 mod Emptying
 pub mod Laws
+pub use Common.*
+pub use PairSteps.*
+pub use Payloads.*
+pub use Searching.*
+pub use Relinking.*
+pub use Heads.*
+pub use PairLists.*
+pub use Leaving.*
+pub use Beginnings.*
+pub use Bounds.*
+pub use Planting.*
+pub use Making.*
+pub use NewPairs.*
+pub use Overwriting.*
+pub use Emptying.*

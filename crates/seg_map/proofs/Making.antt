@@ -1,10 +1,9 @@
 -- A node is made: its four parts are written in a new block.
 use Rattle.seg_map.proofs.Common.{◌≡◌, subst, ◌∙◌, ℕ, ◌+◌, ◌≤◌, inl, true, arith, IsTrue, None, current, Cut, Has}
 use Rattle.seg_map.proofs.Common.{bytes_of, Has-same, SameBut-Same, Node, link_at, SameBut-link, IsAllocated, IsChanged}
-use Rattle.seg_map.proofs.Common.{has_room, live_of, IsMade, node_len}
+use Rattle.seg_map.proofs.{Common.has_room, Common.live_of, Common.IsMade, Common.node_len, Entering.Laws}
 use Rattle.best_fit.proofs.Laws.{allocated-room, still_allocated-block}
 use Rattle.seg_types.specs.declared.plain.Plain.{Ghosts as Plain}
-use Rattle.seg_map.proofs.Entering.{Laws}
 
 -- a new block, once a part of it is written
 still : {a b c : Cut} {n node from k : ℕ} (room : ℕ) → IsAllocated current a b n Node node

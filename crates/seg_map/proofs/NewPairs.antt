@@ -4,18 +4,14 @@ use Rattle.seg_map.proofs.Common.{Some, None, IfSome, ne_eqb, current, Cut, Has,
 use Rattle.seg_map.proofs.Common.{Node, link_at, is_in, nodes_of, entry_of, entry_same, Extent, handle, LaysOut}
 use Rattle.seg_map.proofs.Common.{SameBlock, extent_at, live_of, laid-heap, live-rises, roomy, Pair, node_len, pair_at}
 use Rattle.seg_map.proofs.Common.{HoldsMap, nodes_of_pairs, In, stands, stands_before, keys_in, entry_in, IsLoose}
-use Rattle.seg_map.proofs.Common.{IsMade, IsPlanted}
+use Rattle.seg_map.proofs.{Common.IsMade, Common.IsPlanted, PairLists.not_among, PairSteps.all_in, Staying.map_stays}
+use Rattle.seg_map.proofs.{Beginnings.keys_agree, Beginnings.known, Entering.Laws, Entering.found_in, Entering.keys}
+use Rattle.seg_map.proofs.FoundLists.{each}
 use Rattle.best_fit.specs.Fit.{added}
 use Rattle.best_fit.proofs.Laws.{Differs, allocated-live, allocated-room_before, found-more, found-new, place-serves}
 use Rattle.best_fit.proofs.Laws.{rising-insert}
 use Rattle.seg_types.specs.declared.plain.Plain.{Ghosts as Plain}
 use Rattle.seg_map.specs.Changing.{IsPut}
-use Rattle.seg_map.proofs.Beginnings.{keys_agree, known}
-use Rattle.seg_map.proofs.Entering.{Laws, found_in, keys}
-use Rattle.seg_map.proofs.PairLists.{not_among}
-use Rattle.seg_map.proofs.FoundLists.{each}
-use Rattle.seg_map.proofs.PairSteps.{all_in}
-use Rattle.seg_map.proofs.Staying.{map_stays}
 
 module _ {K V : Type 0} {kp : Plain K} {vp : Plain V} (kl : Laws kp) (vl : Laws vp) {c d : Cut} {h at : ℕ}
     {ps : List (Pair K V)} (s : HoldsMap kp vp c.bytes h at ps) {key : K} {value : V} {node : ℕ}

@@ -5,14 +5,13 @@ use Rattle.seg_map.proofs.Common.{Has, Same, bytes_of, Has-same, SameBut-Same, n
 use Rattle.seg_map.proofs.Common.{cells_of, IsChanged, Keeps, SameBlock, extent_at, has_room, live_of, beside_cell}
 use Rattle.seg_map.proofs.Common.{changed-keeps, changed-live, changed-room, found-room, laid-heap, roomy, Pair}
 use Rattle.seg_map.proofs.Common.{IsPairAt, pair_at, put_pair, HoldsMap, IsPairIn, nodes_of_pairs, pair_node, PairNode}
-use Rattle.seg_map.proofs.Common.{node_place, keys_in}
+use Rattle.seg_map.proofs.{Common.node_place, Common.keys_in, PairLists.in_nodes}
+use Rattle.seg_map.proofs.Entering.{AreAt, AreIn, HaveKeys, Laws, good, keys, other_block, pair_parts}
+use Rattle.seg_map.proofs.PutLists.{neither_parts, pair_of, replaced_all, replaced_nodes, replaced_rising}
+use Rattle.seg_map.proofs.Staying.{at_node, block_cells, lengths, map_over, pair_stays}
 use Rattle.std.proofs.lemmas.Option.{same_Some}
 use Rattle.seg_types.specs.declared.plain.Plain.{Ghosts as Plain}
 use Rattle.seg_map.specs.Changing.{IsPutAgain}
-use Rattle.seg_map.proofs.Entering.{AreAt, AreIn, HaveKeys, Laws, good, keys, other_block, pair_parts}
-use Rattle.seg_map.proofs.PairLists.{in_nodes}
-use Rattle.seg_map.proofs.PutLists.{neither_parts, pair_of, replaced_all, replaced_nodes, replaced_rising}
-use Rattle.seg_map.proofs.Staying.{at_node, block_cells, lengths, map_over, pair_stays}
 
 module _ {K V : Type 0} {kp : Plain K} {vp : Plain V} (c : Cut) {h at : ℕ} {ps : List (Pair K V)}
     (s : HoldsMap kp vp c.bytes h at ps) (key : K) {p : Pair K V} (has : pair_at kp.order ps key ≡ Some p) where

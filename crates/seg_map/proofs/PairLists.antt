@@ -3,11 +3,9 @@ use Rattle.seg_map.proofs.Common.{◌≡◌, refl, sym, ap, ◌∙◌, ℕ, suc,
 use Rattle.seg_map.proofs.Common.{◌∷◌, length, ◌==◌, Option, Some, AllByRecursion, both_ways, cases_Bool, and_parts}
 use Rattle.seg_map.proofs.Common.{or_left, or_right, eq-eqb, ne_eqb, is_in, without, Chains, IsStrict, Pair, is_key}
 use Rattle.seg_map.proofs.Common.{is_rising, pair_at, remove_pair, nodes_of_pairs, pair_node}
-use Rattle.std.proofs.Common.{nat_eq}
-use Rattle.std.proofs.lemmas.Bool.{or_parts}
+use Rattle.seg_map.proofs.{Entering.HaveKeys, FoundPairs.rising_rest}
+use Rattle.std.proofs.{Common.nat_eq, lemmas.Bool.or_parts}
 use Rattle.link_tree.proofs.Laws.{without_none}
-use Rattle.seg_map.proofs.Entering.{HaveKeys}
-use Rattle.seg_map.proofs.FoundPairs.{rising_rest}
 
 -- ---- a node that is taken out
 

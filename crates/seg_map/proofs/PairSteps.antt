@@ -10,14 +10,11 @@ use Rattle.seg_map.proofs.Common.{is_live_in, has_room, live_of, beside_cell, ce
 use Rattle.seg_map.proofs.Common.{lay_out_one, is_kept, is_link_byte, is_other, is_pair_node, kept_of, key_at, key_of}
 use Rattle.seg_map.proofs.Common.{links_among, pair_cells, Good, In, PairNode, PairNode-is_pair_node, cells_at}
 use Rattle.seg_map.proofs.Common.{disjoint, is_pair_node-PairNode, lies, node_block, node_place, passing}
-use Rattle.std.proofs.Common.{◌/◌}
-use Rattle.std.proofs.Math.Nat.{le_refl, le_trans, lt_of_lt_of_le}
+use Rattle.std.proofs.{Common.◌/◌, Math.Nat.le_refl, Math.Nat.le_trans, Math.Nat.lt_of_lt_of_le}
 use Rattle.std.proofs.lemmas.Bool.{cases_lt, not-true}
 use Rattle.raw_region.proofs.Laws.{Same-read}
-use Rattle.link_tree.specs.Tree.{Cell}
-use Rattle.link_tree.specs.Nodes.{with_left, with_right, with_red}
-use Rattle.best_fit.specs.FreeTree.{is_red}
-use Rattle.best_fit.specs.Heap.{IsRecoloured, is_node_in, is_node_role}
+use Rattle.link_tree.specs.{Tree.Cell, Nodes.with_left, Nodes.with_right, Nodes.with_red}
+use Rattle.best_fit.specs.{FreeTree.is_red, Heap.IsRecoloured, Heap.is_node_in, Heap.is_node_role}
 use Rattle.best_fit.proofs.Laws.{others-here, others-past}
 use Rattle.seg_map.specs.PairNodes.{is_good}
 use Rattle.seg_map.specs.PairLaws.{Good-is_good, Place, cells_off, link_parts, links_at}

@@ -5,8 +5,7 @@ use Rattle.seg_map.proofs.Common.{eqb-true, eq-eqb, leb-true, bytes_of, read, Ex
 use Rattle.seg_map.proofs.Common.{is_live_in, live_of, is_proper-IsProper, In, lies, live-rises, ne_eqb, passing, subst}
 use Rattle.raw_region.specs.Memory.{part}
 use Rattle.raw_region.proofs.Laws.{length-part, part-part, read-part}
-use Rattle.best_fit.specs.Extents.{holds}
-use Rattle.best_fit.specs.Heap.{payload_at}
+use Rattle.best_fit.specs.{Extents.holds, Heap.payload_at}
 use Rattle.best_fit.proofs.Laws.{Rising, legal_size}
 use Rattle.seg_map.specs.PairLaws.{Lies}
 use Rattle.seg_map.proofs.PairSteps.{any_at}

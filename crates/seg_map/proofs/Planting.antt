@@ -6,19 +6,15 @@ use Rattle.seg_map.proofs.Common.{has_place, is_in, leads, put, entry_of, all_fr
 use Rattle.seg_map.proofs.Common.{LaysOut, live_of, Pair, IsPairAt, put_pair, HoldsMap, IsPairIn, nodes_of_pairs}
 use Rattle.seg_map.proofs.Common.{pair_node, comes_before, is_pair_node, key_at, key_of, links_among, own_nodes, stands}
 use Rattle.seg_map.proofs.Common.{stands_before, Good, PairNode-is_pair_node, IsKeyTree, Linked, keys_in, IsBesideMap}
-use Rattle.seg_map.proofs.Common.{IsHeaded, IsLoose, IsPlanted, entry_in}
+use Rattle.seg_map.proofs.Entering.{HaveKeys, Laws, count_pairs, few_pairs, good, keys, keys_among, listed, pair_block}
+use Rattle.seg_map.proofs.{Common.IsHeaded, Common.IsLoose, Common.IsPlanted, Common.entry_in, PairSteps.target_whole}
+use Rattle.seg_map.proofs.{Beginnings.beside as not_beside, Beginnings.keys_agree, Beginnings.moved, Searching.lent_own}
+use Rattle.seg_map.proofs.{Entering.pair_parts, Entering.tree_among, Entering.read_spelled, Frames.live_stays}
+use Rattle.seg_map.proofs.{Rewriting.beside, Rewriting.rewritten, Leaving.apart_all, Leaving.in_from, Leaving.nodes_in}
+use Rattle.seg_map.proofs.PutLists.{place_of, put_all, put_length, put_nodes, put_rising}
 use Rattle.link_tree.proofs.Laws.{all_at}
 use Rattle.seg_types.specs.declared.plain.Plain.{Ghosts as Plain}
 use Rattle.seg_map.specs.Linking.{CanLink}
-use Rattle.seg_map.proofs.Beginnings.{beside as not_beside, keys_agree, moved}
-use Rattle.seg_map.proofs.Entering.{HaveKeys, Laws, count_pairs, few_pairs, good, keys, keys_among, listed, pair_block}
-use Rattle.seg_map.proofs.Entering.{pair_parts, tree_among, read_spelled}
-use Rattle.seg_map.proofs.Searching.{lent_own}
-use Rattle.seg_map.proofs.PairSteps.{target_whole}
-use Rattle.seg_map.proofs.Rewriting.{beside, rewritten}
-use Rattle.seg_map.proofs.Frames.{live_stays}
-use Rattle.seg_map.proofs.Leaving.{apart_all, in_from, nodes_in}
-use Rattle.seg_map.proofs.PutLists.{place_of, put_all, put_length, put_nodes, put_rising}
 
 -- a link among nodes is one among more of them
 leads_more : (n : ℕ) (ns : List ℕ) (o : Option ℕ) → leads (λ j. is_in j ns) o ≡ true

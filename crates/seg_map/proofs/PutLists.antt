@@ -3,10 +3,9 @@ use Rattle.seg_map.proofs.Common.{◌≡◌, refl, sym, ap, subst, ◌∙◌, �
 use Rattle.seg_map.proofs.Common.{List, [], ◌∷◌, length, Option, Some, None, AllByRecursion, false≢true, cases_Bool}
 use Rattle.seg_map.proofs.Common.{has_place, put, Chains, Pair, is_key, is_rising, pair_at, put_pair, nodes_of_pairs}
 use Rattle.seg_map.proofs.Common.{pair_node, before_key, comes_before}
-use Rattle.std.proofs.lemmas.Bool.{and_from}
-use Rattle.seg_map.proofs.Entering.{HaveKeys}
+use Rattle.seg_map.proofs.{Entering.HaveKeys, PairLists.Below, PairLists.below_rising, PairLists.rising_below}
 use Rattle.seg_map.proofs.FoundPairs.{none_above, rising_rest}
-use Rattle.seg_map.proofs.PairLists.{Below, below_rising, rising_below}
+use Rattle.std.proofs.lemmas.Bool.{and_from}
 
 pub either_one : (b c : Bool) → not (b || c) ≡ false → b ≡ false → c ≡ true
 either_one true c e f = absurd (false≢true (sym f))

@@ -5,20 +5,17 @@ use Rattle.seg_map.proofs.Common.{if◌then◌else◌, AllByRecursion, last_or, 
 use Rattle.seg_map.proofs.Common.{Tree, bits, nodes_of, first_not, last_before, entry_of, has_room, live_of, found-room}
 use Rattle.seg_map.proofs.Common.{room-less, IsKeyTree, keys_in, Pair, IsPairAt, is_rising, pair_at, Chains}
 use Rattle.seg_map.proofs.Common.{comes_before, own_nodes, pair_cells, stands_before, HoldsMap, IsPairIn, final_pair}
-use Rattle.seg_map.proofs.Common.{first_pair, is_passed, last_pair, pair_node, entry_in, exit_in}
-use Rattle.std.specs.Prelude.{option_and_then}
-use Rattle.link_tree.specs.Searching.{path_length}
-use Rattle.link_tree.specs.Ways.{exit_of}
-use Rattle.seg_types.specs.declared.plain.Plain.{Ghosts as Plain}
-use Rattle.seg_map.specs.PairNodes.{both}
-use Rattle.seg_map.specs.Places.{IsSomeMap, SearchSteps, item_of, value_of_pair}
-use Rattle.seg_map.specs.Searches.{FindsExit, IsOpened, IsRead, LooksFor, LooksUp, item_at, last_path, node_with}
-use Rattle.seg_map.specs.Searches.{path_in, reading_steps}
 use Rattle.seg_map.proofs.Entering.{AreAt, AreIn, HaveKeys, Laws, first_node, key_tree, keys, last_node, length-nodes}
+use Rattle.seg_map.proofs.Common.{first_pair, is_passed, last_pair, pair_node, entry_in, exit_in}
 use Rattle.seg_map.proofs.Entering.{own, pair_parts, read_spelled, value_of}
-use Rattle.seg_map.proofs.Beginnings.{narrowed}
-use Rattle.seg_map.proofs.FoundLists.{all_reversed, each, last_mapped}
+use Rattle.seg_map.proofs.{Beginnings.narrowed, FoundLists.all_reversed, FoundLists.each, FoundLists.last_mapped}
 use Rattle.seg_map.proofs.FoundPairs.{by_key, pair_by_key}
+use Rattle.std.specs.Prelude.{option_and_then}
+use Rattle.link_tree.specs.{Searching.path_length, Ways.exit_of}
+use Rattle.seg_types.specs.declared.plain.Plain.{Ghosts as Plain}
+use Rattle.seg_map.specs.Searches.{FindsExit, IsOpened, IsRead, LooksFor, LooksUp, item_at, last_path, node_with}
+use Rattle.seg_map.specs.{PairNodes.both, Places.IsSomeMap, Places.SearchSteps, Places.item_of, Places.value_of_pair}
+use Rattle.seg_map.specs.Searches.{path_in, reading_steps}
 
 module _ {K V : Type 0} {kp : Plain K} {vp : Plain V} (laws : Laws kp) (c : Cut) {h at : ℕ} {ps : List (Pair K V)}
     (s : HoldsMap kp vp c.bytes h at ps) {root : Option ℕ} {ms : List ℕ}
@@ -217,9 +214,9 @@ module _ {K V : Type 0} {k : Plain K} {v : Plain V} {c : Cut} {h at : ℕ} {pair
       → IfSome found (λ n. IsTrue (has_room (live_of c.bytes) n (16 + k.SIZE + v.SIZE)))
   found_room s = rw (f.node s.0 s.1) (room_read k v c f.keys (pair s.0) (f.good s.0 s.1))
 
-  pub key_room : IsSomeMap k v c.bytes h at
+  pub found_key_room : IsSomeMap k v c.bytes h at
       → IfSome found (λ n. IsTrue (has_room (live_of c.bytes) n (16 + k.SIZE)))
-  key_room s = less found (found_room s)
+  found_key_room s = less found (found_room s)
     where
       less : (o : Option ℕ) → IfSome o (λ n. IsTrue (has_room (live_of c.bytes) n (16 + k.SIZE + v.SIZE)))
           → IfSome o (λ n. IsTrue (has_room (live_of c.bytes) n (16 + k.SIZE)))

@@ -4,10 +4,9 @@ use Rattle.seg_map.proofs.Common.{length, arith, IsTrue, Some, AllByRecursion, f
 use Rattle.seg_map.proofs.Common.{Memory, Cut, Same, bytes_of, word_at, Has-same, Same-word, Same-link, nodes_of, is_in}
 use Rattle.seg_map.proofs.Common.{holds_same, Extent, LiveSet, handle, cells_of, IsHeap, SameBlock, extent_at, has_room}
 use Rattle.seg_map.proofs.Common.{live_of, cell_stays, Pair, IsPairAt, is_rising, HoldsMap, IsPairIn, nodes_of_pairs}
-use Rattle.seg_map.proofs.Common.{pair_node}
-use Rattle.seg_types.specs.declared.plain.Plain.{Ghosts as Plain}
+use Rattle.seg_map.proofs.{Common.pair_node, PairSteps.same_red}
 use Rattle.seg_map.proofs.Entering.{AreAt, AreIn, Laws, length-nodes, pair_parts}
-use Rattle.seg_map.proofs.PairSteps.{same_red}
+use Rattle.seg_types.specs.declared.plain.Plain.{Ghosts as Plain}
 
 -- the fields of a node in a block that stays
 pub block_cells : (m m' : Memory) (x : Extent) → SameBlock m m' x → 32 ≤ x.len

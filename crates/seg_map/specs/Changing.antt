@@ -5,11 +5,9 @@ use Rattle.raw_region.specs.Format.{current}
 use Rattle.raw_region.specs.Memory.{Cut, Has, Same, SamePlace, bytes_of, word_at}
 use Rattle.block_tags.specs.declared.tile.Role.TheVariants.{Node}
 use Rattle.offset_link.specs.Link.{link_at}
-use Rattle.link_tree.specs.Tree.{bits}
-use Rattle.link_tree.specs.Nodes.{is_in}
-use Rattle.best_fit.specs.Exchange.{IsExchanged, SameBlockBut}
+use Rattle.link_tree.specs.{Tree.bits, Nodes.is_in}
+use Rattle.best_fit.specs.{Exchange.IsExchanged, Exchange.SameBlockBut, Fit.added, Fit.place, Fit.released}
 use Rattle.best_fit.specs.Extents.{Extent, handle}
-use Rattle.best_fit.specs.Fit.{added, place, released}
 use Rattle.best_fit.specs.Heap.{IsAllocated, IsChanged, IsRefused, LaysOut, extent_at, heap_touches, live_of}
 use Rattle.seg_types.specs.declared.plain.Plain.{Ghosts as Plain}
 use Rattle.seg_map.specs.Map.{Pair, IsPairAt, node_len, pair_at, put_pair, remove_pair}

@@ -1,11 +1,9 @@
 -- Nodes that enter and leave the tree of a map.
 use Rattle.std.specs.Prelude.{◌≡◌, ℕ, ◌+◌, ◌*◌, ◌≤◌, true, not, Option, Some, List, length, IfSome}
 use Rattle.raw_region.specs.Memory.{Cut}
-use Rattle.link_tree.specs.Tree.{Tree, IsSearchTree, bits, nodes_of}
+use Rattle.link_tree.specs.{Tree.Tree, Tree.IsSearchTree, Tree.bits, Tree.nodes_of, Ways.entry_of, Ways.exit_of}
 use Rattle.link_tree.specs.Nodes.{has_place, is_in, leads, put, without}
-use Rattle.link_tree.specs.Ways.{entry_of, exit_of}
-use Rattle.seg_types.specs.declared.plain.Plain.{Ghosts as Plain}
-use Rattle.seg_types.specs.Plain.{value_in}
+use Rattle.seg_types.specs.{declared.plain.Plain.Ghosts as Plain, Plain.value_in}
 use Rattle.seg_map.specs.PairNodes.{comes_before, is_pair_node, kept_of, key_of, pair_cells}
 
 -- the keys of nodes

@@ -1,8 +1,7 @@
 -- Maps from numbers of one scalar kind to numbers of one, as a directory has them.
 use Rattle.std.specs.Prelude.{ℕ, ℤ, Bool, List}
 use Rattle.raw_region.specs.Memory.{Memory}
-use Rattle.seg_types.specs.declared.kinds.ScalarKind.{ScalarKind}
-use Rattle.seg_types.specs.Kinds.{size_of, spelling, is_value}
+use Rattle.seg_types.specs.{declared.kinds.ScalarKind.ScalarKind, Kinds.size_of, Kinds.spelling, Kinds.is_value}
 use Rattle.seg_map.specs.Map.{Pair, is_pair, IsPairAt, IsMapAt}
 
 abbrev pub NumberPair : Type 0

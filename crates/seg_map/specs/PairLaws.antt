@@ -1,19 +1,15 @@
 -- The laws of the pairs as nodes.
 use Rattle.std.proofs.Common.{◌≡◌, refl, sym, ap, subst, ◌∙◌, ℕ, suc, ◌+◌, ◌-◌, ◌%◌, ◌^◌, ◌≤◌, ◌⊎◌, inl, inr, Bool}
 use Rattle.std.proofs.Common.{true, false, ◌&&◌, not, List, [], ◌∷◌, length, map, arith, ◌==◌, IsTrue}
-use Rattle.std.specs.Prelude.{Option, Some, None}
-use Rattle.std.specs.List.{list_all, list_any}
+use Rattle.std.specs.{Prelude.Option, Prelude.Some, Prelude.None, List.list_all, List.list_any}
 use Rattle.std.proofs.lemmas.Bool.{false≢true, both_ways, and_parts, and_from, or_cases, or_left, or_right, eqb-true}
 use Rattle.std.proofs.lemmas.Bool.{eq-eqb, leb-true, cond-true, cond-false, not-true}
 use Rattle.raw_region.specs.Memory.{Cut, bytes_of}
 use Rattle.block_tags.specs.declared.tile.Role.{Role}
 use Rattle.block_tags.specs.declared.tile.Role.TheVariants.{Object, Index, Storage, Node}
-use Rattle.link_tree.specs.Tree.{Cell}
-use Rattle.link_tree.specs.Nodes.{is_in, leads}
+use Rattle.link_tree.specs.{Tree.Cell, Nodes.is_in, Nodes.leads}
 use Rattle.best_fit.specs.Extents.{Extent, LiveSet, handle, is_proper, proper_from}
-use Rattle.best_fit.specs.FreeTree.{cells_of}
-use Rattle.best_fit.specs.Heap.{live_of}
-use Rattle.best_fit.specs.Table.{same_role, serves}
+use Rattle.best_fit.specs.{FreeTree.cells_of, Heap.live_of, Table.same_role, Table.serves}
 use Rattle.best_fit.proofs.Laws.{is_proper-IsProper, legal_size, proper_from-IsFirst, proper_from-reaches}
 use Rattle.link_tree.proofs.Laws.{all_at}
 use Rattle.seg_map.specs.PairNodes.{is_block_in, links_among, is_good, is_pair_node, pair_cells, before_key}

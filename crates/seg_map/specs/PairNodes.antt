@@ -6,12 +6,9 @@ use Rattle.std.specs.Prelude.{◌++◌, ◌==◌, nat_le, nat_lt, if◌then◌el
 use Rattle.std.specs.List.{list_all, list_any}
 use Rattle.raw_region.specs.Memory.{Memory, Cut, bytes_of, read, word_at}
 use Rattle.block_tags.specs.declared.tile.Role.TheVariants.{Node}
-use Rattle.link_tree.specs.Tree.{Cell, Tree, nodes_of, tree_from}
-use Rattle.link_tree.specs.Nodes.{is_in, leads}
+use Rattle.link_tree.specs.{Tree.Cell, Tree.Tree, Tree.nodes_of, Tree.tree_from, Nodes.is_in, Nodes.leads}
 use Rattle.best_fit.specs.Extents.{Extent, LiveSet, handle, end_of, is_proper}
-use Rattle.best_fit.specs.FreeTree.{cells_of}
-use Rattle.best_fit.specs.Heap.{is_live_in, live_of}
-use Rattle.best_fit.specs.Table.{serves}
+use Rattle.best_fit.specs.{FreeTree.cells_of, Heap.is_live_in, Heap.live_of, Table.serves}
 
 -- a node block in use that holds so many bytes has this handle
 abbrev pub is_block_in : ℕ → LiveSet → ℕ → Bool

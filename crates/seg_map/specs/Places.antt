@@ -2,11 +2,9 @@
 use Rattle.std.specs.Prelude.{◌≡◌, ◌≢◌, ℕ, ◌+◌, ◌*◌, ◌%◌, ◌≤◌, Bool, true, not, Option, Some, None, List, find, map}
 use Rattle.std.specs.Prelude.{option_map, length, reverse, if◌then◌else◌, IsTrue}
 use Rattle.std.specs.List.{AllByRecursion, last_or}
-use Rattle.raw_region.specs.Format.{current}
-use Rattle.raw_region.specs.Memory.{bytes_of}
+use Rattle.raw_region.specs.{Format.current, Memory.bytes_of}
 use Rattle.link_tree.specs.Tree.{bits}
-use Rattle.best_fit.specs.Extents.{LiveSet, handle}
-use Rattle.best_fit.specs.Heap.{IsHeap, extent_at, has_room, live_of}
+use Rattle.best_fit.specs.{Extents.LiveSet, Extents.handle, Heap.IsHeap, Heap.extent_at, Heap.has_room, Heap.live_of}
 use Rattle.seg_types.specs.declared.plain.Plain.{Ghosts as Plain}
 use Rattle.seg_map.specs.Map.{Pair, IsMapAt, is_pair, is_rising, pair_at}
 

@@ -1,17 +1,12 @@
 -- The steps of a search in a map, one by one: those of its path, from the root of the tree of its pairs down.
 use Rattle.std.specs.Prelude.{◌≡◌, ℕ, ◌+◌, ◌≤◌, Bool, true, false, Option, Some, None, List, IfSome, IsTrue}
-use Rattle.std.specs.Prelude.{if◌then◌else◌, option_and_then, option_map}
-use Rattle.std.specs.List.{AllByRecursion}
+use Rattle.std.specs.{Prelude.if◌then◌else◌, Prelude.option_and_then, Prelude.option_map, List.AllByRecursion}
 use Rattle.raw_region.specs.Memory.{Cut, Memory, bytes_of, read}
-use Rattle.link_tree.specs.Searching.{path_length}
-use Rattle.link_tree.specs.Tree.{Tree, nodes_of}
-use Rattle.link_tree.specs.Ways.{entry_of, exit_of}
+use Rattle.link_tree.specs.{Searching.path_length, Tree.Tree, Tree.nodes_of, Ways.entry_of, Ways.exit_of}
 use Rattle.best_fit.specs.Heap.{has_room, live_of}
-use Rattle.seg_types.specs.declared.plain.Plain.{Ghosts as Plain}
-use Rattle.seg_types.specs.Plain.{value_in}
+use Rattle.seg_types.specs.{declared.plain.Plain.Ghosts as Plain, Plain.value_in}
 use Rattle.seg_map.specs.Linking.{IsKeyTree, keys_in}
-use Rattle.seg_map.specs.Map.{Pair}
-use Rattle.seg_map.specs.PairNodes.{both, comes_before, stands_before}
+use Rattle.seg_map.specs.{Map.Pair, PairNodes.both, PairNodes.comes_before, PairNodes.stands_before}
 use Rattle.seg_map.specs.Places.{FindsKey, HoldsMap, SearchSteps, final_pair, first_pair, item_of, last_pair, pair_node}
 
 -- the nodes that a search goes to, for the first pair that is not below a key, or that is above it

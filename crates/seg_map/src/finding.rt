@@ -2,13 +2,10 @@
 ghost use Rattle.std.specs.Prelude.{◌≡◌, ◌+◌, true, Option, Some, IfSome, IsTrue, option_and_then};
 ghost use Rattle.raw_region.specs.Memory.{bytes_of};
 ghost use Rattle.link_tree.specs.Nodes.{leads};
-ghost use Rattle.best_fit.specs.Extents.{is_proper};
-ghost use Rattle.best_fit.specs.Heap.{has_room, live_of};
-ghost use Rattle.seg_map.specs.Linking.{HasTree};
-ghost use Rattle.seg_map.specs.PairNodes.{is_pair_node};
-ghost use Rattle.seg_map.specs.Places.{IsSomeMap, first_pair, last_pair};
-ghost use Rattle.seg_map.specs.Searches.{FindsEntry, FindsExit, IsOpened, LooksFor, LooksUp};
-ghost use Rattle.seg_map.specs.Searches.{item_at, node_with, path_in, reading_steps};
+ghost use Rattle.best_fit.specs.{Extents.is_proper, Heap.has_room, Heap.live_of};
+ghost use Rattle.seg_map.specs.Searches.{FindsEntry, FindsExit, IsOpened, LooksFor, LooksUp, item_at, node_with};
+ghost use Rattle.seg_map.specs.{Linking.HasTree, Searches.path_in, Searches.reading_steps};
+ghost use Rattle.seg_map.specs.{PairNodes.is_pair_node, Places.IsSomeMap, Places.first_pair, Places.last_pair};
 
 use crate::nodes::Reading;
 use crate::owned::Own;

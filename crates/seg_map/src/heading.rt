@@ -1,9 +1,7 @@
 //! The three words of a map.
 ghost use Rattle.std.specs.Prelude.{◌≡◌, ◌+◌, ◌%◌, IfSome, IsTrue};
-ghost use Rattle.best_fit.specs.Extents.{is_proper};
-ghost use Rattle.best_fit.specs.Heap.{has_room, live_of};
-ghost use Rattle.seg_map.specs.Changing.{CountsPairs, IsHeaded};
-ghost use Rattle.seg_map.specs.Places.{IsSomeMap};
+ghost use Rattle.best_fit.specs.{Extents.is_proper, Heap.has_room, Heap.live_of};
+ghost use Rattle.seg_map.specs.{Changing.CountsPairs, Changing.IsHeaded, Places.IsSomeMap};
 
 use best_fit::Heap;
 use seg_types::Plain;

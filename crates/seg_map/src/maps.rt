@@ -1,7 +1,6 @@
 //! Maps from values of a fixed number of bytes to such values.
 ghost use Rattle.std.specs.Prelude.{◌≡◌, ◌+◌, ◌%◌, ◌≤◌, IsTrue, true, false};
-ghost use Rattle.best_fit.specs.Extents.{is_proper};
-ghost use Rattle.best_fit.specs.Heap.{has_room, live_of};
+ghost use Rattle.best_fit.specs.{Extents.is_proper, Heap.has_room, Heap.live_of};
 ghost use Rattle.seg_map.specs.Changing.{ChangeSteps, CountsPairs, Erases, IsNew, Puts, Releases};
 ghost use Rattle.seg_map.specs.Places.{FindsItem, FindsItemBefore, FindsLastItem, FindsValue, IsSomeMap, SearchSteps};
 ghost use Rattle.seg_map.specs.Searches.{LastTakes, LookBackTakes, LookUpTakes};

@@ -1,11 +1,9 @@
 //! The pairs of a map as the nodes of a tree.
 ghost use Rattle.std.specs.Prelude.{◌+◌};
 ghost use Rattle.seg_types.specs.Plain.{value_in};
-ghost use Rattle.seg_map.specs.Linking.{keys_in};
-ghost use Rattle.seg_map.specs.PairNodes.{Kept as WhatStays, comes_before, is_pair_node, kept_of, key_of};
-ghost use Rattle.seg_map.specs.PairNodes.{pair_cells, stands_before};
-ghost use Rattle.seg_map.specs.PairLaws.{comes_agrees, comes_irreflexive, comes_transitive};
-ghost use Rattle.seg_map.specs.PairLaws.{pairs_finite, pairs_left, pairs_right};
+ghost use Rattle.seg_map.specs.PairNodes.{Kept as WhatStays, comes_before, is_pair_node, kept_of, key_of, pair_cells};
+ghost use Rattle.seg_map.specs.PairLaws.{comes_agrees, comes_irreflexive, comes_transitive, pairs_finite, pairs_left};
+ghost use Rattle.seg_map.specs.{Linking.keys_in, PairNodes.stands_before, PairLaws.pairs_right};
 
 use crate::owned::Own;
 use crate::reading::{KEY, Sought, is_before, is_below, value_at};

@@ -1,7 +1,6 @@
 //! Pairs that are put.
 ghost use Rattle.std.specs.Prelude.{◌≡◌, ◌+◌, ◌≤◌, IsTrue, true};
-ghost use Rattle.raw_region.specs.Format.{current};
-ghost use Rattle.raw_region.specs.Memory.{Has, bytes_of};
+ghost use Rattle.raw_region.specs.{Format.current, Memory.Has, Memory.bytes_of};
 ghost use Rattle.best_fit.specs.Heap.{IsChanged, has_room, heap_touches, live_of};
 ghost use Rattle.seg_map.specs.Changing.{CanPutIn, Makes, PutsIn, TreeSteps};
 

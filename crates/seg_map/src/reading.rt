@@ -1,8 +1,7 @@
 //! Keys and values that are read, and compared.
 ghost use Rattle.std.specs.Prelude.{◌≡◌, ◌+◌, IsTrue};
 ghost use Rattle.raw_region.specs.Memory.{bytes_of, read};
-ghost use Rattle.best_fit.specs.Extents.{is_proper};
-ghost use Rattle.best_fit.specs.Heap.{has_room, live_of};
+ghost use Rattle.best_fit.specs.{Extents.is_proper, Heap.has_room, Heap.live_of};
 ghost use Rattle.seg_types.specs.Plain.{value_in};
 ghost use Rattle.seg_map.specs.PairNodes.{before_key, stands};
 

@@ -1,8 +1,6 @@
 -- The links that make way, and then the new one.
-use Rattle.seg_index.proofs.Common.{◌≡◌, ◌+◌, ◌-◌, ◌*◌, ◌∙◌, ap, sym, subst, arith, IsTrue, inr, bytes_of, link_at}
-use Rattle.seg_index.proofs.Common.{SameBut-link, LiveSet, has_room, live_of, room-less}
-use Rattle.seg_index.proofs.Changing.{changed_trans, same_live}
-use Rattle.seg_index.proofs.Rooms.{inside}
+use Rattle.seg_index.proofs.{◌≡◌, ◌+◌, ◌-◌, ◌*◌, ◌∙◌, ap, sym, subst, arith, IsTrue, inr, bytes_of, link_at}
+use Rattle.seg_index.proofs.{SameBut-link, LiveSet, has_room, live_of, room-less, changed_trans, same_live, inside}
 use Rattle.seg_index.proofs.adding.spread.Goals as goal
 
 pub overflow_mul-place : goal.overflow_mul-place

@@ -1,6 +1,6 @@
 -- The name lies in the payload.
-use Rattle.seg_index.proofs.Common.{sym, subst, ◌+◌, ◌%◌, ◌∙◌, ap, arith, IsTrue, bytes_of, read, has_room, live_of}
-use Rattle.seg_index.proofs.Common.{room-less, name_len_at}
+use Rattle.seg_index.proofs.{sym, subst, ◌+◌, ◌%◌, ◌∙◌, ap, arith, IsTrue, bytes_of, read, has_room, live_of, room-less}
+use Rattle.seg_index.proofs.{name_len_at}
 use Rattle.seg_index.proofs.comparing.name_of.Goals as goal
 
 pub word-len-requires : goal.word-len-requires

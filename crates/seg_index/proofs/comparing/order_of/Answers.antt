@@ -1,5 +1,5 @@
 -- The code of a kind stands in the first word.
-use Rattle.seg_index.proofs.Common.{subst, arith, IsTrue, bytes_of, has_room, live_of, room-less, Key}
+use Rattle.seg_index.proofs.{subst, arith, IsTrue, bytes_of, has_room, live_of, room-less, Key}
 use Rattle.seg_index.specs.Lookups.{key_end}
 use Rattle.seg_index.proofs.comparing.order_of.Goals as goal
 

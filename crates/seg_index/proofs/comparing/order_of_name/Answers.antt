@@ -1,7 +1,6 @@
 -- Where the fronts differ, the names stand as they do.
-use Rattle.seg_index.proofs.Common.{◌≡◌, ◌≢◌, ◌≤◌, ◌∙◌, sym, ap, ap₂, subst, arith, ℕ, List, length, Equal, slice_cmp}
-use Rattle.seg_index.proofs.Common.{nat_cmp, Ordering, bytes_of, AreBytes, front, name_at}
-use Rattle.seg_index.proofs.Begun.{front_equal, front_order}
+use Rattle.seg_index.proofs.{◌≡◌, ◌≢◌, ◌≤◌, ◌∙◌, sym, ap, ap₂, subst, arith, ℕ, List, length, Equal, slice_cmp, nat_cmp}
+use Rattle.seg_index.proofs.{Ordering, bytes_of, AreBytes, front, name_at, front_equal, front_order}
 use Rattle.seg_index.proofs.comparing.order_of_name.Goals as goal
 
 apart : (xs ys : List ℕ) (f g : ℕ) (r : Ordering) → AreBytes xs → AreBytes ys → f ≡ front xs → g ≡ front ys → f ≢ g

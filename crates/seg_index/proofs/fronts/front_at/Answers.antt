@@ -1,8 +1,7 @@
 -- The eight bytes lie in the heap, whose last 16 bytes are no block's.
-use Rattle.seg_index.proofs.Common.{◌≡◌, ◌+◌, ◌-◌, ◌*◌, ◌/◌, ◌%◌, ◌^◌, ◌∙◌, ap, subst, arith, bit_and, ℕ, List, length}
-use Rattle.seg_index.proofs.Common.{slice_range, big_number, bytes_of, live_of, room-less, AreBytes, name_len_at}
-use Rattle.seg_index.proofs.Begun.{long_front, short_front}
-use Rattle.seg_index.proofs.Rooms.{inside}
+use Rattle.seg_index.proofs.{◌≡◌, ◌+◌, ◌-◌, ◌*◌, ◌/◌, ◌%◌, ◌^◌, ◌∙◌, ap, subst, arith, bit_and, ℕ, List, length}
+use Rattle.seg_index.proofs.{slice_range, big_number, bytes_of, live_of, room-less, AreBytes, name_len_at, long_front}
+use Rattle.seg_index.proofs.{short_front, inside}
 use Rattle.seg_index.proofs.fronts.front_at.Goals as goal
 
 pub word-len-requires : goal.word-len-requires

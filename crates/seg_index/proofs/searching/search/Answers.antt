@@ -1,10 +1,8 @@
 -- Each turn halves what is left, and compares one key.
-use Rattle.seg_index.proofs.Common.{◌≡◌, ◌+◌, ap, refl, sym, subst, ◌∙◌, ◌≤◌, arith, bytes_of, bits, HasEntry, middle}
-use Rattle.seg_index.proofs.Common.{order_at}
+use Rattle.seg_index.proofs.{◌≡◌, ◌+◌, ap, refl, sym, subst, ◌∙◌, ◌≤◌, arith, bytes_of, bits, HasEntry, middle}
+use Rattle.seg_index.proofs.{order_at, IsLeft, entry_of, left_down, left_first, left_found, left_none, left_up}
+use Rattle.seg_index.proofs.{same_search, bits_few}
 use Rattle.seg_index.specs.Beginnings.{key_front}
-use Rattle.seg_index.proofs.Narrowing.{IsLeft, entry_of, left_down, left_first, left_found, left_none, left_up}
-use Rattle.seg_index.proofs.Narrowing.{same_search}
-use Rattle.seg_index.proofs.Orders.{bits_few}
 use Rattle.seg_index.proofs.searching.search.Goals as goal
 use Rattle.seg_index.proofs.searching.search.Goals.{After-compare}
 

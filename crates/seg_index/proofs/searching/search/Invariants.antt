@@ -1,6 +1,5 @@
 -- What is left of the entries, and how many comparisons are left for them.
-use Rattle.seg_index.proofs.Common.{◌≡◌, ◌-◌}
-use Rattle.seg_index.proofs.Narrowing.{IsLeft}
+use Rattle.seg_index.proofs.{◌≡◌, ◌-◌, IsLeft}
 use Rattle.seg_index.proofs.searching.search.Given as goal
 
 abbrev pub invariant-halves : goal.invariant-halves

@@ -1,6 +1,5 @@
 -- The words and the block of the index stay.
-use Rattle.seg_index.proofs.Entries.{in_header}
-use Rattle.seg_index.proofs.Staying.{still_released, still_taken, still_written}
+use Rattle.seg_index.proofs.{in_header, still_released, still_taken, still_written}
 use Rattle.seg_index.proofs.theorems.indexes_stay.Goals as goal
 
 pub returns : goal.returns

@@ -1,6 +1,6 @@
 -- What holds of each range of places holds of all.
-use Rattle.seg_index.proofs.Common.{◌≡◌, refl, ◌-◌, ◌≤◌, subst, arith, bits, comparisons_among, word_at}
-use Rattle.seg_index.proofs.Counting.{few_comparisons, same_comparisons}
+use Rattle.seg_index.proofs.{◌≡◌, refl, ◌-◌, ◌≤◌, subst, arith, bits, comparisons_among, word_at, few_comparisons}
+use Rattle.seg_index.proofs.{same_comparisons}
 use Rattle.seg_index.proofs.theorems.searches_halve.Goals as goal
 
 pub returns : goal.returns

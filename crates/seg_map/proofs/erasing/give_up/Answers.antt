@@ -1,6 +1,5 @@
 -- The pair leaves the map, and its block is given back.
-use Rattle.seg_map.proofs.Bounds.{laws}
-use Rattle.seg_map.proofs.Leaving.{erased, gone_live}
+use Rattle.seg_map.proofs.{laws, erased, gone_live}
 use Rattle.seg_map.proofs.erasing.give_up.Goals as goal
 
 pub deallocate-requires : goal.deallocate-requires

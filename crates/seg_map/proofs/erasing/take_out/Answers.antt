@@ -1,8 +1,6 @@
 -- The node leaves the tree, and the three words say so.
-use Rattle.seg_map.proofs.Common.{◌+◌, arith, live_of, room-less}
-use Rattle.seg_map.proofs.Bounds.{laws}
-use Rattle.seg_map.proofs.Leaving.{can_unlink, few_all, live_left, taken, top_whole}
-use Rattle.seg_map.proofs.PairLists.{removed_length}
+use Rattle.seg_map.proofs.{◌+◌, arith, live_of, room-less, laws, can_unlink, few_all, live_left, taken, top_whole}
+use Rattle.seg_map.proofs.{removed_length}
 use Rattle.seg_map.proofs.erasing.take_out.Goals as goal
 
 pub link-root-requires-clause-room : goal.link-root-requires-clause-room

@@ -1,5 +1,5 @@
 -- The pair that is found is read.
-use Rattle.seg_map.proofs.Searching.{finds_before, found_room, looked_up}
+use Rattle.seg_map.proofs.{finds_before, found_room, looked_up}
 use Rattle.seg_map.proofs.finding.find_before.Goals as goal
 
 pub read_found-requires-clause-room : goal.read_found-requires-clause-room

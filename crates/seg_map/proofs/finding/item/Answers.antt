@@ -1,5 +1,5 @@
 -- The key lies before the value.
-use Rattle.seg_map.proofs.Common.{◌+◌, arith, live_of, room-less}
+use Rattle.seg_map.proofs.{◌+◌, arith, live_of, room-less}
 use Rattle.seg_map.proofs.finding.item.Goals as goal
 
 pub value_at-requires-clause-room : goal.value_at-requires-clause-room

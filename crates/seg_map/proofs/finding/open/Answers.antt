@@ -1,7 +1,5 @@
 -- The pairs of the map are a search tree.
-use Rattle.seg_map.proofs.Common.{◌+◌, arith, live_of, room-less}
-use Rattle.seg_map.proofs.Bounds.{laws}
-use Rattle.seg_map.proofs.Searching.{lent_tree, opened}
+use Rattle.seg_map.proofs.{◌+◌, arith, live_of, room-less, laws, lent_tree, opened}
 use Rattle.seg_map.proofs.finding.open.Goals as goal
 
 pub link-root-requires-clause-room : goal.link-root-requires-clause-room

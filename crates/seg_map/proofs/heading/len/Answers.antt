@@ -1,6 +1,5 @@
 -- The count is the second word.
-use Rattle.seg_map.proofs.Common.{◌≡◌, ap, ◌∙◌, ◌+◌, arith, bytes_of, word_at, live_of, room-less}
-use Rattle.seg_map.proofs.Payloads.{small}
+use Rattle.seg_map.proofs.{◌≡◌, ap, ◌∙◌, ◌+◌, arith, bytes_of, word_at, live_of, room-less, small}
 use Rattle.seg_map.proofs.heading.len.Goals as goal
 
 pub overflow_add-at : goal.overflow_add-at

@@ -1,7 +1,5 @@
 -- Three words that follow each other.
-use Rattle.seg_map.proofs.Common.{◌≡◌, ◌+◌, arith, live_of, changed-room, room-less}
-use Rattle.seg_map.proofs.Heads.{headed}
-use Rattle.seg_map.proofs.Payloads.{small}
+use Rattle.seg_map.proofs.{◌≡◌, ◌+◌, arith, live_of, changed-room, room-less, headed, small}
 use Rattle.seg_map.proofs.heading.write_head.Goals as goal
 
 pub set_link-requires-clause-room : goal.set_link-requires-clause-room

@@ -1,6 +1,5 @@
 -- What is known of the nodes is known of the heap.
-use Rattle.seg_map.proofs.Common.{subst, Linked}
-use Rattle.seg_map.proofs.Relinking.{added, fewer, linked}
+use Rattle.seg_map.proofs.{subst, Linked, added, fewer, linked}
 use Rattle.seg_map.proofs.linking.plant.Goals as goal
 
 pub insert_at-changed-requires : goal.insert_at-changed-requires

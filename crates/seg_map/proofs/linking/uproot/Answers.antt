@@ -1,6 +1,5 @@
 -- What is known of the nodes is known of the heap.
-use Rattle.seg_map.proofs.Common.{subst, Unlinked}
-use Rattle.seg_map.proofs.Relinking.{added, unlinked}
+use Rattle.seg_map.proofs.{subst, Unlinked, added, unlinked}
 use Rattle.seg_map.proofs.linking.uproot.Goals as goal
 
 pub remove_at-changed-requires : goal.remove_at-changed-requires

@@ -1,10 +1,8 @@
 -- The links, the key and the value are written one after another.
-use Rattle.seg_map.proofs.Common.{current, Node, IsAllocated, node_len}
-use Rattle.seg_map.proofs.Bounds.{laws}
-use Rattle.seg_map.proofs.Making.{made, room_key, room_left, room_right, room_value}
-use Rattle.seg_map.proofs.putting.make_node.Given.{Over}
+use Rattle.seg_map.proofs.{current, Node, IsAllocated, node_len, laws, made, room_key, room_left, room_right}
+use Rattle.seg_map.proofs.{room_value}
+use Rattle.seg_map.proofs.{putting.make_node.Given.Over, putting.make_node.Goals.In_ok-node}
 use Rattle.seg_map.proofs.putting.make_node.Goals as goal
-use Rattle.seg_map.proofs.putting.make_node.Goals.{In_ok-node}
 
 -- the block is as long as a node
 new : (g : Over) (c : In_ok-node g) → IsAllocated current c.args.heap.now c.allocate.new.self

@@ -1,7 +1,6 @@
 -- The node enters the tree, and the three words say so.
-use Rattle.seg_map.proofs.Common.{sym, ap, ◌∙◌, ◌+◌, arith, bits, live_of, room-less}
-use Rattle.seg_map.proofs.Bounds.{laws}
-use Rattle.seg_map.proofs.Planting.{can_link, few_in_map, few_put, live_put, planted, top_put}
+use Rattle.seg_map.proofs.{sym, ap, ◌∙◌, ◌+◌, arith, bits, live_of, room-less, laws, can_link, few_in_map, few_put}
+use Rattle.seg_map.proofs.{live_put, planted, top_put}
 use Rattle.seg_map.proofs.putting.put_in.Goals as goal
 
 pub link-root-requires-clause-room : goal.link-root-requires-clause-room

@@ -1,9 +1,8 @@
 -- The bytes of the value lie in the block.
-use Rattle.seg_map.proofs.Common.{◌≡◌, ap, subst, ◌∙◌, ◌+◌, ◌-◌, List, ℕ, refl, length, take, drop, arith, bytes_of}
-use Rattle.seg_map.proofs.Common.{read}
+use Rattle.seg_map.proofs.{◌≡◌, ap, subst, ◌∙◌, ◌+◌, ◌-◌, List, ℕ, refl, length, take, drop, arith, bytes_of, read}
+use Rattle.seg_map.proofs.{live, payload_long, payload_part, small}
 use Rattle.seg_types.specs.Plain.{Reads}
 use Rattle.seg_types.proofs.Laws.{read-value}
-use Rattle.seg_map.proofs.Payloads.{live, payload_long, payload_part, small}
 use Rattle.seg_map.proofs.reading.value_at.Goals as goal
 
 pub block-requires : goal.block-requires

@@ -1,6 +1,5 @@
 -- The link of the entry lies in the block.
-use Rattle.seg_index.proofs.Common.{◌+◌, ◌*◌, arith}
-use Rattle.seg_index.proofs.Rooms.{inside}
+use Rattle.seg_index.proofs.{◌+◌, ◌*◌, arith, inside}
 use Rattle.seg_index.proofs.comparing.Comparisons.compare.Goals as goal
 
 pub overflow_mul-i : goal.overflow_mul-i

@@ -1,6 +1,5 @@
 -- The entry lies in the block.
-use Rattle.seg_index.proofs.Common.{◌+◌, ◌*◌, arith, bytes_of, live_of, room-less}
-use Rattle.seg_index.proofs.Entries.{capacity_small, entry_found, has_places}
+use Rattle.seg_index.proofs.{◌+◌, ◌*◌, arith, bytes_of, live_of, room-less, capacity_small, entry_found, has_places}
 use Rattle.seg_index.proofs.index.Index.at.Goals as goal
 
 pub overflow_mul-i : goal.overflow_mul-i

@@ -1,5 +1,5 @@
 -- What was taken goes back.
-use Rattle.seg_index.proofs.Common.{ℕ, sym, subst, Option, IfSome, current, Cut, IsAllocated, Keeps, LaysOut, live_of}
+use Rattle.seg_index.proofs.{ℕ, sym, subst, Option, IfSome, current, Cut, IsAllocated, Keeps, LaysOut, live_of}
 use Rattle.block_tags.specs.declared.tile.Role.TheVariants.{Index as IndexRole}
 use Rattle.best_fit.proofs.Laws.{taken-back}
 use Rattle.seg_index.proofs.index.Index.give_back.Goals as goal

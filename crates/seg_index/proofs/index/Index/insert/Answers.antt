@@ -1,9 +1,6 @@
 -- The links behind the place make way.
-use Rattle.seg_index.proofs.Common.{◌+◌, ◌-◌, ◌*◌, subst, arith, current, LiveSet, LaysOut, live_of, room-less}
-use Rattle.seg_index.proofs.Changing.{same_live}
-use Rattle.seg_index.proofs.Entries.{capacity_small, has_places, in_header}
-use Rattle.seg_index.proofs.Links.{links_lead}
-use Rattle.seg_index.proofs.Spreading.{block_and_count, inserted}
+use Rattle.seg_index.proofs.{◌+◌, ◌-◌, ◌*◌, subst, arith, current, LiveSet, LaysOut, live_of, room-less, same_live}
+use Rattle.seg_index.proofs.{capacity_small, has_places, in_header, links_lead, block_and_count, inserted}
 use Rattle.seg_index.proofs.index.Index.insert.Goals as goal
 
 pub spread-requires : goal.spread-requires

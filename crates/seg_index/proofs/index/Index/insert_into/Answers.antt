@@ -1,11 +1,8 @@
 -- The links are put round the new one, and then the block is the index's.
-use Rattle.seg_index.proofs.Common.{◌≡◌, ap, ap₂, refl, sym, subst, ◌∙◌, ◌+◌, ◌-◌, ◌*◌, ◌%◌, ◌≤◌, arith, insert}
-use Rattle.seg_index.proofs.Common.{length-insert, current, LiveSet, LaysOut, heap_touches, IsBlockFor, without_link}
-use Rattle.seg_index.proofs.Common.{grown_capacity}
-use Rattle.seg_index.proofs.Changing.{same_live}
-use Rattle.seg_index.proofs.Entries.{capacity_small, in_header}
-use Rattle.seg_index.proofs.Links.{insert_all, links_lead}
-use Rattle.seg_index.proofs.Settling.{filled, index_in, offer, source, target, written, written_both, written_keeps}
+use Rattle.seg_index.proofs.{◌≡◌, ap, ap₂, refl, sym, subst, ◌∙◌, ◌+◌, ◌-◌, ◌*◌, ◌%◌, ◌≤◌, arith, insert, length-insert}
+use Rattle.seg_index.proofs.{current, LiveSet, LaysOut, heap_touches, IsBlockFor, without_link, grown_capacity}
+use Rattle.seg_index.proofs.{same_live, capacity_small, in_header, insert_all, links_lead, filled, index_in, offer}
+use Rattle.seg_index.proofs.{source, target, written, written_both, written_keeps}
 use Rattle.seg_index.proofs.index.Index.insert_into.Goals as goal
 
 pub shift_non_null_links-requires : goal.shift_non_null_links-requires

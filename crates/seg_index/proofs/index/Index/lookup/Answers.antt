@@ -1,9 +1,7 @@
 -- The search goes over the links of the block.
-use Rattle.seg_index.proofs.Common.{◌≡◌, ◌+◌, sym, ap, ◌∙◌, arith, bytes_of, comparisons_in, place_of, AreKeys}
-use Rattle.seg_index.proofs.Common.{IsPlaceIn}
-use Rattle.seg_index.proofs.Entries.{capacity_small, comparisons_found, comparisons_none, keys_given, leads_from}
-use Rattle.seg_index.proofs.Entries.{no_entries, place_found, placed}
-use Rattle.seg_index.proofs.Narrowing.{same_search}
+use Rattle.seg_index.proofs.{◌≡◌, ◌+◌, sym, ap, ◌∙◌, arith, bytes_of, comparisons_in, place_of, AreKeys, IsPlaceIn}
+use Rattle.seg_index.proofs.{capacity_small, comparisons_found, comparisons_none, keys_given, leads_from, no_entries}
+use Rattle.seg_index.proofs.{place_found, placed, same_search}
 use Rattle.seg_index.proofs.index.Index.lookup.Goals as goal
 
 pub search-result-requires-clause-keys : goal.search-result-requires-clause-keys

@@ -1,6 +1,5 @@
 -- The capacity of an index is small.
-use Rattle.seg_index.proofs.Common.{arith}
-use Rattle.seg_index.proofs.Entries.{capacity_small}
+use Rattle.seg_index.proofs.{arith, capacity_small}
 use Rattle.seg_index.proofs.index.Index.prepare.Goals as goal
 
 pub grown-requires : goal.grown-requires

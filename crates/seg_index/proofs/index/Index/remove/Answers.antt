@@ -1,10 +1,7 @@
 -- The links behind the place close up.
-use Rattle.seg_index.proofs.Common.{◌≡◌, ◌+◌, ◌-◌, ◌*◌, subst, arith, current, bytes_of, AllLead, LiveSet, LaysOut}
-use Rattle.seg_index.proofs.Common.{live_of, room-less}
-use Rattle.seg_index.proofs.Changing.{same_live}
-use Rattle.seg_index.proofs.Entries.{capacity_small, has_places, in_header}
-use Rattle.seg_index.proofs.Links.{links_lead}
-use Rattle.seg_index.proofs.Spreading.{block_and_count, removed}
+use Rattle.seg_index.proofs.{◌≡◌, ◌+◌, ◌-◌, ◌*◌, subst, arith, current, bytes_of, AllLead, LiveSet, LaysOut, live_of}
+use Rattle.seg_index.proofs.{room-less, same_live, capacity_small, has_places, in_header, links_lead, block_and_count}
+use Rattle.seg_index.proofs.{removed}
 use Rattle.seg_index.proofs.index.Index.remove.Goals as goal
 
 pub overflow_mul-place : goal.overflow_mul-place

@@ -1,16 +1,13 @@
 -- A new block, and then the links go there.
-use Rattle.seg_index.proofs.Common.{◌≡◌, ap, ap₂, refl, sym, subst, ◌∙◌, ◌+◌, ◌*◌, ◌<◌, ◌≤◌, arith, None, Option, Some}
-use Rattle.seg_index.proofs.Common.{current, Extent, LiveSet, added, place, LaysOut, extent_at, heap_touches, live_of}
-use Rattle.seg_index.proofs.Common.{allocated-live, without_link, IsIndexOf, capacity_at, place_of}
+use Rattle.seg_index.proofs.{◌≡◌, ap, ap₂, refl, sym, subst, ◌∙◌, ◌+◌, ◌*◌, ◌<◌, ◌≤◌, arith, None, Option, Some}
+use Rattle.seg_index.proofs.{current, Extent, LiveSet, added, place, LaysOut, extent_at, heap_touches, live_of}
+use Rattle.seg_index.proofs.{allocated-live, without_link, IsIndexOf, capacity_at, place_of, same_live, in_header}
+use Rattle.seg_index.proofs.{links_lead, asked, is_found, meant, moved, source, taken_keeps, taken_offer, target}
+use Rattle.seg_index.proofs.{written, written_keeps}
 use Rattle.std.proofs.lemmas.Result.{MatchResult-from_err}
 use Rattle.block_tags.specs.declared.tile.Role.TheVariants.{Index as IndexRole}
 use Rattle.best_fit.specs.Heap.{IsRefused}
 use Rattle.seg_index.specs.Capacities.{IsRoomy}
-use Rattle.seg_index.proofs.Changing.{same_live}
-use Rattle.seg_index.proofs.Entries.{in_header}
-use Rattle.seg_index.proofs.Links.{links_lead}
-use Rattle.seg_index.proofs.Requested.{asked, is_found, meant}
-use Rattle.seg_index.proofs.Settling.{moved, source, taken_keeps, taken_offer, target, written, written_keeps}
 use Rattle.seg_index.proofs.index.Index.reserve.Goals as goal
 
 pub returns-in_err-block-clause-reserved : goal.returns-in_err-block-clause-reserved

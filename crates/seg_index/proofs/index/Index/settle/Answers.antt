@@ -1,12 +1,8 @@
 -- The words lead to the block, and the old one goes.
-use Rattle.seg_index.proofs.Common.{◌≡◌, ap, sym, subst, ◌∙◌, ◌+◌, ◌≤◌, IsTrue, arith, current, LiveSet, released}
-use Rattle.seg_index.proofs.Common.{LaysOut, heap_touches, is_live_in, live_of, KeepsRest, unlinked, without_link}
-use Rattle.seg_index.proofs.Common.{place_of}
-use Rattle.seg_index.proofs.Changing.{same_live}
-use Rattle.seg_index.proofs.Entries.{in_header, leads_from}
-use Rattle.seg_index.proofs.Keeping.{keeps_words}
-use Rattle.seg_index.proofs.Settling.{block_whole, gone, headed, headed_released_keeps, settled}
-use Rattle.seg_index.proofs.Settling.{settled_released}
+use Rattle.seg_index.proofs.{◌≡◌, ap, sym, subst, ◌∙◌, ◌+◌, ◌≤◌, IsTrue, arith, current, LiveSet, released, LaysOut}
+use Rattle.seg_index.proofs.{heap_touches, is_live_in, live_of, KeepsRest, unlinked, without_link, place_of, same_live}
+use Rattle.seg_index.proofs.{in_header, leads_from, keeps_words, block_whole, gone, headed, headed_released_keeps}
+use Rattle.seg_index.proofs.{settled, settled_released}
 use Rattle.seg_index.proofs.index.Index.settle.Goals as goal
 
 pub set_header_link-requires-clause-target : goal.set_header_link-requires-clause-target

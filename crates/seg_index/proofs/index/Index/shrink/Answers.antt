@@ -1,10 +1,7 @@
 -- The block goes, or is cut.
-use Rattle.seg_index.proofs.Common.{sym, subst, ◌∙◌, ◌+◌, ◌≤◌, IsTrue, arith, LiveSet, heap_touches, is_live_in}
-use Rattle.seg_index.proofs.Common.{live_of}
-use Rattle.seg_index.proofs.Changing.{same_live}
-use Rattle.seg_index.proofs.Entries.{capacity_small, in_header, leads_from, placed}
-use Rattle.seg_index.proofs.Rooms.{found_live}
-use Rattle.seg_index.proofs.Shrinking.{emptied, shrunk_bare, shrunk_empty, shrunk_short}
+use Rattle.seg_index.proofs.{sym, subst, ◌∙◌, ◌+◌, ◌≤◌, IsTrue, arith, LiveSet, heap_touches, is_live_in, live_of}
+use Rattle.seg_index.proofs.{same_live, capacity_small, in_header, leads_from, placed, found_live, emptied, shrunk_bare}
+use Rattle.seg_index.proofs.{shrunk_empty, shrunk_short}
 use Rattle.seg_index.proofs.index.Index.shrink.Goals as goal
 
 pub returns-in_default-clause-shrunk : goal.returns-in_default-clause-shrunk

@@ -1,7 +1,5 @@
 -- The three words are written.
-use Rattle.seg_index.proofs.Common.{refl, []}
-use Rattle.seg_index.proofs.Settling.{headed}
-use Rattle.seg_index.proofs.Shrinking.{empty_index}
+use Rattle.seg_index.proofs.{refl, [], headed, empty_index}
 use Rattle.seg_index.proofs.index.Index.start.Goals as goal
 
 pub returns : goal.returns

@@ -1,10 +1,7 @@
 -- The pair is found, leaves the map, and its block is given back.
-use Rattle.seg_map.proofs.Common.{◌≡◌, refl, ap, arith, None, lay_out_one, exit_in}
+use Rattle.seg_map.proofs.{◌≡◌, refl, ap, arith, None, lay_out_one, exit_in, begun, laws, key_absent, key_at_node}
+use Rattle.seg_map.proofs.{erased, gone_live}
 use Rattle.best_fit.specs.Heap.{heap_touches}
-use Rattle.seg_map.proofs.Beginnings.{begun}
-use Rattle.seg_map.proofs.Bounds.{laws}
-use Rattle.seg_map.proofs.Searching.{key_absent, key_at_node}
-use Rattle.seg_map.proofs.Leaving.{erased, gone_live}
 use Rattle.seg_map.proofs.maps.SegMap.erase.Goals as goal
 
 pub take_out-requires : goal.take_out-requires

@@ -1,6 +1,5 @@
 -- The least pair that is not below the key has it, or none has.
-use Rattle.seg_map.proofs.Common.{◌≡◌, sym, ◌∙◌, None}
-use Rattle.seg_map.proofs.Searching.{value_by_key}
+use Rattle.seg_map.proofs.{◌≡◌, sym, ◌∙◌, None, value_by_key}
 use Rattle.seg_map.proofs.maps.SegMap.get.Goals as goal
 
 pub returns-in_err-found-clause-value : goal.returns-in_err-found-clause-value

@@ -1,6 +1,5 @@
 -- The pair that is found is read.
-use Rattle.seg_map.proofs.Common.{arith}
-use Rattle.seg_map.proofs.Searching.{finds_last, found_room, looked_up}
+use Rattle.seg_map.proofs.{arith, finds_last, found_room, looked_up}
 use Rattle.seg_map.proofs.maps.SegMap.last.Goals as goal
 
 pub read_found-requires-clause-room : goal.read_found-requires-clause-room

@@ -1,5 +1,5 @@
 -- No pair is there.
-use Rattle.seg_map.proofs.Heads.{is_new}
+use Rattle.seg_map.proofs.{is_new}
 use Rattle.seg_map.proofs.maps.SegMap.new.Goals as goal
 
 pub returns-clause-map : goal.returns-clause-map

@@ -1,9 +1,6 @@
 -- The value of a key that is there is written over; else a node is made, and enters the map.
-use Rattle.seg_map.proofs.Common.{◌≡◌, refl, sym, ◌+◌, arith, true, None, handle}
-use Rattle.seg_map.proofs.Bounds.{laws}
-use Rattle.seg_map.proofs.Searching.{key_absent, key_at_node}
-use Rattle.seg_map.proofs.Overwriting.{is_put_again, value_room}
-use Rattle.seg_map.proofs.NewPairs.{entry_there, is_put, loose, map_there}
+use Rattle.seg_map.proofs.{◌≡◌, refl, sym, ◌+◌, arith, true, None, handle, laws, key_absent, key_at_node, is_put_again}
+use Rattle.seg_map.proofs.{value_room, entry_there, is_put, loose, map_there}
 use Rattle.seg_map.proofs.maps.SegMap.put.Goals as goal
 
 pub write_value-requires : goal.write_value-requires

@@ -1,7 +1,6 @@
 -- A pair is given up as long as there is a root.
-use Rattle.seg_map.proofs.Common.{◌≡◌, sym, ◌∙◌, ◌+◌, arith, None, live_of, room-less}
-use Rattle.seg_map.proofs.Bounds.{laws}
-use Rattle.seg_map.proofs.Emptying.{given_up, going_first, going_on, one_less, root_pair}
+use Rattle.seg_map.proofs.{◌≡◌, sym, ◌∙◌, ◌+◌, arith, None, live_of, room-less, laws, given_up, going_first, going_on}
+use Rattle.seg_map.proofs.{one_less, root_pair}
 use Rattle.seg_map.proofs.maps.SegMap.release.Goals as goal
 
 pub link-requires-clause-room : goal.link-requires-clause-room

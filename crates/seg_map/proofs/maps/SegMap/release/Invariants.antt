@@ -1,6 +1,5 @@
 -- The map is one of the pairs that are left, of which there is one less each time.
-use Rattle.seg_map.proofs.Common.{◌+◌, List, bytes_of, word_at, Pair, HoldsMap}
-use Rattle.seg_map.proofs.Emptying.{IsGoing}
+use Rattle.seg_map.proofs.{◌+◌, List, bytes_of, word_at, Pair, HoldsMap, IsGoing}
 use Rattle.seg_map.proofs.maps.SegMap.release.Given as goal
 
 abbrev pub invariant-pairs : goal.invariant-pairs

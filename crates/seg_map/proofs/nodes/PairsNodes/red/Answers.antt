@@ -1,6 +1,5 @@
 -- The colour is in the block's tag.
-use Rattle.seg_map.proofs.Common.{◌∙◌, ◌+◌}
-use Rattle.seg_map.proofs.PairSteps.{live_node, place_of, red_is}
+use Rattle.seg_map.proofs.{◌∙◌, ◌+◌, live_node, place_of, red_is}
 use Rattle.seg_map.proofs.nodes.PairsNodes.red.Goals as goal
 
 pub node_red-requires : goal.node_red-requires

@@ -1,6 +1,6 @@
 -- One link changes.
-use Rattle.seg_map.proofs.Common.{refl, ◌+◌, arith, value_in, comes_before, stands_before, is_pair_node-PairNode}
-use Rattle.seg_map.proofs.PairSteps.{left_cells, left_changed, keys_stay, kept_stays, nodes_stay, room_in, target_whole}
+use Rattle.seg_map.proofs.{refl, ◌+◌, arith, value_in, comes_before, stands_before, is_pair_node-PairNode, left_cells}
+use Rattle.seg_map.proofs.{left_changed, keys_stay, kept_stays, nodes_stay, room_in, target_whole}
 use Rattle.seg_map.proofs.nodes.PairsNodesMut.set_left.Goals as goal
 
 pub set_link-requires : goal.set_link-requires

@@ -1,6 +1,6 @@
 -- One colour changes.
-use Rattle.seg_map.proofs.Common.{refl, ◌+◌, arith, value_in, comes_before, stands_before, is_pair_node-PairNode}
-use Rattle.seg_map.proofs.PairSteps.{keys_stay, kept_stays, node_live, nodes_stay, place_of, red_cells, red_changed}
+use Rattle.seg_map.proofs.{refl, ◌+◌, arith, value_in, comes_before, stands_before, is_pair_node-PairNode, keys_stay}
+use Rattle.seg_map.proofs.{kept_stays, node_live, nodes_stay, place_of, red_cells, red_changed}
 use Rattle.seg_map.proofs.nodes.PairsNodesMut.set_red.Goals as goal
 
 pub set_node_red-requires : goal.set_node_red-requires

@@ -1,7 +1,6 @@
 -- One link changes.
-use Rattle.seg_map.proofs.Common.{refl, ◌+◌, arith, value_in, comes_before, stands_before, is_pair_node-PairNode}
-use Rattle.seg_map.proofs.PairSteps.{right_cells, right_changed, keys_stay, kept_stays, nodes_stay, room_in}
-use Rattle.seg_map.proofs.PairSteps.{target_whole}
+use Rattle.seg_map.proofs.{refl, ◌+◌, arith, value_in, comes_before, stands_before, is_pair_node-PairNode, right_cells}
+use Rattle.seg_map.proofs.{right_changed, keys_stay, kept_stays, nodes_stay, room_in, target_whole}
 use Rattle.seg_map.proofs.nodes.PairsNodesMut.set_right.Goals as goal
 
 pub set_link-requires : goal.set_link-requires

@@ -1,6 +1,5 @@
 -- The key of the node is read.
-use Rattle.seg_map.proofs.Common.{ap, ◌∙◌, value_in, stands}
-use Rattle.seg_map.proofs.PairSteps.{key_is, key_room}
+use Rattle.seg_map.proofs.{ap, ◌∙◌, value_in, stands, key_is, key_room}
 use Rattle.seg_map.proofs.nodes.ReadingNodes.before_probe.Goals as goal
 
 pub value_at-requires : goal.value_at-requires

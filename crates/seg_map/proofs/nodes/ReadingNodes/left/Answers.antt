@@ -1,6 +1,5 @@
 -- The link stands in the node's block.
-use Rattle.seg_map.proofs.Common.{◌∙◌, ◌+◌, arith}
-use Rattle.seg_map.proofs.PairSteps.{left_is, room_in}
+use Rattle.seg_map.proofs.{◌∙◌, ◌+◌, arith, left_is, room_in}
 use Rattle.seg_map.proofs.nodes.ReadingNodes.left.Goals as goal
 
 pub link-requires-clause-room : goal.link-requires-clause-room

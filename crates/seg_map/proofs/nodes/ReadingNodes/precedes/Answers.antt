@@ -1,6 +1,5 @@
 -- The keys of both nodes are read.
-use Rattle.seg_map.proofs.Common.{◌∙◌, value_in, before_key}
-use Rattle.seg_map.proofs.PairSteps.{key_is, key_room}
+use Rattle.seg_map.proofs.{◌∙◌, value_in, before_key, key_is, key_room}
 use Rattle.seg_map.proofs.nodes.ReadingNodes.precedes.Goals as goal
 
 pub value_at-requires : goal.value_at-requires

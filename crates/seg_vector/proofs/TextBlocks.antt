@@ -1,22 +1,22 @@
 -- The blocks of a vector of texts, its array and those of its texts, among the other blocks of a heap, and through the
 -- steps of a call.
 use Rattle.seg_vector.proofs.Words as W
-use W.{◌≡◌, ◌≢◌, sym, ap, subst, ◌∙◌, ℕ, ◌+◌, ◌%◌, ◌≤◌, Option, Some, None, List, ◌∷◌, ◌++◌, ◌==◌, append_assoc, length}
-use W.{arith, inl, inr, refl, zero, suc, ◌-◌, ◌*◌, ◌<◌, take, drop, Bool, true, false, cond, ◌⊎◌, IsTrue, find}
-use W.{option_to_list, option_map, slice_get, IfSome, AllByRecursion, list_any, flat_map-append, take-take, drop_all}
-use W.{slice_get_within, or_left, or_right, Memory, Cut, bytes_of, word_at, SameBut, Has, current, Storage, link_at}
-use W.{target_of, inserted, without_all, IsExchanged, SameBlockBut, exchanged, Extent, LiveSet, handle, end_of, IsHeap}
-use W.{extent_at, live_of, SameBlock, IsChanged, has_room, is_live_in, payload_at, IsReleased, Table, is_table}
-use W.{no_table, IsFound, IsNone, Rising, SameSpread, all-found-in, all-in-use, found-inserted, found-none, found-room}
-use W.{live-rises, middle-first, rising-others, roomy, spread-behind, all_of-inserted, but-apart, exchanged-live}
-use W.{found-without, inserted-append, laid-heap, without-inserted, kept, kept-found, word-same, block_payload}
-use W.{room_block, exchange-next, exchange-released, exchange-same, spread-refl, IsSound, live-sound, Has-same}
-use W.{SameBut-word, read-part, SameBut-link, Place, IsOwnBlock, place_at, Stands, IsServed, IsSwapped, AreHeldElements}
-use W.{IsHeldElement, AreSameElements, IsSameElement, AreEvenLinks, IsHeldText, IsTexts, text_blocks, IsTextsNow}
-use W.{IsTextElement, AreInArray, IsOwnedText, OwnedText, AreTextLinks, []}
+use W.{take-append-drop, length-take, length-drop, ◌≡◌, ◌≢◌, sym, ap, subst, ◌∙◌, ℕ, ◌+◌, ◌%◌, ◌≤◌, Option, Some, None}
+use W.{List, ◌∷◌, ◌++◌, ◌==◌, append_assoc, length, arith, inl, inr, refl, zero, suc, ◌-◌, ◌*◌, ◌<◌, take, drop, Bool}
+use W.{true, false, cond, ◌⊎◌, IsTrue, find, option_to_list, option_map, slice_get, IfSome, AllByRecursion, list_any}
+use W.{flat_map-append, take-take, drop_all, slice_get_within, or_left, or_right, Memory, Cut, bytes_of, word_at}
+use W.{SameBut, Has, current, Storage, link_at, target_of, inserted, without_all, IsExchanged, SameBlockBut, exchanged}
+use W.{Extent, LiveSet, handle, end_of, IsHeap, extent_at, live_of, SameBlock, IsChanged, has_room, is_live_in}
+use W.{payload_at, IsReleased, Table, is_table, no_table, IsFound, IsNone, Rising, SameSpread, all-found-in, all-in-use}
+use W.{found-inserted, found-none, found-room, live-rises, middle-first, rising-others, roomy, spread-behind}
+use W.{all_of-inserted, but-apart, exchanged-live, found-without, inserted-append, laid-heap, without-inserted, kept}
+use W.{kept-found, word-same, block_payload, room_block, exchange-next, exchange-released, exchange-same, spread-refl}
+use W.{IsSound, live-sound, Has-same, SameBut-word, read-part, SameBut-link, Place, IsOwnBlock, place_at, Stands}
+use W.{IsServed, IsSwapped, AreHeldElements, IsHeldElement, AreSameElements, IsSameElement, AreEvenLinks, IsHeldText}
+use W.{IsTexts, text_blocks, IsTextsNow, IsTextElement, AreInArray, IsOwnedText, OwnedText, AreTextLinks, []}
 use Rattle.seg_vector.proofs.Runs.{AreHeadWords, IsHead, IsRun, changed-both, head-exchanged, none-some, same-some}
-use Rattle.seg_vector.proofs.{Runs.serves-full, Runs.table, Runs.table-full, Storage.all-found, Storage.live-if}
 use Rattle.seg_vector.proofs.Typed.{has-element}
+use Rattle.seg_vector.proofs.{Runs.serves-full, Runs.table, Runs.table-full, Storage.all-found, Storage.live-if}
 use Rattle.best_fit.specs.Extents.{is_proper}
 
 -- ---- the blocks of a vector of texts, its array and those of its texts, among the other blocks of a heap
@@ -559,6 +559,23 @@ links-join m at [] ys l r = let e : at + 16 * 0 ≡ at = omega arith in subst (�
 links-join m at (x ∷ xs) ys l r =
     let e : at + 16 * suc (length xs) ≡ at + 16 + 16 * length xs = omega arith in
     (l.0, l.1, links-join m (at + 16) xs ys l.2 (subst (λ k. AreTextLinks m k ys) e r))
+
+-- other elements in the place of those between the first i and those from j on
+pub links-edited : {m m' : Memory} (g : ℕ) {at to n : ℕ} (ps : List OwnedText) (i j : ℕ) (zs : List OwnedText)
+    → i ≤ length ps → j ≤ length ps → at ≡ g + 16 * j → to ≡ g + 16 * i + 16 * length zs → n ≡ length ps - j
+    → AreTextLinks m g ps → AreSameElements m m' g g i → AreTextLinks m' (g + 16 * i) zs → AreSameElements m m' at to n
+    → AreTextLinks m' g (take i ps ++ (zs ++ drop j ps))
+links-edited {m} {m'} g {at} {to} {n} ps i j zs f h a b c l front mid back =
+    let fl : length (take i ps) ≡ i = omega (arith, length-take i ps, f) in
+    let bl : n ≡ length (drop j ps) = omega (arith, length-drop j ps, c) in
+    let here : g + 16 * length (take j ps) ≡ at = omega (arith, length-take j ps, h, a) in
+    let parts = λ (k : ℕ). links-split m g (take k ps) (drop k ps)
+    (subst (AreTextLinks m g) (sym (take-append-drop k ps)) l) in
+    let first = links-moved m m' g g (take i ps) (parts i).0 (subst (AreSameElements m m' g g) (sym fl) front) in
+    let behind : AreTextLinks m at (drop j ps) = subst (λ k. AreTextLinks m k (drop j ps)) here (parts j).1 in
+    let last = links-moved m m' at to (drop j ps) behind (subst (AreSameElements m m' at to) bl back) in
+    links-join m' g (take i ps) (zs ++ drop j ps) first (subst (λ k. AreTextLinks m' (g + 16 * k) (zs ++ drop j ps))
+    (sym fl) (links-join m' (g + 16 * i) zs (drop j ps) mid (subst (λ k. AreTextLinks m' k (drop j ps)) b last)))
 
 -- ---- it begins
 

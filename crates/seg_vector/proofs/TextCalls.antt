@@ -14,12 +14,12 @@ use W.{IsTextReplaced, IsTexts, IsTextsNow, text_blocks, IsHeldText, placed_text
 use W.{OwnedText, AreTextLinks, IsOwnedText, Refusal, IsWithoutFit, []}
 use Rattle.seg_vector.proofs.Runs.{AreHeadWords, IsHead, IsRun, beside-head, block-written, head-exchanged, head-kept}
 use Rattle.seg_vector.proofs.Runs.{head-room, head-wider, len-written, none-some, room-head, run-found, run-headed}
-use Rattle.seg_vector.proofs.TextBlocks.{none-stands, IsArrayLeft, all-split, array-left, drop-at, element-beside}
-use Rattle.seg_vector.proofs.TextBlocks.{element-in, element-trans, even-block, found-texts, held-element, links-join}
-use Rattle.seg_vector.proofs.TextBlocks.{links-moved, links-split, no-array, none-of, of-none, one-of, own-head}
-use Rattle.seg_vector.proofs.{Fewer.cut-some, Typed.set-pieces, Bytes.length-read, Bytes.no-bytes}
 use Rattle.seg_vector.proofs.Runs.{run-swapped, same-some, serves-full, table, table-full, words-kept}
+use Rattle.seg_vector.proofs.TextBlocks.{none-stands, IsArrayLeft, all-split, array-left, drop-at, element-beside}
+use Rattle.seg_vector.proofs.TextBlocks.{element-in, element-trans, even-block, found-texts, held-element, links-edited}
+use Rattle.seg_vector.proofs.TextBlocks.{links-moved, links-split, no-array, none-of, of-none, one-of, own-head}
 use Rattle.seg_vector.proofs.TextBlocks.{own_blocks, run-begin, swapped-none, texts-between, texts-own}
+use Rattle.seg_vector.proofs.{Fewer.cut-some, Typed.set-pieces, Bytes.length-read, Bytes.no-bytes}
 use Rattle.best_fit.specs.Table.{cut_table}
 
 -- ---- the elements of the array
@@ -128,22 +128,6 @@ pub elements-beside : (m m' : Memory) {old new : Cut} {from k : ℕ} (a n : ℕ)
 elements-beside m m' a n c (inl f) j h = element-beside (a + 16 * j) c.rest (inl (omega (arith, f, h)))
 elements-beside m m' a n c (inr f) j h = element-beside (a + 16 * j) c.rest (inr (omega (arith, f)))
 
-erased-links : (m0 m3 : Memory) (g i : ℕ) (ps : List OwnedText) {q : OwnedText} → slice_get ps i ≡ Some q
-    → AreTextLinks m0 g ps → AreSameElements m0 m3 g g i
-    → AreSameElements m0 m3 (g + 16 * i + 16) (g + 16 * i) (length ps - i - 1) → AreTextLinks m3 g (remove ps i)
-erased-links m0 m3 g i ps {q} e l front back =
-    let below = slice_get_within ps i q e in
-    let fl : length (take i ps) ≡ i = omega (arith, length-take i ps, below) in
-    let bl : length (drop (suc i) ps) ≡ length ps - i - 1 = omega (arith, length-drop (suc i) ps, below) in
-    let parts = links-split m0 g (take i ps) (q ∷ drop (suc i) ps) (subst (AreTextLinks m0 g) (around ps i e) l) in
-    let behind : AreTextLinks m0 (g + 16 * i + 16) (drop (suc i) ps) =
-    subst (λ k. AreTextLinks m0 (g + 16 * k + 16) (drop (suc i) ps)) fl parts.1.2 in
-    let a = links-moved m0 m3 g g (take i ps) parts.0 (subst (AreSameElements m0 m3 g g) (sym fl) front) in
-    let b = links-moved m0 m3 (g + 16 * i + 16) (g + 16 * i) (drop (suc i) ps) behind
-    (subst (AreSameElements m0 m3 (g + 16 * i + 16) (g + 16 * i)) (sym bl) back) in
-    links-join m3 g (take i ps) (drop (suc i) ps) a (subst (λ k. AreTextLinks m3 (g + 16 * k) (drop (suc i) ps))
-    (sym fl) b)
-
 -- ---- the vector afterwards
 
 pub removed-length : (ps : List OwnedText) (i : ℕ) {q : OwnedText} → slice_get ps i ≡ Some q
@@ -192,7 +176,8 @@ text-erased {s0} {s1} {s2} {s3} {p} {ps} {c} i {o = Some x} {q} s e link x1 c2 m
     let back : AreSameElements (bytes_of s0.bytes) (bytes_of s3.bytes) (handle x + 16 * i + 16) (handle x + 16 * i) n =
     elements-through (handle x + 16 * i + 16) (handle x + 16 * i) n k1 moved k3
     (omega arith) (omega (arith, full, fits, below)) (omega arith) (omega (arith, full, fits, below)) in
-    let links = erased-links (bytes_of s0.bytes) (bytes_of s3.bytes) (handle x) i ps e s.words.array front back in
+    let links = links-edited (handle x) ps i (suc i) [] (omega arith) (omega (arith, below)) (omega arith) (omega arith) (omega arith)
+    s.words.array front tt back in
     let len = removed-length ps i e in
     texts-between (remove ps i) (take i ps) (q ∷ []) [] (drop (suc i) ps) {u = t} (around ps i e) refl
     (ap (λ (xs : List Extent). x ∷ xs) (sym one)) refl s r3.change s.table (omega (arith, len, fits))
@@ -510,26 +495,6 @@ pub others-front : (o : Option Extent) (xs : List Extent) → AreOthers (option_
 others-front None xs d = tt
 others-front (Some y) xs d = (d.0, tt)
 
--- ---- the elements
-
-set-links : (m0 m3 : Memory) (g i : ℕ) (ps : List OwnedText) {q : OwnedText} (z : OwnedText) → slice_get ps i ≡ Some q
-    → AreTextLinks m0 g ps → AreSameElements m0 m3 g g i
-    → AreSameElements m0 m3 (g + 16 * i + 16) (g + 16 * i + 16) (length ps - i - 1)
-    → link_at m3 (g + 16 * i) ≡ option_map handle z.extent → word_at m3 (g + 16 * i + 8) ≡ length z.bytes
-    → AreTextLinks m3 g (take i ps ++ (z ∷ drop (suc i) ps))
-set-links m0 m3 g i ps {q} z e l front back link len =
-    let below = slice_get_within ps i q e in
-    let fl : length (take i ps) ≡ i = omega (arith, length-take i ps, below) in
-    let bl : length (drop (suc i) ps) ≡ length ps - i - 1 = omega (arith, length-drop (suc i) ps, below) in
-    let parts = links-split m0 g (take i ps) (q ∷ drop (suc i) ps) (subst (AreTextLinks m0 g) (around ps i e) l) in
-    let behind : AreTextLinks m0 (g + 16 * i + 16) (drop (suc i) ps) =
-    subst (λ k. AreTextLinks m0 (g + 16 * k + 16) (drop (suc i) ps)) fl parts.1.2 in
-    let a = links-moved m0 m3 g g (take i ps) parts.0 (subst (AreSameElements m0 m3 g g) (sym fl) front) in
-    let b = links-moved m0 m3 (g + 16 * i + 16) (g + 16 * i + 16) (drop (suc i) ps) behind
-    (subst (AreSameElements m0 m3 (g + 16 * i + 16) (g + 16 * i + 16)) (sym bl) back) in
-    links-join m3 g (take i ps) (z ∷ drop (suc i) ps) a
-    (subst (λ k. AreTextLinks m3 (g + 16 * k) (z ∷ drop (suc i) ps)) (sym fl) (link, len, b))
-
 -- ---- the vector afterwards
 
 set_in : {s0 s1 s3 : Cut} {p : Place} {ps : List OwnedText} {c i len : ℕ} {x : Extent} {q : OwnedText} {bytes : List ℕ}
@@ -575,8 +540,8 @@ set_in {s0} {s1} {s3} {p} {ps} {c} {i} {len} {x} {q} {block} s e pl rep len_is a
     subst (λ (y : Extent). word_at (bytes_of s3.bytes) (handle y + 16 * i + 8) ≡ len) array_is rep.len_word
     ∙ len_is ∙ ap (λ (bs : List ℕ). length bs) (sym pl.same) in
     let qs_is = set-pieces ps i z below in
-    let links = set-links (bytes_of s0.bytes) (bytes_of s3.bytes) (handle x) i ps z e s.words.array front back link
-    word in
+    let links = links-edited (handle x) ps i (suc i) (z ∷ []) (omega (arith, below)) (omega (arith, below)) (omega arith)
+    (omega arith) (omega arith) s.words.array front (link, word, tt) back in
     let len_qs : length (take i ps ++ (z ∷ drop (suc i) ps)) ≡ n =
     omega (
       arith,

@@ -13,9 +13,9 @@ use W.{IsPointed}
 use Rattle.seg_vector.proofs.Runs.{AreHeadWords, IsHead, IsRun, beside-head, block-written, none-some, own-facts}
 use Rattle.seg_vector.proofs.Runs.{run-found, run-headed, run-none, run-swapped, same-some, serves-full, table}
 use Rattle.seg_vector.proofs.TextBlocks.{all-split, element-in, element-trans, even-block, even-held, links-moved}
-use Rattle.seg_vector.proofs.{Runs.table-full, TextCalls.held-elements, TextCalls.run-others, TextCalls.texts-stand}
-use Rattle.seg_vector.proofs.Storage.{grown-more, grown-same, regrow-new, storage-role, too-many}
 use Rattle.seg_vector.proofs.TextBlocks.{own-head, run-begin, swapped-none, texts-between, texts-own}
+use Rattle.seg_vector.proofs.Storage.{grown-more, grown-same, regrow-new, storage-role, too-many}
+use Rattle.seg_vector.proofs.{Runs.table-full, TextCalls.held-elements, TextCalls.run-others, TextCalls.texts-stand}
 use Rattle.best_fit.specs.Fit.{regrow}
 use Rattle.seg_vector.specs.Vector.{grown_table}
 

@@ -14,12 +14,12 @@ use W.{IsTextPutIn, placed_text, with_array, AreTextLinks, OwnedText, IsOwnedTex
 use Rattle.seg_vector.proofs.Runs.{AreHeadWords, IsHead, IsRun, beside-head, block-written, head-kept, head-wider}
 use Rattle.seg_vector.proofs.Runs.{len-written, none-some, own-facts, run-found, run-headed, run-none, run-swapped}
 use Rattle.seg_vector.proofs.TextBlocks.{element-beside, element-in, element-trans, even-block, found-live, found-texts}
-use Rattle.seg_vector.proofs.TextBlocks.{links-at, links-join, links-moved, links-split, one-of, own-head, run-begin}
+use Rattle.seg_vector.proofs.TextBlocks.{links-at, links-edited, links-moved, links-split, one-of, own-head, run-begin}
+use Rattle.seg_vector.proofs.TextBlocks.{texts-between, texts-own}
 use Rattle.seg_vector.proofs.TextGrowth.{grown-to, not-grown, all-beside-head, new-other, IsReadyRun, ready-in, ready}
+use Rattle.seg_vector.proofs.TextCalls.{loose-kept, run-others, texts-stand, texts-still}
 use Rattle.seg_vector.proofs.{Runs.same-some, Runs.serves-full, Runs.table, Runs.table-full, Typed.has-element}
 use Rattle.seg_vector.proofs.{Storage.capacity-bytes, Storage.grown-same, TextGrowth.asked-alone, TextGrowth.new-table}
-use Rattle.seg_vector.proofs.TextBlocks.{texts-between, texts-own}
-use Rattle.seg_vector.proofs.TextCalls.{loose-kept, run-others, texts-stand, texts-still}
 use Rattle.best_fit.specs.Fit.{regrow}
 use Rattle.seg_vector.specs.Vector.{grown_table}
 use Rattle.best_fit.specs.Fit as fit
@@ -60,24 +60,6 @@ pub flip-each : (y : Extent) (xs : List Extent) → AllByRecursion (λ (w : Exte
 flip-each y [] d = tt
 flip-each y (x ∷ xs) d = (((λ f. d.0 (sym f)), tt), flip-each y xs d.1)
 
--- ---- the elements
-
-put-links : (m0 m3 : Memory) (g i : ℕ) (ps : List OwnedText) (z : OwnedText) → i ≤ length ps → AreTextLinks m0 g ps
-    → AreSameElements m0 m3 g g i → AreSameElements m0 m3 (g + 16 * i) (g + 16 * i + 16) (length ps - i)
-    → link_at m3 (g + 16 * i) ≡ option_map handle z.extent → word_at m3 (g + 16 * i + 8) ≡ length z.bytes
-    → AreTextLinks m3 g (insert ps i z)
-put-links m0 m3 g i ps z f l front back link len =
-    let fl : length (take i ps) ≡ i = omega (arith, length-take i ps, f) in
-    let bl : length (drop i ps) ≡ length ps - i = omega (arith, length-drop i ps) in
-    let parts = links-split m0 g (take i ps) (drop i ps) (subst (AreTextLinks m0 g) (sym (take-append-drop i ps)) l) in
-    let behind : AreTextLinks m0 (g + 16 * i) (drop i ps) = subst (λ k. AreTextLinks m0 (g + 16 * k) (drop i ps)) fl
-    parts.1 in
-    let a = links-moved m0 m3 g g (take i ps) parts.0 (subst (AreSameElements m0 m3 g g) (sym fl) front) in
-    let b = links-moved m0 m3 (g + 16 * i) (g + 16 * i + 16) (drop i ps) behind
-    (subst (AreSameElements m0 m3 (g + 16 * i) (g + 16 * i + 16)) (sym bl) back) in
-    links-join m3 g (take i ps) (z ∷ drop i ps) a (subst (λ k. AreTextLinks m3 (g + 16 * k) (z ∷ drop i ps)) (sym fl)
-    (link, len, b))
-
 -- ---- the vector afterwards
 
 put_in : {first now b1 b2 new : Cut} {p : Place} {ps : List OwnedText} {t : Table} {y : Extent} {m : ℕ} {z : OwnedText}
@@ -116,8 +98,8 @@ put_in {first} {now} {b1} {b2} {new} {p} {ps} {t} {y} {m} {z} i r inside c1 m1 c
     (element-beside (handle y + 16 * i + 16 + 16 * j) c2.rest (inr (omega arith))))
     (element-in (handle y + 16 * i + 16 + 16 * j) y3 (omega arith) (omega (arith, f, inside, space, big))) in
     let own = element-in (handle y + 16 * i) y3 (omega arith) (omega (arith, inside, space, big)) in
-    let links = put-links (bytes_of now.bytes) (bytes_of new.bytes) (handle y) i ps z inside r.links front back
-    (own.link ∙ link) (own.len_word ∙ len) in
+    let links = links-edited (handle y) ps i i (z ∷ []) inside inside refl (omega arith) refl r.links front
+    (own.link ∙ link, own.len_word ∙ len, tt) back in
     let apart = flip-each y ez (run-others r0).0 in
     let t1 = loose-kept z.bytes z.extent r0.heap x1 found0.1 apart r.served r.owned in
     let t2 = loose-kept z.bytes z.extent r1.heap x2 t1.1 apart r.served t1.0 in

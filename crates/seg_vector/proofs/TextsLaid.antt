@@ -13,12 +13,12 @@ use W.{AreSameElements, IsServed, IsSwapped, IsWithoutFit, IsTextPlaced, AreHeld
 use W.{placed_texts, text_blocks, with_text, all_texts, new_array, AreTextsAssigned, AssignsTexts, IsTexts, IsTextsNow}
 use W.{ReleasesTexts, AreTextLinks, IsOwnedText, OwnedText, Place, place_at, [], IsPointed}
 use Rattle.seg_vector.proofs.Runs.{AreHeadWords, IsHead, block-written, changed-both, head-exchanged, len-written}
+use Rattle.seg_vector.proofs.Runs.{run-none, run-swapped, same-some, serves-full, table}
 use Rattle.seg_vector.proofs.TextBlocks.{all-join, all-split, element-beside, element-in, element-trans, even-block}
 use Rattle.seg_vector.proofs.TextBlocks.{found-live, links-join, links-moved, of-none, own-head, own_blocks, run-begin}
-use Rattle.seg_vector.proofs.Runs.{run-none, run-swapped, same-some, serves-full, table}
-use Rattle.seg_vector.proofs.{TextBlocks.texts-between, TextBlocks.texts-own, TextGrowth.all-kept, TextGrowth.new-table}
 use Rattle.seg_vector.proofs.TextCalls.{come-even, run-others, texts-still}
 use Rattle.seg_vector.proofs.TextPuts.{came-alone, flip-each, same-loose}
+use Rattle.seg_vector.proofs.{TextBlocks.texts-between, TextBlocks.texts-own, TextGrowth.all-kept, TextGrowth.new-table}
 
 -- ---- blocks that came
 

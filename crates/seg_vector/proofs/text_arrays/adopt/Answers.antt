@@ -1,73 +1,48 @@
 -- The vector's words are those that they were, until they are written.
-use Rattle.seg_vector.proofs.{sym, ap, subst, ◌∙◌, ◌⊎◌, ◌+◌, ◌*◌, ◌<◌, ◌≤◌, Some, IsTrue, length, current, bytes_of}
-use Rattle.seg_vector.proofs.{IsChanged, has_room, live_of, changed-room, laid-heap, AreSameElements, head-room}
-use Rattle.seg_vector.proofs.{live-if, adopt-none, adopt-other, adopt-same, ready, ready-even, ready-new, since-len}
-use Rattle.seg_vector.proofs.{ready-link}
+use Rattle.seg_vector.proofs.{refl, sym, ap, subst, ◌∙◌, ◌+◌, ◌*◌, Some, length, current, bytes_of, IsChanged}
+use Rattle.seg_vector.proofs.{live_of, changed-room, laid-heap, AreSameElements, head-room, live-if, adopt-none}
+use Rattle.seg_vector.proofs.{adopt-other, adopt-same, ready, ready-even, ready-new, since-len, ready-link}
 use Rattle.seg_vector.proofs.text_arrays.adopt.Goals as goal
 
-pub len_of-len-requires-clause-heap : goal.len_of-len-requires-clause-heap
-len_of-len-requires-clause-heap c = (ready c.requires).run.heap
-
-pub len_of-len-requires-clause-room : goal.len_of-len-requires-clause-room
-len_of-len-requires-clause-room c = head-room (ready c.requires).run.head
+pub len_of-len-requires : goal.len_of-len-requires
+len_of-len-requires c = let r = (ready c.requires).run in record { heap = r.heap; room = head-room r.head }
 
 pub link_of-requires-clause-room : goal.link_of-requires-clause-room
 link_of-requires-clause-room c = head-room (ready c.requires).run.head
 
-pub point_to-requires-clause-heap : goal.point_to-requires-clause-heap
-point_to-requires-clause-heap c = (ready c.requires).run.heap
+pub point_to-requires : goal.point_to-requires
+point_to-requires c =
+    let r = c.requires in let q = (ready r).run in
+    record { heap = q.heap; aligned = r.texts.aligned; room = head-room q.head; even = ready-even r }
 
-pub point_to-requires-clause-room : goal.point_to-requires-clause-room
-point_to-requires-clause-room c = head-room (ready c.requires).run.head
+pub point_to-requires-then-old-array : goal.point_to-requires-then-old-array
+point_to-requires-then-old-array c =
+    let r = c.requires in let q = (ready r).run in
+    record { heap = q.heap; aligned = r.texts.aligned; room = head-room q.head; even = ready-even r }
 
-pub point_to-requires-clause-even : goal.point_to-requires-clause-even
-point_to-requires-clause-even c = ready-even c.requires
-
-pub point_to-requires-then-old-array-clause-heap : goal.point_to-requires-then-old-array-clause-heap
-point_to-requires-then-old-array-clause-heap c = (ready c.requires).run.heap
-
-pub point_to-requires-then-old-array-clause-room : goal.point_to-requires-then-old-array-clause-room
-point_to-requires-then-old-array-clause-room c = head-room (ready c.requires).run.head
-
-pub point_to-requires-then-old-array-clause-even : goal.point_to-requires-then-old-array-clause-even
-point_to-requires-then-old-array-clause-even c = ready-even c.requires
-
-pub carry_down-requires-clause-heap : goal.carry_down-requires-clause-heap
-carry_down-requires-clause-heap c = (ready c.requires).run.heap
-
-pub carry_down-requires-clause-source : goal.carry_down-requires-clause-source
-carry_down-requires-clause-source c =
+pub carry_down-requires : goal.carry_down-requires
+carry_down-requires c =
     let w = ready-new c.requires (sym c.link_of.ensures ∙ c.in-Some.is) c.if-old-array.false in
-    subst (λ k. IsTrue (has_room (live_of c.args.heap.now.bytes) c.in-Some.old (0 + 16 * k)))
-    (sym (since-len c.len_of-len.result c.requires c.len_of-len.ensures)) w.source
+    rw (since-len c.len_of-len.result c.requires c.len_of-len.ensures)
+    (record {
+      heap = (ready c.requires).run.heap;
+      from_whole = refl;
+      to_whole = refl;
+      source = w.source;
+      target = w.target;
+      even = w.even;
+      apart = w.apart;
+    })
 
-pub carry_down-requires-clause-target : goal.carry_down-requires-clause-target
-carry_down-requires-clause-target c =
-    let w = ready-new c.requires (sym c.link_of.ensures ∙ c.in-Some.is) c.if-old-array.false in
-    subst (λ k. IsTrue (has_room (live_of c.args.heap.now.bytes) c.args.array (0 + 16 * k)))
-    (sym (since-len c.len_of-len.result c.requires c.len_of-len.ensures)) w.target
-
-pub carry_down-requires-clause-even : goal.carry_down-requires-clause-even
-carry_down-requires-clause-even c j f =
-    let w = ready-new c.requires (sym c.link_of.ensures ∙ c.in-Some.is) c.if-old-array.false in
-    w.even j (subst (λ k. j < k) (since-len c.len_of-len.result c.requires c.len_of-len.ensures) f)
-
-pub carry_down-requires-clause-apart : goal.carry_down-requires-clause-apart
-carry_down-requires-clause-apart c =
-    let w = ready-new c.requires (sym c.link_of.ensures ∙ c.in-Some.is) c.if-old-array.false in
-    subst (λ k. (c.args.array + 0 ≤ c.in-Some.old + 0) ⊎ (c.in-Some.old + 0 + 16 * k ≤ c.args.array + 0))
-    (sym (since-len c.len_of-len.result c.requires c.len_of-len.ensures)) w.apart
-
-pub point_to-requires-else-old-array-clause-heap : goal.point_to-requires-else-old-array-clause-heap
-point_to-requires-else-old-array-clause-heap c = laid-heap _ _ c.carry_down.ensures.change.live
-
-pub point_to-requires-else-old-array-clause-room : goal.point_to-requires-else-old-array-clause-room
-point_to-requires-else-old-array-clause-room c =
-    changed-room _ _ _ _ _ c.args.place.handle (c.args.place.at + 24) c.carry_down.ensures.change
-    (head-room (ready c.requires).run.head)
-
-pub point_to-requires-else-old-array-clause-even : goal.point_to-requires-else-old-array-clause-even
-point_to-requires-else-old-array-clause-even c = ready-even c.requires
+pub point_to-requires-else-old-array : goal.point_to-requires-else-old-array
+point_to-requires-else-old-array c =
+    let r = c.requires in let d = c.carry_down.ensures.change in
+    record {
+      heap = laid-heap _ _ d.live;
+      aligned = r.texts.aligned;
+      room = changed-room _ _ _ _ _ c.args.place.handle (c.args.place.at + 24) d (head-room (ready r).run.head);
+      even = ready-even r;
+    }
 
 pub deallocate-requires : goal.deallocate-requires
 deallocate-requires c =

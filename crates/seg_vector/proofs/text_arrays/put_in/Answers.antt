@@ -1,14 +1,11 @@
 -- Those behind move up, the element is written, and then the length.
-use Rattle.seg_vector.proofs.{◌≡◌, sym, ◌∙◌, ◌+◌, ◌-◌, ◌*◌, arith, length, bytes_of, live_of, changed-room, laid-heap}
+use Rattle.seg_vector.proofs.{ℕ, ◌≡◌, ◌%◌, sym, ◌∙◌, ◌+◌, ◌-◌, ◌*◌, arith, length, bytes_of, live_of, changed-room, laid-heap}
 use Rattle.seg_vector.proofs.{room-less, none-left, head-room, len-room, place-small, room-small, even-from, put-by}
 use Rattle.seg_vector.proofs.{put-even, put-place, put-run}
 use Rattle.seg_vector.proofs.text_arrays.put_in.Goals as goal
 
-pub len_of-len-requires-clause-heap : goal.len_of-len-requires-clause-heap
-len_of-len-requires-clause-heap c = (put-run c.requires.ready).heap
-
-pub len_of-len-requires-clause-room : goal.len_of-len-requires-clause-room
-len_of-len-requires-clause-room c = head-room (put-run c.requires.ready).head
+pub len_of-len-requires : goal.len_of-len-requires
+len_of-len-requires c = let q = put-run c.requires.ready in record { heap = q.heap; room = head-room q.head }
 
 pub link_of-requires-clause-room : goal.link_of-requires-clause-room
 link_of-requires-clause-room c = head-room (put-run c.requires.ready).head
@@ -30,35 +27,32 @@ overflow_sub-len c =
     let w = put-place c.requires (sym c.link_of.ensures ∙ c.in-Some.is) in
     omega (arith, w.inside, w.count, c.len_of-len.ensures)
 
-pub carry_up-requires-clause-heap : goal.carry_up-requires-clause-heap
-carry_up-requires-clause-heap c = (put-place c.requires (sym c.link_of.ensures ∙ c.in-Some.is)).heap
-
-pub carry_up-requires-clause-room : goal.carry_up-requires-clause-room
-carry_up-requires-clause-room c =
+pub carry_up-requires : goal.carry_up-requires
+carry_up-requires c =
     let w = put-place c.requires (sym c.link_of.ensures ∙ c.in-Some.is) in
-    let n : c.len_of-len.result ≡ length c.requires.ps = c.len_of-len.ensures ∙ w.count in
-    room-less (live_of c.args.heap.now.bytes) c.in-Some.array (16 * length c.requires.ps + 16)
-    (16 * c.args.index + 16 * (c.len_of-len.result - c.args.index) + 16) (omega (arith, n, w.inside)) w.room
+    let at : ℕ = 16 * c.args.index in
+    rw (c.len_of-len.ensures ∙ w.count)
+    (record {
+      heap = w.heap;
+      whole = omega arith;
+      room = room-less (live_of c.args.heap.now.bytes) c.in-Some.array (16 * length c.requires.ps + 16)
+          (at + 16 * (length c.requires.ps - c.args.index) + 16) (omega (arith, w.inside)) w.room;
+      even = even-from (bytes_of c.args.heap.now.bytes) c.in-Some.array (c.in-Some.array + at) c.args.index
+          (length c.requires.ps - c.args.index) (length c.requires.ps) w.even (omega arith) (omega (arith, w.inside));
+    })
 
-pub carry_up-requires-clause-even : goal.carry_up-requires-clause-even
-carry_up-requires-clause-even c =
+pub put_element-requires : goal.put_element-requires
+put_element-requires c =
     let w = put-place c.requires (sym c.link_of.ensures ∙ c.in-Some.is) in
-    let n : c.len_of-len.result ≡ length c.requires.ps = c.len_of-len.ensures ∙ w.count in
-    even-from (bytes_of c.args.heap.now.bytes) c.in-Some.array (c.in-Some.array + 16 * c.args.index) c.args.index
-    (c.len_of-len.result - c.args.index) (length c.requires.ps) w.even (omega arith) (omega (arith, n, w.inside))
-
-pub put_element-requires-clause-heap : goal.put_element-requires-clause-heap
-put_element-requires-clause-heap c = laid-heap _ _ c.carry_up.ensures.change.live
-
-pub put_element-requires-clause-room : goal.put_element-requires-clause-room
-put_element-requires-clause-room c =
-    let w = put-place c.requires (sym c.link_of.ensures ∙ c.in-Some.is) in
-    changed-room _ _ _ _ _ c.in-Some.array (16 * c.args.index + 16) c.carry_up.ensures.change
-    (room-less (live_of c.args.heap.now.bytes) c.in-Some.array (16 * length c.requires.ps + 16)
-    (16 * c.args.index + 16) (omega (arith, w.inside)) w.room)
-
-pub put_element-requires-clause-target : goal.put_element-requires-clause-target
-put_element-requires-clause-target c = put-even c.requires
+    let d = c.carry_up.ensures.change in
+    record {
+      heap = laid-heap _ _ d.live;
+      whole = omega arith;
+      room = changed-room _ _ _ _ _ c.in-Some.array (16 * c.args.index + 16) d
+          (room-less (live_of c.args.heap.now.bytes) c.in-Some.array (16 * length c.requires.ps + 16)
+          (16 * c.args.index + 16) (omega (arith, w.inside)) w.room);
+      target = put-even c.requires;
+    }
 
 pub overflow_add-len : goal.overflow_add-len
 overflow_add-len c =

@@ -7,18 +7,11 @@ use Rattle.seg_vector.proofs.texts.SegTexts.assign.Goals as goal
 pub release-requires : goal.release-requires
 release-requires c = (c.requires.0, (c.requires.1.0, laid-still c.requires.1.1 c.in_ok-array.ensures))
 
-pub point_to-requires-clause-heap : goal.point_to-requires-clause-heap
-point_to-requires-clause-heap c =
+pub point_to-requires : goal.point_to-requires
+point_to-requires c =
     let still = laid-still c.requires.1.1 c.in_ok-array.ensures in
-    (c.release.ensures c.requires.0 c.requires.1.0 still).texts.heap
-
-pub point_to-requires-clause-room : goal.point_to-requires-clause-room
-point_to-requires-clause-room c =
-    let still = laid-still c.requires.1.1 c.in_ok-array.ensures in
-    (c.release.ensures c.requires.0 c.requires.1.0 still).texts.room
-
-pub point_to-requires-clause-even : goal.point_to-requires-clause-even
-point_to-requires-clause-even c = laid-even c.in_ok-array.ensures
+    let x = (c.release.ensures c.requires.0 c.requires.1.0 still).texts in
+    record { heap = x.heap; aligned = x.aligned; room = x.room; even = laid-even c.in_ok-array.ensures }
 
 pub overflow_add-self : goal.overflow_add-self
 overflow_add-self c = let small = place-small c.args.self.place c.requires.1.1.heap c.requires.1.1.room in omega arith

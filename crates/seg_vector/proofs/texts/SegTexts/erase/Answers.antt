@@ -1,5 +1,5 @@
 -- The block of the text is released, those behind it move down, and then the length is written.
-use Rattle.seg_vector.proofs.{refl, sym, ◌∙◌, ◌+◌, ◌-◌, ◌*◌, arith, length, bytes_of, live_of, changed-room, room-less}
+use Rattle.seg_vector.proofs.{ℕ, inl, ◌≡◌, ◌%◌, refl, sym, ◌∙◌, ◌+◌, ◌-◌, ◌*◌, arith, length, bytes_of, live_of, changed-room, room-less}
 use Rattle.seg_vector.proofs.{IsHead, head-room, len-room, place-small, room-small, IsArrayLeft, even-from, no-array}
 use Rattle.seg_vector.proofs.{erased-by, held-elements, left, has-element}
 use Rattle.seg_vector.proofs.texts.SegTexts.erase.Goals.{After-release_text}
@@ -40,30 +40,24 @@ left-at c =
     (sym c.link_of.ensures ∙ c.in-Some.is) in
     w.after (c.release_text.ensures q.0 w.element)
 
-pub carry_down-requires-clause-heap : goal.carry_down-requires-clause-heap
-carry_down-requires-clause-heap c = (left-at (goal.at.carry_down-requires-clause-heap c).After-release_text).0.heap
-
-pub carry_down-requires-clause-source : goal.carry_down-requires-clause-source
-carry_down-requires-clause-source c =
+pub carry_down-requires : goal.carry_down-requires
+carry_down-requires c =
+    let a = (left-at (goal.at.carry_down-requires c).After-release_text).0 in let k = length c.requires.0 in
     let n = c.len-len.ensures c.requires.0 c.requires.1.0 c.requires.1.1 in
-    room-less (live_of c.release_text.new.heap.bytes) c.in-Some.array (16 * length c.requires.0)
-    (16 * c.args.index + 16 + 16 * (c.len-len.result - c.args.index - 1)) (omega (arith, c.if-index-len.false, n))
-    (left-at (goal.at.carry_down-requires-clause-source c).After-release_text).0.room
-
-pub carry_down-requires-clause-target : goal.carry_down-requires-clause-target
-carry_down-requires-clause-target c =
-    let n = c.len-len.ensures c.requires.0 c.requires.1.0 c.requires.1.1 in
-    room-less (live_of c.release_text.new.heap.bytes) c.in-Some.array (16 * length c.requires.0)
-    (16 * c.args.index + 16 * (c.len-len.result - c.args.index - 1)) (omega (arith, c.if-index-len.false, n))
-    (left-at (goal.at.carry_down-requires-clause-target c).After-release_text).0.room
-
-pub carry_down-requires-clause-even : goal.carry_down-requires-clause-even
-carry_down-requires-clause-even c =
-    let n = c.len-len.ensures c.requires.0 c.requires.1.0 c.requires.1.1 in
-    even-from (bytes_of c.release_text.new.heap.bytes) c.in-Some.array (c.in-Some.array + (16 * c.args.index + 16))
-    (c.args.index + 1) (c.len-len.result - c.args.index - 1) (length c.requires.0)
-    (left-at (goal.at.carry_down-requires-clause-even c).After-release_text).0.even (omega arith)
-    (omega (arith, c.if-index-len.false, n))
+    let l = live_of c.release_text.new.heap.bytes in
+    let at : ℕ = 16 * c.args.index in
+    let rest : ℕ = c.len-len.result - c.args.index - 1 in
+    record {
+      heap = a.heap;
+      from_whole = omega arith;
+      to_whole = omega arith;
+      source = room-less l c.in-Some.array (16 * k) (at + 16 + 16 * rest) (omega (arith, c.if-index-len.false, n))
+          a.room;
+      target = room-less l c.in-Some.array (16 * k) (at + 16 * rest) (omega (arith, c.if-index-len.false, n)) a.room;
+      even = even-from (bytes_of c.release_text.new.heap.bytes) c.in-Some.array (c.in-Some.array + (at + 16))
+          (c.args.index + 1) rest k a.even (omega arith) (omega (arith, c.if-index-len.false, n));
+      apart = inl (omega arith);
+    }
 
 pub overflow_add-self : goal.overflow_add-self
 overflow_add-self c = let small = place-small c.args.self.place c.requires.1.1.heap c.requires.1.1.room in omega arith

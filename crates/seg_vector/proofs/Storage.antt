@@ -220,6 +220,9 @@ pub capacity-room : (b : List ℕ) (p : Place) → IsTrue (has_room (live_of b) 
     → IsTrue (has_room (live_of b) p.handle (p.at + 16 + 8))
 capacity-room b p room = room-less (live_of b) p.handle (p.at + 24) (p.at + 16 + 8) (omega arith) room
 
+-- what shows that a sum within a block fits, and that a word has room
+pub ruleset sizes = (room-small, place-small, stands-small, link-room, len-room, capacity-room)
+
 pub len-read : {b : List ℕ} {p : Place} {each len : ℕ} (k : ℕ) {t : Table} {bytes : List ℕ}
     → Stands b p each len t bytes → k ≡ word_at (bytes_of b) (place_at p + 8) → k ≡ len
 len-read k s e = e ∙ s.words.len_word

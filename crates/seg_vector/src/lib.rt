@@ -1,5 +1,5 @@
 //! Vectors and strings at a place in a heap: what they hold, how they grow, and the bytes that spell them.
-#![tactic(auto)]
+#![tactic(auto, using(crate::proofs::Storage::sizes))]
 
 mod elements;
 mod owning;

@@ -1,11 +1,8 @@
 -- Those behind the element move down, and the length is written.
 use Rattle.seg_vector.proofs.{take, drop, ◌++◌, ℕ, ◌*◌, ◌+◌, ◌-◌, sym, subst, ◌∙◌, arith, Stands, IsRewritten, live_of}
-use Rattle.seg_vector.proofs.{changed-room, Fitting, erase-fits, erased, len-read, len-room, part-room, stands-small}
+use Rattle.seg_vector.proofs.{changed-room, Fitting, erase-fits, erased, len-read, len-room, part-room}
 use Rattle.seg_vector.proofs.elements.erase_element.Goals.{In-Some}
 use Rattle.seg_vector.proofs.elements.erase_element.Goals as goal
-
-pub overflow_add-place : goal.overflow_add-place
-overflow_add-place c = let small = stands-small c.requires.stands.1.1.1 in omega arith
 
 fits : (c : In-Some) → Fitting (live_of c.args.heap.now.bytes) c.args.each c.args.index
     (c.args.each * (c.len_of-len.result - c.args.index - 1)) c.in-Some.storage

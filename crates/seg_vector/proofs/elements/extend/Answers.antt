@@ -1,11 +1,8 @@
 -- The elements lie in the storage, and the length in the container's own block.
-use Rattle.seg_vector.proofs.{◌≡◌, sym, ap, subst, ◌∙◌, ◌+◌, ◌*◌, ◌≤◌, ℕ, arith, length, current, Has, bytes_of, IsChanged}
-use Rattle.seg_vector.proofs.{at-least, none-left, capacity-bytes, changed-room, extended, extended-not, len-read, len-room}
-use Rattle.seg_vector.proofs.{more-times, some-room, stands-small}
+use Rattle.seg_vector.proofs.{◌≡◌, sym, ap, subst, ◌∙◌, ◌+◌, ◌*◌, ◌≤◌, ℕ, arith, length, current, Has, bytes_of}
+use Rattle.seg_vector.proofs.{IsChanged, at-least, none-left, capacity-bytes, changed-room, extended, extended-not}
+use Rattle.seg_vector.proofs.{len-read, len-room, more-times, some-room}
 use Rattle.seg_vector.proofs.elements.extend.Goals as goal
-
-pub overflow_add-place : goal.overflow_add-place
-overflow_add-place c = let small = stands-small c.requires.stands.1.1.1 in omega arith
 
 pub overflow_mul-each : goal.overflow_mul-each
 overflow_mul-each c =

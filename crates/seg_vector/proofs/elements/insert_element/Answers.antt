@@ -1,12 +1,9 @@
 -- Those from the place on move up, the element is written, and then the length.
 use Rattle.seg_vector.proofs.{take, drop, ◌++◌, ℕ, ◌*◌, ◌+◌, ◌-◌, sym, subst, ◌∙◌, arith, IsTrue, Stands, IsRewritten}
 use Rattle.seg_vector.proofs.{IsChanged, live_of, has_room, current, changed-room, Fitting, at-least, capacity-bytes}
-use Rattle.seg_vector.proofs.{insert-fits, len-read, len-room, part-room, put_in, stands-small}
+use Rattle.seg_vector.proofs.{insert-fits, len-read, len-room, part-room, put_in}
 use Rattle.seg_vector.proofs.elements.insert_element.Goals.{In-Some}
 use Rattle.seg_vector.proofs.elements.insert_element.Goals as goal
-
-pub overflow_add-place : goal.overflow_add-place
-overflow_add-place c = let small = stands-small c.requires.stands.1.1.1 in omega arith
 
 fits : (c : In-Some) → Fitting (live_of c.args.heap.now.bytes) c.args.each c.args.index
     (c.args.each * (c.len_of-len.result - c.args.index)) c.in-Some.storage

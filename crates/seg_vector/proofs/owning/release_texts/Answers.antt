@@ -1,15 +1,9 @@
 -- The next text is released, and those behind it are left.
-use Rattle.seg_vector.proofs.{◌*◌, arith, room-small, element-left, releases-begin, releases-end, releases-next}
-use Rattle.seg_vector.proofs.{has-element}
+use Rattle.seg_vector.proofs.{arith, element-left, releases-begin, releases-end, releases-next, has-element}
 use Rattle.seg_vector.proofs.owning.release_texts.Goals as goal
 
 pub loop-i-init : goal.loop-i-init
 loop-i-init c ps s = releases-begin c.args.heap.now s
-
-pub overflow_mul-i : goal.overflow_mul-i
-overflow_mul-i c =
-    let small = room-small c.args.heap.now c.args.array (16 * c.args.n) c.requires.1.heap c.requires.1.room in
-    omega (arith, small, c.loop-i-test.true)
 
 pub release_text-requires : goal.release_text-requires
 release_text-requires c =

@@ -1,11 +1,8 @@
 -- The capacity is written, and the storage shortened.
 use Rattle.seg_vector.proofs.{◌≡◌, sym, subst, ◌∙◌, ◌+◌, ◌*◌, arith, IsTrue, current, bytes_of, word_at, IsChanged}
 use Rattle.seg_vector.proofs.{IsShortened, is_live_in, changed-live, fits-nothing, fitted, capacity-bytes, len-read}
-use Rattle.seg_vector.proofs.{stands-small, storage-live, more-times}
+use Rattle.seg_vector.proofs.{storage-live, more-times}
 use Rattle.seg_vector.proofs.sizing.fit.Goals as goal
-
-pub overflow_add-place : goal.overflow_add-place
-overflow_add-place c = let small = stands-small c.requires.stands.1.1.1 in omega arith
 
 pub returns-then-len-eq0 : goal.returns-then-len-eq0
 returns-then-len-eq0 c len t bytes s =

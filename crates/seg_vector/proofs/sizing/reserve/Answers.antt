@@ -1,11 +1,8 @@
 -- The storage is regrown, and then the link and the capacity are written.
 use Rattle.seg_vector.proofs.{◌≡◌, subst, ◌+◌, arith, current, IsChanged, bytes_of, word_at, changed-room}
 use Rattle.seg_vector.proofs.{capacity-read, capacity-room, come-aligned, given-of, grows-more, grows-not}
-use Rattle.seg_vector.proofs.{grows-nothing, link-room, mid-room, not_given-of, stands-small, storage-read, too-many}
+use Rattle.seg_vector.proofs.{grows-nothing, link-room, mid-room, not_given-of, storage-read, too-many}
 use Rattle.seg_vector.proofs.sizing.reserve.Goals as goal
-
-pub overflow_add-place : goal.overflow_add-place
-overflow_add-place c = let small = stands-small c.requires.stands.1.1.1 in omega arith
 
 pub regrow-requires-clause-room : goal.regrow-requires-clause-room
 regrow-requires-clause-room c =

@@ -1,16 +1,6 @@
 -- Three words are written one after another.
-use Rattle.seg_vector.proofs.{◌+◌, arith, changed-room, started, changed-both, capacity-room, len-room, link-room}
-use Rattle.seg_vector.proofs.{place-small}
+use Rattle.seg_vector.proofs.{◌+◌, arith, changed-room, started, changed-both, capacity-room, len-room}
 use Rattle.seg_vector.proofs.sizing.start.Goals as goal
-
-pub overflow_add-place : goal.overflow_add-place
-overflow_add-place c = let small = place-small c.args.place c.requires.heap c.requires.room in omega arith
-
-pub overflow_add-place-2 : goal.overflow_add-place-2
-overflow_add-place-2 c = let small = place-small c.args.place c.requires.heap c.requires.room in omega arith
-
-pub set_link-requires-clause-room : goal.set_link-requires-clause-room
-set_link-requires-clause-room c = link-room c.args.heap.now.bytes c.args.place c.requires.room
 
 pub set_word-requires : goal.set_word-requires
 set_word-requires c = changed-room _ _ _ _ 8 c.args.place.handle (c.args.place.at + 8 + 8) c.set_link.ensures.change

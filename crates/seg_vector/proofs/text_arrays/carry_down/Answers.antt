@@ -1,7 +1,7 @@
 -- The next element is put in its place, and it is the one that it was.
-use Rattle.seg_vector.proofs.{◌≡◌, subst, ◌+◌, ◌*◌, ◌%◌, ◌<◌, arith, IfSome, current, bytes_of, link_at, IsChanged}
-use Rattle.seg_vector.proofs.{live_of, changed-room, laid-heap, room-less, AreSameElements, IsSameElement, room-small}
-use Rattle.seg_vector.proofs.{unchanged, carried-changed, carried-next, even-now, source-stays}
+use Rattle.seg_vector.proofs.{◌≡◌, subst, ◌+◌, ◌*◌, ◌%◌, arith, IfSome, current, bytes_of, link_at, IsChanged, live_of}
+use Rattle.seg_vector.proofs.{changed-room, laid-heap, room-less, AreSameElements, IsSameElement, unchanged}
+use Rattle.seg_vector.proofs.{carried-changed, carried-next, even-now, source-stays}
 use Rattle.seg_vector.proofs.text_arrays.carry_down.Goals as goal
 
 pub loop-i-init : goal.loop-i-init
@@ -11,24 +11,6 @@ loop-i-init c =
       carried = λ j
           f. absurd (omega arith);
     }
-
-pub overflow_mul-i : goal.overflow_mul-i
-overflow_mul-i c = let small : c.args.from_at + 16 * c.args.n < 1073741824 = room-small c.args.heap.now c.args.from
-    (c.args.from_at + 16 * c.args.n) c.requires.heap c.requires.source in omega (arith, small, c.loop-i-test.true)
-
-pub overflow_add-from_at : goal.overflow_add-from_at
-overflow_add-from_at c = let small : c.args.from_at + 16 * c.args.n < 1073741824 = room-small c.args.heap.now
-    c.args.from (c.args.from_at + 16 * c.args.n) c.requires.heap c.requires.source in omega
-    (arith, small, c.loop-i-test.true)
-
-pub overflow_mul-i-in-loop-i : goal.overflow_mul-i-in-loop-i
-overflow_mul-i-in-loop-i c = let small : c.args.from_at + 16 * c.args.n < 1073741824 = room-small c.args.heap.now
-    c.args.from (c.args.from_at + 16 * c.args.n) c.requires.heap c.requires.source in omega
-    (arith, small, c.loop-i-test.true)
-
-pub overflow_add-to_at : goal.overflow_add-to_at
-overflow_add-to_at c = let small : c.args.to_at + 16 * c.args.n < 1073741824 = room-small c.args.heap.now c.args.to
-    (c.args.to_at + 16 * c.args.n) c.requires.heap c.requires.target in omega (arith, small, c.loop-i-test.true)
 
 pub carry_element-requires-clause-heap : goal.carry_element-requires-clause-heap
 carry_element-requires-clause-heap c = laid-heap _ _ c.loop-i.invariant.change.live

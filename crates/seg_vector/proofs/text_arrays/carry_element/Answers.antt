@@ -1,15 +1,10 @@
 -- What is read is what is written.
-use Rattle.seg_vector.proofs.{◌≡◌, ap, sym, subst, ◌∙◌, ◌+◌, ◌%◌, ◌<◌, arith, IfSome, bytes_of, word_at, live_of}
-use Rattle.seg_vector.proofs.{room-less, room-small}
+use Rattle.seg_vector.proofs.{◌≡◌, ap, sym, subst, ◌∙◌, ◌+◌, ◌%◌, arith, IfSome, bytes_of, word_at, live_of, room-less}
 use Rattle.seg_vector.proofs.text_arrays.carry_element.Goals as goal
 
 pub link-text-requires-clause-room : goal.link-text-requires-clause-room
 link-text-requires-clause-room c = room-less (live_of c.args.heap.now.bytes) c.args.from (c.args.from_at + 16)
     (c.args.from_at + 8) (omega arith) c.requires.source
-
-pub overflow_add-from_at : goal.overflow_add-from_at
-overflow_add-from_at c = let small : c.args.from_at + 16 < 1073741824 = room-small c.args.heap.now c.args.from
-    (c.args.from_at + 16) c.requires.heap c.requires.source in omega arith
 
 pub word-len-requires : goal.word-len-requires
 word-len-requires c = room-less (live_of c.args.heap.now.bytes) c.args.from (c.args.from_at + 16)

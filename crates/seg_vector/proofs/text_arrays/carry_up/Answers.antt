@@ -1,7 +1,7 @@
 -- The last element that has not moved moves up, and it is the one that it was.
-use Rattle.seg_vector.proofs.{◌≡◌, subst, ◌+◌, ◌-◌, ◌*◌, ◌%◌, ◌<◌, arith, IfSome, current, bytes_of, link_at, IsChanged}
-use Rattle.seg_vector.proofs.{live_of, changed-room, laid-heap, room-less, IsSameElement, room-small, unchanged}
-use Rattle.seg_vector.proofs.{even-now, up-changed, up-next, up-source}
+use Rattle.seg_vector.proofs.{◌≡◌, subst, ◌+◌, ◌-◌, ◌*◌, ◌%◌, arith, IfSome, current, bytes_of, link_at, IsChanged}
+use Rattle.seg_vector.proofs.{live_of, changed-room, laid-heap, room-less, IsSameElement, unchanged, even-now}
+use Rattle.seg_vector.proofs.{up-changed, up-next, up-source}
 use Rattle.seg_vector.proofs.text_arrays.carry_up.Goals as goal
 
 pub loop-i-init : goal.loop-i-init
@@ -11,21 +11,6 @@ loop-i-init c =
           c.requires.heap;
       carried = λ j f g. absurd (omega arith);
     }
-
-pub overflow_mul-place : goal.overflow_mul-place
-overflow_mul-place c = let small : c.args.at + 16 * c.args.n + 16 < 1073741824 = room-small c.args.heap.now
-    c.args.array (c.args.at + 16 * c.args.n + 16) c.requires.heap c.requires.room in omega
-    (arith, small, c.loop-i-test.true)
-
-pub overflow_add-place : goal.overflow_add-place
-overflow_add-place c = let small : c.args.at + 16 * c.args.n + 16 < 1073741824 = room-small c.args.heap.now
-    c.args.array (c.args.at + 16 * c.args.n + 16) c.requires.heap c.requires.room in omega
-    (arith, small, c.loop-i-test.true)
-
-pub overflow_add-place-in-loop-i : goal.overflow_add-place-in-loop-i
-overflow_add-place-in-loop-i c = let small : c.args.at + 16 * c.args.n + 16 < 1073741824 = room-small c.args.heap.now
-    c.args.array (c.args.at + 16 * c.args.n + 16) c.requires.heap c.requires.room in omega
-    (arith, small, c.loop-i-test.true)
 
 pub carry_element-requires-clause-heap : goal.carry_element-requires-clause-heap
 carry_element-requires-clause-heap c = laid-heap _ _ c.loop-i.invariant.change.live

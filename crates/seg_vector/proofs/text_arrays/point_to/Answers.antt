@@ -1,13 +1,7 @@
 -- A link, and the word of the capacity.
 use Rattle.seg_vector.proofs.{◌≡◌, subst, ◌∙◌, inl, inr, ◌+◌, arith, bytes_of, word_at, SameBut-word, SameBut-link}
-use Rattle.seg_vector.proofs.{changed-room, changed-both, capacity-room, link-room, place-small}
+use Rattle.seg_vector.proofs.{changed-room, changed-both, capacity-room}
 use Rattle.seg_vector.proofs.text_arrays.point_to.Goals as goal
-
-pub set_link-requires-clause-room : goal.set_link-requires-clause-room
-set_link-requires-clause-room c = link-room c.args.heap.now.bytes c.args.place c.requires.room
-
-pub overflow_add-place : goal.overflow_add-place
-overflow_add-place c = let small = place-small c.args.place c.requires.heap c.requires.room in omega arith
 
 pub set_word-requires : goal.set_word-requires
 set_word-requires c = changed-room _ _ _ _ 8 c.args.place.handle (c.args.place.at + 16 + 8) c.set_link.ensures.change

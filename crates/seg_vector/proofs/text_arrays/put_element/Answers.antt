@@ -1,15 +1,10 @@
 -- A link, and a word behind it.
-use Rattle.seg_vector.proofs.{◌∙◌, inl, ◌+◌, ◌<◌, arith, SameBut-link, live_of, changed-room, room-less, changed-both}
-use Rattle.seg_vector.proofs.{room-small}
+use Rattle.seg_vector.proofs.{◌∙◌, inl, ◌+◌, arith, SameBut-link, live_of, changed-room, room-less, changed-both}
 use Rattle.seg_vector.proofs.text_arrays.put_element.Goals as goal
 
 pub set_link-requires-clause-room : goal.set_link-requires-clause-room
 set_link-requires-clause-room c = room-less (live_of c.args.heap.now.bytes) c.args.array (c.args.at + 16)
     (c.args.at + 8) (omega arith) c.requires.room
-
-pub overflow_add-at : goal.overflow_add-at
-overflow_add-at c = let small : c.args.at + 16 < 1073741824 = room-small c.args.heap.now c.args.array (c.args.at + 16)
-    c.requires.heap c.requires.room in omega arith
 
 pub set_word-requires : goal.set_word-requires
 set_word-requires c = changed-room _ _ _ _ 8 c.args.array (c.args.at + 8 + 8) c.set_link.ensures.change

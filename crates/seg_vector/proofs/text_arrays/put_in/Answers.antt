@@ -1,7 +1,7 @@
 -- Those behind move up, the element is written, and then the length.
-use Rattle.seg_vector.proofs.{ℕ, ◌≡◌, ◌%◌, sym, ◌∙◌, ◌+◌, ◌-◌, ◌*◌, arith, length, bytes_of, live_of, changed-room, laid-heap}
-use Rattle.seg_vector.proofs.{room-less, none-left, head-room, len-room, place-small, room-small, even-from, put-by}
-use Rattle.seg_vector.proofs.{put-even, put-place, put-run}
+use Rattle.seg_vector.proofs.{ℕ, sym, ◌∙◌, ◌+◌, ◌-◌, ◌*◌, arith, length, bytes_of, live_of, changed-room, laid-heap}
+use Rattle.seg_vector.proofs.{room-less, none-left, head-room, len-room, room-small, even-from, put-by, put-even}
+use Rattle.seg_vector.proofs.{put-place, put-run}
 use Rattle.seg_vector.proofs.text_arrays.put_in.Goals as goal
 
 pub len_of-len-requires : goal.len_of-len-requires
@@ -59,10 +59,6 @@ overflow_add-len c =
     let w = put-place c.requires (sym c.link_of.ensures ∙ c.in-Some.is) in
     let small = room-small c.args.heap.now c.in-Some.array (16 * length c.requires.ps + 16) w.heap w.room in
     omega (arith, small, w.count, c.len_of-len.ensures)
-
-pub overflow_add-place : goal.overflow_add-place
-overflow_add-place c =
-    let q = put-run c.requires.ready in let small = place-small c.args.place q.heap (head-room q.head) in omega arith
 
 pub set_word-requires : goal.set_word-requires
 set_word-requires c = changed-room _ _ _ _ 16 c.args.place.handle (c.args.place.at + 8 + 8) c.put_element.ensures.change

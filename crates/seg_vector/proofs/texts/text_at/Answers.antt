@@ -1,6 +1,6 @@
 -- The text is the front of its block.
-use Rattle.seg_vector.proofs.{◌≡◌, sym, ap, ◌∙◌, ◌+◌, ◌<◌, arith, length, take, bytes_of, word_at, live_of, room-less}
-use Rattle.seg_vector.proofs.{room-small, block-front, block-live, empty-text, text-block}
+use Rattle.seg_vector.proofs.{◌≡◌, sym, ap, ◌∙◌, ◌+◌, arith, length, take, bytes_of, word_at, live_of, room-less}
+use Rattle.seg_vector.proofs.{block-front, block-live, empty-text, text-block}
 use Rattle.seg_vector.proofs.texts.text_at.Goals as goal
 
 pub link-requires : goal.link-requires
@@ -10,10 +10,6 @@ link-requires c =
       room = room-less (live_of c.args.heap.now.bytes) c.args.array
           (c.args.at + 16) (c.args.at + 8) (omega arith) c.requires.1.room;
     }
-
-pub overflow_add-at : goal.overflow_add-at
-overflow_add-at c = let small : c.args.at + 16 < 1073741824 = room-small c.args.heap.now c.args.array (c.args.at + 16)
-    c.requires.1.heap c.requires.1.room in omega arith
 
 pub word-len-requires : goal.word-len-requires
 word-len-requires c = room-less (live_of c.args.heap.now.bytes) c.args.array (c.args.at + 16) (c.args.at + 8 + 8)

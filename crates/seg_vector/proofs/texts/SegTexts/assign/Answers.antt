@@ -1,7 +1,6 @@
 -- Other texts are laid out, then those before are released, and then the words are written.
 use Rattle.seg_vector.proofs.{sym, ap, ◌∙◌, ◌+◌, arith, length, map, length-map, live_of, changed-room, new_array}
-use Rattle.seg_vector.proofs.{len-room, place-small, assigned, assigns-some, laid-fitted, laid-even}
-use Rattle.seg_vector.proofs.{laid-still, some-texts}
+use Rattle.seg_vector.proofs.{len-room, assigned, assigns-some, laid-fitted, laid-even, laid-still, some-texts}
 use Rattle.seg_vector.proofs.texts.SegTexts.assign.Goals as goal
 
 pub release-requires : goal.release-requires
@@ -12,9 +11,6 @@ point_to-requires c =
     let still = laid-still c.requires.1.1 c.in_ok-array.ensures in
     let x = (c.release.ensures c.requires.0 c.requires.1.0 still).texts in
     record { heap = x.heap; aligned = x.aligned; room = x.room; even = laid-even c.in_ok-array.ensures }
-
-pub overflow_add-self : goal.overflow_add-self
-overflow_add-self c = let small = place-small c.args.self.place c.requires.1.1.heap c.requires.1.1.room in omega arith
 
 pub set_word-requires : goal.set_word-requires
 set_word-requires c =

@@ -1,10 +1,7 @@
 -- The texts are released, and then the length is written.
 use Rattle.seg_vector.proofs.{◌≡◌, subst, ◌+◌, arith, current, bytes_of, word_at, IsChanged, live_of, room-less}
-use Rattle.seg_vector.proofs.{head-room, place-small, cleared, head-after}
+use Rattle.seg_vector.proofs.{head-room, cleared, head-after}
 use Rattle.seg_vector.proofs.texts.SegTexts.clear.Goals as goal
-
-pub overflow_add-self : goal.overflow_add-self
-overflow_add-self c = let small = place-small c.args.self.place c.requires.1.1.heap c.requires.1.1.room in omega arith
 
 pub set_word-requires : goal.set_word-requires
 set_word-requires c =

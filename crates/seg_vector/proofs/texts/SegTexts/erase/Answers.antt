@@ -1,6 +1,6 @@
 -- The block of the text is released, those behind it move down, and then the length is written.
-use Rattle.seg_vector.proofs.{ℕ, inl, ◌≡◌, ◌%◌, refl, sym, ◌∙◌, ◌+◌, ◌-◌, ◌*◌, arith, length, bytes_of, live_of, changed-room, room-less}
-use Rattle.seg_vector.proofs.{IsHead, head-room, len-room, place-small, room-small, IsArrayLeft, even-from, no-array}
+use Rattle.seg_vector.proofs.{ℕ, inl, refl, sym, ◌∙◌, ◌+◌, ◌-◌, ◌*◌, arith, length, bytes_of, live_of, changed-room}
+use Rattle.seg_vector.proofs.{room-less, IsHead, head-room, len-room, room-small, IsArrayLeft, even-from, no-array}
 use Rattle.seg_vector.proofs.{erased-by, held-elements, left, has-element}
 use Rattle.seg_vector.proofs.texts.SegTexts.erase.Goals.{After-release_text}
 use Rattle.seg_vector.proofs.texts.SegTexts.erase.Goals as goal
@@ -58,9 +58,6 @@ carry_down-requires c =
           (c.args.index + 1) rest k a.even (omega arith) (omega (arith, c.if-index-len.false, n));
       apart = inl (omega arith);
     }
-
-pub overflow_add-self : goal.overflow_add-self
-overflow_add-self c = let small = place-small c.args.self.place c.requires.1.1.heap c.requires.1.1.room in omega arith
 
 pub set_word-requires : goal.set_word-requires
 set_word-requires c =

@@ -5,8 +5,8 @@ use Rattle.seg_index.proofs.Common.{none-some, same_Some, slice_get-get_or, Cut,
 use Rattle.seg_index.proofs.Common.{Extent, handle, holds, others, extent_at, has_room, live_of, Table, same_role}
 use Rattle.seg_index.proofs.Common.{serves, found-room, room-less, Key, Lookup, Found, Absent, comparisons_in, order_at}
 use Rattle.seg_index.proofs.Common.{beside_table, IsIndexOf, place_of, AreLinks, AreKeys, IsPlaceIn, order}
-use Rattle.seg_index.proofs.Counting.{none_left, same_comparisons}
-use Rattle.seg_index.proofs.{Links.all_at, Links.at_links, Links.entry_here, Links.links_at, Rooms.Inside, Rooms.inside}
+use Rattle.seg_index.proofs.Links.{all_at, at_links, entry_here, links_at}
+use Rattle.seg_index.proofs.{Counting.none_left, Counting.same_comparisons, Rooms.Inside, Rooms.block_small, Rooms.inside}
 use Rattle.std.proofs.{lemmas.Bool.eqb-true, lemmas.Option.slice_get_within}
 use Rattle.block_tags.specs.declared.tile.Role.TheVariants.{Index as IndexRole}
 use Rattle.seg_index.specs.{declared.index.Index.Index, Lookups.HasKey, Lookups.HasKeys, Lookups.IsPlace}
@@ -104,6 +104,9 @@ capacity_small {c} {at} {t} i = by_case (link_at (bytes_of c.bytes) at) refl
     by_case : (o : Option ℕ) → link_at (bytes_of c.bytes) at ≡ o → t.capacity ≤ 134217728
     by_case None e = let z = bare i e in omega arith
     by_case (Some b) e = let s = (placed b i e).inside in omega arith
+
+-- what shows that a sum within a block fits
+pub ruleset sizes = (block_small, capacity_small)
 
 pub leads_from : (c : Cut) {at place : ℕ} {o p : Option ℕ} → place ≡ at → o ≡ link_at (bytes_of c.bytes) place
     → o ≡ p → link_at (bytes_of c.bytes) at ≡ p

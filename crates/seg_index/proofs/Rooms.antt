@@ -51,3 +51,7 @@ inside c h n heap has =
     let r = room_block c h n heap has in let b = r.block in let o = b.at in let low = b.low in
     let enough = r.enough in let ends = b.inside in let size = b.size in
     record { low = omega arith; ends = omega arith; small = omega arith }
+
+pub block_small : (c : Cut) (h n : ℕ) → IsHeap current c.bytes → IsTrue (has_room (live_of c.bytes) h n)
+    → h + n + 16 ≤ 1073741824
+block_small c h n heap has = let s = inside c h n heap has in omega (arith, s.ends, s.small)

@@ -1,23 +1,7 @@
 -- The links that make way, and then the new one.
 use Rattle.seg_index.proofs.{◌≡◌, ◌+◌, ◌-◌, ◌*◌, ◌∙◌, ap, sym, subst, arith, IsTrue, inr, bytes_of, link_at}
-use Rattle.seg_index.proofs.{SameBut-link, LiveSet, has_room, live_of, room-less, changed_trans, same_live, inside}
+use Rattle.seg_index.proofs.{SameBut-link, LiveSet, has_room, live_of, room-less, changed_trans, same_live}
 use Rattle.seg_index.proofs.adding.spread.Goals as goal
-
-pub overflow_mul-place : goal.overflow_mul-place
-overflow_mul-place c =
-    let s = inside c.args.heap.now c.args.from (8 * c.args.count) c.requires.heap c.requires.source in omega arith
-
-pub overflow_mul-place-2 : goal.overflow_mul-place-2
-overflow_mul-place-2 c =
-    let s = inside c.args.heap.now c.args.from (8 * c.args.count) c.requires.heap c.requires.source in omega arith
-
-pub overflow_add-place : goal.overflow_add-place
-overflow_add-place c =
-    let s = inside c.args.heap.now c.args.from (8 * c.args.count) c.requires.heap c.requires.source in omega arith
-
-pub overflow_mul-place-3 : goal.overflow_mul-place-3
-overflow_mul-place-3 c =
-    let s = inside c.args.heap.now c.args.from (8 * c.args.count) c.requires.heap c.requires.source in omega arith
 
 pub shift_non_null_links-requires-clause-source : goal.shift_non_null_links-requires-clause-source
 shift_non_null_links-requires-clause-source c =

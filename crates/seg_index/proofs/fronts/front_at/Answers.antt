@@ -9,16 +9,6 @@ word-len-requires c =
     let b = c.args.heap.now.bytes in let h = c.args.handle in
     room-less (live_of b) h (16 + name_len_at (bytes_of b) h) 16 (omega arith) c.requires.room
 
-pub overflow_add-at : goal.overflow_add-at
-overflow_add-at c =
-    let n = 16 + name_len_at (bytes_of c.args.heap.now.bytes) c.args.handle in
-    let lies = inside c.args.heap.now c.args.handle n c.requires.heap c.requires.room in omega arith
-
-pub overflow_add-at-2 : goal.overflow_add-at-2
-overflow_add-at-2 c =
-    let n = 16 + name_len_at (bytes_of c.args.heap.now.bytes) c.args.handle in
-    let lies = inside c.args.heap.now c.args.handle n c.requires.heap c.requires.room in omega arith
-
 pub slice_bounds-read_u64-end : goal.slice_bounds-read_u64-end
 slice_bounds-read_u64-end c =
     let n = 16 + name_len_at (bytes_of c.args.heap.now.bytes) c.args.handle in

@@ -1,11 +1,6 @@
 -- The entry lies in the block.
-use Rattle.seg_index.proofs.{◌+◌, ◌*◌, arith, bytes_of, live_of, room-less, capacity_small, entry_found, has_places}
+use Rattle.seg_index.proofs.{◌+◌, ◌*◌, arith, bytes_of, live_of, room-less, entry_found, has_places}
 use Rattle.seg_index.proofs.index.Index.at.Goals as goal
-
-pub overflow_mul-i : goal.overflow_mul-i
-overflow_mul-i c =
-    let q = c.requires.index in let count = q.index.stands.count in let few = q.index.few in
-    let s = capacity_small q.index in omega arith
 
 pub link-requires-clause-room : goal.link-requires-clause-room
 link-requires-clause-room c =

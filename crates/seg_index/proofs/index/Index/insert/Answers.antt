@@ -1,6 +1,6 @@
 -- The links behind the place make way.
 use Rattle.seg_index.proofs.{◌+◌, ◌-◌, ◌*◌, subst, arith, current, LiveSet, LaysOut, live_of, room-less, same_live}
-use Rattle.seg_index.proofs.{capacity_small, has_places, in_header, links_lead, block_and_count, inserted}
+use Rattle.seg_index.proofs.{has_places, in_header, links_lead, block_and_count, inserted}
 use Rattle.seg_index.proofs.index.Index.insert.Goals as goal
 
 pub spread-requires : goal.spread-requires
@@ -16,11 +16,6 @@ spread-requires c =
       links = links_lead block place (count - place) q.handles p.links q.index.whole (omega arith);
       handle = c.requires.handle;
     }
-
-pub overflow_add-count : goal.overflow_add-count
-overflow_add-count c =
-    let q = c.requires.index in let s = capacity_small q.index in let count = q.index.stands.count in
-    let few = q.index.few in let long = c.len-count.ensures.word in omega arith
 
 pub returns : goal.returns
 returns c =

@@ -6,8 +6,3 @@ pub grown-requires : goal.grown-requires
 grown-requires c =
     let q = c.requires.index in let s = capacity_small q.index in
     let e = c.capacity-capacity.ensures.capacity q.table q.handles q.index in omega arith
-
-pub overflow_mul-grown : goal.overflow_mul-grown
-overflow_mul-grown c =
-    let q = c.requires.index in let s = capacity_small q.index in
-    let e = c.capacity-capacity.ensures.capacity q.table q.handles q.index in let g = c.grown.ensures in omega arith

@@ -1,23 +1,7 @@
 -- The links behind the place close up.
 use Rattle.seg_index.proofs.{◌≡◌, ◌+◌, ◌-◌, ◌*◌, subst, arith, current, bytes_of, AllLead, LiveSet, LaysOut, live_of}
-use Rattle.seg_index.proofs.{room-less, same_live, capacity_small, has_places, in_header, links_lead, block_and_count}
-use Rattle.seg_index.proofs.{removed}
+use Rattle.seg_index.proofs.{room-less, same_live, has_places, in_header, links_lead, block_and_count, removed}
 use Rattle.seg_index.proofs.index.Index.remove.Goals as goal
-
-pub overflow_mul-place : goal.overflow_mul-place
-overflow_mul-place c =
-    let q = c.requires.index in let s = capacity_small q.index in let count = q.index.stands.count in
-    let few = q.index.few in omega arith
-
-pub overflow_add-place : goal.overflow_add-place
-overflow_add-place c =
-    let q = c.requires.index in let s = capacity_small q.index in let count = q.index.stands.count in
-    let few = q.index.few in omega arith
-
-pub overflow_mul-place-2 : goal.overflow_mul-place-2
-overflow_mul-place-2 c =
-    let q = c.requires.index in let s = capacity_small q.index in let count = q.index.stands.count in
-    let few = q.index.few in omega arith
 
 pub shift_non_null_links-requires : goal.shift_non_null_links-requires
 shift_non_null_links-requires c =

@@ -1,7 +1,7 @@
 -- The block goes, or is cut.
 use Rattle.seg_index.proofs.{sym, subst, ◌∙◌, ◌+◌, ◌≤◌, IsTrue, arith, LiveSet, heap_touches, is_live_in, live_of}
-use Rattle.seg_index.proofs.{same_live, capacity_small, in_header, leads_from, placed, found_live, emptied, shrunk_bare}
-use Rattle.seg_index.proofs.{shrunk_empty, shrunk_short}
+use Rattle.seg_index.proofs.{same_live, in_header, leads_from, placed, found_live, emptied, shrunk_bare, shrunk_empty}
+use Rattle.seg_index.proofs.{shrunk_short}
 use Rattle.seg_index.proofs.index.Index.shrink.Goals as goal
 
 pub returns-in_default-clause-shrunk : goal.returns-in_default-clause-shrunk
@@ -17,11 +17,6 @@ deallocate-requires c =
     let p = placed c.in-Some.block c.requires.index.index leads in
     subst (λ (l : LiveSet). IsTrue (is_live_in l c.in-Some.block)) (sym (same_live w.change))
     (found_live (live_of c.args.heap.now.bytes) c.in-Some.block p.extent p.found)
-
-pub overflow_mul-count : goal.overflow_mul-count
-overflow_mul-count c =
-    let q = c.requires.index in let s = capacity_small q.index in let few = q.index.few in
-    let len = c.len-count.ensures.len q.table q.handles q.index in omega arith
 
 pub shrink_in_place-requires : goal.shrink_in_place-requires
 shrink_in_place-requires c =

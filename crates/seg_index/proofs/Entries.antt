@@ -5,8 +5,8 @@ use Rattle.seg_index.proofs.Common.{none-some, same_Some, slice_get-get_or, Cut,
 use Rattle.seg_index.proofs.Common.{Extent, handle, holds, others, extent_at, has_room, live_of, Table, same_role}
 use Rattle.seg_index.proofs.Common.{serves, found-room, room-less, Key, Lookup, Found, Absent, comparisons_in, order_at}
 use Rattle.seg_index.proofs.Common.{beside_table, IsIndexOf, place_of, AreLinks, AreKeys, IsPlaceIn, order}
-use Rattle.seg_index.proofs.Links.{all_at, at_links, entry_here, links_at}
-use Rattle.seg_index.proofs.{Counting.none_left, Counting.same_comparisons, Rooms.Inside, Rooms.block_small, Rooms.inside}
+use Rattle.seg_index.proofs.{Counting.none_left, Counting.same_comparisons, Rooms.Inside, Rooms.inside}
+use Rattle.seg_index.proofs.{Links.all_at, Links.at_links, Links.entry_here, Links.links_at, Rooms.block_small}
 use Rattle.std.proofs.{lemmas.Bool.eqb-true, lemmas.Option.slice_get_within}
 use Rattle.block_tags.specs.declared.tile.Role.TheVariants.{Index as IndexRole}
 use Rattle.seg_index.specs.{declared.index.Index.Index, Lookups.HasKey, Lookups.HasKeys, Lookups.IsPlace}

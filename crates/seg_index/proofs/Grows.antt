@@ -48,8 +48,8 @@ pub taken : {a b : Cut} {at n h : ℕ} {role : Role} (g : Option ℕ) → CanGro
     → InHeader at → CanGrow b at g
 taken {a} {b} g can d w = still_grows g (words_in a b d.keeps.behind w) (λ k x q e. found_still k x d e) can
 
-pub growth-released : {a b : Cut} {at h : ℕ} (g : Option ℕ) → CanGrow a at g → IsReleased current a b h → (g ≡ Some h → ⊥)
-    → InHeader at → CanGrow b at g
+pub growth-released : {a b : Cut} {at h : ℕ} (g : Option ℕ) → CanGrow a at g → IsReleased current a b h
+    → (g ≡ Some h → ⊥) → InHeader at → CanGrow b at g
 growth-released {a} {b} {h = h} g can d other w = still_grows g (words_in a b d.keeps.behind w) (λ k x q e.
     ap (λ (l : LiveSet). extent_at l k) (released-live current a b h d)
     ∙ found-less k h x (live_of a.bytes).extents (other_block g q other) e) can

@@ -214,9 +214,9 @@ module _ {K V : Type 0} {k : Plain K} {v : Plain V} {c : Cut} {h at : ℕ} {pair
       → IfSome found (λ n. IsTrue (has_room (live_of c.bytes) n (16 + k.SIZE + v.SIZE)))
   found_room s = rw (f.node s.0 s.1) (room_read k v c f.keys (pair s.0) (f.good s.0 s.1))
 
-  pub found_key_room : IsSomeMap k v c.bytes h at
+  pub sought_room : IsSomeMap k v c.bytes h at
       → IfSome found (λ n. IsTrue (has_room (live_of c.bytes) n (16 + k.SIZE)))
-  found_key_room s = less found (found_room s)
+  sought_room s = less found (found_room s)
     where
       less : (o : Option ℕ) → IfSome o (λ n. IsTrue (has_room (live_of c.bytes) n (16 + k.SIZE + v.SIZE)))
           → IfSome o (λ n. IsTrue (has_room (live_of c.bytes) n (16 + k.SIZE)))

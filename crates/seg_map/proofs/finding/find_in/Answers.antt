@@ -1,11 +1,11 @@
 -- What the search has found is looked at once more.
-use Rattle.seg_map.proofs.{false, arith, entry_is, finds_first, found_key_room, looked_for}
+use Rattle.seg_map.proofs.{false, arith, entry_is, finds_first, sought_room, looked_for}
 use Rattle.seg_map.proofs.finding.find_in.Goals as goal
 
 pub with_key-requires-clause-room : goal.with_key-requires-clause-room
 with_key-requires-clause-room g c =
     let way = c.find_way_in-way.ensures in
-    found_key_room (finds_first c.open-pairs.ensures.opened false c.args.key way.exact way.steps way.first) c.requires.map
+    sought_room (finds_first c.open-pairs.ensures.opened false c.args.key way.exact way.steps way.first) c.requires.map
 
 pub returns : goal.returns
 returns g c =

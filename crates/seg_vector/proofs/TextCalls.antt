@@ -176,8 +176,8 @@ text-erased {s0} {s1} {s2} {s3} {p} {ps} {c} i {o = Some x} {q} s e link x1 c2 m
     let back : AreSameElements (bytes_of s0.bytes) (bytes_of s3.bytes) (handle x + 16 * i + 16) (handle x + 16 * i) n =
     elements-through (handle x + 16 * i + 16) (handle x + 16 * i) n k1 moved k3
     (omega arith) (omega (arith, full, fits, below)) (omega arith) (omega (arith, full, fits, below)) in
-    let links = links-edited (handle x) ps i (suc i) [] (omega arith) (omega (arith, below)) (omega arith) (omega arith) (omega arith)
-    s.words.array front tt back in
+    let links = links-edited (handle x) ps i (suc i) [] (omega arith) (omega (arith, below)) (omega arith)
+    (omega arith) (omega arith) s.words.array front tt back in
     let len = removed-length ps i e in
     texts-between (remove ps i) (take i ps) (q ∷ []) [] (drop (suc i) ps) {u = t} (around ps i e) refl
     (ap (λ (xs : List Extent). x ∷ xs) (sym one)) refl s r3.change s.table (omega (arith, len, fits))
@@ -218,8 +218,8 @@ pub erased-by : {s0 s1 s2 s3 : Cut} {p : Place} {ps : List OwnedText} {g : ℕ} 
 erased-by {s1} {s2} {s3} {p} {ps} {g} i n s e link is x1 c2 m2 c3 word =
     let up : g + (16 * i + 16) ≡ g + 16 * i + 16 = omega arith in
     let at : p.handle + (p.at + 8) ≡ p.handle + p.at + 8 = omega arith in
-    text-erased {s2 = s2} {s3 = s3} i s e link x1 (subst (λ k. IsChanged current s1 s2 (g + 16 * i) (16 * (k - i - 1))) is
-    c2) (subst (λ k. AreSameElements (bytes_of s1.bytes) (bytes_of s2.bytes) k (g + 16 * i) (length ps - i - 1)) up
+    text-erased {s2 = s2} {s3 = s3} i s e link x1
+    (subst (λ k. IsChanged current s1 s2 (g + 16 * i) (16 * (k - i - 1))) is c2) (subst (λ k. AreSameElements (bytes_of s1.bytes) (bytes_of s2.bytes) k (g + 16 * i) (length ps - i - 1)) up
     (subst (λ k. AreSameElements (bytes_of s1.bytes) (bytes_of s2.bytes) (g + (16 * i + 16)) (g + 16 * i)
     (k - i - 1)) is m2)) (subst (λ k. IsChanged current s2 s3 k 8) at c3)
     (subst (λ k. word_at (bytes_of s3.bytes) k ≡ length ps - 1) at (word ∙ ap (λ k. k - 1) is))
@@ -540,8 +540,8 @@ set_in {s0} {s1} {s3} {p} {ps} {c} {i} {len} {x} {q} {block} s e pl rep len_is a
     subst (λ (y : Extent). word_at (bytes_of s3.bytes) (handle y + 16 * i + 8) ≡ len) array_is rep.len_word
     ∙ len_is ∙ ap (λ (bs : List ℕ). length bs) (sym pl.same) in
     let qs_is = set-pieces ps i z below in
-    let links = links-edited (handle x) ps i (suc i) (z ∷ []) (omega (arith, below)) (omega (arith, below)) (omega arith)
-    (omega arith) (omega arith) s.words.array front (link, word, tt) back in
+    let links = links-edited (handle x) ps i (suc i) (z ∷ []) (omega (arith, below)) (omega (arith, below))
+    (omega arith) (omega arith) (omega arith) s.words.array front (link, word, tt) back in
     let len_qs : length (take i ps ++ (z ∷ drop (suc i) ps)) ≡ n =
     omega (
       arith,

@@ -1,8 +1,8 @@
 //! The elements of a container at a place: read, written over, left out, and put in where there is a place.
 ghost use Rattle.std.specs.Prelude.{◌≡◌, ◌+◌, ◌*◌, ◌<◌, ◌≤◌, length};
 ghost use Rattle.raw_region.specs.Memory.{bytes_of, word_at};
-ghost use Rattle.seg_vector.specs.Elements.{Erases, Extends, HasSpot, Inserts, Overwrites, PutsAt, ReadsAll, ReadsOne, Truncates};
-ghost use Rattle.seg_vector.specs.Standing.{IsStanding};
+ghost use Rattle.seg_vector.specs.Elements.{Erases, Extends, HasSpot, Inserts, Overwrites, PutsAt, ReadsAll};
+ghost use Rattle.seg_vector.specs.{Elements.ReadsOne, Elements.Truncates, Standing.IsStanding};
 
 use crate::places::{LEN, Place, len_of, link_of};
 use best_fit::Heap;

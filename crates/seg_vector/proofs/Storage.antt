@@ -90,18 +90,6 @@ not-refused {old} {each} {n} {t} f r = let none = sym (grown-same (live_of old.b
 
 -- ---- the block of the container, once the storage is regrown
 
-all-found-if : (P : Extent → Type 0) (h : ℕ) {x : Extent} (z : Extent) (zs : List Extent)
-    → (find (λ (w : Extent). handle w == h) zs ≡ Some x → AllByRecursion P zs → P x) → (b : Bool)
-    → cond b (Some z) (find (λ (w : Extent). handle w == h) zs) ≡ Some x → AllByRecursion P (z ∷ zs) → P x
-all-found-if P h {x} z zs k true e a = let same : z ≡ x = cc in subst P same a.0
-all-found-if P h z zs k false e a = k e a.1
-
--- what holds of each holds of one that is found
-pub all-found : (P : Extent → Type 0) (h : ℕ) {x : Extent} (zs : List Extent)
-    → find (λ (w : Extent). handle w == h) zs ≡ Some x → AllByRecursion P zs → P x
-all-found P h [] e a = absurd (cc)
-all-found P h {x} (z ∷ zs) e a = all-found-if P h z zs (all-found P h {x = x} zs) (handle z == h) e a
-
 -- a block that came begins at a multiple of 16
 pub come-aligned : {old mid : Cut} {o : Option Extent} {n used g : ℕ} → IsGivenRoom current old mid o n used g
     → g % 16 ≡ 0

@@ -1,22 +1,23 @@
 -- The blocks of a vector of texts, its array and those of its texts, among the other blocks of a heap, and through the
 -- steps of a call.
 use Rattle.seg_vector.proofs.Words as W
-use W.{take-append-drop, length-take, length-drop, ◌≡◌, ◌≢◌, sym, ap, subst, ◌∙◌, ℕ, ◌+◌, ◌%◌, ◌≤◌, Option, Some, None}
-use W.{List, ◌∷◌, ◌++◌, ◌==◌, append_assoc, length, arith, inl, inr, refl, zero, suc, ◌-◌, ◌*◌, ◌<◌, take, drop, Bool}
-use W.{true, false, cond, ◌⊎◌, IsTrue, find, option_to_list, option_map, slice_get, IfSome, AllByRecursion, list_any}
-use W.{flat_map-append, take-take, drop_all, slice_get_within, or_left, or_right, Memory, Cut, bytes_of, word_at}
-use W.{SameBut, Has, current, Storage, link_at, target_of, inserted, without_all, IsExchanged, SameBlockBut, exchanged}
-use W.{Extent, LiveSet, handle, end_of, IsHeap, extent_at, live_of, SameBlock, IsChanged, has_room, is_live_in}
-use W.{payload_at, IsReleased, Table, is_table, no_table, IsFound, IsNone, Rising, SameSpread, all-found-in, all-in-use}
-use W.{found-inserted, found-none, found-room, live-rises, middle-first, rising-others, roomy, spread-behind}
-use W.{all_of-inserted, but-apart, exchanged-live, found-without, inserted-append, laid-heap, without-inserted, kept}
-use W.{kept-found, word-same, block_payload, room_block, exchange-next, exchange-released, exchange-same, spread-refl}
-use W.{IsSound, live-sound, Has-same, SameBut-word, read-part, SameBut-link, Place, IsOwnBlock, place_at, Stands}
-use W.{IsServed, IsSwapped, AreHeldElements, IsHeldElement, AreSameElements, IsSameElement, AreEvenLinks, IsHeldText}
-use W.{IsTexts, text_blocks, IsTextsNow, IsTextElement, AreInArray, IsOwnedText, OwnedText, AreTextLinks, []}
+use W.{in_use-all, take-append-drop, length-take, length-drop, ◌≡◌, ◌≢◌, sym, ap, subst, ◌∙◌, ℕ, ◌+◌, ◌%◌, ◌≤◌, Option}
+use W.{Some, None, List, ◌∷◌, ◌++◌, ◌==◌, append_assoc, length, arith, inl, inr, refl, zero, suc, ◌-◌, ◌*◌, ◌<◌, take}
+use W.{drop, Bool, true, false, cond, ◌⊎◌, IsTrue, find, option_to_list, option_map, slice_get, IfSome, AllByRecursion}
+use W.{list_any, flat_map-append, take-take, drop_all, slice_get_within, or_left, or_right, Memory, Cut, bytes_of}
+use W.{word_at, SameBut, Has, current, Storage, link_at, target_of, inserted, without_all, IsExchanged, SameBlockBut}
+use W.{exchanged, Extent, LiveSet, handle, end_of, IsHeap, extent_at, live_of, SameBlock, IsChanged, has_room}
+use W.{is_live_in, payload_at, IsReleased, Table, is_table, no_table, IsFound, IsNone, Rising, SameSpread, all-found-in}
+use W.{all-in-use, found-inserted, found-none, found-room, live-rises, middle-first, rising-others, roomy}
+use W.{spread-behind, all_of-inserted, but-apart, exchanged-live, found-without, inserted-append, laid-heap}
+use W.{without-inserted, kept, kept-found, word-same, block_payload, room_block, exchange-next, exchange-released}
+use W.{exchange-same, spread-refl, IsSound, live-sound, Has-same, SameBut-word, read-part, SameBut-link, Place}
+use W.{IsOwnBlock, place_at, Stands, IsServed, IsSwapped, AreHeldElements, IsHeldElement, AreSameElements}
+use W.{IsSameElement, AreEvenLinks, IsHeldText, IsTexts, text_blocks, IsTextsNow, IsTextElement, AreInArray}
+use W.{IsOwnedText, OwnedText, AreTextLinks, []}
 use Rattle.seg_vector.proofs.Runs.{AreHeadWords, IsHead, IsRun, changed-both, head-exchanged, none-some, same-some}
 use Rattle.seg_vector.proofs.Typed.{has-element}
-use Rattle.seg_vector.proofs.{Runs.serves-full, Runs.table, Runs.table-full, Storage.all-found, Storage.live-if}
+use Rattle.seg_vector.proofs.{Runs.serves-full, Runs.table, Runs.table-full, Storage.live-if}
 use Rattle.best_fit.specs.Extents.{is_proper}
 
 -- ---- the blocks of a vector of texts, its array and those of its texts, among the other blocks of a heap
@@ -634,7 +635,7 @@ pub even-block : (l : LiveSet) (o : Option Extent) → IsTrue (is_proper l)
     → AllByRecursion (IsFound l.extents) (option_to_list o) → IfSome (option_map handle o) (λ target. target % 16 ≡ 0)
 even-block l None p f = tt
 even-block l (Some x) p f =
-    let s = all-found IsSound (handle x) l.extents f.0 (live-sound l p) in
+    let s = (in_use-all IsSound l (handle x) x p f.0 (live-sound l p)).0 in
     omega (arith, s.aligned)
 
 pub even-held : (c : Cut) {array n : ℕ} {ps : List OwnedText} → AreHeldElements c.bytes array n ps

@@ -14,14 +14,12 @@ use Rattle.offset_link.specs.Link.{link_at}
 use Rattle.link_tree.specs.Tree.{bits}
 use Rattle.link_tree.specs.Nodes.{is_in, leads}
 use Rattle.link_tree.specs.Checking.{IsClosed}
-use Rattle.best_fit.specs.GapNodes.{gaps_in, gaps_of}
 use Rattle.std.proofs.lemmas.Int.Digits.{length-digits_of-le}
 use Rattle.image_check.specs.Opening.{IsRaisedFor}
 use Rattle.image_check.specs.Passes.{HasTiles, Spends, tiles_in}
-use Rattle.image_check.specs.Visits.{Rates, rate_of, weigh, both, tag_rates, step_rates, counting_rates, planting_visits, planting_rates, tree_rates, frame_rates, gathering_rates, block_rates, all_rates}
+use Rattle.image_check.specs.Visits.{Rates, rate_of, weigh, both, tag_rates, step_rates, planting_visits, planting_rates, tree_rates, frame_rates, gathering_rates, block_rates, all_rates}
 use Rattle.image_check.specs.FreeNodes.{is_place, placed, place_cells}
-use Rattle.image_check.specs.FreeLaws.{multiples, length-multiples, place_listed, placed_leads, is_place-Place, small_size}
-use Rattle.image_check.proofs.Framed.{few-free}
+use Rattle.image_check.specs.FreeLaws.{multiples, length-multiples, place_listed, placed_leads, is_place-Place}
 use Rattle.image_check.proofs.WalkedTiles.{tags-IsTiled}
 
 -- ---- sums of plain numbers
@@ -65,12 +63,6 @@ less-paid old new m n r s w a e = omega arith
 
 part-paid : (old new m u w n : ℕ) → new ≤ old + (m + w) → m ≤ 640 → 16 * u + 144 ≡ n → w ≤ 64 * u → new ≤ old + 64 * (n / 16 + 1)
 part-paid old new m u w n a few size weight = omega arith
-
-many-step : (k from len to : ℕ) → 32 ≤ len → 32 * k + (from + len) ≤ to → 32 * suc k + from ≤ to
-many-step k from len to long more = omega arith
-
-gaps-sum : (g h k n : ℕ) → 32 * k + 128 ≤ n - 16 → g ≡ h → h ≤ k → 144 ≤ n → 32 * g + 144 ≤ n
-gaps-sum g h k n row same few least = omega arith
 
 -- ---- what tiles weigh
 
@@ -144,6 +136,13 @@ weigh-five (t ∷ ts) =
 times-le : (a b n : ℕ) → a ≤ b → a * n ≤ b * n
 times-le a b n l = mul-le-mul_right n l
 
+weigh-less : (r s : Rates) → ((u : Option Role) → rate_of r u ≤ rate_of s u) → (ts : List Tile) → weigh r ts ≤ weigh s ts
+weigh-less r s less [] = omega arith
+weigh-less r s less (t ∷ ts) =
+    let here = times-le (rate_of r t.use_of) (rate_of s t.use_of) (t.len / 16) (less t.use_of) in
+    let rest = weigh-less r s less ts in
+    omega arith
+
 weigh-most : (r : Rates) → ((u : Option Role) → rate_of r u ≤ 64) → (ts : List Tile) → weigh r ts ≤ 64 * units ts
 weigh-most r most [] = omega arith
 weigh-most r most (t ∷ ts) =
@@ -198,7 +197,7 @@ search-for-tile (Some Node) n l = omega arith
 pub tags-spend : (c : Cut) (old tags new : ℕ) → HasTiles c.bytes → 32 * tags + 112 ≤ length c.bytes → new ≡ old + tags → Spends tag_rates 1 c.bytes old new
 tags-spend c old tags new h few e = tags-paid old tags new (units (tiles_in c.bytes)) (length c.bytes) (size-units c h) few e
 
--- the tree: its check, a walk that counts the gaps, and a walk that looks for them
+-- the tree: its check, and a walk that looks for the gaps in it
 pub steps-spend : (c : Cut) (old steps new : ℕ) → HasTiles c.bytes → steps ≤ 5 * (length c.bytes / 16) + 5 → new ≡ old + steps → Spends step_rates 50 c.bytes old new
 steps-spend c old steps new h few e =
     steps-paid old steps new (units (tiles_in c.bytes)) (weigh step_rates (tiles_in c.bytes)) (length c.bytes) (size-units c h) (weigh-five (tiles_in c.bytes)) few e
@@ -214,26 +213,14 @@ spend-less b r s m n old new x =
     let ts = tiles_in b in
     (x.0, less-paid old new m n (weigh r ts) (weigh s ts) (weigh (both r s) ts) x.1 (weigh-both r s ts))
 
+-- lower rates spend less than higher ones
+pub spend-within : (b : List ℕ) (r s : Rates) (m old new : ℕ) → ((u : Option Role) → rate_of r u ≤ rate_of s u) → Spends r m b old new → Spends s m b old new
+spend-within b r s m old new less x =
+    let weight = weigh-less r s less (tiles_in b) in
+    let high = x.1 in
+    (x.0, omega arith)
+
 -- ---- the check of the free tree
-
--- there are few gaps
-row-many : (from : ℕ) (ts : List Tile) (to : ℕ) → Row from ts to → 32 * length ts + from ≤ to
-row-many from [] to row = let e = row in omega arith
-row-many from (t ∷ ts) to row =
-    many-step (length ts) from t.len to row.1 (row-many (from + t.len) ts to row.3)
-
-pub gaps-few : (c : Cut) → HasTiles c.bytes → 32 * length (gaps_in c) + 144 ≤ length c.bytes
-gaps-few c h =
-    let tiled = tags-IsTiled c h.size h.tags in
-    let row = row-many 128 tiled.tiles (length c.bytes - 16) (said_row c tiled.tiles tiled.said) in
-    let same : length (gaps_in c) ≡ length (gaps_of tiled.tiles) = ap (λ (ts : List Tile). length (gaps_of ts)) (tiles_are_read_off c tiled.tiles tiled.said) in
-    gaps-sum (length (gaps_in c)) (length (gaps_of tiled.tiles)) (length tiled.tiles) (length c.bytes) row same (few-free tiled.tiles) (legal_size (length c.bytes) h.size).low
-
-pub nodes-few : (c : Cut) (nodes : ℕ) → HasTiles c.bytes → nodes ≡ length (gaps_in c) → nodes < 2 ^ 26 - 1
-nodes-few c nodes h e =
-    let few = gaps-few c h in
-    let small = small_size (length c.bytes) h.size in
-    omega arith
 
 -- so a search is short
 pub search-short : (n steps : ℕ) → n < 2 ^ 26 - 1 → steps ≤ 2 * bits (n + 1) → steps ≤ 52
@@ -261,23 +248,25 @@ check-short c root old steps new h good most e =
 
 -- the parts of the check of the free tree
 pub tree-steps : (c : Cut) (old stepped : ℕ) → Spends step_rates 50 c.bytes old stepped → Spends tree_rates 50 c.bytes old stepped
-tree-steps c old stepped x = spend-less c.bytes step_rates (both counting_rates planting_rates) 50 0 old stepped x
+tree-steps c old stepped x = spend-less c.bytes step_rates planting_rates 50 0 old stepped x
 
-pub tree-counted : (c : Cut) (old stepped counted : ℕ) → Spends step_rates 50 c.bytes old stepped → Spends counting_rates 0 c.bytes stepped counted → Spends tree_rates 50 c.bytes old counted
-tree-counted c old stepped counted x y =
-    spend-both c.bytes step_rates (both counting_rates planting_rates) 50 0 old stepped counted x (spend-less c.bytes counting_rates planting_rates 0 0 stepped counted y)
-
-pub tree-planted : (c : Cut) (old stepped counted planted : ℕ) → Spends step_rates 50 c.bytes old stepped → Spends counting_rates 0 c.bytes stepped counted
-    → Spends planting_rates 0 c.bytes counted planted → Spends tree_rates 50 c.bytes old planted
-tree-planted c old stepped counted planted x y z =
-    spend-both c.bytes step_rates (both counting_rates planting_rates) 50 0 old stepped planted x (spend-both c.bytes counting_rates planting_rates 0 0 stepped counted planted y z)
+pub tree-planted : (c : Cut) (old stepped planted : ℕ) → Spends step_rates 50 c.bytes old stepped → Spends planting_rates 0 c.bytes stepped planted → Spends tree_rates 50 c.bytes old planted
+tree-planted c old stepped planted x y = spend-both c.bytes step_rates planting_rates 50 0 old stepped planted x y
 
 -- the tags, and in place of the tree a walk over the tiles
+planted-more : (u : Option Role) → rate_of tag_rates u ≤ rate_of planting_rates u
+planted-more None = omega arith
+planted-more (Some Object) = omega arith
+planted-more (Some Index) = omega arith
+planted-more (Some Storage) = omega arith
+planted-more (Some Node) = omega arith
+
 steps-none : (b : List ℕ) (old : ℕ) → Spends step_rates 50 b old old
 steps-none b old = (omega arith, omega arith)
 
 pub treeless-spend : (c : Cut) (old tagged new : ℕ) → Spends tag_rates 1 c.bytes old tagged → Spends tag_rates 0 c.bytes tagged new → Spends frame_rates 51 c.bytes old new
-treeless-spend c old tagged new x y = spend-both c.bytes tag_rates tree_rates 1 50 old tagged new x (tree-counted c tagged tagged new (steps-none c.bytes tagged) y)
+treeless-spend c old tagged new x y = spend-both c.bytes tag_rates tree_rates 1 50 old tagged new x
+    (tree-planted c tagged tagged new (steps-none c.bytes tagged) (spend-within c.bytes tag_rates planting_rates 0 tagged new planted-more y))
 
 -- ---- the whole
 

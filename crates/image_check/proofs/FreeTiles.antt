@@ -75,15 +75,6 @@ one-free (t ∷ front) here e =
 pub free-more : (front : List Tile) (here : Tile) → is_none here.use_of ≡ true → length (gaps_of (front ++ here ∷ [])) ≡ length (gaps_of front) + 1
 free-more front here e = one-free front here (free-unused here e)
 
--- what a test of a tile's use says
-pub free-said : (u : Option Role) (r : Bool) → is_some u ≡ not r → r ≡ true → is_none u ≡ true
-free-said None r e h = refl
-free-said (Some role) r e h = absurd (true≢false (e ∙ ap not h))
-
-pub used-said : (u : Option Role) (r : Bool) → is_some u ≡ not r → r ≡ false → is_none u ≡ false
-used-said None r e h = absurd (false≢true (e ∙ ap not h))
-used-said (Some role) r e h = refl
-
 pub none-free : (front : List Tile) (here : Tile) → is_none here.use_of ≡ false → length (gaps_of (front ++ here ∷ [])) ≡ length (gaps_of front)
 none-free [] here e = elim (use_cases here) [
   | unused f ↦ absurd (both_ways (is_none here.use_of) e (ap is_none f))
@@ -101,14 +92,6 @@ none-free (t ∷ front) here e =
           let less = ap (λ (gs : List Gap). length gs) (gaps_of-used t front role f) in
           omega arith
     ]
-
--- so a count of the free ones stays small
-pub count-small : (c : Cut) (Kept : List Tile → Type 0) (count : ℕ) (here : Tile) → IsTrue (is_legal_size (length c.bytes)) → (a : WalksAt c Kept here) → count ≡ length (gaps_of a.front) → count ≤ 1073741824
-count-small c Kept count here legal a is =
-    let few = walk-few c Kept here a in
-    let free = few-free a.front in
-    let small = small_size (length c.bytes) legal in
-    omega arith
 
 -- ---- all free tiles are planted
 

@@ -313,11 +313,6 @@ count-most (t ∷ ts) = by t.use_of (count-most ts)
     by None h = omega arith
     by (Some r) h = omega arith
 
--- so many blocks were counted, with a visit for each tile
-pub record Counted (seen visits count : ℕ) (front : List Tile) : Type 0 where
-  pub counts : count ≡ length (entries_of front)
-  pub visited : visits ≡ seen + length front
-
 -- the blocks of the tiles passed are gathered, in a map with room for the others
 pub record Gathering (seen visits room spared : ℕ) (es : Blocks) (front : List Tile) : Type 0 where
   pub entries : es ≡ entries_of front
@@ -369,15 +364,15 @@ gathering-more seen visits room spared es front here v2 s2 fs g lo hi e s =
       most = omega arith;
     }
 
-each-three : (o : Option Role) (len : ℕ) → 32 ≤ len → 3 ≤ rate_of gathering_rates o * (len / 16)
-each-three None len h = omega arith
-each-three (Some Object) len h = omega arith
-each-three (Some Index) len h = omega arith
-each-three (Some Storage) len h = omega arith
-each-three (Some Node) len h = omega arith
+each-two : (o : Option Role) (len : ℕ) → 32 ≤ len → 2 ≤ rate_of gathering_rates o * (len / 16)
+each-two None len h = omega arith
+each-two (Some Object) len h = omega arith
+each-two (Some Index) len h = omega arith
+each-two (Some Storage) len h = omega arith
+each-two (Some Node) len h = omega arith
 
-pub gathering-weigh : (b : List ℕ) → HasTiles b → 3 * length (tiles_in b) ≤ weigh gathering_rates (tiles_in b)
+pub gathering-weigh : (b : List ℕ) → HasTiles b → 2 * length (tiles_in b) ≤ weigh gathering_rates (tiles_in b)
 gathering-weigh b h =
-    let l = costs-weigh gathering_rates (λ t. 3) 128 (tiles_in b) (length b - 16) (has_tags-AreWholeTiles current (bytes_of b) (length b) h.tags).row (λ t k. each-three t.use_of t.len k) in
-    let e = costs-each 3 (tiles_in b) in
+    let l = costs-weigh gathering_rates (λ t. 2) 128 (tiles_in b) (length b - 16) (has_tags-AreWholeTiles current (bytes_of b) (length b) h.tags).row (λ t k. each-two t.use_of t.len k) in
+    let e = costs-each 2 (tiles_in b) in
     omega arith

@@ -14,6 +14,8 @@ pub mod Visits
 pub mod Passes
 pub mod Owners
 pub mod Rows
+pub mod Orphans
+pub mod Counting
 pub mod Checking
 pub mod Entered
 pub mod ObjectPasses

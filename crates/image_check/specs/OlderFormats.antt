@@ -23,5 +23,5 @@ IsWrongWithoutTree b c =
     ((c ≡ BadTag) × (has_tags 0 (bytes_of b) (length b) ≡ false))
     ⊎ ((c ≡ BadFreeTree) × (has_tags 0 (bytes_of b) (length b) ≡ true) × (has_free_tree 0 (bytes_of b) (tiles_in b) ≡ false))
 
-abbrev pub FindsWithoutTree : List ℕ → Result (Unit {0}) ImageClass → Type 0
+abbrev pub FindsWithoutTree : {A : Type 0} → List ℕ → Result A ImageClass → Type 0
 FindsWithoutTree b result = MatchResult result (λ done. IsRightWithoutTree b) (IsWrongWithoutTree b)

@@ -36,9 +36,6 @@ both r s = record { free = r.free + s.free; object = r.object + s.object; index 
 abbrev pub tag_rates : Rates
 tag_rates = record { free = 1; object = 1; index = 1; storage = 1; node = 1 }
 
-abbrev pub counting_rates : Rates
-counting_rates = tag_rates
-
 -- a search of the tree of at most 2^26 - 2 gaps goes to no more than 52 nodes
 abbrev pub planting_visits : Option Role → ℕ
 planting_visits None = 53
@@ -52,7 +49,7 @@ abbrev pub step_rates : Rates
 step_rates = record { free = 5; object = 5; index = 5; storage = 5; node = 5 }
 
 abbrev pub tree_rates : Rates
-tree_rates = both step_rates (both counting_rates planting_rates)
+tree_rates = both step_rates planting_rates
 
 abbrev pub index_rates : Rates
 index_rates = record { free = 0; object = 4; index = 12; storage = 0; node = 0 }
@@ -61,7 +58,7 @@ abbrev pub object_rates : Rates
 object_rates = record { free = 1; object = 22; index = 13; storage = 1; node = 1 }
 
 abbrev pub gathering_rates : Rates
-gathering_rates = record { free = 2; object = 2; index = 2; storage = 2; node = 2 }
+gathering_rates = record { free = 1; object = 1; index = 1; storage = 1; node = 1 }
 
 abbrev pub sharing_rates : Rates
 sharing_rates = record { free = 1; object = 4; index = 1; storage = 6; node = 6 }
@@ -70,7 +67,7 @@ abbrev pub container_rates : Rates
 container_rates = record { free = 1; object = 12; index = 1; storage = 24; node = 18 }
 
 abbrev pub orphan_rates : Rates
-orphan_rates = record { free = 1; object = 1; index = 1; storage = 1; node = 1 }
+orphan_rates = record { free = 0; object = 1; index = 1; storage = 1; node = 1 }
 
 -- the tags and the free tree, the passes over the blocks, and all passes behind the first words
 abbrev pub frame_rates : Rates

@@ -1,7 +1,8 @@
 //! Whether a whole image is that of a directory.
-ghost use Rattle.std.specs.Prelude.{◌≡◌, ◌≤◌, IsTrue, None, Some, MatchResult, OnErr, OnOk, length};
+ghost use Rattle.std.specs.Prelude.{◌≡◌, ◌≤◌, IfOk, IsTrue, None, Some, MatchResult, OnErr, OnOk, length};
 ghost use Rattle.image_check.specs.Checking.{FindsLate, IsWhyRefused};
 ghost use Rattle.image_check.specs.Classes.{are_bytes, class_of};
+ghost use Rattle.image_check.specs.Counting.{AreCounted};
 ghost use Rattle.image_check.specs.EarlyTests.{has_reserved as is_reserved};
 ghost use Rattle.image_check.specs.Frame.{has_frame};
 ghost use Rattle.image_check.specs.Opening.{IsImage, IsRaisedFor};
@@ -14,8 +15,9 @@ mod visits;
 
 use crate::classes::ImageClass;
 use crate::containers::check_containers;
+use crate::counting::Counts;
 use crate::errors::CheckError;
-use crate::free_tree::has_free_tree;
+use crate::free_tree::check_free_tree;
 use crate::gathering::gather;
 use crate::heads::is_zero;
 use crate::image_window::ImageWindow;
@@ -70,10 +72,11 @@ fn check_counted(
     ensures answers { MatchResult result (λ done. IsImage format window.now.bytes) (IsWhyRefused format window.now.bytes) }
     ensures visits { IsRaisedFor (length window.now.bytes) visits.old visits.new }
 {
-    if let Err(class) = check_frame(format, window, visits) {
-        return Err(CheckError::Class(class));
-    }
-    let mut owners = match gather(alloc, window, visits) {
+    let counts = match check_frame(format, window, visits) {
+        Ok(counts) => counts,
+        Err(class) => return Err(CheckError::Class(class)),
+    };
+    let mut owners = match gather(alloc, window, counts, visits) {
         Ok(owners) => owners,
         Err(refusal) => return Err(CheckError::NoMemory(refusal)),
     };
@@ -83,14 +86,16 @@ fn check_counted(
     Ok(())
 }
 
-/// Whether the reserved bytes, the tags and the free tree of a window whose first words are right are right too.
+/// The count of the tiles, where the reserved bytes, the tags and the free tree of a window whose first words are right are
+/// right too.
 ///
 /// # Errors
 ///
 /// The first of `BadReserved`, `BadTag` and `BadFreeTree` that holds.
-fn check_frame(format: u64, window: &ImageWindow, visits: &mut Visits) -> Result<(), ImageClass>
+fn check_frame(format: u64, window: &ImageWindow, visits: &mut Visits) -> Result<Counts, ImageClass>
     requires { HasFront format window.now }
-    ensures finds { MatchResult result (λ done. IsTrue (has_frame format window.now.bytes)) (λ class. class_of format window.now.bytes ≡ Some class) }
+    ensures finds { MatchResult result (λ counts. IsTrue (has_frame format window.now.bytes)) (λ class. class_of format window.now.bytes ≡ Some class) }
+    ensures counted { IfOk result (AreCounted (tiles_in window.now.bytes)) }
     ensures bytes { OnOk result (IsTrue (are_bytes window.now.bytes)) }
     ensures visits { OnOk result (Spends frame_rates 51 window.now.bytes visits.old visits.new) }
     ensures most { OnErr result (IsRaisedFor (length window.now.bytes) visits.old visits.new) }
@@ -106,10 +111,10 @@ fn check_frame(format: u64, window: &ImageWindow, visits: &mut Visits) -> Result
     if format == 0 {
         return check_without_tree(window, visits);
     }
-    if !has_free_tree(window, visits) {
+    let Some(counts) = check_free_tree(window, visits) else {
         return Err(ImageClass::BadFreeTree);
-    }
-    Ok(())
+    };
+    Ok(counts)
 }
 
 /// Looks for the classes that are about blocks, one after another, with the blocks in use as they were gathered.
@@ -142,7 +147,7 @@ fn check_blocks(
     if let Err(class) = check_containers(format, window, owners, visits) {
         return Err(class);
     }
-    check_orphans(window, owners, visits)
+    check_orphans(owners, visits)
 }
 
 /// Whether all bytes of the header that are kept for later are zero: the upper half of the word of the format, and those

@@ -1,5 +1,5 @@
 //! Whether the free tiles of a window make up the tree that the header's link leads to, whatever its links say.
-ghost use Rattle.std.specs.Prelude.{◌≡◌, ◌+◌, ◌-◌, ◌≤◌, ◌<◌, ◌%◌, ◌^◌, true, IsTrue, length};
+ghost use Rattle.std.specs.Prelude.{◌≡◌, ◌+◌, ◌-◌, ◌≤◌, ◌<◌, ◌%◌, ◌^◌, true, IfSome, IsTrue, is_some, length};
 ghost use Rattle.std.specs.List.{list_all};
 ghost use Rattle.raw_region.specs.Memory.{bytes_of};
 ghost use Rattle.offset_link.specs.Link.{link_at};
@@ -8,77 +8,70 @@ ghost use Rattle.link_tree.specs.Tree.{Tree, IsSearchTree, nodes_of};
 ghost use Rattle.raw_region.specs.Format.{current};
 ghost use Rattle.block_tags.specs.Format.{is_legal_size};
 ghost use Rattle.block_tags.specs.Tiles.{has_tags, tiles_of};
-ghost use Rattle.best_fit.specs.GapNodes.{gaps_in, tiles_in};
+ghost use Rattle.best_fit.specs.GapNodes.{tiles_in};
+ghost use Rattle.image_check.specs.Counting.{AreCounted};
 ghost use Rattle.image_check.specs.EarlyTests.{has_free_tree as has_tree};
 ghost use Rattle.image_check.specs.FreeNodes.{has_good_links, is_before, is_planted as is_planted_in, is_place, len_at as len_there, place_cells, placed, stands_before};
 ghost use Rattle.image_check.specs.Passes.{Spends};
-ghost use Rattle.image_check.specs.Visits.{counting_rates, planting_rates, planting_visits, tree_rates};
+ghost use Rattle.image_check.specs.Visits.{planting_rates, planting_visits, tree_rates};
 ghost use Rattle.image_check.specs.FreeLaws.{before_agrees, before_irreflexive, before_transitive, places_finite, places_left, places_right};
 
 use crate::checking::Visits;
+use crate::counting::Counts;
 use crate::image_window::{ImageWindow, Sought, check_places, find_place, has_good_links};
 use best_fit::FREE_TREE;
 use block_tags::{TAG, Tile};
 
-/// Whether the tree at word 24 has the free tiles as its nodes, each once, ordered by length and then by offset, and is
-/// red-black. The links may be any words.
+/// The count of the tiles, where the tree at word 24 has the free ones as its nodes, each once, ordered by length and then by
+/// offset, and is red-black. The links may be any words.
 ///
 /// A tree of as many nodes as there are free tiles, in which each of them is found, has no other node. Each is searched for
 /// to the depth of a red-black tree of that size.
-pub fn has_free_tree(window: &ImageWindow, visits: &mut Visits) -> bool
+pub(crate) fn check_free_tree(window: &ImageWindow, visits: &mut Visits) -> Option<Counts>
     requires size { IsTrue (is_legal_size (length window.now.bytes)) }
     requires tags { IsTrue (has_tags current (bytes_of window.now.bytes) (length window.now.bytes)) }
-    ensures value { result ≡ has_tree current (bytes_of window.now.bytes) (tiles_of (bytes_of window.now.bytes) (length window.now.bytes)) }
+    ensures value { is_some result ≡ has_tree current (bytes_of window.now.bytes) (tiles_of (bytes_of window.now.bytes) (length window.now.bytes)) }
+    ensures counted { IfSome result (AreCounted (tiles_in window.now)) }
     ensures visits { Spends tree_rates 50 window.now.bytes visits.old visits.new }
 {
     let Ok(root) = window.checked_header_link(FREE_TREE) else {
-        return false;
+        return None;
     };
     let tree = check_places(window, root, visits);
     let Some(nodes) = tree.nodes else {
-        return false;
+        return None;
     };
-    nodes == count_free(window, visits) && are_planted(window, root, visits)
-}
-
-/// The number of free tiles.
-fn count_free(window: &ImageWindow, visits: &mut Visits) -> u64
-    requires size { IsTrue (is_legal_size (length window.now.bytes)) }
-    requires tags { IsTrue (has_tags current (bytes_of window.now.bytes) (length window.now.bytes)) }
-    ensures value { result ≡ length (gaps_in window.now) }
-    ensures visits { Spends counting_rates 0 window.now.bytes visits.old visits.new }
-{
-    let mut count = 0;
-    let mut tile = window.first();
-    'tiles: while let Some(unread) = tile {
-        let here = unread.read(visits);
-        if here.use_of.is_none() {
-            count += 1;
-        }
-        tile = window.next(here.offset);
+    let Some(counts) = count_planted(window, root, visits) else {
+        return None;
+    };
+    if counts.free != nodes {
+        return None;
     }
-    count
+    Some(counts)
 }
 
-/// Whether each free tile is a node of the tree, and its links are good.
-fn are_planted(window: &ImageWindow, root: Option<u64>, visits: &mut Visits) -> bool
+/// The count of the tiles, where each free one is a node of the tree, and its links are good.
+fn count_planted(window: &ImageWindow, root: Option<u64>, visits: &mut Visits) -> Option<Counts>
     requires size { IsTrue (is_legal_size (length window.now.bytes)) }
     requires tags { IsTrue (has_tags current (bytes_of window.now.bytes) (length window.now.bytes)) }
     requires root { leads (is_place window.now) root ≡ true }
     requires tree { (t : Tree) × IsSearchTree (stands_before (bytes_of window.now.bytes)) (place_cells window.now) root t × (length (nodes_of t) < 2 ^ 26 - 1) }
     ensures value { (t : Tree) → IsSearchTree (stands_before (bytes_of window.now.bytes)) (place_cells window.now) root t
-        → result ≡ list_all (is_planted_in window.now (nodes_of t)) (tiles_in window.now) }
+        → is_some result ≡ list_all (is_planted_in window.now (nodes_of t)) (tiles_in window.now) }
+    ensures counted { IfSome result (AreCounted (tiles_in window.now)) }
     ensures visits { Spends planting_rates 0 window.now.bytes visits.old visits.new }
 {
+    let mut counts = Counts::new();
     let mut tile = window.first();
     'tiles: while let Some(unread) = tile {
         let here = unread.read(visits);
         if !is_planted(window, root, here, visits) {
-            return false;
+            return None;
         }
+        counts.add(here);
         tile = window.next(here.offset);
     }
-    true
+    Some(counts)
 }
 
 /// Whether the tile is in use, or a node of the tree with good links.

@@ -1,18 +1,21 @@
 //! Gathering the blocks in use.
 ghost use Rattle.std.specs.Prelude.{◌≡◌, ◌+◌, ◌++◌, ◌<◌, ◌≤◌, ◌^◌, IfOk, IsOk, None, [], length, option_to_list};
+ghost use Rattle.image_check.specs.Counting.{AreCounted};
 ghost use Rattle.image_check.specs.Owners.{entries_of, entry_of};
 ghost use Rattle.image_check.specs.Passes.{HasTiles, Spends, tiles_in};
 ghost use Rattle.image_check.specs.Rows.{AreBelow};
 ghost use Rattle.image_check.specs.Visits.{Adds, gathering_rates};
 
 use crate::checking::Visits;
+use crate::counting::Counts;
 use crate::image_window::{Blocks, ImageWindow};
 use crate::owners::{Block, Owners};
 use crate::room::{NoMemory, room_for};
 use block_tags::Tile;
 use std::alloc::Global;
 
-/// The blocks in use by payload, to none of which a link was met. Memory is asked for once, and not where no block is in use.
+/// The blocks in use by payload, to none of which a link was met, where the tiles were counted. Memory is asked for once, and not
+/// where no block is in use.
 ///
 /// # Errors
 ///
@@ -20,17 +23,18 @@ use std::alloc::Global;
 pub(crate) fn gather(
     alloc: Global,
     window: &ImageWindow,
+    counts: Counts,
     visits: &mut Visits,
 ) -> Result<Owners, NoMemory>
     requires tiles { HasTiles window.now.bytes }
+    requires counted { AreCounted (tiles_in window.now.bytes) counts }
     ensures entries { IfOk result (λ o. o.blocks.entries ≡ entries_of (tiles_in window.now.bytes)) }
     ensures pending { IfOk result (λ o. o.pending ≡ None) }
     ensures waiting { IfOk result (λ o. o.waiting ≡ 0) }
     ensures memory { entries_of (tiles_in window.now.bytes) ≡ [] → IsOk result }
     ensures visits { Spends gathering_rates 2 window.now.bytes visits.old visits.new }
 {
-    let used = count_used(window, visits);
-    match room_for(alloc, used.0, used.1) {
+    match room_for(alloc, counts.used, counts.end) {
         Ok(mut blocks) => {
             add_all(window, &mut blocks, visits);
             Ok(Owners {
@@ -41,26 +45,6 @@ pub(crate) fn gather(
         }
         Err(refusal) => Err(refusal),
     }
-}
-
-/// The number of blocks in use, and where the last of them stands. One visit for each tile.
-fn count_used(window: &ImageWindow, visits: &mut Visits) -> (usize, u64)
-    requires tiles { HasTiles window.now.bytes }
-    ensures count { result.0 ≡ length (entries_of (tiles_in window.now.bytes)) }
-    ensures visits { visits.new ≡ visits.old + length (tiles_in window.now.bytes) }
-{
-    let mut count = 0;
-    let mut end = 0;
-    let mut tile = window.first();
-    'tiles: while let Some(unread) = tile {
-        let here = unread.read(visits);
-        if here.use_of.is_some() {
-            count += 1;
-            end = here.offset;
-        }
-        tile = window.next(here.offset);
-    }
-    (count, end)
 }
 
 /// Adds the blocks in use to a map with room for them. At most two visits for each tile.

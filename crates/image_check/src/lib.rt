@@ -6,6 +6,7 @@ mod arrays;
 mod checking;
 mod classes;
 mod containers;
+mod counting;
 mod entering;
 mod errors;
 mod free_tree;

@@ -1,5 +1,5 @@
 //! The map of the blocks in use, in which each look-up is counted.
-ghost use Rattle.std.specs.Prelude.{◌≡◌, ◌+◌, ◌^◌, ◌++◌, ◌∷◌, ◌<◌, ◌≤◌, [], nat_eq, length, IfSome, IfNone, None, Some, vec_capacity};
+ghost use Rattle.std.specs.Prelude.{◌≡◌, ◌+◌, ◌^◌, ◌++◌, ◌∷◌, ◌<◌, ◌≤◌, [], nat_eq, length, IfSome, IfNone, None, Some, slice_get, vec_capacity};
 ghost use Rattle.std.specs.Map.{set_value};
 ghost use Rattle.image_check.specs.Owners.{block_at};
 ghost use Rattle.image_check.specs.Rows.{AreBelow, IsRow};
@@ -65,6 +65,24 @@ impl Blocks {
         }
         let (low, high) = bounds(rows, last, target);
         halved(rows, low, high, target)
+    }
+
+    /// How many they are.
+    pub(crate) fn len(&self) -> usize
+        ensures { result ≡ length self.now.entries }
+    {
+        self.rows.len()
+    }
+
+    /// The block of number `nth`, in the order of the places, behind its payload. One visit.
+    pub(crate) fn row(&self, nth: usize, visits: &mut Visits) -> (u32, Block)
+        requires { nth < length self.now.entries }
+        ensures row { slice_get self.now.entries nth ≡ Some result }
+        ensures block { block_at self.now.entries result.0 ≡ Some result.1 }
+        ensures visits { visits.new ≡ visits.old + 1 }
+    {
+        visits.visit();
+        self.rows[nth]
     }
 
     /// The block whose payload begins at `target`. The caller counts it.

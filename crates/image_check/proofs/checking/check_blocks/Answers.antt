@@ -63,7 +63,7 @@ returns-in-Err-check_containers-clause-visits c =
 pub returns-clause-finds : goal.returns-clause-finds
 returns-clause-finds c =
     late-orphans c.args.format c.args.window.now.bytes c.in_default.ensures.finds c.in_default-check_objects.ensures.finds c.in_default-check_sharing.ensures.finds
-    c.in_default-check_containers.ensures.class c.check_orphans.result (c.check_orphans.ensures.finds c.args.format c.in_default-check_sharing.ensures.whole)
+    c.in_default-check_containers.ensures.class c.check_orphans.result (c.check_orphans.ensures.finds c.args.format c.args.window.now.bytes c.requires.tiles c.in_default-check_sharing.ensures.whole)
 
 pub returns-clause-visits : goal.returns-clause-visits
 returns-clause-visits c =
@@ -71,4 +71,5 @@ returns-clause-visits c =
     spend-both b index_rates (both object_rates (both sharing_rates (both container_rates orphan_rates))) 10 52 _ _ _ c.in_default.ensures.spends
     (spend-both b object_rates (both sharing_rates (both container_rates orphan_rates)) 10 42 _ _ _ c.in_default-check_objects.ensures.spends
     (spend-both b sharing_rates (both container_rates orphan_rates) 20 22 _ _ _ c.in_default-check_sharing.ensures.visits
-    (spend-both b container_rates orphan_rates 20 2 _ _ _ c.in_default-check_containers.ensures.visits c.check_orphans.ensures.visits)))
+    (spend-both b container_rates orphan_rates 20 2 _ _ _ c.in_default-check_containers.ensures.visits
+    (c.check_orphans.ensures.visits b c.requires.tiles c.in_default-check_sharing.ensures.whole.marking.frame))))

@@ -1,6 +1,6 @@
-use Rattle.std.proofs.Common.{◌≡◌, ℕ, ◌<◌, length, Ok, Err, Some, arith, sym, subst, ◌∙◌}
+use Rattle.std.proofs.Common.{◌≡◌, ℕ, ◌<◌, length, refl, Ok, Err, Some, None, arith, sym, ap, subst, false, ◌∙◌}
 use Rattle.std.proofs.lemmas.Bool.{not-true, not-false}
-use Rattle.std.specs.Prelude.{◌≢◌, IsTrue, MatchResult, OnErr, OnOk, Result}
+use Rattle.std.specs.Prelude.{◌≢◌, IsTrue, MatchResult, OnErr, OnOk, Option, Result, is_some}
 use Rattle.image_check.specs.declared.classes.ImageClass.{ImageClass}
 use Rattle.image_check.specs.Classes.{are_bytes, class_of}
 use Rattle.image_check.specs.Frame.{has_frame}
@@ -19,6 +19,10 @@ use Rattle.image_check.proofs.checking.check_frame.Goals as goal
 later-some : (f : ℕ) → f ≢ 0 → 0 < f
 later-some f e = omega arith
 
+nothing : {X : Type 0} (o : Option X) → ((x : X) → o ≡ Some x → ⊥) → is_some o ≡ false
+nothing None h = refl
+nothing (Some x) h = absurd (h x refl)
+
 pub returns-then-not-has_reserved-clause-finds : goal.returns-then-not-has_reserved-clause-finds
 returns-then-not-has_reserved-clause-finds c =
     first-reserved c.args.format c.args.window.now c.requires (sym c.has_reserved.ensures ∙ c.if-not-has_reserved.true)
@@ -31,17 +35,17 @@ returns-then-not-tags-clause-finds c =
 pub returns-then-not-tags-clause-most : goal.returns-then-not-tags-clause-most
 returns-then-not-tags-clause-most c = tags-raised c.args.window.now.bytes _ c.check_counted-tags.result.tags _ c.check_counted-tags.ensures.few c.check_counted-tags.ensures.visits
 
-pub returns-then-not-has_free_tree-clause-finds : goal.returns-then-not-has_free_tree-clause-finds
-returns-then-not-has_free_tree-clause-finds c =
+pub returns-in_default-clause-finds : goal.returns-in_default-clause-finds
+returns-in_default-clause-finds c =
     let w = c.args.window.now in
     let some = later-some c.args.format c.if-format-eq0.false in
     let h =
     later-checked c.args.format w some c.requires (sym c.has_reserved.ensures ∙ c.if-not-has_reserved.false)
     (sym c.check_counted-tags.ensures.good ∙ not-false c.check_counted-tags.result.are_good c.if-not-tags.false) in
-    checked-tree c.args.format w h (later-free_tree c.args.format (bytes_of w.bytes) (tiles_in w.bytes) some ∙ sym c.has_free_tree.ensures.value ∙ c.if-not-has_free_tree.true)
+    checked-tree c.args.format w h (later-free_tree c.args.format (bytes_of w.bytes) (tiles_in w.bytes) some ∙ sym c.check_free_tree.ensures.value ∙ nothing c.check_free_tree.result c.in_default.not-Some)
 
-pub returns-then-not-has_free_tree-clause-most : goal.returns-then-not-has_free_tree-clause-most
-returns-then-not-has_free_tree-clause-most c =
+pub returns-in_default-clause-most : goal.returns-in_default-clause-most
+returns-in_default-clause-most c =
     let w = c.args.window.now in
     let some = later-some c.args.format c.if-format-eq0.false in
     let h =
@@ -49,7 +53,7 @@ returns-then-not-has_free_tree-clause-most c =
     (sym c.check_counted-tags.ensures.good ∙ not-false c.check_counted-tags.result.are_good c.if-not-tags.false) in
     let tiles = checked-tiles c.args.format w h in
     frame-raised w _ _ tiles
-    (spend-both w.bytes tag_rates tree_rates 1 50 _ _ _ (tags-spend w _ c.check_counted-tags.result.tags c.check_counted-tags.new.visits tiles c.check_counted-tags.ensures.few c.check_counted-tags.ensures.visits) c.has_free_tree.ensures.visits)
+    (spend-both w.bytes tag_rates tree_rates 1 50 _ _ _ (tags-spend w _ c.check_counted-tags.result.tags c.check_counted-tags.new.visits tiles c.check_counted-tags.ensures.few c.check_counted-tags.ensures.visits) c.check_free_tree.ensures.visits)
 
 pub returns-clause-finds : goal.returns-clause-finds
 returns-clause-finds c =
@@ -58,7 +62,10 @@ returns-clause-finds c =
     let h =
     later-checked c.args.format w some c.requires (sym c.has_reserved.ensures ∙ c.if-not-has_reserved.false)
     (sym c.check_counted-tags.ensures.good ∙ not-false c.check_counted-tags.result.are_good c.if-not-tags.false) in
-    checked-frame c.args.format w h (later-free_tree c.args.format (bytes_of w.bytes) (tiles_in w.bytes) some ∙ sym c.has_free_tree.ensures.value ∙ c.if-not-has_free_tree.false)
+    checked-frame c.args.format w h (later-free_tree c.args.format (bytes_of w.bytes) (tiles_in w.bytes) some ∙ sym c.check_free_tree.ensures.value ∙ ap is_some c.in-Some.is)
+
+pub returns-clause-counted : goal.returns-clause-counted
+returns-clause-counted c = c.in-Some.ensures.counted
 
 pub returns-clause-bytes : goal.returns-clause-bytes
 returns-clause-bytes c = c.hold_bytes.ensures
@@ -70,16 +77,16 @@ returns-clause-visits c =
     let h =
     later-checked c.args.format w some c.requires (sym c.has_reserved.ensures ∙ c.if-not-has_reserved.false)
     (sym c.check_counted-tags.ensures.good ∙ not-false c.check_counted-tags.result.are_good c.if-not-tags.false) in
-    spend-both w.bytes tag_rates tree_rates 1 50 _ _ _ (tags-spend w _ c.check_counted-tags.result.tags c.check_counted-tags.new.visits (checked-tiles c.args.format w h) c.check_counted-tags.ensures.few c.check_counted-tags.ensures.visits) c.has_free_tree.ensures.visits
+    spend-both w.bytes tag_rates tree_rates 1 50 _ _ _ (tags-spend w _ c.check_counted-tags.result.tags c.check_counted-tags.new.visits (checked-tiles c.args.format w h) c.check_counted-tags.ensures.few c.check_counted-tags.ensures.visits) c.check_free_tree.ensures.visits
 
 -- ---- format 0
 
 -- what holds anyway
-on-ok : (k : Result (Unit {0}) ImageClass) (X : Type 0) → X → OnOk k X
+on-ok : {A : Type 0} (k : Result A ImageClass) (X : Type 0) → X → OnOk k X
 on-ok (Ok u) X x = x
 on-ok (Err c) X x = tt
 
-on-err : (k : Result (Unit {0}) ImageClass) (X : Type 0) → X → OnErr k X
+on-err : {A : Type 0} (k : Result A ImageClass) (X : Type 0) → X → OnErr k X
 on-err (Ok u) X x = tt
 on-err (Err c) X x = x
 
@@ -98,7 +105,7 @@ returns-then-format-eq0-clause-finds c =
     let w = c.args.window.now in
     let b = w.bytes in
     let k = c.check_without_tree.result in
-    subst (λ (f : ℕ). MatchResult k (λ done. IsTrue (has_frame f b)) (λ class. class_of f b ≡ Some class)) (sym c.if-format-eq0.true)
+    subst (λ (f : ℕ). MatchResult k (λ counts. IsTrue (has_frame f b)) (λ class. class_of f b ≡ Some class)) (sym c.if-format-eq0.true)
     (treeless-finds w (subst (λ (f : ℕ). HasFront f w) c.if-format-eq0.true c.requires)
     (sym c.has_reserved.ensures ∙ c.if-not-has_reserved.false) k c.check_without_tree.ensures.finds)
 

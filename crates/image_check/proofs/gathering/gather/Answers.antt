@@ -5,13 +5,6 @@ use Rattle.image_check.proofs.gathering.gather.Goals as goal
 pub returns-in-Ok-clause-visits : goal.returns-in-Ok-clause-visits
 returns-in-Ok-clause-visits c =
     let most = gathering-weigh c.args.window.now.bytes c.requires.tiles in
-    let x = c.count_used-used.ensures.visits in
     let y = c.add_all.ensures.visits.0 in
     let z = c.add_all.ensures.visits.1 in
-    (omega arith, omega arith)
-
-pub returns-in-Err-clause-visits : goal.returns-in-Err-clause-visits
-returns-in-Err-clause-visits c =
-    let most = gathering-weigh c.args.window.now.bytes c.requires.tiles in
-    let x = c.count_used-used.ensures.visits in
     (omega arith, omega arith)

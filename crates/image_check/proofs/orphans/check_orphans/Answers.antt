@@ -1,30 +1,28 @@
-use Rattle.std.proofs.Common.{refl, sym, ◌∙◌, arith}
+use Rattle.std.proofs.Common.{refl, ◌∙◌, length, arith}
 use Rattle.image_check.proofs.Owned.{owned-in}
-use Rattle.image_check.proofs.OwnedTiles.{owning-weigh}
+use Rattle.image_check.proofs.OwnedRows.{row-lacks, rows-owned, rows-weigh}
 use Rattle.image_check.proofs.orphans.check_orphans.Goals as goal
 
 pub returns-then-are_owned-clause-finds : goal.returns-then-are_owned-clause-finds
-returns-then-are_owned-clause-finds c format whole =
-    owned-in format c.args.window.now.bytes c.args.owners.now.blocks.entries c.args.owners.now.waiting c.requires.tiles whole
-    ∙ sym c.are_owned.ensures.owned ∙ c.if-are_owned.true
+returns-then-are_owned-clause-finds c format image h whole =
+    let es = c.args.owners.now.blocks.entries in
+    owned-in format image es c.args.owners.now.waiting h whole ∙ rows-owned image es h whole.marking.frame c.if-are_owned.ensures.owned
 
 pub returns-else-are_owned-clause-finds : goal.returns-else-are_owned-clause-finds
-returns-else-are_owned-clause-finds c format whole = (
-  refl,
-  owned-in format c.args.window.now.bytes c.args.owners.now.blocks.entries c.args.owners.now.waiting c.requires.tiles whole
-      ∙ sym c.are_owned.ensures.owned ∙ c.if-are_owned.false,
-)
+returns-else-are_owned-clause-finds c format image h whole =
+    let es = c.args.owners.now.blocks.entries in
+    (refl, owned-in format image es c.args.owners.now.waiting h whole ∙ row-lacks image es h whole.marking.frame c.if-are_owned.ensures.owned)
 
 pub returns-then-are_owned-clause-visits : goal.returns-then-are_owned-clause-visits
-returns-then-are_owned-clause-visits c =
-    let most = owning-weigh c.args.window.now.bytes c.requires.tiles in
+returns-then-are_owned-clause-visits c image h f =
+    let most = rows-weigh image c.args.owners.now.blocks.entries h f in
     let x = c.are_owned.ensures.visits.0 in
     let y = c.are_owned.ensures.visits.1 in
     (omega arith, omega arith)
 
 pub returns-else-are_owned-clause-visits : goal.returns-else-are_owned-clause-visits
-returns-else-are_owned-clause-visits c =
-    let most = owning-weigh c.args.window.now.bytes c.requires.tiles in
+returns-else-are_owned-clause-visits c image h f =
+    let most = rows-weigh image c.args.owners.now.blocks.entries h f in
     let x = c.are_owned.ensures.visits.0 in
     let y = c.are_owned.ensures.visits.1 in
     (omega arith, omega arith)

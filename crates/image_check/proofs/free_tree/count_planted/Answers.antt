@@ -5,12 +5,13 @@ use Rattle.block_tags.specs.declared.tile.Tile.{Tile}
 use Rattle.image_check.specs.FreeNodes.{is_planted}
 use Rattle.image_check.specs.Visits.{planting_rates}
 use Rattle.block_tags.proofs.Laws.{tiles_are_read_off}
+use Rattle.image_check.proofs.CountedTiles.{counted-few}
 use Rattle.image_check.proofs.Budget.{search-for-tile, within-all, within-more, within-none, within-stop}
 use Rattle.image_check.proofs.ReadTiles.{read-at, read-met, read-nearer}
 use Rattle.image_check.proofs.WalkedTiles.{all-fails, all-more, at-meets, tags-IsTiled, walk-end}
 use Rattle.image_check.proofs.WalkedTiles.{walk-on, walk-start}
 use Rattle.image_check.proofs.FreeTiles.{at-len, at-place}
-use Rattle.image_check.proofs.free_tree.are_planted.Goals as goal
+use Rattle.image_check.proofs.free_tree.count_planted.Goals as goal
 
 pub first-tile-requires : goal.first-tile-requires
 first-tile-requires c = tags-IsTiled c.args.window.now c.requires.size c.requires.tags
@@ -21,7 +22,7 @@ tiles-init c =
     let tiled = tags-IsTiled w c.requires.size c.requires.tags in (
       λ t s. walk-start w (λ (ts : List Tile). list_all (is_planted w (nodes_of t)) ts ≡ true) c.first-tile.result tiled
           c.first-tile.ensures refl,
-      walk-start w _ c.first-tile.result tiled c.first-tile.ensures (within-none planting_rates _),
+      walk-start w _ c.first-tile.result tiled c.first-tile.ensures (c.new-counts.ensures, within-none planting_rates _),
     )
 
 pub is_planted-requires-clause-place : goal.is_planted-requires-clause-place
@@ -55,7 +56,19 @@ returns-then-not-is_planted-clause-visits c =
     let one = c.read-here.ensures.visits in
     let less = c.is_planted.ensures.raised in
     let more = c.is_planted.ensures.most in
-    within-stop w planting_rates _ c.tiles.visits _ a.front here a.back a.said a.kept (omega arith) (omega arith)
+    within-stop w planting_rates _ c.tiles.visits _ a.front here a.back a.said a.kept.1 (omega arith) (omega arith)
+
+pub add-requires-clause-free : goal.add-requires-clause-free
+add-requires-clause-free c =
+    let w = c.args.window.now in
+    let a = read-at w _ c.tiles.tile c.in-Some.unread c.read-here.result c.tiles.invariant.1 c.in-Some.is c.read-here.ensures.tile in
+    (counted-few w _ c.read-here.result c.tiles.counts c.requires.size a a.kept.0).0
+
+pub add-requires-clause-used : goal.add-requires-clause-used
+add-requires-clause-used c =
+    let w = c.args.window.now in
+    let a = read-at w _ c.tiles.tile c.in-Some.unread c.read-here.result c.tiles.invariant.1 c.in-Some.is c.read-here.ensures.tile in
+    (counted-few w _ c.read-here.result c.tiles.counts c.requires.size a a.kept.0).1
 
 pub next-tile-requires : goal.next-tile-requires
 next-tile-requires c =
@@ -83,7 +96,7 @@ tiles-preserved c =
           (c.tiles.invariant.0 t s) c.in-Some.is c.read-here.ensures.tile) c.next-tile.ensures
           (λ front k. all-more test front here k (sym (c.is_planted.ensures.value t s) ∙ c.if-not-is_planted.false)),
       walk-on w _ _ here c.next-tile.result a c.next-tile.ensures
-          (λ front k. within-more planting_rates _ c.tiles.visits _ front here k (omega arith) (omega arith)),
+          (λ front k. (c.add.ensures front k.0, within-more planting_rates _ c.tiles.visits _ front here k.1 (omega arith) (omega arith))),
     )
 
 pub returns-clause-value : goal.returns-clause-value
@@ -92,7 +105,10 @@ returns-clause-value c t s =
     sym (walk-end w (λ (ts : List Tile). list_all (is_planted w (nodes_of t)) ts ≡ true) c.tiles.tile
     (c.tiles.invariant.0 t s) c.in_default.not-Some)
 
+pub returns-clause-counted : goal.returns-clause-counted
+returns-clause-counted c = (walk-end c.args.window.now _ c.tiles.tile c.tiles.invariant.1 c.in_default.not-Some).0
+
 pub returns-clause-visits : goal.returns-clause-visits
 returns-clause-visits c =
     within-all c.args.window.now.bytes planting_rates _ _
-    (walk-end c.args.window.now _ c.tiles.tile c.tiles.invariant.1 c.in_default.not-Some)
+    (walk-end c.args.window.now _ c.tiles.tile c.tiles.invariant.1 c.in_default.not-Some).1

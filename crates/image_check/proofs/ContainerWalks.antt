@@ -4,7 +4,9 @@ use Rattle.std.specs.Prelude.{Option, Some, None, Contains, filter, filter_map, 
 use Rattle.std.specs.List.{list_all, cons_option}
 use Rattle.std.proofs.lemmas.Bool.{cases_Bool, cond-true, cond-false, and_parts}
 use Rattle.raw_region.specs.Memory.{Cut, Memory, bytes_of}
+use Rattle.block_tags.specs.declared.tile.Role.{Role}
 use Rattle.block_tags.specs.declared.tile.Role.TheVariants.{Object}
+use Rattle.best_fit.specs.Table.{same_role}
 use Rattle.block_tags.specs.declared.tile.Tile.{Tile}
 use Rattle.block_tags.proofs.Laws.{tiles_are_read_off}
 use Rattle.seg_types.specs.declared.kinds.Kind.{Kind}
@@ -15,15 +17,14 @@ use Rattle.image_check.specs.Passes.{tiles_in, HasTiles}
 use Rattle.image_check.specs.Owners.{Blocks, IsWholeMarking}
 use Rattle.image_check.specs.Containers.{AreFollowed, IsReady, LiesInWindow, PaysFor, has_container, container_walk_rates, weigh_blocks, weight_below}
 use Rattle.image_check.specs.Visits.{rate_of, weigh}
-use Rattle.image_check.proofs.ContainerWeights.{below-all}
+use Rattle.image_check.proofs.ContainerWeights.{below-all, below-more}
 use Rattle.image_check.proofs.CountedFields.{Mem-Contains}
 use Rattle.image_check.proofs.Members.{Mem, list_all_mem, mem_filter, mem_filter_map, mem_right}
 use Rattle.image_check.proofs.Rooted.{node-followed}
+use Rattle.image_check.proofs.RowWalks.{PassesGaps, recoloured}
 use Rattle.image_check.proofs.TilePlaces.{tile-lies}
-use Rattle.block_tags.specs.Lists.{next_in}
-use Rattle.block_tags.specs.Windows.{SaysTiles}
-use Rattle.best_fit.proofs.Laws.{Row, next_here, passed_on, said_row}
-use Rattle.image_check.proofs.WalkedTiles.{Walks, WalksAt, all-fails, all-more}
+use Rattle.best_fit.proofs.Laws.{Row, said_row}
+use Rattle.image_check.proofs.WalkedTiles.{WalksAt, all-fails, all-more}
 
 -- ---- the test of all tiles is that of all values
 
@@ -102,18 +103,12 @@ is-here c Kept here h a =
     let high = lies.high in
     record { mem = mem; lies = record { low = lies.low; whole = lies.whole; long = long; high = omega arith } }
 
--- the walk goes on, with what is kept of these very tiles
-pub walk-to : (c : Cut) (Kept Kept' : List Tile → Type 0) (here : Tile) (next : Option Tile) → (a : WalksAt c Kept here)
-    → ((ts : List Tile) → SaysTiles c ts → next ≡ next_in ts here.offset) → Kept' (a.front ++ here ∷ []) → Walks c Kept' next
-walk-to c Kept Kept' here next a n kept = record {
-  front = a.front ++ here ∷ [];
-  rest = a.back;
-  said = passed_on c a.front here a.back a.said;
-  is = next_here c a.front here a.back a.said next n;
-  kept = kept;
-}
-
 -- ---- what was paid
+
+free-passes : (format : ℕ) (m : Memory) (ts : List Tile) (t : Tile) → t.use_of ≡ None → has_container format m ts t ≡ true
+free-passes format m ts t e =
+    cond-false (is_use Object t) (elim (kind_at format m (payload t)) [ None ↦ true | Some k ↦ is_container m ts (k, value_offset m (payload t)) ]) true
+    (ap (λ (u : Option Role). elim u [ None ↦ false | Some r ↦ same_role Object r ]) e)
 
 -- where tiles end that begin at an offset
 abbrev end_of : ℕ → List Tile → ℕ
@@ -175,6 +170,34 @@ module _ (format : ℕ) (c : Cut) (es : Blocks) (old now new : ℕ) (here : Tile
   right-fails h =
       let test = has_container format (bytes_of c.bytes) (tiles_in c.bytes) in
       ap (list_all test) (tiles_are_read_off c (a.front ++ here ∷ a.back) a.said) ∙ all-fails test a.front here a.back h
+
+-- a free tile is passed over
+pub paid-gap : (format : ℕ) (c : Cut) (es : Blocks) (old now : ℕ) → PassesGaps c (IsPaid format c es old now)
+paid-gap format c es old now g u a =
+    let more = below-more g.offset (g.offset + g.len) es (omega arith) in
+    paid-more format c es old now now g a (omega arith, omega arith) (free-passes format (bytes_of c.bytes) (tiles_in c.bytes) g u)
+
+-- ---- a tile but for its colour
+
+module _ (t u : Tile) (e : t.offset ≡ u.offset) (f : t.len ≡ u.len) (g : t.use_of ≡ u.use_of) where
+  pub lies-same : (size : ℕ) → LiesInWindow size t → LiesInWindow size u
+  lies-same size l =
+      let low = l.low in
+      let whole = l.whole in
+      let long = l.long in
+      let high = l.high in
+      record { low = omega arith; whole = omega arith; long = omega arith; high = omega arith }
+
+  pub ready-same : (format : ℕ) (m : Memory) (ts : List Tile) (es : Blocks) → IsReady format m ts es t → IsReady format m ts es u
+  ready-same format m ts es k =
+      let x = subst (IsReady format m ts es) (recoloured t u e f g) k in
+      record { object = x.object; noted = x.noted }
+
+  pub test-same : (format : ℕ) (m : Memory) (ts : List Tile) → has_container format m ts t ≡ has_container format m ts u
+  test-same format m ts = ap (has_container format m ts) (recoloured t u e f g)
+
+  pub pays-same : (es : Blocks) (before after : ℕ) → PaysFor es t before after → PaysFor es u before after
+  pays-same es before after p = subst (λ (x : Tile). PaysFor es x before after) (recoloured t u e f g) p
 
 pub paid-end : (format : ℕ) (c : Cut) (es : Blocks) (old now : ℕ) → IsPaid format c es old now (tiles_in c.bytes) → (old ≤ now) × (now ≤ old + (weigh container_walk_rates (tiles_in c.bytes) + weigh_blocks es))
 paid-end format c es old now p =

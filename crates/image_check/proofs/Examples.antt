@@ -1,15 +1,17 @@
--- Six small images, as their words: their class, and what those of an object say.
-use Rattle.std.proofs.Common.{◌≡◌, refl, ℕ, negsuc, List, [], ◌∷◌, ◌++◌}
+-- Six small images, as their words: their class, and what those of an object say. And what is counted of three tiles.
+use Rattle.std.proofs.Common.{◌≡◌, refl, ℕ, negsuc, true, false, List, [], ◌∷◌, ◌++◌}
 use Rattle.std.specs.Prelude.{flat_map, Some, None}
 use Rattle.raw_region.specs.Memory.{word_bytes, word_at, half_word_at, zeros}
 use Rattle.raw_region.specs.Format.{current}
 use Rattle.best_fit.specs.Table.{no_table}
-use Rattle.block_tags.specs.declared.tile.Role.TheVariants.{Object as ObjectRole}
+use Rattle.block_tags.specs.declared.tile.Role.TheVariants.{Object as ObjectRole, Storage}
+use Rattle.block_tags.specs.declared.tile.Tile.{Tile}
 use Rattle.seg_types.specs.declared.kinds.ScalarKind.TheVariants.{I64}
 use Rattle.seg_types.specs.declared.kinds.Class.TheVariants.{Anonymous}
 use Rattle.segment_manager.specs.Directory.{Numbers, Bytes, Pairs, Texts}
 use Rattle.image_check.specs.declared.classes.ImageClass.TheVariants.{BadObject}
 use Rattle.image_check.specs.Classes.{class_of}
+use Rattle.image_check.specs.Counting.{AreCounted}
 use Rattle.image_check.proofs.ReadOff.{read_off}
 
 -- bytes from words
@@ -89,3 +91,16 @@ wrong = words (4993446653039301453 ∷ 2 ∷ 224 ∷ 168 ∷ 1 ∷ 0 ∷ 0 ∷ 1
 wrong_class : class_of current wrong ≡ Some BadObject
 unfolding word_at word_bytes half_word_at zeros current
 wrong_class = refl
+
+-- a number, a free tile and storage: one tile is free, two are in use, and the last of these stands behind the free one
+abbrev three : List Tile
+three =
+    record { offset = 128; len = 48; use_of = Some ObjectRole; red = false } ∷ record { offset = 176; len = 32; use_of = None; red = true }
+    ∷ record { offset = 208; len = 64; use_of = Some Storage; red = false } ∷ []
+
+three_counted : AreCounted three (record { free = 1; used = 2; end = 208 })
+three_counted = record { free = refl; used = refl; end = refl }
+
+-- of no tiles nothing is counted
+none_counted : AreCounted [] (record { free = 0; used = 0; end = 0 })
+none_counted = record { free = refl; used = refl; end = refl }

@@ -29,11 +29,9 @@ use Rattle.best_fit.specs.Table.{same_role}
 use Rattle.image_check.proofs.NotedLinks.{grown-in}
 use Rattle.image_check.proofs.Members.{Mem, list_all_mem, mem_filter, mem_filter_map, mem_left, mem_of_filter, mem_of_filter_map, mem_parts, mem_right}
 use Rattle.image_check.proofs.Reached.{good_for-IsGood}
+use Rattle.image_check.proofs.RowWalks.{PassesGaps, recoloured}
 use Rattle.image_check.proofs.Tags.{has_tags-AreWholeTiles}
-use Rattle.block_tags.specs.Lists.{next_in}
-use Rattle.block_tags.specs.Windows.{SaysTiles}
-use Rattle.best_fit.proofs.Laws.{next_here, passed_on}
-use Rattle.image_check.proofs.WalkedTiles.{Walks, WalksAt}
+use Rattle.image_check.proofs.WalkedTiles.{WalksAt}
 
 -- ---- places in tiles
 
@@ -138,11 +136,42 @@ value-keeps m ts kind at es fs k d = record {
   root = λ x v e n l. k n _ (d.root x v e n l);
 }
 
+-- a free tile is no object's
+free-object : (t : Tile) → t.use_of ≡ None → is_use Object t ≡ false
+free-object t e = ap (λ (u : Option Role). elim u [ None ↦ false | Some r ↦ same_role Object r ]) e
+
+-- ---- a tile but for its colour
+
+module _ (t u : Tile) (e : t.offset ≡ u.offset) (f : t.len ≡ u.len) (g : t.use_of ≡ u.use_of) where
+  pub object-same : (format : ℕ) (m : Memory) (Is : Kind → ℕ → Type 0) → OfObject format m t Is → OfObject format m u Is
+  object-same format m Is k = subst (λ (x : Tile). OfObject format m x Is) (recoloured t u e f g) k
+
+  pub cost-same : object_cost t ≡ object_cost u
+  cost-same = ap object_cost (recoloured t u e f g)
+
+  pub grown-same : (format : ℕ) (b : List ℕ) (old : Blocks) (waited : ℕ) (es : Blocks) (pending : Option ℕ) (waiting : ℕ) → IsTileGrown format b t old waited es pending waiting → IsTileGrown format b u old waited es pending waiting
+  grown-same format b old waited es pending waiting d =
+      let black : Tile = record { offset = u.offset; len = u.len; use_of = u.use_of; red = t.red } in
+      let x = subst (λ (y : Tile). IsTileGrown format b y old waited es pending waiting) (recoloured t u e f g) d in
+      record {
+        grown = grown-in format b (IsPlaceOf format (bytes_of b) (tiles_in b) black) (IsPlaceOf format (bytes_of b) (tiles_in b) u) old waited es pending waiting place x.grown;
+        noted = x.noted;
+      }
+    where
+      place : (p : ℕ) → IsPlaceOf format (bytes_of b) (tiles_in b) (record { offset = u.offset; len = u.len; use_of = u.use_of; red = t.red }) p → IsPlaceOf format (bytes_of b) (tiles_in b) u p
+      place p (inl l) = inl (record { kind = l.kind; object = l.object; is = l.is; link = l.link; place = l.place })
+      place p (inr s) = inr s
+
 -- ---- the walk
 
 -- a place before all tiles, in one that was passed, or in storage
 abbrev pub IsPassed : List Tile → List Tile → ℕ → Type 0
 IsPassed ts front p = (p < 128) ⊎ (((t : Tile) × Mem t front × Lies p t) ⊎ IsInStorage ts p)
+
+still-passed : (ts front : List Tile) (here : Tile) (p : ℕ) → IsPassed ts front p → IsPassed ts (front ++ here ∷ []) p
+still-passed ts front here p (inl l) = inl l
+still-passed ts front here p (inr (inl w)) = inr (inl (w.0, mem_left w.0 front (here ∷ []) w.1, w.2))
+still-passed ts front here p (inr (inr w)) = inr (inr w)
 
 -- the values in the tiles passed are noted
 pub record Noting (format : ℕ) (b : List ℕ) (old : Blocks) (owed seen : ℕ) (es : Blocks) (pending : Option ℕ) (waiting visits : ℕ) (front : List Tile) : Type 0 where
@@ -163,6 +192,24 @@ noting-start format b es pending waiting seen k f = record {
   more = omega arith;
   most = omega arith;
 }
+
+-- a free tile is passed over
+pub noting-gap : (format : ℕ) (c : Cut) (old : Blocks) (owed seen : ℕ) (es : Blocks) (pending : Option ℕ) (waiting visits : ℕ) → PassesGaps c (Noting format c.bytes old owed seen es pending waiting visits)
+noting-gap format c old owed seen es pending waiting visits g u a =
+    let push = weigh-push value_rates a.front g in
+    let most = a.kept.most in
+    record {
+      marking = a.kept.marking;
+      keeps = a.kept.keeps;
+      passed = λ n o e. still-passed (tiles_in c.bytes) a.front g o.at (a.kept.passed n o e);
+      noted = λ t k kind v e. elim (mem_parts t a.front (g ∷ []) k) [
+        | inl x ↦ a.kept.noted t x kind v e
+        | inr (inl x) ↦ absurd (false≢true (sym (free-object g u) ∙ sym (ap (is_use Object) x) ∙ v))
+        | inr (inr x) ↦ absurd x
+      ];
+      more = a.kept.more;
+      most = omega arith;
+    }
 
 -- a place of the value of this object
 record IsHere (format : ℕ) (b : List ℕ) (here : Tile) (at : ℕ) : Type 0 where
@@ -238,11 +285,6 @@ module _ (format : ℕ) (c : Cut) (here : Tile) (h : HasTiles c.bytes) (good : h
         inr (inl (here, mem_right here a.front (here ∷ []) (inl refl), subst (λ x. Lies x here) (sym w.place) (at-here w.kind w.object w.is w.link).lies))
     place-passed p (inr w) = inr (inr w)
 
-    still-passed : (p : ℕ) → IsPassed (tiles_in b) a.front p → IsPassed (tiles_in b) (a.front ++ here ∷ []) p
-    still-passed p (inl l) = inl l
-    still-passed p (inr (inl w)) = inr (inl (w.0, mem_left w.0 a.front (here ∷ []) w.1, w.2))
-    still-passed p (inr (inr w)) = inr (inr w)
-
     noted-here : (t : Tile) → Mem t (a.front ++ here ∷ []) → OfObject format (bytes_of b) t (λ kind at. IsValueNoted (bytes_of b) (tiles_in b) kind at fs)
     noted-here t k kind u e = elim (mem_parts t a.front (here ∷ []) k) [
       | inl x ↦ value-keeps (bytes_of b) (tiles_in b) kind (value_offset (bytes_of b) (payload t)) es fs d.grown.keeps (a.kept.noted t x kind u e)
@@ -259,7 +301,7 @@ module _ (format : ℕ) (c : Cut) (here : Tile) (h : HasTiles c.bytes) (good : h
         record {
           marking = d.grown.marking;
           keeps = λ n o e. d.grown.keeps n o (a.kept.keeps n o e);
-          passed = λ n o e. elim (d.grown.only n o e) [ inl f ↦ still-passed o.at (a.kept.passed n o f) | inr f ↦ place-passed o.at f ];
+          passed = λ n o e. elim (d.grown.only n o e) [ inl f ↦ still-passed (tiles_in b) a.front here o.at (a.kept.passed n o f) | inr f ↦ place-passed o.at f ];
           noted = noted-here;
           more = omega arith;
           most = omega arith;
@@ -312,13 +354,3 @@ tile-grown format b t kind at u e there old waited es pending waiting d = record
 
     same : (k : Kind) → kind_at format (bytes_of b) (payload t) ≡ Some k → kind ≡ k
     same k f = cc
-
--- the walk goes on, with what is kept of the tiles that it has passed
-pub walk-past : (c : Cut) (Kept Kept' : List Tile → Type 0) (here : Tile) (next : Option Tile) → (a : WalksAt c Kept here) → ((ts : List Tile) → SaysTiles c ts → next ≡ next_in ts here.offset) → Kept' (a.front ++ here ∷ []) → Walks c Kept' next
-walk-past c Kept Kept' here next a n kept = record {
-  front = a.front ++ here ∷ [];
-  rest = a.back;
-  said = passed_on c a.front here a.back a.said;
-  is = next_here c a.front here a.back a.said next n;
-  kept = kept;
-}

@@ -4,7 +4,7 @@ ghost use Rattle.std.specs.List.{list_all};
 ghost use Rattle.raw_region.specs.Memory.{bytes_of};
 ghost use Rattle.image_check.specs.ObjectTests.{has_objects};
 ghost use Rattle.image_check.specs.Fields.{has_containers, is_container};
-ghost use Rattle.image_check.specs.Owners.{IsWholeMarkingOf};
+ghost use Rattle.image_check.specs.Owners.{IsWholeMarkingOf, entries_of, frames};
 ghost use Rattle.image_check.specs.Containers.{AreFollowed, IsLinkNoted, IsReady, LiesInWindow, PaysFor, has_container, is_scalar, rooted_weight, container_walk_rates, weigh_blocks, weight_below};
 ghost use Rattle.image_check.specs.Passes.{Finds, HasTiles, Spends, tiles_in};
 ghost use Rattle.image_check.specs.Visits.{Adds, container_rates, weigh};
@@ -17,7 +17,7 @@ use crate::classes::ImageClass;
 use crate::heads::kind_of;
 use crate::image_window::{Blocks, ImageWindow, Object, Value};
 use crate::maps::is_map;
-use crate::owners::{Owners, is_object};
+use crate::owners::{Owners, is_object, tile_of};
 use block_tags::{TAG, Tile};
 use seg_types::{Kind, ScalarKind};
 
@@ -48,7 +48,7 @@ fn is_right(
     }
 }
 
-/// Whether the tile, whose tags were read, is no object's, or its value is no container, or one that is right.
+/// Whether the tile is no object's, or its value is no container, or one that is right.
 fn is_right_tile(
     format: u64,
     window: &ImageWindow,
@@ -74,9 +74,10 @@ fn is_right_tile(
     }
 }
 
-/// Whether all containers of the image are right.
+/// Whether all containers of the image are right. No tag is read.
 fn are_right(format: u64, window: &ImageWindow, blocks: &Blocks, visits: &mut Visits) -> bool
     requires tiles { HasTiles window.now.bytes }
+    requires rows { frames blocks.now.entries ≡ frames (entries_of (tiles_in window.now.bytes)) }
     requires followed { AreFollowed (bytes_of window.now.bytes) (tiles_in window.now.bytes) blocks.now.entries }
     requires ready { (t : Tile) → Contains (tiles_in window.now.bytes) t → IsReady format (bytes_of window.now.bytes) (tiles_in window.now.bytes) blocks.now.entries t }
     requires few { weigh_blocks blocks.now.entries ≤ 2 ^ 40 }
@@ -84,13 +85,14 @@ fn are_right(format: u64, window: &ImageWindow, blocks: &Blocks, visits: &mut Vi
     ensures least { visits.old ≤ visits.new }
     ensures most { visits.new ≤ visits.old + (weigh container_walk_rates (tiles_in window.now.bytes) + weigh_blocks blocks.now.entries) }
 {
-    let mut tile = window.first();
-    'tiles: while let Some(unread) = tile {
-        let here = unread.read(visits);
-        if !is_right_tile(format, window, blocks, visits, here) {
+    let mut number = 0;
+    'rows: while number < blocks.len() {
+        let (payload, block) = blocks.row(number, visits);
+        let tile = tile_of(payload, block);
+        if !is_right_tile(format, window, blocks, visits, tile) {
             return false;
         }
-        tile = window.next(here.offset);
+        number += 1;
     }
     true
 }

@@ -6,6 +6,7 @@ ghost use Rattle.image_check.specs.declared.classes.ImageClass.TheVariants.{BadO
 ghost use Rattle.image_check.specs.ObjectTests.{has_indexes, has_objects};
 ghost use Rattle.image_check.specs.ObjectPasses.{is_object_at, is_right_tile, object_walk_rates};
 ghost use Rattle.image_check.specs.Entered.{AreEntered};
+ghost use Rattle.image_check.specs.Owners.{entries_of, frames};
 ghost use Rattle.image_check.specs.Passes.{HasTiles, Finds, Spends, tiles_in};
 ghost use Rattle.image_check.specs.Visits.{Adds, object_rates, rate_of};
 
@@ -15,7 +16,7 @@ use crate::heads::{
     NAMED, UNIQUE, has_name, has_padding, has_room, has_spellings, is_indexed, kind_of,
 };
 use crate::image_window::{Blocks, ImageWindow, Object};
-use crate::owners::{Owners, past};
+use crate::owners::{Owners, tile_of};
 use crate::ranks::has_order;
 use block_tags::{Role, TAG, Tile};
 use segment_manager::layout::{NAMED_AT, UNIQUE_AT};
@@ -34,6 +35,7 @@ pub(crate) fn check_objects(
     visits: &mut Visits,
 ) -> Result<(), ImageClass>
     requires tiles { HasTiles window.now.bytes }
+    requires rows { frames owners.now.blocks.entries ≡ frames (entries_of (tiles_in window.now.bytes)) }
     requires indexes { has_indexes (bytes_of window.now.bytes) (tiles_in window.now.bytes) ≡ true }
     requires entered { AreEntered (bytes_of window.now.bytes) owners.now.blocks.entries }
     ensures finds { Finds BadObject (has_objects format (bytes_of window.now.bytes) (tiles_in window.now.bytes)) result }
@@ -51,27 +53,27 @@ pub(crate) fn check_objects(
     Ok(())
 }
 
-/// Whether each tile is no object's or one of an object that is right.
+/// Whether each tile is no object's or one of an object that is right. Of the others no tag is read.
 fn are_right(format: u64, window: &ImageWindow, blocks: &Blocks, visits: &mut Visits) -> bool
     requires tiles { HasTiles window.now.bytes }
+    requires rows { frames blocks.now.entries ≡ frames (entries_of (tiles_in window.now.bytes)) }
     requires entered { AreEntered (bytes_of window.now.bytes) blocks.now.entries }
     ensures is { result ≡ list_all (is_right_tile format (bytes_of window.now.bytes)) (tiles_in window.now.bytes) }
     ensures spends { Spends object_walk_rates 0 window.now.bytes visits.old visits.new }
 {
-    let mut used = 0;
-    let mut tile = window.first();
-    'tiles: while let Some(unread) = tile {
-        let here = unread.read(visits);
-        if !is_right(format, window, blocks, used, visits, here) {
+    let mut number = 0;
+    'rows: while number < blocks.len() {
+        let (payload, block) = blocks.row(number, visits);
+        let tile = tile_of(payload, block);
+        if !is_right(format, window, blocks, number, visits, tile) {
             return false;
         }
-        used = past(used, here);
-        tile = window.next(here.offset);
+        number += 1;
     }
     true
 }
 
-/// Whether the tile, whose tags were read, is no object's or one of an object that is right. Its block may be that of number
+/// Whether the tile is no object's or one of an object that is right. Its block may be that of number
 /// `guess`.
 fn is_right(
     format: u64,

@@ -1,5 +1,5 @@
 //! The owners of the blocks in use: by the payload of each its role, its length, and the link that was met to lead to it.
-ghost use Rattle.std.specs.Prelude.{◌≡◌, ◌+◌, List, None, option_map};
+ghost use Rattle.std.specs.Prelude.{◌≡◌, ◌+◌, ◌≤◌, List, Some, option_map};
 ghost use Rattle.block_tags.specs.declared.tile.Tile.{Tile};
 ghost use Rattle.best_fit.specs.Table.{same_role};
 ghost use Rattle.block_tags.specs.declared.tile.Role.TheVariants.{Object};
@@ -9,7 +9,7 @@ ghost use Rattle.image_check.specs.Visits.{Adds};
 
 use crate::checking::Visits;
 use crate::image_window::Blocks;
-use block_tags::{Role, Tile};
+use block_tags::{Role, TAG, Tile};
 
 /// A link that leads to a block. Places are numbers of four bytes, since no image is longer than 2^30 bytes: there is a row for
 /// each block, and they are gone through many times.
@@ -63,14 +63,18 @@ pub(crate) fn is_object(tile: Tile) -> bool
     }
 }
 
-/// The number of the block behind that of a tile, if one has it, where `number` blocks stand before the tile. Past the last number
-/// of 64 bits it begins again.
-pub(crate) fn past(number: usize, tile: Tile) -> usize
-    ensures { tile.use_of ≡ None → result ≡ number }
+/// The tile of the block whose payload begins at `payload`, as the map says it: black, whatever its tags say.
+pub(crate) fn tile_of(payload: u32, block: Block) -> Tile
+    requires { 16 ≤ payload }
+    ensures place { result.offset + 16 ≡ payload }
+    ensures len { result.len ≡ block.len }
+    ensures used { result.use_of ≡ Some block.role }
 {
-    match tile.use_of {
-        Some(_) => number.wrapping_add(1),
-        None => number,
+    Tile {
+        offset: payload as u64 - TAG,
+        len: block.len as u64,
+        use_of: Some(block.role),
+        red: false,
     }
 }
 

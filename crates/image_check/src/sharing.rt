@@ -18,7 +18,7 @@ use crate::heads::kind_of;
 use crate::image_window::{ImageWindow, Object, Value};
 use crate::links::{mark_elements, mark_index, mark_storage};
 use crate::marks::{follow, mark};
-use crate::owners::{Owner, Owners, good_len, is_object};
+use crate::owners::{Owner, Owners, good_len, is_object, tile_of};
 use block_tags::{Role, TAG, Tile};
 use seg_types::Kind;
 use segment_manager::layout::{NAMED_AT, UNIQUE_AT};
@@ -162,7 +162,7 @@ fn mark_object(
     }
 }
 
-/// Notes the links of the values of all objects.
+/// Notes the links of the values of all objects. No tag is read.
 ///
 /// # Errors
 ///
@@ -184,13 +184,14 @@ fn mark_values(
         (IsSharedIn said window.now.bytes) }
     ensures visits { Pays (weigh value_rates (tiles_in window.now.bytes)) result visits.old (6 * owners.old.waiting + debt owners.old.blocks.entries) visits.new (6 * owners.new.waiting + debt owners.new.blocks.entries) }
 {
-    let mut tile = window.first();
-    'tiles: while let Some(unread) = tile {
-        let here = unread.read(visits);
-        if let Err(class) = mark_object(format, window, owners, here, visits) {
+    let mut number = 0;
+    'rows: while number < owners.blocks.len() {
+        let (payload, block) = owners.blocks.row(number, visits);
+        let tile = tile_of(payload, block);
+        if let Err(class) = mark_object(format, window, owners, tile, visits) {
             return Err(class);
         }
-        tile = window.next(here.offset);
+        number += 1;
     }
     Ok(())
 }

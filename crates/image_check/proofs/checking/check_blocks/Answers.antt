@@ -10,6 +10,9 @@ use Rattle.image_check.proofs.checking.check_blocks.Goals as goal
 some : (c k : ImageClass) (o : Option ImageClass) → o ≡ Some k → c ≡ k → o ≡ Some c
 some c k o e f = e ∙ ap (λ (x : ImageClass). Some x) (sym f)
 
+pub check_objects-requires-clause-rows : goal.check_objects-requires-clause-rows
+check_objects-requires-clause-rows c = c.in_default.ensures.unmarked.frame
+
 pub check_sharing-requires : goal.check_sharing-requires
 check_sharing-requires c = (c.requires.tiles, (refl, (c.in_default-check_objects.ensures.finds, (c.in_default.ensures.unmarked, (c.in_default.ensures.pending, c.in_default.ensures.waiting)))))
 

@@ -1,92 +1,108 @@
-use Rattle.std.proofs.Common.{sym, ◌∙◌}
-use Rattle.image_check.proofs.ContainerWalks.{IsPaid, is-here, paid-end, paid-more, paid-start, paid-stop, right-fails}
-use Rattle.image_check.proofs.ContainerWalks.{walk-to}
-use Rattle.image_check.proofs.CountedFields.{Mem-Contains}
+-- Each turn of the walk passes one tile in use.
+use Rattle.std.proofs.Common.{◌≡◌, ◌+◌, ◌∙◌, sym, ap, arith, length}
+use Rattle.raw_region.specs.Memory.{bytes_of}
+use Rattle.image_check.specs.Containers.{has_container}
+use Rattle.image_check.specs.Owners.{frame_of}
 use Rattle.image_check.specs.Passes.{tiles_in}
-use Rattle.image_check.proofs.ReadTiles.{read-at, read-met, read-nearer}
-use Rattle.image_check.proofs.WalkedTiles.{tags-IsTiled, walk-end}
-use Rattle.image_check.proofs.WalkedTiles.{walk-start}
+use Rattle.image_check.proofs.ContainerWalks.{IsHere, IsPaid, is-here, lies-same, paid-end, paid-gap, paid-more, paid-start, paid-stop, pays-same, ready-same, right-fails, test-same}
+use Rattle.image_check.proofs.CountedFields.{Mem-Contains}
+use Rattle.image_check.proofs.RowWalks.{RowAt, recoloured, row-at, rows-end, rows-on, rows-start}
+use Rattle.image_check.proofs.WalkedTiles.{tags-IsTiled}
 use Rattle.image_check.proofs.containers.are_right.Goals as goal
+use Rattle.image_check.proofs.containers.are_right.Goals.{After-tile_of-tile}
 
-pub first-tile-requires : goal.first-tile-requires
-first-tile-requires c = tags-IsTiled c.args.window.now c.requires.tiles.size c.requires.tiles.tags
+row : (c : After-tile_of-tile) → RowAt c.args.window.now (IsPaid c.args.format c.args.window.now c.args.blocks.now.entries c.args.visits.now c.rows.visits) c.rows.number (frame_of c.row-payload.result)
+row c =
+    let w = c.args.window.now in
+    row-at w _ (paid-gap c.args.format w c.args.blocks.now.entries c.args.visits.now c.rows.visits) c.args.blocks.now.entries c.requires.rows c.rows.number c.rows.invariant c.row-payload.result c.row-payload.ensures.row
 
-pub tiles-init : goal.tiles-init
-tiles-init c =
+here : (c : After-tile_of-tile) → IsHere c.args.window.now (row c).here
+here c = is-here c.args.window.now _ (row c).here c.requires.tiles (row c).at
+
+-- the tile that is looked at is the one that stands there, but for its colour
+place : (c : After-tile_of-tile) → c.tile_of-tile.result.offset ≡ (row c).here.offset
+place c = let at = (row c).place in let there = c.tile_of-tile.ensures.place in omega arith
+
+len : (c : After-tile_of-tile) → c.tile_of-tile.result.len ≡ (row c).here.len
+len c = c.tile_of-tile.ensures.len ∙ sym (row c).len
+
+used : (c : After-tile_of-tile) → c.tile_of-tile.result.use_of ≡ (row c).here.use_of
+used c = c.tile_of-tile.ensures.used ∙ sym (row c).use_of
+
+pub rows-init : goal.rows-init
+rows-init c =
     let w = c.args.window.now in
     let old = c.args.visits.now in
-    walk-start w (IsPaid c.args.format w c.args.blocks.now.entries old old) c.first-tile.result
-    (tags-IsTiled w c.requires.tiles.size c.requires.tiles.tags) c.first-tile.ensures
-    (paid-start c.args.format w c.args.blocks.now.entries old)
+    rows-start w (IsPaid c.args.format w c.args.blocks.now.entries old old) (tags-IsTiled w c.requires.tiles.size c.requires.tiles.tags) (paid-start c.args.format w c.args.blocks.now.entries old)
+
+pub tile_of-tile-requires : goal.tile_of-tile-requires
+tile_of-tile-requires c =
+    let w = c.args.window.now in
+    let es = c.args.blocks.now.entries in
+    let r = row-at w _ (paid-gap c.args.format w es c.args.visits.now c.rows.visits) es c.requires.rows c.rows.number c.rows.invariant c.row-payload.result c.row-payload.ensures.row in
+    let at = r.place in
+    omega arith
 
 pub is_right_tile-requires-clause-lies : goal.is_right_tile-requires-clause-lies
 is_right_tile-requires-clause-lies c =
-    let w = c.args.window.now in
-    let a = read-at w _ c.tiles.tile c.in-Some.unread c.read-here.result c.tiles.invariant c.in-Some.is
-    c.read-here.ensures.tile in
-    (is-here w _ c.read-here.result c.requires.tiles a).lies
+    let k = (goal.at.is_right_tile-requires-clause-lies c).After-tile_of-tile in
+    lies-same (row k).here c.tile_of-tile.result (sym (place k)) (sym (len k)) (sym (used k)) _ (here k).lies
 
 pub is_right_tile-requires-clause-ready : goal.is_right_tile-requires-clause-ready
 is_right_tile-requires-clause-ready c =
-    let w = c.args.window.now in
-    let a = read-at w _ c.tiles.tile c.in-Some.unread c.read-here.result c.tiles.invariant c.in-Some.is
-    c.read-here.ensures.tile in
-    c.requires.ready c.read-here.result (Mem-Contains (tiles_in w.bytes) c.read-here.result
-    (is-here w _ c.read-here.result c.requires.tiles a).mem)
+    let k = (goal.at.is_right_tile-requires-clause-ready c).After-tile_of-tile in
+    let b = c.args.window.now.bytes in
+    ready-same (row k).here c.tile_of-tile.result (sym (place k)) (sym (len k)) (sym (used k)) c.args.format (bytes_of b) (tiles_in b) c.args.blocks.now.entries
+    (c.requires.ready (row k).here (Mem-Contains (tiles_in b) (row k).here (here k).mem))
 
 pub returns-then-not-is_right_tile-clause-value : goal.returns-then-not-is_right_tile-clause-value
 returns-then-not-is_right_tile-clause-value c =
+    let k = (goal.at.returns-then-not-is_right_tile-clause-value c).After-tile_of-tile in
     let w = c.args.window.now in
-    let a = read-at w _ c.tiles.tile c.in-Some.unread c.read-here.result c.tiles.invariant c.in-Some.is
-    c.read-here.ensures.tile in
-    sym (right-fails c.args.format w c.args.blocks.now.entries c.args.visits.now c.tiles.visits
-    c.is_right_tile.new.visits c.read-here.result a (c.is_right_tile.ensures.visits c.tiles.visits
-    c.read-here.ensures.visits) (sym c.is_right_tile.ensures.value ∙ c.if-not-is_right_tile.true))
+    let r = row k in
+    let t = c.tile_of-tile.result in
+    let paid = pays-same t r.here (place k) (len k) (used k) _ _ _ (c.is_right_tile.ensures.visits c.rows.visits c.row-payload.ensures.visits) in
+    let wrong = test-same r.here t (sym (place k)) (sym (len k)) (sym (used k)) c.args.format (bytes_of w.bytes) (tiles_in w.bytes) ∙ sym c.is_right_tile.ensures.value ∙ c.if-not-is_right_tile.true in
+    sym (right-fails c.args.format w c.args.blocks.now.entries c.args.visits.now c.rows.visits c.is_right_tile.new.visits r.here r.at paid wrong)
 
 pub returns-then-not-is_right_tile-clause-least : goal.returns-then-not-is_right_tile-clause-least
 returns-then-not-is_right_tile-clause-least c =
+    let k = (goal.at.returns-then-not-is_right_tile-clause-least c).After-tile_of-tile in
     let w = c.args.window.now in
-    let a = read-at w _ c.tiles.tile c.in-Some.unread c.read-here.result c.tiles.invariant c.in-Some.is
-    c.read-here.ensures.tile in
-    (paid-stop c.args.format w c.args.blocks.now.entries c.args.visits.now c.tiles.visits c.is_right_tile.new.visits
-    c.read-here.result a (c.is_right_tile.ensures.visits c.tiles.visits c.read-here.ensures.visits)).0
+    let r = row k in
+    let paid = pays-same c.tile_of-tile.result r.here (place k) (len k) (used k) _ _ _ (c.is_right_tile.ensures.visits c.rows.visits c.row-payload.ensures.visits) in
+    (paid-stop c.args.format w c.args.blocks.now.entries c.args.visits.now c.rows.visits c.is_right_tile.new.visits r.here r.at paid).0
 
 pub returns-then-not-is_right_tile-clause-most : goal.returns-then-not-is_right_tile-clause-most
 returns-then-not-is_right_tile-clause-most c =
+    let k = (goal.at.returns-then-not-is_right_tile-clause-most c).After-tile_of-tile in
     let w = c.args.window.now in
-    let a = read-at w _ c.tiles.tile c.in-Some.unread c.read-here.result c.tiles.invariant c.in-Some.is
-    c.read-here.ensures.tile in
-    (paid-stop c.args.format w c.args.blocks.now.entries c.args.visits.now c.tiles.visits c.is_right_tile.new.visits
-    c.read-here.result a (c.is_right_tile.ensures.visits c.tiles.visits c.read-here.ensures.visits)).1
+    let r = row k in
+    let paid = pays-same c.tile_of-tile.result r.here (place k) (len k) (used k) _ _ _ (c.is_right_tile.ensures.visits c.rows.visits c.row-payload.ensures.visits) in
+    (paid-stop c.args.format w c.args.blocks.now.entries c.args.visits.now c.rows.visits c.is_right_tile.new.visits r.here r.at paid).1
 
-pub next-tile-requires : goal.next-tile-requires
-next-tile-requires c =
-    (read-met c.args.window.now _ c.tiles.tile c.in-Some.unread c.read-here.result c.tiles.invariant c.in-Some.is
-    c.read-here.ensures.tile).has
-
-pub tiles-smaller : goal.tiles-smaller
-tiles-smaller c =
-    read-nearer c.args.window.now _ c.tiles.tile c.in-Some.unread c.read-here.result c.tiles.invariant c.in-Some.is
-    c.read-here.ensures.tile c.next-tile.result c.next-tile.ensures
-
-pub tiles-preserved : goal.tiles-preserved
-tiles-preserved c =
+pub rows-preserved : goal.rows-preserved
+rows-preserved c =
+    let k = (goal.at.rows-preserved c).After-tile_of-tile in
     let w = c.args.window.now in
-    let a = read-at w _ c.tiles.tile c.in-Some.unread c.read-here.result c.tiles.invariant c.in-Some.is
-    c.read-here.ensures.tile in
-    walk-to w _ (IsPaid c.args.format w c.args.blocks.now.entries c.args.visits.now c.is_right_tile.new.visits)
-    c.read-here.result c.next-tile.result a c.next-tile.ensures
-    (paid-more c.args.format w c.args.blocks.now.entries c.args.visits.now c.tiles.visits c.is_right_tile.new.visits
-    c.read-here.result a (c.is_right_tile.ensures.visits c.tiles.visits c.read-here.ensures.visits)
-    (sym c.is_right_tile.ensures.value ∙ c.if-not-is_right_tile.false))
+    let es = c.args.blocks.now.entries in
+    let r = row k in
+    let t = c.tile_of-tile.result in
+    let paid = pays-same t r.here (place k) (len k) (used k) _ _ _ (c.is_right_tile.ensures.visits c.rows.visits c.row-payload.ensures.visits) in
+    let right = test-same r.here t (sym (place k)) (sym (len k)) (sym (used k)) c.args.format (bytes_of w.bytes) (tiles_in w.bytes) ∙ sym c.is_right_tile.ensures.value ∙ c.if-not-is_right_tile.false in
+    rows-on w _ (IsPaid c.args.format w es c.args.visits.now c.is_right_tile.new.visits) c.rows.number (frame_of c.row-payload.result) r
+    (paid-more c.args.format w es c.args.visits.now c.rows.visits c.is_right_tile.new.visits r.here r.at paid right)
 
 pub returns-clause-value : goal.returns-clause-value
 returns-clause-value c =
-    let all = walk-end c.args.window.now _ c.tiles.tile c.tiles.invariant c.in_default.not-Some in
+    let w = c.args.window.now in
+    let es = c.args.blocks.now.entries in
+    let all = rows-end w _ (paid-gap c.args.format w es c.args.visits.now c.rows.visits) es c.requires.rows c.rows.number c.rows.invariant (omega arith) in
     sym all.right
 
 pub returns-clause-most : goal.returns-clause-most
 returns-clause-most c =
     let w = c.args.window.now in
-    let all = walk-end w _ c.tiles.tile c.tiles.invariant c.in_default.not-Some in
-    (paid-end c.args.format w c.args.blocks.now.entries c.args.visits.now c.tiles.visits all).1
+    let es = c.args.blocks.now.entries in
+    let all = rows-end w _ (paid-gap c.args.format w es c.args.visits.now c.rows.visits) es c.requires.rows c.rows.number c.rows.invariant (omega arith) in
+    (paid-end c.args.format w es c.args.visits.now c.rows.visits all).1

@@ -1,10 +1,11 @@
+use Rattle.std.proofs.Common.{◌-◌, length}
 use Rattle.image_check.proofs.ContainerWalks.{IsPaid}
-use Rattle.image_check.proofs.WalkedTiles.{Walks, left_from}
+use Rattle.image_check.proofs.RowWalks.{RowWalks}
 use Rattle.image_check.proofs.containers.are_right.Given as goal
 
 -- the tiles that the walk has passed are right, and paid for
-abbrev pub invariant-tiles : goal.invariant-tiles
-invariant-tiles l = Walks l.window (IsPaid l.format l.window l.blocks.entries l.fn.visits l.visits) l.tile
+abbrev pub invariant-rows : goal.invariant-rows
+invariant-rows l = RowWalks l.window (IsPaid l.format l.window l.blocks.entries l.fn.visits l.visits) l.number
 
-abbrev pub decreases-tiles : goal.decreases-tiles
-decreases-tiles l = left_from l.window l.tile
+abbrev pub decreases-rows : goal.decreases-rows
+decreases-rows l = length l.blocks.entries - l.number

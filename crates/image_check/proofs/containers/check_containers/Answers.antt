@@ -6,6 +6,9 @@ use Rattle.image_check.proofs.ContainerWeights.{blocks-weigh, both-weigh, few-bl
 use Rattle.image_check.proofs.CountedFields.{Contains-Mem}
 use Rattle.image_check.proofs.containers.check_containers.Goals as goal
 
+pub are_right-requires-clause-rows : goal.are_right-requires-clause-rows
+are_right-requires-clause-rows c = c.requires.whole.marking.frame
+
 pub are_right-requires-clause-followed : goal.are_right-requires-clause-followed
 are_right-requires-clause-followed c =
     let b = c.args.window.now.bytes in

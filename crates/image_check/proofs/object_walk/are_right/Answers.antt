@@ -1,93 +1,135 @@
--- Each turn of the walk passes one tile.
-use Rattle.std.proofs.Common.{◌≡◌, ◌+◌, ◌-◌, ◌≤◌, refl, sym, ap, ◌∙◌, ℕ, true, false, inl, List, ◌∷◌, ◌++◌, length, arith}
+-- Each turn of the walk passes one tile in use.
+use Rattle.std.proofs.Common.{◌≡◌, ◌+◌, ◌-◌, ◌*◌, ◌/◌, ◌≤◌, refl, sym, ap, ◌∙◌, ℕ, true, false, inl, List, ◌∷◌, ◌++◌, length, arith}
+use Rattle.std.specs.Prelude.{Option, None, Some}
 use Rattle.std.specs.List.{list_all}
-use Rattle.raw_region.specs.Memory.{Cut, bytes_of}
+use Rattle.std.proofs.lemmas.Bool.{cond-false}
+use Rattle.raw_region.specs.Memory.{Cut, Memory, bytes_of}
+use Rattle.block_tags.specs.declared.tile.Role.{Role}
+use Rattle.block_tags.specs.declared.tile.Role.TheVariants.{Object}
 use Rattle.block_tags.specs.declared.tile.Tile.{Tile}
 use Rattle.block_tags.proofs.Laws.{tiles_are_read_off}
+use Rattle.best_fit.specs.Table.{same_role}
 use Rattle.best_fit.proofs.Laws.{said_row}
+use Rattle.image_check.specs.ObjectTests.{is_object_tile, is_use}
 use Rattle.image_check.specs.ObjectPasses.{is_right_tile, object_walk_rates}
-use Rattle.image_check.specs.Visits.{weigh}
+use Rattle.image_check.specs.Owners.{frame_of}
+use Rattle.image_check.specs.Visits.{rate_of, weigh}
 use Rattle.image_check.proofs.IndexPlaces.{InRow, in-row}
 use Rattle.image_check.proofs.Members.{mem_right}
-use Rattle.image_check.proofs.WalkedTiles.{WalksAt, all-fails, all-more, at-meets, tags-IsTiled, walk-at, walk-end, walk-nearer, walk-on, walk-read, walk-start}
+use Rattle.image_check.proofs.RowWalks.{PassesGaps, RowAt, recoloured, row-at, rows-end, rows-on, rows-start}
+use Rattle.image_check.proofs.WalkedTiles.{all-fails, all-more, tags-IsTiled}
 use Rattle.image_check.proofs.Weights.{weigh-more, weigh-front}
 use Rattle.image_check.proofs.object_walk.are_right.Goals as goal
-use Rattle.image_check.proofs.object_walk.are_right.Goals.{After-read-here}
+use Rattle.image_check.proofs.object_walk.are_right.Goals.{After-row-payload}
 
 -- what is kept of the tiles behind the walk
 abbrev Kept : ℕ → Cut → ℕ → ℕ → List Tile → Type 0
 Kept format w before visits ts = (list_all (is_right_tile format (bytes_of w.bytes)) ts ≡ true) × (before ≤ visits) × (visits ≤ before + weigh object_walk_rates ts)
 
-here : (c : After-read-here) → WalksAt c.args.window.now (Kept c.args.format c.args.window.now c.args.visits.now c.tiles.visits) c.read-here.result
-here c = walk-at c.args.window.now (Kept c.args.format c.args.window.now c.args.visits.now c.tiles.visits) c.tiles.tile c.read-here.result c.tiles.invariant (walk-read c.tiles.tile c.in-Some.unread c.read-here.result c.in-Some.is c.read-here.ensures.tile)
+free-right : (format : ℕ) (m : Memory) (t : Tile) → t.use_of ≡ None → is_right_tile format m t ≡ true
+free-right format m t e =
+    cond-false (is_use Object t) (is_object_tile format m t) true (ap (λ (u : Option Role). elim u [ None ↦ false | Some r ↦ same_role Object r ]) e)
 
-place : (c : After-read-here) → InRow 128 (length c.args.window.now.bytes - 16) c.read-here.result
+gaps : (format : ℕ) (w : Cut) (before visits : ℕ) → PassesGaps w (Kept format w before visits)
+gaps format w before visits g u a =
+    let more = weigh-more object_walk_rates a.front g in
+    let most = a.kept.2 in
+    (all-more (is_right_tile format (bytes_of w.bytes)) a.front g a.kept.0 (free-right format (bytes_of w.bytes) g u), a.kept.1, omega arith)
+
+-- a test and a cost of a tile are those of one that is as long, and of the same use, at the same place
+right-same : (format : ℕ) (m : Memory) (t u : Tile) → t.offset ≡ u.offset → t.len ≡ u.len → t.use_of ≡ u.use_of → is_right_tile format m t ≡ is_right_tile format m u
+right-same format m t u e f g = ap (is_right_tile format m) (recoloured t u e f g)
+
+cost-same : (t u : Tile) → t.len ≡ u.len → t.use_of ≡ u.use_of → rate_of object_walk_rates t.use_of * (t.len / 16) ≡ rate_of object_walk_rates u.use_of * (u.len / 16)
+cost-same t u f g = λ i. rate_of object_walk_rates (g i) * (f i / 16)
+
+row : (c : After-row-payload) → RowAt c.args.window.now (Kept c.args.format c.args.window.now c.args.visits.now c.rows.visits) c.rows.number (frame_of c.row-payload.result)
+row c =
+    let w = c.args.window.now in
+    row-at w (Kept c.args.format w c.args.visits.now c.rows.visits) (gaps c.args.format w c.args.visits.now c.rows.visits) c.args.blocks.now.entries c.requires.rows c.rows.number c.rows.invariant
+    c.row-payload.result c.row-payload.ensures.row
+
+place : (c : After-row-payload) → InRow 128 (length c.args.window.now.bytes - 16) (row c).here
 place c =
     let w = c.args.window.now in
-    let a = here c in
-    in-row 128 (a.front ++ c.read-here.result ∷ a.back) (length w.bytes - 16) c.read-here.result (said_row w (a.front ++ c.read-here.result ∷ a.back) a.said) (mem_right c.read-here.result a.front (c.read-here.result ∷ a.back) (inl refl))
+    let r = row c in
+    in-row 128 (r.at.front ++ r.here ∷ r.at.back) (length w.bytes - 16) r.here (said_row w (r.at.front ++ r.here ∷ r.at.back) r.at.said) (mem_right r.here r.at.front (r.here ∷ r.at.back) (inl refl))
 
-pub first-tile-requires : goal.first-tile-requires
-first-tile-requires c = tags-IsTiled c.args.window.now c.requires.tiles.size c.requires.tiles.tags
-
-pub tiles-init : goal.tiles-init
-tiles-init c =
+pub rows-init : goal.rows-init
+rows-init c =
     let w = c.args.window.now in
-    walk-start w (Kept c.args.format w c.args.visits.now c.args.visits.now) c.first-tile.result (tags-IsTiled w c.requires.tiles.size c.requires.tiles.tags) c.first-tile.ensures (refl, omega arith, omega arith)
+    rows-start w (Kept c.args.format w c.args.visits.now c.args.visits.now) (tags-IsTiled w c.requires.tiles.size c.requires.tiles.tags) (refl, omega arith, omega arith)
+
+pub tile_of-tile-requires : goal.tile_of-tile-requires
+tile_of-tile-requires c = let at = (row (goal.at.tile_of-tile-requires c).After-row-payload).place in omega arith
 
 pub is_right-requires-clause-long : goal.is_right-requires-clause-long
-is_right-requires-clause-long c = (place (goal.at.is_right-requires-clause-long c).After-read-here).long
+is_right-requires-clause-long c =
+    let k = (goal.at.is_right-requires-clause-long c).After-row-payload in
+    let long = (place k).long in
+    let same = (row k).len in
+    let len = c.tile_of-tile.ensures.len in
+    omega arith
 
 pub is_right-requires-clause-within : goal.is_right-requires-clause-within
-is_right-requires-clause-within c = let p = (place (goal.at.is_right-requires-clause-within c).After-read-here).within in omega arith
+is_right-requires-clause-within c =
+    let k = (goal.at.is_right-requires-clause-within c).After-row-payload in
+    let within = (place k).within in
+    let same = (row k).len in
+    let len = c.tile_of-tile.ensures.len in
+    let at = (row k).place in
+    let there = c.tile_of-tile.ensures.place in
+    omega arith
 
 pub returns-then-not-is_right-clause-is : goal.returns-then-not-is_right-clause-is
 returns-then-not-is_right-clause-is c =
     let w = c.args.window.now in
-    let test = is_right_tile c.args.format (bytes_of w.bytes) in
-    let a = here (goal.at.returns-then-not-is_right-clause-is c).After-read-here in
-    let all : list_all test (a.front ++ c.read-here.result ∷ a.back) ≡ false = all-fails test a.front c.read-here.result a.back (sym c.is_right.ensures.is ∙ c.if-not-is_right.true) in
-    sym (ap (list_all test) (tiles_are_read_off w (a.front ++ c.read-here.result ∷ a.back) a.said) ∙ all)
+    let m = bytes_of w.bytes in
+    let test = is_right_tile c.args.format m in
+    let r = row (goal.at.returns-then-not-is_right-clause-is c).After-row-payload in
+    let t = c.tile_of-tile.result in
+    let at = r.place in
+    let there = c.tile_of-tile.ensures.place in
+    let wrong = right-same c.args.format m r.here t (omega arith) (r.len ∙ sym c.tile_of-tile.ensures.len) (r.use_of ∙ sym c.tile_of-tile.ensures.used) ∙ sym c.is_right.ensures.is ∙ c.if-not-is_right.true in
+    let all : list_all test (r.at.front ++ r.here ∷ r.at.back) ≡ false = all-fails test r.at.front r.here r.at.back wrong in
+    sym (ap (list_all test) (tiles_are_read_off w (r.at.front ++ r.here ∷ r.at.back) r.at.said) ∙ all)
 
 pub returns-then-not-is_right-clause-spends : goal.returns-then-not-is_right-clause-spends
 returns-then-not-is_right-clause-spends c =
     let w = c.args.window.now in
-    let a = here (goal.at.returns-then-not-is_right-clause-spends c).After-read-here in
-    let all = ap (weigh object_walk_rates) (tiles_are_read_off w (a.front ++ c.read-here.result ∷ a.back) a.said) in
-    let part = weigh-front object_walk_rates a.front c.read-here.result a.back in
-    let k = a.kept in
-    let s = c.is_right.ensures.spends c.tiles.visits c.read-here.ensures.visits in
+    let r = row (goal.at.returns-then-not-is_right-clause-spends c).After-row-payload in
+    let t = c.tile_of-tile.result in
+    let cost = cost-same r.here t (r.len ∙ sym c.tile_of-tile.ensures.len) (r.use_of ∙ sym c.tile_of-tile.ensures.used) in
+    let all = ap (weigh object_walk_rates) (tiles_are_read_off w (r.at.front ++ r.here ∷ r.at.back) r.at.said) in
+    let part = weigh-front object_walk_rates r.at.front r.here r.at.back in
+    let k = r.at.kept in
+    let s = c.is_right.ensures.spends c.rows.visits c.row-payload.ensures.visits in
     (omega arith, omega arith)
 
-pub next-tile-requires : goal.next-tile-requires
-next-tile-requires c =
+pub rows-preserved : goal.rows-preserved
+rows-preserved c =
     let w = c.args.window.now in
-    (at-meets w (Kept c.args.format w c.args.visits.now c.tiles.visits) c.read-here.result (here (goal.at.next-tile-requires c).After-read-here)).has
-
-pub tiles-smaller : goal.tiles-smaller
-tiles-smaller c =
-    let w = c.args.window.now in
-    walk-nearer w (Kept c.args.format w c.args.visits.now c.tiles.visits) c.tiles.tile c.read-here.result c.next-tile.result (here (goal.at.tiles-smaller c).After-read-here) (walk-read c.tiles.tile c.in-Some.unread c.read-here.result c.in-Some.is c.read-here.ensures.tile) c.next-tile.ensures
-
-pub tiles-preserved : goal.tiles-preserved
-tiles-preserved c =
-    let w = c.args.window.now in
-    walk-on w (Kept c.args.format w c.args.visits.now c.tiles.visits) (Kept c.args.format w c.args.visits.now c.is_right.new.visits) c.read-here.result c.next-tile.result (here (goal.at.tiles-preserved c).After-read-here) c.next-tile.ensures
-    (λ front k.
-    let more = weigh-more object_walk_rates front c.read-here.result in
-    let s = c.is_right.ensures.spends c.tiles.visits c.read-here.ensures.visits in (
-      all-more (is_right_tile c.args.format (bytes_of w.bytes)) front c.read-here.result k.0 (sym c.is_right.ensures.is ∙ c.if-not-is_right.false),
-      omega arith,
-      omega arith,
-    ))
+    let m = bytes_of w.bytes in
+    let r = row (goal.at.rows-preserved c).After-row-payload in
+    let t = c.tile_of-tile.result in
+    let at = r.place in
+    let there = c.tile_of-tile.ensures.place in
+    let right = right-same c.args.format m r.here t (omega arith) (r.len ∙ sym c.tile_of-tile.ensures.len) (r.use_of ∙ sym c.tile_of-tile.ensures.used) ∙ sym c.is_right.ensures.is ∙ c.if-not-is_right.false in
+    let cost = cost-same r.here t (r.len ∙ sym c.tile_of-tile.ensures.len) (r.use_of ∙ sym c.tile_of-tile.ensures.used) in
+    let more = weigh-more object_walk_rates r.at.front r.here in
+    let s = c.is_right.ensures.spends c.rows.visits c.row-payload.ensures.visits in
+    let k = r.at.kept in
+    rows-on w (Kept c.args.format w c.args.visits.now c.rows.visits) (Kept c.args.format w c.args.visits.now c.is_right.new.visits) c.rows.number (frame_of c.row-payload.result) r
+    (all-more (is_right_tile c.args.format m) r.at.front r.here r.at.kept.0 right, omega arith, omega arith)
 
 pub returns-clause-is : goal.returns-clause-is
 returns-clause-is c =
     let w = c.args.window.now in
-    sym (walk-end w (Kept c.args.format w c.args.visits.now c.tiles.visits) c.tiles.tile c.tiles.invariant c.in_default.not-Some).0
+    let all = rows-end w (Kept c.args.format w c.args.visits.now c.rows.visits) (gaps c.args.format w c.args.visits.now c.rows.visits) c.args.blocks.now.entries c.requires.rows c.rows.number c.rows.invariant (omega arith) in
+    sym all.0
 
 pub returns-clause-spends : goal.returns-clause-spends
 returns-clause-spends c =
     let w = c.args.window.now in
-    let k = walk-end w (Kept c.args.format w c.args.visits.now c.tiles.visits) c.tiles.tile c.tiles.invariant c.in_default.not-Some in
+    let k = rows-end w (Kept c.args.format w c.args.visits.now c.rows.visits) (gaps c.args.format w c.args.visits.now c.rows.visits) c.args.blocks.now.entries c.requires.rows c.rows.number c.rows.invariant (omega arith) in
     (k.1, omega (arith, k.2))

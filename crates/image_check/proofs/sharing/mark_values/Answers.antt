@@ -1,46 +1,57 @@
-use Rattle.std.proofs.Common.{◌+◌, ◌*◌, ◌≤◌, arith}
-use Rattle.image_check.specs.Owners.{IsSharedIn, debt}
-use Rattle.image_check.specs.Sharing.{IsTileGrown, object_cost}
+-- Each turn of the walk passes one tile in use.
+use Rattle.std.proofs.Common.{◌≡◌, ◌+◌, ◌*◌, ◌-◌, ◌≤◌, ◌<◌, ◌∙◌, sym, ap, arith, length}
+use Rattle.raw_region.specs.Memory.{bytes_of}
+use Rattle.image_check.specs.Owners.{IsSharedIn, debt, frame_of}
+use Rattle.image_check.specs.Sharing.{IsTileGrown, IsValueReady, object_cost}
 use Rattle.image_check.proofs.Following.{of-err, of-ok}
-use Rattle.image_check.proofs.NotedTiles.{Noting, noting-end, noting-on, noting-refused, noting-start, ready-here}
+use Rattle.image_check.proofs.NotedTiles.{Noting, cost-same, grown-same, noting-end, noting-gap, noting-on, noting-refused, noting-start, object-same, ready-here}
 use Rattle.image_check.proofs.NotedTiles.{room-here}
-use Rattle.image_check.proofs.ReadTiles.{read-at, read-met, read-nearer}
-use Rattle.image_check.proofs.WalkedTiles.{tags-IsTiled, walk-end}
-use Rattle.image_check.proofs.WalkedTiles.{walk-start}
-use Rattle.image_check.proofs.NotedTiles.{walk-past}
+use Rattle.image_check.proofs.RowWalks.{few-rows, row-at, rows-end, rows-on, rows-start}
+use Rattle.image_check.proofs.WalkedTiles.{tags-IsTiled}
 use Rattle.image_check.proofs.sharing.mark_values.Goals as goal
 
-pub first-tile-requires : goal.first-tile-requires
-first-tile-requires g c = tags-IsTiled c.args.window.now c.requires.0.size c.requires.0.tags
-
-pub tiles-init : goal.tiles-init
-tiles-init g c =
+pub rows-init : goal.rows-init
+rows-init g c =
     let w = c.args.window.now in
     let o = c.args.owners.now in
-    walk-start w (Noting g.said w.bytes o.blocks.entries (6 * o.waiting + debt o.blocks.entries) c.args.visits.now
-    o.blocks.entries o.pending o.waiting c.args.visits.now) c.first-tile.result
-    (tags-IsTiled w c.requires.0.size c.requires.0.tags) c.first-tile.ensures
-    (noting-start g.said w.bytes o.blocks.entries o.pending o.waiting c.args.visits.now c.requires.1.1.1.0
-    c.requires.1.1.1.1)
+    rows-start w (Noting g.said w.bytes o.blocks.entries (6 * o.waiting + debt o.blocks.entries) c.args.visits.now o.blocks.entries o.pending o.waiting c.args.visits.now)
+    (tags-IsTiled w c.requires.0.size c.requires.0.tags) (noting-start g.said w.bytes o.blocks.entries o.pending o.waiting c.args.visits.now c.requires.1.1.1.0 c.requires.1.1.1.1)
+
+pub tile_of-tile-requires : goal.tile_of-tile-requires
+tile_of-tile-requires g c =
+    let w = c.args.window.now in
+    let o = c.args.owners.now in
+    let due = 6 * o.waiting + debt o.blocks.entries in
+    let p = c.rows.owners in
+    let r = row-at w _ (noting-gap g.said w o.blocks.entries due c.args.visits.now p.blocks.entries p.pending p.waiting c.rows.visits) p.blocks.entries c.rows.invariant.kept.marking.frame c.rows.number
+    c.rows.invariant c.row-payload.result c.row-payload.ensures.row in
+    let at = r.place in
+    omega arith
 
 pub mark_object-requires : goal.mark_object-requires
 mark_object-requires g c =
     let w = c.args.window.now in
-    let due = 6 * c.args.owners.now.waiting + debt c.args.owners.now.blocks.entries in
-    let a = read-at w _ c.tiles.tile c.in-Some.unread c.read-here.result c.tiles.invariant c.in-Some.is
-    c.read-here.ensures.tile in (
+    let o = c.args.owners.now in
+    let due = 6 * o.waiting + debt o.blocks.entries in
+    let p = c.rows.owners in
+    let r = row-at w _ (noting-gap g.said w o.blocks.entries due c.args.visits.now p.blocks.entries p.pending p.waiting c.rows.visits) p.blocks.entries c.rows.invariant.kept.marking.frame c.rows.number
+    c.rows.invariant c.row-payload.result c.row-payload.ensures.row in
+    let t = c.tile_of-tile.result in
+    let at = r.place in
+    let there = c.tile_of-tile.ensures.place in
+    let place : t.offset ≡ r.here.offset = omega arith in
+    let len : t.len ≡ r.here.len = c.tile_of-tile.ensures.len ∙ sym r.len in
+    let used : t.use_of ≡ r.here.use_of = c.tile_of-tile.ensures.used ∙ sym r.use_of in
+    let room = room-here g.said w r.here c.requires.0 c.requires.1.1.0 o.blocks.entries due c.args.visits.now p.blocks.entries p.pending p.waiting c.rows.visits r.at in
+    let ready = ready-here g.said w r.here c.requires.0 c.requires.1.1.0 o.blocks.entries due c.args.visits.now p.blocks.entries p.pending p.waiting c.rows.visits r.at in (
       c.requires.0,
       (
         c.requires.1.0,
         (
-          room-here g.said w c.read-here.result c.requires.0 c.requires.1.1.0
-              c.args.owners.now.blocks.entries due c.args.visits.now c.tiles.owners.blocks.entries c.tiles.owners.pending
-              c.tiles.owners.waiting c.tiles.visits a,
+          omega arith,
           (
-            a.kept.marking,
-            ready-here g.said w c.read-here.result c.requires.0
-                c.requires.1.1.0 c.args.owners.now.blocks.entries due c.args.visits.now c.tiles.owners.blocks.entries
-                c.tiles.owners.pending c.tiles.owners.waiting c.tiles.visits a,
+            r.at.kept.marking,
+            object-same r.here t (sym place) (sym len) (sym used) g.said (bytes_of w.bytes) (λ kind at. IsValueReady g.said w.bytes kind at p.blocks.entries) ready,
           ),
         ),
       ),
@@ -49,64 +60,73 @@ mark_object-requires g c =
 pub returns-in-Err-clause-visits : goal.returns-in-Err-clause-visits
 returns-in-Err-clause-visits g c =
     let w = c.args.window.now in
-    let due = 6 * c.args.owners.now.waiting + debt c.args.owners.now.blocks.entries in
-    let a = read-at w _ c.tiles.tile c.in-Some.unread c.read-here.result c.tiles.invariant c.in-Some.is
-    c.read-here.ensures.tile in
-    let seen = c.read-here.ensures.visits in
+    let o = c.args.owners.now in
+    let due = 6 * o.waiting + debt o.blocks.entries in
+    let p = c.rows.owners in
+    let r = row-at w _ (noting-gap g.said w o.blocks.entries due c.args.visits.now p.blocks.entries p.pending p.waiting c.rows.visits) p.blocks.entries c.rows.invariant.kept.marking.frame c.rows.number
+    c.rows.invariant c.row-payload.result c.row-payload.ensures.row in
+    let t = c.tile_of-tile.result in
+    let at = r.place in
+    let there = c.tile_of-tile.ensures.place in
+    let place : t.offset ≡ r.here.offset = omega arith in
+    let len : t.len ≡ r.here.len = c.tile_of-tile.ensures.len ∙ sym r.len in
+    let used : t.use_of ≡ r.here.use_of = c.tile_of-tile.ensures.used ∙ sym r.use_of in
     let n = c.mark_object.new.owners in
+    let seen = c.row-payload.ensures.visits in
+    let cost = cost-same t r.here place len used in
     let lo = c.mark_object.ensures.visits.0 in
-    let hi = of-err (λ x. c.mark_object.new.visits + (6 * n.waiting + debt n.blocks.entries) ≤ c.read-here.new.visits +
-    (6 * c.tiles.owners.waiting + debt c.tiles.owners.blocks.entries + object_cost c.read-here.result))
-    (λ x. c.mark_object.new.visits ≤ c.read-here.new.visits +
-    (6 * c.tiles.owners.waiting + debt c.tiles.owners.blocks.entries + object_cost c.read-here.result))
-    c.mark_object.result c.in-Err.class c.in-Err.is c.mark_object.ensures.visits.1 in
-    noting-refused g.said w c.read-here.result c.requires.0 c.requires.1.1.0 c.args.owners.now.blocks.entries due
-    c.args.visits.now c.tiles.owners.blocks.entries c.tiles.owners.pending c.tiles.owners.waiting c.tiles.visits a
+    let hi = of-err (λ x. c.mark_object.new.visits + (6 * n.waiting + debt n.blocks.entries) ≤ c.row-payload.new.visits + (6 * p.waiting + debt p.blocks.entries + object_cost t))
+    (λ x. c.mark_object.new.visits ≤ c.row-payload.new.visits + (6 * p.waiting + debt p.blocks.entries + object_cost t)) c.mark_object.result c.in-Err.class c.in-Err.is c.mark_object.ensures.visits.1 in
+    noting-refused g.said w r.here c.requires.0 c.requires.1.1.0 o.blocks.entries due c.args.visits.now p.blocks.entries p.pending p.waiting c.rows.visits r.at
     c.mark_object.new.visits (omega arith) (omega arith)
 
-pub next-tile-requires : goal.next-tile-requires
-next-tile-requires g c =
-    (read-met c.args.window.now _ c.tiles.tile c.in-Some.unread c.read-here.result c.tiles.invariant c.in-Some.is
-    c.read-here.ensures.tile).has
+pub rows-smaller : goal.rows-smaller
+rows-smaller g c =
+    let few = few-rows c.args.window.now.bytes c.rows.owners.blocks.entries c.rows.invariant.kept.marking.frame in
+    omega arith
 
-pub tiles-smaller : goal.tiles-smaller
-tiles-smaller g c =
-    read-nearer c.args.window.now _ c.tiles.tile c.in-Some.unread c.read-here.result c.tiles.invariant c.in-Some.is
-    c.read-here.ensures.tile c.next-tile.result c.next-tile.ensures
-
-pub tiles-preserved : goal.tiles-preserved
-tiles-preserved g c =
+pub rows-preserved : goal.rows-preserved
+rows-preserved g c =
     let w = c.args.window.now in
-    let due = 6 * c.args.owners.now.waiting + debt c.args.owners.now.blocks.entries in
-    let a = read-at w _ c.tiles.tile c.in-Some.unread c.read-here.result c.tiles.invariant c.in-Some.is
-    c.read-here.ensures.tile in
     let o = c.args.owners.now in
+    let due = 6 * o.waiting + debt o.blocks.entries in
+    let p = c.rows.owners in
+    let r = row-at w _ (noting-gap g.said w o.blocks.entries due c.args.visits.now p.blocks.entries p.pending p.waiting c.rows.visits) p.blocks.entries c.rows.invariant.kept.marking.frame c.rows.number
+    c.rows.invariant c.row-payload.result c.row-payload.ensures.row in
+    let t = c.tile_of-tile.result in
+    let at = r.place in
+    let there = c.tile_of-tile.ensures.place in
+    let place : t.offset ≡ r.here.offset = omega arith in
+    let len : t.len ≡ r.here.len = c.tile_of-tile.ensures.len ∙ sym r.len in
+    let used : t.use_of ≡ r.here.use_of = c.tile_of-tile.ensures.used ∙ sym r.use_of in
     let n = c.mark_object.new.owners in
-    let seen = c.read-here.ensures.visits in
+    let seen = c.row-payload.ensures.visits in
+    let cost = cost-same t r.here place len used in
     let lo = c.mark_object.ensures.visits.0 in
-    let hi = of-ok (λ x. c.mark_object.new.visits + (6 * n.waiting + debt n.blocks.entries) ≤ c.read-here.new.visits +
-    (6 * c.tiles.owners.waiting + debt c.tiles.owners.blocks.entries + object_cost c.read-here.result))
-    (λ x. c.mark_object.new.visits ≤ c.read-here.new.visits +
-    (6 * c.tiles.owners.waiting + debt c.tiles.owners.blocks.entries + object_cost c.read-here.result))
-    c.mark_object.result _ c.in_default-mark_object.is c.mark_object.ensures.visits.1 in
-    let d = of-ok (λ x. IsTileGrown g.said w.bytes c.read-here.result c.tiles.owners.blocks.entries
-    c.tiles.owners.waiting n.blocks.entries n.pending n.waiting) (IsSharedIn g.said w.bytes) c.mark_object.result _
-    c.in_default-mark_object.is c.mark_object.ensures.noted in
-    walk-past w _ (Noting g.said w.bytes o.blocks.entries (6 * o.waiting + debt o.blocks.entries) c.args.visits.now
-    n.blocks.entries n.pending n.waiting c.mark_object.new.visits) c.read-here.result c.next-tile.result a
-    c.next-tile.ensures
-    (noting-on g.said w c.read-here.result c.requires.0 c.requires.1.1.0 c.args.owners.now.blocks.entries due
-    c.args.visits.now c.tiles.owners.blocks.entries c.tiles.owners.pending c.tiles.owners.waiting c.tiles.visits a
-    n.blocks.entries n.pending n.waiting c.mark_object.new.visits d (omega arith) (omega arith))
+    let hi = of-ok (λ x. c.mark_object.new.visits + (6 * n.waiting + debt n.blocks.entries) ≤ c.row-payload.new.visits + (6 * p.waiting + debt p.blocks.entries + object_cost t))
+    (λ x. c.mark_object.new.visits ≤ c.row-payload.new.visits + (6 * p.waiting + debt p.blocks.entries + object_cost t)) c.mark_object.result _ c.in_default.is c.mark_object.ensures.visits.1 in
+    let d = of-ok (λ x. IsTileGrown g.said w.bytes t p.blocks.entries p.waiting n.blocks.entries n.pending n.waiting) (IsSharedIn g.said w.bytes) c.mark_object.result _
+    c.in_default.is c.mark_object.ensures.noted in
+    rows-on w _ (Noting g.said w.bytes o.blocks.entries due c.args.visits.now n.blocks.entries n.pending n.waiting c.mark_object.new.visits) c.rows.number (frame_of c.row-payload.result) r
+    (noting-on g.said w r.here c.requires.0 c.requires.1.1.0 o.blocks.entries due c.args.visits.now p.blocks.entries p.pending p.waiting c.rows.visits r.at n.blocks.entries n.pending n.waiting c.mark_object.new.visits
+    (grown-same t r.here place len used g.said w.bytes p.blocks.entries p.waiting n.blocks.entries n.pending n.waiting d) (omega arith) (omega arith))
 
 pub returns-clause-noted : goal.returns-clause-noted
 returns-clause-noted g c =
+    let w = c.args.window.now in
     let o = c.args.owners.now in
-    noting-end g.said c.args.window.now.bytes o.blocks.entries (6 * o.waiting + debt o.blocks.entries) c.args.visits.now
-    c.tiles.owners.blocks.entries c.tiles.owners.pending c.tiles.owners.waiting c.tiles.visits
-    (walk-end c.args.window.now _ c.tiles.tile c.tiles.invariant c.in_default.not-Some)
+    let due = 6 * o.waiting + debt o.blocks.entries in
+    let p = c.rows.owners in
+    let all = rows-end w _ (noting-gap g.said w o.blocks.entries due c.args.visits.now p.blocks.entries p.pending p.waiting c.rows.visits) p.blocks.entries c.rows.invariant.kept.marking.frame c.rows.number
+    c.rows.invariant (omega arith) in
+    noting-end g.said w.bytes o.blocks.entries due c.args.visits.now p.blocks.entries p.pending p.waiting c.rows.visits all
 
 pub returns-clause-visits : goal.returns-clause-visits
 returns-clause-visits g c =
-    let all = walk-end c.args.window.now _ c.tiles.tile c.tiles.invariant c.in_default.not-Some in
+    let w = c.args.window.now in
+    let o = c.args.owners.now in
+    let due = 6 * o.waiting + debt o.blocks.entries in
+    let p = c.rows.owners in
+    let all = rows-end w _ (noting-gap g.said w o.blocks.entries due c.args.visits.now p.blocks.entries p.pending p.waiting c.rows.visits) p.blocks.entries c.rows.invariant.kept.marking.frame c.rows.number
+    c.rows.invariant (omega arith) in
     (all.more, let m = all.most in omega arith)

@@ -1,15 +1,13 @@
 -- What is counted of tiles, with one more behind them.
-use Rattle.std.proofs.Common.{◌≡◌, refl, sym, ap, ◌∙◌, ℕ, ◌+◌, ◌≤◌, ◌<◌, ◌^◌, List, [], ◌∷◌, ◌++◌, length, arith, IsTrue}
+use Rattle.std.proofs.Common.{◌≡◌, refl, sym, ap, ◌∙◌, ℕ, ◌+◌, ◌<◌, ◌^◌, List, [], ◌∷◌, ◌++◌, length, arith, IsTrue}
 use Rattle.std.specs.Prelude.{Option, Some, None, is_none, is_some}
 use Rattle.raw_region.specs.Memory.{Cut}
 use Rattle.block_tags.specs.declared.tile.Role.{Role}
 use Rattle.block_tags.specs.declared.tile.Tile.{Tile}
 use Rattle.block_tags.specs.Format.{is_legal_size}
-use Rattle.best_fit.specs.GapNodes.{gaps_of}
 use Rattle.image_check.specs.declared.counting.Counts.{Counts}
 use Rattle.image_check.specs.Counting.{AreCounted, last_used}
 use Rattle.image_check.specs.FreeLaws.{small_size}
-use Rattle.image_check.specs.Owners.{entries_of}
 use Rattle.image_check.proofs.Framed.{few-free}
 use Rattle.image_check.proofs.FreeTiles.{free-more, none-free}
 use Rattle.image_check.proofs.Gathered.{count-free, count-most, count-push, count-used}

@@ -1,15 +1,14 @@
 -- The free tiles of a window and the tree over places: when the one makes up the other.
-use Rattle.std.proofs.Common.{◌≡◌, refl, sym, ap, subst, ◌∙◌, ℕ, ◌+◌, ◌-◌, ◌*◌, ◌/◌, ◌%◌, ◌≤◌, inl, inr, Bool, true, false, not, ◌&&◌, List, [], ◌∷◌, ◌++◌, length, arith, ◌==◌, nat_le, IsTrue}
-use Rattle.std.specs.Prelude.{Option, Some, None, is_none, is_some}
+use Rattle.std.proofs.Common.{◌≡◌, refl, sym, ap, subst, ◌∙◌, ℕ, ◌+◌, ◌-◌, ◌*◌, ◌/◌, ◌%◌, ◌≤◌, inl, inr, true, false, not, ◌&&◌, List, [], ◌∷◌, ◌++◌, length, arith, ◌==◌, nat_le, IsTrue}
+use Rattle.std.specs.Prelude.{Option, Some, None, is_none}
 use Rattle.std.specs.List.{list_all}
-use Rattle.std.proofs.lemmas.Bool.{false≢true, true≢false, both_ways, cases_Bool, and_parts, and_from, or_cases, or_left, or_right, le-leb, eqb-true, eq-eqb, cond-true, cond-false, not-true}
+use Rattle.std.proofs.lemmas.Bool.{false≢true, both_ways, cases_Bool, and_parts, and_from, or_cases, or_left, or_right, le-leb, eqb-true, eq-eqb, cond-true, cond-false, not-true}
 use Rattle.raw_region.specs.Memory.{Memory, Cut, bytes_of, word_at}
 use Rattle.offset_link.specs.Link.{is_handle_place, link_at}
 use Rattle.offset_link.specs.Relinked.{is_bad}
 use Rattle.link_tree.specs.Tree.{Cell, Tree, IsTree, IsSearchTree, nodes_of, rises}
 use Rattle.link_tree.specs.Nodes.{is_in, leads}
 use Rattle.link_tree.proofs.Laws.{root_in, tree_same}
-use Rattle.block_tags.specs.declared.tile.Role.{Role}
 use Rattle.block_tags.specs.declared.tile.Tile.{Tile}
 use Rattle.raw_region.specs.Format.{current}
 use Rattle.block_tags.specs.Format.{is_legal_size}
@@ -23,10 +22,10 @@ use Rattle.best_fit.specs.GapLaws.{comes}
 use Rattle.best_fit.proofs.Laws.{Apart, NodeAt, all_gaps, free-unused, gaps_of-free, gaps_of-used, holds_closed, in_sorted, legal_size, length-sorted, is_merged-Apart, node_from, node_len, sorted-rises, unused, use_cases, used}
 use Rattle.image_check.specs.EarlyTests.{free_payloads, has_free_tree}
 use Rattle.image_check.specs.FreeNodes.{has_good_links, is_place, is_planted, len_at, place_cells, stands_before}
-use Rattle.image_check.specs.FreeLaws.{before_irreflexive, before_transitive, is_place-from, small_size}
-use Rattle.image_check.proofs.Framed.{few-free, free-payloads, tree-passes, tree-said}
+use Rattle.image_check.specs.FreeLaws.{before_irreflexive, before_transitive, is_place-from}
+use Rattle.image_check.proofs.Framed.{free-payloads, tree-passes, tree-said}
 use Rattle.image_check.proofs.FreePlaces.{all-of, good-placed, rises-same}
-use Rattle.image_check.proofs.WalkedTiles.{WalksAt, at-lies, at-meets, walk-few}
+use Rattle.image_check.proofs.WalkedTiles.{WalksAt, at-lies, at-meets}
 
 -- ---- a tile's payload is a place
 

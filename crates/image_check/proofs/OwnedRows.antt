@@ -13,8 +13,7 @@ use Rattle.best_fit.specs.Table.{same_role}
 use Rattle.best_fit.proofs.Laws.{Row}
 use Rattle.image_check.specs.declared.owners.Block.{Block}
 use Rattle.image_check.specs.declared.owners.Owner.{Owner}
-use Rattle.image_check.specs.ObjectTests.{is_use, payload, tile_of}
-use Rattle.image_check.specs.Fields.{needs_owner}
+use Rattle.image_check.specs.ObjectTests.{is_use, payload}
 use Rattle.image_check.specs.Orphans.{AreOwned, LacksOwner, is_owned}
 use Rattle.image_check.specs.Owners.{AreBlocks, Blocks, block_at, entries_of, frame_of, frames, has_owner, new_block, owner_at, owner_in}
 use Rattle.image_check.specs.Passes.{HasTiles, tiles_in}

@@ -1,6 +1,6 @@
 -- A walk over the rows of the map of blocks, that keeps something of the tiles before them: a row is the next tile in use.
 use Rattle.std.proofs.Common.{◌≡◌, refl, sym, ap, subst, ◌∙◌, ℕ, zero, suc, ◌+◌, ◌≤◌, List, [], ◌∷◌, ◌++◌, length, arith}
-use Rattle.std.specs.Prelude.{Option, Some, None, is_some, option_to_list, slice_get}
+use Rattle.std.specs.Prelude.{Option, Some, None, is_some, slice_get}
 use Rattle.std.specs.List.{cons_option}
 use Rattle.std.proofs.lemmas.List.{append-nil, length-map}
 use Rattle.raw_region.specs.Memory.{Cut}

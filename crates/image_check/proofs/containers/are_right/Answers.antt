@@ -1,12 +1,11 @@
 -- Each turn of the walk passes one tile in use.
-use Rattle.std.proofs.Common.{◌≡◌, ◌+◌, ◌∙◌, sym, ap, arith, length}
+use Rattle.std.proofs.Common.{◌≡◌, ◌∙◌, sym, arith}
 use Rattle.raw_region.specs.Memory.{bytes_of}
-use Rattle.image_check.specs.Containers.{has_container}
 use Rattle.image_check.specs.Owners.{frame_of}
 use Rattle.image_check.specs.Passes.{tiles_in}
 use Rattle.image_check.proofs.ContainerWalks.{IsHere, IsPaid, is-here, lies-same, paid-end, paid-gap, paid-more, paid-start, paid-stop, pays-same, ready-same, right-fails, test-same}
 use Rattle.image_check.proofs.CountedFields.{Mem-Contains}
-use Rattle.image_check.proofs.RowWalks.{RowAt, recoloured, row-at, rows-end, rows-on, rows-start}
+use Rattle.image_check.proofs.RowWalks.{RowAt, row-at, rows-end, rows-on, rows-start}
 use Rattle.image_check.proofs.WalkedTiles.{tags-IsTiled}
 use Rattle.image_check.proofs.containers.are_right.Goals as goal
 use Rattle.image_check.proofs.containers.are_right.Goals.{After-tile_of-tile}

@@ -1,4 +1,4 @@
-use Rattle.std.proofs.Common.{sym, ◌∙◌, length, arith}
+use Rattle.std.proofs.Common.{sym, ◌∙◌, arith}
 use Rattle.image_check.proofs.OwnedRows.{rows-AreOwned, rows-more}
 use Rattle.image_check.proofs.orphans.are_owned.Goals as goal
 

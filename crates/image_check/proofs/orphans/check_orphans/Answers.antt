@@ -1,4 +1,4 @@
-use Rattle.std.proofs.Common.{refl, ◌∙◌, length, arith}
+use Rattle.std.proofs.Common.{refl, ◌∙◌, arith}
 use Rattle.image_check.proofs.Owned.{owned-in}
 use Rattle.image_check.proofs.OwnedRows.{row-lacks, rows-owned, rows-weigh}
 use Rattle.image_check.proofs.orphans.check_orphans.Goals as goal

@@ -1,5 +1,5 @@
 -- Each turn of the walk passes one tile in use.
-use Rattle.std.proofs.Common.{◌≡◌, ◌+◌, ◌*◌, ◌-◌, ◌≤◌, ◌<◌, ◌∙◌, sym, ap, arith, length}
+use Rattle.std.proofs.Common.{◌≡◌, ◌+◌, ◌*◌, ◌≤◌, ◌∙◌, sym, arith}
 use Rattle.raw_region.specs.Memory.{bytes_of}
 use Rattle.image_check.specs.Owners.{IsSharedIn, debt, frame_of}
 use Rattle.image_check.specs.Sharing.{IsTileGrown, IsValueReady, object_cost}

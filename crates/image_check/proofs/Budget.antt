@@ -136,7 +136,8 @@ weigh-five (t ∷ ts) =
 times-le : (a b n : ℕ) → a ≤ b → a * n ≤ b * n
 times-le a b n l = mul-le-mul_right n l
 
-weigh-less : (r s : Rates) → ((u : Option Role) → rate_of r u ≤ rate_of s u) → (ts : List Tile) → weigh r ts ≤ weigh s ts
+weigh-less : (r s : Rates) → ((u : Option Role) → rate_of r u ≤ rate_of s u) → (ts : List Tile)
+    → weigh r ts ≤ weigh s ts
 weigh-less r s less [] = omega arith
 weigh-less r s less (t ∷ ts) =
     let here = times-le (rate_of r t.use_of) (rate_of s t.use_of) (t.len / 16) (less t.use_of) in
@@ -214,7 +215,8 @@ spend-less b r s m n old new x =
     (x.0, less-paid old new m n (weigh r ts) (weigh s ts) (weigh (both r s) ts) x.1 (weigh-both r s ts))
 
 -- lower rates spend less than higher ones
-pub spend-within : (b : List ℕ) (r s : Rates) (m old new : ℕ) → ((u : Option Role) → rate_of r u ≤ rate_of s u) → Spends r m b old new → Spends s m b old new
+pub spend-within : (b : List ℕ) (r s : Rates) (m old new : ℕ) → ((u : Option Role) → rate_of r u ≤ rate_of s u)
+    → Spends r m b old new → Spends s m b old new
 spend-within b r s m old new less x =
     let weight = weigh-less r s less (tiles_in b) in
     let high = x.1 in
@@ -250,7 +252,8 @@ check-short c root old steps new h good most e =
 pub tree-steps : (c : Cut) (old stepped : ℕ) → Spends step_rates 50 c.bytes old stepped → Spends tree_rates 50 c.bytes old stepped
 tree-steps c old stepped x = spend-less c.bytes step_rates planting_rates 50 0 old stepped x
 
-pub tree-planted : (c : Cut) (old stepped planted : ℕ) → Spends step_rates 50 c.bytes old stepped → Spends planting_rates 0 c.bytes stepped planted → Spends tree_rates 50 c.bytes old planted
+pub tree-planted : (c : Cut) (old stepped planted : ℕ) → Spends step_rates 50 c.bytes old stepped
+    → Spends planting_rates 0 c.bytes stepped planted → Spends tree_rates 50 c.bytes old planted
 tree-planted c old stepped planted x y = spend-both c.bytes step_rates planting_rates 50 0 old stepped planted x y
 
 -- the tags, and in place of the tree a walk over the tiles
@@ -266,7 +269,8 @@ steps-none b old = (omega arith, omega arith)
 
 pub treeless-spend : (c : Cut) (old tagged new : ℕ) → Spends tag_rates 1 c.bytes old tagged → Spends tag_rates 0 c.bytes tagged new → Spends frame_rates 51 c.bytes old new
 treeless-spend c old tagged new x y = spend-both c.bytes tag_rates tree_rates 1 50 old tagged new x
-    (tree-planted c tagged tagged new (steps-none c.bytes tagged) (spend-within c.bytes tag_rates planting_rates 0 tagged new planted-more y))
+    (tree-planted c tagged tagged new (steps-none c.bytes tagged) (spend-within c.bytes tag_rates planting_rates 0
+    tagged new planted-more y))
 
 -- ---- the whole
 

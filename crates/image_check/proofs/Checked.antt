@@ -74,7 +74,8 @@ checked-frame format w h e =
 
 -- where format 0 is read, the last parts of the frame are looked at together
 module _ (w : Cut) (h : HasFront 0 w) (r : has_reserved w.bytes ≡ true) where
-  pub treeless-finds : {A : Type 0} (k : Result A ImageClass) → FindsWithoutTree w.bytes k → MatchResult k (λ done. IsTrue (has_frame 0 w.bytes)) (λ class. class_of 0 w.bytes ≡ Some class)
+  pub treeless-finds : {A : Type 0} (k : Result A ImageClass) → FindsWithoutTree w.bytes k
+      → MatchResult k (λ done. IsTrue (has_frame 0 w.bytes)) (λ class. class_of 0 w.bytes ≡ Some class)
   treeless-finds (Ok u) f = checked-frame 0 w (record { front = h; reserved = r; tags = f.tags }) f.no_tree
   treeless-finds (Err k) (inl f) = checked-tags 0 w h r f.1 ∙ ap (λ (x : ImageClass). Some x) (sym f.0)
   treeless-finds (Err k) (inr f) = checked-tree 0 w (record { front = h; reserved = r; tags = f.1 }) f.2 ∙ ap (λ (x : ImageClass). Some x) (sym f.0)

@@ -105,9 +105,11 @@ is-here c Kept here h a =
 
 -- ---- what was paid
 
-free-passes : (format : ℕ) (m : Memory) (ts : List Tile) (t : Tile) → t.use_of ≡ None → has_container format m ts t ≡ true
+free-passes : (format : ℕ) (m : Memory) (ts : List Tile) (t : Tile) → t.use_of ≡ None
+    → has_container format m ts t ≡ true
 free-passes format m ts t e =
-    cond-false (is_use Object t) (elim (kind_at format m (payload t)) [ None ↦ true | Some k ↦ is_container m ts (k, value_offset m (payload t)) ]) true
+    cond-false (is_use Object t) (elim (kind_at format m (payload t))
+    [ None ↦ true | Some k ↦ is_container m ts (k, value_offset m (payload t)) ]) true
     (ap (λ (u : Option Role). elim u [ None ↦ false | Some r ↦ same_role Object r ]) e)
 
 -- where tiles end that begin at an offset
@@ -175,7 +177,8 @@ module _ (format : ℕ) (c : Cut) (es : Blocks) (old now new : ℕ) (here : Tile
 pub paid-gap : (format : ℕ) (c : Cut) (es : Blocks) (old now : ℕ) → PassesGaps c (IsPaid format c es old now)
 paid-gap format c es old now g u a =
     let more = below-more g.offset (g.offset + g.len) es (omega arith) in
-    paid-more format c es old now now g a (omega arith, omega arith) (free-passes format (bytes_of c.bytes) (tiles_in c.bytes) g u)
+    paid-more format c es old now now g a (omega arith, omega arith)
+    (free-passes format (bytes_of c.bytes) (tiles_in c.bytes) g u)
 
 -- ---- a tile but for its colour
 
@@ -188,7 +191,8 @@ module _ (t u : Tile) (e : t.offset ≡ u.offset) (f : t.len ≡ u.len) (g : t.u
       let high = l.high in
       record { low = omega arith; whole = omega arith; long = omega arith; high = omega arith }
 
-  pub ready-same : (format : ℕ) (m : Memory) (ts : List Tile) (es : Blocks) → IsReady format m ts es t → IsReady format m ts es u
+  pub ready-same : (format : ℕ) (m : Memory) (ts : List Tile) (es : Blocks) → IsReady format m ts es t
+      → IsReady format m ts es u
   ready-same format m ts es k =
       let x = subst (IsReady format m ts es) (recoloured t u e f g) k in
       record { object = x.object; noted = x.noted }

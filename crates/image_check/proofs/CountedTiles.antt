@@ -13,13 +13,15 @@ use Rattle.image_check.proofs.FreeTiles.{free-more, none-free}
 use Rattle.image_check.proofs.Gathered.{count-free, count-most, count-push, count-used}
 use Rattle.image_check.proofs.WalkedTiles.{WalksAt, walk-few}
 
-last-push : (at : ℕ) (ts : List Tile) (here : Tile) → last_used at (ts ++ here ∷ []) ≡ elim here.use_of [ None ↦ last_used at ts | Some role ↦ here.offset ]
+last-push : (at : ℕ) (ts : List Tile) (here : Tile)
+    → last_used at (ts ++ here ∷ []) ≡ elim here.use_of [ None ↦ last_used at ts | Some role ↦ here.offset ]
 last-push at [] here = refl
 last-push at (t ∷ ts) here = last-push (elim t.use_of [ None ↦ at | Some role ↦ t.offset ]) ts here
 
 module _ (ts : List Tile) (old new : Counts) (here : Tile) (k : AreCounted ts old) where
   -- a free one
-  pub counted-free : here.use_of ≡ None → new.free ≡ old.free + 1 → new.used ≡ old.used → new.end ≡ old.end → AreCounted (ts ++ here ∷ []) new
+  pub counted-free : here.use_of ≡ None → new.free ≡ old.free + 1 → new.used ≡ old.used → new.end ≡ old.end
+      → AreCounted (ts ++ here ∷ []) new
   counted-free e f u l =
       let more = free-more ts here (ap is_none e) in
       let push = count-push ts here in
@@ -29,11 +31,13 @@ module _ (ts : List Tile) (old new : Counts) (here : Tile) (k : AreCounted ts ol
       record {
         free = omega arith;
         used = omega arith;
-        end = l ∙ k.end ∙ sym (last-push 0 ts here ∙ ap (λ (o : Option Role). elim o [ None ↦ last_used 0 ts | Some role ↦ here.offset ]) e);
+        end = l ∙ k.end ∙ sym (last-push 0 ts here
+            ∙ ap (λ (o : Option Role). elim o [ None ↦ last_used 0 ts | Some role ↦ here.offset ]) e);
       }
 
   -- one in use
-  pub counted-used : (role : Role) → here.use_of ≡ Some role → new.free ≡ old.free → new.used ≡ old.used + 1 → new.end ≡ here.offset → AreCounted (ts ++ here ∷ []) new
+  pub counted-used : (role : Role) → here.use_of ≡ Some role → new.free ≡ old.free → new.used ≡ old.used + 1
+      → new.end ≡ here.offset → AreCounted (ts ++ here ∷ []) new
   counted-used role e f u l =
       let same = none-free ts here (ap is_none e) in
       let push = count-push ts here in
@@ -43,11 +47,13 @@ module _ (ts : List Tile) (old new : Counts) (here : Tile) (k : AreCounted ts ol
       record {
         free = omega arith;
         used = omega arith;
-        end = l ∙ sym (last-push 0 ts here ∙ ap (λ (o : Option Role). elim o [ None ↦ last_used 0 ts | Some role ↦ here.offset ]) e);
+        end = l ∙ sym (last-push 0 ts here
+            ∙ ap (λ (o : Option Role). elim o [ None ↦ last_used 0 ts | Some role ↦ here.offset ]) e);
       }
 
 -- so the counts stay small
-pub counted-few : (c : Cut) (Kept : List Tile → Type 0) (here : Tile) (counts : Counts) → IsTrue (is_legal_size (length c.bytes)) → (a : WalksAt c Kept here)
+pub counted-few : (c : Cut) (Kept : List Tile → Type 0) (here : Tile) (counts : Counts)
+    → IsTrue (is_legal_size (length c.bytes)) → (a : WalksAt c Kept here)
     → AreCounted a.front counts → (counts.free < 2 ^ 63) × (counts.used < 2 ^ 63)
 counted-few c Kept here counts legal a k =
     let few = walk-few c Kept here a in

@@ -95,7 +95,8 @@ wrong_class = refl
 -- a number, a free tile and storage: one tile is free, two are in use, and the last of these stands behind the free one
 abbrev three : List Tile
 three =
-    record { offset = 128; len = 48; use_of = Some ObjectRole; red = false } ∷ record { offset = 176; len = 32; use_of = None; red = true }
+    record { offset = 128; len = 48; use_of = Some ObjectRole; red = false } ∷ record
+    { offset = 176; len = 32; use_of = None; red = true }
     ∷ record { offset = 208; len = 64; use_of = Some Storage; red = false } ∷ []
 
 three_counted : AreCounted three (record { free = 1; used = 2; end = 208 })

@@ -25,9 +25,11 @@ unfolding places
 in_places zero i l = absurd (omega arith)
 in_places (suc k) i l = by_test (cases_lt i k) (in_places k i)
   where
-    by_test : (i < k) ⊎ (k ≤ i) → (i < k → is_in (144 + 16 * i) (places k) ≡ true) → is_in (144 + 16 * i) (places (suc k)) ≡ true
+    by_test : (i < k) ⊎ (k ≤ i) → (i < k → is_in (144 + 16 * i) (places k) ≡ true)
+        → is_in (144 + 16 * i) (places (suc k)) ≡ true
     by_test (inl h) rest = or_right (144 + 16 * i == 144 + 16 * k) (is_in (144 + 16 * i) (places k)) (rest h)
-    by_test (inr h) rest = or_left (144 + 16 * i == 144 + 16 * k) (is_in (144 + 16 * i) (places k)) (eq-eqb (144 + 16 * i) (144 + 16 * k) (omega arith))
+    by_test (inr h) rest = or_left (144 + 16 * i == 144 + 16 * k) (is_in (144 + 16 * i) (places k))
+        (eq-eqb (144 + 16 * i) (144 + 16 * k) (omega arith))
 
 -- those of a window
 abbrev all_places : Cut → List ℕ
@@ -44,7 +46,8 @@ listed c n h =
     subst (λ k. is_in k (all_places c) ≡ true) e (in_places (length c.bytes / 16 - 10) (n / 16 - 9) (omega arith))
 
 -- the nodes of a tree are places
-nodes-places : (c : Cut) (t : Tree) → Holds (place_cells c) t → leads (is_place c) (root_of t) ≡ true → (m : ℕ) → is_in m (nodes_of t) ≡ true → is_place c m ≡ true
+nodes-places : (c : Cut) (t : Tree) → Holds (place_cells c) t → leads (is_place c) (root_of t) ≡ true → (m : ℕ)
+    → is_in m (nodes_of t) ≡ true → is_place c m ≡ true
 nodes-places c leaf h r m i = absurd (false≢true i)
 nodes-places c (fork red left n right) h r m i =
     let below = λ (o : Option ℕ). leads (is_place c) o ≡ true in
@@ -58,7 +61,8 @@ nodes-places c (fork red left n right) h r m i =
       ]
     ]
 
-pub nodes-few : (c : Cut) (root : Option ℕ) (t : Tree) → IsTrue (is_legal_size (length c.bytes)) → leads (is_place c) root ≡ true
+pub nodes-few : (c : Cut) (root : Option ℕ) (t : Tree) → IsTrue (is_legal_size (length c.bytes))
+    → leads (is_place c) root ≡ true
     → IsSearchTree (stands_before (bytes_of c.bytes)) (place_cells c) root t → length (nodes_of t) < 2 ^ 26 - 1
 nodes-few c root t legal good s =
     let m = bytes_of c.bytes in

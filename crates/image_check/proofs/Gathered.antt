@@ -373,6 +373,7 @@ each-two (Some Node) len h = omega arith
 
 pub gathering-weigh : (b : List ℕ) → HasTiles b → 2 * length (tiles_in b) ≤ weigh gathering_rates (tiles_in b)
 gathering-weigh b h =
-    let l = costs-weigh gathering_rates (λ t. 2) 128 (tiles_in b) (length b - 16) (has_tags-AreWholeTiles current (bytes_of b) (length b) h.tags).row (λ t k. each-two t.use_of t.len k) in
+    let l = costs-weigh gathering_rates (λ t. 2) 128 (tiles_in b) (length b - 16)
+    (has_tags-AreWholeTiles current (bytes_of b) (length b) h.tags).row (λ t k. each-two t.use_of t.len k) in
     let e = costs-each 2 (tiles_in b) in
     omega arith

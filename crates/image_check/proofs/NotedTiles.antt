@@ -149,16 +149,21 @@ module _ (t u : Tile) (e : t.offset ≡ u.offset) (f : t.len ≡ u.len) (g : t.u
   pub cost-same : object_cost t ≡ object_cost u
   cost-same = ap object_cost (recoloured t u e f g)
 
-  pub grown-same : (format : ℕ) (b : List ℕ) (old : Blocks) (waited : ℕ) (es : Blocks) (pending : Option ℕ) (waiting : ℕ) → IsTileGrown format b t old waited es pending waiting → IsTileGrown format b u old waited es pending waiting
+  pub grown-same : (format : ℕ) (b : List ℕ) (old : Blocks) (waited : ℕ) (es : Blocks) (pending : Option ℕ)
+      (waiting : ℕ) → IsTileGrown format b t old waited es pending waiting
+      → IsTileGrown format b u old waited es pending waiting
   grown-same format b old waited es pending waiting d =
       let black : Tile = record { offset = u.offset; len = u.len; use_of = u.use_of; red = t.red } in
       let x = subst (λ (y : Tile). IsTileGrown format b y old waited es pending waiting) (recoloured t u e f g) d in
       record {
-        grown = grown-in format b (IsPlaceOf format (bytes_of b) (tiles_in b) black) (IsPlaceOf format (bytes_of b) (tiles_in b) u) old waited es pending waiting place x.grown;
+        grown = grown-in format b (IsPlaceOf format (bytes_of b) (tiles_in b) black)
+            (IsPlaceOf format (bytes_of b) (tiles_in b) u) old waited es pending waiting place x.grown;
         noted = x.noted;
       }
     where
-      place : (p : ℕ) → IsPlaceOf format (bytes_of b) (tiles_in b) (record { offset = u.offset; len = u.len; use_of = u.use_of; red = t.red }) p → IsPlaceOf format (bytes_of b) (tiles_in b) u p
+      place : (p : ℕ) → IsPlaceOf format (bytes_of b) (tiles_in b)
+          (record { offset = u.offset; len = u.len; use_of = u.use_of; red = t.red }) p
+          → IsPlaceOf format (bytes_of b) (tiles_in b) u p
       place p (inl l) = inl (record { kind = l.kind; object = l.object; is = l.is; link = l.link; place = l.place })
       place p (inr s) = inr s
 
@@ -194,7 +199,8 @@ noting-start format b es pending waiting seen k f = record {
 }
 
 -- a free tile is passed over
-pub noting-gap : (format : ℕ) (c : Cut) (old : Blocks) (owed seen : ℕ) (es : Blocks) (pending : Option ℕ) (waiting visits : ℕ) → PassesGaps c (Noting format c.bytes old owed seen es pending waiting visits)
+pub noting-gap : (format : ℕ) (c : Cut) (old : Blocks) (owed seen : ℕ) (es : Blocks) (pending : Option ℕ)
+    (waiting visits : ℕ) → PassesGaps c (Noting format c.bytes old owed seen es pending waiting visits)
 noting-gap format c old owed seen es pending waiting visits g u a =
     let push = weigh-push value_rates a.front g in
     let most = a.kept.most in
@@ -301,7 +307,11 @@ module _ (format : ℕ) (c : Cut) (here : Tile) (h : HasTiles c.bytes) (good : h
         record {
           marking = d.grown.marking;
           keeps = λ n o e. d.grown.keeps n o (a.kept.keeps n o e);
-          passed = λ n o e. elim (d.grown.only n o e) [ inl f ↦ still-passed (tiles_in b) a.front here o.at (a.kept.passed n o f) | inr f ↦ place-passed o.at f ];
+          passed = λ n o e. elim (d.grown.only n o e) [
+            | inl f ↦ still-passed (tiles_in b) a.front here o.at
+                (a.kept.passed n o f)
+            | inr f ↦ place-passed o.at f
+          ];
           noted = noted-here;
           more = omega arith;
           most = omega arith;

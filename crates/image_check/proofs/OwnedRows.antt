@@ -27,18 +27,22 @@ use Rattle.image_check.proofs.Tags.{has_tags-AreWholeTiles}
 
 -- by the use of a tile and what is noted at its payload
 abbrev tested : Option Role → Option Owner → Bool
-tested u o = not (elim u [ None ↦ false | Some r ↦ same_role Index r ] || elim u [ None ↦ false | Some r ↦ same_role Storage r ] || elim u [ None ↦ false | Some r ↦ same_role Node r ]) || is_some o
+tested u o = not (elim u [ None ↦ false | Some r ↦ same_role Index r ] || elim u
+    [ None ↦ false | Some r ↦ same_role Storage r ] || elim u [ None ↦ false | Some r ↦ same_role Node r ]) || is_some o
 
 -- a block that has what it needs is one of a tile that does, and the other way round
-same-test : (role : Role) (o : Option Owner) → tested (Some role) (cond (same_role role Object) None o) ≡ (same_role role Object || is_some o)
+same-test : (role : Role) (o : Option Owner) → tested (Some role) (cond (same_role role Object) None o) ≡
+    (same_role role Object || is_some o)
 same-test Object o = refl
 same-test Index o = refl
 same-test Storage o = refl
 same-test Node o = refl
 
-tile-tests : (es : Blocks) (t : Tile) (b : Block) → t.use_of ≡ Some b.role → block_at es (payload t) ≡ Some b → has_owner es t ≡ is_owned b
+tile-tests : (es : Blocks) (t : Tile) (b : Block) → t.use_of ≡ Some b.role → block_at es (payload t) ≡ Some b
+    → has_owner es t ≡ is_owned b
 tile-tests es t b e f =
-    ap (λ (u : Option Role). tested u (owner_at es (payload t))) e ∙ ap (λ (x : Option Block). tested (Some b.role) (owner_in x)) f ∙ same-test b.role b.owner
+    ap (λ (u : Option Role). tested u (owner_at es (payload t))) e
+    ∙ ap (λ (x : Option Block). tested (Some b.role) (owner_in x)) f ∙ same-test b.role b.owner
 
 free-tests : (es : Blocks) (t : Tile) → t.use_of ≡ None → has_owner es t ≡ true
 free-tests es t e = ap (λ (u : Option Role). tested u (owner_at es (payload t))) e
@@ -56,7 +60,8 @@ module _ (at end : ℕ) (ts : List Tile) (row : Row at ts end) (es : Blocks) (bl
       by : (u : Option Role) → t.use_of ≡ u → has_owner es t ≡ true
       by None e = free-tests es t e
       by (Some role) e =
-          let used : IsTrue (is_use role t) = ap (λ (o : Option Role). elim o [ None ↦ false | Some r ↦ same_role role r ]) e ∙ same_role-refl role in
+          let used : IsTrue (is_use role t) = ap
+          (λ (o : Option Role). elim o [ None ↦ false | Some r ↦ same_role role r ]) e ∙ same_role-refl role in
           let w = blocks.blocks (payload t) role t (tile_found at ts end t role row h used) in
           tile-tests es t w.block (e ∙ ap (λ (r : Role). Some r) (sym w.role_is)) w.is ∙ all (payload t) w.block w.is
 
@@ -69,7 +74,8 @@ module _ (at end : ℕ) (ts : List Tile) (row : Row at ts end) (es : Blocks) (bl
       let k = find_mem (λ (u : Tile). is_use l.block.role u && (u.offset + 16 == l.at)) w.tile ts w.is in
       let p = and_parts (is_use l.block.role w.tile) (w.tile.offset + 16 == l.at) k.is in
       let there = eqb-true (w.tile.offset + 16) l.at p.1 in
-      let lacks = tile-tests es w.tile l.block (use-of w.tile.use_of l.block.role p.0) (ap (block_at es) there ∙ l.is) ∙ l.lacks in
+      let lacks = tile-tests es w.tile l.block (use-of w.tile.use_of l.block.role p.0) (ap (block_at es) there ∙ l.is)
+      ∙ l.lacks in
       elim (cases_Bool (list_all (has_owner es) ts)) [
         | inl e ↦ absurd (both_ways (has_owner es w.tile) lacks (list_all_mem (has_owner es) ts w.tile e k.mem))
         | inr e ↦ e
@@ -92,11 +98,13 @@ module _ (b : List ℕ) (es : Blocks) (h : HasTiles b) (f : frames es ≡ frames
 
 -- ---- what the rows passed say
 
-pub rows-AreOwned : (es : Blocks) → ((i : ℕ) (x : ℕ × Block) → i < length es → slice_get es i ≡ Some x → is_owned x.1 ≡ true) → AreOwned es
+pub rows-AreOwned : (es : Blocks) → ((i : ℕ) (x : ℕ × Block) → i < length es → slice_get es i ≡ Some x
+    → is_owned x.1 ≡ true) → AreOwned es
 rows-AreOwned [] h n b e = absurd (cc)
 rows-AreOwned (x ∷ es) h n b e = by (nat_eq n x.0) e (rows-AreOwned es (λ i y l k. h (suc i) y (omega arith) k) n b)
   where
-    by : (p : Bool) → cond p (Some x.1) (block_at es n) ≡ Some b → (block_at es n ≡ Some b → is_owned b ≡ true) → is_owned b ≡ true
+    by : (p : Bool) → cond p (Some x.1) (block_at es n) ≡ Some b → (block_at es n ≡ Some b → is_owned b ≡ true)
+        → is_owned b ≡ true
     by true g rest = let same : x.1 ≡ b = cc in subst (λ (y : Block). is_owned y ≡ true) same (h 0 x (omega arith) refl)
     by false g rest = rest g
 
@@ -104,11 +112,14 @@ before-or-last : (i n : ℕ) → i < n + 1 → (i < n) ⊎ (i ≡ n)
 before-or-last zero zero l = inr refl
 before-or-last zero (suc n) l = inl (omega arith)
 before-or-last (suc i) zero l = absurd (omega arith)
-before-or-last (suc i) (suc n) l = ⊎_elim (λ k. inl (omega (arith, k))) (λ k. inr (omega (arith, k))) (before-or-last i n (omega arith))
+before-or-last (suc i) (suc n) l = ⊎_elim (λ k. inl (omega (arith, k))) (λ k. inr (omega (arith, k)))
+    (before-or-last i n (omega arith))
 
 -- a row more
-pub rows-more : (es : Blocks) (n : ℕ) (here : ℕ × Block) → ((i : ℕ) (x : ℕ × Block) → i < n → slice_get es i ≡ Some x → is_owned x.1 ≡ true)
-    → slice_get es n ≡ Some here → is_owned here.1 ≡ true → (i : ℕ) (x : ℕ × Block) → i < n + 1 → slice_get es i ≡ Some x → is_owned x.1 ≡ true
+pub rows-more : (es : Blocks) (n : ℕ) (here : ℕ × Block) → ((i : ℕ) (x : ℕ × Block) → i < n → slice_get es i ≡ Some x
+    → is_owned x.1 ≡ true)
+    → slice_get es n ≡ Some here → is_owned here.1 ≡ true → (i : ℕ) (x : ℕ × Block) → i < n + 1
+    → slice_get es i ≡ Some x → is_owned x.1 ≡ true
 rows-more es n here h row owned i x l g =
     ⊎_elim (λ k. h i x k g) (λ k. last (sym row ∙ ap (slice_get es) (sym k) ∙ g)) (before-or-last i n l)
   where
@@ -118,7 +129,8 @@ rows-more es n here h row owned i x l g =
 -- ---- visits
 
 used-few : (offset len : ℕ) (u : Option Role) (es : Blocks) (n : ℕ) → 32 ≤ len → length es ≤ n
-    → length (cons_option (elim u [ None ↦ None | Some role ↦ Some (offset + 16, new_block role len) ]) es) ≤ rate_of orphan_rates u * (len / 16) + n
+    → length (cons_option (elim u [ None ↦ None | Some role ↦ Some (offset + 16, new_block role len) ]) es) ≤ rate_of
+    orphan_rates u * (len / 16) + n
 used-few offset len None es n long l = omega arith
 used-few offset len (Some Object) es n long l = omega arith
 used-few offset len (Some Index) es n long l = omega arith
@@ -127,10 +139,14 @@ used-few offset len (Some Node) es n long l = omega arith
 
 entries-few : (at : ℕ) (ts : List Tile) (end : ℕ) → Row at ts end → length (entries_of ts) ≤ weigh orphan_rates ts
 entries-few at [] end a = omega arith
-entries-few at (t ∷ ts) end a = used-few t.offset t.len t.use_of (entries_of ts) (weigh orphan_rates ts) a.1 (entries-few (at + t.len) ts end a.3)
+entries-few at (t ∷ ts) end a = used-few t.offset t.len t.use_of (entries_of ts) (weigh orphan_rates ts) a.1
+    (entries-few (at + t.len) ts end a.3)
 
-pub rows-weigh : (b : List ℕ) (es : Blocks) → HasTiles b → frames es ≡ frames (entries_of (tiles_in b)) → length es ≤ weigh orphan_rates (tiles_in b)
+pub rows-weigh : (b : List ℕ) (es : Blocks) → HasTiles b → frames es ≡ frames (entries_of (tiles_in b))
+    → length es ≤ weigh orphan_rates (tiles_in b)
 rows-weigh b es h f =
-    let few = entries-few 128 (tiles_in b) (length b - 16) (has_tags-AreWholeTiles current (bytes_of b) (length b) h.tags).row in
-    let same = sym (length-map es frame_of) ∙ ap (λ (xs : List (ℕ × Role × ℕ)). length xs) f ∙ length-map (entries_of (tiles_in b)) frame_of in
+    let few = entries-few 128 (tiles_in b) (length b - 16) (has_tags-AreWholeTiles current (bytes_of b) (length b)
+    h.tags).row in
+    let same = sym (length-map es frame_of) ∙ ap (λ (xs : List (ℕ × Role × ℕ)). length xs) f
+    ∙ length-map (entries_of (tiles_in b)) frame_of in
     omega arith

@@ -1,4 +1,4 @@
--- A walk over the rows of the map of blocks, that keeps something of the tiles before them: a row is the next tile in use.
+-- A walk over the rows of the map of blocks, that keeps something of the tiles passed: a row is the next tile in use.
 use Rattle.std.proofs.Common.{◌≡◌, refl, sym, ap, subst, ◌∙◌, ℕ, zero, suc, ◌+◌, ◌≤◌, List, [], ◌∷◌, ◌++◌, length, arith}
 use Rattle.std.specs.Prelude.{Option, Some, None, is_some, slice_get}
 use Rattle.std.specs.List.{cons_option}
@@ -40,7 +40,8 @@ pub rows-start : (c : Cut) (Kept : List Tile → Type 0) → IsTiled c → Kept 
 rows-start c Kept tiled kept = record { front = []; rest = tiled.tiles; said = tiled.said; count = refl; kept = kept }
 
 -- a tile that is as long as another, of the same use and at the same place, is that tile but for its colour
-pub recoloured : (t u : Tile) → t.offset ≡ u.offset → t.len ≡ u.len → t.use_of ≡ u.use_of → t ≡ record { offset = u.offset; len = u.len; use_of = u.use_of; red = t.red }
+pub recoloured : (t u : Tile) → t.offset ≡ u.offset → t.len ≡ u.len → t.use_of ≡ u.use_of
+    → t ≡ record { offset = u.offset; len = u.len; use_of = u.use_of; red = t.red }
 recoloured t u e f g = λ i. record { offset = e i; len = f i; use_of = g i; red = t.red }
 
 -- ---- the entries of tiles
@@ -52,59 +53,75 @@ free-behind : (t : Tile) (ts : List Tile) → t.use_of ≡ None → entries_of (
 unfolding entry-by
 free-behind t ts e = ap (λ (u : Option Role). cons_option (entry-by t.offset t.len u) (entries_of ts)) e
 
-used-behind : (t : Tile) (ts : List Tile) (role : Role) → t.use_of ≡ Some role → entries_of (t ∷ ts) ≡ (t.offset + 16, new_block role t.len) ∷ entries_of ts
+used-behind : (t : Tile) (ts : List Tile) (role : Role) → t.use_of ≡ Some role
+    → entries_of (t ∷ ts) ≡ (t.offset + 16, new_block role t.len) ∷ entries_of ts
 unfolding entry-by
 used-behind t ts role e = ap (λ (u : Option Role). cons_option (entry-by t.offset t.len u) (entries_of ts)) e
 
-still-free : (front : List Tile) (t : Tile) → t.use_of ≡ None → length (entries_of (front ++ t ∷ [])) ≡ length (entries_of front)
+still-free : (front : List Tile) (t : Tile) → t.use_of ≡ None
+    → length (entries_of (front ++ t ∷ [])) ≡ length (entries_of front)
 still-free front t e =
     let push = count-push front t in
     let none = count-free t (ap is_some e) in
     omega arith
 
-skip : (front rest : List Tile) → slice_get (frames (entries_of (front ++ rest))) (length (entries_of front)) ≡ slice_get (frames (entries_of rest)) 0
+skip : (front rest : List Tile) → slice_get (frames (entries_of (front ++ rest))) (length (entries_of front)) ≡
+    slice_get (frames (entries_of rest)) 0
 skip [] rest = refl
 skip (t ∷ front) rest = by (entry_of t) (skip front rest)
   where
-    by : (o : Option (ℕ × Block)) → slice_get (frames (entries_of (front ++ rest))) (length (entries_of front)) ≡ slice_get (frames (entries_of rest)) 0
-        → slice_get (frames (cons_option o (entries_of (front ++ rest)))) (length (cons_option o (entries_of front))) ≡ slice_get (frames (entries_of rest)) 0
+    by : (o : Option (ℕ × Block)) → slice_get (frames (entries_of (front ++ rest))) (length (entries_of front)) ≡
+        slice_get (frames (entries_of rest)) 0
+        → slice_get (frames (cons_option o (entries_of (front ++ rest)))) (length (cons_option o (entries_of front))) ≡
+        slice_get (frames (entries_of rest)) 0
     by None h = h
     by (Some e) h = h
 
-entries-both : (front rest : List Tile) → length (entries_of (front ++ rest)) ≡ length (entries_of front) + length (entries_of rest)
+entries-both : (front rest : List Tile) → length (entries_of (front ++ rest)) ≡ length (entries_of front) + length
+    (entries_of rest)
 entries-both [] rest = omega arith
 entries-both (t ∷ front) rest = by (entry_of t) (entries-both front rest)
   where
-    by : (o : Option (ℕ × Block)) → length (entries_of (front ++ rest)) ≡ length (entries_of front) + length (entries_of rest)
-        → length (cons_option o (entries_of (front ++ rest))) ≡ length (cons_option o (entries_of front)) + length (entries_of rest)
+    by : (o : Option (ℕ × Block)) → length (entries_of (front ++ rest)) ≡ length (entries_of front) + length
+        (entries_of rest)
+        → length (cons_option o (entries_of (front ++ rest))) ≡ length (cons_option o (entries_of front)) + length
+        (entries_of rest)
     by None h = h
     by (Some e) h = omega arith
 
-frame-there : (es : Blocks) (i : ℕ) (x : ℕ × Block) → slice_get es i ≡ Some x → slice_get (frames es) i ≡ Some (frame_of x)
+frame-there : (es : Blocks) (i : ℕ) (x : ℕ × Block) → slice_get es i ≡ Some x
+    → slice_get (frames es) i ≡ Some (frame_of x)
 frame-there [] i x e = absurd (cc)
 frame-there (y ∷ es) zero x e = let same : y ≡ x = cc in ap (λ (z : ℕ × Block). Some (frame_of z)) same
 frame-there (y ∷ es) (suc i) x e = frame-there es i x e
 
 -- there are as many rows as tiles in use
-pub few-rows : (b : List ℕ) (es : Blocks) → frames es ≡ frames (entries_of (tiles_in b)) → length es ≡ length (entries_of (tiles_in b))
-few-rows b es f = sym (length-map es frame_of) ∙ ap (λ (xs : List (ℕ × Role × ℕ)). length xs) f ∙ length-map (entries_of (tiles_in b)) frame_of
+pub few-rows : (b : List ℕ) (es : Blocks) → frames es ≡ frames (entries_of (tiles_in b))
+    → length es ≡ length (entries_of (tiles_in b))
+few-rows b es f = sym (length-map es frame_of) ∙ ap (λ (xs : List (ℕ × Role × ℕ)). length xs) f
+    ∙ length-map (entries_of (tiles_in b)) frame_of
 
 module _ (c : Cut) (Kept : List Tile → Type 0) (gaps : PassesGaps c Kept) where
   -- the next tile in use is that of the row
-  next-row : (number : ℕ) (frame : ℕ × Role × ℕ) (front rest : List Tile) → SaysTiles c (front ++ rest) → length (entries_of front) ≡ number → Kept front
+  next-row : (number : ℕ) (frame : ℕ × Role × ℕ) (front rest : List Tile) → SaysTiles c (front ++ rest)
+      → length (entries_of front) ≡ number → Kept front
       → slice_get (frames (entries_of rest)) 0 ≡ Some frame → RowAt c Kept number frame
   next-row number frame front [] said count kept e = absurd (cc)
-  next-row number frame front (t ∷ rest) said count kept e = by t.use_of refl (next-row number frame (front ++ t ∷ []) rest (passed_on c front t rest said))
+  next-row number frame front (t ∷ rest) said count kept e = by t.use_of refl
+      (next-row number frame (front ++ t ∷ []) rest (passed_on c front t rest said))
     where
       at : WalksAt c Kept t
       at = record { front = front; back = rest; said = said; kept = kept }
 
       by : (u : Option Role) → t.use_of ≡ u
-          → (length (entries_of (front ++ t ∷ [])) ≡ number → Kept (front ++ t ∷ []) → slice_get (frames (entries_of rest)) 0 ≡ Some frame → RowAt c Kept number frame)
+          → (length (entries_of (front ++ t ∷ [])) ≡ number → Kept (front ++ t ∷ [])
+          → slice_get (frames (entries_of rest)) 0 ≡ Some frame → RowAt c Kept number frame)
           → RowAt c Kept number frame
-      by None u go = go (still-free front t u ∙ count) (gaps t u at) (sym (ap (λ (es : Blocks). slice_get (frames es) 0) (free-behind t rest u)) ∙ e)
+      by None u go = go (still-free front t u ∙ count) (gaps t u at)
+          (sym (ap (λ (es : Blocks). slice_get (frames es) 0) (free-behind t rest u)) ∙ e)
       by (Some role) u go =
-          let is : Some (t.offset + 16, role, t.len) ≡ Some frame = sym (ap (λ (es : Blocks). slice_get (frames es) 0) (used-behind t rest role u)) ∙ e in
+          let is : Some (t.offset + 16, role, t.len) ≡ Some frame = sym
+          (ap (λ (es : Blocks). slice_get (frames es) 0) (used-behind t rest role u)) ∙ e in
           let same : (t.offset + 16, role, t.len) ≡ frame = cc in
           record {
             here = t;
@@ -116,16 +133,22 @@ module _ (c : Cut) (Kept : List Tile → Type 0) (gaps : PassesGaps c Kept) wher
           }
 
   -- behind the last row all tiles are free
-  pass-all : (front rest : List Tile) → SaysTiles c (front ++ rest) → Kept front → length (entries_of rest) ≡ 0 → Kept (tiles_in c.bytes)
+  pass-all : (front rest : List Tile) → SaysTiles c (front ++ rest) → Kept front → length (entries_of rest) ≡ 0
+      → Kept (tiles_in c.bytes)
   pass-all front [] said kept none = subst Kept (sym (tiles_are_read_off c (front ++ []) said ∙ append-nil front)) kept
-  pass-all front (t ∷ rest) said kept none = by t.use_of refl (pass-all (front ++ t ∷ []) rest (passed_on c front t rest said))
+  pass-all front (t ∷ rest) said kept none = by t.use_of refl
+      (pass-all (front ++ t ∷ []) rest (passed_on c front t rest said))
     where
-      by : (u : Option Role) → t.use_of ≡ u → (Kept (front ++ t ∷ []) → length (entries_of rest) ≡ 0 → Kept (tiles_in c.bytes)) → Kept (tiles_in c.bytes)
+      by : (u : Option Role) → t.use_of ≡ u → (Kept (front ++ t ∷ []) → length (entries_of rest) ≡ 0
+          → Kept (tiles_in c.bytes)) → Kept (tiles_in c.bytes)
       by None u go =
-          go (gaps t u (record { front = front; back = rest; said = said; kept = kept })) (sym (ap (λ (es : Blocks). length es) (free-behind t rest u)) ∙ none)
-      by (Some role) u go = let some = ap (λ (es : Blocks). length es) (used-behind t rest role u) in absurd (omega arith)
+          go (gaps t u (record { front = front; back = rest; said = said; kept = kept }))
+          (sym (ap (λ (es : Blocks). length es) (free-behind t rest u)) ∙ none)
+      by (Some role) u go = let some = ap (λ (es : Blocks). length es) (used-behind t rest role u) in absurd
+          (omega arith)
 
-  module _ (es : Blocks) (f : frames es ≡ frames (entries_of (tiles_in c.bytes))) (number : ℕ) (w : RowWalks c Kept number) where
+  module _ (es : Blocks) (f : frames es ≡ frames (entries_of (tiles_in c.bytes))) (number : ℕ)
+      (w : RowWalks c Kept number) where
     tiles-all : tiles_in c.bytes ≡ w.front ++ w.rest
     tiles-all = tiles_are_read_off c (w.front ++ w.rest) w.said
 
@@ -133,7 +156,8 @@ module _ (c : Cut) (Kept : List Tile → Type 0) (gaps : PassesGaps c Kept) wher
     row-at x e =
         next-row number (frame_of x) w.front w.rest w.said w.count w.kept
         (sym (skip w.front w.rest) ∙ ap (slice_get (frames (entries_of (w.front ++ w.rest)))) w.count
-        ∙ sym (ap (λ (ts : List Tile). slice_get (frames (entries_of ts)) number) tiles-all) ∙ sym (ap (λ (fs : List (ℕ × Role × ℕ)). slice_get fs number) f) ∙ frame-there es number x e)
+        ∙ sym (ap (λ (ts : List Tile). slice_get (frames (entries_of ts)) number) tiles-all)
+        ∙ sym (ap (λ (fs : List (ℕ × Role × ℕ)). slice_get fs number) f) ∙ frame-there es number x e)
 
     pub rows-end : length es ≤ number → Kept (tiles_in c.bytes)
     rows-end l =
@@ -144,7 +168,8 @@ module _ (c : Cut) (Kept : List Tile → Type 0) (gaps : PassesGaps c Kept) wher
         pass-all w.front w.rest w.said w.kept (omega arith)
 
 -- the walk goes on, with what is kept of these very tiles
-pub rows-on : (c : Cut) (Kept Kept' : List Tile → Type 0) (number : ℕ) (frame : ℕ × Role × ℕ) → (r : RowAt c Kept number frame) → Kept' (r.at.front ++ r.here ∷ []) → RowWalks c Kept' (number + 1)
+pub rows-on : (c : Cut) (Kept Kept' : List Tile → Type 0) (number : ℕ) (frame : ℕ × Role × ℕ)
+    → (r : RowAt c Kept number frame) → Kept' (r.at.front ++ r.here ∷ []) → RowWalks c Kept' (number + 1)
 rows-on c Kept Kept' number frame r kept = record {
   front = r.at.front ++ r.here ∷ [];
   rest = r.at.back;

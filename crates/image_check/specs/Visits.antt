@@ -36,7 +36,7 @@ both r s = record { free = r.free + s.free; object = r.object + s.object; index 
 abbrev pub tag_rates : Rates
 tag_rates = record { free = 1; object = 1; index = 1; storage = 1; node = 1 }
 
--- a search of the tree of at most 2^26 - 2 gaps goes to no more than 52 nodes
+-- a search of a tree of at most 2^26 - 2 nodes goes to no more than 52 of them
 abbrev pub planting_visits : Option Role → ℕ
 planting_visits None = 53
 planting_visits (Some role) = 0

@@ -86,15 +86,16 @@ fn check_counted(
     Ok(())
 }
 
-/// The count of the tiles, where the reserved bytes, the tags and the free tree of a window whose first words are right are
-/// right too.
+/// The count of the tiles of a window whose first words are right, where its reserved bytes, tags and free tree are right
+/// too.
 ///
 /// # Errors
 ///
 /// The first of `BadReserved`, `BadTag` and `BadFreeTree` that holds.
 fn check_frame(format: u64, window: &ImageWindow, visits: &mut Visits) -> Result<Counts, ImageClass>
     requires { HasFront format window.now }
-    ensures finds { MatchResult result (λ counts. IsTrue (has_frame format window.now.bytes)) (λ class. class_of format window.now.bytes ≡ Some class) }
+    ensures finds { MatchResult result (λ counts. IsTrue (has_frame format window.now.bytes))
+        (λ class. class_of format window.now.bytes ≡ Some class) }
     ensures counted { IfOk result (AreCounted (tiles_in window.now.bytes)) }
     ensures bytes { OnOk result (IsTrue (are_bytes window.now.bytes)) }
     ensures visits { OnOk result (Spends frame_rates 51 window.now.bytes visits.old visits.new) }

@@ -20,9 +20,11 @@ use block_tags::Role;
 ///
 /// `OrphanBlock` where none leads to one.
 pub(crate) fn check_orphans(owners: &Owners, visits: &mut Visits) -> Result<(), ImageClass>
-    ensures finds { (format : ℕ) (image : List ℕ) → HasTiles image → IsWholeMarkingOf format image owners.now.blocks.entries owners.now.waiting
+    ensures finds { (format : ℕ) (image : List ℕ) → HasTiles image
+        → IsWholeMarkingOf format image owners.now.blocks.entries owners.now.waiting
         → Finds OrphanBlock (not (is_orphaned format (bytes_of image) (tiles_in image))) result }
-    ensures visits { (image : List ℕ) → HasTiles image → frames owners.now.blocks.entries ≡ frames (entries_of (tiles_in image))
+    ensures visits { (image : List ℕ) → HasTiles image
+        → frames owners.now.blocks.entries ≡ frames (entries_of (tiles_in image))
         → Spends orphan_rates 2 image visits.old visits.new }
 {
     if are_owned(&owners.blocks, visits) {

@@ -66,7 +66,9 @@ returns-in-Err-check_containers-clause-visits c =
 pub returns-clause-finds : goal.returns-clause-finds
 returns-clause-finds c =
     late-orphans c.args.format c.args.window.now.bytes c.in_default.ensures.finds c.in_default-check_objects.ensures.finds c.in_default-check_sharing.ensures.finds
-    c.in_default-check_containers.ensures.class c.check_orphans.result (c.check_orphans.ensures.finds c.args.format c.args.window.now.bytes c.requires.tiles c.in_default-check_sharing.ensures.whole)
+    c.in_default-check_containers.ensures.class c.check_orphans.result
+    (c.check_orphans.ensures.finds c.args.format c.args.window.now.bytes c.requires.tiles
+    c.in_default-check_sharing.ensures.whole)
 
 pub returns-clause-visits : goal.returns-clause-visits
 returns-clause-visits c =

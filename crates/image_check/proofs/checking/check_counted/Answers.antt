@@ -5,7 +5,11 @@ use Rattle.image_check.proofs.Checked.{no-memory-used, blocks-class, blocks-imag
 use Rattle.image_check.proofs.checking.check_counted.Goals as goal
 
 pub gather-requires : goal.gather-requires
-gather-requires c = record { tiles = frame-tiles c.args.format c.args.window.now.bytes c.in-Ok.ensures.finds; counted = c.in-Ok.ensures.counted }
+gather-requires c = record {
+  tiles = frame-tiles c.args.format c.args.window.now.bytes c.in-Ok.ensures.finds;
+  counted =
+      c.in-Ok.ensures.counted;
+}
 
 pub returns-in-Err-gather-clause-answers : goal.returns-in-Err-gather-clause-answers
 returns-in-Err-gather-clause-answers c = (
@@ -23,17 +27,21 @@ pub check_blocks-requires-clause-tiles : goal.check_blocks-requires-clause-tiles
 check_blocks-requires-clause-tiles c = frame-tiles c.args.format c.args.window.now.bytes c.in-Ok.ensures.finds
 
 pub returns-in-Err-check_blocks-clause-answers : goal.returns-in-Err-check_blocks-clause-answers
-returns-in-Err-check_blocks-clause-answers c = blocks-class c.args.format c.args.window.now.bytes c.in-Err-check_blocks.class c.in-Ok.ensures.finds c.in-Err-check_blocks.ensures.finds
+returns-in-Err-check_blocks-clause-answers c = blocks-class c.args.format c.args.window.now.bytes
+    c.in-Err-check_blocks.class c.in-Ok.ensures.finds c.in-Err-check_blocks.ensures.finds
 
 pub returns-in-Err-check_blocks-clause-visits : goal.returns-in-Err-check_blocks-clause-visits
 returns-in-Err-check_blocks-clause-visits c =
-    blocks-raised c.args.window.now _ _ _ (frame-tiles c.args.format c.args.window.now.bytes c.in-Ok.ensures.finds) c.in-Ok.ensures.visits c.in-Ok-gather.ensures.visits
+    blocks-raised c.args.window.now _ _ _ (frame-tiles c.args.format c.args.window.now.bytes c.in-Ok.ensures.finds)
+    c.in-Ok.ensures.visits c.in-Ok-gather.ensures.visits
     _ c.in-Err-check_blocks.ensures.visits
 
 pub returns-clause-answers : goal.returns-clause-answers
-returns-clause-answers c = blocks-image c.args.format c.args.window.now.bytes c.requires.format c.in-Ok.ensures.bytes c.in-Ok.ensures.finds c.in_default.ensures.finds
+returns-clause-answers c = blocks-image c.args.format c.args.window.now.bytes c.requires.format c.in-Ok.ensures.bytes
+    c.in-Ok.ensures.finds c.in_default.ensures.finds
 
 pub returns-clause-visits : goal.returns-clause-visits
 returns-clause-visits c =
-    blocks-raised c.args.window.now _ _ _ (frame-tiles c.args.format c.args.window.now.bytes c.in-Ok.ensures.finds) c.in-Ok.ensures.visits c.in-Ok-gather.ensures.visits
+    blocks-raised c.args.window.now _ _ _ (frame-tiles c.args.format c.args.window.now.bytes c.in-Ok.ensures.finds)
+    c.in-Ok.ensures.visits c.in-Ok-gather.ensures.visits
     _ c.in_default.ensures.visits

@@ -42,7 +42,8 @@ returns-in_default-clause-finds c =
     let h =
     later-checked c.args.format w some c.requires (sym c.has_reserved.ensures ∙ c.if-not-has_reserved.false)
     (sym c.check_counted-tags.ensures.good ∙ not-false c.check_counted-tags.result.are_good c.if-not-tags.false) in
-    checked-tree c.args.format w h (later-free_tree c.args.format (bytes_of w.bytes) (tiles_in w.bytes) some ∙ sym c.check_free_tree.ensures.value ∙ nothing c.check_free_tree.result c.in_default.not-Some)
+    checked-tree c.args.format w h (later-free_tree c.args.format (bytes_of w.bytes) (tiles_in w.bytes) some
+    ∙ sym c.check_free_tree.ensures.value ∙ nothing c.check_free_tree.result c.in_default.not-Some)
 
 pub returns-in_default-clause-most : goal.returns-in_default-clause-most
 returns-in_default-clause-most c =
@@ -53,7 +54,9 @@ returns-in_default-clause-most c =
     (sym c.check_counted-tags.ensures.good ∙ not-false c.check_counted-tags.result.are_good c.if-not-tags.false) in
     let tiles = checked-tiles c.args.format w h in
     frame-raised w _ _ tiles
-    (spend-both w.bytes tag_rates tree_rates 1 50 _ _ _ (tags-spend w _ c.check_counted-tags.result.tags c.check_counted-tags.new.visits tiles c.check_counted-tags.ensures.few c.check_counted-tags.ensures.visits) c.check_free_tree.ensures.visits)
+    (spend-both w.bytes tag_rates tree_rates 1 50 _ _ _ (tags-spend w _ c.check_counted-tags.result.tags
+    c.check_counted-tags.new.visits tiles c.check_counted-tags.ensures.few c.check_counted-tags.ensures.visits)
+    c.check_free_tree.ensures.visits)
 
 pub returns-clause-finds : goal.returns-clause-finds
 returns-clause-finds c =
@@ -62,7 +65,8 @@ returns-clause-finds c =
     let h =
     later-checked c.args.format w some c.requires (sym c.has_reserved.ensures ∙ c.if-not-has_reserved.false)
     (sym c.check_counted-tags.ensures.good ∙ not-false c.check_counted-tags.result.are_good c.if-not-tags.false) in
-    checked-frame c.args.format w h (later-free_tree c.args.format (bytes_of w.bytes) (tiles_in w.bytes) some ∙ sym c.check_free_tree.ensures.value ∙ ap is_some c.in-Some.is)
+    checked-frame c.args.format w h (later-free_tree c.args.format (bytes_of w.bytes) (tiles_in w.bytes) some
+    ∙ sym c.check_free_tree.ensures.value ∙ ap is_some c.in-Some.is)
 
 pub returns-clause-counted : goal.returns-clause-counted
 returns-clause-counted c = c.in-Some.ensures.counted
@@ -77,7 +81,9 @@ returns-clause-visits c =
     let h =
     later-checked c.args.format w some c.requires (sym c.has_reserved.ensures ∙ c.if-not-has_reserved.false)
     (sym c.check_counted-tags.ensures.good ∙ not-false c.check_counted-tags.result.are_good c.if-not-tags.false) in
-    spend-both w.bytes tag_rates tree_rates 1 50 _ _ _ (tags-spend w _ c.check_counted-tags.result.tags c.check_counted-tags.new.visits (checked-tiles c.args.format w h) c.check_counted-tags.ensures.few c.check_counted-tags.ensures.visits) c.check_free_tree.ensures.visits
+    spend-both w.bytes tag_rates tree_rates 1 50 _ _ _ (tags-spend w _ c.check_counted-tags.result.tags
+    c.check_counted-tags.new.visits (checked-tiles c.args.format w h) c.check_counted-tags.ensures.few
+    c.check_counted-tags.ensures.visits) c.check_free_tree.ensures.visits
 
 -- ---- format 0
 
@@ -105,7 +111,8 @@ returns-then-format-eq0-clause-finds c =
     let w = c.args.window.now in
     let b = w.bytes in
     let k = c.check_without_tree.result in
-    subst (λ (f : ℕ). MatchResult k (λ counts. IsTrue (has_frame f b)) (λ class. class_of f b ≡ Some class)) (sym c.if-format-eq0.true)
+    subst (λ (f : ℕ). MatchResult k (λ counts. IsTrue (has_frame f b)) (λ class. class_of f b ≡ Some class))
+    (sym c.if-format-eq0.true)
     (treeless-finds w (subst (λ (f : ℕ). HasFront f w) c.if-format-eq0.true c.requires)
     (sym c.has_reserved.ensures ∙ c.if-not-has_reserved.false) k c.check_without_tree.ensures.finds)
 

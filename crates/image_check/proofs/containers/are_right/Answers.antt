@@ -10,10 +10,14 @@ use Rattle.image_check.proofs.WalkedTiles.{tags-IsTiled}
 use Rattle.image_check.proofs.containers.are_right.Goals as goal
 use Rattle.image_check.proofs.containers.are_right.Goals.{After-tile_of-tile}
 
-row : (c : After-tile_of-tile) → RowAt c.args.window.now (IsPaid c.args.format c.args.window.now c.args.blocks.now.entries c.args.visits.now c.rows.visits) c.rows.number (frame_of c.row-payload.result)
+row : (c : After-tile_of-tile) → RowAt c.args.window.now
+    (IsPaid c.args.format c.args.window.now c.args.blocks.now.entries c.args.visits.now c.rows.visits) c.rows.number
+    (frame_of c.row-payload.result)
 row c =
     let w = c.args.window.now in
-    row-at w _ (paid-gap c.args.format w c.args.blocks.now.entries c.args.visits.now c.rows.visits) c.args.blocks.now.entries c.requires.rows c.rows.number c.rows.invariant c.row-payload.result c.row-payload.ensures.row
+    row-at w _ (paid-gap c.args.format w c.args.blocks.now.entries c.args.visits.now c.rows.visits)
+    c.args.blocks.now.entries c.requires.rows c.rows.number c.rows.invariant c.row-payload.result
+    c.row-payload.ensures.row
 
 here : (c : After-tile_of-tile) → IsHere c.args.window.now (row c).here
 here c = is-here c.args.window.now _ (row c).here c.requires.tiles (row c).at
@@ -32,13 +36,16 @@ pub rows-init : goal.rows-init
 rows-init c =
     let w = c.args.window.now in
     let old = c.args.visits.now in
-    rows-start w (IsPaid c.args.format w c.args.blocks.now.entries old old) (tags-IsTiled w c.requires.tiles.size c.requires.tiles.tags) (paid-start c.args.format w c.args.blocks.now.entries old)
+    rows-start w (IsPaid c.args.format w c.args.blocks.now.entries old old)
+    (tags-IsTiled w c.requires.tiles.size c.requires.tiles.tags)
+    (paid-start c.args.format w c.args.blocks.now.entries old)
 
 pub tile_of-tile-requires : goal.tile_of-tile-requires
 tile_of-tile-requires c =
     let w = c.args.window.now in
     let es = c.args.blocks.now.entries in
-    let r = row-at w _ (paid-gap c.args.format w es c.args.visits.now c.rows.visits) es c.requires.rows c.rows.number c.rows.invariant c.row-payload.result c.row-payload.ensures.row in
+    let r = row-at w _ (paid-gap c.args.format w es c.args.visits.now c.rows.visits) es c.requires.rows c.rows.number
+    c.rows.invariant c.row-payload.result c.row-payload.ensures.row in
     let at = r.place in
     omega arith
 
@@ -51,7 +58,8 @@ pub is_right_tile-requires-clause-ready : goal.is_right_tile-requires-clause-rea
 is_right_tile-requires-clause-ready c =
     let k = (goal.at.is_right_tile-requires-clause-ready c).After-tile_of-tile in
     let b = c.args.window.now.bytes in
-    ready-same (row k).here c.tile_of-tile.result (sym (place k)) (sym (len k)) (sym (used k)) c.args.format (bytes_of b) (tiles_in b) c.args.blocks.now.entries
+    ready-same (row k).here c.tile_of-tile.result (sym (place k)) (sym (len k)) (sym (used k)) c.args.format
+    (bytes_of b) (tiles_in b) c.args.blocks.now.entries
     (c.requires.ready (row k).here (Mem-Contains (tiles_in b) (row k).here (here k).mem))
 
 pub returns-then-not-is_right_tile-clause-value : goal.returns-then-not-is_right_tile-clause-value
@@ -60,25 +68,32 @@ returns-then-not-is_right_tile-clause-value c =
     let w = c.args.window.now in
     let r = row k in
     let t = c.tile_of-tile.result in
-    let paid = pays-same t r.here (place k) (len k) (used k) _ _ _ (c.is_right_tile.ensures.visits c.rows.visits c.row-payload.ensures.visits) in
-    let wrong = test-same r.here t (sym (place k)) (sym (len k)) (sym (used k)) c.args.format (bytes_of w.bytes) (tiles_in w.bytes) ∙ sym c.is_right_tile.ensures.value ∙ c.if-not-is_right_tile.true in
-    sym (right-fails c.args.format w c.args.blocks.now.entries c.args.visits.now c.rows.visits c.is_right_tile.new.visits r.here r.at paid wrong)
+    let paid = pays-same t r.here (place k) (len k) (used k) _ _ _
+    (c.is_right_tile.ensures.visits c.rows.visits c.row-payload.ensures.visits) in
+    let wrong = test-same r.here t (sym (place k)) (sym (len k)) (sym (used k)) c.args.format (bytes_of w.bytes)
+    (tiles_in w.bytes) ∙ sym c.is_right_tile.ensures.value ∙ c.if-not-is_right_tile.true in
+    sym (right-fails c.args.format w c.args.blocks.now.entries c.args.visits.now c.rows.visits
+    c.is_right_tile.new.visits r.here r.at paid wrong)
 
 pub returns-then-not-is_right_tile-clause-least : goal.returns-then-not-is_right_tile-clause-least
 returns-then-not-is_right_tile-clause-least c =
     let k = (goal.at.returns-then-not-is_right_tile-clause-least c).After-tile_of-tile in
     let w = c.args.window.now in
     let r = row k in
-    let paid = pays-same c.tile_of-tile.result r.here (place k) (len k) (used k) _ _ _ (c.is_right_tile.ensures.visits c.rows.visits c.row-payload.ensures.visits) in
-    (paid-stop c.args.format w c.args.blocks.now.entries c.args.visits.now c.rows.visits c.is_right_tile.new.visits r.here r.at paid).0
+    let paid = pays-same c.tile_of-tile.result r.here (place k) (len k) (used k) _ _ _
+    (c.is_right_tile.ensures.visits c.rows.visits c.row-payload.ensures.visits) in
+    (paid-stop c.args.format w c.args.blocks.now.entries c.args.visits.now c.rows.visits c.is_right_tile.new.visits
+    r.here r.at paid).0
 
 pub returns-then-not-is_right_tile-clause-most : goal.returns-then-not-is_right_tile-clause-most
 returns-then-not-is_right_tile-clause-most c =
     let k = (goal.at.returns-then-not-is_right_tile-clause-most c).After-tile_of-tile in
     let w = c.args.window.now in
     let r = row k in
-    let paid = pays-same c.tile_of-tile.result r.here (place k) (len k) (used k) _ _ _ (c.is_right_tile.ensures.visits c.rows.visits c.row-payload.ensures.visits) in
-    (paid-stop c.args.format w c.args.blocks.now.entries c.args.visits.now c.rows.visits c.is_right_tile.new.visits r.here r.at paid).1
+    let paid = pays-same c.tile_of-tile.result r.here (place k) (len k) (used k) _ _ _
+    (c.is_right_tile.ensures.visits c.rows.visits c.row-payload.ensures.visits) in
+    (paid-stop c.args.format w c.args.blocks.now.entries c.args.visits.now c.rows.visits c.is_right_tile.new.visits
+    r.here r.at paid).1
 
 pub rows-preserved : goal.rows-preserved
 rows-preserved c =
@@ -87,21 +102,26 @@ rows-preserved c =
     let es = c.args.blocks.now.entries in
     let r = row k in
     let t = c.tile_of-tile.result in
-    let paid = pays-same t r.here (place k) (len k) (used k) _ _ _ (c.is_right_tile.ensures.visits c.rows.visits c.row-payload.ensures.visits) in
-    let right = test-same r.here t (sym (place k)) (sym (len k)) (sym (used k)) c.args.format (bytes_of w.bytes) (tiles_in w.bytes) ∙ sym c.is_right_tile.ensures.value ∙ c.if-not-is_right_tile.false in
-    rows-on w _ (IsPaid c.args.format w es c.args.visits.now c.is_right_tile.new.visits) c.rows.number (frame_of c.row-payload.result) r
+    let paid = pays-same t r.here (place k) (len k) (used k) _ _ _
+    (c.is_right_tile.ensures.visits c.rows.visits c.row-payload.ensures.visits) in
+    let right = test-same r.here t (sym (place k)) (sym (len k)) (sym (used k)) c.args.format (bytes_of w.bytes)
+    (tiles_in w.bytes) ∙ sym c.is_right_tile.ensures.value ∙ c.if-not-is_right_tile.false in
+    rows-on w _ (IsPaid c.args.format w es c.args.visits.now c.is_right_tile.new.visits) c.rows.number
+    (frame_of c.row-payload.result) r
     (paid-more c.args.format w es c.args.visits.now c.rows.visits c.is_right_tile.new.visits r.here r.at paid right)
 
 pub returns-clause-value : goal.returns-clause-value
 returns-clause-value c =
     let w = c.args.window.now in
     let es = c.args.blocks.now.entries in
-    let all = rows-end w _ (paid-gap c.args.format w es c.args.visits.now c.rows.visits) es c.requires.rows c.rows.number c.rows.invariant (omega arith) in
+    let all = rows-end w _ (paid-gap c.args.format w es c.args.visits.now c.rows.visits) es c.requires.rows
+    c.rows.number c.rows.invariant (omega arith) in
     sym all.right
 
 pub returns-clause-most : goal.returns-clause-most
 returns-clause-most c =
     let w = c.args.window.now in
     let es = c.args.blocks.now.entries in
-    let all = rows-end w _ (paid-gap c.args.format w es c.args.visits.now c.rows.visits) es c.requires.rows c.rows.number c.rows.invariant (omega arith) in
+    let all = rows-end w _ (paid-gap c.args.format w es c.args.visits.now c.rows.visits) es c.requires.rows
+    c.rows.number c.rows.invariant (omega arith) in
     (paid-end c.args.format w es c.args.visits.now c.rows.visits all).1

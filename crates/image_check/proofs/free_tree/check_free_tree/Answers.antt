@@ -26,12 +26,14 @@ pub returns-in_default-clause-value : goal.returns-in_default-clause-value
 returns-in_default-clause-value c =
     let w = c.args.window.now in
     sym (tree-false w (λ t.
-    both_ways (is_bad (length w.bytes) (link_at (bytes_of w.bytes) 24)) (planted w (tagged w c.requires.size c.requires.tags) t).root (sym c.in_default.ensures.err)))
+    both_ways (is_bad (length w.bytes) (link_at (bytes_of w.bytes) 24))
+    (planted w (tagged w c.requires.size c.requires.tags) t).root (sym c.in_default.ensures.err)))
 
 pub check_places-tree-requires : goal.check_places-tree-requires
 check_places-tree-requires c =
     let w = c.args.window.now in
-    good-leads w c.in-Ok.root c.requires.size (ap (is_bad (length w.bytes)) c.in-Ok.ensures.ok ∙ sym c.in-Ok.ensures.err)
+    good-leads w c.in-Ok.root c.requires.size (ap (is_bad (length w.bytes)) c.in-Ok.ensures.ok
+    ∙ sym c.in-Ok.ensures.err)
 
 pub returns-in_default-nodes-clause-value : goal.returns-in_default-nodes-clause-value
 returns-in_default-nodes-clause-value c =
@@ -39,18 +41,22 @@ returns-in_default-nodes-clause-value c =
     let m = bytes_of w.bytes in
     sym (tree-false w (λ t.
     let p = planted w (tagged w c.requires.size c.requires.tags) t in
-    let s = subst (λ (o : Option ℕ). IsSearchTree (stands_before m) (place_cells w) o p.tree) (sym c.in-Ok.ensures.ok) p.search in
-    c.in_default-nodes.not-Some (length (nodes_of p.tree)) ((c.check_places-tree.ensures.counts (length (nodes_of p.tree))).1 (p.tree, s, refl))))
+    let s = subst (λ (o : Option ℕ). IsSearchTree (stands_before m) (place_cells w) o p.tree) (sym c.in-Ok.ensures.ok)
+    p.search in
+    c.in_default-nodes.not-Some (length (nodes_of p.tree))
+    ((c.check_places-tree.ensures.counts (length (nodes_of p.tree))).1 (p.tree, s, refl))))
 
 pub count_planted-requires-clause-root : goal.count_planted-requires-clause-root
 count_planted-requires-clause-root c =
     let w = c.args.window.now in
-    good-leads w c.in-Ok.root c.requires.size (ap (is_bad (length w.bytes)) c.in-Ok.ensures.ok ∙ sym c.in-Ok.ensures.err)
+    good-leads w c.in-Ok.root c.requires.size (ap (is_bad (length w.bytes)) c.in-Ok.ensures.ok
+    ∙ sym c.in-Ok.ensures.err)
 
 pub count_planted-requires-clause-tree : goal.count_planted-requires-clause-tree
 count_planted-requires-clause-tree c =
     let w = c.args.window.now in
-    let good = good-leads w c.in-Ok.root c.requires.size (ap (is_bad (length w.bytes)) c.in-Ok.ensures.ok ∙ sym c.in-Ok.ensures.err) in
+    let good = good-leads w c.in-Ok.root c.requires.size (ap (is_bad (length w.bytes)) c.in-Ok.ensures.ok
+    ∙ sym c.in-Ok.ensures.err) in
     let x = (c.check_places-tree.ensures.counts c.in-Some.nodes).0 c.in-Some.is in
     (x.0, x.1, nodes-few w c.in-Ok.root x.0 c.requires.size good x.1)
 
@@ -61,8 +67,10 @@ returns-in_default-count_planted-clause-value c =
     let m = bytes_of w.bytes in
     sym (tree-false w (λ t.
     let p = planted w (tagged w c.requires.size c.requires.tags) t in
-    let s = subst (λ (o : Option ℕ). IsSearchTree (stands_before m) (place_cells w) o p.tree) (sym c.in-Ok.ensures.ok) p.search in
-    some-none c.count_planted.result c.in_default-count_planted.not-Some (c.count_planted.ensures.value p.tree s ∙ p.all)))
+    let s = subst (λ (o : Option ℕ). IsSearchTree (stands_before m) (place_cells w) o p.tree) (sym c.in-Ok.ensures.ok)
+    p.search in
+    some-none c.count_planted.result c.in_default-count_planted.not-Some (c.count_planted.ensures.value p.tree s
+    ∙ p.all)))
 
 -- they are fewer than the nodes
 pub returns-then-counts-nodes-clause-value : goal.returns-then-counts-nodes-clause-value
@@ -71,8 +79,10 @@ returns-then-counts-nodes-clause-value c =
     let m = bytes_of w.bytes in
     sym (tree-false w (λ t.
     let p = planted w (tagged w c.requires.size c.requires.tags) t in
-    let s = subst (λ (o : Option ℕ). IsSearchTree (stands_before m) (place_cells w) o p.tree) (sym c.in-Ok.ensures.ok) p.search in
-    let n = some_same c.in-Some.nodes (length (nodes_of p.tree)) (sym c.in-Some.is ∙ (c.check_places-tree.ensures.counts (length (nodes_of p.tree))).1 (p.tree, s, refl)) in
+    let s = subst (λ (o : Option ℕ). IsSearchTree (stands_before m) (place_cells w) o p.tree) (sym c.in-Ok.ensures.ok)
+    p.search in
+    let n = some_same c.in-Some.nodes (length (nodes_of p.tree)) (sym c.in-Some.is
+    ∙ (c.check_places-tree.ensures.counts (length (nodes_of p.tree))).1 (p.tree, s, refl)) in
     c.if-counts-nodes.true (c.in-Some-count_planted.ensures.counted.free ∙ sym p.few ∙ sym n)))
 
 -- they are the nodes
@@ -83,40 +93,53 @@ returns-clause-value c =
     let g = tagged w c.requires.size c.requires.tags in
     let x = (c.check_places-tree.ensures.counts c.in-Some.nodes).0 c.in-Some.is in
     sym (tree-true w
-    (unplanted w x.0 g (subst (λ (o : Option ℕ). IsSearchTree (stands_before m) (place_cells w) o x.0) c.in-Ok.ensures.ok x.1)
+    (unplanted w x.0 g (subst (λ (o : Option ℕ). IsSearchTree (stands_before m) (place_cells w) o x.0)
+    c.in-Ok.ensures.ok x.1)
     (x.2 ∙ sym c.if-counts-nodes.false ∙ c.in-Some-count_planted.ensures.counted.free)
     (sym (c.count_planted.ensures.value x.0 x.1) ∙ ap is_some c.in-Some-count_planted.is)))
 
 pub returns-in_default-nodes-clause-visits : goal.returns-in_default-nodes-clause-visits
 returns-in_default-nodes-clause-visits c =
     let w = c.args.window.now in
-    let good = good-leads w c.in-Ok.root c.requires.size (ap (is_bad (length w.bytes)) c.in-Ok.ensures.ok ∙ sym c.in-Ok.ensures.err) in
-    let steps = check-short w c.in-Ok.root _ c.check_places-tree.result.steps c.check_places-tree.new.visits (record { size = c.requires.size; tags = c.requires.tags }) good c.check_places-tree.ensures.steps c.check_places-tree.ensures.visits in
+    let good = good-leads w c.in-Ok.root c.requires.size (ap (is_bad (length w.bytes)) c.in-Ok.ensures.ok
+    ∙ sym c.in-Ok.ensures.err) in
+    let steps = check-short w c.in-Ok.root _ c.check_places-tree.result.steps c.check_places-tree.new.visits
+    (record { size = c.requires.size; tags = c.requires.tags }) good c.check_places-tree.ensures.steps
+    c.check_places-tree.ensures.visits in
     tree-steps w _ c.check_places-tree.new.visits steps
 
 -- the search for the free tiles is counted too
-planted-spends : (w : Cut) (root : Option ℕ) (old steps stepped new : ℕ) → HasTiles w.bytes → leads (is_place w) root ≡ true
-    → ((ns : List ℕ) → IsClosed (place_cells w) ns → leads (λ n. is_in n ns) root ≡ true → steps ≤ 5 * length ns + 5) → stepped ≡ old + steps
+planted-spends : (w : Cut) (root : Option ℕ) (old steps stepped new : ℕ) → HasTiles w.bytes
+    → leads (is_place w) root ≡ true
+    → ((ns : List ℕ) → IsClosed (place_cells w) ns → leads (λ n. is_in n ns) root ≡ true → steps ≤ 5 * length ns + 5)
+    → stepped ≡ old + steps
     → Spends planting_rates 0 w.bytes stepped new → Spends tree_rates 50 w.bytes old new
-planted-spends w root old steps stepped new h good most e x = tree-planted w old stepped new (check-short w root old steps stepped h good most e) x
+planted-spends w root old steps stepped new h good most e x = tree-planted w old stepped new
+    (check-short w root old steps stepped h good most e) x
 
 pub returns-in_default-count_planted-clause-visits : goal.returns-in_default-count_planted-clause-visits
 returns-in_default-count_planted-clause-visits c =
     let w = c.args.window.now in
-    let good = good-leads w c.in-Ok.root c.requires.size (ap (is_bad (length w.bytes)) c.in-Ok.ensures.ok ∙ sym c.in-Ok.ensures.err) in
-    planted-spends w c.in-Ok.root _ c.check_places-tree.result.steps c.check_places-tree.new.visits _ (record { size = c.requires.size; tags = c.requires.tags }) good c.check_places-tree.ensures.steps
+    let good = good-leads w c.in-Ok.root c.requires.size (ap (is_bad (length w.bytes)) c.in-Ok.ensures.ok
+    ∙ sym c.in-Ok.ensures.err) in
+    planted-spends w c.in-Ok.root _ c.check_places-tree.result.steps c.check_places-tree.new.visits _
+    (record { size = c.requires.size; tags = c.requires.tags }) good c.check_places-tree.ensures.steps
     c.check_places-tree.ensures.visits c.count_planted.ensures.visits
 
 pub returns-then-counts-nodes-clause-visits : goal.returns-then-counts-nodes-clause-visits
 returns-then-counts-nodes-clause-visits c =
     let w = c.args.window.now in
-    let good = good-leads w c.in-Ok.root c.requires.size (ap (is_bad (length w.bytes)) c.in-Ok.ensures.ok ∙ sym c.in-Ok.ensures.err) in
-    planted-spends w c.in-Ok.root _ c.check_places-tree.result.steps c.check_places-tree.new.visits _ (record { size = c.requires.size; tags = c.requires.tags }) good c.check_places-tree.ensures.steps
+    let good = good-leads w c.in-Ok.root c.requires.size (ap (is_bad (length w.bytes)) c.in-Ok.ensures.ok
+    ∙ sym c.in-Ok.ensures.err) in
+    planted-spends w c.in-Ok.root _ c.check_places-tree.result.steps c.check_places-tree.new.visits _
+    (record { size = c.requires.size; tags = c.requires.tags }) good c.check_places-tree.ensures.steps
     c.check_places-tree.ensures.visits c.count_planted.ensures.visits
 
 pub returns-clause-visits : goal.returns-clause-visits
 returns-clause-visits c =
     let w = c.args.window.now in
-    let good = good-leads w c.in-Ok.root c.requires.size (ap (is_bad (length w.bytes)) c.in-Ok.ensures.ok ∙ sym c.in-Ok.ensures.err) in
-    planted-spends w c.in-Ok.root _ c.check_places-tree.result.steps c.check_places-tree.new.visits _ (record { size = c.requires.size; tags = c.requires.tags }) good c.check_places-tree.ensures.steps
+    let good = good-leads w c.in-Ok.root c.requires.size (ap (is_bad (length w.bytes)) c.in-Ok.ensures.ok
+    ∙ sym c.in-Ok.ensures.err) in
+    planted-spends w c.in-Ok.root _ c.check_places-tree.result.steps c.check_places-tree.new.visits _
+    (record { size = c.requires.size; tags = c.requires.tags }) good c.check_places-tree.ensures.steps
     c.check_places-tree.ensures.visits c.count_planted.ensures.visits

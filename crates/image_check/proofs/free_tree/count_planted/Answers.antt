@@ -22,7 +22,11 @@ tiles-init c =
     let tiled = tags-IsTiled w c.requires.size c.requires.tags in (
       λ t s. walk-start w (λ (ts : List Tile). list_all (is_planted w (nodes_of t)) ts ≡ true) c.first-tile.result tiled
           c.first-tile.ensures refl,
-      walk-start w _ c.first-tile.result tiled c.first-tile.ensures (c.new-counts.ensures, within-none planting_rates _),
+      walk-start w _ c.first-tile.result tiled c.first-tile.ensures (
+        c.new-counts.ensures,
+        within-none planting_rates
+            _,
+      ),
     )
 
 pub is_planted-requires-clause-place : goal.is_planted-requires-clause-place
@@ -61,13 +65,15 @@ returns-then-not-is_planted-clause-visits c =
 pub add-requires-clause-free : goal.add-requires-clause-free
 add-requires-clause-free c =
     let w = c.args.window.now in
-    let a = read-at w _ c.tiles.tile c.in-Some.unread c.read-here.result c.tiles.invariant.1 c.in-Some.is c.read-here.ensures.tile in
+    let a = read-at w _ c.tiles.tile c.in-Some.unread c.read-here.result c.tiles.invariant.1 c.in-Some.is
+    c.read-here.ensures.tile in
     (counted-few w _ c.read-here.result c.tiles.counts c.requires.size a a.kept.0).0
 
 pub add-requires-clause-used : goal.add-requires-clause-used
 add-requires-clause-used c =
     let w = c.args.window.now in
-    let a = read-at w _ c.tiles.tile c.in-Some.unread c.read-here.result c.tiles.invariant.1 c.in-Some.is c.read-here.ensures.tile in
+    let a = read-at w _ c.tiles.tile c.in-Some.unread c.read-here.result c.tiles.invariant.1 c.in-Some.is
+    c.read-here.ensures.tile in
     (counted-few w _ c.read-here.result c.tiles.counts c.requires.size a a.kept.0).1
 
 pub next-tile-requires : goal.next-tile-requires
@@ -96,7 +102,11 @@ tiles-preserved c =
           (c.tiles.invariant.0 t s) c.in-Some.is c.read-here.ensures.tile) c.next-tile.ensures
           (λ front k. all-more test front here k (sym (c.is_planted.ensures.value t s) ∙ c.if-not-is_planted.false)),
       walk-on w _ _ here c.next-tile.result a c.next-tile.ensures
-          (λ front k. (c.add.ensures front k.0, within-more planting_rates _ c.tiles.visits _ front here k.1 (omega arith) (omega arith))),
+          (λ front k. (
+            c.add.ensures front k.0,
+            within-more planting_rates _ c.tiles.visits _ front here k.1
+                (omega arith) (omega arith),
+          )),
     )
 
 pub returns-clause-value : goal.returns-clause-value

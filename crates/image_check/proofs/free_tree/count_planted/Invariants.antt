@@ -15,7 +15,8 @@ abbrev pub invariant-tiles : goal.invariant-tiles
 invariant-tiles l =
     ((t : Tree) → IsSearchTree (stands_before (bytes_of l.window.bytes)) (place_cells l.window) l.root t
     → Walks l.window (λ (ts : List Tile). list_all (is_planted l.window (nodes_of t)) ts ≡ true) l.tile)
-    × Walks l.window (λ (ts : List Tile). AreCounted ts l.counts × Within planting_rates l.initial.visits l.visits ts) l.tile
+    × Walks l.window (λ (ts : List Tile). AreCounted ts l.counts × Within planting_rates l.initial.visits l.visits ts)
+    l.tile
 
 abbrev pub decreases-tiles : goal.decreases-tiles
 decreases-tiles l = left_from l.window l.tile

@@ -28,37 +28,49 @@ Kept format w before visits ts = (list_all (is_right_tile format (bytes_of w.byt
 
 free-right : (format : ℕ) (m : Memory) (t : Tile) → t.use_of ≡ None → is_right_tile format m t ≡ true
 free-right format m t e =
-    cond-false (is_use Object t) (is_object_tile format m t) true (ap (λ (u : Option Role). elim u [ None ↦ false | Some r ↦ same_role Object r ]) e)
+    cond-false (is_use Object t) (is_object_tile format m t) true
+    (ap (λ (u : Option Role). elim u [ None ↦ false | Some r ↦ same_role Object r ]) e)
 
 gaps : (format : ℕ) (w : Cut) (before visits : ℕ) → PassesGaps w (Kept format w before visits)
 gaps format w before visits g u a =
     let more = weigh-more object_walk_rates a.front g in
-    let most = a.kept.2 in
-    (all-more (is_right_tile format (bytes_of w.bytes)) a.front g a.kept.0 (free-right format (bytes_of w.bytes) g u), a.kept.1, omega arith)
+    let most = a.kept.2 in (
+      all-more (is_right_tile format (bytes_of w.bytes)) a.front g a.kept.0 (free-right format (bytes_of w.bytes) g u),
+      a.kept.1,
+      omega arith,
+    )
 
 -- a test and a cost of a tile are those of one that is as long, and of the same use, at the same place
-right-same : (format : ℕ) (m : Memory) (t u : Tile) → t.offset ≡ u.offset → t.len ≡ u.len → t.use_of ≡ u.use_of → is_right_tile format m t ≡ is_right_tile format m u
+right-same : (format : ℕ) (m : Memory) (t u : Tile) → t.offset ≡ u.offset → t.len ≡ u.len → t.use_of ≡ u.use_of
+    → is_right_tile format m t ≡ is_right_tile format m u
 right-same format m t u e f g = ap (is_right_tile format m) (recoloured t u e f g)
 
-cost-same : (t u : Tile) → t.len ≡ u.len → t.use_of ≡ u.use_of → rate_of object_walk_rates t.use_of * (t.len / 16) ≡ rate_of object_walk_rates u.use_of * (u.len / 16)
+cost-same : (t u : Tile) → t.len ≡ u.len → t.use_of ≡ u.use_of
+    → rate_of object_walk_rates t.use_of * (t.len / 16) ≡ rate_of object_walk_rates u.use_of * (u.len / 16)
 cost-same t u f g = λ i. rate_of object_walk_rates (g i) * (f i / 16)
 
-row : (c : After-row-payload) → RowAt c.args.window.now (Kept c.args.format c.args.window.now c.args.visits.now c.rows.visits) c.rows.number (frame_of c.row-payload.result)
+row : (c : After-row-payload) → RowAt c.args.window.now (Kept c.args.format c.args.window.now c.args.visits.now
+    c.rows.visits) c.rows.number (frame_of c.row-payload.result)
 row c =
     let w = c.args.window.now in
-    row-at w (Kept c.args.format w c.args.visits.now c.rows.visits) (gaps c.args.format w c.args.visits.now c.rows.visits) c.args.blocks.now.entries c.requires.rows c.rows.number c.rows.invariant
+    row-at w (Kept c.args.format w c.args.visits.now c.rows.visits)
+    (gaps c.args.format w c.args.visits.now c.rows.visits) c.args.blocks.now.entries c.requires.rows c.rows.number
+    c.rows.invariant
     c.row-payload.result c.row-payload.ensures.row
 
 place : (c : After-row-payload) → InRow 128 (length c.args.window.now.bytes - 16) (row c).here
 place c =
     let w = c.args.window.now in
     let r = row c in
-    in-row 128 (r.at.front ++ r.here ∷ r.at.back) (length w.bytes - 16) r.here (said_row w (r.at.front ++ r.here ∷ r.at.back) r.at.said) (mem_right r.here r.at.front (r.here ∷ r.at.back) (inl refl))
+    in-row 128 (r.at.front ++ r.here ∷ r.at.back) (length w.bytes - 16) r.here
+    (said_row w (r.at.front ++ r.here ∷ r.at.back) r.at.said) (mem_right r.here r.at.front (r.here ∷ r.at.back)
+    (inl refl))
 
 pub rows-init : goal.rows-init
 rows-init c =
     let w = c.args.window.now in
-    rows-start w (Kept c.args.format w c.args.visits.now c.args.visits.now) (tags-IsTiled w c.requires.tiles.size c.requires.tiles.tags) (refl, omega arith, omega arith)
+    rows-start w (Kept c.args.format w c.args.visits.now c.args.visits.now)
+    (tags-IsTiled w c.requires.tiles.size c.requires.tiles.tags) (refl, omega arith, omega arith)
 
 pub tile_of-tile-requires : goal.tile_of-tile-requires
 tile_of-tile-requires c = let at = (row (goal.at.tile_of-tile-requires c).After-row-payload).place in omega arith
@@ -90,8 +102,10 @@ returns-then-not-is_right-clause-is c =
     let t = c.tile_of-tile.result in
     let at = r.place in
     let there = c.tile_of-tile.ensures.place in
-    let wrong = right-same c.args.format m r.here t (omega arith) (r.len ∙ sym c.tile_of-tile.ensures.len) (r.use_of ∙ sym c.tile_of-tile.ensures.used) ∙ sym c.is_right.ensures.is ∙ c.if-not-is_right.true in
-    let all : list_all test (r.at.front ++ r.here ∷ r.at.back) ≡ false = all-fails test r.at.front r.here r.at.back wrong in
+    let wrong = right-same c.args.format m r.here t (omega arith) (r.len ∙ sym c.tile_of-tile.ensures.len)
+    (r.use_of ∙ sym c.tile_of-tile.ensures.used) ∙ sym c.is_right.ensures.is ∙ c.if-not-is_right.true in
+    let all : list_all test (r.at.front ++ r.here ∷ r.at.back) ≡ false = all-fails test r.at.front r.here r.at.back
+    wrong in
     sym (ap (list_all test) (tiles_are_read_off w (r.at.front ++ r.here ∷ r.at.back) r.at.said) ∙ all)
 
 pub returns-then-not-is_right-clause-spends : goal.returns-then-not-is_right-clause-spends
@@ -99,7 +113,8 @@ returns-then-not-is_right-clause-spends c =
     let w = c.args.window.now in
     let r = row (goal.at.returns-then-not-is_right-clause-spends c).After-row-payload in
     let t = c.tile_of-tile.result in
-    let cost = cost-same r.here t (r.len ∙ sym c.tile_of-tile.ensures.len) (r.use_of ∙ sym c.tile_of-tile.ensures.used) in
+    let cost = cost-same r.here t (r.len ∙ sym c.tile_of-tile.ensures.len)
+    (r.use_of ∙ sym c.tile_of-tile.ensures.used) in
     let all = ap (weigh object_walk_rates) (tiles_are_read_off w (r.at.front ++ r.here ∷ r.at.back) r.at.said) in
     let part = weigh-front object_walk_rates r.at.front r.here r.at.back in
     let k = r.at.kept in
@@ -114,22 +129,29 @@ rows-preserved c =
     let t = c.tile_of-tile.result in
     let at = r.place in
     let there = c.tile_of-tile.ensures.place in
-    let right = right-same c.args.format m r.here t (omega arith) (r.len ∙ sym c.tile_of-tile.ensures.len) (r.use_of ∙ sym c.tile_of-tile.ensures.used) ∙ sym c.is_right.ensures.is ∙ c.if-not-is_right.false in
-    let cost = cost-same r.here t (r.len ∙ sym c.tile_of-tile.ensures.len) (r.use_of ∙ sym c.tile_of-tile.ensures.used) in
+    let right = right-same c.args.format m r.here t (omega arith) (r.len ∙ sym c.tile_of-tile.ensures.len)
+    (r.use_of ∙ sym c.tile_of-tile.ensures.used) ∙ sym c.is_right.ensures.is ∙ c.if-not-is_right.false in
+    let cost = cost-same r.here t (r.len ∙ sym c.tile_of-tile.ensures.len)
+    (r.use_of ∙ sym c.tile_of-tile.ensures.used) in
     let more = weigh-more object_walk_rates r.at.front r.here in
     let s = c.is_right.ensures.spends c.rows.visits c.row-payload.ensures.visits in
     let k = r.at.kept in
-    rows-on w (Kept c.args.format w c.args.visits.now c.rows.visits) (Kept c.args.format w c.args.visits.now c.is_right.new.visits) c.rows.number (frame_of c.row-payload.result) r
+    rows-on w (Kept c.args.format w c.args.visits.now c.rows.visits)
+    (Kept c.args.format w c.args.visits.now c.is_right.new.visits) c.rows.number (frame_of c.row-payload.result) r
     (all-more (is_right_tile c.args.format m) r.at.front r.here r.at.kept.0 right, omega arith, omega arith)
 
 pub returns-clause-is : goal.returns-clause-is
 returns-clause-is c =
     let w = c.args.window.now in
-    let all = rows-end w (Kept c.args.format w c.args.visits.now c.rows.visits) (gaps c.args.format w c.args.visits.now c.rows.visits) c.args.blocks.now.entries c.requires.rows c.rows.number c.rows.invariant (omega arith) in
+    let all = rows-end w (Kept c.args.format w c.args.visits.now c.rows.visits)
+    (gaps c.args.format w c.args.visits.now c.rows.visits) c.args.blocks.now.entries c.requires.rows c.rows.number
+    c.rows.invariant (omega arith) in
     sym all.0
 
 pub returns-clause-spends : goal.returns-clause-spends
 returns-clause-spends c =
     let w = c.args.window.now in
-    let k = rows-end w (Kept c.args.format w c.args.visits.now c.rows.visits) (gaps c.args.format w c.args.visits.now c.rows.visits) c.args.blocks.now.entries c.requires.rows c.rows.number c.rows.invariant (omega arith) in
+    let k = rows-end w (Kept c.args.format w c.args.visits.now c.rows.visits)
+    (gaps c.args.format w c.args.visits.now c.rows.visits) c.args.blocks.now.entries c.requires.rows c.rows.number
+    c.rows.invariant (omega arith) in
     (k.1, omega (arith, k.2))

@@ -10,7 +10,8 @@ rows-preserved c =
     let most = inv.most in
     record {
       within = omega arith;
-      owned = rows-more es c.rows.number c.row.result inv.owned c.row.ensures.row (sym c.is_owned.ensures ∙ c.if-not-is_owned.false);
+      owned = rows-more es c.rows.number c.row.result inv.owned c.row.ensures.row (sym c.is_owned.ensures
+          ∙ c.if-not-is_owned.false);
       more = omega arith;
       most = omega arith;
     }

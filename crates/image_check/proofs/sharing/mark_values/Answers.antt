@@ -14,8 +14,10 @@ pub rows-init : goal.rows-init
 rows-init g c =
     let w = c.args.window.now in
     let o = c.args.owners.now in
-    rows-start w (Noting g.said w.bytes o.blocks.entries (6 * o.waiting + debt o.blocks.entries) c.args.visits.now o.blocks.entries o.pending o.waiting c.args.visits.now)
-    (tags-IsTiled w c.requires.0.size c.requires.0.tags) (noting-start g.said w.bytes o.blocks.entries o.pending o.waiting c.args.visits.now c.requires.1.1.1.0 c.requires.1.1.1.1)
+    rows-start w (Noting g.said w.bytes o.blocks.entries (6 * o.waiting + debt o.blocks.entries) c.args.visits.now
+    o.blocks.entries o.pending o.waiting c.args.visits.now)
+    (tags-IsTiled w c.requires.0.size c.requires.0.tags) (noting-start g.said w.bytes o.blocks.entries o.pending
+    o.waiting c.args.visits.now c.requires.1.1.1.0 c.requires.1.1.1.1)
 
 pub tile_of-tile-requires : goal.tile_of-tile-requires
 tile_of-tile-requires g c =
@@ -23,7 +25,8 @@ tile_of-tile-requires g c =
     let o = c.args.owners.now in
     let due = 6 * o.waiting + debt o.blocks.entries in
     let p = c.rows.owners in
-    let r = row-at w _ (noting-gap g.said w o.blocks.entries due c.args.visits.now p.blocks.entries p.pending p.waiting c.rows.visits) p.blocks.entries c.rows.invariant.kept.marking.frame c.rows.number
+    let r = row-at w _ (noting-gap g.said w o.blocks.entries due c.args.visits.now p.blocks.entries p.pending p.waiting
+    c.rows.visits) p.blocks.entries c.rows.invariant.kept.marking.frame c.rows.number
     c.rows.invariant c.row-payload.result c.row-payload.ensures.row in
     let at = r.place in
     omega arith
@@ -34,7 +37,8 @@ mark_object-requires g c =
     let o = c.args.owners.now in
     let due = 6 * o.waiting + debt o.blocks.entries in
     let p = c.rows.owners in
-    let r = row-at w _ (noting-gap g.said w o.blocks.entries due c.args.visits.now p.blocks.entries p.pending p.waiting c.rows.visits) p.blocks.entries c.rows.invariant.kept.marking.frame c.rows.number
+    let r = row-at w _ (noting-gap g.said w o.blocks.entries due c.args.visits.now p.blocks.entries p.pending p.waiting
+    c.rows.visits) p.blocks.entries c.rows.invariant.kept.marking.frame c.rows.number
     c.rows.invariant c.row-payload.result c.row-payload.ensures.row in
     let t = c.tile_of-tile.result in
     let at = r.place in
@@ -42,8 +46,10 @@ mark_object-requires g c =
     let place : t.offset ≡ r.here.offset = omega arith in
     let len : t.len ≡ r.here.len = c.tile_of-tile.ensures.len ∙ sym r.len in
     let used : t.use_of ≡ r.here.use_of = c.tile_of-tile.ensures.used ∙ sym r.use_of in
-    let room = room-here g.said w r.here c.requires.0 c.requires.1.1.0 o.blocks.entries due c.args.visits.now p.blocks.entries p.pending p.waiting c.rows.visits r.at in
-    let ready = ready-here g.said w r.here c.requires.0 c.requires.1.1.0 o.blocks.entries due c.args.visits.now p.blocks.entries p.pending p.waiting c.rows.visits r.at in (
+    let room = room-here g.said w r.here c.requires.0 c.requires.1.1.0 o.blocks.entries due c.args.visits.now
+    p.blocks.entries p.pending p.waiting c.rows.visits r.at in
+    let ready = ready-here g.said w r.here c.requires.0 c.requires.1.1.0 o.blocks.entries due c.args.visits.now
+    p.blocks.entries p.pending p.waiting c.rows.visits r.at in (
       c.requires.0,
       (
         c.requires.1.0,
@@ -51,7 +57,8 @@ mark_object-requires g c =
           omega arith,
           (
             r.at.kept.marking,
-            object-same r.here t (sym place) (sym len) (sym used) g.said (bytes_of w.bytes) (λ kind at. IsValueReady g.said w.bytes kind at p.blocks.entries) ready,
+            object-same r.here t (sym place) (sym len) (sym used) g.said (bytes_of w.bytes)
+                (λ kind at. IsValueReady g.said w.bytes kind at p.blocks.entries) ready,
           ),
         ),
       ),
@@ -63,7 +70,8 @@ returns-in-Err-clause-visits g c =
     let o = c.args.owners.now in
     let due = 6 * o.waiting + debt o.blocks.entries in
     let p = c.rows.owners in
-    let r = row-at w _ (noting-gap g.said w o.blocks.entries due c.args.visits.now p.blocks.entries p.pending p.waiting c.rows.visits) p.blocks.entries c.rows.invariant.kept.marking.frame c.rows.number
+    let r = row-at w _ (noting-gap g.said w o.blocks.entries due c.args.visits.now p.blocks.entries p.pending p.waiting
+    c.rows.visits) p.blocks.entries c.rows.invariant.kept.marking.frame c.rows.number
     c.rows.invariant c.row-payload.result c.row-payload.ensures.row in
     let t = c.tile_of-tile.result in
     let at = r.place in
@@ -75,9 +83,12 @@ returns-in-Err-clause-visits g c =
     let seen = c.row-payload.ensures.visits in
     let cost = cost-same t r.here place len used in
     let lo = c.mark_object.ensures.visits.0 in
-    let hi = of-err (λ x. c.mark_object.new.visits + (6 * n.waiting + debt n.blocks.entries) ≤ c.row-payload.new.visits + (6 * p.waiting + debt p.blocks.entries + object_cost t))
-    (λ x. c.mark_object.new.visits ≤ c.row-payload.new.visits + (6 * p.waiting + debt p.blocks.entries + object_cost t)) c.mark_object.result c.in-Err.class c.in-Err.is c.mark_object.ensures.visits.1 in
-    noting-refused g.said w r.here c.requires.0 c.requires.1.1.0 o.blocks.entries due c.args.visits.now p.blocks.entries p.pending p.waiting c.rows.visits r.at
+    let hi = of-err (λ x. c.mark_object.new.visits + (6 * n.waiting + debt n.blocks.entries) ≤ c.row-payload.new.visits
+    + (6 * p.waiting + debt p.blocks.entries + object_cost t))
+    (λ x. c.mark_object.new.visits ≤ c.row-payload.new.visits + (6 * p.waiting + debt p.blocks.entries + object_cost t))
+    c.mark_object.result c.in-Err.class c.in-Err.is c.mark_object.ensures.visits.1 in
+    noting-refused g.said w r.here c.requires.0 c.requires.1.1.0 o.blocks.entries due c.args.visits.now p.blocks.entries
+    p.pending p.waiting c.rows.visits r.at
     c.mark_object.new.visits (omega arith) (omega arith)
 
 pub rows-smaller : goal.rows-smaller
@@ -91,7 +102,8 @@ rows-preserved g c =
     let o = c.args.owners.now in
     let due = 6 * o.waiting + debt o.blocks.entries in
     let p = c.rows.owners in
-    let r = row-at w _ (noting-gap g.said w o.blocks.entries due c.args.visits.now p.blocks.entries p.pending p.waiting c.rows.visits) p.blocks.entries c.rows.invariant.kept.marking.frame c.rows.number
+    let r = row-at w _ (noting-gap g.said w o.blocks.entries due c.args.visits.now p.blocks.entries p.pending p.waiting
+    c.rows.visits) p.blocks.entries c.rows.invariant.kept.marking.frame c.rows.number
     c.rows.invariant c.row-payload.result c.row-payload.ensures.row in
     let t = c.tile_of-tile.result in
     let at = r.place in
@@ -103,13 +115,19 @@ rows-preserved g c =
     let seen = c.row-payload.ensures.visits in
     let cost = cost-same t r.here place len used in
     let lo = c.mark_object.ensures.visits.0 in
-    let hi = of-ok (λ x. c.mark_object.new.visits + (6 * n.waiting + debt n.blocks.entries) ≤ c.row-payload.new.visits + (6 * p.waiting + debt p.blocks.entries + object_cost t))
-    (λ x. c.mark_object.new.visits ≤ c.row-payload.new.visits + (6 * p.waiting + debt p.blocks.entries + object_cost t)) c.mark_object.result _ c.in_default.is c.mark_object.ensures.visits.1 in
-    let d = of-ok (λ x. IsTileGrown g.said w.bytes t p.blocks.entries p.waiting n.blocks.entries n.pending n.waiting) (IsSharedIn g.said w.bytes) c.mark_object.result _
+    let hi = of-ok (λ x. c.mark_object.new.visits + (6 * n.waiting + debt n.blocks.entries) ≤ c.row-payload.new.visits +
+    (6 * p.waiting + debt p.blocks.entries + object_cost t))
+    (λ x. c.mark_object.new.visits ≤ c.row-payload.new.visits + (6 * p.waiting + debt p.blocks.entries + object_cost t))
+    c.mark_object.result _ c.in_default.is c.mark_object.ensures.visits.1 in
+    let d = of-ok (λ x. IsTileGrown g.said w.bytes t p.blocks.entries p.waiting n.blocks.entries n.pending n.waiting)
+    (IsSharedIn g.said w.bytes) c.mark_object.result _
     c.in_default.is c.mark_object.ensures.noted in
-    rows-on w _ (Noting g.said w.bytes o.blocks.entries due c.args.visits.now n.blocks.entries n.pending n.waiting c.mark_object.new.visits) c.rows.number (frame_of c.row-payload.result) r
-    (noting-on g.said w r.here c.requires.0 c.requires.1.1.0 o.blocks.entries due c.args.visits.now p.blocks.entries p.pending p.waiting c.rows.visits r.at n.blocks.entries n.pending n.waiting c.mark_object.new.visits
-    (grown-same t r.here place len used g.said w.bytes p.blocks.entries p.waiting n.blocks.entries n.pending n.waiting d) (omega arith) (omega arith))
+    rows-on w _ (Noting g.said w.bytes o.blocks.entries due c.args.visits.now n.blocks.entries n.pending n.waiting
+    c.mark_object.new.visits) c.rows.number (frame_of c.row-payload.result) r
+    (noting-on g.said w r.here c.requires.0 c.requires.1.1.0 o.blocks.entries due c.args.visits.now p.blocks.entries
+    p.pending p.waiting c.rows.visits r.at n.blocks.entries n.pending n.waiting c.mark_object.new.visits
+    (grown-same t r.here place len used g.said w.bytes p.blocks.entries p.waiting n.blocks.entries n.pending n.waiting
+    d) (omega arith) (omega arith))
 
 pub returns-clause-noted : goal.returns-clause-noted
 returns-clause-noted g c =
@@ -117,9 +135,11 @@ returns-clause-noted g c =
     let o = c.args.owners.now in
     let due = 6 * o.waiting + debt o.blocks.entries in
     let p = c.rows.owners in
-    let all = rows-end w _ (noting-gap g.said w o.blocks.entries due c.args.visits.now p.blocks.entries p.pending p.waiting c.rows.visits) p.blocks.entries c.rows.invariant.kept.marking.frame c.rows.number
+    let all = rows-end w _ (noting-gap g.said w o.blocks.entries due c.args.visits.now p.blocks.entries p.pending
+    p.waiting c.rows.visits) p.blocks.entries c.rows.invariant.kept.marking.frame c.rows.number
     c.rows.invariant (omega arith) in
-    noting-end g.said w.bytes o.blocks.entries due c.args.visits.now p.blocks.entries p.pending p.waiting c.rows.visits all
+    noting-end g.said w.bytes o.blocks.entries due c.args.visits.now p.blocks.entries p.pending p.waiting c.rows.visits
+    all
 
 pub returns-clause-visits : goal.returns-clause-visits
 returns-clause-visits g c =
@@ -127,6 +147,7 @@ returns-clause-visits g c =
     let o = c.args.owners.now in
     let due = 6 * o.waiting + debt o.blocks.entries in
     let p = c.rows.owners in
-    let all = rows-end w _ (noting-gap g.said w o.blocks.entries due c.args.visits.now p.blocks.entries p.pending p.waiting c.rows.visits) p.blocks.entries c.rows.invariant.kept.marking.frame c.rows.number
+    let all = rows-end w _ (noting-gap g.said w o.blocks.entries due c.args.visits.now p.blocks.entries p.pending
+    p.waiting c.rows.visits) p.blocks.entries c.rows.invariant.kept.marking.frame c.rows.number
     c.rows.invariant (omega arith) in
     (all.more, let m = all.most in omega arith)

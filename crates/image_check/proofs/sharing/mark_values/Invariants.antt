@@ -11,7 +11,9 @@ ghost-mark_object g a = g.said
 -- the values in the tiles that the walk has passed are noted
 abbrev pub invariant-rows : goal.invariant-rows
 invariant-rows g l = RowWalks l.window
-    (Noting g.said l.window.bytes l.initial.owners.blocks.entries (6 * l.initial.owners.waiting + debt l.initial.owners.blocks.entries) l.initial.visits l.owners.blocks.entries l.owners.pending l.owners.waiting l.visits) l.number
+    (Noting g.said l.window.bytes l.initial.owners.blocks.entries
+    (6 * l.initial.owners.waiting + debt l.initial.owners.blocks.entries) l.initial.visits l.owners.blocks.entries
+    l.owners.pending l.owners.waiting l.visits) l.number
 
 abbrev pub decreases-rows : goal.decreases-rows
 decreases-rows g l = length (entries_of (tiles_in l.window.bytes)) - l.number

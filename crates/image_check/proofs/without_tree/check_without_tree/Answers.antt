@@ -13,7 +13,8 @@ pub returns-in_default-clause-finds : goal.returns-in_default-clause-finds
 returns-in_default-clause-finds c =
     inl (
       refl,
-      plain-tiles c.args.window.now.bytes c.requires.tiles ∙ sym c.count_plain.ensures.value ∙ nothing c.count_plain.result c.in_default.not-Some,
+      plain-tiles c.args.window.now.bytes c.requires.tiles ∙ sym c.count_plain.ensures.value
+          ∙ nothing c.count_plain.result c.in_default.not-Some,
     )
 
 pub returns-then-header_word-ne-NULL-clause-finds : goal.returns-then-header_word-ne-NULL-clause-finds
@@ -26,6 +27,7 @@ returns-then-header_word-ne-NULL-clause-finds c =
 
 pub returns-clause-finds : goal.returns-clause-finds
 returns-clause-finds c = record {
-  tags = plain-tiles c.args.window.now.bytes c.requires.tiles ∙ sym c.count_plain.ensures.value ∙ ap is_some c.in-Some.is;
+  tags = plain-tiles c.args.window.now.bytes c.requires.tiles ∙ sym c.count_plain.ensures.value
+      ∙ ap is_some c.in-Some.is;
   no_tree = eq-eqb (word_at (bytes_of c.args.window.now.bytes) 24) 1 (sym c.header_word.ensures ∙ c.if-header_word-ne-NULL.false);
 }

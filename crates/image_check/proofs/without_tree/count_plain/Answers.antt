@@ -40,13 +40,15 @@ returns-then-not-is_plain-clause-visits c =
 pub add-requires-clause-free : goal.add-requires-clause-free
 add-requires-clause-free c =
     let w = c.args.window.now in
-    let a = read-at w _ c.tiles.tile c.in-Some.unread c.read-here.result c.tiles.invariant c.in-Some.is c.read-here.ensures.tile in
+    let a = read-at w _ c.tiles.tile c.in-Some.unread c.read-here.result c.tiles.invariant c.in-Some.is
+    c.read-here.ensures.tile in
     (counted-few w _ c.read-here.result c.tiles.counts c.requires.tiles.size a a.kept.1).0
 
 pub add-requires-clause-used : goal.add-requires-clause-used
 add-requires-clause-used c =
     let w = c.args.window.now in
-    let a = read-at w _ c.tiles.tile c.in-Some.unread c.read-here.result c.tiles.invariant c.in-Some.is c.read-here.ensures.tile in
+    let a = read-at w _ c.tiles.tile c.in-Some.unread c.read-here.result c.tiles.invariant c.in-Some.is
+    c.read-here.ensures.tile in
     (counted-few w _ c.read-here.result c.tiles.counts c.requires.tiles.size a a.kept.1).1
 
 pub next-tile-requires : goal.next-tile-requires

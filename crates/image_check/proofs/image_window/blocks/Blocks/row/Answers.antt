@@ -17,4 +17,5 @@ returns-clause-block c =
     let es = c.self.inside.rows.items in
     let x = c.index.result.now in
     let inside = subst (λ (v : BlockMap). c.args.nth < length v.entries) (sym c.self.view_is) c.requires in
-    sym (here-read es x.0 c.args.nth x c.self.invariant inside c.index.ensures refl ∙ ap (λ (v : BlockMap). block_at v.entries x.0) c.self.view_is)
+    sym (here-read es x.0 c.args.nth x c.self.invariant inside c.index.ensures refl
+    ∙ ap (λ (v : BlockMap). block_at v.entries x.0) c.self.view_is)

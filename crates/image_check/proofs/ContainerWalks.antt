@@ -4,9 +4,7 @@ use Rattle.std.specs.Prelude.{Option, Some, None, Contains, filter, filter_map, 
 use Rattle.std.specs.List.{list_all, cons_option}
 use Rattle.std.proofs.lemmas.Bool.{cases_Bool, cond-true, cond-false, and_parts}
 use Rattle.raw_region.specs.Memory.{Cut, Memory, bytes_of}
-use Rattle.block_tags.specs.declared.tile.Role.{Role}
 use Rattle.block_tags.specs.declared.tile.Role.TheVariants.{Object}
-use Rattle.best_fit.specs.Table.{same_role}
 use Rattle.block_tags.specs.declared.tile.Tile.{Tile}
 use Rattle.block_tags.proofs.Laws.{tiles_are_read_off}
 use Rattle.seg_types.specs.declared.kinds.Kind.{Kind}
@@ -21,7 +19,7 @@ use Rattle.image_check.proofs.ContainerWeights.{below-all, below-more}
 use Rattle.image_check.proofs.CountedFields.{Mem-Contains}
 use Rattle.image_check.proofs.Members.{Mem, list_all_mem, mem_filter, mem_filter_map, mem_right}
 use Rattle.image_check.proofs.Rooted.{node-followed}
-use Rattle.image_check.proofs.RowWalks.{PassesGaps, recoloured}
+use Rattle.image_check.proofs.RowWalks.{PassesGaps, free-object, recoloured}
 use Rattle.image_check.proofs.TilePlaces.{tile-lies}
 use Rattle.best_fit.proofs.Laws.{Row, said_row}
 use Rattle.image_check.proofs.WalkedTiles.{WalksAt, all-fails, all-more}
@@ -109,8 +107,7 @@ free-passes : (format : ℕ) (m : Memory) (ts : List Tile) (t : Tile) → t.use_
     → has_container format m ts t ≡ true
 free-passes format m ts t e =
     cond-false (is_use Object t) (elim (kind_at format m (payload t))
-    [ None ↦ true | Some k ↦ is_container m ts (k, value_offset m (payload t)) ]) true
-    (ap (λ (u : Option Role). elim u [ None ↦ false | Some r ↦ same_role Object r ]) e)
+    [ None ↦ true | Some k ↦ is_container m ts (k, value_offset m (payload t)) ]) true (free-object t e)
 
 -- where tiles end that begin at an offset
 abbrev end_of : ℕ → List Tile → ℕ

@@ -1,5 +1,5 @@
 -- What is counted of tiles, with one more behind them.
-use Rattle.std.proofs.Common.{◌≡◌, refl, sym, ap, ◌∙◌, ℕ, ◌+◌, ◌<◌, ◌^◌, List, [], ◌∷◌, ◌++◌, length, arith, IsTrue}
+use Rattle.std.proofs.Common.{◌≡◌, refl, sym, ap, ◌∙◌, ℕ, ◌+◌, ◌<◌, ◌^◌, false, List, [], ◌∷◌, ◌++◌, length, arith, IsTrue}
 use Rattle.std.specs.Prelude.{Option, Some, None, is_none, is_some}
 use Rattle.raw_region.specs.Memory.{Cut}
 use Rattle.block_tags.specs.declared.tile.Role.{Role}
@@ -63,3 +63,8 @@ counted-few c Kept here counts legal a k =
     let f = k.free in
     let u = k.used in
     (omega arith, omega arith)
+
+-- what was not given is none
+pub not-given : {X : Type 0} (o : Option X) → ((x : X) → o ≡ Some x → ⊥) → is_some o ≡ false
+not-given None h = refl
+not-given (Some x) h = absurd (h x refl)

@@ -38,7 +38,7 @@ found-far at ts end role n t a e =
     let l = from-there at ts end t a k.mem in
     omega arith
 
-use-of : (o : Option Role) (r : Role) → IsTrue (elim o [ None ↦ false | Some x ↦ same_role r x ]) → o ≡ Some r
+pub use-of : (o : Option Role) (r : Role) → IsTrue (elim o [ None ↦ false | Some x ↦ same_role r x ]) → o ≡ Some r
 use-of None r h = absurd (false≢true h)
 use-of (Some x) r h = ap Some (sym (same_role-is r x h))
 

@@ -29,7 +29,7 @@ use Rattle.best_fit.specs.Table.{same_role}
 use Rattle.image_check.proofs.NotedLinks.{grown-in}
 use Rattle.image_check.proofs.Members.{Mem, list_all_mem, mem_filter, mem_filter_map, mem_left, mem_of_filter, mem_of_filter_map, mem_parts, mem_right}
 use Rattle.image_check.proofs.Reached.{good_for-IsGood}
-use Rattle.image_check.proofs.RowWalks.{PassesGaps, recoloured}
+use Rattle.image_check.proofs.RowWalks.{PassesGaps, free-object, recoloured}
 use Rattle.image_check.proofs.Tags.{has_tags-AreWholeTiles}
 use Rattle.image_check.proofs.WalkedTiles.{WalksAt}
 
@@ -135,10 +135,6 @@ value-keeps m ts kind at es fs k d = record {
   element = λ e array i p g l r n x. k n _ (d.element e array i p g l r n x);
   root = λ x v e n l. k n _ (d.root x v e n l);
 }
-
--- a free tile is no object's
-free-object : (t : Tile) → t.use_of ≡ None → is_use Object t ≡ false
-free-object t e = ap (λ (u : Option Role). elim u [ None ↦ false | Some r ↦ same_role Object r ]) e
 
 -- ---- a tile but for its colour
 

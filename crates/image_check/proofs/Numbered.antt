@@ -74,7 +74,7 @@ set-row (e ∷ es) n (suc i) b r w =
 
 -- ---- a search by halves
 
-one-more : (j i : ℕ) → j < i + 1 → (j < i) ⊎ (j ≡ i)
+pub one-more : (j i : ℕ) → j < i + 1 → (j < i) ⊎ (j ≡ i)
 one-more j zero h = inr (omega arith)
 one-more zero (suc i) h = inl (omega arith)
 one-more (suc j) (suc i) h = ⊎_elim (λ k. inl (omega (arith, k))) (λ k. inr (omega (arith, k))) (one-more j i (omega arith))

@@ -1,9 +1,8 @@
 -- What the rows of the map say of their owners is what the tiles say of theirs.
-use Rattle.std.proofs.Common.{◌≡◌, refl, sym, ap, subst, ◌∙◌, ℕ, zero, suc, ◌+◌, ◌-◌, ◌*◌, ◌/◌, ◌≤◌, ◌<◌, ◌⊎◌, inl, inr, ⊎_elim, Bool, true, false, not, ◌&&◌, ◌||◌, ◌==◌, List, [], ◌∷◌, length, arith, cond}
+use Rattle.std.proofs.Common.{◌≡◌, refl, sym, ap, subst, ◌∙◌, ℕ, suc, ◌+◌, ◌-◌, ◌*◌, ◌/◌, ◌≤◌, ◌<◌, inl, inr, ⊎_elim, Bool, true, false, not, ◌&&◌, ◌||◌, ◌==◌, List, [], ◌∷◌, length, arith, cond}
 use Rattle.std.specs.Prelude.{Option, Some, None, IsTrue, is_some, nat_eq, slice_get}
 use Rattle.std.specs.List.{cons_option, list_all}
-use Rattle.std.proofs.lemmas.List.{length-map}
-use Rattle.std.proofs.lemmas.Bool.{and_parts, both_ways, cases_Bool, eqb-true, false≢true}
+use Rattle.std.proofs.lemmas.Bool.{and_parts, both_ways, cases_Bool, eqb-true}
 use Rattle.raw_region.specs.Memory.{bytes_of}
 use Rattle.raw_region.specs.Format.{current}
 use Rattle.block_tags.specs.declared.tile.Role.{Role}
@@ -15,12 +14,14 @@ use Rattle.image_check.specs.declared.owners.Block.{Block}
 use Rattle.image_check.specs.declared.owners.Owner.{Owner}
 use Rattle.image_check.specs.ObjectTests.{is_use, payload}
 use Rattle.image_check.specs.Orphans.{AreOwned, LacksOwner, is_owned}
-use Rattle.image_check.specs.Owners.{AreBlocks, Blocks, block_at, entries_of, frame_of, frames, has_owner, new_block, owner_at, owner_in}
+use Rattle.image_check.specs.Owners.{AreBlocks, Blocks, block_at, entries_of, frames, has_owner, new_block, owner_at, owner_in}
 use Rattle.image_check.specs.Passes.{HasTiles, tiles_in}
 use Rattle.image_check.specs.Visits.{orphan_rates, rate_of, weigh}
-use Rattle.image_check.proofs.Gathered.{frame-AreBlocks, tags-blocks}
+use Rattle.image_check.proofs.Gathered.{frame-AreBlocks, tags-blocks, use-of}
 use Rattle.image_check.proofs.Members.{Mem, find_mem, list_all_from, list_all_mem}
-use Rattle.image_check.proofs.Standing.{same_role-is, same_role-refl, tile_found}
+use Rattle.image_check.proofs.Numbered.{one-more}
+use Rattle.image_check.proofs.RowWalks.{few-rows}
+use Rattle.image_check.proofs.Standing.{same_role-refl, tile_found}
 use Rattle.image_check.proofs.Tags.{has_tags-AreWholeTiles}
 
 -- ---- a tile and its block
@@ -46,10 +47,6 @@ tile-tests es t b e f =
 
 free-tests : (es : Blocks) (t : Tile) → t.use_of ≡ None → has_owner es t ≡ true
 free-tests es t e = ap (λ (u : Option Role). tested u (owner_at es (payload t))) e
-
-use-of : (o : Option Role) (r : Role) → IsTrue (elim o [ None ↦ false | Some x ↦ same_role r x ]) → o ≡ Some r
-use-of None r h = absurd (false≢true h)
-use-of (Some x) r h = ap (λ (q : Role). Some q) (sym (same_role-is r x h))
 
 -- ---- all of them
 
@@ -108,20 +105,13 @@ rows-AreOwned (x ∷ es) h n b e = by (nat_eq n x.0) e (rows-AreOwned es (λ i y
     by true g rest = let same : x.1 ≡ b = cc in subst (λ (y : Block). is_owned y ≡ true) same (h 0 x (omega arith) refl)
     by false g rest = rest g
 
-before-or-last : (i n : ℕ) → i < n + 1 → (i < n) ⊎ (i ≡ n)
-before-or-last zero zero l = inr refl
-before-or-last zero (suc n) l = inl (omega arith)
-before-or-last (suc i) zero l = absurd (omega arith)
-before-or-last (suc i) (suc n) l = ⊎_elim (λ k. inl (omega (arith, k))) (λ k. inr (omega (arith, k)))
-    (before-or-last i n (omega arith))
-
 -- a row more
 pub rows-more : (es : Blocks) (n : ℕ) (here : ℕ × Block) → ((i : ℕ) (x : ℕ × Block) → i < n → slice_get es i ≡ Some x
     → is_owned x.1 ≡ true)
     → slice_get es n ≡ Some here → is_owned here.1 ≡ true → (i : ℕ) (x : ℕ × Block) → i < n + 1
     → slice_get es i ≡ Some x → is_owned x.1 ≡ true
 rows-more es n here h row owned i x l g =
-    ⊎_elim (λ k. h i x k g) (λ k. last (sym row ∙ ap (slice_get es) (sym k) ∙ g)) (before-or-last i n l)
+    ⊎_elim (λ k. h i x k g) (λ k. last (sym row ∙ ap (slice_get es) (sym k) ∙ g)) (one-more i n l)
   where
     last : Some here ≡ Some x → is_owned x.1 ≡ true
     last e = let same : here ≡ x = cc in subst (λ (y : ℕ × Block). is_owned y.1 ≡ true) same owned
@@ -147,6 +137,5 @@ pub rows-weigh : (b : List ℕ) (es : Blocks) → HasTiles b → frames es ≡ f
 rows-weigh b es h f =
     let few = entries-few 128 (tiles_in b) (length b - 16) (has_tags-AreWholeTiles current (bytes_of b) (length b)
     h.tags).row in
-    let same = sym (length-map es frame_of) ∙ ap (λ (xs : List (ℕ × Role × ℕ)). length xs) f
-    ∙ length-map (entries_of (tiles_in b)) frame_of in
+    let same = few-rows b es f in
     omega arith

@@ -1,15 +1,18 @@
 -- A walk over the rows of the map of blocks, that keeps something of the tiles passed: a row is the next tile in use.
-use Rattle.std.proofs.Common.{◌≡◌, refl, sym, ap, subst, ◌∙◌, ℕ, zero, suc, ◌+◌, ◌≤◌, List, [], ◌∷◌, ◌++◌, length, arith}
+use Rattle.std.proofs.Common.{◌≡◌, refl, sym, ap, subst, ◌∙◌, ℕ, zero, suc, ◌+◌, ◌≤◌, false, List, [], ◌∷◌, ◌++◌, length, arith}
 use Rattle.std.specs.Prelude.{Option, Some, None, is_some, slice_get}
 use Rattle.std.specs.List.{cons_option}
 use Rattle.std.proofs.lemmas.List.{append-nil, length-map}
 use Rattle.raw_region.specs.Memory.{Cut}
 use Rattle.block_tags.specs.declared.tile.Role.{Role}
+use Rattle.block_tags.specs.declared.tile.Role.TheVariants.{Object}
 use Rattle.block_tags.specs.declared.tile.Tile.{Tile}
 use Rattle.block_tags.specs.Windows.{IsTiled, SaysTiles}
 use Rattle.block_tags.proofs.Laws.{tiles_are_read_off}
+use Rattle.best_fit.specs.Table.{same_role}
 use Rattle.best_fit.proofs.Laws.{passed_on}
 use Rattle.image_check.specs.declared.owners.Block.{Block}
+use Rattle.image_check.specs.ObjectTests.{is_use}
 use Rattle.image_check.specs.Owners.{Blocks, entries_of, entry_of, frame_of, frames, new_block}
 use Rattle.image_check.specs.Passes.{tiles_in}
 use Rattle.image_check.proofs.Gathered.{count-free, count-push, count-used}
@@ -43,6 +46,10 @@ rows-start c Kept tiled kept = record { front = []; rest = tiled.tiles; said = t
 pub recoloured : (t u : Tile) → t.offset ≡ u.offset → t.len ≡ u.len → t.use_of ≡ u.use_of
     → t ≡ record { offset = u.offset; len = u.len; use_of = u.use_of; red = t.red }
 recoloured t u e f g = λ i. record { offset = e i; len = f i; use_of = g i; red = t.red }
+
+-- a free tile is no object's
+pub free-object : (t : Tile) → t.use_of ≡ None → is_use Object t ≡ false
+free-object t e = ap (λ (u : Option Role). elim u [ None ↦ false | Some r ↦ same_role Object r ]) e
 
 -- ---- the entries of tiles
 

@@ -1,6 +1,6 @@
-use Rattle.std.proofs.Common.{◌≡◌, ℕ, ◌<◌, length, refl, Ok, Err, Some, None, arith, sym, ap, subst, false, ◌∙◌}
+use Rattle.std.proofs.Common.{◌≡◌, ℕ, ◌<◌, length, Ok, Err, Some, arith, sym, ap, subst, ◌∙◌}
 use Rattle.std.proofs.lemmas.Bool.{not-true, not-false}
-use Rattle.std.specs.Prelude.{◌≢◌, IsTrue, MatchResult, OnErr, OnOk, Option, Result, is_some}
+use Rattle.std.specs.Prelude.{◌≢◌, IsTrue, MatchResult, OnErr, OnOk, Result, is_some}
 use Rattle.image_check.specs.declared.classes.ImageClass.{ImageClass}
 use Rattle.image_check.specs.Classes.{are_bytes, class_of}
 use Rattle.image_check.specs.Frame.{has_frame}
@@ -10,6 +10,7 @@ use Rattle.image_check.specs.Reading.{HasFront}
 use Rattle.image_check.specs.Visits.{tag_rates, tree_rates}
 use Rattle.image_check.proofs.Budget.{frame-raised, spend-both, tags-raised, tags-spend, treeless-spend}
 use Rattle.image_check.proofs.Checked.{later-checked, checked-tags, checked-tiles, checked-tree, checked-frame, treeless-finds}
+use Rattle.image_check.proofs.CountedTiles.{not-given}
 use Rattle.image_check.proofs.Filled.{HasFront-IsRight}
 use Rattle.image_check.proofs.FirstClass.{first-reserved}
 use Rattle.image_check.proofs.FormatTags.{later-free_tree, wrong-has_tags}
@@ -18,10 +19,6 @@ use Rattle.image_check.proofs.checking.check_frame.Goals as goal
 -- a format that is not 0 is one of the later ones
 later-some : (f : ℕ) → f ≢ 0 → 0 < f
 later-some f e = omega arith
-
-nothing : {X : Type 0} (o : Option X) → ((x : X) → o ≡ Some x → ⊥) → is_some o ≡ false
-nothing None h = refl
-nothing (Some x) h = absurd (h x refl)
 
 pub returns-then-not-has_reserved-clause-finds : goal.returns-then-not-has_reserved-clause-finds
 returns-then-not-has_reserved-clause-finds c =
@@ -43,7 +40,7 @@ returns-in_default-clause-finds c =
     later-checked c.args.format w some c.requires (sym c.has_reserved.ensures ∙ c.if-not-has_reserved.false)
     (sym c.check_counted-tags.ensures.good ∙ not-false c.check_counted-tags.result.are_good c.if-not-tags.false) in
     checked-tree c.args.format w h (later-free_tree c.args.format (bytes_of w.bytes) (tiles_in w.bytes) some
-    ∙ sym c.check_free_tree.ensures.value ∙ nothing c.check_free_tree.result c.in_default.not-Some)
+    ∙ sym c.check_free_tree.ensures.value ∙ not-given c.check_free_tree.result c.in_default.not-Some)
 
 pub returns-in_default-clause-most : goal.returns-in_default-clause-most
 returns-in_default-clause-most c =

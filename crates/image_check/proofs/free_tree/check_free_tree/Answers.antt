@@ -1,7 +1,7 @@
 -- The tree that the check finds over places is that of the free tiles.
 use Rattle.std.proofs.Common.{◌≡◌, refl, sym, ap, subst, ◌∙◌, ◌+◌, ◌*◌, ◌≤◌, true, List, length, ℕ}
-use Rattle.std.specs.Prelude.{Option, Some, None, is_some}
-use Rattle.std.proofs.lemmas.Bool.{both_ways, false≢true}
+use Rattle.std.specs.Prelude.{Option, is_some}
+use Rattle.std.proofs.lemmas.Bool.{both_ways}
 use Rattle.raw_region.specs.Memory.{Cut, bytes_of}
 use Rattle.offset_link.specs.Link.{link_at}
 use Rattle.offset_link.specs.Relinked.{is_bad}
@@ -13,14 +13,11 @@ use Rattle.link_tree.specs.Checking.{IsClosed}
 use Rattle.link_tree.specs.Nodes.{is_in, leads}
 use Rattle.link_tree.proofs.Laws.{some_same}
 use Rattle.image_check.proofs.Budget.{check-short, tree-planted, tree-steps}
+use Rattle.image_check.proofs.CountedTiles.{not-given}
 use Rattle.image_check.proofs.FewNodes.{nodes-few}
 use Rattle.image_check.proofs.FreePlaces.{good-leads}
 use Rattle.image_check.proofs.FreeTiles.{planted, tagged, tree-false, tree-true, unplanted}
 use Rattle.image_check.proofs.free_tree.check_free_tree.Goals as goal
-
-some-none : {X : Type 0} (o : Option X) → ((x : X) → o ≡ Some x → ⊥) → is_some o ≡ true → ⊥
-some-none None h e = false≢true e
-some-none (Some x) h e = h x refl
 
 pub returns-in_default-clause-value : goal.returns-in_default-clause-value
 returns-in_default-clause-value c =
@@ -69,8 +66,8 @@ returns-in_default-count_planted-clause-value c =
     let p = planted w (tagged w c.requires.size c.requires.tags) t in
     let s = subst (λ (o : Option ℕ). IsSearchTree (stands_before m) (place_cells w) o p.tree) (sym c.in-Ok.ensures.ok)
     p.search in
-    some-none c.count_planted.result c.in_default-count_planted.not-Some (c.count_planted.ensures.value p.tree s
-    ∙ p.all)))
+    both_ways (is_some c.count_planted.result) (not-given c.count_planted.result c.in_default-count_planted.not-Some)
+    (c.count_planted.ensures.value p.tree s ∙ p.all)))
 
 -- they are fewer than the nodes
 pub returns-then-counts-nodes-clause-value : goal.returns-then-counts-nodes-clause-value

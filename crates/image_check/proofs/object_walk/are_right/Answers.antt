@@ -1,14 +1,12 @@
 -- Each turn of the walk passes one tile in use.
 use Rattle.std.proofs.Common.{◌≡◌, ◌+◌, ◌-◌, ◌*◌, ◌/◌, ◌≤◌, refl, sym, ap, ◌∙◌, ℕ, true, false, inl, List, ◌∷◌, ◌++◌, length, arith}
-use Rattle.std.specs.Prelude.{Option, None, Some}
+use Rattle.std.specs.Prelude.{None}
 use Rattle.std.specs.List.{list_all}
 use Rattle.std.proofs.lemmas.Bool.{cond-false}
 use Rattle.raw_region.specs.Memory.{Cut, Memory, bytes_of}
-use Rattle.block_tags.specs.declared.tile.Role.{Role}
 use Rattle.block_tags.specs.declared.tile.Role.TheVariants.{Object}
 use Rattle.block_tags.specs.declared.tile.Tile.{Tile}
 use Rattle.block_tags.proofs.Laws.{tiles_are_read_off}
-use Rattle.best_fit.specs.Table.{same_role}
 use Rattle.best_fit.proofs.Laws.{said_row}
 use Rattle.image_check.specs.ObjectTests.{is_object_tile, is_use}
 use Rattle.image_check.specs.ObjectPasses.{is_right_tile, object_walk_rates}
@@ -16,7 +14,7 @@ use Rattle.image_check.specs.Owners.{frame_of}
 use Rattle.image_check.specs.Visits.{rate_of, weigh}
 use Rattle.image_check.proofs.IndexPlaces.{InRow, in-row}
 use Rattle.image_check.proofs.Members.{mem_right}
-use Rattle.image_check.proofs.RowWalks.{PassesGaps, RowAt, recoloured, row-at, rows-end, rows-on, rows-start}
+use Rattle.image_check.proofs.RowWalks.{PassesGaps, RowAt, free-object, recoloured, row-at, rows-end, rows-on, rows-start}
 use Rattle.image_check.proofs.WalkedTiles.{all-fails, all-more, tags-IsTiled}
 use Rattle.image_check.proofs.Weights.{weigh-more, weigh-front}
 use Rattle.image_check.proofs.object_walk.are_right.Goals as goal
@@ -28,8 +26,7 @@ Kept format w before visits ts = (list_all (is_right_tile format (bytes_of w.byt
 
 free-right : (format : ℕ) (m : Memory) (t : Tile) → t.use_of ≡ None → is_right_tile format m t ≡ true
 free-right format m t e =
-    cond-false (is_use Object t) (is_object_tile format m t) true
-    (ap (λ (u : Option Role). elim u [ None ↦ false | Some r ↦ same_role Object r ]) e)
+    cond-false (is_use Object t) (is_object_tile format m t) true (free-object t e)
 
 gaps : (format : ℕ) (w : Cut) (before visits : ℕ) → PassesGaps w (Kept format w before visits)
 gaps format w before visits g u a =

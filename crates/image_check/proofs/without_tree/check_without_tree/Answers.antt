@@ -1,20 +1,17 @@
-use Rattle.std.proofs.Common.{◌≡◌, refl, sym, ap, ◌∙◌, inl, inr, false}
-use Rattle.std.specs.Prelude.{Option, Some, None, is_some}
+use Rattle.std.proofs.Common.{refl, sym, ap, ◌∙◌, inl, inr}
+use Rattle.std.specs.Prelude.{is_some}
 use Rattle.std.proofs.lemmas.Bool.{eq-eqb, ne_eqb}
 use Rattle.raw_region.specs.Memory.{bytes_of, word_at}
+use Rattle.image_check.proofs.CountedTiles.{not-given}
 use Rattle.image_check.proofs.FormatTags.{plain-tiles}
 use Rattle.image_check.proofs.without_tree.check_without_tree.Goals as goal
-
-nothing : {X : Type 0} (o : Option X) → ((x : X) → o ≡ Some x → ⊥) → is_some o ≡ false
-nothing None h = refl
-nothing (Some x) h = absurd (h x refl)
 
 pub returns-in_default-clause-finds : goal.returns-in_default-clause-finds
 returns-in_default-clause-finds c =
     inl (
       refl,
       plain-tiles c.args.window.now.bytes c.requires.tiles ∙ sym c.count_plain.ensures.value
-          ∙ nothing c.count_plain.result c.in_default.not-Some,
+          ∙ not-given c.count_plain.result c.in_default.not-Some,
     )
 
 pub returns-then-header_word-ne-NULL-clause-finds : goal.returns-then-header_word-ne-NULL-clause-finds

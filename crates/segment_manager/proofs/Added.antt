@@ -8,13 +8,14 @@ use Rattle.segment_manager.proofs.Common.{beside_table, unlinked, without_link, 
 use Rattle.segment_manager.proofs.Common.{grown_capacity, Object, Directory, extents_of, is_object, live, object_at}
 use Rattle.segment_manager.proofs.Common.{with_object, Denotes, IsObjectAt, class_of_index, entries_of, table_of}
 use Rattle.segment_manager.proofs.Common.{with_table_of}
+use Rattle.seg_index.proofs.Laws.{place_behind}
 use Rattle.seg_index.specs.declared.index.Index.TheVariants as index
-use Rattle.segment_manager.proofs.AnyClass.{KeepsFront, denotes-put}
-use Rattle.segment_manager.proofs.{Calling.denotes-live, Frame.any_object-same, Live.adding}
+use Rattle.segment_manager.proofs.{AnyClass.KeepsFront, AnyClass.denotes-put, Calling.denotes-live}
+use Rattle.segment_manager.proofs.{Frame.any_object-same, Live.adding, Made.IsMade, Made.allocated-found}
+use Rattle.segment_manager.proofs.{Made.taken-found, Made.taken-live, Order.all_of-inserted, Order.inserted}
+use Rattle.segment_manager.proofs.{Order.live-rises}
 use Rattle.segment_manager.proofs.Entered.{HasOne, OfRest, entered-other, entered-own, has_both, key_in, of_all}
 use Rattle.segment_manager.proofs.Entered.{of_rest, other, other-stays, other-words}
-use Rattle.segment_manager.proofs.Made.{IsMade, allocated-found, taken-found, taken-live}
-use Rattle.segment_manager.proofs.Order.{all_of-inserted, inserted, live-rises}
 use Rattle.segment_manager.proofs.Tables.{index-left_out, last-table, left_out, live-moved_index, same-table, table-of}
 
 -- ---- the bytes once the entry is there
@@ -42,10 +43,6 @@ pub has-one : (i : Index) (b : List ℕ) (d : Directory) → Denotes current b d
 has-one index.Named b d k = record { is = k.directory.named; at = k.named }
 has-one index.Unique b d k = record { is = k.directory.unique; at = k.unique }
 
-pub place-low : (i : Index) → 32 ≤ place_of i
-place-low index.Named = omega arith
-place-low index.Unique = omega arith
-
 pub place-high : (i : Index) → place_of i + 24 ≤ 80
 place-high index.Named = omega arith
 place-high index.Unique = omega arith
@@ -58,7 +55,7 @@ entered-denotes i a b c d t o k keeps good at class none e =
     let A : Memory = bytes_of a.bytes in
     let B : Memory = bytes_of b.bytes in
     let C : Memory = bytes_of c.bytes in
-    let low = place-low i in
+    let low = place_behind i in
     let high = place-high i in
     let before : OfRest i (SameBlock A B) d = of_all i (SameBlock A B) d keeps.blocks in
     let parts : AllByRecursion (SameBlock B C) (extents_of o) × AllByRecursion (SameBlock B C) (live (with_table_of i d no_table)).extents =

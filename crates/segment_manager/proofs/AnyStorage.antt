@@ -6,7 +6,7 @@ use Rattle.segment_manager.proofs.Common.{same_kind, Key, Command, Place, Answer
 use Rattle.segment_manager.proofs.Common.{container_place, place_of_kind, sizes_at, sizes_at_kind, sizes_of}
 use Rattle.segment_manager.proofs.Common.{sizes_of_kind, Value, Numbers, Directory, Object, kind_of, live, object_at}
 use Rattle.segment_manager.proofs.Common.{IsMissing, Refuse, perform, Answers, IsStep, IsStepOfKind, State, StandsFor}
-use Rattle.segment_manager.proofs.Common.{effect, is_read_only, step, step_of_kind}
+use Rattle.segment_manager.proofs.Common.{effect, is_read_only, step, step_of_kind, Mode}
 use Rattle.segment_manager.proofs.{Refilled.refused-steps, Steps.step_of_kind-step, StorageSteps.has_storage}
 
 -- the object of the key, which is of the kind
@@ -29,19 +29,18 @@ pub nowhere-steps : (s : State) (key : Key) (why : Refusal) (c : Command) → is
 nowhere-steps s key why c writing m none = refused-steps s c why writing (λ d l. ap (perform d (live d)) (none d (m.missing d l)) ∙ (λ i. (Refused (sym m.is i), d)))
 
 -- the step of the kind is the command's
+pub of_kind-same : (mode : Mode) (d : Directory) (key : Key) (kind : Kind) (c : Command) → IsOfKindAt d key kind → step_of_kind mode d key kind c ≡ step mode d c
+of_kind-same mode d key kind c e =
+    step_of_kind-step mode d key kind c e.object e.is (eq-eqb (code_of kind) (code_of (kind_of e.object.value)) (ap code_of (sym e.kind_is)))
+
 pub of_kind-steps : (old new : State) (key : Key) (kind : Kind) (c : Command) (answer : Answer) → Answers old (λ d. kind_at d key) (Ok kind) → IsStepOfKind old new key kind c answer → IsStep old new c answer
 of_kind-steps old new key kind c answer a r = record {
   stays = r.stays;
-  answers = λ d k.
-      let e : IsOfKindAt d key kind = kind-told d key kind (a.answers d k) in
-      r.answers d k ∙ ap (λ (n : Answer × Directory). n.0) (same d e);
+  answers = λ d k. r.answers d k ∙ ap (λ (n : Answer × Directory). n.0) (of_kind-same old.mode d key kind c (kind-told d key kind (a.answers d k)));
   denotes = λ d k.
-      let e : IsOfKindAt d key kind = kind-told d key kind (a.answers d k) in
-      subst (λ (n : Answer × Directory). StandsFor new.cut.bytes n.1) (same d e) (r.denotes d k);
+      subst (λ (n : Answer × Directory). StandsFor new.cut.bytes n.1) (of_kind-same old.mode d key kind c (kind-told d key kind (a.answers d k)))
+      (r.denotes d k);
 }
-  where
-    same : (d : Directory) (e : IsOfKindAt d key kind) → step_of_kind old.mode d key kind c ≡ step old.mode d c
-    same d e = step_of_kind-step old.mode d key kind c e.object e.is (eq-eqb (code_of kind) (code_of (kind_of e.object.value)) (ap code_of (sym e.kind_is)))
 
 -- it has no storage
 pub kind-no_storage : (s : State) (key : Key) (kind : Kind) → has_storage kind ≡ false → Answers s (λ d. kind_at d key) (Ok kind)

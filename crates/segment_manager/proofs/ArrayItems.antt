@@ -13,9 +13,10 @@ use Rattle.segment_manager.proofs.Common.{handle_answer, step}
 use Rattle.std.specs.Iterator.{YieldsFirst, YieldsThen}
 use Rattle.std.proofs.lemmas.List.{append-nil, length-append}
 use Rattle.seg_types.specs.declared.kinds.Class.TheVariants.{Named, Unique}
+use Rattle.segment_manager.specs.declared.modes.Mode.TheVariants.{ReadOnly}
+use Rattle.segment_manager.specs.Items.{KeepsUnasked, TakesUntil}
 use Rattle.seg_types.specs.declared.refusals.Refusal.TheVariants as refusal
 use Rattle.seg_types.specs.Commands as asked
-use Rattle.segment_manager.specs.{declared.modes.Mode.TheVariants.ReadOnly, Items.KeepsUnasked, Items.TakesUntil}
 
 -- ---- the items
 
@@ -42,6 +43,16 @@ module _ {S A : Type 0} (items : S → List A) where
   taken-until w t xs h =
       let parts = taken-front w h.0 xs h.1 in
       ap length (sym (parts ∙ ap (λ l. xs ++ l) h.2.0 ∙ append-nil xs))
+
+-- what the plan is where there are too few items, or enough
+abbrev pub by-items : Directory → Key → ScalarKind → ℕ → List ℤ → Bool → Plan
+by-items d key k count zs few =
+    if few
+    then with_new_object d key (asked.Numbers k (replicate count (pos 0))) (λ o e. Reply (Refused OutOfRange) d)
+    else with_new_object d key (asked.Numbers k (take count zs)) (λ o e. Reply (Made (handle o.extent)) e)
+
+abbrev pub from-items : Directory → Key → ScalarKind → ℕ → List ℤ → Option Object → Plan
+from-items d key k count zs found = elim found as (λ _. Plan) [ Some o ↦ Refuse Exists | None ↦ by-items d key k count zs (nat_lt (length zs) count) ]
 
 -- ---- a call that is refused before items are taken is refused whatever they are
 
@@ -92,16 +103,6 @@ module _ (r : Refusal) (other : r ≡ OutOfRange → ⊥) where
       entry-same d l (class_of key) _ _ (λ e m. object-same d m key k zs ws (λ x. Reply (Refused OutOfRange) d)
       (λ x. Reply (Made (handle x)) (with_object e (record { class = class_of key; name = name_of key; value = Numbers k ws; extent = x })))
       long (λ x refused. absurd (other (reason refused))))
-
-  -- what the plan is where there are too few items, or enough
-  abbrev by-items : Directory → Key → ScalarKind → ℕ → List ℤ → Bool → Plan
-  by-items d key k count zs few =
-      if few
-      then with_new_object d key (asked.Numbers k (replicate count (pos 0))) (λ o e. Reply (Refused OutOfRange) d)
-      else with_new_object d key (asked.Numbers k (take count zs)) (λ o e. Reply (Made (handle o.extent)) e)
-
-  abbrev from-items : Directory → Key → ScalarKind → ℕ → List ℤ → Option Object → Plan
-  from-items d key k count zs found = elim found as (λ _. Plan) [ Some o ↦ Refuse Exists | None ↦ by-items d key k count zs (nat_lt (length zs) count) ]
 
   items-same : (d : Directory) (l : LiveSet) (key : Key) (k : ScalarKind) (n : ℕ) (zs : List ℤ) (found : Option Object) → 1 ≤ n → length zs ≡ n
       → IsSame (perform d l (from-items d key k n [] found)) (perform d l (from-items d key k n zs found))

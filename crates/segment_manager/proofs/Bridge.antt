@@ -10,20 +10,21 @@ use Rattle.segment_manager.proofs.Common.{Object, Directory, IsDirectory, has_ke
 use Rattle.segment_manager.proofs.Common.{object_at, remove_object, rises_from, same_bytes, with_object, without_object}
 use Rattle.segment_manager.proofs.Common.{Denotes, handles, IsEntry, Seeks, class_of_index, entries_of, objects_of}
 use Rattle.segment_manager.proofs.Common.{order_of, table_of}
+use Rattle.seg_index.specs.declared.keys.Key.{Key}
+use Rattle.seg_index.specs.Lookups.{order}
 use Rattle.seg_types.specs.Names as names
-use Rattle.seg_index.specs.{declared.keys.Key.Key, Lookups.order}
-use Rattle.segment_manager.proofs.{Words.first, Faces.named-without, Faces.unique-without, InUse.all-both, Live.IsIn}
+use Rattle.segment_manager.proofs.{Denoted.handles-length, Words.first, Faces.named-without, Faces.unique-without}
+use Rattle.segment_manager.proofs.{InUse.all-both, Live.IsIn, ObjectLists.all-found, ObjectLists.rises-rest}
+use Rattle.segment_manager.proofs.{Ranks.IsRanked, Ranks.all-ordered, Ranks.found-filter, Ranks.ordered-pairwise}
 use Rattle.segment_manager.proofs.HeldIndexes.{IsSort, all-in, denotes-rises, directory-index, entries-in}
-use Rattle.segment_manager.proofs.HeldIndexes.{handles-length, objects-ascend, order-strict}
+use Rattle.segment_manager.proofs.HeldIndexes.{objects-ascend, order-strict}
 use Rattle.segment_manager.proofs.Indexes.{index-parts, named-more, named-removed, rises-above, unique-more}
 use Rattle.segment_manager.proofs.Indexes.{unique-removed}
 use Rattle.segment_manager.proofs.KeyOrder.{Says, code-of, kinds-apart, kinds-class, kinds-say, name-of, same-itself}
 use Rattle.segment_manager.proofs.KeyOrder.{names-apart, names-class, names-say}
-use Rattle.segment_manager.proofs.ObjectLists.{all-found, rises-rest}
 use Rattle.segment_manager.proofs.EntryPlaces.{IsPlaceOf, all-at, all_of-ordered, ascends-at, at-all, at-handle}
 use Rattle.segment_manager.proofs.EntryPlaces.{insert-at, none-found, of-class, own-found, remove-at, stands-at}
 use Rattle.segment_manager.proofs.EntryPlaces.{StandsAt}
-use Rattle.segment_manager.proofs.Ranks.{IsRanked, all-ordered, found-filter, ordered-pairwise}
 
 -- what a place among the entries means: the object of the key, which that entry leads to
 pub record IsEntryFor (i : Index) (d : Directory) (key : names.Key) (at : ℕ) : Type 0 where

@@ -1,7 +1,7 @@
 -- The codes of kinds: each names one.
 use Rattle.segment_manager.proofs.Common.{◌≡◌, refl, sym, ℤ, true, Some, List, arith, eqb-true, ScalarKind, BoolKind}
 use Rattle.segment_manager.proofs.Common.{U8, Kind, Scalar, Vector, Map, code_of, kind_of_code, same_kind, scalar_code}
-use Rattle.segment_manager.proofs.Common.{Value, Numbers, kind_of}
+use Rattle.segment_manager.proofs.Common.{Value, Numbers, kind_of, IsTrue, current, is_kind_of}
 use Rattle.seg_types.specs.declared.kinds.ScalarKind.TheVariants.{I32, I64, U64}
 use Rattle.segment_manager.proofs.Heads.{scalar-small}
 
@@ -35,3 +35,9 @@ numbers-if k v e = let small = scalar-small k in absurd (omega arith)
 -- what is of the kind of a scalar is numbers of it
 pub numbers-only : (k : ScalarKind) (v : Value) → same_kind (Scalar k) (kind_of v) ≡ true → (zs : List ℤ) × (v ≡ Numbers k zs)
 numbers-only k v e = numbers-if k v (eqb-true (scalar_code k) (code_of (kind_of v)) e)
+
+-- a format that has vectors of strings is written: it has all kinds
+pub known-kind : (kind : Kind) → IsTrue (is_kind_of current kind)
+unfolding current
+known-kind (Scalar k) = refl
+known-kind k = refl

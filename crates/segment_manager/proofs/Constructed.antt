@@ -11,17 +11,19 @@ use Rattle.segment_manager.proofs.Common.{table_of, with_table_of, IsNewKeyOf, I
 use Rattle.segment_manager.proofs.Common.{Request, bare, class_of, name_of, perform, with_entry, with_new_object}
 use Rattle.segment_manager.proofs.Common.{with_value, NoSpace}
 use Rattle.best_fit.proofs.Laws.{AllByRecursion-insert}
+use Rattle.seg_index.specs.declared.keys.Key.{Key}
+use Rattle.seg_index.specs.Growth.{grown_live}
+use Rattle.segment_manager.specs.NewObjects.{FindsNone}
+use Rattle.seg_index.proofs.Laws.{place_behind, place_small}
 use Rattle.seg_types.specs.Names as names
 use Rattle.seg_types.specs.Commands as asked
-use Rattle.seg_index.specs.{declared.keys.Key.Key, Growth.grown_live}
-use Rattle.segment_manager.specs.NewObjects.{FindsNone}
-use Rattle.segment_manager.proofs.Added.{IsEntered, entered-denotes, entered-none, entered-some, grown_into, place-low}
 use Rattle.segment_manager.proofs.{Bridge.entry-added, Bridge.lookup-absent, Calling.denotes-live, Kept.denotes-kept}
 use Rattle.segment_manager.proofs.{Made.IsMade, Made.taken-index, Steps.perform-new, Steps.perform-no_space}
-use Rattle.segment_manager.proofs.{Tables.same-table, Taking.growth-index, Taking.place-high}
-use Rattle.segment_manager.proofs.HeldIndexes.{denotes-index, handles-length}
+use Rattle.segment_manager.proofs.{Tables.same-table, Taking.growth-index, HeldIndexes.denotes-index}
+use Rattle.segment_manager.proofs.{Denoted.handles-length, Requests.entry-grows, Requests.entry-refused}
+use Rattle.segment_manager.proofs.{Requests.entry-room}
+use Rattle.segment_manager.proofs.Added.{IsEntered, entered-denotes, entered-none, entered-some, grown_into}
 use Rattle.segment_manager.proofs.NewKeys.{key-class, key-has, key-name, key-own, key-seeks, object_of}
-use Rattle.segment_manager.proofs.Requests.{entry-grows, entry-refused, entry-room}
 
 -- what is made is the object, in a directory that the new bytes denote; and so the machine goes on
 pub record IsNewObject (new : Cut) (d : Directory) (key : names.Key) (content : Content) (h : ℕ) : Type 0 where
@@ -183,7 +185,7 @@ module _ (i : Index) (a : Cut) (d : Directory) (e : Key) (key : names.Key) (name
       let new' : IsNewKeyOf i e key name (kind_of v) = subst (IsNewKeyOf i e key name) (sym is_kind) new in
       let stands = denotes-index i a d said in
       let index : IsIndexOf w (place_of i) (table_of i d) (entries_of i d) =
-      taken-index b w (extents_of o) (place_of i) (table_of i d) (entries_of i d) made.taken (place-low i) (place-high i) (growth-index i a b g (table_of i d) (entries_of i d) grows stands) in
+      taken-index b w (extents_of o) (place_of i) (table_of i d) (entries_of i d) made.taken (place_behind i) (place_small i) (growth-index i a b g (table_of i d) (entries_of i d) grows stands) in
       let same : insert (entries_of i d) at (handle x) ≡ entries_of i (with_object d o) = entry-added i a d e key at o said (key-seeks i e key name kind new) away (key-has i e key name v x new') in
       let adds : Adds w c (place_of i) (table_of i d) (insert (entries_of i d) at (handle x)) g =
       subst (λ n. Adds w c (place_of i) (table_of i d) (insert (entries_of i d) at n) g) is (led.adds (table_of i d) (entries_of i d) index) in

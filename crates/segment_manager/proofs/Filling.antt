@@ -7,9 +7,9 @@ use Rattle.segment_manager.proofs.Common.{spelled}
 use Rattle.std.specs.Iterator.{HoldsAlong}
 use Rattle.std.proofs.lemmas.List.{map_push}
 use Rattle.segment_manager.specs.Begun.{IsItemWritten}
-use Rattle.segment_manager.proofs.Blocks.{spelled-length, spelling-length}
-use Rattle.segment_manager.proofs.{NewBlocks.changed-trans, Payloads.bytes-stay, Rows.Has-append}
-use Rattle.segment_manager.proofs.Words.{AllByRecursion-behind, first, second}
+use Rattle.seg_vector.proofs.Bytes.{Has-append}
+use Rattle.segment_manager.proofs.{Blocks.spelled-length, Blocks.spelling-length, NewBlocks.changed-trans}
+use Rattle.segment_manager.proofs.{Payloads.bytes-stay, Words.AllByRecursion-behind, Words.first, Words.second}
 
 -- ---- calls, and then one more
 

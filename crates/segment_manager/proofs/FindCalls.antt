@@ -6,11 +6,11 @@ use Rattle.segment_manager.proofs.Common.{place_of, Head, Answer, Number, Refuse
 use Rattle.segment_manager.proofs.Common.{named_objects, unique_objects, IsBelow, handle_at, entries_of, objects_of}
 use Rattle.segment_manager.proofs.Common.{table_of, Plan, Refuse, Reply, IsHeadOf, StandsAt, Answers, IsReply}
 use Rattle.segment_manager.proofs.Common.{IsSegment, State, StandsFor, found}
-use Rattle.seg_types.specs.Commands as asked
 use Rattle.segment_manager.specs.Answers.{Absent, Found}
-use Rattle.segment_manager.proofs.{Here.IsHere, Here.here, Here.nothing-here, KeyCalls.ForIndex, KeyCalls.of-directory}
-use Rattle.segment_manager.proofs.HeldIndexes.{denotes-index, handles-length}
-use Rattle.segment_manager.proofs.Steps.{open-reading, step-refuse, step-reply}
+use Rattle.seg_types.specs.Commands as asked
+use Rattle.segment_manager.proofs.{Denoted.handles-length, Here.IsHere, Here.here, Here.nothing-here, KeyCalls.ForIndex}
+use Rattle.segment_manager.proofs.{KeyCalls.of-directory, HeldIndexes.denotes-index, Steps.open-reading}
+use Rattle.segment_manager.proofs.{Steps.step-refuse, Steps.step-reply}
 
 -- ---- an object of a kind
 

@@ -1,19 +1,20 @@
 -- Bytes that denote a directory hold its two indexes: each stands in its heap with its block, and its entries lead to rising keys.
 use Rattle.segment_manager.proofs.Common.{◌≡◌, sym, subst, ◌∙◌, ℕ, ◌+◌, ◌≤◌, ◌%◌, true, Some, List, [], ◌∷◌, length}
 use Rattle.segment_manager.proofs.Common.{arith, Less, IsTrue, IfSome, AllByRecursion, nat_cmp, slice_cmp, le-leb}
-use Rattle.segment_manager.proofs.Common.{current, Cut, Memory, bytes_of, length-map, handle, extent_at, has_room}
-use Rattle.segment_manager.proofs.Common.{Index, Named, Unique, Name, Code, IsIndexOf, place_of, IsIndexAt, name_len_at}
-use Rattle.segment_manager.proofs.Common.{HasKeys, Object, Directory, IsDirectory, is_class, is_index, is_object, live}
-use Rattle.segment_manager.proofs.Common.{Denotes, IsObjectAt, handles, IsEntry, class_of_index, entries_of, objects_of}
+use Rattle.segment_manager.proofs.Common.{current, Cut, Memory, bytes_of, handle, extent_at, has_room, Index, Named}
+use Rattle.segment_manager.proofs.Common.{Unique, Name, Code, IsIndexOf, place_of, IsIndexAt, name_len_at, HasKeys}
+use Rattle.segment_manager.proofs.Common.{Object, Directory, IsDirectory, is_class, is_index, is_object, live, Denotes}
+use Rattle.segment_manager.proofs.Common.{IsObjectAt, handles, IsEntry, class_of_index, entries_of, objects_of}
 use Rattle.segment_manager.proofs.Common.{order_of, table_of}
-use Rattle.seg_index.specs.{declared.keys.Key.Key, Lookups.HasKey, Lookups.Rises, Lookups.key_end, Lookups.order_of_two}
-use Rattle.segment_manager.proofs.Calling.{denotes-heap, denotes-live}
-use Rattle.segment_manager.proofs.{Frame.object-roomy, KeyOrder.kind-less, KeyOrder.name-less, ObjectLists.each-true}
+use Rattle.seg_index.specs.declared.keys.Key.{Key}
+use Rattle.seg_index.specs.Lookups.{HasKey, Rises, key_end, order_of_two}
+use Rattle.segment_manager.proofs.{Words.AllByRecursion-filter, Denoted.handles-length, Calling.denotes-heap}
+use Rattle.segment_manager.proofs.{Calling.denotes-live, Frame.object-roomy, KeyOrder.kind-less, KeyOrder.name-less}
+use Rattle.segment_manager.proofs.{ObjectLists.each-true, Indexes.by_kind-strict, Indexes.by_name-strict}
+use Rattle.segment_manager.proofs.{Indexes.index-parts, Ranks.IsStrict, Ranks.all-ordered}
 use Rattle.segment_manager.proofs.Heads.{entries_say_objects, entry-name_len, good-name, good_name-short}
-use Rattle.segment_manager.proofs.Indexes.{by_kind-strict, by_name-strict, index-parts}
 use Rattle.segment_manager.proofs.InUse.{IsInUse, all-both, all-each, named-in_use, objects-in_use, unique-in_use}
 use Rattle.segment_manager.proofs.EntryPlaces.{Ascends, StandsAt, all-at, ascends-at, rises-ascends, stands-at}
-use Rattle.segment_manager.proofs.Ranks.{IsStrict, all-filter, all-ordered}
 
 -- ---- an index of a directory
 
@@ -27,16 +28,13 @@ directory-index format Unique d h = h.unique
 
 -- what holds of each object holds of each in an index
 pub all-in : (P : Object → Type 0) (i : Index) (d : Directory) → AllByRecursion P d.objects → AllByRecursion P (objects_of i d)
-all-in P i d a = all-ordered P (class_of_index i) (order_of i) d.objects (all-filter P (is_class (class_of_index i)) d.objects a)
+all-in P i d a = all-ordered P (class_of_index i) (order_of i) d.objects (AllByRecursion-filter P (is_class (class_of_index i)) d.objects a)
 
 -- ---- what the bytes hold
 
 all-handles : (P : ℕ → Type 0) (os : List Object) → AllByRecursion (λ (o : Object). P (handle o.extent)) os → AllByRecursion P (handles os)
 all-handles P [] a = tt
 all-handles P (o ∷ os) a = (a.0, all-handles P os a.1)
-
-pub handles-length : (os : List Object) → length (handles os) ≡ length os
-handles-length os = length-map os (λ o. handle o.extent)
 
 pub entries-few : (format : ℕ) (i : Index) (d : Directory) → IsDirectory format d → length (entries_of i d) ≤ (table_of i d).capacity
 entries-few format i d h = omega (arith, handles-length (objects_of i d), (index-parts (table_of i d) (objects_of i d) (order_of i) (directory-index format i d h)).1)

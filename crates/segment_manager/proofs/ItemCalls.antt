@@ -10,15 +10,16 @@ use Rattle.segment_manager.proofs.Common.{IsBegunAlone, IsBegunEntry, IsLoose, I
 use Rattle.segment_manager.proofs.Common.{Denotes, Numbers, Object, Directory, is_good_value, live, object_len, padded}
 use Rattle.segment_manager.proofs.Common.{with_object, object_at, IsBegunFor, IsMadeValue, class_of_index, entries_of}
 use Rattle.segment_manager.proofs.Common.{table_of, TakesItems, head_len, IsRestored, room_for, IsSegment, IsStep}
-use Rattle.segment_manager.proofs.Common.{State, StandsFor, is_read_only, effect, step, Plan, Refuse, Reply, perform}
+use Rattle.segment_manager.proofs.Common.{State, StandsFor, is_read_only, effect, step, Plan, Reply, perform}
 use Rattle.segment_manager.proofs.Common.{with_new_object, has_room, live_of}
+use Rattle.segment_manager.specs.Begun.{Fills, Finishes}
 use Rattle.seg_types.specs.Names as names
 use Rattle.seg_types.specs.Commands as asked
-use Rattle.segment_manager.specs.Begun.{Fills, Finishes}
-use Rattle.segment_manager.proofs.{Bridge.lookup-absent, Calling.denotes-live, HeldIndexes.denotes-index}
-use Rattle.segment_manager.proofs.{KeyCalls.segment-index, Loose.begun-room, MadeValues.headed-change}
+use Rattle.segment_manager.proofs.{ArrayItems.by-items, ArrayItems.from-items, Bridge.lookup-absent}
+use Rattle.segment_manager.proofs.{Calling.denotes-live, HeldIndexes.denotes-index, KeyCalls.segment-index}
+use Rattle.segment_manager.proofs.{Loose.begun-room, MadeValues.headed-change, NewKeys.key-seeks, NewKeys.numbers-value}
+use Rattle.segment_manager.proofs.{NewNumbers.numbers-made}
 use Rattle.segment_manager.proofs.Constructed.{IsMet, IsNewObject, numbers-met, restored-denotes, IsNoObject}
-use Rattle.segment_manager.proofs.{NewKeys.key-seeks, NewKeys.numbers-value, NewNumbers.numbers-made}
 use Rattle.segment_manager.proofs.NewValues.{IsMadeNever, IsMadeNow, away-in, key-taken, no_key-none, value-built}
 use Rattle.segment_manager.proofs.NewValues.{value-not_begun}
 use Rattle.segment_manager.proofs.Steps.{perform-new, refuses-read_only, by_no_change, by_step, lands, open-writing}
@@ -29,16 +30,6 @@ use Rattle.segment_manager.proofs.Steps.{step-plan, step-refuse, step-segment}
 -- the numbers that the machine asks blocks for: those that are taken, or as many zeros where there are too few
 abbrev pub asked_for : ℕ → List ℤ → List ℤ
 asked_for count zs = if nat_lt (length zs) count then replicate count (pos 0) else take count zs
-
--- what the plan is where there are too few items, or enough
-abbrev by-items : Directory → Key → ScalarKind → ℕ → List ℤ → Bool → Plan
-by-items d key k count zs few =
-    if few
-    then with_new_object d key (asked.Numbers k (replicate count (pos 0))) (λ o e. Reply (Refused OutOfRange) d)
-    else with_new_object d key (asked.Numbers k (take count zs)) (λ o e. Reply (Made (handle o.extent)) e)
-
-abbrev from-items : Directory → Key → ScalarKind → ℕ → List ℤ → Option Object → Plan
-from-items d key k count zs r = elim r as (λ _. Plan) [ Some o ↦ Refuse Exists | None ↦ by-items d key k count zs (nat_lt (length zs) count) ]
 
 module _ (old : State) (key : Key) (k : ScalarKind) (count : ℕ) (zs : List ℤ) (writing : is_read_only old.mode ≡ false) where
   abbrev c : Command

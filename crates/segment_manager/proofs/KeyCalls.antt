@@ -12,9 +12,10 @@ use Rattle.std.specs.Bool.{then_some}
 use Rattle.block_tags.specs.contracts.tile.Role.{the_type}
 use denote.Enum.Bare.{sameb}
 use Rattle.seg_types.specs.Names.{NoKey}
-use Rattle.segment_manager.proofs.Bridge.{IsEntryFor, IsNoEntryFor, lookup-absent, lookup-found}
-use Rattle.segment_manager.proofs.{Calling.denotes-live, Handles.handle-is-object, HeldIndexes.denotes-index}
-use Rattle.segment_manager.proofs.{HeldIndexes.denotes-keys, ObjectLists.found-handle, Order.Rising, Order.live-rises}
+use Rattle.segment_manager.proofs.{Bridge.IsEntryFor, Bridge.IsNoEntryFor, Bridge.lookup-absent, Bridge.lookup-found}
+use Rattle.segment_manager.proofs.{Calling.denotes-live, Handles.handle-is-object, Handles.or-none}
+use Rattle.segment_manager.proofs.{HeldIndexes.denotes-index, HeldIndexes.denotes-keys, ObjectLists.found-handle}
+use Rattle.segment_manager.proofs.{Order.Rising, Order.live-rises}
 
 -- ---- a handle from outside
 
@@ -27,10 +28,6 @@ passes t (Some x) = t x
 abbrev first_of : ℕ → List Extent → Option Extent
 first_of h xs = find (λ (x : Extent). handle x == h) xs
 
-or-false : (a b : Bool) → b ≡ false → (a || b) ≡ a
-or-false true b e = refl
-or-false false b e = e
-
 none-behind : (t : Extent → Bool) (h n : ℕ) (xs : List Extent) → h < n + 16 → Rising n xs → list_any (λ (x : Extent). (handle x == h) && t x) xs ≡ false
 none-behind t h n [] l r = refl
 none-behind t h n (x ∷ xs) l r =
@@ -40,7 +37,7 @@ none-behind t h n (x ∷ xs) l r =
 any-first-if : (t : Extent → Bool) (h : ℕ) (x : Extent) (xs : List Extent) (b : Bool) → (handle x == h) ≡ b → Rising (x.offset + 1) xs
     → list_any (λ (x : Extent). (handle x == h) && t x) xs ≡ passes t (first_of h xs)
     → ((b && t x) || list_any (λ (x : Extent). (handle x == h) && t x) xs) ≡ passes t (cond b (Some x) (first_of h xs))
-any-first-if t h x xs true e r k = or-false (t x) (list_any (λ (x : Extent). (handle x == h) && t x) xs) (none-behind t h (x.offset + 1) xs (omega (arith, eqb-true (handle x) h e)) r)
+any-first-if t h x xs true e r k = or-none (t x) (list_any (λ (x : Extent). (handle x == h) && t x) xs) (none-behind t h (x.offset + 1) xs (omega (arith, eqb-true (handle x) h e)) r)
 any-first-if t h x xs false e r k = k
 
 -- of extents that rise the first of a handle is the only one

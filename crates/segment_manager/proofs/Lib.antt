@@ -32,7 +32,6 @@ mod Taking
 mod NewKeys
 mod NewBlocks
 mod Constructed
-mod GivenBack
 mod Removed
 mod Tabled
 mod Reserves

@@ -4,10 +4,11 @@ use Rattle.segment_manager.proofs.Common.{Cut, current, ObjectRole, LiveSet, IsA
 use Rattle.segment_manager.proofs.Common.{is_live_in, live_of, allocated-is_live, allocated-room, changed-room}
 use Rattle.segment_manager.proofs.Common.{lay_out_one, Kind, Class, Anonymous, Key, GivesBack, place_of, NewEntry}
 use Rattle.segment_manager.proofs.Common.{IsBegun, IsHeaded, IsLoose, IsLooseAlone, IsLooseEntry, IsReadyFor, IsWanted}
-use Rattle.segment_manager.proofs.Common.{class_of_index, IsRestored, room_for}
-use Rattle.segment_manager.proofs.GivenBack.{request-back, taken-back}
-use Rattle.segment_manager.proofs.{Made.requested-taken, Payloads.changed-heap}
-use Rattle.segment_manager.proofs.Taking.{growth-held, ready, ready-count, requested-aligned, written-taken}
+use Rattle.segment_manager.proofs.Common.{class_of_index, IsRestored, room_for, Role, IndexRole, IsGrowth, grown_bytes}
+use Rattle.best_fit.proofs.Laws.{taken-back}
+use Rattle.segment_manager.proofs.Payloads.{changed-heap}
+use Rattle.segment_manager.proofs.Taking.{growth-held, ready, ready-count, requested-aligned, restored-taken}
+use Rattle.segment_manager.proofs.Taking.{written-taken}
 
 -- ---- begun: the value has room behind the head
 
@@ -46,25 +47,45 @@ loose-ready (Some e) old now h l = loose-wanted old now h e l
 
 -- ---- all is given back
 
--- the block is in use
+-- a block that was put in use and goes leaves the blocks that were in use before
+back-again : (a b c : Cut) (n : ℕ) (role : Role) (h : ℕ) → IsAllocated current a b n role h → IsReleased current b c h → IsRestored a c
+back-again a b c n role h took gone = let r = taken-back a b c n h role took gone in record { laid = r.laid; keeps = r.keeps }
+
+-- what an index took to grow into goes back, after what was taken behind it
+growth-back : (a b c e : Cut) (at : ℕ) (g : Option ℕ) → IsGrowth a b at g → IsRestored b c → GivesBack c e g → IsRestored a e
+growth-back a b c e at None grows r back =
+    subst (IsRestored a) (sym back) (subst (λ (s : Cut). IsRestored s c) grows.1 r)
+growth-back a b c e at (Some h) grows r back =
+    back-again a c e (grown_bytes a at) IndexRole h (restored-taken a b c (grown_bytes a at) IndexRole h grows.1 r) back
+
+-- the object's block is in use, with an entry to come or without
+alone-taken : (old now : Cut) (h : ℕ) → (l : IsLooseAlone old now h) → IsAllocated current old now l.len ObjectRole h
+alone-taken old now h l = written-taken old l.taken now l.len h l.takes l.change
+
+entry-taken : (old now : Cut) (h : ℕ) (e : NewEntry) → (l : IsLooseEntry old now h e) → IsAllocated current l.requested.between now l.len ObjectRole h
+entry-taken old now h e l = written-taken l.requested.between l.taken now l.len h l.requested.takes l.change
+
 pub loose-live : (entry : Option NewEntry) (old now : Cut) (h : ℕ) → IsLoose old now h entry → IsTrue (is_live_in (live_of now.bytes) h)
-loose-live None old now h l = allocated-is_live current old now l.len ObjectRole h (written-taken old l.taken now l.len h l.takes l.change)
+loose-live None old now h l = allocated-is_live current old now l.len ObjectRole h (alone-taken old now h l)
 loose-live (Some e) old now h l =
-    allocated-is_live current l.requested.between now l.len ObjectRole h (written-taken l.requested.between l.taken now l.len h l.requested.takes l.change)
+    allocated-is_live current l.requested.between now l.len ObjectRole h (entry-taken old now h e l)
 
 pub alone-back : (old now new : Cut) (h : ℕ) → IsLooseAlone old now h → IsReleased current now new h → IsRestored old new
-alone-back old now new h l gone =
-    let took : IsAllocated current old now l.len ObjectRole h = written-taken old l.taken now l.len h l.takes l.change in
-    taken-back old now new took.extent (requested-taken old now l.len ObjectRole h took) (subst (IsReleased current now new) took.at gone)
+alone-back old now new h l gone = back-again old now new l.len ObjectRole h (alone-taken old now h l) gone
 
 -- once it is given back, what the index took is in use still
+object-back : (old now new : Cut) (h : ℕ) (e : NewEntry) → (l : IsLooseEntry old now h e) → IsReleased current now new h → IsRestored l.requested.between new
+object-back old now new h e l gone =
+    back-again l.requested.between now new l.len ObjectRole h (entry-taken old now h e l) gone
+
 pub loose-held : (old now new : Cut) (h : ℕ) (e : NewEntry) → IsLooseEntry old now h e → IsReleased current now new h → IfSome e.growth.block (λ g. IsTrue (is_live_in (live_of new.bytes) g))
 loose-held old now new h e l gone =
-    let r = l.requested in
-    let took : IsAllocated current r.between now l.len ObjectRole h = written-taken r.between l.taken now l.len h r.takes l.change in
-    let back : IsRestored r.between new = taken-back r.between now new took.extent (requested-taken r.between now l.len ObjectRole h took) (subst (IsReleased current now new) took.at gone) in
-    subst (λ (s : LiveSet). IfSome e.growth.block (λ g. IsTrue (is_live_in s g))) (sym (lay_out_one current new.bytes (live_of r.between.bytes) back.laid))
-    (growth-held old r.between (place_of e.index) e.growth.block r.grows)
+    let mid : Cut = l.requested.between in
+    subst (λ (s : LiveSet). IfSome e.growth.block (λ g. IsTrue (is_live_in s g)))
+    (sym (lay_out_one current new.bytes (live_of mid.bytes) (object-back old now new h e l gone).laid))
+    (growth-held old mid (place_of e.index) e.growth.block l.requested.grows)
 
 pub entry-back : (old now mid new : Cut) (h : ℕ) (e : NewEntry) → IsLooseEntry old now h e → IsReleased current now mid h → GivesBack mid new e.growth.block → IsRestored old new
-entry-back old now mid new h e l gone back = request-back old l.taken now mid new (place_of e.index) l.len h e.growth.block l.requested l.change gone back
+entry-back old now mid new h e l gone back =
+    growth-back old l.requested.between mid new (place_of e.index) e.growth.block l.requested.grows
+    (object-back old now mid h e l gone) back

@@ -8,21 +8,23 @@ use Rattle.segment_manager.proofs.Common.{transitive, Erases, IsErased, IsFull, 
 use Rattle.segment_manager.proofs.Common.{pair_at, put_pair, remove_pair, NumberPair, FindsValue, nodes_of_pairs}
 use Rattle.segment_manager.proofs.Common.{value_of_pair, ContainerPlace, Element, Refused, Truth, container_at}
 use Rattle.segment_manager.proofs.Common.{container_place, Denotes, Pairs, Object, Directory, kind_of, live, object_at}
-use Rattle.segment_manager.proofs.Common.{HasPairs, map_at, numbers_of, told_of, told_of_map, value_or_absent, New}
-use Rattle.segment_manager.proofs.Common.{Plan, Reply, Request, perform, with, Answers, IsReplyOfKind, IsSegment}
-use Rattle.segment_manager.proofs.Common.{IsStepOfKind, State, StandsFor, and_then, changed, effect, is_read_only}
-use Rattle.segment_manager.proofs.Common.{map_of, pair_of, step_of_kind}
-use Rattle.seg_types.specs.Commands as asked
+use Rattle.segment_manager.proofs.Common.{AnswersSafely, HasPairs, map_at, numbers_of, told_of, told_of_map}
+use Rattle.segment_manager.proofs.Common.{value_or_absent, New, Plan, Reply, Request, perform, with, Answers}
+use Rattle.segment_manager.proofs.Common.{IsReplyOfKind, IsSegment, IsStepOfKind, State, StandsFor, and_then, changed}
+use Rattle.segment_manager.proofs.Common.{effect, is_read_only, map_of, pair_of, step_of_kind}
 use Rattle.seg_map.specs.declared.places.Place.{Place}
 use Rattle.seg_map.proofs.Laws.{replaced_nodes}
-use Rattle.segment_manager.specs.{Answers.Absent, Maps.IsPairs, State.truth_answer}
+use Rattle.segment_manager.specs.Answers.{Absent}
+use Rattle.segment_manager.specs.Maps.{IsPairs}
+use Rattle.segment_manager.specs.State.{truth_answer}
+use Rattle.seg_types.specs.Commands as asked
 use Rattle.segment_manager.specs.Step as step
-use Rattle.segment_manager.proofs.{Calling.denotes-live, Here.standing, ObjectLists.key-found, Safely.AnswersSafely}
-use Rattle.segment_manager.proofs.{StorageSteps.step_of_kind-reply, Stored.literal-read}
-use Rattle.segment_manager.proofs.MapBlocks.{blocks-in_use, found-key}
+use Rattle.segment_manager.proofs.{Calling.denotes-live, Here.standing, ObjectLists.key-found}
+use Rattle.segment_manager.proofs.{StorageSteps.step_of_kind-reply, Stored.literal-read, MapBlocks.blocks-in_use}
+use Rattle.segment_manager.proofs.{MapBlocks.found-key, Refilled.HoldsAt, Refilled.finds-no_container}
+use Rattle.segment_manager.proofs.{Refilled.holds-at}
 use Rattle.segment_manager.proofs.MapSteps.{IsMapObject, again-denotes, erased-denotes, map-only, map_place, object-map}
 use Rattle.segment_manager.proofs.MapSteps.{put-denotes}
-use Rattle.segment_manager.proofs.Refilled.{HoldsAt, finds-no_container, holds-at}
 use Rattle.segment_manager.proofs.Steps.{IsMove, IsOpenFor, by_no_change_of_kind, by_step_of_kind, open-reading}
 use Rattle.segment_manager.proofs.Steps.{open-writing, perform-new, perform-no_space, step_of_kind-found, with-found}
 

@@ -1,11 +1,10 @@
 -- An object made under a key whose value takes blocks of its own, whatever it is, as a step of the machine: its requests are met in order,
 -- or one is refused and all is given back.
-use Rattle.segment_manager.proofs.Common.{◌≡◌, refl, sym, ap, subst, ◌∙◌, ℕ, ◌+◌, ◌-◌, ◌≤◌, ◌/◌, ◌%◌, true, ◌&&◌, ◌==◌}
-use Rattle.segment_manager.proofs.Common.{inl, inr, Some, None, Option, List, [], ◌∷◌, length, arith, IsTrue, find}
-use Rattle.segment_manager.proofs.Common.{and_from, current, Cut, SamePlace, bytes_of, word_at, SamePlace-trans}
-use Rattle.segment_manager.proofs.Common.{ObjectRole, Extent, LiveSet, added, place, resized, IsAllocated, IsChanged}
-use Rattle.segment_manager.proofs.Common.{IsRefused, Keeps, LaysOut, SameBlock, live_of, Table, serves, allocated-live}
-use Rattle.segment_manager.proofs.Common.{keeps-trans, laid-heap, Class, Anonymous, Kind, Scalar, Refusal, NoSpace}
+use Rattle.segment_manager.proofs.Common.{◌≡◌, refl, sym, ap, subst, ◌∙◌, ℕ, ◌+◌, ◌≤◌, true, ◌&&◌, inl, inr, Some, None}
+use Rattle.segment_manager.proofs.Common.{Option, List, [], ◌∷◌, length, IsTrue, find, and_from, current, Cut}
+use Rattle.segment_manager.proofs.Common.{SamePlace, bytes_of, SamePlace-trans, ObjectRole, Extent, LiveSet, added}
+use Rattle.segment_manager.proofs.Common.{place, resized, IsAllocated, IsChanged, IsRefused, Keeps, LaysOut, live_of}
+use Rattle.segment_manager.proofs.Common.{Table, serves, laid-heap, Class, Anonymous, Kind, Refusal, NoSpace}
 use Rattle.segment_manager.proofs.Common.{is_kind_of, Content, Index, Absent, IsIndexOf, place_of, AddKeeps, CanGrow}
 use Rattle.segment_manager.proofs.Common.{IsGrowth, IsPlace, prepared, NewEntry, IsAbsentAt, IsBegun, IsBegunAlone}
 use Rattle.segment_manager.proofs.Common.{IsBegunEntry, IsHeaded, IsLoose, IsNotBegun, IsReadyFor, IsTakenKey, IsWanted}
@@ -14,26 +13,19 @@ use Rattle.segment_manager.proofs.Common.{is_good_value, is_object, kind_of, liv
 use Rattle.segment_manager.proofs.Common.{value_extents, value_len, with_object, IsDenied, IsGiven, IsMadeValue}
 use Rattle.segment_manager.proofs.Common.{IsNoValue, class_of_index, entries_of, table_of, head_len, IsNewKeyOf}
 use Rattle.segment_manager.proofs.Common.{IsRestored, Plan, bare, with_value, room_for, IsSegment, StandsFor}
-use Rattle.seg_types.specs.Names as names
 use Rattle.seg_index.specs.declared.keys.Key.{Key}
 use Rattle.segment_manager.specs.Begun.{GivesAllBack, IsEntryAdded, IsUnmetEntry}
-use Rattle.segment_manager.proofs.{Bridge.lookup-absent, Bridge.lookup-found, Calling.denotes-live}
+use Rattle.seg_index.proofs.Laws.{place_behind, place_small}
+use Rattle.seg_types.specs.Names as names
+use Rattle.segment_manager.proofs.{Codes.known-kind, Bridge.lookup-absent, Bridge.lookup-found, Calling.denotes-live}
 use Rattle.segment_manager.proofs.{Denoted.denotes-with, HeldIndexes.denotes-index, KeyCalls.segment-index, Live.adding}
-use Rattle.segment_manager.proofs.{NewBlocks.allocated-serves, NewKeys.key-object, NewKeys.key-seeks}
-use Rattle.segment_manager.proofs.{Order.all_of-insert, Steps.perform-new, Steps.perform-no_space}
+use Rattle.segment_manager.proofs.{NewBlocks.allocated-serves, NewKeys.key-object, NewKeys.key-seeks, Steps.perform-new}
+use Rattle.segment_manager.proofs.{Steps.perform-no_space, Made.IsMade, Made.IsTaken, Made.taken-growth}
+use Rattle.segment_manager.proofs.{Made.taken-index, MadeValues.empty-taken, MadeValues.made-object}
+use Rattle.segment_manager.proofs.{MadeValues.made-taken, MadeValues.placed-next, Taking.growth-index}
+use Rattle.segment_manager.proofs.{Taking.requested-aligned, Taking.restored-taken}
 use Rattle.segment_manager.proofs.Constructed.{IsNewObject, IsNoObject, content-denied, content-entered, content-none}
 use Rattle.segment_manager.proofs.Constructed.{restored-denotes}
-use Rattle.segment_manager.proofs.Made.{IsMade, IsTaken, taken-growth, taken-index}
-use Rattle.segment_manager.proofs.MadeValues.{empty-taken, made-object, made-taken, placed-next}
-use Rattle.segment_manager.proofs.Taking.{growth-index, place-high, place-low, requested-aligned}
-
--- ---- kinds
-
--- a format that has vectors of strings is written: it has all kinds
-pub known-kind : (kind : Kind) → IsTrue (is_kind_of current kind)
-unfolding current
-known-kind (Scalar k) = refl
-known-kind k = refl
 
 -- ---- places
 
@@ -65,29 +57,6 @@ pub record IsMadeNow (a c : Cut) (key : names.Key) (content : Content) (h : ℕ)
 pub record IsMadeNever (a c : Cut) (key : names.Key) (content : Content) : Type 0 where
   pub place : SamePlace a c
   pub each : (d : Directory) → StandsFor a.bytes d → (object_at d key ≡ None) × IsNoObject c d key content
-
--- ---- blocks as they were
-
--- a block that was taken is taken still
-pub restored-taken : (a m w : Cut) (n h : ℕ) → IsAllocated current a m n ObjectRole h → IsRestored m w → IsAllocated current a w n ObjectRole h
-restored-taken a m w n h t r =
-    let is : live_of m.bytes ≡ added (live_of a.bytes) t.extent = allocated-live current a m n ObjectRole h t in
-    let kept : Keeps m w (added (live_of a.bytes) t.extent).extents = subst (λ (l : LiveSet). Keeps m w l.extents) is r.keeps in
-    let each = all_of-insert (SameBlock (bytes_of m.bytes) (bytes_of w.bytes)) t.extent (live_of a.bytes).extents kept.blocks in
-    let colour = each.0.colour in
-    let at = t.at in
-    let tag : h - 8 ≡ t.extent.offset + 8 = omega arith in
-    let same : word_at (bytes_of w.bytes) (h - 8) / 2 % 2 ≡ word_at (bytes_of m.bytes) (h - 8) / 2 % 2 =
-    subst (λ k. word_at (bytes_of w.bytes) k / 2 % 2 ≡ word_at (bytes_of m.bytes) k / 2 % 2) (sym tag) (omega arith) in
-    record {
-      extent = t.extent;
-      placed = t.placed;
-      at = t.at;
-      live = subst (LaysOut current w.bytes) is r.laid;
-      black = ap (λ k. k == 1) same ∙ t.black;
-      keeps = keeps-trans a m w (live_of a.bytes).extents t.keeps
-          (record { place = kept.place; front = kept.front; behind = kept.behind; blocks = each.1 });
-    }
 
 unchanged : (w : Cut) (l : LiveSet) (from n : ℕ) → LaysOut current w.bytes l → IsChanged current w w from n
 unchanged w l from n laid = record { place = record { before = refl; after = refl }; live = laid-heap w.bytes l laid; rest = record { at = λ k h. refl } }
@@ -241,13 +210,13 @@ module _ (content : Content) where
         let x : IsIndexOf a (place_of i) t hs = denotes-index i a d b.1.denotes in
         let took = block mid g.taken m w (class_of_index i) g.name h at g.requested.takes g.headed r in
         let taken = entry-taken w e g r in
-        let grown : CanGrow mid (place_of i) e.growth.block = prepared a mid (place_of i) e.growth.block t hs x g.requested.grows (place-low i) (place-high i) in
+        let grown : CanGrow mid (place_of i) e.growth.block = prepared a mid (place_of i) e.growth.block t hs x g.requested.grows (place_behind i) (place_small i) in
         let index : IsIndexOf w (place_of i) t hs =
-        taken-index mid w _ (place_of i) t hs taken (place-low i) (place-high i) (growth-index i a mid e.growth.block t hs g.requested.grows x) in
+        taken-index mid w _ (place_of i) t hs taken (place_behind i) (place_small i) (growth-index i a mid e.growth.block t hs g.requested.grows x) in
         let away = g.absent t hs x in
         record {
           index = record { table = t; handles = hs; index = index };
-          growth = taken-growth mid w _ (place_of i) e.growth.block taken (place-low i) (place-high i) grown;
+          growth = taken-growth mid w _ (place_of i) e.growth.block taken (place_behind i) (place_small i) grown;
           within = subst (λ n. e.place ≤ n) (sym index.stands.count) away.0;
           aligned = requested-aligned mid r.empty (room_for g.name long) h took;
         }
@@ -260,7 +229,7 @@ module _ (content : Content) where
     value-loose None w why g r = record {
       len = room_for [] long;
       taken = w;
-      takes = restored-taken a r.empty w (room_for [] long) h (empty-taken a g.taken m r.empty kind Anonymous [] many long h at g.takes g.headed r.change) r.restored;
+      takes = restored-taken a r.empty w (room_for [] long) ObjectRole h (empty-taken a g.taken m r.empty kind Anonymous [] many long h at g.takes g.headed r.change) r.restored;
       change = unchanged w (live_of r.empty.bytes) h (room_for [] long) r.restored.laid;
     }
     value-loose (Some e) w why g r =
@@ -273,7 +242,7 @@ module _ (content : Content) where
           requested = record {
             between = mid;
             grows = g.requested.grows;
-            takes = restored-taken mid r.empty w (room_for g.name long) h (empty-taken mid g.taken m r.empty kind (class_of_index e.index) g.name many long h at g.requested.takes g.headed r.change) r.restored;
+            takes = restored-taken mid r.empty w (room_for g.name long) ObjectRole h (empty-taken mid g.taken m r.empty kind (class_of_index e.index) g.name many long h at g.requested.takes g.headed r.change) r.restored;
           };
           change = unchanged w (live_of r.empty.bytes) h (room_for g.name long) r.restored.laid;
           index = segment-index a e.index b;

@@ -11,12 +11,14 @@ use Rattle.std.proofs.Common.{add-one}
 use Rattle.block_tags.specs.Tiles.{tile_at, tiles_from}
 use Rattle.best_fit.specs.Extents.{Span as LiveSpan}
 use Rattle.best_fit.proofs.Laws.{IsFirst, proper_from-IsFirst, proper_from-reaches}
-use Rattle.segment_manager.specs.{declared.tiles.Span.Span, Calls.as_span}
+use Rattle.segment_manager.specs.declared.tiles.Span.{Span}
+use Rattle.segment_manager.specs.Calls.{as_span}
 use Rattle.segment_manager.specs.Iterating.{GoesOnOwn, GoesOnTiles, HasPassed, IsOwnBlock, TileWalk, own_before}
 use Rattle.segment_manager.specs.Iterating.{own_count}
 use Rattle.segment_manager.proofs.{Bridge.each-by_handle, Calling.denotes-live, EntryPlaces.all-at}
 use Rattle.segment_manager.proofs.{ObjectLists.rises-front, ObjectLists.rises-rest, Words.second, Words.first}
-use Rattle.segment_manager.proofs.OwnBlocks.{all-own_spans, as_used, blocks, own-blocks}
+use Rattle.segment_manager.proofs.{Words.AllByRecursion-filter, Words.none_more, OwnBlocks.all-own_spans}
+use Rattle.segment_manager.proofs.{OwnBlocks.as_used, OwnBlocks.blocks, OwnBlocks.own-blocks}
 
 -- ---- places among those that pass
 
@@ -131,11 +133,6 @@ module _ (old cur new : TileWalk) (s : IsStill old cur) where
 
 -- ---- the object at a place
 
-none-behind : {X : Type 0} (xs : List X) (i : ℕ) → slice_get xs i ≡ None → length xs ≤ i
-none-behind [] i e = omega arith
-none-behind (x ∷ xs) zero e = absurd (none-some x (sym e))
-none-behind (x ∷ xs) (suc i) e = let rest : length xs ≤ i = none-behind xs i e in omega arith
-
 none-mapped : {X Y : Type 0} (f : X → Y) (xs : List X) (i : ℕ) → slice_get (map f xs) i ≡ None → slice_get xs i ≡ None
 none-mapped f [] i e = refl
 none-mapped f (x ∷ xs) zero e = absurd (none-some (f x) (sym e))
@@ -144,7 +141,7 @@ none-mapped f (x ∷ xs) (suc i) e = none-mapped f xs i e
 -- all objects came
 pub objects-end : (s : State) (at : ℕ) (d : Directory) → StandsFor s.cut.bytes d → None ≡ slice_get (own_spans d) at → length d.objects ≤ at
 objects-end s at d k e =
-    none-behind d.objects at
+    none_more d.objects at
     (none-mapped (λ (o : Object). o.extent) d.objects at
     (none-mapped as_used (blocks d.objects) at (ap (λ ss. slice_get ss at) (sym (all-own_spans current d k.denotes.directory)) ∙ sym e)))
 
@@ -201,14 +198,6 @@ all-within from (x ∷ xs) to p =
     let f : IsFirst from x xs to = proper_from-IsFirst from x xs to p in
     (proper_from-reaches (end_of x) xs to f.rest, all-within (end_of x) xs to f.rest)
 
-kept : {X : Type 0} (P : X → Type 0) (p : X → Bool) (b : Bool) (x : X) (xs : List X) → P x → AllByRecursion P xs → AllByRecursion P (cond b (x ∷ xs) xs)
-kept P p true x xs a h = (a, h)
-kept P p false x xs a h = h
-
-all-kept : {X : Type 0} (P : X → Type 0) (p : X → Bool) (xs : List X) → AllByRecursion P xs → AllByRecursion P (filter p xs)
-all-kept P p [] h = tt
-all-kept P p (x ∷ xs) h = kept P p (p x) x (filter p xs) h.0 (all-kept P p xs h.1)
-
 all-blocks : (P : Extent → Type 0) (os : List Object) → AllByRecursion P (blocks os) → AllByRecursion (λ (o : Object). P o.extent) os
 all-blocks P [] h = tt
 all-blocks P (o ∷ os) h = (h.0, all-blocks P os h.1)
@@ -222,7 +211,7 @@ own-within : (b : List ℕ) (d : Directory) → StandsFor b d → AllByRecursion
 own-within b d k =
     all-blocks (λ (x : Extent). end_of x ≤ (live d).size - 16) d.objects
     (subst (AllByRecursion (λ (x : Extent). end_of x ≤ (live d).size - 16)) (own-blocks current d k.denotes.directory)
-    (all-kept (λ (x : Extent). end_of x ≤ (live d).size - 16) is_own (live d).extents (live-within d k.denotes.directory.proper)))
+    (AllByRecursion-filter (λ (x : Extent). end_of x ≤ (live d).size - 16) is_own (live d).extents (live-within d k.denotes.directory.proper)))
 
 pub owner-short : (s : State) (at : ℕ) (span : Span) → IsSegment s.cut.bytes → ((d : Directory) → StandsFor s.cut.bytes d → Some (as_span span) ≡ slice_get (own_spans d) at)
     → span.offset ≤ 1073741824

@@ -3,6 +3,7 @@ use Rattle.segment_manager.proofs.Common.{◌≡◌, ℕ, zero, suc, ◌+◌, �
 use Rattle.segment_manager.proofs.Common.{length, take, nat_lt, Option, Some, None, Result, Ok, Err, slice_get, refl}
 use Rattle.segment_manager.proofs.Common.{sym, ap, subst, ◌∙◌, append_assoc, arith, flat_map, ltb-true, ltb-false}
 use Rattle.segment_manager.proofs.Common.{take_all, slice_get_within}
+use Rattle.segment_manager.proofs.Words.{none_more}
 use Rattle.std.specs.Result.{IsErr}
 use Rattle.std.proofs.{lemmas.Grind.flat_map-append, lemmas.Option.get_or_from_slice_get}
 use Rattle.std.proofs.lemmas.List.{append-nil, take_more}
@@ -41,11 +42,6 @@ split part i (suc n) h = split-if part i n (nat_lt i n) refl h (split part i n)
 pub parts-same : (f g : ℕ → List ℕ) (n : ℕ) → ((i : ℕ) → f i ≡ g i) → parts_until f n ≡ parts_until g n
 parts-same f g zero h = refl
 parts-same f g (suc n) h = ap (λ l. l ++ f n) (parts-same f g n h) ∙ ap (λ l. parts_until g n ++ l) (h n)
-
-none_more : {X : Type 0} (xs : List X) (i : ℕ) → slice_get xs i ≡ None → length xs ≤ i
-none_more [] i e = omega arith
-none_more (x ∷ xs) zero e = absurd (cc)
-none_more (x ∷ xs) (suc i) e = let h = none_more xs i e in omega arith
 
 -- one element more, if there is one
 taken : {X : Type 0} (f : X → List ℕ) (xs : List X) (i : ℕ) (r : Option X) → slice_get xs i ≡ r → flat_map f (take (i + 1) xs) ≡ flat_map f (take i xs) ++ part_of f r

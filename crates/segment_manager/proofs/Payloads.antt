@@ -1,28 +1,18 @@
 -- The payload of a block, as it is lent and as contracts count its room.
-use Rattle.segment_manager.proofs.Common.{◌≡◌, sym, ap, subst, ◌∙◌, ℕ, ◌+◌, ◌-◌, ◌≤◌, ◌⊎◌, inl, inr, ◌&&◌, ◌==◌, true}
-use Rattle.segment_manager.proofs.Common.{List, [], ◌∷◌, length, arith, IsTrue, list_any, or_cases, or_left, or_right}
-use Rattle.segment_manager.proofs.Common.{Cut, Has, Same, bytes_of, part, read, word_at, current, Extent, LiveSet}
-use Rattle.segment_manager.proofs.Common.{handle, holds, IsChanged, IsHeap, LaysOut, has_room, is_live_in, live_of}
-use Rattle.segment_manager.proofs.Common.{Has-same, Same-word, SameBut-Same, changed-live, room_block}
+use Rattle.segment_manager.proofs.Common.{◌≡◌, sym, ap, subst, ◌∙◌, ℕ, ◌+◌, ◌-◌, ◌≤◌, inl, List, length, arith, IsTrue}
+use Rattle.segment_manager.proofs.Common.{Cut, Has, Same, bytes_of, part, read, word_at, current, LiveSet, IsChanged}
+use Rattle.segment_manager.proofs.Common.{IsHeap, LaysOut, has_room, is_live_in, live_of, Has-same, Same-word}
+use Rattle.segment_manager.proofs.Common.{SameBut-Same, changed-live, room_block}
 use Rattle.best_fit.specs.Heap.{payload_at}
 use Rattle.raw_region.proofs.Laws.{length-part, part-part, read-part}
 use Rattle.best_fit.proofs.Laws.{block_payload}
-use Rattle.segment_manager.proofs.Words.{first}
+use Rattle.seg_vector.proofs.Storage.{live-if}
 
 -- ---- blocks with room are in use
 
-live-if : (h n : ℕ) (x : Extent) (xs : List Extent) → (IsTrue (list_any (λ (y : Extent). (handle y == h) && holds y n) xs) → IsTrue (list_any (λ (y : Extent). handle y == h) xs))
-    → (((handle x == h) && holds x n) ≡ true) ⊎ (list_any (λ (y : Extent). (handle y == h) && holds y n) xs ≡ true) → IsTrue (list_any (λ (y : Extent). handle y == h) (x ∷ xs))
-live-if h n x xs rest (inl t) = or_left (handle x == h) (list_any (λ (y : Extent). handle y == h) xs) (first (handle x == h) (holds x n) t)
-live-if h n x xs rest (inr t) = or_right (handle x == h) (list_any (λ (y : Extent). handle y == h) xs) (rest t)
-
-live-in : (h n : ℕ) (xs : List Extent) → IsTrue (list_any (λ (x : Extent). (handle x == h) && holds x n) xs) → IsTrue (list_any (λ (x : Extent). handle x == h) xs)
-live-in h n [] t = t
-live-in h n (x ∷ xs) t = live-if h n x xs (live-in h n xs) (or_cases ((handle x == h) && holds x n) (list_any (λ (y : Extent). (handle y == h) && holds y n) xs) t)
-
 -- a block with room is in use
 pub room-live : (l : LiveSet) (h n : ℕ) → IsTrue (has_room l h n) → IsTrue (is_live_in l h)
-room-live l h n t = live-in h n l.extents t
+room-live l h n t = live-if h n l.extents t
 
 -- ---- what a block lends
 

@@ -5,9 +5,10 @@ use Rattle.segment_manager.proofs.Common.{bytes_of, word_at, current, IsChanged,
 use Rattle.segment_manager.proofs.Common.{class_code, code_of, padded, padded_name, two_halves, IsHeadAt, repeated}
 use Rattle.segment_manager.proofs.Common.{changed-room}
 use Rattle.std.proofs.lemmas.List.{take-replicate}
-use Rattle.segment_manager.proofs.NewBlocks.{changed-trans, room-less}
-use Rattle.segment_manager.proofs.Payloads.{bytes-stay, room-small, word-stays}
-use Rattle.segment_manager.proofs.Rows.{Has-append, repeated-length, repeated-more}
+use Rattle.best_fit.proofs.Laws.{room-less}
+use Rattle.seg_vector.proofs.Bytes.{Has-append}
+use Rattle.segment_manager.proofs.{NewBlocks.changed-trans, Payloads.bytes-stay, Payloads.room-small}
+use Rattle.segment_manager.proofs.{Payloads.word-stays, Rows.repeated-length, Rows.repeated-more}
 
 -- ---- the same bytes several times
 

@@ -11,18 +11,19 @@ use Rattle.segment_manager.proofs.Common.{Value, Elements, Bytes, Pairs, Texts, 
 use Rattle.segment_manager.proofs.Common.{kind_of, object_at, padded, value_extents, value_len, head_len, HasPairs}
 use Rattle.segment_manager.proofs.Common.{ReleasesPairs, numbers_of, HasObject, IsHeadOf, StandsAt, StandsFor, changed}
 use Rattle.seg_map.specs.Changing.{IsGivenUp}
-use Rattle.seg_vector.specs.{TextCalls.ReleasesText, TextsCalls.ReleasesTexts, VectorCalls.Releases}
+use Rattle.seg_vector.specs.TextCalls.{ReleasesText}
+use Rattle.seg_vector.specs.TextsCalls.{ReleasesTexts}
+use Rattle.seg_vector.specs.VectorCalls.{Releases}
 use Rattle.segment_manager.specs.Destroyed.{HasNumbers}
 use Rattle.segment_manager.proofs.{Contained.good-with, Contained.start-place, Frame.object-roomy, Here.standing}
 use Rattle.segment_manager.proofs.{Live.IsIn, Rewritten.value_start, Rewritten.with_value, TextsHeld.HoldsTexts}
-use Rattle.segment_manager.proofs.{TextsHeld.holds-texts}
-use Rattle.segment_manager.proofs.Emptied.{changed-itself, emptied-is, emptied-numbers}
-use Rattle.segment_manager.proofs.Exchanged.{Exchange, between, denotes-container}
-use Rattle.segment_manager.proofs.MapCalls.{HoldsPairs, as_map, holds-pairs}
-use Rattle.segment_manager.proofs.ObjectLists.{all-found, each-true, found-handle, key-found}
-use Rattle.segment_manager.proofs.Whole.{IsOfKind, of-whole, stands-whole, whole-now, whole-reached}
-use Rattle.segment_manager.proofs.ItemSteps.{HoldsItems, holds-items, vectors}
-use Rattle.segment_manager.proofs.TextAnswers.{texts}
+use Rattle.segment_manager.proofs.{TextsHeld.holds-texts, Emptied.changed-itself, Emptied.emptied-is}
+use Rattle.segment_manager.proofs.{Emptied.emptied-numbers, Exchanged.Exchange, Exchanged.between}
+use Rattle.segment_manager.proofs.{Exchanged.denotes-container, MapCalls.HoldsPairs, MapCalls.as_map}
+use Rattle.segment_manager.proofs.{MapCalls.holds-pairs, ObjectLists.all-found, ObjectLists.each-true}
+use Rattle.segment_manager.proofs.{ObjectLists.found-handle, ObjectLists.key-found, Whole.IsOfKind, Whole.of-whole}
+use Rattle.segment_manager.proofs.{Whole.stands-whole, Whole.whole-now, Whole.whole-reached, ItemSteps.HoldsItems}
+use Rattle.segment_manager.proofs.{ItemSteps.holds-items, ItemSteps.vectors, TextAnswers.texts}
 
 -- ---- the object of a handle
 
@@ -144,7 +145,7 @@ module _ (old new : Cut) (h at : ℕ) (head : Head) (said : IsReadAt old.bytes h
   vector-contents k is released d o s e =
       let x : HoldsItems (vectors k) old.bytes d (ByHandle h) (place_behind h at) = read-vector old.bytes h at head said behind d o s e k is in
       let same : x.object ≡ o = same_Some x.object o (sym x.is ∙ e) in
-      let now : IsNumbersNow k old new (place_behind h at) x.table [] no_table = released x.items x.table (record { stands = x.stands; values = x.values }) in
+      let now : IsNumbersNow k old new (place_behind h at) x.table [] no_table = released.each x.items x.table (record { stands = x.stands; values = x.values }) in
       subst (λ p. Becomes old new (changed d p (emptied p.value))) same
       (container-released old new d (ByHandle h) x.object (place_behind h at) (Elements k x.items x.table) s.denotes x.is x.value x.at refl now.change now.vector.stands.words)
 
@@ -160,7 +161,7 @@ module _ (old new : Cut) (h at : ℕ) (head : Head) (said : IsReadAt old.bytes h
   pairs-contents k l p there is released d o s e =
       let x : HoldsPairs old.bytes d (ByHandle h) k l (map_behind h at) = read-pairs old.bytes h at head said behind d o s e k l is in
       let same : x.object ≡ o = same_Some x.object o (sym x.is ∙ e) in
-      let now : IsGivenUp (numbers_of k) (numbers_of l) old new h at x.pairs = subst (ReleasesPairs k l old new) (sym there) released x.pairs x.map in
+      let now : IsGivenUp (numbers_of k) (numbers_of l) old new h at x.pairs = (subst (ReleasesPairs k l old new) (sym there) released).each x.pairs x.map in
       let place : container_place x.object ≡ place_behind h at = ap (λ (q : MapPlace). place_behind q.handle q.at) x.at in
       subst (λ p. Becomes old new (changed d p (emptied p.value))) same
       (container-released old new d (ByHandle h) x.object (place_behind h at) (Pairs k l x.pairs) s.denotes x.is x.known.value place refl now.change now.empty.map)
@@ -175,9 +176,10 @@ module _ {T : Type 0} (k : ScalarKind) (w : T → ℤ) (size : ℕ) (test : T �
       (r.0, (h.1.0, record { stands = both.0; values = both.1 }))
 
   pub values-released : (old new : Cut) (p q : Place) → q ≡ p → Releases size test sp old new q → ReleasesNumbers k old new p
-  values-released old new p q same released =
-      of-whole k w size test sp law old.bytes p (λ zs t. IsNumbersNow k old new p t [] no_table)
-      (λ xs t s v.
-      let none : List T = [] in
-      let now : IsVectorNow size test sp old new p t none no_table = subst (λ (r : Place). Releases size test sp old new r) same released xs t (record { stands = s; values = v }) in
-      whole-now k w size test sp law old new p t no_table none now.change now.vector.stands now.vector.values)
+  values-released old new p q same released = record {
+    each = of-whole k w size test sp law old.bytes p (λ zs t. IsNumbersNow k old new p t [] no_table)
+        (λ xs t s v.
+        let none : List T = [] in
+        let now : IsVectorNow size test sp old new p t none no_table = subst (λ (r : Place). Releases size test sp old new r) same released xs t (record { stands = s; values = v }) in
+        whole-now k w size test sp law old new p t no_table none now.change now.vector.stands now.vector.values);
+  }

@@ -7,12 +7,13 @@ use Rattle.segment_manager.proofs.Common.{KeepsRest, beside_table, IsIndexOf, pl
 use Rattle.segment_manager.proofs.Common.{Object, Directory, extents_of, live, remove_object, table_extents}
 use Rattle.segment_manager.proofs.Common.{without_object, class_of_index, entries_of, objects_of, table_of}
 use Rattle.segment_manager.proofs.Common.{with_table_of}
+use Rattle.seg_index.proofs.Laws.{place_behind}
 use Rattle.seg_index.specs.declared.index.Index.TheVariants as index
-use Rattle.segment_manager.proofs.Added.{has-one, place-high, place-low}
-use Rattle.segment_manager.proofs.{AnyClass.KeepsFront, AnyClass.denotes-taken, Bridge.no-entry-removed}
-use Rattle.segment_manager.proofs.{Calling.denotes-live, Frame.any_index-same, Order.live-rises, Tables.index-left_out}
+use Rattle.segment_manager.proofs.{Added.has-one, Added.place-high, AnyClass.KeepsFront, AnyClass.denotes-taken}
+use Rattle.segment_manager.proofs.{Bridge.no-entry-removed, Calling.denotes-live, Frame.any_index-same}
+use Rattle.segment_manager.proofs.{Order.live-rises, Tables.index-left_out, Live.IsIn, Live.OfEach, Live.live-without}
+use Rattle.segment_manager.proofs.{Live.of_each, Live.removing}
 use Rattle.segment_manager.proofs.Entered.{HasOne, OfRest, of_rest, other, other-stays, other-words, other_class}
-use Rattle.segment_manager.proofs.Live.{IsIn, OfEach, live-without, of_each, removing}
 use Rattle.segment_manager.proofs.Words.{AllByRecursion-append, AllByRecursion-behind, AllByRecursion-front}
 
 -- ---- one object's blocks less
@@ -63,7 +64,7 @@ removed-denotes i a b c d o k f class e g =
     let A : Memory = bytes_of a.bytes in
     let B : Memory = bytes_of b.bytes in
     let C : Memory = bytes_of c.bytes in
-    let low = place-low i in
+    let low = place_behind i in
     let high = place-high i in
     let now : live_of a.bytes ≡ live d = denotes-live current a.bytes d k in
     let mid : live_of b.bytes ≡ live d = lay_out_one current b.bytes (live_of a.bytes) e.live ∙ now in

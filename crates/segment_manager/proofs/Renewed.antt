@@ -3,15 +3,16 @@ use Rattle.segment_manager.proofs.Common.{◌≡◌, refl, ap, ◌∙◌, ℕ, z
 use Rattle.segment_manager.proofs.Common.{[], ◌∷◌, length, arith, IsTrue, nat_le, nat_lt, if◌then◌else◌, AllByRecursion}
 use Rattle.segment_manager.proofs.Common.{list_all, chars, is_utf8, and_from, and_parts, le-leb, leb-true, lt-leb}
 use Rattle.segment_manager.proofs.Common.{le-ltb, current, Memory, Same, bytes_of, word_at, Same-part, Same-word}
-use Rattle.segment_manager.proofs.Common.{LaysOut, SameBlock, Kind, Scalar, is_kind_of, is_control, is_name}
-use Rattle.segment_manager.proofs.Common.{is_printable_name, is_text_name, Denotes, IsHeader, Directory, IsDirectory}
-use Rattle.segment_manager.proofs.Common.{Object, by_kind, by_name, has_good_name, is_class, is_good_value, is_object}
-use Rattle.segment_manager.proofs.Common.{kind_of, live, named_objects, object_len, unique_objects, serves, ObjectRole}
+use Rattle.segment_manager.proofs.Common.{LaysOut, SameBlock, is_kind_of, is_control, is_name, is_printable_name}
+use Rattle.segment_manager.proofs.Common.{is_text_name, Denotes, IsHeader, Directory, IsDirectory, Object, by_kind}
+use Rattle.segment_manager.proofs.Common.{by_name, has_good_name, is_class, is_good_value, is_object, kind_of, live}
+use Rattle.segment_manager.proofs.Common.{named_objects, object_len, unique_objects, serves, ObjectRole}
 use Rattle.std.specs.Str.{IsAscii}
 use Rattle.std.proofs.lemmas.Bool.{and_left, or_from, not_from_false}
 use Rattle.std.proofs.lemmas.Str.{IsUtf8-from_ascii, chars-IsAscii, is_utf8-from_IsUtf8}
 use Rattle.seg_types.specs.declared.kinds.Class.TheVariants.{Named}
-use Rattle.segment_manager.proofs.{Denoted.index-stays, Frame.any_objects-same, Live.OfEach, Live.of_each}
+use Rattle.segment_manager.proofs.{Codes.known-kind, Denoted.index-stays, Frame.any_objects-same, Live.OfEach}
+use Rattle.segment_manager.proofs.{Live.of_each}
 
 -- ---- names and kinds
 
@@ -60,11 +61,6 @@ name-later zero name h = printable-text name h
 name-later (suc zero) name h = printable-text name h
 name-later (suc (suc format)) name h = h
 
-kind-later : (k : Kind) → IsTrue (is_kind_of current k)
-unfolding current
-kind-later (Scalar k) = refl
-kind-later k = refl
-
 -- ---- objects
 
 if-weaker : (p a b c : Bool) → (IsTrue a → IsTrue b) → IsTrue (if p then a else c) → IsTrue (if p then b else c)
@@ -82,7 +78,7 @@ object-later : (format : ℕ) (o : Object) → IsTrue (is_object format o) → I
 object-later format o h =
     four-weaker (has_good_name format o) (is_kind_of format (kind_of o.value)) (is_good_value o.value) (serves o.extent ObjectRole (object_len o.name o.value))
     (has_good_name current o) (is_kind_of current (kind_of o.value))
-    (if-weaker (is_class Named o) (is_name format o.name) (is_name current o.name) (length o.name == 0) (name-later format o.name)) (kind-later (kind_of o.value)) h
+    (if-weaker (is_class Named o) (is_name format o.name) (is_name current o.name) (length o.name == 0) (name-later format o.name)) (known-kind (kind_of o.value)) h
 
 -- a directory of any format is one of the current
 pub directory-later : (format : ℕ) (d : Directory) → IsDirectory format d → IsDirectory current d

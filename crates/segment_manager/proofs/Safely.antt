@@ -4,7 +4,7 @@ use Rattle.segment_manager.proofs.Common.{Result, Ok, Err, length, if◌then◌e
 use Rattle.segment_manager.proofs.Common.{Kind, Refusal, NotFound, WrongKind, code_of, same_kind, Key, Command, Place}
 use Rattle.segment_manager.proofs.Common.{Head, Answer, Done, Refused, container_at, container_place, place_of_kind}
 use Rattle.segment_manager.proofs.Common.{Object, kind_of, padded, handle_at, head_len, IsHeadOf, StandsAt, Answers}
-use Rattle.segment_manager.proofs.Common.{IsSegment, IsStepOfKind, State, done_answer, StepsSafely}
+use Rattle.segment_manager.proofs.Common.{IsSegment, IsStepOfKind, State, AnswersSafely, StepsSafely}
 use Rattle.segment_manager.proofs.{Here.IsHere, Here.here, Steps.step_of_kind-segment}
 
 -- it is refused, and nothing has changed
@@ -28,12 +28,6 @@ pub seen-refused : {R : Type 0} (s t : State) (view : s ≡ t) (new : Cut) (r : 
 seen-refused s t view new (Ok u) e = tt
 seen-refused s t view new (Err w) e = (λ i. record s { cut = e i }) ∙ view
 
--- the same of a call with an answer
-pub record AnswersSafely {R : Type 0} (says : Result R Refusal → Answer) (s : State) (new : Cut) (key : Key)
-    (kind : Kind) (c : Command) (r : Result R Refusal) : Type 0 where
-  pub step : IsStepOfKind s (record s { cut = new }) key kind c (says r)
-  pub refused : OnErr r (new ≡ s.cut)
-
 module _ {R : Type 0} {says : Result R Refusal → Answer} (s t : State) (view : s ≡ t) (new : Cut) (key : Key)
     (kind : Kind) (c : Command) (r : Result R Refusal) (done : AnswersSafely says s new key kind c r) where
   pub answer-step : IsStepOfKind t (record s { cut = new }) key kind c (says r)
@@ -44,16 +38,6 @@ module _ {R : Type 0} {says : Result R Refusal → Answer} (s t : State) (view :
 
   pub answer-segment : IsSegment s.cut.bytes → IsSegment new.bytes
   answer-segment b = step_of_kind-segment s (record s { cut = new }) key kind c (says r) done.step b
-
-module _ (s t : State) (view : s ≡ t) (new : Cut) (key : Key) (kind : Kind) (c : Command) (r : Result (Unit {0}) Refusal) (done : StepsSafely s new key kind c r) where
-  pub safe-step : IsStepOfKind t (record s { cut = new }) key kind c (done_answer r)
-  safe-step = subst (λ (u : State). IsStepOfKind u (record s { cut = new }) key kind c (done_answer r)) view done.step
-
-  pub safe-refused : OnErr r ((record s { cut = new }) ≡ t)
-  safe-refused = seen-refused s t view new r done.refused
-
-  pub safe-segment : IsSegment s.cut.bytes → IsSegment new.bytes
-  safe-segment b = step_of_kind-segment s (record s { cut = new }) key kind c (done_answer r) done.step b
 
 -- ---- the search
 

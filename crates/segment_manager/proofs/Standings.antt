@@ -3,8 +3,8 @@ use Rattle.segment_manager.proofs.Common.{◌≡◌, ap, ◌∙◌, ℕ, ◌+◌
 use Rattle.segment_manager.proofs.Common.{IsTrue, current, bytes_of, word_at, read, Has, handle, live_of, has_room}
 use Rattle.segment_manager.proofs.Common.{class_code, code_of, Object, count_of, kind_of, object_len, padded, value_len}
 use Rattle.segment_manager.proofs.Common.{IsEntry, StandsAt}
+use Rattle.best_fit.proofs.Laws.{room-less}
 use Rattle.segment_manager.proofs.Heads.{Has-front, good-name, good_name-short, object-entry}
-use Rattle.segment_manager.proofs.NewBlocks.{room-less}
 
 -- its name is short
 pub standing-short : (b : List ℕ) (h : ℕ) (o : Object) → StandsAt b h o → length o.name ≤ 255

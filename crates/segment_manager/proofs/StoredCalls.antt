@@ -4,7 +4,7 @@ use Rattle.segment_manager.proofs.Common.{Command, Key, Place, container_at, Ans
 use Rattle.segment_manager.proofs.Common.{StepsSafely, StepsThere}
 use Rattle.segment_manager.specs.Stored.{ChangesStorage}
 use Rattle.segment_manager.proofs.{Refilled.finds-no_container, Steps.open-writing}
-use Rattle.segment_manager.proofs.Safely.{safe-refused, safe-step}
+use Rattle.segment_manager.proofs.Safely.{answer-refused, answer-step}
 
 -- where it is found
 pub stands-there : (s t : State) (view : s ≡ t) (key : Key) (l kind : Kind) (p : Place) → l ≡ kind → Answers t (λ d. container_at d key l) (Ok p) → StandsThere s.cut kind p key
@@ -24,7 +24,7 @@ changes-there s t view new key l kind p command r writing e found each =
 -- it is found, and changed
 pub storage-changed : (s t : State) (view : s ≡ t) (new : Cut) (key : Key) (kind : Kind) (c : Command) (r : Result (Unit {0}) Refusal) → StepsSafely s new key kind c r
     → ChangesStorage t (record s { cut = new }) key kind c r
-storage-changed s t view new key kind c r done = record { step = safe-step s t view new key kind c r done; refused = safe-refused s t view new key kind c r done }
+storage-changed s t view new key kind c r done = record { step = answer-step s t view new key kind c r done; refused = answer-refused s t view new key kind c r done }
 
 -- or it is not there
 pub storage-missing : (t : State) (key : Key) (l kind : Kind) (c : Command) (why : Refusal) → is_read_only t.mode ≡ false → l ≡ kind → Answers t (λ d. container_at d key l) (Err why)

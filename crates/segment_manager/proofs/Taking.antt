@@ -1,13 +1,14 @@
 -- The blocks of a new object: they are taken, or given back where one of them is refused.
-use Rattle.segment_manager.proofs.Common.{◌≡◌, sym, subst, ◌∙◌, ℕ, ◌+◌, ◌%◌, ◌≤◌, inr, Some, None, Option, List, arith}
-use Rattle.segment_manager.proofs.Common.{IfSome, IsTrue, Cut, current, ObjectRole, IndexRole, IsAllocated, IsChanged}
-use Rattle.segment_manager.proofs.Common.{IsHeap, IsRefused, Keeps, LaysOut, is_live_in, live_of, Table, added}
-use Rattle.segment_manager.proofs.Common.{allocated-is_live, allocated-room, keeps-refl, laid-heap, room_block, Index}
-use Rattle.segment_manager.proofs.Common.{CanGrow, GivesBack, IsGrowth, grown_bytes, IsIndexOf, entry_count, place_of}
-use Rattle.segment_manager.proofs.Common.{prepared, IsRequested, IsRestored, IsUnmet}
+use Rattle.segment_manager.proofs.Common.{◌≡◌, sym, ap, subst, ◌∙◌, ℕ, ◌+◌, ◌-◌, ◌/◌, ◌%◌, ◌==◌, inr, Some, None}
+use Rattle.segment_manager.proofs.Common.{Option, List, arith, Role, LiveSet, SameBlock, allocated-live, bytes_of}
+use Rattle.segment_manager.proofs.Common.{keeps-trans, word_at, IfSome, IsTrue, Cut, current, ObjectRole, IndexRole}
+use Rattle.segment_manager.proofs.Common.{IsAllocated, IsChanged, IsHeap, IsRefused, Keeps, LaysOut, is_live_in}
+use Rattle.segment_manager.proofs.Common.{live_of, Table, added, allocated-is_live, allocated-room, keeps-refl}
+use Rattle.segment_manager.proofs.Common.{laid-heap, room_block, Index, CanGrow, GivesBack, IsGrowth, grown_bytes}
+use Rattle.segment_manager.proofs.Common.{IsIndexOf, entry_count, place_of, prepared, IsRequested, IsRestored, IsUnmet}
 use Rattle.best_fit.proofs.Laws.{block_aligned, still_allocated-block}
-use Rattle.seg_index.specs.declared.index.Index.TheVariants as index
-use Rattle.segment_manager.proofs.Made.{requested-taken, taken-growth, taken-index}
+use Rattle.seg_index.proofs.Laws.{place_behind, place_small}
+use Rattle.segment_manager.proofs.{Made.requested-taken, Made.taken-growth, Made.taken-index, Order.all_of-insert}
 
 -- ---- a request
 
@@ -33,17 +34,9 @@ request-unmet a b c d at n (Some h) heap grows refused back restored =
 
 -- ---- an index while an object is made
 
-pub place-low : (i : Index) → 32 ≤ place_of i
-place-low index.Named = omega arith
-place-low index.Unique = omega arith
-
-pub place-high : (i : Index) → place_of i + 24 ≤ 128
-place-high index.Named = omega arith
-place-high index.Unique = omega arith
-
 pub growth-index : (i : Index) (a b : Cut) (g : Option ℕ) (t : Table) (hs : List ℕ) → IsGrowth a b (place_of i) g → IsIndexOf a (place_of i) t hs → IsIndexOf b (place_of i) t hs
 growth-index i a b None t hs g x = subst (λ (c : Cut). IsIndexOf c (place_of i) t hs) (sym g.1) x
-growth-index i a b (Some h) t hs g x = taken-index a b _ (place_of i) t hs (requested-taken a b _ IndexRole h g.1) (place-low i) (place-high i) x
+growth-index i a b (Some h) t hs g x = taken-index a b _ (place_of i) t hs (requested-taken a b _ IndexRole h g.1) (place_behind i) (place_small i) x
 
 -- the block is requested, and written where it was asked for
 pub written-taken : (a m b : Cut) (n h : ℕ) → IsAllocated current a m n ObjectRole h → IsChanged current m b h n → IsAllocated current a b n ObjectRole h
@@ -64,10 +57,10 @@ pub ready : (i : Index) (a m b : Cut) (n h : ℕ) (g : Option ℕ) (t : Table) (
 ready i a m b n h g t hs x r change =
     let mid : IsIndexOf r.between (place_of i) t hs = growth-index i a r.between g t hs r.grows x in
     let took : IsAllocated current r.between b n ObjectRole h = written-taken r.between m b n h r.takes change in
-    let can : CanGrow r.between (place_of i) g = prepared a r.between (place_of i) g t hs x r.grows (place-low i) (place-high i) in
+    let can : CanGrow r.between (place_of i) g = prepared a r.between (place_of i) g t hs x r.grows (place_behind i) (place_small i) in
     record {
-      index = taken-index r.between b _ (place_of i) t hs (requested-taken r.between b n ObjectRole h took) (place-low i) (place-high i) mid;
-      growth = taken-growth r.between b _ (place_of i) g (requested-taken r.between b n ObjectRole h took) (place-low i) (place-high i) can;
+      index = taken-index r.between b _ (place_of i) t hs (requested-taken r.between b n ObjectRole h took) (place_behind i) (place_small i) mid;
+      growth = taken-growth r.between b _ (place_of i) g (requested-taken r.between b n ObjectRole h took) (place_behind i) (place_small i) can;
     }
 
 -- and it has as many entries as before
@@ -78,3 +71,26 @@ ready-count i a b t hs x y = y.stands.count ∙ sym x.stands.count
 pub requested-aligned : (a b : Cut) (n h : ℕ) → IsAllocated current a b n ObjectRole h → h % 16 ≡ 0
 requested-aligned a b n h take =
     block_aligned b h (room_block b h 0 (laid-heap b.bytes (added (live_of a.bytes) take.extent) take.live) (allocated-room current a b n ObjectRole h 0 take (omega arith))).block
+
+-- ---- blocks as they were
+
+-- a block that was taken is taken still
+pub restored-taken : (a m w : Cut) (n : ℕ) (role : Role) (h : ℕ) → IsAllocated current a m n role h → IsRestored m w → IsAllocated current a w n role h
+restored-taken a m w n role h t r =
+    let is : live_of m.bytes ≡ added (live_of a.bytes) t.extent = allocated-live current a m n role h t in
+    let kept : Keeps m w (added (live_of a.bytes) t.extent).extents = subst (λ (l : LiveSet). Keeps m w l.extents) is r.keeps in
+    let each = all_of-insert (SameBlock (bytes_of m.bytes) (bytes_of w.bytes)) t.extent (live_of a.bytes).extents kept.blocks in
+    let colour = each.0.colour in
+    let at = t.at in
+    let tag : h - 8 ≡ t.extent.offset + 8 = omega arith in
+    let same : word_at (bytes_of w.bytes) (h - 8) / 2 % 2 ≡ word_at (bytes_of m.bytes) (h - 8) / 2 % 2 =
+    subst (λ k. word_at (bytes_of w.bytes) k / 2 % 2 ≡ word_at (bytes_of m.bytes) k / 2 % 2) (sym tag) (omega arith) in
+    record {
+      extent = t.extent;
+      placed = t.placed;
+      at = t.at;
+      live = subst (LaysOut current w.bytes) is r.laid;
+      black = ap (λ k. k == 1) same ∙ t.black;
+      keeps = keeps-trans a m w (live_of a.bytes).extents t.keeps
+          (record { place = kept.place; front = kept.front; behind = kept.behind; blocks = each.1 });
+    }

@@ -1,10 +1,11 @@
 -- The blocks of a vector of texts among all others: each is in use, and no two are one. And what becomes of them where a part of the texts
 -- is replaced.
-use Rattle.segment_manager.proofs.Common.{◌≡◌, refl, sym, ap, subst, ◌∙◌, ℕ, ◌≢◌, Some, List, [], ◌∷◌, ◌++◌}
-use Rattle.segment_manager.proofs.Common.{append_assoc, arith, find, option_to_list, ◌==◌, AllByRecursion, Extent}
-use Rattle.segment_manager.proofs.Common.{handle, Table, SameSpread, found-new, middle-first, AreOthers, text_blocks}
-use Rattle.segment_manager.proofs.Common.{OwnedText, Object, Texts, value_extents}
+use Rattle.segment_manager.proofs.Common.{◌≡◌, sym, ap, subst, ◌∙◌, ℕ, ◌≢◌, Some, List, [], ◌∷◌, ◌++◌, append_assoc}
+use Rattle.segment_manager.proofs.Common.{arith, find, option_to_list, ◌==◌, AllByRecursion, Extent, handle, Table}
+use Rattle.segment_manager.proofs.Common.{SameSpread, found-new, middle-first, AreOthers, text_blocks, OwnedText}
+use Rattle.segment_manager.proofs.Common.{Object, Texts, value_extents}
 use Rattle.best_fit.specs.Fit.{insert}
+use Rattle.seg_vector.proofs.TextBlocks.{blocks-three}
 use Rattle.best_fit.proofs.Laws.{found-more, spread-behind}
 use Rattle.segment_manager.proofs.{Exchanged.Exchange, Rewritten.with_value}
 use Rattle.segment_manager.proofs.Order.{Differs, IsFresh, Rising, all_of-inserted, inserted, rising-insert}
@@ -50,13 +51,6 @@ part-back ws fs xs bs =
     subst (λ (ys : List Extent). SameSpread ys (ws ++ (fs ++ (xs ++ bs)))) (sym (append_assoc ws xs (fs ++ bs))) (spread-behind ws (xs ++ (fs ++ bs)) (fs ++ (xs ++ bs)) (middle-first xs fs bs))
 
 -- ---- a part of the texts is replaced
-
-pub blocks-append : (ps qs : List OwnedText) → text_blocks (ps ++ qs) ≡ text_blocks ps ++ text_blocks qs
-blocks-append [] qs = refl
-blocks-append (p ∷ ps) qs = ap (λ (xs : List Extent). option_to_list p.extent ++ xs) (blocks-append ps qs) ∙ sym (append_assoc (option_to_list p.extent) (text_blocks ps) (text_blocks qs))
-
-blocks-three : (fs ps bs : List OwnedText) → text_blocks (fs ++ (ps ++ bs)) ≡ text_blocks fs ++ (text_blocks ps ++ text_blocks bs)
-blocks-three fs ps bs = blocks-append fs (ps ++ bs) ∙ ap (λ (xs : List Extent). text_blocks fs ++ xs) (blocks-append ps bs)
 
 -- some texts stand where others stood, between the same
 pub record IsPartOther (ps qs out in_place : List OwnedText) : Type 0 where

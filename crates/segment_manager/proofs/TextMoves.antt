@@ -1,18 +1,17 @@
 -- A call on a vector of texts is one step: what the calls of seg_vector ensure of the texts at its place comes to the directory.
 use Rattle.segment_manager.proofs.Common.{◌≡◌, refl, sym, ap, subst, ◌∙◌, true, false, Option, None, Result, Ok, Err}
-use Rattle.segment_manager.proofs.Common.{List, ◌++◌, IfErr, OnErr, option_to_list, AllByRecursion, eq-eqb, current}
-use Rattle.segment_manager.proofs.Common.{Cut, Extent, Table, Kind, TextsKind, Refusal, code_of, same_kind, Key}
-use Rattle.segment_manager.proofs.Common.{Command, Place, IsTextsNow, text_blocks, OwnedText, Answer, Refused}
-use Rattle.segment_manager.proofs.Common.{is_untouched, refusal_of, kind_at, container_at, Value, Texts, Directory}
-use Rattle.segment_manager.proofs.Common.{kind_of, live, perform, Answers, IsSegment, IsStepOfKind, LeadsOn, State}
-use Rattle.segment_manager.proofs.Common.{StandsFor, done_answer, changed, effect, is_read_only, step, step_of_kind}
-use Rattle.segment_manager.proofs.Common.{LeadsOnOfKind}
+use Rattle.segment_manager.proofs.Common.{List, ◌++◌, IfErr, OnErr, option_to_list, AllByRecursion, current, Cut}
+use Rattle.segment_manager.proofs.Common.{Extent, Table, Kind, TextsKind, Refusal, same_kind, Key, Command, Place}
+use Rattle.segment_manager.proofs.Common.{IsTextsNow, text_blocks, OwnedText, Answer, Refused, is_untouched, refusal_of}
+use Rattle.segment_manager.proofs.Common.{kind_at, container_at, Value, Texts, Directory, kind_of, live, perform}
+use Rattle.segment_manager.proofs.Common.{Answers, IsSegment, IsStepOfKind, LeadsOn, State, StandsFor, done_answer}
+use Rattle.segment_manager.proofs.Common.{changed, effect, is_read_only, step, step_of_kind, LeadsOnOfKind}
 use Rattle.best_fit.specs.Exchange.{IsRestored}
-use Rattle.segment_manager.proofs.AnyStorage.{IsOfKindAt, kind-told}
-use Rattle.segment_manager.proofs.{Constructed.restored-denotes, Safely.seen-refused, TextBlocks.IsPartOther}
+use Rattle.segment_manager.proofs.{AnyStorage.kind-told, AnyStorage.of_kind-same, Constructed.restored-denotes}
+use Rattle.segment_manager.proofs.{Safely.seen-refused, TextBlocks.IsPartOther, TextsHeld.HasBytes}
+use Rattle.segment_manager.proofs.{TextsHeld.HoldsTexts, TextsHeld.holds-texts, TextsHeld.texts-changed}
 use Rattle.segment_manager.proofs.Steps.{IsMove, IsOpenFor, by_no_change_of_kind, by_step_of_kind, open-writing}
-use Rattle.segment_manager.proofs.Steps.{step_of_kind-found, step_of_kind-segment, step_of_kind-step}
-use Rattle.segment_manager.proofs.TextsHeld.{HasBytes, HoldsTexts, holds-texts, texts-changed}
+use Rattle.segment_manager.proofs.Steps.{step_of_kind-found, step_of_kind-segment}
 
 -- ---- one directory
 
@@ -143,9 +142,8 @@ step-leads-on old new key c answer r = record { stays = r.stays; answers = λ d 
 pub of_kind-leads_on : (old new : State) (key : Key) (kind : Kind) (c : Command) (why : Option Refusal) → Answers old (λ d. kind_at d key) (Ok kind) → LeadsOnOfKind old new key kind c why → LeadsOn old new c why
 of_kind-leads_on old new key kind c why a r = record {
   stays = r.stays;
-  answers = λ d l. r.answers d l ∙ ap (λ (n : Answer × Directory). refusal_of n.0) (same d (kind-told d key kind (a.answers d l)));
-  denotes = λ d l. subst (λ (n : Answer × Directory). StandsFor new.cut.bytes n.1) (same d (kind-told d key kind (a.answers d l))) (r.denotes d l);
+  answers = λ d l. r.answers d l ∙ ap (λ (n : Answer × Directory). refusal_of n.0) (of_kind-same old.mode d key kind c (kind-told d key kind (a.answers d l)));
+  denotes = λ d l.
+      subst (λ (n : Answer × Directory). StandsFor new.cut.bytes n.1) (of_kind-same old.mode d key kind c (kind-told d key kind (a.answers d l)))
+      (r.denotes d l);
 }
-  where
-    same : (d : Directory) (e : IsOfKindAt d key kind) → step_of_kind old.mode d key kind c ≡ step old.mode d c
-    same d e = step_of_kind-step old.mode d key kind c e.object e.is (eq-eqb (code_of kind) (code_of (kind_of e.object.value)) (ap code_of (sym e.kind_is)))

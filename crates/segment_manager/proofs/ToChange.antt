@@ -1,7 +1,9 @@
 -- The container that is to be changed, as the calls that change it find it.
-use Rattle.segment_manager.proofs.Common.{◌≡◌, false, sym, subst, Result, Ok, Err, MatchResult, ScalarKind, Kind}
-use Rattle.segment_manager.proofs.Common.{Vector, Refusal, Key, Place, container_at, Answers, State, is_read_only}
-use Rattle.segment_manager.proofs.Common.{IsNotToChange}
+use Rattle.segment_manager.proofs.Common.{◌≡◌, true, false, sym, subst, Result, Ok, Err, MatchResult, ScalarKind, Kind}
+use Rattle.segment_manager.proofs.Common.{Vector, Refusal, Key, Command, Place, Refused, container_at, Answers, State}
+use Rattle.segment_manager.proofs.Common.{IsStepOfKind, done_answer, is_changing, is_read_only, IsNotToChange}
+use Rattle.segment_manager.proofs.Common.{err_from_is_err_and}
+use Rattle.std.specs.Prelude.{IsErrAnd}
 use Rattle.segment_manager.specs.ToChange.{IsToChange}
 use Rattle.segment_manager.proofs.{Refilled.finds-no_container, Steps.open-writing}
 
@@ -27,3 +29,10 @@ pub vector-to_change : (s t : State) (view : s ≡ t) (key : Key) (l k : ScalarK
 vector-to_change s t view key l k q p e f found =
     subst (λ (m : ScalarKind). IsToChange s key (Vector m) p) e
     (subst (IsToChange s key (Vector l)) (sym f) (seen-to_change s t view key (Vector l) q found))
+
+-- where there is none, the call that would change it answers why
+pub not-changed : {s : State} {key : Key} {l k : Kind} {why : Refusal} (c : Command) (r : Result (Unit {0}) Refusal)
+    → l ≡ k → IsErrAnd r (λ e. e ≡ why) → is_changing c ≡ true → IsNotToChange s key l why → IsStepOfKind s s key k c (done_answer r)
+not-changed {s} {key} {l} {k} {why} c r same is changing not =
+    let p = err_from_is_err_and r is in
+    rw (p.1, p.2) (subst (λ (kind : Kind). IsStepOfKind s s key kind c (Refused why)) same (not.refused c changing))

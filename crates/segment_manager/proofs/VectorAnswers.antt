@@ -10,20 +10,18 @@ use Rattle.segment_manager.proofs.Common.{IsSomeVector, IsVectorGrown, IsVectorN
 use Rattle.segment_manager.proofs.Common.{Element, Refused, container_at, sizes_at_kind, Directory, Elements, Value}
 use Rattle.segment_manager.proofs.Common.{is_good_value, kind_of, live, Reply, perform, with_capacity, Answers}
 use Rattle.segment_manager.proofs.Common.{IsSegment, IsStepOfKind, State, answer_of, changed, effect, is_read_only}
-use Rattle.segment_manager.proofs.Common.{StandsThere, StepsSafely, Mode}
-use Rattle.seg_types.specs.Commands as asked
+use Rattle.segment_manager.proofs.Common.{AnswersSafely, StandsThere, StepsSafely, Mode}
 use Rattle.seg_vector.specs.VectorCalls.{Clears, Counts, CountsPlaces, ErasesFrom, Gets, InsertsInto, IsVector, Pops}
 use Rattle.seg_vector.specs.VectorCalls.{Pushes, Reserves, Sets, Shrinks}
-use Rattle.segment_manager.proofs.Contained.{contents-fit}
+use Rattle.seg_types.specs.Commands as asked
+use Rattle.segment_manager.proofs.{Contained.contents-fit, Safely.done-so, Steps.open-reading, Steps.open-writing}
+use Rattle.segment_manager.proofs.{Stored.literal-read, Stored.literals-read}
 use Rattle.segment_manager.proofs.ContentPlans.{assign-plan, erase-past, erase-plan, get-past, get-plan, insert-past}
 use Rattle.segment_manager.proofs.ContentPlans.{insert-plan, pop-empty, pop-plan, push-plan, set-past, set-plan}
 use Rattle.segment_manager.proofs.ItemSteps.{HoldsItems, ListedGrown, ListedNow, Listing, changes-safely, clears-safely}
 use Rattle.segment_manager.proofs.ItemSteps.{grows-safely, items-full, items-grown, items-measured, items-now}
 use Rattle.segment_manager.proofs.ItemSteps.{items-refused, items-stay, items-steps, reserves-safely, shrinks-safely}
 use Rattle.segment_manager.proofs.ItemSteps.{so-too, some-items, vector-only}
-use Rattle.segment_manager.proofs.Safely.{AnswersSafely, done-so}
-use Rattle.segment_manager.proofs.Steps.{open-reading, open-writing}
-use Rattle.segment_manager.proofs.Stored.{literal-read, literals-read}
 use Rattle.segment_manager.proofs.Whole.{IsOfKind, whole-insert, whole-reached, whole-remove, whole-set, whole-spelled}
 use Rattle.segment_manager.proofs.Whole.{whole-values}
 

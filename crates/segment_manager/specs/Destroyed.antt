@@ -47,8 +47,8 @@ abbrev pub HasNumbers : ScalarKind → List ℕ → Place → Type 0
 HasNumbers k b p = (zs : List ℤ) × ((t : Table) × IsNumbers k b p zs t)
 
 -- it has no number and no place
-abbrev pub ReleasesNumbers : ScalarKind → Cut → Cut → Place → Type 0
-ReleasesNumbers k old new p = (zs : List ℤ) (t : Table) → IsNumbers k old.bytes p zs t → IsNumbersNow k old new p t [] no_table
+pub record ReleasesNumbers (k : ScalarKind) (old new : Cut) (p : Place) : Type 0 where
+  pub each : (zs : List ℤ) (t : Table) → IsNumbers k old.bytes p zs t → IsNumbersNow k old new p t [] no_table
 
 -- ---- the object
 

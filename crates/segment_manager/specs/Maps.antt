@@ -42,8 +42,8 @@ abbrev pub HasPairs : ScalarKind → ScalarKind → List ℕ → Place → Type 
 HasPairs k v b p = (ps : List NumberPair) × IsPairs k v b p ps
 
 -- it has no pair now, and their blocks are given back
-abbrev pub ReleasesPairs : ScalarKind → ScalarKind → Cut → Cut → Place → Type 0
-ReleasesPairs k v old new p = maps.Releases (numbers_of k) (numbers_of v) old new p.handle p.at
+pub record ReleasesPairs (k v : ScalarKind) (old new : Cut) (p : Place) : Type 0 where
+  pub each : maps.Releases (numbers_of k) (numbers_of v) old new p.handle p.at
 
 -- where the three words stand of the map of a key, a map of the kinds
 abbrev pub map_at : Directory → Key → ScalarKind → ScalarKind → Result Place Refusal

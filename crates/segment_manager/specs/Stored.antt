@@ -10,6 +10,7 @@ use Rattle.seg_vector.specs.declared.places.Place.{Place}
 use Rattle.segment_manager.specs.declared.modes.Mode.{Mode}
 use Rattle.segment_manager.specs.declared.storages.Change.{Change}
 use Rattle.segment_manager.specs.declared.storages.Change.TheVariants.{Clear, Reserve, Shrink}
+use Rattle.segment_manager.specs.Answers.{Answer}
 use Rattle.segment_manager.specs.Contents.{container_at, sizes_at_kind}
 use Rattle.segment_manager.specs.Directory.{Directory}
 use Rattle.segment_manager.specs.Keeping.{HasPlaces}
@@ -29,9 +30,14 @@ abbrev pub TellsSizes : Cut → Kind → Place → ℕ × ℕ → Type 0
 TellsSizes c kind p sizes = (key : Key) → StandsThere c kind p key → (d : Directory) → StandsFor c.bytes d → (let r : Result (ℕ × ℕ) Refusal = Ok sizes in r) ≡ sizes_at_kind d key kind
 
 -- A call that changes it is one step of the machine, and where it is refused nothing changes.
-pub record StepsSafely (s : State) (new : Cut) (key : Key) (kind : Kind) (c : Command) (r : Result (Unit {0}) Refusal) : Type 0 where
-  pub step : IsStepOfKind s (record s { cut = new }) key kind c (done_answer r)
+pub record AnswersSafely {R : Type 0} (says : Result R Refusal → Answer) (s : State) (new : Cut) (key : Key)
+    (kind : Kind) (c : Command) (r : Result R Refusal) : Type 0 where
+  pub step : IsStepOfKind s (record s { cut = new }) key kind c (says r)
   pub refused : OnErr r (new ≡ s.cut)
+
+-- one that answers nothing
+abbrev pub StepsSafely : State → Cut → Key → Kind → Command → Result (Unit {0}) Refusal → Type 0
+StepsSafely = AnswersSafely done_answer
 
 -- the same at its place, in a segment that may be changed
 abbrev pub StepsThere : Cut → Cut → Kind → Place → (Key → Command) → Result (Unit {0}) Refusal → Type 0

@@ -41,12 +41,7 @@ impl Segment {
         )
     }
 
-    /// The element at `index` in the object of a key, an object of scalars of a kind.
-    ///
-    /// # Errors
-    ///
-    /// `NotFound` where no object has the key, `WrongKind` where it is of another kind, `OutOfRange` where it has no element
-    /// there.
+    /// The same of a kind.
     pub(crate) fn get_value<O: Target>(
         &self,
         key: &O,
@@ -88,12 +83,7 @@ impl Segment {
         self.write_element(key, T::kind(), index, spelling)
     }
 
-    /// Makes a value the element at `index` in the object of a key, an object of scalars of the value's kind.
-    ///
-    /// # Errors
-    ///
-    /// `ReadOnly` where the segment is open for reading, and else `NotFound` where no object has the key, `WrongKind` where it
-    /// is of another kind, `OutOfRange` where it has no element there. Nothing changes.
+    /// The same of a value's kind.
     pub(crate) fn set_value<O: Target>(
         &mut self,
         key: &O,

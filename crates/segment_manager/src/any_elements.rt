@@ -62,12 +62,7 @@ impl Segment {
         Ok(ScalarValue::U8(byte))
     }
 
-    /// Makes a value the element at `index` in the vector of a key, a vector of the value's kind.
-    ///
-    /// # Errors
-    ///
-    /// `ReadOnly` where the segment is open for reading, and else `NotFound` where no object has the key, `WrongKind` where it
-    /// is of another kind, `OutOfRange` where it has no element there. Nothing changes.
+    /// `vec_set` of a value's kind.
     fn set_in_vector<O: Target>(
         &mut self,
         key: &O,

@@ -34,11 +34,8 @@ pub(crate) struct Begun {
     pub(crate) entry: Option<NewEntry>,
 }
 
-/// Takes the blocks of an object of a kind into use, with `body` bytes for its value, and writes its head.
-///
-/// # Errors
-///
-/// `Exists` where an object has the key, and else `NoSpace` where no gap is long enough. What the heap holds does not change.
+/// Takes the blocks of an object of a kind into use, with `body` bytes for its value, and writes its head. Else it is `Exists` where
+/// an object has the key, or `NoSpace`, and what the heap holds does not change.
 pub(crate) fn begin(
     heap: &mut Heap,
     key: &NewKey,
@@ -153,11 +150,7 @@ pub(crate) fn class_of(index: Index) -> Class
     }
 }
 
-/// Has the entry of an object lead to it where it was filled, and answers its handle.
-///
-/// # Errors
-///
-/// Why it was not filled: all that was taken for it is given back.
+/// Has the entry of an object lead to it where it was filled, and answers its handle. Else all that was taken for it is given back.
 #[inline(always)]
 pub(crate) fn end(
     heap: &mut Heap,

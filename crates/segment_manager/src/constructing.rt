@@ -78,16 +78,9 @@ impl Segment {
     ///
     /// Example: `segment.construct_value(&name, 1, ScalarValue::I64(640))?`.
     ///
-    /// # Conditions
+    /// # Conditions and errors
     ///
-    /// `count` is from 1 to 1048576. `construct_array` has no such condition, and refuses another count.
-    ///
-    /// The key suits the kind: one that says a kind says this one ([`Destination`]).
-    ///
-    /// # Errors
-    ///
-    /// `ReadOnly` where the segment is open for reading, else `Exists` where an object has the key: nothing changes. Else `NoSpace`
-    /// where no gap is long enough: what the segment holds does not change, and the bytes of gaps may.
+    /// As of `construct`.
     pub fn construct_value<D: Destination>(
         &mut self,
         key: &D,
@@ -103,12 +96,7 @@ impl Segment {
         self.construct_under(key, &NewScalars { count, value })
     }
 
-    /// Makes an object of what fills it, and answers its handle.
-    ///
-    /// # Errors
-    ///
-    /// `ReadOnly` where the segment is open for reading, else `Exists` where an object has the key: nothing changes. Else `NoSpace`
-    /// where no gap is long enough: what the segment holds does not change, and the bytes of gaps may.
+    /// The same of what fills an object.
     #[inline(always)]
     pub(crate) fn construct_under<F: Filling, D: Destination>(
         &mut self,
@@ -152,11 +140,7 @@ fn construct_in<F: Filling>(heap: &mut Heap, key: &NewKey, filling: &F) -> Resul
     build(heap, begun, filling)
 }
 
-/// Fills an object that was begun, and has its entry lead there.
-///
-/// # Errors
-///
-/// `NoSpace` where no gap is long enough for its elements. All that was taken for the object is given back.
+/// Fills an object that was begun, and has its entry lead there. Where its elements have no gap, all that was taken for it is given back.
 #[inline(always)]
 pub(crate) fn build<F: Filling>(
     heap: &mut Heap,

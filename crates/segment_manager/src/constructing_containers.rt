@@ -39,14 +39,9 @@ impl Segment {
     ///
     /// Example: `segment.construct_string(&name, b"red")?`.
     ///
-    /// # Conditions
+    /// # Conditions and errors
     ///
-    /// The key suits the kind: one that says a kind says this one ([`Destination`]).
-    ///
-    /// # Errors
-    ///
-    /// `ReadOnly` where the segment is open for reading, else `Exists` where an object has the key: nothing changes. Else `NoSpace`
-    /// where no gap is long enough: what the segment holds does not change, and the bytes of gaps may.
+    /// As of `construct_vec`.
     pub fn construct_string<D: Destination>(
         &mut self,
         key: &D,
@@ -90,14 +85,9 @@ impl Segment {
     ///
     /// Example: `segment.find_or_construct_string(&name, b"red")?`.
     ///
-    /// # Conditions
+    /// # Conditions and errors
     ///
-    /// The key suits the kind: one that says a kind says this one ([`Destination`]).
-    ///
-    /// # Errors
-    ///
-    /// `ReadOnly` where the segment is open for reading, else `WrongKind` where the object is of another kind: nothing changes. Else
-    /// `NoSpace` where none is there and no gap is long enough: what the segment holds does not change, and the bytes of gaps may.
+    /// As of `find_or_construct_vec`.
     pub fn find_or_construct_string<D: IndexDestination>(
         &mut self,
         key: &D,
@@ -116,14 +106,9 @@ impl Segment {
     ///
     /// Example: `segment.construct_texts(&name, &[b"apples", b"pears"])?`.
     ///
-    /// # Conditions
+    /// # Conditions and errors
     ///
-    /// The key suits the kind: one that says a kind says this one ([`Destination`]).
-    ///
-    /// # Errors
-    ///
-    /// `ReadOnly` where the segment is open for reading, else `Exists` where an object has the key: nothing changes. Else `NoSpace`
-    /// where no gap is long enough: what the segment holds does not change, and the bytes of gaps may.
+    /// As of `construct_vec`.
     pub fn construct_texts<D: Destination>(
         &mut self,
         key: &D,
@@ -141,14 +126,9 @@ impl Segment {
     ///
     /// Example: `segment.find_or_construct_texts(&name, &[])?`.
     ///
-    /// # Conditions
+    /// # Conditions and errors
     ///
-    /// The key suits the kind: one that says a kind says this one ([`Destination`]).
-    ///
-    /// # Errors
-    ///
-    /// `ReadOnly` where the segment is open for reading, else `WrongKind` where the object is of another kind: nothing changes. Else
-    /// `NoSpace` where none is there and no gap is long enough: what the segment holds does not change, and the bytes of gaps may.
+    /// As of `find_or_construct_vec`.
     pub fn find_or_construct_texts<D: IndexDestination>(
         &mut self,
         key: &D,
@@ -166,14 +146,9 @@ impl Segment {
     ///
     /// Example: `segment.construct_map::<i32, i64, _>(&name)?`.
     ///
-    /// # Conditions
+    /// # Conditions and errors
     ///
-    /// The key suits the kind: one that says a kind says this one ([`Destination`]).
-    ///
-    /// # Errors
-    ///
-    /// `ReadOnly` where the segment is open for reading, else `Exists` where an object has the key: nothing changes. Else `NoSpace`
-    /// where no gap is long enough: what the segment holds does not change, and the bytes of gaps may.
+    /// As of `construct_vec`.
     pub fn construct_map<K: Scalar, V: Scalar, D: Destination>(
         &mut self,
         key: &D,
@@ -189,13 +164,9 @@ impl Segment {
     ///
     /// Example: `segment.construct_map_of(&name, ScalarKind::I32, ScalarKind::I64)?`.
     ///
-    /// # Conditions
+    /// # Conditions and errors
     ///
-    /// The key suits the kind: one that says a kind says this one ([`Destination`]).
-    ///
-    /// # Errors
-    ///
-    /// As of `construct_map`.
+    /// As of `construct_vec`.
     pub fn construct_map_of<D: Destination>(
         &mut self,
         key: &D,
@@ -214,14 +185,9 @@ impl Segment {
     ///
     /// Example: `segment.find_or_construct_map::<i32, i64, _>(&name)?`.
     ///
-    /// # Conditions
+    /// # Conditions and errors
     ///
-    /// The key suits the kind: one that says a kind says this one ([`Destination`]).
-    ///
-    /// # Errors
-    ///
-    /// `ReadOnly` where the segment is open for reading, else `WrongKind` where the object is of another kind: nothing changes. Else
-    /// `NoSpace` where none is there and no gap is long enough: what the segment holds does not change, and the bytes of gaps may.
+    /// As of `find_or_construct_vec`.
     pub fn find_or_construct_map<K: Scalar, V: Scalar, D: IndexDestination>(
         &mut self,
         key: &D,
@@ -238,13 +204,9 @@ impl Segment {
     ///
     /// Example: `segment.find_or_construct_map_of(&name, ScalarKind::I32, ScalarKind::I64)?`.
     ///
-    /// # Conditions
+    /// # Conditions and errors
     ///
-    /// The key suits the kind: one that says a kind says this one ([`Destination`]).
-    ///
-    /// # Errors
-    ///
-    /// As of `find_or_construct_map`.
+    /// As of `find_or_construct_vec`.
     pub fn find_or_construct_map_of<D: IndexDestination>(
         &mut self,
         key: &D,

@@ -128,11 +128,7 @@ impl Segment {
     }
 }
 
-/// Takes the blocks of an object of `count` numbers into use, and writes its head.
-///
-/// # Errors
-///
-/// `Exists` where an object has the key, and else `NoSpace` where no gap is long enough. What the heap holds does not change.
+/// `begin` of an object of `count` numbers.
 fn begin_numbers(
     heap: &mut Heap,
     key: &NewKey,
@@ -242,11 +238,7 @@ fn write_value<I: Iterator<Item = ScalarValue>>(
     true
 }
 
-/// Has the entry of an object lead to it where there were items enough, and answers its handle.
-///
-/// # Errors
-///
-/// `OutOfRange` where there were not: all that was taken is given back.
+/// The same where there were items enough, and else `OutOfRange`.
 fn finish(heap: &mut Heap, begun: Begun, enough: bool) -> Result<Handle, Refusal>
     requires { (old : Cut) × IsLoose old heap.old begun.handle begun.entry }
     ensures { Finishes heap.old heap.new begun.handle begun.entry enough result }

@@ -13,11 +13,7 @@ use seg_types::{Kind, Refusal};
 use seg_vector::Place;
 
 impl Segment {
-    /// Where the container stands of the object of a key, an object of the kind.
-    ///
-    /// # Errors
-    ///
-    /// `NotFound` where no object has the key, `WrongKind` where it is of another kind.
+    /// Where the container stands of the object of a key: `NotFound` where there is none, `WrongKind` where it is of another kind.
     pub(crate) fn find_container<O: Target>(&self, key: &O, kind: Kind) -> Result<Place, Refusal>
         requires { O.stands key.now self.now }
         ensures { Answers self.now (λ d. container_at d (O.key key.now) kind) result }
@@ -28,11 +24,7 @@ impl Segment {
         }
     }
 
-    /// The same, where the container is to be changed.
-    ///
-    /// # Errors
-    ///
-    /// `ReadOnly` where the segment is open for reading, and else `NotFound` and `WrongKind` as above.
+    /// The same, where the container is to be changed: `ReadOnly` where the segment is open for reading.
     pub(crate) fn find_to_change<O: Target>(&self, key: &O, kind: Kind) -> Result<Place, Refusal>
         requires { O.stands key.now self.now }
         ensures { MatchResult result (IsToChange self.now (O.key key.now) kind) (IsNotToChange self.now (O.key key.now) kind) }
@@ -44,11 +36,7 @@ impl Segment {
     }
 }
 
-/// Where the container stands in the block of an object of a kind.
-///
-/// # Errors
-///
-/// `WrongKind` where the object is of another kind.
+/// Where the container stands in the block of an object: `WrongKind` where it is of another kind.
 pub(crate) fn container_in(heap: &Heap, handle: u64, kind: Kind) -> Result<Place, Refusal>
     requires { HasObject heap.now.bytes handle }
     ensures { (o : Object) → StandsAt heap.now.bytes handle o → result ≡ place_of_kind o kind }

@@ -34,11 +34,8 @@ pub(crate) fn element(heap: &Heap, handle: u64, at: u64, size: u64) -> &[u8]
     &payload[at as usize..(at + size) as usize]
 }
 
-/// Where the element of an index stands in the block of an object of scalars of a kind, from the handle on.
-///
-/// # Errors
-///
-/// `WrongKind` where the object is of another kind, `OutOfRange` where it has no such element.
+/// Where the element of an index stands in the block of an object of scalars, from the handle on: `WrongKind` where it is of another
+/// kind, `OutOfRange` where it has no such element.
 pub(crate) fn place_of(
     heap: &Heap,
     handle: u64,

@@ -2,7 +2,8 @@
 ghost use Rattle.std.specs.Prelude.{length, slice_get, Some, ◌≡◌};
 ghost use Rattle.seg_types.specs.{declared.kinds.Kind.TheVariants.Scalar as ScalarOf, Commands.Find, Commands.NumNamed};
 ghost use Rattle.seg_types.specs.{Commands.NumUnique, Keys.key_seen, Names.Key as AnyKey};
-ghost use Rattle.segment_manager.specs.{Answers.Number, Denotes.handles, State.Answers, State.IsReply, Indexed.Seeks};
+ghost use Rattle.segment_manager.specs.{Answers.Number, Denotes.handles, State.Answers, State.IsReply};
+ghost use Rattle.segment_manager.specs.Indexed.{Seeks, objects_of};
 ghost use Rattle.segment_manager.specs.Directory.{named_objects, unique_objects};
 ghost use Rattle.segment_manager.specs.Found.{IsBelow, found_answer, handle_at, is_object_at};
 
@@ -87,6 +88,14 @@ impl Segment {
         self.heap.is_live(handle) && self.heap.role(handle) == Role::Object
     }
 
+    /// The handle of the object with `i` others before it in an index.
+    fn entry_at(&self, index: Index, i: u64) -> Handle
+        requires { IsBelow self.now (λ d. length (objects_of index d)) i }
+        ensures { Answers self.now (λ d. slice_get (handles (objects_of index d)) i) (Some result) }
+    {
+        index.at(&self.heap, i)
+    }
+
     /// The handle of the object under an entry of an index, or nothing where there is none.
     fn look_up(&self, index: Index, entry: Entry<'_>) -> Option<Handle>
         ensures { (key : AnyKey) → Seeks index entry.entry key → Answers self.now (λ d. handle_at d key) result }
@@ -110,7 +119,7 @@ pub fn named_at(segment: &Segment, i: u64) -> Handle
     requires { IsBelow segment.now (λ d. length (named_objects d)) i }
     ensures { Answers segment.now (λ d. slice_get (handles (named_objects d)) i) (Some result) }
 {
-    Index::Named.at(&segment.heap, i)
+    segment.entry_at(Index::Named, i)
 }
 
 /// The handle of the unique object that has `i` others before it, in the order of the codes of their kinds. There are
@@ -125,5 +134,5 @@ pub fn unique_at(segment: &Segment, i: u64) -> Handle
     requires { IsBelow segment.now (λ d. length (unique_objects d)) i }
     ensures { Answers segment.now (λ d. slice_get (handles (unique_objects d)) i) (Some result) }
 {
-    Index::Unique.at(&segment.heap, i)
+    segment.entry_at(Index::Unique, i)
 }

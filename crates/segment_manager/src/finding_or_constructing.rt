@@ -89,16 +89,9 @@ impl Segment {
     ///
     /// Example: `segment.find_or_construct_value(&name, 1, ScalarValue::I64(640))?`.
     ///
-    /// # Conditions
+    /// # Conditions and errors
     ///
-    /// `count` is from 1 to 1048576. `find_or_construct_array` has no such condition, and refuses another count.
-    ///
-    /// The key suits the kind: one that says a kind says this one ([`Destination`]).
-    ///
-    /// # Errors
-    ///
-    /// `ReadOnly` where the segment is open for reading, else `WrongKind` where the object is of another kind: nothing changes. Else
-    /// `NoSpace` where none is there and no gap is long enough: what the segment holds does not change, and the bytes of gaps may.
+    /// As of `find_or_construct`.
     pub fn find_or_construct_value<D: IndexDestination>(
         &mut self,
         key: &D,
@@ -115,12 +108,7 @@ impl Segment {
         self.find_or_construct_under(key, &NewScalars { count, value })
     }
 
-    /// The handle of the object of a key, and how many elements it has. Where no object has the key one is made, of what fills it.
-    ///
-    /// # Errors
-    ///
-    /// `ReadOnly` where the segment is open for reading, else `WrongKind` where the object is of another kind: nothing changes. Else
-    /// `NoSpace` where none is there and no gap is long enough: what the segment holds does not change, and the bytes of gaps may.
+    /// The same of what fills an object.
     #[inline(always)]
     pub(crate) fn find_or_construct_under<F: Filling, D: IndexDestination>(
         &mut self,
@@ -212,11 +200,7 @@ pub(crate) fn counted(made: Result<Handle, Refusal>, count: u32) -> Result<(Hand
     Ok((handle, count))
 }
 
-/// The handle of an object of a kind, and how many elements it has (1 where it is a container).
-///
-/// # Errors
-///
-/// `WrongKind` where the object is of another kind.
+/// The handle of an object and how many elements it has (1 where it is a container): `WrongKind` where it is of another kind.
 pub(crate) fn found_of(heap: &Heap, handle: u64, kind: Kind) -> Result<(Handle, u32), Refusal>
     requires { HasObject heap.now.bytes handle }
     ensures { (o : Object) → StandsAt heap.now.bytes handle o → result ≡ pair_of_kind o kind }

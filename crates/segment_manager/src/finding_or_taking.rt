@@ -71,11 +71,7 @@ impl Segment {
     }
 }
 
-/// The handle of an object, and how many scalars of a kind it has.
-///
-/// # Errors
-///
-/// `WrongKind` where it is of another kind.
+/// The handle of an object and how many scalars it has: `WrongKind` where it is of another kind.
 fn scalars_in(object: Object, kind: ScalarKind) -> Result<(Handle, u32), Refusal>
     ensures { result ≡ found_as kind object }
 {

@@ -191,10 +191,6 @@ impl Segment {
     }
 
     /// Where the map of a key stands, a map of the types.
-    ///
-    /// # Errors
-    ///
-    /// `NotFound` where no object has the key, `WrongKind` where it is of another kind.
     fn find_map<K: Scalar, V: Scalar, O: Target>(&self, key: &O) -> Result<MapPlace, Refusal>
         requires { O.stands key.now self.now }
         ensures { Answers self.now (λ d. map_at d (O.key key.now) K.kind V.kind) result }

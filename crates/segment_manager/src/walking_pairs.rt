@@ -32,10 +32,6 @@ macro_rules! valued {
 impl Segment {
     /// The pair with the least key that is above a bound, or not below it, of the map of a key, a map with keys of the kind of
     /// the bound and values of a kind. It is inlined, so which of the two costs no test.
-    ///
-    /// # Errors
-    ///
-    /// `NotFound` where no object has the key, `WrongKind` where it is of another kind.
     #[inline(always)]
     fn pair_of_kinds<O: Target>(
         &self,

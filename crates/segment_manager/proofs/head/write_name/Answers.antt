@@ -1,7 +1,8 @@
 -- The name, and zeros behind it.
 use Rattle.segment_manager.proofs.Common.{◌≡◌, ◌+◌, ◌-◌, ◌∙◌, ap, subst, arith, length, take, replicate, List, ℕ}
 use Rattle.segment_manager.proofs.Common.{IsTrue, length-replicate, current, has_room, live_of, changed-room, padded}
-use Rattle.segment_manager.proofs.{NewBlocks.room-less, Pieces.HasName, Pieces.name-written, Pieces.zeros-taken}
+use Rattle.best_fit.proofs.Laws.{room-less}
+use Rattle.segment_manager.proofs.Pieces.{HasName, name-written, zeros-taken}
 use Rattle.segment_manager.proofs.head.write_name.Goals as goal
 
 pub write-requires : goal.write-requires

@@ -10,6 +10,7 @@ release-requires g c =
     (some-map _ _ _ _ _ _ (of-map g.met.K.Scalar) (of-map g.met.V.Scalar) _ _ _ c.requires)
 
 pub returns : goal.returns
-returns g c =
-    releases-numbers _ _ _ _ _ _ (of-map g.met.K.Scalar) (of-map g.met.V.Scalar) c.args.heap.now c.release.new.heap c.args.place.handle c.args.place.at
-    (subst (λ (p : Place). Releases g.K.Plain g.V.Plain c.args.heap.now c.release.new.heap p.handle p.at) c.at.ensures c.release.ensures)
+returns g c = record {
+  each = releases-numbers _ _ _ _ _ _ (of-map g.met.K.Scalar) (of-map g.met.V.Scalar) c.args.heap.now c.release.new.heap _ _
+      (subst (λ (p : Place). Releases g.K.Plain g.V.Plain c.args.heap.now c.release.new.heap p.handle p.at) c.at.ensures c.release.ensures);
+}

@@ -1,5 +1,5 @@
 use Rattle.segment_manager.proofs.Common.{err_from_is_err_and, HasEnough, StepsSafely, command_of}
-use Rattle.segment_manager.proofs.{KeptContainers.keeps-cut, Safely.safe-segment}
+use Rattle.segment_manager.proofs.{KeptContainers.keeps-cut, Safely.answer-segment}
 use Rattle.segment_manager.proofs.StoredCalls.{changes-there, stands-there, storage-changed, storage-missing}
 use Rattle.segment_manager.proofs.segment.Segment.change_stored.Goals as goal
 use Rattle.segment_manager.proofs.segment.Segment.change_stored.{Goals.After-change_there, Given.Over}
@@ -18,7 +18,7 @@ change_there-requires g c =
 
 pub invariant_of-self : goal.invariant_of-self
 invariant_of-self g c =
-    safe-segment _ _ c.self.view_is _ _ _ _ _ (done g (goal.at.invariant_of-self g c).After-change_there) c.self.invariant
+    answer-segment _ _ c.self.view_is _ _ _ _ _ (done g (goal.at.invariant_of-self g c).After-change_there) c.self.invariant
 
 pub returns-in_err-place-clause-change : goal.returns-in_err-place-clause-change
 returns-in_err-place-clause-change g c =

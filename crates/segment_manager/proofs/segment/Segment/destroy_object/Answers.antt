@@ -24,8 +24,7 @@ invariant_of-self c =
 
 pub remove_anonymous-requires : goal.remove_anonymous-requires
 remove_anonymous-requires c =
-    let s : State = record { cut = c.self.inside.heap; mode = c.self.inside.mode } in
-    own-object s c.args.handle c.self.invariant (subst (λ t. Answers t (λ d. is_object_at d c.args.handle) true) (sym c.self.view_is) c.requires.object)
+    own-object _ c.args.handle c.self.invariant (subst (λ t. Answers t (λ d. is_object_at d c.args.handle) true) (sym c.self.view_is) c.requires.object)
 
 pub invariant_of-self-in-None : goal.invariant_of-self-in-None
 invariant_of-self-in-None c =

@@ -12,9 +12,8 @@ element-requires-clause-heap g c = denotes-heap current c.self.inside.heap.bytes
 
 pub element-requires-clause-room : goal.element-requires-clause-room
 element-requires-clause-room g c =
-    let s : State = record { cut = c.self.inside.heap; mode = c.self.inside.mode } in
     subst (λ n. IsTrue (has_room (live_of c.self.inside.heap.bytes) c.in_ok-place.place.handle (c.in_ok-place.place.at + n))) (sym c.size.ensures)
-    (place-room s (g.O.Target.key c.args.key.now) c.args.kind c.args.index c.in_ok-place.place c.self.invariant
+    (place-room _ (g.O.Target.key c.args.key.now) c.args.kind c.args.index c.in_ok-place.place c.self.invariant
     (subst (λ t. Answers t (λ d. place_at d (g.O.Target.key c.args.key.now) c.args.kind c.args.index) (Ok c.in_ok-place.place)) (sym c.self.view_is) c.in_ok-place.ensures))
 
 pub returns-in_err-place : goal.returns-in_err-place

@@ -1,7 +1,7 @@
 -- The object of the handle is read.
-use Rattle.segment_manager.proofs.Common.{sym, subst, true, current, ByHandle, is_object_at, SaysOf, Answers, State}
+use Rattle.segment_manager.proofs.Common.{sym, subst, true, current, ByHandle, is_object_at, SaysOf, Answers}
 use Rattle.segment_manager.proofs.{Calling.denotes-heap, Listed.has-own_object, Tellings.key-says}
-use Rattle.segment_manager.proofs.KeyCalls.{handle-answers}
+use Rattle.segment_manager.proofs.{KeyCalls.handle-answers}
 use Rattle.segment_manager.proofs.segment.Segment.instance_here.Goals as goal
 
 pub read_instance-requires-clause-heap : goal.read_instance-requires-clause-heap
@@ -9,12 +9,10 @@ read_instance-requires-clause-heap c = denotes-heap current c.self.inside.heap.b
 
 pub read_instance-requires-clause-object : goal.read_instance-requires-clause-object
 read_instance-requires-clause-object c =
-    let s : State = record { cut = c.self.inside.heap; mode = c.self.inside.mode } in
-    has-own_object s c.args.handle c.self.invariant (subst (λ t. Answers t (λ d. is_object_at d c.args.handle) true) (sym c.self.view_is) c.requires)
+    has-own_object _ c.args.handle c.self.invariant (subst (λ t. Answers t (λ d. is_object_at d c.args.handle) true) (sym c.self.view_is) c.requires)
 
 pub returns : goal.returns
 returns c =
-    let s : State = record { cut = c.self.inside.heap; mode = c.self.inside.mode } in
     subst (λ t. SaysOf t (ByHandle c.args.handle) c.read_instance.result) c.self.view_is
-    (key-says s (ByHandle c.args.handle) c.args.handle c.read_instance.result
-    (handle-answers s c.args.handle true (subst (λ t. Answers t (λ d. is_object_at d c.args.handle) true) (sym c.self.view_is) c.requires)) c.read_instance.ensures)
+    (key-says _ (ByHandle c.args.handle) c.args.handle c.read_instance.result
+    (handle-answers _ c.args.handle true (subst (λ t. Answers t (λ d. is_object_at d c.args.handle) true) (sym c.self.view_is) c.requires)) c.read_instance.ensures)

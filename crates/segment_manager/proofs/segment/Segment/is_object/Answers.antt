@@ -1,14 +1,12 @@
 -- The handle is an object's where a block in use has it that is for an object.
-use Rattle.segment_manager.proofs.Common.{subst, is_object_at, Answers, State}
+use Rattle.segment_manager.proofs.Common.{subst, is_object_at, Answers}
 use Rattle.segment_manager.proofs.KeyCalls.{dead-answers, role-answers}
 use Rattle.segment_manager.proofs.segment.Segment.is_object.Goals as goal
 
 pub returns-then-is_live : goal.returns-then-is_live
 returns-then-is_live c =
-    let s : State = record { cut = c.self.inside.heap; mode = c.self.inside.mode } in
-    subst (λ t. Answers t (λ d. is_object_at d c.args.handle) c.eq.result) c.self.view_is (role-answers s c.args.handle c.role.result c.eq.result c.role.ensures c.eq.ensures)
+    subst (λ t. Answers t (λ d. is_object_at d c.args.handle) c.eq.result) c.self.view_is (role-answers _ c.args.handle c.role.result c.eq.result c.role.ensures c.eq.ensures)
 
 pub returns-else-is_live : goal.returns-else-is_live
 returns-else-is_live c =
-    let s : State = record { cut = c.self.inside.heap; mode = c.self.inside.mode } in
-    subst (λ t. Answers t (λ d. is_object_at d c.args.handle) c.is_live.result) c.self.view_is (dead-answers s c.args.handle c.is_live.result c.is_live.ensures c.if-is_live.false)
+    subst (λ t. Answers t (λ d. is_object_at d c.args.handle) c.is_live.result) c.self.view_is (dead-answers _ c.args.handle c.is_live.result c.is_live.ensures c.if-is_live.false)

@@ -1,8 +1,8 @@
 -- The head says the class, and with it the key.
 use Rattle.segment_manager.proofs.Common.{sym, subst, true, None, current, is_object_at, HasEntries, IsListed, Answers}
 use Rattle.segment_manager.proofs.Common.{State}
-use Rattle.seg_index.specs.declared.index.Index.TheVariants as index
 use Rattle.seg_index.specs.declared.keys.Key.{Key}
+use Rattle.seg_index.specs.declared.index.Index.TheVariants as index
 use Rattle.seg_index.specs.declared.keys.Key.TheVariants as entry
 use Rattle.segment_manager.proofs.Calling.{denotes-heap}
 use Rattle.segment_manager.proofs.Listed.{has-own_object, listed-kind, listed-name, listed-none}
@@ -10,16 +10,14 @@ use Rattle.segment_manager.proofs.segment.Segment.listed.Goals as goal
 
 pub read_head-head-requires : goal.read_head-head-requires
 read_head-head-requires c =
-    let s : State = record { cut = c.self.inside.heap; mode = c.self.inside.mode } in
-    has-own_object s c.args.handle c.self.invariant (subst (λ t. Answers t (λ d. is_object_at d c.args.handle) true) (sym c.self.view_is) c.requires)
+    has-own_object _ c.args.handle c.self.invariant (subst (λ t. Answers t (λ d. is_object_at d c.args.handle) true) (sym c.self.view_is) c.requires)
 
 pub read_name-requires-clause-heap : goal.read_name-requires-clause-heap
 read_name-requires-clause-heap c = denotes-heap current c.self.inside.heap.bytes c.self.invariant.0 c.self.invariant.1.denotes
 
 pub read_name-requires-clause-object : goal.read_name-requires-clause-object
 read_name-requires-clause-object c =
-    let s : State = record { cut = c.self.inside.heap; mode = c.self.inside.mode } in
-    has-own_object s c.args.handle c.self.invariant (subst (λ t. Answers t (λ d. is_object_at d c.args.handle) true) (sym c.self.view_is) c.requires)
+    has-own_object _ c.args.handle c.self.invariant (subst (λ t. Answers t (λ d. is_object_at d c.args.handle) true) (sym c.self.view_is) c.requires)
 
 pub returns-in-Anonymous : goal.returns-in-Anonymous
 returns-in-Anonymous c =

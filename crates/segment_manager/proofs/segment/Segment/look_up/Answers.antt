@@ -1,5 +1,5 @@
 -- The index stands in the heap of the segment, and what is found there is the object of the key.
-use Rattle.segment_manager.proofs.Common.{refl, subst, Some, None, handle_at, Answers, State}
+use Rattle.segment_manager.proofs.Common.{refl, subst, Some, None, handle_at, Answers}
 use Rattle.segment_manager.proofs.KeyCalls.{absent-answers, found-answers, place-below, segment-index, segment-keys}
 use Rattle.segment_manager.proofs.segment.Segment.look_up.Goals as goal
 
@@ -14,11 +14,9 @@ at-requires-clause-below c = place-below c.self.inside.heap c.args.index c.args.
 
 pub returns-in-Found : goal.returns-in-Found
 returns-in-Found c = λ key q.
-    let s : State = record { cut = c.self.inside.heap; mode = c.self.inside.mode } in
     subst (λ t. Answers t (λ d. handle_at d key) (Some c.at.result)) c.self.view_is
-    (found-answers s c.args.index c.args.entry c.in-Found.place c.at.result c.in-Found.ensures.place c.at.ensures key q)
+    (found-answers _ c.args.index c.args.entry c.in-Found.place c.at.result c.in-Found.ensures.place c.at.ensures key q)
 
 pub returns-in-Absent : goal.returns-in-Absent
 returns-in-Absent c = λ key q.
-    let s : State = record { cut = c.self.inside.heap; mode = c.self.inside.mode } in
-    subst (λ t. Answers t (λ d. handle_at d key) None) c.self.view_is (absent-answers s c.args.index c.args.entry c.in-Absent.field-0 c.in-Absent.ensures.place key q)
+    subst (λ t. Answers t (λ d. handle_at d key) None) c.self.view_is (absent-answers _ c.args.index c.args.entry c.in-Absent.field-0 c.in-Absent.ensures.place key q)

@@ -3,8 +3,8 @@ use Rattle.segment_manager.proofs.Common.{err_from_is_err_and, refl, sym, ◌∙
 use Rattle.segment_manager.proofs.Common.{literal_of}
 use Rattle.segment_manager.proofs.{KeptContainers.map-kept, MapAnswers.erased-there, MapAnswers.some-there}
 use Rattle.segment_manager.proofs.{MapCalls.TellsSafely, MapCalls.finds-no_map, ScalarTypes.of-map}
-use Rattle.segment_manager.proofs.Safely.{answer-refused, answer-segment, answer-step}
-use Rattle.segment_manager.proofs.Steps.{open-writing, refuses_of_kind-read_only}
+use Rattle.segment_manager.proofs.{Safely.answer-refused, Safely.answer-segment, Safely.answer-step, Steps.open-writing}
+use Rattle.segment_manager.proofs.{Steps.refuses_of_kind-read_only}
 use Rattle.segment_manager.proofs.segment.Segment.map_erase.Goals as goal
 use Rattle.segment_manager.proofs.segment.Segment.map_erase.{Goals.After-erase, Given.Over}
 
@@ -37,15 +37,12 @@ pub invariant_of-self : goal.invariant_of-self
 invariant_of-self g c =
     answer-segment _ _ c.self.view_is _ _ _ _ _ (done g (goal.at.invariant_of-self g c).After-erase) c.self.invariant
 
-pub returns-clause-step : goal.returns-clause-step
-returns-clause-step g c =
-    answer-step _ _ c.self.view_is _ _ _ _ _ (done g (goal.at.returns-clause-step g c).After-erase)
-
-pub returns-clause-refused : goal.returns-clause-refused
-returns-clause-refused g c =
-    answer-refused _ _ c.self.view_is _ _ _ _ _ (done g (goal.at.returns-clause-refused g c).After-erase)
-
-pub returns-clause-absent : goal.returns-clause-absent
-returns-clause-absent g c =
-    map-kept _ _ _ _ _ _ (of-map g.met.K.Scalar) (of-map g.met.V.Scalar) _ _ c.self.view_is _ _ _ c.at.ensures
-    c.in_ok-place.ensures _ c.args.at c.erase.result c.erase.ensures.erased
+pub returns : goal.returns
+returns g c =
+    let d = done g (goal.at.returns g c).After-erase in
+    record {
+      step = answer-step _ _ c.self.view_is _ _ _ _ _ d;
+      refused = answer-refused _ _ c.self.view_is _ _ _ _ _ d;
+      absent = map-kept _ _ _ _ _ _ (of-map g.met.K.Scalar) (of-map g.met.V.Scalar) _ _ c.self.view_is _ _ _ c.at.ensures
+          c.in_ok-place.ensures _ c.args.at c.erase.result c.erase.ensures.erased;
+    }

@@ -1,9 +1,9 @@
 -- The pair is put into the map that is found.
-use Rattle.segment_manager.proofs.Common.{err_from_is_err_and, ◌≡◌, refl, sym, ap, ◌∙◌, Command, Put, literal_of}
-use Rattle.segment_manager.proofs.MapAnswers.{put-there, some-there}
+use Rattle.segment_manager.proofs.Common.{err_from_is_err_and, ◌≡◌, refl, sym, ap, ◌∙◌, Command, Map, Put, literal_of}
+use Rattle.segment_manager.proofs.{MapAnswers.put-there, MapAnswers.some-there, MapCalls.TellsSafely}
 use Rattle.segment_manager.proofs.{MapCalls.finds-no_map, MapCalls.put_result, ScalarTypes.of-map}
-use Rattle.segment_manager.proofs.Safely.{answer-refused, answer-segment, answer-step}
-use Rattle.segment_manager.proofs.Steps.{open-writing, refuses_of_kind-read_only}
+use Rattle.segment_manager.proofs.{Safely.answer-refused, Safely.answer-segment, Safely.answer-step, Steps.open-writing}
+use Rattle.segment_manager.proofs.{Steps.refuses_of_kind-read_only}
 use Rattle.segment_manager.proofs.segment.Segment.map_put.Goals as goal
 use Rattle.segment_manager.proofs.segment.Segment.map_put.{Goals.Joined-put, Goals.in-Err, Goals.in-Ok, Given.Over}
 
@@ -11,6 +11,16 @@ use Rattle.segment_manager.proofs.segment.Segment.map_put.{Goals.Joined-put, Goa
 told : (g : Over) (c : Joined-put g) → c.match-put.result ≡ put_result c.put.result
 told g c =
     elim c.match-put.branch [ in-Err w ↦ w.result-is ∙ sym (ap put_result w.in-Err.is) | in-Ok w ↦ w.result-is ∙ sym (ap put_result w.in-Ok.is) ]
+
+-- what the call does, in each goal behind it
+done : (g : Over) (c : Joined-put g) → TellsSafely (record { cut = c.self.inside.heap; mode = c.self.inside.mode })
+    c.put.new.heap (g.O.Target.key c.args.key.now) (Map g.K.Scalar.kind g.V.Scalar.kind) (Put (g.O.Target.key
+    c.args.key.now) (literal_of g.K.Scalar.kind (g.K.Scalar.whole c.args.at)) (literal_of g.V.Scalar.kind (g.V.Scalar.whole
+    c.args.value))) c.match-put.result
+done g c =
+    put-there _ _ _ _ _ _ (of-map g.met.K.Scalar) (of-map g.met.V.Scalar) _ _ c.self.view_is _ _ _ c.at.ensures
+    c.self.invariant c.in_ok-place.ensures c.put.new.heap (sym c.is_read_only.ensures ∙ c.if-is_read_only.false) c.args.at c.args.value
+    c.put.result c.match-put.result (told g c) c.judge.ensures c.judge-2.ensures c.put.ensures.put
 
 pub returns-then-is_read_only-clause-step : goal.returns-then-is_read_only-clause-step
 returns-then-is_read_only-clause-step g c =
@@ -31,21 +41,9 @@ returns-in_err-place-clause-step g c =
 
 pub invariant_of-self : goal.invariant_of-self
 invariant_of-self g c =
-    answer-segment _ _ c.self.view_is _ _ _ _ _
-    (put-there _ _ _ _ _ _ (of-map g.met.K.Scalar) (of-map g.met.V.Scalar) _ _ c.self.view_is _ _ _ c.at.ensures
-    c.self.invariant c.in_ok-place.ensures c.put.new.heap (sym c.is_read_only.ensures ∙ c.if-is_read_only.false) c.args.at c.args.value
-    c.put.result c.match-put.result (told g (goal.at.invariant_of-self g c).Joined-put) c.judge.ensures c.judge-2.ensures c.put.ensures.put) c.self.invariant
+    answer-segment _ _ c.self.view_is _ _ _ _ _ (done g (goal.at.invariant_of-self g c).Joined-put) c.self.invariant
 
-pub returns-clause-step : goal.returns-clause-step
-returns-clause-step g c =
-    answer-step _ _ c.self.view_is _ _ _ _ _
-    (put-there _ _ _ _ _ _ (of-map g.met.K.Scalar) (of-map g.met.V.Scalar) _ _ c.self.view_is _ _ _ c.at.ensures
-    c.self.invariant c.in_ok-place.ensures c.put.new.heap (sym c.is_read_only.ensures ∙ c.if-is_read_only.false) c.args.at c.args.value
-    c.put.result c.match-put.result (told g (goal.at.returns-clause-step g c).Joined-put) c.judge.ensures c.judge-2.ensures c.put.ensures.put)
-
-pub returns-clause-refused : goal.returns-clause-refused
-returns-clause-refused g c =
-    answer-refused _ _ c.self.view_is _ _ _ _ _
-    (put-there _ _ _ _ _ _ (of-map g.met.K.Scalar) (of-map g.met.V.Scalar) _ _ c.self.view_is _ _ _ c.at.ensures
-    c.self.invariant c.in_ok-place.ensures c.put.new.heap (sym c.is_read_only.ensures ∙ c.if-is_read_only.false) c.args.at c.args.value
-    c.put.result c.match-put.result (told g (goal.at.returns-clause-refused g c).Joined-put) c.judge.ensures c.judge-2.ensures c.put.ensures.put)
+pub returns : goal.returns
+returns g c =
+    let d = done g (goal.at.returns g c).Joined-put in
+    record { step = answer-step _ _ c.self.view_is _ _ _ _ _ d; refused = answer-refused _ _ c.self.view_is _ _ _ _ _ d }

@@ -7,16 +7,14 @@ use Rattle.segment_manager.proofs.segment.Segment.measure_pairs.Goals as goal
 
 pub overflow_add-place : goal.overflow_add-place
 overflow_add-place g c =
-    let s : State = record { cut = c.self.inside.heap; mode = c.self.inside.mode } in
     let small : c.in_ok-place.place.at + 8 ≤ 4096 =
-    place-small s (g.O.Target.key c.args.key.now) c.args.keys c.args.values c.in_ok-place.place
+    place-small _ (g.O.Target.key c.args.key.now) c.args.keys c.args.values c.in_ok-place.place
     (subst (λ (t : State). Answers t (λ d. container_at d (g.O.Target.key c.args.key.now) (Map c.args.keys c.args.values)) (Ok c.in_ok-place.place)) (sym c.self.view_is) c.in_ok-place.ensures) c.self.invariant in
     omega (arith, small)
 
 pub word-requires : goal.word-requires
 word-requires g c =
-    let s : State = record { cut = c.self.inside.heap; mode = c.self.inside.mode } in
-    count-room s (g.O.Target.key c.args.key.now) c.args.keys c.args.values c.in_ok-place.place
+    count-room _ (g.O.Target.key c.args.key.now) c.args.keys c.args.values c.in_ok-place.place
     (subst (λ (t : State). Answers t (λ d. container_at d (g.O.Target.key c.args.key.now) (Map c.args.keys c.args.values)) (Ok c.in_ok-place.place)) (sym c.self.view_is) c.in_ok-place.ensures) _ c.self.invariant refl
 
 pub returns-in_err-place : goal.returns-in_err-place
@@ -26,8 +24,7 @@ returns-in_err-place g c =
 
 pub returns : goal.returns
 returns g c =
-    let s : State = record { cut = c.self.inside.heap; mode = c.self.inside.mode } in
     subst (λ (t : State). Answers t (λ d. sizes_at_kind d (g.O.Target.key c.args.key.now) (Map c.args.keys c.args.values)) (Ok (c.word.result, 0))) c.self.view_is
-    (pairs-measured s (g.O.Target.key c.args.key.now) c.args.keys c.args.values c.in_ok-place.place
+    (pairs-measured _ (g.O.Target.key c.args.key.now) c.args.keys c.args.values c.in_ok-place.place
     (subst (λ (t : State). Answers t (λ d. container_at d (g.O.Target.key c.args.key.now) (Map c.args.keys c.args.values)) (Ok c.in_ok-place.place)) (sym c.self.view_is) c.in_ok-place.ensures)
     c.word.result _ refl c.word.ensures)

@@ -1,10 +1,9 @@
 -- The count of the index is that of the directory.
-use Rattle.segment_manager.proofs.Common.{subst, Number, IsReply, State}
+use Rattle.segment_manager.proofs.Common.{subst, Number, IsReply}
 use Rattle.seg_types.specs.Commands.{NumNamed}
 use Rattle.segment_manager.proofs.FindCalls.{num_named-replies}
 use Rattle.segment_manager.proofs.segment.Segment.num_named.Goals as goal
 
 pub returns : goal.returns
 returns c =
-    let s : State = record { cut = c.self.inside.heap; mode = c.self.inside.mode } in
-    subst (λ t. IsReply t NumNamed (Number c.len.result)) c.self.view_is (num_named-replies s c.len.result c.len.ensures.len)
+    subst (λ t. IsReply t NumNamed (Number c.len.result)) c.self.view_is (num_named-replies _ c.len.result c.len.ensures.len)

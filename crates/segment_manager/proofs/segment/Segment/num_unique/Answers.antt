@@ -1,10 +1,9 @@
 -- The count of the index is that of the directory.
-use Rattle.segment_manager.proofs.Common.{subst, Number, IsReply, State}
+use Rattle.segment_manager.proofs.Common.{subst, Number, IsReply}
 use Rattle.seg_types.specs.Commands.{NumUnique}
 use Rattle.segment_manager.proofs.FindCalls.{num_unique-replies}
 use Rattle.segment_manager.proofs.segment.Segment.num_unique.Goals as goal
 
 pub returns : goal.returns
 returns c =
-    let s : State = record { cut = c.self.inside.heap; mode = c.self.inside.mode } in
-    subst (λ t. IsReply t NumUnique (Number c.len.result)) c.self.view_is (num_unique-replies s c.len.result c.len.ensures.len)
+    subst (λ t. IsReply t NumUnique (Number c.len.result)) c.self.view_is (num_unique-replies _ c.len.result c.len.ensures.len)

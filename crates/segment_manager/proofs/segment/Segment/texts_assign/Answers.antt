@@ -1,7 +1,8 @@
 -- The texts are those of the vector of strings that is found.
-use Rattle.segment_manager.proofs.Common.{err_from_is_err_and, refl, map, Assign, Quoted}
-use Rattle.segment_manager.proofs.{TextListCalls.texts-assigned, TextsHeld.some-texts, ToChange.seen-to_change}
-use Rattle.segment_manager.proofs.TextMoves.{StepsKeeping, kept-refused, kept-segment, kept-step}
+use Rattle.segment_manager.proofs.Common.{refl, map, Assign, Quoted}
+use Rattle.segment_manager.proofs.{TextListCalls.texts-assigned, TextMoves.StepsKeeping, TextMoves.kept-refused}
+use Rattle.segment_manager.proofs.{TextMoves.kept-segment, TextMoves.kept-step, TextsHeld.some-texts}
+use Rattle.segment_manager.proofs.{ToChange.not-changed, ToChange.seen-to_change}
 use Rattle.segment_manager.proofs.segment.Segment.texts_assign.Goals as goal
 use Rattle.segment_manager.proofs.segment.Segment.texts_assign.{Goals.After-assign, Given.Over}
 
@@ -16,8 +17,7 @@ done g c =
 
 pub assign-requires : goal.assign-requires
 assign-requires g c =
-    let place = seen-to_change _ _ c.self.view_is _ _ _ c.in_ok-place.ensures in
-    some-texts _ _ _ c.self.invariant place.at
+    some-texts _ _ _ c.self.invariant (seen-to_change _ _ c.self.view_is _ _ _ c.in_ok-place.ensures).at
 
 pub invariant_of-self : goal.invariant_of-self
 invariant_of-self g c =
@@ -25,9 +25,7 @@ invariant_of-self g c =
 
 pub returns-in_err-place-clause-step : goal.returns-in_err-place-clause-step
 returns-in_err-place-clause-step g c =
-    let p = err_from_is_err_and c.from_residual.result c.from_residual.ensures.1 in
-    rw (p.1, p.2) (c.in_err-place.ensures.refused (Assign (g.O.Target.key c.args.key.now) (map Quoted (map (λ text. text.now)
-    c.args.texts.now))) refl)
+    not-changed _ c.from_residual.result refl c.from_residual.ensures.1 refl c.in_err-place.ensures
 
 pub returns : goal.returns
 returns g c =

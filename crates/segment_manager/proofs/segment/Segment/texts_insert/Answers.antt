@@ -1,8 +1,8 @@
 -- The text is put among those of the vector of strings that is found.
-use Rattle.segment_manager.proofs.Common.{err_from_is_err_and, refl, arith, Insert, Quoted}
-use Rattle.segment_manager.proofs.{TextAnswers.fits-bytes, TextsHeld.some-texts, ToChange.seen-to_change}
-use Rattle.segment_manager.proofs.TextListCalls.{text-inserted}
-use Rattle.segment_manager.proofs.TextMoves.{StepsKeeping, kept-refused, kept-segment, kept-step}
+use Rattle.segment_manager.proofs.Common.{refl, arith, Insert, Quoted}
+use Rattle.segment_manager.proofs.{TextAnswers.fits-bytes, TextListCalls.text-inserted, TextMoves.StepsKeeping}
+use Rattle.segment_manager.proofs.{TextMoves.kept-refused, TextMoves.kept-segment, TextMoves.kept-step}
+use Rattle.segment_manager.proofs.{TextsHeld.some-texts, ToChange.not-changed, ToChange.seen-to_change}
 use Rattle.segment_manager.proofs.segment.Segment.texts_insert.Goals as goal
 use Rattle.segment_manager.proofs.segment.Segment.texts_insert.{Goals.After-insert, Given.Over}
 
@@ -18,8 +18,7 @@ done g c =
 
 pub insert-requires : goal.insert-requires
 insert-requires g c =
-    let place = seen-to_change _ _ c.self.view_is _ _ _ c.in_ok-place.ensures in
-    some-texts _ _ _ c.self.invariant place.at
+    some-texts _ _ _ c.self.invariant (seen-to_change _ _ c.self.view_is _ _ _ c.in_ok-place.ensures).at
 
 pub invariant_of-self : goal.invariant_of-self
 invariant_of-self g c =
@@ -27,8 +26,7 @@ invariant_of-self g c =
 
 pub returns-in_err-place-clause-step : goal.returns-in_err-place-clause-step
 returns-in_err-place-clause-step g c =
-    let p = err_from_is_err_and c.from_residual.result c.from_residual.ensures.1 in
-    rw (p.1, p.2) (c.in_err-place.ensures.refused (Insert (g.O.Target.key c.args.key.now) c.args.index (Quoted c.args.text.now)) refl)
+    not-changed _ c.from_residual.result refl c.from_residual.ensures.1 refl c.in_err-place.ensures
 
 pub returns : goal.returns
 returns g c =

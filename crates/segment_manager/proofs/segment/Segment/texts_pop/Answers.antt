@@ -15,8 +15,7 @@ done g c =
 
 pub pop-requires : goal.pop-requires
 pop-requires g c =
-    let place = seen-to_change _ _ c.self.view_is _ _ _ c.in_ok-place.ensures in
-    some-texts _ _ _ c.self.invariant place.at
+    some-texts _ _ _ c.self.invariant (seen-to_change _ _ c.self.view_is _ _ _ c.in_ok-place.ensures).at
 
 pub invariant_of-self : goal.invariant_of-self
 invariant_of-self g c =

@@ -1,8 +1,9 @@
 -- The text is put in the place of another in the vector of strings that is found.
-use Rattle.segment_manager.proofs.Common.{err_from_is_err_and, refl, arith, Quoted, Set, StepsSafely}
+use Rattle.segment_manager.proofs.Common.{refl, arith, Quoted, Set, StepsSafely}
 use Rattle.seg_types.specs.declared.kinds.Kind.TheVariants.{Texts}
-use Rattle.segment_manager.proofs.{Safely.safe-refused, Safely.safe-segment, Safely.safe-step, TextAnswers.fits-bytes}
-use Rattle.segment_manager.proofs.{TextListCalls.text-set, TextsHeld.some-texts, ToChange.seen-to_change}
+use Rattle.segment_manager.proofs.{Safely.answer-refused, Safely.answer-segment, Safely.answer-step}
+use Rattle.segment_manager.proofs.{TextAnswers.fits-bytes, TextListCalls.text-set, TextsHeld.some-texts}
+use Rattle.segment_manager.proofs.{ToChange.not-changed, ToChange.seen-to_change}
 use Rattle.segment_manager.proofs.segment.Segment.texts_set.Goals as goal
 use Rattle.segment_manager.proofs.segment.Segment.texts_set.{Goals.After-set, Given.Over}
 
@@ -17,19 +18,17 @@ done g c =
 
 pub set-requires : goal.set-requires
 set-requires g c =
-    let place = seen-to_change _ _ c.self.view_is _ _ _ c.in_ok-place.ensures in
-    some-texts _ _ _ c.self.invariant place.at
+    some-texts _ _ _ c.self.invariant (seen-to_change _ _ c.self.view_is _ _ _ c.in_ok-place.ensures).at
 
 pub invariant_of-self : goal.invariant_of-self
 invariant_of-self g c =
-    safe-segment _ _ c.self.view_is _ _ _ _ _ (done g (goal.at.invariant_of-self g c).After-set) c.self.invariant
+    answer-segment _ _ c.self.view_is _ _ _ _ _ (done g (goal.at.invariant_of-self g c).After-set) c.self.invariant
 
 pub returns-in_err-place-clause-step : goal.returns-in_err-place-clause-step
 returns-in_err-place-clause-step g c =
-    let p = err_from_is_err_and c.from_residual.result c.from_residual.ensures.1 in
-    rw (p.1, p.2) (c.in_err-place.ensures.refused (Set (g.O.Target.key c.args.key.now) c.args.index (Quoted c.args.text.now)) refl)
+    not-changed _ c.from_residual.result refl c.from_residual.ensures.1 refl c.in_err-place.ensures
 
 pub returns : goal.returns
 returns g c =
     let d = done g (goal.at.returns g c).After-set in
-    record { step = safe-step _ _ c.self.view_is _ _ _ _ _ d; refused = safe-refused _ _ c.self.view_is _ _ _ _ _ d }
+    record { step = answer-step _ _ c.self.view_is _ _ _ _ _ d; refused = answer-refused _ _ c.self.view_is _ _ _ _ _ d }

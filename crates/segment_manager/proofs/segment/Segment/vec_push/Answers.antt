@@ -1,8 +1,8 @@
 -- The value is put behind the last of the vector that is found.
-use Rattle.segment_manager.proofs.Common.{err_from_is_err_and, refl, subst, Vector, Push, literal_of, StepsSafely}
-use Rattle.segment_manager.proofs.Common.{IsNotToChange}
-use Rattle.segment_manager.proofs.{Safely.safe-refused, Safely.safe-segment, Safely.safe-step, ScalarTypes.of-vector}
-use Rattle.segment_manager.proofs.{VectorAnswers.some-vector, VectorAnswers.vector-pushed, ToChange.vector-to_change}
+use Rattle.segment_manager.proofs.Common.{refl, Vector, Push, literal_of, StepsSafely, ap}
+use Rattle.segment_manager.proofs.{Safely.answer-refused, Safely.answer-segment, Safely.answer-step}
+use Rattle.segment_manager.proofs.{ScalarTypes.of-vector, ToChange.not-changed, ToChange.vector-to_change}
+use Rattle.segment_manager.proofs.{VectorAnswers.some-vector, VectorAnswers.vector-pushed}
 use Rattle.segment_manager.proofs.segment.Segment.vec_push.Goals as goal
 use Rattle.segment_manager.proofs.segment.Segment.vec_push.{Goals.After-push, Given.Over}
 
@@ -22,16 +22,13 @@ push-requires g c =
 
 pub invariant_of-self : goal.invariant_of-self
 invariant_of-self g c =
-    safe-segment _ _ c.self.view_is _ _ _ _ _ (done g (goal.at.invariant_of-self g c).After-push) c.self.invariant
+    answer-segment _ _ c.self.view_is _ _ _ _ _ (done g (goal.at.invariant_of-self g c).After-push) c.self.invariant
 
 pub returns-in_err-place-clause-step : goal.returns-in_err-place-clause-step
 returns-in_err-place-clause-step g c =
-    let p = err_from_is_err_and c.from_residual.result c.from_residual.ensures.1 in
-    rw (p.1, p.2) ((subst (λ l. IsNotToChange c.args.self.now (g.O.Target.key c.args.key.now) (Vector l) c.in_err-place.field-0.0) c.kind.ensures
-    c.in_err-place.ensures).refused (Push (g.O.Target.key c.args.key.now) (literal_of g.T.Scalar.kind (g.T.Scalar.whole
-    c.args.value))) refl)
+    not-changed _ c.from_residual.result (ap Vector c.kind.ensures) c.from_residual.ensures.1 refl c.in_err-place.ensures
 
 pub returns : goal.returns
 returns g c =
     let d = done g (goal.at.returns g c).After-push in
-    record { step = safe-step _ _ c.self.view_is _ _ _ _ _ d; refused = safe-refused _ _ c.self.view_is _ _ _ _ _ d }
+    record { step = answer-step _ _ c.self.view_is _ _ _ _ _ d; refused = answer-refused _ _ c.self.view_is _ _ _ _ _ d }

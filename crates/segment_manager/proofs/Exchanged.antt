@@ -2,21 +2,20 @@
 use Rattle.segment_manager.proofs.Common.{◌≡◌, refl, sym, ap, subst, ◌∙◌, ℕ, ◌+◌, ◌≤◌, ◌≢◌, inl, inr, List, [], ◌∷◌}
 use Rattle.segment_manager.proofs.Common.{◌++◌, length, arith, IsTrue, AllByRecursion, Memory, Cut, Same, bytes_of}
 use Rattle.segment_manager.proofs.Common.{exchanged, SameBlockBut, IsExchanged, Extent, LiveSet, handle, end_of}
-use Rattle.segment_manager.proofs.Common.{is_proper, LaysOut, SameBlock, Keeps, live_of, code_of, Value, Object}
-use Rattle.segment_manager.proofs.Common.{Directory, live, extents_of, padded, count_of, kind_of, value_len}
-use Rattle.segment_manager.proofs.Common.{value_extents, is_object, remove_object, with_changed, without_object}
-use Rattle.segment_manager.proofs.Common.{Denotes, IsObjectAt, IsValueAt, two_halves, padded_name, changed, Has-same}
-use Rattle.segment_manager.proofs.Common.{Same-word, IsAlone, SameSpread, inserted-append, live-spaced, middle-first}
+use Rattle.segment_manager.proofs.Common.{is_proper, LaysOut, SameBlock, Keeps, live_of, Value, Object, Directory, live}
+use Rattle.segment_manager.proofs.Common.{extents_of, padded, count_of, kind_of, value_len, value_extents, is_object}
+use Rattle.segment_manager.proofs.Common.{remove_object, with_changed, without_object, Denotes, IsObjectAt, IsValueAt}
+use Rattle.segment_manager.proofs.Common.{changed, IsAlone, SameSpread, inserted-append, live-spaced, middle-first}
 use Rattle.segment_manager.proofs.Common.{spaced-insert}
 use Rattle.best_fit.specs.Fit.{insert}
 use Rattle.best_fit.proofs.Laws.{LiesBeside, above, below}
 use Rattle.segment_manager.proofs.{Calling.denotes-live, Calling.object-at, Denoted.denotes-replaced, Faces.IsLike}
-use Rattle.segment_manager.proofs.Frame.{IsRoomy, object-roomy, padded_name-length}
-use Rattle.segment_manager.proofs.Live.{adding, IsFound, IsIn, live-split, live-changed}
+use Rattle.segment_manager.proofs.{Frame.IsRoomy, Frame.object-roomy, Live.adding, Live.IsFound, Live.IsIn}
+use Rattle.segment_manager.proofs.{Live.live-split, Live.live-changed, Regrown.InPlace, Regrown.differs-flip}
+use Rattle.segment_manager.proofs.{Regrown.rest, Regrown.with_extents, Rewritten.object-held, Rewritten.value_start}
+use Rattle.segment_manager.proofs.{Rewritten.with_value}
 use Rattle.segment_manager.proofs.Order.{Rising, IsFresh, inserted, insert-inserted, all_of-inserted, live-rises}
 use Rattle.segment_manager.proofs.Order.{rising-insert, apart-inserted, without_all, without-inserted}
-use Rattle.segment_manager.proofs.Regrown.{InPlace, differs-flip, rest, with_extents}
-use Rattle.segment_manager.proofs.Rewritten.{value_start, with_value}
 
 -- ---- extents among others
 
@@ -141,17 +140,6 @@ denotes-exchanged format old new d o o' from n gone come k found like x good f g
     denotes-replaced format old new d o o' k found like good (subst (LaysOut format new.bytes) (sym (live-exchanged d o o' gone come p x laid.proper)) laid) keeps at
 
 -- ---- the object of a container
-
--- its head and name stay, and the value is another, of the same kind and count
-pub object-held : (m m' : Memory) (o : Object) (v : Value) → IsObjectAt m o → kind_of v ≡ kind_of o.value → count_of v ≡ count_of o.value → Same m m' (handle o.extent) (value_start o)
-    → IsValueAt m' (value_start o) v → IsObjectAt m' (with_value o v)
-object-held m m' o v h kind count s w = record {
-  kind_count = Same-word m m' (handle o.extent) (value_start o) (handle o.extent) s (omega arith) (omega arith) ∙ h.kind_count
-      ∙ (λ i. two_halves (code_of (sym kind i)) (sym count i));
-  name_class = Same-word m m' (handle o.extent) (value_start o) (handle o.extent + 8) s (omega arith) (omega arith) ∙ h.name_class;
-  name = Has-same m m' (handle o.extent) (value_start o) (handle o.extent + 16) (padded_name o.name) s (omega arith) (omega (arith, padded_name-length o.name)) h.name;
-  value = w;
-}
 
 -- So the calls of seg_vector and seg_map change a container of an object: blocks are exchanged, and its 24 bytes are written.
 pub denotes-container : (format : ℕ) (old new : Cut) (d : Directory) (o : Object) (v : Value) (gone come : List Extent) → Denotes format old.bytes d → IsIn d o

@@ -1,36 +1,15 @@
 -- The blocks of an object and of its map's pairs: each is in use once, and what stays of the others where pairs are put or removed.
-use Rattle.segment_manager.proofs.Common.{◌≡◌, refl, sym, ap, subst, ◌∙◌, ℕ, ◌+◌, ◌<◌, ◌≢◌, ℤ, Bool, true, false, ◌||◌}
-use Rattle.segment_manager.proofs.Common.{◌==◌, not, Option, Some, None, List, [], ◌∷◌, ◌++◌, map, arith, if◌then◌else◌}
-use Rattle.segment_manager.proofs.Common.{IsTrue, find, int_lt, AllByRecursion, cond-false, cond-true, eq-eqb, ne_eqb}
-use Rattle.segment_manager.proofs.Common.{Extent, LiveSet, handle, is_proper, is_key, pair_at, put_pair, remove_pair}
-use Rattle.segment_manager.proofs.Common.{NumberPair, nodes_of_pairs, Object, Directory, extents_of, live}
-use Rattle.segment_manager.proofs.Common.{value_extents}
+use Rattle.segment_manager.proofs.Common.{◌≡◌, refl, sym, ap, subst, ◌∙◌, ℕ, ◌≢◌, ℤ, Bool, true, false, ◌||◌, ◌==◌, not}
+use Rattle.segment_manager.proofs.Common.{Option, Some, None, List, [], ◌∷◌, ◌++◌, map, arith, if◌then◌else◌, IsTrue}
+use Rattle.segment_manager.proofs.Common.{find, int_lt, AllByRecursion, ne_eqb, Extent, LiveSet, handle, is_proper}
+use Rattle.segment_manager.proofs.Common.{is_key, pair_at, put_pair, remove_pair, NumberPair, nodes_of_pairs, Object}
+use Rattle.segment_manager.proofs.Common.{Directory, extents_of, live, value_extents}
 use Rattle.link_tree.specs.Nodes.{is_in}
 use Rattle.best_fit.specs.Fit.{insert}
 use Rattle.seg_types.specs.ScalarLaws.{total}
 use Rattle.segment_manager.proofs.{Live.IsIn, Live.live-split, Regrown.rest, Regrown.with_extents}
-use Rattle.segment_manager.proofs.Order.{Apart, Differs, IsFresh, Rising, all_of-inserted, inserted, live-rises}
-use Rattle.segment_manager.proofs.Order.{rising-insert, rising-inserted}
-
--- ---- blocks that are found
-
-abbrev pub IsFoundIn : List Extent → Extent → Type 0
-IsFoundIn zs x = find (λ (y : Extent). handle y == handle x) zs ≡ Some x
-
-found-behind : (z : Extent) (zs : List Extent) (n : ℕ) (xs : List Extent) → Rising n xs → z.offset < n → AllByRecursion (IsFoundIn zs) xs → AllByRecursion (IsFoundIn (z ∷ zs)) xs
-found-behind z zs n [] r l a = tt
-found-behind z zs n (x ∷ xs) r l a = (
-  cond-false (handle z == handle x) (Some z) (find (λ (y : Extent). handle y == handle x) zs) (ne_eqb (handle z) (handle x) (λ e. omega (arith, r.0, e, l))) ∙ a.0,
-  found-behind z zs (x.offset + 1) xs r.1 (omega (arith, r.0, l)) a.1,
-)
-
--- each of some that rise is found among them
-found-each : (n : ℕ) (zs : List Extent) → Rising n zs → AllByRecursion (IsFoundIn zs) zs
-found-each n [] r = tt
-found-each n (z ∷ zs) r = (
-  cond-true (handle z == handle z) (Some z) (find (λ (y : Extent). handle y == handle z) zs) (eq-eqb (handle z) (handle z) refl),
-  found-behind z zs (z.offset + 1) zs r.1 (omega arith) (found-each (z.offset + 1) zs r.1),
-)
+use Rattle.segment_manager.proofs.Order.{IsFoundIn, found-each, Apart, Differs, IsFresh, Rising, all_of-inserted}
+use Rattle.segment_manager.proofs.Order.{inserted, live-rises, rising-insert, rising-inserted}
 
 -- ---- lists that are apart
 

@@ -12,12 +12,13 @@ use Rattle.segment_manager.proofs.Common.{StandsAt, changed}
 use Rattle.seg_map.specs.declared.places.Place.{Place}
 use Rattle.segment_manager.proofs.{Calling.denotes-heap, Calling.denotes-live, Calling.object-at, Contained.good-with}
 use Rattle.segment_manager.proofs.{Denoted.denotes-replaced, Faces.IsLike, Frame.IsRoomy, Frame.object-roomy, Live.IsIn}
-use Rattle.segment_manager.proofs.{Live.live-same, Order.Apart, Order.Differs, Regrown.InPlace, Regrown.live-less}
-use Rattle.segment_manager.proofs.{Regrown.live-more, Regrown.rest, Rewritten.value_start, Rewritten.with_value}
-use Rattle.segment_manager.proofs.{Standings.standing-room, ItemSteps.one-kind, Words.first, Words.second}
-use Rattle.segment_manager.proofs.Exchanged.{all-but-beside, object-held, others-beside}
-use Rattle.segment_manager.proofs.MapBlocks.{BlocksInUse, IsFoundIn, PartedNodes, no-node, nodes, one-by_handle}
-use Rattle.segment_manager.proofs.MapBlocks.{put-parted, removed-parted}
+use Rattle.segment_manager.proofs.{Live.live-same, Order.Apart, Order.Differs, Order.IsFoundIn, Regrown.InPlace}
+use Rattle.segment_manager.proofs.{Regrown.live-less, Regrown.live-more, Regrown.rest, Rewritten.object-held}
+use Rattle.segment_manager.proofs.{Rewritten.value_start, Rewritten.with_value, Standings.standing-room}
+use Rattle.segment_manager.proofs.{ItemSteps.one-kind, Words.first, Words.second, Exchanged.all-but-beside}
+use Rattle.segment_manager.proofs.{Exchanged.others-beside}
+use Rattle.segment_manager.proofs.MapBlocks.{BlocksInUse, PartedNodes, no-node, nodes, one-by_handle, put-parted}
+use Rattle.segment_manager.proofs.MapBlocks.{removed-parted}
 
 -- ---- what is of the kind of a map
 

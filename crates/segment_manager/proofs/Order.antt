@@ -1,7 +1,8 @@
 -- Extents put in by offset: a sorted list of them, and what was put in is taken out again.
 use Rattle.segment_manager.proofs.Common.{◌≡◌, refl, ap, ◌∙◌, ℕ, ◌≢◌, Bool, true, false, List, [], ◌∷◌, ◌++◌, arith}
 use Rattle.segment_manager.proofs.Common.{if◌then◌else◌, nat_lt, AllByRecursion, Extent, LiveSet, handle, others, added}
-use Rattle.segment_manager.proofs.Common.{resized, sorted}
+use Rattle.segment_manager.proofs.Common.{resized, sorted, ◌+◌, ◌<◌, ◌==◌, Some, find, cond-false, cond-true}
+use Rattle.segment_manager.proofs.Common.{eq-eqb, ne_eqb}
 use Rattle.best_fit.specs.Fit.{insert}
 use Rattle.best_fit.proofs.Laws.{AllByRecursion-insert_from, others-here, others-past}
 unfoldable pub use Rattle.best_fit.proofs.Laws.{Differs, Rising}
@@ -30,6 +31,26 @@ all_of-sorted P (x ∷ xs) h =
 pub all-sorted : (P : Extent → Type 0) (xs : List Extent) → AllByRecursion P xs → AllByRecursion P (sorted xs)
 all-sorted P [] h = tt
 all-sorted P (x ∷ xs) h = AllByRecursion-insert_from P x (sorted xs) h.0 (all-sorted P xs h.1)
+
+-- ---- found by handle
+
+abbrev pub IsFoundIn : List Extent → Extent → Type 0
+IsFoundIn zs x = find (λ (y : Extent). handle y == handle x) zs ≡ Some x
+
+found-behind : (z : Extent) (zs : List Extent) (n : ℕ) (xs : List Extent) → Rising n xs → z.offset < n → AllByRecursion (IsFoundIn zs) xs → AllByRecursion (IsFoundIn (z ∷ zs)) xs
+found-behind z zs n [] r l a = tt
+found-behind z zs n (x ∷ xs) r l a = (
+  cond-false (handle z == handle x) (Some z) (find (λ (y : Extent). handle y == handle x) zs) (ne_eqb (handle z) (handle x) (λ e. omega (arith, r.0, e, l))) ∙ a.0,
+  found-behind z zs (x.offset + 1) xs r.1 (omega (arith, r.0, l)) a.1,
+)
+
+-- each of some that rise is found among them
+pub found-each : (n : ℕ) (zs : List Extent) → Rising n zs → AllByRecursion (IsFoundIn zs) zs
+found-each n [] r = tt
+found-each n (z ∷ zs) r = (
+  cond-true (handle z == handle z) (Some z) (find (λ (y : Extent). handle y == handle z) zs) (eq-eqb (handle z) (handle z) refl),
+  found-behind z zs (z.offset + 1) zs r.1 (omega arith) (found-each (z.offset + 1) zs r.1),
+)
 
 -- ---- taking out
 

@@ -9,8 +9,8 @@ use Rattle.segment_manager.proofs.Common.{without_object, Denotes, IsObjectAt, I
 use Rattle.segment_manager.proofs.Common.{Has-same, Same-word, list_any-insert}
 use Rattle.best_fit.proofs.Laws.{changed-keeps_block}
 use Rattle.segment_manager.proofs.{Calling.denotes-live, Denoted.denotes-replaced, Faces.IsLike}
-use Rattle.segment_manager.proofs.{Frame.padded_name-length, Live.IsIn, Live.live-same}
-use Rattle.segment_manager.proofs.Regrown.{InPlace, Parted, keeps-others, parted, with_extents}
+use Rattle.segment_manager.proofs.{Frame.padded_name-length, Live.IsIn, Live.live-same, Regrown.InPlace, Regrown.Parted}
+use Rattle.segment_manager.proofs.{Regrown.keeps-others, Regrown.parted, Regrown.with_extents}
 
 -- where the value of an object stands
 abbrev pub value_start : Object → ℕ
@@ -28,11 +28,12 @@ pub record SameFrame (v w : Value) : Type 0 where
 
 -- ---- the object
 
--- its head and name stay, and the value is written
-pub object-rewritten : (m m' : Memory) (o : Object) (v : Value) → IsObjectAt m o → SameFrame o.value v → Same m m' (handle o.extent) (value_start o) → IsValueAt m' (value_start o) v → IsObjectAt m' (with_value o v)
-object-rewritten m m' o v h same s w = record {
+-- its head and name stay, and the value is another, of the same kind and count
+pub object-held : (m m' : Memory) (o : Object) (v : Value) → IsObjectAt m o → kind_of v ≡ kind_of o.value → count_of v ≡ count_of o.value → Same m m' (handle o.extent) (value_start o)
+    → IsValueAt m' (value_start o) v → IsObjectAt m' (with_value o v)
+object-held m m' o v h kind count s w = record {
   kind_count = Same-word m m' (handle o.extent) (value_start o) (handle o.extent) s (omega arith) (omega arith) ∙ h.kind_count
-      ∙ (λ i. two_halves (code_of (sym same.kind i)) (sym same.count i));
+      ∙ (λ i. two_halves (code_of (sym kind i)) (sym count i));
   name_class = Same-word m m' (handle o.extent) (value_start o) (handle o.extent + 8) s (omega arith) (omega arith) ∙ h.name_class;
   name = Has-same m m' (handle o.extent) (value_start o) (handle o.extent + 16) (padded_name o.name) s (omega arith) (omega (arith, padded_name-length o.name)) h.name;
   value = w;
@@ -78,4 +79,4 @@ denotes-rewritten format old new d o v xs ys x from n k f at same good e c low h
     let heap : live_of old.bytes ≡ live (with_changed d o') = denotes-live format old.bytes d k ∙ sym (live-same d o o' f (λ i. o.extent ∷ same.extents i)) in
     denotes-replaced format old new d o o' k f like good (subst (LaysOut format new.bytes) heap c.live)
     (changed-others format old new d o o' xs ys x from n k p e c low high)
-    (object-rewritten (bytes_of old.bytes) (bytes_of new.bytes) o v at same s w)
+    (object-held (bytes_of old.bytes) (bytes_of new.bytes) o v at same.kind same.count s w)

@@ -1,12 +1,10 @@
 -- The blocks of a vector of texts among all others: each is in use, and no two are one. And what becomes of them where a part of the texts
 -- is replaced.
-use Rattle.segment_manager.proofs.Common.{◌≡◌, sym, ap, subst, ◌∙◌, ℕ, ◌≢◌, Some, List, [], ◌∷◌, ◌++◌, append_assoc}
-use Rattle.segment_manager.proofs.Common.{arith, find, option_to_list, ◌==◌, AllByRecursion, Extent, handle, Table}
-use Rattle.segment_manager.proofs.Common.{SameSpread, found-new, middle-first, AreOthers, text_blocks, OwnedText}
-use Rattle.segment_manager.proofs.Common.{Object, Texts, value_extents}
-use Rattle.best_fit.specs.Fit.{insert}
+use Rattle.segment_manager.proofs.Common.{◌≡◌, sym, ap, subst, ◌∙◌, ℕ, ◌≢◌, List, [], ◌∷◌, ◌++◌, append_assoc, arith}
+use Rattle.segment_manager.proofs.Common.{option_to_list, AllByRecursion, Extent, handle, Table, SameSpread}
+use Rattle.segment_manager.proofs.Common.{middle-first, AreOthers, text_blocks, OwnedText, Object, Texts, value_extents}
 use Rattle.seg_vector.proofs.TextBlocks.{blocks-three}
-use Rattle.best_fit.proofs.Laws.{found-more, spread-behind}
+use Rattle.best_fit.proofs.Laws.{spread-behind}
 use Rattle.segment_manager.proofs.{Exchanged.Exchange, Rewritten.with_value}
 use Rattle.segment_manager.proofs.Order.{Differs, IsFresh, Rising, all_of-inserted, inserted, rising-insert}
 
@@ -22,22 +20,6 @@ others-apart n [] zs r = tt
 others-apart n (x ∷ xs) zs r =
     let f : IsFresh n x (inserted xs zs) = rising-insert n x (inserted xs zs) r in
     (differ-handles x xs (all_of-inserted (λ (y : Extent). x.offset ≢ y.offset) xs zs f.differs).0, others-apart n xs zs f.rest)
-
--- each is found by its handle
-abbrev pub IsFoundIn : List Extent → Extent → Type 0
-IsFoundIn zs x = find (λ (w : Extent). handle w == handle x) zs ≡ Some x
-
-found-beside : (x : Extent) (ys zs : List Extent) → AllByRecursion (λ (y : Extent). handle x ≢ handle y) ys → AllByRecursion (IsFoundIn zs) ys → AllByRecursion (IsFoundIn (insert x zs)) ys
-found-beside x [] zs n h = tt
-found-beside x (y ∷ ys) zs n h = (found-more (handle y) x y zs n.0 h.0, found-beside x ys zs n.1 h.1)
-
-pub found-each : (n : ℕ) (xs zs : List Extent) → Rising n (inserted xs zs) → AllByRecursion (IsFoundIn (inserted xs zs)) xs
-found-each n [] zs r = tt
-found-each n (x ∷ xs) zs r =
-    let f : IsFresh n x (inserted xs zs) = rising-insert n x (inserted xs zs) r in (
-      found-new x (inserted xs zs) f.differs,
-      found-beside x xs (inserted xs zs) (differ-handles x xs (all_of-inserted (λ (y : Extent). x.offset ≢ y.offset) xs zs f.differs).0) (found-each n xs zs f.rest),
-    )
 
 -- ---- the order of blocks
 

@@ -11,15 +11,17 @@ use Rattle.segment_manager.proofs.Common.{container_place, Denotes, IsValueAt, V
 use Rattle.segment_manager.proofs.Common.{count_of, extents_of, has_own_block, is_good_value, is_object, is_owned_text}
 use Rattle.segment_manager.proofs.Common.{kind_of, live, object_at, padded, value_len, StandsAt, Answers, IsSegment}
 use Rattle.segment_manager.proofs.Common.{State, changed}
+use Rattle.best_fit.proofs.Laws.{all-found-in}
 use Rattle.std.proofs.lemmas.List.{nil_from_length}
-use Rattle.seg_vector.specs.{TextsCalls.IsHeldText, TextsCalls.IsTexts, Vector.IsTextsAt}
+use Rattle.seg_vector.specs.TextsCalls.{IsHeldText, IsTexts}
+use Rattle.seg_vector.specs.Vector.{IsTextsAt}
 use Rattle.segment_manager.proofs.{Calling.denotes-heap, Calling.denotes-live, Contained.good-with}
 use Rattle.segment_manager.proofs.{Contained.start-place, Exchanged.denotes-container, Frame.object-roomy}
 use Rattle.segment_manager.proofs.{Here.standing, Live.IsIn, Live.live-split, ObjectLists.key-found, Refilled.HoldsAt}
 use Rattle.segment_manager.proofs.{Refilled.holds-at, Regrown.rest, Regrown.with_extents, Rewritten.value_start}
-use Rattle.segment_manager.proofs.{Rewritten.with_value, Standings.standing-room, ItemSteps.one-kind}
-use Rattle.segment_manager.proofs.Order.{Rising, inserted, live-rises}
-use Rattle.segment_manager.proofs.TextBlocks.{IsPartOther, found-each, others-apart, part-exchange}
+use Rattle.segment_manager.proofs.{Rewritten.with_value, Standings.standing-room, ItemSteps.one-kind, Order.Rising}
+use Rattle.segment_manager.proofs.{Order.inserted, Order.live-rises, TextBlocks.IsPartOther, TextBlocks.others-apart}
+use Rattle.segment_manager.proofs.{TextBlocks.part-exchange}
 use Rattle.segment_manager.proofs.Words.{AllByRecursion-append, AllByRecursion-behind, AllByRecursion-front, first}
 use Rattle.segment_manager.proofs.Words.{no_more, second}
 
@@ -107,7 +109,7 @@ its-blocks d o ps t f proper e =
     let up : Rising 128 (inserted all (rest d o)) = live-rises (with_extents d o all) (subst (λ (l : LiveSet). IsTrue (is_proper l)) is proper) in
     let InUse : Extent → Type 0 = λ x. extent_at (live d) (handle x) ≡ Some x in
     let Beside : Extent → Type 0 = λ x. handle o.extent ≢ handle x in
-    let found : AllByRecursion InUse all = subst (λ (l : LiveSet). AllByRecursion (λ (x : Extent). extent_at l (handle x) ≡ Some x) all) (sym is) (found-each 128 all (rest d o) up) in
+    let found : AllByRecursion InUse all = subst (λ (l : LiveSet). AllByRecursion (λ (x : Extent). extent_at l (handle x) ≡ Some x) all) (sym is) (all-found-in all (rest d o) up) in
     let apart : AreOthers all = others-apart 128 all (rest d o) up in
     record {
       array = AllByRecursion-front InUse array (text_blocks ps) found.1;

@@ -6,17 +6,16 @@ use Rattle.segment_manager.proofs.Common.{Extent, LiveSet, handle, added, releas
 use Rattle.segment_manager.proofs.Common.{lay_out_one, Map, ScalarKind, same_kind, IsBesideMap, IsErased, IsPut}
 use Rattle.segment_manager.proofs.Common.{IsPutAgain, is_rising, pair_at, put_pair, remove_pair, NumberPair}
 use Rattle.segment_manager.proofs.Common.{is_number_pair, HoldsMap, IsPairIn, nodes_of_pairs, Value, Pairs, Object}
-use Rattle.segment_manager.proofs.Common.{Directory, count_of, extents_of, is_good_value, is_object, kind_of, live}
-use Rattle.segment_manager.proofs.Common.{padded, value_extents, value_len, Denotes, IsValueAt, head_len, numbers_of}
-use Rattle.segment_manager.proofs.Common.{StandsAt, changed}
+use Rattle.segment_manager.proofs.Common.{Directory, count_of, is_good_value, is_object, kind_of, live, padded}
+use Rattle.segment_manager.proofs.Common.{value_extents, value_len, Denotes, IsValueAt, head_len, numbers_of, StandsAt}
+use Rattle.segment_manager.proofs.Common.{changed}
 use Rattle.seg_map.specs.declared.places.Place.{Place}
 use Rattle.segment_manager.proofs.{Calling.denotes-heap, Calling.denotes-live, Calling.object-at, Contained.good-with}
 use Rattle.segment_manager.proofs.{Denoted.denotes-replaced, Faces.IsLike, Frame.IsRoomy, Frame.object-roomy, Live.IsIn}
 use Rattle.segment_manager.proofs.{Live.live-same, Order.Apart, Order.Differs, Order.IsFoundIn, Regrown.InPlace}
-use Rattle.segment_manager.proofs.{Regrown.live-less, Regrown.live-more, Regrown.rest, Rewritten.object-held}
-use Rattle.segment_manager.proofs.{Rewritten.value_start, Rewritten.with_value, Standings.standing-room}
-use Rattle.segment_manager.proofs.{ItemSteps.one-kind, Words.first, Words.second, Exchanged.all-but-beside}
-use Rattle.segment_manager.proofs.{Exchanged.others-beside}
+use Rattle.segment_manager.proofs.{Regrown.rest, Rewritten.object-held, Rewritten.value_start, Rewritten.with_value}
+use Rattle.segment_manager.proofs.{Standings.standing-room, ItemSteps.one-kind, Words.first, Words.second}
+use Rattle.segment_manager.proofs.Exchanged.{all-but-beside, Exchange, between, live-exchanged, others-beside}
 use Rattle.segment_manager.proofs.MapBlocks.{BlocksInUse, PartedNodes, no-node, nodes, one-by_handle, put-parted}
 use Rattle.segment_manager.proofs.MapBlocks.{removed-parted}
 
@@ -136,24 +135,24 @@ module _ (old new : Cut) (d : Directory) (o : Object) (k v : ScalarKind) (ps qs 
         (object-held m m' o next (object-at current old.bytes d (handle o.extent) o den x.found) (sym (ap kind_of x.value)) (sym (ap count_of x.value)) front
         (subst (λ at. IsValueAt m' at next) (sym (start-there o)) s.map))
 
-  extents-are : (front back : List Extent) → nodes ps ≡ front ++ back → extents_of o ≡ (o.extent ∷ front) ++ back
-  extents-are front back e = (λ i. o.extent ∷ value_extents (x.value i)) ∙ ap (λ ys. o.extent ∷ ys) e
+  extents-are : (front back : List Extent) → nodes ps ≡ front ++ back → value_extents o.value ≡ front ++ back
+  extents-are front back e = ap value_extents x.value ∙ e
 
   -- one block more
   pub live-put : (n : Extent) → PartedNodes (nodes ps) (nodes qs) n → LaysOut current new.bytes (added (live_of old.bytes) n) → LaysOut current new.bytes (live (changed d o (Pairs k v qs)))
   live-put n r laid =
       let l : live_of old.bytes ≡ live d = denotes-live current old.bytes d den in
       let there : LaysOut current new.bytes (added (live d) n) = subst (λ (s : LiveSet). LaysOut current new.bytes (added s n)) l laid in
-      subst (LaysOut current new.bytes)
-      (sym (live-more d o (with_value o (Pairs k v qs)) (o.extent ∷ r.front) r.back n in_place (extents-are r.front r.back r.others) (ap (λ ys. o.extent ∷ ys) r.whole) there.proper)) there
+      let e : Exchange o (with_value o next) [] (n ∷ []) = between o (with_value o next) r.front [] (n ∷ []) r.back (extents-are r.front r.back r.others) r.whole in
+      subst (LaysOut current new.bytes) (sym (live-exchanged d o (with_value o next) [] (n ∷ []) in_place e there.proper)) there
 
   -- one block less
   pub live-removed : (n : Extent) → PartedNodes (nodes qs) (nodes ps) n → LaysOut current new.bytes (released (live_of old.bytes) (handle n)) → LaysOut current new.bytes (live (changed d o (Pairs k v qs)))
   live-removed n r laid =
       let l : live_of old.bytes ≡ live d = denotes-live current old.bytes d den in
       let there : LaysOut current new.bytes (released (live d) (handle n)) = subst (λ (s : LiveSet). LaysOut current new.bytes (released s (handle n))) l laid in
-      subst (LaysOut current new.bytes)
-      (sym (live-less d o (with_value o (Pairs k v qs)) (o.extent ∷ r.front) r.back n in_place (extents-are r.front (n ∷ r.back) r.whole) (ap (λ ys. o.extent ∷ ys) r.others) there.proper)) there
+      let e : Exchange o (with_value o next) (n ∷ []) [] = between o (with_value o next) r.front (n ∷ []) [] r.back (extents-are r.front (n ∷ r.back) r.whole) r.others in
+      subst (LaysOut current new.bytes) (sym (live-exchanged d o (with_value o next) (n ∷ []) [] in_place e there.proper)) there
 
   -- the same blocks
   pub live-again : nodes qs ≡ nodes ps → LaysOut current new.bytes (live_of old.bytes) → LaysOut current new.bytes (live (changed d o (Pairs k v qs)))

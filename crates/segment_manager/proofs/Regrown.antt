@@ -1,13 +1,12 @@
 -- The live set after an object's value takes a block more or less, or has one regrown.
-use Rattle.segment_manager.proofs.Common.{◌≡◌, sym, ap, subst, ◌∙◌, ℕ, ◌≢◌, List, [], ◌∷◌, ◌++◌, IsTrue, AllByRecursion}
-use Rattle.segment_manager.proofs.Common.{Cut, bytes_of, Extent, LiveSet, handle, is_proper, added, released, SameBlock}
+use Rattle.segment_manager.proofs.Common.{◌≡◌, sym, ap, subst, ◌∙◌, ℕ, List, [], ◌∷◌, ◌++◌, IsTrue, AllByRecursion, Cut}
+use Rattle.segment_manager.proofs.Common.{bytes_of, Extent, LiveSet, handle, is_proper, added, released, SameBlock}
 use Rattle.segment_manager.proofs.Common.{Keeps, inserted-append, Object, Directory, live, extents_of, remove_object}
-use Rattle.segment_manager.proofs.Common.{with_changed, without_object}
+use Rattle.segment_manager.proofs.Common.{without_object}
 use Rattle.best_fit.specs.Fit.{insert}
-use Rattle.segment_manager.proofs.Words.{AllByRecursion-front}
+use Rattle.segment_manager.proofs.Live.{adding, IsFound, IsIn, live-split}
 use Rattle.segment_manager.proofs.Order.{Differs, Rising, IsFresh, inserted, insert-inserted, all_of-inserted}
 use Rattle.segment_manager.proofs.Order.{live-rises, rising-insert, apart-inserted, others-insert}
-use Rattle.segment_manager.proofs.Live.{adding, IsFound, IsIn, live-split, live-changed}
 
 -- ---- one extent among others
 
@@ -23,11 +22,6 @@ inserted-middle xs ys zs x d =
 -- it differs from all the others
 middle-differs : (n : ℕ) (xs ys zs : List Extent) (x : Extent) → Rising n (inserted (xs ++ x ∷ ys) zs) → Differs x xs
 middle-differs n xs ys zs x h = differs-flip x xs (apart-inserted n xs (x ∷ []) (inserted ys zs) (subst (Rising n) (inserted-append xs (x ∷ ys) zs) h))
-
-fresh-differs : (n : ℕ) (xs ys zs : List Extent) (x : Extent) → Rising n (insert x (inserted (xs ++ ys) zs)) → Differs x xs
-fresh-differs n xs ys zs x h =
-    let f : IsFresh n x (inserted (xs ++ ys) zs) = rising-insert n x (inserted (xs ++ ys) zs) h in
-    AllByRecursion-front (λ (y : Extent). x.offset ≢ y.offset) xs ys (all_of-inserted (λ (y : Extent). x.offset ≢ y.offset) (xs ++ ys) zs f.differs).0
 
 -- ---- the extents of an object and of one in its place
 
@@ -50,25 +44,11 @@ split d o o' xs p e =
     let f : IsIn d o = subst (λ (x : Extent). IsFound (handle x) d.objects o) p.extent p.found in
     live-split d o f p.proper ∙ (λ i. adding (live (record d { objects = remove_object (handle (sym p.extent i)) d.objects })) (e i))
 
-joined : (d : Directory) (o o' : Object) (xs : List Extent) → InPlace d o o' → extents_of o' ≡ xs → IsTrue (is_proper (with_extents d o' xs)) → live (with_changed d o') ≡ with_extents d o' xs
-joined d o o' xs p e h =
-    live-changed d o o' p.found (subst (λ ys. IsTrue (is_proper (with_extents d o' ys))) (sym e) h) ∙ ap (with_extents d o') e
-
 abbrev of_extents : Directory → Object → List Extent → LiveSet
 of_extents d o xs = record (live (without_object d o)) { extents = xs }
 
 middle : (d : Directory) (o : Object) (xs ys : List Extent) (x : Extent) → Differs x xs → with_extents d o (xs ++ x ∷ ys) ≡ added (with_extents d o (xs ++ ys)) x
 middle d o xs ys x h = ap (of_extents d o) (inserted-middle xs ys (rest d o) x h)
-
--- one block more
-pub live-more : (d : Directory) (o o' : Object) (xs ys : List Extent) (x : Extent) → InPlace d o o' → extents_of o ≡ xs ++ ys → extents_of o' ≡ xs ++ x ∷ ys
-    → IsTrue (is_proper (added (live d) x)) → live (with_changed d o') ≡ added (live d) x
-live-more d o o' xs ys x p e e' h =
-    let was : live d ≡ with_extents d o' (xs ++ ys) = split d o o' (xs ++ ys) p e in
-    let h' : IsTrue (is_proper (added (with_extents d o' (xs ++ ys)) x)) = subst (λ l. IsTrue (is_proper (added l x))) was h in
-    let is : with_extents d o' (xs ++ x ∷ ys) ≡ added (with_extents d o' (xs ++ ys)) x =
-    middle d o' xs ys x (fresh-differs 128 xs ys (rest d o') x (live-rises (added (with_extents d o' (xs ++ ys)) x) h')) in
-    joined d o o' (xs ++ x ∷ ys) p e' (subst (λ l. IsTrue (is_proper l)) (sym is) h') ∙ is ∙ ap (λ l. added l x) (sym was)
 
 -- what the live set is with the block, and without it
 pub record Parted (d : Directory) (o' : Object) (xs ys : List Extent) (x : Extent) : Type 0 where
@@ -87,13 +67,6 @@ parted d o o' xs ys x p e =
 
 pub released-part : (d : Directory) (o' : Object) (xs ys : List Extent) (x : Extent) → Parted d o' xs ys x → released (live d) (handle x) ≡ with_extents d o' (xs ++ ys)
 released-part d o' xs ys x q = ap (λ l. released l (handle x)) q.was ∙ ap (of_extents d o') (others-insert x (inserted (xs ++ ys) (rest d o')) q.differs)
-
--- one block less
-pub live-less : (d : Directory) (o o' : Object) (xs ys : List Extent) (x : Extent) → InPlace d o o' → extents_of o ≡ xs ++ x ∷ ys → extents_of o' ≡ xs ++ ys
-    → IsTrue (is_proper (released (live d) (handle x))) → live (with_changed d o') ≡ released (live d) (handle x)
-live-less d o o' xs ys x p e e' h =
-    let less : released (live d) (handle x) ≡ with_extents d o' (xs ++ ys) = released-part d o' xs ys x (parted d o o' xs ys x p e) in
-    joined d o o' (xs ++ ys) p e' (subst (λ l. IsTrue (is_proper l)) less h) ∙ sym less
 
 -- what is kept of all blocks but one of an object's is kept of those of the others
 pub keeps-others : (old new : Cut) (d : Directory) (o o' : Object) (xs ys : List Extent) (x : Extent) → InPlace d o o' → extents_of o ≡ xs ++ x ∷ ys

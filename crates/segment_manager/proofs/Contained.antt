@@ -1,21 +1,21 @@
 -- A vector or text as the value of an object: it stands at its place as the calls of seg_vector see it, and what they do to it is what
 -- becomes of the object.
 use Rattle.segment_manager.proofs.Common.{◌≡◌, refl, sym, ap, subst, ◌∙◌, ℕ, ◌+◌, ◌*◌, ◌≤◌, ℤ, Bool, ◌&&◌, Option, Some}
-use Rattle.segment_manager.proofs.Common.{None, List, [], ◌∷◌, ◌++◌, length, append-nil, arith, IsTrue, nat_le, nat_lt}
+use Rattle.segment_manager.proofs.Common.{None, List, [], ◌∷◌, length, append-nil, arith, IsTrue, nat_le, nat_lt}
 use Rattle.segment_manager.proofs.Common.{option_to_list, list_all, and_from, le-leb, same_Some, current, Cut, Memory}
 use Rattle.segment_manager.proofs.Common.{bytes_of, ObjectRole, Storage, IsExchanged, Extent, LiveSet, handle}
-use Rattle.segment_manager.proofs.Common.{extent_at, live_of, Table, is_table, serves, found-new, ScalarKind}
-use Rattle.segment_manager.proofs.Common.{is_kind_of, is_value, size_of, Key, IsOwnBlock, Stands, place_at}
-use Rattle.segment_manager.proofs.Common.{IsContainerAt, spelled, Contents, IsRefilled, container_place, contents_of}
-use Rattle.segment_manager.proofs.Common.{has_values, Value, Elements, Bytes, Object, Directory, count_of, extents_of}
-use Rattle.segment_manager.proofs.Common.{has_good_name, is_good_value, is_object, kind_of, object_at, padded}
-use Rattle.segment_manager.proofs.Common.{value_extents, value_len, Denotes, IsValueAt, StandsAt, changed}
+use Rattle.segment_manager.proofs.Common.{extent_at, live_of, Table, is_table, serves, ScalarKind, is_kind_of, is_value}
+use Rattle.segment_manager.proofs.Common.{size_of, Key, IsOwnBlock, Stands, place_at, IsContainerAt, spelled, Contents}
+use Rattle.segment_manager.proofs.Common.{IsRefilled, container_place, contents_of, has_values, Value, Elements, Bytes}
+use Rattle.segment_manager.proofs.Common.{Object, Directory, count_of, has_good_name, is_good_value, is_object, kind_of}
+use Rattle.segment_manager.proofs.Common.{object_at, padded, value_extents, value_len, Denotes, IsValueAt, StandsAt}
+use Rattle.segment_manager.proofs.Common.{changed, AllByRecursion, live}
 use Rattle.segment_manager.proofs.{Blocks.spelled-length, Calling.denotes-heap, Calling.denotes-live}
-use Rattle.segment_manager.proofs.{Frame.object-roomy, Here.standing, Live.IsIn, ObjectLists.key-found, Order.inserted}
+use Rattle.segment_manager.proofs.{Frame.object-roomy, Here.standing, Live.IsIn, ObjectLists.key-found}
 use Rattle.segment_manager.proofs.{Standings.standing-room, Words.first, Words.second, Words.no_more}
-use Rattle.segment_manager.proofs.Exchanged.{Exchange, between, denotes-container}
-use Rattle.segment_manager.proofs.Regrown.{InPlace, Parted, parted, rest}
-use Rattle.segment_manager.proofs.Rewritten.{value_start, with_value}
+use Rattle.segment_manager.proofs.{Exchanged.Exchange, Exchanged.between, Exchanged.denotes-container}
+use Rattle.segment_manager.proofs.{MapBlocks.BlocksInUse, MapBlocks.blocks-in_use, Order.Differs, Order.IsFoundIn}
+use Rattle.segment_manager.proofs.{Rewritten.value_start, Rewritten.with_value}
 
 -- ---- the value
 
@@ -111,11 +111,10 @@ good-with format o w h kind len good =
 -- a block of its value is in use, and is not its own
 own-some : (format : ℕ) (b : List ℕ) (d : Directory) (o : Object) (x : Extent) → Denotes format b d → IsIn d o → value_extents o.value ≡ x ∷ [] → IsOwnBlock (live_of b) (handle o.extent) (Some x)
 own-some format b d o x k f e =
-    let p : InPlace d o o = record { found = f; extent = refl; proper = k.directory.proper } in
-    let all : extents_of o ≡ (o.extent ∷ []) ++ x ∷ [] = λ i. o.extent ∷ e i in
-    let q : Parted d o (o.extent ∷ []) [] x = parted d o o (o.extent ∷ []) [] x p all in
-    let others : List Extent = inserted ((o.extent ∷ []) ++ []) (rest d o) in
-    (ap (λ (l : LiveSet). extent_at l (handle x)) (denotes-live format b d k ∙ q.was) ∙ found-new x others q.differs, (λ g. q.front.0 (omega (arith, g))))
+    let u : BlocksInUse d o = blocks-in_use d o k.directory.proper f in (
+      ap (λ (l : LiveSet). extent_at l (handle x)) (denotes-live format b d k) ∙ (subst (AllByRecursion (IsFoundIn (live d).extents)) e u.value).0,
+      λ g. (subst (Differs o.extent) e u.own_apart).0 (omega (arith, g)),
+    )
 
 own-block : (format : ℕ) (b : List ℕ) (d : Directory) (o : Object) (t : Option Extent) → Denotes format b d → IsIn d o → value_extents o.value ≡ option_to_list t → IsOwnBlock (live_of b) (handle o.extent) t
 own-block format b d o None k f e = tt

@@ -6,13 +6,14 @@ use Rattle.segment_manager.proofs.Common.{is_proper, LaysOut, SameBlock, Keeps, 
 use Rattle.segment_manager.proofs.Common.{extents_of, padded, count_of, kind_of, value_len, value_extents, is_object}
 use Rattle.segment_manager.proofs.Common.{remove_object, with_changed, without_object, Denotes, IsObjectAt, IsValueAt}
 use Rattle.segment_manager.proofs.Common.{changed, IsAlone, SameSpread, inserted-append, live-spaced, middle-first}
-use Rattle.segment_manager.proofs.Common.{spaced-insert}
+use Rattle.segment_manager.proofs.Common.{spaced-insert, ◌-◌, current, Some, IsChanged, extent_at, has_room}
+use Rattle.best_fit.proofs.Laws.{changed-keeps_block, found-room, spread-refl, written-but, LiesBeside, above, below}
 use Rattle.best_fit.specs.Fit.{insert}
-use Rattle.best_fit.proofs.Laws.{LiesBeside, above, below}
-use Rattle.segment_manager.proofs.{Calling.denotes-live, Calling.object-at, Denoted.denotes-replaced, Faces.IsLike}
-use Rattle.segment_manager.proofs.{Frame.IsRoomy, Frame.object-roomy, Live.adding, Live.IsFound, Live.IsIn}
-use Rattle.segment_manager.proofs.{Live.live-split, Live.live-changed, Regrown.InPlace, Regrown.differs-flip}
-use Rattle.segment_manager.proofs.{Regrown.rest, Regrown.with_extents, Rewritten.object-held, Rewritten.value_start}
+use Rattle.segment_manager.proofs.{Calling.denotes-heap, Calling.denotes-live, Calling.object-at}
+use Rattle.segment_manager.proofs.{MapBlocks.blocks-in_use, Denoted.denotes-replaced, Faces.IsLike, Frame.IsRoomy}
+use Rattle.segment_manager.proofs.{Frame.object-roomy, Live.adding, Live.IsFound, Live.IsIn, Live.live-split}
+use Rattle.segment_manager.proofs.{Live.live-changed, Regrown.InPlace, Regrown.differs-flip, Regrown.rest}
+use Rattle.segment_manager.proofs.{Regrown.with_extents, Rewritten.object-held, Rewritten.value_start}
 use Rattle.segment_manager.proofs.{Rewritten.with_value}
 use Rattle.segment_manager.proofs.Order.{Rising, IsFresh, inserted, insert-inserted, all_of-inserted, live-rises}
 use Rattle.segment_manager.proofs.Order.{rising-insert, apart-inserted, without_all, without-inserted}
@@ -139,25 +140,61 @@ denotes-exchanged format old new d o o' from n gone come k found like x good f g
     } in
     denotes-replaced format old new d o o' k found like good (subst (LaysOut format new.bytes) (sym (live-exchanged d o o' gone come p x laid.proper)) laid) keeps at
 
--- ---- the object of a container
+-- ---- an object with another value
 
--- So the calls of seg_vector and seg_map change a container of an object: blocks are exchanged, and its 24 bytes are written.
+-- Its head and name stay, blocks are exchanged, and in its own block n bytes behind the name changed.
+denotes-held : (format : ℕ) (old new : Cut) (d : Directory) (o : Object) (v : Value) (from n : ℕ) (gone come : List Extent)
+    → Denotes format old.bytes d → IsIn d o → Exchange o (with_value o v) gone come → kind_of v ≡ kind_of o.value
+    → count_of v ≡ count_of o.value → IsTrue (is_object format (with_value o v)) → value_start o ≤ from → from + n ≤ end_of o.extent
+    → IsExchanged format old new from n gone come → IsValueAt (bytes_of new.bytes) (value_start o) v
+    → Denotes format new.bytes (changed d o v)
+denotes-held format old new d o v from n gone come k found x kind count good low high c at =
+    let o' : Object = with_value o v in
+    let m : Memory = bytes_of old.bytes in
+    let m' : Memory = bytes_of new.bytes in
+    let like : IsLike o o' = record { extent = refl; name = refl; class = refl; kind = kind } in
+    let p : InPlace d o o' = record { found = found; extent = refl; proper = k.directory.proper } in
+    let l : live_of old.bytes ≡ live d = denotes-live format old.bytes d k in
+    let blocks : Kept (SameBlockBut m m' from n) d o o' x.same =
+    kept-each (SameBlockBut m m' from n) d o o' gone come p x
+    (subst (λ (l : LiveSet). AllByRecursion (SameBlockBut m m' from n) (without_all gone l.extents)) l c.blocks) in
+    let s : Same m m' (handle o.extent) (value_start o) =
+    record { at = λ i a b. blocks.own.payload i a (omega arith) (inl (omega arith)) } in
+    denotes-exchanged format old new d o o' from n gone come k found like x good (omega arith) high c
+    (object-held m m' o v (object-at format old.bytes d (handle o.extent) o k found) kind count s at)
+
+-- So the calls of seg_vector and seg_map change a container of an object: its 24 bytes are written.
 pub denotes-container : (format : ℕ) (old new : Cut) (d : Directory) (o : Object) (v : Value) (gone come : List Extent) → Denotes format old.bytes d → IsIn d o
     → Exchange o (with_value o v) gone come → kind_of v ≡ kind_of o.value → count_of v ≡ count_of o.value → value_len o.value ≡ 24 → IsTrue (is_object format o)
     → IsTrue (is_object format (with_value o v)) → IsExchanged format old new (value_start o) 24 gone come → IsValueAt (bytes_of new.bytes) (value_start o) v
     → Denotes format new.bytes (changed d o v)
 denotes-container format old new d o v gone come k found x kind count len was good c at =
-    let o' : Object = with_value o v in
-    let m : Memory = bytes_of old.bytes in
-    let m' : Memory = bytes_of new.bytes in
-    let from : ℕ = value_start o in
-    let like : IsLike o o' = record { extent = refl; name = refl; class = refl; kind = kind } in
-    let p : InPlace d o o' = record { found = found; extent = refl; proper = k.directory.proper } in
     let roomy : IsRoomy o = object-roomy format o was in
     let fits : 16 + padded (length o.name) + value_len o.value + 16 ≤ o.extent.len = roomy.room in
-    let l : live_of old.bytes ≡ live d = denotes-live format old.bytes d k in
-    let blocks : Kept (SameBlockBut m m' from 24) d o o' x.same =
-    kept-each (SameBlockBut m m' from 24) d o o' gone come p x (subst (λ (l : LiveSet). AllByRecursion (SameBlockBut m m' from 24) (without_all gone l.extents)) l c.blocks) in
-    let s : Same m m' (handle o.extent) from = record { at = λ i a b. blocks.own.payload i a (omega (arith, len)) (inl b) } in
-    denotes-exchanged format old new d o o' from 24 gone come k found like x good (omega arith) (omega (arith, len)) c
-    (object-held m m' o v (object-at format old.bytes d (handle o.extent) o k found) kind count s at)
+    denotes-held format old new d o v (value_start o) 24 gone come k found x kind count good (omega arith) (omega (arith, len)) c at
+
+-- And so a value is written that has the same blocks.
+pub denotes-rewritten : (old new : Cut) (d : Directory) (o : Object) (v : Value) (from n : ℕ) → Denotes current old.bytes d
+    → IsIn d o → kind_of v ≡ kind_of o.value → count_of v ≡ count_of o.value → value_extents v ≡ value_extents o.value
+    → IsTrue (is_object current (with_value o v)) → value_start o ≤ from → from + n ≤ end_of o.extent
+    → IsChanged current old new from n → IsValueAt (bytes_of new.bytes) (value_start o) v → Denotes current new.bytes (changed d o v)
+denotes-rewritten old new d o v from n k found kind count extents good low high c at =
+    let l : LiveSet = live_of old.bytes in
+    let x : Extent = o.extent in
+    let proper : IsTrue (is_proper l) = (denotes-heap current old.bytes d k).proper in
+    let own : extent_at l (handle x) ≡ Some x =
+    ap (λ (s : LiveSet). extent_at s (handle x)) (denotes-live current old.bytes d k) ∙ (blocks-in_use d o k.directory.proper found).own in
+    let room : IsTrue (has_room l (handle x) (from + n - handle x)) = found-room l (handle x) (from + n - handle x) x own (omega arith) in
+    let keeps = changed-keeps_block current old new from n (handle x) (from + n - handle x) c room (omega arith) (omega arith) in
+    let same : SameSpread (value_extents o.value) (value_extents v) =
+    subst (SameSpread (value_extents o.value)) (sym extents) (spread-refl (value_extents o.value)) in
+    denotes-held current old new d o v from n [] [] k found
+    (record { same = value_extents o.value; was = spread-refl (value_extents o.value); is = same }) kind count good low high
+    (record {
+      live = c.live;
+      place = c.place;
+      front = keeps.front;
+      behind = keeps.behind;
+      blocks = written-but old new l (handle x) from n x proper own c (omega arith) high;
+    })
+    at

@@ -1,24 +1,26 @@
 -- Writing an element of the object of a key: what the step is, and what the bytes denote then.
-use Rattle.segment_manager.proofs.Common.{◌≡◌, refl, sym, ap, subst, ◌∙◌, ℕ, zero, suc, ◌+◌, ◌*◌, ◌<◌, ◌≤◌, inl, ℤ, pos}
+use Rattle.segment_manager.proofs.Common.{◌≡◌, refl, sym, ap, subst, ◌∙◌, ℕ, zero, suc, ◌+◌, ◌*◌, ◌<◌, ◌≤◌, ℤ, pos}
 use Rattle.segment_manager.proofs.Common.{Bool, true, false, ◌&&◌, Some, Ok, Err, Result, List, [], ◌∷◌, length}
 use Rattle.segment_manager.proofs.Common.{if◌then◌else◌, arith, IsTrue, nat_le, list_all, mul-le-mul_left, and_from}
-use Rattle.segment_manager.proofs.Common.{ltb-false, slice_get_past, slice_get_within, current, Cut, Memory, Has, Same}
+use Rattle.segment_manager.proofs.Common.{ltb-false, slice_get_past, slice_get_within, current, Cut, Memory, Has}
 use Rattle.segment_manager.proofs.Common.{SameBut, bytes_of, ObjectRole, handle, IsChanged, serves, ScalarKind}
 use Rattle.segment_manager.proofs.Common.{BoolKind, Scalar, Refusal, OutOfRange, is_value, size_of, spelling, Key}
 use Rattle.segment_manager.proofs.Common.{Literal, literal_of, value_of_literal, spelled, Mode, Done, Refused, Denotes}
 use Rattle.segment_manager.proofs.Common.{IsValueAt, Numbers, Object, Directory, count_of, has_good_name, is_object}
 use Rattle.segment_manager.proofs.Common.{kind_of, live, object_at, padded, value_extents, value_len, with_changed}
-use Rattle.segment_manager.proofs.Common.{perform, Answers, IsStepOfKind, State, is_read_only, step_of_kind}
-use Rattle.segment_manager.proofs.Common.{SameBut-Same, and_then, map, values_of}
-use Rattle.std.proofs.{Common.negsuc, Common.set, lemmas.List.length-set}
+use Rattle.segment_manager.proofs.Common.{perform, Answers, IsStepOfKind, State, is_read_only, step_of_kind, and_then}
+use Rattle.segment_manager.proofs.Common.{map, values_of}
+use Rattle.std.proofs.Common.{negsuc, set}
+use Rattle.std.proofs.lemmas.List.{length-set}
+use Rattle.segment_manager.specs.declared.accessing.Place.{Place}
+use Rattle.segment_manager.specs.Standing.{place_at}
 use Rattle.seg_types.specs.Commands as asked
-use Rattle.segment_manager.specs.{declared.accessing.Place.Place, Standing.place_at}
 use Rattle.segment_manager.proofs.{Blocks.spelling-length, Codes.numbers-only, Frame.IsRoomy, Frame.object-roomy}
 use Rattle.segment_manager.proofs.{Live.IsIn, ObjectLists.key-found, Rows.Has-set, Words.first, Words.second}
+use Rattle.segment_manager.proofs.{Replies.element-kind, Replies.set-effect, Replies.set-past}
+use Rattle.segment_manager.proofs.{Exchanged.denotes-rewritten, Rewritten.value_start, Rewritten.with_value}
 use Rattle.segment_manager.proofs.Places.{ElementAt, Lacks, Other, Past, Missing, Nowhere, Within, element-found}
 use Rattle.segment_manager.proofs.Places.{element-missing, numbers-good, numbers-stand}
-use Rattle.segment_manager.proofs.Replies.{element-kind, set-effect, set-past}
-use Rattle.segment_manager.proofs.Rewritten.{SameFrame, denotes-rewritten, value_start, with_value}
 use Rattle.segment_manager.proofs.Steps.{by_no_change_of_kind, by_step_of_kind, lands, open-writing, step_of_kind-found}
 use Rattle.segment_manager.proofs.Steps.{step_of_kind-not_found, step_of_kind-other}
 
@@ -80,13 +82,6 @@ module _ (old new : Cut) (d : Directory) (key : Key) (k : ScalarKind) (i : ℕ) 
   below : i < length e.numbers
   below = slice_get_within e.numbers i e.number e.there
 
-  frame : (z : ℤ) → SameFrame e.object.value (Numbers k (set e.numbers i z))
-  frame z = record {
-    kind = ap kind_of (sym e.value);
-    count = length-set e.numbers i z ∙ ap count_of (sym e.value);
-    extents = ap value_extents (sym e.value);
-  }
-
   good : (z : ℤ) → IsTrue (is_value k z) → IsTrue (is_object current (with_number z))
   good z v =
       numbers-object e.object k e.numbers (set e.numbers i z) e.stands.good e.value (length-set e.numbers i z)
@@ -114,10 +109,8 @@ module _ (old new : Cut) (d : Directory) (key : Key) (k : ScalarKind) (i : ℕ) 
       let l = below in
       let fits : size_of k * (i + 1) ≤ size_of k * length e.numbers = mul-le-mul_left (size_of k) (omega arith) in
       let at = spot in
-      let front : Same (bytes_of old.bytes) (bytes_of new.bytes) (handle o.extent) (value_start o) =
-      SameBut-Same (bytes_of old.bytes) (bytes_of new.bytes) (p.handle + p.at) (size_of k) (handle o.extent) (value_start o) c.rest (inl (omega arith)) in
-      denotes-rewritten current old new d o (Numbers k (set e.numbers i z)) [] (value_extents o.value) o.extent (p.handle + p.at) (size_of k) h f e.stands.said (frame z) (good z v) refl c
-      (omega arith) (omega arith) front (written z c.rest w)
+      denotes-rewritten old new d o (Numbers k (set e.numbers i z)) (p.handle + p.at) (size_of k) h f (ap kind_of (sym e.value))
+      (length-set e.numbers i z ∙ ap count_of (sym e.value)) (ap value_extents (sym e.value)) (good z v) (omega arith) (omega arith) c (written z c.rest w)
 
 -- ---- what the step is
 

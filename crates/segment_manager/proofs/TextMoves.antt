@@ -3,13 +3,14 @@ use Rattle.segment_manager.proofs.Common.{◌≡◌, refl, sym, ap, subst, ◌�
 use Rattle.segment_manager.proofs.Common.{List, ◌++◌, IfErr, OnErr, option_to_list, AllByRecursion, current, Cut}
 use Rattle.segment_manager.proofs.Common.{Extent, Table, Kind, TextsKind, Refusal, same_kind, Key, Command, Place}
 use Rattle.segment_manager.proofs.Common.{IsTextsNow, text_blocks, OwnedText, Answer, Refused, is_untouched, refusal_of}
-use Rattle.segment_manager.proofs.Common.{kind_at, container_at, Value, Texts, Directory, kind_of, live, perform}
-use Rattle.segment_manager.proofs.Common.{Answers, IsSegment, IsStepOfKind, LeadsOn, State, StandsFor, done_answer}
-use Rattle.segment_manager.proofs.Common.{changed, effect, is_read_only, step, step_of_kind, LeadsOnOfKind}
+use Rattle.segment_manager.proofs.Common.{kind_at, container_at, Value, Texts, Directory, kind_of, perform, Answers}
+use Rattle.segment_manager.proofs.Common.{IsSegment, IsStepOfKind, LeadsOn, State, StandsFor, done_answer, changed}
+use Rattle.segment_manager.proofs.Common.{effect, is_read_only, step, step_of_kind, LeadsOnOfKind, LiveSet, live_of}
 use Rattle.best_fit.specs.Exchange.{IsRestored}
-use Rattle.segment_manager.proofs.{AnyStorage.kind-told, AnyStorage.of_kind-same, Constructed.restored-denotes}
-use Rattle.segment_manager.proofs.{Safely.seen-refused, TextBlocks.IsPartOther, TextsHeld.HasBytes}
-use Rattle.segment_manager.proofs.{TextsHeld.HoldsTexts, TextsHeld.holds-texts, TextsHeld.texts-changed}
+use Rattle.segment_manager.proofs.{Calling.denotes-live, AnyStorage.kind-told, AnyStorage.of_kind-same}
+use Rattle.segment_manager.proofs.{Constructed.restored-denotes, Safely.seen-refused, TextBlocks.IsPartOther}
+use Rattle.segment_manager.proofs.{TextsHeld.HasBytes, TextsHeld.HoldsTexts, TextsHeld.holds-texts}
+use Rattle.segment_manager.proofs.{TextsHeld.texts-changed}
 use Rattle.segment_manager.proofs.Steps.{IsMove, IsOpenFor, by_no_change_of_kind, by_step_of_kind, open-writing}
 use Rattle.segment_manager.proofs.Steps.{step_of_kind-found, step_of_kind-segment}
 
@@ -32,14 +33,17 @@ pub record TextsMove (old new : Cut) (d : Directory) (key : Key) (p : Place) (h 
   pub texts : List OwnedText
   pub table : Table
   pub move : IsTextsMove old new p h.texts h.table texts table
-  pub outcome : perform d (live d) (effect d c) ≡ (answer, changed d h.object (Texts texts table))
+  pub outcome : perform d (live_of old.bytes) (effect d c) ≡ (answer, changed d h.object (Texts texts table))
 
 module _ (s : State) (key : Key) (p : Place) (b : IsSegment s.cut.bytes) (found : Answers s (λ d. container_at d key TextsKind) (Ok p)) where
   abbrev pub texts_in : (d : Directory) → StandsFor s.cut.bytes d → HoldsTexts s.cut.bytes d key p
   texts_in d l = holds-texts s.cut.bytes d key p l.denotes (found.answers d l)
 
-  of-kind : (d : Directory) (l : StandsFor s.cut.bytes d) → same_kind TextsKind (kind_of (texts_in d l).object.value) ≡ true
-  of-kind d l = ap (λ (v : Value). same_kind TextsKind (kind_of v)) (texts_in d l).value
+  -- the step is the command's plan, performed
+  texts-plan : (d : Directory) (l : StandsFor s.cut.bytes d) (c : Command) → IsOpenFor s.mode c → step_of_kind s.mode d key TextsKind c ≡ perform d (live_of s.cut.bytes) (effect d c)
+  texts-plan d l c may =
+      step_of_kind-found s.mode d key TextsKind c (texts_in d l).object may (texts_in d l).is (ap (λ (v : Value). same_kind TextsKind (kind_of v)) (texts_in d l).value)
+      ∙ ap (λ (m : LiveSet). perform d m (effect d c)) (sym (denotes-live current s.cut.bytes d l.denotes))
 
   -- the new bytes stand for the directory with the other texts
   pub texts-move : (new : Cut) (d : Directory) (l : StandsFor s.cut.bytes d) (c : Command) (answer : Answer) → is_read_only s.mode ≡ false → TextsMove s.cut new d key p (texts_in d l) c answer
@@ -49,7 +53,7 @@ module _ (s : State) (key : Key) (p : Place) (b : IsSegment s.cut.bytes) (found 
       let m : IsTextsMove s.cut new p h.texts h.table r.texts r.table = r.move in
       record {
         after = changed d h.object (Texts r.texts r.table);
-        is = step_of_kind-found s.mode d key TextsKind c h.object (open-writing s.mode c writing) h.is (of-kind d l) ∙ r.outcome;
+        is = texts-plan d l c (open-writing s.mode c writing) ∙ r.outcome;
         stands = record {
           denotes = texts-changed s.cut new d key p l.denotes h r.texts m.out m.in_place r.table m.gone m.come m.part m.bytes m.gone_is m.come_is m.now;
         };
@@ -80,19 +84,19 @@ module _ (s : State) (key : Key) (p : Place) (b : IsSegment s.cut.bytes) (found 
 
   -- it answers so, and nothing changes
   pub texts-stay : (c : Command) (answer : Answer) → IsOpenFor s.mode c
-      → ((d : Directory) (l : StandsFor s.cut.bytes d) (h : HoldsTexts s.cut.bytes d key p) → perform d (live d) (effect d c) ≡ (answer, d)) → IsStepOfKind s s key TextsKind c answer
+      → ((d : Directory) (l : StandsFor s.cut.bytes d) (h : HoldsTexts s.cut.bytes d key p) → perform d (live_of s.cut.bytes) (effect d c) ≡ (answer, d)) → IsStepOfKind s s key TextsKind c answer
   texts-stay c answer may each =
       by_no_change_of_kind s key TextsKind c answer
-      (λ d l. step_of_kind-found s.mode d key TextsKind c (texts_in d l).object may (texts_in d l).is (of-kind d l) ∙ each d l (texts_in d l))
+      (λ d l. texts-plan d l c may ∙ each d l (texts_in d l))
 
   -- it answers so, and all blocks are as they were
   pub texts-restored : (new : Cut) (c : Command) (answer : Answer) → IsOpenFor s.mode c → IsRestored current s.cut new
-      → ((d : Directory) (l : StandsFor s.cut.bytes d) (h : HoldsTexts s.cut.bytes d key p) → perform d (live d) (effect d c) ≡ (answer, d)) → IsStepOfKind s (record s { cut = new }) key TextsKind c answer
+      → ((d : Directory) (l : StandsFor s.cut.bytes d) (h : HoldsTexts s.cut.bytes d key p) → perform d (live_of s.cut.bytes) (effect d c) ≡ (answer, d)) → IsStepOfKind s (record s { cut = new }) key TextsKind c answer
   texts-restored new c answer may back each =
       by_step_of_kind s (record s { cut = new }) key TextsKind c answer (record { mode = refl; place = back.keeps.place })
       (λ d l. record {
         after = d;
-        is = step_of_kind-found s.mode d key TextsKind c (texts_in d l).object may (texts_in d l).is (of-kind d l) ∙ each d l (texts_in d l);
+        is = texts-plan d l c may ∙ each d l (texts_in d l);
         stands = record { denotes = restored-denotes s.cut new d l.denotes (record { laid = back.laid; keeps = back.keeps }) };
       })
 

@@ -1,20 +1,19 @@
 -- The plans of the commands on a vector of texts, and what they come to.
 use Rattle.segment_manager.proofs.Common.{◌≡◌, refl, sym, ap, ◌∙◌, ℕ, ◌-◌, ◌*◌, Bool, true, false, Option, Some, None}
-use Rattle.segment_manager.proofs.Common.{Result, Ok, Err, List, [], ◌∷◌, ◌++◌, length, take, arith, ◌==◌}
-use Rattle.segment_manager.proofs.Common.{if◌then◌else◌, insert, remove, slice_get, slice_set, nat_le, nat_lt}
-use Rattle.segment_manager.proofs.Common.{option_map, le-ltb, lt-ltb, Storage, Extent, LiveSet, place, regrow, resized}
-use Rattle.segment_manager.proofs.Common.{Table, cut_table, no_table, Refusal, NoSpace, OutOfRange, Key, Literal}
-use Rattle.segment_manager.proofs.Common.{all_texts, new_array, one_more, placed_text, placed_texts, with_array}
-use Rattle.segment_manager.proofs.Common.{with_text, OwnedText, capacity_for_one, grown_table, Answer, Done, Refused}
-use Rattle.segment_manager.proofs.Common.{TextElement, Texts, Object, Directory, live, object_at, New, Plan, Refuse}
-use Rattle.segment_manager.proofs.Common.{RegrownNeed, Reply, Request, perform, with, with_capacity, with_owned_text}
-use Rattle.segment_manager.proofs.Common.{with_owned_texts, with_storage, changed, effect, storage_of, texts_of}
-use Rattle.segment_manager.proofs.Common.{with_items, with_table}
+use Rattle.segment_manager.proofs.Common.{Result, Ok, Err, List, [], ◌∷◌, length, take, arith, ◌==◌, if◌then◌else◌}
+use Rattle.segment_manager.proofs.Common.{insert, remove, slice_get, slice_set, nat_le, nat_lt, option_map, le-ltb}
+use Rattle.segment_manager.proofs.Common.{lt-ltb, Storage, Extent, LiveSet, place, regrow, resized, Table, cut_table}
+use Rattle.segment_manager.proofs.Common.{no_table, Refusal, NoSpace, OutOfRange, Key, Literal, all_texts, new_array}
+use Rattle.segment_manager.proofs.Common.{one_more, placed_text, placed_texts, with_array, with_text, OwnedText}
+use Rattle.segment_manager.proofs.Common.{capacity_for_one, grown_table, Answer, Done, Refused, TextElement, Texts}
+use Rattle.segment_manager.proofs.Common.{Object, Directory, live, object_at, New, Plan, Refuse, RegrownNeed, Reply}
+use Rattle.segment_manager.proofs.Common.{Request, perform, with, with_capacity, with_owned_text, with_owned_texts}
+use Rattle.segment_manager.proofs.Common.{with_storage, changed, effect, storage_of, texts_of, with_items, with_table}
 use Rattle.std.proofs.lemmas.Bool.{leb-false}
 use Rattle.seg_types.specs.Commands as asked
 use Rattle.segment_manager.specs.Step as step
-use Rattle.segment_manager.proofs.ContentPlans.{clear-plan, reserve-plan, shrink-plan}
-use Rattle.segment_manager.proofs.Steps.{with-found}
+use Rattle.segment_manager.proofs.{ContentPlans.clear-plan, ContentPlans.reserve-plan, ContentPlans.shrink-plan}
+use Rattle.segment_manager.proofs.{Steps.with-found, TextLists.pushed-last}
 
 -- ---- what requests come to
 
@@ -146,7 +145,7 @@ abbrev pub beside_array : LiveSet → Table → LiveSet
 beside_array l u = elim u.extent as (λ _. LiveSet) [ None ↦ l | Some x ↦ resized l x ]
 
 module _ (d : Directory) (l : LiveSet) (bss : List (List ℕ)) (next : Table → List OwnedText → Plan) where
-  abbrev all_plan : Plan
+  abbrev pub all_plan : Plan
   all_plan = with_storage 16 (length bss) (λ u. with_owned_texts bss (next u))
 
   pub all-met : (u : Table) (qs : List OwnedText) → new_array l (length bss) ≡ Some u → placed_texts (beside_array l u) bss ≡ Some qs
@@ -167,7 +166,8 @@ module _ (d : Directory) (l : LiveSet) (bss : List (List ℕ)) (next : Table →
 
 -- ---- the commands
 
-abbrev text_in : Option OwnedText → Result OwnedText Refusal
+-- the text that is read or left out, which there is where the index is of one
+abbrev pub text_in : Option OwnedText → Result OwnedText Refusal
 text_in r = elim r as (λ _. Result OwnedText Refusal) [ None ↦ Err OutOfRange | Some p ↦ Ok p ]
 
 module _ (d : Directory) (key : Key) (o : Object) (ps : List OwnedText) (t : Table) (e : object_at d key ≡ Some o) (f : o.value ≡ Texts ps t) where
@@ -175,70 +175,48 @@ module _ (d : Directory) (key : Key) (o : Object) (ps : List OwnedText) (t : Tab
   texts_after qs u = changed d o (Texts qs u)
 
   -- one text read
-  got : (i : ℕ) → effect d (asked.Get key i) ≡ with (text_in (slice_get ps i)) (λ p. Reply (TextElement p.bytes) d)
-  got i = with-found d key o (λ o. step.get d o.value i) e ∙ ap (λ v. step.get d v i) f
-
-  pub got-text : (i : ℕ) (q : OwnedText) → slice_get ps i ≡ Some q → effect d (asked.Get key i) ≡ Reply (TextElement q.bytes) d
-  got-text i q g = got i ∙ ap (λ r. with (text_in r) (λ p. Reply (TextElement p.bytes) d)) g
-
-  pub got-past : (i : ℕ) → slice_get ps i ≡ None → effect d (asked.Get key i) ≡ Refuse OutOfRange
-  got-past i g = got i ∙ ap (λ r. with (text_in r) (λ p. Reply (TextElement p.bytes) d)) g
+  pub got-text : (i : ℕ) (r : Option OwnedText) → slice_get ps i ≡ r → effect d (asked.Get key i) ≡ with (text_in r) (λ p. Reply (TextElement p.bytes) d)
+  got-text i r g =
+      with-found d key o (λ o. step.get d o.value i) e ∙ ap (λ v. step.get d v i) f ∙ ap (λ r. with (text_in r) (λ p. Reply (TextElement p.bytes) d)) g
 
   -- another in the place of one
-  abbrev set_in : ℕ → List ℕ → Plan
-  set_in i bs = with_owned_text bs (λ q. Reply Done (texts_after (slice_set ps i q) t))
+  abbrev pub set_in : ℕ → OwnedText → Plan
+  set_in i q = Reply Done (texts_after (slice_set ps i q) t)
 
-  set-in : (i : ℕ) (bs : List ℕ) → effect d (asked.Set key i (asked.Quoted bs)) ≡ with (text_in (slice_get ps i)) (λ old. set_in i bs)
-  set-in i bs = with-found d key o (λ o. step.set d o o.value i (asked.Quoted bs)) e ∙ ap (λ v. step.set d o v i (asked.Quoted bs)) f
+  pub set-text : (i : ℕ) (bs : List ℕ) (r : Option OwnedText) → slice_get ps i ≡ r → effect d (asked.Set key i (asked.Quoted bs)) ≡ with (text_in r) (λ old. with_owned_text bs (set_in i))
+  set-text i bs r g =
+      with-found d key o (λ o. step.set d o o.value i (asked.Quoted bs)) e ∙ ap (λ v. step.set d o v i (asked.Quoted bs)) f
+      ∙ ap (λ r. with (text_in r) (λ old. with_owned_text bs (set_in i))) g
 
-  pub set-text : (i : ℕ) (bs : List ℕ) (old : OwnedText) → slice_get ps i ≡ Some old → effect d (asked.Set key i (asked.Quoted bs)) ≡ set_in i bs
-  set-text i bs old g = set-in i bs ∙ ap (λ r. with (text_in r) (λ old. set_in i bs)) g
+  -- one more, among the others or behind the last
+  abbrev pub insert_in : ℕ → Table → OwnedText → Plan
+  insert_in i u q = Reply Done (texts_after (insert ps i q) u)
 
-  pub set_text-past : (i : ℕ) (bs : List ℕ) → slice_get ps i ≡ None → effect d (asked.Set key i (asked.Quoted bs)) ≡ Refuse OutOfRange
-  set_text-past i bs g = set-in i bs ∙ ap (λ r. with (text_in r) (λ old. set_in i bs)) g
+  abbrev pub insert_plan : ℕ → List ℕ → Plan
+  insert_plan i bs = with_capacity 16 (capacity_for_one (length ps) t.capacity) t (λ u. with_owned_text bs (insert_in i u))
 
-  -- one more, behind the last or among the others
-  pub push-text : (bs : List ℕ) → effect d (asked.Push key (asked.Quoted bs))
-      ≡ with_capacity 16 (capacity_for_one (length ps) t.capacity) t (λ u. with_owned_text bs (λ q. Reply Done (texts_after (ps ++ q ∷ []) u)))
-  push-text bs = with-found d key o (λ o. step.push d o o.value (asked.Quoted bs)) e ∙ ap (λ v. step.push d o v (asked.Quoted bs)) f
+  pub push-text : (bs : List ℕ) → effect d (asked.Push key (asked.Quoted bs)) ≡ insert_plan (length ps) bs
+  push-text bs =
+      with-found d key o (λ o. step.push d o o.value (asked.Quoted bs)) e ∙ ap (λ v. step.push d o v (asked.Quoted bs)) f
+      ∙ (λ i. with_capacity 16 (capacity_for_one (length ps) t.capacity) t (λ u. with_owned_text bs (λ q. Reply Done (texts_after (sym (pushed-last ps q) i) u))))
 
-  abbrev insert_in : ℕ → List ℕ → Plan
-  insert_in i bs = with_capacity 16 (capacity_for_one (length ps) t.capacity) t (λ u. with_owned_text bs (λ q. Reply Done (texts_after (insert ps i q) u)))
-
-  insert-in : (i : ℕ) (bs : List ℕ) → effect d (asked.Insert key i (asked.Quoted bs)) ≡ (if nat_lt (length ps) i then Refuse OutOfRange else insert_in i bs)
-  insert-in i bs = with-found d key o (λ o. step.insert_at d o o.value i (asked.Quoted bs)) e ∙ ap (λ v. step.insert_at d o v i (asked.Quoted bs)) f
-
-  pub insert-text : (i : ℕ) (bs : List ℕ) → nat_lt (length ps) i ≡ false → effect d (asked.Insert key i (asked.Quoted bs)) ≡ insert_in i bs
-  insert-text i bs g = insert-in i bs ∙ ap (λ (b : Bool). if b then Refuse OutOfRange else insert_in i bs) g
-
-  pub insert_text-past : (i : ℕ) (bs : List ℕ) → nat_lt (length ps) i ≡ true → effect d (asked.Insert key i (asked.Quoted bs)) ≡ Refuse OutOfRange
-  insert_text-past i bs g = insert-in i bs ∙ ap (λ (b : Bool). if b then Refuse OutOfRange else insert_in i bs) g
+  pub insert-text : (i : ℕ) (bs : List ℕ) (b : Bool) → nat_lt (length ps) i ≡ b → effect d (asked.Insert key i (asked.Quoted bs)) ≡ (if b then Refuse OutOfRange else insert_plan i bs)
+  insert-text i bs b g =
+      with-found d key o (λ o. step.insert_at d o o.value i (asked.Quoted bs)) e ∙ ap (λ v. step.insert_at d o v i (asked.Quoted bs)) f
+      ∙ ap (λ (b : Bool). if b then Refuse OutOfRange else insert_plan i bs) g
 
   -- one less
-  abbrev erase_in : ℕ → Plan
-  erase_in i = Reply Done (texts_after (remove ps i) t)
-
-  erase-in : (i : ℕ) → effect d (asked.Erase key i) ≡ with (text_in (slice_get ps i)) (λ q. erase_in i)
-  erase-in i = with-found d key o (λ o. step.erase d o o.value i) e ∙ ap (λ v. step.erase d o v i) f
-
-  pub erase-text : (i : ℕ) (q : OwnedText) → slice_get ps i ≡ Some q → effect d (asked.Erase key i) ≡ erase_in i
-  erase-text i q g = erase-in i ∙ ap (λ r. with (text_in r) (λ q. erase_in i)) g
-
-  pub erase_text-past : (i : ℕ) → slice_get ps i ≡ None → effect d (asked.Erase key i) ≡ Refuse OutOfRange
-  erase_text-past i g = erase-in i ∙ ap (λ r. with (text_in r) (λ q. erase_in i)) g
+  pub erase-text : (i : ℕ) (r : Option OwnedText) → slice_get ps i ≡ r → effect d (asked.Erase key i) ≡ with (text_in r) (λ q. Reply Done (texts_after (remove ps i) t))
+  erase-text i r g =
+      with-found d key o (λ o. step.erase d o o.value i) e ∙ ap (λ v. step.erase d o v i) f
+      ∙ ap (λ r. with (text_in r) (λ q. Reply Done (texts_after (remove ps i) t))) g
 
   -- the last
-  abbrev pop_in : OwnedText → Plan
+  abbrev pub pop_in : OwnedText → Plan
   pop_in q = Reply (TextElement q.bytes) (texts_after (take (length ps - 1) ps) t)
 
-  pop-in : effect d (asked.Pop key) ≡ with (text_in (slice_get ps (length ps - 1))) pop_in
-  pop-in = with-found d key o (λ o. step.pop d o o.value) e ∙ ap (λ v. step.pop d o v) f
-
-  pub pop-text : (q : OwnedText) → slice_get ps (length ps - 1) ≡ Some q → effect d (asked.Pop key) ≡ pop_in q
-  pop-text q g = pop-in ∙ ap (λ r. with (text_in r) pop_in) g
-
-  pub pop_text-past : slice_get ps (length ps - 1) ≡ None → effect d (asked.Pop key) ≡ Refuse OutOfRange
-  pop_text-past g = pop-in ∙ ap (λ r. with (text_in r) pop_in) g
+  pub pop-text : (r : Option OwnedText) → slice_get ps (length ps - 1) ≡ r → effect d (asked.Pop key) ≡ with (text_in r) pop_in
+  pop-text r g = with-found d key o (λ o. step.pop d o o.value) e ∙ ap (λ v. step.pop d o v) f ∙ ap (λ r. with (text_in r) pop_in) g
 
   -- others in the place of all: none, and one or more
   pub assign-none : effect d (asked.Assign key []) ≡ Reply Done (texts_after [] t)

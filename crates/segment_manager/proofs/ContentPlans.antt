@@ -6,71 +6,48 @@ use Rattle.segment_manager.proofs.Common.{U8, Refusal, OutOfRange, WrongKind, si
 use Rattle.segment_manager.proofs.Common.{capacity_for_one, capacity_for_text, Done, Element, Value, Elements, Bytes}
 use Rattle.segment_manager.proofs.Common.{Texts, Object, Directory, live, object_at, Plan, Refuse, Reply, with}
 use Rattle.segment_manager.proofs.Common.{with_capacity, changed, effect, storage_of, values_of, with_items, with_table}
+use Rattle.segment_manager.specs.Step.{text_among, text_of}
 use Rattle.seg_types.specs.Commands as asked
 use Rattle.segment_manager.specs.Step as step
-use Rattle.segment_manager.specs.Step.{text_among, text_of}
 use Rattle.segment_manager.proofs.Steps.{with-found}
 
-abbrev of_slice : Option ℤ → Result ℤ Refusal
+-- an element that is read or left out, which there is where the index is of one
+abbrev pub of_slice : Option ℤ → Result ℤ Refusal
 of_slice r = elim r as (λ _. Result ℤ Refusal) [ None ↦ Err OutOfRange | Some z ↦ Ok z ]
 
 -- ---- vectors of numbers
 
 module _ (d : Directory) (key : Key) (o : Object) (k : ScalarKind) (zs : List ℤ) (t : Table) (e : object_at d key ≡ Some o) (f : o.value ≡ Elements k zs t) where
   -- an element more, behind the last
-  abbrev push_with : ℤ → Plan
+  abbrev pub push_with : ℤ → Plan
   push_with z = with_capacity (size_of k) (capacity_for_one (length zs) t.capacity) t (λ u. Reply Done (changed d o (Elements k (zs ++ z ∷ []) u)))
 
-  push-literal : (l : Literal) → effect d (asked.Push key l) ≡ with (value_of_literal k l) push_with
-  push-literal l = with-found d key o (λ o. step.push d o o.value l) e ∙ ap (λ v. step.push d o v l) f
-
-  pub push-plan : (l : Literal) (z : ℤ) → value_of_literal k l ≡ Ok z → effect d (asked.Push key l) ≡ push_with z
-  push-plan l z g = push-literal l ∙ ap (λ r. with r push_with) g
-
-  pub push-refused : (l : Literal) (r : Refusal) → value_of_literal k l ≡ Err r → effect d (asked.Push key l) ≡ Refuse r
-  push-refused l r g = push-literal l ∙ ap (λ r. with r push_with) g
+  pub push-plan : (l : Literal) (r : Result ℤ Refusal) → value_of_literal k l ≡ r → effect d (asked.Push key l) ≡ with r push_with
+  push-plan l r g = with-found d key o (λ o. step.push d o o.value l) e ∙ ap (λ v. step.push d o v l) f ∙ ap (λ r. with r push_with) g
 
   -- the last is taken away
-  abbrev pop_with : ℤ → Plan
+  abbrev pub pop_with : ℤ → Plan
   pop_with z = Reply (Element k z) (changed d o (Elements k (take (length zs - 1) zs) t))
 
-  pop-last : effect d (asked.Pop key) ≡ with (of_slice (slice_get zs (length zs - 1))) pop_with
-  pop-last = with-found d key o (λ o. step.pop d o o.value) e ∙ ap (λ v. step.pop d o v) f
-
-  pub pop-plan : (z : ℤ) → slice_get zs (length zs - 1) ≡ Some z → effect d (asked.Pop key) ≡ pop_with z
-  pop-plan z g = pop-last ∙ ap (λ r. with (of_slice r) pop_with) g
-
-  pub pop-empty : slice_get zs (length zs - 1) ≡ None → effect d (asked.Pop key) ≡ Refuse OutOfRange
-  pop-empty g = pop-last ∙ ap (λ r. with (of_slice r) pop_with) g
+  pub pop-plan : (r : Option ℤ) → slice_get zs (length zs - 1) ≡ r → effect d (asked.Pop key) ≡ with (of_slice r) pop_with
+  pop-plan r g = with-found d key o (λ o. step.pop d o o.value) e ∙ ap (λ v. step.pop d o v) f ∙ ap (λ r. with (of_slice r) pop_with) g
 
   -- an element more, among the others
-  abbrev insert_with : ℕ → ℤ → Plan
-  insert_with i z = with_capacity (size_of k) (capacity_for_one (length zs) t.capacity) t (λ u. Reply Done (changed d o (Elements k (insert zs i z) u)))
+  abbrev pub insert_with : ℕ → Bool → ℤ → Plan
+  insert_with i outside z =
+      if outside then Refuse OutOfRange
+      else with_capacity (size_of k) (capacity_for_one (length zs) t.capacity) t (λ u. Reply Done (changed d o (Elements k (insert zs i z) u)))
 
-  insert-literal : (i : ℕ) (l : Literal) → effect d (asked.Insert key i l) ≡ with (value_of_literal k l) (λ z. if nat_lt (length zs) i then Refuse OutOfRange else insert_with i z)
-  insert-literal i l = with-found d key o (λ o. step.insert_at d o o.value i l) e ∙ ap (λ v. step.insert_at d o v i l) f
-
-  pub insert-plan : (i : ℕ) (l : Literal) (z : ℤ) → value_of_literal k l ≡ Ok z → nat_lt (length zs) i ≡ false → effect d (asked.Insert key i l) ≡ insert_with i z
-  insert-plan i l z g h = insert-literal i l ∙ (λ j. with (g j) (λ z. if h j then Refuse OutOfRange else insert_with i z))
-
-  pub insert-past : (i : ℕ) (l : Literal) (z : ℤ) → value_of_literal k l ≡ Ok z → nat_lt (length zs) i ≡ true → effect d (asked.Insert key i l) ≡ Refuse OutOfRange
-  insert-past i l z g h = insert-literal i l ∙ (λ j. with (g j) (λ z. if h j then Refuse OutOfRange else insert_with i z))
-
-  pub insert-refused : (i : ℕ) (l : Literal) (r : Refusal) → value_of_literal k l ≡ Err r → effect d (asked.Insert key i l) ≡ Refuse r
-  insert-refused i l r g = insert-literal i l ∙ ap (λ r. with r (λ z. if nat_lt (length zs) i then Refuse OutOfRange else insert_with i z)) g
+  pub insert-plan : (i : ℕ) (l : Literal) (r : Result ℤ Refusal) (b : Bool) → value_of_literal k l ≡ r → nat_lt (length zs) i ≡ b → effect d (asked.Insert key i l) ≡ with r (insert_with i b)
+  insert-plan i l r b g h =
+      with-found d key o (λ o. step.insert_at d o o.value i l) e ∙ ap (λ v. step.insert_at d o v i l) f ∙ (λ j. with (g j) (insert_with i (h j)))
 
   -- one less among the others
-  abbrev erase_with : ℕ → ℤ → Plan
+  abbrev pub erase_with : ℕ → ℤ → Plan
   erase_with i z = Reply Done (changed d o (Elements k (remove zs i) t))
 
-  erase-at : (i : ℕ) → effect d (asked.Erase key i) ≡ with (of_slice (slice_get zs i)) (erase_with i)
-  erase-at i = with-found d key o (λ o. step.erase d o o.value i) e ∙ ap (λ v. step.erase d o v i) f
-
-  pub erase-plan : (i : ℕ) (z : ℤ) → slice_get zs i ≡ Some z → effect d (asked.Erase key i) ≡ Reply Done (changed d o (Elements k (remove zs i) t))
-  erase-plan i z g = erase-at i ∙ ap (λ r. with (of_slice r) (erase_with i)) g
-
-  pub erase-past : (i : ℕ) → slice_get zs i ≡ None → effect d (asked.Erase key i) ≡ Refuse OutOfRange
-  erase-past i g = erase-at i ∙ ap (λ r. with (of_slice r) (erase_with i)) g
+  pub erase-plan : (i : ℕ) (r : Option ℤ) → slice_get zs i ≡ r → effect d (asked.Erase key i) ≡ with (of_slice r) (erase_with i)
+  erase-plan i r g = with-found d key o (λ o. step.erase d o o.value i) e ∙ ap (λ v. step.erase d o v i) f ∙ ap (λ r. with (of_slice r) (erase_with i)) g
 
   -- others in the place of all
   abbrev assign_with : List ℤ → Plan
@@ -86,29 +63,16 @@ module _ (d : Directory) (key : Key) (o : Object) (k : ScalarKind) (zs : List �
   assign-refused ls r g = assign-literals ls ∙ ap (λ r. with r assign_with) g
 
   -- one element read, and written over
-  abbrev get_with : ℤ → Plan
-  get_with z = Reply (Element k z) d
+  pub get-plan : (i : ℕ) (r : Option ℤ) → slice_get zs i ≡ r → effect d (asked.Get key i) ≡ with (of_slice r) (λ z. Reply (Element k z) d)
+  get-plan i r g =
+      with-found d key o (λ o. step.get d o.value i) e ∙ ap (λ v. step.get d v i) f ∙ ap (λ r. with (of_slice r) (λ z. Reply (Element k z) d)) g
 
-  get-at : (i : ℕ) → effect d (asked.Get key i) ≡ with (of_slice (slice_get zs i)) get_with
-  get-at i = with-found d key o (λ o. step.get d o.value i) e ∙ ap (λ v. step.get d v i) f
-
-  pub get-plan : (i : ℕ) (z : ℤ) → slice_get zs i ≡ Some z → effect d (asked.Get key i) ≡ Reply (Element k z) d
-  get-plan i z g = get-at i ∙ ap (λ r. with (of_slice r) get_with) g
-
-  pub get-past : (i : ℕ) → slice_get zs i ≡ None → effect d (asked.Get key i) ≡ Refuse OutOfRange
-  get-past i g = get-at i ∙ ap (λ r. with (of_slice r) get_with) g
-
-  abbrev set_with : ℕ → ℤ → ℤ → Plan
+  abbrev pub set_with : ℕ → ℤ → ℤ → Plan
   set_with i z old = Reply Done (changed d o (Elements k (slice_set zs i z) t))
 
-  set-literal : (i : ℕ) (l : Literal) → effect d (asked.Set key i l) ≡ with (value_of_literal k l) (λ z. with (of_slice (slice_get zs i)) (set_with i z))
-  set-literal i l = with-found d key o (λ o. step.set d o o.value i l) e ∙ ap (λ v. step.set d o v i l) f
-
-  pub set-plan : (i : ℕ) (l : Literal) (z old : ℤ) → value_of_literal k l ≡ Ok z → slice_get zs i ≡ Some old → effect d (asked.Set key i l) ≡ Reply Done (changed d o (Elements k (slice_set zs i z) t))
-  set-plan i l z old g h = set-literal i l ∙ (λ j. with (g j) (λ z. with (of_slice (h j)) (set_with i z)))
-
-  pub set-past : (i : ℕ) (l : Literal) (z : ℤ) → value_of_literal k l ≡ Ok z → slice_get zs i ≡ None → effect d (asked.Set key i l) ≡ Refuse OutOfRange
-  set-past i l z g h = set-literal i l ∙ (λ j. with (g j) (λ z. with (of_slice (h j)) (set_with i z)))
+  pub set-plan : (i : ℕ) (l : Literal) (z : ℤ) (r : Option ℤ) → value_of_literal k l ≡ Ok z → slice_get zs i ≡ r → effect d (asked.Set key i l) ≡ with (of_slice r) (set_with i z)
+  set-plan i l z r g h =
+      with-found d key o (λ o. step.set d o o.value i l) e ∙ ap (λ v. step.set d o v i l) f ∙ (λ j. with (g j) (λ z. with (of_slice (h j)) (set_with i z)))
 
 -- ---- texts
 
@@ -133,68 +97,41 @@ module _ (d : Directory) (key : Key) (o : Object) (bs : List ℕ) (t : Table) (e
   text-refused ls r g = text-literals ls ∙ ap (λ r. with r text_with) g
 
   -- one byte read, and written over
-  abbrev byte_with : ℤ → Plan
-  byte_with z = Reply (Element U8 z) d
+  pub byte-plan : (i : ℕ) (r : Option ℤ) → slice_get (map pos bs) i ≡ r → effect d (asked.Get key i) ≡ with (of_slice r) (λ z. Reply (Element U8 z) d)
+  byte-plan i r g =
+      with-found d key o (λ o. step.get d o.value i) e ∙ ap (λ v. step.get d v i) f ∙ ap (λ r. with (of_slice r) (λ z. Reply (Element U8 z) d)) g
 
-  byte-at : (i : ℕ) → effect d (asked.Get key i) ≡ with (of_slice (slice_get (map pos bs) i)) byte_with
-  byte-at i = with-found d key o (λ o. step.get d o.value i) e ∙ ap (λ v. step.get d v i) f
-
-  pub byte-plan : (i : ℕ) (z : ℤ) → slice_get (map pos bs) i ≡ Some z → effect d (asked.Get key i) ≡ Reply (Element U8 z) d
-  byte-plan i z g = byte-at i ∙ ap (λ r. with (of_slice r) byte_with) g
-
-  pub byte-past : (i : ℕ) → slice_get (map pos bs) i ≡ None → effect d (asked.Get key i) ≡ Refuse OutOfRange
-  byte-past i g = byte-at i ∙ ap (λ r. with (of_slice r) byte_with) g
-
-  abbrev put_byte : ℕ → ℤ → ℤ → Plan
+  abbrev pub put_byte : ℕ → ℤ → ℤ → Plan
   put_byte i z old = Reply Done (changed d o (Bytes (map nat_abs (slice_set (map pos bs) i z)) t))
 
-  byte-literal : (i : ℕ) (l : Literal) → effect d (asked.Set key i l) ≡ with (value_of_literal U8 l) (λ z. with (of_slice (slice_get (map pos bs) i)) (put_byte i z))
-  byte-literal i l = with-found d key o (λ o. step.set d o o.value i l) e ∙ ap (λ v. step.set d o v i l) f
-
-  pub set_byte-plan : (i : ℕ) (l : Literal) (z old : ℤ) → value_of_literal U8 l ≡ Ok z → slice_get (map pos bs) i ≡ Some old
-      → effect d (asked.Set key i l) ≡ Reply Done (changed d o (Bytes (map nat_abs (slice_set (map pos bs) i z)) t))
-  set_byte-plan i l z old g h = byte-literal i l ∙ (λ j. with (g j) (λ z. with (of_slice (h j)) (put_byte i z)))
-
-  pub set_byte-past : (i : ℕ) (l : Literal) (z : ℤ) → value_of_literal U8 l ≡ Ok z → slice_get (map pos bs) i ≡ None → effect d (asked.Set key i l) ≡ Refuse OutOfRange
-  set_byte-past i l z g h = byte-literal i l ∙ (λ j. with (g j) (λ z. with (of_slice (h j)) (put_byte i z)))
+  pub set_byte-plan : (i : ℕ) (l : Literal) (z : ℤ) (r : Option ℤ) → value_of_literal U8 l ≡ Ok z → slice_get (map pos bs) i ≡ r → effect d (asked.Set key i l) ≡ with (of_slice r) (put_byte i z)
+  set_byte-plan i l z r g h =
+      with-found d key o (λ o. step.set d o o.value i l) e ∙ ap (λ v. step.set d o v i l) f ∙ (λ j. with (g j) (λ z. with (of_slice (h j)) (put_byte i z)))
 
 -- ---- whatever has storage
 
 module _ (d : Directory) (key : Key) (o : Object) (e : object_at d key ≡ Some o) where
-  abbrev reserve_with : ℕ → ℕ × ℕ × Table → Plan
+  abbrev pub reserve_with : ℕ → ℕ × ℕ × Table → Plan
   reserve_with n (each, len, t) = with_capacity each n t (λ u. Reply Done (changed d o (with_table o.value u)))
 
-  pub reserve-plan : (n each len : ℕ) (t : Table) → storage_of o.value ≡ Ok (each, len, t) → effect d (asked.Reserve key n) ≡ with_capacity each n t (λ u. Reply Done (changed d o (with_table o.value u)))
-  reserve-plan n each len t f =
+  pub reserve-plan : (n : ℕ) (r : Result (ℕ × ℕ × Table) Refusal) → storage_of o.value ≡ r → effect d (asked.Reserve key n) ≡ with r (reserve_with n)
+  reserve-plan n r f =
       with-found d key o (λ o. with (storage_of o.value) (λ (each, len, t). with_capacity each n t (λ u. Reply Done (changed d o (with_table o.value u))))) e
       ∙ ap (λ r. with r (reserve_with n)) f
 
-  pub reserve-refused : (n : ℕ) (r : Refusal) → storage_of o.value ≡ Err r → effect d (asked.Reserve key n) ≡ Refuse r
-  reserve-refused n r f =
-      with-found d key o (λ o. with (storage_of o.value) (λ (each, len, t). with_capacity each n t (λ u. Reply Done (changed d o (with_table o.value u))))) e
-      ∙ ap (λ r. with r (reserve_with n)) f
-
-  abbrev shrink_with : ℕ × ℕ × Table → Plan
+  abbrev pub shrink_with : ℕ × ℕ × Table → Plan
   shrink_with (each, len, t) = Reply Done (changed d o (with_table o.value (cut_table (live d) each len t)))
 
-  pub shrink-plan : (each len : ℕ) (t : Table) → storage_of o.value ≡ Ok (each, len, t) → effect d (asked.Shrink key) ≡ Reply Done (changed d o (with_table o.value (cut_table (live d) each len t)))
-  shrink-plan each len t f =
+  pub shrink-plan : (r : Result (ℕ × ℕ × Table) Refusal) → storage_of o.value ≡ r → effect d (asked.Shrink key) ≡ with r shrink_with
+  shrink-plan r f =
       with-found d key o (λ o. with (storage_of o.value) (λ (each, len, t). Reply Done (changed d o (with_table o.value (cut_table (live d) each len t))))) e
       ∙ ap (λ r. with r shrink_with) f
 
-  pub shrink-refused : (r : Refusal) → storage_of o.value ≡ Err r → effect d (asked.Shrink key) ≡ Refuse r
-  shrink-refused r f =
-      with-found d key o (λ o. with (storage_of o.value) (λ (each, len, t). Reply Done (changed d o (with_table o.value (cut_table (live d) each len t))))) e
-      ∙ ap (λ r. with r shrink_with) f
-
-  abbrev clear_with : ℕ × ℕ × Table → Plan
+  abbrev pub clear_with : ℕ × ℕ × Table → Plan
   clear_with s = Reply Done (changed d o (with_items o.value []))
 
-  pub clear-plan : (s : ℕ × ℕ × Table) → storage_of o.value ≡ Ok s → effect d (asked.Clear key) ≡ Reply Done (changed d o (with_items o.value []))
-  clear-plan s f = with-found d key o (λ o. with (storage_of o.value) (λ s. Reply Done (changed d o (with_items o.value [])))) e ∙ ap (λ r. with r clear_with) f
-
-  pub clear-refused : (r : Refusal) → storage_of o.value ≡ Err r → effect d (asked.Clear key) ≡ Refuse r
-  clear-refused r f = with-found d key o (λ o. with (storage_of o.value) (λ s. Reply Done (changed d o (with_items o.value [])))) e ∙ ap (λ r. with r clear_with) f
+  pub clear-plan : (r : Result (ℕ × ℕ × Table) Refusal) → storage_of o.value ≡ r → effect d (asked.Clear key) ≡ with r clear_with
+  clear-plan r f = with-found d key o (λ o. with (storage_of o.value) (λ s. Reply Done (changed d o (with_items o.value [])))) e ∙ ap (λ r. with r clear_with) f
 
 -- ---- an object of another kind
 

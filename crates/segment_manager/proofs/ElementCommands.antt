@@ -6,18 +6,18 @@ use Rattle.segment_manager.proofs.Common.{ScalarValue, is_value, Key, ByHandle, 
 use Rattle.segment_manager.proofs.Common.{value_of_literal, kind_of_scalar, value_of_scalar, OwnedText, Located, Answer}
 use Rattle.segment_manager.proofs.Common.{Refused, elements_at, elements_of, kind_at, IsChangeable, IsToChange}
 use Rattle.segment_manager.proofs.Common.{IsUnchangeable, IsValueOf, Value, Numbers, Elements, Bytes, Pairs, Texts}
-use Rattle.segment_manager.proofs.Common.{Object, Directory, kind_of, object_at, IsLocated, Refuse, Answers, IsStep}
-use Rattle.segment_manager.proofs.Common.{IsStepOfKind, State, StandsFor, effect, is_read_only}
-use Rattle.seg_types.specs.Commands as asked
+use Rattle.segment_manager.proofs.Common.{Object, Directory, kind_of, IsLocated, Refuse, Answers, IsStep, IsStepOfKind}
+use Rattle.segment_manager.proofs.Common.{State, StandsFor, is_read_only}
 use Rattle.seg_types.specs.Commands.{Truth, Whole}
 use Rattle.segment_manager.specs.Changeable.{IsElement, IsNoElement}
+use Rattle.seg_types.specs.Commands as asked
 use Rattle.segment_manager.specs.Step as step
 use Rattle.segment_manager.proofs.{AnyKind.any-literal, Locating.step_of_kind-by_key, Steps.with-found}
 use Rattle.segment_manager.proofs.{Steps.with-not_found, Stored.literal-read, ElementLaws.same_plan-steps}
-use Rattle.segment_manager.proofs.AnyStorage.{IsOfKindAt, kind-told, of_kind-steps}
-use Rattle.segment_manager.proofs.Changeable.{refuses, says-kind}
-use Rattle.segment_manager.proofs.ContentPlans.{erase-other, insert-other, insert-past, insert-plan, insert-refused}
-use Rattle.segment_manager.proofs.ContentPlans.{is_no_vector, pop-other, push-other, push-plan, push-refused}
+use Rattle.segment_manager.proofs.{AnyStorage.IsOfKindAt, AnyStorage.kind-told, AnyStorage.of_kind-steps}
+use Rattle.segment_manager.proofs.{Changeable.refuses, Changeable.says-kind}
+use Rattle.segment_manager.proofs.ContentPlans.{erase-other, insert-other, insert-plan, is_no_vector, pop-other}
+use Rattle.segment_manager.proofs.ContentPlans.{push-other, push-plan}
 
 -- ---- values by their kinds
 
@@ -102,11 +102,6 @@ module _ {s : State} {key : Key} {o : Located} (h : IsToChange s key o) (other :
 
 -- ---- it is a vector
 
-insert-same : (d : Directory) (key : Key) (o : Object) (k : ScalarKind) (zs : List ℤ) (t : Table) (i : ℕ) (l m : Literal) (z : ℤ) (b : Bool) → object_at d key ≡ Some o → o.value ≡ Elements k zs t
-    → nat_lt (length zs) i ≡ b → value_of_literal k l ≡ Ok z → value_of_literal k m ≡ Ok z → effect d (asked.Insert key i l) ≡ effect d (asked.Insert key i m)
-insert-same d key o k zs t i l m z true e f h p q = insert-past d key o k zs t e f i l z p h ∙ sym (insert-past d key o k zs t e f i m z q h)
-insert-same d key o k zs t i l m z false e f h p q = insert-plan d key o k zs t e f i l z p h ∙ sym (insert-plan d key o k zs t e f i m z q h)
-
 module _ (s : State) (key : Key) (k : ScalarKind) (a : Answers s (λ d. kind_at d key) (Ok (Vector k))) where
   held : (d : Directory) (st : StandsFor s.cut.bytes d) → IsElements k (told a d st).object.value
   held d st = vector-if k (told a d st).object.value (told a d st).kind_is
@@ -119,7 +114,7 @@ module _ (s : State) (key : Key) (k : ScalarKind) (a : Answers s (λ d. kind_at 
       (λ d st.
       let f = told a d st in
       let h = held d st in
-      push-plan d key f.object k h.numbers h.table f.is h.is l z e ∙ sym (push-plan d key f.object k h.numbers h.table f.is h.is (literal_of k z) z (literal-read k z v)))
+      push-plan d key f.object k h.numbers h.table f.is h.is l (Ok z) e ∙ sym (push-plan d key f.object k h.numbers h.table f.is h.is (literal_of k z) (Ok z) (literal-read k z v)))
       (of_kind-steps s new key (Vector k) (asked.Push key (literal_of k z)) answer a r)
 
   insert-read : (new : State) (i : ℕ) (l : Literal) (z : ℤ) (answer : Answer) → value_of_literal k l ≡ Ok z → is_value k z ≡ true
@@ -129,16 +124,18 @@ module _ (s : State) (key : Key) (k : ScalarKind) (a : Answers s (λ d. kind_at 
       (λ d st.
       let f = told a d st in
       let h = held d st in
-      insert-same d key f.object k h.numbers h.table i l (literal_of k z) z (nat_lt (length h.numbers) i) f.is h.is refl e (literal-read k z v))
+      let outside : Bool = nat_lt (length h.numbers) i in
+      insert-plan d key f.object k h.numbers h.table f.is h.is i l (Ok z) outside e refl
+      ∙ sym (insert-plan d key f.object k h.numbers h.table f.is h.is i (literal_of k z) (Ok z) outside (literal-read k z v) refl))
       (of_kind-steps s new key (Vector k) (asked.Insert key i (literal_of k z)) answer a r)
 
   -- one that is no value of the kind is refused
   refused-element : (l : Literal) (why : Refusal) → is_read_only s.mode ≡ false → value_of_literal k l ≡ Err why → IsNoElement s key l why
   refused-element l why writing e = record {
     push = refuses s (asked.Push key l) why writing
-        (λ d st. push-refused d key (told a d st).object k (held d st).numbers (held d st).table (told a d st).is (held d st).is l why e);
+        (λ d st. push-plan d key (told a d st).object k (held d st).numbers (held d st).table (told a d st).is (held d st).is l (Err why) e);
     insert = λ i. refuses s (asked.Insert key i l) why writing
-        (λ d st. insert-refused d key (told a d st).object k (held d st).numbers (held d st).table (told a d st).is (held d st).is i l why e);
+        (λ d st. insert-plan d key (told a d st).object k (held d st).numbers (held d st).table (told a d st).is (held d st).is i l (Err why) (nat_lt (length (held d st).numbers) i) e refl);
   }
 
 -- what the literal is for it

@@ -13,17 +13,13 @@ use Rattle.segment_manager.proofs.Common.{object_at, live, Refuse, Reply, met, p
 use Rattle.segment_manager.proofs.Common.{Answers, IsSegment, IsStepOfKind, StandsFor, State, changed, effect, found}
 use Rattle.segment_manager.proofs.Common.{is_read_only, plan, storage_of, with_items, with_table, StepsSafely}
 use Rattle.seg_types.specs.Commands as asked
-use Rattle.segment_manager.proofs.AnyStorage.{sizes-found}
-use Rattle.segment_manager.proofs.Calling.{denotes-live}
-use Rattle.segment_manager.proofs.Codes.{code-read}
-use Rattle.segment_manager.proofs.Contained.{contents-fit, contents-stand}
-use Rattle.segment_manager.proofs.ContentPlans.{clear-plan, reserve-plan, shrink-plan}
-use Rattle.segment_manager.proofs.Frame.{object-roomy}
-use Rattle.segment_manager.proofs.Here.{standing}
+use Rattle.segment_manager.proofs.{AnyStorage.sizes-found, Calling.denotes-live, Codes.code-read}
+use Rattle.segment_manager.proofs.{Contained.contents-fit, Contained.contents-stand, ContentPlans.clear-plan}
+use Rattle.segment_manager.proofs.{ContentPlans.reserve-plan, ContentPlans.shrink-plan, Frame.object-roomy}
+use Rattle.segment_manager.proofs.{Here.standing, Safely.done-so, Safely.stays, Steps.by_no_change_of_kind}
+use Rattle.segment_manager.proofs.{Steps.open-writing, Steps.step_of_kind-found}
 use Rattle.segment_manager.proofs.Refilled.{HoldsAt, Refill, holds-at, made_room, no_room, refill-steps_of_kind}
 use Rattle.segment_manager.proofs.Refilled.{replied}
-use Rattle.segment_manager.proofs.Safely.{done-so, stays}
-use Rattle.segment_manager.proofs.Steps.{by_no_change_of_kind, open-writing, step_of_kind-found}
 
 -- ---- what is of the kind of a vector
 
@@ -239,7 +235,7 @@ module _ {A : Type 0} (L : Listing A) (s : State) (key : Key) (p : Place) (b : I
     reserves-safely n r each =
         grows-safely (asked.Reserve key n) (λ xs t. n) (λ xs. xs) r
         (λ d h.
-        reserve-plan d key h.object h.is n L.each (length h.items) h.table (ap storage_of h.value ∙ L.storage h.items h.table)
+        reserve-plan d key h.object h.is n (Ok (L.each, length h.items, h.table)) (ap storage_of h.value ∙ L.storage h.items h.table)
         ∙ ap (λ v. with_capacity L.each n h.table (λ u. Reply Done (changed d h.object (with_table v u)))) h.value
         ∙ (λ i. with_capacity L.each n h.table (λ u. Reply Done (changed d h.object (L.moved h.items h.table u i))))) each
 
@@ -250,7 +246,7 @@ module _ {A : Type 0} (L : Listing A) (s : State) (key : Key) (p : Place) (b : I
         (λ d den h.
         let cut : LiveSet → Table = λ l. cut_table l L.each (length h.items) h.table in
         items-now L s.cut new d key p den h h.items (cut (live_of s.cut.bytes)) (asked.Shrink key) Done
-        (shrink-plan d key h.object h.is L.each (length h.items) h.table (ap storage_of h.value ∙ L.storage h.items h.table)
+        (shrink-plan d key h.object h.is (Ok (L.each, length h.items, h.table)) (ap storage_of h.value ∙ L.storage h.items h.table)
         ∙ ap (λ v. Reply Done (changed d h.object (with_table v (cut (live d))))) h.value ∙ ap (λ v. Reply Done (changed d h.object v)) (L.moved h.items h.table (cut (live d)))
         ∙ ap (λ l. Reply Done (changed d h.object (L.value h.items (cut l)))) (sym (denotes-live current s.cut.bytes d den))) (each d h)))
 
@@ -259,7 +255,7 @@ module _ {A : Type 0} (L : Listing A) (s : State) (key : Key) (p : Place) (b : I
         done-so (items-steps new (asked.Clear key) Done writing
         (λ d den h.
         items-now L s.cut new d key p den h [] h.table (asked.Clear key) Done
-        (clear-plan d key h.object h.is (L.each, length h.items, h.table) (ap storage_of h.value ∙ L.storage h.items h.table)
+        (clear-plan d key h.object h.is (Ok (L.each, length h.items, h.table)) (ap storage_of h.value ∙ L.storage h.items h.table)
         ∙ ap (λ v. Reply Done (changed d h.object (with_items v []))) h.value ∙ ap (λ v. Reply Done (changed d h.object v)) (L.emptied h.items h.table)) (each d h)))
 
 -- what is so where a call went well is so in other words

@@ -6,7 +6,7 @@ use Rattle.segment_manager.proofs.Common.{Object, Pairs, Value, kind_of, object_
 use Rattle.segment_manager.proofs.Common.{IsReplyOfKind, IsStep, IsStepOfKind, StandsFor, State, effect, is_read_only}
 use Rattle.segment_manager.proofs.Common.{storage_of, command_of, Change, Clear, Reserve, Shrink}
 use Rattle.seg_types.specs.Commands as asked
-use Rattle.segment_manager.proofs.ContentPlans.{clear-refused, reserve-refused, shrink-refused}
+use Rattle.segment_manager.proofs.ContentPlans.{clear-plan, reserve-plan, shrink-plan}
 use Rattle.segment_manager.proofs.Refilled.{finds-no_container, refused-steps}
 use Rattle.segment_manager.proofs.Steps.{open-reading, with-not_found}
 
@@ -27,9 +27,9 @@ HasNoStorage s key = (d : Directory) → StandsFor s.cut.bytes d → (o : Object
 
 change-refused : (change : Change) (d : Directory) (key : Key) (o : Object) → object_at d key ≡ Some o → storage_of o.value ≡ Err WrongKind
     → effect d (command_of change key) ≡ Refuse WrongKind
-change-refused (Reserve n) d key o e f = reserve-refused d key o e n WrongKind f
-change-refused Shrink d key o e f = shrink-refused d key o e WrongKind f
-change-refused Clear d key o e f = clear-refused d key o e WrongKind f
+change-refused (Reserve n) d key o e f = reserve-plan d key o e n (Err WrongKind) f
+change-refused Shrink d key o e f = shrink-plan d key o e (Err WrongKind) f
+change-refused Clear d key o e f = clear-plan d key o e (Err WrongKind) f
 
 pub change-other : (change : Change) (s : State) (key : Key) → is_read_only s.mode ≡ false → HasNoStorage s key
     → IsStep s s (command_of change key) (Refused WrongKind)

@@ -13,16 +13,13 @@ use Rattle.segment_manager.proofs.Common.{changed, is_read_only, StepsSafely}
 use Rattle.seg_types.specs.Commands.{Clear, Reserve, Shrink}
 use Rattle.seg_vector.specs.TextCalls.{AppendsText, ClearsText, CountsBytePlaces, CountsBytes, GetsByte, ReadsText}
 use Rattle.seg_vector.specs.TextCalls.{ReservesBytes, SetsByte, ShrinksText}
-use Rattle.segment_manager.proofs.AnyStorage.{sizes-found}
-use Rattle.segment_manager.proofs.ContentPlans.{append-plan, byte-past, byte-plan, set_byte-past, set_byte-plan}
-use Rattle.segment_manager.proofs.ContentPlans.{text-plan}
+use Rattle.segment_manager.specs.Contents.{text_bytes}
+use Rattle.segment_manager.proofs.{AnyStorage.sizes-found, ContentPlans.append-plan, ContentPlans.byte-plan}
+use Rattle.segment_manager.proofs.{ContentPlans.set_byte-plan, ContentPlans.text-plan, Steps.open-reading}
+use Rattle.segment_manager.proofs.{Stored.literal-read, Words.first, Words.second}
 use Rattle.segment_manager.proofs.ItemSteps.{HoldsItems, ListedGrown, ListedNow, Listing, changes-safely, clears-safely}
 use Rattle.segment_manager.proofs.ItemSteps.{grows-safely, holds-items, items-stay, one-kind, reserves-safely}
 use Rattle.segment_manager.proofs.ItemSteps.{shrinks-safely, so-too, some-items}
-use Rattle.segment_manager.proofs.Steps.{open-reading}
-use Rattle.segment_manager.proofs.Stored.{literal-read}
-use Rattle.segment_manager.proofs.Words.{first, second}
-use Rattle.segment_manager.specs.Contents.{text_bytes}
 
 -- ---- bytes
 
@@ -138,14 +135,14 @@ module _ (s : State) (key : Key) (p : Place) (b : IsSegment s.cut.bytes) (found 
   pub text-got : (i x : ℕ) → GetsByte s.cut p i (Ok x) → IsStepOfKind s s key Text (Get key i) (Element U8 (pos x))
   text-got i x a =
       items-stay texts s key p b found (Get key i) (Element U8 (pos x)) (open-reading s.mode (Get key i) refl)
-      (λ d den h. ap (perform d (live d)) (byte-plan d key h.object h.items h.table h.is h.value i (pos x) (byte-got h.items i (Some x) (a h.items h.table h.stands))))
+      (λ d den h. ap (perform d (live d)) (byte-plan d key h.object h.items h.table h.is h.value i (Some (pos x)) (byte-got h.items i (Some x) (a h.items h.table h.stands))))
 
   pub text_got-past : (i : ℕ) (e : Refusal) → GetsByte s.cut p i (Err e) → IsStepOfKind s s key Text (Get key i) (Refused e)
   text_got-past i e a =
       subst (λ (r : Refusal). IsStepOfKind s s key Text (Get key i) (Refused r)) (sym (a some.items some.table some.stands).refusal)
       (items-stay texts s key p b found (Get key i) (Refused OutOfRange) (open-reading s.mode (Get key i) refl)
       (λ d den h.
-      ap (perform d (live d)) (byte-past d key h.object h.items h.table h.is h.value i (byte-got h.items i None (slice_get_past h.items i (a h.items h.table h.stands).outside)))))
+      ap (perform d (live d)) (byte-plan d key h.object h.items h.table h.is h.value i None (byte-got h.items i None (slice_get_past h.items i (a h.items h.table h.stands).outside)))))
 
   module _ (new : Cut) (writing : is_read_only s.mode ≡ false) where
     pub text-appended : (more : List ℕ) (r : Result (Unit {0}) Refusal) → IsTrue (are_bytes more) → AppendsText s.cut new p more r → StepsSafely s new key Text (Append key more) r
@@ -164,11 +161,11 @@ module _ (s : State) (key : Key) (p : Place) (b : IsSegment s.cut.bytes) (found 
     text-set i x r small v a =
         changes-safely texts s key p b found new writing (Set key i (literal_of U8 (pos x))) i (λ bs. slice_set bs i x) r
         (λ d h within.
-        set_byte-plan d key h.object h.items h.table h.is h.value i (literal_of U8 (pos x)) (pos x) (pos (get_or h.items i 0)) (literal-read U8 (pos x) v)
+        set_byte-plan d key h.object h.items h.table h.is h.value i (literal_of U8 (pos x)) (pos x) (Some (pos (get_or h.items i 0))) (literal-read U8 (pos x) v)
         (byte-got h.items i (Some (get_or h.items i 0)) (slice_get-get_or h.items i 0 within))
         ∙ ap (λ bs. Reply Done (changed d h.object (Bytes bs h.table))) (bytes-set h.items i x))
         (λ d h past.
-        set_byte-past d key h.object h.items h.table h.is h.value i (literal_of U8 (pos x)) (pos x) (literal-read U8 (pos x) v) (byte-got h.items i None (slice_get_past h.items i past)))
+        set_byte-plan d key h.object h.items h.table h.is h.value i (literal_of U8 (pos x)) (pos x) None (literal-read U8 (pos x) v) (byte-got h.items i None (slice_get_past h.items i past)))
         (λ d h. so-too _ _ _ r (a h.items h.table h.stands) (λ q. (q.0, bytes-now (are_bytes-set h.items i x h.values small) q.1)))
 
     -- ---- places

@@ -232,11 +232,11 @@ module _ (d : Directory) (key : Key) (o : Object) (ps : List OwnedText) (t : Tab
   -- places
   pub reserve-texts : (n : ℕ) → effect d (asked.Reserve key n) ≡ with_capacity 16 n t (λ u. Reply Done (texts_after ps u))
   reserve-texts n =
-      reserve-plan d key o e n 16 (length ps) t (ap storage_of f) ∙ ap (λ v. with_capacity 16 n t (λ u. Reply Done (changed d o (with_table v u)))) f
+      reserve-plan d key o e n (Ok (16, length ps, t)) (ap storage_of f) ∙ ap (λ v. with_capacity 16 n t (λ u. Reply Done (changed d o (with_table v u)))) f
 
   pub shrink-texts : effect d (asked.Shrink key) ≡ Reply Done (texts_after ps (cut_table (live d) 16 (length ps) t))
   shrink-texts =
-      shrink-plan d key o e 16 (length ps) t (ap storage_of f) ∙ ap (λ v. Reply Done (changed d o (with_table v (cut_table (live d) 16 (length ps) t)))) f
+      shrink-plan d key o e (Ok (16, length ps, t)) (ap storage_of f) ∙ ap (λ v. Reply Done (changed d o (with_table v (cut_table (live d) 16 (length ps) t)))) f
 
   pub clear-texts : effect d (asked.Clear key) ≡ Reply Done (texts_after [] t)
-  clear-texts = clear-plan d key o e (16, length ps, t) (ap storage_of f) ∙ ap (λ v. Reply Done (changed d o (with_items v []))) f
+  clear-texts = clear-plan d key o e (Ok (16, length ps, t)) (ap storage_of f) ∙ ap (λ v. Reply Done (changed d o (with_items v []))) f

@@ -16,8 +16,8 @@ use Rattle.seg_vector.specs.VectorCalls.{Pushes, Reserves, Sets, Shrinks}
 use Rattle.seg_types.specs.Commands as asked
 use Rattle.segment_manager.proofs.{Contained.contents-fit, Safely.done-so, Steps.open-reading, Steps.open-writing}
 use Rattle.segment_manager.proofs.{Stored.literal-read, Stored.literals-read}
-use Rattle.segment_manager.proofs.ContentPlans.{assign-plan, erase-past, erase-plan, get-past, get-plan, insert-past}
-use Rattle.segment_manager.proofs.ContentPlans.{insert-plan, pop-empty, pop-plan, push-plan, set-past, set-plan}
+use Rattle.segment_manager.proofs.ContentPlans.{assign-plan, erase-plan, get-plan, insert-plan, pop-plan, push-plan}
+use Rattle.segment_manager.proofs.ContentPlans.{set-plan}
 use Rattle.segment_manager.proofs.ItemSteps.{HoldsItems, ListedGrown, ListedNow, Listing, changes-safely, clears-safely}
 use Rattle.segment_manager.proofs.ItemSteps.{grows-safely, items-full, items-grown, items-measured, items-now}
 use Rattle.segment_manager.proofs.ItemSteps.{items-refused, items-stay, items-steps, reserves-safely, shrinks-safely}
@@ -116,11 +116,11 @@ module _ {T : Type 0} (k : ScalarKind) (w : T → ℤ) (size : ℕ) (test : T �
     pub vector-got : (i : ℕ) (r : Result T Refusal) → Gets size test sp s.cut p i r → IsStepOfKind s s key (Vector k) (asked.Get key i) (answer_of (λ x. Element k (w x)) r)
     vector-got i (Ok x) a =
         items-stay typed s key p b found (asked.Get key i) (Element k (w x)) (open-reading s.mode (asked.Get key i) refl)
-        (λ d den h. ap (perform d (live d)) (get-plan d key h.object k (map w h.items) h.table h.is h.value i (w x) (slice_get-map w h.items i ∙ ap (option_map w) (a h.items h.table (vector d h)))))
+        (λ d den h. ap (perform d (live d)) (get-plan d key h.object k (map w h.items) h.table h.is h.value i (Some (w x)) (slice_get-map w h.items i ∙ ap (option_map w) (a h.items h.table (vector d h)))))
     vector-got i (Err e) a =
         subst (λ (q : Refusal). IsStepOfKind s s key (Vector k) (asked.Get key i) (Refused q)) (sym (a some.items some.table (vector b.0 some)).refusal)
         (items-stay typed s key p b found (asked.Get key i) (Refused OutOfRange) (open-reading s.mode (asked.Get key i) refl)
-        (λ d den h. ap (perform d (live d)) (get-past d key h.object k (map w h.items) h.table h.is h.value i (behind h.items i (a h.items h.table (vector d h)).outside))))
+        (λ d den h. ap (perform d (live d)) (get-plan d key h.object k (map w h.items) h.table h.is h.value i None (behind h.items i (a h.items h.table (vector d h)).outside))))
 
     -- ---- sizes
 
@@ -135,18 +135,18 @@ module _ {T : Type 0} (k : ScalarKind) (w : T → ℤ) (size : ℕ) (test : T �
       vector-set i x r v a =
           changes-safely typed s key p b found new writing (asked.Set key i (literal_of k (w x))) i (λ xs. slice_set xs i x) r
           (λ d h in_range.
-          set-plan d key h.object k (map w h.items) h.table h.is h.value i (literal_of k (w x)) (w x) (get_or (map w h.items) i (pos 0)) (as-literal x v) (within h.items i in_range)
+          set-plan d key h.object k (map w h.items) h.table h.is h.value i (literal_of k (w x)) (w x) (Some (get_or (map w h.items) i (pos 0))) (as-literal x v) (within h.items i in_range)
           ∙ ap (λ zs. Reply Done (changed d h.object (Elements k zs h.table))) (sym (whole-set w h.items i x)))
-          (λ d h past. set-past d key h.object k (map w h.items) h.table h.is h.value i (literal_of k (w x)) (w x) (as-literal x v) (behind h.items i past))
+          (λ d h past. set-plan d key h.object k (map w h.items) h.table h.is h.value i (literal_of k (w x)) (w x) None (as-literal x v) (behind h.items i past))
           (λ d h. so-too _ _ _ r (a h.items h.table (vector d h)) (λ q. (q.0, now-so q.1)))
 
       pub vector-erased : (i : ℕ) (r : Result (Unit {0}) Refusal) → ErasesFrom size test sp s.cut new p i r → StepsSafely s new key (Vector k) (asked.Erase key i) r
       vector-erased i r a =
           changes-safely typed s key p b found new writing (asked.Erase key i) i (λ xs. remove xs i) r
           (λ d h in_range.
-          erase-plan d key h.object k (map w h.items) h.table h.is h.value i (get_or (map w h.items) i (pos 0)) (within h.items i in_range)
+          erase-plan d key h.object k (map w h.items) h.table h.is h.value i (Some (get_or (map w h.items) i (pos 0))) (within h.items i in_range)
           ∙ ap (λ zs. Reply Done (changed d h.object (Elements k zs h.table))) (sym (whole-remove w h.items i)))
-          (λ d h past. erase-past d key h.object k (map w h.items) h.table h.is h.value i (behind h.items i past))
+          (λ d h past. erase-plan d key h.object k (map w h.items) h.table h.is h.value i None (behind h.items i past))
           (λ d h. so-too _ _ _ r (a h.items h.table (vector d h)) (λ q. (q.0, now-so q.1)))
 
       -- ---- one more
@@ -161,7 +161,7 @@ module _ {T : Type 0} (k : ScalarKind) (w : T → ℤ) (size : ℕ) (test : T �
       vector-pushed x r v a =
           grows-safely typed s key p b found new writing (asked.Push key (literal_of k (w x))) (λ xs t. capacity_for_one (length xs) t.capacity) (λ xs. xs ++ x ∷ []) r
           (λ d h.
-          push-plan d key h.object k (map w h.items) h.table h.is h.value (literal_of k (w x)) (w x) (as-literal x v)
+          push-plan d key h.object k (map w h.items) h.table h.is h.value (literal_of k (w x)) (Ok (w x)) (as-literal x v)
           ∙ one-more d h (map w h.items ++ w x ∷ []) (h.items ++ x ∷ []) (map-append w h.items (x ∷ [])))
           (λ d h. so-too _ _ _ r (a h.items h.table (vector d h)) (λ q. grown-so q))
 
@@ -169,7 +169,7 @@ module _ {T : Type 0} (k : ScalarKind) (w : T → ℤ) (size : ℕ) (test : T �
           → effect d (asked.Insert key i (literal_of k (w x)))
           ≡ with_capacity size (capacity_for_one (length h.items) h.table.capacity) h.table (λ u. Reply Done (changed d h.object (Elements k (map w (insert h.items i x)) u)))
       insert-so i x v d h in_range =
-          insert-plan d key h.object k (map w h.items) h.table h.is h.value i (literal_of k (w x)) (w x) (as-literal x v)
+          insert-plan d key h.object k (map w h.items) h.table h.is h.value i (literal_of k (w x)) (Ok (w x)) false (as-literal x v)
           (le-ltb (length (map w h.items)) i (subst (λ (n : ℕ). i ≤ n) (sym (length-map h.items w)) in_range))
           ∙ one-more d h (insert (map w h.items) i (w x)) (insert h.items i x) (whole-insert w h.items i x)
 
@@ -189,7 +189,7 @@ module _ {T : Type 0} (k : ScalarKind) (w : T → ℤ) (size : ℕ) (test : T �
               items-refused typed s key p b found new writing (asked.Insert key i (literal_of k (w x))) e OutOfRange o.refusal o.same
               (λ d den h.
               let past : length h.items < i = inserted-past i e (length h.items) (capacity_for_one (length h.items) h.table.capacity) h.table o.refusal (a h.items h.table (vector d h)) in
-              ap (perform d (live d)) (insert-past d key h.object k (map w h.items) h.table h.is h.value i (literal_of k (w x)) (w x) (as-literal x v)
+              ap (perform d (live d)) (insert-plan d key h.object k (map w h.items) h.table h.is h.value i (literal_of k (w x)) (Ok (w x)) true (as-literal x v)
               (lt-ltb (length (map w h.items)) i (subst (λ (n : ℕ). n < i) (sym (length-map h.items w)) past))))
           not-inserted i x e v a (inr o) =
               items-refused typed s key p b found new writing (asked.Insert key i (literal_of k (w x))) e NoSpace o.1.refusal o.1.same
@@ -207,7 +207,7 @@ module _ {T : Type 0} (k : ScalarKind) (w : T → ℤ) (size : ℕ) (test : T �
             let r = a h.items h.table (vector d h) in
             let n : length (map w h.items) - 1 ≡ length h.items - 1 = ap (λ (n : ℕ). n - 1) (length-map h.items w) in
             items-now typed s.cut new d key p den h (take (length h.items - 1) h.items) h.table (asked.Pop key) (Element k (w x))
-            (pop-plan d key h.object k (map w h.items) h.table h.is h.value (w x)
+            (pop-plan d key h.object k (map w h.items) h.table h.is h.value (Some (w x))
             (ap (λ (m : ℕ). slice_get (map w h.items) m) n ∙ slice_get-map w h.items (length h.items - 1) ∙ ap (option_map w) r.0)
             ∙ ap (λ zs. Reply (Element k (w x)) (changed d h.object (Elements k zs h.table)))
             (ap (λ (m : ℕ). take m (map w h.items)) n ∙ take-map w (length h.items - 1) h.items)) (now-so r.1));
@@ -222,7 +222,7 @@ module _ {T : Type 0} (k : ScalarKind) (w : T → ℤ) (size : ℕ) (test : T �
                 (λ d den h.
                 let none : length h.items ≤ 0 = (a h.items h.table (vector d h)).outside in
                 let n : length (map w h.items) - 1 ≡ length h.items - 1 = ap (λ (n : ℕ). n - 1) (length-map h.items w) in
-                ap (perform d (live d)) (pop-empty d key h.object k (map w h.items) h.table h.is h.value
+                ap (perform d (live d)) (pop-plan d key h.object k (map w h.items) h.table h.is h.value None
                 (ap (λ (m : ℕ). slice_get (map w h.items) m) n ∙ behind h.items (length h.items - 1) (omega arith))))));
             refused = r.same;
           }

@@ -1,13 +1,14 @@
 -- A call on whatever has storage: the kind of the object of the key says which call it is.
-use Rattle.segment_manager.proofs.Common.{◌≡◌, refl, sym, ap, subst, ◌∙◌, ℕ, Bool, true, false, Option, Some, None}
-use Rattle.segment_manager.proofs.Common.{Result, Ok, Err, if◌then◌else◌, eq-eqb, Kind, ScalarOf, TextKind, VectorKind}
-use Rattle.segment_manager.proofs.Common.{MapKind, TextsKind, ScalarKind, Refusal, NotFound, WrongKind, code_of}
-use Rattle.segment_manager.proofs.Common.{same_kind, Key, Command, Place, Answer, Refused, kind_at, container_at}
-use Rattle.segment_manager.proofs.Common.{container_place, place_of_kind, sizes_at, sizes_at_kind, sizes_of}
-use Rattle.segment_manager.proofs.Common.{sizes_of_kind, Value, Numbers, Directory, Object, kind_of, live, object_at}
-use Rattle.segment_manager.proofs.Common.{IsMissing, Refuse, perform, Answers, IsStep, IsStepOfKind, State, StandsFor}
-use Rattle.segment_manager.proofs.Common.{effect, is_read_only, step, step_of_kind, Mode}
-use Rattle.segment_manager.proofs.{Refilled.refused-steps, Steps.step_of_kind-step, StorageSteps.has_storage}
+use Rattle.segment_manager.proofs.Common.{◌≡◌, refl, sym, ap, ◌∙◌, ℕ, Bool, true, false, Option, Some, None, Result, Ok}
+use Rattle.segment_manager.proofs.Common.{Err, if◌then◌else◌, eq-eqb, Kind, ScalarOf, TextKind, VectorKind, MapKind}
+use Rattle.segment_manager.proofs.Common.{TextsKind, ScalarKind, Refusal, NotFound, WrongKind, code_of, same_kind, Key}
+use Rattle.segment_manager.proofs.Common.{Command, Place, Answer, Refused, kind_at, container_at, container_place}
+use Rattle.segment_manager.proofs.Common.{place_of_kind, sizes_at, sizes_at_kind, sizes_of, sizes_of_kind, Value}
+use Rattle.segment_manager.proofs.Common.{Numbers, Directory, Object, kind_of, live, object_at, IsMissing, Refuse}
+use Rattle.segment_manager.proofs.Common.{perform, Answers, IsStep, IsStepOfKind, State, StandsFor, effect}
+use Rattle.segment_manager.proofs.Common.{is_read_only, step, step_of_kind, Mode}
+use Rattle.segment_manager.proofs.{Refilled.refused-steps, Steps.step_of_kind-step, Steps.moves-same}
+use Rattle.segment_manager.proofs.{StorageSteps.has_storage}
 
 -- the object of the key, which is of the kind
 pub record IsOfKindAt (d : Directory) (key : Key) (kind : Kind) : Type 0 where
@@ -34,13 +35,8 @@ of_kind-same mode d key kind c e =
     step_of_kind-step mode d key kind c e.object e.is (eq-eqb (code_of kind) (code_of (kind_of e.object.value)) (ap code_of (sym e.kind_is)))
 
 pub of_kind-steps : (old new : State) (key : Key) (kind : Kind) (c : Command) (answer : Answer) → Answers old (λ d. kind_at d key) (Ok kind) → IsStepOfKind old new key kind c answer → IsStep old new c answer
-of_kind-steps old new key kind c answer a r = record {
-  stays = r.stays;
-  answers = λ d k. r.answers d k ∙ ap (λ (n : Answer × Directory). n.0) (of_kind-same old.mode d key kind c (kind-told d key kind (a.answers d k)));
-  denotes = λ d k.
-      subst (λ (n : Answer × Directory). StandsFor new.cut.bytes n.1) (of_kind-same old.mode d key kind c (kind-told d key kind (a.answers d k)))
-      (r.denotes d k);
-}
+of_kind-steps old new key kind c answer a r =
+    moves-same old new answer (λ d. step_of_kind old.mode d key kind c) (λ d. step old.mode d c) (λ d k. of_kind-same old.mode d key kind c (kind-told d key kind (a.answers d k))) r
 
 -- it has no storage
 pub kind-no_storage : (s : State) (key : Key) (kind : Kind) → has_storage kind ≡ false → Answers s (λ d. kind_at d key) (Ok kind)
@@ -51,19 +47,20 @@ kind-no_storage s key kind h a d l =
 
 -- ---- sizes
 
-sizes-missing-in : (o : Object) (kind : Kind) (why : Refusal) (t : Bool) → Err why ≡ (if t then Ok (container_place o) else Err WrongKind) → Err why ≡ (if t then sizes_of o.value else Err WrongKind)
-sizes-missing-in o kind why true e = absurd (cc)
-sizes-missing-in o kind why false e = let same : why ≡ WrongKind = cc in ap Err same
+missing-in : {B : Type 0} (say : Value → Result B Refusal) (o : Object) (why : Refusal) (t : Bool) → Err why ≡ (if t then Ok (container_place o) else Err WrongKind)
+    → (let r : Result B Refusal = Err why in r) ≡ (if t then say o.value else Err WrongKind)
+missing-in say o why true e = absurd (cc)
+missing-in say o why false e = let same : why ≡ WrongKind = cc in ap Err same
 
-sizes-missing-if : (kind : Kind) (why : Refusal) (r : Option Object)
-    → Err why ≡ elim r as (λ _. Result Place Refusal) [ None ↦ Err NotFound | Some o ↦ place_of_kind o kind ]
-    → Err why ≡ elim r as (λ _. Result (ℕ × ℕ) Refusal) [ None ↦ Err NotFound | Some o ↦ sizes_of_kind o kind ]
-sizes-missing-if kind why None e = let same : why ≡ NotFound = cc in ap Err same
-sizes-missing-if kind why (Some o) e = sizes-missing-in o kind why (same_kind kind (kind_of o.value)) e
+-- why there is no such container is why nothing is said of one
+pub said-missing : {B : Type 0} (say : Value → Result B Refusal) (kind : Kind) (why : Refusal) (q : Option Object)
+    → Err why ≡ elim q as (λ _. Result Place Refusal) [ None ↦ Err NotFound | Some o ↦ place_of_kind o kind ]
+    → (let r : Result B Refusal = Err why in r) ≡ elim q as (λ _. Result B Refusal) [ None ↦ Err NotFound | Some o ↦ if same_kind kind (kind_of o.value) then say o.value else Err WrongKind ]
+said-missing say kind why None e = let same : why ≡ NotFound = cc in ap Err same
+said-missing say kind why (Some o) e = missing-in say o why (same_kind kind (kind_of o.value)) e
 
--- why there is no such container is why there are no sizes
 pub measures-nothing : (s : State) (key : Key) (kind : Kind) (why : Refusal) → Answers s (λ d. container_at d key kind) (Err why) → Answers s (λ d. sizes_at_kind d key kind) (Err why)
-measures-nothing s key kind why a = record { answers = λ d l. sizes-missing-if kind why (object_at d key) (a.answers d l) }
+measures-nothing s key kind why a = record { answers = λ d l. said-missing sizes_of kind why (object_at d key) (a.answers d l) }
 
 -- the sizes of the object of the key, which is of the kind
 pub sizes-found : (d : Directory) (key : Key) (kind : Kind) (o : Object) → object_at d key ≡ Some o → kind_of o.value ≡ kind → sizes_at_kind d key kind ≡ sizes_of o.value

@@ -9,17 +9,17 @@ use Rattle.segment_manager.proofs.Common.{code_of, same_kind, Index, Named, Uniq
 use Rattle.segment_manager.proofs.Common.{Object, Directory, IsDirectory, has_key, insert_by, is_class, kind_of}
 use Rattle.segment_manager.proofs.Common.{object_at, remove_object, rises_from, same_bytes, with_object, without_object}
 use Rattle.segment_manager.proofs.Common.{Denotes, handles, IsEntry, Seeks, class_of_index, entries_of, objects_of}
-use Rattle.segment_manager.proofs.Common.{order_of, table_of}
+use Rattle.segment_manager.proofs.Common.{order_of, table_of, by_name, by_kind}
 use Rattle.seg_index.specs.declared.keys.Key.{Key}
 use Rattle.seg_index.specs.Lookups.{order}
 use Rattle.seg_types.specs.Names as names
-use Rattle.segment_manager.proofs.{Denoted.handles-length, Words.first, Faces.named-without, Faces.unique-without}
-use Rattle.segment_manager.proofs.{InUse.all-both, Live.IsIn, ObjectLists.all-found, ObjectLists.rises-rest}
-use Rattle.segment_manager.proofs.{Ranks.IsRanked, Ranks.all-ordered, Ranks.found-filter, Ranks.ordered-pairwise}
+use Rattle.segment_manager.proofs.{Denoted.handles-length, Words.first, InUse.all-both, Live.IsIn}
+use Rattle.segment_manager.proofs.{ObjectLists.all-found, ObjectLists.rises-rest, Ranks.IsRanked, Ranks.all-ordered}
+use Rattle.segment_manager.proofs.{Ranks.found-filter, Ranks.ordered-pairwise, Faces.ordered-without}
 use Rattle.segment_manager.proofs.HeldIndexes.{IsSort, all-in, denotes-rises, directory-index, entries-in}
 use Rattle.segment_manager.proofs.HeldIndexes.{objects-ascend, order-strict}
-use Rattle.segment_manager.proofs.Indexes.{index-parts, named-more, named-removed, rises-above, unique-more}
-use Rattle.segment_manager.proofs.Indexes.{unique-removed}
+use Rattle.segment_manager.proofs.Indexes.{index-parts, named-more, rises-above, unique-more, one-removed}
+use Rattle.segment_manager.proofs.Indexes.{by_name-strict, by_kind-strict}
 use Rattle.segment_manager.proofs.KeyOrder.{Says, code-of, kinds-apart, kinds-class, kinds-say, name-of, same-itself}
 use Rattle.segment_manager.proofs.KeyOrder.{names-apart, names-class, names-say}
 use Rattle.segment_manager.proofs.EntryPlaces.{IsPlaceOf, all-at, all_of-ordered, ascends-at, at-all, at-handle}
@@ -169,8 +169,8 @@ entry-added i c d e key at o k q p h =
 -- the objects of an index without one
 objects-less : (format : ℕ) (i : Index) (d : Directory) (o : Object) → IsDirectory format d → IsIn d o → is_class (class_of_index i) o ≡ true
     → objects_of i (without_object d o) ≡ remove_object (handle o.extent) (objects_of i d)
-objects-less format Named d o h f c = named-removed d o f c h.by_offset h.named
-objects-less format Unique d o h f c = unique-removed d o f c h.by_offset h.unique
+objects-less format Named d o h f c = one-removed NamedClass by_name by_name-strict d o f c h.by_offset d.named h.named
+objects-less format Unique d o h f c = one-removed UniqueClass by_kind by_kind-strict d o f c h.by_offset d.unique h.unique
 
 -- no two of them have one handle
 handles-differ : (format : ℕ) (i : Index) (d : Directory) (at j : ℕ) (o p : Object) → IsDirectory format d → slice_get (objects_of i d) at ≡ Some o → j < at → slice_get (objects_of i d) j ≡ Some p
@@ -194,8 +194,8 @@ entry-removed i d at o h e =
 -- an object of another class goes without an entry
 pub no-entry-removed : (i : Index) (d : Directory) (o : Object) → object_at d (names.ByHandle (handle o.extent)) ≡ Some o → is_class (class_of_index i) o ≡ false
     → entries_of i (without_object d o) ≡ entries_of i d
-no-entry-removed Named d o f e = ap handles (named-without d o (record { is = f }) e)
-no-entry-removed Unique d o f e = ap handles (unique-without d o (record { is = f }) e)
+no-entry-removed Named d o f e = ap handles (ordered-without NamedClass by_name d o (record { is = f }) e)
+no-entry-removed Unique d o f e = ap handles (ordered-without UniqueClass by_kind d o (record { is = f }) e)
 
 -- ---- an object's own key
 

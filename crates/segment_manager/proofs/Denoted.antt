@@ -8,12 +8,13 @@ use Rattle.segment_manager.proofs.Common.{remove_object, with_object, with_chang
 use Rattle.segment_manager.proofs.Common.{unique_objects, by_name, by_kind, Denotes, IsObjectAt, IsHeader, handles}
 use Rattle.segment_manager.proofs.Common.{Same-part}
 use Rattle.block_tags.specs.declared.tile.Role.TheVariants.{Index}
+use Rattle.seg_types.specs.declared.kinds.Class.TheVariants.{Named, Unique}
 use Rattle.segment_manager.proofs.Words.{first, second, no_more}
 use Rattle.segment_manager.proofs.Frame.{any_objects-same, any_index-same, header-same}
 use Rattle.segment_manager.proofs.Order.{Differs, IsFresh, inserted, live-rises, rising-insert, all_of-inserted}
 use Rattle.segment_manager.proofs.Live.{adding, removing, OfEach, of_each, IsFound, IsIn, live-put, live-without}
-use Rattle.segment_manager.proofs.Faces.{IsLike, SameIndex, replace-rises, named-changed, unique-changed, named-with}
-use Rattle.segment_manager.proofs.Faces.{unique-with, named-without, unique-without, anonymous-named, anonymous-unique}
+use Rattle.segment_manager.proofs.Faces.{IsLike, SameIndex, replace-rises, anonymous-named, anonymous-unique}
+use Rattle.segment_manager.proofs.Faces.{ordered-with, ordered-without, ordered-changed, by_name-face, by_kind-face}
 use Rattle.segment_manager.proofs.ObjectLists.{all-put, all-remove, all-replace, list_all-put, list_all-remove}
 use Rattle.segment_manager.proofs.ObjectLists.{list_all-replace, stands_apart, put-rises, remove-rises}
 
@@ -71,8 +72,8 @@ directory-with format d o h is_there c p = record {
   proper = subst (λ l. IsTrue (is_proper l)) (sym (live-put d o p)) p;
   objects = list_all-put (is_object format) o d.objects is_there h.objects;
   by_offset = put-rises 0 o d.objects (omega arith) (stands_apart o d.objects (of_each (λ (y : Extent). o.extent.offset ≢ y.offset) d (fresh d o p)).objects) h.by_offset;
-  named = subst (λ os. IsTrue (is_index d.named os by_name)) (sym (named-with d o (anonymous-named o c))) h.named;
-  unique = subst (λ os. IsTrue (is_index d.unique os by_kind)) (sym (unique-with d o (anonymous-unique o c))) h.unique;
+  named = subst (λ os. IsTrue (is_index d.named os by_name)) (sym (ordered-with Named by_name d o (anonymous-named o c))) h.named;
+  unique = subst (λ os. IsTrue (is_index d.unique os by_kind)) (sym (ordered-with Unique by_kind d o (anonymous-unique o c))) h.unique;
 }
 
 -- an anonymous object, with all its extents
@@ -85,8 +86,8 @@ denotes-with format old new d o h is_there c l k at =
       directory = directory-with format d o h.directory is_there c l.proper;
       header = frame.header;
       heap = subst (LaysOut format new.bytes) (sym (live-put d o l.proper)) l;
-      named = subst (λ os. IsIndexAt (bytes_of new.bytes) 32 d.named (handles os)) (sym (named-with d o (anonymous-named o c))) frame.named;
-      unique = subst (λ os. IsIndexAt (bytes_of new.bytes) 56 d.unique (handles os)) (sym (unique-with d o (anonymous-unique o c))) frame.unique;
+      named = subst (λ os. IsIndexAt (bytes_of new.bytes) 32 d.named (handles os)) (sym (ordered-with Named by_name d o (anonymous-named o c))) frame.named;
+      unique = subst (λ os. IsIndexAt (bytes_of new.bytes) 56 d.unique (handles os)) (sym (ordered-with Unique by_kind d o (anonymous-unique o c))) frame.unique;
       objects = all-put (IsObjectAt (bytes_of new.bytes)) o d.objects at
           (any_objects-same format (bytes_of old.bytes) (bytes_of new.bytes) d.objects h.directory.objects blocks.objects h.objects);
     }
@@ -100,8 +101,8 @@ directory-without format d o h f c p = record {
   proper = p;
   objects = list_all-remove (is_object format) (handle o.extent) d.objects h.objects;
   by_offset = remove-rises 0 (handle o.extent) d.objects h.by_offset;
-  named = subst (λ os. IsTrue (is_index d.named os by_name)) (sym (named-without d o f (anonymous-named o c))) h.named;
-  unique = subst (λ os. IsTrue (is_index d.unique os by_kind)) (sym (unique-without d o f (anonymous-unique o c))) h.unique;
+  named = subst (λ os. IsTrue (is_index d.named os by_name)) (sym (ordered-without Named by_name d o f (anonymous-named o c))) h.named;
+  unique = subst (λ os. IsTrue (is_index d.unique os by_kind)) (sym (ordered-without Unique by_kind d o f (anonymous-unique o c))) h.unique;
 }
 
 -- an anonymous object, with all its extents: those of the others stay
@@ -118,8 +119,8 @@ denotes-without format old new d o h f c l k =
       directory = directory-without format d o h.directory f c l'.proper;
       header = frame.header;
       heap = l';
-      named = subst (λ os. IsIndexAt (bytes_of new.bytes) 32 d.named (handles os)) (sym (named-without d o f (anonymous-named o c))) frame.named;
-      unique = subst (λ os. IsIndexAt (bytes_of new.bytes) 56 d.unique (handles os)) (sym (unique-without d o f (anonymous-unique o c))) frame.unique;
+      named = subst (λ os. IsIndexAt (bytes_of new.bytes) 32 d.named (handles os)) (sym (ordered-without Named by_name d o f (anonymous-named o c))) frame.named;
+      unique = subst (λ os. IsIndexAt (bytes_of new.bytes) 56 d.unique (handles os)) (sym (ordered-without Unique by_kind d o f (anonymous-unique o c))) frame.unique;
       objects = any_objects-same format (bytes_of old.bytes) (bytes_of new.bytes) (remove_object (handle o.extent) d.objects)
           (list_all-remove (is_object format) (handle o.extent) d.objects h.directory.objects) blocks.objects
           (all-remove (IsObjectAt (bytes_of old.bytes)) (handle o.extent) d.objects h.objects);
@@ -142,8 +143,8 @@ denotes-replaced format old new d o o' h f like is_there l k at =
     let blocks : OfEach (SameBlock (bytes_of old.bytes) (bytes_of new.bytes)) (without_object d o') =
     of_each (SameBlock (bytes_of old.bytes) (bytes_of new.bytes)) (without_object d o') k.blocks in
     let frame : IsFrame format (bytes_of new.bytes) d = frame-stays format old new d (live (without_object d o')).extents h k blocks.named blocks.unique in
-    let n : SameIndex by_name (named_objects d) (named_objects (with_changed d o')) = named-changed d o o' f like in
-    let u : SameIndex by_kind (unique_objects d) (unique_objects (with_changed d o')) = unique-changed d o o' f like in
+    let n : SameIndex by_name (named_objects d) (named_objects (with_changed d o')) = ordered-changed Named by_name by_name-face d o o' f like in
+    let u : SameIndex by_kind (unique_objects d) (unique_objects (with_changed d o')) = ordered-changed Unique by_kind by_kind-face d o o' f like in
     record {
       directory = record {
         proper = l.proper;

@@ -5,14 +5,13 @@ use Rattle.segment_manager.proofs.Common.{slice_get, Kind, ScalarOf, TextsKind, 
 use Rattle.segment_manager.proofs.Common.{OutOfRange, WrongKind, same_kind, Key, OwnedText, Mode, Answer, Element}
 use Rattle.segment_manager.proofs.Common.{Refused, TextElement, sizes_of, sizes_of_kind, Value, Object, Directory}
 use Rattle.segment_manager.proofs.Common.{count_of, kind_of, live, object_at, first_size, length_at_kind}
-use Rattle.segment_manager.proofs.Common.{number_or_none, Reply, perform, with, answer_of, element_at, get}
-use Rattle.segment_manager.proofs.Common.{step_of_kind}
+use Rattle.segment_manager.proofs.Common.{number_or_none, Reply, perform, with, answer_of, get, step_of_kind}
 use Rattle.seg_types.specs.declared.kinds.Kind.TheVariants.{Vector as VectorOf}
-use Rattle.seg_types.specs.Commands as asked
 use Rattle.segment_manager.specs.ElementLists.{array_at, array_length_at, list_at, numbers_in, texts_at, texts_in}
 use Rattle.segment_manager.specs.ElementLists.{vector_at}
-use Rattle.segment_manager.specs.Step.{owned_text_at}
+use Rattle.seg_types.specs.Commands as asked
 use Rattle.segment_manager.proofs.{Codes.numbers-only, TextsHeld.texts-only, ItemSteps.vector-only}
+use Rattle.segment_manager.proofs.{ContentPlans.of_slice, TextPlans.text_in}
 use Rattle.segment_manager.proofs.Steps.{open-reading, step_of_kind-found, step_of_kind-not_found, step_of_kind-other}
 use Rattle.segment_manager.proofs.Steps.{with-found}
 
@@ -41,114 +40,94 @@ its-list {A} items d key kind o e f =
 
 -- ---- one element
 
--- what is answered where the reading is refused is no element
-no-element : {A : Type 0} (f : A → Answer) (r : Result A Refusal) (why : Refusal) → ((a : A) → f a ≡ Refused why → ⊥) → answer_of f r ≡ Refused why → got r ≡ None
-no-element f (Ok a) why n e = absurd (n a e)
-no-element f (Err other) why n e = refl
+-- what is answered for an element, or where there is none
+abbrev told : {A : Type 0} → (A → Answer) → Option A → Answer
+told says p = elim p as (λ _. Answer) [ None ↦ Refused OutOfRange | Some a ↦ says a ]
 
-no-number : (k : ScalarKind) (r : Result ℤ Refusal) (why : Refusal) → answer_of (Element k) r ≡ Refused why → got r ≡ None
-no-number k r why e = no-element (Element k) r why (λ a f. absurd (cc)) e
+-- an object of the kind is read so, where an answer is no refusal and says which element it is of
+module _ {A : Type 0} (says : A → Answer) (one : (a b : A) → says a ≡ says b → a ≡ b) (some : (a : A) (why : Refusal) → says a ≡ Refused why → ⊥) (items : Value → List A) where
+  not-got : (r : Result A Refusal) (why : Refusal) → answer_of says r ≡ Refused why → got r ≡ None
+  not-got (Ok a) why e = absurd (some a why e)
+  not-got (Err other) why e = refl
 
-one-number : (k : ScalarKind) (r : Result ℤ Refusal) (z : ℤ) → answer_of (Element k) r ≡ Element k z → got r ≡ Some z
-one-number k (Ok a) z e = let same : a ≡ z = cc in ap Some same
-one-number k (Err why) z e = absurd (cc)
+  got-as : (r : Result A Refusal) (p : Option A) → answer_of says r ≡ told says p → got r ≡ p
+  got-as r None e = not-got r OutOfRange e
+  got-as (Ok a) (Some b) e = ap Some (one a b e)
+  got-as (Err why) (Some b) e = absurd (some b why (sym e))
 
-read-number : (d : Directory) (k : ScalarKind) (r : Result ℤ Refusal) (zs : List ℤ) (i : ℕ) (p : Option ℤ) → slice_get zs i ≡ p
-    → answer_of (Element k) r ≡ (perform d (live d) (with (element_at zs i) (λ z. Reply (Element k z) d))).0 → got r ≡ p
-read-number d k r zs i None e f =
-    no-number k r OutOfRange
-    (f ∙ ap (λ (q : Option ℤ). (perform d (live d) (with (elim q as (λ _. Result ℤ Refusal) [ None ↦ Err OutOfRange | Some z ↦ Ok z ]) (λ z. Reply (Element k z) d))).0) e)
-read-number d k r zs i (Some z) e f =
-    one-number k r z
-    (f ∙ ap (λ (q : Option ℤ). (perform d (live d) (with (elim q as (λ _. Result ℤ Refusal) [ None ↦ Err OutOfRange | Some z ↦ Ok z ]) (λ z. Reply (Element k z) d))).0) e)
+  module _ (mode : Mode) (d : Directory) (key : Key) (kind : Kind) (i : ℕ) (gets : (v : Value) → same_kind kind (kind_of v) ≡ true → (perform d (live d) (get d v i)).0 ≡ told says (slice_get (items v) i)) (r : Result A Refusal) where
+    item-of : (o : Object) (b : Bool) → object_at d key ≡ Some o → same_kind kind (kind_of o.value) ≡ b
+        → answer_of says r ≡ (step_of_kind mode d key kind (asked.Get key i)).0 → got r ≡ slice_get (list_at items d key kind) i
+    item-of o false e g f =
+        not-got r WrongKind (f ∙ ap (λ (n : Answer × Directory). n.0) (step_of_kind-other mode d key kind (asked.Get key i) o (open-reading mode (asked.Get key i) refl) e g))
+        ∙ sym (ap (λ zs. slice_get zs i) (other-listed items d key kind o e g))
+    item-of o true e g f =
+        got-as r (slice_get (items o.value) i)
+        (f ∙ ap (λ (n : Answer × Directory). n.0) (step_of_kind-found mode d key kind (asked.Get key i) o (open-reading mode (asked.Get key i) refl) e g)
+        ∙ ap (λ p. (perform d (live d) p).0) (with-found d key o (λ o. get d o.value i) e) ∙ gets o.value g)
+        ∙ sym (ap (λ zs. slice_get zs i) (its-list items d key kind o e g))
 
--- in a vector of the kind, or in an array
-record HasNumbers (k : ScalarKind) (v : Value) : Type 0 where
-  zs : List ℤ
-  listed : numbers_in v ≡ zs
-  gets : (d : Directory) (i : ℕ) → get d v i ≡ with (element_at zs i) (λ z. Reply (Element k z) d)
+    item-at : (p : Option Object) → object_at d key ≡ p → answer_of says r ≡ (step_of_kind mode d key kind (asked.Get key i)).0
+        → got r ≡ slice_get (list_at items d key kind) i
+    item-at None e f =
+        not-got r NotFound (f ∙ ap (λ (n : Answer × Directory). n.0) (step_of_kind-not_found mode d key kind (asked.Get key i) (open-reading mode (asked.Get key i) refl) e))
+        ∙ sym (ap (λ zs. slice_get zs i) (none-listed items d key kind e))
+    item-at (Some o) e f = item-of o (same_kind kind (kind_of o.value)) e refl f
 
-vector-numbers : (k : ScalarKind) (v : Value) → same_kind (VectorOf k) (kind_of v) ≡ true → HasNumbers k v
-vector-numbers k v e =
+-- numbers
+number-one : (k : ScalarKind) (a b : ℤ) → Element k a ≡ Element k b → a ≡ b
+number-one k a b e = cc
+
+number-some : (k : ScalarKind) (a : ℤ) (why : Refusal) → Element k a ≡ Refused why → ⊥
+number-some k a why e = absurd (cc)
+
+number-told : (d : Directory) (k : ScalarKind) (p : Option ℤ) → (perform d (live d) (with (of_slice p) (λ z. Reply (Element k z) d))).0 ≡ told (Element k) p
+number-told d k None = refl
+number-told d k (Some z) = refl
+
+vector-gets : (d : Directory) (k : ScalarKind) (i : ℕ) (v : Value) → same_kind (VectorOf k) (kind_of v) ≡ true → (perform d (live d) (get d v i)).0 ≡ told (Element k) (slice_get (numbers_in v) i)
+vector-gets d k i v e =
     let is = vector-only k v e in
-    record { zs = is.0; listed = ap numbers_in is.1.1; gets = λ d i. ap (λ w. get d w i) is.1.1 }
+    ap (λ w. (perform d (live d) (get d w i)).0) is.1.1 ∙ number-told d k (slice_get is.0 i) ∙ sym (ap (λ w. told (Element k) (slice_get (numbers_in w) i)) is.1.1)
 
-array-numbers : (k : ScalarKind) (v : Value) → same_kind (ScalarOf k) (kind_of v) ≡ true → HasNumbers k v
-array-numbers k v e = let is = numbers-only k v e in record { zs = is.0; listed = ap numbers_in is.1; gets = λ d i. ap (λ w. get d w i) is.1 }
-
-module _ (mode : Mode) (d : Directory) (key : Key) (k : ScalarKind) (kind : Kind) (only : (v : Value) → same_kind kind (kind_of v) ≡ true → HasNumbers k v) (i : ℕ) (r : Result ℤ Refusal) where
-  number-of : (o : Object) (b : Bool) → object_at d key ≡ Some o → same_kind kind (kind_of o.value) ≡ b
-      → answer_of (Element k) r ≡ (step_of_kind mode d key kind (asked.Get key i)).0 → got r ≡ slice_get (list_at numbers_in d key kind) i
-  number-of o false e g f =
-      no-number k r WrongKind (f ∙ ap (λ (n : Answer × Directory). n.0) (step_of_kind-other mode d key kind (asked.Get key i) o (open-reading mode (asked.Get key i) refl) e g))
-      ∙ sym (ap (λ zs. slice_get zs i) (other-listed numbers_in d key kind o e g))
-  number-of o true e g f =
-      let is : HasNumbers k o.value = only o.value g in
-      read-number d k r is.zs i (slice_get is.zs i) refl
-      (f ∙ ap (λ (n : Answer × Directory). n.0) (step_of_kind-found mode d key kind (asked.Get key i) o (open-reading mode (asked.Get key i) refl) e g)
-      ∙ ap (λ p. (perform d (live d) p).0) (with-found d key o (λ o. get d o.value i) e ∙ is.gets d i))
-      ∙ sym (ap (λ zs. slice_get zs i) (its-list numbers_in d key kind o e g ∙ is.listed))
-
-  number-at : (p : Option Object) → object_at d key ≡ p → answer_of (Element k) r ≡ (step_of_kind mode d key kind (asked.Get key i)).0
-      → got r ≡ slice_get (list_at numbers_in d key kind) i
-  number-at None e f =
-      no-number k r NotFound (f ∙ ap (λ (n : Answer × Directory). n.0) (step_of_kind-not_found mode d key kind (asked.Get key i) (open-reading mode (asked.Get key i) refl) e))
-      ∙ sym (ap (λ zs. slice_get zs i) (none-listed numbers_in d key kind e))
-  number-at (Some o) e f = number-of o (same_kind kind (kind_of o.value)) e refl f
+array-gets : (d : Directory) (k : ScalarKind) (i : ℕ) (v : Value) → same_kind (ScalarOf k) (kind_of v) ≡ true → (perform d (live d) (get d v i)).0 ≡ told (Element k) (slice_get (numbers_in v) i)
+array-gets d k i v e =
+    let is = numbers-only k v e in
+    ap (λ w. (perform d (live d) (get d w i)).0) is.1 ∙ number-told d k (slice_get is.0 i) ∙ sym (ap (λ w. told (Element k) (slice_get (numbers_in w) i)) is.1)
 
 pub vector-read : (mode : Mode) (d : Directory) (key : Key) (k : ScalarKind) (i : ℕ) (r : Result ℤ Refusal)
     → answer_of (Element k) r ≡ (step_of_kind mode d key (VectorOf k) (asked.Get key i)).0 → got r ≡ slice_get (vector_at d key k) i
-vector-read mode d key k i r f = number-at mode d key k (VectorOf k) (vector-numbers k) i r (object_at d key) refl f
+vector-read mode d key k i r f = item-at (Element k) (number-one k) (number-some k) numbers_in mode d key (VectorOf k) i (vector-gets d k i) r (object_at d key) refl f
 
 pub array-read : (mode : Mode) (d : Directory) (key : Key) (k : ScalarKind) (i : ℕ) (r : Result ℤ Refusal)
     → answer_of (Element k) r ≡ (step_of_kind mode d key (ScalarOf k) (asked.Get key i)).0 → got r ≡ slice_get (array_at d key k) i
-array-read mode d key k i r f = number-at mode d key k (ScalarOf k) (array-numbers k) i r (object_at d key) refl f
+array-read mode d key k i r f = item-at (Element k) (number-one k) (number-some k) numbers_in mode d key (ScalarOf k) i (array-gets d k i) r (object_at d key) refl f
 
--- ---- one text
+-- texts
+text-one : (a b : List ℕ) → TextElement a ≡ TextElement b → a ≡ b
+text-one a b e = cc
 
-no-text : (r : Result (List ℕ) Refusal) (why : Refusal) → answer_of TextElement r ≡ Refused why → got r ≡ None
-no-text r why e = no-element TextElement r why (λ a f. absurd (cc)) e
-
-one-text : (r : Result (List ℕ) Refusal) (z : List ℕ) → answer_of TextElement r ≡ TextElement z → got r ≡ Some z
-one-text (Ok a) z e = let same : a ≡ z = cc in ap Some same
-one-text (Err why) z e = absurd (cc)
+text-some : (a : List ℕ) (why : Refusal) → TextElement a ≡ Refused why → ⊥
+text-some a why e = absurd (cc)
 
 got-map : (ps : List OwnedText) (i : ℕ) → slice_get (map (λ (p : OwnedText). p.bytes) ps) i ≡ option_map (λ (p : OwnedText). p.bytes) (slice_get ps i)
 got-map [] i = refl
 got-map (p ∷ ps) zero = refl
 got-map (p ∷ ps) (suc i) = got-map ps i
 
-read-text : (d : Directory) (r : Result (List ℕ) Refusal) (ps : List OwnedText) (i : ℕ) (p : Option OwnedText) → slice_get ps i ≡ p
-    → answer_of TextElement r ≡ (perform d (live d) (with (owned_text_at ps i) (λ p. Reply (TextElement p.bytes) d))).0 → got r ≡ option_map (λ (q : OwnedText). q.bytes) p
-read-text d r ps i None e f =
-    no-text r OutOfRange
-    (f ∙ ap (λ (q : Option OwnedText). (perform d (live d) (with (elim q as (λ _. Result OwnedText Refusal) [ None ↦ Err OutOfRange | Some z ↦ Ok z ]) (λ z. Reply (TextElement z.bytes) d))).0) e)
-read-text d r ps i (Some p) e f =
-    one-text r p.bytes
-    (f ∙ ap (λ (q : Option OwnedText). (perform d (live d) (with (elim q as (λ _. Result OwnedText Refusal) [ None ↦ Err OutOfRange | Some z ↦ Ok z ]) (λ z. Reply (TextElement z.bytes) d))).0) e)
+text-told : (d : Directory) (p : Option OwnedText) → (perform d (live d) (with (text_in p) (λ q. Reply (TextElement q.bytes) d))).0 ≡ told TextElement (option_map (λ (q : OwnedText). q.bytes) p)
+text-told d None = refl
+text-told d (Some q) = refl
 
-module _ (mode : Mode) (d : Directory) (key : Key) (i : ℕ) (r : Result (List ℕ) Refusal) where
-  text-of : (o : Object) (b : Bool) → object_at d key ≡ Some o → same_kind TextsKind (kind_of o.value) ≡ b
-      → answer_of TextElement r ≡ (step_of_kind mode d key TextsKind (asked.Get key i)).0 → got r ≡ slice_get (texts_at d key) i
-  text-of o false e g f =
-      no-text r WrongKind (f ∙ ap (λ (n : Answer × Directory). n.0) (step_of_kind-other mode d key TextsKind (asked.Get key i) o (open-reading mode (asked.Get key i) refl) e g))
-      ∙ sym (ap (λ zs. slice_get zs i) (other-listed texts_in d key TextsKind o e g))
-  text-of o true e g f =
-      let is = texts-only o.value g in
-      read-text d r is.0 i (slice_get is.0 i) refl
-      (f ∙ ap (λ (n : Answer × Directory). n.0) (step_of_kind-found mode d key TextsKind (asked.Get key i) o (open-reading mode (asked.Get key i) refl) e g)
-      ∙ ap (λ p. (perform d (live d) p).0) (with-found d key o (λ o. get d o.value i) e ∙ ap (λ (w : Value). get d w i) is.1.1))
-      ∙ sym (got-map is.0 i) ∙ sym (ap (λ zs. slice_get zs i) (its-list texts_in d key TextsKind o e g ∙ ap texts_in is.1.1))
-
-  text-at : (p : Option Object) → object_at d key ≡ p → answer_of TextElement r ≡ (step_of_kind mode d key TextsKind (asked.Get key i)).0 → got r ≡ slice_get (texts_at d key) i
-  text-at None e f =
-      no-text r NotFound (f ∙ ap (λ (n : Answer × Directory). n.0) (step_of_kind-not_found mode d key TextsKind (asked.Get key i) (open-reading mode (asked.Get key i) refl) e))
-      ∙ sym (ap (λ zs. slice_get zs i) (none-listed texts_in d key TextsKind e))
-  text-at (Some o) e f = text-of o (same_kind TextsKind (kind_of o.value)) e refl f
+texts-gets : (d : Directory) (i : ℕ) (v : Value) → same_kind TextsKind (kind_of v) ≡ true → (perform d (live d) (get d v i)).0 ≡ told TextElement (slice_get (texts_in v) i)
+texts-gets d i v e =
+    let is = texts-only v e in
+    ap (λ w. (perform d (live d) (get d w i)).0) is.1.1 ∙ text-told d (slice_get is.0 i) ∙ ap (told TextElement) (sym (got-map is.0 i))
+    ∙ sym (ap (λ w. told TextElement (slice_get (texts_in w) i)) is.1.1)
 
 pub text-read : (mode : Mode) (d : Directory) (key : Key) (i : ℕ) (r : Result (List ℕ) Refusal)
     → answer_of TextElement r ≡ (step_of_kind mode d key TextsKind (asked.Get key i)).0 → got r ≡ slice_get (texts_at d key) i
-text-read mode d key i r f = text-at mode d key i r (object_at d key) refl f
+text-read mode d key i r f = item-at TextElement text-one text-some texts_in mode d key TextsKind i (texts-gets d i) r (object_at d key) refl f
 
 -- ---- how many
 
@@ -157,39 +136,29 @@ abbrev of_kind_at : {A : Type 0} → (Value → Result A Refusal) → Directory 
 of_kind_at say d key kind = elim (object_at d key) [ None ↦ Err NotFound | Some o ↦ if same_kind kind (kind_of o.value) then say o.value else Err WrongKind ]
 
 module _ {A : Type 0} (items : Value → List A) (say : Value → Result ℕ Refusal) (d : Directory) (key : Key) (kind : Kind) (only : (v : Value) → same_kind kind (kind_of v) ≡ true → say v ≡ Ok (length (items v))) where
-  many-of : (o : Object) (b : Bool) → object_at d key ≡ Some o → same_kind kind (kind_of o.value) ≡ b → number_or_none (of_kind_at say d key kind) ≡ length (list_at items d key kind)
-  many-of o false e g =
-      ap (λ (r : Option Object). number_or_none (elim r as (λ _. Result ℕ Refusal) [ None ↦ Err NotFound | Some o ↦ if same_kind kind (kind_of o.value) then say o.value else Err WrongKind ])) e
-      ∙ ap (λ b. number_or_none (if b then say o.value else Err WrongKind)) g ∙ sym (ap length (other-listed items d key kind o e g))
-  many-of o true e g =
-      ap (λ (r : Option Object). number_or_none (elim r as (λ _. Result ℕ Refusal) [ None ↦ Err NotFound | Some o ↦ if same_kind kind (kind_of o.value) then say o.value else Err WrongKind ])) e
-      ∙ ap (λ b. number_or_none (if b then say o.value else Err WrongKind)) g ∙ ap number_or_none (only o.value g) ∙ sym (ap length (its-list items d key kind o e g))
+  many-if : (o : Object) (b : Bool) → same_kind kind (kind_of o.value) ≡ b → number_or_none (if b then say o.value else Err WrongKind) ≡ length (if b then items o.value else [])
+  many-if o false g = refl
+  many-if o true g = ap number_or_none (only o.value g)
 
-  many-at : (p : Option Object) → object_at d key ≡ p → number_or_none (of_kind_at say d key kind) ≡ length (list_at items d key kind)
-  many-at None e =
-      ap (λ (r : Option Object). number_or_none (elim r as (λ _. Result ℕ Refusal) [ None ↦ Err NotFound | Some o ↦ if same_kind kind (kind_of o.value) then say o.value else Err WrongKind ])) e
-      ∙ sym (ap length (none-listed items d key kind e))
-  many-at (Some o) e = many-of o (same_kind kind (kind_of o.value)) e refl
+  many-in : (p : Option Object)
+      → number_or_none (elim p as (λ _. Result ℕ Refusal) [ None ↦ Err NotFound | Some o ↦ if same_kind kind (kind_of o.value) then say o.value else Err WrongKind ])
+      ≡ length (elim p as (λ _. List A) [ None ↦ [] | Some o ↦ if same_kind kind (kind_of o.value) then items o.value else [] ])
+  many-in None = refl
+  many-in (Some o) = many-if o (same_kind kind (kind_of o.value)) refl
 
--- of sizes the first
-abbrev first_of_kind : Directory → Key → Kind → Result ℕ Refusal
-first_of_kind d key kind = of_kind_at (λ v. first_size (sizes_of v)) d key kind
+  many-at : number_or_none (of_kind_at say d key kind) ≡ length (list_at items d key kind)
+  many-at = many-in (object_at d key)
 
-sizes-first : (d : Directory) (key : Key) (kind : Kind) (b : Bool) (o : Object) → same_kind kind (kind_of o.value) ≡ b
-    → first_size (if same_kind kind (kind_of o.value) then sizes_of o.value else Err WrongKind) ≡ (if same_kind kind (kind_of o.value) then first_size (sizes_of o.value) else Err WrongKind)
-sizes-first d key kind true o g =
-    ap (λ b. first_size (if b then sizes_of o.value else Err WrongKind)) g ∙ sym (ap (λ b. if b then first_size (sizes_of o.value) else Err WrongKind) g)
-sizes-first d key kind false o g =
-    ap (λ b. first_size (if b then sizes_of o.value else Err WrongKind)) g ∙ sym (ap (λ b. if b then first_size (sizes_of o.value) else Err WrongKind) g)
+-- of the sizes of a container the first
+sizes-first : (b : Bool) (v : Value) → first_size (if b then sizes_of v else Err WrongKind) ≡ (if b then first_size (sizes_of v) else Err WrongKind)
+sizes-first true v = refl
+sizes-first false v = refl
 
-length-first : (d : Directory) (key : Key) (kind : Kind) (p : Option Object) → object_at d key ≡ p → length_at_kind d key kind ≡ first_of_kind d key kind
-length-first d key kind None e =
-    ap (λ (r : Option Object). first_size (elim r as (λ _. Result (ℕ × ℕ) Refusal) [ None ↦ Err NotFound | Some o ↦ sizes_of_kind o kind ])) e
-    ∙ sym (ap (λ (r : Option Object). elim r as (λ _. Result ℕ Refusal) [ None ↦ Err NotFound | Some o ↦ if same_kind kind (kind_of o.value) then first_size (sizes_of o.value) else Err WrongKind ]) e)
-length-first d key kind (Some o) e =
-    ap (λ (r : Option Object). first_size (elim r as (λ _. Result (ℕ × ℕ) Refusal) [ None ↦ Err NotFound | Some o ↦ sizes_of_kind o kind ])) e
-    ∙ sizes-first d key kind (same_kind kind (kind_of o.value)) o refl
-    ∙ sym (ap (λ (r : Option Object). elim r as (λ _. Result ℕ Refusal) [ None ↦ Err NotFound | Some o ↦ if same_kind kind (kind_of o.value) then first_size (sizes_of o.value) else Err WrongKind ]) e)
+length-first : (kind : Kind) (p : Option Object)
+    → first_size (elim p as (λ _. Result (ℕ × ℕ) Refusal) [ None ↦ Err NotFound | Some o ↦ sizes_of_kind o kind ])
+    ≡ elim p as (λ _. Result ℕ Refusal) [ None ↦ Err NotFound | Some o ↦ if same_kind kind (kind_of o.value) then first_size (sizes_of o.value) else Err WrongKind ]
+length-first kind None = refl
+length-first kind (Some o) = sizes-first (same_kind kind (kind_of o.value)) o.value
 
 vector-many : (k : ScalarKind) (v : Value) → same_kind (VectorOf k) (kind_of v) ≡ true → first_size (sizes_of v) ≡ Ok (length (numbers_in v))
 vector-many k v e = let is = vector-only k v e in ap (λ (w : Value). first_size (sizes_of w)) is.1.1 ∙ sym (ap (λ (w : Value). Ok (length (numbers_in w))) is.1.1)
@@ -204,11 +173,10 @@ array-many k v e = let is = numbers-only k v e in ap array_size is.1 ∙ sym (ap
 pub listed-length : {A : Type 0} (items : Value → List A) (d : Directory) (key : Key) (kind : Kind) → ((v : Value) → same_kind kind (kind_of v) ≡ true → first_size (sizes_of v) ≡ Ok (length (items v)))
     → (r : Result ℕ Refusal) → r ≡ length_at_kind d key kind → number_or_none r ≡ length (list_at items d key kind)
 listed-length items d key kind only r e =
-    ap number_or_none (e ∙ length-first d key kind (object_at d key) refl) ∙ many-at items (λ v. first_size (sizes_of v)) d key kind only (object_at d key) refl
+    ap number_or_none (e ∙ length-first kind (object_at d key)) ∙ many-at items (λ v. first_size (sizes_of v)) d key kind only
 
 pub vector-length : (d : Directory) (key : Key) (k : ScalarKind) (r : Result ℕ Refusal) → r ≡ length_at_kind d key (VectorOf k) → number_or_none r ≡ length (vector_at d key k)
-vector-length d key k r e =
-    ap number_or_none (e ∙ length-first d key (VectorOf k) (object_at d key) refl) ∙ many-at numbers_in (λ v. first_size (sizes_of v)) d key (VectorOf k) (vector-many k) (object_at d key) refl
+vector-length d key k r e = listed-length numbers_in d key (VectorOf k) (vector-many k) r e
 
 pub array-length : (d : Directory) (key : Key) (k : ScalarKind) (r : Result ℕ Refusal) → r ≡ array_length_at d key k → number_or_none r ≡ length (array_at d key k)
-array-length d key k r e = ap number_or_none e ∙ many-at numbers_in array_size d key (ScalarOf k) (array-many k) (object_at d key) refl
+array-length d key k r e = ap number_or_none e ∙ many-at numbers_in array_size d key (ScalarOf k) (array-many k)

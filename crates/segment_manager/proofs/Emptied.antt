@@ -3,8 +3,9 @@ use Rattle.segment_manager.proofs.Common.{◌≡◌, refl, sym, ap, subst, ◌�
 use Rattle.segment_manager.proofs.Common.{eq-eqb, ne_eqb, handle, Scalar, ScalarKind, ByHandle, Index, Named, Unique}
 use Rattle.segment_manager.proofs.Common.{emptied, Value, Numbers, Object, Directory, count_of, has_key, is_good_value}
 use Rattle.segment_manager.proofs.Common.{kind_of, remove_object, replace_object, value_extents, value_len}
-use Rattle.segment_manager.proofs.Common.{without_object, entries_of, changed}
-use Rattle.segment_manager.proofs.{Faces.named-changed, Faces.unique-changed, Rewritten.with_value}
+use Rattle.segment_manager.proofs.Common.{without_object, entries_of, changed, by_name, by_kind, NamedClass}
+use Rattle.segment_manager.proofs.Common.{UniqueClass}
+use Rattle.segment_manager.proofs.{Rewritten.with_value, Faces.ordered-changed, Faces.by_name-face, Faces.by_kind-face}
 use Rattle.segment_manager.proofs.Live.{IsFound, IsIn, Place, behind, found-nothing, found-place, here, remove-behind}
 use Rattle.segment_manager.proofs.Live.{remove-here, replace-behind, replace-here}
 
@@ -84,5 +85,5 @@ module _ (d : Directory) (o : Object) (f : IsIn d o) where
 
   -- the indexes are the same
   pub changed-entries : (i : Index) (v : Value) → kind_of v ≡ kind_of o.value → entries_of i (changed d o v) ≡ entries_of i d
-  changed-entries Named v e = (named-changed d o (with_value o v) f (record { extent = refl; name = refl; class = refl; kind = e })).entries
-  changed-entries Unique v e = (unique-changed d o (with_value o v) f (record { extent = refl; name = refl; class = refl; kind = e })).entries
+  changed-entries Named v e = (ordered-changed NamedClass by_name by_name-face d o (with_value o v) f (record { extent = refl; name = refl; class = refl; kind = e })).entries
+  changed-entries Unique v e = (ordered-changed UniqueClass by_kind by_kind-face d o (with_value o v) f (record { extent = refl; name = refl; class = refl; kind = e })).entries

@@ -5,11 +5,12 @@ use Rattle.segment_manager.proofs.Common.{IndexRole, Extent, SameBlock, Table, i
 use Rattle.segment_manager.proofs.Common.{ByKind, ByName, Index, place_of, IsIndexAt, Object, Directory, extents_of}
 use Rattle.segment_manager.proofs.Common.{is_class, is_index, kind_of, live, object_at, table_extents, with_object}
 use Rattle.segment_manager.proofs.Common.{handles, class_of_index, entries_of, objects_of, order_of, table_of}
-use Rattle.segment_manager.proofs.Common.{with_table_of}
+use Rattle.segment_manager.proofs.Common.{with_table_of, by_name, by_kind, NamedClass, UniqueClass}
 use Rattle.seg_index.specs.declared.index.Index.TheVariants as index
-use Rattle.segment_manager.proofs.{AnyClass.HasIndexes, Denoted.handles-length, Denoted.index-stays, Faces.named-with}
-use Rattle.segment_manager.proofs.{Faces.unique-with, Live.OfEach, Live.of_each, Ranks.insert_by-length}
-use Rattle.segment_manager.proofs.Indexes.{named-index-more, named-more, unique-index-more, unique-more}
+use Rattle.segment_manager.proofs.{AnyClass.HasIndexes, Denoted.handles-length, Denoted.index-stays, Live.OfEach}
+use Rattle.segment_manager.proofs.{Live.of_each, Ranks.insert_by-length, Faces.ordered-with}
+use Rattle.segment_manager.proofs.Indexes.{named-more, unique-more, ordered-more, new-name, new-kind, by_name-strict}
+use Rattle.segment_manager.proofs.Indexes.{by_kind-strict}
 
 -- ---- one of the two, and the other
 
@@ -55,8 +56,8 @@ more-length index.Unique d o c n = ap length (unique-more d o c n) ∙ insert_by
 more-index : (i : Index) (d : Directory) (t : Table) (o : Object) → is_class (class_of_index i) o ≡ true → object_at d (key_in i o) ≡ None
     → IsTrue (is_index (table_of i d) (objects_of i d) (order_of i)) → IsTrue (is_table IndexRole 8 t) → length (objects_of i d) < t.capacity
     → IsTrue (is_index t (objects_of i (with_object d o)) (order_of i))
-more-index index.Named d t o c n h a b = named-index-more d t o c n h a b
-more-index index.Unique d t o c n h a b = unique-index-more d t o c n h a b
+more-index index.Named d t o c n h a b = ordered-more NamedClass by_name by_name-strict d t d.named o c (new-name d o n) h a b
+more-index index.Unique d t o c n h a b = ordered-more UniqueClass by_kind by_kind-strict d t d.unique o c (new-kind d o n) h a b
 
 own-with : (i : Index) (m : Memory) (d : Directory) (t : Table) (o : Object) → IsTrue (is_index t (objects_of i (with_object d o)) (order_of i))
     → IsIndexAt m (place_of i) t (entries_of i (with_object d o)) → HasOne i m (with_object (with_table_of i d t) o)
@@ -72,8 +73,8 @@ entered-own i m d t o c n h a few at =
     own-with i m d t o (more-index i d t o (has_class i o c) n h a (omega (arith, long, few))) at
 
 other-with : (i : Index) (d : Directory) (o : Object) → is_class (class_of_index (other i)) o ≡ false → objects_of (other i) (with_object d o) ≡ objects_of (other i) d
-other-with index.Named d o e = unique-with d o e
-other-with index.Unique d o e = named-with d o e
+other-with index.Named d o e = ordered-with UniqueClass by_kind d o e
+other-with index.Unique d o e = ordered-with NamedClass by_name d o e
 
 other-one : (i : Index) (m : Memory) (d : Directory) (t : Table) (o : Object) → IsTrue (is_index (table_of (other i) d) (objects_of (other i) (with_object d o)) (order_of (other i)))
     → IsIndexAt m (place_of (other i)) (table_of (other i) d) (entries_of (other i) (with_object d o)) → HasOne (other i) m (with_object (with_table_of i d t) o)

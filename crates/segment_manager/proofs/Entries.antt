@@ -1,28 +1,30 @@
 -- Each index follows its objects.
 use Rattle.segment_manager.proofs.Common.{◌≡◌, ◌∙◌, sym, ℕ, Some, handle, ByHandle, Object, Directory, IsDirectory}
-use Rattle.segment_manager.proofs.Common.{object_at}
+use Rattle.segment_manager.proofs.Common.{object_at, by_name, by_kind}
 use Rattle.segment_manager.specs.Entries.{DiffersInValue, IndexesFollowObjects, KeepsEntries, PutsOneEntry}
 use Rattle.segment_manager.specs.Entries.{RemovesOneEntry}
-use Rattle.segment_manager.proofs.{Live.IsFound, Live.IsIn, Faces.IsLike, Faces.named-changed, Faces.named-with}
-use Rattle.segment_manager.proofs.{Faces.named-without, Faces.unique-changed, Faces.unique-with, Faces.unique-without}
-use Rattle.segment_manager.proofs.{Indexes.named-less, Indexes.named-more, Indexes.named-removed, Indexes.unique-less}
-use Rattle.segment_manager.proofs.{Indexes.unique-more, Indexes.unique-removed}
+use Rattle.seg_types.specs.declared.kinds.Class.TheVariants.{Named, Unique}
+use Rattle.segment_manager.proofs.Live.{IsFound, IsIn}
+use Rattle.segment_manager.proofs.Faces.{IsLike, ordered-with, ordered-without, ordered-changed, by_name-face}
+use Rattle.segment_manager.proofs.Faces.{by_kind-face}
+use Rattle.segment_manager.proofs.Indexes.{named-more, one-less, unique-more, one-removed, by_name-strict}
+use Rattle.segment_manager.proofs.Indexes.{by_kind-strict}
 
 puts-entry : (d : Directory) (o : Object) → PutsOneEntry d o
-puts-entry d o = record { named = named-more d o; not_named = named-with d o; unique = unique-more d o; not_unique = unique-with d o }
+puts-entry d o = record { named = named-more d o; not_named = ordered-with Named by_name d o; unique = unique-more d o; not_unique = ordered-with Unique by_kind d o }
 
 removes-entry : (format : ℕ) (d : Directory) (o : Object) → IsDirectory format d → IsIn d o → RemovesOneEntry d o
 removes-entry format d o is f = record {
-  named = λ e. named-removed d o f e is.by_offset is.named;
-  named_again = λ e. sym (named-less d o f e is.named);
-  not_named = named-without d o f;
-  unique = λ e. unique-removed d o f e is.by_offset is.unique;
-  unique_again = λ e. sym (unique-less d o f e is.unique);
-  not_unique = unique-without d o f;
+  named = λ e. one-removed Named by_name by_name-strict d o f e is.by_offset d.named is.named;
+  named_again = λ e. sym (one-less Named by_name by_name-strict d o f e d.named is.named);
+  not_named = ordered-without Named by_name d o f;
+  unique = λ e. one-removed Unique by_kind by_kind-strict d o f e is.by_offset d.unique is.unique;
+  unique_again = λ e. sym (one-less Unique by_kind by_kind-strict d o f e d.unique is.unique);
+  not_unique = ordered-without Unique by_kind d o f;
 }
 
 keeps-entries : (d : Directory) (o p : Object) → IsFound (handle p.extent) d.objects o → IsLike o p → KeepsEntries d p
-keeps-entries d o p f like = record { named = (named-changed d o p f like).entries; unique = (unique-changed d o p f like).entries }
+keeps-entries d o p f like = record { named = (ordered-changed Named by_name by_name-face d o p f like).entries; unique = (ordered-changed Unique by_kind by_kind-face d o p f like).entries }
 
 -- the object of a handle is the one of the handle of another in its place
 same-place : (d : Directory) (o p : Object) → object_at d (ByHandle (handle o.extent)) ≡ Some o → DiffersInValue o p → IsFound (handle p.extent) d.objects o

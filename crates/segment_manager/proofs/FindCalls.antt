@@ -5,7 +5,7 @@ use Rattle.segment_manager.proofs.Common.{code_of, same_kind, Key, Index, Named,
 use Rattle.segment_manager.proofs.Common.{place_of, Head, Answer, Number, Refused, Object, Directory, kind_of}
 use Rattle.segment_manager.proofs.Common.{named_objects, unique_objects, IsBelow, handle_at, entries_of, objects_of}
 use Rattle.segment_manager.proofs.Common.{table_of, Plan, Refuse, Reply, IsHeadOf, StandsAt, Answers, IsReply}
-use Rattle.segment_manager.proofs.Common.{IsSegment, State, StandsFor, found}
+use Rattle.segment_manager.proofs.Common.{IsSegment, State, StandsFor, found, Mode, Command, step}
 use Rattle.segment_manager.specs.Answers.{Absent, Found}
 use Rattle.seg_types.specs.Commands as asked
 use Rattle.segment_manager.proofs.{Denoted.handles-length, Here.IsHere, Here.here, Here.nothing-here, KeyCalls.ForIndex}
@@ -65,19 +65,17 @@ find-found s key kind h a b head w r e f n = record {
 pub index-counts : (s : State) (i : Index) (n : ℕ) → ForIndex s.cut i (λ hs. n ≡ length hs) → (d : Directory) → StandsFor s.cut.bytes d → n ≡ length (objects_of i d)
 index-counts s i n f d k = of-directory s i (λ hs. n ≡ length hs) d k f ∙ handles-length (objects_of i d)
 
-pub num_named-replies : (s : State) (n : ℕ) → ForIndex s.cut Named (λ hs. n ≡ length hs) → IsReply s asked.NumNamed (Number n)
-num_named-replies s n f = record {
-  answers = λ d k.
-      ap Number (index-counts s Named n f d k)
-      ∙ sym (ap (λ (r : Answer × Directory). r.0) (step-reply s.mode d asked.NumNamed (Number (length (objects_of Named d))) d (open-reading s.mode asked.NumNamed refl) refl));
-}
+-- the command that asks for it
+abbrev num_command : Index → Command
+num_command Named = asked.NumNamed
+num_command Unique = asked.NumUnique
 
-pub num_unique-replies : (s : State) (n : ℕ) → ForIndex s.cut Unique (λ hs. n ≡ length hs) → IsReply s asked.NumUnique (Number n)
-num_unique-replies s n f = record {
-  answers = λ d k.
-      ap Number (index-counts s Unique n f d k)
-      ∙ sym (ap (λ (r : Answer × Directory). r.0) (step-reply s.mode d asked.NumUnique (Number (length (objects_of Unique d))) d (open-reading s.mode asked.NumUnique refl) refl));
-}
+num-step : (mode : Mode) (i : Index) (d : Directory) → step mode d (num_command i) ≡ (Number (length (objects_of i d)), d)
+num-step mode Named d = step-reply mode d asked.NumNamed (Number (length (objects_of Named d))) d (open-reading mode asked.NumNamed refl) refl
+num-step mode Unique d = step-reply mode d asked.NumUnique (Number (length (objects_of Unique d))) d (open-reading mode asked.NumUnique refl) refl
+
+pub num-replies : (s : State) (i : Index) (n : ℕ) → ForIndex s.cut i (λ hs. n ≡ length hs) → IsReply s (num_command i) (Number n)
+num-replies s i n f = record { answers = λ d k. ap Number (index-counts s i n f d k) ∙ sym (ap (λ (r : Answer × Directory). r.0) (num-step s.mode i d)) }
 
 -- a number below their count is a place
 pub below-count : (s : State) (i : Index) (n : ℕ) → IsSegment s.cut.bytes → IsBelow s (λ d. length (objects_of i d)) n → n < entry_count s.cut (place_of i)
@@ -91,18 +89,15 @@ at-answers s i n h f = record { answers = λ d k. sym (of-directory s i (λ hs. 
 
 -- ---- an index below that number
 
-pub named-below : (s : State) (n i : ℕ) → IsReply s asked.NumNamed (Number n) → i < n → IsBelow s (λ d. length (named_objects d)) i
-named-below s n i h l = record {
+below-number : (s : State) (i : Index) (n at : ℕ) → IsReply s (num_command i) (Number n) → at < n → IsBelow s (λ d. length (objects_of i d)) at
+below-number s i n at h l = record {
   below = λ d st.
-      let e : Number n ≡ Number (length (named_objects d)) =
-      h.answers d st ∙ ap (λ (r : Answer × Directory). r.0) (step-reply s.mode d asked.NumNamed (Number (length (named_objects d))) d (open-reading s.mode asked.NumNamed refl) refl) in
-      let same : n ≡ length (named_objects d) = cc in subst (λ m. i < m) same l;
+      let e : Number n ≡ Number (length (objects_of i d)) = h.answers d st ∙ ap (λ (r : Answer × Directory). r.0) (num-step s.mode i d) in
+      let same : n ≡ length (objects_of i d) = cc in subst (λ m. at < m) same l;
 }
 
+pub named-below : (s : State) (n i : ℕ) → IsReply s asked.NumNamed (Number n) → i < n → IsBelow s (λ d. length (named_objects d)) i
+named-below s n i h l = below-number s Named n i h l
+
 pub unique-below : (s : State) (n i : ℕ) → IsReply s asked.NumUnique (Number n) → i < n → IsBelow s (λ d. length (unique_objects d)) i
-unique-below s n i h l = record {
-  below = λ d st.
-      let e : Number n ≡ Number (length (unique_objects d)) =
-      h.answers d st ∙ ap (λ (r : Answer × Directory). r.0) (step-reply s.mode d asked.NumUnique (Number (length (unique_objects d))) d (open-reading s.mode asked.NumUnique refl) refl) in
-      let same : n ≡ length (unique_objects d) = cc in subst (λ m. i < m) same l;
-}
+unique-below s n i h l = below-number s Unique n i h l

@@ -18,8 +18,7 @@ use Rattle.segment_manager.proofs.{Contained.contents-fit, Contained.contents-st
 use Rattle.segment_manager.proofs.{ContentPlans.reserve-plan, ContentPlans.shrink-plan, Frame.object-roomy}
 use Rattle.segment_manager.proofs.{Here.standing, Safely.done-so, Safely.stays, Steps.by_no_change_of_kind}
 use Rattle.segment_manager.proofs.{Steps.open-writing, Steps.step_of_kind-found}
-use Rattle.segment_manager.proofs.Refilled.{HoldsAt, Refill, holds-at, made_room, no_room, refill-steps_of_kind}
-use Rattle.segment_manager.proofs.Refilled.{replied}
+use Rattle.segment_manager.proofs.Refilled.{HoldsAt, Refill, holds-at, room-asked, refill-steps_of_kind, replied}
 
 -- ---- what is of the kind of a vector
 
@@ -151,7 +150,7 @@ module _ {A : Type 0} (L : Listing A) (old new : Cut) (d : Directory) (key : Key
   -- in n places, or more
   pub items-grown : (xs : List A) (n : ℕ) (c : Command) (answer : Answer) → effect d c ≡ with_capacity L.each n h.table (λ u. Reply answer (with_elements xs u))
       → ListedGrown L old new p h.table n xs → Refill old new d key c answer
-  items-grown xs n c answer e r = items-refill xs r.table c answer (made_room current old.bytes d c L.each n h.table r.table answer (with_elements xs) den e r.grown) r.now
+  items-grown xs n c answer e r = items-refill xs r.table c answer (room-asked current old.bytes d c L.each n h.table (Some r.table) answer (with_elements xs) den e r.grown) r.now
 
 -- ---- all directories
 
@@ -206,7 +205,7 @@ module _ {A : Type 0} (L : Listing A) (s : State) (key : Key) (p : Place) (b : I
     -- there is no space for n places
     pub items-full : (c : Command) (n : ℕ) (xs : List A) (d : Directory) → Denotes current s.cut.bytes d → (h : Held d) → effect d c ≡ with_capacity L.each n h.table (λ u. Reply Done (changed d h.object (L.value xs u)))
         → grown_table (live_of s.cut.bytes) L.each n h.table ≡ None → perform d (live d) (effect d c) ≡ (Refused NoSpace, d)
-    items-full c n xs d den h e none = no_room current s.cut.bytes d c L.each n h.table Done (λ u. changed d h.object (L.value xs u)) den e none
+    items-full c n xs d den h e none = room-asked current s.cut.bytes d c L.each n h.table None Done (λ u. changed d h.object (L.value xs u)) den e none
 
     -- a call on the element at an index, in the places that there are
     pub changes-safely : (c : Command) (i : ℕ) (ys : List A → List A) (r : Result (Unit {0}) Refusal)

@@ -5,14 +5,13 @@ use Rattle.segment_manager.proofs.Common.{NotFound, ReadOnly, WrongKind, same_ki
 use Rattle.segment_manager.proofs.Common.{Head, Change, Clear, Reserve, Shrink, Located, Answer, kind_at, sizes_at}
 use Rattle.segment_manager.proofs.Common.{sizes_at_kind, sizes_of, sizes_of_kind, Object, Directory, kind_of, live}
 use Rattle.segment_manager.proofs.Common.{object_at, handle_at, HasPlaces, KeepsWhere, IsLocated, Plan, Refuse, perform}
-use Rattle.segment_manager.proofs.Common.{with, IsHeadOf, StandsAt, Answers, IsReplyOfKind, IsStep, IsStepOfKind, Moves}
-use Rattle.segment_manager.proofs.Common.{State, StandsFor, effect, is_read_only, step, step_of_kind, HasEnough}
-use Rattle.segment_manager.proofs.Common.{command_of}
-use Rattle.seg_types.specs.Commands as asked
+use Rattle.segment_manager.proofs.Common.{with, IsHeadOf, StandsAt, Answers, IsReplyOfKind, IsStep, IsStepOfKind, State}
+use Rattle.segment_manager.proofs.Common.{StandsFor, effect, is_read_only, step, step_of_kind, HasEnough, command_of}
 use Rattle.segment_manager.specs.Laws.{HandlesMeanObjects, KeysMeanObjects, KeysOfKindMeanObjects, at_key}
 use Rattle.segment_manager.specs.Located.{located}
-use Rattle.segment_manager.proofs.AnyStorage.{measures-kind, of_kind-steps}
-use Rattle.segment_manager.proofs.{Bridge.by-handle, Here.IsHere, Here.here}
+use Rattle.seg_types.specs.Commands as asked
+use Rattle.segment_manager.proofs.{AnyStorage.measures-kind, AnyStorage.of_kind-steps, Bridge.by-handle, Here.IsHere}
+use Rattle.segment_manager.proofs.{Here.here, Steps.moves-same}
 
 -- ---- the object
 
@@ -90,14 +89,6 @@ keys_of_kind-same mode d key other kind c e =
     going_on (λ o. if same_kind kind (kind_of o.value) then effect-same d key other c e i else Refuse WrongKind) (e i))
 
 -- ---- a call by the handle is one by the key
-
-moves-same : {A : Type 0} (old new : State) (answer : A) (next other : Directory → A × Directory) → ((d : Directory) → StandsFor old.cut.bytes d → next d ≡ other d)
-    → Moves old new answer next → Moves old new answer other
-moves-same {A} old new answer next other each m = record {
-  stays = m.stays;
-  answers = λ d k. m.answers d k ∙ ap (λ (n : A × Directory). n.0) (each d k);
-  denotes = λ d k. subst (λ (n : A × Directory). StandsFor new.cut.bytes n.1) (each d k) (m.denotes d k);
-}
 
 module _ (old : State) (key : Key) (o : Located) (l : IsLocated old key o) where
   abbrev same : (d : Directory) → StandsFor old.cut.bytes d → object_at d (ByHandle o.handle) ≡ object_at d key

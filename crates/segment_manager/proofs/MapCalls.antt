@@ -6,12 +6,12 @@ use Rattle.segment_manager.proofs.Common.{ScalarKind, Refusal, NoSpace, NotFound
 use Rattle.segment_manager.proofs.Common.{same_kind, size_of, Key, Command, Literal, literal_of, value_of_literal}
 use Rattle.segment_manager.proofs.Common.{transitive, Erases, IsErased, IsFull, IsPut, IsPutAgain, Puts, node_len}
 use Rattle.segment_manager.proofs.Common.{pair_at, put_pair, remove_pair, NumberPair, FindsValue, nodes_of_pairs}
-use Rattle.segment_manager.proofs.Common.{value_of_pair, ContainerPlace, Element, Refused, Truth, container_at}
-use Rattle.segment_manager.proofs.Common.{container_place, Denotes, Pairs, Object, Directory, kind_of, live, object_at}
-use Rattle.segment_manager.proofs.Common.{AnswersSafely, HasPairs, map_at, numbers_of, told_of, told_of_map}
-use Rattle.segment_manager.proofs.Common.{value_or_absent, New, Plan, Reply, Request, perform, with, Answers}
-use Rattle.segment_manager.proofs.Common.{IsReplyOfKind, IsSegment, IsStepOfKind, State, StandsFor, and_then, changed}
-use Rattle.segment_manager.proofs.Common.{effect, is_read_only, map_of, pair_of, step_of_kind}
+use Rattle.segment_manager.proofs.Common.{value_of_pair, ContainerPlace, Element, Refused, Truth, container_at, Denotes}
+use Rattle.segment_manager.proofs.Common.{Pairs, Object, Directory, kind_of, object_at, AnswersSafely, HasPairs, map_at}
+use Rattle.segment_manager.proofs.Common.{numbers_of, told_of, told_of_map, value_or_absent, New, Plan, Reply, Request}
+use Rattle.segment_manager.proofs.Common.{perform, with, Answers, IsReplyOfKind, IsSegment, IsStepOfKind, State}
+use Rattle.segment_manager.proofs.Common.{StandsFor, and_then, changed, effect, is_read_only, map_of, step_of_kind}
+use Rattle.segment_manager.proofs.Common.{LiveSet, live_of}
 use Rattle.seg_map.specs.declared.places.Place.{Place}
 use Rattle.seg_map.proofs.Laws.{replaced_nodes}
 use Rattle.segment_manager.specs.Answers.{Absent}
@@ -19,14 +19,15 @@ use Rattle.segment_manager.specs.Maps.{IsPairs}
 use Rattle.segment_manager.specs.State.{truth_answer}
 use Rattle.seg_types.specs.Commands as asked
 use Rattle.segment_manager.specs.Step as step
+use Rattle.segment_manager.proofs.PairCommands as plan
 use Rattle.segment_manager.proofs.{Calling.denotes-live, Here.standing, ObjectLists.key-found}
 use Rattle.segment_manager.proofs.{StorageSteps.step_of_kind-reply, Stored.literal-read, MapBlocks.blocks-in_use}
 use Rattle.segment_manager.proofs.{MapBlocks.found-key, Refilled.HoldsAt, Refilled.finds-no_container}
-use Rattle.segment_manager.proofs.{Refilled.holds-at}
+use Rattle.segment_manager.proofs.{Refilled.holds-at, AnyStorage.said-missing}
 use Rattle.segment_manager.proofs.MapSteps.{IsMapObject, again-denotes, erased-denotes, map-only, map_place, object-map}
 use Rattle.segment_manager.proofs.MapSteps.{put-denotes}
 use Rattle.segment_manager.proofs.Steps.{IsMove, IsOpenFor, by_no_change_of_kind, by_step_of_kind, open-reading}
-use Rattle.segment_manager.proofs.Steps.{open-writing, perform-new, perform-no_space, step_of_kind-found, with-found}
+use Rattle.segment_manager.proofs.Steps.{open-writing, perform-new, perform-no_space, step_of_kind-found}
 
 -- ---- the search
 
@@ -75,29 +76,18 @@ module _ (d : Directory) (key : Key) (o : Object) (k v : ScalarKind) (ps : List 
   abbrev found_with : Option NumberPair → Plan
   found_with r = elim r as (λ _. Plan) [ None ↦ Reply Absent d | Some p ↦ Reply (Element v p.value) d ]
 
-  abbrev looks_up : Literal → ScalarKind × ScalarKind × List NumberPair → Plan
-  looks_up l (k, v, ps) = with (value_of_literal k l) (λ x. elim (pair_at int_lt ps x) [ None ↦ Reply Absent d | Some p ↦ Reply (Element v p.value) d ])
-
   lookup-plan : (l : Literal) (x : ℤ) → value_of_literal k l ≡ Ok x → effect d (asked.Lookup key l) ≡ found_with (pair_at int_lt ps x)
-  lookup-plan l x g =
-      with-found d key o (λ o. with (map_of o.value) (looks_up l)) e ∙ ap (λ w. with (map_of w) (looks_up l)) f
-      ∙ ap (λ r. with r (λ x. found_with (pair_at int_lt ps x))) g
+  lookup-plan l x g = plan.lookup-plan d key o e (Ok (k, v, ps)) (ap map_of f) l ∙ ap (λ r. with r (λ x. found_with (pair_at int_lt ps x))) g
 
-  looked-up : (r : Option NumberPair) → perform d (live d) (found_with r) ≡ (value_or_absent v (option_map value_of_pair r), d)
-  looked-up None = refl
-  looked-up (Some p) = refl
+  looked-up : (m : LiveSet) (r : Option NumberPair) → perform d m (found_with r) ≡ (value_or_absent v (option_map value_of_pair r), d)
+  looked-up m None = refl
+  looked-up m (Some p) = refl
 
   abbrev removed_with : ℤ → Option NumberPair → Plan
   removed_with x r = elim r as (λ _. Plan) [ None ↦ Reply (Truth false) d | Some p ↦ Reply (Truth true) (changed d o (Pairs k v (remove_pair int_lt ps x))) ]
 
-  abbrev removes : Object → Literal → ScalarKind × ScalarKind × List NumberPair → Plan
-  removes o l (k, v, ps) =
-      with (value_of_literal k l) (λ x. elim (pair_at int_lt ps x) [ None ↦ Reply (Truth false) d | Some p ↦ Reply (Truth true) (changed d o (Pairs k v (remove_pair int_lt ps x))) ])
-
   remove-plan : (l : Literal) (x : ℤ) → value_of_literal k l ≡ Ok x → effect d (asked.Remove key l) ≡ removed_with x (pair_at int_lt ps x)
-  remove-plan l x g =
-      with-found d key o (λ o. with (map_of o.value) (removes o l)) e ∙ ap (λ w. with (map_of w) (removes o l)) f
-      ∙ ap (λ r. with r (λ x. removed_with x (pair_at int_lt ps x))) g
+  remove-plan l x g = plan.remove-plan d key o e (Ok (k, v, ps)) (ap map_of f) l ∙ ap (λ r. with r (λ x. removed_with x (pair_at int_lt ps x))) g
 
   abbrev put_with : ℤ → ℤ → Option NumberPair → Plan
   put_with x y r = elim r as (λ _. Plan) [
@@ -105,13 +95,9 @@ module _ (d : Directory) (key : Key) (o : Object) (k v : ScalarKind) (ps : List 
     | None ↦ Request (New Node (node_len (size_of k) (size_of v))) (λ n. Reply (Truth true) (changed d o (Pairs k v (put_pair int_lt (record { key = x; value = y; node = n }) ps))))
   ]
 
-  abbrev puts : Object → Literal → Literal → ScalarKind × ScalarKind × List NumberPair → Plan
-  puts o l m (k, v, ps) = with (pair_of k v l m) (λ new. step.put d o k v ps new)
-
   put-plan : (l m : Literal) (x y : ℤ) → value_of_literal k l ≡ Ok x → value_of_literal v m ≡ Ok y → effect d (asked.Put key l m) ≡ put_with x y (pair_at int_lt ps x)
   put-plan l m x y g h =
-      with-found d key o (λ o. with (map_of o.value) (puts o l m)) e ∙ ap (λ w. with (map_of w) (puts o l m)) f
-      ∙ (λ i. with (and_then (g i) (and_then (h i) (Ok []))) (λ new. step.put d o k v ps new))
+      plan.put-plan d key o e (Ok (k, v, ps)) (ap map_of f) l m ∙ (λ i. with (and_then (g i) (and_then (h i) (Ok []))) (λ new. step.put d o k v ps new))
 
 -- ---- steps that answer a truth
 
@@ -138,8 +124,10 @@ module _ (s : State) (key : Key) (k v : ScalarKind) (p : Place) (b : IsSegment s
   is-map d h = eq-eqb (code_of (Map k v)) (code_of (kind_of h.object.value)) (ap (λ w. code_of (kind_of w)) (sym h.known.value))
 
   -- the step is the command's plan, performed
-  map-plan : (c : Command) → IsOpenFor s.mode c → (d : Directory) (h : HoldsPairs s.cut.bytes d key k v p) → step_of_kind s.mode d key (Map k v) c ≡ perform d (live d) (effect d c)
-  map-plan c w d h = step_of_kind-found s.mode d key (Map k v) c h.object w h.is (is-map d h)
+  map-plan : (c : Command) → IsOpenFor s.mode c → (d : Directory) (l : StandsFor s.cut.bytes d) → step_of_kind s.mode d key (Map k v) c ≡ perform d (live_of s.cut.bytes) (effect d c)
+  map-plan c w d l =
+      let h : HoldsPairs s.cut.bytes d key k v p = map_in d l in
+      step_of_kind-found s.mode d key (Map k v) c h.object w h.is (is-map d h) ∙ ap (λ (m : LiveSet). perform d m (effect d c)) (sym (denotes-live current s.cut.bytes d l.denotes))
 
   -- ---- what is read
 
@@ -151,9 +139,9 @@ module _ (s : State) (key : Key) (k v : ScalarKind) (p : Place) (b : IsSegment s
       (by_no_change_of_kind s key (Map k v) c (value_or_absent v r)
       (λ d l.
       let h : HoldsPairs s.cut.bytes d key k v p = map_in d l in
-      map-plan c (open-reading s.mode c refl) d h
-      ∙ ap (perform d (live d)) (lookup-plan d key h.object k v h.pairs h.is h.known.value (literal_of k x) x (literal-read k x good))
-      ∙ looked-up d key h.object k v h.pairs h.is h.known.value (pair_at int_lt h.pairs x)
+      map-plan c (open-reading s.mode c refl) d l
+      ∙ ap (perform d (live_of s.cut.bytes)) (lookup-plan d key h.object k v h.pairs h.is h.known.value (literal_of k x) x (literal-read k x good))
+      ∙ looked-up d key h.object k v h.pairs h.is h.known.value (live_of s.cut.bytes) (pair_at int_lt h.pairs x)
       ∙ (λ i. (value_or_absent v (sym (each h.pairs h.map) i), d))))
 
   -- what is said of the pairs is said of those of the object
@@ -184,11 +172,11 @@ module _ (s : State) (key : Key) (k v : ScalarKind) (p : Place) (b : IsSegment s
           (λ q. (result ≡ Ok false) × IsPutAgain (numbers_of k) (numbers_of v) s.cut new p.handle p.at held.pairs q x y)
 
       put-outcome : (o : Option NumberPair) → pair_at int_lt held.pairs x ≡ o
-          → step_of_kind s.mode d key (Map k v) (Put x y) ≡ perform d (live d) (put_with d key held.object k v held.pairs held.is held.known.value x y o)
+          → step_of_kind s.mode d key (Map k v) (Put x y) ≡ perform d (live_of s.cut.bytes) (put_with d key held.object k v held.pairs held.is held.known.value x y o)
       put-outcome o e =
-          map-plan (Put x y) (open-writing s.mode (Put x y) writing) d held
-          ∙ ap (perform d (live d)) (put-plan d key held.object k v held.pairs held.is held.known.value (literal_of k x) (literal_of v y) x y (literal-read k x good) (literal-read v y fair))
-          ∙ ap (λ r. perform d (live d) (put_with d key held.object k v held.pairs held.is held.known.value x y r)) e
+          map-plan (Put x y) (open-writing s.mode (Put x y) writing) d l
+          ∙ ap (perform d (live_of s.cut.bytes)) (put-plan d key held.object k v held.pairs held.is held.known.value (literal_of k x) (literal_of v y) x y (literal-read k x good) (literal-read v y fair))
+          ∙ ap (λ r. perform d (live_of s.cut.bytes) (put_with d key held.object k v held.pairs held.is held.known.value x y r)) e
 
       -- the key is new
       put-new : pair_at int_lt held.pairs x ≡ None → IsPut (numbers_of k) (numbers_of v) s.cut new p.handle p.at held.pairs x y
@@ -197,8 +185,6 @@ module _ (s : State) (key : Key) (k v : ScalarKind) (p : Place) (b : IsSegment s
           let o : Object = held.object in
           let ps : List NumberPair = held.pairs in
           let q : NumberPair = record { key = x; value = y; node = r.extent } in
-          let placed : place (live d) (node_len (size_of k) (size_of v)) Node ≡ Some r.extent =
-          ap (λ l. place l (node_len (size_of k) (size_of v)) Node) (sym (denotes-live current s.cut.bytes d l.denotes)) ∙ r.placed in
           let den : Denotes current new.bytes (changed d o (Pairs k v (put_pair int_lt q ps))) =
           subst (λ (c : Place). (r : IsPut (numbers_of k) (numbers_of v) s.cut new c.handle c.at ps x y)
           → Denotes current new.bytes (changed d o (Pairs k v (put_pair int_lt (record { key = x; value = y; node = r.extent }) ps)))) held.at
@@ -206,7 +192,7 @@ module _ (s : State) (key : Key) (k v : ScalarKind) (p : Place) (b : IsSegment s
           record {
             after = changed d o (Pairs k v (put_pair int_lt q ps));
             is = put-outcome None e
-                ∙ perform-new d (live d) Node (node_len (size_of k) (size_of v)) (λ n. Reply (Truth true) (changed d o (Pairs k v (put_pair int_lt (record { key = x; value = y; node = n }) ps)))) r.extent placed;
+                ∙ perform-new d (live_of s.cut.bytes) Node (node_len (size_of k) (size_of v)) (λ n. Reply (Truth true) (changed d o (Pairs k v (put_pair int_lt (record { key = x; value = y; node = n }) ps)))) r.extent r.placed;
             stands = record { denotes = den };
           }
 
@@ -234,8 +220,8 @@ module _ (s : State) (key : Key) (k v : ScalarKind) (p : Place) (b : IsSegment s
           let o : Object = held.object in
           let ps : List NumberPair = held.pairs in
           put-outcome None e
-          ∙ perform-no_space d (live d) Node (node_len (size_of k) (size_of v)) (λ n. Reply (Truth true) (changed d o (Pairs k v (put_pair int_lt (record { key = x; value = y; node = n }) ps))))
-          (ap (λ l. place l (node_len (size_of k) (size_of v)) Node) (sym (denotes-live current s.cut.bytes d l.denotes)) ∙ r.none)
+          ∙ perform-no_space d (live_of s.cut.bytes) Node (node_len (size_of k) (size_of v)) (λ n. Reply (Truth true) (changed d o (Pairs k v (put_pair int_lt (record { key = x; value = y; node = n }) ps))))
+          r.none
 
       -- what was put, or put again
       put-moves : (E : Type 0) (t : Bool) (o : Option NumberPair) → pair_at int_lt held.pairs x ≡ o → PutsHere (let one : Result Bool E = Ok t in one) o
@@ -288,11 +274,11 @@ module _ (s : State) (key : Key) (k v : ScalarKind) (p : Place) (b : IsSegment s
       ErasesHere t o = MatchOption o ((t ≡ false) × (new ≡ s.cut)) (λ q. (t ≡ true) × IsErased (numbers_of k) (numbers_of v) s.cut new p.handle p.at erasing.pairs q x)
 
       remove-outcome : (o : Option NumberPair) → pair_at int_lt erasing.pairs x ≡ o
-          → step_of_kind s.mode d key (Map k v) (Remove x) ≡ perform d (live d) (removed_with d key erasing.object k v erasing.pairs erasing.is erasing.known.value x o)
+          → step_of_kind s.mode d key (Map k v) (Remove x) ≡ perform d (live_of s.cut.bytes) (removed_with d key erasing.object k v erasing.pairs erasing.is erasing.known.value x o)
       remove-outcome o e =
-          map-plan (Remove x) (open-writing s.mode (Remove x) writing) d erasing
-          ∙ ap (perform d (live d)) (remove-plan d key erasing.object k v erasing.pairs erasing.is erasing.known.value (literal_of k x) x (literal-read k x good))
-          ∙ ap (λ r. perform d (live d) (removed_with d key erasing.object k v erasing.pairs erasing.is erasing.known.value x r)) e
+          map-plan (Remove x) (open-writing s.mode (Remove x) writing) d l
+          ∙ ap (perform d (live_of s.cut.bytes)) (remove-plan d key erasing.object k v erasing.pairs erasing.is erasing.known.value (literal_of k x) x (literal-read k x good))
+          ∙ ap (λ r. perform d (live_of s.cut.bytes) (removed_with d key erasing.object k v erasing.pairs erasing.is erasing.known.value x r)) e
 
       erase-moves : (t : Bool) (o : Option NumberPair) → pair_at int_lt erasing.pairs x ≡ o → ErasesHere t o
           → SamePlace s.cut new × IsMove (record s { cut = new }) (Truth t) (step_of_kind s.mode d key (Map k v) (Remove x))
@@ -329,17 +315,8 @@ module _ (s : State) (key : Key) (k v : ScalarKind) (p : Place) (b : IsSegment s
         }
 
 -- why there is no such map is why nothing is said of one
-told-missing : {A : Type 0} (k v : ScalarKind) (say : List NumberPair → A) (o : Object) (why : Refusal) (t : Bool)
-    → Err why ≡ as_map (if t then Ok (container_place o) else Err WrongKind) → (let r : Result A Refusal = Err why in r) ≡ (if t then told_of say o.value else Err WrongKind)
-told-missing k v say o why true e = absurd (cc)
-told-missing k v say o why false e = let same : why ≡ WrongKind = cc in ap Err same
-
-told-nowhere : {A : Type 0} (k v : ScalarKind) (say : List NumberPair → A) (why : Refusal) (q : Option Object)
-    → Err why ≡ as_map (elim q as (λ _. Result ContainerPlace Refusal) [ None ↦ Err NotFound | Some o ↦ if same_kind (Map k v) (kind_of o.value) then Ok (container_place o) else Err WrongKind ])
-    → (let r : Result A Refusal = Err why in r) ≡ elim q as (λ _. Result A Refusal) [ None ↦ Err NotFound | Some o ↦ if same_kind (Map k v) (kind_of o.value) then told_of say o.value else Err WrongKind ]
-told-nowhere k v say why None e = let same : why ≡ NotFound = cc in ap Err same
-told-nowhere k v say why (Some o) e = told-missing k v say o why (same_kind (Map k v) (kind_of o.value)) e
-
 pub tells-nothing : {A : Type 0} (s : State) (key : Key) (k v : ScalarKind) (say : List NumberPair → A) (why : Refusal) → Answers s (λ d. map_at d key k v) (Err why)
     → Answers s (λ d. told_of_map d key k v say) (Err why)
-tells-nothing s key k v say why a = record { answers = λ d l. told-nowhere k v say why (object_at d key) (a.answers d l) }
+tells-nothing s key k v say why a = record {
+  answers = λ d l. said-missing (told_of say) (Map k v) why (object_at d key) (nowhere-if (container_at d key (Map k v)) why (a.answers d l));
+}

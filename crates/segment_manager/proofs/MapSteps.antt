@@ -1,19 +1,20 @@
 -- A map as the value of an object: it stands at its place as the calls of seg_map see it, and what they do to it is what becomes of the object.
 use Rattle.segment_manager.proofs.Common.{◌≡◌, refl, sym, ap, subst, ◌∙◌, ℕ, ◌+◌, ◌≤◌, ◌≢◌, inl, ℤ, true, ◌&&◌, Some}
-use Rattle.segment_manager.proofs.Common.{None, List, [], ◌∷◌, ◌++◌, length, map, arith, IsTrue, int_lt, AllByRecursion}
+use Rattle.segment_manager.proofs.Common.{None, List, [], ◌∷◌, length, map, arith, IsTrue, int_lt, AllByRecursion}
 use Rattle.segment_manager.proofs.Common.{list_all, and_from, current, Cut, Memory, Same, bytes_of, SameBlockBut}
-use Rattle.segment_manager.proofs.Common.{Extent, LiveSet, handle, added, released, Keeps, LaysOut, extent_at, live_of}
-use Rattle.segment_manager.proofs.Common.{lay_out_one, Map, ScalarKind, same_kind, IsBesideMap, IsErased, IsPut}
-use Rattle.segment_manager.proofs.Common.{IsPutAgain, is_rising, pair_at, put_pair, remove_pair, NumberPair}
-use Rattle.segment_manager.proofs.Common.{is_number_pair, HoldsMap, IsPairIn, nodes_of_pairs, Value, Pairs, Object}
-use Rattle.segment_manager.proofs.Common.{Directory, count_of, is_good_value, is_object, kind_of, live, padded}
-use Rattle.segment_manager.proofs.Common.{value_extents, value_len, Denotes, IsValueAt, head_len, numbers_of, StandsAt}
-use Rattle.segment_manager.proofs.Common.{changed}
+use Rattle.segment_manager.proofs.Common.{Extent, LiveSet, handle, Keeps, LaysOut, extent_at, live_of, lay_out_one, Map}
+use Rattle.segment_manager.proofs.Common.{ScalarKind, same_kind, IsBesideMap, IsErased, IsPut, IsPutAgain, is_rising}
+use Rattle.segment_manager.proofs.Common.{pair_at, put_pair, remove_pair, NumberPair, is_number_pair, HoldsMap}
+use Rattle.segment_manager.proofs.Common.{IsPairIn, nodes_of_pairs, Value, Pairs, Object, Directory, count_of}
+use Rattle.segment_manager.proofs.Common.{is_good_value, is_object, kind_of, live, padded, value_extents, value_len}
+use Rattle.segment_manager.proofs.Common.{Denotes, IsValueAt, head_len, numbers_of, StandsAt, changed, exchanged}
+use Rattle.segment_manager.proofs.Common.{SameSpread}
 use Rattle.seg_map.specs.declared.places.Place.{Place}
+use Rattle.best_fit.proofs.Laws.{spread-refl}
 use Rattle.segment_manager.proofs.{Calling.denotes-heap, Calling.denotes-live, Calling.object-at, Contained.good-with}
 use Rattle.segment_manager.proofs.{Denoted.denotes-replaced, Faces.IsLike, Frame.IsRoomy, Frame.object-roomy, Live.IsIn}
-use Rattle.segment_manager.proofs.{Live.live-same, Order.Apart, Order.Differs, Order.IsFoundIn, Regrown.InPlace}
-use Rattle.segment_manager.proofs.{Regrown.rest, Rewritten.object-held, Rewritten.value_start, Rewritten.with_value}
+use Rattle.segment_manager.proofs.{Order.Apart, Order.Differs, Order.IsFoundIn, Regrown.InPlace, Regrown.rest}
+use Rattle.segment_manager.proofs.{Rewritten.object-held, Rewritten.value_start, Rewritten.with_value}
 use Rattle.segment_manager.proofs.{Standings.standing-room, ItemSteps.one-kind, Words.first, Words.second}
 use Rattle.segment_manager.proofs.Exchanged.{all-but-beside, Exchange, between, live-exchanged, others-beside}
 use Rattle.segment_manager.proofs.MapBlocks.{BlocksInUse, PartedNodes, no-node, nodes, one-by_handle, put-parted}
@@ -111,13 +112,14 @@ module _ (old new : Cut) (d : Directory) (o : Object) (k v : ScalarKind) (ps qs 
     all-beside [] f n = tt
     all-beside (y ∷ ys) f n = (stays-beside y f.0 n.0, all-beside ys f.1 n.1)
 
-    -- the map has other pairs, in blocks of which all that are in use make the live set of the directory with it
+    -- the map has other pairs: blocks of theirs are gone, and others came
     pub pairs-changed : HoldsMap (numbers_of k) (numbers_of v) new.bytes (handle o.extent) (head_len + padded (length o.name)) qs
-        → LaysOut current new.bytes (live (changed d o (Pairs k v qs))) → Denotes current new.bytes (changed d o (Pairs k v qs))
-    pairs-changed s laid =
+        → (gone come : List Extent) → Exchange o (with_value o next) gone come → LaysOut current new.bytes (exchanged (live_of old.bytes) gone come) → Denotes current new.bytes (changed d o next)
+    pairs-changed s gone come e laid =
         let m : Memory = bytes_of old.bytes in
         let m' : Memory = bytes_of new.bytes in
         let from : ℕ = value_start o in
+        let l : LaysOut current new.bytes (exchanged (live d) gone come) = subst (λ (l : LiveSet). LaysOut current new.bytes (exchanged l gone come)) (denotes-live current old.bytes d den) laid in
         let like : IsLike o (with_value o (Pairs k v qs)) = record { extent = refl; name = refl; class = refl; kind = sym (ap kind_of x.value) } in
         let roomy : IsRoomy o = object-roomy current o x.stands.good in
         let len : value_len o.value ≡ 24 = ap value_len x.value in
@@ -128,38 +130,28 @@ module _ (old new : Cut) (d : Directory) (o : Object) (k v : ScalarKind) (ps qs 
           place = b.place;
           front = b.front;
           behind = b.behind;
-          blocks = all-but-beside m m' from 24 o.extent (rest d o) (omega arith) (omega (arith, len)) (others-beside d o o (record { found = x.found; extent = refl; proper = den.directory.proper }))
+          blocks = all-but-beside m m' from 24 o.extent (rest d o) (omega arith) (omega (arith, len)) (others-beside d o (with_value o next) in_place)
               (all-beside (rest d o) x.in_use.beside x.in_use.beside_apart);
         } in
-        denotes-replaced current old new d o (with_value o (Pairs k v qs)) den x.found like (next-good s) laid keeps
+        denotes-replaced current old new d o (with_value o next) den x.found like (next-good s)
+        (subst (LaysOut current new.bytes) (sym (live-exchanged d o (with_value o next) gone come in_place e l.proper)) l) keeps
         (object-held m m' o next (object-at current old.bytes d (handle o.extent) o den x.found) (sym (ap kind_of x.value)) (sym (ap count_of x.value)) front
         (subst (λ at. IsValueAt m' at next) (sym (start-there o)) s.map))
 
-  extents-are : (front back : List Extent) → nodes ps ≡ front ++ back → value_extents o.value ≡ front ++ back
-  extents-are front back e = ap value_extents x.value ∙ e
+  -- the nodes of one are those of the other but one, which came or is gone
+  pub came : (n : Extent) → PartedNodes (nodes ps) (nodes qs) n → Exchange o (with_value o (Pairs k v qs)) [] (n ∷ [])
+  came n r = between o (with_value o next) r.front [] (n ∷ []) r.back (ap value_extents x.value ∙ r.others) r.whole
 
-  -- one block more
-  pub live-put : (n : Extent) → PartedNodes (nodes ps) (nodes qs) n → LaysOut current new.bytes (added (live_of old.bytes) n) → LaysOut current new.bytes (live (changed d o (Pairs k v qs)))
-  live-put n r laid =
-      let l : live_of old.bytes ≡ live d = denotes-live current old.bytes d den in
-      let there : LaysOut current new.bytes (added (live d) n) = subst (λ (s : LiveSet). LaysOut current new.bytes (added s n)) l laid in
-      let e : Exchange o (with_value o next) [] (n ∷ []) = between o (with_value o next) r.front [] (n ∷ []) r.back (extents-are r.front r.back r.others) r.whole in
-      subst (LaysOut current new.bytes) (sym (live-exchanged d o (with_value o next) [] (n ∷ []) in_place e there.proper)) there
+  pub went : (n : Extent) → PartedNodes (nodes qs) (nodes ps) n → Exchange o (with_value o (Pairs k v qs)) (n ∷ []) []
+  went n r = between o (with_value o next) r.front (n ∷ []) [] r.back (ap value_extents x.value ∙ r.whole) r.others
 
-  -- one block less
-  pub live-removed : (n : Extent) → PartedNodes (nodes qs) (nodes ps) n → LaysOut current new.bytes (released (live_of old.bytes) (handle n)) → LaysOut current new.bytes (live (changed d o (Pairs k v qs)))
-  live-removed n r laid =
-      let l : live_of old.bytes ≡ live d = denotes-live current old.bytes d den in
-      let there : LaysOut current new.bytes (released (live d) (handle n)) = subst (λ (s : LiveSet). LaysOut current new.bytes (released s (handle n))) l laid in
-      let e : Exchange o (with_value o next) (n ∷ []) [] = between o (with_value o next) r.front (n ∷ []) [] r.back (extents-are r.front (n ∷ r.back) r.whole) r.others in
-      subst (LaysOut current new.bytes) (sym (live-exchanged d o (with_value o next) (n ∷ []) [] in_place e there.proper)) there
-
-  -- the same blocks
-  pub live-again : nodes qs ≡ nodes ps → LaysOut current new.bytes (live_of old.bytes) → LaysOut current new.bytes (live (changed d o (Pairs k v qs)))
-  live-again e laid =
-      subst (LaysOut current new.bytes)
-      (denotes-live current old.bytes d den
-      ∙ sym (live-same d o (with_value o (Pairs k v qs)) x.found (ap (λ ys. o.extent ∷ ys) e ∙ (λ i. o.extent ∷ value_extents (sym x.value i))))) laid
+  -- or they are the same
+  pub all-same : nodes qs ≡ nodes ps → Exchange o (with_value o (Pairs k v qs)) [] []
+  all-same e = record {
+    same = nodes ps;
+    was = subst (λ xs. SameSpread xs (nodes ps)) (sym (ap value_extents x.value)) (spread-refl (nodes ps));
+    is = subst (SameSpread (nodes ps)) (sym e) (spread-refl (nodes ps));
+  }
 
 -- ---- the calls of seg_map
 
@@ -170,7 +162,7 @@ module _ (old new : Cut) (d : Directory) (o : Object) (k v : ScalarKind) (ps : L
   put-denotes key value none r =
       let p : NumberPair = record { key = key; value = value; node = r.extent } in
       let qs : List NumberPair = put_pair int_lt p ps in
-      pairs-changed old new d o k v ps qs den x r.beside r.map (live-put old new d o k v ps qs den x r.extent (put-parted p ps none) r.live)
+      pairs-changed old new d o k v ps qs den x r.beside r.map [] (r.extent ∷ []) (came old new d o k v ps qs den x r.extent (put-parted p ps none)) r.live
 
   -- another value in the block of a pair
   pub again-denotes : (key value : ℤ) (p : NumberPair) → IsPutAgain (numbers_of k) (numbers_of v) old new (handle o.extent) (head_len + padded (length o.name)) ps p key value
@@ -185,11 +177,11 @@ module _ (old new : Cut) (d : Directory) (o : Object) (k v : ScalarKind) (ps : L
       one-by_handle (live_of old.bytes).extents (nodes qs) (nodes ps) (same-handles qs ∙ same ∙ sym (same-handles ps))
       (subst (λ (l : LiveSet). AllByRecursion (IsFoundIn l.extents) (nodes qs)) l (listed-nodes k v (live_of new.bytes) (handle o.extent) qs r.map.pairs))
       (listed-nodes k v (live_of old.bytes) (handle o.extent) ps s.pairs) in
-      pairs-changed old new d o k v ps qs den x r.beside r.map (live-again old new d o k v ps qs den x one r.live)
+      pairs-changed old new d o k v ps qs den x r.beside r.map [] [] (all-same old new d o k v ps qs den x one) r.live
 
   -- a pair less
   pub erased-denotes : (key : ℤ) (p : NumberPair) → pair_at int_lt ps key ≡ Some p → IsErased (numbers_of k) (numbers_of v) old new (handle o.extent) (head_len + padded (length o.name)) ps p key
       → Denotes current new.bytes (changed d o (Pairs k v (remove_pair int_lt ps key)))
   erased-denotes key p e r =
       let qs : List NumberPair = remove_pair int_lt ps key in
-      pairs-changed old new d o k v ps qs den x r.beside r.map (live-removed old new d o k v ps qs den x p.node (removed-parted key p ps e) r.live)
+      pairs-changed old new d o k v ps qs den x r.beside r.map (p.node ∷ []) [] (went old new d o k v ps qs den x p.node (removed-parted key p ps e)) r.live

@@ -7,43 +7,43 @@ use Rattle.segment_manager.proofs.Common.{NumberPair, Located, Answer, Element, 
 use Rattle.segment_manager.proofs.Common.{IsUnchangeable, IsValueOf, Value, Numbers, Elements, Bytes, Pairs, Texts}
 use Rattle.segment_manager.proofs.Common.{Object, Directory, kind_of, live, object_at, IsMissing, IsLocated, Plan}
 use Rattle.segment_manager.proofs.Common.{Refuse, Reply, perform, with, Answers, IsReply, IsReplyOfKind, IsStep}
-use Rattle.segment_manager.proofs.Common.{IsStepOfKind, State, StandsFor, and_then, changed, effect, is_read_only}
-use Rattle.segment_manager.proofs.Common.{map_of, pair_of}
+use Rattle.segment_manager.proofs.Common.{IsStepOfKind, State, StandsFor, and_then, changed, effect, map_of, pair_of}
+use Rattle.segment_manager.specs.Answers.{Absent}
+use Rattle.segment_manager.specs.Changeable.{IsPairOf}
 use Rattle.seg_types.specs.Commands as asked
-use Rattle.segment_manager.specs.{Answers.Absent, Changeable.IsPairOf}
 use Rattle.segment_manager.specs.Step as step
-use Rattle.segment_manager.proofs.AnyStorage.{IsOfKindAt, kind-told, of_kind-steps}
-use Rattle.segment_manager.proofs.Changeable.{answered-reads, refuses, refuses-read, says-kind}
-use Rattle.segment_manager.proofs.Locating.{kind-by_key, reply_of_kind-by_key, step_of_kind-by_key}
-use Rattle.segment_manager.proofs.Steps.{step_of_kind-step, with-found, with-not_found}
-use Rattle.segment_manager.proofs.{Stored.literal-read, ElementLaws.same_plan-steps}
+use Rattle.segment_manager.proofs.{AnyStorage.IsOfKindAt, AnyStorage.kind-told, AnyStorage.of_kind-steps}
+use Rattle.segment_manager.proofs.{Changeable.answered-reads, Changeable.refuses, Changeable.refuses-read}
+use Rattle.segment_manager.proofs.{Changeable.says-kind, Locating.kind-by_key, Locating.reply_of_kind-by_key}
+use Rattle.segment_manager.proofs.{Locating.step_of_kind-by_key, Steps.step_of_kind-step, Steps.with-found}
+use Rattle.segment_manager.proofs.{Steps.with-not_found, Stored.literal-read, ElementLaws.same_plan-steps}
 
 -- ---- the plans
 
-abbrev puts : Directory → Object → Literal → Literal → ScalarKind × ScalarKind × List NumberPair → Plan
+abbrev pub puts : Directory → Object → Literal → Literal → ScalarKind × ScalarKind × List NumberPair → Plan
 puts d o l m (k, v, ps) = with (pair_of k v l m) (λ new. step.put d o k v ps new)
 
-abbrev found_with : Directory → ScalarKind → Option NumberPair → Plan
+abbrev pub found_with : Directory → ScalarKind → Option NumberPair → Plan
 found_with d v r = elim r as (λ _. Plan) [ None ↦ Reply Absent d | Some p ↦ Reply (Element v p.value) d ]
 
-abbrev looks_up : Directory → Literal → ScalarKind × ScalarKind × List NumberPair → Plan
+abbrev pub looks_up : Directory → Literal → ScalarKind × ScalarKind × List NumberPair → Plan
 looks_up d l (k, v, ps) = with (value_of_literal k l) (λ x. elim (pair_at int_lt ps x) [ None ↦ Reply Absent d | Some p ↦ Reply (Element v p.value) d ])
 
-abbrev removes_at : Directory → Object → ScalarKind → ScalarKind → List NumberPair → ℤ → Plan
+abbrev pub removes_at : Directory → Object → ScalarKind → ScalarKind → List NumberPair → ℤ → Plan
 removes_at d o k v ps x =
     elim (pair_at int_lt ps x) as (λ _. Plan) [ None ↦ Reply (Truth false) d | Some p ↦ Reply (Truth true) (changed d o (Pairs k v (remove_pair int_lt ps x))) ]
 
-abbrev removes : Directory → Object → Literal → ScalarKind × ScalarKind × List NumberPair → Plan
+abbrev pub removes : Directory → Object → Literal → ScalarKind × ScalarKind × List NumberPair → Plan
 removes d o l (k, v, ps) = with (value_of_literal k l) (removes_at d o k v ps)
 
 module _ (d : Directory) (key : Key) (o : Object) (e : object_at d key ≡ Some o) (r : Result (ScalarKind × ScalarKind × List NumberPair) Refusal) (f : map_of o.value ≡ r) where
-  put-plan : (l m : Literal) → effect d (asked.Put key l m) ≡ with r (puts d o l m)
+  pub put-plan : (l m : Literal) → effect d (asked.Put key l m) ≡ with r (puts d o l m)
   put-plan l m = with-found d key o (λ o. with (map_of o.value) (puts d o l m)) e ∙ ap (λ q. with q (puts d o l m)) f
 
-  lookup-plan : (l : Literal) → effect d (asked.Lookup key l) ≡ with r (looks_up d l)
+  pub lookup-plan : (l : Literal) → effect d (asked.Lookup key l) ≡ with r (looks_up d l)
   lookup-plan l = with-found d key o (λ o. with (map_of o.value) (looks_up d l)) e ∙ ap (λ q. with q (looks_up d l)) f
 
-  remove-plan : (l : Literal) → effect d (asked.Remove key l) ≡ with r (removes d o l)
+  pub remove-plan : (l : Literal) → effect d (asked.Remove key l) ≡ with r (removes d o l)
   remove-plan l = with-found d key o (λ o. with (map_of o.value) (removes d o l)) e ∙ ap (λ q. with q (removes d o l)) f
 
 -- ---- the object of the key, of a kind
@@ -144,22 +144,6 @@ module _ (s : State) (key : Key) (k v : ScalarKind) (a : Answers s (λ d. kind_a
         ∙ sym (answered-reads s.mode d (asked.Lookup key l) refl);
   }
 
-  -- those that are none are refused
-  put-refused : (l m : Literal) (why : Refusal) → is_read_only s.mode ≡ false → pair_of k v l m ≡ Err why → IsStep s s (asked.Put key l m) (Refused why)
-  put-refused l m why writing e =
-      refuses s (asked.Put key l m) why writing
-      (λ d st. put-of d st l m ∙ ap (λ (q : Result (List ℤ) Refusal). with q (λ new. step.put d (found d st).object k v (held d st).pairs new)) e)
-
-  remove-refused : (l : Literal) (why : Refusal) → is_read_only s.mode ≡ false → value_of_literal k l ≡ Err why → IsStep s s (asked.Remove key l) (Refused why)
-  remove-refused l why writing e =
-      refuses s (asked.Remove key l) why writing
-      (λ d st. remove-of d st l ∙ ap (λ (q : Result ℤ Refusal). with q (removes_at d (found d st).object k v (held d st).pairs)) e)
-
-  lookup-refused : (l : Literal) (why : Refusal) → value_of_literal k l ≡ Err why → IsReply s (asked.Lookup key l) (Refused why)
-  lookup-refused l why e =
-      refuses-read s (asked.Lookup key l) why refl
-      (λ d st. lookup-of d st l ∙ ap (λ (q : Result ℤ Refusal). with q (λ x. found_with d v (pair_at int_lt (held d st).pairs x))) e)
-
 -- ---- as the calls say it
 
 module _ {s : State} {key : Key} {o : Located} (h : IsToChange s key o) {k v : ScalarKind} (is : o.kind ≡ Map k v) where
@@ -175,7 +159,11 @@ module _ {s : State} {key : Key} {o : Located} (h : IsToChange s key o) {k v : S
       (subst (λ j. IsStepOfKind s new (ByHandle o.handle) (Map j (kind_of_scalar p.1)) (asked.Put (ByHandle o.handle) (literal_of j (value_of_scalar p.0)) (literal_of (kind_of_scalar p.1) (value_of_scalar p.1))) answer) same r)))
 
   pub put-no_pair : (at value : Literal) {why : Refusal} → pair_of k v at value ≡ Err why → IsStep s s (asked.Put key at value) (Refused why)
-  put-no_pair at value {why} e = put-refused s key k v (says-kind h.located is) at value why h.writing e
+  put-no_pair at value {why} e =
+      let a : Answers s (λ d. kind_at d key) (Ok (Map k v)) = says-kind h.located is in
+      refuses s (asked.Put key at value) why h.writing
+      (λ d st.
+      put-of s key k v a d st at value ∙ ap (λ (q : Result (List ℤ) Refusal). with q (λ new. step.put d (found s key k v a d st).object k v (held s key k v a d st).pairs new)) e)
 
   -- a key of its kind
   pub removes-key : {new : State} (at : Literal) (x : ScalarValue) {answer : Answer} → IsValueOf k (value_of_literal k at) (Ok x)
@@ -186,7 +174,10 @@ module _ {s : State} {key : Key} {o : Located} (h : IsToChange s key o) {k v : S
       (subst (λ j. IsStepOfKind s new (ByHandle o.handle) (Map j v) (asked.Remove (ByHandle o.handle) (literal_of j (value_of_scalar x))) answer) same r))
 
   pub remove-no_value : (at : Literal) {why : Refusal} → value_of_literal k at ≡ Err why → IsStep s s (asked.Remove key at) (Refused why)
-  remove-no_value at {why} e = remove-refused s key k v (says-kind h.located is) at why h.writing e
+  remove-no_value at {why} e =
+      let a : Answers s (λ d. kind_at d key) (Ok (Map k v)) = says-kind h.located is in
+      refuses s (asked.Remove key at) why h.writing
+      (λ d st. remove-of s key k v a d st at ∙ ap (λ (q : Result ℤ Refusal). with q (removes_at d (found s key k v a d st).object k v (held s key k v a d st).pairs)) e)
 
 module _ {s : State} {key : Key} {o : Located} (l : IsLocated s key o) {k v : ScalarKind} (is : o.kind ≡ Map k v) where
   pub looks-up-key : (at : Literal) (x : ScalarValue) {answer : Answer} → IsValueOf k (value_of_literal k at) (Ok x)
@@ -197,7 +188,10 @@ module _ {s : State} {key : Key} {o : Located} (l : IsLocated s key o) {k v : Sc
       (subst (λ j. IsReplyOfKind s (ByHandle o.handle) (Map j v) (asked.Lookup (ByHandle o.handle) (literal_of j (value_of_scalar x))) answer) same r))
 
   pub lookup-no_value : (at : Literal) {why : Refusal} → value_of_literal k at ≡ Err why → IsReply s (asked.Lookup key at) (Refused why)
-  lookup-no_value at {why} e = lookup-refused s key k v (says-kind l is) at why e
+  lookup-no_value at {why} e =
+      let a : Answers s (λ d. kind_at d key) (Ok (Map k v)) = says-kind l is in
+      refuses-read s (asked.Lookup key at) why refl
+      (λ d st. lookup-of s key k v a d st at ∙ ap (λ (q : Result ℤ Refusal). with q (λ x. found_with d v (pair_at int_lt (held s key k v a d st).pairs x))) e)
 
 -- no object that may be changed has the key
 module _ {s : State} {key : Key} {why : Refusal} (h : IsUnchangeable s key why) where

@@ -11,10 +11,17 @@ use Rattle.segment_manager.proofs.Common.{StandsAt, Answers, State}
 use Rattle.segment_manager.specs.declared.accessing.Place.{Place}
 use Rattle.segment_manager.specs.Standing.{element_at, place_at, place_in}
 use Rattle.segment_manager.proofs.{Blocks.spelling-length, Codes.numbers-only, Frame.object-roomy, Rows.Has-element}
-use Rattle.segment_manager.proofs.{Standings.standing-room, Words.first, Words.second}
-use Rattle.segment_manager.proofs.Here.{IsHere, here, standing}
+use Rattle.segment_manager.proofs.{Standings.standing-room, Words.first, Words.second, Here.IsHere, Here.here}
+use Rattle.segment_manager.proofs.{Here.standing}
 
 -- ---- an element
+
+-- where a place in an object is, and in the object of a key
+abbrev in_object : Object → Result ℕ Refusal → Result Place Refusal
+in_object o q = elim q as (λ _. Result Place Refusal) [ Ok at ↦ Ok (record { handle = handle o.extent; at = at }) | Err r ↦ Err r ]
+
+abbrev in_any : ScalarKind → ℕ → Option Object → Result Place Refusal
+in_any k i r = elim r as (λ _. Result Place Refusal) [ None ↦ Err NotFound | Some o ↦ in_object o (place_in o k i) ]
 
 -- there it stands, or the reason why it does not
 placed-if : (s t : Bool) (at n : ℕ) → Ok at ≡ (if s then (if t then Ok n else Err OutOfRange) else Err WrongKind) → (s ≡ true) × (t ≡ true) × (at ≡ n)
@@ -77,17 +84,14 @@ element-of b d key k i p o e s f =
     }
 
 found-if : (b : List ℕ) (d : Directory) (key : Key) (k : ScalarKind) (i : ℕ) (p : Place) (o : Object) (q : Result ℕ Refusal) → Denotes current b d → object_at d key ≡ Some o → place_in o k i ≡ q
-    → Ok p ≡ elim q as (λ _. Result Place Refusal) [ Ok at ↦ Ok (record { handle = handle o.extent; at = at }) | Err r ↦ Err r ] → ElementAt b d key k i p
+    → Ok p ≡ in_object o q → ElementAt b d key k i p
 found-if b d key k i p o (Ok at) h e f g =
     let same : p ≡ record { handle = handle o.extent; at = at } = cc in
     element-of b d key k i p o e (subst (λ (x : Place). StandsAt b x.handle o) (sym same) (standing b d key o h e)) (ap (λ (x : Place). Ok x.at) same ∙ sym f)
 found-if b d key k i p o (Err r) h e f g = absurd (cc)
 
 element-if : (b : List ℕ) (d : Directory) (key : Key) (k : ScalarKind) (i : ℕ) (p : Place) (r : Option Object) → Denotes current b d → object_at d key ≡ r
-    → Ok p ≡ elim r as (λ _. Result Place Refusal) [
-      | None ↦ Err NotFound
-      | Some o ↦ elim (place_in o k i) as (λ _. Result Place Refusal) [ Ok at ↦ Ok (record { handle = handle o.extent; at = at }) | Err r ↦ Err r ]
-    ] → ElementAt b d key k i p
+    → Ok p ≡ in_any k i r → ElementAt b d key k i p
 element-if b d key k i p None h e f = absurd (cc)
 element-if b d key k i p (Some o) h e f = found-if b d key k i p o (place_in o k i) h e refl f
 
@@ -103,17 +107,14 @@ pub data Missing (d : Directory) (key : Key) (k : ScalarKind) (i : ℕ) (r : Ref
   Within : (o : Object) → object_at d key ≡ Some o → Lacks o k i r → Missing d key k i r
 
 within-if : (o : Object) (k : ScalarKind) (i : ℕ) (r : Refusal) (q : Result ℕ Refusal) → place_in o k i ≡ q
-    → Err r ≡ elim q as (λ _. Result Place Refusal) [ Ok at ↦ Ok (record { handle = handle o.extent; at = at }) | Err r ↦ Err r ] → Lacks o k i r
+    → Err r ≡ in_object o q → Lacks o k i r
 within-if o k i r (Ok at) e f = absurd (cc)
 within-if o k i r (Err q) e f =
     let same : r ≡ q = cc in
     lacks-if o k i (element_at k o.name i) r (same_kind (Scalar k) (kind_of o.value)) (nat_lt i (count_of o.value)) refl refl (ap Err same ∙ sym e)
 
 missing-if : (d : Directory) (key : Key) (k : ScalarKind) (i : ℕ) (r : Refusal) (p : Option Object) → object_at d key ≡ p
-    → Err r ≡ elim p as (λ _. Result Place Refusal) [
-      | None ↦ Err NotFound
-      | Some o ↦ elim (place_in o k i) as (λ _. Result Place Refusal) [ Ok at ↦ Ok (record { handle = handle o.extent; at = at }) | Err r ↦ Err r ]
-    ] → Missing d key k i r
+    → Err r ≡ in_any k i p → Missing d key k i r
 missing-if d key k i r None e f = Nowhere e (cc)
 missing-if d key k i r (Some o) e f = Within o e (within-if o k i r (place_in o k i) refl f)
 
@@ -148,15 +149,6 @@ module _ (b : List ℕ) (d : Directory) (key : Key) (k : ScalarKind) (i : ℕ) (
 
 -- ---- the search
 
--- the place of the key is that in its object
-place-in : (d : Directory) (key : Key) (k : ScalarKind) (i : ℕ) (o : Object) → object_at d key ≡ Some o
-    → place_at d key k i ≡ elim (place_in o k i) as (λ _. Result Place Refusal) [ Ok at ↦ Ok (record { handle = handle o.extent; at = at }) | Err r ↦ Err r ]
-place-in d key k i o e =
-    ap (λ (p : Option Object). elim p as (λ _. Result Place Refusal) [
-      | None ↦ Err NotFound
-      | Some o ↦ elim (place_in o k i) as (λ _. Result Place Refusal) [ Ok at ↦ Ok (record { handle = handle o.extent; at = at }) | Err r ↦ Err r ]
-    ]) e
-
 -- the place in each object that stands at the handle is the place of the key
 pub places : (s : State) (key : Key) (h : ℕ) (k : ScalarKind) (i at : ℕ) → Answers s (λ d. handle_at d key) (Some h) → ((o : Object) → StandsAt s.cut.bytes h o → Ok at ≡ place_in o k i)
     → Answers s (λ d. place_at d key k i) (Ok (record { handle = h; at = at }))
@@ -165,8 +157,8 @@ places s key h k i at a each = record {
       let o : IsHere s.cut.bytes d key h = here s.cut.bytes d key h l.denotes (a.answers d l) in
       let start : h ≡ handle o.object.extent = o.stands.at in
       (λ j. Ok (record { handle = start j; at = at }))
-      ∙ ap (λ (q : Result ℕ Refusal). elim q as (λ _. Result Place Refusal) [ Ok at ↦ Ok (record { handle = handle o.object.extent; at = at }) | Err r ↦ Err r ]) (each o.object o.stands)
-      ∙ sym (place-in d key k i o.object o.is);
+      ∙ ap (in_object o.object) (each o.object o.stands)
+      ∙ sym (ap (in_any k i) o.is);
 }
 
 -- why there is none in each such object is why the key has none
@@ -175,6 +167,6 @@ pub places-missing : (s : State) (key : Key) (h : ℕ) (k : ScalarKind) (i : ℕ
 places-missing s key h k i r a each = record {
   answers = λ d l.
       let o : IsHere s.cut.bytes d key h = here s.cut.bytes d key h l.denotes (a.answers d l) in
-      ap (λ (q : Result ℕ Refusal). elim q as (λ _. Result Place Refusal) [ Ok at ↦ Ok (record { handle = handle o.object.extent; at = at }) | Err r ↦ Err r ]) (each o.object o.stands)
-      ∙ sym (place-in d key k i o.object o.is);
+      ap (in_object o.object) (each o.object o.stands)
+      ∙ sym (ap (in_any k i) o.is);
 }

@@ -1,9 +1,9 @@
 -- A call that changes a vector or text of an object is one step of the directory machine.
 use Rattle.segment_manager.proofs.Common.{◌≡◌, refl, sym, ap, ◌∙◌, ℕ, true, false, Bool, Option, Some, None, Result, Ok}
-use Rattle.segment_manager.proofs.Common.{Err, List, if◌then◌else◌, ◌*◌, subst, ◌&&◌, IsTrue, nat_le, option_map, Cut}
-use Rattle.segment_manager.proofs.Common.{live_of, Table, Extent, LiveSet, regrow, Kind, Refusal, NoSpace, NotFound}
-use Rattle.segment_manager.proofs.Common.{WrongKind, ReadOnly, same_kind, Key, Command, is_changing, Place, grown_table}
-use Rattle.segment_manager.proofs.Common.{Mode, Answer, Refused, Contents, IsRefilled, container_at, container_place}
+use Rattle.segment_manager.proofs.Common.{Err, List, if◌then◌else◌, ◌*◌, ◌&&◌, IsTrue, nat_le, option_map, Cut, live_of}
+use Rattle.segment_manager.proofs.Common.{Table, Extent, LiveSet, regrow, Kind, Refusal, NoSpace, NotFound, WrongKind}
+use Rattle.segment_manager.proofs.Common.{ReadOnly, same_kind, Key, Command, is_changing, Place, grown_table, Mode}
+use Rattle.segment_manager.proofs.Common.{Answer, Refused, Contents, IsRefilled, container_at, container_place}
 use Rattle.segment_manager.proofs.Common.{contents_of, has_values, Value, Object, Directory, kind_of, live, object_at}
 use Rattle.segment_manager.proofs.Common.{Denotes, Reply, perform, with_capacity, Request, RegrownNeed, Refuse, Answers}
 use Rattle.segment_manager.proofs.Common.{IsSegment, IsStep, IsStepOfKind, State, StandsFor, changed, effect}
@@ -11,7 +11,7 @@ use Rattle.segment_manager.proofs.Common.{is_read_only, step_of_kind, step}
 use Rattle.segment_manager.proofs.{Calling.denotes-live, Contained.contents-changed}
 use Rattle.segment_manager.proofs.Steps.{IsMove, IsOpenFor, by_no_change, by_no_change_of_kind, by_step_of_kind}
 use Rattle.segment_manager.proofs.Steps.{open-writing, step-effect, step_of_kind-found, step_of_kind-not_found}
-use Rattle.segment_manager.proofs.Steps.{step_of_kind-other}
+use Rattle.segment_manager.proofs.Steps.{step_of_kind-other, moves-same}
 
 -- ---- a plan that asks for room
 
@@ -61,17 +61,10 @@ pub record Refill (old new : Cut) (d : Directory) (key : Key) (c : Command) (ans
 pub replied : (d : Directory) (c : Command) (answer : Answer) (after : Directory) → effect d c ≡ Reply answer after → perform d (live d) (effect d c) ≡ (answer, after)
 replied d c answer after e = ap (perform d (live d)) e
 
--- the plan asks for room: there is the room
-pub made_room : (format : ℕ) (b : List ℕ) (d : Directory) (c : Command) (each n : ℕ) (t u : Table) (answer : Answer) (next : Table → Directory) → Denotes format b d
-    → effect d c ≡ with_capacity each n t (λ u. Reply answer (next u)) → grown_table (live_of b) each n t ≡ Some u → perform d (live d) (effect d c) ≡ (answer, next u)
-made_room format b d c each n t u answer next k e g =
-    ap (perform d (live d)) e ∙ grows d (live d) each n t answer next
-    ∙ ap (answered d answer next) (ap (λ l. grown_table l each n t) (sym (denotes-live format b d k)) ∙ g)
-
--- or there is no space
-pub no_room : (format : ℕ) (b : List ℕ) (d : Directory) (c : Command) (each n : ℕ) (t : Table) (answer : Answer) (next : Table → Directory) → Denotes format b d
-    → effect d c ≡ with_capacity each n t (λ u. Reply answer (next u)) → grown_table (live_of b) each n t ≡ None → perform d (live d) (effect d c) ≡ (Refused NoSpace, d)
-no_room format b d c each n t answer next k e g =
+-- the plan asks for room, where there is some or none
+pub room-asked : (format : ℕ) (b : List ℕ) (d : Directory) (c : Command) (each n : ℕ) (t : Table) (r : Option Table) (answer : Answer) (next : Table → Directory) → Denotes format b d
+    → effect d c ≡ with_capacity each n t (λ u. Reply answer (next u)) → grown_table (live_of b) each n t ≡ r → perform d (live d) (effect d c) ≡ answered d answer next r
+room-asked format b d c each n t r answer next k e g =
     ap (perform d (live d)) e ∙ grows d (live d) each n t answer next
     ∙ ap (answered d answer next) (ap (λ l. grown_table l each n t) (sym (denotes-live format b d k)) ∙ g)
 
@@ -150,8 +143,5 @@ same-step mode d c c' e f = λ i. perform d (live d) (if is_read_only mode && e 
 -- what is a step of one is a step of the other
 pub same_plan-steps : (old new : State) (c c' : Command) (answer : Answer) → is_changing c ≡ is_changing c' → ((d : Directory) → StandsFor old.cut.bytes d → effect d c ≡ effect d c')
     → IsStep old new c' answer → IsStep old new c answer
-same_plan-steps old new c c' answer e each r = record {
-  stays = r.stays;
-  answers = λ d l. r.answers d l ∙ ap (λ (n : Answer × Directory). n.0) (sym (same-step old.mode d c c' e (each d l)));
-  denotes = λ d l. subst (λ (n : Answer × Directory). StandsFor new.cut.bytes n.1) (sym (same-step old.mode d c c' e (each d l))) (r.denotes d l);
-}
+same_plan-steps old new c c' answer e each =
+    moves-same old new answer (λ d. step old.mode d c') (λ d. step old.mode d c) (λ d l. sym (same-step old.mode d c c' e (each d l)))

@@ -7,15 +7,18 @@ use Rattle.segment_manager.proofs.Common.{ScalarValue, code_of, is_value, same_k
 use Rattle.segment_manager.proofs.Common.{value_of_scalar, Literal, value_of_literal, Mode, Answer, Element, Refused}
 use Rattle.segment_manager.proofs.Common.{Done, Object, Directory, Numbers, count_of, kind_of, live, object_at, perform}
 use Rattle.segment_manager.proofs.Common.{Refuse, Reply, with, Answers, IsReplyOfKind, IsSegment, State, answer_of}
-use Rattle.segment_manager.proofs.Common.{scalar_answer, step_of_kind, effect, get, set, changed}
+use Rattle.segment_manager.proofs.Common.{scalar_answer, step_of_kind, effect, get, set, changed, Command}
 use Rattle.std.specs.Option.{ok_or}
 use Rattle.byteorder.specs.Endian.{little_number}
-use Rattle.seg_types.specs.{Kinds.is_spelling, Kinds.value_of, Values.SpelledBy}
-use Rattle.seg_types.specs.Commands as asked
+use Rattle.seg_types.specs.Kinds.{is_spelling, value_of}
+use Rattle.seg_types.specs.Values.{SpelledBy}
 use Rattle.seg_types.proofs.Laws.{all_spell_one}
-use Rattle.segment_manager.specs.{declared.accessing.Place.Place, Standing.place_at}
-use Rattle.segment_manager.proofs.{Codes.numbers-only, Steps.open-reading, Steps.step_of_kind-found}
-use Rattle.segment_manager.proofs.{Steps.step_of_kind-not_found, Steps.step_of_kind-other, Steps.with-found}
+use Rattle.segment_manager.specs.declared.accessing.Place.{Place}
+use Rattle.segment_manager.specs.Standing.{place_at}
+use Rattle.seg_types.specs.Commands as asked
+use Rattle.segment_manager.proofs.{Codes.numbers-only, ContentPlans.of_slice}
+use Rattle.segment_manager.proofs.Steps.{open-reading, step_of_kind-found, step_of_kind-not_found, step_of_kind-other}
+use Rattle.segment_manager.proofs.Steps.{with-found, IsOpenFor}
 use Rattle.segment_manager.proofs.Places.{ElementAt, Lacks, Other, Past, Missing, Nowhere, Within, element-found}
 use Rattle.segment_manager.proofs.Places.{element-missing, element-read, element-room}
 
@@ -23,33 +26,17 @@ use Rattle.segment_manager.proofs.Places.{element-missing, element-read, element
 
 -- ---- what the plans are
 
--- reading within an object of numbers
-pub get-effect : (d : Directory) (key : Key) (o : Object) (k : ScalarKind) (zs : List ℤ) (i : ℕ) (z : ℤ) → object_at d key ≡ Some o → o.value ≡ Numbers k zs → slice_get zs i ≡ Some z
-    → effect d (asked.Get key i) ≡ Reply (Element k z) d
-get-effect d key o k zs i z e f g =
-    with-found d key o (λ o. get d o.value i) e ∙ ap (λ v. get d v i) f
-    ∙ ap (λ (r : Option ℤ). with (elim r as (λ _. Result ℤ Refusal) [ None ↦ Err OutOfRange | Some z ↦ Ok z ]) (λ z. Reply (Element k z) d)) g
+-- reading in an object of numbers, and writing
+get-effect : (d : Directory) (key : Key) (o : Object) (k : ScalarKind) (zs : List ℤ) (i : ℕ) (r : Option ℤ) → object_at d key ≡ Some o → o.value ≡ Numbers k zs → slice_get zs i ≡ r
+    → effect d (asked.Get key i) ≡ with (of_slice r) (λ z. Reply (Element k z) d)
+get-effect d key o k zs i r e f g =
+    with-found d key o (λ o. get d o.value i) e ∙ ap (λ v. get d v i) f ∙ ap (λ (r : Option ℤ). with (of_slice r) (λ z. Reply (Element k z) d)) g
 
--- past its end
-pub get-past : (d : Directory) (key : Key) (o : Object) (k : ScalarKind) (zs : List ℤ) (i : ℕ) → object_at d key ≡ Some o → o.value ≡ Numbers k zs → slice_get zs i ≡ None
-    → effect d (asked.Get key i) ≡ Refuse OutOfRange
-get-past d key o k zs i e f g =
-    with-found d key o (λ o. get d o.value i) e ∙ ap (λ v. get d v i) f
-    ∙ ap (λ (r : Option ℤ). with (elim r as (λ _. Result ℤ Refusal) [ None ↦ Err OutOfRange | Some z ↦ Ok z ]) (λ z. Reply (Element k z) d)) g
-
--- writing within it
-pub set-effect : (d : Directory) (key : Key) (o : Object) (k : ScalarKind) (zs : List ℤ) (i : ℕ) (l : Literal) (z old : ℤ) → object_at d key ≡ Some o → o.value ≡ Numbers k zs
-    → value_of_literal k l ≡ Ok z → slice_get zs i ≡ Some old → effect d (asked.Set key i l) ≡ Reply Done (changed d o (Numbers k (slice_set zs i z)))
-set-effect d key o k zs i l z old e f g h =
+pub set-effect : (d : Directory) (key : Key) (o : Object) (k : ScalarKind) (zs : List ℤ) (i : ℕ) (l : Literal) (z : ℤ) (r : Option ℤ) → object_at d key ≡ Some o → o.value ≡ Numbers k zs
+    → value_of_literal k l ≡ Ok z → slice_get zs i ≡ r → effect d (asked.Set key i l) ≡ with (of_slice r) (λ old. Reply Done (changed d o (Numbers k (slice_set zs i z))))
+set-effect d key o k zs i l z r e f g h =
     with-found d key o (λ o. set d o o.value i l) e ∙ ap (λ v. set d o v i l) f
-    ∙ (λ j. with (g j) (λ z. with (elim (h j) as (λ _. Result ℤ Refusal) [ None ↦ Err OutOfRange | Some z ↦ Ok z ]) (λ old. Reply Done (changed d o (Numbers k (slice_set zs i z))))))
-
--- past its end
-pub set-past : (d : Directory) (key : Key) (o : Object) (k : ScalarKind) (zs : List ℤ) (i : ℕ) (l : Literal) (z : ℤ) → object_at d key ≡ Some o → o.value ≡ Numbers k zs
-    → value_of_literal k l ≡ Ok z → slice_get zs i ≡ None → effect d (asked.Set key i l) ≡ Refuse OutOfRange
-set-past d key o k zs i l z e f g h =
-    with-found d key o (λ o. set d o o.value i l) e ∙ ap (λ v. set d o v i l) f
-    ∙ (λ j. with (g j) (λ z. with (elim (h j) as (λ _. Result ℤ Refusal) [ None ↦ Err OutOfRange | Some z ↦ Ok z ]) (λ old. Reply Done (changed d o (Numbers k (slice_set zs i z))))))
+    ∙ (λ j. with (g j) (λ z. with (of_slice (h j)) (λ old. Reply Done (changed d o (Numbers k (slice_set zs i z))))))
 
 -- ---- what the step is
 
@@ -66,32 +53,33 @@ got : (mode : Mode) (b : List ℕ) (d : Directory) (key : Key) (k : ScalarKind) 
     → step_of_kind mode d key (Scalar k) (asked.Get key i) ≡ (Element k e.number, d)
 got mode b d key k i p e =
     step_of_kind-found mode d key (Scalar k) (asked.Get key i) e.object (open-reading mode (asked.Get key i) refl) e.is (element-kind b d key k i p e)
-    ∙ ap (perform d (live d)) (get-effect d key e.object k e.numbers i e.number e.is e.value e.there)
+    ∙ ap (perform d (live d)) (get-effect d key e.object k e.numbers i (Some e.number) e.is e.value e.there)
 
-not_got-in : (mode : Mode) (d : Directory) (key : Key) (k : ScalarKind) (i : ℕ) (r : Refusal) (o : Object) → object_at d key ≡ Some o → Lacks o k i r
-    → step_of_kind mode d key (Scalar k) (asked.Get key i) ≡ (Refused r, d)
-not_got-in mode d key k i r o e (Other s f) =
-    step_of_kind-other mode d key (Scalar k) (asked.Get key i) o (open-reading mode (asked.Get key i) refl) e s ∙ (λ j. (Refused (sym f j), d))
-not_got-in mode d key k i r o e (Past s t f) =
+-- or it is refused, for the reason why there is none
+lacking : (mode : Mode) (d : Directory) (key : Key) (k : ScalarKind) (i : ℕ) (r : Refusal) (c : Command) (o : Object) → IsOpenFor mode c
+    → ((zs : List ℤ) → o.value ≡ Numbers k zs → slice_get zs i ≡ None → effect d c ≡ Refuse OutOfRange) → object_at d key ≡ Some o → Lacks o k i r
+    → step_of_kind mode d key (Scalar k) c ≡ (Refused r, d)
+lacking mode d key k i r c o may past e (Other s f) = step_of_kind-other mode d key (Scalar k) c o may e s ∙ (λ j. (Refused (sym f j), d))
+lacking mode d key k i r c o may past e (Past s t f) =
     let n : (zs : List ℤ) × (o.value ≡ Numbers k zs) = numbers-only k o.value s in
     let many : count_of o.value ≡ length n.0 = ap count_of n.1 in
-    let past : length n.0 ≤ i = let l = ltb-false i (count_of o.value) t in omega arith in
-    step_of_kind-found mode d key (Scalar k) (asked.Get key i) o (open-reading mode (asked.Get key i) refl) e s
-    ∙ ap (perform d (live d)) (get-past d key o k n.0 i e n.1 (slice_get_past n.0 i past))
-    ∙ (λ j. (Refused (sym f j), d))
+    let behind : length n.0 ≤ i = let l = ltb-false i (count_of o.value) t in omega arith in
+    step_of_kind-found mode d key (Scalar k) c o may e s ∙ ap (perform d (live d)) (past n.0 n.1 (slice_get_past n.0 i behind)) ∙ (λ j. (Refused (sym f j), d))
 
--- or why there is none
-not_got : (mode : Mode) (d : Directory) (key : Key) (k : ScalarKind) (i : ℕ) (r : Refusal) → Missing d key k i r → step_of_kind mode d key (Scalar k) (asked.Get key i) ≡ (Refused r, d)
-not_got mode d key k i r (Nowhere e f) =
-    step_of_kind-not_found mode d key (Scalar k) (asked.Get key i) (open-reading mode (asked.Get key i) refl) e ∙ (λ j. (Refused (sym f j), d))
-not_got mode d key k i r (Within o e l) = not_got-in mode d key k i r o e l
+pub missing-steps : (mode : Mode) (d : Directory) (key : Key) (k : ScalarKind) (i : ℕ) (r : Refusal) (c : Command) → IsOpenFor mode c
+    → ((o : Object) (zs : List ℤ) → object_at d key ≡ Some o → o.value ≡ Numbers k zs → slice_get zs i ≡ None → effect d c ≡ Refuse OutOfRange) → Missing d key k i r
+    → step_of_kind mode d key (Scalar k) c ≡ (Refused r, d)
+missing-steps mode d key k i r c may past (Nowhere e f) = step_of_kind-not_found mode d key (Scalar k) c may e ∙ (λ j. (Refused (sym f j), d))
+missing-steps mode d key k i r c may past (Within o e l) = lacking mode d key k i r c o may (λ zs. past o zs e) e l
 
 -- ---- the call
 
 -- where no element is found, the step says why
 pub replies-missing : (s : State) (key : Key) (k : ScalarKind) (i : ℕ) (r : Refusal) → Answers s (λ d. place_at d key k i) (Err r) → IsReplyOfKind s key (Scalar k) (asked.Get key i) (Refused r)
 replies-missing s key k i r a = record {
-  answers = λ d l. sym (ap (λ (n : Answer × Directory). n.0) (not_got s.mode d key k i r (element-missing d key k i r (a.answers d l))));
+  answers = λ d l.
+      sym (ap (λ (n : Answer × Directory). n.0)
+      (missing-steps s.mode d key k i r (asked.Get key i) (open-reading s.mode (asked.Get key i) refl) (λ o zs e f. get-effect d key o k zs i None e f) (element-missing d key k i r (a.answers d l))));
 }
 
 -- what the bytes of the element are read as is the step's answer

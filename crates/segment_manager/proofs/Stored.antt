@@ -2,27 +2,24 @@
 use Rattle.segment_manager.proofs.Common.{◌≡◌, refl, sym, ap, subst, ◌∙◌, ℕ, zero, suc, ◌+◌, ◌*◌, ◌<◌, ◌≤◌, ℤ, pos}
 use Rattle.segment_manager.proofs.Common.{Bool, true, false, ◌&&◌, Some, Ok, Err, Result, List, [], ◌∷◌, length}
 use Rattle.segment_manager.proofs.Common.{if◌then◌else◌, arith, IsTrue, nat_le, list_all, mul-le-mul_left, and_from}
-use Rattle.segment_manager.proofs.Common.{ltb-false, slice_get_past, slice_get_within, current, Cut, Memory, Has}
-use Rattle.segment_manager.proofs.Common.{SameBut, bytes_of, ObjectRole, handle, IsChanged, serves, ScalarKind}
-use Rattle.segment_manager.proofs.Common.{BoolKind, Scalar, Refusal, OutOfRange, is_value, size_of, spelling, Key}
-use Rattle.segment_manager.proofs.Common.{Literal, literal_of, value_of_literal, spelled, Mode, Done, Refused, Denotes}
-use Rattle.segment_manager.proofs.Common.{IsValueAt, Numbers, Object, Directory, count_of, has_good_name, is_object}
-use Rattle.segment_manager.proofs.Common.{kind_of, live, object_at, padded, value_extents, value_len, with_changed}
-use Rattle.segment_manager.proofs.Common.{perform, Answers, IsStepOfKind, State, is_read_only, step_of_kind, and_then}
-use Rattle.segment_manager.proofs.Common.{map, values_of}
+use Rattle.segment_manager.proofs.Common.{slice_get_within, current, Cut, Memory, Has, SameBut, bytes_of, ObjectRole}
+use Rattle.segment_manager.proofs.Common.{handle, IsChanged, serves, ScalarKind, BoolKind, Scalar, Refusal, OutOfRange}
+use Rattle.segment_manager.proofs.Common.{is_value, size_of, spelling, Key, Literal, literal_of, value_of_literal}
+use Rattle.segment_manager.proofs.Common.{spelled, Mode, Done, Refused, Denotes, IsValueAt, Numbers, Object, Directory}
+use Rattle.segment_manager.proofs.Common.{count_of, has_good_name, is_object, kind_of, live, padded, value_extents}
+use Rattle.segment_manager.proofs.Common.{value_len, with_changed, perform, Answers, IsStepOfKind, State, is_read_only}
+use Rattle.segment_manager.proofs.Common.{step_of_kind, and_then, map, values_of, None}
 use Rattle.std.proofs.Common.{negsuc, set}
 use Rattle.std.proofs.lemmas.List.{length-set}
 use Rattle.segment_manager.specs.declared.accessing.Place.{Place}
 use Rattle.segment_manager.specs.Standing.{place_at}
 use Rattle.seg_types.specs.Commands as asked
-use Rattle.segment_manager.proofs.{Blocks.spelling-length, Codes.numbers-only, Frame.IsRoomy, Frame.object-roomy}
-use Rattle.segment_manager.proofs.{Live.IsIn, ObjectLists.key-found, Rows.Has-set, Words.first, Words.second}
-use Rattle.segment_manager.proofs.{Replies.element-kind, Replies.set-effect, Replies.set-past}
-use Rattle.segment_manager.proofs.{Exchanged.denotes-rewritten, Rewritten.value_start, Rewritten.with_value}
-use Rattle.segment_manager.proofs.Places.{ElementAt, Lacks, Other, Past, Missing, Nowhere, Within, element-found}
-use Rattle.segment_manager.proofs.Places.{element-missing, numbers-good, numbers-stand}
+use Rattle.segment_manager.proofs.{Blocks.spelling-length, Frame.IsRoomy, Frame.object-roomy, Live.IsIn}
+use Rattle.segment_manager.proofs.{ObjectLists.key-found, Rows.Has-set, Words.first, Words.second, Replies.element-kind}
+use Rattle.segment_manager.proofs.{Replies.set-effect, Replies.missing-steps, Exchanged.denotes-rewritten}
+use Rattle.segment_manager.proofs.{Rewritten.value_start, Rewritten.with_value}
+use Rattle.segment_manager.proofs.Places.{ElementAt, element-found, element-missing, numbers-good, numbers-stand}
 use Rattle.segment_manager.proofs.Steps.{by_no_change_of_kind, by_step_of_kind, lands, open-writing, step_of_kind-found}
-use Rattle.segment_manager.proofs.Steps.{step_of_kind-not_found, step_of_kind-other}
 
 -- ---- the literal of a value
 
@@ -119,26 +116,7 @@ stored : (mode : Mode) (b : List ℕ) (d : Directory) (key : Key) (k : ScalarKin
     → step_of_kind mode d key (Scalar k) (asked.Set key i l) ≡ (Done, with_changed d (with_value e.object (Numbers k (set e.numbers i z))))
 stored mode b d key k i p l z e writing f =
     step_of_kind-found mode d key (Scalar k) (asked.Set key i l) e.object (open-writing mode (asked.Set key i l) writing) e.is (element-kind b d key k i p e)
-    ∙ ap (perform d (live d)) (set-effect d key e.object k e.numbers i l z e.number e.is e.value f e.there)
-
-not_stored-in : (mode : Mode) (d : Directory) (key : Key) (k : ScalarKind) (i : ℕ) (l : Literal) (z : ℤ) (r : Refusal) (o : Object) → is_read_only mode ≡ false → value_of_literal k l ≡ Ok z → object_at d key ≡ Some o
-    → Lacks o k i r → step_of_kind mode d key (Scalar k) (asked.Set key i l) ≡ (Refused r, d)
-not_stored-in mode d key k i l z r o writing v e (Other s f) =
-    step_of_kind-other mode d key (Scalar k) (asked.Set key i l) o (open-writing mode (asked.Set key i l) writing) e s ∙ (λ j. (Refused (sym f j), d))
-not_stored-in mode d key k i l z r o writing v e (Past s t f) =
-    let n : (zs : List ℤ) × (o.value ≡ Numbers k zs) = numbers-only k o.value s in
-    let many : count_of o.value ≡ length n.0 = ap count_of n.1 in
-    let past : length n.0 ≤ i = let m = ltb-false i (count_of o.value) t in omega arith in
-    step_of_kind-found mode d key (Scalar k) (asked.Set key i l) o (open-writing mode (asked.Set key i l) writing) e s
-    ∙ ap (perform d (live d)) (set-past d key o k n.0 i l z e n.1 v (slice_get_past n.0 i past))
-    ∙ (λ j. (Refused (sym f j), d))
-
--- or why there is none
-not_stored : (mode : Mode) (d : Directory) (key : Key) (k : ScalarKind) (i : ℕ) (l : Literal) (z : ℤ) (r : Refusal) → is_read_only mode ≡ false → value_of_literal k l ≡ Ok z → Missing d key k i r
-    → step_of_kind mode d key (Scalar k) (asked.Set key i l) ≡ (Refused r, d)
-not_stored mode d key k i l z r writing v (Nowhere e f) =
-    step_of_kind-not_found mode d key (Scalar k) (asked.Set key i l) (open-writing mode (asked.Set key i l) writing) e ∙ (λ j. (Refused (sym f j), d))
-not_stored mode d key k i l z r writing v (Within o e m) = not_stored-in mode d key k i l z r o writing v e m
+    ∙ ap (perform d (live d)) (set-effect d key e.object k e.numbers i l z (Some e.number) e.is e.value f e.there)
 
 -- ---- the call
 
@@ -147,7 +125,9 @@ pub stores-nothing : (s : State) (key : Key) (k : ScalarKind) (i : ℕ) (z : ℤ
     → IsStepOfKind s s key (Scalar k) (asked.Set key i (literal_of k z)) (Refused r)
 stores-nothing s key k i z r writing v a =
     by_no_change_of_kind s key (Scalar k) (asked.Set key i (literal_of k z)) (Refused r)
-    (λ d l. not_stored s.mode d key k i (literal_of k z) z r writing (literal-read k z v) (element-missing d key k i r (a.answers d l)))
+    (λ d l.
+    missing-steps s.mode d key k i r (asked.Set key i (literal_of k z)) (open-writing s.mode (asked.Set key i (literal_of k z)) writing)
+    (λ o zs e f. set-effect d key o k zs i (literal_of k z) z None e f (literal-read k z v)) (element-missing d key k i r (a.answers d l)))
 
 -- a spelling was written at the place: the call is the step
 pub stores-number : (old : State) (new : Cut) (key : Key) (k : ScalarKind) (i : ℕ) (p : Place) (z : ℤ) (bytes : List ℕ) → is_read_only old.mode ≡ false → is_value k z ≡ true → bytes ≡ spelling k z

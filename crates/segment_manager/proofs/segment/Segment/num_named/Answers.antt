@@ -1,9 +1,10 @@
 -- The count of the index is that of the directory.
 use Rattle.segment_manager.proofs.Common.{subst, Number, IsReply}
 use Rattle.seg_types.specs.Commands.{NumNamed}
-use Rattle.segment_manager.proofs.FindCalls.{num_named-replies}
+use Rattle.seg_index.specs.declared.index.Index.TheVariants.{Named}
+use Rattle.segment_manager.proofs.FindCalls.{num-replies}
 use Rattle.segment_manager.proofs.segment.Segment.num_named.Goals as goal
 
 pub returns : goal.returns
 returns c =
-    subst (λ t. IsReply t NumNamed (Number c.len.result)) c.self.view_is (num_named-replies _ c.len.result c.len.ensures.len)
+    subst (λ t. IsReply t NumNamed (Number c.len.result)) c.self.view_is (num-replies _ Named c.len.result c.len.ensures.len)

@@ -1,9 +1,10 @@
 -- The count of the index is that of the directory.
 use Rattle.segment_manager.proofs.Common.{subst, Number, IsReply}
 use Rattle.seg_types.specs.Commands.{NumUnique}
-use Rattle.segment_manager.proofs.FindCalls.{num_unique-replies}
+use Rattle.seg_index.specs.declared.index.Index.TheVariants.{Unique}
+use Rattle.segment_manager.proofs.FindCalls.{num-replies}
 use Rattle.segment_manager.proofs.segment.Segment.num_unique.Goals as goal
 
 pub returns : goal.returns
 returns c =
-    subst (λ t. IsReply t NumUnique (Number c.len.result)) c.self.view_is (num_unique-replies _ c.len.result c.len.ensures.len)
+    subst (λ t. IsReply t NumUnique (Number c.len.result)) c.self.view_is (num-replies _ Unique c.len.result c.len.ensures.len)

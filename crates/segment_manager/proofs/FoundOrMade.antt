@@ -4,24 +4,17 @@ use Rattle.segment_manager.proofs.Common.{Err, if◌then◌else◌, Cut, SamePla
 use Rattle.segment_manager.proofs.Common.{Exists, same_kind, Key, Content, Answer, Refused, Made, Object, Directory}
 use Rattle.segment_manager.proofs.Common.{count_of, kind_of, object_at, handle_at, pair_answer, Plan, Refuse, Reply}
 use Rattle.segment_manager.proofs.Common.{bare, with_new_object, StandsAt, pair_of_kind, Answers, IsStep, StandsFor}
-use Rattle.segment_manager.proofs.Common.{State, found, is_read_only, step, effect}
-use Rattle.seg_types.specs.Commands as asked
+use Rattle.segment_manager.proofs.Common.{State, found, is_read_only, step}
 use Rattle.segment_manager.specs.Answers.{Found}
+use Rattle.seg_types.specs.Commands as asked
 use Rattle.segment_manager.proofs.{Constructed.IsNewObject, Constructed.IsNoObject, Here.IsHere, Here.here}
 use Rattle.segment_manager.proofs.Steps.{by_no_change, by_step, lands, open-writing, step-plan, step-refuse, step-reply}
 
 -- ---- an object that is constructed
 
--- no object has the key: the plan is that of a new object
-effect-new : (d : Directory) (key : Key) (content : Content) → object_at d key ≡ None
-    → effect d (asked.Construct key content) ≡ with_new_object d key content (λ o e. Reply (Made (handle o.extent)) e)
-effect-new d key content e =
-    ap (λ (r : Option Object). elim r as (λ _. Plan) [ Some o ↦ Refuse Exists | None ↦ with_new_object d key content (λ o e. Reply (Made (handle o.extent)) e) ]) e
-
--- or one has
-effect-exists : (d : Directory) (key : Key) (content : Content) (o : Object) → object_at d key ≡ Some o → effect d (asked.Construct key content) ≡ Refuse Exists
-effect-exists d key content o e =
-    ap (λ (r : Option Object). elim r as (λ _. Plan) [ Some o ↦ Refuse Exists | None ↦ with_new_object d key content (λ o e. Reply (Made (handle o.extent)) e) ]) e
+-- what the plan is for what is found: that of a new object, or that there is one
+abbrev made_for : Directory → Key → Content → Option Object → Plan
+made_for d key content r = elim r as (λ _. Plan) [ Some o ↦ Refuse Exists | None ↦ with_new_object d key content (λ o e. Reply (Made (handle o.extent)) e) ]
 
 -- the object is made
 pub constructs : (old : State) (new : Cut) (key : Key) (content : Content) (h : ℕ) → is_read_only old.mode ≡ false → SamePlace old.cut new
@@ -33,7 +26,7 @@ constructs old new key content h writing place each =
     let n : IsNewObject new d key content h = both.1 in
     lands (record old { cut = new }) (step old.mode d (asked.Construct key content)) (Made h) n.after (record {
       is = step-plan old.mode d (asked.Construct key content) (with_new_object d key content (λ o e. Reply (Made (handle o.extent)) e)) (open-writing old.mode (asked.Construct key content) writing)
-          (effect-new d key content both.0) ∙ n.met (λ o e. Reply (Made (handle o.extent)) e) ∙ (λ j. (Made (sym n.at j), n.after));
+          (ap (made_for d key content) both.0) ∙ n.met (λ o e. Reply (Made (handle o.extent)) e) ∙ (λ j. (Made (sym n.at j), n.after));
       denotes = n.denotes;
     }))
 
@@ -46,7 +39,7 @@ constructs-none old new key content writing place each =
     let both : (object_at d key ≡ None) × IsNoObject new d key content = each d k in
     lands (record old { cut = new }) (step old.mode d (asked.Construct key content)) (Refused NoSpace) d (record {
       is = step-plan old.mode d (asked.Construct key content) (with_new_object d key content (λ o e. Reply (Made (handle o.extent)) e)) (open-writing old.mode (asked.Construct key content) writing)
-          (effect-new d key content both.0) ∙ both.1.refused (λ o e. Reply (Made (handle o.extent)) e);
+          (ap (made_for d key content) both.0) ∙ both.1.refused (λ o e. Reply (Made (handle o.extent)) e);
       denotes = both.1.denotes;
     }))
 
@@ -55,7 +48,7 @@ pub constructs-exists : (s : State) (key : Key) (content : Content) → is_read_
     → IsStep s s (asked.Construct key content) (Refused Exists)
 constructs-exists s key content writing each =
     by_no_change s (asked.Construct key content) (Refused Exists) (λ d k.
-    step-refuse s.mode d (asked.Construct key content) Exists (open-writing s.mode (asked.Construct key content) writing) (effect-exists d key content (each d k).0 (each d k).1))
+    step-refuse s.mode d (asked.Construct key content) Exists (open-writing s.mode (asked.Construct key content) writing) (ap (made_for d key content) (each d k).1))
 
 -- what the plan is for what is found
 abbrev finds : Directory → Key → Content → Option Object → Plan

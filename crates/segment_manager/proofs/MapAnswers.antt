@@ -7,9 +7,10 @@ use Rattle.segment_manager.proofs.Common.{FindsLastItem, FindsValue, IsSomeMap, 
 use Rattle.segment_manager.proofs.Common.{sizes_at_kind, sizes_of, Directory, kind_of, padded, head_len, map_at}
 use Rattle.segment_manager.proofs.Common.{numbers_in, pair_above, pair_at_end, pair_below, pair_from, pair_up_to}
 use Rattle.segment_manager.proofs.Common.{told_of_map, value_or_absent, Answers, IsReplyOfKind, IsSegment, State}
-use Rattle.segment_manager.proofs.Common.{StandsFor, is_read_only}
+use Rattle.segment_manager.proofs.Common.{StandsFor, is_read_only, List, NumberPair}
 use Rattle.best_fit.proofs.Laws.{room-less}
 use Rattle.seg_map.specs.declared.places.Place.{Place}
+use Rattle.segment_manager.specs.Maps.{IsPairs}
 use Rattle.segment_manager.proofs.{AnyStorage.sizes-found, Heads.good-name, Heads.good_name-short}
 use Rattle.segment_manager.proofs.MapCalls.{HoldsPairs, TellsSafely, as_map, holds-pairs, map-erased, map-got, map-put}
 use Rattle.segment_manager.proofs.MapCalls.{map-told, put_result, stands-map}
@@ -40,35 +41,30 @@ module _ {K V : Type 0} (k v : ScalarKind) (kp : Plain K) (vp : Plain V) (kw : K
       (map-got s key k v p b found-there (kw x) (option_map vw r) (as-value k kp kw kl x good)
       (finds-value k v kp vp kw vw kl vl s.cut.bytes p.handle p.at x r (subst (λ (r' : Place). FindsValue kp vp s.cut.bytes r'.handle r'.at x r) same each)))
 
+  told-there : {A : Type 0} (say : List NumberPair → A) (answer : A) (F : Place → Type 0) → (F p → (ps : List NumberPair) → IsPairs k v s.cut.bytes p ps → answer ≡ say ps) → F q
+      → Answers t (λ d. told_of_map d key k v say) (Ok answer)
+  told-there say answer F finds each =
+      subst (λ (u : State). Answers u (λ d. told_of_map d key k v say) (Ok answer)) view (map-told s key k v p b found-there say answer (finds (subst F same each)))
+
   pub from-there : (x : K) (r : Option (K × V)) → FindsItem kp vp s.cut.bytes q.handle q.at false x r → Answers t (λ d. told_of_map d key k v (pair_from (kw x))) (Ok (numbers_in kw vw r))
   from-there x r each =
-      subst (λ (u : State). Answers u (λ d. told_of_map d key k v (pair_from (kw x))) (Ok (numbers_in kw vw r))) view
-      (map-told s key k v p b found-there (pair_from (kw x)) (numbers_in kw vw r)
-      (finds-item k v kp vp kw vw kl vl s.cut.bytes p.handle p.at false x r (subst (λ (r' : Place). FindsItem kp vp s.cut.bytes r'.handle r'.at false x r) same each)))
+      told-there (pair_from (kw x)) (numbers_in kw vw r) (λ (c : Place). FindsItem kp vp s.cut.bytes c.handle c.at false x r) (finds-item k v kp vp kw vw kl vl s.cut.bytes p.handle p.at false x r) each
 
   pub above-there : (x : K) (r : Option (K × V)) → FindsItem kp vp s.cut.bytes q.handle q.at true x r → Answers t (λ d. told_of_map d key k v (pair_above (kw x))) (Ok (numbers_in kw vw r))
   above-there x r each =
-      subst (λ (u : State). Answers u (λ d. told_of_map d key k v (pair_above (kw x))) (Ok (numbers_in kw vw r))) view
-      (map-told s key k v p b found-there (pair_above (kw x)) (numbers_in kw vw r)
-      (finds-item k v kp vp kw vw kl vl s.cut.bytes p.handle p.at true x r (subst (λ (r' : Place). FindsItem kp vp s.cut.bytes r'.handle r'.at true x r) same each)))
+      told-there (pair_above (kw x)) (numbers_in kw vw r) (λ (c : Place). FindsItem kp vp s.cut.bytes c.handle c.at true x r) (finds-item k v kp vp kw vw kl vl s.cut.bytes p.handle p.at true x r) each
 
   pub up_to-there : (x : K) (r : Option (K × V)) → FindsItemBefore kp vp s.cut.bytes q.handle q.at true x r → Answers t (λ d. told_of_map d key k v (pair_up_to (kw x))) (Ok (numbers_in kw vw r))
   up_to-there x r each =
-      subst (λ (u : State). Answers u (λ d. told_of_map d key k v (pair_up_to (kw x))) (Ok (numbers_in kw vw r))) view
-      (map-told s key k v p b found-there (pair_up_to (kw x)) (numbers_in kw vw r)
-      (finds-back k v kp vp kw vw kl vl s.cut.bytes p.handle p.at true x r (subst (λ (r' : Place). FindsItemBefore kp vp s.cut.bytes r'.handle r'.at true x r) same each)))
+      told-there (pair_up_to (kw x)) (numbers_in kw vw r) (λ (c : Place). FindsItemBefore kp vp s.cut.bytes c.handle c.at true x r) (finds-back k v kp vp kw vw kl vl s.cut.bytes p.handle p.at true x r) each
 
   pub below-there : (x : K) (r : Option (K × V)) → FindsItemBefore kp vp s.cut.bytes q.handle q.at false x r → Answers t (λ d. told_of_map d key k v (pair_below (kw x))) (Ok (numbers_in kw vw r))
   below-there x r each =
-      subst (λ (u : State). Answers u (λ d. told_of_map d key k v (pair_below (kw x))) (Ok (numbers_in kw vw r))) view
-      (map-told s key k v p b found-there (pair_below (kw x)) (numbers_in kw vw r)
-      (finds-back k v kp vp kw vw kl vl s.cut.bytes p.handle p.at false x r (subst (λ (r' : Place). FindsItemBefore kp vp s.cut.bytes r'.handle r'.at false x r) same each)))
+      told-there (pair_below (kw x)) (numbers_in kw vw r) (λ (c : Place). FindsItemBefore kp vp s.cut.bytes c.handle c.at false x r) (finds-back k v kp vp kw vw kl vl s.cut.bytes p.handle p.at false x r) each
 
   pub last-there : (r : Option (K × V)) → FindsLastItem kp vp s.cut.bytes q.handle q.at r → Answers t (λ d. told_of_map d key k v pair_at_end) (Ok (numbers_in kw vw r))
   last-there r each =
-      subst (λ (u : State). Answers u (λ d. told_of_map d key k v pair_at_end) (Ok (numbers_in kw vw r))) view
-      (map-told s key k v p b found-there pair_at_end (numbers_in kw vw r)
-      (finds-last k v kp vp kw vw kl vl s.cut.bytes p.handle p.at r (subst (λ (r' : Place). FindsLastItem kp vp s.cut.bytes r'.handle r'.at r) same each)))
+      told-there pair_at_end (numbers_in kw vw r) (λ (c : Place). FindsLastItem kp vp s.cut.bytes c.handle c.at r) (finds-last k v kp vp kw vw kl vl s.cut.bytes p.handle p.at r) each
 
   -- ---- what is changed
 

@@ -5,32 +5,25 @@ use Rattle.segment_manager.proofs.Common.{current, SamePlace-trans, IndexRole, p
 use Rattle.segment_manager.proofs.Common.{NoSpace, is_changing, Index, IsReserved, IsRoomy, IsShrunk, HasIndex}
 use Rattle.segment_manager.proofs.Common.{IsIndexOf, capacity_at, place_of, Done, Refused, Denotes, Directory, live}
 use Rattle.segment_manager.proofs.Common.{entries_of, objects_of, reserve_of, table_of, with_table_of, Plan, New, Reply}
-use Rattle.segment_manager.proofs.Common.{Request, IsSegment, IsStep, State, effect, is_read_only, step}
+use Rattle.segment_manager.proofs.Common.{Request, IsSegment, IsStep, State, effect, is_read_only, step, Bool}
+use Rattle.segment_manager.specs.Step.{shrunk_indexes}
 use Rattle.seg_types.specs.Commands as asked
 use Rattle.seg_index.specs.declared.index.Index.TheVariants as index
-use Rattle.segment_manager.specs.Step.{shrunk_indexes}
-use Rattle.segment_manager.proofs.{Calling.denotes-live, HeldIndexes.denotes-index}
+use Rattle.segment_manager.proofs.{Calling.denotes-live, HeldIndexes.denotes-index, Tabled.places_in}
+use Rattle.segment_manager.proofs.{Tabled.reserved-tabled, Tabled.shrunk-tabled, Tabled.tabled-denotes}
 use Rattle.segment_manager.proofs.Steps.{by_no_change, by_step, lands, open-writing, perform-new, perform-no_space}
 use Rattle.segment_manager.proofs.Steps.{step-plan, step-reply}
-use Rattle.segment_manager.proofs.Tabled.{places_in, reserved-tabled, shrunk-tabled, tabled-denotes}
 
 pub reserve-changes : (i : Index) (n : ℕ) → is_changing (reserve_of i n) ≡ true
 reserve-changes index.Named n = refl
 reserve-changes index.Unique n = refl
 
-reserve-effect : (i : Index) (d : Directory) (n : ℕ)
-    → effect d (reserve_of i n) ≡ (if nat_le n (table_of i d).capacity then Reply Done d else Request (New IndexRole (8 * n)) (λ x. Reply Done (with_table_of i d (places_in n x))))
-reserve-effect index.Named d n = refl
-reserve-effect index.Unique d n = refl
-
 abbrev take_places : Index → Directory → ℕ → Plan
 take_places i d n = Request (New IndexRole (8 * n)) (λ x. Reply Done (with_table_of i d (places_in n x)))
 
-effect-roomy : (i : Index) (d : Directory) (n : ℕ) → n ≤ (table_of i d).capacity → effect d (reserve_of i n) ≡ Reply Done d
-effect-roomy i d n h = reserve-effect i d n ∙ ap (λ b. if b then Reply Done d else take_places i d n) (le-leb n (table_of i d).capacity h)
-
-effect-full : (i : Index) (d : Directory) (n : ℕ) → (table_of i d).capacity < n → effect d (reserve_of i n) ≡ take_places i d n
-effect-full i d n h = reserve-effect i d n ∙ ap (λ b. if b then Reply Done d else take_places i d n) (lt-leb n (table_of i d).capacity h)
+reserve-effect : (i : Index) (d : Directory) (n : ℕ) (b : Bool) → nat_le n (table_of i d).capacity ≡ b → effect d (reserve_of i n) ≡ (if b then Reply Done d else take_places i d n)
+reserve-effect index.Named d n b e = ap (λ b. if b then Reply Done d else take_places index.Named d n) e
+reserve-effect index.Unique d n b e = ap (λ b. if b then Reply Done d else take_places index.Unique d n) e
 
 -- there are so many places, or they are taken
 pub reserves : (s : State) (c : Cut) (i : Index) (n : ℕ) → is_read_only s.mode ≡ false → IsRoomy s.cut c (place_of i) n → IsStep s (record s { cut = c }) (reserve_of i n) Done
@@ -41,13 +34,13 @@ reserves s c i n writing r = by_case (cases_lt (capacity_at s.cut (place_of i)) 
         subst (λ (x : Cut). IsStep s (record s { cut = x }) (reserve_of i n) Done) (sym (r.same h))
         (by_no_change s (reserve_of i n) Done (λ d k.
         let x = denotes-index i s.cut d k.denotes in
-        step-reply s.mode d (reserve_of i n) Done d (open-writing s.mode (reserve_of i n) writing) (effect-roomy i d n (omega (arith, h, x.stands.capacity)))))
+        step-reply s.mode d (reserve_of i n) Done d (open-writing s.mode (reserve_of i n) writing) (reserve-effect i d n true (le-leb n (table_of i d).capacity (omega (arith, h, x.stands.capacity))))))
     by_case (inl h) =
         by_step s (record s { cut = c }) (reserve_of i n) Done (record { mode = refl; place = (r.reserved h).keeps.place }) (λ d k.
         let x = denotes-index i s.cut d k.denotes in
         let t : IsReserved s.cut c (place_of i) n = r.reserved h in
         lands (record s { cut = c }) (step s.mode d (reserve_of i n)) Done (with_table_of i d (places_in n t.extent)) (record {
-          is = step-plan s.mode d (reserve_of i n) (take_places i d n) (open-writing s.mode (reserve_of i n) writing) (effect-full i d n (omega (arith, h, x.stands.capacity)))
+          is = step-plan s.mode d (reserve_of i n) (take_places i d n) (open-writing s.mode (reserve_of i n) writing) (reserve-effect i d n false (lt-leb n (table_of i d).capacity (omega (arith, h, x.stands.capacity))))
               ∙ perform-new d (live d) IndexRole (8 * n) (λ y. Reply Done (with_table_of i d (places_in n y))) t.extent
               (sym (ap (λ l. place l (8 * n) IndexRole) (denotes-live current s.cut.bytes d k.denotes)) ∙ t.placed);
           denotes = tabled-denotes i s.cut c d (places_in n t.extent) k.denotes (reserved-tabled i s.cut c d n k.denotes t);
@@ -60,7 +53,7 @@ reserves-none s c i n writing h r =
     subst (λ (x : Cut). IsStep s (record s { cut = x }) (reserve_of i n) (Refused NoSpace)) (sym r.same)
     (by_no_change s (reserve_of i n) (Refused NoSpace) (λ d k.
     let x = denotes-index i s.cut d k.denotes in
-    step-plan s.mode d (reserve_of i n) (take_places i d n) (open-writing s.mode (reserve_of i n) writing) (effect-full i d n (omega (arith, h, x.stands.capacity)))
+    step-plan s.mode d (reserve_of i n) (take_places i d n) (open-writing s.mode (reserve_of i n) writing) (reserve-effect i d n false (lt-leb n (table_of i d).capacity (omega (arith, h, x.stands.capacity))))
     ∙ perform-no_space d (live d) IndexRole (8 * n) (λ y. Reply Done (with_table_of i d (places_in n y)))
     (sym (ap (λ l. place l (8 * n) IndexRole) (denotes-live current s.cut.bytes d k.denotes)) ∙ r.none)))
 

@@ -3,9 +3,10 @@ use Rattle.segment_manager.proofs.Common.{◌≡◌, refl, sym, ap, subst, ◌�
 use Rattle.segment_manager.proofs.Common.{list_any, eq-eqb, and_from, Cut, bytes_of, Extent, LiveSet, handle, holds}
 use Rattle.segment_manager.proofs.Common.{is_proper, released, LaysOut, live_of, is_live_in, has_room, Keeps}
 use Rattle.segment_manager.proofs.Common.{IsReleased, ByHandle, Object, Directory, live, value_extents, has_key}
-use Rattle.segment_manager.proofs.Common.{without_object, Denotes, IsObjectAt, lay_out_one, list_any-insert}
-use Rattle.segment_manager.proofs.{Order.inserted, Live.IsFound, Live.IsIn, Live.live-split, ObjectLists.all-found}
-use Rattle.segment_manager.proofs.Denoted.{IsPlain, denotes-removed}
+use Rattle.segment_manager.proofs.Common.{without_object, Denotes, IsObjectAt, lay_out_one, list_any-insert, Anonymous}
+use Rattle.segment_manager.proofs.Common.{extents_of, [], ◌∷◌}
+use Rattle.segment_manager.proofs.{Order.inserted, Live.IsFound, Live.IsIn, Live.live-split, Live.removing}
+use Rattle.segment_manager.proofs.{ObjectLists.all-found, Denoted.denotes-without}
 
 -- ---- objects are live blocks
 
@@ -39,11 +40,10 @@ denotes-live format b d h = lay_out_one format b (live d) h.heap
 pub denotes-heap : (format : ℕ) (b : List ℕ) (d : Directory) → Denotes format b d → LaysOut format b (live_of b)
 denotes-heap format b d h = subst (LaysOut format b) (sym (denotes-live format b d h)) h.heap
 
--- without the object whose block was released
-pub denotes-released : (format : ℕ) (old new : Cut) (d : Directory) (o : Object) → Denotes format old.bytes d → IsIn d o → IsPlain o → IsReleased format old new (handle o.extent)
-    → Denotes format new.bytes (without_object d o)
-denotes-released format old new d o k f plain r =
-    let same : live_of old.bytes ≡ live d = denotes-live format old.bytes d k in
-    denotes-removed format old new d o k f plain
-    (subst (LaysOut format new.bytes) (ap (λ l. released l (handle o.extent)) same) r.live)
-    (subst (λ (l : LiveSet). Keeps old new (released l (handle o.extent)).extents) same r.keeps)
+-- without the object whose block was released, one without a key that has no other
+pub denotes-released : (format : ℕ) (old new : Cut) (d : Directory) (o : Object) → Denotes format old.bytes d → IsIn d o → o.class ≡ Anonymous → value_extents o.value ≡ []
+    → IsReleased format old new (handle o.extent) → Denotes format new.bytes (without_object d o)
+denotes-released format old new d o k f class alone r =
+    let same : released (live_of old.bytes) (handle o.extent) ≡ removing (live d) (extents_of o) =
+    ap (λ l. released l (handle o.extent)) (denotes-live format old.bytes d k) ∙ ap (λ xs. removing (live d) (o.extent ∷ xs)) (sym alone) in
+    denotes-without format old new d o k f class (subst (LaysOut format new.bytes) same r.live) (subst (λ (l : LiveSet). Keeps old new l.extents) same r.keeps)

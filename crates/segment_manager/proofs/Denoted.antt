@@ -1,9 +1,9 @@
 -- What the bytes denote after one object is added, removed or changed.
 use Rattle.segment_manager.proofs.Common.{◌≡◌, refl, sym, ap, subst, ◌∙◌, ℕ, suc, ◌+◌, ◌≤◌, ◌≢◌, Bool, ◌&&◌, List, []}
 use Rattle.segment_manager.proofs.Common.{◌∷◌, length, arith, IsTrue, nat_le, AllByRecursion, Memory, Cut, Same}
-use Rattle.segment_manager.proofs.Common.{bytes_of, Extent, LiveSet, handle, is_proper, released, LaysOut, SameBlock}
-use Rattle.segment_manager.proofs.Common.{Keeps, Table, is_table, Anonymous, IsIndexAt, Object, Directory, IsDirectory}
-use Rattle.segment_manager.proofs.Common.{live, extents_of, value_extents, table_extents, is_object, is_index, rises}
+use Rattle.segment_manager.proofs.Common.{bytes_of, Extent, LiveSet, handle, is_proper, LaysOut, SameBlock, Keeps}
+use Rattle.segment_manager.proofs.Common.{Table, is_table, Anonymous, IsIndexAt, Object, Directory, IsDirectory, live}
+use Rattle.segment_manager.proofs.Common.{extents_of, value_extents, table_extents, is_object, is_index, rises}
 use Rattle.segment_manager.proofs.Common.{remove_object, with_object, with_changed, without_object, named_objects}
 use Rattle.segment_manager.proofs.Common.{unique_objects, by_name, by_kind, Denotes, IsObjectAt, IsHeader, handles}
 use Rattle.segment_manager.proofs.Common.{Same-part}
@@ -52,11 +52,6 @@ frame-stays format old new d xs h k n u =
     }
 
 -- ---- one object more
-
--- an object without a key that has no block but its own
-pub record IsPlain (o : Object) : Type 0 where
-  pub class : o.class ≡ Anonymous
-  pub alone : value_extents o.value ≡ []
 
 -- an object begins where no extent did
 pub fresh : (d : Directory) (o : Object) → IsTrue (is_proper (adding (live d) (extents_of o))) → Differs o.extent (live d).extents
@@ -125,13 +120,6 @@ denotes-without format old new d o h f c l k =
           (list_all-remove (is_object format) (handle o.extent) d.objects h.directory.objects) blocks.objects
           (all-remove (IsObjectAt (bytes_of old.bytes)) (handle o.extent) d.objects h.objects);
     }
-
--- one that has no block but its own
-pub denotes-removed : (format : ℕ) (old new : Cut) (d : Directory) (o : Object) → Denotes format old.bytes d → IsIn d o → IsPlain o
-    → LaysOut format new.bytes (released (live d) (handle o.extent)) → Keeps old new (released (live d) (handle o.extent)).extents → Denotes format new.bytes (without_object d o)
-denotes-removed format old new d o h f plain l k =
-    let same : removing (live d) (extents_of o) ≡ released (live d) (handle o.extent) = ap (λ xs. removing (live d) (o.extent ∷ xs)) plain.alone in
-    denotes-without format old new d o h f plain.class (subst (LaysOut format new.bytes) (sym same) l) (subst (λ (s : LiveSet). Keeps old new s.extents) (sym same) k)
 
 -- ---- one object changed
 

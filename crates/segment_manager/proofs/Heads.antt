@@ -1,14 +1,18 @@
 -- What the words of an index entry are of an object that stands in its block.
-use Rattle.segment_manager.proofs.Common.{◌≡◌, refl, ap, ◌∙◌, ℕ, zero, suc, ◌+◌, ◌*◌, ◌-◌, ◌<◌, ◌≤◌, Bool, true, false}
-use Rattle.segment_manager.proofs.Common.{◌&&◌, not, List, [], ◌∷◌, ◌++◌, length, replicate, ◌==◌, if◌then◌else◌, arith}
+use Rattle.segment_manager.proofs.Common.{◌≡◌, ap, ◌∙◌, ℕ, zero, suc, ◌+◌, ◌*◌, ◌-◌, ◌<◌, ◌≤◌, Bool, true, false, ◌&&◌}
+use Rattle.segment_manager.proofs.Common.{not, List, [], ◌∷◌, ◌++◌, length, replicate, ◌==◌, if◌then◌else◌, arith}
 use Rattle.segment_manager.proofs.Common.{IsTrue, nat_le, AllByRecursion, list_all, is_utf8, chars, and_parts, eqb-true}
 use Rattle.segment_manager.proofs.Common.{leb-true, Memory, bytes_of, read, Has, word_at, handle, serves, ObjectRole}
 use Rattle.segment_manager.proofs.Common.{ScalarKind, BoolKind, Kind, Scalar, Text, Vector, Map, scalar_code, code_of}
 use Rattle.segment_manager.proofs.Common.{class_code, is_kind_of, is_name, is_printable_name, is_text_name, is_control}
 use Rattle.segment_manager.proofs.Common.{name_len_at, Object, kind_of, count_of, padded, is_class, has_good_name}
-use Rattle.segment_manager.proofs.Common.{is_good_value, is_object, object_len, IsObjectAt, IsEntry}
-use Rattle.seg_types.specs.{declared.kinds.Kind.TheVariants.Texts, declared.kinds.Class.TheVariants.Named}
+use Rattle.segment_manager.proofs.Common.{is_good_value, is_object, object_len, IsObjectAt, IsEntry, subst}
+use Rattle.segment_manager.proofs.Common.{length-append}
+use Rattle.seg_types.specs.declared.kinds.Kind.TheVariants.{Texts}
+use Rattle.seg_types.specs.declared.kinds.Class.TheVariants.{Named}
 use Rattle.segment_manager.specs.Heads.{EntriesSayObjects}
+use Rattle.std.proofs.Math.Seq.{take-append_seam}
+use Rattle.seg_vector.proofs.Bytes.{Has-take}
 use Rattle.segment_manager.proofs.Words.{first, second}
 
 -- ---- the codes are below 2 ^ 32
@@ -55,13 +59,7 @@ good_name-short format o h = good-if format o (is_class Named o) h
 
 -- the first of two rows of bytes
 pub Has-front : (m : Memory) (at : ℕ) (xs ys : List ℕ) → Has m at (xs ++ ys) → Has m at xs
-Has-front m at [] ys h = refl
-Has-front m at (x ∷ xs) ys h =
-    let g : m at ∷ read m (at + 1) (length (xs ++ ys)) ≡ x ∷ (xs ++ ys) = h in
-    let first : m at ≡ x = cc in
-    let rest : read m (at + 1) (length (xs ++ ys)) ≡ xs ++ ys = cc in
-    let ih : read m (at + 1) (length xs) ≡ xs = Has-front m (at + 1) xs ys rest in
-    λ i. first i ∷ ih i
+Has-front m at xs ys h = subst (Has m at) (take-append_seam xs ys) (Has-take m at (length xs) (xs ++ ys) (omega (arith, length-append xs ys)) h)
 
 -- the length of the name
 pub entry-name_len : (m : Memory) (o : Object) → length o.name ≤ 255 → IsObjectAt m o → name_len_at m (handle o.extent) ≡ length o.name

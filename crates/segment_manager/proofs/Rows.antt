@@ -1,23 +1,19 @@
 -- Bytes one row behind another: elements of one length, and the same bytes several times.
 use Rattle.segment_manager.proofs.Common.{◌≡◌, refl, sym, ap, subst, ◌∙◌, ℕ, zero, suc, ◌+◌, ◌*◌, ◌<◌, ℤ, Some, List}
 use Rattle.segment_manager.proofs.Common.{[], ◌∷◌, ◌++◌, length, replicate, arith, length-append, slice_get, slice_set}
-use Rattle.segment_manager.proofs.Common.{flat_map, flat_map_more, Memory, Has, SameBut, read, ScalarKind, spelling}
-use Rattle.segment_manager.proofs.Common.{spelled, repeated, ◌≤◌, true, IsTrue, list_all, mul-le-mul_left}
+use Rattle.segment_manager.proofs.Common.{flat_map, flat_map_more, Memory, Has, SameBut, ScalarKind, spelling, spelled}
+use Rattle.segment_manager.proofs.Common.{repeated, ◌≤◌, true, IsTrue, list_all, mul-le-mul_left}
 use Rattle.std.proofs.lemmas.List.{replicate_more}
-use Rattle.seg_vector.proofs.Bytes.{Has-patched}
+use Rattle.seg_vector.proofs.Bytes.{Has-patched, Has-drop}
 use Rattle.seg_vector.proofs.Typed.{flat-set}
+use Rattle.std.proofs.Math.Seq.{drop-append_seam}
 use Rattle.segment_manager.proofs.Heads.{Has-front}
 
 -- ---- two rows
 
 -- the second of two
 pub Has-behind : (m : Memory) (at : ℕ) (xs ys : List ℕ) → Has m at (xs ++ ys) → Has m (at + length xs) ys
-Has-behind m at [] ys h = let here : at ≡ at + 0 = omega arith in subst (λ a. Has m a ys) here h
-Has-behind m at (x ∷ xs) ys h =
-    let g : m at ∷ read m (at + 1) (length (xs ++ ys)) ≡ x ∷ (xs ++ ys) = h in
-    let rest : read m (at + 1) (length (xs ++ ys)) ≡ xs ++ ys = cc in
-    let here : at + 1 + length xs ≡ at + suc (length xs) = omega arith in
-    subst (λ a. Has m a ys) here (Has-behind m (at + 1) xs ys rest)
+Has-behind m at xs ys h = subst (Has m (at + length xs)) (drop-append_seam xs ys) (Has-drop m at (length xs) (xs ++ ys) (omega (arith, length-append xs ys)) h)
 
 -- ---- elements of n bytes each
 

@@ -16,7 +16,7 @@ for crate in raw_region offset_link; do
 done
 cp HANDLES "$room"
 cp bench/links_bench.rt.in "$bench/src/main.rt"
-echo 'links_bench: raw_region offset_link' >> "$room/crates.txt"
+echo 'links_bench cpu=x86-64-v3: raw_region offset_link' >> "$room/crates.txt"
 cd "$bench"
 echo 'mod Kept' > proofs/Lib.antt
 cat > proofs/Kept.antt <<'END'

@@ -39,8 +39,14 @@ pub fn begin<I: Source>(
     ensures image_ends { EndsAtMostOnce (I.history image.old) (I.history image.new) }
 {
     match start {
-        Start::Fresh(size) => Ok(Segment::create(region, base, size, mode)?),
-        Start::Image => Ok(open(alloc, image, region, base, mode, &mut Steps::new())?),
+        Start::Fresh(size) => {
+            let segment = Segment::create(region, base, size, mode)?;
+            Ok(segment)
+        }
+        Start::Image => {
+            let opened = open(alloc, image, region, base, mode, &mut Steps::new());
+            Ok(opened?)
+        }
     }
 }
 
@@ -112,7 +118,8 @@ pub fn session<I: Source, S: Source, O: Sink, W: Sink>(
     ensures saved_grows { Grows (W.history image_out.old).bytes (W.history image_out.new).bytes }
 {
     let mut segment = begin(alloc, start, mode, image, region, base)?;
-    run(&mut segment, script, out)?;
+    let ran = run(&mut segment, script, out);
+    ran?;
     match save_segment(&segment, image_out) {
         Ok(()) => Ok(()),
         Err(_) => Err(SessionFault::WriteFault),

@@ -1,6 +1,6 @@
 use Rattle.std.proofs.Common.{arith}
 use Rattle.std.proofs.lemmas.Result.{err_from_is_err_and}
-use Rattle.raw_region.specs.Device.{given_since, taken_since}
+use Rattle.raw_region.specs.Device.{taken_since}
 use Rattle.raw_region.proofs.Laws.{added}
 use Rattle.segment_scripts.proofs.Laws.{none_failed, one_failed}
 use Rattle.segment_cli.proofs.Endings.{front_added, not_written}
@@ -10,7 +10,7 @@ use Rattle.segment_cli.proofs.migrations.migrate.Goals as goal
 pub returns-in_err-segment-clause-migrates : goal.returns-in_err-segment-clause-migrates
 returns-in_err-segment-clause-migrates g c =
     let p = err_from_is_err_and c.from_residual.result c.from_residual.ensures.1 in
-    rw (p.1, p.2) (not-migrated c.args.region c.args.base _ (given_since (g.I.Source.history c.args.image.now) (g.I.Source.history c.open_any.new.reader))
+    rw (p.1, p.2) (not-migrated c.args.region c.args.base _ _
     (taken_since (g.W.Sink.history c.args.image_out.now) (g.W.Sink.history c.args.image_out.now)) c.in_err-segment.field-0.0 c.in_err-segment.ensures.opens
     (not_written (g.W.Sink.history c.args.image_out.now)))
 
@@ -18,9 +18,8 @@ pub returns-in-Ok-clause-migrates : goal.returns-in-Ok-clause-migrates
 returns-in-Ok-clause-migrates g c =
     let old = g.W.Sink.history c.args.image_out.now in
     let new = g.W.Sink.history c.save.new.out in
-    let image = given_since (g.I.Source.history c.args.image.now) (g.I.Source.history c.open_any.new.reader) in
     let segment = c.in_ok-segment.segment in
-    migrated c.args.region c.args.base _ image (taken_since old new) segment c.in_ok-segment.ensures.opens
+    migrated c.args.region c.args.base _ _ (taken_since old new) segment c.in_ok-segment.ensures.opens
     c.save.ensures.accepted (added old.bytes new.bytes segment.cut.bytes c.in-Ok.ensures.writes.ok)
     (none_failed _ _ (let counted = c.in-Ok.ensures.writes.counted in omega arith))
 
@@ -28,8 +27,7 @@ pub returns-clause-migrates : goal.returns-clause-migrates
 returns-clause-migrates g c =
     let old = g.W.Sink.history c.args.image_out.now in
     let new = g.W.Sink.history c.save.new.out in
-    let image = given_since (g.I.Source.history c.args.image.now) (g.I.Source.history c.open_any.new.reader) in
     let segment = c.in_ok-segment.segment in
-    unmigrated c.args.region c.args.base _ image (taken_since old new) segment c.in_ok-segment.ensures.opens
+    unmigrated c.args.region c.args.base _ _ (taken_since old new) segment c.in_ok-segment.ensures.opens
     c.save.ensures.accepted (front_added old.bytes new.bytes segment.cut.bytes c.in-Err.ensures.writes.err)
     (one_failed _ _ c.in-Err.ensures.writes.counted)

@@ -1,35 +1,30 @@
 use Rattle.std.proofs.Common.{length}
 use Rattle.std.proofs.lemmas.Result.{err_from_is_err_and}
-use Rattle.raw_region.specs.Device.{given_since}
 use Rattle.segment_cli.proofs.Beginnings.{created, opened, not_created, not_opened}
 use Rattle.segment_cli.proofs.Endings.{not_asked}
 use Rattle.segment_cli.proofs.sessions.begin.Goals as goal
 
-pub returns-in_err-create-in-Fresh-clause-starts :
-    goal.returns-in_err-create-in-Fresh-clause-starts
-returns-in_err-create-in-Fresh-clause-starts g c =
+pub returns-in_err-segment-in-Fresh-clause-starts :
+    goal.returns-in_err-segment-in-Fresh-clause-starts
+returns-in_err-segment-in-Fresh-clause-starts g c =
     let Reader = g.I.Source in
     let p = err_from_is_err_and c.from_residual.result c.from_residual.ensures.1 in
-    let refused = c.in_err-create-in-Fresh.field-0.0 in
-    rw (p.1, p.2, c.in-Fresh.is) (not_created c.args.region c.args.base c.in-Fresh.size c.args.mode _ refused.cause c.in_err-create-in-Fresh.ensures.why (not_asked (Reader.history c.args.image.now)))
+    let refused = c.in_err-segment-in-Fresh.field-0.0 in
+    rw (p.1, p.2, c.in-Fresh.is) (not_created c.args.region c.args.base c.in-Fresh.size c.args.mode _ refused.cause c.in_err-segment-in-Fresh.ensures.why (not_asked (Reader.history c.args.image.now)))
 
-pub returns-in_err-open-in-Image-clause-starts : goal.returns-in_err-open-in-Image-clause-starts
-returns-in_err-open-in-Image-clause-starts g c =
-    let Reader = g.I.Source in
-    let p = err_from_is_err_and c.from_residual-in_err-open-in-Image.result c.from_residual-in_err-open-in-Image.ensures.1 in
-    let opens = c.in_err-open-in-Image.ensures.opens in
-    rw (p.1, p.2, c.in-Image.is) (not_opened (given_since (Reader.history c.args.image.now) (Reader.history c.open.new.reader))
-    c.args.base (length c.args.region) c.args.mode c.in_err-open-in-Image.field-0.0.cause opens.answers.why opens.too_small)
+pub returns-in_err-opened-in-Image-clause-starts : goal.returns-in_err-opened-in-Image-clause-starts
+returns-in_err-opened-in-Image-clause-starts g c =
+    let p = err_from_is_err_and c.from_residual-in_err-opened-in-Image.result c.from_residual-in_err-opened-in-Image.ensures.1 in
+    let opens = c.in_err-opened-in-Image.ensures.opens in
+    rw (p.1, p.2, c.in-Image.is) (not_opened _ c.args.base (length c.args.region) c.args.mode c.in_err-opened-in-Image.field-0.0.cause opens.answers.why opens.too_small)
 
-pub returns-in_ok-create-in-Fresh-clause-starts : goal.returns-in_ok-create-in-Fresh-clause-starts
-returns-in_ok-create-in-Fresh-clause-starts g c =
+pub returns-in_ok-segment-in-Fresh-clause-starts : goal.returns-in_ok-segment-in-Fresh-clause-starts
+returns-in_ok-segment-in-Fresh-clause-starts g c =
     let Reader = g.I.Source in
-    rw c.in-Fresh.is (created c.args.region c.args.base c.in-Fresh.size c.args.mode _ c.in_ok-create-in-Fresh.field-0 c.in_ok-create-in-Fresh.ensures
+    rw c.in-Fresh.is (created c.args.region c.args.base c.in-Fresh.size c.args.mode _ c.in_ok-segment-in-Fresh.segment c.in_ok-segment-in-Fresh.ensures
     (not_asked (Reader.history c.args.image.now)))
 
-pub returns-in_ok-open-in-Image-clause-starts : goal.returns-in_ok-open-in-Image-clause-starts
-returns-in_ok-open-in-Image-clause-starts g c =
-    let Reader = g.I.Source in
-    let opens = c.in_ok-open-in-Image.ensures.opens in
-    rw c.in-Image.is (opened c.args.region c.args.base c.args.mode (given_since (Reader.history c.args.image.now) (Reader.history c.open.new.reader))
-    c.in_ok-open-in-Image.field-0 opens.answers opens.too_small)
+pub returns-in_ok-opened-in-Image-clause-starts : goal.returns-in_ok-opened-in-Image-clause-starts
+returns-in_ok-opened-in-Image-clause-starts g c =
+    let opens = c.in_ok-opened-in-Image.ensures.opens in
+    rw c.in-Image.is (opened c.args.region c.args.base c.args.mode _ c.in_ok-opened-in-Image.field-0 opens.answers opens.too_small)

@@ -23,25 +23,25 @@ returns-in_err-segment-clause-session g c =
     (not_written (Answers.history a.out.now))
     (not_written (Saved.history a.image_out.now)))
 
-pub returns-in_err-run-clause-session : goal.returns-in_err-run-clause-session
-returns-in_err-run-clause-session g c =
+pub returns-in_err-ran-clause-session : goal.returns-in_err-ran-clause-session
+returns-in_err-ran-clause-session g c =
     let Image = g.I.Source in let Script = g.S.Source in let Answers = g.O.Sink in let Saved = g.W.Sink in
     let a = c.args in
-    let p = err_from_is_err_and c.from_residual-in_err-run.result c.from_residual-in_err-run.ensures.1 in
+    let p = err_from_is_err_and c.from_residual-in_err-ran.result c.from_residual-in_err-ran.ensures.1 in
     rw (p.1, p.2) (stopped_session a.start a.mode a.base (length a.region)
     (record {
       image = given_since (Image.history a.image.now) (Image.history c.begin.new.image);
-      script = given_since (Script.history a.script.now) (Script.history c.run.new.script);
-      out = taken_since (Answers.history a.out.now) (Answers.history c.run.new.out);
+      script = given_since (Script.history a.script.now) (Script.history c.run-ran.new.script);
+      out = taken_since (Answers.history a.out.now) (Answers.history c.run-ran.new.out);
       saved = taken_since (Saved.history a.image_out.now) (Saved.history a.image_out.now);
     })
-    c.in_ok-segment.segment c.run.new.machine c.in_err-run.field-0.0 c.in_ok-segment.ensures.starts c.in_err-run.ensures.leaves
+    c.in_ok-segment.segment c.run-ran.new.machine c.in_err-ran.field-0.0 c.in_ok-segment.ensures.starts c.in_err-ran.ensures.leaves
     (not_written (Saved.history a.image_out.now)))
 
-pub returns-in_err-run-clause-out_grows : goal.returns-in_err-run-clause-out_grows
-returns-in_err-run-clause-out_grows g c =
+pub returns-in_err-ran-clause-out_grows : goal.returns-in_err-ran-clause-out_grows
+returns-in_err-ran-clause-out_grows g c =
     let begun = c.in_ok-segment.ensures.starts.answers in
-    c.run.ensures.out_grows (first c.args.mode begun.from) (at_first c.args.mode begun.from c.in_ok-segment.segment begun.mode begun.stands)
+    c.run-ran.ensures.out_grows (first c.args.mode begun.from) (at_first c.args.mode begun.from c.in_ok-segment.segment begun.mode begun.stands)
 
 pub returns-in-Ok-clause-session : goal.returns-in-Ok-clause-session
 returns-in-Ok-clause-session g c =
@@ -50,18 +50,18 @@ returns-in-Ok-clause-session g c =
     done_session a.start a.mode a.base (length a.region)
     (record {
       image = given_since (Image.history a.image.now) (Image.history c.begin.new.image);
-      script = given_since (Script.history a.script.now) (Script.history c.run.new.script);
-      out = taken_since (Answers.history a.out.now) (Answers.history c.run.new.out);
+      script = given_since (Script.history a.script.now) (Script.history c.run-ran.new.script);
+      out = taken_since (Answers.history a.out.now) (Answers.history c.run-ran.new.out);
       saved = taken_since (Saved.history a.image_out.now) (Saved.history c.save_segment.new.image_out);
     })
-    c.in_ok-segment.segment c.run.new.machine tt c.in_ok-segment.ensures.starts c.in_ok-run.ensures.leaves c.in-Ok.ensures.ok
-    (λ writes. added (Saved.history a.image_out.now).bytes (Saved.history c.save_segment.new.image_out).bytes c.run.new.machine.cut.bytes (c.in-Ok.ensures.bytes writes))
+    c.in_ok-segment.segment c.run-ran.new.machine tt c.in_ok-segment.ensures.starts c.in_ok-ran.ensures.leaves c.in-Ok.ensures.ok
+    (λ writes. added (Saved.history a.image_out.now).bytes (Saved.history c.save_segment.new.image_out).bytes c.run-ran.new.machine.cut.bytes (c.in-Ok.ensures.bytes writes))
     (none_failed _ _ (omega (arith, c.in-Ok.ensures.counted)))
 
 pub returns-in-Ok-clause-out_grows : goal.returns-in-Ok-clause-out_grows
 returns-in-Ok-clause-out_grows g c =
     let begun = c.in_ok-segment.ensures.starts.answers in
-    c.run.ensures.out_grows (first c.args.mode begun.from) (at_first c.args.mode begun.from c.in_ok-segment.segment begun.mode begun.stands)
+    c.run-ran.ensures.out_grows (first c.args.mode begun.from) (at_first c.args.mode begun.from c.in_ok-segment.segment begun.mode begun.stands)
 
 pub returns-clause-session : goal.returns-clause-session
 returns-clause-session g c =
@@ -71,14 +71,14 @@ returns-clause-session g c =
     unsaved_session a.start a.mode a.base (length a.region)
     (record {
       image = given_since (Image.history a.image.now) (Image.history c.begin.new.image);
-      script = given_since (Script.history a.script.now) (Script.history c.run.new.script);
-      out = taken_since (Answers.history a.out.now) (Answers.history c.run.new.out);
+      script = given_since (Script.history a.script.now) (Script.history c.run-ran.new.script);
+      out = taken_since (Answers.history a.out.now) (Answers.history c.run-ran.new.out);
       saved = taken_since (Saved.history a.image_out.now) (Saved.history c.save_segment.new.image_out);
     })
-    c.in_ok-segment.segment c.run.new.machine c.in_ok-segment.ensures.starts c.in_ok-run.ensures.leaves unsaved.0 unsaved.1
+    c.in_ok-segment.segment c.run-ran.new.machine c.in_ok-segment.ensures.starts c.in_ok-ran.ensures.leaves unsaved.0 unsaved.1
     (one_failed _ _ c.in-Err.ensures.counted)
 
 pub returns-clause-out_grows : goal.returns-clause-out_grows
 returns-clause-out_grows g c =
     let begun = c.in_ok-segment.ensures.starts.answers in
-    c.run.ensures.out_grows (first c.args.mode begun.from) (at_first c.args.mode begun.from c.in_ok-segment.segment begun.mode begun.stands)
+    c.run-ran.ensures.out_grows (first c.args.mode begun.from) (at_first c.args.mode begun.from c.in_ok-segment.segment begun.mode begun.stands)

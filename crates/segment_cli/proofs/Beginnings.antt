@@ -11,7 +11,8 @@ use Rattle.segment_manager.specs.State.{State, StandsFor}
 use Rattle.segment_manager.specs.Calls.{IsCreated, IsWhy}
 use Rattle.image_check.specs.declared.errors.OpenError.{OpenError}
 use Rattle.image_check.specs.declared.errors.OpenError.TheVariants.{Image as NoImage, RegionTooSmall as NoRoomForImage, OutOfMemory as NoMemory, ReadFault as NotRead}
-use Rattle.image_check.specs.Opening.{IsOpened, IsWhyNot, IsTooSmallFor}
+use Rattle.image_check.specs.declared.errors.OpenRefused.{OpenRefused}
+use Rattle.image_check.specs.Opening.{IsOpened, IsWhyNot, IsTooSmallFor, Opens}
 use Rattle.segment_cli.specs.declared.faults.Start.TheVariants.{Fresh, Image}
 use Rattle.segment_cli.specs.declared.faults.SessionFault.{SessionFault}
 use Rattle.image_check.specs.Opening.{IsUntouched}
@@ -56,7 +57,7 @@ created region base size mode image s h untouched = record {
 }
 
 -- the image was opened
-pub opened : (region : List ℕ) (base : ℕ) (mode : Mode) (image : Given) (s : State) → IsOpened current image region base mode s → (IsTooSmallFor current image base (length region) → ⊥)
+opened : (region : List ℕ) (base : ℕ) (mode : Mode) (image : Given) (s : State) → IsOpened current image region base mode s → (IsTooSmallFor current image base (length region) → ⊥)
     → Starts Image mode base (length region) image (Ok s)
 opened region base mode image s h small =
     let d = h.denotes.0 in
@@ -84,7 +85,7 @@ why_not_begun image base capacity NotRead why = (refl, why)
 abbrev no_segment : OpenError → Result State SessionFault
 no_segment cause = Err (opened_fault cause)
 
-pub not_opened : (image : Given) (base capacity : ℕ) (mode : Mode) (cause : OpenError) → IsWhyNot current image base capacity cause → (IsTooSmallFor current image base capacity → cause ≡ NoRoomForImage)
+not_opened : (image : Given) (base capacity : ℕ) (mode : Mode) (cause : OpenError) → IsWhyNot current image base capacity cause → (IsTooSmallFor current image base capacity → cause ≡ NoRoomForImage)
     → Starts Image mode base capacity image (Err (opened_fault cause))
 not_opened image base capacity mode cause why small = record {
   answers = why_not_begun image base capacity cause why;
@@ -92,3 +93,15 @@ not_opened image base capacity mode cause why small = record {
   bad_size = λ p. absurd p;
   too_small = λ p. ap no_segment (small p);
 }
+
+-- the image was opened or not, by what the call answered
+module _ (region : List ℕ) (base : ℕ) (mode : Mode) (image : Given) (result : Result State OpenRefused) (o : Opens current image region base mode result) where
+  pub opened_by : (s : State) → result ≡ Ok s → Starts Image mode base (length region) image (Ok s)
+  opened_by s is =
+      let h = subst (λ (r : Result State OpenRefused). Opens current image region base mode r) is o in
+      opened region base mode image s h.answers h.too_small
+
+  pub not_opened_by : (refused : OpenRefused) → result ≡ Err refused → Starts Image mode base (length region) image (Err (opened_fault refused.cause))
+  not_opened_by refused is =
+      let h = subst (λ (r : Result State OpenRefused). Opens current image region base mode r) is o in
+      not_opened image base (length region) mode refused.cause h.answers.why h.too_small

@@ -2,7 +2,7 @@
 use Rattle.std.proofs.Common.{◌≡◌, ℕ, false, true, inl, inr, List, [], ◌++◌, length, take, drop, Result, Ok, Err, MatchResult, refl, sym, ap, subst, ◌∙◌, arith}
 use Rattle.std.proofs.lemmas.List.{take-append-drop, length-drop, drop_all}
 use Rattle.raw_region.specs.Answers.{AddsFront}
-use Rattle.raw_region.specs.Device.{Gave, Took, Taken, IsProperPrefix, given_since, taken_since}
+use Rattle.raw_region.specs.Device.{Gave, Given, Took, Taken, IsProperPrefix, given_since, taken_since}
 use Rattle.raw_region.specs.Format.{current}
 use Rattle.raw_region.proofs.Laws.{added}
 use Rattle.segment_manager.specs.declared.modes.Mode.{Mode}
@@ -20,7 +20,7 @@ use Rattle.segment_cli.specs.declared.faults.SessionFault.TheVariants.{Image as 
 use Rattle.segment_scripts.specs.Run.{run}
 use Rattle.segment_cli.specs.Session.{Traffic, KeepsZeros, Saves, IsSizeRefused, IsTooSmall, IsDone, IsImageUnwritten, IsRefusedBefore, AnswersFault, IsSession}
 use Rattle.segment_cli.specs.Beginning.{Starts, IsBegun, IsWhyNotBegun, run_fault}
-use Rattle.segment_scripts.specs.Leaves.{LeavesFault, RunsWhole}
+use Rattle.segment_scripts.specs.Leaves.{Leaves, LeavesFault, RunsWhole}
 use Rattle.segment_scripts.specs.Segments.{Place, IsAt, answer_line}
 use Rattle.segment_scripts.proofs.Laws.{none_failed}
 use Rattle.segment_cli.proofs.Gaps.{zeros_saved}
@@ -49,6 +49,14 @@ first mode d = place mode d false
 
 pub at_first : (mode : Mode) (d : Directory) (s : State) → s.mode ≡ mode → StandsFor s.cut.bytes d → IsAt s (first mode d)
 at_first mode d s is stands = record { mode = is; denotes = stands; zeros = λ e. absurd (cc) }
+
+-- what a run leaves, by what it answered
+module _ (s s' : State) (script : Given) (out : Taken) (ran : Result (Unit {0}) RunFault) (leaves : (at : Place) → IsAt s at → Leaves answer_line at script out ran (IsAt s')) where
+  pub whole_by : (u : Unit {0}) → ran ≡ Ok u → (at : Place) → IsAt s at → RunsWhole answer_line at script out (IsAt s')
+  whole_by u is at there = subst (λ (r : Result (Unit {0}) RunFault). Leaves answer_line at script out r (IsAt s')) is (leaves at there)
+
+  pub stopped_by : (fault : RunFault) → ran ≡ Err fault → (at : Place) → IsAt s at → LeavesFault answer_line at script out fault (IsAt s')
+  stopped_by fault is at there = subst (λ (r : Result (Unit {0}) RunFault). Leaves answer_line at script out r (IsAt s')) is (leaves at there)
 
 -- ---- faults, as the call before answers them
 

@@ -1,6 +1,5 @@
-use Rattle.std.proofs.Common.{length}
 use Rattle.std.proofs.lemmas.Result.{err_from_is_err_and}
-use Rattle.segment_cli.proofs.Beginnings.{created, opened, not_created, not_opened}
+use Rattle.segment_cli.proofs.Beginnings.{created, not_created, not_opened_by, opened_by}
 use Rattle.segment_cli.proofs.Endings.{not_asked}
 use Rattle.segment_cli.proofs.sessions.begin.Goals as goal
 
@@ -15,8 +14,7 @@ returns-in_err-segment-in-Fresh-clause-starts g c =
 pub returns-in_err-opened-in-Image-clause-starts : goal.returns-in_err-opened-in-Image-clause-starts
 returns-in_err-opened-in-Image-clause-starts g c =
     let p = err_from_is_err_and c.from_residual-in_err-opened-in-Image.result c.from_residual-in_err-opened-in-Image.ensures.1 in
-    let opens = c.in_err-opened-in-Image.ensures.opens in
-    rw (p.1, p.2, c.in-Image.is) (not_opened _ c.args.base (length c.args.region) c.args.mode c.in_err-opened-in-Image.field-0.0.cause opens.answers.why opens.too_small)
+    rw (p.1, p.2, c.in-Image.is) (not_opened_by c.args.region c.args.base c.args.mode _ _ c.open-opened.ensures.opens _ c.in_err-opened-in-Image.was)
 
 pub returns-in_ok-segment-in-Fresh-clause-starts : goal.returns-in_ok-segment-in-Fresh-clause-starts
 returns-in_ok-segment-in-Fresh-clause-starts g c =
@@ -26,5 +24,4 @@ returns-in_ok-segment-in-Fresh-clause-starts g c =
 
 pub returns-in_ok-opened-in-Image-clause-starts : goal.returns-in_ok-opened-in-Image-clause-starts
 returns-in_ok-opened-in-Image-clause-starts g c =
-    let opens = c.in_ok-opened-in-Image.ensures.opens in
-    rw c.in-Image.is (opened c.args.region c.args.base c.args.mode _ c.in_ok-opened-in-Image.field-0 opens.answers opens.too_small)
+    rw c.in-Image.is (opened_by c.args.region c.args.base c.args.mode _ _ c.open-opened.ensures.opens _ c.in_ok-opened-in-Image.was)

@@ -1,5 +1,5 @@
 -- What is said of the segment in a file that is read.
-use Rattle.std.specs.Prelude.{◌≡◌, ◌⊎◌, ℕ, Bool, List, Result, Ok, Err}
+use Rattle.std.specs.Prelude.{◌≡◌, ◌⊎◌, ℕ, Bool, List, ◌++◌, Result, Ok, Err}
 use Rattle.raw_region.specs.Device.{Took}
 use Rattle.segment_manager.specs.declared.modes.Mode.TheVariants.{ReadOnly}
 use Rattle.segment_manager.specs.Directory.{Directory}
@@ -7,10 +7,24 @@ use Rattle.segment_manager.specs.State.{State, StandsFor}
 use Rattle.segment_cli.specs.declared.faults.SessionFault.TheVariants.{WriteFault}
 use Rattle.segment_commands.specs.declared.program_faults.ProgramFault.{ProgramFault}
 use Rattle.segment_commands.specs.declared.program_faults.ProgramFault.TheVariants.{Session}
+use Rattle.segment_commands.specs.declared.reporting.Report.{Report}
+use Rattle.segment_commands.specs.declared.reporting.Report.TheVariants.{Figures, Picture, Dump, Capacities}
 use Rattle.segment_disk.specs.Events.{Event}
+use Rattle.segment_dump.specs.Capacities.{capacities, capacities_text}
+use Rattle.segment_dump.specs.Items.{portable}
+use Rattle.segment_dump.specs.Texts.{dump_text}
+use Rattle.segment_report.specs.Picture.{picture_of}
+use Rattle.segment_report.specs.Stat.{stat_text}
 use Rattle.segment_commands.specs.Commands.{IsUnfit}
 use Rattle.segment_commands.specs.Opening.{OpensFile}
 use Rattle.segment_commands.specs.Telling.{Tells}
+
+-- what is told of a directory
+abbrev pub text_of : Report → Directory → List ℕ
+text_of Figures = stat_text
+text_of Picture = picture_of
+text_of Dump = λ d. dump_text d.size (portable d)
+text_of Capacities = λ d. dump_text d.size (portable d) ++ capacities_text (capacities d)
 
 -- the text of each directory that a segment's bytes denote was said
 abbrev pub TellsOf : {O E : Type 0} → (O → Took) → (O → Bool → O → Type 0) → O → O → State → (Directory → List ℕ) → Result (Unit {0}) E → Type 0

@@ -8,16 +8,28 @@ use Rattle.segment_manager.specs.State.{State, IsReply}
 use Rattle.segment_manager.specs.Answers.{Number}
 use Rattle.seg_types.specs.Commands.{Size}
 use Rattle.grow_shrink.specs.declared.refusals.GrowError.{GrowError}
-use Rattle.grow_shrink.specs.Resized.{IsRefusedBy}
+use Rattle.grow_shrink.specs.Resized.{IsRefusedBy, growth_refusal, grown, room_of, shrink_refusal, shrunk}
 use Rattle.segment_cli.specs.declared.faults.SessionFault.{SessionFault}
 use Rattle.segment_cli.specs.declared.faults.SessionFault.TheVariants.{WriteFault}
 use Rattle.segment_commands.specs.declared.program_faults.ProgramFault.{ProgramFault}
 use Rattle.segment_commands.specs.declared.program_faults.ProgramFault.TheVariants.{Growth, Session}
+use Rattle.segment_commands.specs.declared.resizing.Resize.{Resize}
+use Rattle.segment_commands.specs.declared.resizing.Resize.TheVariants.{Grow, Shrink}
 use Rattle.segment_disk.specs.declared.presence.Making.TheVariants.{Emptied}
 use Rattle.segment_disk.specs.Events.{Event}
 use Rattle.segment_file.specs.Files.{WritesImage}
 use Rattle.segment_commands.specs.Opening.{OpensFile}
 use Rattle.segment_commands.specs.Telling.{Tells}
+
+-- why a segment of a directory does not become larger or smaller
+abbrev pub refusal_by : Resize → State → Directory → Option GrowError
+refusal_by (Grow extra) s d = growth_refusal s.mode d.size extra (room_of s.cut)
+refusal_by Shrink s d = shrink_refusal s.mode
+
+-- the directory that it has then
+abbrev pub next_by : Resize → Directory → Directory
+next_by (Grow extra) d = grown d extra
+next_by Shrink d = shrunk d
 
 -- the line that says a size
 abbrev pub size_line : ℕ → List ℕ

@@ -1,20 +1,30 @@
 //! The commands that change the size of the segment in a file.
-ghost use Rattle.std.specs.Prelude.{◌≡◌, ◌^◌, ◌-◌, ◌<◌};
-ghost use Rattle.grow_shrink.specs.Resized.{growth_refusal, grown, room_of, shrink_refusal, shrunk};
+ghost use Rattle.std.specs.Prelude.{◌≡◌, ◌^◌, ◌-◌, ◌<◌, OnOk};
+ghost use Rattle.grow_shrink.specs.Resized.{IsRefusedBy, growth_refusal, grown, room_of, shrink_refusal, shrunk};
+ghost use Rattle.segment_manager.specs.Resized.{Resizes};
 ghost use Rattle.segment_commands.specs.Holding.{Holds};
-ghost use Rattle.segment_commands.specs.Resizing.{IsResize, TellsAndWrites, TellsSize, size_line};
+ghost use Rattle.segment_commands.specs.Resizing.{IsResize, TellsAndWrites, TellsSize, next_by, refusal_by, size_line};
 ghost use Rattle.segment_commands.specs.Telling.{Tells};
 
 use crate::creating::WRITE_FAULT;
 use crate::opening::open_segment;
 use crate::program_faults::ProgramFault;
-use grow_shrink::shrink_to_fit;
+use grow_shrink::{GrowError, shrink_to_fit};
 use raw_region::DeviceFault;
 use segment_disk::{Disk, Making, Output};
 use segment_file::write_image;
 use segment_lang::put_number_line;
 use segment_manager::{Mode, Segment};
 use std::alloc::Global;
+
+/// How the size of a segment changes.
+#[derive(Clone, Copy)]
+enum Resize {
+    /// By so many bytes more.
+    Grow(u64),
+    /// To what its last block needs.
+    Shrink,
+}
 
 /// Writes a size as a line, and gives it out.
 fn tell_number<O: Output>(out: &mut O, size: u64) -> Result<(), DeviceFault>
@@ -50,26 +60,60 @@ fn tell_and_write<D: Disk, O: Output>(
     }
 }
 
-/// What [`grow`] does with the right to write the file.
-fn grow_held<D: Disk, O: Output>(
+/// Makes a segment larger or smaller.
+fn resize_segment(segment: &mut Segment, how: Resize) -> Result<(), GrowError>
+    ensures refused { IsRefusedBy segment.old result (refusal_by how segment.old) }
+    ensures resized { OnOk result (Resizes segment.old segment.new (next_by how)) }
+{
+    match how {
+        Resize::Grow(extra) => grow_shrink::grow(segment, extra),
+        Resize::Shrink => shrink_to_fit(segment),
+    }
+}
+
+/// Makes the segment in a file larger or smaller, with the right to write the file and room for so many bytes more.
+fn resize_held<D: Disk, O: Output>(
     alloc: Global,
     disk: &mut D,
     path: &str,
-    extra: u64,
+    how: Resize,
+    more: u64,
     out: &mut O,
 ) -> Result<(), ProgramFault>
     requires { (O.history out.old).failures < 2 ^ 64 - 1 }
     ensures { IsResize D.step disk.old disk.new path.now O.history O.flushes out.old out.new
-        (λ s d. growth_refusal s.mode d.size extra (room_of s.cut)) (λ d. grown d extra) result }
+        (refusal_by how) (next_by how) result }
 {
-    let mut segment = open_segment(alloc, disk, path, Mode::Write, extra)?;
-    match grow_shrink::grow(&mut segment, extra) {
+    let mut segment = open_segment(alloc, disk, path, Mode::Write, more)?;
+    match resize_segment(&mut segment, how) {
         Ok(()) => match tell_and_write(disk, path, &segment, out) {
             Ok(()) => Ok(()),
             Err(_) => Err(WRITE_FAULT),
         },
         Err(error) => Err(ProgramFault::Growth(error)),
     }
+}
+
+/// The same, and takes the right to write the file and gives it back.
+fn resize_file<D: Disk, O: Output>(
+    alloc: Global,
+    disk: &mut D,
+    path: &str,
+    how: Resize,
+    more: u64,
+    out: &mut O,
+) -> Result<(), ProgramFault>
+    requires { (O.history out.old).failures < 2 ^ 64 - 1 }
+    ensures { Holds D.step disk.old disk.new path.now (out.new ≡ out.old)
+        (λ held done. IsResize D.step held done path.now O.history O.flushes out.old out.new
+        (refusal_by how) (next_by how) result) result }
+{
+    let Ok(hold) = disk.hold(path) else {
+        return Err(ProgramFault::InUse);
+    };
+    let answer = resize_held(alloc, disk, path, how, more, out);
+    disk.release(hold);
+    answer
 }
 
 /// Makes the segment in a file larger by `extra` bytes, says its size, and then writes its image to the file, which is emptied
@@ -91,33 +135,7 @@ pub fn grow<D: Disk, O: Output>(
         (λ held done. IsResize D.step held done path.now O.history O.flushes out.old out.new
         (λ s d. growth_refusal s.mode d.size extra (room_of s.cut)) (λ d. grown d extra) result) result }
 {
-    let Ok(hold) = disk.hold(path) else {
-        return Err(ProgramFault::InUse);
-    };
-    let answer = grow_held(alloc, disk, path, extra, out);
-    disk.release(hold);
-    answer
-}
-
-/// What [`shrink`] does with the right to write the file.
-fn shrink_held<D: Disk, O: Output>(
-    alloc: Global,
-    disk: &mut D,
-    path: &str,
-    out: &mut O,
-) -> Result<(), ProgramFault>
-    requires { (O.history out.old).failures < 2 ^ 64 - 1 }
-    ensures { IsResize D.step disk.old disk.new path.now O.history O.flushes out.old out.new
-        (λ s d. shrink_refusal s.mode) (λ d. shrunk d) result }
-{
-    let mut segment = open_segment(alloc, disk, path, Mode::Write, 0)?;
-    match shrink_to_fit(&mut segment) {
-        Ok(()) => match tell_and_write(disk, path, &segment, out) {
-            Ok(()) => Ok(()),
-            Err(_) => Err(WRITE_FAULT),
-        },
-        Err(error) => Err(ProgramFault::Growth(error)),
-    }
+    resize_file(alloc, disk, path, Resize::Grow(extra), extra, out)
 }
 
 /// Makes the segment in a file as small as its last block lets it be, says its size, and then writes its image to the file,
@@ -137,10 +155,5 @@ pub fn shrink<D: Disk, O: Output>(
         (λ held done. IsResize D.step held done path.now O.history O.flushes out.old out.new
         (λ s d. shrink_refusal s.mode) (λ d. shrunk d) result) result }
 {
-    let Ok(hold) = disk.hold(path) else {
-        return Err(ProgramFault::InUse);
-    };
-    let answer = shrink_held(alloc, disk, path, out);
-    disk.release(hold);
-    answer
+    resize_file(alloc, disk, path, Resize::Shrink, 0, out)
 }

@@ -8,7 +8,8 @@ use Rattle.segment_manager.specs.declared.errors.CreateError.{CreateError}
 use Rattle.segment_manager.specs.declared.errors.CreateError.TheVariants.{BadSize as NoSize, RegionTooSmall as NoRoom}
 use Rattle.segment_manager.specs.Directory.{empty}
 use Rattle.segment_manager.specs.State.{State, StandsFor}
-use Rattle.segment_manager.specs.Calls.{IsCreated, IsWhy}
+use Rattle.segment_manager.specs.Calls.{Creates, IsCreated, IsWhy}
+use Rattle.segment_manager.specs.declared.errors.CreateRefused.{CreateRefused}
 use Rattle.image_check.specs.declared.errors.OpenError.{OpenError}
 use Rattle.image_check.specs.declared.errors.OpenError.TheVariants.{Image as NoImage, RegionTooSmall as NoRoomForImage, OutOfMemory as NoMemory, ReadFault as NotRead}
 use Rattle.image_check.specs.declared.errors.OpenRefused.{OpenRefused}
@@ -24,7 +25,8 @@ illegal size refused legal =
     let same : false ≡ true = sym refused ∙ legal in
     cc
 
-pub not_created : (region : List ℕ) (base size : ℕ) (mode : Mode) (image : Given) (cause : CreateError) → IsWhy region base size cause → IsUntouched image
+not_created : (region : List ℕ) (base size : ℕ) (mode : Mode) (image : Given) (cause : CreateError)
+    → IsWhy region base size cause → IsUntouched image
     → Starts (Fresh size) mode base (length region) image (Err (created_fault cause))
 not_created region base size mode image NoSize why untouched = record {
   answers = why;
@@ -40,8 +42,8 @@ not_created region base size mode image NoRoom why untouched = record {
 }
 
 -- an empty segment was made
-pub created : (region : List ℕ) (base size : ℕ) (mode : Mode) (image : Given) (s : State) → IsCreated region base size mode s → IsUntouched image
-    → Starts (Fresh size) mode base (length region) image (Ok s)
+created : (region : List ℕ) (base size : ℕ) (mode : Mode) (image : Given) (s : State)
+    → IsCreated region base size mode s → IsUntouched image → Starts (Fresh size) mode base (length region) image (Ok s)
 created region base size mode image s h untouched = record {
   answers = record {
     from = empty size;
@@ -56,8 +58,23 @@ created region base size mode image s h untouched = record {
   too_small = λ p. absurd (let fits = h.fits in let short = p.1 in omega arith);
 }
 
+-- the same, by what the call answered
+module _ (region : List ℕ) (base size : ℕ) (mode : Mode) (image : Given) (result : Result State CreateRefused)
+    (made : Creates region base size mode result) (untouched : IsUntouched image) where
+  pub created_by : (s : State) → result ≡ Ok s → Starts (Fresh size) mode base (length region) image (Ok s)
+  created_by s is =
+      let h = subst (λ (r : Result State CreateRefused). Creates region base size mode r) is made in
+      created region base size mode image s h untouched
+
+  pub not_created_by : (refused : CreateRefused) → result ≡ Err refused
+      → Starts (Fresh size) mode base (length region) image (Err (created_fault refused.cause))
+  not_created_by refused is =
+      let h = subst (λ (r : Result State CreateRefused). Creates region base size mode r) is made in
+      not_created region base size mode image refused.cause h.why untouched
+
 -- the image was opened
-opened : (region : List ℕ) (base : ℕ) (mode : Mode) (image : Given) (s : State) → IsOpened current image region base mode s → (IsTooSmallFor current image base (length region) → ⊥)
+opened : (region : List ℕ) (base : ℕ) (mode : Mode) (image : Given) (s : State)
+    → IsOpened current image region base mode s → (IsTooSmallFor current image base (length region) → ⊥)
     → Starts Image mode base (length region) image (Ok s)
 opened region base mode image s h small =
     let d = h.denotes.0 in
@@ -85,7 +102,8 @@ why_not_begun image base capacity NotRead why = (refl, why)
 abbrev no_segment : OpenError → Result State SessionFault
 no_segment cause = Err (opened_fault cause)
 
-not_opened : (image : Given) (base capacity : ℕ) (mode : Mode) (cause : OpenError) → IsWhyNot current image base capacity cause → (IsTooSmallFor current image base capacity → cause ≡ NoRoomForImage)
+not_opened : (image : Given) (base capacity : ℕ) (mode : Mode) (cause : OpenError)
+    → IsWhyNot current image base capacity cause → (IsTooSmallFor current image base capacity → cause ≡ NoRoomForImage)
     → Starts Image mode base capacity image (Err (opened_fault cause))
 not_opened image base capacity mode cause why small = record {
   answers = why_not_begun image base capacity cause why;
@@ -94,14 +112,16 @@ not_opened image base capacity mode cause why small = record {
   too_small = λ p. ap no_segment (small p);
 }
 
--- the image was opened or not, by what the call answered
-module _ (region : List ℕ) (base : ℕ) (mode : Mode) (image : Given) (result : Result State OpenRefused) (o : Opens current image region base mode result) where
+-- the same, by what the call answered
+module _ (region : List ℕ) (base : ℕ) (mode : Mode) (image : Given) (result : Result State OpenRefused)
+    (o : Opens current image region base mode result) where
   pub opened_by : (s : State) → result ≡ Ok s → Starts Image mode base (length region) image (Ok s)
   opened_by s is =
       let h = subst (λ (r : Result State OpenRefused). Opens current image region base mode r) is o in
       opened region base mode image s h.answers h.too_small
 
-  pub not_opened_by : (refused : OpenRefused) → result ≡ Err refused → Starts Image mode base (length region) image (Err (opened_fault refused.cause))
+  pub not_opened_by : (refused : OpenRefused) → result ≡ Err refused
+      → Starts Image mode base (length region) image (Err (opened_fault refused.cause))
   not_opened_by refused is =
       let h = subst (λ (r : Result State OpenRefused). Opens current image region base mode r) is o in
       not_opened image base (length region) mode refused.cause h.answers.why h.too_small

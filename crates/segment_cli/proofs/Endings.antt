@@ -51,12 +51,16 @@ pub at_first : (mode : Mode) (d : Directory) (s : State) → s.mode ≡ mode →
 at_first mode d s is stands = record { mode = is; denotes = stands; zeros = λ e. absurd (cc) }
 
 -- what a run leaves, by what it answered
-module _ (s s' : State) (script : Given) (out : Taken) (ran : Result (Unit {0}) RunFault) (leaves : (at : Place) → IsAt s at → Leaves answer_line at script out ran (IsAt s')) where
+module _ (s s' : State) (script : Given) (out : Taken) (ran : Result (Unit {0}) RunFault)
+    (leaves : (at : Place) → IsAt s at → Leaves answer_line at script out ran (IsAt s')) where
   pub whole_by : (u : Unit {0}) → ran ≡ Ok u → (at : Place) → IsAt s at → RunsWhole answer_line at script out (IsAt s')
-  whole_by u is at there = subst (λ (r : Result (Unit {0}) RunFault). Leaves answer_line at script out r (IsAt s')) is (leaves at there)
+  whole_by u is at there =
+      subst (λ (r : Result (Unit {0}) RunFault). Leaves answer_line at script out r (IsAt s')) is (leaves at there)
 
-  pub stopped_by : (fault : RunFault) → ran ≡ Err fault → (at : Place) → IsAt s at → LeavesFault answer_line at script out fault (IsAt s')
-  stopped_by fault is at there = subst (λ (r : Result (Unit {0}) RunFault). Leaves answer_line at script out r (IsAt s')) is (leaves at there)
+  pub stopped_by : (fault : RunFault) → ran ≡ Err fault → (at : Place) → IsAt s at
+      → LeavesFault answer_line at script out fault (IsAt s')
+  stopped_by fault is at there =
+      subst (λ (r : Result (Unit {0}) RunFault). Leaves answer_line at script out r (IsAt s')) is (leaves at there)
 
 -- ---- faults, as the call before answers them
 

@@ -1,5 +1,5 @@
 use Rattle.std.proofs.lemmas.Result.{err_from_is_err_and}
-use Rattle.segment_cli.proofs.Beginnings.{created, not_created, not_opened_by, opened_by}
+use Rattle.segment_cli.proofs.Beginnings.{created_by, not_created_by, not_opened_by, opened_by}
 use Rattle.segment_cli.proofs.Endings.{not_asked}
 use Rattle.segment_cli.proofs.sessions.begin.Goals as goal
 
@@ -8,20 +8,23 @@ pub returns-in_err-segment-in-Fresh-clause-starts :
 returns-in_err-segment-in-Fresh-clause-starts g c =
     let Reader = g.I.Source in
     let p = err_from_is_err_and c.from_residual.result c.from_residual.ensures.1 in
-    let refused = c.in_err-segment-in-Fresh.field-0.0 in
-    rw (p.1, p.2, c.in-Fresh.is) (not_created c.args.region c.args.base c.in-Fresh.size c.args.mode _ refused.cause c.in_err-segment-in-Fresh.ensures.why (not_asked (Reader.history c.args.image.now)))
+    rw (p.1, p.2, c.in-Fresh.is) (not_created_by c.args.region c.args.base c.in-Fresh.size c.args.mode _ _
+    c.create.ensures (not_asked (Reader.history c.args.image.now)) _ c.in_err-segment-in-Fresh.was)
 
 pub returns-in_err-opened-in-Image-clause-starts : goal.returns-in_err-opened-in-Image-clause-starts
 returns-in_err-opened-in-Image-clause-starts g c =
-    let p = err_from_is_err_and c.from_residual-in_err-opened-in-Image.result c.from_residual-in_err-opened-in-Image.ensures.1 in
-    rw (p.1, p.2, c.in-Image.is) (not_opened_by c.args.region c.args.base c.args.mode _ _ c.open-opened.ensures.opens _ c.in_err-opened-in-Image.was)
+    let from = c.from_residual-in_err-opened-in-Image in
+    let p = err_from_is_err_and from.result from.ensures.1 in
+    rw (p.1, p.2, c.in-Image.is) (not_opened_by c.args.region c.args.base c.args.mode _ _ c.open-opened.ensures.opens _
+    c.in_err-opened-in-Image.was)
 
 pub returns-in_ok-segment-in-Fresh-clause-starts : goal.returns-in_ok-segment-in-Fresh-clause-starts
 returns-in_ok-segment-in-Fresh-clause-starts g c =
     let Reader = g.I.Source in
-    rw c.in-Fresh.is (created c.args.region c.args.base c.in-Fresh.size c.args.mode _ c.in_ok-segment-in-Fresh.segment c.in_ok-segment-in-Fresh.ensures
-    (not_asked (Reader.history c.args.image.now)))
+    rw c.in-Fresh.is (created_by c.args.region c.args.base c.in-Fresh.size c.args.mode _ _ c.create.ensures
+    (not_asked (Reader.history c.args.image.now)) _ c.in_ok-segment-in-Fresh.was)
 
 pub returns-in_ok-opened-in-Image-clause-starts : goal.returns-in_ok-opened-in-Image-clause-starts
 returns-in_ok-opened-in-Image-clause-starts g c =
-    rw c.in-Image.is (opened_by c.args.region c.args.base c.args.mode _ _ c.open-opened.ensures.opens _ c.in_ok-opened-in-Image.was)
+    rw c.in-Image.is (opened_by c.args.region c.args.base c.args.mode _ _ c.open-opened.ensures.opens _
+    c.in_ok-opened-in-Image.was)

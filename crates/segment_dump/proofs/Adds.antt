@@ -2,12 +2,10 @@
 use Rattle.std.proofs.Common.{◌≡◌, ℕ, zero, suc, ◌+◌, ◌<◌, ◌≤◌, ℤ, pos, negsuc, Bool, true, List, ◌++◌, length, take, Result, Ok, Err, refl, sym, ap, subst, ◌∙◌, arith}
 use Rattle.std.proofs.lemmas.Bool.Decides.{nat_tests}
 use Rattle.seg_types.specs.declared.kinds.Kind.{Kind}
-use Rattle.seg_types.specs.declared.kinds.Kind.TheVariants as kinds
 use Rattle.seg_types.specs.declared.kinds.ScalarKind.{ScalarKind}
 use Rattle.seg_types.specs.declared.kinds.ScalarKind.TheVariants.{Bool as BoolKind, U8, I32, I64, U64}
 use Rattle.seg_types.specs.declared.refusals.Refusal.{Refusal}
 use Rattle.seg_types.specs.declared.values.ScalarValue.{ScalarValue}
-use Rattle.seg_types.specs.Commands as asked
 use Rattle.seg_types.specs.Commands.{Command, literal_of}
 use Rattle.seg_types.specs.Kinds.{is_value}
 use Rattle.seg_types.specs.Names.{ByHandle}
@@ -19,8 +17,10 @@ use Rattle.segment_dump.specs.Filling.{Fill, FillsAt, IsBuildableContent}
 use Rattle.segment_dump.specs.Items.{Content, Map, Scalars, String, Strings, Vector, count_of_content, kind_of_content}
 use Rattle.segment_dump.specs.Need.{texts_needs}
 use Rattle.segment_dump.specs.Texts.{element_line}
-use Rattle.segment_dump.proofs.ElementReads.{never-ok, ok-same}
+use Rattle.segment_dump.proofs.Found.{never-ok, ok-same}
 use Rattle.segment_dump.proofs.Fillings.{NextPair, NextScalar, NextText, next-element, next-own, next-pair, next-scalar}
+use Rattle.seg_types.specs.declared.kinds.Kind.TheVariants as kinds
+use Rattle.seg_types.specs.Commands as asked
 
 -- ---- the value that was read
 
@@ -41,47 +41,29 @@ scalar-value U64 (negsuc n) e = absurd (cc)
 
 pub scalar-kind : (k : ScalarKind) (z : ℤ) → kind_of_scalar (scalar_of k z) ≡ k
 scalar-kind BoolKind z = refl
-scalar-kind U8 z = refl
-scalar-kind I32 z = refl
-scalar-kind I64 z = refl
-scalar-kind U64 z = refl
+scalar-kind k z = refl
 
 -- ---- contents of a kind
 
 pub scalars-of : (c : Content) (k : ScalarKind) → kind_of_content c ≡ kinds.Scalar k → (zs : List ℤ) × (c ≡ Scalars k zs)
 scalars-of (Scalars l zs) k e = let same : l ≡ k = cc in (zs, ap (λ l. Scalars l zs) same)
-scalars-of (Vector l zs) k e = absurd (cc)
-scalars-of (String bs) k e = absurd (cc)
-scalars-of (Map l v ps) k e = absurd (cc)
-scalars-of (Strings ts) k e = absurd (cc)
+scalars-of c k e = absurd (cc)
 
 pub vector-of : (c : Content) (k : ScalarKind) → kind_of_content c ≡ kinds.Vector k → (zs : List ℤ) × (c ≡ Vector k zs)
 vector-of (Vector l zs) k e = let same : l ≡ k = cc in (zs, ap (λ l. Vector l zs) same)
-vector-of (Scalars l zs) k e = absurd (cc)
-vector-of (String bs) k e = absurd (cc)
-vector-of (Map l v ps) k e = absurd (cc)
-vector-of (Strings ts) k e = absurd (cc)
+vector-of c k e = absurd (cc)
 
 pub map-of : (c : Content) (k w : ScalarKind) → kind_of_content c ≡ kinds.Map k w → (ps : List (ℤ × ℤ)) × (c ≡ Map k w ps)
 map-of (Map l v ps) k w e = let one : l ≡ k = cc in let two : v ≡ w = cc in (ps, (λ i. Map (one i) (two i) ps))
-map-of (Scalars l zs) k w e = absurd (cc)
-map-of (Vector l zs) k w e = absurd (cc)
-map-of (String bs) k w e = absurd (cc)
-map-of (Strings ts) k w e = absurd (cc)
+map-of c k w e = absurd (cc)
 
 pub strings-of : (c : Content) → kind_of_content c ≡ kinds.Texts → (ts : List (List ℕ)) × (c ≡ Strings ts)
 strings-of (Strings ts) e = (ts, refl)
-strings-of (Scalars l zs) e = absurd (cc)
-strings-of (Vector l zs) e = absurd (cc)
-strings-of (String bs) e = absurd (cc)
-strings-of (Map l v ps) e = absurd (cc)
+strings-of c e = absurd (cc)
 
 pub string-of : (c : Content) → kind_of_content c ≡ kinds.Text → (bs : List ℕ) × (c ≡ String bs)
 string-of (String bs) e = (bs, refl)
-string-of (Scalars l zs) e = absurd (cc)
-string-of (Vector l zs) e = absurd (cc)
-string-of (Strings ts) e = absurd (cc)
-string-of (Map l v ps) e = absurd (cc)
+string-of c e = absurd (cc)
 
 -- ---- what a call answered
 

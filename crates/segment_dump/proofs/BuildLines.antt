@@ -1,5 +1,35 @@
 -- All objects of a text are built, one after another.
-use Rattle.std.proofs.Common.{◌≡◌, ◌≢◌, inl, ℕ, suc, ◌+◌, ◌<◌, ◌≤◌, ◌==◌, Bool, true, false, cond, List, [], ◌∷◌, ◌++◌, length, get_or, Result, Ok, Err, refl, sym, ap, subst, ◌∙◌, arith, append-nil, append_assoc}
+use Rattle.std.proofs.Common.{
+  ◌≡◌,
+  ◌≢◌,
+  ℕ,
+  suc,
+  ◌+◌,
+  ◌<◌,
+  ◌≤◌,
+  ◌==◌,
+  Bool,
+  true,
+  false,
+  cond,
+  List,
+  [],
+  ◌∷◌,
+  ◌++◌,
+  length,
+  get_or,
+  Result,
+  Ok,
+  Err,
+  refl,
+  sym,
+  ap,
+  subst,
+  ◌∙◌,
+  arith,
+  append-nil,
+  append_assoc,
+}
 use Rattle.std.specs.Prelude.{codes}
 use Rattle.std.proofs.lemmas.Bool.{eq-eqb}
 use Rattle.std.proofs.lemmas.List.{length-append}
@@ -12,19 +42,19 @@ use Rattle.segment_manager.specs.Plan.{bare}
 use Rattle.segment_manager.specs.State.{State}
 use Rattle.segment_dump.specs.declared.building.Shape.{Shape}
 use Rattle.segment_dump.specs.Builders.{AreLeft, Builds, BuildsObject, FillsNew, HasPlace, IsAt, IsBegun, IsFillable, IsGone, IsNext, StartsNext, content_need, first_content}
-use Rattle.segment_dump.specs.Building.{IsRest, Site, class_words, count_class, head_words, measure_words, of_class}
+use Rattle.segment_dump.specs.Building.{Site, class_words, count_class, head_words, measure_words, of_class}
 use Rattle.segment_dump.specs.Filling.{Fill, IsNameIn, StandsBuilt, StandsFilling}
 use Rattle.segment_dump.specs.Items.{Item, count_of_content, kind_of_content}
 use Rattle.segment_dump.specs.Lines.{IsShortLine, ReadsLine}
 use Rattle.segment_dump.specs.Need.{all_needs, item_needs}
 use Rattle.segment_dump.specs.Reads.{HasNoEnd, ended}
 use Rattle.segment_dump.specs.Texts.{content_text, end_text, head_line, item_text, items_text}
-use Rattle.segment_dump.proofs.ContentLines.{no_end-both, quoted-no_end, word-no_end}
-use Rattle.segment_dump.proofs.ElementReads.{never-ok, ok-same}
+use Rattle.segment_dump.proofs.ContentLines.{no_end-both, quoted-no_end, word-no_end, no_end-test}
+use Rattle.segment_dump.proofs.Found.{never-ok, ok-same}
 use Rattle.segment_dump.proofs.LineTexts.{measure-no_end, measure-short, name-short}
-use Rattle.segment_dump.proofs.Makes.{item-rest}
-use Rattle.segment_dump.proofs.Spaces.{rest-both}
 use Rattle.segment_dump.proofs.Quotes.{IsName, name-is}
+use Rattle.segment_dump.proofs.Makes.{items-rest}
+use Rattle.segment_dump.proofs.Orders.{of-both}
 use Rattle.segment_dump.proofs.Quotes as said
 
 -- ---- one object
@@ -59,12 +89,11 @@ name-no_end name t (said.quoted f) = subst HasNoEnd (sym f) (quoted-no_end name)
 pub class-no_end : (c : Class) (name : List ℕ) → HasNoEnd (class_words c name)
 class-no_end Named name =
     no_end-both (codes "named " ++ name_text name) (0x20 ∷ [])
-    (no_end-both (codes "named ") (name_text name) ((λ e. omega arith), ((λ e. omega arith), ((λ e. omega arith), ((λ e. omega arith), ((λ e. omega arith), ((λ e. omega arith), tt)))))) (name-no_end name (name_text name) (name-is name)))
-    ((λ e. omega arith), tt)
-class-no_end Unique name =
-    ((λ e. omega arith), ((λ e. omega arith), ((λ e. omega arith), ((λ e. omega arith), ((λ e. omega arith), ((λ e. omega arith), ((λ e. omega arith), tt)))))))
-class-no_end Anonymous name =
-    ((λ e. omega arith), ((λ e. omega arith), ((λ e. omega arith), ((λ e. omega arith), ((λ e. omega arith), ((λ e. omega arith), ((λ e. omega arith), ((λ e. omega arith), ((λ e. omega arith), ((λ e. omega arith), tt))))))))))
+    (no_end-both (codes "named ") (name_text name) (no_end-test (codes "named ") refl)
+    (name-no_end name (name_text name) (name-is name)))
+    (no_end-test (0x20 ∷ []) refl)
+class-no_end Unique name = no_end-test (codes "unique ") refl
+class-no_end Anonymous name = no_end-test (codes "anonymous ") refl
 
 class-short : (c : Class) (name : List ℕ) → IsNameIn c name → length (class_words c name) ≤ 1030
 class-short Named name h = omega (arith, name-short name, h.2, length-append (codes "named " ++ name_text name) (0x20 ∷ []), length-append (codes "named ") (name_text name))
@@ -100,13 +129,15 @@ count-if : (b : Bool) (i : Item) (is js : List Item) → b ≡ true → length (
 count-if true i is js e = refl
 count-if false i is js e = absurd (cc)
 
-count-behind-if : (b : Bool) (j : Item) (xs ys : List Item) → suc (length ys) ≤ length xs → suc (length (cond b (j ∷ ys) ys)) ≤ length (cond b (j ∷ xs) xs)
-count-behind-if true j xs ys h = omega arith
-count-behind-if false j xs ys h = h
-
 count-more : (c : Class) (done : List Item) (i : Item) (more : List Item) → i.class ≡ c → count_class c done < count_class c (done ++ i ∷ more)
-count-more c [] i more e = omega (arith, count-if (class_code c == class_code i.class) i (of_class c more) [] (eq-eqb (class_code c) (class_code i.class) (ap class_code (sym e))))
-count-more c (j ∷ done) i more e = count-behind-if (class_code c == class_code j.class) j (of_class c (done ++ i ∷ more)) (of_class c done) (count-more c done i more e)
+count-more c done i more e =
+    omega (
+      arith,
+      ap length (of-both c done (i ∷ more)),
+      length-append (of_class c done) (of_class c (i ∷ more)),
+      count-if (class_code c == class_code i.class) i (of_class c more) []
+          (eq-eqb (class_code c) (class_code i.class) (ap class_code (sym e))),
+    )
 
 place-in : (site : Site) (done : List Item) (i : Item) (more : List Item) (c : Class) → i.class ≡ c → count_class Named (done ++ i ∷ more) ≤ site.named → count_class Unique (done ++ i ∷ more) ≤ site.unique → HasPlace site done c
 place-in site done i more Named e n u = omega (arith, n, count-more Named done i more e)
@@ -129,9 +160,6 @@ build-start s text most room = record { at = λ site items a l m. ([], items, re
 abbrev end_words : List ℕ
 end_words = codes "end"
 
-end-no_end : HasNoEnd end_words
-end-no_end = ((λ e. omega arith), ((λ e. omega arith), ((λ e. omega arith), tt)))
-
 letter-other : (c : Class) (name m : List ℕ) → class_words c name ++ m ≡ end_words → ⊥
 letter-other Named name m e = omega (arith, ap (λ l. get_or l 0 0) e)
 letter-other Unique name m e = omega (arith, ap (λ l. get_or l 0 0) e)
@@ -141,7 +169,8 @@ head-other : (i : Item) → head_words i ≡ end_words → ⊥
 head-other i e = letter-other i.class i.name (measure_words (kind_of_content i.content) (count_of_content i.content)) e
 
 end-line : {E : Type 0} (rest after : List ℕ) (r : Result (List ℕ) E) → rest ≡ end_text → ReadsLine rest after r → (r ≡ Ok end_words) × (after ≡ [])
-end-line rest after r e h = h.reads end_words [] end-no_end (omega arith) (e ∙ sym (append-nil end_text))
+end-line rest after r e h = h.reads end_words [] (no_end-test end_words refl) (omega arith)
+    (e ∙ sym (append-nil end_text))
 
 item-behind : (i : Item) (more : List Item) → items_text (i ∷ more) ++ end_text ≡ ended (head_words i) ++ (content_text i.content ++ (items_text more ++ end_text))
 item-behind i more = append_assoc (item_text i) (items_text more) end_text ∙ item-apart i (items_text more ++ end_text)
@@ -155,10 +184,6 @@ line-long : (rest : List ℕ) (i : Item) (more : List Item) → rest ≡ items_t
 line-long rest i more e =
     let a = content_text i.content ++ (items_text more ++ end_text) in
     omega (arith, ap length (e ∙ item-behind i more), length-append (ended (head_words i)) a, length-append (head_words i) (0x0A ∷ []))
-
-items-rest : (is : List Item) → IsRest (all_needs item_needs is).room
-items-rest [] = inl refl
-items-rest (i ∷ is) = rest-both (item_needs i).room (all_needs item_needs is).room (item-rest i) (items-rest is)
 
 next-of : (s : State) (site : Site) (done : List Item) (i : Item) (more : List Item) (room : ℕ) → StandsBuilt s site done (all_needs item_needs (i ∷ more)).room → AreLeft site room done (i ∷ more) → IsNext s site done i (all_needs item_needs more).room room
 next-of s site done i more room b l = record {

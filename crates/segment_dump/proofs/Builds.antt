@@ -1,5 +1,35 @@
 -- What the steps lead to by which an object comes to be, and how the objects of a segment are those of a dump in the end.
-use Rattle.std.proofs.Common.{◌≡◌, ℕ, ◌+◌, ◌*◌, ◌<◌, ◌≤◌, ◌==◌, ℤ, Bool, true, false, nat_le, nat_lt, List, [], ◌∷◌, ◌++◌, length, map, Option, Some, None, if◌then◌else◌, refl, sym, ap, subst, ◌∙◌, arith, append_assoc, zero-add}
+use Rattle.std.proofs.Common.{
+  ◌≡◌,
+  ℕ,
+  ◌+◌,
+  ◌*◌,
+  ◌<◌,
+  ◌≤◌,
+  ◌==◌,
+  ℤ,
+  Bool,
+  true,
+  false,
+  nat_lt,
+  List,
+  [],
+  ◌∷◌,
+  ◌++◌,
+  length,
+  map,
+  Option,
+  Some,
+  None,
+  if◌then◌else◌,
+  refl,
+  sym,
+  ap,
+  subst,
+  ◌∙◌,
+  arith,
+  append_assoc,
+}
 use Rattle.std.specs.Prelude.{flat_map, ⊤}
 use Rattle.std.specs.List.{AllByRecursion}
 use Rattle.std.proofs.lemmas.Bool.Decides.{nat_tests}
@@ -14,7 +44,6 @@ use Rattle.seg_types.specs.declared.kinds.Class.{Class}
 use Rattle.seg_types.specs.declared.kinds.Class.TheVariants.{Anonymous, Named, Unique}
 use Rattle.seg_types.specs.declared.kinds.ScalarKind.{ScalarKind}
 use Rattle.seg_types.specs.declared.refusals.Refusal.TheVariants.{Exists}
-use Rattle.seg_types.specs.Commands as asked
 use Rattle.seg_types.specs.Names.{Key}
 use Rattle.segment_manager.specs.declared.modes.Mode.TheVariants.{Write}
 use Rattle.segment_manager.specs.Answers.{Answer, Done, Made}
@@ -25,9 +54,11 @@ use Rattle.segment_manager.proofs.Laws.{AllByRecursion-behind, AllByRecursion-fr
 use Rattle.segment_dump.specs.Building.{EndBy, HasRoom, Head, IsBuilt, IsFilling, Site, all_extents, total}
 use Rattle.segment_dump.specs.Items.{Item, content_of, item_of_object}
 use Rattle.segment_dump.specs.Need.{block_room}
-use Rattle.segment_dump.proofs.Fills.{StepsTo, met-perform}
+use Rattle.std.proofs.lemmas.Bool.{le-leb, lt-leb, lt-ltb}
+use Rattle.segment_dump.proofs.Fills.{StepsTo, met-perform, no-bytes}
 use Rattle.segment_dump.proofs.Spaces.{IsRest, block-some, room-taken, room-with}
 use Rattle.segment_dump.proofs.Steps.{put-last, writes}
+use Rattle.seg_types.specs.Commands as asked
 
 -- ---- an object is made
 
@@ -57,16 +88,15 @@ HasEntry d Anonymous = ⊤
 HasEntry d Named = length (named_objects d) < d.named.capacity
 HasEntry d Unique = length (unique_objects d) < d.unique.capacity
 
-lt-test : (m n : ℕ) → m < n → nat_lt m n ≡ true
-lt-test m n h = grind (arith, nat_tests)
-
 if-true : (b : Bool) (x y : Plan) → b ≡ true → (if b then x else y) ≡ x
 if-true b x y e = ap (λ c. if c then x else y) e
 
 entry-there : (d : Directory) (c : Class) (next : Directory → Plan) → HasEntry d c → with_entry d c next ≡ next d
 entry-there d Anonymous next h = refl
-entry-there d Named next h = if-true (nat_lt (length (named_objects d)) d.named.capacity) (next d) _ (lt-test (length (named_objects d)) d.named.capacity h)
-entry-there d Unique next h = if-true (nat_lt (length (unique_objects d)) d.unique.capacity) (next d) _ (lt-test (length (unique_objects d)) d.unique.capacity h)
+entry-there d Named next h = if-true (nat_lt (length (named_objects d)) d.named.capacity) (next d) _
+    (lt-ltb (length (named_objects d)) d.named.capacity h)
+entry-there d Unique next h = if-true (nat_lt (length (unique_objects d)) d.unique.capacity) (next d) _
+    (lt-ltb (length (unique_objects d)) d.unique.capacity h)
 
 all-by : (e : ℕ) (os : List Object) → EndBy e (flat_map extents_of os) → AllByRecursion (λ (p : Object). p.extent.offset ≤ e) os
 all-by e [] h = tt
@@ -174,16 +204,6 @@ pub record IsFronted (size n rest : ℕ) (e : Directory) : Type 0 where
   pub is : e ≡ fronted size table
   pub built : IsBuilt (fronted size table) (record { named = n; unique = 0; size = size }) [] rest
 
-none-test : (n : ℕ) → n ≡ 0 → nat_le n 0 ≡ true
-none-test n e = grind (arith, nat_tests)
-
-some-test : (n : ℕ) → 0 < n → nat_le n 0 ≡ false
-some-test n h = grind (arith, nat_tests)
-
-no-block : (n rest : ℕ) → n ≡ 0 → block_room (8 * n) + rest ≡ rest
-unfolding block_room
-no-block n rest e = ap (λ m. block_room (8 * m) + rest) e ∙ zero-add rest
-
 -- the same room, for what is left of it
 abbrev room_for : (d : Directory) (n rest : ℕ) → 0 < n → (h : HasRoom (all_extents d) d.size (block_room (8 * n) + rest)) → HasRoom (all_extents d) d.size (room (8 * n) + rest)
 room_for d n rest l h = record { end = h.end; start = h.start; below = h.below; full = h.full; room = subst (λ m. h.end + 16 + (m + rest) ≤ d.size) (block-some (8 * n) (omega arith)) h.room }
@@ -200,11 +220,19 @@ module _ (size n rest : ℕ) (i : IsDirectory current (empty size)) (b : IsBuilt
       let z : n ≡ 0 = grind (arith, nat_tests) in
       record {
         next = empty size;
-        is = writes (empty size) (asked.ReserveNamed n) ∙ ap (λ x. perform (empty size) (live (empty size)) (named_plan x)) (none-test n z);
+        is = writes (empty size) (asked.ReserveNamed n) ∙ ap
+            (λ x. perform (empty size) (live (empty size)) (named_plan x)) (le-leb n 0 (omega (arith, z)));
         holds = record {
           table = no_table;
           is = refl;
-          built = record { size_is = refl; named = omega (arith, z); unique = omega arith; items = refl; room = subst (λ m. HasRoom [] size m) (no-block n rest z) b.room };
+          built = record {
+            size_is = refl;
+            named = omega (arith, z);
+            unique = omega arith;
+            items = refl;
+            room = subst
+                (λ m. HasRoom [] size m) (no-bytes (8 * n) rest (omega (arith, z))) b.room;
+          };
         };
       }
   named-by false e =
@@ -213,7 +241,8 @@ module _ (size n rest : ℕ) (i : IsDirectory current (empty size)) (b : IsBuilt
       let taken = room-taken (empty size) (8 * n) Index rest i.proper h r in
       record {
         next = fronted size (table_of n taken.extent);
-        is = writes (empty size) (asked.ReserveNamed n) ∙ ap (λ x. perform (empty size) (live (empty size)) (named_plan x)) (some-test n l)
+        is = writes (empty size) (asked.ReserveNamed n) ∙ ap
+            (λ x. perform (empty size) (live (empty size)) (named_plan x)) (lt-leb n 0 l)
             ∙ met-perform (empty size) (8 * n) Index taken.extent (λ x. Reply Done (fronted size (table_of n x))) Done (fronted size (table_of n taken.extent)) taken.is refl;
         holds = record {
           table = table_of n taken.extent;
@@ -240,8 +269,16 @@ module _ (size named n rest : ℕ) (t : Table) (i : IsDirectory current (fronted
       let z : n ≡ 0 = grind (arith, nat_tests) in
       record {
         next = fronted size t;
-        is = writes (fronted size t) (asked.ReserveUnique n) ∙ ap (λ x. perform (fronted size t) (live (fronted size t)) (unique_plan x)) (none-test n z);
-        holds = record { size_is = refl; named = b.named; unique = omega (arith, z); items = refl; room = subst (λ m. HasRoom (all_extents (fronted size t)) size m) (no-block n rest z) b.room };
+        is = writes (fronted size t) (asked.ReserveUnique n) ∙ ap
+            (λ x. perform (fronted size t) (live (fronted size t)) (unique_plan x)) (le-leb n 0 (omega (arith, z)));
+        holds = record {
+          size_is = refl;
+          named = b.named;
+          unique = omega (arith, z);
+          items = refl;
+          room = subst
+              (λ m. HasRoom (all_extents (fronted size t)) size m) (no-bytes (8 * n) rest (omega (arith, z))) b.room;
+        };
       }
   unique-by false e =
       let l : 0 < n = grind (arith, nat_tests) in
@@ -249,7 +286,8 @@ module _ (size named n rest : ℕ) (t : Table) (i : IsDirectory current (fronted
       let taken = room-taken (fronted size t) (8 * n) Index rest i.proper h r in
       record {
         next = with_unique (table_of n taken.extent);
-        is = writes (fronted size t) (asked.ReserveUnique n) ∙ ap (λ x. perform (fronted size t) (live (fronted size t)) (unique_plan x)) (some-test n l)
+        is = writes (fronted size t) (asked.ReserveUnique n) ∙ ap
+            (λ x. perform (fronted size t) (live (fronted size t)) (unique_plan x)) (lt-leb n 0 l)
             ∙ met-perform (fronted size t) (8 * n) Index taken.extent (λ x. Reply Done (with_unique (table_of n x))) Done (with_unique (table_of n taken.extent)) taken.is refl;
         holds = record { size_is = refl; named = b.named; unique = omega arith; items = refl; room = room-with (table_extents t) [] taken.extent size (room (8 * n) + rest) rest h taken.front taken.fits };
       }

@@ -6,12 +6,7 @@ use Rattle.std.proofs.lemmas.List.{append-nil, drop-drop, drop_at, length-drop, 
 use Rattle.std.proofs.lemmas.Option.{slice_get-get_or}
 use Rattle.raw_region.specs.Device.{Writes}
 use Rattle.segment_dump.specs.Comparing.{Compared, IsComparing, IsOther, compared, taken}
-
-heads : {a b : ℕ} {x y : List ℕ} → a ∷ x ≡ b ∷ y → a ≡ b
-heads {a} e = ap (λ l. get_or l 0 a) e
-
-tails : {a b : ℕ} {x y : List ℕ} → a ∷ x ≡ b ∷ y → x ≡ y
-tails e = ap (drop 1) e
+use Rattle.segment_dump.proofs.Codes.{heads, tails}
 
 -- ---- the first byte that is another
 
@@ -91,17 +86,15 @@ module _ {E : Type 0} (text : List ℕ) (old new : Compared) (start : old ≡ re
   from-start : (result : Result (Unit {0}) E) → Writes (compared old) (compared new) result text → Writes (compared (record { text = text; at = 0; other = None; failures = 0 })) (compared new) result text
   from-start result w = subst (λ x. Writes (compared x) (compared new) result text) start w
 
-  pub all-alike : (result : Result (Unit {0}) E) → Writes (compared old) (compared new) result text → taken new ≡ new.text
-  all-alike (Ok x) w = let h = took text text new (from-start (Ok x) w).ok in h.taken_is ∙ sym h.text_is
-  all-alike (Err e) w =
-      let f = from-start (Err e) w in
-      absurd (never-other new new.other text f.err.count refl c (omega (arith, f.counted)) (took text (take f.err.count text) new f.err.added))
-
   pub never-fails : (result : Result (Unit {0}) E) (e : E) → result ≡ Err e → Writes (compared old) (compared new) result text → ⊥
   never-fails (Ok x) e q w = cc
   never-fails (Err y) e q w =
       let f = from-start (Err y) w in
       never-other new new.other text f.err.count refl c (omega (arith, f.counted)) (took text (take f.err.count text) new f.err.added)
+
+  pub all-alike : (result : Result (Unit {0}) E) → Writes (compared old) (compared new) result text → taken new ≡ new.text
+  all-alike (Ok x) w = let h = took text text new (from-start (Ok x) w).ok in h.taken_is ∙ sym h.text_is
+  all-alike (Err e) w = absurd (never-fails (Err e) e refl w)
 
 -- and so is one that is what is owed
 pub owed-alike : {E : Type 0} (text owed : List ℕ) (old new : Compared) (x : Unit {0}) → old ≡ record { text = text; at = 0; other = None; failures = 0 } → IsComparing new → Writes {E = E} (compared old) (compared new) (Ok x) owed → text ≡ owed → taken new ≡ new.text

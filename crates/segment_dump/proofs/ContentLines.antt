@@ -1,7 +1,38 @@
 -- The elements of an object are lines, of which none has an end in it.
-use Rattle.std.proofs.Common.{◌≡◌, ◌≢◌, ℕ, zero, suc, ◌/◌, ◌%◌, ℤ, Bool, true, false, ◌||◌, ◌==◌, cond, List, [], ◌∷◌, ◌++◌, length, map, refl, sym, ap, ◌∙◌, arith, append_assoc, append-nil, length-append}
-use Rattle.std.specs.Prelude.{flat_map}
-use Rattle.std.specs.List.{AllByRecursion}
+use Rattle.std.proofs.Common.{
+  ◌≡◌,
+  ◌≢◌,
+  ℕ,
+  zero,
+  suc,
+  ◌/◌,
+  ◌%◌,
+  ℤ,
+  Bool,
+  true,
+  false,
+  ◌||◌,
+  ◌==◌,
+  cond,
+  List,
+  [],
+  ◌∷◌,
+  ◌++◌,
+  length,
+  map,
+  refl,
+  sym,
+  ap,
+  ◌∙◌,
+  arith,
+  append_assoc,
+  append-nil,
+  length-append,
+  ◌<◌,
+  nat_lt,
+}
+use Rattle.std.specs.Prelude.{flat_map, codes}
+use Rattle.std.specs.List.{AllByRecursion, list_all}
 use Rattle.std.proofs.lemmas.Bool.Decides.{nat_tests}
 use Rattle.std.proofs.lemmas.Grind.{flat_map-append}
 use Rattle.std.proofs.lemmas.List.{length-map}
@@ -10,17 +41,23 @@ use Rattle.seg_types.specs.Texts.{between, digit_text, escape_text, item_text, q
 use Rattle.segment_dump.specs.Parts.{parts_until}
 use Rattle.segment_dump.specs.Reads.{AreLines, HasNoEnd, IsWord, lines_text}
 use Rattle.segment_dump.specs.Texts.{element_line, pair_line, piece_lead, piece_line, piece_of, pieces_in, pieces_text}
+use Rattle.std.proofs.lemmas.Bool.{ltb-true}
 use Rattle.segment_dump.proofs.Words.{value-word}
+use Rattle.segment_dump.proofs.Lists.{AllByRecursion-append, all-any, all-by, all-mapped, all-tested}
 
 -- ---- no end
 
+abbrev no_end : ℕ → Type 0
+no_end c = c ≢ 0x0A
+
+pub no_end-test : (w : List ℕ) → list_all (λ c. nat_lt 10 c) w ≡ true → HasNoEnd w
+no_end-test w e = all-tested (λ c. nat_lt 10 c) no_end (λ c t k. omega (arith, ltb-true 10 c t, k)) w e
+
 pub no_end-both : (a b : List ℕ) → HasNoEnd a → HasNoEnd b → HasNoEnd (a ++ b)
-no_end-both [] b p q = q
-no_end-both (c ∷ a) b p q = (p.0, no_end-both a b p.1 q)
+no_end-both a b p q = AllByRecursion-append no_end a b p q
 
 pub word-no_end : (w : List ℕ) → IsWord w → HasNoEnd w
-word-no_end [] h = tt
-word-no_end (c ∷ cs) h = ((λ e. omega (arith, h.0)), word-no_end cs h.1)
+word-no_end w h = all-by (λ c. 0x20 < c) no_end w h (λ c l e. omega (arith, l))
 
 quote-no_end : (c : ℕ) → ((c == 0x22) || (c == 0x5C)) ≡ true → c ≢ 0x0A
 quote-no_end c e f = grind (arith, nat_tests)
@@ -55,16 +92,20 @@ pub record IsLines (n : ℕ) (text : List ℕ) : Type 0 where
   pub whole : text ≡ lines_text lines
 
 module _ {X : Type 0} (say line : X → List ℕ) (good : (x : X) → HasNoEnd (line x)) (is : (x : X) → say x ≡ line x ++ 0x0A ∷ []) where
-  all-good : (xs : List X) → AllByRecursion HasNoEnd (map line xs)
-  all-good [] = tt
-  all-good (x ∷ xs) = (good x, all-good xs)
-
   all-are : (xs : List X) → flat_map say xs ≡ lines_text (map line xs)
   all-are [] = refl
   all-are (x ∷ xs) = ap (λ l. l ++ flat_map say xs) (is x) ∙ ap (λ l. (line x ++ 0x0A ∷ []) ++ l) (all-are xs)
 
   pub each-line : (xs : List X) → IsLines (length xs) (flat_map say xs)
-  each-line xs = record { lines = map line xs; are = (all-good xs, length-map xs line); whole = all-are xs }
+  each-line xs = record {
+    lines = map line xs;
+    are = (
+      all-mapped HasNoEnd line xs
+          (all-any (λ x. HasNoEnd (line x)) good xs),
+      length-map xs line,
+    );
+    whole = all-are xs;
+  }
 
 pub element-lines : (k : ScalarKind) (zs : List ℤ) → IsLines (length zs) (flat_map (element_line k) zs)
 element-lines k zs =
@@ -84,8 +125,8 @@ pair-lines k v ps = each-line (pair_line k v) (pair_front k v) (pair-no_end k v)
 -- ---- pieces of a text
 
 pub lead-no_end : (i : ℕ) → HasNoEnd (piece_lead i)
-lead-no_end zero = ((λ e. omega arith), tt)
-lead-no_end (suc i) = ((λ e. omega arith), ((λ e. omega arith), ((λ e. omega arith), ((λ e. omega arith), tt))))
+lead-no_end zero = no_end-test (codes " ") refl
+lead-no_end (suc i) = no_end-test (codes "    ") refl
 
 abbrev pub piece_front : List ℕ → ℕ → List ℕ
 piece_front bs i = piece_lead i ++ quoted_text (piece_of bs i)
@@ -94,14 +135,11 @@ abbrev piece_fronts : List ℕ → ℕ → List (List ℕ)
 piece_fronts bs zero = []
 piece_fronts bs (suc n) = piece_fronts bs n ++ piece_front bs n ∷ []
 
-lines-both : (xs ys : List (List ℕ)) → AllByRecursion HasNoEnd xs → AllByRecursion HasNoEnd ys → AllByRecursion HasNoEnd (xs ++ ys)
-lines-both [] ys p q = q
-lines-both (x ∷ xs) ys p q = (p.0, lines-both xs ys p.1 q)
-
 fronts-good : (bs : List ℕ) (n : ℕ) → AllByRecursion HasNoEnd (piece_fronts bs n)
 fronts-good bs zero = tt
 fronts-good bs (suc n) =
-    lines-both (piece_fronts bs n) (piece_front bs n ∷ []) (fronts-good bs n) (no_end-both (piece_lead n) (quoted_text (piece_of bs n)) (lead-no_end n) (quoted-no_end (piece_of bs n)), tt)
+    AllByRecursion-append HasNoEnd (piece_fronts bs n) (piece_front bs n ∷ []) (fronts-good bs n)
+    (no_end-both (piece_lead n) (quoted_text (piece_of bs n)) (lead-no_end n) (quoted-no_end (piece_of bs n)), tt)
 
 fronts-many : (bs : List ℕ) (n : ℕ) → length (piece_fronts bs n) ≡ n
 fronts-many bs zero = refl

@@ -2,7 +2,6 @@
 use Rattle.std.proofs.Common.{◌≡◌, ℕ, suc, ◌+◌, ◌-◌, ◌<◌, ◌≤◌, List, [], ◌∷◌, ◌++◌, length, Option, Some, None, refl, sym, ap, subst, ◌∙◌, arith, append_assoc}
 use Rattle.std.specs.Prelude.{⊤, flat_map, option_map}
 use Rattle.seg_types.specs.declared.kinds.Kind.{Kind}
-use Rattle.seg_types.specs.declared.kinds.Kind.TheVariants as kinds
 use Rattle.segment_lang.specs.Texts.{number_text}
 use Rattle.segment_dump.specs.declared.needs.Needs.{Needs}
 use Rattle.segment_dump.specs.Counting.{AreTexts, IsContent}
@@ -13,8 +12,10 @@ use Rattle.segment_dump.specs.Reads.{Any, AreLines, Breaks, Reads, Skips, itself
 use Rattle.segment_dump.specs.Texts.{content_text, pieces_in, pieces_text, text_lines}
 use Rattle.segment_dump.proofs.Codes.{tails}
 use Rattle.segment_dump.proofs.ContentLines.{IsLines, element-lines, pair-lines, piece-lines}
-use Rattle.segment_dump.proofs.Sums.{IsPart, block-least, never-some, part-end, part-more, part-small, part-start, some-pair}
+use Rattle.segment_dump.proofs.Sums.{IsPart, block-least, part-end, part-more, part-small, part-start}
+use Rattle.segment_dump.proofs.Found.{none-some, some-pair}
 use Rattle.segment_dump.proofs.TextPieces.{pieces-break}
+use Rattle.seg_types.specs.declared.kinds.Kind.TheVariants as kinds
 
 -- ---- a text
 
@@ -33,7 +34,8 @@ text-behind text x bs a e f = tails (tails (sym e ∙ f)) ∙ append_assoc (numb
 pub text-none : (text x : List ℕ) → text ≡ 0x20 ∷ 0x20 ∷ x → CountReads x None → TextReads text None
 text-none text x e h = record {
   reads = λ bs a s g f.
-      absurd (never-some (length bs, pieces_text bs ++ a) (h.reads (length bs) (pieces_text bs ++ a) s (pieces-break bs a) (text-behind text x bs a e f)));
+      absurd (none-some (length bs, pieces_text bs ++ a)
+      (h.reads (length bs) (pieces_text bs ++ a) s (pieces-break bs a) (text-behind text x bs a e f)));
 }
 
 pub text-some : (text x : List ℕ) (n : ℕ) (rest : List ℕ) (k : ℕ) (o : Option (List ℕ)) → text ≡ 0x20 ∷ 0x20 ∷ x → CountReads x (Some (n, rest)) → k ≡ pieces_in n → Skips lines_text (AreLines k) rest o
@@ -119,7 +121,7 @@ texts-cut text rest counted count counter l h s = record {
   reads = λ ts a g w e.
       let k = h.left ts a g e in
       let r = first-text rest a counted (all_needs text_needs ts) (count - (counter + 1)) k.texts None (omega (arith, k.many)) k.part k.small k.is s in
-      absurd (never-some (length r.0, flat_map text_lines r.1 ++ a) r.2);
+      absurd (none-some (length r.0, flat_map text_lines r.1 ++ a) r.2);
 }
 
 -- ---- a content

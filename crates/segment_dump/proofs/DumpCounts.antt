@@ -19,7 +19,9 @@ use Rattle.segment_dump.proofs.Codes.{heads}
 use Rattle.segment_dump.proofs.FrontLines.{FrontReads}
 use Rattle.segment_dump.proofs.ItemLines.{IsFirst, item-first, letter}
 use Rattle.segment_dump.proofs.ObjectCounts.{ObjectReads}
-use Rattle.segment_dump.proofs.Sums.{IsPart, all-append, block-least, never-some, part-end, part-more, part-small, part-start, some-pair}
+use Rattle.segment_dump.proofs.Sums.{IsPart, all-append, block-least, part-end, part-more, part-small, part-start}
+use Rattle.segment_dump.proofs.Found.{none-some, some-pair, never-ok, ok-same}
+use Rattle.segment_dump.proofs.Lists.{AllByRecursion-append}
 
 -- ---- all objects
 
@@ -109,7 +111,7 @@ objects-cut text rest counted counter n z h r = record {
   counts = λ is a s e.
       let k = h.left is a s e in
       let first = first-object rest counted (all_needs item_needs is) counter (length is) None k.items z k.nameless k.many k.part s k.is r in
-      absurd (never-some (item_needs first.one, items_text first.others ++ end_text) first.found);
+      absurd (none-some (item_needs first.one, items_text first.others ++ end_text) first.found);
 }
 
 -- there are no more objects than bytes
@@ -130,10 +132,6 @@ pub objects-long : (text rest : List ℕ) (counted : Needs) (counter n : ℕ) �
 objects-long text rest counted counter n l h = record { counts = λ is a s e. let k = h.left is a s e in absurd (omega (arith, k.many, ends-long is text e)) }
 
 -- ---- a dump
-
-all-nameless : (xs ys : List Item) → AllByRecursion IsNameless xs → AllByRecursion IsNameless ys → AllByRecursion IsNameless (xs ++ ys)
-all-nameless [] ys p q = q
-all-nameless (x ∷ xs) ys p q = (p.0, all-nameless xs ys p.1 q)
 
 items-apart : (xs ys : List Item) (a : List ℕ) → items_text (xs ++ ys) ++ a ≡ items_text xs ++ (items_text ys ++ a)
 items-apart xs ys a = ap (λ l. l ++ a) (flat_map-append item_text xs ys) ∙ append_assoc (items_text xs) (items_text ys) a
@@ -166,7 +164,10 @@ front-found : (text : List ℕ) (o : Option (Front × List ℕ)) (n : ℕ) (item
 front-found text o n items h l g e = h.reads (front_of n items) (behind_front items) (is-front n items l g) tt e
 
 pub dump-no_front : (text : List ℕ) (m : ℕ) → FrontReads text None → CountsDump text (Err m)
-dump-no_front text m h = record { counts = λ n items l g e. absurd (never-some (front_of n items, behind_front items) (front-found text None n items h l g e)) }
+dump-no_front text m h = record {
+  counts = λ n items l g e. absurd
+      (none-some (front_of n items, behind_front items) (front-found text None n items h l g e));
+}
 
 objects-found : (text : List ℕ) (front : Front) (rest : List ℕ) (r : Result Needs ℕ) (n : ℕ) (items : Items) → FrontReads text (Some (front, rest)) → CountsObjects rest r → n < 2 ^ 64 → AreCountable items → text ≡ dump_text n items
     → (front ≡ front_of n items) × (r ≡ Ok (all_needs item_needs (all_items items)))
@@ -174,14 +175,12 @@ objects-found text front rest r n items h k l g e =
     let p = some-pair front (front_of n items) rest (behind_front items) (front-found text (Some (front, rest)) n items h l g e) in
     let rooms = ap (λ (x : Needs). x.room) (all-needed items) in
     let whole = g.small in
-    let small : IsSmall (all_needs item_needs (all_items items)).room = omega arith in
-    (p.0, k.counts (all_items items) (all-nameless items.named (items.unique ++ items.anonymous) g.named (all-nameless items.unique items.anonymous g.unique g.anonymous)) small (p.1 ∙ all-text items))
-
-never-ok : (m : ℕ) (x : Needs) → ◌≡◌ {A = Result Needs ℕ} (Err m) (Ok x) → ⊥
-never-ok m x e = cc
-
-ok-same : (x y : Needs) → ◌≡◌ {A = Result Needs ℕ} (Ok x) (Ok y) → x ≡ y
-ok-same x y e = cc
+    let small : IsSmall (all_needs item_needs (all_items items)).room = omega arith in (
+      p.0,
+      k.counts (all_items items) (AllByRecursion-append IsNameless items.named (items.unique ++ items.anonymous)
+          g.named (AllByRecursion-append IsNameless items.unique items.anonymous g.unique g.anonymous)) small
+          (p.1 ∙ all-text items),
+    )
 
 dump-any : (text : List ℕ) (r : Result Count ℕ) → IsErr r → ((m : ℕ) → CountsDump text (Err m)) → CountsDump text r
 dump-any text (Ok count) e h = absurd (false≢true e)

@@ -6,7 +6,7 @@ use Rattle.seg_types.specs.declared.values.ScalarValue.{ScalarValue}
 use Rattle.seg_types.specs.Kinds.{is_value}
 use Rattle.seg_types.specs.Texts.{value_text}
 use Rattle.seg_types.specs.Values.{scalar_of}
-use Rattle.segment_lang.specs.Laws.{NumbersAreDecimals, WholesAreDecimals}
+use Rattle.segment_lang.specs.Laws.{WholesAreDecimals}
 use Rattle.segment_lang.specs.Tokens.{next_word}
 use Rattle.segment_lang.specs.Words.{Bare}
 use Rattle.segment_dump.specs.Builders.{ReadsElement, ReadsPair}
@@ -16,31 +16,27 @@ use Rattle.segment_dump.specs.Texts.{element_line, pair_line}
 use Rattle.segment_dump.proofs.ContentLines.{pair-no_end, pair_front}
 use Rattle.segment_dump.proofs.LineTexts.{element-no_end, element-short, element_front, pair-short}
 use Rattle.segment_dump.proofs.NextWords.{blank-next, value-next, value-said}
-
-pub never-ok : {X E : Type 0} (e : E) (x : X) → ◌≡◌ {A = Result X E} (Err e) (Ok x) → ⊥
-never-ok e x q = cc
-
-pub ok-same : {X E : Type 0} (x y : X) → ◌≡◌ {A = Result X E} (Ok x) (Ok y) → x ≡ y
-ok-same x y q = cc
+use Rattle.segment_dump.proofs.Found.{never-ok, ok-same}
 
 value-is : WholesAreDecimals → (k : ScalarKind) (z : ℤ) → is_value k z ≡ true → value_word k (Bare (value_text k z)) ≡ Some (scalar_of k z)
 value-is law k z g = ap (option_map (scalar_of k)) (value-said law k z g)
 
-last-value : NumbersAreDecimals → (k : ScalarKind) (z : ℤ) → is_value k z ≡ true → next_word (value_text k z) ≡ Some (Bare (value_text k z), [])
-last-value law k z g = ap next_word (sym (append-nil (value_text k z))) ∙ value-next law k z [] g refl
+last-value : (k : ScalarKind) (z : ℤ) → next_word (value_text k z) ≡ Some (Bare (value_text k z), [])
+last-value k z = ap next_word (sym (append-nil (value_text k z))) ∙ value-next k z [] refl
 
 -- ---- a scalar
 
-element-word : NumbersAreDecimals → (kind : ScalarKind) (z : ℤ) → is_value kind z ≡ true → next_word (element_front kind z) ≡ Some (Bare (value_text kind z), [])
-element-word numbers kind z g = blank-next (0x20 ∷ value_text kind z) ∙ blank-next (value_text kind z) ∙ last-value numbers kind z g
+element-word : (kind : ScalarKind) (z : ℤ) → next_word (element_front kind z) ≡ Some (Bare (value_text kind z), [])
+element-word kind z = blank-next (0x20 ∷ value_text kind z) ∙ blank-next (value_text kind z) ∙ last-value kind z
 
-module _ {E : Type 0} (numbers : NumbersAreDecimals) (wholes : WholesAreDecimals) (kind : ScalarKind) (text rest : List ℕ) where
+module _ {E : Type 0} (wholes : WholesAreDecimals) (kind : ScalarKind) (text rest : List ℕ) where
   element-there : (line left : List ℕ) (r : Result ScalarValue E) → ReadsLine {E = E} text rest (Ok line) → ReadsWord (value_word kind) line left r → (z : ℤ) (a : List ℕ) → is_value kind z ≡ true → text ≡ element_line kind z ++ a
       → (r ≡ Ok (scalar_of kind z)) × (left ≡ []) × (rest ≡ a)
   element-there line left r h w z a g e =
       let l = h.reads (element_front kind z) a (element-no_end kind z) (element-short kind z) e in
       let is : line ≡ element_front kind z = ok-same {E = E} line (element_front kind z) l.0 in
-      let v = w.reads (Bare (value_text kind z)) [] (scalar_of kind z) (ap next_word is ∙ element-word numbers kind z g) (value-is wholes kind z g) in
+      let v = w.reads (Bare (value_text kind z)) [] (scalar_of kind z) (ap next_word is ∙ element-word kind z)
+      (value-is wholes kind z g) in
       (v.0, v.1, l.1)
 
   pub element-no_line : (e : E) (result : Result ScalarValue E) → ReadsLine text rest (Err e) → ReadsElement kind text rest result
@@ -57,25 +53,29 @@ module _ {E : Type 0} (numbers : NumbersAreDecimals) (wholes : WholesAreDecimals
 
 -- ---- a pair
 
-key-word : NumbersAreDecimals → (k w : ScalarKind) (p : ℤ × ℤ) → IsPairOf k w p → next_word (pair_front k w p) ≡ Some (Bare (value_text k p.0), 0x20 ∷ value_text w p.1)
-key-word numbers k w p g =
+key-word : (k w : ScalarKind) (p : ℤ × ℤ) → next_word (pair_front k w p) ≡ Some
+    (Bare (value_text k p.0), 0x20 ∷ value_text w p.1)
+key-word k w p =
     let behind : List ℕ = 0x20 ∷ value_text w p.1 in
-    blank-next (0x20 ∷ (value_text k p.0 ++ behind)) ∙ blank-next (value_text k p.0 ++ behind) ∙ value-next numbers k p.0 behind g.0 refl
+    blank-next (0x20 ∷ (value_text k p.0 ++ behind)) ∙ blank-next (value_text k p.0 ++ behind) ∙ value-next k p.0 behind
+    refl
 
-second-word : NumbersAreDecimals → (k w : ScalarKind) (p : ℤ × ℤ) → IsPairOf k w p → next_word (0x20 ∷ value_text w p.1) ≡ Some (Bare (value_text w p.1), [])
-second-word numbers k w p g = blank-next (value_text w p.1) ∙ last-value numbers w p.1 g.1
+second-word : (w : ScalarKind) (p : ℤ × ℤ) → next_word (0x20 ∷ value_text w p.1) ≡ Some (Bare (value_text w p.1), [])
+second-word w p = blank-next (value_text w p.1) ∙ last-value w p.1
 
-module _ {E : Type 0} (numbers : NumbersAreDecimals) (wholes : WholesAreDecimals) (k w : ScalarKind) (text rest : List ℕ) where
+module _ {E : Type 0} (wholes : WholesAreDecimals) (k w : ScalarKind) (text rest : List ℕ) where
   key-there : (line left : List ℕ) (r : Result ScalarValue E) → ReadsLine {E = E} text rest (Ok line) → ReadsWord (value_word k) line left r → (p : ℤ × ℤ) (a : List ℕ) → IsPairOf k w p → text ≡ pair_line k w p ++ a
       → (r ≡ Ok (scalar_of k p.0)) × (left ≡ 0x20 ∷ value_text w p.1) × (rest ≡ a)
   key-there line left r h f p a g e =
       let l = h.reads (pair_front k w p) a (pair-no_end k w p) (pair-short k w p) e in
       let is : line ≡ pair_front k w p = ok-same {E = E} line (pair_front k w p) l.0 in
-      let v = f.reads (Bare (value_text k p.0)) (0x20 ∷ value_text w p.1) (scalar_of k p.0) (ap next_word is ∙ key-word numbers k w p g) (value-is wholes k p.0 g.0) in
+      let v = f.reads (Bare (value_text k p.0)) (0x20 ∷ value_text w p.1) (scalar_of k p.0)
+      (ap next_word is ∙ key-word k w p) (value-is wholes k p.0 g.0) in
       (v.0, v.1, l.1)
 
   value-there : (left last : List ℕ) (r : Result ScalarValue E) (p : ℤ × ℤ) → IsPairOf k w p → left ≡ 0x20 ∷ value_text w p.1 → ReadsWord (value_word w) left last r → (r ≡ Ok (scalar_of w p.1)) × (last ≡ [])
-  value-there left last r p g e f = f.reads (Bare (value_text w p.1)) [] (scalar_of w p.1) (ap next_word e ∙ second-word numbers k w p g) (value-is wholes w p.1 g.1)
+  value-there left last r p g e f = f.reads (Bare (value_text w p.1)) [] (scalar_of w p.1)
+      (ap next_word e ∙ second-word w p) (value-is wholes w p.1 g.1)
 
   pub pair-no_line : (e : E) (result : Result (ScalarValue × ScalarValue) E) → ReadsLine text rest (Err e) → ReadsPair k w text rest result
   pair-no_line e result h = record { reads = λ p a g t. absurd (never-ok e (pair_front k w p) (h.reads (pair_front k w p) a (pair-no_end k w p) (pair-short k w p) t).0) }

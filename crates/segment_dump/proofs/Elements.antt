@@ -7,11 +7,9 @@ use Rattle.best_fit.specs.Table.{Table}
 use Rattle.seg_types.specs.declared.kinds.Kind.TheVariants.{Scalar, Text, Texts as TextsKind, Vector}
 use Rattle.seg_types.specs.declared.kinds.ScalarKind.{ScalarKind}
 use Rattle.seg_types.specs.declared.refusals.Refusal.{Refusal}
-use Rattle.seg_types.specs.declared.refusals.Refusal.TheVariants as refusal
 use Rattle.seg_types.specs.declared.refusals.Refusal.TheVariants.{NotFound, OutOfRange, WrongKind}
 use Rattle.seg_types.specs.Kinds.{same_kind}
 use Rattle.seg_types.specs.Names.{ByHandle, Key}
-use Rattle.seg_types.specs.Commands as asked
 use Rattle.seg_types.specs.Commands.{Command, is_changing}
 use Rattle.seg_map.specs.Places.{item_of}
 use Rattle.seg_vector.specs.Vector.{OwnedText}
@@ -35,6 +33,8 @@ use Rattle.segment_dump.specs.Owed.{count_at, lines_at, object_count, object_lin
 use Rattle.segment_dump.specs.Parts.{part_of, parts_until}
 use Rattle.segment_dump.specs.Texts.{content_text, element_line, text_lines}
 use Rattle.segment_dump.proofs.PartLines.{parts-all, parts-same}
+use Rattle.seg_types.specs.declared.refusals.Refusal.TheVariants as refusal
+use Rattle.seg_types.specs.Commands as asked
 
 -- ---- a command that only reads is refused in no mode
 
@@ -162,10 +162,7 @@ record IsNumbers (k : ScalarKind) (v : Value) : Type 0 where
 
 numbers-if : (k : ScalarKind) (v : Value) → kind_of v ≡ Scalar k → IsNumbers k v
 numbers-if k (Numbers l zs) e = let same : l ≡ k = cc in record { numbers = zs; is = λ i. Numbers (same i) zs }
-numbers-if k (Elements l zs t) e = absurd (cc)
-numbers-if k (Bytes bs t) e = absurd (cc)
-numbers-if k (Pairs l m ps) e = absurd (cc)
-numbers-if k (Texts ps t) e = absurd (cc)
+numbers-if k v e = absurd (cc)
 
 record IsElements (k : ScalarKind) (v : Value) : Type 0 where
   numbers : List ℤ
@@ -173,11 +170,8 @@ record IsElements (k : ScalarKind) (v : Value) : Type 0 where
   is : v ≡ Elements k numbers table
 
 vector-if : (k : ScalarKind) (v : Value) → kind_of v ≡ Vector k → IsElements k v
-vector-if k (Numbers l zs) e = absurd (cc)
 vector-if k (Elements l zs t) e = let same : l ≡ k = cc in record { numbers = zs; table = t; is = λ i. Elements (same i) zs t }
-vector-if k (Bytes bs t) e = absurd (cc)
-vector-if k (Pairs l m ps) e = absurd (cc)
-vector-if k (Texts ps t) e = absurd (cc)
+vector-if k v e = absurd (cc)
 
 record IsBytes (v : Value) : Type 0 where
   bytes : List ℕ
@@ -185,11 +179,8 @@ record IsBytes (v : Value) : Type 0 where
   is : v ≡ Bytes bytes table
 
 bytes-if : (v : Value) → kind_of v ≡ Text → IsBytes v
-bytes-if (Numbers l zs) e = absurd (cc)
-bytes-if (Elements l zs t) e = absurd (cc)
 bytes-if (Bytes bs t) e = record { bytes = bs; table = t; is = refl }
-bytes-if (Pairs l m ps) e = absurd (cc)
-bytes-if (Texts ps t) e = absurd (cc)
+bytes-if v e = absurd (cc)
 
 record IsTexts (v : Value) : Type 0 where
   texts : List OwnedText
@@ -197,11 +188,8 @@ record IsTexts (v : Value) : Type 0 where
   is : v ≡ Texts texts table
 
 texts-if : (v : Value) → kind_of v ≡ TextsKind → IsTexts v
-texts-if (Numbers l zs) e = absurd (cc)
-texts-if (Elements l zs t) e = absurd (cc)
-texts-if (Bytes bs t) e = absurd (cc)
-texts-if (Pairs l m ps) e = absurd (cc)
 texts-if (Texts ps t) e = record { texts = ps; table = t; is = refl }
+texts-if v e = absurd (cc)
 
 -- ---- how many there are
 
@@ -214,7 +202,7 @@ elements_of_object r = elim r as (λ _. Result ScalarKind Refusal) [ None ↦ Er
 abbrev bytes_of_object : Option Object → Result (List ℕ) Refusal
 bytes_of_object r = elim r as (λ _. Result (List ℕ) Refusal) [ None ↦ Err NotFound | Some o ↦ text_bytes o.value ]
 
-abbrev count_of_object : Option Object → ℕ
+abbrev pub count_of_object : Option Object → ℕ
 count_of_object r = elim r as (λ _. ℕ) [ None ↦ 0 | Some o ↦ object_count o ]
 
 -- a container that is no string has as many as are measured

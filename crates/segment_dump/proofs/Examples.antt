@@ -6,7 +6,6 @@ use Rattle.block_tags.specs.declared.tile.Role.TheVariants.{Object as ObjectRole
 use Rattle.best_fit.specs.Table.{Table, no_table}
 use Rattle.seg_types.specs.declared.kinds.ScalarKind.TheVariants.{Bool, I32, I64}
 use Rattle.seg_types.specs.declared.kinds.Class.TheVariants.{Anonymous, Named, Unique}
-use Rattle.segment_manager.specs.Directory as directory
 use Rattle.segment_manager.specs.Directory.{Directory, Object, Value}
 use Rattle.seg_types.specs.declared.kinds.Class.{Class}
 use Rattle.segment_dump.specs.Capacities.{capacities, capacities_text}
@@ -15,6 +14,7 @@ use Rattle.segment_dump.specs.Need.{block_room, front_room, items_needs, object_
 use Rattle.segment_dump.specs.Notes.{without_notes}
 use Rattle.segment_dump.specs.Places.{place_behind}
 use Rattle.segment_dump.specs.Texts.{content_text, pieces_text}
+use Rattle.segment_manager.specs.Directory as directory
 
 abbrev line : List ℕ → List ℕ
 line l = l ++ 0x0A ∷ []

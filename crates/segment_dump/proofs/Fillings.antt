@@ -6,9 +6,7 @@ use Rattle.std.proofs.Math.Nat.{suc-mul, zero-mul}
 use Rattle.std.proofs.lemmas.Int.{ints}
 use Rattle.std.proofs.lemmas.List.{length-append, length-map, map-append}
 use Rattle.seg_types.specs.declared.kinds.Kind.{Kind}
-use Rattle.seg_types.specs.declared.kinds.Kind.TheVariants as kinds
 use Rattle.seg_types.specs.declared.kinds.ScalarKind.{ScalarKind}
-use Rattle.seg_types.specs.Commands as asked
 use Rattle.seg_types.specs.Commands.{Command, literal_of}
 use Rattle.seg_types.specs.Kinds.{is_value, size_of}
 use Rattle.seg_types.specs.Names.{ByHandle}
@@ -28,8 +26,10 @@ use Rattle.segment_dump.specs.Items.{Content, Map, Scalars, String, Strings, Vec
 use Rattle.segment_dump.specs.Need.{all_needs, block_room, text_needs}
 use Rattle.segment_dump.specs.Texts.{element_line, pair_line, text_lines}
 use Rattle.segment_dump.proofs.Builds.{built}
-use Rattle.segment_dump.proofs.Fills.{AreLess, IsPushed, IsPut, StepsTo, pushed, text-pushed, was-put, was-set}
-use Rattle.segment_dump.proofs.Spaces.{IsRest, block-rest, rest-both}
+use Rattle.segment_dump.proofs.Fills.{AreLess, StepsTo, pushed, text-pushed, was-put, was-set}
+use Rattle.segment_dump.proofs.Spaces.{IsRest, block-rest, rest-both, needs-rest}
+use Rattle.seg_types.specs.declared.kinds.Kind.TheVariants as kinds
+use Rattle.seg_types.specs.Commands as asked
 
 -- ---- a call that is a step
 
@@ -41,28 +41,26 @@ pub record Led {A : Type 0} (new : State) (answer given : A) (Next : Directory �
   pub mode : new.mode ≡ Write
   pub holds : Next directory
 
-pub led : (old new : State) (d : Directory) (answer given : Answer) (next : Directory → Answer × Directory) (Next : Directory → Type 0) → Moves old new answer next → StandsFor old.cut.bytes d → old.mode ≡ Write → StepsTo (next d) given Next
-    → Led new answer given Next
-led old new d answer given next Next m s w t = record {
-  given_is = m.answers d s ∙ ap (λ (o : Answer × Directory). o.0) t.is;
-  directory = t.next;
-  stands = subst (λ (o : Answer × Directory). StandsFor new.cut.bytes o.1) t.is (m.denotes d s);
-  mode = m.stays.mode ∙ w;
-  holds = t.holds;
-}
+module _ {old new : State} {d : Directory} {answer given : Answer} {Next : Directory → Type 0}
+    (s : StandsFor old.cut.bytes d) (w : old.mode ≡ Write) where
+  led-by : (next : Directory → Answer × Directory) → Moves old new answer next → StepsTo (next d) given Next
+      → Led new answer given Next
+  led-by next m t = record {
+    given_is = m.answers d s ∙ ap (λ (o : Answer × Directory). o.0) t.is;
+    directory = t.next;
+    stands = subst (λ (o : Answer × Directory). StandsFor new.cut.bytes o.1) t.is (m.denotes d s);
+    mode = m.stays.mode ∙ w;
+    holds = t.holds;
+  }
 
--- a step by the mode that the segment has
-abbrev pub IsWriting : State → State → Command → Answer → Type 0
-IsWriting old new c answer = Moves old new answer (λ d. step Write d c)
+  pub led : (c : Command) → IsStep old new c answer → StepsTo (step Write d c) given Next → Led new answer given Next
+  led c m t = led-by (λ d. step Write d c) (subst (λ mode. Moves old new answer (λ d. step mode d c)) w m) t
 
-pub writing : (old new : State) (c : Command) (answer : Answer) → old.mode ≡ Write → IsStep old new c answer → IsWriting old new c answer
-writing old new c answer w m = subst (λ mode. Moves old new answer (λ d. step mode d c)) w m
-
-abbrev pub IsWritingOfKind : State → State → ℕ → Kind → Command → Answer → Type 0
-IsWritingOfKind old new h kind c answer = Moves old new answer (λ d. step_of_kind Write d (ByHandle h) kind c)
-
-pub writing-of_kind : (old new : State) (h : ℕ) (kind : Kind) (c : Command) (answer : Answer) → old.mode ≡ Write → IsStepOfKind old new (ByHandle h) kind c answer → IsWritingOfKind old new h kind c answer
-writing-of_kind old new h kind c answer w m = subst (λ mode. Moves old new answer (λ d. step_of_kind mode d (ByHandle h) kind c)) w m
+  pub led-of_kind : (h : ℕ) (kind : Kind) (c : Command) → IsStepOfKind old new (ByHandle h) kind c answer
+      → StepsTo (step_of_kind Write d (ByHandle h) kind c) given Next → Led new answer given Next
+  led-of_kind h kind c m t =
+      led-by (λ d. step_of_kind Write d (ByHandle h) kind c)
+      (subst (λ mode. Moves old new answer (λ d. step_of_kind mode d (ByHandle h) kind c)) w m) t
 
 -- ---- lists
 
@@ -111,9 +109,7 @@ module _ (s : State) (text : List ℕ) (p : Fill) (h n : ℕ) (k : ScalarKind) (
         text_is = next-text text left p.after (element_line k z) (flat_map (element_line k) back) te le;
         good = is;
         leads = λ new answer r.
-            let t = led s new st.directory answer Done (λ d. step_of_kind Write d (ByHandle h) (kinds.Scalar k) (asked.Set (ByHandle h) n (literal_of k z)))
-            (λ e. IsFilling e p.site p.done (head_of p h) (Numbers k (slice_set (front ++ pos 0 ∷ zeros) n z)) (need + p.more))
-            (writing-of_kind s new h (kinds.Scalar k) (asked.Set (ByHandle h) n (literal_of k z)) answer st.mode r) st.stands st.mode steps in (
+            let t = led-of_kind st.stands st.mode _ _ _ r steps in (
               t.given_is,
               record {
                 value = Numbers k ((front ++ z ∷ []) ++ zeros);
@@ -150,9 +146,7 @@ module _ (s : State) (text : List ℕ) (p : Fill) (h n : ℕ) (k : ScalarKind) (
         text_is = next-text text left p.after (element_line k z) (flat_map (element_line k) back) te (q.text_is ∙ ap (flat_map (element_line k)) b);
         good = is;
         leads = λ new answer r.
-            let u = led s new st.directory answer Done (λ d. step_of_kind Write d (ByHandle h) (kinds.Vector k) (asked.Push (ByHandle h) (literal_of k z)))
-            (λ e. IsFilling e p.site p.done (head_of p h) (Elements k (front ++ z ∷ []) t) (need + p.more))
-            (writing-of_kind s new h (kinds.Vector k) (asked.Push (ByHandle h) (literal_of k z)) answer st.mode r) st.stands st.mode steps in (
+            let u = led-of_kind st.stands st.mode _ _ _ r steps in (
               u.given_is,
               record {
                 value = Elements k (front ++ z ∷ []) t;
@@ -217,8 +211,7 @@ module _ (s : State) (text : List ℕ) (p : Fill) (h n : ℕ) (k w : ScalarKind)
         text_is = next-text text left p.after (pair_line k w (x, y)) (flat_map (pair_line k w) back) te (q.text_is ∙ ap (flat_map (pair_line k w)) b);
         good = is;
         leads = λ new answer r.
-            let u = led s new st.directory answer (Truth true) (λ d. step_of_kind Write d (ByHandle h) (kinds.Map k w) c) (IsPut p.site p.done (head_of p h) k w front x y rest)
-            (writing-of_kind s new h (kinds.Map k w) c answer st.mode r) st.stands st.mode steps in
+            let u = led-of_kind st.stands st.mode _ _ _ r steps in
             let one : NumberPair = record { key = x; value = y; node = u.holds.node } in
             let front' : List NumberPair = front ++ one ∷ [] in (
               u.given_is,
@@ -250,9 +243,8 @@ pub record NextText (s : State) (text : List ℕ) (p : Fill) (h n : ℕ) (longes
   pub fits : length bytes ≤ longest
   pub leads : (new : State) (answer : Answer) → IsStepOfKind s new (ByHandle h) kinds.Texts (asked.Push (ByHandle h) (asked.Quoted bytes)) answer → (answer ≡ Done) × FillsAt new after p h (n + 1)
 
-texts-rest : (ts : List (List ℕ)) → IsRest (all_needs text_needs ts).room
-texts-rest [] = inl refl
-texts-rest (t ∷ ts) = rest-both (block_room (length t)) (all_needs text_needs ts).room (block-rest (length t)) (texts-rest ts)
+pub texts-rest : (ts : List (List ℕ)) → IsRest (all_needs text_needs ts).room
+texts-rest ts = needs-rest text_needs (λ t. block-rest (length t)) ts
 
 longest-last : (front : List (List ℕ)) (t : List ℕ) (back : List (List ℕ)) (longest : ℕ) → (all_needs text_needs (front ++ t ∷ back)).longest ≤ longest → length t ≤ longest
 longest-last [] t back longest h = omega (arith, h)
@@ -284,8 +276,7 @@ module _ (s : State) (text : List ℕ) (p : Fill) (h n longest : ℕ) (ts : List
         counted = is.0;
         fits = longest-last (map bytes_in front) bs back longest (subst (λ z. (all_needs text_needs z).longest ≤ longest) a long);
         leads = λ new answer r.
-            let u = led s new st.directory answer Done (λ d. step_of_kind Write d (ByHandle h) kinds.Texts c) (IsPushed p.site p.done (head_of p h) front t bs rest)
-            (writing-of_kind s new h kinds.Texts c answer st.mode r) st.stands st.mode steps in
+            let u = led-of_kind st.stands st.mode _ _ _ r steps in
             let one : OwnedText = record { bytes = bs; extent = u.holds.block } in
             let front' : List OwnedText = front ++ one ∷ [] in (
               u.given_is,

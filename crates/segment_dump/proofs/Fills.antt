@@ -1,5 +1,45 @@
 -- What the steps lead to by which an object is filled.
-use Rattle.std.proofs.Common.{◌≡◌, ◌⊎◌, inl, inr, ℕ, zero, suc, ◌+◌, ◌*◌, ◌<◌, ◌≤◌, ◌==◌, ◌||◌, ℤ, pos, negsuc, Bool, true, false, not, nat_le, nat_lt, cond, List, [], ◌∷◌, ◌++◌, length, Option, Some, None, Result, Ok, Err, if◌then◌else◌, refl, sym, ap, subst, ◌∙◌, arith, append_assoc, zero-add}
+use Rattle.std.proofs.Common.{
+  ◌≡◌,
+  ◌⊎◌,
+  inl,
+  inr,
+  ℕ,
+  zero,
+  ◌+◌,
+  ◌*◌,
+  ◌<◌,
+  ◌≤◌,
+  ◌==◌,
+  ◌||◌,
+  ℤ,
+  pos,
+  Bool,
+  true,
+  false,
+  not,
+  cond,
+  List,
+  [],
+  ◌∷◌,
+  ◌++◌,
+  length,
+  Option,
+  Some,
+  None,
+  Result,
+  Ok,
+  Err,
+  if◌then◌else◌,
+  refl,
+  sym,
+  ap,
+  subst,
+  ◌∙◌,
+  arith,
+  append_assoc,
+  zero-add,
+}
 use Rattle.std.specs.Prelude.{find, flat_map, max, option_to_list, slice_get, slice_set, int_lt}
 use Rattle.std.specs.List.{AllByRecursion}
 use Rattle.std.proofs.Math.Nat.{mul-le-mul_left, mul-zero}
@@ -13,12 +53,10 @@ use Rattle.best_fit.specs.Fit.{place, regrow, resized}
 use Rattle.best_fit.specs.Table.{Table, no_table}
 use Rattle.raw_region.specs.Format.{current}
 use Rattle.seg_types.specs.declared.kinds.Kind.{Kind}
-use Rattle.seg_types.specs.declared.kinds.Kind.TheVariants as kinds
 use Rattle.seg_types.specs.declared.kinds.ScalarKind.{ScalarKind}
-use Rattle.seg_types.specs.declared.kinds.ScalarKind.TheVariants.{Bool as BoolKind, U8, I32, I64, U64}
+use Rattle.seg_types.specs.declared.kinds.ScalarKind.TheVariants.{Bool as BoolKind}
 use Rattle.seg_types.specs.declared.refusals.Refusal.{Refusal}
 use Rattle.seg_types.specs.declared.refusals.Refusal.TheVariants.{OutOfRange, NoSpace}
-use Rattle.seg_types.specs.Commands as asked
 use Rattle.seg_types.specs.Commands.{Command, literal_of, value_of_literal}
 use Rattle.seg_types.specs.Kinds.{is_value, size_of}
 use Rattle.seg_types.specs.Names.{ByHandle}
@@ -27,14 +65,47 @@ use Rattle.seg_map.specs.Numbers.{NumberPair}
 use Rattle.seg_vector.specs.Vector.{OwnedText, capacity_for_one, capacity_for_text}
 use Rattle.segment_manager.specs.declared.modes.Mode.TheVariants.{Write}
 use Rattle.segment_manager.specs.Answers.{Answer, Done, Truth, Refused}
-use Rattle.segment_manager.specs.Directory.{Bytes, Directory, Elements, IsDirectory, Numbers, Object, Pairs, Texts, Value, live, object_at, value_extents}
+use Rattle.segment_manager.specs.Directory.{
+  Bytes,
+  Directory,
+  Elements,
+  IsDirectory,
+  Numbers,
+  Object,
+  Pairs,
+  Texts,
+  Value,
+  live,
+  object_at,
+  value_extents,
+  kind_of,
+}
 use Rattle.segment_manager.specs.Plan.{Plan, Reply, Request, New, Regrown, perform, with, with_capacity, with_owned_text}
-use Rattle.segment_manager.specs.Step.{and_then, changed, map_of, pair_of, push, put, set, step, step_of_kind, storage_of, text_of, with_table}
+use Rattle.segment_manager.specs.Step.{
+  and_then,
+  changed,
+  map_of,
+  pair_of,
+  push,
+  put,
+  set,
+  step,
+  step_of_kind,
+  storage_of,
+  text_of,
+  with_table,
+  effect,
+  found_at,
+}
 use Rattle.segment_dump.specs.Building.{Head, IsFilling, Site}
 use Rattle.segment_dump.specs.Items.{Item}
 use Rattle.segment_dump.specs.Need.{block_room}
+use Rattle.std.proofs.lemmas.Bool.{eq-eqb, le-leb, lt-leb, lt-ltb, ne_eqb}
 use Rattle.segment_dump.proofs.Spaces.{IsRest, block-some}
 use Rattle.segment_dump.proofs.Steps.{at-object, block-more, filled-at, filled-kind, of-kind, requested, same-blocks, writes}
+use Rattle.segment_dump.proofs.Words.{bool-near}
+use Rattle.seg_types.specs.declared.kinds.Kind.TheVariants as kinds
+use Rattle.seg_types.specs.Commands as asked
 
 -- it is answered, and leads to such a directory
 pub record StepsTo (outcome : Answer × Directory) (answer : Answer) (Next : Directory → Type 0) : Type 0 where
@@ -43,12 +114,6 @@ pub record StepsTo (outcome : Answer × Directory) (answer : Answer) (Next : Dir
   pub holds : Next next
 
 -- ---- values
-
-bool-near : (z : ℤ) → is_value BoolKind z ≡ true → (z ≡ pos 0) ⊎ (z ≡ pos 1)
-bool-near (pos zero) e = inl refl
-bool-near (pos (suc zero)) e = inr refl
-bool-near (pos (suc (suc n))) e = absurd (grind (arith, nat_tests))
-bool-near (negsuc n) e = absurd (cc)
 
 truth-back : (z : ℤ) → (z ≡ pos 0) ⊎ (z ≡ pos 1) → value_of_literal BoolKind (literal_of BoolKind z) ≡ Ok z
 truth-back z (inl e) = subst (λ y. value_of_literal BoolKind (literal_of BoolKind y) ≡ Ok y) (sym e) refl
@@ -59,37 +124,48 @@ in_range b z = if b then Ok z else Err OutOfRange
 
 pub literal-back : (k : ScalarKind) (z : ℤ) → is_value k z ≡ true → value_of_literal k (literal_of k z) ≡ Ok z
 literal-back BoolKind z e = truth-back z (bool-near z e)
-literal-back U8 z e = ap (λ b. in_range b z) e
-literal-back I32 z e = ap (λ b. in_range b z) e
-literal-back I64 z e = ap (λ b. in_range b z) e
-literal-back U64 z e = ap (λ b. in_range b z) e
+literal-back k z e = ap (λ b. in_range b z) e
 
 -- ---- places that are there
 
-lt-test : (m n : ℕ) → m < n → nat_lt m n ≡ true
-lt-test m n h = grind (arith, nat_tests)
-
-le-test : (m n : ℕ) → m ≤ n → nat_le m n ≡ true
-le-test m n h = grind (arith, nat_tests)
-
 places-there : (each n : ℕ) (t : Table) (next : Table → Plan) → n ≤ t.capacity → with_capacity each n t next ≡ next t
 places-there each n t next h =
-    ap (λ b. if b then next t else Request (Regrown t.extent (each * n)) (λ x. next (record { capacity = n; extent = Some x }))) (le-test n t.capacity h)
+    ap (λ b. if b then next t else Request (Regrown t.extent (each * n))
+    (λ x. next (record { capacity = n; extent = Some x }))) (le-leb n t.capacity h)
 
 place-there : (each len : ℕ) (t : Table) (next : Table → Plan) → len < t.capacity → with_capacity each (capacity_for_one len t.capacity) t next ≡ next t
 place-there each len t next h =
-    let same : capacity_for_one len t.capacity ≡ t.capacity = ap (λ b. if b then t.capacity else max 4 (2 * t.capacity)) (lt-test len t.capacity h) in
+    let same : capacity_for_one len t.capacity ≡ t.capacity = ap (λ b. if b then t.capacity else max 4 (2 * t.capacity))
+    (lt-ltb len t.capacity h) in
     places-there each (capacity_for_one len t.capacity) t next (omega (arith, same))
 
 text-there : (len : ℕ) (t : Table) (next : Table → Plan) → len ≤ t.capacity → with_capacity 1 (capacity_for_text len t.capacity) t next ≡ next t
 text-there len t next h =
-    let same : capacity_for_text len t.capacity ≡ t.capacity = ap (λ b. if b then t.capacity else max (max 16 (2 * t.capacity)) len) (le-test len t.capacity h) in
+    let same : capacity_for_text len t.capacity ≡ t.capacity = ap
+    (λ b. if b then t.capacity else max (max 16 (2 * t.capacity)) len) (le-leb len t.capacity h) in
     places-there 1 (capacity_for_text len t.capacity) t next (omega (arith, same))
 
 -- ---- the calls that ask for no block
 
 abbrev steps : (d : Directory) (kind : Kind) (c : Command) (h : ℕ) → Answer × Directory
 steps d kind c h = step_of_kind Write d (ByHandle h) kind c
+
+module _ {d : Directory} {site : Site} {done : List Item} {head : Head} {v : Value} {rest : ℕ}
+    (i : IsDirectory current d) (f : IsFilling d site done head v rest) where
+  stepped : (kind : Kind) (c : Command) (plan : Object → Value → Plan) (w : Value) → kind_of v ≡ kind
+      → effect d c ≡ with (found_at d (ByHandle head.handle)) (λ o. plan o o.value)
+      → plan f.object v ≡ Reply Done (changed d f.object w) → value_extents w ≡ value_extents v
+      → StepsTo (step_of_kind Write d (ByHandle head.handle) kind c) Done (λ e. IsFilling e site done head w rest)
+  stepped kind c plan w k asks replies same =
+      let key = ByHandle head.handle in
+      let here : object_at d key ≡ Some f.object = filled-at d site done head v rest i f in
+      record {
+        next = changed d f.object w;
+        is = of-kind d key kind c f.object here (filled-kind d site done head v rest i f kind k)
+            ∙ ap (perform d (live d)) (asks ∙ at-object d key f.object (λ o. plan o o.value) here ∙ ap (plan f.object)
+            f.value_is ∙ replies);
+        holds = same-blocks d site done head v rest i f w same;
+      }
 
 push-reply : (d : Directory) (o : Object) (k : ScalarKind) (zs : List ℤ) (t : Table) (z : ℤ) → is_value k z ≡ true → length zs < t.capacity
     → push d o (Elements k zs t) (literal_of k z) ≡ Reply Done (changed d o (Elements k (zs ++ z ∷ []) t))
@@ -101,16 +177,9 @@ pub pushed : (d : Directory) (site : Site) (done : List Item) (head : Head) (k :
     → is_value k z ≡ true → length zs < t.capacity
     → StepsTo (step_of_kind Write d (ByHandle head.handle) (kinds.Vector k) (asked.Push (ByHandle head.handle) (literal_of k z))) Done (λ e. IsFilling e site done head (Elements k (zs ++ z ∷ []) t) rest)
 pushed d site done head k zs t rest z i f g h =
-    let key = ByHandle head.handle in
-    let c = asked.Push key (literal_of k z) in
-    let here : object_at d key ≡ Some f.object = filled-at d site done head (Elements k zs t) rest i f in
-    let w : Value = Elements k (zs ++ z ∷ []) t in
-    record {
-      next = changed d f.object w;
-      is = of-kind d key (kinds.Vector k) c f.object here (filled-kind d site done head (Elements k zs t) rest i f (kinds.Vector k) refl)
-          ∙ ap (perform d (live d)) (at-object d key f.object (λ o. push d o o.value (literal_of k z)) here ∙ ap (λ v. push d f.object v (literal_of k z)) f.value_is ∙ push-reply d f.object k zs t z g h);
-      holds = same-blocks d site done head (Elements k zs t) rest i f w refl;
-    }
+    stepped i f (kinds.Vector k) (asked.Push (ByHandle head.handle) (literal_of k z))
+    (λ o v. push d o v (literal_of k z)) (Elements k (zs ++ z ∷ []) t) refl refl
+    (push-reply d f.object k zs t z g h) refl
 
 set-reply : (d : Directory) (o : Object) (k : ScalarKind) (zs : List ℤ) (n : ℕ) (z : ℤ) → is_value k z ≡ true → n < length zs → set d o (Numbers k zs) n (literal_of k z) ≡ Reply Done (changed d o (Numbers k (slice_set zs n z)))
 set-reply d o k zs n z g h =
@@ -121,16 +190,9 @@ pub was-set : (d : Directory) (site : Site) (done : List Item) (head : Head) (k 
     → is_value k z ≡ true → n < length zs
     → StepsTo (step_of_kind Write d (ByHandle head.handle) (kinds.Scalar k) (asked.Set (ByHandle head.handle) n (literal_of k z))) Done (λ e. IsFilling e site done head (Numbers k (slice_set zs n z)) rest)
 was-set d site done head k zs rest n z i f g h =
-    let key = ByHandle head.handle in
-    let c = asked.Set key n (literal_of k z) in
-    let here : object_at d key ≡ Some f.object = filled-at d site done head (Numbers k zs) rest i f in
-    let w : Value = Numbers k (slice_set zs n z) in
-    record {
-      next = changed d f.object w;
-      is = of-kind d key (kinds.Scalar k) c f.object here (filled-kind d site done head (Numbers k zs) rest i f (kinds.Scalar k) refl)
-          ∙ ap (perform d (live d)) (at-object d key f.object (λ o. set d o o.value n (literal_of k z)) here ∙ ap (λ v. set d f.object v n (literal_of k z)) f.value_is ∙ set-reply d f.object k zs n z g h);
-      holds = same-blocks d site done head (Numbers k zs) rest i f w refl;
-    }
+    stepped i f (kinds.Scalar k) (asked.Set (ByHandle head.handle) n (literal_of k z))
+    (λ o v. set d o v n (literal_of k z)) (Numbers k (slice_set zs n z)) refl refl
+    (set-reply d f.object k zs n z g h) refl
 
 abbrev append_plan : Directory → List ℕ → Object → Value → Plan
 append_plan d more o v = with (text_of v) (λ (bs, t). with_capacity 1 (capacity_for_text (length (bs ++ more)) t.capacity) t (λ u. Reply Done (changed d o (Bytes (bs ++ more) u))))
@@ -139,17 +201,9 @@ pub appended : (d : Directory) (site : Site) (done : List Item) (head : Head) (b
     → length (bs ++ more) ≤ t.capacity
     → StepsTo (step_of_kind Write d (ByHandle head.handle) kinds.Text (asked.Append (ByHandle head.handle) more)) Done (λ e. IsFilling e site done head (Bytes (bs ++ more) t) rest)
 appended d site done head bs t rest more i f h =
-    let key = ByHandle head.handle in
-    let c = asked.Append key more in
-    let here : object_at d key ≡ Some f.object = filled-at d site done head (Bytes bs t) rest i f in
-    let w : Value = Bytes (bs ++ more) t in
-    record {
-      next = changed d f.object w;
-      is = of-kind d key kinds.Text c f.object here (filled-kind d site done head (Bytes bs t) rest i f kinds.Text refl)
-          ∙ ap (perform d (live d))
-          (at-object d key f.object (λ o. append_plan d more o o.value) here ∙ ap (append_plan d more f.object) f.value_is ∙ text-there (length (bs ++ more)) t (λ u. Reply Done (changed d f.object (Bytes (bs ++ more) u))) h);
-      holds = same-blocks d site done head (Bytes bs t) rest i f w refl;
-    }
+    stepped i f kinds.Text (asked.Append (ByHandle head.handle) more) (append_plan d more) (Bytes (bs ++ more) t) refl
+    refl
+    (text-there (length (bs ++ more)) t (λ u. Reply Done (changed d f.object (Bytes (bs ++ more) u))) h) refl
 
 -- ---- the calls that ask for a block
 
@@ -162,25 +216,15 @@ unfolding regrow
 grown-perform d n x next answer after e r =
     ap (λ (o : Option Extent). elim o as (λ _. Answer × Directory) [ None ↦ (Refused NoSpace, d) | Some x ↦ perform d (resized (live d) x) (next x) ]) e ∙ ap (perform d (resized (live d) x)) r
 
-none-test : (n : ℕ) → n ≡ 0 → (n == 0) ≡ true
-none-test n e = grind (arith, nat_tests)
-
-one-test : (n : ℕ) → 0 < n → (n == 0) ≡ false
-one-test n h = grind (arith, nat_tests)
-
-no-bytes : (n rest : ℕ) → n ≡ 0 → block_room n + rest ≡ rest
+pub no-bytes : (n rest : ℕ) → n ≡ 0 → block_room n + rest ≡ rest
 unfolding block_room
 no-bytes n rest e = ap (λ m. block_room m + rest) e ∙ zero-add rest
-
-some-test : (n : ℕ) → 0 < n → nat_le n 0 ≡ false
-some-test n h = grind (arith, nat_tests)
 
 product-long : (m n : ℕ) → 0 < m → 0 < n → 0 < m * n
 product-long m n h l = let g : m * 1 ≤ m * n = mul-le-mul_left m l in omega (arith, g)
 
 none-more : (each n rest : ℕ) → n ≡ 0 → block_room (each * n) + rest ≡ rest
-unfolding block_room
-none-more each n rest e = ap (λ m. block_room m + rest) (ap (λ k. each * k) e ∙ mul-zero each) ∙ zero-add rest
+none-more each n rest e = no-bytes (each * n) rest (ap (λ k. each * k) e ∙ mul-zero each)
 
 -- storage for so many
 abbrev pub table_of : ℕ → Extent → Table
@@ -245,7 +289,8 @@ module _ (d : Directory) (site : Site) (done : List Item) (head : Head) (v : Val
       let w = with_table v (table_of n taken.extent) in
       let one : value_extents w ≡ value_extents v ++ taken.extent ∷ [] = s.more n taken.extent ∙ ap (λ l. l ++ taken.extent ∷ []) (sym s.alone) in
       let grows : grow_plan d n each f.object v ≡ Request (Regrown None (each * n)) (λ x. Reply Done (changed d f.object (with_table v (table_of n x)))) =
-      ap (λ b. if b then Reply Done (changed d f.object (with_table v no_table)) else Request (Regrown None (each * n)) (λ x. Reply Done (changed d f.object (with_table v (table_of n x))))) (some-test n p) in
+      ap (λ b. if b then Reply Done (changed d f.object (with_table v no_table)) else Request (Regrown None (each * n))
+      (λ x. Reply Done (changed d f.object (with_table v (table_of n x))))) (lt-leb n 0 p) in
       record {
         next = changed d f.object w;
         is = reserve-plan all f ∙ ap (perform d (live d)) grows ∙ grown-perform d (each * n) taken.extent (λ x. Reply Done (changed d f.object (with_table v (table_of n x)))) Done (changed d f.object w) taken.is refl;
@@ -302,7 +347,7 @@ module _ (d : Directory) (site : Site) (done : List Item) (head : Head) (ps : Li
   push-none e f =
       let w : Value = Texts (ps ++ own bs None ∷ []) t in
       let next : OwnedText → Plan = λ p. Reply Done (changed d f.object (Texts (ps ++ p ∷ []) t)) in
-      let zero : (length bs == 0) ≡ true = none-test (length bs) e in
+      let zero : (length bs == 0) ≡ true = eq-eqb (length bs) 0 e in
       record {
         next = changed d f.object w;
         is = push-plan rest f ∙ ap (λ b. perform d (live d) (if b then next (own bs None) else Request (New Storage (length bs)) (λ x. next (own bs (Some x))))) zero;
@@ -315,7 +360,7 @@ module _ (d : Directory) (site : Site) (done : List Item) (head : Head) (ps : Li
       let taken = requested d site done head (Texts ps t) all i f (length bs) Storage rest (ap (λ m. m + rest) (block-some (length bs) p)) r in
       let w : Value = Texts (ps ++ own bs (Some taken.extent) ∷ []) t in
       let next : OwnedText → Plan = λ p. Reply Done (changed d f.object (Texts (ps ++ p ∷ []) t)) in
-      let some : (length bs == 0) ≡ false = one-test (length bs) p in
+      let some : (length bs == 0) ≡ false = ne_eqb (length bs) 0 (λ e. omega (arith, p, e)) in
       record {
         next = changed d f.object w;
         is = push-plan all f ∙ ap (λ b. perform d (live d) (if b then next (own bs None) else Request (New Storage (length bs)) (λ x. next (own bs (Some x))))) some

@@ -1,17 +1,46 @@
 -- What was built of a dump is what the dump says, and nothing is free behind it once the end is cut off.
-use Rattle.std.proofs.Common.{◌≡◌, ℕ, ◌+◌, ◌-◌, ◌≤◌, ◌==◌, ◌&&◌, Bool, true, false, cond, List, [], ◌∷◌, ◌++◌, length, map, refl, sym, ap, subst, ◌∙◌, arith}
+use Rattle.std.proofs.Common.{
+  ◌≡◌,
+  ℕ,
+  ◌+◌,
+  ◌-◌,
+  ◌≤◌,
+  ◌==◌,
+  true,
+  cond,
+  List,
+  [],
+  ◌∷◌,
+  ◌++◌,
+  length,
+  map,
+  refl,
+  sym,
+  ap,
+  subst,
+  ◌∙◌,
+  arith,
+}
 use Rattle.std.specs.Prelude.{IsTrue, filter, sum_by}
-use Rattle.std.specs.List.{AllByRecursion}
 use Rattle.std.proofs.lemmas.Bool.{and_parts}
 use Rattle.std.proofs.lemmas.Bool.Decides.{nat_tests}
 use Rattle.std.proofs.lemmas.List.{append-nil}
 use Rattle.block_tags.specs.Format.{is_legal_size}
 use Rattle.best_fit.specs.Ends.{last_end}
-use Rattle.best_fit.specs.Extents.{Extent, Gap, end_of, free_bytes, gap_between, is_block, is_hole, is_proper, proper_from}
+use Rattle.best_fit.specs.Extents.{Gap, end_of, free_bytes, gap_between, is_proper, proper_from}
 use Rattle.seg_types.specs.declared.kinds.Class.{Class}
 use Rattle.seg_types.specs.declared.kinds.Class.TheVariants.{Anonymous, Named, Unique}
 use Rattle.seg_types.specs.Kinds.{class_code}
-use Rattle.segment_manager.specs.Directory.{Directory, Object, by_kind, by_name, is_class, live, named_objects, sorted, unique_objects}
+use Rattle.segment_manager.specs.Directory.{
+  Directory,
+  by_kind,
+  by_name,
+  is_class,
+  live,
+  named_objects,
+  sorted,
+  unique_objects,
+}
 use Rattle.segment_manager.specs.Resized.{shrunk}
 use Rattle.segment_manager.specs.State.{StandsFor}
 use Rattle.segment_manager.proofs.Laws.{all-sorted, by_kind-strict, by_name-strict, live-extents, live-size}
@@ -20,13 +49,12 @@ use Rattle.segment_dump.specs.Items.{Item, Items, item_of_object, portable}
 use Rattle.segment_dump.specs.Order.{all_items}
 use Rattle.segment_dump.specs.Succeeding.{AreOf, AreSorted}
 use Rattle.segment_dump.specs.Texts.{dump_text, end_text, front_text, items_text}
-use Rattle.segment_dump.proofs.ItemLines.{IsGoodItem}
 use Rattle.segment_dump.proofs.Buildables.{named-in_order, unique-in_order}
 use Rattle.segment_dump.proofs.DumpCounts.{all-text}
-use Rattle.segment_dump.proofs.Orders.{class-ordered, kinds-tell}
-use Rattle.segment_dump.proofs.Rooms.{total-insert, total-more}
-use Rattle.segment_dump.proofs.Spaces.{room-gaps}
-use Rattle.segment_dump.proofs.Told.{portable-told}
+use Rattle.segment_dump.proofs.Orders.{class-items, class-ordered, kinds-tell, none-of, of-both}
+use Rattle.segment_dump.proofs.Rooms.{total-sorted}
+use Rattle.segment_dump.proofs.Spaces.{room-gaps, last-long, last-most}
+use Rattle.segment_dump.proofs.Told.{each-of, portable-told}
 
 -- ---- the items of a class
 
@@ -39,28 +67,8 @@ of-here : (c : Class) (is : List Item) → AreOf c is → of_class c is ≡ is
 of-here c [] a = refl
 of-here c (i ∷ is) a = ap (λ b. cond b (i ∷ of_class c is) (of_class c is)) (ap (λ x. class_code c == class_code x) a.0 ∙ class-self c) ∙ ap (λ l. i ∷ l) (of-here c is a.1)
 
-of-none : (c d : Class) (is : List Item) → (class_code c == class_code d) ≡ false → AreOf d is → of_class c is ≡ []
-of-none c d [] e a = refl
-of-none c d (i ∷ is) e a = ap (λ b. cond b (i ∷ of_class c is) (of_class c is)) (ap (λ x. class_code c == class_code x) a.0 ∙ e) ∙ of-none c d is e a.1
-
-both-if : (b : Bool) (x : Item) (zs xs ys : List Item) → zs ≡ xs ++ ys → cond b (x ∷ zs) zs ≡ cond b (x ∷ xs) xs ++ ys
-both-if true x zs xs ys e = ap (λ l. x ∷ l) e
-both-if false x zs xs ys e = e
-
-of-both : (c : Class) (xs ys : List Item) → of_class c (xs ++ ys) ≡ of_class c xs ++ of_class c ys
-of-both c [] ys = refl
-of-both c (x ∷ xs) ys = both-if (class_code c == class_code x.class) x (of_class c (xs ++ ys)) (of_class c xs) (of_class c ys) (of-both c xs ys)
-
 of-three : (c : Class) (xs ys zs us vs ws : List Item) → of_class c xs ≡ us → of_class c ys ≡ vs → of_class c zs ≡ ws → of_class c (xs ++ (ys ++ zs)) ≡ us ++ (vs ++ ws)
 of-three c xs ys zs us vs ws e f g = of-both c xs (ys ++ zs) ∙ ap (λ l. of_class c xs ++ l) (of-both c ys zs) ∙ (λ i. e i ++ (f i ++ g i))
-
-filter-if : (b : Bool) (o : Object) (os : List Object) (is : List Item) → map item_of_object os ≡ is → map item_of_object (cond b (o ∷ os) os) ≡ cond b (item_of_object o ∷ is) is
-filter-if true o os is e = ap (λ l. item_of_object o ∷ l) e
-filter-if false o os is e = e
-
-class-items : (c : Class) (os : List Object) → map item_of_object (filter (is_class c) os) ≡ of_class c (map item_of_object os)
-class-items c [] = refl
-class-items c (o ∷ os) = filter-if (is_class c o) o (filter (is_class c) os) (of_class c (map item_of_object os)) (class-items c os)
 
 -- ---- the objects are those of the dump
 
@@ -68,30 +76,31 @@ pub built-portable : (e : Directory) (items : Items) → AreSorted items → map
 built-portable e items s same =
     let named : map item_of_object (filter (is_class Named) e.objects) ≡ items.named =
     class-items Named e.objects ∙ ap (of_class Named) same
-    ∙ of-three Named items.named items.unique items.anonymous items.named [] [] (of-here Named items.named s.named) (of-none Named Unique items.unique refl s.unique) (of-none Named Anonymous items.anonymous refl s.anonymous)
+    ∙ of-three Named items.named items.unique items.anonymous items.named [] [] (of-here Named items.named s.named)
+    (none-of Named Unique items.unique refl s.unique) (none-of Named Anonymous items.anonymous refl s.anonymous)
     ∙ append-nil items.named in
     let unique : map item_of_object (filter (is_class Unique) e.objects) ≡ items.unique =
     class-items Unique e.objects ∙ ap (of_class Unique) same
-    ∙ of-three Unique items.named items.unique items.anonymous [] items.unique [] (of-none Unique Named items.named refl s.named) (of-here Unique items.unique s.unique) (of-none Unique Anonymous items.anonymous refl s.anonymous)
+    ∙ of-three Unique items.named items.unique items.anonymous [] items.unique []
+    (none-of Unique Named items.named refl s.named) (of-here Unique items.unique s.unique)
+    (none-of Unique Anonymous items.anonymous refl s.anonymous)
     ∙ append-nil items.unique in
     let anonymous : map item_of_object (filter (is_class Anonymous) e.objects) ≡ items.anonymous =
     class-items Anonymous e.objects ∙ ap (of_class Anonymous) same
-    ∙ of-three Anonymous items.named items.unique items.anonymous [] [] items.anonymous (of-none Anonymous Named items.named refl s.named) (of-none Anonymous Unique items.unique refl s.unique) (of-here Anonymous items.anonymous s.anonymous) in
+    ∙ of-three Anonymous items.named items.unique items.anonymous [] [] items.anonymous
+    (none-of Anonymous Named items.named refl s.named) (none-of Anonymous Unique items.unique refl s.unique)
+    (of-here Anonymous items.anonymous s.anonymous) in
     let first : map item_of_object (named_objects e) ≡ items.named = class-ordered name_less by_name (λ o p. refl) by_name-strict (filter (is_class Named) e.objects) items.named named s.by_name in
     let second : map item_of_object (unique_objects e) ≡ items.unique = class-ordered kind_less by_kind kinds-tell by_kind-strict (filter (is_class Unique) e.objects) items.unique unique s.by_kind in
     λ i. record { named = first i; unique = second i; anonymous = anonymous i }
-
-classes : (c : Class) (is : List Item) → AllByRecursion (IsGoodItem c) is → AreOf c is
-classes c [] a = tt
-classes c (i ∷ is) a = (a.0.class, classes c is a.1)
 
 pub portable-sorted : (b : List ℕ) (d : Directory) → StandsFor b d → AreSorted (portable d)
 portable-sorted b d s =
     let t = portable-told b d s in
     record {
-      named = classes Named (portable d).named t.named;
-      unique = classes Unique (portable d).unique t.unique;
-      anonymous = classes Anonymous (portable d).anonymous t.anonymous;
+      named = each-of Named (portable d).named t.named;
+      unique = each-of Unique (portable d).unique t.unique;
+      anonymous = each-of Anonymous (portable d).anonymous t.anonymous;
       by_name = named-in_order b d s;
       by_kind = unique-in_order b d s;
     }
@@ -102,26 +111,6 @@ pub text-behind : (n : ℕ) (items : Items) → dump_text n items ≡ front_text
 text-behind n items = ap (λ l. front_text n (length items.named) (length items.unique) ++ l) (all-text items)
 
 -- ---- nothing is free
-
-hole-rises : (a b : ℕ) → is_hole a b ≡ true → a ≤ b
-hole-rises a b e = grind (arith, nat_tests)
-
-last-long : (from : ℕ) (xs : List Extent) (to : ℕ) → proper_from from xs to ≡ true → from + total xs ≤ last_end from xs
-unfolding total
-last-long from [] to p = omega arith
-last-long from (x ∷ xs) to p =
-    let q = and_parts (is_hole from x.offset && is_block x) (proper_from (end_of x) xs to) p in
-    let r = and_parts (is_hole from x.offset) (is_block x) q.0 in
-    omega (arith, hole-rises from x.offset r.0, last-long (end_of x) xs to q.1)
-
-last-most : (from e : ℕ) (xs : List Extent) → EndBy e xs → from ≤ e → last_end from xs ≤ e
-last-most from e [] a l = l
-last-most from e (x ∷ xs) a l = last-most (end_of x) e xs a.1 a.0
-
-total-sorted : (xs : List Extent) → total (sorted xs) ≡ total xs
-unfolding total
-total-sorted [] = refl
-total-sorted (x ∷ xs) = total-more x xs (sorted xs) (total-insert x (sorted xs)) (total-sorted xs)
 
 -- behind the last block is the end tag
 cut-room : (e : Directory) (rest : ℕ) → IsTrue (is_proper (live (shrunk e))) → HasRoom (all_extents e) e.size rest → HasRoom (all_extents (shrunk e)) (shrunk e).size 0

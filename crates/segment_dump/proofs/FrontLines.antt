@@ -8,7 +8,7 @@ use Rattle.segment_dump.specs.Leads.{AreEntries, entries_text}
 use Rattle.segment_dump.specs.Reads.{Any, Breaks, Reads, itself}
 use Rattle.segment_dump.specs.Texts.{front_text}
 use Rattle.segment_dump.proofs.ItemLines.{ends-line}
-use Rattle.segment_dump.proofs.Sums.{never-some, some-pair}
+use Rattle.segment_dump.proofs.Found.{none-some, some-pair}
 
 abbrev pub before_size : List ℕ
 before_size = codes "segment dump 1" ++ 0x0A ∷ codes "size "
@@ -48,7 +48,8 @@ front-entries text x n rest y o f a e h z k g w =
 
 pub front-no_entries : (text x : List ℕ) (n : ℕ) (rest y : List ℕ) → text ≡ before_size ++ x → NumberReads x (Some (n, rest)) → rest ≡ before_entries ++ y → EntriesRead y None → FrontReads text None
 front-no_entries text x n rest y e h z k = record {
-  reads = λ f a g w m. absurd (never-some ((f.named, f.unique), a) (front-entries text x n rest y None f a e h z k g m).1);
+  reads = λ f a g w m. absurd (none-some ((f.named, f.unique), a)
+      (front-entries text x n rest y None f a e h z k g m).1);
 }
 
 pub front-some : (text x : List ℕ) (n : ℕ) (rest y : List ℕ) (named unique : ℕ) (last : List ℕ) → text ≡ before_size ++ x → NumberReads x (Some (n, rest)) → rest ≡ before_entries ++ y → EntriesRead y (Some ((named, unique), last))

@@ -1,8 +1,26 @@
 -- The first three lines of a dump are read, line by line.
-use Rattle.std.proofs.Common.{◌≡◌, ℕ, ◌^◌, ◌<◌, nat_lt, true, List, [], ◌∷◌, ◌++◌, Some, Result, Ok, Err, refl, sym, ap, ◌∙◌, arith, append-nil, append_assoc}
+use Rattle.std.proofs.Common.{
+  ◌≡◌,
+  ℕ,
+  ◌^◌,
+  ◌<◌,
+  List,
+  [],
+  ◌∷◌,
+  ◌++◌,
+  Some,
+  Result,
+  Ok,
+  Err,
+  refl,
+  sym,
+  ap,
+  ◌∙◌,
+  arith,
+  append-nil,
+  append_assoc,
+}
 use Rattle.std.specs.Prelude.{codes, decimal}
-use Rattle.std.specs.List.{list_all}
-use Rattle.std.proofs.lemmas.Bool.{and_parts, ltb-true}
 use Rattle.std.proofs.lemmas.List.{length-append}
 use Rattle.segment_lang.specs.Laws.{NumbersAreDecimals}
 use Rattle.segment_lang.specs.Reading.{number}
@@ -13,11 +31,11 @@ use Rattle.segment_dump.specs.Counting.{IsFront, fronted}
 use Rattle.segment_dump.specs.Lines.{IsShortLine, ReadsEnd, ReadsLine, ReadsThis, ReadsWord}
 use Rattle.segment_dump.specs.Reads.{Any, HasNoEnd}
 use Rattle.segment_dump.specs.Succeeding.{AreNumbers, IsNumber, ReadsLead, Takes, entries_line, entries_said, size_line, size_said, version_line, version_said}
-use Rattle.segment_dump.proofs.ContentLines.{no_end-both, word-no_end}
-use Rattle.segment_dump.proofs.ElementReads.{never-ok, ok-same}
+use Rattle.segment_dump.proofs.ContentLines.{no_end-both, word-no_end, no_end-test}
+use Rattle.segment_dump.proofs.Found.{never-ok, ok-same}
 use Rattle.segment_dump.proofs.LineTexts.{decimal-short}
-use Rattle.segment_dump.proofs.Words.{decimal-word}
-use Rattle.segment_dump.proofs.NextWords.{bare-long, bare-test, blank-next, decimal-number, number-next}
+use Rattle.segment_dump.proofs.Words.{decimal-word, bare-test}
+use Rattle.segment_dump.proofs.NextWords.{bare-long, blank-next, decimal-number, number-next}
 
 -- ---- the first word
 
@@ -40,12 +58,6 @@ module _ {E : Type 0} (word text left : List ℕ) where
   }
 
 -- ---- segment dump 1
-
-no_end-test : (w : List ℕ) → list_all (λ c. nat_lt 10 c) w ≡ true → HasNoEnd w
-no_end-test [] e = tt
-no_end-test (c ∷ cs) e =
-    let p = and_parts (nat_lt 10 c) (list_all (λ c. nat_lt 10 c) cs) e in
-    ((λ k. omega (arith, ltb-true 10 c p.0, k)), no_end-test cs p.1)
 
 version-next : next_word version_line ≡ Some (Bare (codes "segment"), codes " dump 1")
 version-next = bare-long (codes "segment") (codes " dump 1") (omega arith) (bare-test (codes "segment") refl) refl
@@ -95,11 +107,11 @@ module _ {E : Type 0} (text left : List ℕ) where
 
 -- ---- a number behind a blank
 
-number-there : NumbersAreDecimals → (n : ℕ) → n < 2 ^ 64 → next_word (0x20 ∷ decimal n) ≡ Some (Bare (decimal n), [])
-number-there law n h = blank-next (decimal n) ∙ ap next_word (sym (append-nil (decimal n))) ∙ number-next law n [] h refl
+number-there : (n : ℕ) → next_word (0x20 ∷ decimal n) ≡ Some (Bare (decimal n), [])
+number-there n = blank-next (decimal n) ∙ ap next_word (sym (append-nil (decimal n))) ∙ number-next n [] refl
 
-number-before : NumbersAreDecimals → (n : ℕ) (a : List ℕ) → n < 2 ^ 64 → next_word (0x20 ∷ (decimal n ++ 0x20 ∷ a)) ≡ Some (Bare (decimal n), 0x20 ∷ a)
-number-before law n a h = blank-next (decimal n ++ 0x20 ∷ a) ∙ number-next law n (0x20 ∷ a) h refl
+number-before : (n : ℕ) (a : List ℕ) → next_word (0x20 ∷ (decimal n ++ 0x20 ∷ a)) ≡ Some (Bare (decimal n), 0x20 ∷ a)
+number-before n a = blank-next (decimal n ++ 0x20 ∷ a) ∙ number-next n (0x20 ∷ a) refl
 
 -- ---- size
 
@@ -128,7 +140,8 @@ module _ {E : Type 0} (law : NumbersAreDecimals) (text left : List ℕ) where
   size-number : (words last : List ℕ) (r : Result ℕ E) → SizeLead (Ok words) → ReadsWord number words last r → (n : ℕ) (a : List ℕ) → n < 2 ^ 64 → text ≡ size_said n ++ a → (r ≡ Ok n) × (last ≡ []) × (left ≡ a)
   size-number words last r h f n a l t =
       let q = size-lead (Ok words) h n a t in
-      let u = f.reads (Bare (decimal n)) [] n (ap next_word (ok-same {E = E} words (0x20 ∷ decimal n) q.0) ∙ number-there law n l) (decimal-number law n l) in
+      let u = f.reads (Bare (decimal n)) [] n (ap next_word (ok-same {E = E} words (0x20 ∷ decimal n) q.0) ∙
+      number-there n) (decimal-number law n l) in
       (u.0, u.1, q.1)
 
   pub size-no_number : (words last : List ℕ) (e : E) (result : Result ℕ E) → SizeLead (Ok words) → ReadsWord number words last (Err e) → Size result
@@ -173,7 +186,9 @@ module _ {E : Type 0} (law : NumbersAreDecimals) (text left : List ℕ) where
   entries-named : (words mid : List ℕ) (r : Result ℕ E) → EntriesLead (Ok words) → ReadsWord number words mid r → (p : ℕ × ℕ) (a : List ℕ) → AreNumbers p → text ≡ entries_said p ++ a → (r ≡ Ok p.0) × (mid ≡ 0x20 ∷ decimal p.1) × (left ≡ a)
   entries-named words mid r h f p a l t =
       let q = entries-lead (Ok words) h p a t in
-      let u = f.reads (Bare (decimal p.0)) (0x20 ∷ decimal p.1) p.0 (ap next_word (ok-same {E = E} words (0x20 ∷ (decimal p.0 ++ 0x20 ∷ decimal p.1)) q.0) ∙ number-before law p.0 (decimal p.1) l.0) (decimal-number law p.0 l.0) in
+      let u = f.reads (Bare (decimal p.0)) (0x20 ∷ decimal p.1) p.0
+      (ap next_word (ok-same {E = E} words (0x20 ∷ (decimal p.0 ++ 0x20 ∷ decimal p.1)) q.0) ∙ number-before p.0
+      (decimal p.1)) (decimal-number law p.0 l.0) in
       (u.0, u.1, q.1)
 
   pub entries-no_named : (words mid : List ℕ) (e : E) (result : Result (ℕ × ℕ) E) → EntriesLead (Ok words) → ReadsWord number words mid (Err e) → Entries result
@@ -183,7 +198,7 @@ module _ {E : Type 0} (law : NumbersAreDecimals) (text left : List ℕ) where
       → (n ≡ p.0) × (r ≡ Ok p.1) × (last ≡ []) × (left ≡ a)
   entries-unique words mid last n r h f g p a l t =
       let q = entries-named words mid (Ok n) h f p a l t in
-      let u = g.reads (Bare (decimal p.1)) [] p.1 (ap next_word q.1 ∙ number-there law p.1 l.1) (decimal-number law p.1 l.1) in
+      let u = g.reads (Bare (decimal p.1)) [] p.1 (ap next_word q.1 ∙ number-there p.1) (decimal-number law p.1 l.1) in
       (ok-same {E = E} n p.0 q.0, u.0, u.1, q.2)
 
   pub entries-no_unique : (words mid last : List ℕ) (n : ℕ) (e : E) (result : Result (ℕ × ℕ) E) → EntriesLead (Ok words) → ReadsWord {E = E} number words mid (Ok n) → ReadsWord number mid last (Err e) → Entries result

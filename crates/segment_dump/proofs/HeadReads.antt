@@ -14,7 +14,6 @@ use Rattle.segment_lang.specs.Seen.{bytes_said, word_of}
 use Rattle.segment_lang.specs.Tokens.{next_word}
 use Rattle.segment_lang.specs.Words.{Word, Bare}
 use Rattle.segment_lang.specs.declared.words.Word.{Word as Held}
-use Rattle.segment_lang.specs.declared.words.Word.TheVariants as held
 use Rattle.segment_manager.specs.State.{State}
 use Rattle.segment_dump.specs.declared.building.Shape.{Shape}
 use Rattle.segment_dump.specs.Builders.{ReadsClass, ReadsShape, StartsNamed, StartsNext, StartsUnder}
@@ -22,17 +21,19 @@ use Rattle.segment_dump.specs.Building.{class_words, key_in, measure_words}
 use Rattle.segment_dump.specs.Filling.{IsNameIn}
 use Rattle.segment_dump.specs.Items.{Item, count_of_content, kind_of_content}
 use Rattle.segment_dump.specs.Lines.{IsWordOf, ReadsEnd, ReadsWord, any_word, bare, bare_word, text}
-use Rattle.segment_dump.proofs.ElementReads.{never-ok, ok-same}
+use Rattle.segment_dump.proofs.Found.{never-ok, ok-same}
 use Rattle.segment_dump.proofs.KindWords.{kind-named}
-use Rattle.segment_dump.proofs.NextWords.{bare-long, bare-test, blank-next, decimal-number, kind-next, name-next, number-next}
+use Rattle.segment_dump.proofs.NextWords.{bare-long, blank-next, decimal-number, kind-next, name-next, number-next}
+use Rattle.segment_dump.proofs.Words.{bare-test}
+use Rattle.segment_lang.specs.declared.words.Word.TheVariants as held
 
 -- ---- kind and count
 
 kind-there : (kind : Kind) (n : ℕ) → next_word (0x20 ∷ measure_words kind n) ≡ Some (Bare (kind_text kind), 0x20 ∷ decimal n)
 kind-there kind n = blank-next (measure_words kind n) ∙ kind-next kind (0x20 ∷ decimal n) refl
 
-count-there : NumbersAreDecimals → (n : ℕ) → n < 2 ^ 64 → next_word (0x20 ∷ decimal n) ≡ Some (Bare (decimal n), [])
-count-there law n h = blank-next (decimal n) ∙ ap next_word (sym (append-nil (decimal n))) ∙ number-next law n [] h refl
+count-there : (n : ℕ) → next_word (0x20 ∷ decimal n) ≡ Some (Bare (decimal n), [])
+count-there n = blank-next (decimal n) ∙ ap next_word (sym (append-nil (decimal n))) ∙ number-next n [] refl
 
 module _ {E : Type 0} (law : NumbersAreDecimals) (words : List ℕ) where
   pub shape-no_kind : (left : List ℕ) (e : E) (result : Result Shape E) → ReadsWord (kind_of_word (whole current)) words left (Err e) → ReadsShape words result
@@ -42,7 +43,7 @@ module _ {E : Type 0} (law : NumbersAreDecimals) (words : List ℕ) where
       → (k ≡ kind) × (r ≡ Ok n) × (last ≡ [])
   count-read left last k r h f kind n c t =
       let q = h.reads (Bare (kind_text kind)) (0x20 ∷ decimal n) kind (ap next_word t ∙ kind-there kind n) (kind-named kind) in
-      let u = f.reads (Bare (decimal n)) [] n (ap next_word q.1 ∙ count-there law n c) (decimal-number law n c) in
+      let u = f.reads (Bare (decimal n)) [] n (ap next_word q.1 ∙ count-there n) (decimal-number law n c) in
       (ok-same {E = E} k kind q.0, u.0, u.1)
 
   pub shape-no_count : (left last : List ℕ) (k : Kind) (e : E) (result : Result Shape E) → ReadsWord {E = E} (kind_of_word (whole current)) words left (Ok k) → ReadsWord number left last (Err e) → ReadsShape words result
@@ -65,12 +66,7 @@ class-same : (c d : Class) → class_text c ≡ class_text d → c ≡ d
 class-same Named Named e = refl
 class-same Unique Unique e = refl
 class-same Anonymous Anonymous e = refl
-class-same Named Unique e = absurd (omega (arith, ap (λ l. get_or l 0 0) e))
-class-same Named Anonymous e = absurd (omega (arith, ap (λ l. get_or l 0 0) e))
-class-same Unique Named e = absurd (omega (arith, ap (λ l. get_or l 0 0) e))
-class-same Unique Anonymous e = absurd (omega (arith, ap (λ l. get_or l 0 0) e))
-class-same Anonymous Named e = absurd (omega (arith, ap (λ l. get_or l 0 0) e))
-class-same Anonymous Unique e = absurd (omega (arith, ap (λ l. get_or l 0 0) e))
+class-same c d e = absurd (omega (arith, ap (λ l. get_or l 0 0) e))
 
 none-by : (c : Class) (bytes : List ℕ) → bytes ≢ codes "named" → bytes ≢ codes "unique" → bytes ≢ codes "anonymous" → bytes ≡ class_text c → ⊥
 none-by Named bytes n u a e = n e

@@ -1,6 +1,28 @@
 -- The lines of an object tell its name, its kind and its elements.
-use Rattle.std.proofs.Common.{◌≡◌, ◌≢◌, ℕ, ◌≤◌, ℤ, true, List, [], ◌∷◌, ◌++◌, drop, refl, sym, ap, subst, ◌∙◌, arith, append_assoc}
-use Rattle.std.specs.Prelude.{⊤, decimal}
+use Rattle.std.proofs.Common.{
+  ◌≡◌,
+  ◌≢◌,
+  ℕ,
+  ◌≤◌,
+  ℤ,
+  true,
+  List,
+  [],
+  ◌∷◌,
+  ◌++◌,
+  drop,
+  refl,
+  sym,
+  ap,
+  subst,
+  ◌∙◌,
+  arith,
+  append_assoc,
+  ◌<◌,
+  ◌^◌,
+  length,
+}
+use Rattle.std.specs.Prelude.{decimal}
 use Rattle.std.specs.List.{AllByRecursion, flat_map}
 use Rattle.seg_types.specs.declared.kinds.Class.{Class}
 use Rattle.seg_types.specs.declared.kinds.Class.TheVariants.{Anonymous, Named, Unique}
@@ -10,10 +32,12 @@ use Rattle.seg_types.specs.Kinds.{is_value}
 use Rattle.seg_types.specs.Texts.{kind_text, name_text, value_text}
 use Rattle.segment_dump.specs.Items.{Content, Scalars, Vector, String, Map, Strings, Item, count_of_content, kind_of_content}
 use Rattle.segment_dump.specs.Texts.{content_text, element_line, head_line, item_text, measure_text, pair_line, text_lines}
+use Rattle.segment_dump.specs.Filling.{AreBytes, IsBuildableContent, IsNameIn, IsPairOf}
 use Rattle.segment_dump.proofs.Codes.{Breaks, IsRow, Stops, heads, row-reads, tails, words-read}
 use Rattle.segment_dump.proofs.Quotes.{Any, names-read}
-use Rattle.segment_dump.proofs.TextPieces.{IsNoPiece, text-no_piece, texts-read}
-use Rattle.segment_dump.proofs.Words.{decimal-word, kinds-read, values-read}
+use Rattle.segment_dump.proofs.TextPieces.{texts-read}
+use Rattle.segment_dump.proofs.Words.{decimal-word, values-read}
+use Rattle.segment_dump.proofs.KindWords.{kinds-read}
 
 -- ---- what a text begins with
 
@@ -57,9 +81,6 @@ elements-row k = record {
   follows = λ z a p. tt;
 }
 
-abbrev pub IsPairOf : ScalarKind → ScalarKind → ℤ × ℤ → Type 0
-IsPairOf k v p = (is_value k p.0 ≡ true) × (is_value v p.1 ≡ true)
-
 pair-apart : (x y a : List ℕ) → x ++ 0x20 ∷ y ++ 0x0A ∷ [] ++ a ≡ x ++ 0x20 ∷ (y ++ 0x0A ∷ a)
 pair-apart x y a = append_assoc (x ++ 0x20 ∷ y) (0x0A ∷ []) a ∙ append_assoc x (0x20 ∷ y) (0x0A ∷ a)
 
@@ -78,38 +99,20 @@ pairs-row k v = record {
   follows = λ p a h. tt;
 }
 
-abbrev AnyText : List ℕ → Type 0
-AnyText bs = ⊤
+abbrev IsText : List ℕ → Type 0
+IsText bs = (length bs < 2 ^ 64) × AreBytes bs
 
-texts-row : IsRow text_lines AnyText IsNoPiece (IsFirst 0x20)
+texts-row : IsRow text_lines IsText Any (IsFirst 0x20)
 texts-row = record {
-  code = record { reads = λ bs cs a b p q f g e. texts-read bs cs a b f g e };
+  code = record { reads = λ bs cs a b p q f g e. texts-read bs cs a b p.0 q.0 e };
   begins = λ bs a p. record { more = drop 1 (text_lines bs ++ a); is = refl };
-  follows = λ bs a p. text-no_piece bs a;
+  follows = λ bs a p. tt;
 }
 
 -- ---- the elements of an object
 
--- they are values of its kind
-abbrev pub IsGoodContent : Content → Type 0
-IsGoodContent (Scalars k zs) = AllByRecursion (IsValueOf k) zs
-IsGoodContent (Vector k zs) = AllByRecursion (IsValueOf k) zs
-IsGoodContent (String bs) = ⊤
-IsGoodContent (Map k v ps) = AllByRecursion (IsPairOf k v) ps
-IsGoodContent (Strings ts) = ⊤
-
 line-stops : (a : List ℕ) → IsNoLine a → Stops Any (IsFirst 0x20) a
 line-stops a n = record { follows = tt; none = n.other }
-
-no-piece : (a : List ℕ) → IsNoLine a → IsNoPiece a
-no-piece a n = record { other = λ y e. n.other (record { more = 0x20 ∷ 0x20 ∷ y; is = e }) }
-
-text-stops : (a : List ℕ) → IsNoLine a → Stops IsNoPiece (IsFirst 0x20) a
-text-stops a n = record { follows = no-piece a n; none = n.other }
-
-all-texts : (ts : List (List ℕ)) → AllByRecursion AnyText ts
-all-texts [] = tt
-all-texts (t ∷ ts) = (tt, all-texts ts)
 
 -- two rows of elements of the same kind
 elements-read : (k l : ScalarKind) (ys zs : List ℤ) (a b : List ℕ) → k ≡ l → AllByRecursion (IsValueOf k) ys → AllByRecursion (IsValueOf l) zs → IsNoLine a → IsNoLine b
@@ -125,21 +128,27 @@ maps-read k l v w ps qs a b h i p q f g e =
     (subst (λ k. AllByRecursion (IsPairOf k w) ps) h (subst (λ v. AllByRecursion (IsPairOf k v) ps) i p)) q (line-stops a f) (line-stops b g)
     (ap (λ k. flat_map (pair_line k w) ps ++ a) (sym h) ∙ ap (λ v. flat_map (pair_line k v) ps ++ a) (sym i) ∙ e)
 
-strings-read : (ss ts : List (List ℕ)) (a b : List ℕ) → IsNoLine a → IsNoLine b → flat_map text_lines ss ++ a ≡ flat_map text_lines ts ++ b → (ss ≡ ts) × (a ≡ b)
-strings-read ss ts a b f g e =
-    row-reads text_lines AnyText IsNoPiece (IsFirst 0x20) texts-row ss ts a b (all-texts ss) (all-texts ts) (text-stops a f) (text-stops b g) e
+strings-read : (ss ts : List (List ℕ)) (a b : List ℕ) → AllByRecursion IsText ss → AllByRecursion IsText ts → IsNoLine a
+    → IsNoLine b
+    → flat_map text_lines ss ++ a ≡ flat_map text_lines ts ++ b → (ss ≡ ts) × (a ≡ b)
+strings-read ss ts a b p q f g e = row-reads text_lines IsText Any (IsFirst 0x20) texts-row ss ts a b p q
+    (line-stops a f) (line-stops b g) e
 
-contents-read : (c d : Content) (a b : List ℕ) → IsGoodContent c → IsGoodContent d → kind_of_content c ≡ kind_of_content d → IsNoLine a → IsNoLine b
+contents-read : (c d : Content) (a b : List ℕ) → IsBuildableContent c → IsBuildableContent d
+    → kind_of_content c ≡ kind_of_content d → IsNoLine a → IsNoLine b
     → content_text c ++ a ≡ content_text d ++ b → (c ≡ d) × (a ≡ b)
 contents-read (Scalars k ys) (Scalars l zs) a b p q h f g e =
-    let same : k ≡ l = cc in let r = elements-read k l ys zs a b same p q f g e in (λ i. Scalars (same i) (r.0 i), r.1)
+    let same : k ≡ l = cc in let r = elements-read k l ys zs a b same p.2 q.2 f g e in
+    (λ i. Scalars (same i) (r.0 i), r.1)
 contents-read (Vector k ys) (Vector l zs) a b p q h f g e =
-    let same : k ≡ l = cc in let r = elements-read k l ys zs a b same p q f g e in (λ i. Vector (same i) (r.0 i), r.1)
-contents-read (String bs) (String cs) a b p q h f g e = let r = texts-read bs cs a b (no-piece a f) (no-piece b g) e in (ap String r.0, r.1)
+    let same : k ≡ l = cc in let r = elements-read k l ys zs a b same p.1 q.1 f g e in
+    (λ i. Vector (same i) (r.0 i), r.1)
+contents-read (String bs) (String cs) a b p q h f g e = let r = texts-read bs cs a b p.0 q.0 e in (ap String r.0, r.1)
 contents-read (Map k v ps) (Map l w qs) a b p q h f g e =
     let keys : k ≡ l = cc in let values : v ≡ w = cc in
-    let r = maps-read k l v w ps qs a b keys values p q f g e in (λ i. Map (keys i) (values i) (r.0 i), r.1)
-contents-read (Strings ss) (Strings ts) a b p q h f g e = let r = strings-read ss ts a b f g e in (ap Strings r.0, r.1)
+    let r = maps-read k l v w ps qs a b keys values p.1 q.1 f g e in (λ i. Map (keys i) (values i) (r.0 i), r.1)
+contents-read (Strings ss) (Strings ts) a b p q h f g e = let r = strings-read ss ts a b p.1 q.1 f g e in
+    (ap Strings r.0, r.1)
 contents-read c d a b p q h f g e = absurd (cc)
 
 -- ---- kind and count
@@ -150,17 +159,19 @@ measure-apart = pair-apart
 measures-read : (k l : Kind) (m n : ℕ) (a b : List ℕ) → measure_text k m ++ a ≡ measure_text l n ++ b → (k ≡ l) × (a ≡ b)
 measures-read k l m n a b e =
     let r = kinds-read k l (0x20 ∷ (decimal m ++ 0x0A ∷ a)) (0x20 ∷ (decimal n ++ 0x0A ∷ b))
+    (parts-word (decimal m ++ 0x0A ∷ a)) (parts-word (decimal n ++ 0x0A ∷ b))
     (sym (measure-apart (kind_text k) (decimal m) a) ∙ e ∙ measure-apart (kind_text l) (decimal n) b) in
     let s = words-read (decimal m) (decimal n) (0x0A ∷ a) (0x0A ∷ b) (decimal-word m) (decimal-word n) (ends-line a) (ends-line b) (tails r.1) in
     (r.0, tails s.1)
 
 -- ---- an object
 
--- it is of a class, only named ones have names, and its elements are of its kind
+-- it is of a class, only named ones have names, and it can be made
 pub record IsGoodItem (c : Class) (i : Item) : Type 0 where
   pub class : i.class ≡ c
+  pub name : IsNameIn i.class i.name
   pub nameless : c ≢ Named → i.name ≡ []
-  pub content : IsGoodContent i.content
+  pub content : IsBuildableContent i.content
 
 -- its own line, its class as it is
 abbrev head_as : Class → Item → List ℕ
@@ -175,7 +186,7 @@ as-class c i h = ap (λ c. text_as c i) h
 abbrev measure_in : Content → List ℕ
 measure_in c = measure_text (kind_of_content c) (count_of_content c)
 
-bodies-read : (c d : Content) (a b : List ℕ) → IsGoodContent c → IsGoodContent d → IsNoLine a → IsNoLine b
+bodies-read : (c d : Content) (a b : List ℕ) → IsBuildableContent c → IsBuildableContent d → IsNoLine a → IsNoLine b
     → measure_in c ++ content_text c ++ a ≡ measure_in d ++ content_text d ++ b → (c ≡ d) × (a ≡ b)
 bodies-read c d a b p q f g e =
     let r = measures-read (kind_of_content c) (kind_of_content d) (count_of_content c) (count_of_content d) (content_text c ++ a) (content_text d ++ b)
@@ -191,7 +202,8 @@ record IsTold (c : Class) (i j : Item) (a b : List ℕ) : Type 0 where
   content : i.content ≡ j.content
   more : a ≡ b
 
-texts-told : (c : Class) (i j : Item) (a b : List ℕ) → IsGoodContent i.content → IsGoodContent j.content → IsNoLine a → IsNoLine b → text_as c i ++ a ≡ text_as c j ++ b → IsTold c i j a b
+texts-told : (c : Class) (i j : Item) (a b : List ℕ) → IsBuildableContent i.content → IsBuildableContent j.content
+    → IsNoLine a → IsNoLine b → text_as c i ++ a ≡ text_as c j ++ b → IsTold c i j a b
 texts-told Named i j a b p q f g e =
     let r = names-read i.name j.name (0x20 ∷ (measure_in i.content ++ content_text i.content ++ a)) (0x20 ∷ (measure_in j.content ++ content_text j.content ++ b))
     (parts-word (measure_in i.content ++ content_text i.content ++ a)) (parts-word (measure_in j.content ++ content_text j.content ++ b))

@@ -1,24 +1,45 @@
 -- The size that was asked for, and the objects that a text is the dump of.
-use Rattle.std.proofs.Common.{◌≡◌, ◌-◌, ◌<◌, ◌≤◌, ◌^◌, ℕ, Bool, true, false, nat_eq, List, [], ◌∷◌, Option, None, Some, Result, Ok, Err, refl, sym, ap, subst, ◌∙◌, arith, ◌+◌, nat_lt, length, if◌then◌else◌}
+use Rattle.std.proofs.Common.{
+  ◌≡◌,
+  ◌<◌,
+  ◌^◌,
+  ℕ,
+  Bool,
+  true,
+  false,
+  nat_eq,
+  List,
+  Option,
+  None,
+  Some,
+  Result,
+  Ok,
+  Err,
+  refl,
+  sym,
+  ap,
+  subst,
+  ◌∙◌,
+  arith,
+  ◌+◌,
+  nat_lt,
+  length,
+  if◌then◌else◌,
+}
 use Rattle.std.specs.Prelude.{IfOk, MatchResult, not}
 use Rattle.std.specs.Bool.{OnTrue}
 use Rattle.std.specs.List.{AllByRecursion}
-use Rattle.std.proofs.lemmas.Bool.{and_parts, eqb-true, false≢true, ltb-false, ltb-true}
-use Rattle.std.proofs.lemmas.Bool.Decides.{nat_tests}
+use Rattle.std.proofs.lemmas.Bool.{eqb-true, false≢true, ltb-false, ltb-true}
 use Rattle.block_tags.specs.Format.{is_legal_size}
-use Rattle.best_fit.specs.Extents.{is_proper, proper_from}
 use Rattle.seg_types.specs.declared.kinds.Class.{Class}
 use Rattle.seg_types.specs.declared.kinds.Class.TheVariants.{Anonymous, Named, Unique}
-use Rattle.seg_types.specs.Commands as asked
 use Rattle.segment_manager.specs.Answers.{Number}
 use Rattle.segment_manager.specs.declared.errors.CreateError.{CreateError}
-use Rattle.segment_manager.specs.declared.errors.CreateError.TheVariants as create
 use Rattle.segment_manager.specs.declared.errors.CreateRefused.{CreateRefused}
 use Rattle.segment_manager.specs.Calls.{IsNotCreated, IsWhy}
-use Rattle.segment_manager.specs.Directory.{Directory, live}
+use Rattle.segment_manager.specs.Directory.{Directory}
 use Rattle.segment_manager.specs.State.{State, StandsFor}
 use Rattle.segment_manager.specs.Step.{step}
-use Rattle.segment_manager.proofs.Laws.{live-size}
 use Rattle.segment_dump.specs.declared.counting.Count.{Count}
 use Rattle.segment_dump.specs.declared.faults.LoadError.{LoadError}
 use Rattle.segment_dump.specs.declared.faults.LoadError.TheVariants.{BadDump as Bad, BadSize, RegionTooSmall, NoSpace, LongText}
@@ -32,8 +53,11 @@ use Rattle.segment_dump.specs.Loading.{HasLongText, HasNoSpace, HasObjectsOf, Ha
 use Rattle.segment_dump.proofs.Elements.{free-is, size-is}
 use Rattle.segment_dump.proofs.ItemLines.{IsGoodItem}
 use Rattle.segment_dump.proofs.ObjectRooms.{segments-have-room}
-use Rattle.segment_dump.proofs.Sums.{never-some, some-same}
-use Rattle.segment_dump.proofs.Told.{dumps-tell-objects, portable-told}
+use Rattle.segment_dump.proofs.Found.{none-some, same_Some, ok-same}
+use Rattle.segment_dump.proofs.Told.{dumps-tell-objects, portable-told, size-most}
+use Rattle.segment_dump.proofs.Lists.{all-by}
+use Rattle.seg_types.specs.Commands as asked
+use Rattle.segment_manager.specs.declared.errors.CreateError.TheVariants as create
 
 module _ (s : State) (n m : ℕ) (says : (d : Directory) → StandsFor s.cut.bytes d → Number n ≡ (step s.mode d asked.Size).0) where
   size-if : (b : Bool) → nat_eq n m ≡ b → OnTrue b (HasSize s (Some m))
@@ -65,10 +89,7 @@ loaded text size s h = record { judged = h; objects = objects-of text h.said s h
 -- the text is wrong, and so it is that
 pub wrong-why : (text region : List ℕ) (base : ℕ) (size : Option ℕ) (room : ℕ) (cause : LoadError) → IsWrong text cause → IsWhyNot text region base size room cause
 wrong-why text region base size room (Bad bad) h = h
-wrong-why text region base size room BadSize h = absurd h
-wrong-why text region base size room RegionTooSmall h = absurd h
-wrong-why text region base size room NoSpace h = absurd h
-wrong-why text region base size room LongText h = absurd h
+wrong-why text region base size room cause h = absurd h
 
 -- one that was begun is let go
 pub let-go : (text region : List ℕ) (base : ℕ) (size : Option ℕ) (room : ℕ) (refused : LoadRefused) → IsLetGo text refused → IsNotLoaded text region base size room refused
@@ -93,18 +114,8 @@ not-created text region base size room n refused said a h e f = record {
 
 -- ---- too little of something for the objects of a segment
 
-legal-most : (n : ℕ) → is_legal_size n ≡ true → n ≤ 1073741824
-legal-most n e = grind (arith, nat_tests)
-
-pub size-most : (b : List ℕ) (d : Directory) → StandsFor b d → d.size ≤ 1073741824
-unfolding is_proper
-size-most b d s =
-    let legal = and_parts (is_legal_size (live d).size) (proper_from 128 (live d).extents ((live d).size - 16)) s.denotes.directory.proper in
-    legal-most d.size (ap is_legal_size (sym (live-size d)) ∙ legal.0)
-
 nameless-items : (c : Class) (is : List Item) → AllByRecursion (IsGoodItem c) is → AllByRecursion IsNameless is
-nameless-items c [] a = tt
-nameless-items c (i ∷ is) a = let good = a.0 in ((λ n. good.nameless (λ e. n (good.class ∙ e))), nameless-items c is a.1)
+nameless-items c is a = all-by (IsGoodItem c) IsNameless is a (λ i h n. h.nameless (λ e. n (h.class ∙ e)))
 
 -- what is portable of a directory can be counted
 pub portable-countable : (b : List ℕ) (d : Directory) → StandsFor b d → AreCountable (portable d)
@@ -116,9 +127,6 @@ portable-countable b d s =
       anonymous = nameless-items Anonymous (portable d).anonymous told.anonymous;
       small = omega (arith, segments-have-room b d s, size-most b d s);
     }
-
-ok-same : (x y : Count) → ◌≡◌ {A = Result Count ℕ} (Ok x) (Ok y) → x ≡ y
-ok-same x y e = cc
 
 -- what was counted is what the directory needs
 counted-is : (text : List ℕ) (count : Count) (b : List ℕ) (d : Directory) (n : ℕ) → CountsDump text (Ok count) → StandsFor b d → n < 2 ^ 64 → text ≡ dump_text n (portable d) → count ≡ record { size = n; needs = items_needs (portable d) }
@@ -146,14 +154,23 @@ lacks-by : (text region : List ℕ) (base : ℕ) (size : Option ℕ) (room : ℕ
     → nat_lt (length region) (base + asked_of size count.size) ≡ short → nat_lt (asked_of size count.size) count.needs.room ≡ full → nat_lt room count.needs.longest ≡ long → Lacks text region base size room count legal short full long cause
     → IsWhyNot text region base size room cause
 lacks-by text region base size room count false short full long cause h e f g k l =
-    subst (IsWhyNot text region base size room) (some-same BadSize cause l) (asked_of size count.size, asked-is size count.size, e)
+    subst (IsWhyNot text region base size room) (same_Some BadSize cause l)
+    (asked_of size count.size, asked-is size count.size, e)
 lacks-by text region base size room count true true full long cause h e f g k l =
-    subst (IsWhyNot text region base size room) (some-same RegionTooSmall cause l) (asked_of size count.size, asked-is size count.size, e, ltb-true (length region) (base + asked_of size count.size) f)
+    subst (IsWhyNot text region base size room) (same_Some RegionTooSmall cause l) (
+      asked_of size count.size,
+      asked-is size count.size,
+      e,
+      ltb-true (length region)
+          (base + asked_of size count.size) f,
+    )
 lacks-by text region base size room count true false true long cause h e f g k l =
-    subst (IsWhyNot text region base size room) (some-same NoSpace cause l) (no-space text size count h (ltb-true (asked_of size count.size) count.needs.room g))
+    subst (IsWhyNot text region base size room) (same_Some NoSpace cause l)
+    (no-space text size count h (ltb-true (asked_of size count.size) count.needs.room g))
 lacks-by text region base size room count true false false true cause h e f g k l =
-    subst (IsWhyNot text region base size room) (some-same LongText cause l) (long-text text room count h (ltb-true room count.needs.longest k))
-lacks-by text region base size room count true false false false cause h e f g k l = absurd (never-some cause l)
+    subst (IsWhyNot text region base size room) (same_Some LongText cause l)
+    (long-text text room count h (ltb-true room count.needs.longest k))
+lacks-by text region base size room count true false false false cause h e f g k l = absurd (none-some cause l)
 
 lacks-count : (text region : List ℕ) (base : ℕ) (size : Option ℕ) (room : ℕ) (count : Count) (cause : LoadError) → CountsDump text (Ok count) → refusal_for (length region) base size room count ≡ Some cause → IsWhyNot text region base size room cause
 lacks-count text region base size room count cause h e =
@@ -163,17 +180,14 @@ lacks-count text region base size room count cause h e =
 pub lacks : (text region : List ℕ) (base : ℕ) (size : Option ℕ) (room : ℕ) (counted : Result Count ℕ) (o : Option LoadError) (cause : LoadError) → CountsDump text counted → IsRefusalOf (length region) base size room counted o → o ≡ Some cause
     → IsWhyNot text region base size room cause
 lacks text region base size room (Ok count) o cause h r e = lacks-count text region base size room count cause h (sym r ∙ e)
-lacks text region base size room (Err left) o cause h r e = absurd (never-some cause (sym r ∙ e))
+lacks text region base size room (Err left) o cause h r e = absurd (none-some cause (sym r ∙ e))
 
 -- ---- exactly
 
 -- the text is wrong: that is no other reason
 pub wrong-bad : (text : List ℕ) (cause : LoadError) → IsWrong text cause → cause_but_bad cause ≡ None
 wrong-bad text (Bad bad) h = refl
-wrong-bad text BadSize h = absurd h
-wrong-bad text RegionTooSmall h = absurd h
-wrong-bad text NoSpace h = absurd h
-wrong-bad text LongText h = absurd h
+wrong-bad text cause h = absurd h
 
 pub made-wrong : (text : List ℕ) (capacity base : ℕ) (size : Option ℕ) (room : ℕ) (counted : Result Count ℕ) (cause : LoadError) → IsWrong text cause → IsMade capacity base size room counted (cause_but_bad cause)
 made-wrong text capacity base size room (Ok count) cause h = λ e. wrong-bad text cause h
@@ -186,8 +200,8 @@ made-judged text capacity base size room (Err left) r h = tt
 
 -- nothing is lacking, and so a segment is created
 none-legal : (legal short full long : Bool) → (if not legal then Some BadSize else if short then Some RegionTooSmall else if full then Some NoSpace else if long then Some LongText else None) ≡ None → (legal ≡ true) × (short ≡ false)
-none-legal false short full long e = absurd (never-some BadSize (sym e))
-none-legal true true full long e = absurd (never-some RegionTooSmall (sym e))
+none-legal false short full long e = absurd (none-some BadSize (sym e))
+none-legal true true full long e = absurd (none-some RegionTooSmall (sym e))
 none-legal true false full long e = (refl, refl)
 
 created-by : (region : List ℕ) (base n : ℕ) (cause : CreateError) → is_legal_size n ≡ true → nat_lt (length region) (base + n) ≡ false → IsWhy region base n cause → ⊥
@@ -205,11 +219,11 @@ made-created region base size room n said (Ok count) refused cause s e h = λ f.
 
 -- a reason that is none of the text
 but-bad : (legal short full long : Bool) (cause : LoadError) → (if not legal then Some BadSize else if short then Some RegionTooSmall else if full then Some NoSpace else if long then Some LongText else None) ≡ Some cause → cause_but_bad cause ≡ Some cause
-but-bad false short full long cause e = subst (λ c. cause_but_bad c ≡ Some c) (some-same BadSize cause e) refl
-but-bad true true full long cause e = subst (λ c. cause_but_bad c ≡ Some c) (some-same RegionTooSmall cause e) refl
-but-bad true false true long cause e = subst (λ c. cause_but_bad c ≡ Some c) (some-same NoSpace cause e) refl
-but-bad true false false true cause e = subst (λ c. cause_but_bad c ≡ Some c) (some-same LongText cause e) refl
-but-bad true false false false cause e = absurd (never-some cause e)
+but-bad false short full long cause e = subst (λ c. cause_but_bad c ≡ Some c) (same_Some BadSize cause e) refl
+but-bad true true full long cause e = subst (λ c. cause_but_bad c ≡ Some c) (same_Some RegionTooSmall cause e) refl
+but-bad true false true long cause e = subst (λ c. cause_but_bad c ≡ Some c) (same_Some NoSpace cause e) refl
+but-bad true false false true cause e = subst (λ c. cause_but_bad c ≡ Some c) (same_Some LongText cause e) refl
+but-bad true false false false cause e = absurd (none-some cause e)
 
 never-counted : (left : ℕ) (count : Count) → ◌≡◌ {A = Result Count ℕ} (Err left) (Ok count) → ⊥
 never-counted left count e = cc
@@ -234,7 +248,7 @@ exact-made text capacity base size room counted cause h z m = record { exact = e
 pub exact-refused : (text : List ℕ) (capacity base : ℕ) (size : Option ℕ) (room : ℕ) (counted : Result Count ℕ) (o : Option LoadError) (cause : LoadError) → CountsDump text counted → IsRefusalOf capacity base size room counted o → o ≡ Some cause
     → IsExact text capacity base size room (cause_but_bad cause)
 exact-refused text capacity base size room (Ok count) o cause h r e = exact-count text capacity base size room count cause h (sym r ∙ e)
-exact-refused text capacity base size room (Err left) o cause h r e = absurd (never-some cause (sym r ∙ e))
+exact-refused text capacity base size room (Err left) o cause h r e = absurd (none-some cause (sym r ∙ e))
 
 none-lacking : (capacity base : ℕ) (size : Option ℕ) (room : ℕ) (counted : Result Count ℕ) (o : Option LoadError) → IsRefusalOf capacity base size room counted o → o ≡ None → IfOk counted (λ (count : Count). refusal_for capacity base size room count ≡ None)
 none-lacking capacity base size room (Ok count) o r e = sym r ∙ e

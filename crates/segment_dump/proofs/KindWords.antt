@@ -1,8 +1,7 @@
 -- Kinds are words, and are found by them.
-use Rattle.std.proofs.Common.{◌≡◌, ℕ, true, nat_lt, Some, List, [], ◌∷◌, ◌++◌, refl}
+use Rattle.std.proofs.Common.{◌≡◌, ℕ, true, Some, List, ◌++◌, refl, ◌<◌, length, sym, ap, ◌∙◌, arith}
 use Rattle.std.specs.Prelude.{codes}
 use Rattle.std.specs.List.{list_all}
-use Rattle.std.proofs.lemmas.Bool.{and_parts, ltb-true}
 use Rattle.raw_region.specs.Format.{current}
 use Rattle.seg_types.specs.declared.kinds.Kind.{Kind}
 use Rattle.seg_types.specs.declared.kinds.Kind.TheVariants.{Scalar, Text, Vector, Map, Texts}
@@ -11,66 +10,58 @@ use Rattle.seg_types.specs.declared.kinds.ScalarKind.TheVariants.{Bool as BoolKi
 use Rattle.seg_types.specs.Texts.{kind_text, scalar_text}
 use Rattle.segment_lang.specs.Language.{whole}
 use Rattle.segment_lang.specs.Reading.{kind_named}
-use Rattle.segment_dump.proofs.Codes.{IsWord}
+use Rattle.segment_lang.specs.Words.{is_bare}
+use Rattle.segment_dump.proofs.Codes.{IsWord, Breaks, words-read}
+use Rattle.segment_dump.proofs.Lists.{AllByRecursion-append}
+use Rattle.segment_dump.proofs.Words.{AreBare, bare-test, bare-word}
+use Rattle.segment_dump.proofs.Found.{same_Some}
 
 -- ---- words
 
-word-test : (l : List ℕ) → list_all (nat_lt 0x20) l ≡ true → IsWord l
-word-test [] e = tt
-word-test (c ∷ cs) e = let p = and_parts (nat_lt 0x20 c) (list_all (nat_lt 0x20) cs) e in (ltb-true 0x20 c p.0, word-test cs p.1)
+scalar-bare : (k : ScalarKind) → AreBare (scalar_text k)
+scalar-bare BoolKind = bare-test (scalar_text BoolKind) refl
+scalar-bare k = bare-test (scalar_text k) refl
 
-word-both : (a b : List ℕ) → IsWord a → IsWord b → IsWord (a ++ b)
-word-both [] b p q = q
-word-both (c ∷ a) b p q = (p.0, word-both a b p.1 q)
+led-bare : (lead : List ℕ) (k : ScalarKind) (end : List ℕ) → list_all is_bare lead ≡ true → list_all is_bare end ≡ true → AreBare (lead ++ scalar_text k ++ end)
+led-bare lead k end e f = AllByRecursion-append (λ c. is_bare c ≡ true) (lead ++ scalar_text k) end
+    (AllByRecursion-append (λ c. is_bare c ≡ true) lead (scalar_text k) (bare-test lead e) (scalar-bare k))
+    (bare-test end f)
 
-scalar-word : (k : ScalarKind) → IsWord (scalar_text k)
-scalar-word BoolKind = word-test (scalar_text BoolKind) refl
-scalar-word U8 = word-test (scalar_text U8) refl
-scalar-word I32 = word-test (scalar_text I32) refl
-scalar-word I64 = word-test (scalar_text I64) refl
-scalar-word U64 = word-test (scalar_text U64) refl
-
-lead-word : (lead : List ℕ) (k : ScalarKind) (end : List ℕ) → list_all (nat_lt 0x20) lead ≡ true → list_all (nat_lt 0x20) end ≡ true → IsWord (lead ++ scalar_text k ++ end)
-lead-word lead k end e f = word-both (lead ++ scalar_text k) end (word-both lead (scalar_text k) (word-test lead e) (scalar-word k)) (word-test end f)
+pub kind-bare : (k : Kind) → AreBare (kind_text k)
+kind-bare (Scalar k) = scalar-bare k
+kind-bare Text = bare-test (codes "string") refl
+kind-bare (Vector k) = led-bare (codes "vec<") k (codes ">") refl refl
+kind-bare Texts = bare-test (codes "vec<string>") refl
+kind-bare (Map k v) =
+    let keys : AreBare (codes "map<" ++ scalar_text k ++ codes ",") = led-bare (codes "map<") k (codes ",") refl refl in
+    AllByRecursion-append (λ c. is_bare c ≡ true) (codes "map<" ++ scalar_text k ++ codes "," ++ scalar_text v)
+    (codes ">") (AllByRecursion-append (λ c. is_bare c ≡ true) (codes "map<" ++ scalar_text k ++ codes ",")
+    (scalar_text v) keys (scalar-bare v)) (bare-test (codes ">") refl)
 
 pub kind-word : (k : Kind) → IsWord (kind_text k)
-kind-word (Scalar k) = scalar-word k
-kind-word Text = word-test (codes "string") refl
-kind-word (Vector k) = lead-word (codes "vec<") k (codes ">") refl refl
-kind-word Texts = word-test (codes "vec<string>") refl
-kind-word (Map k v) =
-    let keys : IsWord (codes "map<" ++ scalar_text k ++ codes ",") = lead-word (codes "map<") k (codes ",") refl refl in
-    word-both (codes "map<" ++ scalar_text k ++ codes "," ++ scalar_text v) (codes ">") (word-both (codes "map<" ++ scalar_text k ++ codes ",") (scalar_text v) keys (scalar-word v)) (word-test (codes ">") refl)
+kind-word k = bare-word (kind_text k) (kind-bare k)
+
+scalar-long : (k : ScalarKind) → 0 < length (scalar_text k)
+scalar-long BoolKind = omega arith
+scalar-long k = omega arith
+
+pub kind-long : (k : Kind) → 0 < length (kind_text k)
+kind-long (Scalar k) = scalar-long k
+kind-long Text = omega arith
+kind-long (Vector k) = omega arith
+kind-long Texts = omega arith
+kind-long (Map k v) = omega arith
 
 -- ---- the kind of its word
 
 map-named : (k v : ScalarKind) → kind_named (whole current) (kind_text (Map k v)) ≡ Some (Map k v)
 unfolding kind_named current
 map-named BoolKind BoolKind = refl
-map-named BoolKind U8 = refl
-map-named BoolKind I32 = refl
-map-named BoolKind I64 = refl
-map-named BoolKind U64 = refl
-map-named U8 BoolKind = refl
 map-named U8 U8 = refl
-map-named U8 I32 = refl
-map-named U8 I64 = refl
-map-named U8 U64 = refl
-map-named I32 BoolKind = refl
-map-named I32 U8 = refl
 map-named I32 I32 = refl
-map-named I32 I64 = refl
-map-named I32 U64 = refl
-map-named I64 BoolKind = refl
-map-named I64 U8 = refl
-map-named I64 I32 = refl
 map-named I64 I64 = refl
-map-named I64 U64 = refl
-map-named U64 BoolKind = refl
-map-named U64 U8 = refl
-map-named U64 I32 = refl
-map-named U64 I64 = refl
 map-named U64 U64 = refl
+map-named k v = refl
 
 pub kind-named : (k : Kind) → kind_named (whole current) (kind_text k) ≡ Some k
 unfolding kind_named current
@@ -87,3 +78,10 @@ kind-named (Vector I64) = refl
 kind-named (Vector U64) = refl
 kind-named Texts = refl
 kind-named (Map k v) = map-named k v
+
+-- so it tells the kind
+pub kinds-read : (k l : Kind) (a b : List ℕ) → Breaks a → Breaks b → kind_text k ++ a ≡ kind_text l ++ b
+    → (k ≡ l) × (a ≡ b)
+kinds-read k l a b f g e =
+    let r = words-read (kind_text k) (kind_text l) a b (kind-word k) (kind-word l) f g e in
+    (same_Some k l (sym (kind-named k) ∙ ap (kind_named (whole current)) r.0 ∙ kind-named l), r.1)

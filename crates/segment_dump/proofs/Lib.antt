@@ -1,4 +1,6 @@
 mod Examples
+mod Lists
+mod Found
 mod Codes
 mod Words
 mod Quotes

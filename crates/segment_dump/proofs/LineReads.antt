@@ -10,27 +10,14 @@ use Rattle.segment_lang.specs.Tokens.{next_word}
 use Rattle.segment_lang.specs.Words.{Word, Bare, Text, number_of}
 use Rattle.segment_dump.specs.Lines.{ReadsLine, ReadsThis, ReadsWord, any_word, bare_word}
 use Rattle.segment_dump.specs.Reads.{HasNoEnd, ended}
-
-lt-test : (m n : ℕ) → m < n → nat_lt m n ≡ true
-lt-test m n h = grind (arith, nat_tests)
-
-never-ok : {X E : Type 0} (e : E) (x : X) → ◌≡◌ {A = Result X E} (Err e) (Ok x) → ⊥
-never-ok e x q = cc
-
-ok-same : {X E : Type 0} (x y : X) → ◌≡◌ {A = Result X E} (Ok x) (Ok y) → x ≡ y
-ok-same x y q = cc
-
-never-some : {X : Type 0} (x : X) → ◌≡◌ {A = Option X} None (Some x) → ⊥
-never-some x q = cc
-
-some-same : {X : Type 0} (x y : X) → Some x ≡ Some y → x ≡ y
-some-same x y q = cc
+use Rattle.std.proofs.lemmas.Bool.{lt-ltb}
+use Rattle.segment_dump.proofs.Found.{never-ok, none-some, ok-same, same_Some}
 
 -- ---- a word
 
 no-bare : {E : Type 0} (text rest : List ℕ) (e : E) (w : Word) (a : List ℕ) (x : ℕ) → ReadsWord bare_word text rest (Err e) → next_word text ≡ Some (w, a) → number w ≡ Some x → ⊥
 no-bare text rest e (Bare v) a x h f g = never-ok e v (h.reads (Bare v) a v f refl).0
-no-bare text rest e (Text v) a x h f g = never-some x g
+no-bare text rest e (Text v) a x h f g = none-some x g
 
 module _ {E : Type 0} (text rest : List ℕ) where
   -- none was read
@@ -43,7 +30,7 @@ module _ {E : Type 0} (text rest : List ℕ) where
     reads = λ v a x f g.
         let r = h.reads v a v f refl in
         let same : w ≡ v = ok-same {E = E} w v r.0 in
-        let is : y ≡ x = some-same y x (sym e ∙ ap value same ∙ g) in
+        let is : y ≡ x = same_Some y x (sym e ∙ ap value same ∙ g) in
         (ap Ok is, r.1);
   }
 
@@ -53,7 +40,7 @@ module _ {E : Type 0} (text rest : List ℕ) where
     reads = λ v a x f g.
         let r = h.reads v a v f refl in
         let same : w ≡ v = ok-same {E = E} w v r.0 in
-        absurd (never-some x (sym e ∙ ap value same ∙ g));
+        absurd (none-some x (sym e ∙ ap value same ∙ g));
   }
 
   -- ---- a number
@@ -66,17 +53,20 @@ module _ {E : Type 0} (text rest : List ℕ) where
       let r = h.reads (Bare v) a v f refl in
       let same : bytes ≡ v = ok-same {E = E} bytes v r.0 in
       (q ∙ ap number_of same ∙ g, r.1)
-  number-in bytes o (Text v) a x h q f g = absurd (never-some x g)
+  number-in bytes o (Text v) a x h q f g = absurd (none-some x g)
 
   pub this-number : (bytes : List ℕ) (n : ℕ) (o : Option ℕ) → ReadsWord {E = E} bare_word text rest (Ok bytes) → o ≡ number_of bytes → o ≡ Some n → ReadsWord {E = E} number text rest (Ok n)
   this-number bytes n o h q e = record {
     reads = λ w a x f g.
         let r = number-in bytes o w a x h q f g in
-        (ap Ok (some-same n x (sym e ∙ r.0)), r.1);
+        (ap Ok (same_Some n x (sym e ∙ r.0)), r.1);
   }
 
   pub other-number : (bytes : List ℕ) (o : Option ℕ) (result : Result ℕ E) → ReadsWord {E = E} bare_word text rest (Ok bytes) → o ≡ number_of bytes → o ≡ None → ReadsWord number text rest result
-  other-number bytes o result h q e = record { reads = λ w a x f g. absurd (never-some x (sym e ∙ (number-in bytes o w a x h q f g).0)) }
+  other-number bytes o result h q e = record {
+    reads = λ w a x f g. absurd
+        (none-some x (sym e ∙ (number-in bytes o w a x h q f g).0));
+  }
 
   -- ---- this word
 
@@ -117,13 +107,14 @@ line-end text line a h e =
     let whole : text ≡ line ++ 0x0A ∷ a = e ∙ ended-apart line a in
     let at : position_or_len is_end text ≡ length line = ap (position_or_len is_end) whole ∙ end-of-line line a h in
     let long : length text ≡ length line + suc (length a) = ap length whole ∙ length-append line (0x0A ∷ a) in
-    let inside : nat_lt (position_or_len is_end text) (length text) ≡ true = lt-test (position_or_len is_end text) (length text) (omega (arith, at, long)) in
+    let inside : nat_lt (position_or_len is_end text) (length text) ≡ true = lt-ltb (position_or_len is_end text)
+    (length text) (omega (arith, at, long)) in
     ap (λ b. cond b (Some (position_or_len is_end text)) None) inside ∙ ap Some at
 
 line-cut : (text line a : List ℕ) (n : ℕ) → HasNoEnd line → text ≡ ended line ++ a → position is_end text ≡ Some n → IsCut text n line a
 line-cut text line a n h e p =
     let whole : text ≡ line ++ 0x0A ∷ a = e ∙ ended-apart line a in
-    let long : n ≡ length line = some-same n (length line) (sym p ∙ line-end text line a h e) in
+    let long : n ≡ length line = same_Some n (length line) (sym p ∙ line-end text line a h e) in
     record {
       long = long;
       front = (λ i. take (long i) (whole i)) ∙ take-append_seam line (0x0A ∷ a);
@@ -132,7 +123,10 @@ line-cut text line a n h e p =
 
 module _ {E : Type 0} (text : List ℕ) where
   pub no-line : (rest : List ℕ) (o : Option ℕ) (result : Result (List ℕ) E) → o ≡ position is_end text → o ≡ None → ReadsLine text rest result
-  no-line rest o result p e = record { reads = λ line a h s f. absurd (never-some (length line) (sym e ∙ p ∙ line-end text line a h f)) }
+  no-line rest o result p e = record {
+    reads = λ line a h s f. absurd
+        (none-some (length line) (sym e ∙ p ∙ line-end text line a h f));
+  }
 
   pub long-line : (rest front : List ℕ) (o : Option ℕ) (n : ℕ) (result : Result (List ℕ) E) → o ≡ position is_end text → o ≡ Some n → front ≡ take n text → 4096 < length front → ReadsLine text rest result
   long-line rest front o n result p e f l = record {

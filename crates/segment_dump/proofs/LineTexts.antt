@@ -1,12 +1,41 @@
 -- The lines of a dump: none has an end in it, none is long, and each is read word by word.
-use Rattle.std.proofs.Common.{◌≡◌, ℕ, zero, suc, ◌+◌, ◌*◌, ◌/◌, ◌%◌, ◌≤◌, ◌==◌, ◌||◌, ℤ, pos, negsuc, Bool, true, false, nat_lt, List, [], ◌∷◌, ◌++◌, length, drop, if◌then◌else◌, refl, sym, ap, arith, append_assoc}
+use Rattle.std.proofs.Common.{
+  ◌≡◌,
+  ℕ,
+  zero,
+  suc,
+  ◌+◌,
+  ◌*◌,
+  ◌/◌,
+  ◌%◌,
+  ◌≤◌,
+  ◌==◌,
+  ◌||◌,
+  ℤ,
+  pos,
+  negsuc,
+  Bool,
+  true,
+  false,
+  nat_lt,
+  List,
+  [],
+  ◌∷◌,
+  ◌++◌,
+  length,
+  drop,
+  if◌then◌else◌,
+  sym,
+  ap,
+  arith,
+  append_assoc,
+}
 use Rattle.std.specs.Prelude.{codes, decimal, flat_map, nat_abs}
 use Rattle.std.specs.Fmt.{digit_glyph, digits, digits_onto, signed_decimal}
 use Rattle.std.proofs.lemmas.List.{length-append, length-take}
 use Rattle.seg_types.specs.declared.kinds.Kind.{Kind}
-use Rattle.seg_types.specs.declared.kinds.Kind.TheVariants as kinds
 use Rattle.seg_types.specs.declared.kinds.ScalarKind.{ScalarKind}
-use Rattle.seg_types.specs.declared.kinds.ScalarKind.TheVariants.{Bool as BoolKind, U8, I32, I64, U64}
+use Rattle.seg_types.specs.declared.kinds.ScalarKind.TheVariants.{Bool as BoolKind}
 use Rattle.seg_types.specs.Texts.{between, escape_text, is_bare_name, item_text, kind_text, name_text, quoted_text, scalar_text, value_text}
 use Rattle.segment_dump.specs.Building.{measure_words}
 use Rattle.segment_dump.specs.Lines.{IsShortLine}
@@ -15,6 +44,7 @@ use Rattle.segment_dump.specs.Texts.{length_text, piece_lead, piece_line, piece_
 use Rattle.segment_dump.proofs.ContentLines.{blanks-no_end, lead-no_end, no_end-both, pair_front, piece_front, quoted-no_end, word-no_end}
 use Rattle.segment_dump.proofs.KindWords.{kind-word}
 use Rattle.segment_dump.proofs.Words.{decimal-word, value-word}
+use Rattle.seg_types.specs.declared.kinds.Kind.TheVariants as kinds
 
 -- ---- how long
 
@@ -41,17 +71,11 @@ truth-short false = omega arith
 
 pub value-short : (k : ScalarKind) (z : ℤ) → length (value_text k z) ≤ 65
 value-short BoolKind z = truth-short (nat_lt 0 (nat_abs z))
-value-short U8 z = signed-short z
-value-short I32 z = signed-short z
-value-short I64 z = signed-short z
-value-short U64 z = signed-short z
+value-short k z = signed-short z
 
 scalar-short : (k : ScalarKind) → length (scalar_text k) ≤ 4
 scalar-short BoolKind = omega arith
-scalar-short U8 = omega arith
-scalar-short I32 = omega arith
-scalar-short I64 = omega arith
-scalar-short U64 = omega arith
+scalar-short k = omega arith
 
 pub kind-short : (k : Kind) → length (kind_text k) ≤ 20
 kind-short (kinds.Scalar k) = omega (arith, scalar-short k)
@@ -137,7 +161,3 @@ measure-no_end kind n = no_end-both (kind_text kind) (0x20 ∷ decimal n) (word-
 
 pub measure-short : (kind : Kind) (n : ℕ) → length (measure_words kind n) ≤ 85
 measure-short kind n = omega (arith, kind-short kind, decimal-short n, length-append (kind_text kind) (0x20 ∷ decimal n))
-
-name-no_end : (name : List ℕ) (b : Bool) → HasNoEnd (quoted_text name) → (b ≡ true → HasNoEnd name) → HasNoEnd (if b then name else quoted_text name)
-name-no_end name true q h = h refl
-name-no_end name false q h = q

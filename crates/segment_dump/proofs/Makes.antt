@@ -1,32 +1,65 @@
 -- An object of a line is made, with nothing in it.
-use Rattle.std.proofs.Common.{◌≡◌, inl, ℕ, ◌+◌, ◌*◌, ◌^◌, ◌<◌, pos, List, length, replicate, Result, Ok, Err, refl, sym, ap, subst, ◌∙◌, arith}
+use Rattle.std.proofs.Common.{
+  ◌≡◌,
+  inl,
+  ℕ,
+  ◌+◌,
+  ◌*◌,
+  ◌^◌,
+  ◌<◌,
+  pos,
+  List,
+  length,
+  replicate,
+  Result,
+  Ok,
+  Err,
+  refl,
+  sym,
+  ap,
+  subst,
+  ◌∙◌,
+  arith,
+  ◌∷◌,
+  [],
+}
 use Rattle.std.proofs.lemmas.List.{length-replicate}
 use Rattle.seg_types.specs.declared.kinds.Class.{Class}
 use Rattle.seg_types.specs.declared.kinds.Class.TheVariants.{Anonymous, Named, Unique}
 use Rattle.seg_types.specs.declared.kinds.Kind.{Kind}
-use Rattle.seg_types.specs.declared.kinds.Kind.TheVariants as kinds
 use Rattle.seg_types.specs.declared.refusals.Refusal.{Refusal}
-use Rattle.seg_types.specs.Commands as asked
 use Rattle.seg_types.specs.Kinds.{size_of}
 use Rattle.seg_types.specs.Names.{Key}
 use Rattle.seg_map.specs.Map.{node_len}
-use Rattle.segment_manager.specs.Answers.{Answer, Made}
+use Rattle.segment_manager.specs.Answers.{Made}
 use Rattle.segment_manager.specs.Directory.{Directory, object_len, padded, value_len}
 use Rattle.segment_manager.specs.Layout.{head_len}
 use Rattle.segment_manager.specs.Plan.{bare, class_of, name_of}
-use Rattle.segment_manager.specs.State.{IsStep, State, StandsFor, handle_answer}
+use Rattle.segment_manager.specs.State.{IsStep, State, handle_answer}
 use Rattle.segment_dump.specs.declared.building.Shape.{Shape}
 use Rattle.segment_dump.specs.Builders.{HasPlace, IsCountOf, IsNext, ReadsShape, StartsUnder, content_need, first_content}
 use Rattle.segment_dump.specs.Building.{IsBuilt, IsFilling, IsRest, Site, item_key, key_in}
 use Rattle.segment_dump.specs.Filling.{IsBuildableContent, IsNameIn, StandsFilling}
 use Rattle.segment_dump.specs.Items.{Content, Item, Map, Scalars, String, Strings, Vector, count_of_content, kind_of_content}
-use Rattle.segment_dump.specs.Need.{block_room, body_len, elements_room, item_needs, object_room, texts_needs}
+use Rattle.segment_dump.specs.Need.{
+  block_room,
+  body_len,
+  elements_room,
+  item_needs,
+  object_room,
+  texts_needs,
+  all_needs,
+}
+use Rattle.segment_manager.specs.declared.modes.Mode.TheVariants.{Write}
+use Rattle.segment_manager.specs.Step.{step}
 use Rattle.segment_dump.proofs.Builds.{HasEntry, IsPlain, made, map-plain, numbers-plain, string-plain, texts-plain, vector-plain}
-use Rattle.segment_dump.proofs.ElementReads.{never-ok, ok-same}
-use Rattle.segment_dump.proofs.Fillings.{times-rest, writing}
+use Rattle.segment_dump.proofs.Found.{never-ok, ok-same}
+use Rattle.segment_dump.proofs.Fillings.{led, times-rest, texts-rest}
 use Rattle.segment_dump.proofs.Orders.{named-len, new-none, unique-len}
-use Rattle.segment_dump.proofs.Spaces.{block-rest, rest-both}
-use Rattle.segment_dump.proofs.Starts.{texts-rest}
+use Rattle.segment_dump.proofs.Spaces.{block-rest, rest-both, needs-rest}
+use Rattle.segment_dump.proofs.Fills.{StepsTo}
+use Rattle.seg_types.specs.declared.kinds.Kind.TheVariants as kinds
+use Rattle.seg_types.specs.Commands as asked
 
 -- ---- the key of an item
 
@@ -87,13 +120,16 @@ needs-apart i name e =
     let len : object_len name (bare (first_content kind n)) ≡ head_len + padded (length i.name) + body_len kind n = (λ j. head_len + padded (length (e j)) + first-len kind n j) in
     omega (arith, ap block_room len)
 
-pub item-rest : (i : Item) → IsRest (item_needs i).room
+item-rest : (i : Item) → IsRest (item_needs i).room
 item-rest i =
     let kind = kind_of_content i.content in
     let n = count_of_content i.content in
     let content = first_content kind n in
     let own : ℕ = object_len i.name (bare content) in
     subst IsRest (sym (needs-apart i i.name refl)) (rest-both (block_room own) (content_need i.content) (block-rest own) (rest-both (elements_room kind n) (texts_needs i.content).room (elements-rest kind n) (content-rest i.content)))
+
+pub items-rest : (is : List Item) → IsRest (all_needs item_needs is).room
+items-rest is = needs-rest item_needs item-rest is
 
 -- ---- a place in the index
 
@@ -130,17 +166,22 @@ new-object old new site done i more room called next moved =
     let r : IsRest rest = rest-both (content_need i.content) more (rest-both (elements_room kind n) (texts_needs i.content).room (elements-rest kind n) (content-rest i.content)) next.rest in
     let entry : HasEntry d (class_of key) = subst (HasEntry d) (sym class) (entry-in d site done ((item_needs i).room + more) i.class s.built next.place) in
     let m = made d site done key content rest s.stands.denotes.directory (new-none d done i s.built.items next.new) entry (first-plain kind n) (omega arith) built r in
-    let w = writing old new (asked.Construct key content) (handle_answer called) s.mode moved in
-    let answer : handle_answer called ≡ Made m.handle = w.answers d s.stands ∙ ap (λ (o : Answer × Directory). o.0) m.is in
+    let done' : StepsTo (step Write d (asked.Construct key content)) (Made m.handle)
+    (λ e. IsFilling e site done (record { class = class_of key; name = name_of key; handle = m.handle })
+    (bare content) rest) =
+    record { next = m.next; is = m.is; holds = m.filling } in
+    let u = led s.stands s.mode _ moved done' in
     record {
       handle = m.handle;
-      is = made-handle called m.handle answer;
+      is = made-handle called m.handle u.given_is;
       stands = record {
-        directory = m.next;
-        stands = subst (λ (o : Answer × Directory). StandsFor new.cut.bytes o.1) m.is (w.denotes d s.stands);
-        mode = w.stays.mode ∙ s.mode;
-        filling = subst (λ l. IsFilling m.next site done (record { class = i.class; name = l; handle = m.handle }) (bare content) rest) name
-            (subst (λ c. IsFilling m.next site done (record { class = c; name = name_of key; handle = m.handle }) (bare content) rest) class m.filling);
+        directory = u.directory;
+        stands = u.stands;
+        mode = u.mode;
+        filling = subst (λ l. IsFilling u.directory site done (record { class = i.class; name = l; handle = m.handle })
+            (bare content) rest) name
+            (subst (λ c. IsFilling u.directory site done (record { class = c; name = name_of key; handle = m.handle })
+            (bare content) rest) class u.holds);
       };
     }
 

@@ -1,5 +1,25 @@
 -- The objects of the lists of a directory: each is found by its handle.
-use Rattle.std.proofs.Common.{◌≡◌, refl, sym, ap, subst, ◌∙◌, ℕ, ◌+◌, ◌≤◌, zero, suc, Bool, true, false, Some, None, List, [], ◌∷◌, cond, arith}
+use Rattle.std.proofs.Common.{
+  ◌≡◌,
+  refl,
+  sym,
+  ap,
+  subst,
+  ◌∙◌,
+  ℕ,
+  ◌+◌,
+  ◌≤◌,
+  zero,
+  suc,
+  true,
+  false,
+  Some,
+  List,
+  [],
+  ◌∷◌,
+  cond,
+  arith,
+}
 use Rattle.std.specs.Prelude.{IsTrue, filter, find, nat_le, slice_get}
 use Rattle.std.specs.List.{AllByRecursion}
 use Rattle.std.proofs.lemmas.Bool.{and_parts, eq-eqb, leb-true, ne_eqb}
@@ -14,6 +34,8 @@ use Rattle.segment_manager.specs.Instances.{IsInstance, SaysAt, SaysOf}
 use Rattle.segment_manager.specs.State.{State, StandsFor}
 use Rattle.segment_manager.proofs.Laws.{all-ordered}
 use Rattle.segment_dump.specs.Parts.{part_of}
+use Rattle.segment_dump.proofs.Lists.{all-kept}
+use Rattle.segment_dump.proofs.Found.{none-some}
 
 -- ---- a list that rises by offset has each handle once
 
@@ -23,9 +45,6 @@ rises-front n o os h = leb-true n o.extent.offset (and_parts (nat_le n o.extent.
 
 rises-rest : (n : ℕ) (o : Object) (os : List Object) → IsTrue (rises_from n (o ∷ os)) → IsTrue (rises_from (o.extent.offset + 1) os)
 rises-rest n o os h = (and_parts (nat_le n o.extent.offset) (rises_from (o.extent.offset + 1) os) h).1
-
-none-some : {X : Type 0} (x : X) → None ≡ Some x → ⊥
-none-some x e = cc
 
 rises-at : (n : ℕ) (os : List Object) (j : ℕ) (o : Object) → IsTrue (rises_from n os) → slice_get os j ≡ Some o → n ≤ o.extent.offset
 rises-at n [] j o h e = absurd (none-some o e)
@@ -59,14 +78,6 @@ from-places : (P : Object → Type 0) (os : List Object) → ((j : ℕ) (o : Obj
 from-places P [] h = tt
 from-places P (p ∷ ps) h = (h zero p refl, from-places P ps (λ j o e. h (suc j) o e))
 
-filtered-if : (P : Object → Type 0) (b : Bool) (p : Object) (ps : List Object) → P p → AllByRecursion P ps → AllByRecursion P (cond b (p ∷ ps) ps)
-filtered-if P true p ps h a = (h, a)
-filtered-if P false p ps h a = a
-
-filtered : (P : Object → Type 0) (test : Object → Bool) (os : List Object) → AllByRecursion P os → AllByRecursion P (filter test os)
-filtered P test [] a = tt
-filtered P test (p ∷ ps) a = filtered-if P (test p) p (filter test ps) a.0 (filtered P test ps a.1)
-
 -- ---- the three lists
 
 -- the directory has the object under its handle
@@ -78,7 +89,7 @@ module _ (b : List ℕ) (d : Directory) (st : StandsFor b d) where
   all-objects = from-places (IsFoundIn d) d.objects (λ j o e. found-at 0 d.objects j o st.denotes.directory.by_offset e)
 
   all-of-class : (c : Class) → AllByRecursion (IsFoundIn d) (filter (is_class c) d.objects)
-  all-of-class c = filtered (IsFoundIn d) (is_class c) d.objects all-objects
+  all-of-class c = all-kept (IsFoundIn d) (IsFoundIn d) (is_class c) (λ o e f. f) d.objects all-objects
 
   pub all-named : AllByRecursion (IsFoundIn d) (named_objects d)
   all-named = all-ordered (IsFoundIn d) Named by_name d.objects (all-of-class Named)

@@ -16,7 +16,7 @@ use Rattle.segment_dump.specs.Parts.{parts_until}
 use Rattle.segment_dump.specs.Reads.{HasNoEnd, ended, lines_text}
 use Rattle.segment_dump.specs.Texts.{content_text, dump_text, element_line, end_text, front_text, head_line, item_text, items_text, length_text, pair_line, piece_lead, piece_line, piece_of, pieces_in, pieces_text, text_lines}
 use Rattle.segment_dump.proofs.BuildLines.{class-no_end}
-use Rattle.segment_dump.proofs.ContentLines.{no_end-both, word-no_end}
+use Rattle.segment_dump.proofs.ContentLines.{no_end-both, word-no_end, no_end-test}
 use Rattle.segment_dump.proofs.KindWords.{kind-word}
 use Rattle.segment_dump.proofs.NoteLines.{cut-notes, ends-behind, ends-last, kept}
 use Rattle.segment_dump.proofs.Words.{decimal-word}
@@ -124,49 +124,16 @@ notes-are (l ∷ ls) h = note-then l (lines_text ls) h.0 (notes-are ls h.1)
 pub notes-are-left-out : NotesAreLeftOut
 notes-are-left-out n items notes h = left-out n items (lines_text notes) (notes-are notes h)
 
-lead-no_end : HasNoEnd (codes " capacity of ")
-lead-no_end = (
-  (λ e. omega arith),
-  (
-    (λ e. omega arith),
-    (
-      (λ e. omega arith),
-      (
-        (λ e. omega arith),
-        (
-          (λ e. omega arith),
-          (
-            (λ e. omega arith),
-            (
-              (λ e. omega arith),
-              (
-                (λ e. omega arith),
-                (
-                  (λ e. omega arith),
-                  (
-                    (λ e. omega arith),
-                    ((λ e. omega arith), ((λ e. omega arith), ((λ e. omega arith), tt))),
-                  ),
-                ),
-              ),
-            ),
-          ),
-        ),
-      ),
-    ),
-  ),
-)
-
 holder-no_end : (h : Holder) → HasNoEnd (holder_text h)
-holder-no_end Names = ((λ e. omega arith), ((λ e. omega arith), ((λ e. omega arith), ((λ e. omega arith), ((λ e. omega arith), tt)))))
-holder-no_end Kinds = ((λ e. omega arith), ((λ e. omega arith), ((λ e. omega arith), ((λ e. omega arith), ((λ e. omega arith), tt)))))
+holder-no_end Names = no_end-test (codes "names") refl
+holder-no_end Kinds = no_end-test (codes "kinds") refl
 holder-no_end (Holds class name kind) = no_end-both (class_words class name) (kind_text kind) (class-no_end class name) (word-no_end (kind_text kind) (kind-word kind))
 
 capacity-note : (c : Capacity) → IsNote (capacity_words c)
 capacity-note c = record {
   words = codes " capacity of " ++ (holder_text c.holder ++ (codes ": " ++ decimal c.places));
   begins = refl;
-  one = no_end-both (codes " capacity of ") _ lead-no_end
+  one = no_end-both (codes " capacity of ") _ (no_end-test (codes " capacity of ") refl)
       (no_end-both (holder_text c.holder) _ (holder-no_end c.holder) ((λ e. omega arith), ((λ e. omega arith), word-no_end (decimal c.places) (decimal-word c.places))));
 }
 

@@ -1,26 +1,23 @@
 -- What is counted of an object, of all objects, and of a dump.
 use Rattle.std.proofs.Common.{◌≡◌, ℕ, ◌+◌, ◌*◌, ◌<◌, ◌≤◌, List, [], ◌∷◌, ◌++◌, length, Option, Some, None, refl, sym, ap, ◌∙◌, arith, append_assoc}
 use Rattle.std.specs.Prelude.{codes}
-use Rattle.std.proofs.Math.Nat.{le-mul_of_pos_right}
 use Rattle.seg_types.specs.declared.kinds.Class.{Class}
 use Rattle.seg_types.specs.declared.kinds.Class.TheVariants.{Anonymous, Named, Unique}
 use Rattle.seg_types.specs.declared.kinds.Kind.{Kind}
-use Rattle.seg_types.specs.declared.kinds.ScalarKind.{ScalarKind}
-use Rattle.seg_types.specs.declared.kinds.ScalarKind.TheVariants.{Bool as BoolKind, U8, I32, I64, U64}
 use Rattle.seg_types.specs.Kinds.{size_of}
 use Rattle.seg_types.specs.Texts.{name_text}
-use Rattle.seg_map.specs.Map.{node_len}
 use Rattle.segment_manager.specs.Layout.{head_len}
 use Rattle.segment_manager.specs.Directory.{padded}
 use Rattle.segment_dump.specs.declared.needs.Needs.{Needs}
 use Rattle.segment_dump.specs.Counting.{IsContent, IsCountable}
 use Rattle.segment_dump.specs.Items.{Content, Scalars, Vector, String, Map, Strings, Item, kind_of_content, count_of_content}
 use Rattle.segment_dump.specs.Leads.{IsLead, IsMeasure, IsSmall, lead_text, measured}
-use Rattle.segment_dump.specs.Need.{block_room, body_len, both, item_needs, object_room, only_room, texts_needs}
+use Rattle.segment_dump.specs.Need.{body_len, both, item_needs, object_room, only_room, texts_needs}
 use Rattle.segment_dump.specs.Reads.{Any, Reads, itself}
 use Rattle.segment_dump.specs.Texts.{content_text, head_line, item_text, measure_text}
 use Rattle.segment_dump.proofs.Counts.{ContentReads}
-use Rattle.segment_dump.proofs.Sums.{block-least, never-some, some-pair}
+use Rattle.segment_dump.proofs.Sums.{block-least, node-least, size-least}
+use Rattle.segment_dump.proofs.Found.{none-some, some-pair}
 
 -- ---- the lines of an object, part by part
 
@@ -52,16 +49,6 @@ padded-least n = omega arith
 name-least : (n : ℕ) (k : Kind) (m : ℕ) → n ≤ object_room n k m
 unfolding object_room
 name-least n k m = omega (arith, padded-least n, block-least (head_len + padded n + body_len k m))
-
-size-least : (k : ScalarKind) (n : ℕ) → n ≤ size_of k * n
-size-least BoolKind n = omega arith
-size-least U8 n = omega arith
-size-least I32 n = omega arith
-size-least I64 n = omega arith
-size-least U64 n = omega arith
-
-node-least : (k v : ScalarKind) (n : ℕ) → n ≤ n * block_room (node_len (size_of k) (size_of v))
-node-least k v n = le-mul_of_pos_right n (omega (arith, block-least (node_len (size_of k) (size_of v))))
 
 count-small : (c : Content) (n : ℕ) → IsSmall (object_room n (kind_of_content c) (count_of_content c)) → IsSmall (count_of_content c)
 unfolding object_room
@@ -104,7 +91,10 @@ lead-found : (text : List ℕ) (o : Option (ℕ × List ℕ)) (i : Item) (a : Li
 lead-found text o i a h g e = h.reads (i.class, i.name) (behind_lead i a) (is-lead i g) tt (e ∙ item-parts i a)
 
 pub object-no_lead : (text : List ℕ) → LeadReads text None → ObjectReads text None
-object-no_lead text h = record { reads = λ i a g w e. absurd (never-some (length i.name, behind_lead i a) (lead-found text None i a h g e)) }
+object-no_lead text h = record {
+  reads = λ i a g w e. absurd
+      (none-some (length i.name, behind_lead i a) (lead-found text None i a h g e));
+}
 
 measure-found : (text : List ℕ) (n : ℕ) (r : List ℕ) (o : Option ((Kind × ℕ) × List ℕ)) (i : Item) (a : List ℕ) → LeadReads text (Some (n, r)) → MeasureReads r o → IsCountable i → text ≡ item_text i ++ a
     → (n ≡ length i.name) × (o ≡ Some ((kind_in i, count_in i), content_text i.content ++ a))
@@ -114,7 +104,8 @@ measure-found text n r o i a h k g e =
 
 pub object-no_measure : (text : List ℕ) (n : ℕ) (r : List ℕ) → LeadReads text (Some (n, r)) → MeasureReads r None → ObjectReads text None
 object-no_measure text n r h k = record {
-  reads = λ i a g w e. absurd (never-some ((kind_in i, count_in i), content_text i.content ++ a) (measure-found text n r None i a h k g e).1);
+  reads = λ i a g w e. absurd (none-some ((kind_in i, count_in i), content_text i.content ++ a)
+      (measure-found text n r None i a h k g e).1);
 }
 
 -- the needs of the object whose parts were found
@@ -136,7 +127,8 @@ content-found text n r k m s o i a h j c g e =
 
 pub object-no_content : (text : List ℕ) (n : ℕ) (r : List ℕ) (k : Kind) (m : ℕ) (s : List ℕ) → LeadReads text (Some (n, r)) → MeasureReads r (Some ((k, m), s)) → ContentReads k m s None → ObjectReads text None
 object-no_content text n r k m s h j c = record {
-  reads = λ i a g w e. absurd (never-some (texts_needs i.content, a) (content-found text n r k m s None i a h j c g e).content);
+  reads = λ i a g w e. absurd (none-some (texts_needs i.content, a)
+      (content-found text n r k m s None i a h j c g e).content);
 }
 
 own-is : (n : ℕ) (k : Kind) (m : ℕ) (i : Item) → n ≡ length i.name → k ≡ kind_in i → m ≡ count_in i → object_room n k m ≡ own_room i

@@ -3,7 +3,7 @@ use Rattle.std.proofs.Common.{◌≡◌, ℕ, ◌+◌, ◌-◌, ◌*◌, ◌≤�
 use Rattle.std.specs.Prelude.{flat_map, filter, fold, option_to_list, int_lt, IsTrue}
 use Rattle.std.specs.List.{AllByRecursion, list_all}
 use Rattle.std.proofs.Math.Nat.{mul-le-mul_left, mul-zero, one-mul, suc-mul, zero-mul}
-use Rattle.std.proofs.lemmas.Bool.{and_parts}
+use Rattle.std.proofs.lemmas.Bool.{and_parts, leb-true}
 use Rattle.std.proofs.lemmas.List.{length-map}
 use Rattle.std.proofs.lemmas.Bool.Decides.{nat_tests}
 use Rattle.block_tags.specs.declared.tile.Role.{Role}
@@ -27,7 +27,7 @@ use Rattle.segment_manager.proofs.Laws.{AllByRecursion-behind, AllByRecursion-fr
 use Rattle.segment_dump.specs.Items.{bytes_in, content_of, count_of_content, item_of_object, kind_of_content}
 use Rattle.segment_dump.specs.Need.{all_needs, block_room, body_len, elements_room, front_room, item_needs, object_room, text_needs, texts_needs}
 use Rattle.segment_dump.specs.Laws.{SegmentsHaveRoom}
-use Rattle.segment_dump.proofs.Rooms.{IsLong, held-fits, le-test, proper-long, proper-total, total, total-append, total-insert, total-more}
+use Rattle.segment_dump.proofs.Rooms.{IsLong, held-fits, proper-long, proper-total, total, total-append, total-sorted}
 
 -- ---- one block
 
@@ -121,11 +121,16 @@ value-room (Numbers k zs) e l = omega arith
 value-room (Elements k zs t) e l =
     let p = and_parts (nat_le (length zs) t.capacity && is_table Storage (size_of k) t) (list_all (is_value k) zs) e in
     let q = and_parts (nat_le (length zs) t.capacity) (is_table Storage (size_of k) t) p.0 in
-    omega (arith, table-room Storage (size_of k) (length zs) t q.1 (le-test (length zs) t.capacity q.0) l)
+    omega (arith, table-room Storage (size_of k) (length zs) t q.1 (leb-true (length zs) t.capacity q.0) l)
 value-room (Bytes bs t) e l =
     let p = and_parts (nat_le (length bs) t.capacity && is_table Storage 1 t) (list_all (λ b. nat_lt b 256) bs) e in
     let q = and_parts (nat_le (length bs) t.capacity) (is_table Storage 1 t) p.0 in
-    omega (arith, ap block_room (one-mul (length bs)), table-room Storage 1 (length bs) t q.1 (le-test (length bs) t.capacity q.0) l)
+    omega (
+      arith,
+      ap block_room (one-mul (length bs)),
+      table-room Storage 1 (length bs) t q.1
+          (leb-true (length bs) t.capacity q.0) l,
+    )
 value-room (Pairs k v ps) e l =
     let p = and_parts (is_rising int_lt ps) (list_all (is_number_pair k v) ps) e in
     omega (arith, pairs-room k v ps p.1 l)
@@ -136,7 +141,8 @@ value-room (Texts ps t) e l =
       arith,
       ap (λ n. block_room (16 * n)) (length-map ps bytes_in),
       total-append (table_extents t) (flat_map block_list ps),
-      table-room Storage 16 (length ps) t q.1 (le-test (length ps) t.capacity q.0) (AllByRecursion-front IsLong (table_extents t) (flat_map block_list ps) l),
+      table-room Storage 16 (length ps) t q.1 (leb-true (length ps) t.capacity q.0)
+          (AllByRecursion-front IsLong (table_extents t) (flat_map block_list ps) l),
       texts-room ps p.1 (AllByRecursion-behind IsLong (table_extents t) (flat_map block_list ps) l),
     )
 
@@ -144,10 +150,7 @@ value-room (Texts ps t) e l =
 
 body-is : (v : Value) → body_len (kind_of_content (content_of v)) (count_of_content (content_of v)) ≡ value_len v
 body-is (Numbers k zs) = refl
-body-is (Elements k zs t) = refl
-body-is (Bytes bs t) = refl
-body-is (Pairs k v ps) = refl
-body-is (Texts ps t) = refl
+body-is v = refl
 
 own-block-room : (o : Object) → IsLong o.extent → serves o.extent ObjectRole (object_len o.name o.value) ≡ true
     → block_room (head_len + padded (length o.name) + body_len (kind_of_content (content_of o.value)) (count_of_content (content_of o.value))) ≤ o.extent.len
@@ -212,10 +215,6 @@ classes-room (o ∷ os) =
     ∙ ap (λ n. (item_needs (item_of_object o)).room + n) (classes-room os)
 
 -- ---- a whole segment
-
-total-sorted : (xs : List Extent) → total (sorted xs) ≡ total xs
-total-sorted [] = refl
-total-sorted (x ∷ xs) = total-more x xs (sorted xs) (total-insert x (sorted xs)) (total-sorted xs)
 
 index-room : (t : Table) (os : List Object) (lt : Object → Object → Bool) → IsTrue (is_index t os lt) → AreLong (table_extents t) → block_room (8 * length (map item_of_object os)) ≤ total (table_extents t)
 index-room t os lt h l =

@@ -7,19 +7,32 @@ use Rattle.seg_types.specs.declared.kinds.Class.{Class}
 use Rattle.seg_types.specs.declared.kinds.Class.TheVariants.{Anonymous, Named, Unique}
 use Rattle.seg_types.specs.Kinds.{class_code, code_of, same_kind}
 use Rattle.seg_types.specs.Names.{Key, ByHandle, ByKind, ByName, NoKey}
-use Rattle.segment_manager.specs.Directory.{Bytes, Directory, Elements, Numbers, Object, Pairs, Texts, Value, by_kind, by_name, has_key, insert_by, is_class, kind_of, named_objects, object_at, unique_objects}
+use Rattle.segment_manager.specs.Directory.{
+  Directory,
+  Numbers,
+  Object,
+  Value,
+  by_kind,
+  by_name,
+  has_key,
+  insert_by,
+  is_class,
+  kind_of,
+  named_objects,
+  object_at,
+  unique_objects,
+}
 use Rattle.segment_manager.proofs.Laws.{IsStrict}
 use Rattle.segment_dump.specs.Building.{AreInOrder, count_class, has_item_key, item_key, kind_less, of_class}
 use Rattle.segment_dump.specs.Items.{Item, content_of, item_of_object, kind_of_content}
+use Rattle.segment_dump.specs.Succeeding.{AreOf}
+use Rattle.segment_dump.proofs.Lists.{AllByRecursion-append, all-by}
 
 -- ---- what items say of objects
 
-kind-made : (v : Value) → kind_of_content (content_of v) ≡ kind_of v
+pub kind-made : (v : Value) → kind_of_content (content_of v) ≡ kind_of v
 kind-made (Numbers k zs) = refl
-kind-made (Elements k zs t) = refl
-kind-made (Bytes bs t) = refl
-kind-made (Pairs k v ps) = refl
-kind-made (Texts ps t) = refl
+kind-made v = refl
 
 key-said : (key : Key) (o : Object) → ((h : ℕ) → key ≡ ByHandle h → ⊥) → has_key key o ≡ has_item_key key (item_of_object o)
 key-said (ByName name) o n = refl
@@ -42,11 +55,25 @@ new-none d done i e a = none-there (item_key i) d.objects (λ h f. no-handle i i
 
 -- ---- by class
 
+both-if : (b : Bool) (x : Item) (zs xs ys : List Item) → zs ≡ xs ++ ys → cond b (x ∷ zs) zs ≡ cond b (x ∷ xs) xs ++ ys
+both-if true x zs xs ys e = ap (λ l. x ∷ l) e
+both-if false x zs xs ys e = e
+
+pub of-both : (c : Class) (xs ys : List Item) → of_class c (xs ++ ys) ≡ of_class c xs ++ of_class c ys
+of-both c [] ys = refl
+of-both c (x ∷ xs) ys = both-if (class_code c == class_code x.class) x (of_class c (xs ++ ys)) (of_class c xs) (of_class c ys) (of-both c xs ys)
+
+pub none-of : (c d : Class) (is : List Item) → (class_code c == class_code d) ≡ false → AreOf d is → of_class c is ≡ []
+none-of c d [] e a = refl
+none-of c d (i ∷ is) e a = ap (λ b. cond b (i ∷ of_class c is) (of_class c is))
+    (ap (λ x. class_code c == class_code x) a.0 ∙ e) ∙ none-of c d is e a.1
+
 filter-if : (b : Bool) (o : Object) (os : List Object) (is : List Item) → map item_of_object os ≡ is → map item_of_object (cond b (o ∷ os) os) ≡ cond b (item_of_object o ∷ is) is
 filter-if true o os is e = ap (λ l. item_of_object o ∷ l) e
 filter-if false o os is e = e
 
-class-items : (c : Class) (os : List Object) → map item_of_object (filter (is_class c) os) ≡ of_class c (map item_of_object os)
+pub class-items : (c : Class) (os : List Object) → map item_of_object (filter (is_class c) os) ≡ of_class c
+    (map item_of_object os)
 class-items c [] = refl
 class-items c (o ∷ os) = filter-if (is_class c o) o (filter (is_class c) os) (of_class c (map item_of_object os)) (class-items c os)
 
@@ -96,25 +123,32 @@ ordered-same lt s acc (o ∷ os) a =
     ap (λ l. fold (λ ps o. insert_by lt o ps) l os) (insert-last lt s o acc a.0) ∙ ordered-same lt s (acc ++ o ∷ []) os a.1 ∙ append_assoc acc (o ∷ []) os
 
 -- the same said of items
-abbrev LessAll : (Item → Item → Bool) → Item → List Item → Type 0
+abbrev pub LessAll : (Item → Item → Bool) → Item → List Item → Type 0
 LessAll lt i = AllByRecursion (λ j. lt j i ≡ true)
 
 abbrev AreItemsOrdered : (Item → Item → Bool) → List Item → List Item → Type 0
 AreItemsOrdered lt acc [] = ⊤
 AreItemsOrdered lt acc (i ∷ is) = LessAll lt i acc × AreItemsOrdered lt (acc ++ i ∷ []) is
 
-less-all : (lt : Item → Item → Bool) (i : Item) (acc is : List Item) → AllByRecursion (λ j. AllByRecursion (λ k. lt j k ≡ true) (i ∷ is)) acc → LessAll lt i acc
-less-all lt i [] is a = tt
-less-all lt i (j ∷ acc) is a = (a.0.0, less-all lt i acc is a.1)
+abbrev pub LessThan : (Item → Item → Bool) → List Item → Item → Type 0
+LessThan lt is j = AllByRecursion (λ k. lt j k ≡ true) is
 
-less-rest : (lt : Item → Item → Bool) (i : Item) (acc is : List Item) → AllByRecursion (λ j. AllByRecursion (λ k. lt j k ≡ true) (i ∷ is)) acc → AllByRecursion (λ k. lt i k ≡ true) is
-    → AllByRecursion (λ j. AllByRecursion (λ k. lt j k ≡ true) is) (acc ++ i ∷ [])
-less-rest lt i [] is a b = (b, tt)
-less-rest lt i (j ∷ acc) is a b = (a.0.1, less-rest lt i acc is a.1 b)
+pub heads-less : (lt : Item → Item → Bool) (i : Item) (is acc : List Item) → AllByRecursion (LessThan lt (i ∷ is)) acc
+    → LessAll lt i acc
+heads-less lt i is acc a = all-by (LessThan lt (i ∷ is)) (λ j. lt j i ≡ true) acc a (λ j h. h.0)
+
+pub tails-less : (lt : Item → Item → Bool) (i : Item) (is acc : List Item) → AllByRecursion (LessThan lt (i ∷ is)) acc
+    → LessThan lt is i → AllByRecursion (LessThan lt is) (acc ++ i ∷ [])
+tails-less lt i is acc a h = AllByRecursion-append (LessThan lt is) acc (i ∷ [])
+    (all-by (LessThan lt (i ∷ is)) (LessThan lt is) acc a (λ j h. h.1)) (h, tt)
 
 items-ordered : (lt : Item → Item → Bool) (acc is : List Item) → AllByRecursion (λ j. AllByRecursion (λ k. lt j k ≡ true) is) acc → AreInOrder lt is → AreItemsOrdered lt acc is
 items-ordered lt acc [] a h = tt
-items-ordered lt acc (i ∷ is) a h = (less-all lt i acc is a, items-ordered lt (acc ++ i ∷ []) is (less-rest lt i acc is a h.0) h.1)
+items-ordered lt acc (i ∷ is) a h = (
+  heads-less lt i is acc a,
+  items-ordered lt (acc ++ i ∷ []) is
+      (tails-less lt i is acc a h.0) h.1,
+)
 
 -- an order of objects that their items tell
 abbrev pub Tells : (Item → Item → Bool) → (Object → Object → Bool) → Type 0

@@ -21,68 +21,85 @@ failures_in-err (Err e) h = refl
 pub writes_none : {A E : Type 0} (old : Took) (a : A) (text : List ℕ) → text ≡ [] → Writes {E = E} old old (Ok a) text
 writes_none old a text e = record { ok = sym (append-nil old.bytes) ∙ ap (λ t. old.bytes ++ t) (sym e); err = tt; counted = omega arith }
 
-module _ (s : State) where
+module _ {s : State} where
   -- one text is owed of each directory
-  pub of-one : {A E : Type 0} (old new : Took) (result : Result A E) (text : List ℕ) (owed : Directory → List ℕ) → Writes old new result text
+  pub of-one : {A E : Type 0} {old new : Took} {result : Result A E} {text : List ℕ} {owed : Directory → List ℕ}
+      → Writes old new result text
       → ((d : Directory) → StandsFor s.cut.bytes d → text ≡ owed d) → WritesOf s old new result owed
-  of-one old new result text owed w same = record { writes = λ d st. subst (Writes old new result) (same d st) w; counted = w.counted }
+  of-one {old} {new} {result} w same = record {
+    writes = λ d st. subst (Writes old new result) (same d st) w;
+    counted
+        = w.counted;
+  }
 
   -- the same text by other words
-  pub of-same : {A E : Type 0} (old new : Took) (result : Result A E) (said owed : Directory → List ℕ) → WritesOf s old new result said
+  pub of-same : {A E : Type 0} {old new : Took} {result : Result A E} {said owed : Directory → List ℕ}
+      → WritesOf s old new result said
       → ((d : Directory) → StandsFor s.cut.bytes d → said d ≡ owed d) → WritesOf s old new result owed
-  of-same old new result said owed w same = record { writes = λ d st. subst (Writes old new result) (same d st) (w.writes d st); counted = w.counted }
+  of-same {old} {new} {result} w same = record {
+    writes = λ d st. subst (Writes old new result) (same d st)
+        (w.writes d st);
+    counted = w.counted;
+  }
 
   -- nothing is owed
-  pub of-none : {A E : Type 0} (old : Took) (x : A) (owed : Directory → List ℕ) → ((d : Directory) → StandsFor s.cut.bytes d → owed d ≡ []) → WritesOf {E = E} s old old (Ok x) owed
-  of-none old x owed none = record { writes = λ d st. writes_none old x (owed d) (none d st); counted = omega arith }
+  pub of-none : {A E : Type 0} {old : Took} {x : A} {owed : Directory → List ℕ}
+      → ((d : Directory) → StandsFor s.cut.bytes d → owed d ≡ [])
+      → WritesOf {E = E} s old old (Ok x) owed
+  of-none {old} {x} {owed} none = record {
+    writes = λ d st. writes_none old x (owed d) (none d st);
+    counted = omega
+        arith;
+  }
 
   -- one behind another
-  pub of-then : {A B E F : Type 0} (old mid new : Took) (x : A) (result : Result B F) (a b : Directory → List ℕ) → WritesOf {E = E} s old mid (Ok x) a → WritesOf s mid new result b
-      → WritesOf s old new result (λ d. a d ++ b d)
-  of-then old mid new x result a b first more = record {
+  pub of-then : {A B E F : Type 0} {old mid new : Took} {x : A} {result : Result B F} {a b : Directory → List ℕ}
+      → WritesOf {E = E} s old mid (Ok x) a
+      → WritesOf s mid new result b → WritesOf s old new result (λ d. a d ++ b d)
+  of-then {old} {mid} {new} {x} {result} {a} {b} first more = record {
     writes = λ d st. writes-then old mid new x result (a d) (b d) (first.writes d st) (more.writes d st);
     counted = omega (arith, first.counted, more.counted);
   }
 
   -- the writer failed, whatever was to be written behind
-  pub of-cut : {A B E F : Type 0} (old new : Took) (x : E) (result : Result B F) (a b : Directory → List ℕ) → IsErr result → WritesOf {A = A} s old new (Err x) a
-      → WritesOf s old new result (λ d. a d ++ b d)
-  of-cut old new x result a b is_err w = record {
+  pub of-cut : {A B E F : Type 0} {old new : Took} {x : E} {result : Result B F} {a : Directory → List ℕ}
+      (b : Directory → List ℕ) → IsErr result
+      → WritesOf {A = A} s old new (Err x) a → WritesOf s old new result (λ d. a d ++ b d)
+  of-cut {old} {new} {x} {result} {a} b is_err w = record {
     writes = λ d st. writes-cut old new x result (a d) (b d) is_err (w.writes d st);
     counted = omega (arith, w.counted, failures_in-err result is_err);
   }
 
-  module _ (part : Directory → ℕ → List ℕ) (old mid new : Took) (i : ℕ) (before : WritesOf s old mid well (λ d. parts_until (part d) i)) where
-    -- one part more
-    pub of-more : {B F : Type 0} (y : B) → WritesOf {E = F} s mid new (Ok y) (λ d. part d i) → WritesOf s old new well (λ d. parts_until (part d) (i + 1))
-    of-more y w = record {
-      writes = λ d st. part-told (part d) old mid new i (before.writes d st) y (w.writes d st);
-      counted = omega (arith, before.counted, w.counted);
-    }
+  -- one part more
+  pub of-more : {B F : Type 0} (part : Directory → ℕ → List ℕ) {old mid new : Took} {i : ℕ} {y : B}
+      → WritesOf s old mid well (λ d. parts_until (part d) i)
+      → WritesOf {E = F} s mid new (Ok y) (λ d. part d i) → WritesOf s old new well (λ d. parts_until (part d) (i + 1))
+  of-more part {old} {mid} {new} {i} {y} before w = record {
+    writes = λ d st. part-told (part d) old mid new i (before.writes d st) y (w.writes d st);
+    counted = omega (arith, before.counted, w.counted);
+  }
 
-    -- the writer failed in a part
-    pub of-cut_in : {B C F G : Type 0} (n : ℕ) → i < n → (y : F) → WritesOf {A = B} s mid new (Err y) (λ d. part d i) → (result : Result C G) → IsErr result → WritesOf s old new result (λ d. parts_until (part d) n)
-    of-cut_in n within y w result is_err = record {
-      writes = λ d st. part-cut (part d) old mid new i (before.writes d st) n within y (w.writes d st) result is_err;
-      counted = omega (arith, before.counted, w.counted, failures_in-err result is_err);
-    }
-
-    -- the same where a directory says how many parts there are
-    pub of-cut_of : {B C F G : Type 0} (n : Directory → ℕ) → ((d : Directory) → StandsFor s.cut.bytes d → i < n d) → (y : F) → WritesOf {A = B} s mid new (Err y) (λ d. part d i) → (result : Result C G) → IsErr result
-        → WritesOf s old new result (λ d. parts_until (part d) (n d))
-    of-cut_of n within y w result is_err = record {
-      writes = λ d st. part-cut (part d) old mid new i (before.writes d st) (n d) (within d st) y (w.writes d st) result is_err;
-      counted = omega (arith, before.counted, w.counted, failures_in-err result is_err);
-    }
+  -- the writer failed in a part
+  pub of-cut_in : {B C F G : Type 0} (part : Directory → ℕ → List ℕ) (n : Directory → ℕ) {old mid new : Took} {i : ℕ}
+      {y : F} {result : Result C G}
+      → WritesOf s old mid well (λ d. parts_until (part d) i) → ((d : Directory) → StandsFor s.cut.bytes d → i < n d)
+      → WritesOf {A = B} s mid new (Err y) (λ d. part d i) → IsErr result
+      → WritesOf s old new result (λ d. parts_until (part d) (n d))
+  of-cut_in part n {old} {mid} {new} {i} {y} {result} before within w is_err = record {
+    writes = λ d st. part-cut (part d) old mid new i (before.writes d st) (n d) (within d st) y (w.writes d st) result
+        is_err;
+    counted = omega (arith, before.counted, w.counted, failures_in-err result is_err);
+  }
 
   -- nothing has gone out before the first part
-  pub of-start : (part : Directory → ℕ → List ℕ) (old : Took) → WritesOf s old old well (λ d. parts_until (part d) 0)
-  of-start part old = of-none old 0 (λ d. parts_until (part d) 0) (λ d st. refl)
+  pub of-start : (part : Directory → ℕ → List ℕ) {old : Took} → WritesOf s old old well (λ d. parts_until (part d) 0)
+  of-start part = of-none (λ d st. refl)
 
   -- so many parts are all
-  pub of-all : {B F : Type 0} (part : Directory → ℕ → List ℕ) (old new : Took) (i n : ℕ) (y : B) → WritesOf s old new well (λ d. parts_until (part d) i) → i ≡ n
+  pub of-all : {B F : Type 0} (part : Directory → ℕ → List ℕ) (i n : ℕ) {old new : Took} {y : B}
+      → WritesOf s old new well (λ d. parts_until (part d) i) → i ≡ n
       → WritesOf {E = F} s old new (Ok y) (λ d. parts_until (part d) n)
-  of-all part old new i n y w e = record {
+  of-all part i n {old} w e = record {
     writes = λ d st. let v = w.writes d st in record { ok = v.ok ∙ ap (λ m. old.bytes ++ parts_until (part d) m) e; err = tt; counted = omega (arith, v.counted) };
     counted = omega (arith, w.counted);
   }

@@ -15,7 +15,7 @@ use Rattle.segment_dump.specs.Parts.{parts_until}
 use Rattle.segment_dump.specs.Reads.{ended}
 use Rattle.segment_dump.specs.Texts.{length_text, piece_lead, piece_line, piece_of, pieces_in, pieces_text, text_lines}
 use Rattle.segment_dump.proofs.ContentLines.{piece_front}
-use Rattle.segment_dump.proofs.ElementReads.{never-ok, ok-same}
+use Rattle.segment_dump.proofs.Found.{never-ok, ok-same}
 use Rattle.segment_dump.proofs.LineTexts.{first-no_end, first-short, first_front, piece-ended, piece-no_end, piece-short}
 use Rattle.segment_dump.proofs.NextWords.{blank-next, decimal-number, number-next, text-next}
 use Rattle.segment_dump.proofs.PartLines.{split}
@@ -90,9 +90,10 @@ first-ended bs a rest e =
     append_assoc (length_text (length bs)) (pieces_text bs) a ∙ ap (λ t. length_text (length bs) ++ t) (e ∙ piece-ended bs 0 rest)
     ∙ sym (append_assoc (length_text (length bs)) (ended (piece_front bs 0)) rest) ∙ ap (λ t. t ++ rest) (sym (append_assoc (length_text (length bs)) (piece_front bs 0) (0x0A ∷ [])))
 
-length-word : NumbersAreDecimals → (bs : List ℕ) → length bs < 2 ^ 64 → next_word (first_front bs) ≡ Some (Bare (decimal (length bs)), piece_front bs 0)
-length-word law bs h =
-    blank-next (0x20 ∷ (decimal (length bs) ++ piece_front bs 0)) ∙ blank-next (decimal (length bs) ++ piece_front bs 0) ∙ number-next law (length bs) (piece_front bs 0) h refl
+length-word : (bs : List ℕ) → next_word (first_front bs) ≡ Some (Bare (decimal (length bs)), piece_front bs 0)
+length-word bs =
+    blank-next (0x20 ∷ (decimal (length bs) ++ piece_front bs 0)) ∙ blank-next (decimal (length bs) ++ piece_front bs 0)
+    ∙ number-next (length bs) (piece_front bs 0) refl
 
 module _ {E : Type 0} (law : NumbersAreDecimals) (text rest : List ℕ) where
   first-there : (r : Result (List ℕ) E) → ReadsLine text rest r → (bs a : List ℕ) → text ≡ text_lines bs ++ a → (r ≡ Ok (first_front bs)) × PiecesLeft bs a 1 rest
@@ -107,7 +108,8 @@ module _ {E : Type 0} (law : NumbersAreDecimals) (text rest : List ℕ) where
   number-there : (line left : List ℕ) (r : Result ℕ E) → ReadsLine {E = E} text rest (Ok line) → ReadsWord number line left r → (bs a : List ℕ) → length bs < 2 ^ 64 → text ≡ text_lines bs ++ a → (r ≡ Ok (length bs)) × (left ≡ piece_front bs 0)
   number-there line left r h w bs a c t =
       let is : line ≡ first_front bs = ok-same {E = E} line (first_front bs) (first-there (Ok line) h bs a t).0 in
-      w.reads (Bare (decimal (length bs))) (piece_front bs 0) (length bs) (ap next_word is ∙ length-word law bs c) (decimal-number law (length bs) c)
+      w.reads (Bare (decimal (length bs))) (piece_front bs 0) (length bs) (ap next_word is ∙ length-word bs)
+      (decimal-number law (length bs) c)
 
   pub first-no_number : (line left : List ℕ) (e : E) (result : Result (List ℕ × ℕ) E) → ReadsLine {E = E} text rest (Ok line) → ReadsWord number line left (Err e) → ReadsLength text rest result
   first-no_number line left e result h w = record { reads = λ bs a c t. absurd (never-ok e (length bs) (number-there line left (Err e) h w bs a c t).0) }

@@ -46,17 +46,13 @@ unique-places b d k = k.denotes.unique.capacity
 
 scalars-none : (k : ScalarKind) (v : Value) → kind_of v ≡ Scalar k → places_of v ≡ None
 scalars-none k (Numbers l zs) e = refl
-scalars-none k (Elements l zs t) e = absurd (cc)
-scalars-none k (Bytes bs t) e = absurd (cc)
 scalars-none k (Pairs l m ps) e = refl
-scalars-none k (Texts ps t) e = absurd (cc)
+scalars-none k v e = absurd (cc)
 
 map-none : (k w : ScalarKind) (v : Value) → kind_of v ≡ Map k w → places_of v ≡ None
 map-none k w (Numbers l zs) e = refl
-map-none k w (Elements l zs t) e = absurd (cc)
-map-none k w (Bytes bs t) e = absurd (cc)
 map-none k w (Pairs l m ps) e = refl
-map-none k w (Texts ps t) e = absurd (cc)
+map-none k w v e = absurd (cc)
 
 measured : (v : Value) → ((k : ScalarKind) → kind_of v ≡ Scalar k → ⊥) → ((k w : ScalarKind) → kind_of v ≡ Map k w → ⊥) → measured_places (sizes_of v) ≡ places_of v
 measured (Numbers k zs) n m = absurd (n k refl)

@@ -1,11 +1,12 @@
 -- A text in quotes, and a name, bare or in quotes, tell their bytes.
 use Rattle.std.proofs.Common.{◌≡◌, ◌≢◌, ℕ, ◌/◌, ◌%◌, ◌<◌, Bool, true, false, ◌||◌, ◌==◌, cond, List, [], ◌∷◌, ◌++◌, refl, sym, ap, ◌∙◌, arith, append_assoc}
 use Rattle.std.specs.Prelude.{⊤}
-use Rattle.std.specs.List.{AllByRecursion, flat_map, list_all}
+use Rattle.std.specs.List.{flat_map, list_all}
 use Rattle.std.proofs.lemmas.Bool.{and_parts}
 use Rattle.std.proofs.lemmas.Bool.Decides.{nat_tests}
 use Rattle.seg_types.specs.Texts.{between, digit_text, escape_text, is_bare_name, is_letter, is_name_byte, item_text, name_text, quoted_text}
 use Rattle.segment_dump.proofs.Codes.{Breaks, IsRow, IsWord, Stops, heads, row-reads, tails, words-read}
+use Rattle.segment_dump.proofs.Lists.{all-any, all-tested}
 
 -- ---- a byte in quotes
 
@@ -82,10 +83,6 @@ items-row = record {
   follows = λ c a p. tt;
 }
 
-all-bytes : (bs : List ℕ) → AllByRecursion AnyByte bs
-all-bytes [] = tt
-all-bytes (b ∷ bs) = (tt, all-bytes bs)
-
 closes : (a : List ℕ) → Stops Any IsOpen (0x22 ∷ a)
 closes a = record { follows = tt; none = λ o. o.not_closed a refl }
 
@@ -93,7 +90,8 @@ pub quoted-read : (bs cs a b : List ℕ) → quoted_text bs ++ a ≡ quoted_text
 quoted-read bs cs a b e =
     let same : flat_map item_text bs ++ 0x22 ∷ a ≡ flat_map item_text cs ++ 0x22 ∷ b =
     sym (append_assoc (flat_map item_text bs) (0x22 ∷ []) a) ∙ tails e ∙ append_assoc (flat_map item_text cs) (0x22 ∷ []) b in
-    let r = row-reads item_text AnyByte Any IsOpen items-row bs cs (0x22 ∷ a) (0x22 ∷ b) (all-bytes bs) (all-bytes cs) (closes a) (closes b) same in
+    let r = row-reads item_text AnyByte Any IsOpen items-row bs cs (0x22 ∷ a) (0x22 ∷ b) (all-any AnyByte (λ c. tt) bs)
+    (all-any AnyByte (λ c. tt) cs) (closes a) (closes b) same in
     (r.0, tails r.1)
 
 -- ---- a name
@@ -108,16 +106,12 @@ name-byte c e = grind (arith, nat_tests)
 first-byte : (c : ℕ) → (is_letter c || (c == 0x5F)) ≡ true → (0x20 < c) × (c ≢ 0x22)
 first-byte c e = (grind (arith, nat_tests), λ f. grind (arith, nat_tests))
 
-name-bytes : (cs : List ℕ) → list_all is_name_byte cs ≡ true → IsWord cs
-name-bytes [] e = tt
-name-bytes (c ∷ cs) e = let p = and_parts (is_name_byte c) (list_all is_name_byte cs) e in (name-byte c p.0, name-bytes cs p.1)
-
 name-by : (name : List ℕ) (b : Bool) → is_bare_name name ≡ b → IsName name (cond b name (quoted_text name))
 name-by [] true e = absurd (cc)
 name-by (c ∷ cs) true e =
     let p = and_parts (is_letter c || (c == 0x5F)) (list_all is_name_byte cs) e in
     let f = first-byte c p.0 in
-    bare c cs refl f.1 (f.0, name-bytes cs p.1) refl
+    bare c cs refl f.1 (f.0, all-tested is_name_byte (λ c. 0x20 < c) name-byte cs p.1) refl
 name-by name false e = quoted refl
 
 pub name-is : (name : List ℕ) → IsName name (name_text name)

@@ -2,12 +2,14 @@
 use Rattle.std.proofs.Common.{◌≡◌, ℕ, ◌+◌, ◌*◌, ◌/◌, ◌%◌, ◌≤◌, Bool, true, false, ◌&&◌, ◌==◌, nat_le, nat_lt, List, [], ◌∷◌, ◌++◌, if◌then◌else◌, refl, arith}
 use Rattle.std.specs.List.{AllByRecursion}
 use Rattle.std.proofs.Math.Nat.{max-le}
-use Rattle.std.proofs.lemmas.Bool.{and_parts}
+use Rattle.std.proofs.lemmas.Bool.{and_parts, eqb-true, leb-true}
 use Rattle.std.proofs.lemmas.Bool.Decides.{nat_tests}
 use Rattle.best_fit.specs.Extents.{Extent, end_of, holds, is_block, is_hole, proper_from}
 use Rattle.best_fit.specs.Fit.{insert, room}
--- all bytes of some blocks
+use Rattle.segment_manager.specs.Directory.{sorted}
 unfoldable pub use Rattle.segment_dump.specs.Building.{total}
+
+-- all bytes of some blocks
 
 -- ---- one block
 
@@ -16,12 +18,6 @@ rounded n len h e = omega arith
 
 pub room-fits : (n len : ℕ) → n + 16 ≤ len → 32 ≤ len → len % 16 ≡ 0 → room n ≤ len
 room-fits n len h l e = max-le l (rounded n len h e)
-
-pub le-test : (m n : ℕ) → nat_le m n ≡ true → m ≤ n
-le-test m n e = grind (arith, nat_tests)
-
-zero-test : (n : ℕ) → (n == 0) ≡ true → n ≡ 0
-zero-test n e = grind (arith, nat_tests)
 
 -- a block of 32 bytes or more, of which 16 are a whole number of
 pub record IsLong (x : Extent) : Type 0 where
@@ -32,11 +28,11 @@ block-long : (x : Extent) → is_block x ≡ true → IsLong x
 block-long x e =
     let p = and_parts ((x.offset % 16 == 0) && nat_le 32 x.len) (x.len % 16 == 0) e in
     let q = and_parts (x.offset % 16 == 0) (nat_le 32 x.len) p.0 in
-    record { least = le-test 32 x.len q.1; even = zero-test (x.len % 16) p.1 }
+    record { least = leb-true 32 x.len q.1; even = eqb-true (x.len % 16) 0 p.1 }
 
 -- what it holds has room in it
 pub held-fits : (x : Extent) (n : ℕ) → IsLong x → holds x n ≡ true → room n ≤ x.len
-held-fits x n l e = room-fits n x.len (le-test (n + 16) x.len e) l.least l.even
+held-fits x n l e = room-fits n x.len (leb-true (n + 16) x.len e) l.least l.even
 
 -- ---- all blocks
 
@@ -50,16 +46,17 @@ unfolding total
 insert-if true x y ys zs e = refl
 insert-if false x y ys zs e = omega arith
 
-pub total-insert : (x : Extent) (ys : List Extent) → total (insert x ys) ≡ x.len + total ys
+total-insert : (x : Extent) (ys : List Extent) → total (insert x ys) ≡ x.len + total ys
 unfolding total
 total-insert x [] = refl
 total-insert x (y ∷ ys) = insert-if (nat_lt x.offset y.offset) x y ys (insert x ys) (total-insert x ys)
 
-pub total-more : (x : Extent) (xs ys : List Extent) → total (insert x ys) ≡ x.len + total ys → total ys ≡ total xs → total (insert x ys) ≡ total (x ∷ xs)
+pub total-sorted : (xs : List Extent) → total (sorted xs) ≡ total xs
 unfolding total
-total-more x xs ys e f = omega (arith, e, f)
+total-sorted [] = refl
+total-sorted (x ∷ xs) = omega (arith, total-insert x (sorted xs), total-sorted xs)
 
-hole-rises : (a b : ℕ) → is_hole a b ≡ true → a ≤ b
+pub hole-rises : (a b : ℕ) → is_hole a b ≡ true → a ≤ b
 hole-rises a b e = grind (arith, nat_tests)
 
 -- they fit between the ends

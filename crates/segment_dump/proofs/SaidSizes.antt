@@ -8,7 +8,7 @@ use Rattle.segment_dump.specs.Notes.{without_notes}
 use Rattle.segment_dump.specs.Texts.{dump_text, end_text, front_text, items_text}
 use Rattle.segment_dump.proofs.FrontLines.{NumberReads, before_entries, before_size, number-said}
 use Rattle.segment_dump.proofs.NoteLaws.{notes-are-cut}
-use Rattle.segment_dump.proofs.Sums.{never-some, some-pair}
+use Rattle.segment_dump.proofs.Found.{none-some, some-pair}
 
 -- what stands behind the first lines
 abbrev objects_of : Items → List ℕ
@@ -34,7 +34,7 @@ module _ (text x : List ℕ) (lead : text ≡ before_size ++ x) where
   read o h n items l e = number-said text x o n (length items.named) (length items.unique) (objects_of items ++ (notes-are-cut text).notes) lead h l (fronted text n items e)
 
   pub no-number : (o : Option ℕ) → NumberReads x None → SaysSize (without_notes text) o
-  no-number o h = record { says = λ n items l e. absurd (never-some _ (read None h n items l e)) }
+  no-number o h = record { says = λ n items l e. absurd (none-some _ (read None h n items l e)) }
 
   pub said : (size : ℕ) (rest : List ℕ) → NumberReads x (Some (size, rest)) → SaysSize (without_notes text) (Some size)
   said size rest h = record { says = λ n items l e. ap Some (some-pair size n rest _ (read (Some (size, rest)) h n items l e)).0 }

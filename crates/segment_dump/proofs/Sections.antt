@@ -1,22 +1,65 @@
 -- All objects are those of the dump.
-use Rattle.std.proofs.Common.{◌≡◌, ℕ, ◌≤◌, Bool, true, false, List, [], ◌∷◌, ◌++◌, length, map, Option, Some, None, slice_get, refl, sym, ap, ◌∙◌, cond, ◌==◌, if◌then◌else◌}
+use Rattle.std.proofs.Common.{
+  ◌≡◌,
+  ℕ,
+  ◌≤◌,
+  Bool,
+  true,
+  false,
+  List,
+  [],
+  ◌∷◌,
+  ◌++◌,
+  length,
+  map,
+  slice_get,
+  refl,
+  sym,
+  ap,
+  ◌∙◌,
+  cond,
+  ◌==◌,
+  if◌then◌else◌,
+  ◌+◌,
+  ◌<◌,
+  Result,
+  Ok,
+  Err,
+}
 use Rattle.std.specs.Prelude.{filter}
-use Rattle.std.specs.List.{flat_map}
+use Rattle.std.specs.List.{flat_map, AllByRecursion}
 use Rattle.std.proofs.lemmas.List.{take_all}
 use Rattle.seg_types.specs.declared.kinds.Class.{Class}
 use Rattle.seg_types.specs.declared.kinds.Class.TheVariants.{Anonymous, Named, Unique}
 use Rattle.seg_types.specs.Kinds.{class_code}
 use Rattle.seg_types.specs.Names.{ByHandle}
 use Rattle.segment_manager.specs.declared.telling.Instance.{Instance}
-use Rattle.segment_manager.specs.Directory.{Value, Numbers, Elements, Bytes, Pairs, Texts, Directory, Object, is_class, kind_of, named_objects, object_at, unique_objects}
-use Rattle.segment_manager.specs.Instances.{SaysOf}
+use Rattle.segment_manager.specs.Directory.{Directory, Object, is_class, named_objects, object_at, unique_objects}
+use Rattle.segment_manager.specs.Instances.{SaysOf, SaysAt}
 use Rattle.segment_manager.specs.State.{Answers, State, StandsFor}
 use Rattle.segment_dump.specs.Items.{anonymous_objects, content_of, item_of_object, kind_of_content, portable}
-use Rattle.segment_dump.specs.Owed.{all_text, count_at, lines_at, object_count, object_lines, object_text, objects_text, text_at, where_anonymous}
+use Rattle.segment_dump.specs.Owed.{
+  all_text,
+  count_at,
+  lines_at,
+  object_count,
+  object_lines,
+  object_text,
+  objects_text,
+  text_at,
+  where_anonymous,
+  WritesOf,
+}
 use Rattle.segment_dump.specs.Parts.{part_of, parts_until}
 use Rattle.segment_dump.specs.Texts.{dump_text, end_text, front_text, head_line, item_text, items_text}
-use Rattle.segment_dump.proofs.Elements.{flat_map-made, length-made}
-use Rattle.segment_dump.proofs.PartLines.{parts-all, parts-taken}
+use Rattle.std.proofs.lemmas.Option.{slice_get_within}
+use Rattle.std.specs.Result.{IsErr}
+use Rattle.raw_region.specs.Device.{Took}
+use Rattle.segment_dump.proofs.Elements.{flat_map-made, length-made, count_of_object}
+use Rattle.segment_dump.proofs.PartLines.{parts-all, parts-taken, well}
+use Rattle.segment_dump.proofs.Orders.{kind-made}
+use Rattle.segment_dump.proofs.Members.{IsFoundIn, text-of}
+use Rattle.segment_dump.proofs.Owed.{of-all, of-cut_in, of-more, of-same}
 
 abbrev made : List Object → List ℕ
 made os = items_text (map item_of_object os)
@@ -35,21 +78,38 @@ dump-parts size d =
 abbrev pub object_at_place : (Object → List ℕ) → (Directory → List Object) → Directory → ℕ → List ℕ
 object_at_place text objects d i = part_of text (slice_get (objects d) i)
 
--- all of them
-pub all-places : (text : Object → List ℕ) (objects : Directory → List Object) (d : Directory) (n : ℕ) → n ≡ length (objects d) → parts_until (object_at_place text objects d) n ≡ flat_map text (objects d)
-all-places text objects d n e = ap (parts_until (object_at_place text objects d)) e ∙ parts-all text (objects d)
+-- what was said of an object at a place is told there, and then so many
+module _ {s : State} {objects : Directory → List Object} {text : Object → List ℕ} {old mid new : Took} {i : ℕ}
+    {said : Instance} (at : SaysAt s objects i said)
+    (each : (d : Directory) → StandsFor s.cut.bytes d → AllByRecursion (IsFoundIn d) (objects d))
+    (before : WritesOf s old mid well (λ d. parts_until (object_at_place text objects d) i)) where
+  place-said : {A E : Type 0} {r : Result A E} → WritesOf s mid new r
+      (λ d. part_of text (object_at d (ByHandle said.handle)))
+      → WritesOf s mid new r (λ d. object_at_place text objects d i)
+  place-said w = of-same w (text-of s objects i said at each text)
+
+  pub places-more : {B F : Type 0} {y : B} → WritesOf {E = F} s mid new (Ok y)
+      (λ d. part_of text (object_at d (ByHandle said.handle)))
+      → WritesOf s old new well (λ d. parts_until (object_at_place text objects d) (i + 1))
+  places-more w = of-more (object_at_place text objects) before (place-said w)
+
+  pub places-cut : {B C F G : Type 0} {y : F} {result : Result C G}
+      → WritesOf {A = B} s mid new (Err y) (λ d. part_of text (object_at d (ByHandle said.handle))) → IsErr result
+      → WritesOf s old new result (λ d. flat_map text (objects d))
+  places-cut w is_err =
+      of-same (of-cut_in (object_at_place text objects) (λ d. length (objects d)) before
+      (λ d st. let o = at.says d st in slice_get_within (objects d) i o.0 o.1) (place-said w) is_err)
+      (λ d st. parts-all text (objects d))
+
+-- no object has a later place
+pub places-all : {B F : Type 0} {s : State} (objects : Directory → List Object) (text : Object → List ℕ) (i : ℕ)
+    {old new : Took} {y : B} → WritesOf s old new well (λ d. parts_until (object_at_place text objects d) i)
+    → ((d : Directory) → StandsFor s.cut.bytes d → length (objects d) ≤ i)
+    → WritesOf {E = F} s old new (Ok y) (λ d. flat_map text (objects d))
+places-all objects text i w all = of-same (of-all (object_at_place text objects) i i w refl)
+    (λ d st. parts-taken text (objects d) i ∙ ap (flat_map text) (take_all i (objects d) (all d st)))
 
 -- ---- the line of an object
-
-kind-made : (v : Value) → kind_of_content (content_of v) ≡ kind_of v
-kind-made (Numbers k zs) = refl
-kind-made (Elements k zs t) = refl
-kind-made (Bytes bs t) = refl
-kind-made (Pairs k v ps) = refl
-kind-made (Texts ps t) = refl
-
-abbrev count_of_object : Option Object → ℕ
-count_of_object r = elim r as (λ _. ℕ) [ None ↦ 0 | Some o ↦ object_count o ]
 
 -- the line that is made of what is said, and the lines of the elements, are the text of the object
 pub entry-text : (s : State) (said : Instance) (n : ℕ) → SaysOf s (ByHandle said.handle) said → Answers s (λ d. count_at d (ByHandle said.handle)) n → (d : Directory) → StandsFor s.cut.bytes d
@@ -67,16 +127,10 @@ module _ (text : Object → List ℕ) where
   one-filtered true o os = refl
   one-filtered false o os = refl
 
-  anonymous-filtered : (os : List Object) → flat_map (where_anonymous text) os ≡ flat_map text (filter (is_class Anonymous) os)
+  pub anonymous-filtered : (os : List Object) → flat_map (where_anonymous text) os ≡ flat_map text
+      (filter (is_class Anonymous) os)
   anonymous-filtered [] = refl
   anonymous-filtered (o ∷ os) = ap (λ l. where_anonymous text o ++ l) (anonymous-filtered os) ∙ one-filtered (is_class Anonymous o) o (filter (is_class Anonymous) os)
-
-  -- the text of the object at a place, where it is anonymous
-  abbrev pub anonymous_at_place : Directory → ℕ → List ℕ
-  anonymous_at_place d i = part_of (where_anonymous text) (slice_get d.objects i)
-
-  pub anonymous-places : (d : Directory) (n : ℕ) → length d.objects ≤ n → parts_until (anonymous_at_place d) n ≡ flat_map text (anonymous_objects d)
-  anonymous-places d n h = parts-taken (where_anonymous text) d.objects n ∙ ap (flat_map (where_anonymous text)) (take_all n d.objects h) ∙ anonymous-filtered d.objects
 
   -- what is said of an object says whether it is anonymous
   class-if : (o : Object) (c : Class) → c ≡ o.class → (c ≡ Anonymous → ⊥) → where_anonymous text o ≡ []

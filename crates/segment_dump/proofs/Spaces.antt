@@ -1,32 +1,41 @@
 -- Behind all blocks there is one gap, and each request takes the front of it.
 use Rattle.std.proofs.Common.{◌≡◌, inl, inr, ℕ, ◌+◌, ◌-◌, ◌<◌, ◌≤◌, ◌==◌, ◌&&◌, Bool, true, false, nat_le, nat_lt, List, [], ◌∷◌, ◌++◌, Option, Some, if◌then◌else◌, refl, sym, ap, subst, ◌∙◌, arith}
 use Rattle.std.specs.Prelude.{IsTrue, filter, option_map}
-use Rattle.std.proofs.lemmas.Bool.{and_parts, ltb-true}
+use Rattle.std.proofs.lemmas.Bool.{and_parts, ltb-true, ne_eqb}
 use Rattle.std.proofs.lemmas.Bool.Decides.{nat_tests}
 use Rattle.block_tags.specs.declared.tile.Role.{Role}
 use Rattle.block_tags.specs.Format.{is_legal_size}
 use Rattle.best_fit.specs.Extents.{Extent, LiveSet, Gap, end_of, gap_between, gaps, gaps_from, is_block, is_hole, is_proper, proper_from}
 use Rattle.best_fit.specs.Fit.{fit, least, place, room, share}
-use Rattle.segment_manager.specs.Directory.{Directory, live, sorted}
+use Rattle.segment_manager.specs.Directory.{Directory, live}
 use Rattle.segment_manager.proofs.Laws.{all-sorted, live-extents, live-size}
 use Rattle.segment_dump.specs.Building.{EndBy, HasRoom, all_extents, total}
+use Rattle.segment_dump.specs.Need.{block_room, all_needs}
+use Rattle.best_fit.specs.Ends.{last_end}
+use Rattle.segment_dump.specs.declared.needs.Needs.{Needs}
+use Rattle.segment_dump.proofs.Rooms.{hole-rises, total-sorted}
+use Rattle.segment_dump.proofs.Lists.{all-by}
 pub use Rattle.segment_dump.specs.Building.{IsRest}
-use Rattle.segment_dump.specs.Need.{block_room}
-use Rattle.segment_dump.proofs.Rooms.{total-insert, total-more}
 
 -- ---- no gap but the one behind all blocks
 
-hole-rises : (a b : ℕ) → is_hole a b ≡ true → a ≤ b
-hole-rises a b e = grind (arith, nat_tests)
+-- the last one ends where all their bytes are, or behind it
+pub last-long : (from : ℕ) (xs : List Extent) (to : ℕ) → proper_from from xs to ≡ true
+    → from + total xs ≤ last_end from xs
+unfolding total
+last-long from [] to p = omega arith
+last-long from (x ∷ xs) to p =
+    let q = and_parts (is_hole from x.offset && is_block x) (proper_from (end_of x) xs to) p in
+    let r = and_parts (is_hole from x.offset) (is_block x) q.0 in
+    omega (arith, hole-rises from x.offset r.0, last-long (end_of x) xs to q.1)
+
+pub last-most : (from e : ℕ) (xs : List Extent) → EndBy e xs → from ≤ e → last_end from xs ≤ e
+last-most from e [] a l = l
+last-most from e (x ∷ xs) a l = last-most (end_of x) e xs a.1 a.0
 
 -- they have no more bytes than there are up to there
 ended-total : (from : ℕ) (xs : List Extent) (to e : ℕ) → proper_from from xs to ≡ true → EndBy e xs → from ≤ e → from + total xs ≤ e
-unfolding total
-ended-total from [] to e p a l = omega arith
-ended-total from (x ∷ xs) to e p a l =
-    let q = and_parts (is_hole from x.offset && is_block x) (proper_from (end_of x) xs to) p in
-    let r = and_parts (is_hole from x.offset) (is_block x) q.0 in
-    omega (arith, hole-rises from x.offset r.0, ended-total (end_of x) xs to e q.1 a.1 a.0)
+ended-total from xs to e p a l = omega (arith, last-long from xs to p, last-most from e xs a l)
 
 gap-none : (a b : ℕ) → a ≡ b → gap_between a b ≡ []
 gap-none a b e = grind (arith, nat_tests)
@@ -90,11 +99,6 @@ place-front l n role e rest g h r p =
 
 -- ---- a directory
 
-total-sorted : (xs : List Extent) → total (sorted xs) ≡ total xs
-unfolding total
-total-sorted [] = refl
-total-sorted (x ∷ xs) = total-more x xs (sorted xs) (total-insert x (sorted xs)) (total-sorted xs)
-
 proper-tiles : (d : Directory) → IsTrue (is_proper (live d)) → proper_from 128 (live d).extents ((live d).size - 16) ≡ true
 unfolding is_proper
 proper-tiles d h = (and_parts (is_legal_size (live d).size) (proper_from 128 (live d).extents ((live d).size - 16)) h).1
@@ -118,10 +122,6 @@ room-taken d n role rest p h r =
 
 -- ---- one block more
 
-all-weak : (a b : ℕ) (xs : List Extent) → a ≤ b → EndBy a xs → EndBy b xs
-all-weak a b [] l h = tt
-all-weak a b (x ∷ xs) l h = (omega (arith, h.0, l), all-weak a b xs l h.1)
-
 all-between : (e : ℕ) (xs ys : List Extent) (x : Extent) → EndBy e (xs ++ ys) → end_of x ≤ e → EndBy e (xs ++ x ∷ ys)
 all-between e [] ys x h l = (l, h)
 all-between e (y ∷ xs) ys x h l = (h.0, all-between e xs ys x h.1 l)
@@ -136,7 +136,8 @@ pub room-with : (xs ys : List Extent) (x : Extent) (size more rest : ℕ) → (h
 room-with xs ys x size more rest h e f = record {
   end = end_of x;
   start = omega (arith, h.start, e);
-  below = all-between (end_of x) xs ys x (all-weak h.end (end_of x) (xs ++ ys) (omega (arith, e)) h.below) (omega arith);
+  below = all-between (end_of x) xs ys x (all-by (λ (y : Extent). end_of y ≤ h.end)
+      (λ (y : Extent). end_of y ≤ end_of x) (xs ++ ys) h.below (λ y l. omega (arith, e, l))) (omega arith);
   full = omega (arith, total-between xs ys x, h.full, e);
   room = f;
 }
@@ -160,9 +161,11 @@ rest-both m n (inl p) (inl q) = inl (omega (arith, p, q))
 rest-both m n (inl p) (inr q) = inr (omega (arith, p, q))
 rest-both m n (inr p) q = inr (omega (arith, p))
 
-none-test : (n : ℕ) → 0 < n → (n == 0) ≡ false
-none-test n h = grind (arith, nat_tests)
-
 pub block-some : (n : ℕ) → 0 < n → block_room n ≡ room n
 unfolding block_room
-block-some n h = ap (λ b. if b then 0 else room n) (none-test n h)
+block-some n h = ap (λ b. if b then 0 else room n) (ne_eqb n 0 (λ e. omega (arith, h, e)))
+
+pub needs-rest : {X : Type 0} (needs : X → Needs) → ((x : X) → IsRest (needs x).room) → (xs : List X)
+    → IsRest (all_needs needs xs).room
+needs-rest needs r [] = inl refl
+needs-rest needs r (x ∷ xs) = rest-both (needs x).room (all_needs needs xs).room (r x) (needs-rest needs r xs)

@@ -1,21 +1,41 @@
 -- An object with nothing in it is ready to be filled, and is filled element by element.
-use Rattle.std.proofs.Common.{◌≡◌, inl, ℕ, ◌+◌, ◌*◌, ◌<◌, ◌≤◌, ℤ, pos, List, [], ◌∷◌, ◌++◌, length, replicate, Result, Ok, Err, refl, sym, ap, subst, ◌∙◌, arith, zero-add}
+use Rattle.std.proofs.Common.{
+  ◌≡◌,
+  ℕ,
+  ◌+◌,
+  ◌*◌,
+  ◌<◌,
+  ◌≤◌,
+  ℤ,
+  pos,
+  List,
+  [],
+  ◌++◌,
+  length,
+  replicate,
+  Result,
+  Ok,
+  Err,
+  refl,
+  sym,
+  ap,
+  subst,
+  ◌∙◌,
+  arith,
+  zero-add,
+}
 use Rattle.std.specs.Prelude.{flat_map}
 use Rattle.best_fit.specs.Table.{no_table}
 use Rattle.seg_types.specs.declared.kinds.Kind.{Kind}
-use Rattle.seg_types.specs.declared.kinds.Kind.TheVariants as kinds
 use Rattle.seg_types.specs.declared.kinds.ScalarKind.{ScalarKind}
-use Rattle.seg_types.specs.declared.kinds.ScalarKind.TheVariants.{Bool as BoolKind, U8, I32, I64, U64}
+use Rattle.seg_types.specs.declared.kinds.ScalarKind.TheVariants.{Bool as BoolKind}
 use Rattle.seg_types.specs.declared.refusals.Refusal.{Refusal}
-use Rattle.seg_types.specs.Commands as asked
 use Rattle.seg_types.specs.Kinds.{size_of}
 use Rattle.seg_types.specs.Names.{ByHandle}
-use Rattle.segment_manager.specs.declared.modes.Mode.TheVariants.{Write}
 use Rattle.segment_manager.specs.Answers.{Done}
 use Rattle.segment_manager.specs.Directory.{Elements, Numbers, Pairs, Texts, Value}
 use Rattle.segment_manager.specs.Plan.{bare}
 use Rattle.segment_manager.specs.State.{IsStep, State, done_answer}
-use Rattle.segment_manager.specs.Step.{step}
 use Rattle.segment_dump.specs.Builders.{AddsElement, FillsElements, FillsNew, IsBegun, IsFillable, IsVectorKind, content_need, first_content}
 use Rattle.segment_dump.specs.Building.{IsFilling}
 use Rattle.segment_dump.specs.Filling.{Fill, FillsAt, IsPart, StandsFilling, StringsPart, VectorPart, head_of}
@@ -23,9 +43,11 @@ use Rattle.segment_dump.specs.Items.{Content, Map, Scalars, String, Strings, Vec
 use Rattle.segment_dump.specs.Need.{all_needs, block_room, text_needs}
 use Rattle.segment_dump.specs.Texts.{content_text, element_line, text_lines}
 use Rattle.segment_dump.proofs.Adds.{string-of, was-done}
-use Rattle.segment_dump.proofs.Fillings.{filled, led, writing}
-use Rattle.segment_dump.proofs.Fills.{HasTable, IsReserved, none, reserved, some, table_of, texts-stored, vector-stored}
-use Rattle.segment_dump.proofs.Spaces.{IsRest, block-rest, rest-both}
+use Rattle.segment_dump.proofs.Fillings.{filled, led, texts-rest}
+use Rattle.segment_dump.proofs.Fills.{HasTable, none, reserved, some, table_of, texts-stored, vector-stored}
+use Rattle.segment_dump.proofs.Spaces.{IsRest, rest-both}
+use Rattle.seg_types.specs.declared.kinds.Kind.TheVariants as kinds
+use Rattle.seg_types.specs.Commands as asked
 
 -- ---- one element after another
 
@@ -88,14 +110,7 @@ fills-plain old new h kind count text rest room result n v f = record {
 
 size-long : (k : ScalarKind) → 0 < size_of k
 size-long BoolKind = omega arith
-size-long U8 = omega arith
-size-long I32 = omega arith
-size-long I64 = omega arith
-size-long U64 = omega arith
-
-pub texts-rest : (ts : List (List ℕ)) → IsRest (all_needs text_needs ts).room
-texts-rest [] = inl refl
-texts-rest (t ∷ ts) = rest-both (block_room (length t)) (all_needs text_needs ts).room (block-rest (length t)) (texts-rest ts)
+size-long k = omega arith
 
 vector-table : (k : ScalarKind) (zs : List ℤ) (w : Value) → HasTable (Elements k [] no_table) (length zs) w → VectorPart k zs 0 w (flat_map (element_line k) zs) 0
 vector-table k zs w (none e) = record { front = []; back = zs; table = no_table; all_are = refl; many = refl; places = omega (arith, e); value_is = refl; text_is = refl; need_is = refl }
@@ -113,8 +128,7 @@ reserved-by (Vector k zs) p kind e q v r s new text h called st t moved =
     let needs : content_need (Vector k zs) + p.more ≡ block_room (size_of k * n) + (0 + p.more) = omega arith in
     let f : IsFilling st.directory p.site p.done (head_of p h) (Elements k [] no_table) (block_room (size_of k * n) + (0 + p.more)) = subst (IsFilling st.directory p.site p.done (head_of p h) (Elements k [] no_table)) needs st.filling in
     let done = reserved st.directory p.site p.done (head_of p h) (Elements k [] no_table) (size_of k) n (0 + p.more) st.stands.denotes.directory (vector-stored k) (size-long k) f (subst IsRest (sym (zero-add p.more)) r) in
-    let u = led s new st.directory (done_answer called) Done (λ d. step Write d (asked.Reserve (ByHandle h) n)) (IsReserved p.site p.done (head_of p h) (Elements k [] no_table) n (0 + p.more))
-    (writing s new (asked.Reserve (ByHandle h) n) (done_answer called) st.mode moved) st.stands st.mode done in (
+    let u = led st.stands st.mode _ moved done in (
       u.given_is,
       record {
         value = u.holds.value;
@@ -131,8 +145,7 @@ reserved-by (Strings ts) p kind e q v r s new text h called st t moved =
     let needs : content_need (Strings ts) + p.more ≡ block_room (16 * n) + (texts + p.more) = omega arith in
     let f : IsFilling st.directory p.site p.done (head_of p h) (Texts [] no_table) (block_room (16 * n) + (texts + p.more)) = subst (IsFilling st.directory p.site p.done (head_of p h) (Texts [] no_table)) needs st.filling in
     let done = reserved st.directory p.site p.done (head_of p h) (Texts [] no_table) 16 n (texts + p.more) st.stands.denotes.directory texts-stored (omega arith) f (rest-both texts p.more (texts-rest ts) r) in
-    let u = led s new st.directory (done_answer called) Done (λ d. step Write d (asked.Reserve (ByHandle h) n)) (IsReserved p.site p.done (head_of p h) (Texts [] no_table) n (texts + p.more))
-    (writing s new (asked.Reserve (ByHandle h) n) (done_answer called) st.mode moved) st.stands st.mode done in (
+    let u = led st.stands st.mode _ moved done in (
       u.given_is,
       record {
         value = u.holds.value;
@@ -179,8 +192,6 @@ fills-text old new h kind count text rest room result e f = record {
 }
 
 pub not-vector : (kind : Kind) → ((k : ScalarKind) → kind ≡ kinds.Vector k → ⊥) → (kind ≡ kinds.Texts → ⊥) → IsVectorKind kind → ⊥
-not-vector (kinds.Scalar k) n m v = v
-not-vector kinds.Text n m v = v
 not-vector (kinds.Vector k) n m v = n k refl
-not-vector (kinds.Map k w) n m v = v
 not-vector kinds.Texts n m v = m refl
+not-vector kind n m v = v

@@ -1,16 +1,13 @@
 -- A string is filled, piece by piece.
 use Rattle.std.proofs.Common.{◌≡◌, ℕ, suc, ◌+◌, ◌-◌, ◌*◌, ◌/◌, ◌^◌, ◌<◌, ◌≤◌, List, [], ◌∷◌, ◌++◌, length, Result, Ok, Err, refl, sym, ap, subst, ◌∙◌, arith}
 use Rattle.best_fit.specs.Table.{Table, no_table}
-use Rattle.seg_types.specs.declared.kinds.Kind.TheVariants as kinds
 use Rattle.seg_types.specs.declared.refusals.Refusal.{Refusal}
-use Rattle.seg_types.specs.Commands as asked
 use Rattle.seg_types.specs.Names.{ByHandle}
-use Rattle.segment_manager.specs.declared.modes.Mode.TheVariants.{Write}
 use Rattle.segment_manager.specs.Answers.{Done}
 use Rattle.segment_manager.specs.Directory.{Bytes, Value}
 use Rattle.segment_manager.specs.Plan.{bare}
 use Rattle.segment_manager.specs.State.{IsStep, IsStepOfKind, State, done_answer}
-use Rattle.segment_manager.specs.Step.{step, step_of_kind}
+use Rattle.segment_manager.specs.Step.{step}
 use Rattle.segment_dump.specs.Builders.{AppendsPiece, FillsNew, IsBegun, IsFillable, PiecesLeft, ReadsLength, ReadsPiece, content_need, first_content}
 use Rattle.segment_dump.specs.Building.{Head, IsBuilt, IsFilling}
 use Rattle.segment_dump.specs.Filling.{AreBytes, Fill, IsBuildableContent, StandsFilling, head_of}
@@ -21,10 +18,12 @@ use Rattle.segment_dump.specs.Texts.{content_text, piece_of, pieces_in, text_lin
 use Rattle.segment_dump.proofs.Adds.{string-of, was-done}
 use Rattle.segment_dump.proofs.Builds.{built}
 use Rattle.segment_dump.proofs.ContentLines.{piece_front}
-use Rattle.segment_dump.proofs.ElementReads.{never-ok, ok-same}
-use Rattle.segment_dump.proofs.Fillings.{led, writing, writing-of_kind}
-use Rattle.segment_dump.proofs.Fills.{HasTable, IsReserved, appended, none, reserved, some, string-stored, table_of}
+use Rattle.segment_dump.proofs.Found.{never-ok, ok-same}
+use Rattle.segment_dump.proofs.Fillings.{led, led-of_kind}
+use Rattle.segment_dump.proofs.Fills.{HasTable, appended, none, reserved, some, string-stored, table_of}
 use Rattle.segment_dump.proofs.PieceReads.{first-fits, front-all, front-few, front-more, front_bytes, none-left, piece-bytes, piece-line}
+use Rattle.seg_types.specs.declared.kinds.Kind.TheVariants as kinds
+use Rattle.seg_types.specs.Commands as asked
 
 -- ---- one piece
 
@@ -39,8 +38,7 @@ piece-appended {E} {F} old new h words p bytes called result r e step ok = recor
       let is : bytes ≡ bs = e ∙ ok-same {E = E} p bs (r.reads i bs a w) in
       let step' : IsStepOfKind old new (ByHandle h) kinds.Text (asked.Append (ByHandle h) bs) (done_answer called) = subst (λ b. IsStepOfKind old new (ByHandle h) kinds.Text (asked.Append (ByHandle h) b) (done_answer called)) is step in
       let done' = appended s.directory site done head front t rest bs s.stands.denotes.directory s.filling l in
-      let u = led old new s.directory (done_answer called) Done (λ d. step_of_kind Write d (ByHandle h) kinds.Text (asked.Append (ByHandle h) bs)) (λ e. IsFilling e site done head (Bytes (front ++ bs) t) rest)
-      (writing-of_kind old new h kinds.Text (asked.Append (ByHandle h) bs) (done_answer called) s.mode step') s.stands s.mode done' in
+      let u = led-of_kind s.stands s.mode _ _ _ step' done' in
       (ok (was-done called u.given_is), record { directory = u.directory; stands = u.stands; mode = u.mode; filling = u.holds });
 }
 
@@ -112,8 +110,7 @@ module _ (old mid : State) (h room : ℕ) (text rest words : List ℕ) (len : �
       let many : len ≡ length bs = ap (λ (b : List ℕ × ℕ). b.1) both in
       let moved' : IsStep old mid (asked.Reserve (ByHandle h) (length bs)) (done_answer called) = subst (λ n. IsStep old mid (asked.Reserve (ByHandle h) n) (done_answer called)) many moved in
       let done' = reserved g.stands.directory p.site p.done (head_of p h) (Bytes [] no_table) 1 (length bs) p.more g.stands.stands.denotes.directory string-stored (omega arith) g.stands.filling f.rest in
-      let u = led old mid g.stands.directory (done_answer called) Done (λ d. step Write d (asked.Reserve (ByHandle h) (length bs))) (IsReserved p.site p.done (head_of p h) (Bytes [] no_table) (length bs) p.more)
-      (writing old mid (asked.Reserve (ByHandle h) (length bs)) (done_answer called) g.stands.mode moved') g.stands.stands g.stands.mode done' in
+      let u = led g.stands.stands g.stands.mode _ moved' done' in
       let t = table-string bs u.holds.value u.holds.table in
       record {
         bytes = bs;

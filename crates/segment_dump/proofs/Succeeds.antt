@@ -1,14 +1,42 @@
 -- A load of a dump, where nothing is lacking for its objects, gives a segment.
-use Rattle.std.proofs.Common.{◌≡◌, inl, ℕ, ◌+◌, ◌*◌, ◌^◌, ◌<◌, ◌≤◌, Bool, true, false, nat_eq, nat_lt, List, [], ◌∷◌, ◌++◌, length, map, Option, Some, None, Result, Ok, Err, if◌then◌else◌, refl, sym, ap, subst, ◌∙◌, arith}
+use Rattle.std.proofs.Common.{
+  ◌≡◌,
+  ℕ,
+  ◌+◌,
+  ◌*◌,
+  ◌^◌,
+  ◌<◌,
+  ◌≤◌,
+  Bool,
+  true,
+  false,
+  nat_eq,
+  nat_lt,
+  List,
+  [],
+  ◌++◌,
+  length,
+  map,
+  Option,
+  Some,
+  None,
+  Result,
+  Ok,
+  Err,
+  if◌then◌else◌,
+  refl,
+  sym,
+  ap,
+  subst,
+  ◌∙◌,
+  arith,
+}
 use Rattle.std.specs.Prelude.{IfOk, OnErr, not}
-use Rattle.std.proofs.lemmas.Bool.{false≢true, ltb-false}
+use Rattle.std.proofs.lemmas.Bool.{false≢true, ltb-false, eq-eqb}
 use Rattle.std.proofs.lemmas.List.{length-append}
-use Rattle.std.proofs.lemmas.Bool.Decides.{nat_tests}
 use Rattle.block_tags.specs.Format.{is_legal_size}
 use Rattle.seg_types.specs.declared.refusals.Refusal.{Refusal}
-use Rattle.seg_types.specs.Commands as asked
 use Rattle.segment_manager.specs.declared.errors.CreateError.{CreateError}
-use Rattle.segment_manager.specs.declared.errors.CreateError.TheVariants as create
 use Rattle.segment_manager.specs.declared.errors.CreateRefused.{CreateRefused}
 use Rattle.segment_manager.specs.declared.modes.Mode.TheVariants.{Write}
 use Rattle.segment_manager.specs.Answers.{Done, Number}
@@ -23,7 +51,7 @@ use Rattle.segment_dump.specs.declared.faults.LoadError.{LoadError}
 use Rattle.segment_dump.specs.declared.faults.LoadError.TheVariants.{BadSize, RegionTooSmall, NoSpace, LongText}
 use Rattle.segment_dump.specs.declared.faults.LoadRefused.{LoadRefused}
 use Rattle.segment_dump.specs.Builders.{Builds}
-use Rattle.segment_dump.specs.Building.{IsBuilt, IsRest, Site}
+use Rattle.segment_dump.specs.Building.{IsBuilt, Site}
 use Rattle.segment_dump.specs.Comparing.{IsNoDumpOf}
 use Rattle.segment_dump.specs.Counting.{CountsDump, IsFront, fronted}
 use Rattle.segment_dump.specs.Filling.{StandsBuilt}
@@ -36,20 +64,17 @@ use Rattle.segment_dump.specs.Texts.{dump_text, end_text, items_text}
 use Rattle.segment_dump.proofs.Buildables.{needs-all, portable-left}
 use Rattle.segment_dump.proofs.Builds.{IsFronted, empty-built, fronted as with_names, named-reserved, unique-reserved}
 use Rattle.segment_dump.proofs.DumpCounts.{is-front}
-use Rattle.segment_dump.proofs.ElementReads.{never-ok, ok-same}
+use Rattle.segment_dump.proofs.Found.{never-ok, ok-same, none-some}
 use Rattle.segment_dump.proofs.Elements.{free-is, size-is}
-use Rattle.segment_dump.proofs.Fillings.{Led, led, writing}
+use Rattle.segment_dump.proofs.Fillings.{Led, led}
 use Rattle.segment_dump.proofs.Finishes.{built-portable, cut-free, portable-sorted, text-behind}
 use Rattle.segment_dump.proofs.Judged.{portable-countable}
-use Rattle.segment_dump.proofs.Makes.{item-rest}
 use Rattle.segment_dump.proofs.Spaces.{block-rest, rest-both}
-use Rattle.segment_dump.proofs.Sums.{never-some}
+use Rattle.segment_dump.proofs.Makes.{items-rest}
+use Rattle.seg_types.specs.Commands as asked
+use Rattle.segment_manager.specs.declared.errors.CreateError.TheVariants as create
 
 -- ---- the objects
-
-items-rest : (is : List Item) → IsRest (all_needs item_needs is).room
-items-rest [] = inl refl
-items-rest (i ∷ is) = rest-both (item_needs i).room (all_needs item_needs is).room (item-rest i) (items-rest is)
 
 never-done : (why : Refusal) → done_answer (Err why) ≡ Done → ⊥
 never-done why e = cc
@@ -65,7 +90,7 @@ module _ (old mid : State) (front : Front) (text : List ℕ) (most room : ℕ) (
       → Led mid (done_answer r) Done (IsFronted size front.named (more items))
   unfolding front_room
   named-led size items st w fits =
-      led old mid (empty size) (done_answer r) Done (λ d. step Write d (asked.ReserveNamed front.named)) (IsFronted size front.named (more items)) (writing old mid (asked.ReserveNamed front.named) (done_answer r) w moved) st w
+      led st w _ moved
       (named-reserved size front.named (more items) st.denotes.directory (empty-built size (block_room (8 * front.named) + more items) (omega (arith, fits)))
       (rest-both (block_room (8 * front.unique)) (all_needs item_needs items).room (block-rest (8 * front.unique)) (items-rest items)))
 
@@ -80,8 +105,8 @@ module _ (old mid : State) (front : Front) (text : List ℕ) (most room : ℕ) (
         let t = u.holds.table in
         let all : ℕ = (all_needs item_needs items).room in
         let stands : StandsFor mid.cut.bytes (with_names size t) = subst (StandsFor mid.cut.bytes) u.holds.is u.stands in
-        led mid last (with_names size t) (done_answer q) Done (λ d. step Write d (asked.ReserveUnique front.unique)) (λ e. IsBuilt e (site_of front size) [] all)
-        (writing mid last (asked.ReserveUnique front.unique) (done_answer q) u.mode on) stands u.mode (unique-reserved size front.named front.unique all t stands.denotes.directory u.holds.built (items-rest items))
+        led stands u.mode _ on (unique-reserved size front.named front.unique all t stands.denotes.directory
+        u.holds.built (items-rest items))
 
     pub unique-refused : {E : Type 0} (new : State) (why : Refusal) (result : Result (Unit {0}) E) → q ≡ Err why → Made new result
     unique-refused new why result e = record { makes = λ size items st w fits left t l. absurd (never-done why (ap done_answer (sym e) ∙ (unique-led size items st w fits).given_is)) }
@@ -96,14 +121,13 @@ module _ (old mid : State) (front : Front) (text : List ℕ) (most room : ℕ) (
 
 -- ---- what was made is judged
 
-eq-test : (m n : ℕ) → m ≡ n → nat_eq m n ≡ true
-eq-test m n e = grind (arith, nat_tests)
-
 pub sizes-some : (s : State) (n m : ℕ) → ((d : Directory) → StandsFor s.cut.bytes d → Number n ≡ (step s.mode d asked.Size).0) → (o : Option ℕ) → o ≡ Some m → Sizes s o (nat_eq n m)
-sizes-some s n m says o e = subst (λ p. Sizes s p (nat_eq n m)) (sym e) (record { sizes = λ d st h. eq-test n m (size-is s.mode d n (says d st) ∙ h) })
+sizes-some s n m says o e = subst (λ p. Sizes s p (nat_eq n m)) (sym e)
+    (record { sizes = λ d st h. eq-eqb n m (size-is s.mode d n (says d st) ∙ h) })
 
 pub sizes-none : (s : State) (n : ℕ) → ((d : Directory) → StandsFor s.cut.bytes d → Number n ≡ (step s.mode d asked.Free).0) → (o : Option ℕ) → o ≡ None → Sizes s o (nat_eq n 0)
-sizes-none s n says o e = subst (λ p. Sizes s p (nat_eq n 0)) (sym e) (record { sizes = λ d st h. eq-test n 0 (free-is s.mode d n (says d st) ∙ h) })
+sizes-none s n says o e = subst (λ p. Sizes s p (nat_eq n 0)) (sym e)
+    (record { sizes = λ d st h. eq-eqb n 0 (free-is s.mode d n (says d st) ∙ h) })
 
 pub trims-none : (old new : State) (o : Option ℕ) → o ≡ None → old.mode ≡ Write → Resizes old new (λ d. shrunk d) → Trims old new o
 trims-none old new o e w r = subst (Trims old new) (sym e) (record { mode = r.mode ∙ w; trims = λ d s. r.denotes d s })
@@ -170,10 +194,10 @@ module _ (text : List ℕ) (capacity base : ℕ) (size : Option ℕ) (room : ℕ
 
   suffices-by : (asked n : ℕ) (items : Items) (legal short full long : Bool) → is_legal_size asked ≡ legal → nat_lt capacity (base + asked) ≡ short → nat_lt asked (items_needs items).room ≡ full → nat_lt room (items_needs items).longest ≡ long
       → (if not legal then Some BadSize else if short then Some RegionTooSmall else if full then Some NoSpace else if long then Some LongText else None) ≡ None → Suffices asked n items
-  suffices-by asked n items false short full long e f g h k = absurd (never-some BadSize (sym k))
-  suffices-by asked n items true true full long e f g h k = absurd (never-some RegionTooSmall (sym k))
-  suffices-by asked n items true false true long e f g h k = absurd (never-some NoSpace (sym k))
-  suffices-by asked n items true false false true e f g h k = absurd (never-some LongText (sym k))
+  suffices-by asked n items false short full long e f g h k = absurd (none-some BadSize (sym k))
+  suffices-by asked n items true true full long e f g h k = absurd (none-some RegionTooSmall (sym k))
+  suffices-by asked n items true false true long e f g h k = absurd (none-some NoSpace (sym k))
+  suffices-by asked n items true false false true e f g h k = absurd (none-some LongText (sym k))
   suffices-by asked n items true false false false e f g h k = record { legal = e; region = f; space = ltb-false asked (items_needs items).room g; longest = ltb-false room (items_needs items).longest h }
 
   suffices : (asked n : ℕ) (items : Items) → asked ≡ asked_of size n → refusal_for capacity base size room (record { size = n; needs = items_needs items }) ≡ None → Suffices asked n items
@@ -241,7 +265,7 @@ succeeds-lacking text capacity base size room counted o cause result h r e = rec
   succeeds = λ b d n s l t f.
       let c = h.counts n (portable d) l (portable-countable b d s) t in
       let lack : o ≡ refusal_for capacity base size room (record { size = n; needs = items_needs (portable d) }) = subst (λ x. IsRefusalOf capacity base size room x o) c r in
-      absurd (never-some cause (sym f ∙ sym lack ∙ e));
+      absurd (none-some cause (sym f ∙ sym lack ∙ e));
 }
 
 pub succeeds-made : (text : List ℕ) (capacity base : ℕ) (size : Option ℕ) (room : ℕ) (counted : Result Count ℕ) (result : Result State LoadRefused) → CountsDump text counted → SucceedsOf text capacity base size room counted result → Succeeds text capacity base size room result

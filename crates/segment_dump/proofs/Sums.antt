@@ -1,26 +1,40 @@
 -- What some need together.
-use Rattle.std.proofs.Common.{◌≡◌, ℕ, ◌+◌, ◌*◌, ◌/◌, ◌<◌, ◌≤◌, ◌==◌, Bool, true, false, List, [], ◌∷◌, ◌++◌, Option, Some, None, if◌then◌else◌, refl, sym, ap, ◌∙◌, arith, add_assoc, zero-add}
+use Rattle.std.proofs.Common.{
+  ◌≡◌,
+  ℕ,
+  ◌+◌,
+  ◌*◌,
+  ◌/◌,
+  ◌<◌,
+  ◌≤◌,
+  ◌==◌,
+  Bool,
+  true,
+  false,
+  List,
+  [],
+  ◌∷◌,
+  ◌++◌,
+  if◌then◌else◌,
+  refl,
+  sym,
+  ap,
+  ◌∙◌,
+  arith,
+  add_assoc,
+  zero-add,
+}
 use Rattle.std.specs.Prelude.{max}
-use Rattle.std.proofs.Math.Nat.{le-max_right, zero-max}
+use Rattle.std.proofs.Math.Nat.{le-max_right, zero-max, le-mul_of_pos_right}
 use Rattle.std.proofs.lemmas.Bool.Decides.{nat_tests}
 use Rattle.best_fit.specs.Fit.{room}
 use Rattle.segment_dump.specs.declared.needs.Needs.{Needs}
 use Rattle.segment_dump.specs.Leads.{IsSmall}
 use Rattle.segment_dump.specs.Need.{all_needs, block_room, both, nothing}
-
--- ---- what is found
-
-pub some-pair : {A B : Type 0} (a b : A) (x y : B) → ◌≡◌ {A = Option (A × B)} (Some (a, x)) (Some (b, y)) → (a ≡ b) × (x ≡ y)
-some-pair {A} {B} a b x y e =
-    let f : Option (A × B) → A × B = λ o. elim o [ None ↦ (a, x) | Some p ↦ p ] in
-    let q : ◌≡◌ {A = A × B} (a, x) (b, y) = ap f e in
-    (λ i. (q i).0, λ i. (q i).1)
-
-pub some-same : {A : Type 0} (a b : A) → Some a ≡ Some b → a ≡ b
-some-same a b e = cc
-
-pub never-some : {A : Type 0} (a : A) → None ≡ Some a → ⊥
-never-some a e = cc
+use Rattle.seg_types.specs.declared.kinds.ScalarKind.{ScalarKind}
+use Rattle.seg_types.specs.declared.kinds.ScalarKind.TheVariants.{Bool as BoolKind}
+use Rattle.seg_types.specs.Kinds.{size_of}
+use Rattle.seg_map.specs.Map.{node_len}
 
 -- ---- sums of needs
 
@@ -84,3 +98,10 @@ least-if false n e = room-least n
 pub block-least : (n : ℕ) → n ≤ block_room n
 unfolding block_room
 block-least n = least-if (n == 0) n refl
+
+pub size-least : (k : ScalarKind) (n : ℕ) → n ≤ size_of k * n
+size-least BoolKind n = omega arith
+size-least k n = omega arith
+
+pub node-least : (k v : ScalarKind) (n : ℕ) → n ≤ n * block_room (node_len (size_of k) (size_of v))
+node-least k v n = le-mul_of_pos_right n (omega (arith, block-least (node_len (size_of k) (size_of v))))

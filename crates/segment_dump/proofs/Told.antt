@@ -1,8 +1,43 @@
--- The objects of a directory are such as a dump tells.
-use Rattle.std.proofs.Common.{◌≡◌, ◌≢◌, ℕ, ◌-◌, ◌<◌, ◌^◌, Bool, true, false, ◌&&◌, ◌==◌, cond, List, [], ◌∷◌, length, map, refl, sym, ap, subst, ◌∙◌, arith, if◌then◌else◌}
+-- The objects of a directory are such as a dump tells and a load makes, but for how many elements they have.
+use Rattle.std.proofs.Common.{
+  ◌≡◌,
+  ◌≢◌,
+  ℕ,
+  ◌-◌,
+  ◌<◌,
+  ◌^◌,
+  Bool,
+  true,
+  false,
+  ◌&&◌,
+  ◌==◌,
+  cond,
+  List,
+  [],
+  ◌∷◌,
+  length,
+  map,
+  refl,
+  sym,
+  ap,
+  subst,
+  ◌∙◌,
+  arith,
+  if◌then◌else◌,
+  ◌⊎◌,
+  inl,
+  inr,
+  ◌+◌,
+  ◌*◌,
+  ◌/◌,
+  ◌≤◌,
+  ℤ,
+  nat_le,
+  nat_lt,
+}
 use Rattle.std.specs.Prelude.{ℤ, filter, int_lt, nat_le}
 use Rattle.std.specs.List.{AllByRecursion, list_all}
-use Rattle.std.proofs.lemmas.Bool.{and_parts}
+use Rattle.std.proofs.lemmas.Bool.{and_parts, ltb-true, leb-true}
 use Rattle.std.proofs.lemmas.Bool.Decides.{nat_tests}
 use Rattle.raw_region.specs.Format.{current}
 use Rattle.block_tags.specs.declared.tile.Role.TheVariants.{Node, Object as ObjectRole, Storage}
@@ -13,40 +48,178 @@ use Rattle.seg_types.specs.declared.kinds.Class.{Class}
 use Rattle.seg_types.specs.declared.kinds.Class.TheVariants.{Anonymous, Named, Unique}
 use Rattle.seg_types.specs.declared.kinds.ScalarKind.{ScalarKind}
 use Rattle.seg_types.specs.Kinds.{class_code, is_kind_of, is_value, size_of}
-use Rattle.seg_types.specs.Names.{is_name}
+use Rattle.seg_types.specs.Names.{is_name, is_text_name}
 use Rattle.seg_map.specs.Map.{is_rising, node_len}
 use Rattle.seg_map.specs.Numbers.{NumberPair, is_number_pair}
 use Rattle.seg_map.specs.Places.{item_of}
-use Rattle.segment_manager.specs.Directory.{Bytes, Directory, Elements, Numbers, Object, Pairs, Texts, Value, by_kind, by_name, has_good_name, is_class, is_good_value, is_object, kind_of, live, named_objects, object_len, unique_objects}
+use Rattle.segment_manager.specs.Directory.{
+  Bytes,
+  Directory,
+  Elements,
+  Numbers,
+  Object,
+  Pairs,
+  Texts,
+  Value,
+  by_kind,
+  by_name,
+  has_good_name,
+  is_class,
+  is_good_value,
+  is_object,
+  kind_of,
+  live,
+  named_objects,
+  object_len,
+  unique_objects,
+  has_own_block,
+  is_owned_text,
+}
 use Rattle.segment_manager.specs.State.{StandsFor}
 use Rattle.segment_manager.proofs.Laws.{all-ordered, live-size}
-use Rattle.segment_dump.specs.Items.{anonymous_objects, content_of, item_of_object, portable}
+use Rattle.segment_dump.specs.Items.{
+  anonymous_objects,
+  content_of,
+  item_of_object,
+  portable,
+  Content,
+  Item,
+  Map,
+  Scalars,
+  String,
+  Strings,
+  Vector,
+  bytes_in,
+  count_of_content,
+  kind_of_content,
+}
 use Rattle.segment_dump.specs.Laws.{DumpsTellObjects, DumpsTellSizes}
-use Rattle.segment_dump.proofs.ItemLines.{IsGoodContent, IsGoodItem, IsPairOf, IsValueOf}
+use Rattle.segment_dump.specs.Filling.{IsPairOf, AreBytes, AreRising, AreValues, IsBuildableContent, IsNameIn}
+use Rattle.std.specs.Str.{is_utf8}
+use Rattle.std.proofs.lemmas.Int.{ints}
+use Rattle.std.proofs.lemmas.Str.{IsUtf8-from_is_utf8}
+use lib.Dec.{ltb}
+use lib.Utf8.{encode, encodes, next, scalar, scalars, scalar_cases}
+use Rattle.seg_vector.specs.Vector.{OwnedText}
+use Rattle.segment_dump.specs.Need.{
+  all_needs,
+  elements_room,
+  item_needs,
+  items_needs,
+  object_room,
+  text_needs,
+  texts_needs,
+}
+use Rattle.segment_dump.specs.Succeeding.{AreOf}
+use Rattle.segment_dump.proofs.ItemLines.{IsGoodItem}
 use Rattle.segment_dump.proofs.Readings.{AreItems, dumps-read, sizes-read}
+use Rattle.segment_dump.proofs.Sums.{block-least, node-least, size-least}
+use Rattle.segment_dump.proofs.Lists.{AllByRecursion-append, all-by, all-kept, all-mapped, all-tested}
+use Rattle.segment_dump.proofs.ObjectRooms.{segments-have-room}
 
--- ---- values
+-- ---- names
 
-values-good : (k : ScalarKind) (zs : List ℤ) → list_all (is_value k) zs ≡ true → AllByRecursion (IsValueOf k) zs
-values-good k [] e = tt
-values-good k (z ∷ zs) e = let p = and_parts (is_value k z) (list_all (is_value k) zs) e in (p.0, values-good k zs p.1)
+encode-by : (a b d : Bool) (c : ℕ) → ltb c 128 ≡ a → ltb c 2048 ≡ b → ltb c 65536 ≡ d → c < 1114112
+    → AreBytes (cond a (c ∷ []) (cond b ((192 + c / 64) ∷ next c ∷ []) (cond d ((224 + c / 4096) ∷ next (c / 64) ∷ next c ∷ []) ((240 + c / 262144) ∷ next (c / 4096) ∷ next (c / 64) ∷ next c ∷ []))))
+encode-by true b d c e f g l = (omega (arith, ltb-true c 128 e), tt)
+encode-by false true d c e f g l = (omega (arith, ltb-true c 2048 f), (omega arith, tt))
+encode-by false false true c e f g l = (omega (arith, ltb-true c 65536 g), (omega arith, (omega arith, tt)))
+encode-by false false false c e f g l = (omega (arith, l), (omega arith, (omega arith, (omega arith, tt))))
 
-pair-good : (k v : ScalarKind) (p : NumberPair) → is_number_pair k v p ≡ true → IsPairOf k v (item_of p)
-pair-good k v p e =
+scalar-most : (c : ℕ) → (c < 55296) ⊎ ((57344 ≤ c) × (c < 1114112)) → c < 1114112
+scalar-most c (inl h) = omega (arith, h)
+scalar-most c (inr h) = h.1
+
+encode-bytes : (c : ℕ) → scalar c ≡ true → AreBytes (encode c)
+unfolding encode
+encode-bytes c e = encode-by (ltb c 128) (ltb c 2048) (ltb c 65536) c refl refl refl (scalar-most c (scalar_cases c e))
+
+encodes-bytes : (cs : List ℕ) → scalars cs ≡ true → AreBytes (encodes cs)
+encodes-bytes [] e = tt
+encodes-bytes (c ∷ cs) e = let p = and_parts (scalar c) (scalars cs) e in AllByRecursion-append (λ b. b < 256)
+    (encode c) (encodes cs) (encode-bytes c p.0) (encodes-bytes cs p.1)
+
+utf8-bytes : (bs : List ℕ) → is_utf8 bs ≡ true → AreBytes bs
+utf8-bytes bs e = let u = IsUtf8-from_is_utf8 bs e in subst AreBytes u.1.1 (encodes-bytes u.0 u.1.0)
+
+text-name : (name : List ℕ) → is_text_name name ≡ true → AreBytes name × (length name ≤ 255)
+unfolding is_text_name
+text-name name e =
+    let p = and_parts (nat_le 1 (length name) && nat_le (length name) 255 && is_utf8 name) _ e in
+    let q = and_parts (nat_le 1 (length name) && nat_le (length name) 255) (is_utf8 name) p.0 in
+    let r = and_parts (nat_le 1 (length name)) (nat_le (length name) 255) q.0 in
+    (utf8-bytes name q.1, leb-true (length name) 255 r.1)
+
+good-name : (name : List ℕ) → is_name current name ≡ true → AreBytes name × (length name ≤ 255)
+unfolding current
+good-name name e = text-name name e
+
+no-bytes : (name : List ℕ) → (length name == 0) ≡ true → name ≡ []
+no-bytes [] e = refl
+no-bytes (b ∷ bs) e = absurd (grind (arith, nat_tests))
+
+name-in : (c : Class) (name : List ℕ) → (if class_code Named == class_code c then is_name current name else length name == 0) ≡ true → IsNameIn c name
+name-in Named name e = let g = good-name name e in (e, g.0, g.1)
+name-in Unique name e = no-bytes name e
+name-in Anonymous name e = no-bytes name e
+
+-- ---- values, but for how many there are
+
+abbrev IsHalfContent : Content → Type 0
+IsHalfContent (Scalars k zs) = (1 ≤ length zs) × (length zs ≤ 1048576) × AreValues k zs
+IsHalfContent (Vector k zs) = AreValues k zs
+IsHalfContent (String bs) = AreBytes bs
+IsHalfContent (Map k v ps) = AllByRecursion (IsPairOf k v) ps × AreRising ps
+IsHalfContent (Strings ts) = AllByRecursion AreBytes ts
+
+all-values : (k : ScalarKind) (zs : List ℤ) → list_all (is_value k) zs ≡ true → AreValues k zs
+all-values k zs e = all-tested (is_value k) (λ z. is_value k z ≡ true) (λ z t. t) zs e
+
+all-bytes : (bs : List ℕ) → list_all (λ b. nat_lt b 256) bs ≡ true → AreBytes bs
+all-bytes bs e = all-tested (λ b. nat_lt b 256) (λ b. b < 256) (λ b t. ltb-true b 256 t) bs e
+
+pair-of : (k v : ScalarKind) (p : NumberPair) → is_number_pair k v p ≡ true → IsPairOf k v (item_of p)
+pair-of k v p e =
     let q = and_parts (is_value k p.key && is_value v p.value) (serves p.node Node (node_len (size_of k) (size_of v))) e in
     let r = and_parts (is_value k p.key) (is_value v p.value) q.0 in
     (r.0, r.1)
 
-pairs-good : (k v : ScalarKind) (ps : List NumberPair) → list_all (is_number_pair k v) ps ≡ true → AllByRecursion (IsPairOf k v) (map item_of ps)
-pairs-good k v [] e = tt
-pairs-good k v (p ∷ ps) e = let q = and_parts (is_number_pair k v p) (list_all (is_number_pair k v) ps) e in (pair-good k v p q.0, pairs-good k v ps q.1)
+all-pairs : (k v : ScalarKind) (ps : List NumberPair) → list_all (is_number_pair k v) ps ≡ true → AllByRecursion (IsPairOf k v) (map item_of ps)
+all-pairs k v ps e = all-mapped (IsPairOf k v) item_of ps
+    (all-tested (is_number_pair k v) (λ p. IsPairOf k v (item_of p)) (pair-of k v) ps e)
 
-value-good : (v : Value) → is_good_value v ≡ true → IsGoodContent (content_of v)
-value-good (Numbers k zs) e = values-good k zs (and_parts (nat_le 1 (length zs) && nat_le (length zs) 1048576) (list_all (is_value k) zs) e).1
-value-good (Elements k zs t) e = values-good k zs (and_parts (nat_le (length zs) t.capacity && is_table Storage (size_of k) t) (list_all (is_value k) zs) e).1
-value-good (Bytes bs t) e = tt
-value-good (Pairs k v ps) e = pairs-good k v ps (and_parts (is_rising int_lt ps) (list_all (is_number_pair k v) ps) e).1
-value-good (Texts ps t) e = tt
+int-trans : (x y z : ℤ) → int_lt x y ≡ true → int_lt y z ≡ true → int_lt x z ≡ true
+int-trans x y z e f = grind (arith, ints)
+
+below-pairs : (x : ℤ) (p : NumberPair) (ps : List NumberPair) → int_lt x p.key ≡ true → is_rising int_lt (p ∷ ps) ≡ true → AllByRecursion (λ (q : ℤ × ℤ). int_lt x q.0 ≡ true) (map item_of (p ∷ ps))
+below-pairs x p [] l e = (l, tt)
+below-pairs x p (q ∷ ps) l e =
+    let r = and_parts (int_lt p.key q.key) (is_rising int_lt (q ∷ ps)) e in
+    (l, below-pairs x q ps (int-trans x p.key q.key l r.0) r.1)
+
+all-rising : (ps : List NumberPair) → is_rising int_lt ps ≡ true → AreRising (map item_of ps)
+all-rising [] e = tt
+all-rising (p ∷ []) e = (tt, tt)
+all-rising (p ∷ q ∷ ps) e =
+    let r = and_parts (int_lt p.key q.key) (is_rising int_lt (q ∷ ps)) e in
+    (below-pairs p.key q ps r.0 r.1, all-rising (q ∷ ps) r.1)
+
+owned-bytes : (p : OwnedText) → is_owned_text p ≡ true → AreBytes (bytes_in p)
+owned-bytes p e = all-bytes p.bytes (and_parts (has_own_block p) (list_all (λ b. nat_lt b 256) p.bytes) e).1
+
+all-texts : (ps : List OwnedText) → list_all is_owned_text ps ≡ true → AllByRecursion AreBytes (map bytes_in ps)
+all-texts ps e = all-mapped AreBytes bytes_in ps (all-tested is_owned_text (λ p. AreBytes (bytes_in p)) owned-bytes ps
+    e)
+
+value-half : (v : Value) → is_good_value v ≡ true → IsHalfContent (content_of v)
+value-half (Numbers k zs) e =
+    let p = and_parts (nat_le 1 (length zs) && nat_le (length zs) 1048576) (list_all (is_value k) zs) e in
+    let q = and_parts (nat_le 1 (length zs)) (nat_le (length zs) 1048576) p.0 in
+    (leb-true 1 (length zs) q.0, leb-true (length zs) 1048576 q.1, all-values k zs p.1)
+value-half (Elements k zs t) e = all-values k zs (and_parts (nat_le (length zs) t.capacity && is_table Storage (size_of k) t) (list_all (is_value k) zs) e).1
+value-half (Bytes bs t) e = all-bytes bs (and_parts (nat_le (length bs) t.capacity && is_table Storage 1 t) (list_all (λ b. nat_lt b 256) bs) e).1
+value-half (Pairs k v ps) e = let p = and_parts (is_rising int_lt ps) (list_all (is_number_pair k v) ps) e in (all-pairs k v ps p.1, all-rising ps p.0)
+value-half (Texts ps t) e = all-texts ps (and_parts (nat_le (length ps) t.capacity && is_table Storage 16 t) (list_all is_owned_text ps) e).1
 
 -- ---- an object of a class
 
@@ -56,64 +229,91 @@ class-is Named Named e = refl
 class-is Unique Unique e = refl
 class-is c d e = absurd (cc)
 
-no-bytes : (name : List ℕ) → (length name == 0) ≡ true → name ≡ []
-no-bytes [] e = refl
-no-bytes (b ∷ bs) e = absurd (grind (arith, nat_tests))
+record IsHalf (c : Class) (i : Item) : Type 0 where
+  class : i.class ≡ c
+  name : IsNameIn i.class i.name
+  content : IsHalfContent i.content
 
-nameless : (format : ℕ) (c d : Class) (name : List ℕ) → d ≡ c → c ≢ Named → (if class_code Named == class_code d then is_name format name else length name == 0) ≡ true → name ≡ []
-nameless format Named d name h n e = absurd (n refl)
-nameless format Unique d name h n e = no-bytes name (subst (λ d. (if class_code Named == class_code d then is_name format name else length name == 0) ≡ true) h e)
-nameless format Anonymous d name h n e = no-bytes name (subst (λ d. (if class_code Named == class_code d then is_name format name else length name == 0) ≡ true) h e)
+abbrev HasHalf : Class → Object → Type 0
+HasHalf c o = IsHalf c (item_of_object o)
 
--- its item is one that a dump tells
-abbrev IsTold : Class → Object → Type 0
-IsTold c o = IsGoodItem c (item_of_object o)
+object-half : (c : Class) (o : Object) → is_class c o ≡ true → is_object current o ≡ true → HasHalf c o
+object-half c o f e =
+    let p = and_parts (has_good_name current o && is_kind_of current (kind_of o.value) && is_good_value o.value) (serves o.extent ObjectRole (object_len o.name o.value)) e in
+    let q = and_parts (has_good_name current o && is_kind_of current (kind_of o.value)) (is_good_value o.value) p.0 in
+    let r = and_parts (has_good_name current o) (is_kind_of current (kind_of o.value)) q.0 in
+    record { class = class-is c o.class f; name = name-in o.class o.name r.0; content = value-half o.value q.1 }
 
-object-told : (format : ℕ) (c : Class) (o : Object) → is_object format o ≡ true → is_class c o ≡ true → IsTold c o
-object-told format c o e f =
-    let p = and_parts (has_good_name format o && is_kind_of format (kind_of o.value) && is_good_value o.value) (serves o.extent ObjectRole (object_len o.name o.value)) e in
-    let q = and_parts (has_good_name format o && is_kind_of format (kind_of o.value)) (is_good_value o.value) p.0 in
-    let r = and_parts (has_good_name format o) (is_kind_of format (kind_of o.value)) q.0 in
-    let class : o.class ≡ c = class-is c o.class f in
-    record { class = class; nameless = λ n. nameless format c o.class o.name class n r.0; content = value-good o.value q.1 }
+-- ---- how many there are
 
--- ---- all of a class
+own-part : (i : Item) → elements_room (kind_of_content i.content) (count_of_content i.content) + (texts_needs i.content).room ≤ (item_needs i).room
+unfolding object_room
+own-part i = omega arith
 
-told-if : (c : Class) (b : Bool) (o : Object) (os : List Object) → is_class c o ≡ b → (is_class c o ≡ true → IsTold c o) → AllByRecursion (IsTold c) os → AllByRecursion (IsTold c) (cond b (o ∷ os) os)
-told-if c true o os e f a = (f e, a)
-told-if c false o os e f a = a
+texts-counted : (ts : List (List ℕ)) → AllByRecursion AreBytes ts → (all_needs text_needs ts).room ≤ 1073741824 → AllByRecursion (λ (bs : List ℕ). (length bs < 2 ^ 64) × AreBytes bs) ts
+texts-counted [] a h = tt
+texts-counted (t ∷ ts) a h = ((omega (arith, block-least (length t), h), a.0), texts-counted ts a.1 (omega (arith, h)))
 
-class-told : (format : ℕ) (c : Class) (os : List Object) → list_all (is_object format) os ≡ true → AllByRecursion (IsTold c) (filter (is_class c) os)
-class-told format c [] e = tt
-class-told format c (o ∷ os) e =
-    let p = and_parts (is_object format o) (list_all (is_object format) os) e in
-    told-if c (is_class c o) o (filter (is_class c) os) refl (object-told format c o p.0) (class-told format c os p.1)
+content-counted : (c : Content) → IsHalfContent c → elements_room (kind_of_content c) (count_of_content c) + (texts_needs c).room ≤ 1073741824 → IsBuildableContent c
+content-counted (Scalars k zs) h l = h
+content-counted (Vector k zs) h l = (omega (arith, l, block-least (size_of k * length zs), size-least k (length zs)), h)
+content-counted (String bs) h l = (omega (arith, l, block-least (length bs)), h)
+content-counted (Map k v ps) h l = (omega (arith, l, node-least k v (length ps)), h.0, h.1)
+content-counted (Strings ts) h l = (omega (arith, l, block-least (16 * length ts)), texts-counted ts h (omega (arith, l)))
 
-items-good : (c : Class) (os : List Object) → AllByRecursion (IsTold c) os → AllByRecursion (IsGoodItem c) (map item_of_object os)
-items-good c [] a = tt
-items-good c (o ∷ os) a = (a.0, items-good c os a.1)
+nameless : (c d : Class) (name : List ℕ) → d ≡ c → c ≢ Named → IsNameIn d name → name ≡ []
+nameless c Named name e n h = absurd (n (sym e))
+nameless c Unique name e n h = h
+nameless c Anonymous name e n h = h
 
--- what is portable of a directory is told
+half-good : (c : Class) (i : Item) → IsHalf c i → (item_needs i).room ≤ 1073741824 → IsGoodItem c i
+half-good c i h l = record {
+  class = h.class;
+  name = h.name;
+  nameless = λ n. nameless c i.class i.name h.class n h.name;
+  content = content-counted i.content h.content (omega (arith, own-part i, l));
+}
+
+good-items : (c : Class) (is : List Item) → AllByRecursion (IsHalf c) is → (all_needs item_needs is).room ≤ 1073741824
+    → AllByRecursion (IsGoodItem c) is
+good-items c [] a l = tt
+good-items c (i ∷ is) a l = (half-good c i a.0 (omega (arith, l)), good-items c is a.1 (omega (arith, l)))
+
+legal-most : (n : ℕ) → is_legal_size n ≡ true → n ≤ 1073741824
+legal-most n e = grind (arith, nat_tests)
+
+pub size-most : (b : List ℕ) (d : Directory) → StandsFor b d → d.size ≤ 1073741824
+unfolding is_proper
+size-most b d s =
+    let legal = and_parts (is_legal_size (live d).size) (proper_from 128 (live d).extents ((live d).size - 16)) s.denotes.directory.proper in
+    legal-most d.size (ap is_legal_size (sym (live-size d)) ∙ legal.0)
+
+-- what is portable of a directory
 pub portable-told : (b : List ℕ) (d : Directory) → StandsFor b d → AreItems (portable d)
 portable-told b d s =
-    let objects : list_all (is_object current) d.objects ≡ true = s.denotes.directory.objects in
+    let good : AllByRecursion (λ o. is_object current o ≡ true) d.objects =
+    all-tested (is_object current) (λ o. is_object current o ≡ true) (λ o t. t) d.objects s.denotes.directory.objects in
+    let all : (c : Class) → AllByRecursion (HasHalf c) (filter (is_class c) d.objects) =
+    λ c. all-kept (λ o. is_object current o ≡ true) (HasHalf c) (is_class c) (object-half c) d.objects good in
+    let named = all-mapped (IsHalf Named) item_of_object (named_objects d)
+    (all-ordered (HasHalf Named) Named by_name d.objects (all Named)) in
+    let unique = all-mapped (IsHalf Unique) item_of_object (unique_objects d)
+    (all-ordered (HasHalf Unique) Unique by_kind d.objects (all Unique)) in
+    let anonymous = all-mapped (IsHalf Anonymous) item_of_object (anonymous_objects d) (all Anonymous) in
+    let small : (items_needs (portable d)).room ≤ 1073741824 = omega (arith, segments-have-room b d s, size-most b d s)
+    in
     record {
-      named = items-good Named (named_objects d) (all-ordered (IsTold Named) Named by_name d.objects (class-told current Named d.objects objects));
-      unique = items-good Unique (unique_objects d) (all-ordered (IsTold Unique) Unique by_kind d.objects (class-told current Unique d.objects objects));
-      anonymous = items-good Anonymous (anonymous_objects d) (class-told current Anonymous d.objects objects);
+      named = good-items Named (portable d).named named (omega (arith, small));
+      unique = good-items Unique (portable d).unique unique (omega (arith, small));
+      anonymous = good-items Anonymous (portable d).anonymous anonymous (omega (arith, small));
     }
+
+pub each-of : (c : Class) (is : List Item) → AllByRecursion (IsGoodItem c) is → AreOf c is
+each-of c is a = all-by (IsGoodItem c) (λ i. i.class ≡ c) is a (λ i h. h.class)
 
 pub dumps-tell-objects : DumpsTellObjects
 dumps-tell-objects b c d e m n s t same = dumps-read m n (portable d) (portable e) (portable-told b d s) (portable-told c e t) same
 
-legal-small : (n : ℕ) → is_legal_size n ≡ true → n < 2 ^ 64
-legal-small n e = grind (arith, nat_tests)
-
-size-small : (b : List ℕ) (d : Directory) → StandsFor b d → d.size < 2 ^ 64
-unfolding is_proper
-size-small b d s =
-    let legal = and_parts (is_legal_size (live d).size) (proper_from 128 (live d).extents ((live d).size - 16)) s.denotes.directory.proper in
-    legal-small d.size (ap is_legal_size (sym (live-size d)) ∙ legal.0)
-
 pub dumps-tell-sizes : DumpsTellSizes
-dumps-tell-sizes b c d e s t same = sizes-read d.size e.size (portable d) (portable e) (size-small b d s) (size-small c e t) same
+dumps-tell-sizes b c d e s t same = sizes-read d.size e.size (portable d) (portable e) (omega (arith, size-most b d s))
+    (omega (arith, size-most c e t)) same

@@ -6,17 +6,17 @@ use Rattle.seg_types.specs.Names.{ByHandle}
 use Rattle.seg_map.specs.Numbers.{NumberPair}
 use Rattle.seg_map.specs.Places.{item_of}
 use Rattle.segment_manager.specs.declared.targets.Object.{Object as Located}
-use Rattle.segment_manager.specs.Directory.{Value, Numbers, Elements, Bytes, Pairs, Texts, Object, Directory, kind_of}
+use Rattle.segment_manager.specs.Directory.{Value, Pairs, Object, Directory, kind_of}
 use Rattle.segment_manager.specs.Located.{IsLocated}
 use Rattle.segment_manager.specs.State.{Answers, State, StandsFor}
 use Rattle.segment_manager.specs.Walks.{pairs_at, pairs_of}
 use Rattle.segment_manager.proofs.Laws.{said-at}
 use Rattle.segment_dump.specs.Asked.{number_line, pair_part}
 use Rattle.segment_dump.specs.Items.{content_of, count_of_content}
-use Rattle.segment_dump.specs.Owed.{count_at, lines_at, object_count, object_lines}
+use Rattle.segment_dump.specs.Owed.{count_at, lines_at, object_lines}
 use Rattle.segment_dump.specs.Parts.{part_of, parts_until}
 use Rattle.segment_dump.specs.Texts.{content_text, pair_line}
-use Rattle.segment_dump.proofs.Elements.{flat_map-made, length-made}
+use Rattle.segment_dump.proofs.Elements.{flat_map-made, length-made, count_of_object}
 use Rattle.segment_dump.proofs.PartLines.{parts-all}
 
 record ArePairs (k v : ScalarKind) (w : Value) : Type 0 where
@@ -24,14 +24,8 @@ record ArePairs (k v : ScalarKind) (w : Value) : Type 0 where
   is : w ≡ Pairs k v pairs
 
 pairs-if : (k v : ScalarKind) (w : Value) → kind_of w ≡ Map k v → ArePairs k v w
-pairs-if k v (Numbers l zs) e = absurd (cc)
-pairs-if k v (Elements l zs t) e = absurd (cc)
-pairs-if k v (Bytes bs t) e = absurd (cc)
 pairs-if k v (Pairs l m ps) e = let keys : l ≡ k = cc in let values : m ≡ v = cc in record { pairs = ps; is = λ i. Pairs (keys i) (values i) ps }
-pairs-if k v (Texts ps t) e = absurd (cc)
-
-abbrev count_of_object : Option Object → ℕ
-count_of_object r = elim r as (λ _. ℕ) [ None ↦ 0 | Some o ↦ object_count o ]
+pairs-if k v w e = absurd (cc)
 
 module _ (s : State) (o : Located) (l : IsLocated s (ByHandle o.handle) o) (k v : ScalarKind) (e : o.kind ≡ Map k v) where
   kind-said : (d : Directory) (st : StandsFor s.cut.bytes d) → o.kind ≡ kind_of (said-at s (ByHandle o.handle) o l d st).object.value

@@ -10,8 +10,7 @@ ghost use Rattle.segment_dump.specs.Lines.{ReadsEnd, ReadsLine, ReadsThis, Reads
 use crate::faults::{DumpFault, Misfit};
 use seg_types::{Kind, ScalarKind, ScalarValue};
 use segment_lang::{
-    Quoted, Word, kind_of_word, next_word, number_of, numbers_are_decimals, scalar_of,
-    wholes_are_decimals,
+    Quoted, Word, kind_of_word, next_word, number_of, scalar_of, wholes_are_decimals,
 };
 use std::marker::Model;
 
@@ -226,7 +225,6 @@ impl<'a> Words<'a> {
 pub fn next_value(lines: &mut Lines<'_>, kind: ScalarKind) -> Result<ScalarValue, Misfit>
     ensures { ReadsElement kind lines.old lines.new result }
 {
-    numbers_are_decimals();
     wholes_are_decimals();
     let mut words = lines.next_line()?;
     let value = words.next_value(kind)?;
@@ -242,7 +240,6 @@ pub fn next_pair(
 ) -> Result<(ScalarValue, ScalarValue), Misfit>
     ensures { ReadsPair keys values lines.old lines.new result }
 {
-    numbers_are_decimals();
     wholes_are_decimals();
     let mut words = lines.next_line()?;
     let key = words.next_value(keys)?;

@@ -1,8 +1,7 @@
 use Rattle.std.proofs.Common.{subst}
 use Rattle.seg_types.specs.Names.{ByHandle}
-use Rattle.segment_manager.specs.Directory.{Directory}
 use Rattle.segment_manager.specs.State.{Answers}
-use Rattle.segment_dump.specs.Capacities.{Holds, capacity_note, notes_at, places_at}
+use Rattle.segment_dump.specs.Capacities.{Holds, capacity_note, places_at}
 use Rattle.segment_dump.proofs.Elements.{said-located}
 use Rattle.segment_dump.proofs.Owed.{of-none, of-one}
 use Rattle.segment_dump.proofs.PlaceNotes.{none-told, note-told}
@@ -16,13 +15,13 @@ returns-in-Some g c =
     let s = c.args.segment.now in
     let said = c.args.said in
     let places = c.in-Some.places in
-    of-one s (g.W.Sink.history c.args.out.now) (g.W.Sink.history c.put_note.new.out) c.put_note.result (capacity_note (record { holder = Holds said.class said.name.now said.kind; places = places }))
-    (λ (d : Directory). notes_at d (ByHandle said.handle)) c.put_note.ensures
+    of-one {text = capacity_note (record { holder = Holds said.class said.name.now said.kind; places = places })}
+    c.put_note.ensures
     (note-told s said c.requires.said places (subst (Answers s (λ d. places_at d (ByHandle said.handle))) c.in-Some.is c.places_of.ensures))
 
 pub returns-in-None : goal.returns-in-None
 returns-in-None g c =
     let s = c.args.segment.now in
     let said = c.args.said in
-    of-none s (g.W.Sink.history c.args.out.now) tt (λ (d : Directory). notes_at d (ByHandle said.handle))
-    (none-told s said c.requires.said (subst (Answers s (λ d. places_at d (ByHandle said.handle))) c.in-None.is c.places_of.ensures))
+    of-none (none-told s said c.requires.said (subst (Answers s (λ d. places_at d (ByHandle said.handle))) c.in-None.is
+    c.places_of.ensures))

@@ -1,11 +1,8 @@
 use Rattle.std.proofs.Common.{ap}
-use Rattle.seg_types.specs.Names.{ByHandle}
 use Rattle.segment_manager.specs.Calls.{elements_of}
-use Rattle.segment_manager.specs.Directory.{Directory}
-use Rattle.segment_dump.specs.Owed.{lines_at}
+use Rattle.segment_manager.proofs.CommandLaws.{says-kind}
 use Rattle.segment_dump.proofs.Elements.{scalars-at, scalars-said, string-said, strings-said, vector-said}
 use Rattle.segment_dump.proofs.Owed.{of-same}
-use Rattle.segment_manager.proofs.CommandLaws.{says-kind}
 use Rattle.segment_dump.proofs.WalkedPairs.{map-said}
 use Rattle.segment_dump.proofs.contents.put_content.Goals as goal
 
@@ -14,7 +11,7 @@ put_elements-requires-clause-elements g c = scalars-at c.args.segment.now c.args
 
 pub returns-in-Scalar : goal.returns-in-Scalar
 returns-in-Scalar g c =
-    of-same c.args.segment.now (g.W.Sink.history c.args.out.now) (g.W.Sink.history c.put_elements.new.out) c.put_elements.result _ (λ (d : Directory). lines_at d (ByHandle c.args.object.handle)) c.put_elements.ensures
+    of-same c.put_elements.ensures
     (scalars-said c.args.segment.now c.args.object c.requires.object c.args.count c.requires.count c.in-Scalar.field-0 c.in-Scalar.is)
 
 pub put_elements-requires-in-Vector-clause-elements : goal.put_elements-requires-in-Vector-clause-elements
@@ -22,17 +19,17 @@ put_elements-requires-in-Vector-clause-elements g c = scalars-at c.args.segment.
 
 pub returns-in-Vector : goal.returns-in-Vector
 returns-in-Vector g c =
-    of-same c.args.segment.now (g.W.Sink.history c.args.out.now) (g.W.Sink.history c.put_elements-in-Vector.new.out) c.put_elements-in-Vector.result _ (λ (d : Directory). lines_at d (ByHandle c.args.object.handle)) c.put_elements-in-Vector.ensures
+    of-same c.put_elements-in-Vector.ensures
     (vector-said c.args.segment.now c.args.object c.requires.object c.args.count c.requires.count c.in-Vector.field-0 c.in-Vector.is)
 
 pub returns-in-Text : goal.returns-in-Text
 returns-in-Text g c =
-    of-same c.args.segment.now (g.W.Sink.history c.args.out.now) (g.W.Sink.history c.put_string.new.out) c.put_string.result _ (λ (d : Directory). lines_at d (ByHandle c.args.object.handle)) c.put_string.ensures
+    of-same c.put_string.ensures
     (string-said c.args.segment.now c.args.object c.requires.object c.in-Text.is)
 
 pub returns-in-Texts : goal.returns-in-Texts
 returns-in-Texts g c =
-    of-same c.args.segment.now (g.W.Sink.history c.args.out.now) (g.W.Sink.history c.put_strings.new.out) c.put_strings.result _ (λ (d : Directory). lines_at d (ByHandle c.args.object.handle)) c.put_strings.ensures
+    of-same c.put_strings.ensures
     (strings-said c.args.segment.now c.args.object c.requires.object c.args.count c.requires.count c.in-Texts.is)
 
 pub put_pairs-requires-clause-map : goal.put_pairs-requires-clause-map
@@ -40,5 +37,5 @@ put_pairs-requires-clause-map g c = says-kind c.requires.object c.in-Map.is
 
 pub returns-in-Map : goal.returns-in-Map
 returns-in-Map g c =
-    of-same c.args.segment.now (g.W.Sink.history c.args.out.now) (g.W.Sink.history c.put_pairs.new.out) c.put_pairs.result _ (λ (d : Directory). lines_at d (ByHandle c.args.object.handle)) c.put_pairs.ensures
+    of-same c.put_pairs.ensures
     (map-said c.args.segment.now c.args.object c.requires.object c.in-Map.keys c.in-Map.values c.in-Map.is c.args.count c.requires.count)

@@ -2,9 +2,8 @@ use Rattle.std.proofs.Common.{sym, ap}
 use Rattle.seg_types.specs.Commands.{Get}
 use Rattle.seg_types.specs.Names.{ByHandle}
 use Rattle.seg_types.specs.Values.{kind_of_scalar, value_of_scalar}
-use Rattle.segment_manager.specs.Directory.{Directory}
 use Rattle.segment_manager.proofs.Laws.{any-replies}
-use Rattle.segment_dump.specs.Asked.{element_part, element_text}
+use Rattle.segment_dump.specs.Asked.{element_text}
 use Rattle.segment_dump.specs.Texts.{element_line}
 use Rattle.segment_dump.proofs.Owed.{of-none, of-one}
 use Rattle.segment_dump.proofs.contents.put_element.Goals as goal
@@ -13,12 +12,11 @@ pub returns-in-Ok : goal.returns-in-Ok
 returns-in-Ok g c =
     let s = c.args.segment.now in
     let v = c.in-Ok.value in
-    of-one s (g.W.Sink.history c.args.out.now) (g.W.Sink.history c.put_pieces.new.out) c.put_pieces.result (element_line (kind_of_scalar v) (value_of_scalar v))
-    (λ (d : Directory). element_part s.mode d (ByHandle c.args.object.handle) c.args.index) c.put_pieces.ensures
+    of-one {text = element_line (kind_of_scalar v) (value_of_scalar v)} c.put_pieces.ensures
     (λ d k. ap element_text ((any-replies s (ByHandle c.args.object.handle) c.requires.elements.0 (Get (ByHandle c.args.object.handle) c.args.index) _ c.requires.elements.1 c.in-Ok.ensures).answers d k))
 
 pub returns-in-Err : goal.returns-in-Err
 returns-in-Err g c =
     let s = c.args.segment.now in
-    of-none s (g.W.Sink.history c.args.out.now) tt (λ (d : Directory). element_part s.mode d (ByHandle c.args.object.handle) c.args.index)
+    of-none
     (λ d k. sym (ap element_text ((any-replies s (ByHandle c.args.object.handle) c.requires.elements.0 (Get (ByHandle c.args.object.handle) c.args.index) _ c.requires.elements.1 c.in-Err.ensures).answers d k)))

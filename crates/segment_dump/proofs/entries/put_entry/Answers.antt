@@ -1,7 +1,6 @@
 use Rattle.std.proofs.Common.{refl}
 use Rattle.seg_types.specs.Names.{ByHandle}
-use Rattle.segment_manager.specs.Directory.{Directory}
-use Rattle.segment_dump.specs.Owed.{lines_at, text_at}
+use Rattle.segment_dump.specs.Owed.{lines_at}
 use Rattle.segment_dump.specs.Texts.{head_line}
 use Rattle.segment_dump.proofs.Elements.{said-located}
 use Rattle.segment_dump.proofs.Owed.{of-cut, of-one, of-same, of-then}
@@ -16,26 +15,17 @@ put_content-requires-clause-object g c = said-located c.args.segment.now c.args.
 
 pub returns-in_err-put_head : goal.returns-in_err-put_head
 returns-in_err-put_head g c =
-    let s = c.args.segment.now in
     let said = c.args.said in
     let n = c.count_of-count.result in
-    let old = g.W.Sink.history c.args.out.now in
-    let new = g.W.Sink.history c.put_head.new.out in
-    let result = c.from_residual.result in
-    of-same s old new result _ (λ (d : Directory). text_at d (ByHandle said.handle))
-    (of-cut s old new _ result (λ d. head_line said.class said.name.now said.kind n) (λ d. lines_at d (ByHandle said.handle)) c.from_residual.ensures.0
-    (of-one s old new _ _ (λ d. head_line said.class said.name.now said.kind n) c.in_err-put_head.ensures (λ d st. refl)))
-    (entry-text s said n c.requires.said c.count_of-count.ensures)
+    of-same
+    (of-cut (λ d. lines_at d (ByHandle said.handle)) c.from_residual.ensures.0
+    (of-one {owed = λ d. head_line said.class said.name.now said.kind n} c.in_err-put_head.ensures (λ d st. refl)))
+    (entry-text c.args.segment.now said n c.requires.said c.count_of-count.ensures)
 
 pub returns : goal.returns
 returns g c =
-    let s = c.args.segment.now in
     let said = c.args.said in
     let n = c.count_of-count.result in
-    let old = g.W.Sink.history c.args.out.now in
-    let mid = g.W.Sink.history c.put_head.new.out in
-    let new = g.W.Sink.history c.put_content.new.out in
-    of-same s old new c.put_content.result _ (λ (d : Directory). text_at d (ByHandle said.handle))
-    (of-then s old mid new _ c.put_content.result (λ d. head_line said.class said.name.now said.kind n) (λ d. lines_at d (ByHandle said.handle))
-    (of-one s old mid _ _ (λ d. head_line said.class said.name.now said.kind n) c.in_ok-put_head.ensures (λ d st. refl)) c.put_content.ensures)
-    (entry-text s said n c.requires.said c.count_of-count.ensures)
+    of-same (of-then (of-one {owed = λ d. head_line said.class said.name.now said.kind n} c.in_ok-put_head.ensures
+    (λ d st. refl)) c.put_content.ensures)
+    (entry-text c.args.segment.now said n c.requires.said c.count_of-count.ensures)

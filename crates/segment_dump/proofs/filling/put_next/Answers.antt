@@ -1,5 +1,5 @@
 use Rattle.std.proofs.Common.{true, refl, sym, ◌∙◌}
-use Rattle.segment_dump.proofs.ElementReads.{never-ok}
+use Rattle.segment_dump.proofs.Found.{never-ok}
 use Rattle.segment_dump.proofs.Adds.{put-adds, put-unread}
 use Rattle.segment_dump.proofs.filling.put_next.Goals as goal
 

@@ -1,9 +1,10 @@
 -- What has gone out is the text of the anonymous ones among the objects that came.
 use Rattle.std.proofs.Common.{◌≡◌}
-use Rattle.segment_dump.specs.Owed.{WritesOf}
+use Rattle.segment_manager.specs.Directory.{Directory}
+use Rattle.segment_dump.specs.Owed.{WritesOf, where_anonymous}
 use Rattle.segment_dump.specs.Parts.{parts_until}
 use Rattle.segment_dump.proofs.PartLines.{well}
-use Rattle.segment_dump.proofs.Sections.{anonymous_at_place}
+use Rattle.segment_dump.proofs.Sections.{object_at_place}
 use Rattle.segment_dump.proofs.objects.put_anonymous.Given as goal
 
 abbrev pub invariant-objects : goal.invariant-objects
@@ -11,5 +12,7 @@ invariant-objects g l = record {
   can : (goal.iterator-objects g).can_next l.said-iterator;
   finite : (goal.iterator-objects g).is_finite l.said-iterator;
   segment : l.said-iterator.segment ≡ l.segment;
-  told : WritesOf l.segment (g.W.Sink.history l.initial.out) (g.W.Sink.history l.out) well (λ d. parts_until (anonymous_at_place (g.T.Telling.text l.initial.telling) d) l.said-iterator.at);
+  told : WritesOf l.segment (g.W.Sink.history l.initial.out) (g.W.Sink.history l.out) well
+      (λ d. parts_until (object_at_place (where_anonymous (g.T.Telling.text l.initial.telling))
+      (λ (d : Directory). d.objects) d) l.said-iterator.at);
 }

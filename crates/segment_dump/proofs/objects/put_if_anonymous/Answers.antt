@@ -1,8 +1,6 @@
 use Rattle.segment_manager.specs.Directory.{object_at}
 use Rattle.segment_dump.specs.Parts.{part_of}
 use Rattle.seg_types.specs.Names.{ByHandle}
-use Rattle.segment_manager.specs.Directory.{Directory}
-use Rattle.segment_dump.specs.Owed.{where_anonymous}
 use Rattle.segment_dump.proofs.Owed.{of-none, of-same}
 use Rattle.segment_dump.proofs.Sections.{anonymous-said, other-said}
 use Rattle.segment_dump.proofs.objects.put_if_anonymous.Goals as goal
@@ -11,11 +9,12 @@ pub returns-in-Anonymous : goal.returns-in-Anonymous
 returns-in-Anonymous g c =
     let s = c.args.segment.now in
     let said = c.args.said in
-    of-same s (g.W.Sink.history c.args.out.now) (g.W.Sink.history c.tell.new.out) c.tell.result (λ (d : Directory). part_of (g.T.Telling.text c.args.telling.now) (object_at d (ByHandle said.handle))) (λ (d : Directory). part_of (where_anonymous (g.T.Telling.text c.args.telling.now)) (object_at d (ByHandle said.handle))) c.tell.ensures
+    of-same {said = λ d. part_of (g.T.Telling.text c.args.telling.now) (object_at d (ByHandle said.handle))}
+    c.tell.ensures
     (anonymous-said (g.T.Telling.text c.args.telling.now) s said c.requires.said c.in-Anonymous.is)
 
 pub returns-in_default : goal.returns-in_default
 returns-in_default g c =
     let s = c.args.segment.now in
     let said = c.args.said in
-    of-none s (g.W.Sink.history c.args.out.now) tt (λ (d : Directory). part_of (where_anonymous (g.T.Telling.text c.args.telling.now)) (object_at d (ByHandle said.handle))) (other-said (g.T.Telling.text c.args.telling.now) s said c.requires.said c.in_default.not-Anonymous)
+    of-none (other-said (g.T.Telling.text c.args.telling.now) s said c.requires.said c.in_default.not-Anonymous)

@@ -7,11 +7,11 @@ use Rattle.segment_manager.specs.Walks.{item_seen}
 use Rattle.segment_dump.specs.Asked.{pair_part, walked_line}
 use Rattle.segment_dump.specs.Owed.{WritesOf}
 use Rattle.segment_dump.specs.Parts.{parts_until}
+use Rattle.segment_manager.proofs.NextPairs.{IsNext, map-of-key, next-behind, next-first, next-none, no-pair, none-text, pair-said}
 use Rattle.segment_dump.proofs.PartLines.{well}
 use Rattle.segment_dump.proofs.Owed.{of-all, of-cut_in, of-more, of-none, of-one, of-start}
-use Rattle.segment_manager.proofs.NextPairs.{IsNext, map-of-key, next-behind, next-first, next-none, no-pair, none-text, pair-said}
-use Rattle.segment_dump.proofs.pairs.put_pairs.Goals as goal
 use Rattle.segment_dump.proofs.pairs.put_pairs.Goals.{in-Some+in_ok-put_pair, in_default}
+use Rattle.segment_dump.proofs.pairs.put_pairs.Goals as goal
 
 pub pair_behind-next-requires-clause-map : goal.pair_behind-next-requires-clause-map
 pair_behind-next-requires-clause-map g c =
@@ -24,17 +24,17 @@ returns-in_err-put_pair g c =
     let s = c.args.segment.now in
     let was = c.pairs.invariant in
     let i = c.pairs.index in
-    let mid = g.W.Sink.history c.pairs.out in
-    let new = g.W.Sink.history c.put_pair.new.out in
     let n : IsNext s c.args.object.handle c.args.keys c.args.values (Some (c.in-Some.key, c.in-Some.value)) i = λ d l. ap (option_map item_seen) (sym c.in-Some.is) ∙ was.next d l (omega (arith, c.pairs-test.true)) in
-    of-cut_in s (λ d. pair_part c.args.keys c.args.values d (ByHandle c.args.object.handle)) (g.W.Sink.history c.args.out.now) mid new i was.told c.args.count (omega (arith, c.pairs-test.true)) _
-    (of-one s mid new _ _ (λ d. pair_part c.args.keys c.args.values d (ByHandle c.args.object.handle) i) c.in_err-put_pair.ensures
+    of-cut_in (λ d. pair_part c.args.keys c.args.values d (ByHandle c.args.object.handle)) (λ d. c.args.count) was.told
+    (λ d l. omega (arith, c.pairs-test.true))
+    (of-one {owed = λ d. pair_part c.args.keys c.args.values d (ByHandle c.args.object.handle) i}
+    c.in_err-put_pair.ensures
     (pair-said s c.args.object.handle c.args.keys c.args.values i c.in-Some.key c.in-Some.value n walked_line))
-    c.from_residual.result c.from_residual.ensures.0
+    c.from_residual.ensures.0
 
 pub pairs-init : goal.pairs-init
 pairs-init g c = record {
-  told = of-start c.args.segment.now (λ d. pair_part c.args.keys c.args.values d (ByHandle c.args.object.handle)) (g.W.Sink.history c.args.out.now);
+  told = of-start (λ d. pair_part c.args.keys c.args.values d (ByHandle c.args.object.handle));
   next = λ d l less. next-first c.args.segment.now c.args.object.handle c.args.keys c.args.values c.first_pair-next.result c.first_pair-next.ensures d l;
 }
 
@@ -51,8 +51,9 @@ pairs-preserved g c =
           record {
             told =
                 subst (λ o. WritesOf s old (g.W.Sink.history o) well (λ d. parts_until (pair_part c.args.keys c.args.values d (ByHandle c.args.object.handle)) (i + 1))) (sym w.out-is)
-                (of-more s (λ d. pair_part c.args.keys c.args.values d (ByHandle c.args.object.handle)) old mid (g.W.Sink.history w.put_pair.new.out) i was.told _
-                (of-one s mid (g.W.Sink.history w.put_pair.new.out) _ _ (λ d. pair_part c.args.keys c.args.values d (ByHandle c.args.object.handle) i) w.in_ok-put_pair.ensures
+                (of-more (λ d. pair_part c.args.keys c.args.values d (ByHandle c.args.object.handle)) was.told
+                (of-one {owed = λ d. pair_part c.args.keys c.args.values d (ByHandle c.args.object.handle) i}
+                w.in_ok-put_pair.ensures
                 (pair-said s c.args.object.handle c.args.keys c.args.values i w.in-Some.key w.in-Some.value n walked_line)));
             next = λ d l less.
                 ap (option_map item_seen) w.next-is
@@ -64,14 +65,13 @@ pairs-preserved g c =
           record {
             told =
                 let nothing : WritesOf s mid mid well (λ d. pair_part c.args.keys c.args.values d (ByHandle c.args.object.handle) i) =
-                of-none s mid 0 (λ d. pair_part c.args.keys c.args.values d (ByHandle c.args.object.handle) i) (λ d l. sym (none-text s c.args.object.handle c.args.keys c.args.values i n walked_line d l)) in
+                of-none (λ d l. sym (none-text s c.args.object.handle c.args.keys c.args.values i n walked_line d l)) in
                 subst (λ o. WritesOf s old (g.W.Sink.history o) well (λ d. parts_until (pair_part c.args.keys c.args.values d (ByHandle c.args.object.handle)) (i + 1))) (sym w.out-is)
-                (of-more s (λ d. pair_part c.args.keys c.args.values d (ByHandle c.args.object.handle)) old mid mid i was.told 0 nothing);
+                (of-more (λ d. pair_part c.args.keys c.args.values d (ByHandle c.args.object.handle)) was.told nothing);
             next = λ d l less. ap (option_map item_seen) (w.next-is ∙ none) ∙ next-none s c.args.object.handle c.args.keys c.args.values i n d l;
           }
     ]
 
 pub returns : goal.returns
-returns g c =
-    of-all c.args.segment.now (λ d. pair_part c.args.keys c.args.values d (ByHandle c.args.object.handle)) (g.W.Sink.history c.args.out.now) (g.W.Sink.history c.pairs.out) c.pairs.index c.args.count _
-    c.pairs.invariant.told (omega (arith, c.pairs-test.false, c.pairs.auto.index-end))
+returns g c = of-all (λ d. pair_part c.args.keys c.args.values d (ByHandle c.args.object.handle)) c.pairs.index
+    c.args.count c.pairs.invariant.told (omega (arith, c.pairs-test.false, c.pairs.auto.index-end))

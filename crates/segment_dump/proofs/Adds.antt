@@ -1,22 +1,14 @@
 -- An element is added to an object.
-use Rattle.std.proofs.Common.{◌≡◌, ℕ, zero, suc, ◌+◌, ◌<◌, ◌≤◌, ℤ, pos, negsuc, Bool, true, List, ◌++◌, length, take, Result, Ok, Err, refl, sym, ap, subst, ◌∙◌, arith}
-use Rattle.std.proofs.lemmas.Bool.Decides.{nat_tests}
-use Rattle.seg_types.specs.declared.kinds.Kind.{Kind}
-use Rattle.seg_types.specs.declared.kinds.ScalarKind.{ScalarKind}
-use Rattle.seg_types.specs.declared.kinds.ScalarKind.TheVariants.{Bool as BoolKind, U8, I32, I64, U64}
-use Rattle.seg_types.specs.declared.refusals.Refusal.{Refusal}
-use Rattle.seg_types.specs.declared.values.ScalarValue.{ScalarValue}
-use Rattle.seg_types.specs.Commands.{Command, literal_of}
-use Rattle.seg_types.specs.Kinds.{is_value}
-use Rattle.seg_types.specs.Names.{ByHandle}
-use Rattle.seg_types.specs.Values.{kind_of_scalar, scalar_of, value_of_scalar}
-use Rattle.segment_manager.specs.Answers.{Done, Truth}
-use Rattle.segment_manager.specs.State.{IsStepOfKind, State, done_answer, truth_answer}
-use Rattle.segment_dump.specs.Builders.{AddsElement, Collects, IsFillable, ReadsElement, ReadsPair}
-use Rattle.segment_dump.specs.Filling.{Fill, FillsAt, IsBuildableContent}
-use Rattle.segment_dump.specs.Items.{Content, Map, Scalars, String, Strings, Vector, count_of_content, kind_of_content}
-use Rattle.segment_dump.specs.Need.{texts_needs}
-use Rattle.segment_dump.specs.Texts.{element_line}
+use Rattle.segment_dump.proofs.Common.{◌≡◌, ℕ, zero, suc, ◌+◌, ◌<◌, ◌≤◌, ℤ, pos, negsuc, Bool, true, List, ◌++◌, length}
+use Rattle.segment_dump.proofs.Common.{take, Result, Ok, Err, refl, sym, ap, subst, ◌∙◌, arith, nat_tests, Kind}
+use Rattle.segment_dump.proofs.Common.{ScalarKind, U8, I32, I64, U64, Refusal, ScalarValue, Command, literal_of}
+use Rattle.segment_dump.proofs.Common.{is_value, ByHandle, kind_of_scalar, scalar_of, value_of_scalar, Done, Truth}
+use Rattle.segment_dump.proofs.Common.{IsStepOfKind, State, done_answer, AddsElement, Collects, IsFillable}
+use Rattle.segment_dump.proofs.Common.{ReadsElement, ReadsPair, Fill, FillsAt, IsBuildableContent, Content, Map}
+use Rattle.segment_dump.proofs.Common.{Scalars, String, Strings, Vector, count_of_content, kind_of_content, texts_needs}
+use Rattle.segment_dump.proofs.Common.{element_line}
+use Rattle.seg_types.specs.declared.kinds.ScalarKind.TheVariants.{Bool as BoolKind}
+use Rattle.segment_manager.specs.State.{truth_answer}
 use Rattle.segment_dump.proofs.Found.{never-ok, ok-same}
 use Rattle.segment_dump.proofs.Fillings.{NextPair, NextScalar, NextText, next-element, next-own, next-pair, next-scalar}
 use Rattle.seg_types.specs.declared.kinds.Kind.TheVariants as kinds

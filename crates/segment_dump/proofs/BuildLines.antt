@@ -1,54 +1,15 @@
 -- All objects of a text are built, one after another.
-use Rattle.std.proofs.Common.{
-  ◌≡◌,
-  ◌≢◌,
-  ℕ,
-  suc,
-  ◌+◌,
-  ◌<◌,
-  ◌≤◌,
-  ◌==◌,
-  Bool,
-  true,
-  false,
-  cond,
-  List,
-  [],
-  ◌∷◌,
-  ◌++◌,
-  length,
-  get_or,
-  Result,
-  Ok,
-  Err,
-  refl,
-  sym,
-  ap,
-  subst,
-  ◌∙◌,
-  arith,
-  append-nil,
-  append_assoc,
-}
-use Rattle.std.specs.Prelude.{codes}
-use Rattle.std.proofs.lemmas.Bool.{eq-eqb}
-use Rattle.std.proofs.lemmas.List.{length-append}
-use Rattle.seg_types.specs.declared.kinds.Class.{Class}
-use Rattle.seg_types.specs.declared.kinds.Class.TheVariants.{Anonymous, Named, Unique}
-use Rattle.seg_types.specs.declared.kinds.Kind.{Kind}
-use Rattle.seg_types.specs.Kinds.{class_code}
-use Rattle.seg_types.specs.Texts.{name_text}
-use Rattle.segment_manager.specs.Plan.{bare}
-use Rattle.segment_manager.specs.State.{State}
-use Rattle.segment_dump.specs.declared.building.Shape.{Shape}
-use Rattle.segment_dump.specs.Builders.{AreLeft, Builds, BuildsObject, FillsNew, HasPlace, IsAt, IsBegun, IsFillable, IsGone, IsNext, StartsNext, content_need, first_content}
-use Rattle.segment_dump.specs.Building.{Site, class_words, count_class, head_words, measure_words, of_class}
-use Rattle.segment_dump.specs.Filling.{Fill, IsNameIn, StandsBuilt, StandsFilling}
-use Rattle.segment_dump.specs.Items.{Item, count_of_content, kind_of_content}
-use Rattle.segment_dump.specs.Lines.{IsShortLine, ReadsLine}
-use Rattle.segment_dump.specs.Need.{all_needs, item_needs}
-use Rattle.segment_dump.specs.Reads.{HasNoEnd, ended}
-use Rattle.segment_dump.specs.Texts.{content_text, end_text, head_line, item_text, items_text}
+use Rattle.segment_dump.proofs.Common.{◌≡◌, ◌≢◌, ℕ, suc, ◌+◌, ◌<◌, ◌≤◌, ◌==◌, Bool, true, false, cond, List, [], ◌∷◌}
+use Rattle.segment_dump.proofs.Common.{◌++◌, length, get_or, Result, Ok, Err, refl, sym, ap, subst, ◌∙◌, arith}
+use Rattle.segment_dump.proofs.Common.{append-nil, append_assoc, codes, eq-eqb, length-append, Class, Anonymous, Named}
+use Rattle.segment_dump.proofs.Common.{Unique, Kind, class_code, name_text, bare, State, Shape, AreLeft, Builds}
+use Rattle.segment_dump.proofs.Common.{FillsNew, HasPlace, IsBegun, IsFillable, IsNext, StartsNext, content_need}
+use Rattle.segment_dump.proofs.Common.{first_content, Site, class_words, count_class, measure_words, of_class, Fill}
+use Rattle.segment_dump.proofs.Common.{IsNameIn, StandsBuilt, StandsFilling, Item, count_of_content, kind_of_content}
+use Rattle.segment_dump.proofs.Common.{IsShortLine, ReadsLine, all_needs, item_needs, HasNoEnd, ended, content_text}
+use Rattle.segment_dump.proofs.Common.{end_text, head_line, item_text, items_text}
+use Rattle.segment_dump.specs.Builders.{BuildsObject, IsAt, IsGone}
+use Rattle.segment_dump.specs.Building.{head_words}
 use Rattle.segment_dump.proofs.ContentLines.{no_end-both, quoted-no_end, word-no_end, no_end-test}
 use Rattle.segment_dump.proofs.Found.{never-ok, ok-same}
 use Rattle.segment_dump.proofs.LineTexts.{measure-no_end, measure-short, name-short}

@@ -1,67 +1,18 @@
 -- What is portable of a directory can be made, in the order of a dump.
-use Rattle.std.proofs.Common.{
-  ◌≡◌,
-  ℕ,
-  suc,
-  ◌+◌,
-  ◌≤◌,
-  ◌==◌,
-  ◌&&◌,
-  Bool,
-  true,
-  false,
-  nat_lt,
-  cond,
-  nat_eq,
-  List,
-  [],
-  ◌∷◌,
-  ◌++◌,
-  length,
-  map,
-  refl,
-  sym,
-  ap,
-  subst,
-  ◌∙◌,
-  arith,
-  append_assoc,
-  append-nil,
-  length-append,
-}
-use Rattle.std.specs.Prelude.{max}
-use Rattle.std.specs.List.{AllByRecursion}
+use Rattle.segment_dump.proofs.Common.{◌≡◌, ℕ, suc, ◌+◌, ◌≤◌, ◌==◌, ◌&&◌, Bool, true, false, nat_lt, cond, nat_eq, List}
+use Rattle.segment_dump.proofs.Common.{[], ◌∷◌, ◌++◌, length, map, refl, sym, ap, subst, ◌∙◌, arith, append_assoc}
+use Rattle.segment_dump.proofs.Common.{append-nil, length-append, max, AllByRecursion, and_parts, eqb-true, false≢true}
+use Rattle.segment_dump.proofs.Common.{nat_tests, Node, Class, Anonymous, Named, Unique, U8, class_code, code_of}
+use Rattle.segment_dump.proofs.Common.{same_kind, Kind, Directory, Numbers, Object, by_kind, by_name, named_objects}
+use Rattle.segment_dump.proofs.Common.{unique_objects, StandsFor, IsStrict, by_kind-strict, by_name-strict, index-parts}
+use Rattle.segment_dump.proofs.Common.{Needs, AreLeft, AreInOrder, count_class, has_item_key, item_key, key_in}
+use Rattle.segment_dump.proofs.Common.{kind_less, name_less, of_class, Item, Items, item_of_object, kind_of_content}
+use Rattle.segment_dump.proofs.Common.{portable, all_items, all_needs, both, front_room, item_needs, items_needs, AreOf}
 use Rattle.std.specs.Cmp.Lexicographic.{slice_cmp}
 use Rattle.std.specs.Ordering.{nat_cmp, is_lt}
-use Rattle.std.proofs.lemmas.Bool.{and_parts, eqb-true, false≢true}
-use Rattle.std.proofs.lemmas.Bool.Decides.{nat_tests}
-use Rattle.block_tags.specs.declared.tile.Role.TheVariants.{Node}
-use Rattle.seg_types.specs.declared.kinds.Class.{Class}
-use Rattle.seg_types.specs.declared.kinds.Class.TheVariants.{Anonymous, Named, Unique}
-use Rattle.seg_types.specs.declared.kinds.ScalarKind.TheVariants.{U8}
-use Rattle.seg_types.specs.Kinds.{class_code, code_of, same_kind}
-use Rattle.seg_types.specs.declared.kinds.Kind.{Kind}
-use Rattle.segment_manager.specs.Directory.{
-  Directory,
-  Numbers,
-  Object,
-  by_kind,
-  by_name,
-  named_objects,
-  rises,
-  same_bytes,
-  unique_objects,
-}
-use Rattle.segment_manager.specs.State.{StandsFor}
-use Rattle.segment_manager.proofs.Laws.{IsStrict, by_kind-strict, by_name-strict, index-parts}
-use Rattle.segment_dump.specs.declared.needs.Needs.{Needs}
-use Rattle.segment_dump.specs.Builders.{AreLeft}
-use Rattle.segment_dump.specs.Building.{AreInOrder, AreNew, count_class, has_item_key, item_key, key_in, kind_less, name_less, of_class}
+use Rattle.segment_manager.specs.Directory.{rises, same_bytes}
+use Rattle.segment_dump.specs.Building.{AreNew}
 use Rattle.segment_dump.specs.Filling.{IsBuildable}
-use Rattle.segment_dump.specs.Items.{Item, Items, item_of_object, kind_of_content, portable}
-use Rattle.segment_dump.specs.Order.{all_items}
-use Rattle.segment_dump.specs.Need.{all_needs, both, front_room, item_needs, items_needs}
-use Rattle.segment_dump.specs.Succeeding.{AreOf}
 use Rattle.segment_dump.proofs.ItemLines.{IsGoodItem}
 use Rattle.segment_dump.proofs.Orders.{Tells, kinds-tell, LessThan, heads-less, none-of, of-both, tails-less}
 use Rattle.segment_dump.proofs.Sums.{all-append}

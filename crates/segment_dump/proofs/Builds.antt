@@ -1,60 +1,19 @@
 -- What the steps lead to by which an object comes to be, and how the objects of a segment are those of a dump in the end.
-use Rattle.std.proofs.Common.{
-  ◌≡◌,
-  ℕ,
-  ◌+◌,
-  ◌*◌,
-  ◌<◌,
-  ◌≤◌,
-  ◌==◌,
-  ℤ,
-  Bool,
-  true,
-  false,
-  nat_lt,
-  List,
-  [],
-  ◌∷◌,
-  ◌++◌,
-  length,
-  map,
-  Option,
-  Some,
-  None,
-  if◌then◌else◌,
-  refl,
-  sym,
-  ap,
-  subst,
-  ◌∙◌,
-  arith,
-  append_assoc,
-}
-use Rattle.std.specs.Prelude.{flat_map, ⊤}
-use Rattle.std.specs.List.{AllByRecursion}
-use Rattle.std.proofs.lemmas.Bool.Decides.{nat_tests}
-use Rattle.std.proofs.lemmas.Grind.{flat_map-append}
-use Rattle.std.proofs.lemmas.List.{append-nil, map-append}
-use Rattle.block_tags.specs.declared.tile.Role.TheVariants.{Index, Object as ObjectRole}
-use Rattle.best_fit.specs.Extents.{Extent, end_of, handle}
-use Rattle.best_fit.specs.Fit.{room}
-use Rattle.best_fit.specs.Table.{Table, no_table}
-use Rattle.raw_region.specs.Format.{current}
-use Rattle.seg_types.specs.declared.kinds.Class.{Class}
-use Rattle.seg_types.specs.declared.kinds.Class.TheVariants.{Anonymous, Named, Unique}
-use Rattle.seg_types.specs.declared.kinds.ScalarKind.{ScalarKind}
+use Rattle.segment_dump.proofs.Common.{◌≡◌, ℕ, ◌+◌, ◌*◌, ◌<◌, ◌≤◌, ◌==◌, ℤ, Bool, true, false, nat_lt, List, [], ◌∷◌}
+use Rattle.segment_dump.proofs.Common.{◌++◌, length, map, Option, Some, None, if◌then◌else◌, refl, sym, ap, subst, ◌∙◌}
+use Rattle.segment_dump.proofs.Common.{arith, append_assoc, flat_map, ⊤, AllByRecursion, nat_tests, flat_map-append}
+use Rattle.segment_dump.proofs.Common.{append-nil, map-append, Index, Extent, end_of, handle, room, Table, no_table}
+use Rattle.segment_dump.proofs.Common.{current, Class, Anonymous, Named, Unique, ScalarKind, Key, Write, Answer, Done}
+use Rattle.segment_dump.proofs.Common.{Made, Directory, IsDirectory, Object, Value, empty, extents_of, live}
+use Rattle.segment_dump.proofs.Common.{named_objects, object_at, object_len, table_extents, unique_objects}
+use Rattle.segment_dump.proofs.Common.{value_extents, Plan, Reply, Request, New, bare, class_of, name_of, perform}
+use Rattle.segment_dump.proofs.Common.{effect, step, AllByRecursion-behind, AllByRecursion-front, EndBy, HasRoom, Head}
+use Rattle.segment_dump.proofs.Common.{IsBuilt, IsFilling, Site, all_extents, total, Item, content_of, item_of_object}
+use Rattle.segment_dump.proofs.Common.{block_room, le-leb, lt-leb, lt-ltb}
+use Rattle.block_tags.specs.declared.tile.Role.TheVariants.{Object as ObjectRole}
 use Rattle.seg_types.specs.declared.refusals.Refusal.TheVariants.{Exists}
-use Rattle.seg_types.specs.Names.{Key}
-use Rattle.segment_manager.specs.declared.modes.Mode.TheVariants.{Write}
-use Rattle.segment_manager.specs.Answers.{Answer, Done, Made}
-use Rattle.segment_manager.specs.Directory.{Directory, IsDirectory, Object, Value, empty, extents_of, live, named_objects, object_at, object_len, table_extents, unique_objects, value_extents, with_object}
-use Rattle.segment_manager.specs.Plan.{Plan, Reply, Request, New, bare, class_of, name_of, perform, with_entry, with_new_object, with_value}
-use Rattle.segment_manager.specs.Step.{effect, step}
-use Rattle.segment_manager.proofs.Laws.{AllByRecursion-behind, AllByRecursion-front}
-use Rattle.segment_dump.specs.Building.{EndBy, HasRoom, Head, IsBuilt, IsFilling, Site, all_extents, total}
-use Rattle.segment_dump.specs.Items.{Item, content_of, item_of_object}
-use Rattle.segment_dump.specs.Need.{block_room}
-use Rattle.std.proofs.lemmas.Bool.{le-leb, lt-leb, lt-ltb}
+use Rattle.segment_manager.specs.Directory.{with_object}
+use Rattle.segment_manager.specs.Plan.{with_entry, with_new_object, with_value}
 use Rattle.segment_dump.proofs.Fills.{StepsTo, met-perform, no-bytes}
 use Rattle.segment_dump.proofs.Spaces.{IsRest, block-some, room-taken, room-with}
 use Rattle.segment_dump.proofs.Steps.{put-last, writes}

@@ -1,6 +1,6 @@
 -- Texts that are read in one way: what a text begins with tells what was written, and so what follows.
-use Rattle.std.proofs.Common.{◌≡◌, ℕ, List, [], ◌∷◌, ◌++◌, refl, sym, ap, subst, ◌∙◌, arith, append_assoc, drop, get_or}
-use Rattle.std.specs.List.{AllByRecursion, flat_map}
+use Rattle.segment_dump.proofs.Common.{◌≡◌, ℕ, List, [], ◌∷◌, ◌++◌, refl, sym, ap, subst, ◌∙◌, arith, append_assoc}
+use Rattle.segment_dump.proofs.Common.{drop, get_or, AllByRecursion, flat_map}
 pub use Rattle.segment_dump.specs.Reads.{Breaks, IsWord}
 
 -- ---- two texts that are the same, byte by byte

@@ -1,11 +1,10 @@
 -- How a text is compared.
-use Rattle.std.proofs.Common.{◌≡◌, ◌≢◌, ℕ, zero, suc, ◌+◌, ◌<◌, ◌≤◌, List, [], ◌∷◌, ◌++◌, length, take, drop, get_or, Option, Some, None, Result, Ok, Err, slice_get, refl, sym, ap, subst, ◌∙◌, append_assoc, arith}
-use Rattle.std.specs.Prelude.{option_to_list}
-use Rattle.std.proofs.Math.Seq.{take-add}
-use Rattle.std.proofs.lemmas.List.{append-nil, drop-drop, drop_at, length-drop, take-append-drop, take_more, length-take-le}
-use Rattle.std.proofs.lemmas.Option.{slice_get-get_or}
-use Rattle.raw_region.specs.Device.{Writes}
-use Rattle.segment_dump.specs.Comparing.{Compared, IsComparing, IsOther, compared, taken}
+use Rattle.segment_dump.proofs.Common.{◌≡◌, ◌≢◌, ℕ, zero, suc, ◌+◌, ◌<◌, ◌≤◌, List, [], ◌∷◌, ◌++◌, length, take, drop}
+use Rattle.segment_dump.proofs.Common.{get_or, Option, Some, None, Result, Ok, Err, slice_get, refl, sym, ap, subst}
+use Rattle.segment_dump.proofs.Common.{◌∙◌, append_assoc, arith, option_to_list, take-add, append-nil, drop_at}
+use Rattle.segment_dump.proofs.Common.{length-drop, take-append-drop, take_more, slice_get-get_or, Writes, compared}
+use Rattle.std.proofs.lemmas.List.{drop-drop, length-take-le}
+use Rattle.segment_dump.specs.Comparing.{Compared, IsComparing, IsOther, taken}
 use Rattle.segment_dump.proofs.Codes.{heads, tails}
 
 -- ---- the first byte that is another

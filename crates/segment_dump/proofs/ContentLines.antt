@@ -1,47 +1,12 @@
 -- The elements of an object are lines, of which none has an end in it.
-use Rattle.std.proofs.Common.{
-  ◌≡◌,
-  ◌≢◌,
-  ℕ,
-  zero,
-  suc,
-  ◌/◌,
-  ◌%◌,
-  ℤ,
-  Bool,
-  true,
-  false,
-  ◌||◌,
-  ◌==◌,
-  cond,
-  List,
-  [],
-  ◌∷◌,
-  ◌++◌,
-  length,
-  map,
-  refl,
-  sym,
-  ap,
-  ◌∙◌,
-  arith,
-  append_assoc,
-  append-nil,
-  length-append,
-  ◌<◌,
-  nat_lt,
-}
-use Rattle.std.specs.Prelude.{flat_map, codes}
-use Rattle.std.specs.List.{AllByRecursion, list_all}
-use Rattle.std.proofs.lemmas.Bool.Decides.{nat_tests}
-use Rattle.std.proofs.lemmas.Grind.{flat_map-append}
-use Rattle.std.proofs.lemmas.List.{length-map}
-use Rattle.seg_types.specs.declared.kinds.ScalarKind.{ScalarKind}
-use Rattle.seg_types.specs.Texts.{between, digit_text, escape_text, item_text, quoted_text, value_text}
-use Rattle.segment_dump.specs.Parts.{parts_until}
-use Rattle.segment_dump.specs.Reads.{AreLines, HasNoEnd, IsWord, lines_text}
-use Rattle.segment_dump.specs.Texts.{element_line, pair_line, piece_lead, piece_line, piece_of, pieces_in, pieces_text}
-use Rattle.std.proofs.lemmas.Bool.{ltb-true}
+use Rattle.segment_dump.proofs.Common.{◌≡◌, ◌≢◌, ℕ, zero, suc, ◌/◌, ◌%◌, ℤ, Bool, true, false, ◌||◌, ◌==◌, cond, List}
+use Rattle.segment_dump.proofs.Common.{[], ◌∷◌, ◌++◌, length, map, refl, sym, ap, ◌∙◌, arith, append_assoc, append-nil}
+use Rattle.segment_dump.proofs.Common.{length-append, ◌<◌, nat_lt, flat_map, codes, AllByRecursion, list_all, nat_tests}
+use Rattle.segment_dump.proofs.Common.{flat_map-append, length-map, ScalarKind, between, digit_text, escape_text}
+use Rattle.segment_dump.proofs.Common.{quoted_text, value_text, parts_until, AreLines, HasNoEnd, IsWord, lines_text}
+use Rattle.segment_dump.proofs.Common.{element_line, pair_line, piece_lead, piece_line, piece_of, pieces_in}
+use Rattle.segment_dump.proofs.Common.{pieces_text, ltb-true}
+use Rattle.seg_types.specs.Texts.{item_text}
 use Rattle.segment_dump.proofs.Words.{value-word}
 use Rattle.segment_dump.proofs.Lists.{AllByRecursion-append, all-any, all-by, all-mapped, all-tested}
 

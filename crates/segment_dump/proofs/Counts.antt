@@ -1,15 +1,10 @@
 -- What is counted of texts, contents and objects.
-use Rattle.std.proofs.Common.{◌≡◌, ℕ, suc, ◌+◌, ◌-◌, ◌<◌, ◌≤◌, List, [], ◌∷◌, ◌++◌, length, Option, Some, None, refl, sym, ap, subst, ◌∙◌, arith, append_assoc}
-use Rattle.std.specs.Prelude.{⊤, flat_map, option_map}
-use Rattle.seg_types.specs.declared.kinds.Kind.{Kind}
-use Rattle.segment_lang.specs.Texts.{number_text}
-use Rattle.segment_dump.specs.declared.needs.Needs.{Needs}
-use Rattle.segment_dump.specs.Counting.{AreTexts, IsContent}
-use Rattle.segment_dump.specs.Items.{Content, Scalars, Vector, String, Map, Strings, kind_of_content, count_of_content}
-use Rattle.segment_dump.specs.Leads.{IsSmall}
-use Rattle.segment_dump.specs.Need.{all_needs, block_room, both, nothing, only_room, text_needs, texts_needs}
-use Rattle.segment_dump.specs.Reads.{Any, AreLines, Breaks, Reads, Skips, itself, lines_text}
-use Rattle.segment_dump.specs.Texts.{content_text, pieces_in, pieces_text, text_lines}
+use Rattle.segment_dump.proofs.Common.{◌≡◌, ℕ, suc, ◌+◌, ◌-◌, ◌<◌, ◌≤◌, List, [], ◌∷◌, ◌++◌, length, Option, Some, None}
+use Rattle.segment_dump.proofs.Common.{refl, sym, ap, subst, ◌∙◌, arith, append_assoc, ⊤, flat_map, option_map, Kind}
+use Rattle.segment_dump.proofs.Common.{number_text, Needs, AreTexts, IsContent, Content, Scalars, Vector, String, Map}
+use Rattle.segment_dump.proofs.Common.{Strings, kind_of_content, count_of_content, IsSmall, all_needs, block_room, both}
+use Rattle.segment_dump.proofs.Common.{nothing, only_room, text_needs, texts_needs, Any, AreLines, Breaks, Reads, Skips}
+use Rattle.segment_dump.proofs.Common.{itself, lines_text, content_text, pieces_in, pieces_text, text_lines}
 use Rattle.segment_dump.proofs.Codes.{tails}
 use Rattle.segment_dump.proofs.ContentLines.{IsLines, element-lines, pair-lines, piece-lines}
 use Rattle.segment_dump.proofs.Sums.{IsPart, block-least, part-end, part-more, part-small, part-start}

@@ -1,20 +1,12 @@
 -- What is counted of all objects, and of a dump.
-use Rattle.std.proofs.Common.{◌≡◌, ◌≢◌, ℕ, ◌+◌, ◌*◌, ◌<◌, ◌≤◌, ◌^◌, List, [], ◌∷◌, ◌++◌, length, Option, Some, None, Result, Ok, Err, refl, sym, ap, subst, ◌∙◌, arith, append_assoc, append-nil, length-append}
-use Rattle.std.specs.List.{AllByRecursion}
-use Rattle.std.specs.Result.{IsErr}
-use Rattle.std.proofs.lemmas.Bool.{false≢true}
-use Rattle.std.proofs.lemmas.Grind.{flat_map-append}
-use Rattle.seg_types.specs.declared.kinds.Class.{Class}
-use Rattle.seg_types.specs.declared.kinds.Class.TheVariants.{Anonymous, Named, Unique}
-use Rattle.segment_dump.specs.declared.counting.Count.{Count}
-use Rattle.segment_dump.specs.declared.counting.Front.{Front}
-use Rattle.segment_dump.specs.declared.needs.Needs.{Needs}
-use Rattle.segment_dump.specs.Counting.{AreCountable, CountsDump, CountsObjects, IsFront, IsNameless}
-use Rattle.segment_dump.specs.Items.{Item, Items}
-use Rattle.segment_dump.specs.Leads.{IsSmall}
-use Rattle.segment_dump.specs.Need.{all_needs, both, front_room, item_needs, items_needs, nothing, only_room}
-use Rattle.segment_dump.specs.Order.{all_items}
-use Rattle.segment_dump.specs.Texts.{dump_text, end_text, item_text, items_text}
+use Rattle.segment_dump.proofs.Common.{◌≡◌, ◌≢◌, ℕ, ◌+◌, ◌*◌, ◌<◌, ◌≤◌, ◌^◌, List, [], ◌∷◌, ◌++◌, length, Option, Some}
+use Rattle.segment_dump.proofs.Common.{None, Result, Ok, Err, refl, sym, ap, subst, ◌∙◌, arith, append_assoc}
+use Rattle.segment_dump.proofs.Common.{append-nil, length-append, AllByRecursion, IsErr, false≢true, flat_map-append}
+use Rattle.segment_dump.proofs.Common.{Class, Anonymous, Named, Unique, Count, Front, Needs, AreCountable, CountsDump}
+use Rattle.segment_dump.proofs.Common.{IsFront, IsNameless, Item, Items, IsSmall, all_needs, both, front_room}
+use Rattle.segment_dump.proofs.Common.{item_needs, items_needs, nothing, only_room, all_items, dump_text, end_text}
+use Rattle.segment_dump.proofs.Common.{item_text, items_text}
+use Rattle.segment_dump.specs.Counting.{CountsObjects}
 use Rattle.segment_dump.proofs.Codes.{heads}
 use Rattle.segment_dump.proofs.FrontLines.{FrontReads}
 use Rattle.segment_dump.proofs.ItemLines.{IsFirst, item-first, letter}

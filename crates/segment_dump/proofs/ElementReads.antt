@@ -1,18 +1,8 @@
 -- The line of an element is read.
-use Rattle.std.proofs.Common.{◌≡◌, ℕ, ℤ, true, List, [], ◌∷◌, ◌++◌, Some, Result, Ok, Err, refl, sym, ap, ◌∙◌, append-nil}
-use Rattle.std.specs.Prelude.{option_map}
-use Rattle.seg_types.specs.declared.kinds.ScalarKind.{ScalarKind}
-use Rattle.seg_types.specs.declared.values.ScalarValue.{ScalarValue}
-use Rattle.seg_types.specs.Kinds.{is_value}
-use Rattle.seg_types.specs.Texts.{value_text}
-use Rattle.seg_types.specs.Values.{scalar_of}
-use Rattle.segment_lang.specs.Laws.{WholesAreDecimals}
-use Rattle.segment_lang.specs.Tokens.{next_word}
-use Rattle.segment_lang.specs.Words.{Bare}
-use Rattle.segment_dump.specs.Builders.{ReadsElement, ReadsPair}
-use Rattle.segment_dump.specs.Filling.{IsPairOf}
-use Rattle.segment_dump.specs.Lines.{ReadsEnd, ReadsLine, ReadsWord, value_word}
-use Rattle.segment_dump.specs.Texts.{element_line, pair_line}
+use Rattle.segment_dump.proofs.Common.{◌≡◌, ℕ, ℤ, true, List, [], ◌∷◌, ◌++◌, Some, Result, Ok, Err, refl, sym, ap, ◌∙◌}
+use Rattle.segment_dump.proofs.Common.{append-nil, option_map, ScalarKind, ScalarValue, is_value, value_text, scalar_of}
+use Rattle.segment_dump.proofs.Common.{WholesAreDecimals, next_word, Bare, ReadsElement, ReadsPair, IsPairOf, ReadsEnd}
+use Rattle.segment_dump.proofs.Common.{ReadsLine, ReadsWord, value_word, element_line, pair_line}
 use Rattle.segment_dump.proofs.ContentLines.{pair-no_end, pair_front}
 use Rattle.segment_dump.proofs.LineTexts.{element-no_end, element-short, element_front, pair-short}
 use Rattle.segment_dump.proofs.NextWords.{blank-next, value-next, value-said}

@@ -1,37 +1,28 @@
 -- The lines of an object's elements are those that its value has in a dump.
-use Rattle.std.proofs.Common.{◌≡◌, ℕ, suc, ℤ, Bool, true, false, ◌&&◌, List, [], ◌∷◌, ◌++◌, length, map, Option, Some, None, Result, Ok, Err, if◌then◌else◌, slice_get, refl, sym, ap, subst, ◌∙◌}
-use Rattle.std.specs.Prelude.{is_some, option_map}
-use Rattle.std.specs.List.{flat_map}
-use Rattle.best_fit.specs.Extents.{free_bytes}
-use Rattle.best_fit.specs.Table.{Table}
-use Rattle.seg_types.specs.declared.kinds.Kind.TheVariants.{Scalar, Text, Texts as TextsKind, Vector}
-use Rattle.seg_types.specs.declared.kinds.ScalarKind.{ScalarKind}
-use Rattle.seg_types.specs.declared.refusals.Refusal.{Refusal}
-use Rattle.seg_types.specs.declared.refusals.Refusal.TheVariants.{NotFound, OutOfRange, WrongKind}
-use Rattle.seg_types.specs.Kinds.{same_kind}
-use Rattle.seg_types.specs.Names.{ByHandle, Key}
-use Rattle.seg_types.specs.Commands.{Command, is_changing}
-use Rattle.seg_map.specs.Places.{item_of}
-use Rattle.seg_vector.specs.Vector.{OwnedText}
+use Rattle.segment_dump.proofs.Common.{◌≡◌, ℕ, suc, ℤ, Bool, true, false, ◌&&◌, List, [], ◌∷◌, ◌++◌, length, map}
+use Rattle.segment_dump.proofs.Common.{Option, Some, None, Result, Ok, Err, if◌then◌else◌, slice_get, refl, sym, ap}
+use Rattle.segment_dump.proofs.Common.{subst, ◌∙◌, option_map, flat_map, free_bytes, Table, Scalar, ScalarKind, Refusal}
+use Rattle.segment_dump.proofs.Common.{NotFound, OutOfRange, WrongKind, same_kind, ByHandle, Key, Command, item_of}
+use Rattle.segment_dump.proofs.Common.{OwnedText, Write, Instance, Answer, Number, elements_of, sizes_at, sizes_of}
+use Rattle.segment_dump.proofs.Common.{Value, Numbers, Elements, Bytes, Pairs, Texts, Object, Directory, kind_of, live}
+use Rattle.segment_dump.proofs.Common.{named_objects, object_at, unique_objects, SaysOf, IsLocated, Plan, Reply}
+use Rattle.segment_dump.proofs.Common.{perform, with, Answers, State, StandsFor, effect, step, step_of_kind, said-at}
+use Rattle.segment_dump.proofs.Common.{element_part, element_text, length_in, string_part, text_part, bytes_in}
+use Rattle.segment_dump.proofs.Common.{content_of, count_of_content, count_at, lines_at, object_count, object_lines}
+use Rattle.segment_dump.proofs.Common.{part_of, parts_until, content_text, element_line, text_lines}
+use Rattle.std.specs.Prelude.{is_some}
+use Rattle.seg_types.specs.declared.kinds.Kind.TheVariants.{Text, Texts as TextsKind, Vector}
+use Rattle.seg_types.specs.Commands.{is_changing}
 use Rattle.segment_manager.specs.declared.modes.Mode.{Mode}
-use Rattle.segment_manager.specs.declared.modes.Mode.TheVariants.{Write, ReadOnly, CopyOnWrite}
+use Rattle.segment_manager.specs.declared.modes.Mode.TheVariants.{ReadOnly, CopyOnWrite}
 use Rattle.segment_manager.specs.declared.targets.Object.{Object as Located}
-use Rattle.segment_manager.specs.declared.telling.Instance.{Instance}
-use Rattle.segment_manager.specs.Answers.{Answer, Element, Number, TextElement}
-use Rattle.segment_manager.specs.Calls.{HasScalars, elements_of}
-use Rattle.segment_manager.specs.Contents.{bytes_at, sizes_at, sizes_of, text_bytes}
-use Rattle.segment_manager.specs.Directory.{Value, Numbers, Elements, Bytes, Pairs, Texts, Object, Directory, count_of, kind_of, live, named_objects, object_at, unique_objects}
-use Rattle.segment_manager.specs.Instances.{SaysOf}
-use Rattle.segment_manager.specs.Located.{IsLocated, located}
-use Rattle.segment_manager.specs.Plan.{Plan, Refuse, Reply, perform, with}
-use Rattle.segment_manager.specs.State.{Answers, State, StandsFor}
-use Rattle.segment_manager.specs.Step.{effect, get, is_read_only, step, step_of_kind}
-use Rattle.segment_manager.proofs.Laws.{said-at}
-use Rattle.segment_dump.specs.Asked.{element_part, element_text, length_in, string_part, text_part}
-use Rattle.segment_dump.specs.Items.{bytes_in, content_of, count_of_content}
-use Rattle.segment_dump.specs.Owed.{count_at, lines_at, object_count, object_lines}
-use Rattle.segment_dump.specs.Parts.{part_of, parts_until}
-use Rattle.segment_dump.specs.Texts.{content_text, element_line, text_lines}
+use Rattle.segment_manager.specs.Answers.{Element, TextElement}
+use Rattle.segment_manager.specs.Calls.{HasScalars}
+use Rattle.segment_manager.specs.Contents.{bytes_at, text_bytes}
+use Rattle.segment_manager.specs.Directory.{count_of}
+use Rattle.segment_manager.specs.Located.{located}
+use Rattle.segment_manager.specs.Plan.{Refuse}
+use Rattle.segment_manager.specs.Step.{get, is_read_only}
 use Rattle.segment_dump.proofs.PartLines.{parts-all, parts-same}
 use Rattle.seg_types.specs.declared.refusals.Refusal.TheVariants as refusal
 use Rattle.seg_types.specs.Commands as asked

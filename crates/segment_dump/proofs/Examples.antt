@@ -1,19 +1,11 @@
 -- Worked examples: elements and texts, as a dump has them.
-use Rattle.std.proofs.Common.{◌≡◌, [], ◌∷◌, ◌++◌, List, ℕ, map, None, refl}
-use Rattle.std.specs.Fmt.{digits}
-use Rattle.std.specs.Prelude.{pos, negsuc, codes, replicate}
+use Rattle.segment_dump.proofs.Common.{◌≡◌, [], ◌∷◌, ◌++◌, List, ℕ, map, None, refl, digits, pos, negsuc, codes}
+use Rattle.segment_dump.proofs.Common.{replicate, Table, no_table, I32, I64, Anonymous, Named, Unique, Directory}
+use Rattle.segment_dump.proofs.Common.{Object, Value, Class, capacities, capacities_text, Items, Vector, Map, Strings}
+use Rattle.segment_dump.proofs.Common.{block_room, front_room, items_needs, object_room, without_notes, place_behind}
+use Rattle.segment_dump.proofs.Common.{content_text, pieces_text}
 use Rattle.block_tags.specs.declared.tile.Role.TheVariants.{Object as ObjectRole}
-use Rattle.best_fit.specs.Table.{Table, no_table}
-use Rattle.seg_types.specs.declared.kinds.ScalarKind.TheVariants.{Bool, I32, I64}
-use Rattle.seg_types.specs.declared.kinds.Class.TheVariants.{Anonymous, Named, Unique}
-use Rattle.segment_manager.specs.Directory.{Directory, Object, Value}
-use Rattle.seg_types.specs.declared.kinds.Class.{Class}
-use Rattle.segment_dump.specs.Capacities.{capacities, capacities_text}
-use Rattle.segment_dump.specs.Items.{Items, Vector, Map, Strings}
-use Rattle.segment_dump.specs.Need.{block_room, front_room, items_needs, object_room}
-use Rattle.segment_dump.specs.Notes.{without_notes}
-use Rattle.segment_dump.specs.Places.{place_behind}
-use Rattle.segment_dump.specs.Texts.{content_text, pieces_text}
+use Rattle.seg_types.specs.declared.kinds.ScalarKind.TheVariants.{Bool}
 use Rattle.segment_manager.specs.Directory as directory
 
 abbrev line : List ℕ → List ℕ

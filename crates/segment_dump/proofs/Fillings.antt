@@ -1,30 +1,18 @@
 -- An element more of an object that is being filled.
-use Rattle.std.proofs.Common.{◌≡◌, inl, ℕ, zero, suc, ◌+◌, ◌*◌, ◌<◌, ◌≤◌, ℤ, pos, true, false, List, [], ◌∷◌, ◌++◌, length, map, replicate, refl, sym, ap, subst, ◌∙◌, arith, append_assoc, append-nil}
-use Rattle.std.specs.Prelude.{◌^◌, flat_map, int_lt, slice_set}
-use Rattle.std.specs.List.{AllByRecursion}
-use Rattle.std.proofs.Math.Nat.{suc-mul, zero-mul}
-use Rattle.std.proofs.lemmas.Int.{ints}
-use Rattle.std.proofs.lemmas.List.{length-append, length-map, map-append}
-use Rattle.seg_types.specs.declared.kinds.Kind.{Kind}
-use Rattle.seg_types.specs.declared.kinds.ScalarKind.{ScalarKind}
-use Rattle.seg_types.specs.Commands.{Command, literal_of}
-use Rattle.seg_types.specs.Kinds.{is_value, size_of}
-use Rattle.seg_types.specs.Names.{ByHandle}
-use Rattle.seg_map.specs.Map.{node_len}
-use Rattle.seg_map.specs.Numbers.{NumberPair}
-use Rattle.seg_map.specs.Places.{item_of}
-use Rattle.seg_vector.specs.Vector.{OwnedText}
-use Rattle.segment_manager.specs.declared.modes.Mode.TheVariants.{Write}
-use Rattle.segment_manager.specs.Answers.{Answer, Done, Truth}
-use Rattle.segment_manager.specs.Directory.{Directory, Elements, Numbers, Pairs, Texts, Value}
-use Rattle.segment_manager.specs.State.{IsStep, IsStepOfKind, Moves, State, StandsFor}
-use Rattle.segment_manager.specs.Step.{step, step_of_kind}
+use Rattle.segment_dump.proofs.Common.{◌≡◌, inl, ℕ, zero, suc, ◌+◌, ◌*◌, ◌<◌, ◌≤◌, ℤ, pos, true, false, List, [], ◌∷◌}
+use Rattle.segment_dump.proofs.Common.{◌++◌, length, map, replicate, refl, sym, ap, subst, ◌∙◌, arith, append_assoc}
+use Rattle.segment_dump.proofs.Common.{append-nil, ◌^◌, flat_map, int_lt, slice_set, AllByRecursion, suc-mul, zero-mul}
+use Rattle.segment_dump.proofs.Common.{ints, length-append, length-map, map-append, Kind, ScalarKind, Command}
+use Rattle.segment_dump.proofs.Common.{literal_of, is_value, size_of, ByHandle, node_len, NumberPair, item_of}
+use Rattle.segment_dump.proofs.Common.{OwnedText, Write, Answer, Done, Truth, Directory, Elements, Numbers, Pairs}
+use Rattle.segment_dump.proofs.Common.{Texts, Value, IsStep, IsStepOfKind, State, StandsFor, step, step_of_kind}
+use Rattle.segment_dump.proofs.Common.{IsBuilt, IsFilling, AreBytes, AreRising, AreValues, Fill, FillsAt, IsPairOf}
+use Rattle.segment_dump.proofs.Common.{IsPart, StandsFilling, StringsPart, VectorPart, head_of, Content, Map, Scalars}
+use Rattle.segment_dump.proofs.Common.{String, Strings, Vector, bytes_in, content_of, count_of_content, all_needs}
+use Rattle.segment_dump.proofs.Common.{block_room, text_needs, element_line, pair_line, text_lines}
+use Rattle.segment_manager.specs.State.{Moves}
 use Rattle.segment_dump.specs.Builders.{IsFilled}
-use Rattle.segment_dump.specs.Building.{IsBuilt, IsFilling}
-use Rattle.segment_dump.specs.Filling.{AreBytes, AreRising, AreValues, Fill, FillsAt, IsPairOf, IsPart, MapPart, ScalarsPart, StandsFilling, StringsPart, VectorPart, filled_item, head_of}
-use Rattle.segment_dump.specs.Items.{Content, Map, Scalars, String, Strings, Vector, bytes_in, content_of, count_of_content}
-use Rattle.segment_dump.specs.Need.{all_needs, block_room, text_needs}
-use Rattle.segment_dump.specs.Texts.{element_line, pair_line, text_lines}
+use Rattle.segment_dump.specs.Filling.{MapPart, ScalarsPart, filled_item}
 use Rattle.segment_dump.proofs.Builds.{built}
 use Rattle.segment_dump.proofs.Fills.{AreLess, StepsTo, pushed, text-pushed, was-put, was-set}
 use Rattle.segment_dump.proofs.Spaces.{IsRest, block-rest, rest-both, needs-rest}

@@ -1,108 +1,28 @@
 -- What the steps lead to by which an object is filled.
-use Rattle.std.proofs.Common.{
-  ◌≡◌,
-  ◌⊎◌,
-  inl,
-  inr,
-  ℕ,
-  zero,
-  ◌+◌,
-  ◌*◌,
-  ◌<◌,
-  ◌≤◌,
-  ◌==◌,
-  ◌||◌,
-  ℤ,
-  pos,
-  Bool,
-  true,
-  false,
-  not,
-  cond,
-  List,
-  [],
-  ◌∷◌,
-  ◌++◌,
-  length,
-  Option,
-  Some,
-  None,
-  Result,
-  Ok,
-  Err,
-  if◌then◌else◌,
-  refl,
-  sym,
-  ap,
-  subst,
-  ◌∙◌,
-  arith,
-  append_assoc,
-  zero-add,
-}
-use Rattle.std.specs.Prelude.{find, flat_map, max, option_to_list, slice_get, slice_set, int_lt}
-use Rattle.std.specs.List.{AllByRecursion}
-use Rattle.std.proofs.Math.Nat.{mul-le-mul_left, mul-zero}
-use Rattle.std.proofs.lemmas.Bool.Decides.{nat_tests}
-use Rattle.std.proofs.lemmas.Grind.{flat_map-append}
-use Rattle.std.proofs.lemmas.List.{append-nil, map-append}
-use Rattle.std.proofs.lemmas.Option.{slice_get-get_or}
-use Rattle.block_tags.specs.declared.tile.Role.TheVariants.{Node, Storage}
-use Rattle.best_fit.specs.Extents.{Extent}
-use Rattle.best_fit.specs.Fit.{place, regrow, resized}
-use Rattle.best_fit.specs.Table.{Table, no_table}
-use Rattle.raw_region.specs.Format.{current}
-use Rattle.seg_types.specs.declared.kinds.Kind.{Kind}
-use Rattle.seg_types.specs.declared.kinds.ScalarKind.{ScalarKind}
+use Rattle.segment_dump.proofs.Common.{◌≡◌, ◌⊎◌, inl, inr, ℕ, zero, ◌+◌, ◌*◌, ◌<◌, ◌≤◌, ◌==◌, ◌||◌, ℤ, pos, Bool, true}
+use Rattle.segment_dump.proofs.Common.{false, not, cond, List, [], ◌∷◌, ◌++◌, length, Option, Some, None, Result, Ok}
+use Rattle.segment_dump.proofs.Common.{Err, if◌then◌else◌, refl, sym, ap, subst, ◌∙◌, arith, append_assoc, zero-add}
+use Rattle.segment_dump.proofs.Common.{find, flat_map, max, option_to_list, slice_get, slice_set, int_lt}
+use Rattle.segment_dump.proofs.Common.{AllByRecursion, mul-le-mul_left, mul-zero, nat_tests, flat_map-append}
+use Rattle.segment_dump.proofs.Common.{append-nil, map-append, slice_get-get_or, Node, Storage, Extent, place, Table}
+use Rattle.segment_dump.proofs.Common.{no_table, current, Kind, ScalarKind, Refusal, OutOfRange, Command, literal_of}
+use Rattle.segment_dump.proofs.Common.{is_value, size_of, ByHandle, node_len, NumberPair, OwnedText, Write, Answer}
+use Rattle.segment_dump.proofs.Common.{Done, Truth, Bytes, Directory, Elements, IsDirectory, Numbers, Object, Pairs}
+use Rattle.segment_dump.proofs.Common.{Texts, Value, live, object_at, value_extents, kind_of, Plan, Reply, Request, New}
+use Rattle.segment_dump.proofs.Common.{perform, with, changed, step, step_of_kind, effect, found_at, Head, IsFilling}
+use Rattle.segment_dump.proofs.Common.{Site, Item, block_room, eq-eqb, le-leb, lt-leb, lt-ltb, ne_eqb}
+use Rattle.best_fit.specs.Fit.{regrow, resized}
 use Rattle.seg_types.specs.declared.kinds.ScalarKind.TheVariants.{Bool as BoolKind}
-use Rattle.seg_types.specs.declared.refusals.Refusal.{Refusal}
-use Rattle.seg_types.specs.declared.refusals.Refusal.TheVariants.{OutOfRange, NoSpace}
-use Rattle.seg_types.specs.Commands.{Command, literal_of, value_of_literal}
-use Rattle.seg_types.specs.Kinds.{is_value, size_of}
-use Rattle.seg_types.specs.Names.{ByHandle}
-use Rattle.seg_map.specs.Map.{is_key, node_len, pair_at, put_pair}
-use Rattle.seg_map.specs.Numbers.{NumberPair}
-use Rattle.seg_vector.specs.Vector.{OwnedText, capacity_for_one, capacity_for_text}
-use Rattle.segment_manager.specs.declared.modes.Mode.TheVariants.{Write}
-use Rattle.segment_manager.specs.Answers.{Answer, Done, Truth, Refused}
-use Rattle.segment_manager.specs.Directory.{
-  Bytes,
-  Directory,
-  Elements,
-  IsDirectory,
-  Numbers,
-  Object,
-  Pairs,
-  Texts,
-  Value,
-  live,
-  object_at,
-  value_extents,
-  kind_of,
-}
-use Rattle.segment_manager.specs.Plan.{Plan, Reply, Request, New, Regrown, perform, with, with_capacity, with_owned_text}
-use Rattle.segment_manager.specs.Step.{
-  and_then,
-  changed,
-  map_of,
-  pair_of,
-  push,
-  put,
-  set,
-  step,
-  step_of_kind,
-  storage_of,
-  text_of,
-  with_table,
-  effect,
-  found_at,
-}
-use Rattle.segment_dump.specs.Building.{Head, IsFilling, Site}
-use Rattle.segment_dump.specs.Items.{Item}
-use Rattle.segment_dump.specs.Need.{block_room}
-use Rattle.std.proofs.lemmas.Bool.{eq-eqb, le-leb, lt-leb, lt-ltb, ne_eqb}
+use Rattle.seg_types.specs.declared.refusals.Refusal.TheVariants.{NoSpace}
+use Rattle.seg_types.specs.Commands.{value_of_literal}
+use Rattle.seg_map.specs.Map.{is_key, pair_at, put_pair}
+use Rattle.seg_vector.specs.Vector.{capacity_for_one, capacity_for_text}
+use Rattle.segment_manager.specs.Answers.{Refused}
+use Rattle.segment_manager.specs.Plan.{Regrown, with_capacity, with_owned_text}
+use Rattle.segment_manager.specs.Step.{and_then, map_of, pair_of, push, put, set, storage_of, text_of, with_table}
 use Rattle.segment_dump.proofs.Spaces.{IsRest, block-some}
-use Rattle.segment_dump.proofs.Steps.{at-object, block-more, filled-at, filled-kind, of-kind, requested, same-blocks, writes}
+use Rattle.segment_dump.proofs.Steps.{at-object, block-more, filled-at, filled-kind, of-kind, requested, same-blocks}
+use Rattle.segment_dump.proofs.Steps.{writes}
 use Rattle.segment_dump.proofs.Words.{bool-near}
 use Rattle.seg_types.specs.declared.kinds.Kind.TheVariants as kinds
 use Rattle.seg_types.specs.Commands as asked

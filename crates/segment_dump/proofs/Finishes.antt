@@ -1,54 +1,15 @@
 -- What was built of a dump is what the dump says, and nothing is free behind it once the end is cut off.
-use Rattle.std.proofs.Common.{
-  ◌≡◌,
-  ℕ,
-  ◌+◌,
-  ◌-◌,
-  ◌≤◌,
-  ◌==◌,
-  true,
-  cond,
-  List,
-  [],
-  ◌∷◌,
-  ◌++◌,
-  length,
-  map,
-  refl,
-  sym,
-  ap,
-  subst,
-  ◌∙◌,
-  arith,
-}
-use Rattle.std.specs.Prelude.{IsTrue, filter, sum_by}
-use Rattle.std.proofs.lemmas.Bool.{and_parts}
-use Rattle.std.proofs.lemmas.Bool.Decides.{nat_tests}
-use Rattle.std.proofs.lemmas.List.{append-nil}
-use Rattle.block_tags.specs.Format.{is_legal_size}
-use Rattle.best_fit.specs.Ends.{last_end}
-use Rattle.best_fit.specs.Extents.{Gap, end_of, free_bytes, gap_between, is_proper, proper_from}
-use Rattle.seg_types.specs.declared.kinds.Class.{Class}
-use Rattle.seg_types.specs.declared.kinds.Class.TheVariants.{Anonymous, Named, Unique}
-use Rattle.seg_types.specs.Kinds.{class_code}
-use Rattle.segment_manager.specs.Directory.{
-  Directory,
-  by_kind,
-  by_name,
-  is_class,
-  live,
-  named_objects,
-  sorted,
-  unique_objects,
-}
-use Rattle.segment_manager.specs.Resized.{shrunk}
-use Rattle.segment_manager.specs.State.{StandsFor}
-use Rattle.segment_manager.proofs.Laws.{all-sorted, by_kind-strict, by_name-strict, live-extents, live-size}
-use Rattle.segment_dump.specs.Building.{EndBy, HasRoom, all_extents, kind_less, name_less, of_class, total}
-use Rattle.segment_dump.specs.Items.{Item, Items, item_of_object, portable}
-use Rattle.segment_dump.specs.Order.{all_items}
-use Rattle.segment_dump.specs.Succeeding.{AreOf, AreSorted}
-use Rattle.segment_dump.specs.Texts.{dump_text, end_text, front_text, items_text}
+use Rattle.segment_dump.proofs.Common.{◌≡◌, ℕ, ◌+◌, ◌-◌, ◌≤◌, ◌==◌, true, cond, List, [], ◌∷◌, ◌++◌, length, map, refl}
+use Rattle.segment_dump.proofs.Common.{sym, ap, subst, ◌∙◌, arith, IsTrue, filter, and_parts, nat_tests, append-nil}
+use Rattle.segment_dump.proofs.Common.{is_legal_size, last_end, Gap, end_of, free_bytes, gap_between, is_proper}
+use Rattle.segment_dump.proofs.Common.{proper_from, Class, Anonymous, Named, Unique, class_code, Directory, by_kind}
+use Rattle.segment_dump.proofs.Common.{by_name, is_class, live, named_objects, sorted, unique_objects, shrunk}
+use Rattle.segment_dump.proofs.Common.{StandsFor, all-sorted, by_kind-strict, by_name-strict, live-extents, live-size}
+use Rattle.segment_dump.proofs.Common.{EndBy, HasRoom, all_extents, kind_less, name_less, of_class, total, Item, Items}
+use Rattle.segment_dump.proofs.Common.{item_of_object, portable, all_items, AreOf, dump_text, end_text, front_text}
+use Rattle.segment_dump.proofs.Common.{items_text}
+use Rattle.std.specs.Prelude.{sum_by}
+use Rattle.segment_dump.specs.Succeeding.{AreSorted}
 use Rattle.segment_dump.proofs.Buildables.{named-in_order, unique-in_order}
 use Rattle.segment_dump.proofs.DumpCounts.{all-text}
 use Rattle.segment_dump.proofs.Orders.{class-items, class-ordered, kinds-tell, none-of, of-both}

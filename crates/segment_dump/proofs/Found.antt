@@ -1,5 +1,5 @@
 -- What was found is one thing, and is not nothing.
-use Rattle.std.proofs.Common.{◌≡◌, Option, Some, Result, Ok, Err}
+use Rattle.segment_dump.proofs.Common.{◌≡◌, Option, Some, Result, Ok, Err}
 pub use Rattle.std.proofs.lemmas.Option.{none-some, same_Some}
 
 pub never-ok : {X E : Type 0} (e : E) (x : X) → ◌≡◌ {A = Result X E} (Err e) (Ok x) → ⊥

@@ -1,12 +1,8 @@
 -- The first lines of a dump are read.
-use Rattle.std.proofs.Common.{◌≡◌, ℕ, ◌<◌, ◌^◌, List, [], ◌∷◌, ◌++◌, Option, Some, None, sym, ap, ◌∙◌, append_assoc}
-use Rattle.std.specs.Prelude.{codes, decimal, drop}
-use Rattle.segment_lang.specs.Texts.{number_text}
-use Rattle.segment_dump.specs.declared.counting.Front.{Front}
-use Rattle.segment_dump.specs.Counting.{IsFront, fronted}
-use Rattle.segment_dump.specs.Leads.{AreEntries, entries_text}
-use Rattle.segment_dump.specs.Reads.{Any, Breaks, Reads, itself}
-use Rattle.segment_dump.specs.Texts.{front_text}
+use Rattle.segment_dump.proofs.Common.{◌≡◌, ℕ, ◌<◌, ◌^◌, List, [], ◌∷◌, ◌++◌, Option, Some, None, sym, ap, ◌∙◌}
+use Rattle.segment_dump.proofs.Common.{append_assoc, codes, decimal, drop, number_text, Front, IsFront, fronted}
+use Rattle.segment_dump.proofs.Common.{entries_text, Any, Breaks, Reads, itself, front_text}
+use Rattle.segment_dump.specs.Leads.{AreEntries}
 use Rattle.segment_dump.proofs.ItemLines.{ends-line}
 use Rattle.segment_dump.proofs.Found.{none-some, some-pair}
 

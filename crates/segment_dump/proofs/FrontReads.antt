@@ -1,36 +1,10 @@
 -- The first three lines of a dump are read, line by line.
-use Rattle.std.proofs.Common.{
-  ◌≡◌,
-  ℕ,
-  ◌^◌,
-  ◌<◌,
-  List,
-  [],
-  ◌∷◌,
-  ◌++◌,
-  Some,
-  Result,
-  Ok,
-  Err,
-  refl,
-  sym,
-  ap,
-  ◌∙◌,
-  arith,
-  append-nil,
-  append_assoc,
-}
-use Rattle.std.specs.Prelude.{codes, decimal}
-use Rattle.std.proofs.lemmas.List.{length-append}
-use Rattle.segment_lang.specs.Laws.{NumbersAreDecimals}
-use Rattle.segment_lang.specs.Reading.{number}
-use Rattle.segment_lang.specs.Tokens.{next_word}
-use Rattle.segment_lang.specs.Words.{Bare}
-use Rattle.segment_dump.specs.declared.counting.Front.{Front}
-use Rattle.segment_dump.specs.Counting.{IsFront, fronted}
-use Rattle.segment_dump.specs.Lines.{IsShortLine, ReadsEnd, ReadsLine, ReadsThis, ReadsWord}
-use Rattle.segment_dump.specs.Reads.{Any, HasNoEnd}
-use Rattle.segment_dump.specs.Succeeding.{AreNumbers, IsNumber, ReadsLead, Takes, entries_line, entries_said, size_line, size_said, version_line, version_said}
+use Rattle.segment_dump.proofs.Common.{◌≡◌, ℕ, ◌^◌, ◌<◌, List, [], ◌∷◌, ◌++◌, Some, Result, Ok, Err, refl, sym, ap, ◌∙◌}
+use Rattle.segment_dump.proofs.Common.{arith, append-nil, append_assoc, codes, decimal, length-append}
+use Rattle.segment_dump.proofs.Common.{NumbersAreDecimals, number, next_word, Bare, Front, IsFront, fronted}
+use Rattle.segment_dump.proofs.Common.{IsShortLine, ReadsEnd, ReadsLine, ReadsThis, ReadsWord, Any, HasNoEnd, Takes}
+use Rattle.segment_dump.specs.Succeeding.{AreNumbers, IsNumber, ReadsLead, entries_line, entries_said, size_line}
+use Rattle.segment_dump.specs.Succeeding.{size_said, version_line, version_said}
 use Rattle.segment_dump.proofs.ContentLines.{no_end-both, word-no_end, no_end-test}
 use Rattle.segment_dump.proofs.Found.{never-ok, ok-same}
 use Rattle.segment_dump.proofs.LineTexts.{decimal-short}

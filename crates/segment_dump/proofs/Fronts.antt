@@ -1,8 +1,6 @@
 -- A text that goes on with some bytes.
-use Rattle.std.proofs.Common.{◌≡◌, ℕ, ◌+◌, Bool, true, false, List, ◌++◌, length, ap, sym, ◌∙◌}
-use Rattle.std.specs.Prelude.{drop, take}
-use Rattle.std.specs.Bool.{OnTrue}
-use Rattle.std.proofs.Math.Seq.{take-add}
+use Rattle.segment_dump.proofs.Common.{◌≡◌, ℕ, ◌+◌, Bool, true, false, List, ◌++◌, length, ap, sym, ◌∙◌, drop, take}
+use Rattle.segment_dump.proofs.Common.{OnTrue, take-add}
 
 pub goes-on : (b : Bool) (text : List ℕ) (at : ℕ) (bytes front behind : List ℕ) → behind ≡ drop at text → front ≡ take (length bytes) behind → OnTrue b (front ≡ bytes)
     → OnTrue b (take (at + length bytes) text ≡ take at text ++ bytes)

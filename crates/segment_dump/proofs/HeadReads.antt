@@ -1,26 +1,16 @@
 -- The line of an object is read.
-use Rattle.std.proofs.Common.{◌≡◌, ◌≢◌, ℕ, ◌^◌, ◌<◌, true, List, [], ◌∷◌, ◌++◌, get_or, Option, Some, None, Result, Ok, Err, if◌then◌else◌, refl, sym, ap, subst, ◌∙◌, arith, append-nil, append_assoc}
-use Rattle.std.specs.Prelude.{codes, decimal}
-use Rattle.raw_region.specs.Format.{current}
-use Rattle.seg_types.specs.declared.kinds.Class.{Class}
-use Rattle.seg_types.specs.declared.kinds.Class.TheVariants.{Anonymous, Named, Unique}
-use Rattle.seg_types.specs.declared.kinds.Kind.{Kind}
-use Rattle.seg_types.specs.Names.{Key, ByName, is_name}
-use Rattle.seg_types.specs.Texts.{class_text, kind_text, name_text}
-use Rattle.segment_lang.specs.Language.{whole}
-use Rattle.segment_lang.specs.Laws.{NumbersAreDecimals, TextsAreSpelled}
-use Rattle.segment_lang.specs.Reading.{kind_of_word, number}
-use Rattle.segment_lang.specs.Seen.{bytes_said, word_of}
-use Rattle.segment_lang.specs.Tokens.{next_word}
-use Rattle.segment_lang.specs.Words.{Word, Bare}
+use Rattle.segment_dump.proofs.Common.{◌≡◌, ◌≢◌, ℕ, ◌^◌, ◌<◌, true, List, [], ◌∷◌, ◌++◌, get_or, Option, Some, None}
+use Rattle.segment_dump.proofs.Common.{Result, Ok, Err, if◌then◌else◌, refl, sym, ap, subst, ◌∙◌, arith, append-nil}
+use Rattle.segment_dump.proofs.Common.{append_assoc, codes, decimal, current, Class, Anonymous, Named, Unique, Kind}
+use Rattle.segment_dump.proofs.Common.{Key, ByName, is_name, kind_text, name_text, whole, NumbersAreDecimals}
+use Rattle.segment_dump.proofs.Common.{TextsAreSpelled, kind_of_word, number, bytes_said, word_of, next_word, Word}
+use Rattle.segment_dump.proofs.Common.{Bare, State, Shape, ReadsShape, StartsNext, StartsUnder, class_words, key_in}
+use Rattle.segment_dump.proofs.Common.{measure_words, IsNameIn, Item, count_of_content, kind_of_content, IsWordOf}
+use Rattle.segment_dump.proofs.Common.{ReadsEnd, ReadsWord, any_word, bare_word, text}
+use Rattle.seg_types.specs.Texts.{class_text}
 use Rattle.segment_lang.specs.declared.words.Word.{Word as Held}
-use Rattle.segment_manager.specs.State.{State}
-use Rattle.segment_dump.specs.declared.building.Shape.{Shape}
-use Rattle.segment_dump.specs.Builders.{ReadsClass, ReadsShape, StartsNamed, StartsNext, StartsUnder}
-use Rattle.segment_dump.specs.Building.{class_words, key_in, measure_words}
-use Rattle.segment_dump.specs.Filling.{IsNameIn}
-use Rattle.segment_dump.specs.Items.{Item, count_of_content, kind_of_content}
-use Rattle.segment_dump.specs.Lines.{IsWordOf, ReadsEnd, ReadsWord, any_word, bare, bare_word, text}
+use Rattle.segment_dump.specs.Builders.{ReadsClass, StartsNamed}
+use Rattle.segment_dump.specs.Lines.{bare}
 use Rattle.segment_dump.proofs.Found.{never-ok, ok-same}
 use Rattle.segment_dump.proofs.KindWords.{kind-named}
 use Rattle.segment_dump.proofs.NextWords.{bare-long, blank-next, decimal-number, kind-next, name-next, number-next}

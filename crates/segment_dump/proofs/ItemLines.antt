@@ -1,38 +1,11 @@
 -- The lines of an object tell its name, its kind and its elements.
-use Rattle.std.proofs.Common.{
-  ◌≡◌,
-  ◌≢◌,
-  ℕ,
-  ◌≤◌,
-  ℤ,
-  true,
-  List,
-  [],
-  ◌∷◌,
-  ◌++◌,
-  drop,
-  refl,
-  sym,
-  ap,
-  subst,
-  ◌∙◌,
-  arith,
-  append_assoc,
-  ◌<◌,
-  ◌^◌,
-  length,
-}
-use Rattle.std.specs.Prelude.{decimal}
-use Rattle.std.specs.List.{AllByRecursion, flat_map}
-use Rattle.seg_types.specs.declared.kinds.Class.{Class}
-use Rattle.seg_types.specs.declared.kinds.Class.TheVariants.{Anonymous, Named, Unique}
-use Rattle.seg_types.specs.declared.kinds.Kind.{Kind}
-use Rattle.seg_types.specs.declared.kinds.ScalarKind.{ScalarKind}
-use Rattle.seg_types.specs.Kinds.{is_value}
-use Rattle.seg_types.specs.Texts.{kind_text, name_text, value_text}
-use Rattle.segment_dump.specs.Items.{Content, Scalars, Vector, String, Map, Strings, Item, count_of_content, kind_of_content}
-use Rattle.segment_dump.specs.Texts.{content_text, element_line, head_line, item_text, measure_text, pair_line, text_lines}
-use Rattle.segment_dump.specs.Filling.{AreBytes, IsBuildableContent, IsNameIn, IsPairOf}
+use Rattle.segment_dump.proofs.Common.{◌≡◌, ◌≢◌, ℕ, ◌≤◌, ℤ, true, List, [], ◌∷◌, ◌++◌, drop, refl, sym, ap, subst, ◌∙◌}
+use Rattle.segment_dump.proofs.Common.{arith, append_assoc, ◌<◌, ◌^◌, length, decimal, AllByRecursion, flat_map, Class}
+use Rattle.segment_dump.proofs.Common.{Anonymous, Named, Unique, Kind, ScalarKind, is_value, kind_text, name_text}
+use Rattle.segment_dump.proofs.Common.{value_text, Content, Scalars, Vector, String, Map, Strings, Item}
+use Rattle.segment_dump.proofs.Common.{count_of_content, kind_of_content, content_text, element_line, head_line}
+use Rattle.segment_dump.proofs.Common.{item_text, measure_text, pair_line, text_lines, AreBytes, IsBuildableContent}
+use Rattle.segment_dump.proofs.Common.{IsNameIn, IsPairOf}
 use Rattle.segment_dump.proofs.Codes.{Breaks, IsRow, Stops, heads, row-reads, tails, words-read}
 use Rattle.segment_dump.proofs.Quotes.{Any, names-read}
 use Rattle.segment_dump.proofs.TextPieces.{texts-read}

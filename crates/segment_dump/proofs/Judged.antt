@@ -1,55 +1,17 @@
 -- The size that was asked for, and the objects that a text is the dump of.
-use Rattle.std.proofs.Common.{
-  ◌≡◌,
-  ◌<◌,
-  ◌^◌,
-  ℕ,
-  Bool,
-  true,
-  false,
-  nat_eq,
-  List,
-  Option,
-  None,
-  Some,
-  Result,
-  Ok,
-  Err,
-  refl,
-  sym,
-  ap,
-  subst,
-  ◌∙◌,
-  arith,
-  ◌+◌,
-  nat_lt,
-  length,
-  if◌then◌else◌,
-}
-use Rattle.std.specs.Prelude.{IfOk, MatchResult, not}
-use Rattle.std.specs.Bool.{OnTrue}
-use Rattle.std.specs.List.{AllByRecursion}
-use Rattle.std.proofs.lemmas.Bool.{eqb-true, false≢true, ltb-false, ltb-true}
-use Rattle.block_tags.specs.Format.{is_legal_size}
-use Rattle.seg_types.specs.declared.kinds.Class.{Class}
-use Rattle.seg_types.specs.declared.kinds.Class.TheVariants.{Anonymous, Named, Unique}
-use Rattle.segment_manager.specs.Answers.{Number}
-use Rattle.segment_manager.specs.declared.errors.CreateError.{CreateError}
-use Rattle.segment_manager.specs.declared.errors.CreateRefused.{CreateRefused}
-use Rattle.segment_manager.specs.Calls.{IsNotCreated, IsWhy}
-use Rattle.segment_manager.specs.Directory.{Directory}
-use Rattle.segment_manager.specs.State.{State, StandsFor}
-use Rattle.segment_manager.specs.Step.{step}
-use Rattle.segment_dump.specs.declared.counting.Count.{Count}
-use Rattle.segment_dump.specs.declared.faults.LoadError.{LoadError}
-use Rattle.segment_dump.specs.declared.faults.LoadError.TheVariants.{BadDump as Bad, BadSize, RegionTooSmall, NoSpace, LongText}
-use Rattle.segment_dump.specs.declared.faults.LoadRefused.{LoadRefused}
+use Rattle.segment_dump.proofs.Common.{◌≡◌, ◌<◌, ◌^◌, ℕ, Bool, true, false, nat_eq, List, Option, None, Some, Result}
+use Rattle.segment_dump.proofs.Common.{Ok, Err, refl, sym, ap, subst, ◌∙◌, arith, ◌+◌, nat_lt, length, if◌then◌else◌}
+use Rattle.segment_dump.proofs.Common.{IfOk, MatchResult, not, OnTrue, AllByRecursion, eqb-true, false≢true, ltb-false}
+use Rattle.segment_dump.proofs.Common.{ltb-true, is_legal_size, Class, Anonymous, Named, Unique, Number, CreateError}
+use Rattle.segment_dump.proofs.Common.{CreateRefused, IsWhy, Directory, State, StandsFor, step, Count, LoadError}
+use Rattle.segment_dump.proofs.Common.{BadSize, RegionTooSmall, NoSpace, LongText, LoadRefused, AreCountable}
+use Rattle.segment_dump.proofs.Common.{CountsDump, IsNameless, Item, portable, items_needs, dump_text, IsAsked, IsExact}
+use Rattle.segment_dump.proofs.Common.{IsLoaded, IsNotLoaded, IsRefusalOf, IsWrong, asked_of, cause_in, refusal_for}
+use Rattle.segment_manager.specs.Calls.{IsNotCreated}
+use Rattle.segment_dump.specs.declared.faults.LoadError.TheVariants.{BadDump as Bad}
 use Rattle.segment_dump.specs.Comparing.{IsDumpOf}
-use Rattle.segment_dump.specs.Counting.{AreCountable, CountsDump, IsNameless}
-use Rattle.segment_dump.specs.Items.{Item, portable}
-use Rattle.segment_dump.specs.Need.{items_needs}
-use Rattle.segment_dump.specs.Texts.{dump_text}
-use Rattle.segment_dump.specs.Loading.{HasLongText, HasNoSpace, HasObjectsOf, HasSize, IsAsked, IsBack, IsExact, IsJudged, IsLetGo, IsLoaded, IsMade, IsNotLoaded, IsRefusalOf, IsWhyNot, IsWrong, asked_of, cause_but_bad, cause_in, load_error, refusal_for}
+use Rattle.segment_dump.specs.Loading.{HasLongText, HasNoSpace, HasObjectsOf, HasSize, IsBack, IsJudged, IsLetGo}
+use Rattle.segment_dump.specs.Loading.{IsMade, IsWhyNot, cause_but_bad, load_error}
 use Rattle.segment_dump.proofs.Elements.{free-is, size-is}
 use Rattle.segment_dump.proofs.ItemLines.{IsGoodItem}
 use Rattle.segment_dump.proofs.ObjectRooms.{segments-have-room}

@@ -1,16 +1,9 @@
 -- Kinds are words, and are found by them.
-use Rattle.std.proofs.Common.{◌≡◌, ℕ, true, Some, List, ◌++◌, refl, ◌<◌, length, sym, ap, ◌∙◌, arith}
-use Rattle.std.specs.Prelude.{codes}
-use Rattle.std.specs.List.{list_all}
-use Rattle.raw_region.specs.Format.{current}
-use Rattle.seg_types.specs.declared.kinds.Kind.{Kind}
-use Rattle.seg_types.specs.declared.kinds.Kind.TheVariants.{Scalar, Text, Vector, Map, Texts}
-use Rattle.seg_types.specs.declared.kinds.ScalarKind.{ScalarKind}
-use Rattle.seg_types.specs.declared.kinds.ScalarKind.TheVariants.{Bool as BoolKind, U8, I32, I64, U64}
-use Rattle.seg_types.specs.Texts.{kind_text, scalar_text}
-use Rattle.segment_lang.specs.Language.{whole}
-use Rattle.segment_lang.specs.Reading.{kind_named}
-use Rattle.segment_lang.specs.Words.{is_bare}
+use Rattle.segment_dump.proofs.Common.{◌≡◌, ℕ, true, Some, List, ◌++◌, refl, ◌<◌, length, sym, ap, ◌∙◌, arith, codes}
+use Rattle.segment_dump.proofs.Common.{list_all, current, Kind, Scalar, ScalarKind, U8, I32, I64, U64, kind_text}
+use Rattle.segment_dump.proofs.Common.{scalar_text, whole, kind_named, is_bare}
+use Rattle.seg_types.specs.declared.kinds.Kind.TheVariants.{Text, Vector, Map, Texts}
+use Rattle.seg_types.specs.declared.kinds.ScalarKind.TheVariants.{Bool as BoolKind}
 use Rattle.segment_dump.proofs.Codes.{IsWord, Breaks, words-read}
 use Rattle.segment_dump.proofs.Lists.{AllByRecursion-append}
 use Rattle.segment_dump.proofs.Words.{AreBare, bare-test, bare-word}

@@ -1,3 +1,4 @@
+mod Common
 mod Examples
 mod Lists
 mod Found

@@ -1,16 +1,11 @@
 -- Lines and words of a text are read.
-use Rattle.std.proofs.Common.{◌≡◌, ◌≢◌, ℕ, suc, ◌+◌, ◌<◌, ◌==◌, Bool, true, false, List, [], ◌∷◌, ◌++◌, length, take, drop, cond, not, nat_lt, Option, Some, None, Result, Ok, Err, refl, sym, ap, ◌∙◌, arith, append_assoc}
-use Rattle.std.specs.Prelude.{position}
+use Rattle.segment_dump.proofs.Common.{◌≡◌, ◌≢◌, ℕ, suc, ◌+◌, ◌<◌, ◌==◌, Bool, true, false, List, [], ◌∷◌, ◌++◌, length}
+use Rattle.segment_dump.proofs.Common.{take, drop, cond, not, nat_lt, Option, Some, None, Result, Ok, Err, refl, sym}
+use Rattle.segment_dump.proofs.Common.{ap, ◌∙◌, arith, append_assoc, position, length-append, take-append_seam}
+use Rattle.segment_dump.proofs.Common.{nat_tests, number, next_word, Word, Bare, Text, number_of, ReadsLine, ReadsThis}
+use Rattle.segment_dump.proofs.Common.{ReadsWord, any_word, bare_word, HasNoEnd, ended, lt-ltb}
 use Rattle.std.specs.List.{position_or_len}
-use Rattle.std.proofs.lemmas.List.{length-append}
-use Rattle.std.proofs.Math.Seq.{drop-append_seam, take-append_seam}
-use Rattle.std.proofs.lemmas.Bool.Decides.{nat_tests}
-use Rattle.segment_lang.specs.Reading.{number}
-use Rattle.segment_lang.specs.Tokens.{next_word}
-use Rattle.segment_lang.specs.Words.{Word, Bare, Text, number_of}
-use Rattle.segment_dump.specs.Lines.{ReadsLine, ReadsThis, ReadsWord, any_word, bare_word}
-use Rattle.segment_dump.specs.Reads.{HasNoEnd, ended}
-use Rattle.std.proofs.lemmas.Bool.{lt-ltb}
+use Rattle.std.proofs.Math.Seq.{drop-append_seam}
 use Rattle.segment_dump.proofs.Found.{never-ok, none-some, ok-same, same_Some}
 
 -- ---- a word

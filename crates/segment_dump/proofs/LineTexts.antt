@@ -1,47 +1,15 @@
 -- The lines of a dump: none has an end in it, none is long, and each is read word by word.
-use Rattle.std.proofs.Common.{
-  ◌≡◌,
-  ℕ,
-  zero,
-  suc,
-  ◌+◌,
-  ◌*◌,
-  ◌/◌,
-  ◌%◌,
-  ◌≤◌,
-  ◌==◌,
-  ◌||◌,
-  ℤ,
-  pos,
-  negsuc,
-  Bool,
-  true,
-  false,
-  nat_lt,
-  List,
-  [],
-  ◌∷◌,
-  ◌++◌,
-  length,
-  drop,
-  if◌then◌else◌,
-  sym,
-  ap,
-  arith,
-  append_assoc,
-}
-use Rattle.std.specs.Prelude.{codes, decimal, flat_map, nat_abs}
-use Rattle.std.specs.Fmt.{digit_glyph, digits, digits_onto, signed_decimal}
-use Rattle.std.proofs.lemmas.List.{length-append, length-take}
-use Rattle.seg_types.specs.declared.kinds.Kind.{Kind}
-use Rattle.seg_types.specs.declared.kinds.ScalarKind.{ScalarKind}
+use Rattle.segment_dump.proofs.Common.{◌≡◌, ℕ, zero, suc, ◌+◌, ◌*◌, ◌/◌, ◌%◌, ◌≤◌, ◌==◌, ◌||◌, ℤ, pos, negsuc, Bool}
+use Rattle.segment_dump.proofs.Common.{true, false, nat_lt, List, [], ◌∷◌, ◌++◌, length, drop, if◌then◌else◌, sym, ap}
+use Rattle.segment_dump.proofs.Common.{arith, append_assoc, codes, decimal, flat_map, nat_abs, digit_glyph, digits}
+use Rattle.segment_dump.proofs.Common.{digits_onto, signed_decimal, length-append, length-take, Kind, ScalarKind}
+use Rattle.segment_dump.proofs.Common.{between, escape_text, is_bare_name, kind_text, name_text, quoted_text}
+use Rattle.segment_dump.proofs.Common.{scalar_text, value_text, measure_words, IsShortLine, HasNoEnd, ended}
+use Rattle.segment_dump.proofs.Common.{length_text, piece_lead, piece_line, piece_of}
 use Rattle.seg_types.specs.declared.kinds.ScalarKind.TheVariants.{Bool as BoolKind}
-use Rattle.seg_types.specs.Texts.{between, escape_text, is_bare_name, item_text, kind_text, name_text, quoted_text, scalar_text, value_text}
-use Rattle.segment_dump.specs.Building.{measure_words}
-use Rattle.segment_dump.specs.Lines.{IsShortLine}
-use Rattle.segment_dump.specs.Reads.{HasNoEnd, ended}
-use Rattle.segment_dump.specs.Texts.{length_text, piece_lead, piece_line, piece_of}
-use Rattle.segment_dump.proofs.ContentLines.{blanks-no_end, lead-no_end, no_end-both, pair_front, piece_front, quoted-no_end, word-no_end}
+use Rattle.seg_types.specs.Texts.{item_text}
+use Rattle.segment_dump.proofs.ContentLines.{blanks-no_end, lead-no_end, no_end-both, pair_front, piece_front}
+use Rattle.segment_dump.proofs.ContentLines.{quoted-no_end, word-no_end}
 use Rattle.segment_dump.proofs.KindWords.{kind-word}
 use Rattle.segment_dump.proofs.Words.{decimal-word, value-word}
 use Rattle.seg_types.specs.declared.kinds.Kind.TheVariants as kinds

@@ -1,8 +1,6 @@
 -- What holds of each element of a list.
-use Rattle.std.proofs.Common.{◌≡◌, Bool, true, false, List, [], ◌∷◌, cond, map, refl}
-use Rattle.std.specs.Prelude.{filter}
-use Rattle.std.specs.List.{AllByRecursion, list_all}
-use Rattle.std.proofs.lemmas.Bool.{and_parts}
+use Rattle.segment_dump.proofs.Common.{◌≡◌, Bool, true, false, List, [], ◌∷◌, cond, map, refl, filter, AllByRecursion}
+use Rattle.segment_dump.proofs.Common.{list_all, and_parts}
 pub use Rattle.segment_manager.proofs.Laws.{AllByRecursion-append, AllByRecursion-behind, AllByRecursion-front}
 
 pub all-any : {X : Type 0} (P : X → Type 0) → ((x : X) → P x) → (xs : List X) → AllByRecursion P xs

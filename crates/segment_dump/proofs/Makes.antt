@@ -1,58 +1,19 @@
 -- An object of a line is made, with nothing in it.
-use Rattle.std.proofs.Common.{
-  ◌≡◌,
-  inl,
-  ℕ,
-  ◌+◌,
-  ◌*◌,
-  ◌^◌,
-  ◌<◌,
-  pos,
-  List,
-  length,
-  replicate,
-  Result,
-  Ok,
-  Err,
-  refl,
-  sym,
-  ap,
-  subst,
-  ◌∙◌,
-  arith,
-  ◌∷◌,
-  [],
-}
+use Rattle.segment_dump.proofs.Common.{◌≡◌, inl, ℕ, ◌+◌, ◌*◌, ◌^◌, ◌<◌, pos, List, length, replicate, Result, Ok, Err}
+use Rattle.segment_dump.proofs.Common.{refl, sym, ap, subst, ◌∙◌, arith, ◌∷◌, [], Class, Anonymous, Named, Unique, Kind}
+use Rattle.segment_dump.proofs.Common.{Refusal, size_of, Key, node_len, Made, Directory, object_len, padded, value_len}
+use Rattle.segment_dump.proofs.Common.{head_len, bare, class_of, name_of, IsStep, State, Shape, HasPlace, IsNext}
+use Rattle.segment_dump.proofs.Common.{ReadsShape, StartsUnder, content_need, first_content, IsBuilt, IsFilling, Site}
+use Rattle.segment_dump.proofs.Common.{item_key, key_in, IsBuildableContent, IsNameIn, StandsFilling, Content, Item}
+use Rattle.segment_dump.proofs.Common.{Map, Scalars, String, Strings, Vector, count_of_content, kind_of_content}
+use Rattle.segment_dump.proofs.Common.{block_room, body_len, elements_room, item_needs, object_room, texts_needs}
+use Rattle.segment_dump.proofs.Common.{all_needs, Write, step}
 use Rattle.std.proofs.lemmas.List.{length-replicate}
-use Rattle.seg_types.specs.declared.kinds.Class.{Class}
-use Rattle.seg_types.specs.declared.kinds.Class.TheVariants.{Anonymous, Named, Unique}
-use Rattle.seg_types.specs.declared.kinds.Kind.{Kind}
-use Rattle.seg_types.specs.declared.refusals.Refusal.{Refusal}
-use Rattle.seg_types.specs.Kinds.{size_of}
-use Rattle.seg_types.specs.Names.{Key}
-use Rattle.seg_map.specs.Map.{node_len}
-use Rattle.segment_manager.specs.Answers.{Made}
-use Rattle.segment_manager.specs.Directory.{Directory, object_len, padded, value_len}
-use Rattle.segment_manager.specs.Layout.{head_len}
-use Rattle.segment_manager.specs.Plan.{bare, class_of, name_of}
-use Rattle.segment_manager.specs.State.{IsStep, State, handle_answer}
-use Rattle.segment_dump.specs.declared.building.Shape.{Shape}
-use Rattle.segment_dump.specs.Builders.{HasPlace, IsCountOf, IsNext, ReadsShape, StartsUnder, content_need, first_content}
-use Rattle.segment_dump.specs.Building.{IsBuilt, IsFilling, IsRest, Site, item_key, key_in}
-use Rattle.segment_dump.specs.Filling.{IsBuildableContent, IsNameIn, StandsFilling}
-use Rattle.segment_dump.specs.Items.{Content, Item, Map, Scalars, String, Strings, Vector, count_of_content, kind_of_content}
-use Rattle.segment_dump.specs.Need.{
-  block_room,
-  body_len,
-  elements_room,
-  item_needs,
-  object_room,
-  texts_needs,
-  all_needs,
-}
-use Rattle.segment_manager.specs.declared.modes.Mode.TheVariants.{Write}
-use Rattle.segment_manager.specs.Step.{step}
-use Rattle.segment_dump.proofs.Builds.{HasEntry, IsPlain, made, map-plain, numbers-plain, string-plain, texts-plain, vector-plain}
+use Rattle.segment_manager.specs.State.{handle_answer}
+use Rattle.segment_dump.specs.Builders.{IsCountOf}
+use Rattle.segment_dump.specs.Building.{IsRest}
+use Rattle.segment_dump.proofs.Builds.{HasEntry, IsPlain, made, map-plain, numbers-plain, string-plain, texts-plain}
+use Rattle.segment_dump.proofs.Builds.{vector-plain}
 use Rattle.segment_dump.proofs.Found.{never-ok, ok-same}
 use Rattle.segment_dump.proofs.Fillings.{led, times-rest, texts-rest}
 use Rattle.segment_dump.proofs.Orders.{named-len, new-none, unique-len}

@@ -1,39 +1,12 @@
 -- The objects of the lists of a directory: each is found by its handle.
-use Rattle.std.proofs.Common.{
-  ◌≡◌,
-  refl,
-  sym,
-  ap,
-  subst,
-  ◌∙◌,
-  ℕ,
-  ◌+◌,
-  ◌≤◌,
-  zero,
-  suc,
-  true,
-  false,
-  Some,
-  List,
-  [],
-  ◌∷◌,
-  cond,
-  arith,
-}
-use Rattle.std.specs.Prelude.{IsTrue, filter, find, nat_le, slice_get}
-use Rattle.std.specs.List.{AllByRecursion}
-use Rattle.std.proofs.lemmas.Bool.{and_parts, eq-eqb, leb-true, ne_eqb}
+use Rattle.segment_dump.proofs.Common.{◌≡◌, refl, sym, ap, subst, ◌∙◌, ℕ, ◌+◌, ◌≤◌, zero, suc, true, false, Some, List}
+use Rattle.segment_dump.proofs.Common.{[], ◌∷◌, cond, arith, IsTrue, filter, find, nat_le, slice_get, AllByRecursion}
+use Rattle.segment_dump.proofs.Common.{and_parts, eq-eqb, leb-true, ne_eqb, handle, Class, Named, Unique, ByHandle}
+use Rattle.segment_dump.proofs.Common.{Instance, Object, Directory, by_kind, by_name, has_key, is_class, named_objects}
+use Rattle.segment_dump.proofs.Common.{object_at, rises_from, unique_objects, SaysAt, SaysOf, State, StandsFor}
+use Rattle.segment_dump.proofs.Common.{all-ordered, part_of}
 use Rattle.std.proofs.lemmas.Option.{same_Some}
-use Rattle.best_fit.specs.Extents.{handle}
-use Rattle.seg_types.specs.declared.kinds.Class.{Class}
-use Rattle.seg_types.specs.declared.kinds.Class.TheVariants.{Named, Unique}
-use Rattle.seg_types.specs.Names.{ByHandle}
-use Rattle.segment_manager.specs.declared.telling.Instance.{Instance}
-use Rattle.segment_manager.specs.Directory.{Object, Directory, by_kind, by_name, has_key, is_class, named_objects, object_at, rises_from, unique_objects}
-use Rattle.segment_manager.specs.Instances.{IsInstance, SaysAt, SaysOf}
-use Rattle.segment_manager.specs.State.{State, StandsFor}
-use Rattle.segment_manager.proofs.Laws.{all-ordered}
-use Rattle.segment_dump.specs.Parts.{part_of}
+use Rattle.segment_manager.specs.Instances.{IsInstance}
 use Rattle.segment_dump.proofs.Lists.{all-kept}
 use Rattle.segment_dump.proofs.Found.{none-some}
 

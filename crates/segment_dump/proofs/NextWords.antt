@@ -1,91 +1,24 @@
 -- The next word of a line is what was written there.
-use Rattle.std.proofs.Common.{
-  ◌≡◌,
-  ◌⊎◌,
-  inl,
-  inr,
-  ℕ,
-  ◌+◌,
-  ◌-◌,
-  ◌*◌,
-  ◌/◌,
-  ◌%◌,
-  ◌^◌,
-  ◌<◌,
-  ◌≤◌,
-  ℤ,
-  pos,
-  Bool,
-  true,
-  false,
-  ◌&&◌,
-  ◌||◌,
-  ◌==◌,
-  not,
-  List,
-  [],
-  ◌∷◌,
-  ◌++◌,
-  length,
-  if◌then◌else◌,
-  Option,
-  Some,
-  None,
-  refl,
-  sym,
-  ap,
-  subst,
-  ◌∙◌,
-  arith,
-  append_assoc,
-  drop,
-  take,
-}
-use Rattle.std.specs.Prelude.{nat_lt, nat_eq, decimal, codes, flat_map, option_map, option_and_then, Result, Ok, Err}
-use Rattle.std.specs.Fmt.{signed_decimal}
+use Rattle.segment_dump.proofs.Common.{◌≡◌, ◌⊎◌, inl, inr, ℕ, ◌+◌, ◌-◌, ◌*◌, ◌/◌, ◌%◌, ◌^◌, ◌<◌, ◌≤◌, ℤ, pos, Bool}
+use Rattle.segment_dump.proofs.Common.{true, false, ◌&&◌, ◌||◌, ◌==◌, not, List, [], ◌∷◌, ◌++◌, length, if◌then◌else◌}
+use Rattle.segment_dump.proofs.Common.{Option, Some, None, refl, sym, ap, subst, ◌∙◌, arith, append_assoc, drop, take}
+use Rattle.segment_dump.proofs.Common.{nat_lt, nat_eq, decimal, codes, flat_map, option_map, Result, Ok, Err}
+use Rattle.segment_dump.proofs.Common.{signed_decimal, Refusal, OutOfRange, AllByRecursion, list_all, take-append_seam}
+use Rattle.segment_dump.proofs.Common.{and_parts, eqb-true, ltb-true, ltb-false, nat_tests, drop_at, Kind, ScalarKind}
+use Rattle.segment_dump.proofs.Common.{is_value, between, digit_text, escape_text, is_bare_name, is_letter}
+use Rattle.segment_dump.proofs.Common.{is_name_byte, kind_text, name_text, quoted_text, value_text, IsWordOf, text}
+use Rattle.segment_dump.proofs.Common.{NumbersAreDecimals, TextsAreSpelled, WholesAreDecimals, Word, Bare, Text}
+use Rattle.segment_dump.proofs.Common.{is_bare, number_of, next_word}
+use Rattle.std.specs.Prelude.{option_and_then}
 use Rattle.std.specs.Result.{result_ok}
-use Rattle.seg_types.specs.declared.refusals.Refusal.{Refusal}
-use Rattle.seg_types.specs.declared.refusals.Refusal.TheVariants.{OutOfRange}
-use Rattle.std.specs.List.{AllByRecursion, list_all, prefix_len}
-use Rattle.std.proofs.Math.Seq.{take-append_seam}
-use Rattle.std.proofs.lemmas.Bool.{and_parts, eqb-true, ltb-true, ltb-false}
-use Rattle.std.proofs.lemmas.Bool.Decides.{nat_tests}
-use Rattle.std.proofs.lemmas.List.{drop_at}
-use Rattle.seg_types.specs.declared.kinds.Kind.{Kind}
-use Rattle.seg_types.specs.declared.kinds.ScalarKind.{ScalarKind}
+use Rattle.std.specs.List.{prefix_len}
 use Rattle.seg_types.specs.declared.kinds.ScalarKind.TheVariants.{Bool as BoolKind}
-use Rattle.seg_types.specs.Kinds.{is_value}
-use Rattle.seg_types.specs.Texts.{
-  between,
-  digit_text,
-  escape_text,
-  is_bare_name,
-  is_letter,
-  is_name_byte,
-  item_text,
-  kind_text,
-  name_text,
-  quoted_text,
-  value_text,
-}
-use Rattle.segment_dump.specs.Lines.{IsWordOf, bare, text}
-use Rattle.segment_lang.specs.Laws.{IsItem, NumbersAreDecimals, Spells, TextsAreSpelled, WholesAreDecimals}
-use Rattle.segment_lang.specs.Words.{
-  Word,
-  Bare,
-  Text,
-  byte_of_digits,
-  digit_of,
-  is,
-  is_bare,
-  is_blank,
-  is_plain,
-  literal_of_word,
-  number_of,
-  whole_of,
-}
+use Rattle.seg_types.specs.Texts.{item_text}
+use Rattle.segment_dump.specs.Lines.{bare}
+use Rattle.segment_lang.specs.Laws.{IsItem, Spells}
+use Rattle.segment_lang.specs.Words.{byte_of_digits, digit_of, is, is_blank, is_plain, literal_of_word, whole_of}
 use Rattle.segment_lang.specs.Reading.{skip_blanks, value_for}
-use Rattle.segment_lang.specs.Tokens.{bare_at, behind_word, ends_word, next_word, text_at, up_to_blank, word_at}
+use Rattle.segment_lang.specs.Tokens.{bare_at, behind_word, ends_word, text_at, up_to_blank, word_at}
 use Rattle.segment_dump.proofs.Words.{decimal-some, AreBare, IsWhole, bool-near, decimal-bare, in-range, value-bare}
 use Rattle.segment_dump.proofs.Lists.{all-tested}
 use Rattle.segment_dump.proofs.KindWords.{kind-bare, kind-long}

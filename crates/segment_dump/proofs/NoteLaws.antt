@@ -1,20 +1,16 @@
 -- A dump has no notes, and what is told behind it has nothing else.
-use Rattle.std.proofs.Common.{◌≡◌, ◌≢◌, ℕ, suc, ◌-◌, ◌/◌, ◌==◌, Bool, true, false, cond, List, [], ◌∷◌, ◌++◌, length, refl, sym, ap, subst, ◌∙◌, arith, append_assoc}
-use Rattle.std.specs.Prelude.{codes, decimal}
-use Rattle.std.specs.List.{AllByRecursion, flat_map}
-use Rattle.std.proofs.lemmas.Bool.{ne_eqb}
-use Rattle.seg_types.specs.declared.kinds.Class.{Class}
-use Rattle.seg_types.specs.declared.kinds.Class.TheVariants.{Anonymous, Named, Unique}
-use Rattle.seg_types.specs.declared.kinds.Kind.{Kind}
-use Rattle.seg_types.specs.Texts.{kind_text, name_text, quoted_text, value_text}
-use Rattle.segment_dump.specs.Building.{class_words}
-use Rattle.segment_dump.specs.Capacities.{Capacity, Holder, Holds, Kinds, Names, capacities, capacities_text, capacity_words, holder_text}
-use Rattle.segment_dump.specs.Items.{Content, Item, Items, Map, Scalars, String, Strings, Vector, count_of_content, kind_of_content, portable}
+use Rattle.segment_dump.proofs.Common.{◌≡◌, ◌≢◌, ℕ, suc, ◌-◌, ◌/◌, ◌==◌, Bool, true, false, cond, List, [], ◌∷◌, ◌++◌}
+use Rattle.segment_dump.proofs.Common.{length, refl, sym, ap, subst, ◌∙◌, arith, append_assoc, codes, decimal}
+use Rattle.segment_dump.proofs.Common.{AllByRecursion, flat_map, ne_eqb, Class, Anonymous, Named, Unique, Kind}
+use Rattle.segment_dump.proofs.Common.{kind_text, name_text, quoted_text, value_text, class_words, Capacity, Holds}
+use Rattle.segment_dump.proofs.Common.{Kinds, Names, capacities, capacities_text, Content, Item, Items, Map, Scalars}
+use Rattle.segment_dump.proofs.Common.{String, Strings, Vector, count_of_content, kind_of_content, portable, are_notes}
+use Rattle.segment_dump.proofs.Common.{before_notes, ends_line, without_notes, parts_until, HasNoEnd, ended, lines_text}
+use Rattle.segment_dump.proofs.Common.{content_text, dump_text, element_line, end_text, front_text, head_line}
+use Rattle.segment_dump.proofs.Common.{item_text, items_text, length_text, pair_line, piece_lead, piece_line, piece_of}
+use Rattle.segment_dump.proofs.Common.{pieces_in, pieces_text, text_lines}
+use Rattle.segment_dump.specs.Capacities.{Holder, capacity_words, holder_text}
 use Rattle.segment_dump.specs.Laws.{CapacitiesAreLeftOut, DumpsHaveNoNotes, IsNote, NotesAreCut, NotesAreLeftOut}
-use Rattle.segment_dump.specs.Notes.{are_notes, before_notes, ends_line, without_notes}
-use Rattle.segment_dump.specs.Parts.{parts_until}
-use Rattle.segment_dump.specs.Reads.{HasNoEnd, ended, lines_text}
-use Rattle.segment_dump.specs.Texts.{content_text, dump_text, element_line, end_text, front_text, head_line, item_text, items_text, length_text, pair_line, piece_lead, piece_line, piece_of, pieces_in, pieces_text, text_lines}
 use Rattle.segment_dump.proofs.BuildLines.{class-no_end}
 use Rattle.segment_dump.proofs.ContentLines.{no_end-both, word-no_end, no_end-test}
 use Rattle.segment_dump.proofs.KindWords.{kind-word}

@@ -1,9 +1,10 @@
 -- The notes at the end of a text are cut off line by line.
-use Rattle.std.proofs.Common.{◌≡◌, ◌<◌, ◌≤◌, ℕ, zero, suc, ◌+◌, ◌-◌, Bool, true, false, ◌&&◌, ◌==◌, not, cond, List, [], ◌∷◌, ◌++◌, length, take, drop, get_or, refl, sym, ap, ap₂, ◌∙◌, arith}
-use Rattle.std.proofs.lemmas.Bool.Decides.{nat_tests}
-use Rattle.std.proofs.lemmas.Bool.{and_parts}
-use Rattle.std.proofs.lemmas.List.{take-append-drop, take_more, length-drop}
-use Rattle.segment_dump.specs.Notes.{IsLastLine, are_notes, before_notes, ends_line, is_line, without_notes}
+use Rattle.segment_dump.proofs.Common.{◌≡◌, ◌<◌, ◌≤◌, ℕ, zero, suc, ◌+◌, ◌-◌, Bool, true, false, ◌&&◌, ◌==◌, not, cond}
+use Rattle.segment_dump.proofs.Common.{List, [], ◌∷◌, ◌++◌, length, take, drop, get_or, refl, sym, ap, ◌∙◌, arith}
+use Rattle.segment_dump.proofs.Common.{nat_tests, and_parts, take-append-drop, take_more, length-drop, are_notes}
+use Rattle.segment_dump.proofs.Common.{before_notes, ends_line, is_line, without_notes}
+use Rattle.std.proofs.Common.{ap₂}
+use Rattle.segment_dump.specs.Notes.{IsLastLine}
 
 -- ---- notes behind whole lines
 

@@ -1,20 +1,12 @@
 -- What is counted of an object, of all objects, and of a dump.
-use Rattle.std.proofs.Common.{◌≡◌, ℕ, ◌+◌, ◌*◌, ◌<◌, ◌≤◌, List, [], ◌∷◌, ◌++◌, length, Option, Some, None, refl, sym, ap, ◌∙◌, arith, append_assoc}
-use Rattle.std.specs.Prelude.{codes}
-use Rattle.seg_types.specs.declared.kinds.Class.{Class}
-use Rattle.seg_types.specs.declared.kinds.Class.TheVariants.{Anonymous, Named, Unique}
-use Rattle.seg_types.specs.declared.kinds.Kind.{Kind}
-use Rattle.seg_types.specs.Kinds.{size_of}
-use Rattle.seg_types.specs.Texts.{name_text}
-use Rattle.segment_manager.specs.Layout.{head_len}
-use Rattle.segment_manager.specs.Directory.{padded}
-use Rattle.segment_dump.specs.declared.needs.Needs.{Needs}
-use Rattle.segment_dump.specs.Counting.{IsContent, IsCountable}
-use Rattle.segment_dump.specs.Items.{Content, Scalars, Vector, String, Map, Strings, Item, kind_of_content, count_of_content}
-use Rattle.segment_dump.specs.Leads.{IsLead, IsMeasure, IsSmall, lead_text, measured}
-use Rattle.segment_dump.specs.Need.{body_len, both, item_needs, object_room, only_room, texts_needs}
-use Rattle.segment_dump.specs.Reads.{Any, Reads, itself}
-use Rattle.segment_dump.specs.Texts.{content_text, head_line, item_text, measure_text}
+use Rattle.segment_dump.proofs.Common.{◌≡◌, ℕ, ◌+◌, ◌*◌, ◌<◌, ◌≤◌, List, [], ◌∷◌, ◌++◌, length, Option, Some, None}
+use Rattle.segment_dump.proofs.Common.{refl, sym, ap, ◌∙◌, arith, append_assoc, codes, Class, Anonymous, Named, Unique}
+use Rattle.segment_dump.proofs.Common.{Kind, size_of, name_text, head_len, padded, Needs, IsContent, IsCountable}
+use Rattle.segment_dump.proofs.Common.{Content, Scalars, Vector, String, Map, Strings, Item, kind_of_content}
+use Rattle.segment_dump.proofs.Common.{count_of_content, IsSmall, body_len, both, item_needs, object_room, only_room}
+use Rattle.segment_dump.proofs.Common.{texts_needs, Any, Reads, itself, content_text, head_line, item_text}
+use Rattle.segment_dump.proofs.Common.{measure_text}
+use Rattle.segment_dump.specs.Leads.{IsLead, IsMeasure, lead_text, measured}
 use Rattle.segment_dump.proofs.Counts.{ContentReads}
 use Rattle.segment_dump.proofs.Sums.{block-least, node-least, size-least}
 use Rattle.segment_dump.proofs.Found.{none-some, some-pair}

@@ -1,31 +1,25 @@
 -- The bytes that a directory's objects need, in the blocks that they have.
-use Rattle.std.proofs.Common.{◌≡◌, ℕ, ◌+◌, ◌-◌, ◌*◌, ◌≤◌, Bool, true, false, ◌&&◌, ◌==◌, nat_le, nat_lt, List, [], ◌∷◌, ◌++◌, length, map, Option, Some, None, if◌then◌else◌, cond, refl, sym, ap, subst, ◌∙◌, arith}
-use Rattle.std.specs.Prelude.{flat_map, filter, fold, option_to_list, int_lt, IsTrue}
-use Rattle.std.specs.List.{AllByRecursion, list_all}
-use Rattle.std.proofs.Math.Nat.{mul-le-mul_left, mul-zero, one-mul, suc-mul, zero-mul}
-use Rattle.std.proofs.lemmas.Bool.{and_parts, leb-true}
-use Rattle.std.proofs.lemmas.List.{length-map}
-use Rattle.std.proofs.lemmas.Bool.Decides.{nat_tests}
-use Rattle.block_tags.specs.declared.tile.Role.{Role}
-use Rattle.block_tags.specs.declared.tile.Role.TheVariants.{Index, Node, Object as ObjectRole, Storage}
-use Rattle.block_tags.specs.Format.{is_legal_size}
-use Rattle.best_fit.specs.Extents.{Extent, holds, is_proper, proper_from}
-use Rattle.best_fit.specs.Fit.{room}
-use Rattle.best_fit.specs.Table.{Table, is_table, same_role, serves}
-use Rattle.raw_region.specs.Format.{current}
-use Rattle.seg_types.specs.declared.kinds.Class.{Class}
-use Rattle.seg_types.specs.declared.kinds.Class.TheVariants.{Anonymous, Named, Unique}
-use Rattle.seg_types.specs.declared.kinds.ScalarKind.{ScalarKind}
-use Rattle.seg_types.specs.Kinds.{class_code, is_kind_of, is_value, size_of}
-use Rattle.seg_map.specs.Map.{is_rising, node_len}
-use Rattle.seg_map.specs.Numbers.{NumberPair, is_number_pair}
-use Rattle.seg_map.specs.Places.{item_of}
-use Rattle.seg_vector.specs.Vector.{OwnedText}
-use Rattle.segment_manager.specs.Directory.{Bytes, Directory, Elements, Numbers, Object, Pairs, Texts, Value, by_kind, by_name, extents_of, has_good_name, has_own_block, insert_by, is_class, is_good_value, is_index, is_object, is_owned_text, kind_of, live, named_objects, object_len, padded, sorted, table_extents, unique_objects, value_extents, value_len}
-use Rattle.segment_manager.specs.Layout.{head_len}
-use Rattle.segment_manager.proofs.Laws.{AllByRecursion-behind, AllByRecursion-front, all_of-sorted, index-parts, live-extents, live-size, tables_of}
-use Rattle.segment_dump.specs.Items.{bytes_in, content_of, count_of_content, item_of_object, kind_of_content}
-use Rattle.segment_dump.specs.Need.{all_needs, block_room, body_len, elements_room, front_room, item_needs, object_room, text_needs, texts_needs}
+use Rattle.segment_dump.proofs.Common.{◌≡◌, ℕ, ◌+◌, ◌-◌, ◌*◌, ◌≤◌, Bool, true, false, ◌&&◌, ◌==◌, nat_le, nat_lt, List}
+use Rattle.segment_dump.proofs.Common.{[], ◌∷◌, ◌++◌, length, map, Option, Some, None, if◌then◌else◌, cond, refl, sym}
+use Rattle.segment_dump.proofs.Common.{ap, subst, ◌∙◌, arith, flat_map, filter, fold, option_to_list, int_lt, IsTrue}
+use Rattle.segment_dump.proofs.Common.{AllByRecursion, list_all, mul-le-mul_left, mul-zero, suc-mul, zero-mul}
+use Rattle.segment_dump.proofs.Common.{and_parts, leb-true, length-map, nat_tests, Role, Index, Node, Storage}
+use Rattle.segment_dump.proofs.Common.{is_legal_size, Extent, holds, is_proper, proper_from, room, Table, is_table}
+use Rattle.segment_dump.proofs.Common.{serves, current, Class, Anonymous, Named, Unique, ScalarKind, class_code}
+use Rattle.segment_dump.proofs.Common.{is_kind_of, is_value, size_of, is_rising, node_len, NumberPair, is_number_pair}
+use Rattle.segment_dump.proofs.Common.{item_of, OwnedText, Bytes, Directory, Elements, Numbers, Object, Pairs, Texts}
+use Rattle.segment_dump.proofs.Common.{Value, by_kind, by_name, extents_of, has_good_name, has_own_block, insert_by}
+use Rattle.segment_dump.proofs.Common.{is_class, is_good_value, is_object, is_owned_text, kind_of, live, named_objects}
+use Rattle.segment_dump.proofs.Common.{object_len, padded, sorted, table_extents, unique_objects, value_extents}
+use Rattle.segment_dump.proofs.Common.{value_len, head_len, AllByRecursion-behind, AllByRecursion-front, index-parts}
+use Rattle.segment_dump.proofs.Common.{live-extents, live-size, bytes_in, content_of, count_of_content, item_of_object}
+use Rattle.segment_dump.proofs.Common.{kind_of_content, all_needs, block_room, body_len, elements_room, front_room}
+use Rattle.segment_dump.proofs.Common.{item_needs, object_room, text_needs, texts_needs}
+use Rattle.std.proofs.Math.Nat.{one-mul}
+use Rattle.block_tags.specs.declared.tile.Role.TheVariants.{Object as ObjectRole}
+use Rattle.best_fit.specs.Table.{same_role}
+use Rattle.segment_manager.specs.Directory.{is_index}
+use Rattle.segment_manager.proofs.Laws.{all_of-sorted, tables_of}
 use Rattle.segment_dump.specs.Laws.{SegmentsHaveRoom}
 use Rattle.segment_dump.proofs.Rooms.{IsLong, held-fits, proper-long, proper-total, total, total-append, total-sorted}
 

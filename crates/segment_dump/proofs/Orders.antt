@@ -1,31 +1,12 @@
 -- The objects of a segment, class by class and in order, are those of a dump where they were made in its order.
-use Rattle.std.proofs.Common.{◌≡◌, ℕ, suc, ◌+◌, ◌==◌, ◌&&◌, Bool, true, false, nat_lt, cond, List, [], ◌∷◌, ◌++◌, length, map, Some, None, if◌then◌else◌, refl, sym, ap, subst, ◌∙◌, arith, append_assoc}
-use Rattle.std.specs.Prelude.{filter, find, fold, ⊤}
-use Rattle.std.specs.List.{AllByRecursion}
-use Rattle.std.proofs.lemmas.List.{append-nil, map-append}
-use Rattle.seg_types.specs.declared.kinds.Class.{Class}
-use Rattle.seg_types.specs.declared.kinds.Class.TheVariants.{Anonymous, Named, Unique}
-use Rattle.seg_types.specs.Kinds.{class_code, code_of, same_kind}
-use Rattle.seg_types.specs.Names.{Key, ByHandle, ByKind, ByName, NoKey}
-use Rattle.segment_manager.specs.Directory.{
-  Directory,
-  Numbers,
-  Object,
-  Value,
-  by_kind,
-  by_name,
-  has_key,
-  insert_by,
-  is_class,
-  kind_of,
-  named_objects,
-  object_at,
-  unique_objects,
-}
-use Rattle.segment_manager.proofs.Laws.{IsStrict}
-use Rattle.segment_dump.specs.Building.{AreInOrder, count_class, has_item_key, item_key, kind_less, of_class}
-use Rattle.segment_dump.specs.Items.{Item, content_of, item_of_object, kind_of_content}
-use Rattle.segment_dump.specs.Succeeding.{AreOf}
+use Rattle.segment_dump.proofs.Common.{◌≡◌, ℕ, suc, ◌+◌, ◌==◌, ◌&&◌, Bool, true, false, nat_lt, cond, List, [], ◌∷◌}
+use Rattle.segment_dump.proofs.Common.{◌++◌, length, map, Some, None, if◌then◌else◌, refl, sym, ap, subst, ◌∙◌, arith}
+use Rattle.segment_dump.proofs.Common.{append_assoc, filter, find, fold, ⊤, AllByRecursion, append-nil, map-append}
+use Rattle.segment_dump.proofs.Common.{Class, Anonymous, Named, Unique, class_code, code_of, same_kind, Key, ByHandle}
+use Rattle.segment_dump.proofs.Common.{ByKind, ByName, NoKey, Directory, Numbers, Object, Value, by_kind, by_name}
+use Rattle.segment_dump.proofs.Common.{has_key, insert_by, is_class, kind_of, named_objects, object_at, unique_objects}
+use Rattle.segment_dump.proofs.Common.{IsStrict, AreInOrder, count_class, has_item_key, item_key, kind_less, of_class}
+use Rattle.segment_dump.proofs.Common.{Item, content_of, item_of_object, kind_of_content, AreOf}
 use Rattle.segment_dump.proofs.Lists.{AllByRecursion-append, all-by}
 
 -- ---- what items say of objects

@@ -1,15 +1,8 @@
 -- What a call writes of a segment, one text behind another.
-use Rattle.std.proofs.Common.{◌≡◌, ℕ, ◌+◌, ◌<◌, List, [], ◌++◌, refl, sym, ap, subst, ◌∙◌, arith}
-use Rattle.std.specs.Prelude.{Result, Ok, Err}
-use Rattle.std.specs.Result.{IsErr}
-use Rattle.std.proofs.lemmas.List.{append-nil}
+use Rattle.segment_dump.proofs.Common.{◌≡◌, ℕ, ◌+◌, ◌<◌, List, [], ◌++◌, refl, sym, ap, subst, ◌∙◌, arith, Result, Ok}
+use Rattle.segment_dump.proofs.Common.{Err, IsErr, append-nil, Took, Writes, writes-cut, writes-then, Directory, State}
+use Rattle.segment_dump.proofs.Common.{StandsFor, WritesOf, parts_until}
 use Rattle.raw_region.specs.Answers.{failures_in}
-use Rattle.raw_region.specs.Device.{Took, Writes}
-use Rattle.raw_region.proofs.Laws.{writes-cut, writes-then}
-use Rattle.segment_manager.specs.Directory.{Directory}
-use Rattle.segment_manager.specs.State.{State, StandsFor}
-use Rattle.segment_dump.specs.Owed.{WritesOf}
-use Rattle.segment_dump.specs.Parts.{parts_until}
 use Rattle.segment_dump.proofs.PartLines.{part-cut, part-told, well}
 
 -- an error is one failure

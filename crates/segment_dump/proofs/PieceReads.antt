@@ -1,22 +1,17 @@
 -- The lines of a text are read, and its pieces come one behind another.
-use Rattle.std.proofs.Common.{◌≡◌, ℕ, zero, suc, ◌+◌, ◌-◌, ◌*◌, ◌/◌, ◌^◌, ◌<◌, ◌≤◌, List, [], ◌∷◌, ◌++◌, length, take, drop, Some, Result, Ok, Err, refl, sym, ap, subst, ◌∙◌, arith, append_assoc, append-nil}
-use Rattle.std.specs.Prelude.{decimal}
-use Rattle.std.proofs.Math.Seq.{take-add}
-use Rattle.std.proofs.lemmas.List.{append_cancel_left, length-append, length-take, take_all}
-use Rattle.seg_types.specs.Texts.{quoted_text}
-use Rattle.segment_lang.specs.Laws.{NumbersAreDecimals, TextsAreSpelled}
-use Rattle.segment_lang.specs.Reading.{number}
-use Rattle.segment_lang.specs.Tokens.{next_word}
-use Rattle.segment_lang.specs.Words.{Bare, Text}
-use Rattle.segment_dump.specs.Builders.{Collects, CopiesPiece, PiecesLeft, ReadsLength, ReadsPiece}
-use Rattle.segment_dump.specs.Filling.{AreBytes}
-use Rattle.segment_dump.specs.Lines.{ReadsEnd, ReadsLine, ReadsWord, quoted_word}
-use Rattle.segment_dump.specs.Parts.{parts_until}
-use Rattle.segment_dump.specs.Reads.{ended}
-use Rattle.segment_dump.specs.Texts.{length_text, piece_lead, piece_line, piece_of, pieces_in, pieces_text, text_lines}
+use Rattle.segment_dump.proofs.Common.{◌≡◌, ℕ, zero, suc, ◌+◌, ◌-◌, ◌*◌, ◌/◌, ◌^◌, ◌<◌, ◌≤◌, List, [], ◌∷◌, ◌++◌}
+use Rattle.segment_dump.proofs.Common.{length, take, drop, Some, Result, Ok, Err, refl, sym, ap, subst, ◌∙◌, arith}
+use Rattle.segment_dump.proofs.Common.{append_assoc, append-nil, decimal, take-add, length-append, length-take}
+use Rattle.segment_dump.proofs.Common.{take_all, quoted_text, NumbersAreDecimals, TextsAreSpelled, number, next_word}
+use Rattle.segment_dump.proofs.Common.{Bare, Text, Collects, PiecesLeft, ReadsLength, ReadsPiece, AreBytes, ReadsEnd}
+use Rattle.segment_dump.proofs.Common.{ReadsLine, ReadsWord, quoted_word, parts_until, ended, length_text, piece_lead}
+use Rattle.segment_dump.proofs.Common.{piece_line, piece_of, pieces_in, pieces_text, text_lines}
+use Rattle.std.proofs.lemmas.List.{append_cancel_left}
+use Rattle.segment_dump.specs.Builders.{CopiesPiece}
 use Rattle.segment_dump.proofs.ContentLines.{piece_front}
 use Rattle.segment_dump.proofs.Found.{never-ok, ok-same}
-use Rattle.segment_dump.proofs.LineTexts.{first-no_end, first-short, first_front, piece-ended, piece-no_end, piece-short}
+use Rattle.segment_dump.proofs.LineTexts.{first-no_end, first-short, first_front, piece-ended, piece-no_end}
+use Rattle.segment_dump.proofs.LineTexts.{piece-short}
 use Rattle.segment_dump.proofs.NextWords.{blank-next, decimal-number, number-next, text-next}
 use Rattle.segment_dump.proofs.PartLines.{split}
 

@@ -1,27 +1,17 @@
 -- The notes of a segment's capacities are those of its directory.
-use Rattle.std.proofs.Common.{◌≡◌, ℕ, ◌-◌, ◌≤◌, true, List, [], ◌∷◌, ◌++◌, length, map, Option, Some, None, refl, sym, ap, ◌∙◌, arith, append_assoc, append-nil}
-use Rattle.std.specs.Prelude.{option_to_list}
-use Rattle.std.specs.List.{flat_map}
-use Rattle.std.proofs.lemmas.Bool.Decides.{nat_tests}
-use Rattle.std.proofs.lemmas.Bool.{and_parts}
-use Rattle.std.proofs.lemmas.Grind.{flat_map-append}
-use Rattle.block_tags.specs.Format.{is_legal_size}
-use Rattle.best_fit.specs.Extents.{is_proper, proper_from}
-use Rattle.raw_region.specs.Memory.{bytes_of, word_at}
-use Rattle.seg_types.specs.declared.kinds.Kind.TheVariants.{Map, Scalar}
-use Rattle.seg_types.specs.declared.kinds.ScalarKind.{ScalarKind}
-use Rattle.seg_types.specs.Names.{ByHandle}
+use Rattle.segment_dump.proofs.Common.{◌≡◌, ℕ, ◌-◌, ◌≤◌, true, List, [], ◌∷◌, ◌++◌, length, map, Option, Some, None}
+use Rattle.segment_dump.proofs.Common.{refl, sym, ap, ◌∙◌, arith, append_assoc, append-nil, option_to_list, flat_map}
+use Rattle.segment_dump.proofs.Common.{nat_tests, and_parts, flat_map-append, is_legal_size, is_proper, proper_from}
+use Rattle.segment_dump.proofs.Common.{bytes_of, word_at, Scalar, ScalarKind, ByHandle, Instance, sizes_at, sizes_of}
+use Rattle.segment_dump.proofs.Common.{Value, Numbers, Elements, Bytes, Pairs, Texts, Directory, Object, kind_of, live}
+use Rattle.segment_dump.proofs.Common.{named_objects, unique_objects, SaysOf, IsLocated, Answers, State, StandsFor}
+use Rattle.segment_dump.proofs.Common.{said-at, Capacity, Holds, Kinds, Names, all_notes, capacities, capacities_text}
+use Rattle.segment_dump.proofs.Common.{capacity_note, index_notes, measured_places, places_at, anonymous_objects}
+use Rattle.segment_dump.proofs.Common.{part_of}
+use Rattle.seg_types.specs.declared.kinds.Kind.TheVariants.{Map}
 use Rattle.segment_manager.specs.declared.targets.Object.{Object as Located}
-use Rattle.segment_manager.specs.declared.telling.Instance.{Instance}
-use Rattle.segment_manager.specs.Contents.{sizes_at, sizes_of}
-use Rattle.segment_manager.specs.Directory.{Value, Numbers, Elements, Bytes, Pairs, Texts, Directory, Object, kind_of, live, named_objects, unique_objects}
-use Rattle.segment_manager.specs.Instances.{SaysOf}
-use Rattle.segment_manager.specs.Located.{IsLocated}
-use Rattle.segment_manager.specs.State.{Answers, IsSegment, State, StandsFor}
-use Rattle.segment_manager.proofs.Laws.{said-at}
-use Rattle.segment_dump.specs.Capacities.{Capacity, Holds, Kinds, Names, all_notes, capacities, capacities_text, capacity_note, index_notes, measured_places, notes_at, notes_of, object_capacities, object_notes, places_at, places_in, places_of}
-use Rattle.segment_dump.specs.Items.{anonymous_objects}
-use Rattle.segment_dump.specs.Parts.{part_of}
+use Rattle.segment_manager.specs.State.{IsSegment}
+use Rattle.segment_dump.specs.Capacities.{notes_at, notes_of, object_capacities, object_notes, places_in, places_of}
 use Rattle.segment_dump.proofs.Elements.{sizes_of_object}
 
 -- ---- the places of the two indexes

@@ -1,10 +1,9 @@
 -- A text in quotes, and a name, bare or in quotes, tell their bytes.
-use Rattle.std.proofs.Common.{◌≡◌, ◌≢◌, ℕ, ◌/◌, ◌%◌, ◌<◌, Bool, true, false, ◌||◌, ◌==◌, cond, List, [], ◌∷◌, ◌++◌, refl, sym, ap, ◌∙◌, arith, append_assoc}
-use Rattle.std.specs.Prelude.{⊤}
-use Rattle.std.specs.List.{flat_map, list_all}
-use Rattle.std.proofs.lemmas.Bool.{and_parts}
-use Rattle.std.proofs.lemmas.Bool.Decides.{nat_tests}
-use Rattle.seg_types.specs.Texts.{between, digit_text, escape_text, is_bare_name, is_letter, is_name_byte, item_text, name_text, quoted_text}
+use Rattle.segment_dump.proofs.Common.{◌≡◌, ◌≢◌, ℕ, ◌/◌, ◌%◌, ◌<◌, Bool, true, false, ◌||◌, ◌==◌, cond, List, [], ◌∷◌}
+use Rattle.segment_dump.proofs.Common.{◌++◌, refl, sym, ap, ◌∙◌, arith, append_assoc, ⊤, flat_map, list_all, and_parts}
+use Rattle.segment_dump.proofs.Common.{nat_tests, between, digit_text, escape_text, is_bare_name, is_letter}
+use Rattle.segment_dump.proofs.Common.{is_name_byte, name_text, quoted_text}
+use Rattle.seg_types.specs.Texts.{item_text}
 use Rattle.segment_dump.proofs.Codes.{Breaks, IsRow, IsWord, Stops, heads, row-reads, tails, words-read}
 use Rattle.segment_dump.proofs.Lists.{all-any, all-tested}
 

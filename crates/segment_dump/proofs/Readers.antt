@@ -1,19 +1,12 @@
 -- What stands in front of a text is read.
-use Rattle.std.proofs.Common.{◌≡◌, ◌≢◌, ℕ, suc, ◌+◌, ◌-◌, ◌<◌, ◌≤◌, List, [], ◌∷◌, ◌++◌, length, take, drop, get_or, refl, sym, ap, subst, ◌∙◌, arith, append_assoc}
+use Rattle.segment_dump.proofs.Common.{◌≡◌, ◌≢◌, ℕ, suc, ◌+◌, ◌-◌, ◌<◌, ◌≤◌, List, [], ◌∷◌, ◌++◌, length, take, drop}
+use Rattle.segment_dump.proofs.Common.{get_or, refl, sym, ap, subst, ◌∙◌, arith, append_assoc, ◌^◌, Option, Some, None}
+use Rattle.segment_dump.proofs.Common.{decimal, flat_map, option_map, take_all, AllByRecursion, kind_text, name_text}
+use Rattle.segment_dump.proofs.Common.{IsSmall, closed_text, Any, AreLines, Breaks, HasNoEnd, IsWord, Reads, Skips}
+use Rattle.segment_dump.proofs.Common.{ended, itself, lines_text, seen, seen_rest, current, Kind, whole}
+use Rattle.segment_dump.proofs.Common.{NumbersAreDecimals, kind_named, number_text, number_of}
 use Rattle.std.specs.Borrow.{Bor}
-use Rattle.std.specs.Prelude.{◌^◌, Option, Some, None, decimal, flat_map, option_map}
-use Rattle.std.proofs.lemmas.List.{take_all}
-use Rattle.std.specs.List.{AllByRecursion}
-use Rattle.seg_types.specs.Texts.{item_text, kind_text, name_text}
-use Rattle.segment_dump.specs.Leads.{IsSmall, closed_text}
-use Rattle.segment_dump.specs.Reads.{Any, AreLines, Breaks, HasNoEnd, IsWord, Reads, Skips, ended, itself, lines_text, seen, seen_rest}
-use Rattle.raw_region.specs.Format.{current}
-use Rattle.seg_types.specs.declared.kinds.Kind.{Kind}
-use Rattle.segment_lang.specs.Language.{whole}
-use Rattle.segment_lang.specs.Laws.{NumbersAreDecimals}
-use Rattle.segment_lang.specs.Reading.{kind_named}
-use Rattle.segment_lang.specs.Texts.{number_text}
-use Rattle.segment_lang.specs.Words.{number_of}
+use Rattle.seg_types.specs.Texts.{item_text}
 use Rattle.segment_dump.proofs.Codes.{heads, tails, words-read}
 use Rattle.segment_dump.proofs.KindWords.{kind-named, kind-word}
 use Rattle.segment_dump.proofs.Quotes.{IsName, bare, item-is, item-opens, name-is, quoted}

@@ -1,14 +1,11 @@
 -- A dump tells its objects.
-use Rattle.std.proofs.Common.{◌≡◌, ◌≢◌, ◌⊎◌, inl, inr, ℕ, ◌<◌, ◌^◌, List, [], ◌∷◌, ◌++◌, drop, length, refl, sym, ap, subst, ◌∙◌, arith, append_assoc}
-use Rattle.std.specs.Prelude.{codes, decimal}
-use Rattle.std.specs.List.{AllByRecursion}
-use Rattle.std.proofs.lemmas.Fmt.{decimal_injective}
-use Rattle.seg_types.specs.declared.kinds.Class.{Class}
-use Rattle.seg_types.specs.declared.kinds.Class.TheVariants.{Anonymous, Named, Unique}
-use Rattle.segment_dump.specs.Items.{Item, Items}
-use Rattle.segment_dump.specs.Texts.{dump_text, end_text, front_text, item_text, items_text}
+use Rattle.segment_dump.proofs.Common.{◌≡◌, ◌≢◌, ◌⊎◌, inl, inr, ℕ, ◌<◌, ◌^◌, List, [], ◌∷◌, ◌++◌, drop, length, refl}
+use Rattle.segment_dump.proofs.Common.{sym, ap, subst, ◌∙◌, arith, append_assoc, codes, decimal, AllByRecursion}
+use Rattle.segment_dump.proofs.Common.{decimal_injective, Class, Anonymous, Named, Unique, Item, Items, dump_text}
+use Rattle.segment_dump.proofs.Common.{end_text, front_text, item_text, items_text}
 use Rattle.segment_dump.proofs.Codes.{Stops, row-reads, tails, words-read}
-use Rattle.segment_dump.proofs.ItemLines.{IsFirst, IsGoodItem, IsNoLine, ends-line, first-no_line, item-first, items-row, letter, never-first, parts-word}
+use Rattle.segment_dump.proofs.ItemLines.{IsFirst, IsGoodItem, IsNoLine, ends-line, first-no_line, item-first}
+use Rattle.segment_dump.proofs.ItemLines.{items-row, letter, never-first, parts-word}
 use Rattle.segment_dump.proofs.Words.{decimal-word}
 
 -- ---- the first lines

@@ -1,12 +1,10 @@
 -- The bytes of blocks: each is as long as what stands in it needs, and all of them fit between the ends of a segment.
-use Rattle.std.proofs.Common.{◌≡◌, ℕ, ◌+◌, ◌*◌, ◌/◌, ◌%◌, ◌≤◌, Bool, true, false, ◌&&◌, ◌==◌, nat_le, nat_lt, List, [], ◌∷◌, ◌++◌, if◌then◌else◌, refl, arith}
-use Rattle.std.specs.List.{AllByRecursion}
+use Rattle.segment_dump.proofs.Common.{◌≡◌, ℕ, ◌+◌, ◌*◌, ◌/◌, ◌%◌, ◌≤◌, Bool, true, false, ◌&&◌, ◌==◌, nat_le, nat_lt}
+use Rattle.segment_dump.proofs.Common.{List, [], ◌∷◌, ◌++◌, if◌then◌else◌, refl, arith, AllByRecursion, and_parts}
+use Rattle.segment_dump.proofs.Common.{eqb-true, leb-true, nat_tests, Extent, end_of, holds, is_block, is_hole}
+use Rattle.segment_dump.proofs.Common.{proper_from, room, sorted}
 use Rattle.std.proofs.Math.Nat.{max-le}
-use Rattle.std.proofs.lemmas.Bool.{and_parts, eqb-true, leb-true}
-use Rattle.std.proofs.lemmas.Bool.Decides.{nat_tests}
-use Rattle.best_fit.specs.Extents.{Extent, end_of, holds, is_block, is_hole, proper_from}
-use Rattle.best_fit.specs.Fit.{insert, room}
-use Rattle.segment_manager.specs.Directory.{sorted}
+use Rattle.best_fit.specs.Fit.{insert}
 unfoldable pub use Rattle.segment_dump.specs.Building.{total}
 
 -- all bytes of some blocks

@@ -1,11 +1,8 @@
 -- The size that a dump says, with notes behind it or not.
-use Rattle.std.proofs.Common.{◌≡◌, ◌≢◌, ℕ, ◌^◌, ◌<◌, List, ◌++◌, length, Option, Some, None, ap, ◌∙◌, append_assoc}
-use Rattle.std.specs.Prelude.{drop}
+use Rattle.segment_dump.proofs.Common.{◌≡◌, ◌≢◌, ℕ, ◌^◌, ◌<◌, List, ◌++◌, length, Option, Some, None, ap, ◌∙◌}
+use Rattle.segment_dump.proofs.Common.{append_assoc, drop, Items, entries_text, without_notes, dump_text, end_text}
+use Rattle.segment_dump.proofs.Common.{front_text, items_text}
 use Rattle.segment_dump.specs.Counting.{SaysSize}
-use Rattle.segment_dump.specs.Items.{Items}
-use Rattle.segment_dump.specs.Leads.{entries_text}
-use Rattle.segment_dump.specs.Notes.{without_notes}
-use Rattle.segment_dump.specs.Texts.{dump_text, end_text, front_text, items_text}
 use Rattle.segment_dump.proofs.FrontLines.{NumberReads, before_entries, before_size, number-said}
 use Rattle.segment_dump.proofs.NoteLaws.{notes-are-cut}
 use Rattle.segment_dump.proofs.Found.{none-some, some-pair}

@@ -1,60 +1,15 @@
 -- All objects are those of the dump.
-use Rattle.std.proofs.Common.{
-  ◌≡◌,
-  ℕ,
-  ◌≤◌,
-  Bool,
-  true,
-  false,
-  List,
-  [],
-  ◌∷◌,
-  ◌++◌,
-  length,
-  map,
-  slice_get,
-  refl,
-  sym,
-  ap,
-  ◌∙◌,
-  cond,
-  ◌==◌,
-  if◌then◌else◌,
-  ◌+◌,
-  ◌<◌,
-  Result,
-  Ok,
-  Err,
-}
-use Rattle.std.specs.Prelude.{filter}
-use Rattle.std.specs.List.{flat_map, AllByRecursion}
-use Rattle.std.proofs.lemmas.List.{take_all}
-use Rattle.seg_types.specs.declared.kinds.Class.{Class}
-use Rattle.seg_types.specs.declared.kinds.Class.TheVariants.{Anonymous, Named, Unique}
-use Rattle.seg_types.specs.Kinds.{class_code}
-use Rattle.seg_types.specs.Names.{ByHandle}
-use Rattle.segment_manager.specs.declared.telling.Instance.{Instance}
-use Rattle.segment_manager.specs.Directory.{Directory, Object, is_class, named_objects, object_at, unique_objects}
-use Rattle.segment_manager.specs.Instances.{SaysOf, SaysAt}
-use Rattle.segment_manager.specs.State.{Answers, State, StandsFor}
-use Rattle.segment_dump.specs.Items.{anonymous_objects, content_of, item_of_object, kind_of_content, portable}
-use Rattle.segment_dump.specs.Owed.{
-  all_text,
-  count_at,
-  lines_at,
-  object_count,
-  object_lines,
-  object_text,
-  objects_text,
-  text_at,
-  where_anonymous,
-  WritesOf,
-}
-use Rattle.segment_dump.specs.Parts.{part_of, parts_until}
-use Rattle.segment_dump.specs.Texts.{dump_text, end_text, front_text, head_line, item_text, items_text}
+use Rattle.segment_dump.proofs.Common.{◌≡◌, ℕ, ◌≤◌, Bool, true, false, List, [], ◌∷◌, ◌++◌, length, map, slice_get}
+use Rattle.segment_dump.proofs.Common.{refl, sym, ap, ◌∙◌, cond, ◌==◌, if◌then◌else◌, ◌+◌, ◌<◌, Result, Ok, Err, filter}
+use Rattle.segment_dump.proofs.Common.{flat_map, AllByRecursion, take_all, Class, Anonymous, Named, Unique, class_code}
+use Rattle.segment_dump.proofs.Common.{ByHandle, Instance, Directory, Object, is_class, named_objects, object_at}
+use Rattle.segment_dump.proofs.Common.{unique_objects, SaysOf, SaysAt, Answers, State, StandsFor, anonymous_objects}
+use Rattle.segment_dump.proofs.Common.{content_of, item_of_object, kind_of_content, portable, all_text, count_at}
+use Rattle.segment_dump.proofs.Common.{lines_at, object_count, object_lines, where_anonymous, WritesOf, part_of}
+use Rattle.segment_dump.proofs.Common.{parts_until, dump_text, end_text, front_text, head_line, item_text, items_text}
+use Rattle.segment_dump.proofs.Common.{IsErr, Took}
+use Rattle.segment_dump.specs.Owed.{object_text, objects_text, text_at}
 use Rattle.std.proofs.lemmas.Option.{slice_get_within}
-use Rattle.std.specs.Result.{IsErr}
-use Rattle.raw_region.specs.Device.{Took}
 use Rattle.segment_dump.proofs.Elements.{flat_map-made, length-made, count_of_object}
 use Rattle.segment_dump.proofs.PartLines.{parts-all, parts-taken, well}
 use Rattle.segment_dump.proofs.Orders.{kind-made}

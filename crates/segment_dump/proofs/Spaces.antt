@@ -1,18 +1,13 @@
 -- Behind all blocks there is one gap, and each request takes the front of it.
-use Rattle.std.proofs.Common.{◌≡◌, inl, inr, ℕ, ◌+◌, ◌-◌, ◌<◌, ◌≤◌, ◌==◌, ◌&&◌, Bool, true, false, nat_le, nat_lt, List, [], ◌∷◌, ◌++◌, Option, Some, if◌then◌else◌, refl, sym, ap, subst, ◌∙◌, arith}
-use Rattle.std.specs.Prelude.{IsTrue, filter, option_map}
-use Rattle.std.proofs.lemmas.Bool.{and_parts, ltb-true, ne_eqb}
-use Rattle.std.proofs.lemmas.Bool.Decides.{nat_tests}
-use Rattle.block_tags.specs.declared.tile.Role.{Role}
-use Rattle.block_tags.specs.Format.{is_legal_size}
-use Rattle.best_fit.specs.Extents.{Extent, LiveSet, Gap, end_of, gap_between, gaps, gaps_from, is_block, is_hole, is_proper, proper_from}
-use Rattle.best_fit.specs.Fit.{fit, least, place, room, share}
-use Rattle.segment_manager.specs.Directory.{Directory, live}
-use Rattle.segment_manager.proofs.Laws.{all-sorted, live-extents, live-size}
-use Rattle.segment_dump.specs.Building.{EndBy, HasRoom, all_extents, total}
-use Rattle.segment_dump.specs.Need.{block_room, all_needs}
-use Rattle.best_fit.specs.Ends.{last_end}
-use Rattle.segment_dump.specs.declared.needs.Needs.{Needs}
+use Rattle.segment_dump.proofs.Common.{◌≡◌, inl, inr, ℕ, ◌+◌, ◌-◌, ◌<◌, ◌≤◌, ◌==◌, ◌&&◌, Bool, true, false, nat_le}
+use Rattle.segment_dump.proofs.Common.{nat_lt, List, [], ◌∷◌, ◌++◌, Option, Some, if◌then◌else◌, refl, sym, ap, subst}
+use Rattle.segment_dump.proofs.Common.{◌∙◌, arith, IsTrue, filter, option_map, and_parts, ltb-true, ne_eqb, nat_tests}
+use Rattle.segment_dump.proofs.Common.{Role, is_legal_size, Extent, Gap, end_of, gap_between, is_block, is_hole}
+use Rattle.segment_dump.proofs.Common.{is_proper, proper_from, place, room, Directory, live, all-sorted, live-extents}
+use Rattle.segment_dump.proofs.Common.{live-size, EndBy, HasRoom, all_extents, total, block_room, all_needs, last_end}
+use Rattle.segment_dump.proofs.Common.{Needs}
+use Rattle.best_fit.specs.Extents.{LiveSet, gaps, gaps_from}
+use Rattle.best_fit.specs.Fit.{fit, least, share}
 use Rattle.segment_dump.proofs.Rooms.{hole-rises, total-sorted}
 use Rattle.segment_dump.proofs.Lists.{all-by}
 pub use Rattle.segment_dump.specs.Building.{IsRest}

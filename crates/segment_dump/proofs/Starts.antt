@@ -1,47 +1,14 @@
 -- An object with nothing in it is ready to be filled, and is filled element by element.
-use Rattle.std.proofs.Common.{
-  ◌≡◌,
-  ℕ,
-  ◌+◌,
-  ◌*◌,
-  ◌<◌,
-  ◌≤◌,
-  ℤ,
-  pos,
-  List,
-  [],
-  ◌++◌,
-  length,
-  replicate,
-  Result,
-  Ok,
-  Err,
-  refl,
-  sym,
-  ap,
-  subst,
-  ◌∙◌,
-  arith,
-  zero-add,
-}
-use Rattle.std.specs.Prelude.{flat_map}
-use Rattle.best_fit.specs.Table.{no_table}
-use Rattle.seg_types.specs.declared.kinds.Kind.{Kind}
-use Rattle.seg_types.specs.declared.kinds.ScalarKind.{ScalarKind}
+use Rattle.segment_dump.proofs.Common.{◌≡◌, ℕ, ◌+◌, ◌*◌, ◌<◌, ◌≤◌, ℤ, pos, List, [], ◌++◌, length, replicate, Result}
+use Rattle.segment_dump.proofs.Common.{Ok, Err, refl, sym, ap, subst, ◌∙◌, arith, zero-add, flat_map, no_table, Kind}
+use Rattle.segment_dump.proofs.Common.{ScalarKind, Refusal, size_of, ByHandle, Done, Elements, Numbers, Pairs, Texts}
+use Rattle.segment_dump.proofs.Common.{Value, bare, IsStep, State, done_answer, AddsElement, FillsNew, IsBegun}
+use Rattle.segment_dump.proofs.Common.{IsFillable, IsVectorKind, content_need, first_content, IsFilling, Fill, FillsAt}
+use Rattle.segment_dump.proofs.Common.{IsPart, StandsFilling, StringsPart, VectorPart, head_of, Content, Map, Scalars}
+use Rattle.segment_dump.proofs.Common.{String, Strings, Vector, count_of_content, kind_of_content, all_needs}
+use Rattle.segment_dump.proofs.Common.{block_room, text_needs, content_text, element_line, text_lines}
 use Rattle.seg_types.specs.declared.kinds.ScalarKind.TheVariants.{Bool as BoolKind}
-use Rattle.seg_types.specs.declared.refusals.Refusal.{Refusal}
-use Rattle.seg_types.specs.Kinds.{size_of}
-use Rattle.seg_types.specs.Names.{ByHandle}
-use Rattle.segment_manager.specs.Answers.{Done}
-use Rattle.segment_manager.specs.Directory.{Elements, Numbers, Pairs, Texts, Value}
-use Rattle.segment_manager.specs.Plan.{bare}
-use Rattle.segment_manager.specs.State.{IsStep, State, done_answer}
-use Rattle.segment_dump.specs.Builders.{AddsElement, FillsElements, FillsNew, IsBegun, IsFillable, IsVectorKind, content_need, first_content}
-use Rattle.segment_dump.specs.Building.{IsFilling}
-use Rattle.segment_dump.specs.Filling.{Fill, FillsAt, IsPart, StandsFilling, StringsPart, VectorPart, head_of}
-use Rattle.segment_dump.specs.Items.{Content, Map, Scalars, String, Strings, Vector, count_of_content, kind_of_content}
-use Rattle.segment_dump.specs.Need.{all_needs, block_room, text_needs}
-use Rattle.segment_dump.specs.Texts.{content_text, element_line, text_lines}
+use Rattle.segment_dump.specs.Builders.{FillsElements}
 use Rattle.segment_dump.proofs.Adds.{string-of, was-done}
 use Rattle.segment_dump.proofs.Fillings.{filled, led, texts-rest}
 use Rattle.segment_dump.proofs.Fills.{HasTable, none, reserved, some, table_of, texts-stored, vector-stored}

@@ -1,26 +1,14 @@
 -- The steps of the directory machine by which a segment is built, and what each leads to.
-use Rattle.std.proofs.Common.{◌≡◌, ℕ, ◌+◌, ◌<◌, ◌≤◌, ◌==◌, ◌&&◌, Bool, true, false, nat_le, nat_lt, cond, List, [], ◌∷◌, ◌++◌, Option, Some, None, Result, Ok, Err, if◌then◌else◌, refl, sym, ap, subst, ◌∙◌, arith, append_assoc}
-use Rattle.std.specs.Prelude.{find, flat_map}
-use Rattle.std.specs.List.{AllByRecursion}
-use Rattle.std.proofs.lemmas.Bool.{and_parts, eq-eqb}
-use Rattle.std.proofs.lemmas.Bool.Decides.{nat_tests}
-use Rattle.std.proofs.lemmas.Grind.{flat_map-append}
-use Rattle.std.proofs.lemmas.List.{append-nil}
-use Rattle.best_fit.specs.Extents.{Extent, end_of, handle}
-use Rattle.best_fit.specs.Fit.{place, room}
-use Rattle.raw_region.specs.Format.{current}
-use Rattle.seg_types.specs.declared.kinds.Kind.{Kind}
-use Rattle.seg_types.specs.declared.refusals.Refusal.{Refusal}
-use Rattle.seg_types.specs.declared.refusals.Refusal.TheVariants.{NotFound, WrongKind}
-use Rattle.seg_types.specs.Commands.{Command}
-use Rattle.seg_types.specs.Kinds.{code_of, same_kind}
-use Rattle.seg_types.specs.Names.{Key, ByHandle}
-use Rattle.segment_manager.specs.declared.modes.Mode.TheVariants.{Write}
-use Rattle.segment_manager.specs.Directory.{Directory, IsDirectory, Object, Value, extents_of, has_key, kind_of, live, object_at, put_object, replace_object, rises_from, table_extents, value_extents}
-use Rattle.segment_manager.specs.Plan.{Plan, perform, with}
-use Rattle.segment_manager.specs.Step.{changed, effect, found_at, step, step_of_kind}
-use Rattle.segment_dump.specs.Building.{EndBy, HasRoom, Head, IsFilling, Site, all_extents, total}
-use Rattle.segment_dump.specs.Items.{Item}
+use Rattle.segment_dump.proofs.Common.{◌≡◌, ℕ, ◌+◌, ◌<◌, ◌≤◌, ◌==◌, ◌&&◌, Bool, true, false, nat_le, nat_lt, cond, List}
+use Rattle.segment_dump.proofs.Common.{[], ◌∷◌, ◌++◌, Option, Some, None, Result, Ok, Err, if◌then◌else◌, refl, sym, ap}
+use Rattle.segment_dump.proofs.Common.{subst, ◌∙◌, arith, append_assoc, find, flat_map, AllByRecursion, and_parts}
+use Rattle.segment_dump.proofs.Common.{eq-eqb, nat_tests, flat_map-append, append-nil, Extent, end_of, handle, place}
+use Rattle.segment_dump.proofs.Common.{room, current, Kind, Refusal, NotFound, WrongKind, Command, code_of, same_kind}
+use Rattle.segment_dump.proofs.Common.{Key, ByHandle, Write, Directory, IsDirectory, Object, Value, extents_of, has_key}
+use Rattle.segment_dump.proofs.Common.{kind_of, live, object_at, rises_from, table_extents, value_extents, Plan}
+use Rattle.segment_dump.proofs.Common.{perform, with, changed, effect, found_at, step, step_of_kind, EndBy, HasRoom}
+use Rattle.segment_dump.proofs.Common.{Head, IsFilling, Site, all_extents, total, Item}
+use Rattle.segment_manager.specs.Directory.{put_object, replace_object}
 use Rattle.segment_dump.proofs.Spaces.{IsRest, IsTaken, room-taken, room-with}
 
 -- ---- a step in a segment that is open for writing

@@ -1,27 +1,21 @@
 -- A string is filled, piece by piece.
-use Rattle.std.proofs.Common.{◌≡◌, ℕ, suc, ◌+◌, ◌-◌, ◌*◌, ◌/◌, ◌^◌, ◌<◌, ◌≤◌, List, [], ◌∷◌, ◌++◌, length, Result, Ok, Err, refl, sym, ap, subst, ◌∙◌, arith}
-use Rattle.best_fit.specs.Table.{Table, no_table}
-use Rattle.seg_types.specs.declared.refusals.Refusal.{Refusal}
-use Rattle.seg_types.specs.Names.{ByHandle}
-use Rattle.segment_manager.specs.Answers.{Done}
-use Rattle.segment_manager.specs.Directory.{Bytes, Value}
-use Rattle.segment_manager.specs.Plan.{bare}
-use Rattle.segment_manager.specs.State.{IsStep, IsStepOfKind, State, done_answer}
-use Rattle.segment_manager.specs.Step.{step}
-use Rattle.segment_dump.specs.Builders.{AppendsPiece, FillsNew, IsBegun, IsFillable, PiecesLeft, ReadsLength, ReadsPiece, content_need, first_content}
-use Rattle.segment_dump.specs.Building.{Head, IsBuilt, IsFilling}
-use Rattle.segment_dump.specs.Filling.{AreBytes, Fill, IsBuildableContent, StandsFilling, head_of}
-use Rattle.segment_dump.specs.Items.{Content, String, count_of_content, kind_of_content}
-use Rattle.segment_dump.specs.Lines.{ReadsLine}
-use Rattle.segment_dump.specs.Need.{block_room}
-use Rattle.segment_dump.specs.Texts.{content_text, piece_of, pieces_in, text_lines}
+use Rattle.segment_dump.proofs.Common.{◌≡◌, ℕ, suc, ◌+◌, ◌-◌, ◌*◌, ◌/◌, ◌^◌, ◌<◌, ◌≤◌, List, [], ◌∷◌, ◌++◌, length}
+use Rattle.segment_dump.proofs.Common.{Result, Ok, Err, refl, sym, ap, subst, ◌∙◌, arith, Table, no_table, Refusal}
+use Rattle.segment_dump.proofs.Common.{ByHandle, Done, Bytes, Value, bare, IsStep, IsStepOfKind, State, done_answer}
+use Rattle.segment_dump.proofs.Common.{step, FillsNew, IsBegun, IsFillable, PiecesLeft, ReadsLength, ReadsPiece}
+use Rattle.segment_dump.proofs.Common.{content_need, first_content, Head, IsBuilt, IsFilling, AreBytes, Fill}
+use Rattle.segment_dump.proofs.Common.{IsBuildableContent, StandsFilling, head_of, Content, String, count_of_content}
+use Rattle.segment_dump.proofs.Common.{kind_of_content, ReadsLine, block_room, content_text, piece_of, pieces_in}
+use Rattle.segment_dump.proofs.Common.{text_lines}
+use Rattle.segment_dump.specs.Builders.{AppendsPiece}
 use Rattle.segment_dump.proofs.Adds.{string-of, was-done}
 use Rattle.segment_dump.proofs.Builds.{built}
 use Rattle.segment_dump.proofs.ContentLines.{piece_front}
 use Rattle.segment_dump.proofs.Found.{never-ok, ok-same}
 use Rattle.segment_dump.proofs.Fillings.{led, led-of_kind}
 use Rattle.segment_dump.proofs.Fills.{HasTable, appended, none, reserved, some, string-stored, table_of}
-use Rattle.segment_dump.proofs.PieceReads.{first-fits, front-all, front-few, front-more, front_bytes, none-left, piece-bytes, piece-line}
+use Rattle.segment_dump.proofs.PieceReads.{first-fits, front-all, front-few, front-more, front_bytes, none-left}
+use Rattle.segment_dump.proofs.PieceReads.{piece-bytes, piece-line}
 use Rattle.seg_types.specs.declared.kinds.Kind.TheVariants as kinds
 use Rattle.seg_types.specs.Commands as asked
 

@@ -1,66 +1,19 @@
 -- A load of a dump, where nothing is lacking for its objects, gives a segment.
-use Rattle.std.proofs.Common.{
-  ◌≡◌,
-  ℕ,
-  ◌+◌,
-  ◌*◌,
-  ◌^◌,
-  ◌<◌,
-  ◌≤◌,
-  Bool,
-  true,
-  false,
-  nat_eq,
-  nat_lt,
-  List,
-  [],
-  ◌++◌,
-  length,
-  map,
-  Option,
-  Some,
-  None,
-  Result,
-  Ok,
-  Err,
-  if◌then◌else◌,
-  refl,
-  sym,
-  ap,
-  subst,
-  ◌∙◌,
-  arith,
-}
-use Rattle.std.specs.Prelude.{IfOk, OnErr, not}
-use Rattle.std.proofs.lemmas.Bool.{false≢true, ltb-false, eq-eqb}
-use Rattle.std.proofs.lemmas.List.{length-append}
-use Rattle.block_tags.specs.Format.{is_legal_size}
-use Rattle.seg_types.specs.declared.refusals.Refusal.{Refusal}
-use Rattle.segment_manager.specs.declared.errors.CreateError.{CreateError}
-use Rattle.segment_manager.specs.declared.errors.CreateRefused.{CreateRefused}
-use Rattle.segment_manager.specs.declared.modes.Mode.TheVariants.{Write}
-use Rattle.segment_manager.specs.Answers.{Done, Number}
-use Rattle.segment_manager.specs.Calls.{Creates, IsWhy}
-use Rattle.segment_manager.specs.Directory.{Directory, empty}
-use Rattle.segment_manager.specs.Resized.{Resizes, shrunk}
-use Rattle.segment_manager.specs.State.{IsStep, State, StandsFor, done_answer}
-use Rattle.segment_manager.specs.Step.{step}
-use Rattle.segment_dump.specs.declared.counting.Count.{Count}
-use Rattle.segment_dump.specs.declared.counting.Front.{Front}
-use Rattle.segment_dump.specs.declared.faults.LoadError.{LoadError}
-use Rattle.segment_dump.specs.declared.faults.LoadError.TheVariants.{BadSize, RegionTooSmall, NoSpace, LongText}
-use Rattle.segment_dump.specs.declared.faults.LoadRefused.{LoadRefused}
-use Rattle.segment_dump.specs.Builders.{Builds}
-use Rattle.segment_dump.specs.Building.{IsBuilt, Site}
+use Rattle.segment_dump.proofs.Common.{◌≡◌, ℕ, ◌+◌, ◌*◌, ◌^◌, ◌<◌, ◌≤◌, Bool, true, false, nat_eq, nat_lt, List, []}
+use Rattle.segment_dump.proofs.Common.{◌++◌, length, map, Option, Some, None, Result, Ok, Err, if◌then◌else◌, refl, sym}
+use Rattle.segment_dump.proofs.Common.{ap, subst, ◌∙◌, arith, IfOk, not, false≢true, ltb-false, eq-eqb, length-append}
+use Rattle.segment_dump.proofs.Common.{is_legal_size, Refusal, CreateError, CreateRefused, Write, Done, Number, IsWhy}
+use Rattle.segment_dump.proofs.Common.{Directory, empty, shrunk, IsStep, State, StandsFor, done_answer, step, Count}
+use Rattle.segment_dump.proofs.Common.{Front, LoadError, BadSize, RegionTooSmall, NoSpace, LongText, LoadRefused}
+use Rattle.segment_dump.proofs.Common.{Builds, IsBuilt, Site, CountsDump, IsFront, fronted, StandsBuilt, Item, Items}
+use Rattle.segment_dump.proofs.Common.{item_of_object, portable, IsAsked, IsRefusalOf, asked_of, refusal_for, all_needs}
+use Rattle.segment_dump.proofs.Common.{block_room, front_room, item_needs, items_needs, all_items, Succeeds, Takes}
+use Rattle.segment_dump.proofs.Common.{dump_text, end_text, items_text}
+use Rattle.std.specs.Prelude.{OnErr}
+use Rattle.segment_manager.specs.Calls.{Creates}
+use Rattle.segment_manager.specs.Resized.{Resizes}
 use Rattle.segment_dump.specs.Comparing.{IsNoDumpOf}
-use Rattle.segment_dump.specs.Counting.{CountsDump, IsFront, fronted}
-use Rattle.segment_dump.specs.Filling.{StandsBuilt}
-use Rattle.segment_dump.specs.Items.{Item, Items, item_of_object, portable}
-use Rattle.segment_dump.specs.Loading.{IsAsked, IsRefusalOf, asked_of, refusal_for}
-use Rattle.segment_dump.specs.Need.{all_needs, block_room, front_room, item_needs, items_needs}
-use Rattle.segment_dump.specs.Order.{all_items}
-use Rattle.segment_dump.specs.Succeeding.{IsSized, Judges, MakesObjects, Sizes, Succeeds, SucceedsOf, Takes, Trims, site_of, trimmed}
-use Rattle.segment_dump.specs.Texts.{dump_text, end_text, items_text}
+use Rattle.segment_dump.specs.Succeeding.{IsSized, Judges, MakesObjects, Sizes, SucceedsOf, Trims, site_of, trimmed}
 use Rattle.segment_dump.proofs.Buildables.{needs-all, portable-left}
 use Rattle.segment_dump.proofs.Builds.{IsFronted, empty-built, fronted as with_names, named-reserved, unique-reserved}
 use Rattle.segment_dump.proofs.DumpCounts.{is-front}

@@ -1,40 +1,10 @@
 -- What some need together.
-use Rattle.std.proofs.Common.{
-  ◌≡◌,
-  ℕ,
-  ◌+◌,
-  ◌*◌,
-  ◌/◌,
-  ◌<◌,
-  ◌≤◌,
-  ◌==◌,
-  Bool,
-  true,
-  false,
-  List,
-  [],
-  ◌∷◌,
-  ◌++◌,
-  if◌then◌else◌,
-  refl,
-  sym,
-  ap,
-  ◌∙◌,
-  arith,
-  add_assoc,
-  zero-add,
-}
-use Rattle.std.specs.Prelude.{max}
+use Rattle.segment_dump.proofs.Common.{◌≡◌, ℕ, ◌+◌, ◌*◌, ◌/◌, ◌<◌, ◌≤◌, ◌==◌, Bool, true, false, List, [], ◌∷◌, ◌++◌}
+use Rattle.segment_dump.proofs.Common.{if◌then◌else◌, refl, sym, ap, ◌∙◌, arith, zero-add, max, nat_tests, room, Needs}
+use Rattle.segment_dump.proofs.Common.{IsSmall, all_needs, block_room, both, nothing, ScalarKind, size_of, node_len}
+use Rattle.std.proofs.Common.{add_assoc}
 use Rattle.std.proofs.Math.Nat.{le-max_right, zero-max, le-mul_of_pos_right}
-use Rattle.std.proofs.lemmas.Bool.Decides.{nat_tests}
-use Rattle.best_fit.specs.Fit.{room}
-use Rattle.segment_dump.specs.declared.needs.Needs.{Needs}
-use Rattle.segment_dump.specs.Leads.{IsSmall}
-use Rattle.segment_dump.specs.Need.{all_needs, block_room, both, nothing}
-use Rattle.seg_types.specs.declared.kinds.ScalarKind.{ScalarKind}
 use Rattle.seg_types.specs.declared.kinds.ScalarKind.TheVariants.{Bool as BoolKind}
-use Rattle.seg_types.specs.Kinds.{size_of}
-use Rattle.seg_map.specs.Map.{node_len}
 
 -- ---- sums of needs
 

@@ -1,35 +1,8 @@
 -- The lines of a text, its length and its pieces, tell its bytes.
-use Rattle.std.proofs.Common.{
-  ◌≡◌,
-  ℕ,
-  zero,
-  suc,
-  ◌+◌,
-  ◌*◌,
-  ◌≤◌,
-  List,
-  [],
-  ◌∷◌,
-  ◌++◌,
-  length,
-  take,
-  drop,
-  refl,
-  sym,
-  ap,
-  ◌∙◌,
-  arith,
-  append_assoc,
-  ◌<◌,
-  ◌^◌,
-}
-use Rattle.std.proofs.Math.Seq.{take-add}
-use Rattle.std.proofs.lemmas.List.{take_all}
-use Rattle.seg_types.specs.Texts.{quoted_text}
-use Rattle.segment_lang.specs.Texts.{number_text}
-use Rattle.segment_dump.specs.Parts.{parts_until}
-use Rattle.segment_dump.specs.Texts.{piece_line, piece_of, pieces_in, pieces_text, text_lines}
-use Rattle.std.proofs.lemmas.Fmt.{decimal_injective}
+use Rattle.segment_dump.proofs.Common.{◌≡◌, ℕ, zero, suc, ◌+◌, ◌*◌, ◌≤◌, List, [], ◌∷◌, ◌++◌, length, take, drop, refl}
+use Rattle.segment_dump.proofs.Common.{sym, ap, ◌∙◌, arith, append_assoc, ◌<◌, ◌^◌, take-add, take_all, quoted_text}
+use Rattle.segment_dump.proofs.Common.{number_text, parts_until, piece_line, piece_of, pieces_in, pieces_text}
+use Rattle.segment_dump.proofs.Common.{text_lines, decimal_injective}
 use Rattle.segment_dump.proofs.Codes.{Breaks, heads, tails, words-read}
 use Rattle.segment_dump.proofs.Quotes.{quoted-read}
 use Rattle.segment_dump.proofs.Words.{decimal-word}

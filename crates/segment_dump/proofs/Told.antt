@@ -1,116 +1,26 @@
 -- The objects of a directory are such as a dump tells and a load makes, but for how many elements they have.
-use Rattle.std.proofs.Common.{
-  ◌≡◌,
-  ◌≢◌,
-  ℕ,
-  ◌-◌,
-  ◌<◌,
-  ◌^◌,
-  Bool,
-  true,
-  false,
-  ◌&&◌,
-  ◌==◌,
-  cond,
-  List,
-  [],
-  ◌∷◌,
-  length,
-  map,
-  refl,
-  sym,
-  ap,
-  subst,
-  ◌∙◌,
-  arith,
-  if◌then◌else◌,
-  ◌⊎◌,
-  inl,
-  inr,
-  ◌+◌,
-  ◌*◌,
-  ◌/◌,
-  ◌≤◌,
-  ℤ,
-  nat_le,
-  nat_lt,
-}
-use Rattle.std.specs.Prelude.{ℤ, filter, int_lt, nat_le}
-use Rattle.std.specs.List.{AllByRecursion, list_all}
-use Rattle.std.proofs.lemmas.Bool.{and_parts, ltb-true, leb-true}
-use Rattle.std.proofs.lemmas.Bool.Decides.{nat_tests}
-use Rattle.raw_region.specs.Format.{current}
-use Rattle.block_tags.specs.declared.tile.Role.TheVariants.{Node, Object as ObjectRole, Storage}
-use Rattle.block_tags.specs.Format.{is_legal_size}
-use Rattle.best_fit.specs.Extents.{is_proper, proper_from}
-use Rattle.best_fit.specs.Table.{is_table, serves}
-use Rattle.seg_types.specs.declared.kinds.Class.{Class}
-use Rattle.seg_types.specs.declared.kinds.Class.TheVariants.{Anonymous, Named, Unique}
-use Rattle.seg_types.specs.declared.kinds.ScalarKind.{ScalarKind}
-use Rattle.seg_types.specs.Kinds.{class_code, is_kind_of, is_value, size_of}
-use Rattle.seg_types.specs.Names.{is_name, is_text_name}
-use Rattle.seg_map.specs.Map.{is_rising, node_len}
-use Rattle.seg_map.specs.Numbers.{NumberPair, is_number_pair}
-use Rattle.seg_map.specs.Places.{item_of}
-use Rattle.segment_manager.specs.Directory.{
-  Bytes,
-  Directory,
-  Elements,
-  Numbers,
-  Object,
-  Pairs,
-  Texts,
-  Value,
-  by_kind,
-  by_name,
-  has_good_name,
-  is_class,
-  is_good_value,
-  is_object,
-  kind_of,
-  live,
-  named_objects,
-  object_len,
-  unique_objects,
-  has_own_block,
-  is_owned_text,
-}
-use Rattle.segment_manager.specs.State.{StandsFor}
-use Rattle.segment_manager.proofs.Laws.{all-ordered, live-size}
-use Rattle.segment_dump.specs.Items.{
-  anonymous_objects,
-  content_of,
-  item_of_object,
-  portable,
-  Content,
-  Item,
-  Map,
-  Scalars,
-  String,
-  Strings,
-  Vector,
-  bytes_in,
-  count_of_content,
-  kind_of_content,
-}
+use Rattle.segment_dump.proofs.Common.{◌≡◌, ◌≢◌, ℕ, ◌-◌, ◌<◌, ◌^◌, Bool, true, false, ◌&&◌, ◌==◌, cond, List, [], ◌∷◌}
+use Rattle.segment_dump.proofs.Common.{length, map, refl, sym, ap, subst, ◌∙◌, arith, if◌then◌else◌, ◌⊎◌, inl, inr, ◌+◌}
+use Rattle.segment_dump.proofs.Common.{◌*◌, ◌/◌, ◌≤◌, ℤ, nat_le, nat_lt, filter, int_lt, AllByRecursion, list_all}
+use Rattle.segment_dump.proofs.Common.{and_parts, ltb-true, leb-true, nat_tests, current, Node, Storage, is_legal_size}
+use Rattle.segment_dump.proofs.Common.{is_proper, proper_from, is_table, serves, Class, Anonymous, Named, Unique}
+use Rattle.segment_dump.proofs.Common.{ScalarKind, class_code, is_kind_of, is_value, size_of, is_name, is_rising}
+use Rattle.segment_dump.proofs.Common.{node_len, NumberPair, is_number_pair, item_of, Bytes, Directory, Elements}
+use Rattle.segment_dump.proofs.Common.{Numbers, Object, Pairs, Texts, Value, by_kind, by_name, has_good_name, is_class}
+use Rattle.segment_dump.proofs.Common.{is_good_value, is_object, kind_of, live, named_objects, object_len}
+use Rattle.segment_dump.proofs.Common.{unique_objects, has_own_block, is_owned_text, StandsFor, all-ordered, live-size}
+use Rattle.segment_dump.proofs.Common.{anonymous_objects, content_of, item_of_object, portable, Content, Item, Map}
+use Rattle.segment_dump.proofs.Common.{Scalars, String, Strings, Vector, bytes_in, count_of_content, kind_of_content}
+use Rattle.segment_dump.proofs.Common.{IsPairOf, AreBytes, AreRising, AreValues, IsBuildableContent, IsNameIn, ints}
+use Rattle.segment_dump.proofs.Common.{OwnedText, all_needs, elements_room, item_needs, items_needs, object_room}
+use Rattle.segment_dump.proofs.Common.{text_needs, texts_needs, AreOf}
+use Rattle.block_tags.specs.declared.tile.Role.TheVariants.{Object as ObjectRole}
+use Rattle.seg_types.specs.Names.{is_text_name}
 use Rattle.segment_dump.specs.Laws.{DumpsTellObjects, DumpsTellSizes}
-use Rattle.segment_dump.specs.Filling.{IsPairOf, AreBytes, AreRising, AreValues, IsBuildableContent, IsNameIn}
 use Rattle.std.specs.Str.{is_utf8}
-use Rattle.std.proofs.lemmas.Int.{ints}
 use Rattle.std.proofs.lemmas.Str.{IsUtf8-from_is_utf8}
 use lib.Dec.{ltb}
 use lib.Utf8.{encode, encodes, next, scalar, scalars, scalar_cases}
-use Rattle.seg_vector.specs.Vector.{OwnedText}
-use Rattle.segment_dump.specs.Need.{
-  all_needs,
-  elements_room,
-  item_needs,
-  items_needs,
-  object_room,
-  text_needs,
-  texts_needs,
-}
-use Rattle.segment_dump.specs.Succeeding.{AreOf}
 use Rattle.segment_dump.proofs.ItemLines.{IsGoodItem}
 use Rattle.segment_dump.proofs.Readings.{AreItems, dumps-read, sizes-read}
 use Rattle.segment_dump.proofs.Sums.{block-least, node-least, size-least}

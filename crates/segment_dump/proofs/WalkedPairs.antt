@@ -1,21 +1,13 @@
 -- The pairs of a map: the lines of all of them are those of its value.
-use Rattle.std.proofs.Common.{◌≡◌, ℕ, List, [], length, Option, Some, None, slice_get, sym, ap, ◌∙◌}
+use Rattle.segment_dump.proofs.Common.{◌≡◌, ℕ, List, [], length, Option, Some, None, slice_get, sym, ap, ◌∙◌}
+use Rattle.segment_dump.proofs.Common.{ScalarKind, ByHandle, NumberPair, item_of, Value, Pairs, Object, Directory}
+use Rattle.segment_dump.proofs.Common.{kind_of, IsLocated, Answers, State, StandsFor, pairs_at, said-at, pair_part}
+use Rattle.segment_dump.proofs.Common.{content_of, count_of_content, count_at, lines_at, object_lines, part_of}
+use Rattle.segment_dump.proofs.Common.{parts_until, content_text, pair_line}
 use Rattle.seg_types.specs.declared.kinds.Kind.TheVariants.{Map}
-use Rattle.seg_types.specs.declared.kinds.ScalarKind.{ScalarKind}
-use Rattle.seg_types.specs.Names.{ByHandle}
-use Rattle.seg_map.specs.Numbers.{NumberPair}
-use Rattle.seg_map.specs.Places.{item_of}
 use Rattle.segment_manager.specs.declared.targets.Object.{Object as Located}
-use Rattle.segment_manager.specs.Directory.{Value, Pairs, Object, Directory, kind_of}
-use Rattle.segment_manager.specs.Located.{IsLocated}
-use Rattle.segment_manager.specs.State.{Answers, State, StandsFor}
-use Rattle.segment_manager.specs.Walks.{pairs_at, pairs_of}
-use Rattle.segment_manager.proofs.Laws.{said-at}
-use Rattle.segment_dump.specs.Asked.{number_line, pair_part}
-use Rattle.segment_dump.specs.Items.{content_of, count_of_content}
-use Rattle.segment_dump.specs.Owed.{count_at, lines_at, object_lines}
-use Rattle.segment_dump.specs.Parts.{part_of, parts_until}
-use Rattle.segment_dump.specs.Texts.{content_text, pair_line}
+use Rattle.segment_manager.specs.Walks.{pairs_of}
+use Rattle.segment_dump.specs.Asked.{number_line}
 use Rattle.segment_dump.proofs.Elements.{flat_map-made, length-made, count_of_object}
 use Rattle.segment_dump.proofs.PartLines.{parts-all}
 

@@ -1,49 +1,11 @@
 -- Numbers and values in a text are bare words, which tell them.
-use Rattle.std.proofs.Common.{
-  ◌≡◌,
-  ◌⊎◌,
-  inl,
-  inr,
-  ℕ,
-  zero,
-  suc,
-  ◌/◌,
-  ◌%◌,
-  ◌^◌,
-  ◌<◌,
-  ℤ,
-  pos,
-  negsuc,
-  Bool,
-  true,
-  false,
-  ◌==◌,
-  List,
-  [],
-  ◌∷◌,
-  ◌++◌,
-  if◌then◌else◌,
-  refl,
-  sym,
-  ap,
-  subst,
-  ◌∙◌,
-  arith,
-  ◌≤◌,
-  length,
-}
-use Rattle.std.specs.Prelude.{nat_lt, nat_abs, decimal, codes}
-use Rattle.std.specs.Fmt.{digit_glyph, digits, digits_onto, signed_decimal}
-use Rattle.std.specs.List.{AllByRecursion, list_all}
-use Rattle.std.proofs.lemmas.Bool.Decides.{nat_tests}
-use Rattle.std.proofs.lemmas.Fmt.{decimal_injective}
-use Rattle.seg_types.specs.declared.kinds.ScalarKind.{ScalarKind}
-use Rattle.seg_types.specs.declared.kinds.ScalarKind.TheVariants.{Bool as BoolKind, U8, U64}
-use Rattle.seg_types.specs.Kinds.{is_value}
-use Rattle.seg_types.specs.Texts.{value_text}
-use Rattle.std.proofs.lemmas.Int.{ints}
+use Rattle.segment_dump.proofs.Common.{◌≡◌, ◌⊎◌, inl, inr, ℕ, zero, suc, ◌/◌, ◌%◌, ◌^◌, ◌<◌, ℤ, pos, negsuc, Bool, true}
+use Rattle.segment_dump.proofs.Common.{false, ◌==◌, List, [], ◌∷◌, ◌++◌, if◌then◌else◌, refl, sym, ap, subst, ◌∙◌}
+use Rattle.segment_dump.proofs.Common.{arith, ◌≤◌, length, nat_lt, nat_abs, decimal, codes, digit_glyph, digits}
+use Rattle.segment_dump.proofs.Common.{digits_onto, signed_decimal, AllByRecursion, list_all, nat_tests}
+use Rattle.segment_dump.proofs.Common.{decimal_injective, ScalarKind, U8, U64, is_value, value_text, ints, is_bare}
+use Rattle.seg_types.specs.declared.kinds.ScalarKind.TheVariants.{Bool as BoolKind}
 use Rattle.std.specs.Int.Signed.{◌≤ℤ◌}
-use Rattle.segment_lang.specs.Words.{is_bare}
 use Rattle.segment_dump.proofs.Codes.{Breaks, IsWord, heads, tails, words-read}
 use Rattle.segment_dump.proofs.Lists.{all-by, all-tested}
 

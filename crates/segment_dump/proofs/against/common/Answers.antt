@@ -1,4 +1,4 @@
-use Rattle.std.proofs.Common.{arith}
+use Rattle.segment_dump.proofs.Common.{arith}
 use Rattle.segment_dump.proofs.Comparings.{unlike-at}
 use Rattle.segment_dump.proofs.against.common.Goals as goal
 

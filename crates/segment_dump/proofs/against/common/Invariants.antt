@@ -1,4 +1,4 @@
-use Rattle.std.proofs.Common.{◌≡◌, ◌≤◌, length, take}
+use Rattle.segment_dump.proofs.Common.{◌≡◌, ◌≤◌, length, take}
 use Rattle.segment_dump.proofs.against.common.Given as goal
 
 abbrev pub invariant-bytes : goal.invariant-bytes

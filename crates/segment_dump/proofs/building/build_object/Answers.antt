@@ -1,4 +1,4 @@
-use Rattle.std.proofs.Common.{length}
+use Rattle.segment_dump.proofs.Common.{length}
 use Rattle.segment_dump.proofs.BuildLines.{object-built, object-unstarted}
 use Rattle.segment_dump.proofs.building.build_object.Goals as goal
 

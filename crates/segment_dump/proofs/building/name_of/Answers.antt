@@ -1,9 +1,5 @@
-use Rattle.std.proofs.Common.{◌≡◌, Some, None, if◌then◌else◌, sym, subst}
-use Rattle.std.specs.Prelude.{option_map}
-use Rattle.raw_region.specs.Format.{current}
-use Rattle.seg_types.specs.Keys.{name_seen}
-use Rattle.seg_types.specs.Names.{is_name}
-use Rattle.segment_lang.specs.Seen.{bytes_said}
+use Rattle.segment_dump.proofs.Common.{◌≡◌, Some, None, if◌then◌else◌, sym, subst, option_map, current, name_seen}
+use Rattle.segment_dump.proofs.Common.{is_name, bytes_said}
 use Rattle.segment_dump.proofs.building.name_of.Goals as goal
 
 pub returns-in-Bare : goal.returns-in-Bare

@@ -1,6 +1,4 @@
-use Rattle.std.proofs.Common.{refl}
-use Rattle.std.proofs.lemmas.Bool.{false≢true}
-use Rattle.seg_types.specs.declared.kinds.Class.TheVariants.{Anonymous, Named, Unique}
+use Rattle.segment_dump.proofs.Common.{refl, false≢true, Anonymous, Named, Unique}
 use Rattle.segment_dump.proofs.HeadReads.{class-is, class-none, class-unread}
 use Rattle.segment_dump.proofs.building.next_class.Goals as goal
 

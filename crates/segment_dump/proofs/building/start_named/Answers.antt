@@ -1,6 +1,4 @@
-use Rattle.std.proofs.Common.{ap}
-use Rattle.std.specs.Prelude.{option_map}
-use Rattle.seg_types.specs.Keys.{name_seen}
+use Rattle.segment_dump.proofs.Common.{ap, option_map, name_seen}
 use Rattle.segment_dump.proofs.HeadReads.{named-none, named-some, named-unread}
 use Rattle.segment_dump.proofs.building.start_named.Goals as goal
 

@@ -1,6 +1,4 @@
-use Rattle.std.proofs.Common.{sym, ap}
-use Rattle.seg_types.specs.Names.{ByKind, NoKey}
-use Rattle.segment_dump.specs.Building.{key_in}
+use Rattle.segment_dump.proofs.Common.{sym, ap, ByKind, NoKey, key_in}
 use Rattle.segment_dump.proofs.HeadReads.{behind_class, next-named, next-under, next-unread}
 use Rattle.segment_dump.proofs.building.start_next.Goals as goal
 

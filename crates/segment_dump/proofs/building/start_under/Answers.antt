@@ -1,4 +1,4 @@
-use Rattle.std.proofs.Common.{sym, ap, ◌∙◌, Ok}
+use Rattle.segment_dump.proofs.Common.{sym, ap, ◌∙◌, Ok}
 use Rattle.segment_dump.proofs.Found.{never-ok, ok-same}
 use Rattle.segment_dump.proofs.Makes.{shape-unread, started}
 use Rattle.segment_dump.proofs.building.start_under.Goals as goal

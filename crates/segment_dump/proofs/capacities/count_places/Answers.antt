@@ -1,5 +1,4 @@
-use Rattle.std.proofs.Common.{ap}
-use Rattle.segment_dump.specs.Capacities.{measured_places}
+use Rattle.segment_dump.proofs.Common.{ap, measured_places}
 use Rattle.segment_dump.proofs.capacities.count_places.Goals as goal
 
 pub returns-in-Ok : goal.returns-in-Ok

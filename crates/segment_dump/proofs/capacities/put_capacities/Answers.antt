@@ -1,4 +1,4 @@
-use Rattle.segment_dump.specs.Capacities.{all_notes}
+use Rattle.segment_dump.proofs.Common.{all_notes}
 use Rattle.segment_dump.proofs.PlaceNotes.{capacity-parts}
 use Rattle.segment_dump.proofs.Owed.{of-cut, of-same, of-then}
 use Rattle.segment_dump.proofs.capacities.put_capacities.Goals as goal

@@ -1,7 +1,4 @@
-use Rattle.std.proofs.Common.{subst}
-use Rattle.seg_types.specs.Names.{ByHandle}
-use Rattle.segment_manager.specs.State.{Answers}
-use Rattle.segment_dump.specs.Capacities.{Holds, capacity_note, places_at}
+use Rattle.segment_dump.proofs.Common.{subst, ByHandle, Answers, Holds, capacity_note, places_at}
 use Rattle.segment_dump.proofs.Elements.{said-located}
 use Rattle.segment_dump.proofs.Owed.{of-none, of-one}
 use Rattle.segment_dump.proofs.PlaceNotes.{none-told, note-told}

@@ -1,4 +1,4 @@
-use Rattle.segment_dump.specs.Capacities.{index_notes}
+use Rattle.segment_dump.proofs.Common.{index_notes}
 use Rattle.segment_dump.proofs.Owed.{of-one}
 use Rattle.segment_dump.proofs.capacities.put_indexes.Goals as goal
 

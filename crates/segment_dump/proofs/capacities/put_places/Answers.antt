@@ -1,6 +1,4 @@
-use Rattle.std.proofs.Common.{◌∷◌, ◌++◌, [], sym, subst, append_assoc}
-use Rattle.std.specs.Prelude.{codes, decimal}
-use Rattle.raw_region.specs.Device.{Writes}
+use Rattle.segment_dump.proofs.Common.{◌∷◌, ◌++◌, [], sym, subst, append_assoc, codes, decimal, Writes}
 use Rattle.segment_dump.proofs.capacities.put_places.Goals as goal
 
 pub returns : goal.returns

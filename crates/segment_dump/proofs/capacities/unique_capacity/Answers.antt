@@ -1,5 +1,4 @@
-use Rattle.std.proofs.Common.{ap, ◌∙◌, arith, ℕ, List}
-use Rattle.raw_region.specs.Memory.{bytes_of, word_at}
+use Rattle.segment_dump.proofs.Common.{ap, ◌∙◌, arith, ℕ, List, bytes_of, word_at}
 use Rattle.segment_dump.proofs.PlaceNotes.{header-inside, unique-places}
 use Rattle.segment_dump.proofs.capacities.unique_capacity.Goals as goal
 

@@ -1,9 +1,4 @@
-use Rattle.std.proofs.Common.{sym, subst, ◌∙◌}
-use Rattle.std.proofs.lemmas.Bool.{false≢true}
-use Rattle.raw_region.specs.Device.{Writes}
-use Rattle.segment_dump.specs.Comparing.{compared}
-use Rattle.segment_dump.specs.Items.{portable}
-use Rattle.segment_dump.specs.Texts.{dump_text}
+use Rattle.segment_dump.proofs.Common.{sym, subst, ◌∙◌, false≢true, Writes, compared, portable, dump_text}
 use Rattle.segment_dump.proofs.Comparings.{is-written, never-fails, owed-alike}
 use Rattle.segment_dump.proofs.comparing.compare.Goals as goal
 

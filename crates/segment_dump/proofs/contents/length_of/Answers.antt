@@ -1,5 +1,4 @@
-use Rattle.std.proofs.Common.{ap}
-use Rattle.segment_dump.specs.Asked.{length_in}
+use Rattle.segment_dump.proofs.Common.{ap, length_in}
 use Rattle.segment_dump.proofs.contents.length_of.Goals as goal
 
 pub returns-in-Ok : goal.returns-in-Ok

@@ -1,5 +1,4 @@
-use Rattle.std.proofs.Common.{ap}
-use Rattle.segment_manager.specs.Calls.{elements_of}
+use Rattle.segment_dump.proofs.Common.{ap, elements_of}
 use Rattle.segment_manager.proofs.CommandLaws.{says-kind}
 use Rattle.segment_dump.proofs.Elements.{scalars-at, scalars-said, string-said, strings-said, vector-said}
 use Rattle.segment_dump.proofs.Owed.{of-same}

@@ -1,10 +1,6 @@
-use Rattle.std.proofs.Common.{sym, ap}
+use Rattle.segment_dump.proofs.Common.{sym, ap, ByHandle, kind_of_scalar, value_of_scalar, element_text, element_line}
 use Rattle.seg_types.specs.Commands.{Get}
-use Rattle.seg_types.specs.Names.{ByHandle}
-use Rattle.seg_types.specs.Values.{kind_of_scalar, value_of_scalar}
 use Rattle.segment_manager.proofs.Laws.{any-replies}
-use Rattle.segment_dump.specs.Asked.{element_text}
-use Rattle.segment_dump.specs.Texts.{element_line}
 use Rattle.segment_dump.proofs.Owed.{of-none, of-one}
 use Rattle.segment_dump.proofs.contents.put_element.Goals as goal
 

@@ -1,6 +1,4 @@
-use Rattle.std.proofs.Common.{arith}
-use Rattle.seg_types.specs.Names.{ByHandle}
-use Rattle.segment_dump.specs.Asked.{element_part}
+use Rattle.segment_dump.proofs.Common.{arith, ByHandle, element_part}
 use Rattle.segment_dump.proofs.Owed.{of-all, of-cut_in, of-more, of-start}
 use Rattle.segment_dump.proofs.contents.put_elements.Goals as goal
 

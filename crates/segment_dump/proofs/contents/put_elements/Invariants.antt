@@ -1,7 +1,4 @@
-use Rattle.seg_types.specs.Names.{ByHandle}
-use Rattle.segment_dump.specs.Asked.{element_part}
-use Rattle.segment_dump.specs.Owed.{WritesOf}
-use Rattle.segment_dump.specs.Parts.{parts_until}
+use Rattle.segment_dump.proofs.Common.{ByHandle, element_part, WritesOf, parts_until}
 use Rattle.segment_dump.proofs.PartLines.{well}
 use Rattle.segment_dump.proofs.contents.put_elements.Given as goal
 

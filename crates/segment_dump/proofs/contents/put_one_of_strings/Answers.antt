@@ -1,5 +1,4 @@
-use Rattle.std.proofs.Common.{sym, ap}
-use Rattle.segment_dump.specs.Asked.{element_text}
+use Rattle.segment_dump.proofs.Common.{sym, ap, element_text}
 use Rattle.segment_dump.proofs.Owed.{of-none, of-one}
 use Rattle.segment_dump.proofs.contents.put_one_of_strings.Goals as goal
 

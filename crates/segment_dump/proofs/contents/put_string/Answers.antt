@@ -1,5 +1,4 @@
-use Rattle.std.proofs.Common.{sym, ap}
-use Rattle.segment_dump.specs.Asked.{string_part}
+use Rattle.segment_dump.proofs.Common.{sym, ap, string_part}
 use Rattle.segment_dump.proofs.Owed.{of-none, of-one}
 use Rattle.segment_dump.proofs.contents.put_string.Goals as goal
 

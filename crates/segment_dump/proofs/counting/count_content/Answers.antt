@@ -1,5 +1,4 @@
-use Rattle.std.proofs.Common.{sym, subst}
-use Rattle.segment_dump.specs.Reads.{seen}
+use Rattle.segment_dump.proofs.Common.{sym, subst, seen}
 use Rattle.segment_dump.proofs.Counts.{IsLined, content-lined, content-string}
 use Rattle.segment_dump.proofs.counting.count_content.Goals as goal
 

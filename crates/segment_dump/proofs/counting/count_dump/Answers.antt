@@ -1,5 +1,4 @@
-use Rattle.std.proofs.Common.{length, ap, ◌∙◌}
-use Rattle.segment_dump.specs.Need.{only_room}
+use Rattle.segment_dump.proofs.Common.{length, ap, ◌∙◌, only_room}
 use Rattle.segment_dump.proofs.DumpCounts.{dump-no_front, dump-no_objects, dump-some}
 use Rattle.segment_dump.proofs.counting.count_dump.Goals as goal
 

@@ -1,8 +1,4 @@
-use Rattle.std.proofs.Common.{None, sym, ap, ◌∙◌}
-use Rattle.segment_dump.specs.Counting.{IsCountable}
-use Rattle.segment_dump.specs.Need.{item_needs, only_room}
-use Rattle.segment_dump.specs.Reads.{Any}
-use Rattle.segment_dump.specs.Texts.{item_text}
+use Rattle.segment_dump.proofs.Common.{None, sym, ap, ◌∙◌, IsCountable, item_needs, only_room, Any, item_text}
 use Rattle.segment_dump.proofs.ObjectCounts.{object-no_content, object-no_lead, object-no_measure, object-some}
 use Rattle.segment_dump.proofs.Readers.{as-seen}
 use Rattle.segment_dump.proofs.counting.count_object.Goals as goal

@@ -1,6 +1,4 @@
-use Rattle.std.proofs.Common.{◌≡◌, ◌++◌, List, ℕ, length, sym, arith, ◌∙◌}
-use Rattle.std.proofs.lemmas.Bool.{false≢true}
-use Rattle.segment_dump.specs.Texts.{end_text}
+use Rattle.segment_dump.proofs.Common.{◌≡◌, ◌++◌, List, ℕ, length, sym, arith, ◌∙◌, false≢true, end_text}
 use Rattle.segment_dump.proofs.DumpCounts.{objects-cut, objects-end, objects-long, objects-more, objects-start}
 use Rattle.segment_dump.proofs.counting.count_objects.Goals as goal
 

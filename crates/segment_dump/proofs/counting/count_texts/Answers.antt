@@ -1,10 +1,5 @@
-use Rattle.std.proofs.Common.{◌≡◌, ◌+◌, ◌<◌, None, sym, subst, arith}
-use Rattle.std.specs.Prelude.{flat_map}
-use Rattle.segment_dump.specs.Counting.{AreTexts}
-use Rattle.segment_dump.specs.declared.needs.Needs.{Needs}
-use Rattle.segment_dump.specs.Need.{all_needs, both, text_needs}
-use Rattle.segment_dump.specs.Reads.{Any}
-use Rattle.segment_dump.specs.Texts.{text_lines}
+use Rattle.segment_dump.proofs.Common.{◌≡◌, ◌+◌, ◌<◌, None, sym, subst, arith, flat_map, AreTexts, Needs, all_needs}
+use Rattle.segment_dump.proofs.Common.{both, text_needs, Any, text_lines}
 use Rattle.segment_dump.proofs.Counts.{texts-cut, texts-end, texts-more, texts-start}
 use Rattle.segment_dump.proofs.Readers.{as-seen}
 use Rattle.segment_dump.proofs.counting.count_texts.Goals as goal

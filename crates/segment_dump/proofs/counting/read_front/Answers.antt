@@ -1,6 +1,4 @@
-use Rattle.std.proofs.Common.{None, sym}
-use Rattle.segment_dump.specs.Counting.{IsFront, fronted}
-use Rattle.segment_dump.specs.Reads.{Any, itself}
+use Rattle.segment_dump.proofs.Common.{None, sym, IsFront, fronted, Any, itself}
 use Rattle.segment_dump.proofs.FrontLines.{front-no_entries, front-none, front-some}
 use Rattle.segment_dump.proofs.Readers.{as-seen}
 use Rattle.segment_dump.proofs.counting.read_front.Goals as goal

@@ -1,6 +1,4 @@
-use Rattle.std.proofs.Common.{length, Some, None, sym}
-use Rattle.segment_dump.specs.Reads.{Any}
-use Rattle.segment_dump.specs.Texts.{text_lines}
+use Rattle.segment_dump.proofs.Common.{length, Some, None, sym, Any, text_lines}
 use Rattle.segment_dump.proofs.Counts.{IsShort, text-none, text-some}
 use Rattle.segment_dump.proofs.Readers.{as-seen}
 use Rattle.segment_dump.proofs.counting.text_len.Goals as goal

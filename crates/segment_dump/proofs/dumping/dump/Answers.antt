@@ -1,6 +1,4 @@
-use Rattle.std.proofs.Common.{ap}
-use Rattle.segment_dump.specs.Items.{portable}
-use Rattle.segment_dump.specs.Texts.{dump_text}
+use Rattle.segment_dump.proofs.Common.{ap, portable, dump_text}
 use Rattle.segment_dump.proofs.Elements.{size-is}
 use Rattle.segment_dump.proofs.Owed.{of-same}
 use Rattle.segment_dump.proofs.dumping.dump.Goals as goal

@@ -1,4 +1,4 @@
-use Rattle.segment_dump.specs.Owed.{all_text}
+use Rattle.segment_dump.proofs.Common.{all_text}
 use Rattle.segment_dump.proofs.Sections.{dump-parts}
 use Rattle.segment_dump.proofs.Owed.{of-cut, of-same, of-then}
 use Rattle.segment_dump.proofs.dumping.dump_as.Goals as goal

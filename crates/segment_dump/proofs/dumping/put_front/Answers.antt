@@ -1,4 +1,4 @@
-use Rattle.segment_dump.specs.Texts.{front_text}
+use Rattle.segment_dump.proofs.Common.{front_text}
 use Rattle.segment_dump.proofs.Elements.{named-is, unique-is}
 use Rattle.segment_dump.proofs.Owed.{of-one}
 use Rattle.segment_dump.proofs.dumping.put_front.Goals as goal

@@ -1,5 +1,4 @@
-use Rattle.std.proofs.Common.{refl}
-use Rattle.segment_dump.specs.Texts.{end_text}
+use Rattle.segment_dump.proofs.Common.{refl, end_text}
 use Rattle.segment_dump.proofs.Owed.{of-cut, of-one, of-then}
 use Rattle.segment_dump.proofs.dumping.put_last.Goals as goal
 

@@ -1,7 +1,4 @@
-use Rattle.std.proofs.Common.{refl}
-use Rattle.seg_types.specs.Names.{ByHandle}
-use Rattle.segment_dump.specs.Owed.{lines_at}
-use Rattle.segment_dump.specs.Texts.{head_line}
+use Rattle.segment_dump.proofs.Common.{refl, ByHandle, lines_at, head_line}
 use Rattle.segment_dump.proofs.Elements.{said-located}
 use Rattle.segment_dump.proofs.Owed.{of-cut, of-one, of-same, of-then}
 use Rattle.segment_dump.proofs.Sections.{entry-text}

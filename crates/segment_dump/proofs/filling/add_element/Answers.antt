@@ -1,5 +1,4 @@
-use Rattle.std.proofs.Common.{length, sym, subst}
-use Rattle.segment_dump.specs.Builders.{AddsElement}
+use Rattle.segment_dump.proofs.Common.{length, sym, subst, AddsElement}
 use Rattle.segment_dump.proofs.Starts.{no-element}
 use Rattle.segment_dump.proofs.filling.add_element.Goals as goal
 

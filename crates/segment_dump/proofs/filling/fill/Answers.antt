@@ -1,5 +1,4 @@
-use Rattle.std.proofs.Common.{length, sym, subst}
-use Rattle.segment_dump.specs.Builders.{IsVectorKind}
+use Rattle.segment_dump.proofs.Common.{length, sym, subst, IsVectorKind}
 use Rattle.segment_dump.proofs.Starts.{fills-plain, fills-text, not-vector}
 use Rattle.segment_dump.proofs.filling.fill.Goals as goal
 

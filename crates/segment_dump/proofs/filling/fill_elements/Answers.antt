@@ -1,4 +1,4 @@
-use Rattle.std.proofs.Common.{arith, length, refl, ◌∙◌}
+use Rattle.segment_dump.proofs.Common.{arith, length, refl, ◌∙◌}
 use Rattle.segment_dump.proofs.Starts.{as-room, elements-cut, elements-end, elements-more, elements-start}
 use Rattle.segment_dump.proofs.filling.fill_elements.Goals as goal
 

@@ -1,4 +1,4 @@
-use Rattle.std.proofs.Common.{◌≡◌, length}
+use Rattle.segment_dump.proofs.Common.{◌≡◌, length}
 use Rattle.segment_dump.proofs.Starts.{InElements}
 use Rattle.segment_dump.proofs.filling.fill_elements.Given as goal
 

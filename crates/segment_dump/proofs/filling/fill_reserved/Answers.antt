@@ -1,4 +1,4 @@
-use Rattle.std.proofs.Common.{length}
+use Rattle.segment_dump.proofs.Common.{length}
 use Rattle.segment_dump.proofs.Starts.{fills-refused, fills-reserved}
 use Rattle.segment_dump.proofs.filling.fill_reserved.Goals as goal
 

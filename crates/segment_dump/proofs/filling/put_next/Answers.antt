@@ -1,4 +1,4 @@
-use Rattle.std.proofs.Common.{true, refl, sym, ◌∙◌}
+use Rattle.segment_dump.proofs.Common.{true, refl, sym, ◌∙◌}
 use Rattle.segment_dump.proofs.Found.{never-ok}
 use Rattle.segment_dump.proofs.Adds.{put-adds, put-unread}
 use Rattle.segment_dump.proofs.filling.put_next.Goals as goal

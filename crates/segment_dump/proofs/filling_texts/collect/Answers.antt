@@ -1,5 +1,6 @@
-use Rattle.std.proofs.Common.{arith, ◌∙◌}
-use Rattle.segment_dump.proofs.PieceReads.{collect-no_first, collect-no_copy, collect-start, more-no_copy, more-no_line, pieces-end, pieces-more}
+use Rattle.segment_dump.proofs.Common.{arith, ◌∙◌}
+use Rattle.segment_dump.proofs.PieceReads.{collect-no_first, collect-no_copy, collect-start, more-no_copy, more-no_line}
+use Rattle.segment_dump.proofs.PieceReads.{pieces-end, pieces-more}
 use Rattle.segment_dump.proofs.filling_texts.collect.Goals as goal
 
 pub returns-in_err-words-clause-text : goal.returns-in_err-words-clause-text

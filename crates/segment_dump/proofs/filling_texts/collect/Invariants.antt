@@ -1,4 +1,4 @@
-use Rattle.std.proofs.Common.{◌≡◌, ◌≤◌, length}
+use Rattle.segment_dump.proofs.Common.{◌≡◌, ◌≤◌, length}
 use Rattle.segment_dump.proofs.PieceReads.{InPieces}
 use Rattle.segment_dump.proofs.filling_texts.collect.Given as goal
 

@@ -1,5 +1,6 @@
-use Rattle.std.proofs.Common.{arith}
-use Rattle.segment_dump.proofs.Strings.{string-end, string-more, string-no_first, string-no_line, string-no_more, string-no_piece, string-refused, string-start}
+use Rattle.segment_dump.proofs.Common.{arith}
+use Rattle.segment_dump.proofs.Strings.{string-end, string-more, string-no_first, string-no_line, string-no_more}
+use Rattle.segment_dump.proofs.Strings.{string-no_piece, string-refused, string-start}
 use Rattle.segment_dump.proofs.filling_texts.fill_string.Goals as goal
 
 pub returns-in_err-words : goal.returns-in_err-words

@@ -1,4 +1,4 @@
-use Rattle.std.proofs.Common.{ℕ}
+use Rattle.segment_dump.proofs.Common.{ℕ}
 use Rattle.segment_dump.proofs.Strings.{InString}
 use Rattle.segment_dump.proofs.filling_texts.fill_string.Given as goal
 

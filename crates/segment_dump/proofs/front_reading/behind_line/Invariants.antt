@@ -1,4 +1,4 @@
-use Rattle.std.proofs.Common.{length}
+use Rattle.segment_dump.proofs.Common.{length}
 use Rattle.segment_dump.proofs.Readers.{InLine}
 use Rattle.segment_dump.proofs.front_reading.behind_line.Given as goal
 

@@ -1,5 +1,4 @@
-use Rattle.std.proofs.Common.{sym, subst, arith}
-use Rattle.segment_dump.specs.Reads.{AreLines, Skips, lines_text, seen_rest}
+use Rattle.segment_dump.proofs.Common.{sym, subst, arith, AreLines, Skips, lines_text, seen_rest}
 use Rattle.segment_dump.proofs.Readers.{lines-cut, lines-end, lines-more, lines-start}
 use Rattle.segment_dump.proofs.front_reading.behind_lines.Goals as goal
 

@@ -1,4 +1,4 @@
-use Rattle.std.proofs.Common.{arith}
+use Rattle.segment_dump.proofs.Common.{arith}
 use Rattle.segment_dump.proofs.Readers.{name-bare, name-long}
 use Rattle.segment_dump.proofs.front_reading.name_len.Goals as goal
 

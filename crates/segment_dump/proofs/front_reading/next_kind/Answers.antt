@@ -1,6 +1,4 @@
-use Rattle.std.proofs.Common.{◌∙◌, Some, None, sym}
-use Rattle.seg_types.specs.Texts.{kind_text}
-use Rattle.segment_dump.specs.Reads.{Any, Breaks, itself}
+use Rattle.segment_dump.proofs.Common.{◌∙◌, Some, None, sym, kind_text, Any, Breaks, itself}
 use Rattle.segment_dump.proofs.Readers.{as-seen, kind-reads}
 use Rattle.segment_dump.proofs.front_reading.next_kind.Goals as goal
 

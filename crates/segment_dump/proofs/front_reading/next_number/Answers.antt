@@ -1,6 +1,4 @@
-use Rattle.std.proofs.Common.{◌^◌, ◌<◌, ◌∙◌, Some, None, sym}
-use Rattle.segment_lang.specs.Texts.{number_text}
-use Rattle.segment_dump.specs.Reads.{Breaks, itself}
+use Rattle.segment_dump.proofs.Common.{◌^◌, ◌<◌, ◌∙◌, Some, None, sym, number_text, Breaks, itself}
 use Rattle.segment_dump.proofs.Readers.{as-seen, number-reads}
 use Rattle.segment_dump.proofs.front_reading.next_number.Goals as goal
 

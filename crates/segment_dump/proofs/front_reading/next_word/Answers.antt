@@ -1,4 +1,4 @@
-use Rattle.std.proofs.Common.{◌<◌, get_or, arith}
+use Rattle.segment_dump.proofs.Common.{◌<◌, get_or, arith}
 use Rattle.segment_dump.proofs.Readers.{word-goes}
 use Rattle.segment_dump.proofs.front_reading.next_word.Goals as goal
 

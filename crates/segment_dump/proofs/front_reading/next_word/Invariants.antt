@@ -1,4 +1,4 @@
-use Rattle.std.proofs.Common.{length}
+use Rattle.segment_dump.proofs.Common.{length}
 use Rattle.segment_dump.proofs.Readers.{InWord}
 use Rattle.segment_dump.proofs.front_reading.next_word.Given as goal
 

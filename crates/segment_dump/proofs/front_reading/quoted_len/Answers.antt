@@ -1,6 +1,4 @@
-use Rattle.std.proofs.Common.{length, None, sym}
-use Rattle.segment_dump.specs.Leads.{closed_text}
-use Rattle.segment_dump.specs.Reads.{Any}
+use Rattle.segment_dump.proofs.Common.{length, None, sym, closed_text, Any}
 use Rattle.segment_dump.proofs.Readers.{IsShort, as-seen, quotes-cut, quotes-end, quotes-more}
 use Rattle.segment_dump.proofs.front_reading.quoted_len.Goals as goal
 

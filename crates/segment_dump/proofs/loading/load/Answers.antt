@@ -1,7 +1,4 @@
-use Rattle.std.proofs.Common.{length, subst}
-use Rattle.std.specs.Prelude.{MatchResult}
-use Rattle.segment_dump.specs.Loading.{IsExact, IsLoaded, IsNotLoaded, cause_in}
-use Rattle.segment_dump.specs.Succeeding.{Succeeds}
+use Rattle.segment_dump.proofs.Common.{length, subst, MatchResult, IsExact, IsLoaded, IsNotLoaded, cause_in, Succeeds}
 use Rattle.segment_dump.proofs.loading.load.Goals as goal
 
 pub returns-clause-done : goal.returns-clause-done

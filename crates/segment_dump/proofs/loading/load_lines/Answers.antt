@@ -1,5 +1,4 @@
-use Rattle.std.proofs.Common.{length, refl}
-use Rattle.segment_dump.specs.Loading.{cause_in}
+use Rattle.segment_dump.proofs.Common.{length, refl, cause_in}
 use Rattle.segment_dump.proofs.Judged.{exact-done, exact-refused, lacks}
 use Rattle.segment_dump.proofs.Succeeds.{succeeds-lacking, succeeds-made}
 use Rattle.segment_dump.proofs.loading.load_lines.Goals as goal

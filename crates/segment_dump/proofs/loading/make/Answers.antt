@@ -1,4 +1,4 @@
-use Rattle.std.proofs.Common.{length, refl}
+use Rattle.segment_dump.proofs.Common.{length, refl}
 use Rattle.segment_dump.proofs.Judged.{judged, wrong-why}
 use Rattle.segment_dump.proofs.Succeeds.{good-judged, good-no_front, good-unbuilt, good-uncreated}
 use Rattle.segment_dump.proofs.loading.make.Goals as goal

@@ -1,4 +1,4 @@
-use Rattle.std.proofs.Common.{length}
+use Rattle.segment_dump.proofs.Common.{length}
 use Rattle.segment_dump.proofs.Succeeds.{all-made, named-refused, unique-refused}
 use Rattle.segment_dump.proofs.loading.make_objects.Goals as goal
 

@@ -1,5 +1,4 @@
-use Rattle.std.proofs.Common.{sym, subst}
-use Rattle.segment_dump.specs.Loading.{IsWrong}
+use Rattle.segment_dump.proofs.Common.{sym, subst, IsWrong}
 use Rattle.segment_dump.proofs.loading.unlike.Goals as goal
 
 pub returns : goal.returns

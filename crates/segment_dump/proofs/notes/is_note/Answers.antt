@@ -1,4 +1,4 @@
-use Rattle.std.proofs.Common.{◌==◌, ap, true, false}
+use Rattle.segment_dump.proofs.Common.{◌==◌, ap, true, false}
 use Rattle.segment_dump.proofs.NoteLines.{note-told}
 use Rattle.segment_dump.proofs.notes.is_note.Goals as goal
 

@@ -1,4 +1,4 @@
-use Rattle.std.proofs.Common.{ap, ◌==◌, arith}
+use Rattle.segment_dump.proofs.Common.{ap, ◌==◌, arith}
 use Rattle.segment_dump.proofs.NoteLines.{last-byte, starts-at}
 use Rattle.segment_dump.proofs.notes.last_line_at.Goals as goal
 

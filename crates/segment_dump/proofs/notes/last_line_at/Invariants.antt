@@ -1,6 +1,5 @@
 -- No line ends behind this place but the last one.
-use Rattle.std.proofs.Common.{◌≡◌, ◌≤◌, ◌<◌, true, drop, length}
-use Rattle.segment_dump.specs.Notes.{is_line}
+use Rattle.segment_dump.proofs.Common.{◌≡◌, ◌≤◌, ◌<◌, true, drop, length, is_line}
 use Rattle.segment_dump.proofs.notes.last_line_at.Given as goal
 
 abbrev pub invariant-bytes : goal.invariant-bytes

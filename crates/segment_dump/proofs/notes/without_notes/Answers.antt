@@ -1,5 +1,4 @@
-use Rattle.std.proofs.Common.{◌≡◌, ◌<◌, length, drop, sym, subst, ◌∙◌, true, false, arith}
-use Rattle.segment_dump.specs.Notes.{are_notes}
+use Rattle.segment_dump.proofs.Common.{◌≡◌, ◌<◌, length, drop, sym, subst, ◌∙◌, true, false, arith, are_notes}
 use Rattle.segment_dump.proofs.NoteLines.{cut-last, kept-whole}
 use Rattle.segment_dump.proofs.notes.without_notes.Goals as goal
 

@@ -1,6 +1,5 @@
 -- Only notes are gone so far.
-use Rattle.std.proofs.Common.{◌≡◌, length}
-use Rattle.segment_dump.specs.Notes.{without_notes}
+use Rattle.segment_dump.proofs.Common.{◌≡◌, length, without_notes}
 use Rattle.segment_dump.proofs.notes.without_notes.Given as goal
 
 abbrev pub invariant-notes : goal.invariant-notes

@@ -1,9 +1,6 @@
-use Rattle.std.proofs.Common.{◌≡◌, ◌≤◌, length, sym, ap, subst, ◌∙◌, rules}
-use Rattle.segment_manager.specs.Directory.{Directory}
-use Rattle.segment_manager.specs.Instances.{SaysAt}
-use Rattle.segment_manager.specs.State.{State, StandsFor}
-use Rattle.segment_dump.specs.Owed.{WritesOf, where_anonymous}
-use Rattle.segment_dump.specs.Parts.{parts_until}
+use Rattle.segment_dump.proofs.Common.{◌≡◌, ◌≤◌, length, sym, ap, subst, ◌∙◌, Directory, SaysAt, State, StandsFor}
+use Rattle.segment_dump.proofs.Common.{WritesOf, where_anonymous, parts_until}
+use Rattle.std.proofs.Common.{rules}
 use Rattle.segment_dump.proofs.Members.{all-objects, said-of}
 use Rattle.segment_dump.proofs.Owed.{of-same, of-start}
 use Rattle.segment_dump.proofs.PartLines.{well}

@@ -1,8 +1,5 @@
 -- What has gone out is the text of the anonymous ones among the objects that came.
-use Rattle.std.proofs.Common.{◌≡◌}
-use Rattle.segment_manager.specs.Directory.{Directory}
-use Rattle.segment_dump.specs.Owed.{WritesOf, where_anonymous}
-use Rattle.segment_dump.specs.Parts.{parts_until}
+use Rattle.segment_dump.proofs.Common.{◌≡◌, Directory, WritesOf, where_anonymous, parts_until}
 use Rattle.segment_dump.proofs.PartLines.{well}
 use Rattle.segment_dump.proofs.Sections.{object_at_place}
 use Rattle.segment_dump.proofs.objects.put_anonymous.Given as goal

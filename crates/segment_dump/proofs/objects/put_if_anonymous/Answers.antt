@@ -1,6 +1,4 @@
-use Rattle.segment_manager.specs.Directory.{object_at}
-use Rattle.segment_dump.specs.Parts.{part_of}
-use Rattle.seg_types.specs.Names.{ByHandle}
+use Rattle.segment_dump.proofs.Common.{object_at, part_of, ByHandle}
 use Rattle.segment_dump.proofs.Owed.{of-none, of-same}
 use Rattle.segment_dump.proofs.Sections.{anonymous-said, other-said}
 use Rattle.segment_dump.proofs.objects.put_if_anonymous.Goals as goal

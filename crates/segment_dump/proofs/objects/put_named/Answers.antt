@@ -1,5 +1,4 @@
-use Rattle.std.proofs.Common.{arith}
-use Rattle.segment_manager.specs.Directory.{named_objects}
+use Rattle.segment_dump.proofs.Common.{arith, named_objects}
 use Rattle.segment_dump.proofs.Elements.{named-is}
 use Rattle.segment_dump.proofs.Members.{all-named, said-of}
 use Rattle.segment_dump.proofs.Owed.{of-start}

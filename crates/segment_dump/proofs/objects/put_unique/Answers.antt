@@ -1,5 +1,4 @@
-use Rattle.std.proofs.Common.{arith}
-use Rattle.segment_manager.specs.Directory.{unique_objects}
+use Rattle.segment_dump.proofs.Common.{arith, unique_objects}
 use Rattle.segment_dump.proofs.Elements.{unique-is}
 use Rattle.segment_dump.proofs.Members.{all-unique, said-of}
 use Rattle.segment_dump.proofs.Owed.{of-start}

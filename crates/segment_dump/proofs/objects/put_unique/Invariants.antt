@@ -1,6 +1,4 @@
-use Rattle.segment_manager.specs.Directory.{unique_objects}
-use Rattle.segment_dump.specs.Owed.{WritesOf}
-use Rattle.segment_dump.specs.Parts.{parts_until}
+use Rattle.segment_dump.proofs.Common.{unique_objects, WritesOf, parts_until}
 use Rattle.segment_dump.proofs.Sections.{object_at_place}
 use Rattle.segment_dump.proofs.PartLines.{well}
 use Rattle.segment_dump.proofs.objects.put_unique.Given as goal

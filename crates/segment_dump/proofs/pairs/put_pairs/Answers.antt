@@ -1,13 +1,9 @@
 -- Each pair is that of the place at which the walk has come.
-use Rattle.std.proofs.Common.{◌≡◌, ◌+◌, sym, ap, subst, ◌∙◌, Some, None, arith}
-use Rattle.std.specs.Prelude.{option_map}
-use Rattle.std.proofs.lemmas.Bool.{lt-ltb}
-use Rattle.seg_types.specs.Names.{ByHandle}
-use Rattle.segment_manager.specs.Walks.{item_seen}
-use Rattle.segment_dump.specs.Asked.{pair_part, walked_line}
-use Rattle.segment_dump.specs.Owed.{WritesOf}
-use Rattle.segment_dump.specs.Parts.{parts_until}
-use Rattle.segment_manager.proofs.NextPairs.{IsNext, map-of-key, next-behind, next-first, next-none, no-pair, none-text, pair-said}
+use Rattle.segment_dump.proofs.Common.{◌≡◌, ◌+◌, sym, ap, subst, ◌∙◌, Some, None, arith, option_map, lt-ltb, ByHandle}
+use Rattle.segment_dump.proofs.Common.{item_seen, pair_part, WritesOf, parts_until}
+use Rattle.segment_dump.specs.Asked.{walked_line}
+use Rattle.segment_manager.proofs.NextPairs.{IsNext, map-of-key, next-behind, next-first, next-none, no-pair, none-text}
+use Rattle.segment_manager.proofs.NextPairs.{pair-said}
 use Rattle.segment_dump.proofs.PartLines.{well}
 use Rattle.segment_dump.proofs.Owed.{of-all, of-cut_in, of-more, of-none, of-one, of-start}
 use Rattle.segment_dump.proofs.pairs.put_pairs.Goals.{in-Some+in_ok-put_pair, in_default}

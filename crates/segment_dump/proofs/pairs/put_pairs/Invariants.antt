@@ -1,14 +1,7 @@
 -- So many pairs have gone out, and the next one is that at the next place.
-use Rattle.std.proofs.Common.{◌≡◌, ◌<◌, slice_get}
-use Rattle.std.specs.Prelude.{option_map}
-use Rattle.seg_types.specs.Names.{ByHandle}
-use Rattle.seg_map.specs.Places.{item_of}
-use Rattle.segment_manager.specs.Directory.{Directory}
-use Rattle.segment_manager.specs.State.{StandsFor}
-use Rattle.segment_manager.specs.Walks.{item_of_kinds, item_seen, pairs_at}
-use Rattle.segment_dump.specs.Asked.{pair_part}
-use Rattle.segment_dump.specs.Owed.{WritesOf}
-use Rattle.segment_dump.specs.Parts.{parts_until}
+use Rattle.segment_dump.proofs.Common.{◌≡◌, ◌<◌, slice_get, option_map, ByHandle, item_of, Directory, StandsFor}
+use Rattle.segment_dump.proofs.Common.{item_seen, pairs_at, pair_part, WritesOf, parts_until}
+use Rattle.segment_manager.specs.Walks.{item_of_kinds}
 use Rattle.segment_dump.proofs.PartLines.{well}
 use Rattle.segment_dump.proofs.pairs.put_pairs.Given as goal
 

@@ -1,5 +1,4 @@
-use Rattle.std.proofs.Common.{◌≡◌, ◌≤◌, ◌+◌, take}
-use Rattle.segment_dump.specs.Places.{place_behind}
+use Rattle.segment_dump.proofs.Common.{◌≡◌, ◌≤◌, ◌+◌, take, place_behind}
 use Rattle.segment_dump.proofs.places.place_at.Given as goal
 
 abbrev pub invariant-bytes : goal.invariant-bytes

@@ -1,6 +1,4 @@
-use Rattle.std.proofs.Common.{◌*◌, length, sym, ap, ◌∙◌, arith}
-use Rattle.std.specs.Prelude.{drop}
-use Rattle.std.proofs.lemmas.List.{take_all}
+use Rattle.segment_dump.proofs.Common.{◌*◌, length, sym, ap, ◌∙◌, arith, drop, take_all}
 use Rattle.segment_dump.proofs.texts.piece_of.Goals as goal
 
 pub returns-then-behind-le-PIECE : goal.returns-then-behind-le-PIECE

@@ -1,6 +1,4 @@
-use Rattle.std.proofs.Common.{◌≡◌, ◌++◌, length, ap, ◌∙◌, refl, arith}
-use Rattle.segment_dump.specs.Parts.{parts_until}
-use Rattle.segment_dump.specs.Texts.{piece_line, pieces_in}
+use Rattle.segment_dump.proofs.Common.{◌≡◌, ◌++◌, length, ap, ◌∙◌, refl, arith, parts_until, piece_line, pieces_in}
 use Rattle.segment_dump.proofs.Owed.{writes_none}
 use Rattle.segment_dump.proofs.PartLines.{part-cut, part-told}
 use Rattle.segment_dump.proofs.texts.put_all_pieces.Goals as goal

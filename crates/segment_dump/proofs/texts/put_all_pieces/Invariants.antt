@@ -1,6 +1,4 @@
-use Rattle.raw_region.specs.Device.{Writes}
-use Rattle.segment_dump.specs.Parts.{parts_until}
-use Rattle.segment_dump.specs.Texts.{piece_line}
+use Rattle.segment_dump.proofs.Common.{Writes, parts_until, piece_line}
 use Rattle.segment_dump.proofs.PartLines.{well}
 use Rattle.segment_dump.proofs.texts.put_all_pieces.Given as goal
 

@@ -1,6 +1,4 @@
-use Rattle.std.proofs.Common.{length}
-use Rattle.raw_region.proofs.Laws.{writes-cut, writes-then}
-use Rattle.segment_dump.specs.Texts.{length_text, pieces_text}
+use Rattle.segment_dump.proofs.Common.{length, writes-cut, writes-then, length_text, pieces_text}
 use Rattle.segment_dump.proofs.texts.put_text.Goals as goal
 
 pub returns-in_err-put_length : goal.returns-in_err-put_length

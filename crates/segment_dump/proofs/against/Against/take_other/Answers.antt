@@ -1,4 +1,4 @@
-use Rattle.std.proofs.Common.{arith, sym}
+use Rattle.segment_dump.proofs.Common.{arith, sym}
 use Rattle.segment_dump.proofs.Comparings.{all-taken, other-compares, other-taken}
 use Rattle.segment_dump.proofs.against.Against.take_other.Goals as goal
 

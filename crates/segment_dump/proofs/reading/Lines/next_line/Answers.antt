@@ -1,5 +1,4 @@
-use Rattle.std.proofs.Common.{ap, ◌∙◌}
-use Rattle.std.specs.Prelude.{drop, position, take}
+use Rattle.segment_dump.proofs.Common.{ap, ◌∙◌, drop, position, take}
 use Rattle.segment_dump.proofs.LineReads.{is_end, long-line, no-line, this-line}
 use Rattle.segment_dump.proofs.reading.Lines.next_line.Goals as goal
 

@@ -1,4 +1,4 @@
-use Rattle.std.proofs.lemmas.Bool.{false≢true}
+use Rattle.segment_dump.proofs.Common.{false≢true}
 use Rattle.segment_dump.proofs.LineReads.{is-this, not-this, other-this}
 use Rattle.segment_dump.proofs.reading.Words.expect.Goals as goal
 

@@ -1,6 +1,5 @@
-use Rattle.std.proofs.Common.{ap}
-use Rattle.segment_lang.specs.Seen.{word_of}
-use Rattle.segment_dump.specs.Lines.{bare_word, seen_bytes}
+use Rattle.segment_dump.proofs.Common.{ap, word_of, bare_word}
+use Rattle.segment_dump.specs.Lines.{seen_bytes}
 use Rattle.segment_dump.proofs.LineReads.{no-word, other-word, this-word}
 use Rattle.segment_dump.proofs.reading.Words.next_bare.Goals as goal
 

@@ -1,8 +1,4 @@
-use Rattle.std.proofs.Common.{sym, ◌∙◌}
-use Rattle.raw_region.specs.Format.{current}
-use Rattle.segment_lang.specs.Language.{whole}
-use Rattle.segment_lang.specs.Reading.{kind_of_word}
-use Rattle.segment_lang.specs.Seen.{word_of}
+use Rattle.segment_dump.proofs.Common.{sym, ◌∙◌, current, whole, kind_of_word, word_of}
 use Rattle.segment_dump.proofs.LineReads.{no-word, other-word, this-word}
 use Rattle.segment_dump.proofs.reading.Words.next_kind.Goals as goal
 

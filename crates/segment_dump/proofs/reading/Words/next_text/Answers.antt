@@ -1,6 +1,4 @@
-use Rattle.std.proofs.Common.{ap}
-use Rattle.segment_lang.specs.Seen.{word_of}
-use Rattle.segment_dump.specs.Lines.{quoted_word}
+use Rattle.segment_dump.proofs.Common.{ap, word_of, quoted_word}
 use Rattle.segment_dump.proofs.LineReads.{no-word, other-word, this-word}
 use Rattle.segment_dump.proofs.reading.Words.next_text.Goals as goal
 

@@ -1,6 +1,4 @@
-use Rattle.std.proofs.Common.{sym, ◌∙◌}
-use Rattle.segment_lang.specs.Seen.{word_of}
-use Rattle.segment_dump.specs.Lines.{value_word}
+use Rattle.segment_dump.proofs.Common.{sym, ◌∙◌, word_of, value_word}
 use Rattle.segment_dump.proofs.LineReads.{no-word, other-word, this-word}
 use Rattle.segment_dump.proofs.reading.Words.next_value.Goals as goal
 

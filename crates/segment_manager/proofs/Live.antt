@@ -182,24 +182,6 @@ live-changed d o o' f h =
     ap (λ (xs : List Extent). let l : LiveSet = record { size = d.size; extents = xs } in l)
     (spread-change 128 d.objects o o' (tables_of d) f (live-rises (adding (live (without_object d o')) (extents_of o')) h))
 
-flat-place : (p : Object) (ps : List Object) (o o' : Object) → Place (handle o'.extent) p ps o → extents_of o' ≡ extents_of o
-    → (IsFound (handle o'.extent) ps o → flat_map extents_of (replace_object o' ps) ≡ flat_map extents_of ps)
-    → flat_map extents_of (replace_object o' (p ∷ ps)) ≡ flat_map extents_of (p ∷ ps)
-flat-place p ps o o' (here e f) g k =
-    ap (flat_map extents_of) (replace-here o' p ps e) ∙ ap (λ xs. xs ++ flat_map extents_of ps) (g ∙ ap extents_of (sym f))
-flat-place p ps o o' (behind e f) g k =
-    ap (flat_map extents_of) (replace-behind o' p ps e) ∙ ap (λ xs. extents_of p ++ xs) (k f)
-
-flat-replace : (os : List Object) (o o' : Object) → IsFound (handle o'.extent) os o → extents_of o' ≡ extents_of o → flat_map extents_of (replace_object o' os) ≡ flat_map extents_of os
-flat-replace [] o o' f g = absurd (found-nothing (handle o'.extent) o f)
-flat-replace (p ∷ ps) o o' f g = flat-place p ps o o' (found-place (handle o'.extent) p ps o f) g (λ f'. flat-replace ps o o' f' g)
-
--- the same live set, where the extents are the same
-pub live-same : (d : Directory) (o o' : Object) → IsFound (handle o'.extent) d.objects o → extents_of o' ≡ extents_of o → live (with_changed d o') ≡ live d
-unfolding live
-live-same d o o' f e =
-    ap (λ (xs : List Extent). let l : LiveSet = record { size = d.size; extents = sorted (xs ++ tables_of d) } in l) (flat-replace d.objects o o' f e)
-
 -- ---- what holds of each block in use
 
 -- each extent of an object, and each of the tables

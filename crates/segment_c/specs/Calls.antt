@@ -20,6 +20,19 @@ IsClosed wrong code old new = wrong ≡ 0 → old ≡ None → (code ≡ 16) × 
 abbrev pub IsAsked : ℕ → ℕ → Option State → Option State → (State → State → Type 0) → Type 0
 IsAsked wrong code old new P = (s : State) → wrong ≡ 0 → old ≡ Some s → IsTrue (is_answer code) × Opened new (λ t. P s t)
 
+-- all three, of a call whose first wrong argument has this code
+pub record Owes (wrong code : ℕ) (old new : Option State) (P : State → State → Type 0) : Type 0 where
+  pub stopped : IsStopped wrong code old new
+  pub closed : IsClosed wrong code old new
+  pub asked : IsAsked wrong code old new P
+
+-- the same of a call that changes nothing
+pub record Reads (wrong code : ℕ) (old new : Option State) (P : State → Type 0) : Type 0 where
+  pub stopped : IsStopped wrong code old new
+  pub closed : IsClosed wrong code old new
+  pub told : (s : State) → wrong ≡ 0 → old ≡ Some s → P s
+  pub same : new ≡ old
+
 -- a call that makes an object leaves bytes of gaps where there was no space, and else changes nothing where it is refused
 abbrev pub KeepsRefused : ℕ → Option State → Option State → Type 0
 KeepsRefused code old new = 1 ≤ code → code ≢ 9 → new ≡ old

@@ -1,4 +1,5 @@
 pub mod Calls
+pub mod Changing
 pub mod Codes
 pub mod Destroying
 pub mod Growing

@@ -22,7 +22,7 @@ or_else code other = if code == 0 then other else code
 abbrev pub name_wrong : List ℕ → ℕ
 name_wrong name = if is_text_name name then 0 else 18
 
-abbrev pub kind_wrong : ℕ → ℕ
+unfoldable pub kind_wrong : ℕ → ℕ
 kind_wrong code = elim (kind_of_code code) [ None ↦ 19 | Some kind ↦ 0 ]
 
 abbrev pub kind_key : Option Kind → Key
@@ -30,7 +30,7 @@ kind_key None = NoKey
 kind_key (Some kind) = ByKind kind
 
 -- the key of an object that is there
-abbrev pub key_wrong : ObjectKey → ℕ
+unfoldable pub key_wrong : ObjectKey → ℕ
 key_wrong k =
     if k.how == 0 then name_wrong k.name.now
     else if k.how == 1 then kind_wrong k.kind
@@ -38,21 +38,21 @@ key_wrong k =
     else if k.how == 4 then 25
     else 17
 
-abbrev pub key_of : ObjectKey → Key
+unfoldable pub key_of : ObjectKey → Key
 key_of k =
     if k.how == 0 then ByName k.name.now
     else if k.how == 1 then kind_key (kind_of_code k.kind)
     else ByHandle k.handle
 
 -- the key of an entry under which an object of a kind is found or made
-abbrev pub entry_wrong : ObjectKey → Kind → ℕ
+unfoldable pub entry_wrong : ObjectKey → Kind → ℕ
 entry_wrong k kind =
     if k.how == 0 then name_wrong k.name.now
     else if k.how == 1 then (if k.kind == code_of kind then 0 else 19)
     else if k.how == 4 then 25
     else 17
 
-abbrev pub entry_of : ObjectKey → Kind → Key
+unfoldable pub entry_of : ObjectKey → Kind → Key
 entry_of k kind = if k.how == 0 then ByName k.name.now else ByKind kind
 
 -- the key under which a new object of a kind is made
@@ -65,7 +65,7 @@ new_of k kind = if k.how == 3 then NoKey else entry_of k kind
 -- ---- values
 
 -- the kind of scalars that a code says
-abbrev pub scalar_kind_of : ℕ → Option ScalarKind
+unfoldable pub scalar_kind_of : ℕ → Option ScalarKind
 scalar_kind_of code =
     if code == 1 then Some BoolKind
     else if code == 2 then Some U8
@@ -86,7 +86,7 @@ number_in v I64 = v.number
 number_in v U64 = pos v.natural
 
 -- a kind and a number in its range, if it is one
-abbrev pub scalar_in : Value → Option (ScalarKind × ℤ)
+unfoldable pub scalar_in : Value → Option (ScalarKind × ℤ)
 scalar_in v = elim (scalar_kind_of v.kind) as (λ _. Option (ScalarKind × ℤ)) [
   | None ↦ None
   | Some k ↦ if is_value k (number_in v k) then Some (k, number_in v k) else None
@@ -150,5 +150,5 @@ abbrev pub row_count : Values → ℕ
 row_count v = many_of v (scalar_kind_in v.kind)
 
 -- the kind of objects that a code says, where it says one
-abbrev pub object_kind_in : ℕ → Kind
+unfoldable pub object_kind_in : ℕ → Kind
 object_kind_in code = elim (kind_of_code code) as (λ _. Kind) [ None ↦ Text | Some k ↦ k ]

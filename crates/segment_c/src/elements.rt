@@ -3,7 +3,7 @@ ghost use Rattle.std.specs.Prelude.{◌≡◌, ◌≤◌, OnErr};
 ghost use Rattle.seg_types.specs.Commands.{Erase, Get, Insert, Pop, Push, Set};
 ghost use Rattle.seg_types.specs.Keys.{key_seen};
 ghost use Rattle.seg_types.specs.declared.kinds.Kind.TheVariants.{Texts as TextsKind, Vector as VectorOf};
-ghost use Rattle.segment_c.specs.Calls.{IsAsked, IsClosed, IsStopped};
+ghost use Rattle.segment_c.specs.Calls.{Owes};
 ghost use Rattle.segment_c.specs.Codes.{answer_for};
 ghost use Rattle.segment_c.specs.Passed.{element_in, key_of, key_wrong, literal_in, or_else, value_wrong};
 ghost use Rattle.segment_c.specs.Reads.{vector_kind, vector_kind_at};
@@ -14,6 +14,7 @@ ghost use Rattle.segment_manager.specs.Step.{step_of_kind};
 ghost use Rattle.segment_manager.specs.TextLists.{LeadsOnOfKind};
 
 use crate::calls::{enter, enter_with, passed};
+use crate::changes::{Change, make_change};
 use crate::codes::{done, element};
 use crate::handle::Handle;
 use crate::keys::ObjectKey;
@@ -31,9 +32,7 @@ pub extern "C" fn zx_get(
     index: u64,
     value: &mut Value,
 ) -> u32
-    ensures stopped { IsStopped (key_wrong key.now) result h.old.value h.new.value }
-    ensures closed { IsClosed (key_wrong key.now) result h.old.value h.new.value }
-    ensures asked { IsAsked (key_wrong key.now) result h.old.value h.new.value
+    ensures asked { Owes (key_wrong key.now) result h.old.value h.new.value
         (λ s t. Answers s (λ d. scalar_reply s.mode d (key_of key.now) (Get (key_of key.now) index)) (answer_for result (element_in value.new))) }
     ensures same { h.new.value ≡ h.old.value }
     ensures results { 1 ≤ result → value.new ≡ value.old }
@@ -51,9 +50,7 @@ pub extern "C" fn zx_set(
     index: u64,
     value: &Value,
 ) -> u32
-    ensures stopped { IsStopped (or_else (key_wrong key.now) (value_wrong value.now)) result h.old.value h.new.value }
-    ensures closed { IsClosed (or_else (key_wrong key.now) (value_wrong value.now)) result h.old.value h.new.value }
-    ensures asked { IsAsked (or_else (key_wrong key.now) (value_wrong value.now)) result h.old.value h.new.value
+    ensures asked { Owes (or_else (key_wrong key.now) (value_wrong value.now)) result h.old.value h.new.value
         (λ s t. IsStep s t (Set (key_of key.now) index (literal_in value.now)) (answer_for result Done)) }
     ensures kept { 1 ≤ result → h.new.value ≡ h.old.value }
 {
@@ -65,9 +62,7 @@ pub extern "C" fn zx_set(
 /// Puts a value behind the last element of the vector of a key.
 #[unsafe(no_mangle)]
 pub extern "C" fn zx_push(alloc: Global, h: &mut Handle, key: &ObjectKey<'_>, value: &Value) -> u32
-    ensures stopped { IsStopped (or_else (key_wrong key.now) (value_wrong value.now)) result h.old.value h.new.value }
-    ensures closed { IsClosed (or_else (key_wrong key.now) (value_wrong value.now)) result h.old.value h.new.value }
-    ensures asked { IsAsked (or_else (key_wrong key.now) (value_wrong value.now)) result h.old.value h.new.value
+    ensures asked { Owes (or_else (key_wrong key.now) (value_wrong value.now)) result h.old.value h.new.value
         (λ s t. IsStep s t (Push (key_of key.now) (literal_in value.now)) (answer_for result Done)) }
     ensures kept { 1 ≤ result → h.new.value ≡ h.old.value }
 {
@@ -84,9 +79,7 @@ pub extern "C" fn zx_insert(
     index: u64,
     value: &Value,
 ) -> u32
-    ensures stopped { IsStopped (or_else (key_wrong key.now) (value_wrong value.now)) result h.old.value h.new.value }
-    ensures closed { IsClosed (or_else (key_wrong key.now) (value_wrong value.now)) result h.old.value h.new.value }
-    ensures asked { IsAsked (or_else (key_wrong key.now) (value_wrong value.now)) result h.old.value h.new.value
+    ensures asked { Owes (or_else (key_wrong key.now) (value_wrong value.now)) result h.old.value h.new.value
         (λ s t. IsStep s t (Insert (key_of key.now) index (literal_in value.now)) (answer_for result Done)) }
     ensures kept { 1 ≤ result → h.new.value ≡ h.old.value }
 {
@@ -98,15 +91,11 @@ pub extern "C" fn zx_insert(
 /// Leaves out the element at `index` in the vector of a key, of scalars or of strings.
 #[unsafe(no_mangle)]
 pub extern "C" fn zx_erase(alloc: Global, h: &mut Handle, key: &ObjectKey<'_>, index: u64) -> u32
-    ensures stopped { IsStopped (key_wrong key.now) result h.old.value h.new.value }
-    ensures closed { IsClosed (key_wrong key.now) result h.old.value h.new.value }
-    ensures asked { IsAsked (key_wrong key.now) result h.old.value h.new.value
+    ensures asked { Owes (key_wrong key.now) result h.old.value h.new.value
         (λ s t. IsStep s t (Erase (key_of key.now) index) (answer_for result Done)) }
     ensures kept { 1 ≤ result → h.new.value ≡ h.old.value }
 {
-    let (which, mut segment) = passed!(enter(alloc, h, key));
-    let answer = segment_values::erase(&mut segment, &which, index);
-    done(answer, h, segment)
+    make_change(alloc, h, key, Change::Erase(index))
 }
 
 /// Takes the last element out of the vector of a key, a vector of scalars.
@@ -117,9 +106,7 @@ pub extern "C" fn zx_pop(
     key: &ObjectKey<'_>,
     value: &mut Value,
 ) -> u32
-    ensures stopped { IsStopped (key_wrong key.now) result h.old.value h.new.value }
-    ensures closed { IsClosed (key_wrong key.now) result h.old.value h.new.value }
-    ensures asked { IsAsked (key_wrong key.now) result h.old.value h.new.value
+    ensures asked { Owes (key_wrong key.now) result h.old.value h.new.value
         (λ s t. Moves s t (answer_for result (element_in value.new)) (λ d. step_of_kind s.mode d (key_of key.now) (VectorOf (vector_kind_at d (key_of key.now))) (Pop (key_of key.now)))) }
     ensures kept { 1 ≤ result → h.new.value ≡ h.old.value }
     ensures results { 1 ≤ result → value.new ≡ value.old }
@@ -188,12 +175,9 @@ fn element_kind(kind: Kind) -> ScalarKind
 /// Takes the last text out of the vector of strings of a key. It is read before by `zx_read_text`.
 #[unsafe(no_mangle)]
 pub extern "C" fn zx_pop_text(alloc: Global, h: &mut Handle, key: &ObjectKey<'_>) -> u32
-    ensures stopped { IsStopped (key_wrong key.now) result h.old.value h.new.value }
-    ensures closed { IsClosed (key_wrong key.now) result h.old.value h.new.value }
-    ensures asked { IsAsked (key_wrong key.now) result h.old.value h.new.value
+    ensures asked { Owes (key_wrong key.now) result h.old.value h.new.value
         (λ s t. LeadsOnOfKind s t (key_of key.now) TextsKind (Pop (key_of key.now)) (refusal_of (answer_for result Done))) }
     ensures kept { 1 ≤ result → h.new.value ≡ h.old.value }
 {
-    let (which, mut segment) = passed!(enter(alloc, h, key));
-    done(segment.texts_pop(&which), h, segment)
+    make_change(alloc, h, key, Change::PopText)
 }

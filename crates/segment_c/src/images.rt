@@ -6,7 +6,7 @@ ghost use Rattle.image_check.specs.Classes.{number_of};
 ghost use Rattle.raw_region.specs.Memory.{zeros};
 ghost use Rattle.raw_region.specs.Regions.{IsCapacity};
 ghost use Rattle.seg_types.specs.Commands.{Free, Size};
-ghost use Rattle.segment_c.specs.Calls.{IsAsked, IsClosed, IsStopped, Opened};
+ghost use Rattle.segment_c.specs.Calls.{IsStopped, Opened, Owes};
 ghost use Rattle.segment_c.specs.Codes.{answer_for};
 ghost use Rattle.segment_c.specs.Images.{Saves, mode_code, mode_of, mode_wrong};
 ghost use Rattle.segment_c.specs.Opening.{IsImageOpened, IsNoImage, IsWhyNotOpened, capacity_wrong, size_said};
@@ -51,8 +51,7 @@ pub extern "C" fn zx_close(alloc: Global, h: &mut Handle)
 /// The number of bytes in the segment.
 #[unsafe(no_mangle)]
 pub extern "C" fn zx_size(alloc: Global, h: &mut Handle, size: &mut u64) -> u32
-    ensures closed { IsClosed 0 result h.old.value h.new.value }
-    ensures asked { IsAsked 0 result h.old.value h.new.value (λ s t. IsReply s Size (answer_for result (Number size.new))) }
+    ensures asked { Owes 0 result h.old.value h.new.value (λ s t. IsReply s Size (answer_for result (Number size.new))) }
     ensures same { h.new.value ≡ h.old.value }
     ensures kept { 1 ≤ result → size.new ≡ size.old }
 {
@@ -64,8 +63,7 @@ pub extern "C" fn zx_size(alloc: Global, h: &mut Handle, size: &mut u64) -> u32
 /// The bytes of all gaps, their tags included.
 #[unsafe(no_mangle)]
 pub extern "C" fn zx_free_bytes(alloc: Global, h: &mut Handle, free_bytes: &mut u64) -> u32
-    ensures closed { IsClosed 0 result h.old.value h.new.value }
-    ensures asked { IsAsked 0 result h.old.value h.new.value (λ s t. IsReply s Free (answer_for result (Number free_bytes.new))) }
+    ensures asked { Owes 0 result h.old.value h.new.value (λ s t. IsReply s Free (answer_for result (Number free_bytes.new))) }
     ensures same { h.new.value ≡ h.old.value }
     ensures kept { 1 ≤ result → free_bytes.new ≡ free_bytes.old }
 {
@@ -77,8 +75,7 @@ pub extern "C" fn zx_free_bytes(alloc: Global, h: &mut Handle, free_bytes: &mut 
 /// How the segment is open.
 #[unsafe(no_mangle)]
 pub extern "C" fn zx_mode(alloc: Global, h: &mut Handle, mode: &mut u32) -> u32
-    ensures closed { IsClosed 0 result h.old.value h.new.value }
-    ensures asked { IsAsked 0 result h.old.value h.new.value (λ s t. (result ≡ 0) × (mode.new ≡ mode_code s.mode)) }
+    ensures asked { Owes 0 result h.old.value h.new.value (λ s t. (result ≡ 0) × (mode.new ≡ mode_code s.mode)) }
     ensures same { h.new.value ≡ h.old.value }
     ensures kept { 1 ≤ result → mode.new ≡ mode.old }
 {
@@ -90,8 +87,7 @@ pub extern "C" fn zx_mode(alloc: Global, h: &mut Handle, mode: &mut u32) -> u32
 /// The number of bytes of the region behind the segment.
 #[unsafe(no_mangle)]
 pub extern "C" fn zx_region_left(alloc: Global, h: &mut Handle, left: &mut u64) -> u32
-    ensures closed { IsClosed 0 result h.old.value h.new.value }
-    ensures asked { IsAsked 0 result h.old.value h.new.value (λ s t. (result ≡ 0) × (left.new ≡ room_behind s.cut)) }
+    ensures asked { Owes 0 result h.old.value h.new.value (λ s t. (result ≡ 0) × (left.new ≡ room_behind s.cut)) }
     ensures same { h.new.value ≡ h.old.value }
     ensures kept { 1 ≤ result → left.new ≡ left.old }
 {

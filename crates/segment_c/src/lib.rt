@@ -4,6 +4,7 @@
 #![tactic(auto)]
 
 mod calls;
+mod changes;
 mod codes;
 mod elements;
 mod handle;

@@ -1,18 +1,18 @@
 //! What objects say of themselves, by key and one after another, and the blocks and gaps.
-ghost use Rattle.std.specs.Prelude.{◌≡◌, ◌≤◌, MatchOption, slice_get};
+ghost use Rattle.std.specs.Prelude.{◌≡◌, ◌≤◌, slice_get};
 ghost use Rattle.std.specs.declared.option.Option.TheVariants.{None, Some};
 ghost use Rattle.best_fit.specs.Extents.{spans};
 ghost use Rattle.seg_types.specs.Commands.{NumNamed, NumUnique};
 ghost use Rattle.seg_types.specs.Keys.{key_seen};
 ghost use Rattle.seg_types.specs.Kinds.{class_code};
-ghost use Rattle.segment_c.specs.Calls.{IsAsked, IsClosed, IsStopped};
+ghost use Rattle.segment_c.specs.Calls.{Owes, Reads};
 ghost use Rattle.segment_c.specs.Codes.{answer_for};
 ghost use Rattle.segment_c.specs.Lists.{IsInfo, IsTold, TellsAlone, TellsBlock, TellsOf, use_code};
 ghost use Rattle.segment_c.specs.Passed.{key_of, key_wrong};
 ghost use Rattle.segment_manager.specs.Answers.{Number};
 ghost use Rattle.segment_manager.specs.Directory.{Directory, Object, live, named_objects, object_at, unique_objects};
 ghost use Rattle.segment_manager.specs.Instances.{IsInstance};
-ghost use Rattle.segment_manager.specs.State.{IsReply, StandsFor, State};
+ghost use Rattle.segment_manager.specs.State.{IsReply, StandsFor};
 
 use crate::calls::{enter, passed};
 use crate::codes::{DONE, NOT_FOUND, OUT_OF_RANGE, SHORT_BUFFER};
@@ -158,10 +158,8 @@ pub extern "C" fn zx_tell(
     info: &mut Info,
     name: &mut [u8],
 ) -> u32
-    ensures stopped { IsStopped (key_wrong key.now) result h.old.value h.new.value }
-    ensures closed { IsClosed (key_wrong key.now) result h.old.value h.new.value }
-    ensures told { (s : State) → key_wrong key.now ≡ 0 → h.old.value ≡ Some s → TellsOf s (λ d. object_at d (key_of key.now)) 6 info.new name.old name.new result }
-    ensures same { h.new.value ≡ h.old.value }
+    ensures told { Reads (key_wrong key.now) result h.old.value h.new.value
+        (λ s. TellsOf s (λ d. object_at d (key_of key.now)) 6 info.new name.old name.new result) }
     ensures results { 1 ≤ result → (info.new ≡ info.old) × (name.new ≡ name.old) }
 {
     let (which, segment) = passed!(enter(alloc, h, key));
@@ -177,9 +175,8 @@ pub extern "C" fn zx_named_at(
     info: &mut Info,
     name: &mut [u8],
 ) -> u32
-    ensures closed { IsClosed 0 result h.old.value h.new.value }
-    ensures told { (s : State) → h.old.value ≡ Some s → TellsOf s (λ d. slice_get (named_objects d) index) 8 info.new name.old name.new result }
-    ensures same { h.new.value ≡ h.old.value }
+    ensures told { Reads 0 result h.old.value h.new.value
+        (λ s. TellsOf s (λ d. slice_get (named_objects d) index) 8 info.new name.old name.new result) }
     ensures results { 1 ≤ result → (info.new ≡ info.old) × (name.new ≡ name.old) }
 {
     let segment = passed!(take(alloc, h));
@@ -189,9 +186,8 @@ pub extern "C" fn zx_named_at(
 /// What the unique object says of itself whose kind has `index` others before it, in the order of their codes.
 #[unsafe(no_mangle)]
 pub extern "C" fn zx_unique_at(alloc: Global, h: &mut Handle, index: u64, info: &mut Info) -> u32
-    ensures closed { IsClosed 0 result h.old.value h.new.value }
-    ensures told { (s : State) → h.old.value ≡ Some s → (d : Directory) → StandsFor s.cut.bytes d → TellsAlone info.new result (slice_get (unique_objects d) index) }
-    ensures same { h.new.value ≡ h.old.value }
+    ensures told { Reads 0 result h.old.value h.new.value
+        (λ s. (d : Directory) → StandsFor s.cut.bytes d → TellsAlone info.new result (slice_get (unique_objects d) index)) }
     ensures results { 1 ≤ result → info.new ≡ info.old }
 {
     let segment = passed!(take(alloc, h));
@@ -201,9 +197,8 @@ pub extern "C" fn zx_unique_at(alloc: Global, h: &mut Handle, index: u64, info: 
 /// The block or gap with `index` others before it.
 #[unsafe(no_mangle)]
 pub extern "C" fn zx_tile_at(alloc: Global, h: &mut Handle, index: u64, block: &mut Block) -> u32
-    ensures closed { IsClosed 0 result h.old.value h.new.value }
-    ensures told { (s : State) → h.old.value ≡ Some s → (d : Directory) → StandsFor s.cut.bytes d → TellsBlock block.new result (slice_get (spans (live d)) index) }
-    ensures same { h.new.value ≡ h.old.value }
+    ensures told { Reads 0 result h.old.value h.new.value
+        (λ s. (d : Directory) → StandsFor s.cut.bytes d → TellsBlock block.new result (slice_get (spans (live d)) index)) }
     ensures results { 1 ≤ result → block.new ≡ block.old }
 {
     let segment = passed!(take(alloc, h));
@@ -213,8 +208,7 @@ pub extern "C" fn zx_tile_at(alloc: Global, h: &mut Handle, index: u64, block: &
 /// The number of objects with names.
 #[unsafe(no_mangle)]
 pub extern "C" fn zx_num_named(alloc: Global, h: &mut Handle, count: &mut u64) -> u32
-    ensures closed { IsClosed 0 result h.old.value h.new.value }
-    ensures asked { IsAsked 0 result h.old.value h.new.value (λ s t. IsReply s NumNamed (answer_for result (Number count.new))) }
+    ensures asked { Owes 0 result h.old.value h.new.value (λ s t. IsReply s NumNamed (answer_for result (Number count.new))) }
     ensures same { h.new.value ≡ h.old.value }
     ensures results { 1 ≤ result → count.new ≡ count.old }
 {
@@ -226,8 +220,7 @@ pub extern "C" fn zx_num_named(alloc: Global, h: &mut Handle, count: &mut u64) -
 /// The number of kinds with a unique object.
 #[unsafe(no_mangle)]
 pub extern "C" fn zx_num_unique(alloc: Global, h: &mut Handle, count: &mut u64) -> u32
-    ensures closed { IsClosed 0 result h.old.value h.new.value }
-    ensures asked { IsAsked 0 result h.old.value h.new.value (λ s t. IsReply s NumUnique (answer_for result (Number count.new))) }
+    ensures asked { Owes 0 result h.old.value h.new.value (λ s t. IsReply s NumUnique (answer_for result (Number count.new))) }
     ensures same { h.new.value ≡ h.old.value }
     ensures results { 1 ≤ result → count.new ≡ count.old }
 {

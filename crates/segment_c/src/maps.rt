@@ -1,16 +1,15 @@
 //! Maps: values at keys, and neighbours.
 ghost use Rattle.std.specs.Prelude.{◌≡◌, ◌≤◌, Some};
-ghost use Rattle.std.specs.declared.option.Option.TheVariants.{Some as Held};
-ghost use Rattle.seg_types.specs.Commands.{Literal, Lookup, Put, Remove};
+ghost use Rattle.seg_types.specs.Commands.{Lookup, Put, Remove};
 ghost use Rattle.seg_types.specs.Keys.{key_seen};
-ghost use Rattle.segment_c.specs.Calls.{IsAsked, IsClosed, IsStopped};
+ghost use Rattle.segment_c.specs.Calls.{IsAsked, Owes, Reads};
 ghost use Rattle.segment_c.specs.Codes.{answer_for};
 ghost use Rattle.segment_c.specs.Passed.{element_in, key_of, key_wrong, literal_in, or_else, value_wrong};
 ghost use Rattle.segment_c.specs.Reads.{TellsPair, TellsPairOf, first_at, next_at};
 ghost use Rattle.segment_manager.specs.Answers.{Truth};
 ghost use Rattle.segment_manager.specs.Directory.{Directory};
 ghost use Rattle.segment_manager.specs.Keeping.{KeepsWhere};
-ghost use Rattle.segment_manager.specs.State.{IsReply, IsStep, StandsFor, State};
+ghost use Rattle.segment_manager.specs.State.{IsReply, IsStep, StandsFor};
 ghost use Rattle.segment_values.specs.Absent.{LacksLiteral};
 ghost use Rattle.segment_values.specs.Literals.{literal_seen};
 
@@ -34,9 +33,7 @@ pub extern "C" fn zx_map_get(
     at: &Value,
     value: &mut Value,
 ) -> u32
-    ensures stopped { IsStopped (or_else (key_wrong key.now) (value_wrong at.now)) result h.old.value h.new.value }
-    ensures closed { IsClosed (or_else (key_wrong key.now) (value_wrong at.now)) result h.old.value h.new.value }
-    ensures asked { IsAsked (or_else (key_wrong key.now) (value_wrong at.now)) result h.old.value h.new.value
+    ensures asked { Owes (or_else (key_wrong key.now) (value_wrong at.now)) result h.old.value h.new.value
         (λ s t. IsReply s (Lookup (key_of key.now) (literal_in at.now)) (answer_for result (element_in value.new))) }
     ensures same { h.new.value ≡ h.old.value }
     ensures results { 1 ≤ result → value.new ≡ value.old }
@@ -56,9 +53,7 @@ pub extern "C" fn zx_map_put(
     value: &Value,
     is_new: &mut bool,
 ) -> u32
-    ensures stopped { IsStopped (or_else (key_wrong key.now) (or_else (value_wrong at.now) (value_wrong value.now))) result h.old.value h.new.value }
-    ensures closed { IsClosed (or_else (key_wrong key.now) (or_else (value_wrong at.now) (value_wrong value.now))) result h.old.value h.new.value }
-    ensures asked { IsAsked (or_else (key_wrong key.now) (or_else (value_wrong at.now) (value_wrong value.now))) result h.old.value h.new.value
+    ensures asked { Owes (or_else (key_wrong key.now) (or_else (value_wrong at.now) (value_wrong value.now))) result h.old.value h.new.value
         (λ s t. IsStep s t (Put (key_of key.now) (literal_in at.now) (literal_in value.now)) (answer_for result (Truth is_new.new))) }
     ensures kept { 1 ≤ result → h.new.value ≡ h.old.value }
     ensures results { 1 ≤ result → is_new.new ≡ is_new.old }
@@ -77,9 +72,7 @@ pub extern "C" fn zx_map_erase(
     at: &Value,
     was_there: &mut bool,
 ) -> u32
-    ensures stopped { IsStopped (or_else (key_wrong key.now) (value_wrong at.now)) result h.old.value h.new.value }
-    ensures closed { IsClosed (or_else (key_wrong key.now) (value_wrong at.now)) result h.old.value h.new.value }
-    ensures asked { IsAsked (or_else (key_wrong key.now) (value_wrong at.now)) result h.old.value h.new.value
+    ensures asked { Owes (or_else (key_wrong key.now) (value_wrong at.now)) result h.old.value h.new.value
         (λ s t. IsStep s t (Remove (key_of key.now) (literal_in at.now)) (answer_for result (Truth was_there.new))) }
     ensures absent { IsAsked (or_else (key_wrong key.now) (value_wrong at.now)) result h.old.value h.new.value
         (λ s t. KeepsWhere s t (LacksLiteral (key_of key.now) (literal_in at.now))) }
@@ -100,11 +93,9 @@ pub extern "C" fn zx_map_first(
     at: &mut Value,
     value: &mut Value,
 ) -> u32
-    ensures stopped { IsStopped (key_wrong key.now) result h.old.value h.new.value }
-    ensures closed { IsClosed (key_wrong key.now) result h.old.value h.new.value }
-    ensures told { (s : State) → key_wrong key.now ≡ 0 → h.old.value ≡ Held s → (d : Directory) → StandsFor s.cut.bytes d
-        → TellsPair at.new value.new result (first_at d (key_of key.now)) }
-    ensures same { h.new.value ≡ h.old.value }
+    ensures told { Reads (key_wrong key.now) result h.old.value h.new.value
+        (λ s. (d : Directory) → StandsFor s.cut.bytes d
+        → TellsPair at.new value.new result (first_at d (key_of key.now))) }
     ensures results { 1 ≤ result → (at.new ≡ at.old) × (value.new ≡ value.old) }
 {
     let (which, segment) = passed!(enter(alloc, h, key));
@@ -135,11 +126,9 @@ pub extern "C" fn zx_map_next(
     at: &mut Value,
     value: &mut Value,
 ) -> u32
-    ensures stopped { IsStopped (or_else (key_wrong key.now) (value_wrong after.now)) result h.old.value h.new.value }
-    ensures closed { IsClosed (or_else (key_wrong key.now) (value_wrong after.now)) result h.old.value h.new.value }
-    ensures told { (s : State) → or_else (key_wrong key.now) (value_wrong after.now) ≡ 0 → h.old.value ≡ Held s → (d : Directory) → StandsFor s.cut.bytes d
-        → TellsPair at.new value.new result (next_at d (key_of key.now) (literal_in after.now)) }
-    ensures same { h.new.value ≡ h.old.value }
+    ensures told { Reads (or_else (key_wrong key.now) (value_wrong after.now)) result h.old.value h.new.value
+        (λ s. (d : Directory) → StandsFor s.cut.bytes d
+        → TellsPair at.new value.new result (next_at d (key_of key.now) (literal_in after.now))) }
     ensures results { 1 ≤ result → (at.new ≡ at.old) × (value.new ≡ value.old) }
 {
     let (which, below, segment) = passed!(enter_with(alloc, h, key, after));

@@ -5,7 +5,7 @@ ghost use Rattle.seg_types.specs.Keys.{key_seen};
 ghost use Rattle.seg_types.specs.Names.{NoKey};
 ghost use Rattle.seg_types.specs.Values.{kind_of_scalar, value_of_scalar};
 ghost use Rattle.seg_types.specs.declared.kinds.Kind.TheVariants.{Map as MapOf, Scalar as ScalarOf, Text as TextKind, Texts as TextsKind, Vector as VectorOf};
-ghost use Rattle.segment_c.specs.Calls.{IsAsked, IsClosed, IsStopped, KeepsRefused};
+ghost use Rattle.segment_c.specs.Calls.{IsAsked, IsClosed, IsStopped, KeepsRefused, Owes};
 ghost use Rattle.segment_c.specs.Codes.{answer_for};
 ghost use Rattle.segment_c.specs.Destroying.{destroy_command};
 ghost use Rattle.segment_c.specs.Passed.{count_wrong, entry_of, entry_wrong, key_of, key_wrong, kind_in, kind_wrong, new_of, new_wrong, object_kind_in, or_else, row_of, row_wrong, scalar_in, scalar_kind_in, scalar_kind_of, scalar_kind_wrong, value_wrong, whole_in};
@@ -49,6 +49,14 @@ fn map_kinds(keys: u32, values: u32) -> Result<(ScalarKind, ScalarKind), u32>
     }
 }
 
+/// The kind of objects that a code says.
+#[tactic(auto, unfolding(crate::specs::Passed::kind_wrong, crate::specs::Passed::object_kind_in))]
+fn object_kind(code: u32) -> Result<Kind, u32>
+    ensures { MatchResult result (λ kind. (kind_wrong code ≡ 0) × (kind ≡ object_kind_in code)) (λ wrong. (wrong ≡ kind_wrong code) × (1 ≤ wrong)) }
+{
+    Kind::from_code(code).ok_or(BAD_KIND)
+}
+
 /// Makes `count` times a value.
 #[unsafe(no_mangle)]
 pub extern "C" fn zx_construct(
@@ -59,9 +67,7 @@ pub extern "C" fn zx_construct(
     value: &Value,
     handle: &mut u64,
 ) -> u32
-    ensures stopped { IsStopped (or_else (value_wrong value.now) (or_else (count_wrong count) (new_wrong key.now (ScalarOf (kind_in value.now))))) result h.old.value h.new.value }
-    ensures closed { IsClosed (or_else (value_wrong value.now) (or_else (count_wrong count) (new_wrong key.now (ScalarOf (kind_in value.now))))) result h.old.value h.new.value }
-    ensures asked { IsAsked (or_else (value_wrong value.now) (or_else (count_wrong count) (new_wrong key.now (ScalarOf (kind_in value.now))))) result h.old.value h.new.value
+    ensures asked { Owes (or_else (value_wrong value.now) (or_else (count_wrong count) (new_wrong key.now (ScalarOf (kind_in value.now))))) result h.old.value h.new.value
         (λ s t. IsStep s t (Construct (new_of key.now (ScalarOf (kind_in value.now))) (Numbers (kind_in value.now) (replicate count (whole_in value.now)))) (answer_for result (Made handle.new))) }
     ensures refused { KeepsRefused result h.old.value h.new.value }
     ensures results { 1 ≤ result → handle.new ≡ handle.old }
@@ -83,9 +89,7 @@ pub extern "C" fn zx_find_or_construct(
     handle: &mut u64,
     count_found: &mut u32,
 ) -> u32
-    ensures stopped { IsStopped (or_else (value_wrong value.now) (or_else (count_wrong count) (entry_wrong key.now (ScalarOf (kind_in value.now))))) result h.old.value h.new.value }
-    ensures closed { IsClosed (or_else (value_wrong value.now) (or_else (count_wrong count) (entry_wrong key.now (ScalarOf (kind_in value.now))))) result h.old.value h.new.value }
-    ensures asked { IsAsked (or_else (value_wrong value.now) (or_else (count_wrong count) (entry_wrong key.now (ScalarOf (kind_in value.now))))) result h.old.value h.new.value
+    ensures asked { Owes (or_else (value_wrong value.now) (or_else (count_wrong count) (entry_wrong key.now (ScalarOf (kind_in value.now))))) result h.old.value h.new.value
         (λ s t. IsStep s t (FindOrConstruct (entry_of key.now (ScalarOf (kind_in value.now))) (Numbers (kind_in value.now) (replicate count (whole_in value.now)))) (answer_for result (Found handle.new count_found.new))) }
     ensures found { IsAsked (or_else (value_wrong value.now) (or_else (count_wrong count) (entry_wrong key.now (ScalarOf (kind_in value.now))))) result h.old.value h.new.value
         (λ s t. KeepsWhere s t (HasKey (entry_of key.now (ScalarOf (kind_in value.now))))) }
@@ -107,9 +111,7 @@ pub extern "C" fn zx_construct_string(
     text: &[u8],
     handle: &mut u64,
 ) -> u32
-    ensures stopped { IsStopped (new_wrong key.now (TextKind)) result h.old.value h.new.value }
-    ensures closed { IsClosed (new_wrong key.now (TextKind)) result h.old.value h.new.value }
-    ensures asked { IsAsked (new_wrong key.now (TextKind)) result h.old.value h.new.value
+    ensures asked { Owes (new_wrong key.now (TextKind)) result h.old.value h.new.value
         (λ s t. IsStep s t (Construct (new_of key.now (TextKind)) (Bytes text.now)) (answer_for result (Made handle.new))) }
     ensures refused { KeepsRefused result h.old.value h.new.value }
     ensures results { 1 ≤ result → handle.new ≡ handle.old }
@@ -128,9 +130,7 @@ pub extern "C" fn zx_find_or_construct_string(
     handle: &mut u64,
     count_found: &mut u32,
 ) -> u32
-    ensures stopped { IsStopped (entry_wrong key.now (TextKind)) result h.old.value h.new.value }
-    ensures closed { IsClosed (entry_wrong key.now (TextKind)) result h.old.value h.new.value }
-    ensures asked { IsAsked (entry_wrong key.now (TextKind)) result h.old.value h.new.value
+    ensures asked { Owes (entry_wrong key.now (TextKind)) result h.old.value h.new.value
         (λ s t. IsStep s t (FindOrConstruct (entry_of key.now (TextKind)) (Bytes text.now)) (answer_for result (Found handle.new count_found.new))) }
     ensures found { IsAsked (entry_wrong key.now (TextKind)) result h.old.value h.new.value
         (λ s t. KeepsWhere s t (HasKey (entry_of key.now (TextKind)))) }
@@ -151,9 +151,7 @@ pub extern "C" fn zx_construct_strings(
     texts: &[&[u8]],
     handle: &mut u64,
 ) -> u32
-    ensures stopped { IsStopped (new_wrong key.now (TextsKind)) result h.old.value h.new.value }
-    ensures closed { IsClosed (new_wrong key.now (TextsKind)) result h.old.value h.new.value }
-    ensures asked { IsAsked (new_wrong key.now (TextsKind)) result h.old.value h.new.value
+    ensures asked { Owes (new_wrong key.now (TextsKind)) result h.old.value h.new.value
         (λ s t. IsStep s t (Construct (new_of key.now (TextsKind)) (Strings (map (λ text. text.now) texts.now))) (answer_for result (Made handle.new))) }
     ensures refused { KeepsRefused result h.old.value h.new.value }
     ensures results { 1 ≤ result → handle.new ≡ handle.old }
@@ -172,9 +170,7 @@ pub extern "C" fn zx_find_or_construct_strings(
     handle: &mut u64,
     count_found: &mut u32,
 ) -> u32
-    ensures stopped { IsStopped (entry_wrong key.now (TextsKind)) result h.old.value h.new.value }
-    ensures closed { IsClosed (entry_wrong key.now (TextsKind)) result h.old.value h.new.value }
-    ensures asked { IsAsked (entry_wrong key.now (TextsKind)) result h.old.value h.new.value
+    ensures asked { Owes (entry_wrong key.now (TextsKind)) result h.old.value h.new.value
         (λ s t. IsStep s t (FindOrConstruct (entry_of key.now (TextsKind)) (Strings (map (λ text. text.now) texts.now))) (answer_for result (Found handle.new count_found.new))) }
     ensures found { IsAsked (entry_wrong key.now (TextsKind)) result h.old.value h.new.value
         (λ s t. KeepsWhere s t (HasKey (entry_of key.now (TextsKind)))) }
@@ -196,9 +192,7 @@ pub extern "C" fn zx_construct_map(
     values: u32,
     handle: &mut u64,
 ) -> u32
-    ensures stopped { IsStopped (or_else (scalar_kind_wrong keys) (or_else (scalar_kind_wrong values) (new_wrong key.now (MapOf (scalar_kind_in keys) (scalar_kind_in values))))) result h.old.value h.new.value }
-    ensures closed { IsClosed (or_else (scalar_kind_wrong keys) (or_else (scalar_kind_wrong values) (new_wrong key.now (MapOf (scalar_kind_in keys) (scalar_kind_in values))))) result h.old.value h.new.value }
-    ensures asked { IsAsked (or_else (scalar_kind_wrong keys) (or_else (scalar_kind_wrong values) (new_wrong key.now (MapOf (scalar_kind_in keys) (scalar_kind_in values))))) result h.old.value h.new.value
+    ensures asked { Owes (or_else (scalar_kind_wrong keys) (or_else (scalar_kind_wrong values) (new_wrong key.now (MapOf (scalar_kind_in keys) (scalar_kind_in values))))) result h.old.value h.new.value
         (λ s t. IsStep s t (Construct (new_of key.now (MapOf (scalar_kind_in keys) (scalar_kind_in values))) (NoPairs (scalar_kind_in keys) (scalar_kind_in values))) (answer_for result (Made handle.new))) }
     ensures refused { KeepsRefused result h.old.value h.new.value }
     ensures results { 1 ≤ result → handle.new ≡ handle.old }
@@ -220,9 +214,7 @@ pub extern "C" fn zx_find_or_construct_map(
     handle: &mut u64,
     count_found: &mut u32,
 ) -> u32
-    ensures stopped { IsStopped (or_else (scalar_kind_wrong keys) (or_else (scalar_kind_wrong values) (entry_wrong key.now (MapOf (scalar_kind_in keys) (scalar_kind_in values))))) result h.old.value h.new.value }
-    ensures closed { IsClosed (or_else (scalar_kind_wrong keys) (or_else (scalar_kind_wrong values) (entry_wrong key.now (MapOf (scalar_kind_in keys) (scalar_kind_in values))))) result h.old.value h.new.value }
-    ensures asked { IsAsked (or_else (scalar_kind_wrong keys) (or_else (scalar_kind_wrong values) (entry_wrong key.now (MapOf (scalar_kind_in keys) (scalar_kind_in values))))) result h.old.value h.new.value
+    ensures asked { Owes (or_else (scalar_kind_wrong keys) (or_else (scalar_kind_wrong values) (entry_wrong key.now (MapOf (scalar_kind_in keys) (scalar_kind_in values))))) result h.old.value h.new.value
         (λ s t. IsStep s t (FindOrConstruct (entry_of key.now (MapOf (scalar_kind_in keys) (scalar_kind_in values))) (NoPairs (scalar_kind_in keys) (scalar_kind_in values))) (answer_for result (Found handle.new count_found.new))) }
     ensures found { IsAsked (or_else (scalar_kind_wrong keys) (or_else (scalar_kind_wrong values) (entry_wrong key.now (MapOf (scalar_kind_in keys) (scalar_kind_in values))))) result h.old.value h.new.value
         (λ s t. KeepsWhere s t (HasKey (entry_of key.now (MapOf (scalar_kind_in keys) (scalar_kind_in values))))) }
@@ -253,7 +245,7 @@ pub extern "C" fn zx_find(
     ensures results { 1 ≤ result → (handle.new ≡ handle.old) × (count.new ≡ count.old) }
 {
     let which = passed!(key.key());
-    let of_kind = passed!(Kind::from_code(kind).ok_or(BAD_KIND));
+    let of_kind = passed!(object_kind(kind));
     let segment = passed!(take(alloc, h));
     let answer = segment.find_kind(&which, of_kind);
     found_or_absent(answer, handle, count, h, segment)
@@ -268,9 +260,7 @@ pub extern "C" fn zx_destroy(
     key: &ObjectKey<'_>,
     was_there: &mut bool,
 ) -> u32
-    ensures stopped { IsStopped (key_wrong key.now) result h.old.value h.new.value }
-    ensures closed { IsClosed (key_wrong key.now) result h.old.value h.new.value }
-    ensures asked { IsAsked (key_wrong key.now) result h.old.value h.new.value
+    ensures asked { Owes (key_wrong key.now) result h.old.value h.new.value
         (λ s t. IsStep s t (destroy_command (key_of key.now)) (answer_for result (Truth was_there.new))) }
     ensures absent { IsAsked (key_wrong key.now) result h.old.value h.new.value (λ s t. KeepsWhere s t (LacksKey (key_of key.now))) }
     ensures kept { 1 ≤ result → h.new.value ≡ h.old.value }

@@ -3,7 +3,7 @@ ghost use Rattle.std.specs.Prelude.{◌≡◌, ◌≤◌, OnErr, length, map, po
 ghost use Rattle.seg_types.specs.declared.kinds.ScalarKind.TheVariants.{Bool as BoolKind, I32 as I32Kind, I64 as I64Kind, U8 as U8Kind, U64 as U64Kind};
 ghost use Rattle.seg_types.specs.Keys.{key_seen};
 ghost use Rattle.seg_types.specs.Kinds.{truth_number};
-ghost use Rattle.segment_c.specs.Calls.{IsAsked, IsClosed, IsStopped};
+ghost use Rattle.segment_c.specs.Calls.{Owes};
 ghost use Rattle.segment_c.specs.Codes.{answer_for};
 ghost use Rattle.segment_c.specs.Passed.{key_of, key_wrong, numbers_of, or_else, row_of, row_wrong, scalar_kind_in};
 ghost use Rattle.segment_c.specs.Reads.{IsCoded, ReadsRange};
@@ -142,9 +142,7 @@ pub extern "C" fn zx_write_elements(
     first: u64,
     values: &Values<'_>,
 ) -> u32
-    ensures stopped { IsStopped (or_else (key_wrong key.now) (row_wrong values.now)) result h.old.value h.new.value }
-    ensures closed { IsClosed (or_else (key_wrong key.now) (row_wrong values.now)) result h.old.value h.new.value }
-    ensures asked { IsAsked (or_else (key_wrong key.now) (row_wrong values.now)) result h.old.value h.new.value
+    ensures asked { Owes (or_else (key_wrong key.now) (row_wrong values.now)) result h.old.value h.new.value
         (λ s t. WritesRange s t (key_of key.now) (scalar_kind_in values.now.kind) first (row_of values.now) (answer_for result Done)) }
     ensures kept { 1 ≤ result → h.new.value ≡ h.old.value }
 {

@@ -1,15 +1,14 @@
 //! What containers have, read.
 ghost use Rattle.std.specs.Prelude.{◌≡◌, ◌≢◌, ◌≤◌};
-ghost use Rattle.std.specs.declared.option.Option.TheVariants.{Some};
 ghost use Rattle.seg_types.specs.declared.kinds.Kind.TheVariants.{Texts as TextsKind};
 ghost use Rattle.seg_types.specs.Commands.{Get};
 ghost use Rattle.seg_types.specs.Keys.{key_seen};
-ghost use Rattle.segment_c.specs.Calls.{IsClosed, IsStopped};
+ghost use Rattle.segment_c.specs.Calls.{Reads};
 ghost use Rattle.segment_c.specs.Passed.{key_of, key_wrong};
 ghost use Rattle.segment_c.specs.Reads.{AreSizes, Copies, CopiesAnswer, IsCoded, IsCopied};
 ghost use Rattle.segment_manager.specs.Contents.{bytes_at, sizes_at};
 ghost use Rattle.segment_manager.specs.Directory.{Directory};
-ghost use Rattle.segment_manager.specs.State.{StandsFor, State};
+ghost use Rattle.segment_manager.specs.State.{StandsFor};
 ghost use Rattle.segment_manager.specs.Step.{step_of_kind};
 
 use crate::calls::{enter, passed};
@@ -30,11 +29,9 @@ pub extern "C" fn zx_measure(
     len: &mut u64,
     places: &mut u64,
 ) -> u32
-    ensures stopped { IsStopped (key_wrong key.now) result h.old.value h.new.value }
-    ensures closed { IsClosed (key_wrong key.now) result h.old.value h.new.value }
-    ensures told { (s : State) → key_wrong key.now ≡ 0 → h.old.value ≡ Some s → (d : Directory) → StandsFor s.cut.bytes d
-        → IsCoded (AreSizes len.new places.new) result (sizes_at d (key_of key.now)) }
-    ensures same { h.new.value ≡ h.old.value }
+    ensures told { Reads (key_wrong key.now) result h.old.value h.new.value
+        (λ s. (d : Directory) → StandsFor s.cut.bytes d
+        → IsCoded (AreSizes len.new places.new) result (sizes_at d (key_of key.now))) }
     ensures results { 1 ≤ result → (len.new ≡ len.old) × (places.new ≡ places.old) }
 {
     let (which, segment) = passed!(enter(alloc, h, key));
@@ -66,11 +63,9 @@ pub extern "C" fn zx_read_string(
     text: &mut [u8],
     len: &mut u64,
 ) -> u32
-    ensures stopped { IsStopped (key_wrong key.now) result h.old.value h.new.value }
-    ensures closed { IsClosed (key_wrong key.now) result h.old.value h.new.value }
-    ensures told { (s : State) → key_wrong key.now ≡ 0 → h.old.value ≡ Some s → (d : Directory) → StandsFor s.cut.bytes d
-        → Copies text.old text.new len.new result (bytes_at d (key_of key.now)) }
-    ensures same { h.new.value ≡ h.old.value }
+    ensures told { Reads (key_wrong key.now) result h.old.value h.new.value
+        (λ s. (d : Directory) → StandsFor s.cut.bytes d
+        → Copies text.old text.new len.new result (bytes_at d (key_of key.now))) }
     ensures results { 1 ≤ result → text.new ≡ text.old }
     ensures length { 1 ≤ result → result ≢ 24 → len.new ≡ len.old }
 {
@@ -101,11 +96,9 @@ pub extern "C" fn zx_read_text(
     text: &mut [u8],
     len: &mut u64,
 ) -> u32
-    ensures stopped { IsStopped (key_wrong key.now) result h.old.value h.new.value }
-    ensures closed { IsClosed (key_wrong key.now) result h.old.value h.new.value }
-    ensures told { (s : State) → key_wrong key.now ≡ 0 → h.old.value ≡ Some s → (d : Directory) → StandsFor s.cut.bytes d
-        → CopiesAnswer text.old text.new len.new result (step_of_kind s.mode d (key_of key.now) TextsKind (Get (key_of key.now) index)).0 }
-    ensures same { h.new.value ≡ h.old.value }
+    ensures told { Reads (key_wrong key.now) result h.old.value h.new.value
+        (λ s. (d : Directory) → StandsFor s.cut.bytes d
+        → CopiesAnswer text.old text.new len.new result (step_of_kind s.mode d (key_of key.now) TextsKind (Get (key_of key.now) index)).0) }
     ensures results { 1 ≤ result → text.new ≡ text.old }
     ensures length { 1 ≤ result → result ≢ 24 → len.new ≡ len.old }
 {

@@ -1,7 +1,7 @@
 //! The places of vectors and strings, the two indexes, and all of the segment.
 ghost use Rattle.std.specs.Prelude.{◌≡◌, ◌≤◌};
 ghost use Rattle.seg_types.specs.Commands.{AllDeallocated, Clear, Reserve, ReserveNamed, ReserveUnique, Sanity, Shrink, ShrinkIndexes, ZeroFree};
-ghost use Rattle.segment_c.specs.Calls.{IsAsked, IsClosed, IsStopped, KeepsRefused};
+ghost use Rattle.segment_c.specs.Calls.{IsAsked, KeepsRefused, Owes};
 ghost use Rattle.segment_c.specs.Codes.{answer_for};
 ghost use Rattle.segment_c.specs.Passed.{key_of, key_wrong};
 ghost use Rattle.segment_manager.specs.Answers.{Done, Truth};
@@ -10,6 +10,7 @@ ghost use Rattle.segment_manager.specs.Keeping.{HasPlaces, KeepsWhere};
 ghost use Rattle.segment_manager.specs.State.{IsReply, IsStep};
 
 use crate::calls::{enter, passed};
+use crate::changes::{Change, make_change};
 use crate::codes::{DONE, done};
 use crate::handle::{Handle, put, take};
 use crate::keys::ObjectKey;
@@ -18,9 +19,7 @@ use std::alloc::Global;
 /// Gives the vector or string of a key so many places, where it has fewer.
 #[unsafe(no_mangle)]
 pub extern "C" fn zx_reserve(alloc: Global, h: &mut Handle, key: &ObjectKey<'_>, places: u64) -> u32
-    ensures stopped { IsStopped (key_wrong key.now) result h.old.value h.new.value }
-    ensures closed { IsClosed (key_wrong key.now) result h.old.value h.new.value }
-    ensures asked { IsAsked (key_wrong key.now) result h.old.value h.new.value
+    ensures asked { Owes (key_wrong key.now) result h.old.value h.new.value
         (λ s t. IsStep s t (Reserve (key_of key.now) places) (answer_for result Done)) }
     ensures enough { IsAsked (key_wrong key.now) result h.old.value h.new.value (λ s t. KeepsWhere s t (HasPlaces (key_of key.now) places)) }
     ensures kept { 1 ≤ result → h.new.value ≡ h.old.value }
@@ -32,36 +31,29 @@ pub extern "C" fn zx_reserve(alloc: Global, h: &mut Handle, key: &ObjectKey<'_>,
 /// Gives back the places of the vector or string of a key that have no element.
 #[unsafe(no_mangle)]
 pub extern "C" fn zx_trim(alloc: Global, h: &mut Handle, key: &ObjectKey<'_>) -> u32
-    ensures stopped { IsStopped (key_wrong key.now) result h.old.value h.new.value }
-    ensures closed { IsClosed (key_wrong key.now) result h.old.value h.new.value }
-    ensures asked { IsAsked (key_wrong key.now) result h.old.value h.new.value
+    ensures asked { Owes (key_wrong key.now) result h.old.value h.new.value
         (λ s t. IsStep s t (Shrink (key_of key.now)) (answer_for result Done)) }
     ensures kept { 1 ≤ result → h.new.value ≡ h.old.value }
 {
-    let (which, mut segment) = passed!(enter(alloc, h, key));
-    done(segment.shrink(&which), h, segment)
+    make_change(alloc, h, key, Change::Trim)
 }
 
 /// Takes all elements out of the vector or string of a key.
 #[unsafe(no_mangle)]
 pub extern "C" fn zx_clear(alloc: Global, h: &mut Handle, key: &ObjectKey<'_>) -> u32
-    ensures stopped { IsStopped (key_wrong key.now) result h.old.value h.new.value }
-    ensures closed { IsClosed (key_wrong key.now) result h.old.value h.new.value }
-    ensures asked { IsAsked (key_wrong key.now) result h.old.value h.new.value
+    ensures asked { Owes (key_wrong key.now) result h.old.value h.new.value
         (λ s t. IsStep s t (Clear (key_of key.now)) (answer_for result Done)) }
     ensures kept { 1 ≤ result → h.new.value ≡ h.old.value }
 {
-    let (which, mut segment) = passed!(enter(alloc, h, key));
-    done(segment.clear(&which), h, segment)
+    make_change(alloc, h, key, Change::Clear)
 }
 
 /// Makes room in the index of names.
 #[unsafe(no_mangle)]
 pub extern "C" fn zx_reserve_named(alloc: Global, h: &mut Handle, places: u64) -> u32
-    ensures closed { IsClosed (0) result h.old.value h.new.value }
-    ensures asked { IsAsked (0) result h.old.value h.new.value
+    ensures asked { Owes 0 result h.old.value h.new.value
         (λ s t. IsStep s t (ReserveNamed places) (answer_for result Done)) }
-    ensures enough { IsAsked (0) result h.old.value h.new.value (λ s t. KeepsWhere s t (λ d. places ≤ d.named.capacity)) }
+    ensures enough { IsAsked 0 result h.old.value h.new.value (λ s t. KeepsWhere s t (λ d. places ≤ d.named.capacity)) }
     ensures refused { KeepsRefused result h.old.value h.new.value }
 {
     let mut segment = passed!(take(alloc, h));
@@ -71,10 +63,9 @@ pub extern "C" fn zx_reserve_named(alloc: Global, h: &mut Handle, places: u64) -
 /// Makes room in the index of unique kinds.
 #[unsafe(no_mangle)]
 pub extern "C" fn zx_reserve_unique(alloc: Global, h: &mut Handle, places: u64) -> u32
-    ensures closed { IsClosed (0) result h.old.value h.new.value }
-    ensures asked { IsAsked (0) result h.old.value h.new.value
+    ensures asked { Owes 0 result h.old.value h.new.value
         (λ s t. IsStep s t (ReserveUnique places) (answer_for result Done)) }
-    ensures enough { IsAsked (0) result h.old.value h.new.value (λ s t. KeepsWhere s t (λ d. places ≤ d.unique.capacity)) }
+    ensures enough { IsAsked 0 result h.old.value h.new.value (λ s t. KeepsWhere s t (λ d. places ≤ d.unique.capacity)) }
     ensures refused { KeepsRefused result h.old.value h.new.value }
 {
     let mut segment = passed!(take(alloc, h));
@@ -84,8 +75,7 @@ pub extern "C" fn zx_reserve_unique(alloc: Global, h: &mut Handle, places: u64) 
 /// Gives back the room of the indexes that no entry uses.
 #[unsafe(no_mangle)]
 pub extern "C" fn zx_shrink_indexes(alloc: Global, h: &mut Handle) -> u32
-    ensures closed { IsClosed (0) result h.old.value h.new.value }
-    ensures asked { IsAsked (0) result h.old.value h.new.value
+    ensures asked { Owes 0 result h.old.value h.new.value
         (λ s t. IsStep s t ShrinkIndexes (answer_for result Done)) }
     ensures kept { 1 ≤ result → h.new.value ≡ h.old.value }
 {
@@ -96,10 +86,9 @@ pub extern "C" fn zx_shrink_indexes(alloc: Global, h: &mut Handle) -> u32
 /// Makes the free bytes 0 that are no part of a tag.
 #[unsafe(no_mangle)]
 pub extern "C" fn zx_zero_free(alloc: Global, h: &mut Handle) -> u32
-    ensures closed { IsClosed (0) result h.old.value h.new.value }
-    ensures asked { IsAsked (0) result h.old.value h.new.value
+    ensures asked { Owes 0 result h.old.value h.new.value
         (λ s t. IsStep s t ZeroFree (answer_for result Done)) }
-    ensures zeros { IsAsked (0) result h.old.value h.new.value (λ s t. result ≡ 0 → HasZeroGaps t) }
+    ensures zeros { IsAsked 0 result h.old.value h.new.value (λ s t. result ≡ 0 → HasZeroGaps t) }
     ensures kept { 1 ≤ result → h.new.value ≡ h.old.value }
 {
     let mut segment = passed!(take(alloc, h));
@@ -109,8 +98,7 @@ pub extern "C" fn zx_zero_free(alloc: Global, h: &mut Handle) -> u32
 /// Whether the segment is whole, as each segment is.
 #[unsafe(no_mangle)]
 pub extern "C" fn zx_sanity(alloc: Global, h: &mut Handle, is_whole: &mut bool) -> u32
-    ensures closed { IsClosed (0) result h.old.value h.new.value }
-    ensures asked { IsAsked (0) result h.old.value h.new.value
+    ensures asked { Owes 0 result h.old.value h.new.value
         (λ s t. IsReply s Sanity (answer_for result (Truth is_whole.new))) }
     ensures same { h.new.value ≡ h.old.value }
     ensures results { 1 ≤ result → is_whole.new ≡ is_whole.old }
@@ -123,8 +111,7 @@ pub extern "C" fn zx_sanity(alloc: Global, h: &mut Handle, is_whole: &mut bool) 
 /// Whether no block is in use, index blocks included.
 #[unsafe(no_mangle)]
 pub extern "C" fn zx_all_deallocated(alloc: Global, h: &mut Handle, is_empty: &mut bool) -> u32
-    ensures closed { IsClosed (0) result h.old.value h.new.value }
-    ensures asked { IsAsked (0) result h.old.value h.new.value
+    ensures asked { Owes 0 result h.old.value h.new.value
         (λ s t. IsReply s AllDeallocated (answer_for result (Truth is_empty.new))) }
     ensures same { h.new.value ≡ h.old.value }
     ensures results { 1 ≤ result → is_empty.new ≡ is_empty.old }

@@ -2,14 +2,13 @@
 ghost use Rattle.std.specs.Prelude.{◌≡◌, ◌≤◌, ◌∷◌, [], map};
 ghost use Rattle.seg_types.specs.declared.kinds.Kind.TheVariants.{Text as TextKind, Texts as TextsKind};
 ghost use Rattle.seg_types.specs.Commands.{Append, Assign, Insert, Push, Quoted, Set};
-ghost use Rattle.segment_c.specs.Calls.{IsAsked, IsClosed, IsStopped, KeepsRefused};
+ghost use Rattle.segment_c.specs.Calls.{KeepsRefused, Owes};
 ghost use Rattle.segment_c.specs.Codes.{answer_for};
 ghost use Rattle.segment_c.specs.Passed.{key_of, key_wrong};
 ghost use Rattle.segment_manager.specs.Answers.{Done};
 ghost use Rattle.segment_manager.specs.State.{IsStepOfKind};
 
-use crate::calls::{enter, passed};
-use crate::codes::done;
+use crate::changes::{Change, make_change};
 use crate::handle::Handle;
 use crate::keys::ObjectKey;
 use std::alloc::Global;
@@ -22,27 +21,21 @@ pub extern "C" fn zx_assign_string(
     key: &ObjectKey<'_>,
     text: &[u8],
 ) -> u32
-    ensures stopped { IsStopped (key_wrong key.now) result h.old.value h.new.value }
-    ensures closed { IsClosed (key_wrong key.now) result h.old.value h.new.value }
-    ensures asked { IsAsked (key_wrong key.now) result h.old.value h.new.value
+    ensures asked { Owes (key_wrong key.now) result h.old.value h.new.value
         (λ s t. IsStepOfKind s t (key_of key.now) TextKind (Assign (key_of key.now) (Quoted text.now ∷ [])) (answer_for result Done)) }
     ensures kept { 1 ≤ result → h.new.value ≡ h.old.value }
 {
-    let (which, mut segment) = passed!(enter(alloc, h, key));
-    done(segment.string_assign(&which, text), h, segment)
+    make_change(alloc, h, key, Change::AssignText(text))
 }
 
 /// Puts bytes behind those of the string of a key.
 #[unsafe(no_mangle)]
 pub extern "C" fn zx_append(alloc: Global, h: &mut Handle, key: &ObjectKey<'_>, text: &[u8]) -> u32
-    ensures stopped { IsStopped (key_wrong key.now) result h.old.value h.new.value }
-    ensures closed { IsClosed (key_wrong key.now) result h.old.value h.new.value }
-    ensures asked { IsAsked (key_wrong key.now) result h.old.value h.new.value
+    ensures asked { Owes (key_wrong key.now) result h.old.value h.new.value
         (λ s t. IsStepOfKind s t (key_of key.now) TextKind (Append (key_of key.now) text.now) (answer_for result Done)) }
     ensures kept { 1 ≤ result → h.new.value ≡ h.old.value }
 {
-    let (which, mut segment) = passed!(enter(alloc, h, key));
-    done(segment.string_append(&which, text), h, segment)
+    make_change(alloc, h, key, Change::Append(text))
 }
 
 /// Makes a text the one at `index` in the vector of strings of a key.
@@ -54,14 +47,11 @@ pub extern "C" fn zx_set_text(
     index: u64,
     text: &[u8],
 ) -> u32
-    ensures stopped { IsStopped (key_wrong key.now) result h.old.value h.new.value }
-    ensures closed { IsClosed (key_wrong key.now) result h.old.value h.new.value }
-    ensures asked { IsAsked (key_wrong key.now) result h.old.value h.new.value
+    ensures asked { Owes (key_wrong key.now) result h.old.value h.new.value
         (λ s t. IsStepOfKind s t (key_of key.now) TextsKind (Set (key_of key.now) index (Quoted text.now)) (answer_for result Done)) }
     ensures kept { 1 ≤ result → h.new.value ≡ h.old.value }
 {
-    let (which, mut segment) = passed!(enter(alloc, h, key));
-    done(segment.texts_set(&which, index, text), h, segment)
+    make_change(alloc, h, key, Change::SetText(index, text))
 }
 
 /// Puts a text behind the last one of the vector of strings of a key.
@@ -72,14 +62,11 @@ pub extern "C" fn zx_push_text(
     key: &ObjectKey<'_>,
     text: &[u8],
 ) -> u32
-    ensures stopped { IsStopped (key_wrong key.now) result h.old.value h.new.value }
-    ensures closed { IsClosed (key_wrong key.now) result h.old.value h.new.value }
-    ensures asked { IsAsked (key_wrong key.now) result h.old.value h.new.value
+    ensures asked { Owes (key_wrong key.now) result h.old.value h.new.value
         (λ s t. IsStepOfKind s t (key_of key.now) TextsKind (Push (key_of key.now) (Quoted text.now)) (answer_for result Done)) }
     ensures refused { KeepsRefused result h.old.value h.new.value }
 {
-    let (which, mut segment) = passed!(enter(alloc, h, key));
-    done(segment.texts_push(&which, text), h, segment)
+    make_change(alloc, h, key, Change::PushText(text))
 }
 
 /// Puts a text where `index` others stand before it in the vector of strings of a key.
@@ -91,14 +78,11 @@ pub extern "C" fn zx_insert_text(
     index: u64,
     text: &[u8],
 ) -> u32
-    ensures stopped { IsStopped (key_wrong key.now) result h.old.value h.new.value }
-    ensures closed { IsClosed (key_wrong key.now) result h.old.value h.new.value }
-    ensures asked { IsAsked (key_wrong key.now) result h.old.value h.new.value
+    ensures asked { Owes (key_wrong key.now) result h.old.value h.new.value
         (λ s t. IsStepOfKind s t (key_of key.now) TextsKind (Insert (key_of key.now) index (Quoted text.now)) (answer_for result Done)) }
     ensures refused { KeepsRefused result h.old.value h.new.value }
 {
-    let (which, mut segment) = passed!(enter(alloc, h, key));
-    done(segment.texts_insert(&which, index, text), h, segment)
+    make_change(alloc, h, key, Change::InsertText(index, text))
 }
 
 /// Makes texts those of the vector of strings of a key.
@@ -109,12 +93,9 @@ pub extern "C" fn zx_assign_texts(
     key: &ObjectKey<'_>,
     texts: &[&[u8]],
 ) -> u32
-    ensures stopped { IsStopped (key_wrong key.now) result h.old.value h.new.value }
-    ensures closed { IsClosed (key_wrong key.now) result h.old.value h.new.value }
-    ensures asked { IsAsked (key_wrong key.now) result h.old.value h.new.value
+    ensures asked { Owes (key_wrong key.now) result h.old.value h.new.value
         (λ s t. IsStepOfKind s t (key_of key.now) TextsKind (Assign (key_of key.now) (map Quoted (map (λ text. text.now) texts.now))) (answer_for result Done)) }
     ensures refused { KeepsRefused result h.old.value h.new.value }
 {
-    let (which, mut segment) = passed!(enter(alloc, h, key));
-    done(segment.texts_assign(&which, texts), h, segment)
+    make_change(alloc, h, key, Change::AssignTexts(texts))
 }

@@ -17,6 +17,7 @@ pub struct Value {
 }
 
 /// The kind of scalars that a code says.
+#[tactic(auto, unfolding(crate::specs::Passed::scalar_kind_of))]
 pub fn scalar_kind(code: u32) -> Option<ScalarKind>
     ensures { result ≡ scalar_kind_of code }
 {
@@ -36,6 +37,7 @@ impl Value {
     /// # Errors
     ///
     /// The code by which it is refused.
+    #[tactic(auto, unfolding(crate::specs::Passed::scalar_in))]
     pub fn scalar(&self) -> Result<ScalarValue, u32>
         ensures { MatchResult result (λ value. scalar_in self.now ≡ Some (kind_of_scalar value, value_of_scalar value)) (λ code. (code ≡ 20) × (scalar_in self.now ≡ None)) }
     {
@@ -48,6 +50,7 @@ impl Value {
     }
 
     /// The scalar as it is given.
+    #[tactic(auto, unfolding(crate::specs::Passed::scalar_in, crate::specs::Passed::scalar_kind_of))]
     pub fn of(value: ScalarValue) -> Value
         ensures { scalar_in result ≡ Some (kind_of_scalar value, value_of_scalar value) }
     {

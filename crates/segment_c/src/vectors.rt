@@ -3,7 +3,7 @@ ghost use Rattle.std.specs.Prelude.{◌≡◌, ◌≤◌, ℕ, MatchResult, OnEr
 ghost use Rattle.seg_types.specs.Commands.{Assign, Construct, ConstructIt, Elements, FindOrConstruct, literal_of};
 ghost use Rattle.seg_types.specs.Keys.{index_key_seen, key_seen, new_key_seen};
 ghost use Rattle.seg_types.specs.declared.kinds.Kind.TheVariants.{Scalar as ScalarOf, Vector as VectorOf};
-ghost use Rattle.segment_c.specs.Calls.{IsAsked, IsClosed, IsStopped, KeepsRefused};
+ghost use Rattle.segment_c.specs.Calls.{IsAsked, KeepsRefused, Owes};
 ghost use Rattle.segment_c.specs.Codes.{answer_for};
 ghost use Rattle.segment_c.specs.Passed.{count_wrong, entry_of, entry_wrong, key_of, key_wrong, many_of, new_of, new_wrong, numbers_of, or_else, row_count, row_of, row_wrong, scalar_kind_in};
 ghost use Rattle.segment_manager.specs.Answers.{Done, Found, Made};
@@ -73,9 +73,7 @@ pub extern "C" fn zx_construct_vector(
     values: &Values<'_>,
     handle: &mut u64,
 ) -> u32
-    ensures stopped { IsStopped (or_else (row_wrong values.now) (new_wrong key.now (VectorOf (scalar_kind_in values.now.kind)))) result h.old.value h.new.value }
-    ensures closed { IsClosed (or_else (row_wrong values.now) (new_wrong key.now (VectorOf (scalar_kind_in values.now.kind)))) result h.old.value h.new.value }
-    ensures asked { IsAsked (or_else (row_wrong values.now) (new_wrong key.now (VectorOf (scalar_kind_in values.now.kind)))) result h.old.value h.new.value
+    ensures asked { Owes (or_else (row_wrong values.now) (new_wrong key.now (VectorOf (scalar_kind_in values.now.kind)))) result h.old.value h.new.value
         (λ s t. IsStep s t (Construct (new_of key.now (VectorOf (scalar_kind_in values.now.kind))) (Elements (scalar_kind_in values.now.kind) (row_of values.now))) (answer_for result (Made handle.new))) }
     ensures refused { KeepsRefused result h.old.value h.new.value }
     ensures results { 1 ≤ result → handle.new ≡ handle.old }
@@ -96,9 +94,7 @@ pub extern "C" fn zx_find_or_construct_vector(
     handle: &mut u64,
     count_found: &mut u32,
 ) -> u32
-    ensures stopped { IsStopped (or_else (row_wrong values.now) (entry_wrong key.now (VectorOf (scalar_kind_in values.now.kind)))) result h.old.value h.new.value }
-    ensures closed { IsClosed (or_else (row_wrong values.now) (entry_wrong key.now (VectorOf (scalar_kind_in values.now.kind)))) result h.old.value h.new.value }
-    ensures asked { IsAsked (or_else (row_wrong values.now) (entry_wrong key.now (VectorOf (scalar_kind_in values.now.kind)))) result h.old.value h.new.value
+    ensures asked { Owes (or_else (row_wrong values.now) (entry_wrong key.now (VectorOf (scalar_kind_in values.now.kind)))) result h.old.value h.new.value
         (λ s t. IsStep s t (FindOrConstruct (entry_of key.now (VectorOf (scalar_kind_in values.now.kind))) (Elements (scalar_kind_in values.now.kind) (row_of values.now))) (answer_for result (Found handle.new count_found.new))) }
     ensures found { IsAsked (or_else (row_wrong values.now) (entry_wrong key.now (VectorOf (scalar_kind_in values.now.kind)))) result h.old.value h.new.value
         (λ s t. KeepsWhere s t (HasKey (entry_of key.now (VectorOf (scalar_kind_in values.now.kind))))) }
@@ -119,9 +115,7 @@ pub extern "C" fn zx_assign(
     key: &ObjectKey<'_>,
     values: &Values<'_>,
 ) -> u32
-    ensures stopped { IsStopped (or_else (key_wrong key.now) (row_wrong values.now)) result h.old.value h.new.value }
-    ensures closed { IsClosed (or_else (key_wrong key.now) (row_wrong values.now)) result h.old.value h.new.value }
-    ensures asked { IsAsked (or_else (key_wrong key.now) (row_wrong values.now)) result h.old.value h.new.value
+    ensures asked { Owes (or_else (key_wrong key.now) (row_wrong values.now)) result h.old.value h.new.value
         (λ s t. IsStepOfKind s t (key_of key.now) (VectorOf (scalar_kind_in values.now.kind)) (Assign (key_of key.now) (map (literal_of (scalar_kind_in values.now.kind)) (row_of values.now))) (answer_for result Done)) }
     ensures kept { 1 ≤ result → h.new.value ≡ h.old.value }
 {
@@ -167,9 +161,7 @@ pub extern "C" fn zx_construct_array(
     values: &Values<'_>,
     handle: &mut u64,
 ) -> u32
-    ensures stopped { IsStopped (or_else (row_wrong values.now) (or_else (count_wrong (row_count values.now)) (new_wrong key.now (ScalarOf (scalar_kind_in values.now.kind))))) result h.old.value h.new.value }
-    ensures closed { IsClosed (or_else (row_wrong values.now) (or_else (count_wrong (row_count values.now)) (new_wrong key.now (ScalarOf (scalar_kind_in values.now.kind))))) result h.old.value h.new.value }
-    ensures asked { IsAsked (or_else (row_wrong values.now) (or_else (count_wrong (row_count values.now)) (new_wrong key.now (ScalarOf (scalar_kind_in values.now.kind))))) result h.old.value h.new.value
+    ensures asked { Owes (or_else (row_wrong values.now) (or_else (count_wrong (row_count values.now)) (new_wrong key.now (ScalarOf (scalar_kind_in values.now.kind))))) result h.old.value h.new.value
         (λ s t. IsStep s t (ConstructIt (new_of key.now (ScalarOf (scalar_kind_in values.now.kind))) (scalar_kind_in values.now.kind) (row_count values.now) (row_of values.now)) (answer_for result (Made handle.new))) }
     ensures refused { KeepsRefused result h.old.value h.new.value }
     ensures results { 1 ≤ result → handle.new ≡ handle.old }

@@ -1,0 +1,43 @@
+-- What the calls do that change the object of a key, and answer a code alone.
+use Rattle.std.specs.Prelude.{◌≡◌, ◌≤◌, ℕ, ◌∷◌, [], map, OnErr, Option, Result}
+use Rattle.seg_types.specs.Commands.{Append as AppendTo, Assign, Clear as ClearAll, Erase as EraseAt, Insert}
+use Rattle.seg_types.specs.Commands.{Pop, Push, Quoted, Set, Shrink}
+use Rattle.seg_types.specs.Names.{Key}
+use Rattle.seg_types.specs.declared.kinds.Kind.TheVariants.{Text as TextKind, Texts as TextsKind}
+use Rattle.seg_types.specs.declared.refusals.Refusal.{Refusal}
+use Rattle.segment_c.specs.Calls.{KeepsRefused as KeepsHandle}
+use Rattle.segment_c.specs.declared.changes.Change.{Change}
+use Rattle.segment_c.specs.declared.changes.Change.TheVariants.{Append, AssignText, AssignTexts, Clear, Erase}
+use Rattle.segment_c.specs.declared.changes.Change.TheVariants.{InsertText, PopText, PushText, SetText, Trim}
+use Rattle.segment_manager.specs.Answers.{Answer, refusal_of}
+use Rattle.segment_manager.specs.State.{IsStep, IsStepOfKind, KeepsRefused, State}
+use Rattle.segment_manager.specs.TextLists.{LeadsOnOfKind}
+
+-- which step of the machine it is
+abbrev pub IsChange : Change → Key → State → State → Answer → Type 0
+IsChange (Erase index) key s t answer = IsStep s t (EraseAt key index) answer
+IsChange PopText key s t answer = LeadsOnOfKind s t key TextsKind (Pop key) (refusal_of answer)
+IsChange Trim key s t answer = IsStep s t (Shrink key) answer
+IsChange Clear key s t answer = IsStep s t (ClearAll key) answer
+IsChange (AssignText text) key s t answer = IsStepOfKind s t key TextKind (Assign key (Quoted text.now ∷ [])) answer
+IsChange (Append text) key s t answer = IsStepOfKind s t key TextKind (AppendTo key text.now) answer
+IsChange (SetText index text) key s t answer = IsStepOfKind s t key TextsKind (Set key index (Quoted text.now)) answer
+IsChange (PushText text) key s t answer = IsStepOfKind s t key TextsKind (Push key (Quoted text.now)) answer
+IsChange (InsertText index text) key s t answer =
+    IsStepOfKind s t key TextsKind (Insert key index (Quoted text.now)) answer
+IsChange (AssignTexts texts) key s t answer =
+    IsStepOfKind s t key TextsKind (Assign key (map Quoted (map (λ text. text.now) texts.now))) answer
+
+-- texts that find no room can leave other bytes in gaps; else what is refused changes nothing: of the states
+abbrev pub LeavesOld : Change → State → State → Result (Unit {0}) Refusal → Type 0
+LeavesOld (PushText text) old new r = KeepsRefused old new r
+LeavesOld (InsertText index text) old new r = KeepsRefused old new r
+LeavesOld (AssignTexts texts) old new r = KeepsRefused old new r
+LeavesOld what old new r = OnErr r (new ≡ old)
+
+-- and of the handle
+abbrev pub LeavesHandle : Change → ℕ → Option State → Option State → Type 0
+LeavesHandle (PushText text) code old new = KeepsHandle code old new
+LeavesHandle (InsertText index text) code old new = KeepsHandle code old new
+LeavesHandle (AssignTexts texts) code old new = KeepsHandle code old new
+LeavesHandle what code old new = 1 ≤ code → new ≡ old

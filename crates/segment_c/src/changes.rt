@@ -1,0 +1,59 @@
+//! Calls that change the object of a key, and answer a code alone.
+ghost use Rattle.seg_types.specs.Keys.{key_seen};
+ghost use Rattle.segment_c.specs.Calls.{Owes};
+ghost use Rattle.segment_c.specs.Changing.{IsChange, LeavesHandle, LeavesOld};
+ghost use Rattle.segment_c.specs.Codes.{answer_for};
+ghost use Rattle.segment_c.specs.Passed.{key_of, key_wrong};
+ghost use Rattle.segment_manager.specs.Answers.{Done};
+ghost use Rattle.segment_manager.specs.State.{done_answer};
+
+use crate::calls::{enter, passed};
+use crate::codes::done;
+use crate::handle::Handle;
+use crate::keys::ObjectKey;
+use seg_types::{Key, Refusal};
+use segment_manager::Segment;
+use std::alloc::Global;
+
+/// What is changed of an object.
+#[derive(Clone, Copy)]
+pub enum Change<'a> {
+    Erase(u64),
+    PopText,
+    Trim,
+    Clear,
+    AssignText(&'a [u8]),
+    Append(&'a [u8]),
+    SetText(u64, &'a [u8]),
+    PushText(&'a [u8]),
+    InsertText(u64, &'a [u8]),
+    AssignTexts(&'a [&'a [u8]]),
+}
+
+/// Changes the object of a key.
+pub fn make_change(alloc: Global, h: &mut Handle, key: &ObjectKey<'_>, what: Change<'_>) -> u32
+    ensures asked { Owes (key_wrong key.now) result h.old.value h.new.value (λ s t. IsChange what.entry (key_of key.now) s t (answer_for result Done)) }
+    ensures kept { LeavesHandle what.entry result h.old.value h.new.value }
+{
+    let (which, mut segment) = passed!(enter(alloc, h, key));
+    done(apply(&mut segment, &which, what), h, segment)
+}
+
+/// The same of a segment.
+fn apply(segment: &mut Segment, key: &Key, what: Change<'_>) -> Result<(), Refusal>
+    ensures step { IsChange what.entry (key_seen key.now) segment.old segment.new (done_answer result) }
+    ensures refused { LeavesOld what.entry segment.old segment.new result }
+{
+    match what {
+        Change::Erase(index) => segment_values::erase(segment, key, index),
+        Change::PopText => segment.texts_pop(key),
+        Change::Trim => segment.shrink(key),
+        Change::Clear => segment.clear(key),
+        Change::AssignText(text) => segment.string_assign(key, text),
+        Change::Append(text) => segment.string_append(key, text),
+        Change::SetText(index, text) => segment.texts_set(key, index, text),
+        Change::PushText(text) => segment.texts_push(key, text),
+        Change::InsertText(index, text) => segment.texts_insert(key, index, text),
+        Change::AssignTexts(texts) => segment.texts_assign(key, texts),
+    }
+}

@@ -2,7 +2,8 @@
 # How long links take to move that are known to lead somewhere: up by one place and down again, 50 million of them
 # there and back for each count, one time from a multiple of 16 and one time from the place behind it. It makes a
 # crate of bench/links_bench.rt.in and of the proofs below in a copy of the repository, with what earlier checks kept,
-# so that no library is proved again, and runs it. The times are of the processor.
+# so that no library is proved again, and runs it; words are handed to rt run, as --cpu x86-64-v3. The times are of the
+# processor.
 set -euo pipefail
 cd "$(dirname "$0")/.."
 room=$(mktemp -d)
@@ -16,7 +17,7 @@ for crate in raw_region offset_link; do
 done
 cp HANDLES "$room"
 cp bench/links_bench.rt.in "$bench/src/main.rt"
-echo 'links_bench cpu=x86-64-v3: raw_region offset_link' >> "$room/crates.txt"
+echo 'links_bench: raw_region offset_link' >> "$room/crates.txt"
 cd "$bench"
 echo 'mod Kept' > proofs/Lib.antt
 cat > proofs/Kept.antt <<'END'
@@ -61,4 +62,4 @@ invariant-rounds l = record {
   links : AllLead (bytes_of l.w.bytes) l.at l.n;
 }
 END
-rt run 2> "$room/messages" || { cat "$room/messages" >&2; exit 1; }
+rt run "$@" 2> "$room/messages" || { cat "$room/messages" >&2; exit 1; }

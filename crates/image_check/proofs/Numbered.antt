@@ -13,6 +13,10 @@ use Rattle.image_check.specs.Rows.{AreBelow, IsBetween, IsRow, Rises}
 pub row-read : (es : Blocks) (n i : ℕ) (d : ℕ × Block) → i < length es → (slice_index_or es i d).0 ≡ n → IsRow es n i
 row-read es n i d h e = record { block = (slice_index_or es i d).1; is = slice_get-get_or es i d h ∙ ap (λ (k : ℕ). Some (k, (slice_index_or es i d).1)) e }
 
+-- what is said of a payload, of the one at its number
+pub payload-read : (es : Blocks) (i : ℕ) (x : ℕ × Block) (p : ℕ) → x ≡ slice_index_or es i x → p ≡ x.0 → p ≡ (slice_index_or es i x).0
+payload-read es i x p e f = f ∙ ap (λ (y : ℕ × Block). y.0) e
+
 rises-behind : (e : ℕ × Block) (es : Blocks) → Rises (e ∷ es) → Rises es
 rises-behind e es r i j x y h f g = r (suc i) (suc j) x y (omega arith) f g
 

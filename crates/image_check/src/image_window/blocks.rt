@@ -6,14 +6,14 @@ ghost use Rattle.image_check.specs.Rows.{AreBelow, IsRow};
 
 use crate::checking::Visits;
 use crate::owners::Block;
-use crate::rows::{bounds, halved, near};
+use crate::rows::{Row, bounds, halved, near};
 use std::marker::Model;
 
 /// The blocks in use by payload.
 #[derive(Drop)]
 pub(crate) struct Blocks {
     /// Each with its payload, in the order of their places.
-    rows: Vec<(u32, Block)>,
+    rows: Vec<Row>,
     /// For each stretch of the image the number of the last block whose payload begins in it: where a look-up begins.
     /// It may be any number, since what is found there is compared.
     lasts: Vec<u32>,
@@ -35,7 +35,7 @@ impl Model for Blocks {
 
 impl Blocks {
     /// No blocks, with the room of `rows`, and with `lasts` for stretches of 2 to the power of `shift` bytes.
-    pub(crate) fn new(rows: Vec<(u32, Block)>, lasts: Vec<u32>, shift: u32) -> Blocks
+    pub(crate) fn new(rows: Vec<Row>, lasts: Vec<u32>, shift: u32) -> Blocks
         requires { rows.items ≡ [] }
         ensures entries { result.entries ≡ [] }
         ensures room { result.room ≡ vec_capacity rows }
@@ -82,7 +82,8 @@ impl Blocks {
         ensures visits { visits.new ≡ visits.old + 1 }
     {
         visits.visit();
-        self.rows[nth]
+        let row = &self.rows[nth];
+        (row.payload(), row.block())
     }
 
     /// The block whose payload begins at `target`. The caller counts it.
@@ -90,7 +91,7 @@ impl Blocks {
         ensures { result ≡ block_at self.now.entries target }
     {
         match self.number_of(target) {
-            Some(number) => Some(self.rows[number].1),
+            Some(number) => Some(self.rows[number].block()),
             None => None,
         }
     }
@@ -106,8 +107,8 @@ impl Blocks {
         visits.visit();
         match self.number_of(target) {
             Some(number) => {
-                let (payload, block) = self.rows[number];
-                Some((number, payload, block))
+                let row = &self.rows[number];
+                Some((number, row.payload(), row.block()))
             }
             None => None,
         }
@@ -130,9 +131,9 @@ impl Blocks {
     {
         visits.visit();
         if guess < self.rows.len() {
-            let row = self.rows[guess];
-            if row.0 as u64 == target {
-                return Some(row.1);
+            let row = &self.rows[guess];
+            if row.payload() as u64 == target {
+                return Some(row.block());
             }
         }
         self.get(target)
@@ -145,7 +146,8 @@ impl Blocks {
         ensures visits { visits.new ≡ visits.old + 1 }
     {
         visits.visit();
-        self.rows[number].1 = block;
+        let payload = self.rows[number].payload();
+        self.rows[number] = Row::new(payload, block);
     }
 
     /// Adds a block at `target`, behind all others, to those of which there is room for one more. One visit.
@@ -162,6 +164,6 @@ impl Blocks {
         if stretch < self.lasts.len() {
             self.lasts[stretch] = u32::try_from(self.rows.len()).unwrap_or(0);
         }
-        self.rows.push_reserved((target as u32, block));
+        self.rows.push_reserved(Row::new(target as u32, block));
     }
 }

@@ -1,4 +1,6 @@
 use Rattle.std.proofs.Common.{sym, ap, subst, ◌∙◌}
+use Rattle.std.specs.Prelude.{Some}
+use Rattle.image_check.specs.declared.owners.Block.{Block}
 use Rattle.image_check.specs.Owners.{BlockMap, block_at}
 use Rattle.image_check.specs.Rows.{IsRow}
 use Rattle.image_check.proofs.Numbered.{found-read, row-payload}
@@ -7,10 +9,12 @@ use Rattle.image_check.proofs.image_window.blocks.Blocks.find.Goals as goal
 pub returns-in-Some-clause-block : goal.returns-in-Some-clause-block
 returns-in-Some-clause-block c =
     let row = subst (λ (v : BlockMap). IsRow v.entries c.args.target c.in-Some.number) (sym c.self.view_is) c.in-Some.ensures.found in
-    sym (found-read c.self.inside.rows.items c.args.target c.in-Some.number c.index.result.now c.self.invariant row c.index.ensures
+    sym (ap (λ (b : Block). Some b) c.block.ensures
+    ∙ found-read c.self.inside.rows.items c.args.target c.in-Some.number c.index-row.result.now c.self.invariant row c.index-row.ensures
     ∙ ap (λ (v : BlockMap). block_at v.entries c.args.target) c.self.view_is)
 
 pub returns-in-Some-clause-payload : goal.returns-in-Some-clause-payload
 returns-in-Some-clause-payload c =
     let row = subst (λ (v : BlockMap). IsRow v.entries c.args.target c.in-Some.number) (sym c.self.view_is) c.in-Some.ensures.found in
-    row-payload c.self.inside.rows.items c.args.target c.in-Some.number c.index.result.now row c.index.ensures
+    c.payload.ensures
+    ∙ row-payload c.self.inside.rows.items c.args.target c.in-Some.number c.index-row.result.now row c.index-row.ensures

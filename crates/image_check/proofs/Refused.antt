@@ -1,14 +1,15 @@
--- An image that was read and is refused, and why.
-use Rattle.std.proofs.Common.{◌≡◌, sym, ap, subst, ◌∙◌, inl, ℕ, ◌+◌, ◌≤◌, List, length, arith, Some, Err}
+-- An image that was read and is refused, and why; or that is found good, and no segment is made of it.
+use Rattle.std.proofs.Common.{◌≡◌, refl, sym, ap, subst, ◌∙◌, inl, ℕ, ◌+◌, ◌≤◌, List, length, arith, Some, Ok, Err}
 use Rattle.raw_region.specs.Device.{Given}
 use Rattle.raw_region.specs.Memory.{Cut, whole}
 use Rattle.segment_manager.specs.declared.modes.Mode.{Mode}
+use Rattle.segment_manager.specs.declared.modes.Mode.TheVariants.{ReadOnly}
 use Rattle.image_check.specs.declared.errors.OpenError.{OpenError}
 use Rattle.image_check.specs.declared.errors.CheckError.{CheckError}
 use Rattle.image_check.specs.declared.errors.CheckError.TheVariants.{Class, NoMemory}
 use Rattle.image_check.specs.EarlyTests.{has_front, size_word}
 use Rattle.image_check.specs.Classes.{class_of}
-use Rattle.image_check.specs.Opening.{IsHandedBack, IsTooSmallFor, IsWhyNot, Opens, has_early_class}
+use Rattle.image_check.specs.Opening.{IsHandedBack, IsTooSmallFor, IsImage, IsWhyNot, Opens, Verifies, has_early_class}
 use Rattle.image_check.specs.Checking.{IsWhyRefused, cause_for}
 use Rattle.image_check.specs.Reading.{IsImageRead}
 use Rattle.image_check.specs.Passes.{has_block}
@@ -58,4 +59,28 @@ module _ (format : ℕ) (image : Given) (region : List ℕ) (base : ℕ) (w : Cu
       handed_back = back-from back f;
     };
     too_small = λ t. absurd (no-room t);
+  }
+
+  -- the answers of a check of which no segment is made
+  pub not-verified : (why : CheckError) (cause : OpenError) (back : List ℕ)
+      → IsWhyRefused format w.bytes why → cause ≡ cause_for why → back ≡ whole w
+      → Verifies format image region base (Err (record { region = back; cause = cause }))
+  not-verified why cause back x e f =
+      let opens = refused ReadOnly why cause back x e f in
+      record { answers = opens.answers; too_small = opens.too_small }
+
+  pub verified : (back : List ℕ) → IsImage format w.bytes → back ≡ whole w → Verifies format image region base (Ok back)
+  verified back d f = record {
+    answers = record {
+      segment = record { cut = w; mode = ReadOnly };
+      opened = record {
+        read = h.read;
+        mode = refl;
+        bytes = h.bytes;
+        place = h.place;
+        denotes = subst (IsImage format) h.bytes d;
+      };
+      handed_back = f;
+    };
+    too_small = no-room;
   }

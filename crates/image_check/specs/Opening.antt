@@ -1,10 +1,11 @@
 -- What opening an image may answer, from what its reader gave, where images of one format are read.
 use Rattle.std.specs.Prelude.{◌≡◌, ◌⊎◌, ◌<◌, ◌≤◌, ℕ, ◌+◌, ◌*◌, ◌/◌, true, false, ◌&&◌, List, [], length, take, drop, IsTrue, nat_lt, Bool, Some, Result, Ok, Err, MatchResult, if◌then◌else◌}
 use Rattle.std.specs.List.{list_any}
-use Rattle.raw_region.specs.Memory.{SamePlace, cut_at}
+use Rattle.raw_region.specs.Memory.{SamePlace, cut_at, whole}
 use Rattle.block_tags.specs.Format.{is_legal_size}
 use Rattle.raw_region.specs.Device.{Gave, Given}
 use Rattle.segment_manager.specs.declared.modes.Mode.{Mode}
+use Rattle.segment_manager.specs.declared.modes.Mode.TheVariants.{ReadOnly}
 use Rattle.segment_manager.specs.Directory.{Directory}
 use Rattle.segment_manager.specs.Denotes.{Denotes}
 use Rattle.segment_manager.specs.State.{State}
@@ -108,6 +109,18 @@ is_too_small_answer (Err cause) = cause ≡ RegionTooSmall
 
 pub record Opens (format : ℕ) (image : Given) (region : List ℕ) (base : ℕ) (mode : Mode) (result : Result State OpenRefused) : Type 0 where
   pub answers : MatchResult result (IsOpened format image region base mode) (IsNotOpened format image region base)
+  -- this one is answered wherever it applies
+  pub too_small : IsTooSmallFor format image base (length region) → is_too_small_answer (cause_of result)
+
+-- the region that comes back is that of a segment which is opened for reading: it has the image in its place
+pub record IsVerified (format : ℕ) (image : Given) (region : List ℕ) (base : ℕ) (back : List ℕ) : Type 0 where
+  pub segment : State
+  pub opened : IsOpened format image region base ReadOnly segment
+  pub handed_back : back ≡ whole segment.cut
+
+-- the same answers where no segment is made
+pub record Verifies (format : ℕ) (image : Given) (region : List ℕ) (base : ℕ) (result : Result (List ℕ) OpenRefused) : Type 0 where
+  pub answers : MatchResult result (IsVerified format image region base) (IsNotOpened format image region base)
   -- this one is answered wherever it applies
   pub too_small : IsTooSmallFor format image base (length region) → is_too_small_answer (cause_of result)
 

@@ -34,6 +34,7 @@ mod rows;
 mod saving;
 mod sharing;
 mod spellings;
+mod verifying;
 mod versions;
 mod without_tree;
 
@@ -44,3 +45,4 @@ pub use opening::open;
 pub use opening_any::open_any;
 pub use opening_bytes::open_bytes;
 pub use saving::save;
+pub use verifying::verify;

@@ -1,0 +1,46 @@
+//! The check of an image of which no segment is made.
+ghost use Rattle.std.specs.Prelude.{◌≡◌, ◌+◌, ◌-◌, ◌%◌, ◌^◌, ◌<◌, length};
+ghost use Rattle.raw_region.specs.Device.{Reads, given_since};
+ghost use Rattle.raw_region.specs.Format.{current};
+ghost use Rattle.image_check.specs.Opening.{AsksToTheEnd, IsRaisedFor, Verifies, cause_of, failed_reads, size_or_least};
+
+use crate::checking::check;
+use crate::errors::OpenRefused;
+use crate::reading::read_image;
+use crate::versions::Versions;
+use raw_region::{RawRegion, Source, Steps};
+use segment_manager::layout::FORMAT;
+use std::alloc::Global;
+
+/// Reads an image into the region, from `base` on, which is a multiple of 16, and tells whether it denotes a directory.
+/// The region comes back with the image in its place. This is what [`open`](crate::open) does, but that no segment is
+/// made, so that the blocks are not gone over once more for it.
+///
+/// # Errors
+///
+/// Those of [`open`](crate::open), for the same reasons. The region comes back as it does there.
+///
+/// `steps` is raised by each visit of the check, as there.
+pub fn verify<S: Source>(
+    alloc: Global,
+    reader: &mut S,
+    region: RawRegion,
+    base: u64,
+    steps: &mut Steps,
+) -> Result<RawRegion, OpenRefused>
+    requires aligned { base % 16 ≡ 0 }
+    requires reader { (S.history reader.old).failures < 2 ^ 64 - 1 }
+    ensures verifies { Verifies current (given_since (S.history reader.old) (S.history reader.new)) region base result }
+    ensures history { Reads (S.history reader.old) (S.history reader.new) (failed_reads (cause_of result)) }
+    ensures ends { AsksToTheEnd (S.history reader.old) (S.history reader.new) }
+    ensures steps { IsRaisedFor (size_or_least (given_since (S.history reader.old) (S.history reader.new)).bytes) steps.old steps.new }
+{
+    let window = read_image(Versions::Current, reader, region, base)?;
+    match check(FORMAT, alloc, &window, steps) {
+        Ok(()) => Ok(window.into_region()),
+        Err(why) => Err(OpenRefused {
+            region: window.into_region(),
+            cause: why.into_cause(),
+        }),
+    }
+}

@@ -1,3 +1,4 @@
+mod Verified
 mod Written
 mod Standings
 mod Enlarged

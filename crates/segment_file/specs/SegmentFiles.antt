@@ -71,6 +71,11 @@ OpensIn mode image result = IsWithoutRegion image result ⊎ IsOpenedIn mode ima
 abbrev pub OpensAnyIn : Given → Result State FileError → Type 0
 OpensAnyIn image result = IsWithoutRegion image result ⊎ IsOpenedAnyIn image result
 
+-- an image is opened for reading, but that no segment is made: there is one, or this is why there is none
+abbrev pub VerifiesIn : Given → Result (Unit {0}) FileError → Type 0
+VerifiesIn image result =
+    MatchResult result (λ done. (s : State) × OpensIn ReadOnly image (Ok s)) (λ why. OpensIn ReadOnly image (Err why))
+
 module _ {D : Type 0} (step : D → Event → D → Type 0) (old new : D) (path : List ℕ) where
   -- the file could not be opened, and nothing else was asked
   pub record IsUnreadable (result : Result State FileError) : Type 0 where

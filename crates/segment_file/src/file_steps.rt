@@ -1,13 +1,13 @@
 //! What the calls of a `SegmentFile` are made of: a segment that is read from a file, or made in a new one.
 ghost use Rattle.std.specs.Prelude.{◌≡◌, ◌^◌, ◌-◌, ◌<◌, MatchResult};
 ghost use Rattle.raw_region.specs.Device.{given_since};
-ghost use Rattle.segment_file.specs.SegmentFiles.{IsEmptySegment, IsWhyNoSegment, MakesSegmentFile, Migrates, OpensAnyIn, OpensIn, ReadsAnySegment, ReadsSegment, WritesHeld};
+ghost use Rattle.segment_file.specs.SegmentFiles.{ChecksFile, IsEmptySegment, IsWhyNoSegment, MakesSegmentFile, Migrates, OpensAnyIn, OpensIn, ReadsAnySegment, ReadsSegment, VerifiesIn, WritesHeld};
 
 use crate::file_errors::FileError;
 use crate::regions::{region_for, room_needed};
 use crate::writing::write_image;
 use block_tags::is_legal_size;
-use image_check::{open, open_any};
+use image_check::{open, open_any, verify};
 use raw_region::{Source, Steps};
 use segment_disk::{Disk, Making, Opened};
 use segment_manager::{Mode, Segment};
@@ -42,6 +42,20 @@ fn open_any_in<S: Source>(alloc: Global, reader: &mut S, bytes: u64) -> Result<S
     };
     match open_any(alloc, reader, region, 0, Mode::Write, &mut Steps::new()) {
         Ok(segment) => Ok(segment),
+        Err(refused) => Err(FileError::from(refused)),
+    }
+}
+
+/// Whether there is a segment of an image, which is read to the front of a region with room for so many bytes.
+fn verify_in<S: Source>(alloc: Global, reader: &mut S, bytes: u64) -> Result<(), FileError>
+    requires { (S.history reader.old).failures < 2 ^ 64 - 1 }
+    ensures { VerifiesIn (given_since (S.history reader.old) (S.history reader.new)) result }
+{
+    let Ok(region) = region_for(alloc, bytes) else {
+        return Err(FileError::OutOfMemory);
+    };
+    match verify(alloc, reader, region, 0, &mut Steps::new()) {
+        Ok(_) => Ok(()),
         Err(refused) => Err(FileError::from(refused)),
     }
 }
@@ -87,6 +101,23 @@ pub(crate) fn read_any_segment<D: Disk>(
     let read = open_any_in(alloc, &mut reader, room_needed(len, &front, 0));
     disk.close(reader);
     read
+}
+
+/// Whether there is a segment in a file, which is closed again. None is made.
+pub(crate) fn verify_file<D: Disk>(alloc: Global, disk: &mut D, path: &str) -> Result<(), FileError>
+    ensures { ChecksFile D.step disk.old disk.new path.now result }
+{
+    let Ok(opened) = disk.open(path) else {
+        return Err(FileError::ReadFault);
+    };
+    let Opened {
+        mut reader,
+        len,
+        front,
+    } = opened;
+    let verified = verify_in(alloc, &mut reader, room_needed(len, &front, 0));
+    disk.close(reader);
+    verified
 }
 
 /// An empty segment of a size. One that no segment has is refused before memory is asked for.

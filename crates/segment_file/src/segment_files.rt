@@ -5,7 +5,9 @@ ghost use Rattle.segment_file.specs.SegmentFiles.{ChecksFile, CreatesSegment, Gr
 
 use crate::enlarging::grow_segment;
 use crate::file_errors::FileError;
-use crate::file_steps::{make_segment_file, migrate_segment, read_segment, write_held};
+use crate::file_steps::{
+    make_segment_file, migrate_segment, read_segment, verify_file, write_held,
+};
 use crate::writing::write_image;
 use grow_shrink::shrink_to_fit;
 use segment_disk::{Disk, Making, Presence};
@@ -196,7 +198,7 @@ impl SegmentFile {
         }
     }
 
-    /// Tells whether a file holds a segment. Nothing is opened for writing.
+    /// Tells whether a file holds a segment. Nothing is opened for writing, and no segment is made.
     ///
     /// `crates/examples/src/migrating.rt` has an example.
     ///
@@ -206,8 +208,7 @@ impl SegmentFile {
     pub fn check<D: Disk>(alloc: Global, disk: &mut D, path: &str) -> Result<(), FileError>
         ensures { ChecksFile D.step disk.old disk.new path.now result }
     {
-        let _segment = read_segment(alloc, disk, path, Mode::ReadOnly)?;
-        Ok(())
+        verify_file(alloc, disk, path)
     }
 
     /// Writes the segment in a file by the current format, whichever of the three it has.

@@ -1,7 +1,8 @@
--- How the segment of a file is opened.
-use Rattle.std.specs.Prelude.{◌≡◌, ◌⊎◌, ◌≤◌, ℕ, true, List, Result, Err, length}
+-- How the segment of a file is opened, or only its image checked.
+use Rattle.std.specs.Prelude.{◌≡◌, ◌⊎◌, ◌≤◌, ℕ, true, List, Result, Ok, Err, MatchResult, length}
 use Rattle.raw_region.specs.Device.{Gave, Given}
 use Rattle.segment_manager.specs.declared.modes.Mode.{Mode}
+use Rattle.segment_manager.specs.declared.modes.Mode.TheVariants.{ReadOnly}
 use Rattle.segment_manager.specs.State.{State}
 use Rattle.segment_cli.specs.declared.faults.SessionFault.{SessionFault}
 use Rattle.segment_cli.specs.declared.faults.SessionFault.TheVariants.{Image as Refused, OutOfMemory, ReadFault, RegionTooSmall}
@@ -49,3 +50,13 @@ pub record IsReadFrom {D : Type 0} (step : D → Event → D → Type 0) (old ne
 
 abbrev pub OpensFile : {D : Type 0} → (D → Event → D → Type 0) → D → D → List ℕ → Mode → Result State SessionFault → Type 0
 OpensFile step old new path mode result = IsUnopened step old new path result ⊎ IsReadFrom step old new path mode result
+
+-- ---- the same for reading, but that no segment is made: there is one, or this is why there is none
+
+abbrev pub VerifiesIn : Given → Result (Unit {0}) SessionFault → Type 0
+VerifiesIn image result =
+    MatchResult result (λ done. (s : State) × BeginsIn Image ReadOnly image (Ok s)) (λ fault. BeginsIn Image ReadOnly image (Err fault))
+
+abbrev pub VerifiesFile : {D : Type 0} → (D → Event → D → Type 0) → D → D → List ℕ → Result (Unit {0}) SessionFault → Type 0
+VerifiesFile step old new path result =
+    MatchResult result (λ done. (s : State) × OpensFile step old new path ReadOnly (Ok s)) (λ fault. OpensFile step old new path ReadOnly (Err fault))

@@ -3,14 +3,13 @@ ghost use Rattle.std.specs.Prelude.{◌≡◌, ◌^◌, ◌-◌, ◌<◌};
 ghost use Rattle.segment_commands.specs.Commands.{IsCheck};
 
 use crate::creating::WRITE_FAULT;
-use crate::opening::open_segment;
+use crate::opening::verify_segment;
 use crate::program_faults::ProgramFault;
 use crate::telling::tell;
 use segment_disk::{Disk, Output};
-use segment_manager::Mode;
 use std::alloc::Global;
 
-/// Opens the segment in a file for reading, and says `ok`.
+/// Tells whether a file holds a segment, by its image alone, and says `ok`.
 ///
 /// # Errors
 ///
@@ -24,7 +23,7 @@ pub fn check<D: Disk, O: Output>(
     requires { (O.history out.old).failures < 2 ^ 64 - 1 }
     ensures { IsCheck D.step disk.old disk.new path.now O.history O.flushes out.old out.new result }
 {
-    let _segment = open_segment(alloc, disk, path, Mode::ReadOnly, 0)?;
+    verify_segment(alloc, disk, path)?;
     match tell(out, b"ok\n") {
         Ok(()) => Ok(()),
         Err(_) => Err(WRITE_FAULT),

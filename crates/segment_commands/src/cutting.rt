@@ -1,13 +1,13 @@
-//! Files that end before the size that their first words say, and the segments of others.
+//! Files that end before the size that their first words say, and the segments of others, made or not.
 ghost use Rattle.std.specs.Prelude.{◌≡◌, ◌≤◌, true};
 ghost use Rattle.raw_region.specs.Device.{Grows, given_since};
 ghost use Rattle.segment_cli.specs.declared.faults.Start.TheVariants.{Image as OfImage};
 ghost use Rattle.segment_disk.specs.Events.{nothing_given};
 ghost use Rattle.segment_commands.specs.Migrating.{BeginsAny};
-ghost use Rattle.segment_commands.specs.Opening.{BeginsIn, EndsWithin, IsToldByLength};
+ghost use Rattle.segment_commands.specs.Opening.{BeginsIn, EndsWithin, IsToldByLength, VerifiesIn};
 
 use crate::counting::Counted;
-use image_check::{ImageClass, OpenError, open_any};
+use image_check::{ImageClass, OpenError, open_any, verify};
 use raw_region::{Source, Steps};
 use segment_cli::{SessionFault, Start, begin};
 use segment_file::region_for;
@@ -96,6 +96,28 @@ fn begin_any_counted<S: Source>(
     }
 }
 
+/// The same of an image that is opened for reading, but that no segment is made.
+fn verify_counted<S: Source>(
+    alloc: Global,
+    reader: &mut Counted<S>,
+    room: u64,
+) -> Result<(), SessionFault>
+    requires fresh { S.history reader.old.inner ≡ nothing_given }
+    requires few { room ≤ 1073741824 }
+    ensures { VerifiesIn (given_since nothing_given (S.history reader.new.inner)) result }
+{
+    let Ok(region) = region_for(alloc, room) else {
+        return Err(SessionFault::OutOfMemory);
+    };
+    match verify(alloc, reader, region, 0, &mut Steps::new()) {
+        Ok(_) => Ok(()),
+        Err(refused) => match refused.cause {
+            OpenError::RegionTooSmall => Err(told_by_length(reader, room)),
+            _ => Err(SessionFault::from(refused)),
+        },
+    }
+}
+
 /// The segment of the image of a reader, at the front of a region with room for so many bytes, and the reader.
 pub(crate) fn begin_from<S: Source>(
     alloc: Global,
@@ -125,4 +147,19 @@ pub(crate) fn begin_any_from<S: Source>(
     let mut counted = Counted::new(reader);
     let begun = begin_any_counted(alloc, &mut counted, room);
     (begun, counted.into_inner())
+}
+
+/// Whether the image of a reader has a segment, read to the front of a region with room for so many bytes, and the reader.
+pub(crate) fn verify_from<S: Source>(
+    alloc: Global,
+    reader: S,
+    room: u64,
+) -> (Result<(), SessionFault>, S)
+    requires fresh { S.history reader ≡ nothing_given }
+    requires few { room ≤ 1073741824 }
+    ensures { VerifiesIn (given_since nothing_given (S.history result.1)) result.0 }
+{
+    let mut counted = Counted::new(reader);
+    let verified = verify_counted(alloc, &mut counted, room);
+    (verified, counted.into_inner())
 }

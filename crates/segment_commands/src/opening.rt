@@ -1,9 +1,9 @@
-//! The opening of the segment in a file.
+//! The opening of the segment in a file, and its check.
 ghost use Rattle.std.specs.Prelude.{◌≡◌, ◌^◌, ◌-◌, ◌<◌};
 ghost use Rattle.raw_region.specs.Device.{given_since};
-ghost use Rattle.segment_commands.specs.Opening.{BeginsIn, OpensFile};
+ghost use Rattle.segment_commands.specs.Opening.{BeginsIn, OpensFile, VerifiesFile};
 
-use crate::cutting::begin_from;
+use crate::cutting::{begin_from, verify_from};
 use raw_region::Source;
 use segment_cli::{SessionFault, Start, begin};
 use segment_disk::{Disk, Opened};
@@ -46,4 +46,21 @@ pub(crate) fn open_segment<D: Disk>(
     let (begun, reader) = begin_from(alloc, mode, reader, room);
     disk.close(reader);
     begun
+}
+
+/// Whether the image in a file has a segment. None is made, and the file is closed.
+pub(crate) fn verify_segment<D: Disk>(
+    alloc: Global,
+    disk: &mut D,
+    path: &str,
+) -> Result<(), SessionFault>
+    ensures { VerifiesFile D.step disk.old disk.new path.now result }
+{
+    let Ok(opened) = disk.open(path) else {
+        return Err(SessionFault::ReadFault);
+    };
+    let Opened { reader, len, front } = opened;
+    let (verified, reader) = verify_from(alloc, reader, room_needed(len, &front, 0));
+    disk.close(reader);
+    verified
 }

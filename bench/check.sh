@@ -1,10 +1,11 @@
 #!/usr/bin/env bash
 # The check of an image, `segment check`, beside two walks over all objects of Boost's managed_mapped_file after the same
 # script, 200,000 objects of four kinds in 32 MiB: one that looks over Boost's own structure and spells each name and value,
-# and one that adds up what is there, with nothing checked. Instructions, counted by valgrind's callgrind; and the least of
-# 15 runs, taken in turn: seconds of the processor in the program itself, in the system for it, and as time passes. Run it
-# at the top of the repository, once `rt run` has built crates/segment/out/segment, or with the program's path in PROGRAM;
-# it needs g++, valgrind and Boost (Debian's libboost1.81-dev), and writes into a folder of its own, which it removes.
+# and one that adds up what is there, with nothing checked. Both go by name: once names rise as objects were made, and so
+# lie in the file, and once they jump about. Instructions, counted by valgrind's callgrind; and the least of 15 runs, taken
+# in turn: seconds of the processor in the program itself, in the system for it, and as time passes. Run it at the top of
+# the repository, once `rt run` has built crates/segment/out/segment, or with the program's path in PROGRAM; it needs g++,
+# valgrind and Boost (Debian's libboost1.81-dev), and writes into a folder of its own, which it removes.
 set -euo pipefail
 cd "$(dirname "$0")/.."
 program=${PROGRAM:-$PWD/crates/segment/out/segment}
@@ -14,17 +15,25 @@ trap 'rm -rf "$room"' EXIT
 cd "$room"
 g++ -std=c++17 -O2 -DNDEBUG -o peer "$peer"
 
-awk 'BEGIN { text = "abcdefghijklmnopqrstuvwxyz"
+# script STEP: names go on by so many from object to object
+script() {
+  awk -v step="$1" 'BEGIN { text = "abcdefghijklmnopqrstuvwxyz"
   for (i = 0; i < 200000; i++) {
-    name = sprintf("n%06d", i)
+    name = sprintf("n%06d", (i * step) % 200000)
     if (i % 4 == 0) print "construct i64", name, i
     if (i % 4 == 1) print "construct string", name, "\"" substr(text, 1, i % 26 + 1) "\""
     if (i % 4 == 2) { print "construct vec<i64>", name; for (k = 0; k < 4; k++) print "push", name, i + k }
     if (i % 8 == 3) { print "construct map<i64,i64>", name; for (k = 0; k < 2; k++) print "put", name, k, i }
-    if (i % 8 == 7) print "construct i64", name, i } }' > script
-"$program" run ours.seg --mode create_only --size 33554432 < script > ours.answers
-./peer theirs.seg 33554432 < script > theirs.answers
-if grep -q '^error' ours.answers theirs.answers; then echo 'a line was refused' >&2; exit 1; fi
+    if (i % 8 == 7) print "construct i64", name, i } }'
+}
+# images STEP: those of the script, one of each program
+images() {
+  rm -f ours.seg theirs.seg
+  script "$1" > script
+  "$program" run ours.seg --mode create_only --size 33554432 < script > ours.answers
+  ./peer theirs.seg 33554432 < script > theirs.answers
+  if grep -q '^error' ours.answers theirs.answers; then echo 'a line was refused' >&2; exit 1; fi
+}
 
 check_ours() { "${before[@]}" "$program" check ours.seg; }
 spell_theirs() { "${before[@]}" ./peer theirs.seg spell; }
@@ -42,16 +51,28 @@ seconds() {
   { time "$1" > /dev/null; } 2>&1
 }
 
-for _ in 1 2 3 4 5 6 7 8 9 10 11 12 13 14 15; do
-  for whose in check_ours spell_theirs add_theirs; do seconds $whose >> $whose.seconds; done
-done
 # least COLUMN WHOSE
 least() { awk -v column="$1" '{ print $column }' "$2.seconds" | sort -n | head -n 1; }
 
-echo '| | Instructions | Seconds of the program | of the system | as time passes |'
-echo '|---|---|---|---|---|'
-for whose in check_ours spell_theirs add_theirs; do
-  awk -v whose="$whose" -v count="$(instructions $whose)" -v own="$(least 1 $whose)" -v kernel="$(least 2 $whose)" \
-    -v whole="$(least 3 $whose)" \
-    'BEGIN { printf "| %s | %.0f million | %.3f | %.3f | %.3f |\n", whose, count / 1e6, own, kernel, whole }'
+# table: a row of each
+table() {
+  rm -f ./*.seconds
+  for _ in 1 2 3 4 5 6 7 8 9 10 11 12 13 14 15; do
+    for whose in check_ours spell_theirs add_theirs; do seconds $whose >> $whose.seconds; done
+  done
+  echo '| | Instructions | Seconds of the program | of the system | as time passes |'
+  echo '|---|---|---|---|---|'
+  for whose in check_ours spell_theirs add_theirs; do
+    awk -v whose="$whose" -v count="$(instructions $whose)" -v own="$(least 1 $whose)" -v kernel="$(least 2 $whose)" \
+      -v whole="$(least 3 $whose)" \
+      'BEGIN { printf "| %s | %.0f million | %.3f | %.3f | %.3f |\n", whose, count / 1e6, own, kernel, whole }'
+  done
+}
+
+for step in 1 7919; do
+  images $step
+  echo "names that go on by $step"
+  echo
+  table
+  echo
 done

@@ -3,10 +3,10 @@ ghost use Rattle.std.specs.Prelude.{◌≡◌, ◌≢◌, ℕ, ◌⊎◌, ◌≤
 ghost use Rattle.best_fit.specs.WayPoints.{AreNone, IsNoted, place_of};
 
 /// The number of pieces of a window.
-const PIECES: usize = 2048;
+const PIECES: usize = 4096;
 
 /// The first pieces have 2 to this many bytes.
-const SHORTEST: u32 = 12;
+const SHORTEST: u32 = 11;
 
 /// At most one handle for each piece of a window. The pieces are as long as each other.
 #[derive(Drop)]

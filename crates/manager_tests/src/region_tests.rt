@@ -2,9 +2,9 @@
 ghost use Rattle.std.specs.Prelude.{◌≡◌, ◌%◌};
 
 use crate::checks::{done, holds, refusal, same};
-use crate::regions::{are_sevens, region_of_sevens};
+use crate::regions::{are_sevens, reads, region_of_sevens};
 use crate::segments::fresh;
-use image_check::{ImageClass, OpenError, open, open_bytes};
+use image_check::{ImageClass, OpenError, OpenRefused, open, open_bytes, verify};
 use memory_devices::{Last, MemorySource};
 use raw_region::{RawRegion, Steps};
 use seg_types::Refusal;
@@ -122,6 +122,37 @@ fn bytes_that_are_too_few_leave_the_region(rt: HostRuntime) {
     opens_no_bytes(&rt, rt.alloc(), of_144, truncated);
     let of_176 = b"MSEGFILE\x02\0\0\0\0\0\0\0\xB0\0\0\0\0\0\0\0";
     opens_no_bytes(&rt, rt.alloc(), of_176, OpenError::RegionTooSmall);
+}
+
+/// What the check of an image at 16 in a region of 2048 sevens answers.
+fn verified(rt: &impl Abort, alloc: Global, image: &[u8]) -> Result<RawRegion, OpenRefused> {
+    let mut reader = MemorySource::new(image, 7, Last::Ends);
+    let region = region_of_sevens(rt, alloc, 2048);
+    verify(alloc, &mut reader, region, 16, &mut Steps::new())
+}
+
+/// A region has sevens before and behind the place of an image of 1024 bytes at 16.
+fn has_sevens_beside(rt: &impl Abort, region: &RawRegion) {
+    are_sevens(rt, region, 0, 16);
+    are_sevens(rt, region, 1040, 1008);
+}
+
+#[test]
+fn a_right_image_comes_back_in_its_place(rt: HostRuntime) {
+    let made = fresh(&rt, rt.alloc(), 1024);
+    let image = made.segment.as_bytes();
+    let region = done(&rt, verified(&rt, rt.alloc(), image));
+    reads(&rt, &region, 16, image);
+    has_sevens_beside(&rt, &region);
+}
+
+#[test]
+fn a_wrong_image_is_told_and_writes_nothing_beside(rt: HostRuntime) {
+    let mut image = [0; 1024];
+    image[..18].copy_from_slice(b"MSEGFILE\x02\0\0\0\0\0\0\0\0\x04");
+    let refused = refusal(&rt, verified(&rt, rt.alloc(), &image));
+    same(&rt, refused.cause, OpenError::Image(ImageClass::BadTag));
+    has_sevens_beside(&rt, &refused.region);
 }
 
 #[test]

@@ -1,8 +1,7 @@
 -- What contracts see of a segment: its bytes, which denote one directory, how it is open, and where it lies.
-use Rattle.std.specs.Prelude.{◌≡◌, ℕ, ℤ, Bool, true, List, Option, Some, None, Result, Ok, Err, IfErr}
+use Rattle.std.specs.Prelude.{◌≡◌, ℕ, Bool, true, List, Option, Some, None, Result, Ok, Err, IfErr}
 use Rattle.raw_region.specs.Memory.{Cut, SamePlace}
 use Rattle.raw_region.specs.Format.{current}
-use Rattle.seg_types.specs.declared.kinds.ScalarKind.{ScalarKind}
 use Rattle.seg_types.specs.declared.kinds.Kind.{Kind}
 use Rattle.seg_types.specs.declared.refusals.Refusal.{Refusal}
 use Rattle.seg_types.specs.declared.values.ScalarValue.{ScalarValue}
@@ -89,9 +88,6 @@ gone_answer = answer_of (λ u. Truth true)
 
 abbrev pub truth_answer : Result Bool Refusal → Answer
 truth_answer = answer_of Truth
-
-abbrev pub element_answer : ScalarKind → Result ℤ Refusal → Answer
-element_answer k = answer_of (Element k)
 
 abbrev pub scalar_answer : Result ScalarValue Refusal → Answer
 scalar_answer = answer_of (λ v. Element (kind_of_scalar v) (value_of_scalar v))

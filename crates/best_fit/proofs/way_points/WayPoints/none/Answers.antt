@@ -4,4 +4,4 @@ use Rattle.best_fit.proofs.WayPoints.{none-noted}
 use Rattle.best_fit.proofs.way_points.WayPoints.none.Goals as goal
 
 pub returns : goal.returns
-returns c = λ h n. none-noted 2048 (place_of 12 h) h n.0 n.1
+returns c = λ h n. none-noted 4096 (place_of 11 h) h n.0 n.1

@@ -10,7 +10,7 @@ pub use Rattle.raw_region.proofs.Words.{SamePlace-trans, with_bytes-SamePlace}
 -- words that are written, and words that are moved
 pub use Rattle.raw_region.proofs.Words.{word-own, word-before, word-after, word-inside, word-first, word-behind, word_moved, length-word_written, word_written-SameBut, patched-Has, patched-SameBut}
 -- zeros
-pub use Rattle.raw_region.proofs.Words.{filled-AreZero, filled-SameBut, length-zeros}
+pub use Rattle.raw_region.proofs.Words.{filled-AreZero, filled-SameBut, length-zeros, zeros-AreZero}
 -- texts that are written piece by piece
 pub use Rattle.raw_region.proofs.Writing.{writes-behind, writes-then, writes-cut, writes-element}
 

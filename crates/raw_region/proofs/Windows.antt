@@ -1,10 +1,20 @@
 -- A window's bytes, as its region has them.
-use Rattle.std.proofs.Common.{◌≡◌, ℕ, ◌+◌, ◌≤◌, List, ◌++◌, length, drop, refl, sym, ap, ◌∙◌, arith}
+use Rattle.std.proofs.Common.{◌≡◌, ℕ, ◌+◌, ◌-◌, ◌≤◌, List, ◌++◌, length, drop, take, refl, sym, ap, ◌∙◌, arith}
 use Rattle.std.specs.List.{refill}
-use Rattle.std.proofs.lemmas.List.{length-take}
-use Rattle.raw_region.specs.Memory.{Cut, part, patched, whole, cut_at, bytes_of, word_at}
+use Rattle.std.proofs.lemmas.List.{length-take, take-replicate, drop-replicate}
+use Rattle.raw_region.specs.Memory.{Cut, part, patched, whole, cut_at, zeros}
 use Rattle.raw_region.specs.Regions.{with_bytes, IsWindow}
-use Rattle.raw_region.proofs.Patches.{length-part, part-part, word-of_part, whole-cut_at, cut_at-patched}
+use Rattle.raw_region.proofs.Patches.{length-part, part-part, whole-cut_at, cut_at-patched}
+
+-- a window of a region of zeros has zeros
+pub all-zeros : (region : List ℕ) (base size : ℕ) → base + size ≤ length region → region ≡ zeros (length region)
+    → cut_at region base size ≡ with_bytes (cut_at region base size) (zeros size)
+unfolding zeros
+all-zeros region base size inside e =
+    let n = length region in
+    let dropped = ap (λ (l : List ℕ). drop base l) e ∙ drop-replicate {X = ℕ} base n 0 in
+    let bytes = ap (λ (l : List ℕ). take size l) dropped ∙ take-replicate {X = ℕ} size (n - base) 0 (omega (arith, inside)) in
+    ap (λ (l : List ℕ). with_bytes (cut_at region base size) l) bytes
 
 module _ (region : List ℕ) (base size : ℕ) (w : Cut) (view_is : cut_at region base size ≡ w) (window : IsWindow region base size) where
   bytes_are : part region base size ≡ w.bytes
@@ -28,9 +38,6 @@ module _ (region : List ℕ) (base size : ℕ) (w : Cut) (view_is : cut_at regio
 
   pub reads : (from len : ℕ) → from + len ≤ length w.bytes → part region (base + from) len ≡ part w.bytes from len
   reads from len h = sym (part-part region base size from len (omega (arith, size_is))) ∙ ap (λ (l : List ℕ). part l from len) bytes_are
-
-  pub reads_word : (at : ℕ) → at + 8 ≤ length w.bytes → word_at (bytes_of region) (base + at) ≡ word_at (bytes_of w.bytes) at
-  reads_word at h = word-of_part region base size at window.inside (omega (arith, size_is)) ∙ ap (λ (l : List ℕ). word_at (bytes_of l) at) bytes_are
 
   pub writes : (new : List ℕ) (from : ℕ) (ws : List ℕ) → from + length ws ≤ length w.bytes → new ≡ patched region (base + from) ws
       → cut_at new base size ≡ with_bytes w (patched w.bytes from ws)

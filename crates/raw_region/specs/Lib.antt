@@ -4,6 +4,7 @@ pub mod Ownership
 pub mod Owned
 pub mod Loans
 pub mod Regions
+pub mod LentAllocation
 pub mod Lent
 pub mod LentWindow
 pub mod LentTwo

@@ -1,7 +1,7 @@
 -- What holds of a region and of a window.
-use Rattle.std.specs.Prelude.{◌≡◌, ℕ, ◌+◌, ◌%◌, ◌^◌, ◌≤◌, ◌⊎◌, List, length}
+use Rattle.std.specs.Prelude.{◌≡◌, ℕ, ◌+◌, ◌%◌, ◌^◌, ◌≤◌, ◌⊎◌, Bool, List, IsTrue, length}
 use denote.RawPtr.{Ptr}
-use Rattle.raw_region.specs.Memory.{Cut}
+use Rattle.raw_region.specs.Memory.{Cut, zeros}
 use Rattle.raw_region.specs.Ownership.{IsPlaced}
 
 -- a capacity that a region may have
@@ -16,6 +16,10 @@ pub record Holds (start place owned : Ptr) (items : List ℕ) (owned_len capacit
   pub len : owned_len ≡ capacity
   pub full : length items ≡ capacity
   pub legal : IsCapacity capacity
+
+-- where the mark is set, each byte is 0
+pub record IsCleanIf (clean : Bool) (items : List ℕ) : Type 0 where
+  pub zeros : IsTrue clean → items ≡ zeros (length items)
 
 -- two ranges, each by its first offset and its length, have no byte in common: one of them is empty, or one ends before the other begins
 abbrev pub IsApart : ℕ → ℕ → ℕ → ℕ → Type 0

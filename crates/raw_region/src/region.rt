@@ -2,10 +2,11 @@
 ghost use Rattle.std.specs.Prelude.{◌≡◌, ◌+◌, ◌≤◌, ◌↔◌, List, ℕ, IsTrue, IfOk, length, replicate};
 ghost use Rattle.std.specs.Borrow.{sem};
 ghost use Rattle.raw_region.specs.Memory.{zeros, part, patched, bytes_of, word_at, word_bytes};
-ghost use Rattle.raw_region.specs.Regions.{IsCapacity, IsApart};
+ghost use Rattle.raw_region.specs.Regions.{IsCapacity, IsApart, IsCleanIf};
 ghost use Rattle.raw_region.specs.LentTwo.{LendsTwo};
 
-use crate::block::{Block, Owner, two_parts};
+use crate::allocation::Allocation;
+use crate::block::two_parts;
 use byteorder::{ByteOrder, LittleEndian};
 use std::alloc::Global;
 use std::marker::Model;
@@ -18,22 +19,22 @@ pub struct OutOfMemory;
 
 /// A run of bytes that has its own memory. `new` takes it, and it is freed once, when the region is
 /// dropped. In between no call takes or gives back memory: none can reach an allocator.
+#[derive(Drop)]
 pub struct RawRegion {
-    start: *mut u8,
-    block: Block,
-    owner: Owner,
-    capacity: u64,
+    memory: Allocation,
+    // Nothing was written since `new`: what wants zeros need not write them.
+    clean: bool,
 }
 
 impl Model for RawRegion {
-    ghost use Rattle.std.specs.Prelude.{◌≡◌, List, ℕ};
-    ghost use Rattle.raw_region.specs.Regions.{Holds};
+    ghost use Rattle.std.specs.Prelude.{List, ℕ};
+    ghost use Rattle.raw_region.specs.Regions.{IsCleanIf};
 
     ghost Value = { List ℕ };
 
-    ghost view = { λ r. r.block.items };
+    ghost view = { λ r. r.memory };
 
-    ghost invariant = { λ r. Holds r.start r.block.place r.owner.place r.block.items r.owner.len r.capacity };
+    ghost invariant = { λ r. IsCleanIf r.clean r.memory };
 }
 
 impl RawRegion {
@@ -41,21 +42,37 @@ impl RawRegion {
 
     /// A region of `capacity` bytes, each 0. The capacity is a multiple of 16 from 16 to 2 to the
     /// 40th.
-    #[tactic(auto, unfolding(crate::specs::Memory::zeros))]
     pub fn new(alloc: Global, capacity: u64) -> Result<RawRegion, OutOfMemory>
         requires { IsCapacity capacity }
         ensures zeros { IfOk result (λ r. r ≡ zeros capacity) }
         ensures len { IfOk result (λ r. length r ≡ capacity) }
     {
-        let Some((start, block, owner)) = Owner::allocate(alloc, capacity as usize) else {
+        let Some(memory) = Allocation::new(alloc, capacity) else {
             return Err(OutOfMemory);
         };
         Ok(RawRegion {
-            start,
-            block,
-            owner,
-            capacity,
+            memory,
+            clean: true,
         })
+    }
+
+    /// A region of memory that holds anything.
+    pub(crate) fn from_memory(memory: Allocation) -> RawRegion
+        ensures { result ≡ memory }
+    {
+        RawRegion {
+            memory,
+            clean: false,
+        }
+    }
+
+    /// Its memory, and whether each byte of it is known to be 0.
+    pub(crate) fn into_memory(self) -> (Allocation, bool)
+        ensures memory { result.0 ≡ self }
+        ensures clean { IsCleanIf result.1 self }
+    {
+        let RawRegion { memory, clean } = self;
+        (memory, clean)
     }
 
     /// The number of bytes.
@@ -63,14 +80,15 @@ impl RawRegion {
         ensures capacity { result ≡ length self.now }
         ensures legal { IsCapacity (length self.now) }
     {
-        self.capacity
+        self.memory.capacity()
     }
 
     /// Whether the `len` bytes from `from` on lie in the region.
     pub fn in_range(&self, from: u64, len: u64) -> bool
         ensures { IsTrue result ↔ (from + len ≤ length self.now) }
     {
-        from <= self.capacity && len <= self.capacity - from
+        let capacity = self.memory.capacity();
+        from <= capacity && len <= capacity - from
     }
 
     /// The `len` bytes from `from` on.
@@ -80,7 +98,7 @@ impl RawRegion {
         ensures bytes { result.now ≡ part self.now from len }
         ensures len { length result.now ≡ len }
     {
-        self.block.slice(self.start, from as usize, len as usize)
+        self.memory.bytes(from, len)
     }
 
     /// The same, to be written.
@@ -91,8 +109,8 @@ impl RawRegion {
         ensures bytes { result.now ≡ part self.old from len }
         ensures len { length result.now ≡ len }
     {
-        self.block
-            .slice_mut(self.start, from as usize, len as usize)
+        self.clean = false;
+        self.memory.bytes_mut(from, len)
     }
 
     /// Sets each of the `len` bytes from `from` on.
@@ -121,7 +139,7 @@ impl RawRegion {
         ensures len { length self.new ≡ length self.old }
         ensures moved { self.new ≡ patched self.old to (part self.old from len) }
     {
-        let capacity = self.capacity;
+        let capacity = self.memory.capacity();
         let end = from + len;
         let bytes = self.bytes_mut(0, capacity);
         bytes.copy_within(from as usize..end as usize, to as usize);
@@ -144,18 +162,6 @@ impl RawRegion {
         ensures written { self.new ≡ patched self.old at (word_bytes value) }
     {
         LittleEndian::write_u64(self.bytes_mut(at, 8), value);
-    }
-}
-
-impl Drop for RawRegion {
-    fn drop(self) {
-        let RawRegion {
-            start,
-            block,
-            owner,
-            capacity,
-        } = self;
-        owner.free(start, capacity as usize, block);
     }
 }
 

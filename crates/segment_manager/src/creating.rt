@@ -50,9 +50,7 @@ impl Segment {
                 cause: CreateError::RegionTooSmall,
             });
         }
-        let mut window = Window::new(region, base, size);
-        window.fill(0, size, 0);
-        let mut heap = Heap::fresh(window);
+        let mut heap = Heap::fresh(Window::zeroed(region, base, size));
         write_header(&mut heap, size);
         Ok(Segment { heap, mode })
     }

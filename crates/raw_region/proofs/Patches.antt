@@ -123,10 +123,6 @@ part-part b base size from len h =
     ap (λ (k : ℕ). take len (drop from (take k (drop base b)))) e ∙ ap (λ (l : List ℕ). take len l) (drop-take from (size - from) (drop base b) ∙ ap (λ (l : List ℕ). take (size - from) l) (drop-drop from base b))
     ∙ take-take len (size - from) (drop (base + from) b) (omega arith)
 
-pub word-of_part : (b : List ℕ) (base size at : ℕ) → base + size ≤ length b → at + 8 ≤ size → word_at (bytes_of b) (base + at) ≡ word_at (bytes_of (part b base size)) at
-word-of_part b base size at h k =
-    sym (word-part b (base + at) (omega arith)) ∙ ap (λ (l : List ℕ). little_number 8 l) (sym (part-part b base size at 8 k)) ∙ word-part (part b base size) at (omega (arith, length-part b base size h))
-
 -- ---- a window is a cut of its region
 pub whole-cut_at : (b : List ℕ) (base size : ℕ) → whole (cut_at b base size) ≡ b
 whole-cut_at b base size =

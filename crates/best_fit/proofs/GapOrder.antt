@@ -5,10 +5,10 @@ use Rattle.best_fit.proofs.Common.{None, filter, find, option_map, if◌then◌e
 use Rattle.best_fit.proofs.Common.{cases_Bool, cases_eq, cases_lt, and_from, or_left, or_right, leb-true, le-leb}
 use Rattle.best_fit.proofs.Common.{eq-eqb, ne_eqb, cond-true, cond-false, cond_both, lt-ltb, le-ltb, lt-leb, rises}
 use Rattle.best_fit.proofs.Common.{first_not, has_place, is_in, put, without, Gap, least, precedes, insert_gap}
-use Rattle.best_fit.proofs.Common.{payloads, sorted_gaps, comes_before, is_too_short, len_in, Fits, Rises, is_long}
+use Rattle.best_fit.proofs.Common.{payloads, sorted_gaps, comes_before, from_first, len_in, stands_before, Fits, Rises, is_long}
 use Rattle.best_fit.proofs.Common.{node_of}
 use Rattle.link_tree.proofs.Laws.{rises_put, without_none}
-use Rattle.best_fit.specs.GapLaws.{Comes, comes-Comes, Comes-comes, comes-trans, comes_transitive}
+use Rattle.best_fit.specs.GapLaws.{Comes, comes, comes-Comes, Comes-comes, comes-false, comes-trans, comes_transitive}
 
 -- ---- one put in before others
 
@@ -247,28 +247,33 @@ sorted-rises gs at (h ∷ hs) f r =
 
 -- ---- the first that is long enough
 
-not_lt : (a b : ℕ) → not (nat_lt a b) ≡ nat_le b a
-not_lt a b = elim (cases_lt a b) [
-  | inl l ↦ rw (lt-ltb a b l, lt-leb b a l) refl
-  | inr l ↦ rw (le-ltb a b l, le-leb b a l) refl
+no_less : (k n w : ℕ) → w ≤ k → Comes k n w 0 → ⊥
+no_less k n w l (inl x) = omega arith
+no_less k n w l (inr x) = let y = x.1 in omega arith
+
+-- no gap of just that length stands before it
+not_before : (k n w : ℕ) → not (comes k n w 0) ≡ nat_le w k
+not_before k n w = elim (cases_lt k w) [
+  | inl l ↦ rw (Comes-comes k n w 0 (inl l), lt-leb w k l) refl
+  | inr l ↦ rw (comes-false k n w 0 (no_less k n w l), le-leb w k l) refl
 ]
 
 abbrev pub node_option : Option Gap → Option ℕ
 node_option o = option_map node_of o
 
 first_long : (gs : List Gap) (wanted : ℕ) (hs : List Gap) → Fits gs hs
-    → first_not (is_too_short gs wanted) (payloads hs) ≡ node_option (find (is_long wanted) hs)
+    → first_not (stands_before gs (from_first wanted)) (payloads hs) ≡ node_option (find (is_long wanted) hs)
 first_long gs wanted [] f = refl
 first_long gs wanted (h ∷ hs) f =
     let ih = first_long gs wanted hs f.1 in
-    let e : not (is_too_short gs wanted (node_of h)) ≡ is_long wanted h = ap (λ k. not (nat_lt k wanted)) f.0
-    ∙ not_lt h.len wanted in
-    ap (λ (b : Bool). if b then Some (node_of h) else first_not (is_too_short gs wanted) (payloads hs)) e
+    let before : ℕ → Bool = stands_before gs (from_first wanted) in
+    let e : not (before (node_of h)) ≡ is_long wanted h =
+    not_before (len_in gs (node_of h)) (node_of h) wanted ∙ ap (nat_le wanted) f.0 in
+    ap (λ (b : Bool). if b then Some (node_of h) else first_not before (payloads hs)) e
     ∙ cond_both (is_long wanted h) (Some h) (find (is_long wanted) hs)
-    (λ o. (if is_long wanted h then Some (node_of h) else first_not (is_too_short gs wanted) (payloads hs))
-    ≡ node_option o)
-    (λ t. cond-true (is_long wanted h) (Some (node_of h)) (first_not (is_too_short gs wanted) (payloads hs)) t)
-    (λ t. cond-false (is_long wanted h) (Some (node_of h)) (first_not (is_too_short gs wanted) (payloads hs)) t ∙ ih)
+    (λ o. (if is_long wanted h then Some (node_of h) else first_not before (payloads hs)) ≡ node_option o)
+    (λ t. cond-true (is_long wanted h) (Some (node_of h)) (first_not before (payloads hs)) t)
+    (λ t. cond-false (is_long wanted h) (Some (node_of h)) (first_not before (payloads hs)) t ∙ ih)
 
 -- the lesser of a gap and another, if there is one
 abbrev pub lesser_of : Gap → Option Gap → Option Gap
@@ -341,6 +346,6 @@ least_long wanted (h ∷ hs) = by_test (least_long wanted hs) (cases_Bool (is_lo
         ∙ sym (ap least (cond-false (is_long wanted h) (h ∷ filter (is_long wanted) hs) (filter (is_long wanted) hs) t))
 
 pub first_is_least : (gs : List Gap) (wanted : ℕ) (hs : List Gap) → Fits gs hs
-    → first_not (is_too_short gs wanted) (payloads (sorted_gaps hs)) ≡ node_option (least (filter (is_long wanted) hs))
+    → first_not (stands_before gs (from_first wanted)) (payloads (sorted_gaps hs)) ≡ node_option (least (filter (is_long wanted) hs))
 first_is_least gs wanted hs f = first_long gs wanted (sorted_gaps hs) (fits-sorted gs hs f)
     ∙ ap node_option (least_long wanted hs)

@@ -6,7 +6,7 @@ use Rattle.best_fit.proofs.Common.{cases_Bool, cases_eq, and_parts, or_cases, eq
 use Rattle.best_fit.proofs.Common.{cond-true, cond-false, Cut, SamePlace, bytes_of, Tile, is_legal_size, IsBesideTags}
 use Rattle.best_fit.proofs.Common.{is_free, is_merged, SaysTiles, good_tags_say_tiles, tiles_are_read_off, Cell}
 use Rattle.best_fit.proofs.Common.{is_in, leads, all_from, Gap, cells_of, payloads, as_gap, comes_before, gap_cells}
-use Rattle.best_fit.proofs.Common.{gaps_of, gaps_in, is_gap_node, is_kept, is_too_short, kept_of, lies_in_block}
+use Rattle.best_fit.proofs.Common.{gaps_of, gaps_in, is_gap_node, is_kept, kept_of, lies_in_block, stands_before}
 use Rattle.best_fit.proofs.Common.{links_among, plain, tiles_in, Good, GapNode, GapNode-is_gap_node, Good-is_good}
 use Rattle.best_fit.proofs.Common.{is_gap_node-GapNode, links_at, cells_at}
 use Rattle.std.proofs.lemmas.Bool.{not-true}
@@ -210,8 +210,8 @@ module _ (c d : Cut) (n : ℕ) (g : GapNode c n) (h : Changed c d n) where
   pub order_stays : comes_before (gaps_in d) ≡ comes_before (gaps_in c)
   order_stays = ap comes_before gaps_stay
 
-  pub probes_stay : is_too_short (gaps_in d) ≡ is_too_short (gaps_in c)
-  probes_stay = ap is_too_short gaps_stay
+  pub probes_stay : stands_before (gaps_in d) ≡ stands_before (gaps_in c)
+  probes_stay = ap stands_before gaps_stay
 
   pub kept_stays : kept_of d ≡ kept_of c
   kept_stays = kept_round c d n node h.place h.size same_tiles h.bytes

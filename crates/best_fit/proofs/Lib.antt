@@ -4,7 +4,9 @@ mod Allocating
 mod Around
 mod BesideGaps
 mod Changes
+mod Compared
 mod Cuts
+mod Exits
 mod Frames
 mod FreeTrees
 mod Fresh

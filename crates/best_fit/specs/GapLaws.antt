@@ -14,7 +14,8 @@ use Rattle.link_tree.specs.Nodes.{is_in, leads}
 use Rattle.link_tree.proofs.Laws.{all_at}
 use Rattle.best_fit.specs.Extents.{Gap}
 use Rattle.best_fit.specs.FreeTree.{cells_of, payloads}
-use Rattle.best_fit.specs.GapNodes.{tiles_in, as_gap, gaps_of, gaps_in, len_in, comes_before, is_too_short, links_among, has_links, is_good, is_gap_node, gap_cells, no_cell}
+use Rattle.best_fit.specs.declared.heap.nodes.Sought.{Sought}
+use Rattle.best_fit.specs.GapNodes.{tiles_in, as_gap, gaps_of, gaps_in, len_in, comes_before, stands_before, links_among, has_links, is_good, is_gap_node, gap_cells, no_cell}
 
 -- ---- there are few gaps
 
@@ -172,12 +173,5 @@ comes_irreflexive gs n = comes-false (len_in gs n) n (len_in gs n) n (Comes-same
 pub comes_transitive : (gs : List Gap) (a b c : ℕ) → comes_before gs a b ≡ true → comes_before gs b c ≡ true → comes_before gs a c ≡ true
 comes_transitive gs a b c x y = comes-trans (len_in gs a) a (len_in gs b) b (len_in gs c) c x y
 
-agrees : (wanted k a l b : ℕ) → comes k a l b ≡ true → nat_lt l wanted ≡ true → nat_lt k wanted ≡ true
-agrees wanted k a l b h s = lt-ltb k wanted (by_case (comes-Comes k a l b h))
-  where
-    by_case : Comes k a l b → k < wanted
-    by_case (inl x) = let t = ltb-true l wanted s in omega arith
-    by_case (inr x) = let t = ltb-true l wanted s in let e = x.0 in omega arith
-
-pub comes_agrees : (gs : List Gap) (wanted a b : ℕ) → comes_before gs a b ≡ true → is_too_short gs wanted b ≡ true → is_too_short gs wanted a ≡ true
-comes_agrees gs wanted a b h s = agrees wanted (len_in gs a) a (len_in gs b) b h s
+pub comes_agrees : (gs : List Gap) (sought : Sought) (a b : ℕ) → comes_before gs a b ≡ true → stands_before gs sought b ≡ true → stands_before gs sought a ≡ true
+comes_agrees gs sought a b h s = comes-trans (len_in gs a) a (len_in gs b) b sought.len sought.from h s

@@ -10,6 +10,7 @@ use Rattle.link_tree.specs.Tree.{Cell}
 use Rattle.link_tree.specs.Nodes.{is_in, leads}
 use Rattle.best_fit.specs.Extents.{Gap}
 use Rattle.best_fit.specs.FreeTree.{cells_of, payloads}
+use Rattle.best_fit.specs.declared.heap.nodes.Sought.{Sought}
 
 -- the tiles that the tags of a window say
 abbrev pub tiles_in : Cut → List Tile
@@ -37,8 +38,14 @@ len_in gs n = elim (find (λ (g : Gap). g.offset + 16 == n) gs) [ None ↦ 0 | S
 abbrev pub comes_before : List Gap → ℕ → ℕ → Bool
 comes_before gs a b = nat_lt (len_in gs a) (len_in gs b) || ((len_in gs a == len_in gs b) && nat_lt a b)
 
-abbrev pub is_too_short : List Gap → ℕ → ℕ → Bool
-is_too_short gs wanted n = nat_lt (len_in gs n) wanted
+-- the gap is shorter than what is looked for, or as long and stands before it
+abbrev pub stands_before : List Gap → Sought → ℕ → Bool
+stands_before gs sought n =
+    nat_lt (len_in gs n) sought.len || ((len_in gs n == sought.len) && nat_lt n sought.from)
+
+-- what the first gap of at least some length is looked for by
+abbrev pub from_first : ℕ → Sought
+from_first wanted = record { len = wanted; from = 0 }
 
 -- both links of a node lead to nodes, or nowhere
 abbrev pub links_among : Memory → List ℕ → ℕ → Bool

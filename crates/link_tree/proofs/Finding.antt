@@ -1,10 +1,10 @@
 -- The neighbours of a probe in an ordered list, and what a search notes of them on its way down a tree.
-use Rattle.std.proofs.Common.{◌≡◌, ℕ, Bool, true, false, not, Option, Some, None, List, [], ◌∷◌, ◌++◌, nat_eq, refl, sym, ap, ◌∙◌, append_assoc, inl, inr}
+use Rattle.std.proofs.Common.{◌≡◌, ℕ, Bool, true, false, not, Option, Some, None, List, [], ◌∷◌, ◌++◌, nat_eq, refl, sym, ap, subst, ◌∙◌, append_assoc, inl, inr}
 use mathlib.Core.List.{reverse, reverse-cons}
 use Rattle.std.specs.Prelude.{find, if◌then◌else◌}
 use Rattle.std.specs.List.{last_or, list_all}
 use Rattle.std.specs.Option.{option_or}
-use Rattle.std.proofs.lemmas.Bool.{and_parts, cases_Bool, eq-eqb, false_from_ne_true, not-true, not_from_false, not_from_true, or_left, or_right, true≢false}
+use Rattle.std.proofs.lemmas.Bool.{and_parts, cases_Bool, eq-eqb, eqb-true, false_from_ne_true, not-true, not_from_false, not_from_true, or_cases, or_left, or_right, true≢false}
 use Rattle.std.proofs.lemmas.List.{reverse-append}
 use Rattle.std.proofs.lemmas.List.Folds.{find-append}
 use Rattle.link_tree.specs.Tree.{Tree, leaf, fork, nodes_of, rises}
@@ -53,6 +53,23 @@ first_in before (n ∷ ns) x e =
       | inr k ↦ let f : Some n ≡ Some x = rw k at e in or_left (nat_eq x n) (is_in x ns)
           (eq-eqb x n (sym (some_same n x f)))
     ]
+
+-- a node of an ordered list is the first that does not precede it
+pub first_itself : (lt : ℕ → ℕ → Bool) → ((n : ℕ) → lt n n ≡ false) → (ns : List ℕ) (x : ℕ) → rises lt ns ≡ true
+    → is_in x ns ≡ true → first_not (λ m. lt m x) ns ≡ Some x
+first_itself lt irreflexive [] x r i = absurd (true≢false (sym i))
+first_itself lt irreflexive (n ∷ ns) x r i =
+    let two = and_parts (list_all (lt n) ns) (rises lt ns) r in
+    elim (or_cases (nat_eq x n) (is_in x ns) i) [
+      | inl e ↦ let same : x ≡ n = eqb-true x n e in
+          let f = not_from_false (lt n x) (subst (λ k. lt n k ≡ false) (sym same) (irreflexive n)) in
+          rw f (some_here n x same)
+      | inr k ↦ let e = not_from_true (lt n x) (all_at (lt n) ns x two.0 k) in
+          rw e (first_itself lt irreflexive ns x two.1 k)
+    ]
+  where
+    some_here : (n x : ℕ) → x ≡ n → Some n ≡ Some x
+    some_here n x same = ap (λ (k : ℕ). let o : Option ℕ = Some k in o) (sym same)
 
 -- ---- the last one
 

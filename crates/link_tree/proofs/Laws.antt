@@ -10,6 +10,7 @@ pub use Rattle.link_tree.proofs.Reading.{reads_off}
 -- what stands in a list of nodes, what holds of all of them, and order, where a node precedes what a node precedes that
 -- it precedes
 pub use Rattle.link_tree.proofs.Orders.{above_more, all_at, all_from, in_left, in_middle, in_parts, in_right}
+pub use Rattle.link_tree.proofs.Finding.{first_itself}
 pub use Rattle.link_tree.proofs.Growth.{rises_put}
 pub use Rattle.link_tree.proofs.Shrinkage.{without_none}
 -- how high a red-black tree of n nodes can be

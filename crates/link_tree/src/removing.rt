@@ -292,7 +292,7 @@ pub fn remove_at<N: NodesMut>(
         → (m : ℕ) → is_in m (nodes_of t) ≡ false → N.cells nodes.new m ≡ N.cells nodes.old m }
     // `bits` counts binary digits, here of the number of nodes before the call and one.
     ensures steps { (t : Tree) → IsSearchTree (N.order nodes.old) (N.cells nodes.old) root t
-        → result.steps ≤ 32 * bits (length (nodes_of t) + 1) + 32 }
+        → result.steps ≤ 30 * bits (length (nodes_of t) + 1) + 32 }
     ensures counted { 0 < result.steps }
     ensures root { leads (N.is_node nodes.new) result.root ≡ true }
     // Nothing but links and colours changed: the nodes, their order, the reference they are reached by, and what else

@@ -8,7 +8,7 @@ ghost use Rattle.block_tags.specs.Windows.{SaysTiles};
 ghost use Rattle.best_fit.specs.Extents.{gaps};
 ghost use Rattle.best_fit.specs.Heap.{HasNullLinks, LaysOut, no_blocks};
 ghost use Rattle.offset_link.specs.Link.{link_at};
-ghost use Rattle.best_fit.specs.GapNodes.{Kept as WhatStays, comes_before, gap_cells, gaps_in, is_gap_node, is_too_short, kept_of};
+ghost use Rattle.best_fit.specs.GapNodes.{Kept as WhatStays, comes_before, gap_cells, gaps_in, is_gap_node, kept_of, stands_before};
 ghost use Rattle.best_fit.specs.GapLaws.{comes_agrees, comes_irreflexive, comes_transitive, gaps_finite, gaps_left, gaps_right};
 
 use block_tags::{FIRST, TAG, tile_at};
@@ -25,6 +25,14 @@ pub const FREE_TREE: u64 = 24;
 /// The payload of the first tile.
 const FIRST_GAP: u64 = FIRST + TAG;
 
+/// What is looked for among the gaps: the first that is longer than `len`, or just so long and has its payload at `from` or
+/// behind it.
+#[derive(Clone, Copy, Debug)]
+pub struct Sought {
+    pub len: u64,
+    pub from: u64,
+}
+
 /// A window whose gaps are nodes, each named by its payload: its links are the first two words there, and its colour is
 /// that of its tile. A gap precedes longer ones, and those as long that stand behind it.
 #[derive(Drop)]
@@ -33,7 +41,7 @@ pub struct Gaps {
 }
 
 impl Nodes for Gaps {
-    type Probe = u64;
+    type Probe = Sought;
 
     ghost cells = { λ s. gap_cells s.window };
 
@@ -41,7 +49,7 @@ impl Nodes for Gaps {
 
     ghost order = { λ s. comes_before (gaps_in s.window) };
 
-    ghost before = { λ s wanted. is_too_short (gaps_in s.window) wanted };
+    ghost before = { λ s sought. stands_before (gaps_in s.window) sought };
 
     ghost Kept = { WhatStays };
 
@@ -65,8 +73,9 @@ impl Nodes for Gaps {
         first < second || (first == second && a < b)
     }
 
-    fn before_probe(&self, node: u64, probe: &u64) -> bool {
-        tile_at(&self.window, node - TAG).len < *probe
+    fn before_probe(&self, node: u64, sought: &Sought) -> bool {
+        let len = tile_at(&self.window, node - TAG).len;
+        len < sought.len || (len == sought.len && node < sought.from)
     }
 
     ghost finite = { λ s. gaps_finite s.window };

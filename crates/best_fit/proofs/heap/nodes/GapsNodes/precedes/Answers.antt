@@ -1,6 +1,6 @@
 -- The lengths are those of the two tiles.
-use Rattle.best_fit.proofs.Common.{◌≡◌, ◌-◌, ℕ, ◌<◌, ◌≤◌, Bool, ◌&&◌, ◌||◌, sym, ap, ◌∙◌, arith, nat_lt, ◌==◌, lt-ltb}
-use Rattle.best_fit.proofs.Common.{le-ltb, eq-eqb, ne_eqb, or_left, Tile, gaps_in, len_in, is_gap_node-GapNode}
+use Rattle.best_fit.proofs.Common.{◌-◌, sym, ap, ◌∙◌, arith, Tile, gaps_in, len_in, is_gap_node-GapNode}
+use Rattle.best_fit.proofs.Compared.{as_long, longer, shorter}
 use Rattle.best_fit.proofs.GapFacts.{node_at, node_tile, node_read, node_len}
 use Rattle.best_fit.proofs.heap.nodes.GapsNodes.precedes.Goals as goal
 
@@ -21,21 +21,6 @@ pub tile_at-second-requires : goal.tile_at-second-requires
 tile_at-second-requires c = let w = c.args.self.now.window in
     let d = node_at w c.args.b (is_gap_node-GapNode w c.args.b c.requires.second) in
     node_tile w c.args.b (c.args.b - 16) d (omega arith)
-
--- the order, by what is read
-shorter : (k l a b p q : ℕ) → p ≡ k → q ≡ l → p < q → nat_lt p q ≡ (nat_lt k l || ((k == l) && nat_lt a b))
-shorter k l a b p q e f h = lt-ltb p q h
-    ∙ sym (or_left (nat_lt k l) ((k == l) && nat_lt a b) (lt-ltb k l (omega arith)))
-
-as_long : (k l a b p q : ℕ) → p ≡ k → q ≡ l → q ≤ p → p ≡ q → nat_lt a b ≡ (nat_lt k l || ((k == l) && nat_lt a b))
-as_long k l a b p q e f h same =
-    sym (ap (λ (x : Bool). x || ((k == l) && nat_lt a b)) (le-ltb k l (omega arith))
-    ∙ ap (λ (x : Bool). x && nat_lt a b) (eq-eqb k l (omega arith)))
-
-longer : (k l a b p q : ℕ) → p ≡ k → q ≡ l → q ≤ p → (p ≡ q → ⊥) → (p == q) ≡ (nat_lt k l || ((k == l) && nat_lt a b))
-longer k l a b p q e f h other =
-    ne_eqb p q other ∙ sym (ap (λ (x : Bool). x || ((k == l) && nat_lt a b)) (le-ltb k l (omega arith))
-    ∙ ap (λ (x : Bool). x && nat_lt a b) (ne_eqb k l (λ same. other (omega arith))))
 
 pub returns-then-first-second : goal.returns-then-first-second
 returns-then-first-second c =

@@ -1,59 +1,10 @@
--- `remove` takes the node out, and the new root is stored.
-use Rattle.best_fit.proofs.Common.{ap, ◌∙◌, ℕ, Bool, arith, IsSearchTree, comes_before, gap_cells, gaps_in}
-use Rattle.best_fit.proofs.FreeTrees.{root_leads, search_tree, tree_size}
-use Rattle.best_fit.proofs.GapSetters.{target_whole}
-use Rattle.best_fit.proofs.Replanting.{few_bits, in_tree_of, node_inside, node_of_tree, taken_rest, taken_tree}
+-- The search takes few steps.
+use Rattle.best_fit.proofs.Common.{◌≡◌, arith, Cut, HasTree, Gap, List}
+use Rattle.best_fit.proofs.Replanting.{few_bits}
 use Rattle.best_fit.proofs.heap.touching.Touches.take_out.Goals as goal
 
-pub remove-changed-requires-clause-root : goal.remove-changed-requires-clause-root
-remove-changed-requires-clause-root c = let w = c.args.self.now.gaps.now.window in
-    rw c.load-root.ensures (root_leads w c.requires.tree.0 c.requires.tree.1)
-
-pub remove-changed-requires-clause-tree : goal.remove-changed-requires-clause-tree
-remove-changed-requires-clause-tree c =
+pub take_out_at-requires-clause-room : goal.take_out_at-requires-clause-room
+take_out_at-requires-clause-room c =
     let w = c.args.self.now.gaps.now.window in let hs = c.requires.tree.0 in let h = c.requires.tree.1 in
-    (h.tree.tree, rw c.load-root.ensures (search_tree w hs h), in_tree_of w hs c.args.node h c.requires.tree.2)
-
-pub overflow_add-self : goal.overflow_add-self
-overflow_add-self c =
-    let w = c.args.self.now.gaps.now.window in let hs = c.requires.tree.0 in let h = c.requires.tree.1 in
-    let s : IsSearchTree (comes_before (gaps_in w)) (gap_cells w) c.load-root.result h.tree.tree =
-    rw c.load-root.ensures (search_tree w hs h) in
-    let steps = rw (tree_size w hs h) at (c.remove-changed.ensures.steps h.tree.tree s) in
-    let few = few_bits w hs h in let room = c.requires.room in
-    omega arith
-
-pub set_link-requires-clause-inside : goal.set_link-requires-clause-inside
-set_link-requires-clause-inside c =
-    let w = c.args.self.now.gaps.now.window in let d = c.remove-changed.new.nodes.window in
-    node_inside d c.args.node (ap (λ (p : ℕ → Bool). p c.args.node) c.remove-changed.ensures.same.nodes
-    ∙ node_of_tree w c.requires.tree.0 c.args.node c.requires.tree.1 c.requires.tree.2)
-
-pub set_link-requires-clause-target : goal.set_link-requires-clause-target
-set_link-requires-clause-target c = target_whole c.remove-changed.new.nodes.window c.remove-changed.result.root
-    c.remove-changed.ensures.root
-
-pub returns-clause-tree : goal.returns-clause-tree
-returns-clause-tree c = λ xs g ys is h.
-    let w = c.args.self.now.gaps.now.window in let d = c.remove-changed.new.nodes.window in
-    let e = c.set_link.new.window in
-    taken_tree w d e xs g ys c.args.node is h c.remove-changed.result.root
-    (λ t s. c.remove-changed.ensures.tree t (rw c.load-root.ensures s))
-    c.remove-changed.ensures.same.nodes c.remove-changed.ensures.same.kept c.set_link.ensures.leads
-    c.set_link.ensures.len c.set_link.ensures.rest
-
-pub returns-clause-rest : goal.returns-clause-rest
-returns-clause-rest c =
-    let w = c.args.self.now.gaps.now.window in let d = c.remove-changed.new.nodes.window in
-    let e = c.set_link.new.window in
-    taken_rest w d e c.args.node (ap (λ (p : ℕ → Bool). p c.args.node) c.remove-changed.ensures.same.nodes
-    ∙ node_of_tree w c.requires.tree.0 c.args.node c.requires.tree.1 c.requires.tree.2)
-    c.remove-changed.ensures.same.kept c.set_link.ensures.place c.set_link.ensures.len c.set_link.ensures.rest
-
-pub returns-clause-steps : goal.returns-clause-steps
-returns-clause-steps c = λ hs h.
-    let w = c.args.self.now.gaps.now.window in
-    let s : IsSearchTree (comes_before (gaps_in w)) (gap_cells w) c.load-root.result h.tree.tree =
-    rw c.load-root.ensures (search_tree w hs h) in
-    let steps = rw (tree_size w hs h) at (c.remove-changed.ensures.steps h.tree.tree s) in
+    let steps = c.exit_of-exit.ensures.steps hs h in let few = few_bits w hs h in let room = c.requires.room in
     omega arith

@@ -1,5 +1,5 @@
 //! The one way to the tiles of a heap and to the tree of its gaps: each touch is counted.
-ghost use Rattle.std.specs.Prelude.{◌≡◌, ℕ, ◌+◌, ◌*◌, ◌%◌, ◌^◌, ◌<◌, ◌≤◌, true, ◌-◌, Option, Some, List, ◌∷◌, ◌++◌, length, filter, option_map, false, IfSome};
+ghost use Rattle.std.specs.Prelude.{◌≡◌, ℕ, ◌+◌, ◌*◌, ◌%◌, ◌^◌, ◌<◌, ◌≤◌, true, ◌-◌, Option, Some, List, ◌∷◌, ◌++◌, length, filter, option_map, false};
 ghost use Rattle.raw_region.specs.Memory.{cut_at, whole};
 ghost use Rattle.block_tags.specs.declared.tile.Role.{Role as ARole};
 ghost use Rattle.block_tags.specs.declared.tile.Tile.{Tile as ATile};
@@ -12,11 +12,13 @@ ghost use Rattle.best_fit.specs.Extents.{Gap};
 ghost use Rattle.best_fit.specs.Fit.{least};
 ghost use Rattle.best_fit.specs.FreeTree.{payloads};
 ghost use Rattle.best_fit.specs.GapNodes.{from_first, gaps_in, is_gap_node, kept_of, stands_before};
-ghost use Rattle.best_fit.specs.GapTrees.{HasTree, LacksOne, MayBegin, Regrown, is_long, node_of};
+ghost use Rattle.best_fit.specs.GapTrees.{HasTree, LacksOne, MayBegin, MayEnter, Regrown, is_long, node_of, root_of_gaps};
 
 use crate::heap::nodes::{FREE_TREE, Gaps, RIGHT, Sought, set_link};
 use block_tags::{Role, TAG, Tile};
-use link_tree::{WayOut, find_way_out, insert, remove_at};
+use link_tree::{
+    WayIn, WayOut, find_first_not_before, find_way_in, find_way_out, insert_at, remove_at,
+};
 use offset_link::load;
 
 /// The gaps of a heap's window, and how often they were touched: by a step of their tree, or by a call on one tile.
@@ -41,12 +43,11 @@ impl<'a> Touches<'a> {
         self.count
     }
 
-    /// The first gap of the tree that has at least `wanted` bytes, by its payload, and where its removal begins.
-    pub fn best(&mut self, wanted: u64) -> WayOut
+    /// The payload of the first gap of the tree that has at least `wanted` bytes.
+    pub fn best(&mut self, wanted: u64) -> Option<u64>
         requires tree { (hs : List Gap) × HasTree self.old.gaps.now.window hs }
         requires room { self.old.count < 2 ^ 63 }
-        ensures first { (hs : List Gap) → HasTree self.old.gaps.now.window hs → result.node ≡ option_map node_of (least (filter (is_long wanted) hs)) }
-        ensures exit { IfSome result.node (λ node. MayBegin self.old.gaps.now.window node result.exit) }
+        ensures first { (hs : List Gap) → HasTree self.old.gaps.now.window hs → result ≡ option_map node_of (least (filter (is_long wanted) hs)) }
         ensures counted { self.old.count ≤ self.new.count }
         ensures steps { (hs : List Gap) → HasTree self.old.gaps.now.window hs → self.new.count ≤ self.old.count + 2 * bits (length hs + 1) }
         ensures exact { (hs : List Gap) (h : HasTree self.old.gaps.now.window hs)
@@ -59,51 +60,12 @@ impl<'a> Touches<'a> {
             len: wanted,
             from: 0,
         };
-        let found = find_way_out(&*self.gaps, root, &sought);
+        let found = find_first_not_before(&*self.gaps, root, &sought);
         self.count += found.steps;
-        found
+        found.node
     }
 
-    /// Where the removal of a gap of the tree begins.
-    fn exit_of(&mut self, node: u64) -> Option<u64>
-        requires tree { (hs : List Gap) × HasTree self.old.gaps.now.window hs × (is_in node (payloads hs) ≡ true) }
-        requires room { self.old.count < 2 ^ 63 }
-        ensures exit { MayBegin self.old.gaps.now.window node result }
-        ensures counted { self.old.count ≤ self.new.count }
-        ensures steps { (hs : List Gap) → HasTree self.old.gaps.now.window hs → self.new.count ≤ self.old.count + 2 * bits (length hs + 1) }
-        ensures gaps { self.new.gaps.now ≡ self.old.gaps.now }
-        ensures reference { self.new.gaps.ghost_name ≡ self.old.gaps.ghost_name }
-    {
-        let root = load(&self.gaps.window, FREE_TREE);
-        // A search for the root would end there.
-        if root == Some(node) {
-            return None;
-        }
-        let len = block_tags::tile_at(&self.gaps.window, node - TAG).len;
-        let sought = Sought { len, from: node };
-        let way = find_way_out(&*self.gaps, root, &sought);
-        self.count += way.steps;
-        way.exit
-    }
-
-    /// Takes a gap out of the tree, from the root on or from where a search has found that its removal begins.
-    pub fn take_out_at(&mut self, node: u64, exit: Option<u64>)
-        requires tree { (hs : List Gap) × HasTree self.old.gaps.now.window hs × (is_in node (payloads hs) ≡ true) }
-        requires exit { MayBegin self.old.gaps.now.window node exit }
-        requires room { self.old.count + 2 ^ 12 < 2 ^ 64 }
-        ensures tree { (xs : List Gap) (g : Gap) (ys : List Gap) → node ≡ node_of g → HasTree self.old.gaps.now.window (xs ++ g ∷ ys) → HasTree self.new.gaps.now.window (xs ++ ys) }
-        ensures rest { Regrown self.old.gaps.now.window self.new.gaps.now.window }
-        ensures counted { self.old.count < self.new.count }
-        ensures steps { (hs : List Gap) → HasTree self.old.gaps.now.window hs → self.new.count ≤ self.old.count + 30 * bits (length hs + 1) + 32 }
-        ensures reference { self.new.gaps.ghost_name ≡ self.old.gaps.ghost_name }
-    {
-        let root = load(&self.gaps.window, FREE_TREE);
-        let changed = remove_at(self.gaps, root, exit, node);
-        self.count += changed.steps;
-        set_link(&mut self.gaps.window, FREE_TREE, changed.root);
-    }
-
-    /// Takes a gap out of the tree, which is looked for first.
+    /// Takes a gap out of the tree.
     pub fn take_out(&mut self, node: u64)
         requires tree { (hs : List Gap) × HasTree self.old.gaps.now.window hs × (is_in node (payloads hs) ≡ true) }
         requires room { self.old.count < 2 ^ 63 }
@@ -113,8 +75,11 @@ impl<'a> Touches<'a> {
         ensures steps { (hs : List Gap) → HasTree self.old.gaps.now.window hs → self.new.count ≤ self.old.count + 32 * bits (length hs + 1) + 32 }
         ensures reference { self.new.gaps.ghost_name ≡ self.old.gaps.ghost_name }
     {
-        let exit = self.exit_of(node);
-        self.take_out_at(node, exit);
+        let root = load(&self.gaps.window, FREE_TREE);
+        let way = way_out(&*self.gaps, root, node);
+        let changed = remove_at(self.gaps, root, way.exit, node);
+        self.count += way.steps + changed.steps;
+        set_link(&mut self.gaps.window, FREE_TREE, changed.root);
     }
 
     /// Puts a gap into the tree, of which it is the only one that is not in it. Its links may be anything.
@@ -130,8 +95,9 @@ impl<'a> Touches<'a> {
         self.count += 1;
         clear_links(self.gaps, node);
         let root = load(&self.gaps.window, FREE_TREE);
-        let changed = insert(self.gaps, root, node);
-        self.count += changed.steps;
+        let way = way_in(&*self.gaps, root, node);
+        let changed = insert_at(self.gaps, root, way.entry, node);
+        self.count += way.steps + changed.steps;
         set_link(&mut self.gaps.window, FREE_TREE, changed.root);
     }
 
@@ -294,4 +260,43 @@ fn clear_links(gaps: &mut Gaps, node: u64)
 {
     set_link(&mut gaps.window, node, None);
     set_link(&mut gaps.window, node + RIGHT, None);
+}
+
+/// The way from the root to a gap of the tree: where its removal begins.
+fn way_out(gaps: &Gaps, root: Option<u64>, node: u64) -> WayOut
+    requires root { root ≡ root_of_gaps gaps.now.window }
+    requires tree { (hs : List Gap) × HasTree gaps.now.window hs × (is_in node (payloads hs) ≡ true) }
+    ensures exit { MayBegin gaps.now.window node result.exit }
+    ensures steps { (hs : List Gap) → HasTree gaps.now.window hs → result.steps ≤ 2 * bits (length hs + 1) }
+{
+    // The way to the root ends there.
+    if root == Some(node) {
+        return WayOut {
+            node: root,
+            exit: None,
+            steps: 0,
+        };
+    }
+    let len = block_tags::tile_at(&gaps.window, node - TAG).len;
+    find_way_out(gaps, root, &Sought { len, from: node })
+}
+
+/// The way from the root to where a gap enters the tree.
+fn way_in(gaps: &Gaps, root: Option<u64>, node: u64) -> WayIn
+    requires root { root ≡ root_of_gaps gaps.now.window }
+    requires node { is_gap_node gaps.now.window node ≡ true }
+    requires tree { (hs : List Gap) × HasTree gaps.now.window hs }
+    ensures entry { MayEnter gaps.now.window node result.entry }
+    ensures steps { (hs : List Gap) → HasTree gaps.now.window hs → result.steps ≤ 2 * bits (length hs + 1) }
+{
+    // Where there is no gap yet it becomes the root.
+    if root.is_none() {
+        return WayIn {
+            node: None,
+            entry: None,
+            steps: 0,
+        };
+    }
+    let len = block_tags::tile_at(&gaps.window, node - TAG).len;
+    find_way_in(gaps, root, &Sought { len, from: node })
 }

@@ -1,0 +1,56 @@
+-- The search for the gap ends where it enters.
+use Rattle.best_fit.proofs.Common.{◌≡◌, sym, ap, ◌∙◌, ◌-◌, arith, Tile, IsSearchTree, comes_before, gap_cells}
+use Rattle.best_fit.proofs.Common.{gaps_in, len_in, is_gap_node-GapNode}
+use Rattle.best_fit.specs.declared.heap.nodes.Sought.{Sought}
+use Rattle.best_fit.proofs.Exits.{may_enter}
+use Rattle.best_fit.proofs.FreeTrees.{root_leads, search_tree, tree_size}
+use Rattle.best_fit.proofs.GapFacts.{NodeAt, node_at, node_len, node_read, node_tile}
+use Rattle.best_fit.proofs.Replanting.{few_bits}
+use Rattle.best_fit.proofs.heap.touching.way_in.Goals as goal
+use Rattle.best_fit.proofs.heap.touching.way_in.Goals.{After-tile_at-len, Start}
+
+-- where the gap lies
+there : (c : Start) → NodeAt c.args.gaps.now.window c.args.node
+there c = let w = c.args.gaps.now.window in
+    node_at w c.args.node (is_gap_node-GapNode w c.args.node c.requires.node)
+
+pub overflow_sub-node : goal.overflow_sub-node
+overflow_sub-node c = let low = (there (goal.at.overflow_sub-node c).Start).low in omega arith
+
+pub tile_at-len-requires : goal.tile_at-len-requires
+tile_at-len-requires c =
+    let d = there (goal.at.tile_at-len-requires c).Start in
+    node_tile c.args.gaps.now.window c.args.node (c.args.node - 16) d (omega arith)
+
+pub find_way_in-requires-clause-root : goal.find_way_in-requires-clause-root
+find_way_in-requires-clause-root c = let w = c.args.gaps.now.window in
+    rw c.requires.root (root_leads w c.requires.tree.0 c.requires.tree.1)
+
+pub find_way_in-requires-clause-tree : goal.find_way_in-requires-clause-tree
+find_way_in-requires-clause-tree c =
+    let w = c.args.gaps.now.window in let h = c.requires.tree.1 in
+    (h.tree.tree, rw c.requires.root (search_tree w c.requires.tree.0 h))
+
+-- what is looked for is the gap
+sought_is : (c : After-tile_at-len) → (let p : Sought = record { len = c.tile_at-len.result.len; from = c.args.node } in p)
+    ≡ record { len = len_in (gaps_in c.args.gaps.now.window) c.args.node; from = c.args.node }
+sought_is c =
+    let w = c.args.gaps.now.window in
+    let d = node_at w c.args.node (is_gap_node-GapNode w c.args.node c.requires.node) in
+    ap (λ k. let p : Sought = record { len = k; from = c.args.node } in p)
+    (ap (λ (t : Tile). t.len) (node_read w c.args.node (c.args.node - 16) d (omega arith) c.tile_at-len.result
+    c.tile_at-len.ensures) ∙ sym (node_len w c.args.node d))
+
+pub returns-clause-entry : goal.returns-clause-entry
+returns-clause-entry c =
+    let g = goal.at.returns-clause-entry c in let w = c.args.gaps.now.window in
+    may_enter w c.args.node c.find_way_in.result.entry _ (sought_is g.After-tile_at-len)
+    (λ t k. c.find_way_in.ensures.entry t (rw c.requires.root k))
+
+pub returns-clause-steps : goal.returns-clause-steps
+returns-clause-steps c = λ hs h.
+    let w = c.args.gaps.now.window in
+    let s : IsSearchTree (comes_before (gaps_in w)) (gap_cells w) c.args.root h.tree.tree =
+    rw c.requires.root (search_tree w hs h) in
+    let steps = rw (tree_size w hs h) at (c.find_way_in.ensures.steps h.tree.tree s) in
+    omega arith

@@ -109,6 +109,12 @@ pub fn shift_non_null(w: &mut Window, at: u64, n: u64, by: Places)
 /// The links a run of which moves at once.
 const RUN: usize = 8;
 
+/// Of more runs than these the words do not all fit a processor's first cache.
+const NEAR: usize = 512;
+
+/// How many runs before their turn words are looked at.
+const AHEAD: usize = 8;
+
 /// From the last run on, and then from the last link of the rest on, so that none is overwritten before it has moved. That none
 /// is null may be known.
 fn move_up(bytes: &mut [u8], at: usize, n: usize, by: usize, non_null: bool)
@@ -126,8 +132,23 @@ fn move_up(bytes: &mut [u8], at: usize, n: usize, by: usize, non_null: bool)
     links_up(bytes, at, rest, by);
 }
 
-/// The runs, the last of them first, two in a turn.
+/// The runs, which are far where they are many.
 fn runs_up(bytes: &mut [u8], at: usize, n: usize, by: usize, non_null: bool)
+    requires inside { at + by + 64 * n ≤ length bytes.old }
+    requires non_null { IsTrue non_null → NoneIsNull (bytes_of bytes.old) at (8 * n) }
+    ensures { bytes.new ≡ patched bytes.old (at + by) (relinked (bytes_of bytes.old) at (at + by) (8 * n)) }
+{
+    if n <= NEAR {
+        return turns_up(bytes, at, n, by, 0, non_null);
+    }
+    turns_up(bytes, at + 64 * AHEAD, n - AHEAD, by, 64 * AHEAD, non_null);
+    turns_up(bytes, at, AHEAD, by, 0, non_null);
+}
+
+/// The runs, the last of them first, two in a turn. Where they are far, words are looked at so many bytes `ahead`.
+#[inline(always)]
+fn turns_up(bytes: &mut [u8], at: usize, n: usize, by: usize, ahead: usize, non_null: bool)
+    requires ahead { ahead ≤ at }
     requires inside { at + by + 64 * n ≤ length bytes.old }
     requires non_null { IsTrue non_null → NoneIsNull (bytes_of bytes.old) at (8 * n) }
     ensures { bytes.new ≡ patched bytes.old (at + by) (relinked (bytes_of bytes.old) at (at + by) (8 * n)) }
@@ -136,15 +157,30 @@ fn runs_up(bytes: &mut [u8], at: usize, n: usize, by: usize, non_null: bool)
     'runs: while left > 1 {
         left -= 2;
         let from = at + 64 * left;
-        run_up(bytes, from + 64, by, non_null);
-        run_up(bytes, from, by, non_null);
+        let known = look_ahead(bytes, from - ahead, ahead > 0, non_null);
+        run_up(bytes, from + 64, by, known);
+        run_up(bytes, from, by, known);
     }
     if left == 1 {
         run_up(bytes, at, by, non_null);
     }
 }
 
+/// Looks at a word of each of two runs whose turn comes later, where they are far: a processor then has them near in time. So
+/// that this is not left out by a compiler, what was known of nulls is known no more where one of the two is one.
+#[inline(always)]
+fn look_ahead(bytes: &[u8], later: usize, far: bool, non_null: bool) -> bool
+    requires { later + 72 ≤ length bytes.now }
+    ensures { IsTrue result → IsTrue non_null }
+{
+    if !far {
+        return non_null;
+    }
+    non_null && (word_in(bytes, later) | word_in(bytes, later + 64)) % 2 == 0
+}
+
 /// One run, link by link where one of it is null.
+#[inline(always)]
 fn run_up(bytes: &mut [u8], at: usize, by: usize, non_null: bool)
     requires inside { at + by + 64 ≤ length bytes.old }
     requires non_null { IsTrue non_null → NoneIsNull (bytes_of bytes.old) at 8 }
@@ -186,17 +222,34 @@ fn move_down(bytes: &mut [u8], at: usize, n: usize, by: usize, non_null: bool)
     links_down(bytes, from + 64 * runs, others % RUN, by);
 }
 
-/// The runs, the first of them first, two in a turn.
+/// The runs, which are far where they are many.
 fn runs_down(bytes: &mut [u8], at: usize, n: usize, by: usize, non_null: bool)
     requires source { at + 64 * n ≤ length bytes.old }
     requires inside { by ≤ at }
     requires non_null { IsTrue non_null → NoneIsNull (bytes_of bytes.old) at (8 * n) }
     ensures { bytes.new ≡ patched bytes.old (at - by) (relinked (bytes_of bytes.old) at (at - by) (8 * n)) }
 {
+    if n <= NEAR {
+        return turns_down(bytes, at, n, by, 0, non_null);
+    }
+    let far = n - AHEAD;
+    turns_down(bytes, at, far, by, 64 * AHEAD, non_null);
+    turns_down(bytes, at + 64 * far, AHEAD, by, 0, non_null);
+}
+
+/// The runs, the first of them first, two in a turn. Where they are far, words are looked at so many bytes `ahead`.
+#[inline(always)]
+fn turns_down(bytes: &mut [u8], at: usize, n: usize, by: usize, ahead: usize, non_null: bool)
+    requires source { at + 64 * n + ahead ≤ length bytes.old }
+    requires inside { by ≤ at }
+    requires non_null { IsTrue non_null → NoneIsNull (bytes_of bytes.old) at (8 * n) }
+    ensures { bytes.new ≡ patched bytes.old (at - by) (relinked (bytes_of bytes.old) at (at - by) (8 * n)) }
+{
     'runs: for i in 0..n / 2 {
         let from = at + 128 * i;
-        run_down(bytes, from, by, non_null);
-        run_down(bytes, from + 64, by, non_null);
+        let known = look_ahead(bytes, from + ahead, ahead > 0, non_null);
+        run_down(bytes, from, by, known);
+        run_down(bytes, from + 64, by, known);
     }
     if n % 2 == 1 {
         run_down(bytes, at + 64 * (n - 1), by, non_null);
@@ -204,6 +257,7 @@ fn runs_down(bytes: &mut [u8], at: usize, n: usize, by: usize, non_null: bool)
 }
 
 /// One run, link by link where one of it is null.
+#[inline(always)]
 fn run_down(bytes: &mut [u8], at: usize, by: usize, non_null: bool)
     requires source { at + 64 ≤ length bytes.old }
     requires inside { by ≤ at }

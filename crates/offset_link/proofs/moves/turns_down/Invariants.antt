@@ -1,7 +1,7 @@
 use Rattle.std.proofs.Common.{◌≡◌, ◌-◌, ◌*◌}
 use Rattle.raw_region.specs.Memory.{bytes_of, patched}
 use Rattle.offset_link.specs.Relinked.{relinked}
-use Rattle.offset_link.proofs.moves.runs_down.Given as goal
+use Rattle.offset_link.proofs.moves.turns_down.Given as goal
 
 abbrev pub invariant-runs : goal.invariant-runs
 invariant-runs l =

@@ -3,11 +3,11 @@ ghost use Rattle.std.specs.Prelude.{◌≡◌, ◌+◌, ◌*◌, ◌%◌, ◌<�
 ghost use Rattle.raw_region.specs.Format.{current};
 ghost use Rattle.best_fit.specs.Heap.{IsChanged, IsHeap, has_room, live_of};
 ghost use Rattle.seg_vector.specs.{Standing.place_at, Vector.capacity_for_text as places_for_text};
-ghost use Rattle.seg_vector.specs.TextCalls.{AppendsText, AssignsText, ClearsText, CountsBytePlaces, CountsBytes, GetsByte, IsSomeText, ReadsText, ReleasesText, ReservesBytes, ReservesNoBytes, SetsByte, ShrinksText, StartsText};
+ghost use Rattle.seg_vector.specs.TextCalls.{AppendsText, AssignsText, ClearsText, CountsBytePlaces, CountsBytes, GetsByte, IsSomeText, ReadsText, SetsByte, StartsText};
 
 use crate::elements::{elements, extend, set_element, truncate};
 use crate::places::{Place, capacity_of, len_of};
-use crate::sizing::{self, LIMIT, fit, give_back, start};
+use crate::sizing::{self, LIMIT, start};
 use best_fit::Heap;
 use seg_types::Refusal;
 
@@ -102,19 +102,6 @@ impl SegString {
         Ok(())
     }
 
-    /// Makes places for `n` bytes, where there are fewer, and else changes nothing. The bytes stay.
-    ///
-    /// # Errors
-    ///
-    /// `NoSpace` where there are fewer and the storage cannot be regrown. Nothing changes.
-    pub fn reserve(self, heap: &mut Heap, n: u64) -> Result<(), Refusal>
-        requires { IsSomeText heap.old.bytes self.place }
-        ensures reserved { ReservesBytes heap.old heap.new self.place n result }
-        ensures enough { ReservesNoBytes heap.old heap.new self.place n result }
-    {
-        sizing::reserve(heap, self.place, 1, n)
-    }
-
     /// Leaves these bytes in place of those that there are. There are places for just so many, where there were fewer.
     ///
     /// # Errors
@@ -152,28 +139,11 @@ impl SegString {
         Ok(())
     }
 
-    /// Makes the capacity the number of bytes. The storage is shortened to it, as far as a block can be, and given back where
-    /// there is no byte.
-    pub fn shrink(self, heap: &mut Heap)
-        requires { IsSomeText heap.old.bytes self.place }
-        ensures { ShrinksText heap.old heap.new self.place }
-    {
-        fit(heap, self.place, 1);
-    }
-
     /// Leaves no byte. The places stay.
     pub fn clear(self, heap: &mut Heap)
         requires { IsSomeText heap.old.bytes self.place }
         ensures { ClearsText heap.old heap.new self.place }
     {
         truncate(heap, self.place, 1, 0);
-    }
-
-    /// Gives the storage back. There is no byte and no place then.
-    pub fn release(self, heap: &mut Heap)
-        requires { IsSomeText heap.old.bytes self.place }
-        ensures { ReleasesText heap.old heap.new self.place }
-    {
-        give_back(heap, self.place, 1);
     }
 }

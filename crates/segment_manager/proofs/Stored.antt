@@ -3,7 +3,7 @@ use Rattle.segment_manager.proofs.Common.{◌≡◌, refl, sym, ap, subst, ◌�
 use Rattle.segment_manager.proofs.Common.{Bool, true, false, ◌&&◌, Some, Ok, Err, Result, List, [], ◌∷◌, length}
 use Rattle.segment_manager.proofs.Common.{if◌then◌else◌, arith, IsTrue, nat_le, list_all, mul-le-mul_left, and_from}
 use Rattle.segment_manager.proofs.Common.{slice_get_within, current, Cut, Memory, Has, SameBut, bytes_of, ObjectRole}
-use Rattle.segment_manager.proofs.Common.{handle, IsChanged, serves, ScalarKind, BoolKind, Scalar, Refusal, OutOfRange}
+use Rattle.segment_manager.proofs.Common.{IsChanged, serves, ScalarKind, BoolKind, Scalar, Refusal, OutOfRange}
 use Rattle.segment_manager.proofs.Common.{is_value, size_of, spelling, Key, Literal, literal_of, value_of_literal}
 use Rattle.segment_manager.proofs.Common.{spelled, Mode, Done, Refused, Denotes, IsValueAt, Numbers, Object, Directory}
 use Rattle.segment_manager.proofs.Common.{count_of, has_good_name, is_object, kind_of, live, padded, value_extents}

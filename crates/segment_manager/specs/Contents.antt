@@ -1,5 +1,5 @@
 -- Vectors of numbers and texts: what the two have in common as values of objects, and where they stand.
-use Rattle.std.specs.Prelude.{◌≡◌, ℕ, ◌+◌, ℤ, Bool, true, Option, Some, None, Result, Ok, Err, List, length, option_to_list, nat_lt, if◌then◌else◌, IsTrue}
+use Rattle.std.specs.Prelude.{◌≡◌, ℕ, ◌+◌, ℤ, Bool, true, false, Option, Some, None, Result, Ok, Err, List, length, option_to_list, nat_lt, if◌then◌else◌, IsTrue}
 use Rattle.std.specs.List.{list_all}
 use Rattle.raw_region.specs.Format.{current}
 use Rattle.raw_region.specs.Memory.{Cut}
@@ -8,6 +8,7 @@ use Rattle.best_fit.specs.Extents.{handle}
 use Rattle.best_fit.specs.Heap.{live_of}
 use Rattle.best_fit.specs.Table.{Table}
 use Rattle.seg_types.specs.declared.kinds.Kind.{Kind}
+use Rattle.seg_types.specs.declared.kinds.Kind.TheVariants.{Map, Scalar}
 use Rattle.seg_types.specs.declared.kinds.ScalarKind.{ScalarKind}
 use Rattle.seg_types.specs.declared.refusals.Refusal.{Refusal}
 use Rattle.seg_types.specs.declared.refusals.Refusal.TheVariants.{NotFound, WrongKind}
@@ -89,6 +90,16 @@ sizes_of_kind o kind = if same_kind kind (kind_of o.value) then sizes_of o.value
 
 abbrev pub sizes_at_kind : Directory → Key → Kind → Result (ℕ × ℕ) Refusal
 sizes_at_kind d key kind = elim (object_at d key) [ None ↦ Err NotFound | Some o ↦ sizes_of_kind o kind ]
+
+-- whether objects of a kind are containers, and whether they have storage of their own
+abbrev pub has_sizes : Kind → Bool
+has_sizes (Scalar k) = false
+has_sizes kind = true
+
+abbrev pub has_storage : Kind → Bool
+has_storage (Scalar k) = false
+has_storage (Map k v) = false
+has_storage kind = true
 
 -- The contents of a container are others. Of all blocks that stay no byte changes but its own 24.
 pub record IsRefilled (old new : Cut) (p : Place) (was is : Contents) : Type 0 where

@@ -108,8 +108,7 @@ pub use Rattle.segment_manager.specs.Begun.{IsLooseAlone, IsLooseEntry, IsNotBeg
 pub use Rattle.segment_manager.specs.Begun.{LeadsThere}
 pub use Rattle.segment_manager.specs.Calls.{IsTileOfIndex, elements_at, elements_of, kind_at}
 pub use Rattle.segment_manager.specs.Changeable.{IsChangeable, IsToChange, IsUnchangeable, IsValueOf}
-pub use Rattle.segment_manager.specs.Contents.{Contents, HasNoRoom, IsNumbers}
-pub use Rattle.segment_manager.specs.Contents.{IsNumbersGrown, IsNumbersNow, IsRefilled, are_bytes, bytes_at}
+pub use Rattle.segment_manager.specs.Contents.{Contents, IsRefilled, are_bytes, bytes_at}
 pub use Rattle.segment_manager.specs.Contents.{container_at, container_place, contents_of, has_values, place_of_kind}
 pub use Rattle.segment_manager.specs.Contents.{has_sizes, has_storage, sizes_at, sizes_at_kind, sizes_of, sizes_of_kind}
 pub use Rattle.segment_manager.specs.Denotes.{Denotes, IsHeader, IsObjectAt, IsValueAt, handles, padded_name}

@@ -1,11 +1,11 @@
 -- A call on a vector of numbers or on a text is one step: what the calls of seg_vector ensure of the elements at its place comes to the
 -- directory.
 use Rattle.segment_manager.proofs.Common.{◌&&◌, ◌<◌, Bool, Err, IsTrue, List, None, Ok, Result, Some, ap, false}
-use Rattle.segment_manager.proofs.Common.{length, refl, subst, sym, true, ℕ, ℤ, ◌∙◌, ◌≡◌, ◌≤◌, eqb-true, same_Some}
-use Rattle.segment_manager.proofs.Common.{list_all, MatchResult, option_to_list, current, Cut, IsExchanged}
-use Rattle.segment_manager.proofs.Common.{live_of, Table, Command, is_changing, code_of, is_value}
-use Rattle.segment_manager.proofs.Common.{kind_of_code, same_kind, size_of, Key, Kind, Vector, ScalarKind, Refusal}
-use Rattle.segment_manager.proofs.Common.{NoSpace, OutOfRange, Stands, place_at, spelled, grown_table, IsOutside}
+use Rattle.segment_manager.proofs.Common.{length, subst, sym, true, ℕ, ℤ, ◌∙◌, ◌≡◌, ◌≤◌, eqb-true, same_Some}
+use Rattle.segment_manager.proofs.Common.{MatchResult, option_to_list, current, Cut, IsExchanged}
+use Rattle.segment_manager.proofs.Common.{live_of, Table, Command, is_changing, code_of}
+use Rattle.segment_manager.proofs.Common.{kind_of_code, same_kind, Key, Kind, Vector, ScalarKind, Refusal}
+use Rattle.segment_manager.proofs.Common.{NoSpace, OutOfRange, Stands, place_at, grown_table, IsOutside}
 use Rattle.segment_manager.proofs.Common.{IsWithoutSpace, Place, Answer, Done, Refused, Contents, IsRefilled}
 use Rattle.segment_manager.proofs.Common.{container_at, container_place, contents_of, has_values}
 use Rattle.segment_manager.proofs.Common.{Denotes, Directory, Elements, Object, Value, is_good_value, kind_of}
@@ -46,20 +46,6 @@ pub record Listing (A : Type 0) : Type 0 where
   pub of_kind : (xs : List A) (t : Table) → kind_of (value xs t) ≡ kind
   pub held : (xs : List A) (t : Table) → contents_of (value xs t) ≡ Some (record { each = each; len = length xs; table = t; bytes = spell xs })
   pub values : (xs : List A) (t : Table) → has_values (value xs t) ≡ good xs
-
--- vectors of numbers of a kind
-abbrev pub vectors : ScalarKind → Listing ℤ
-vectors k = record {
-  kind = Vector k;
-  each = size_of k;
-  spell = spelled k;
-  good = list_all (is_value k);
-  value = λ zs t. Elements k zs t;
-  only = λ v e good. vector-only k v e;
-  of_kind = λ zs t. refl;
-  held = λ zs t. refl;
-  values = λ zs t. refl;
-}
 
 -- the object of the key is such a value, which stands at the place
 pub record HoldsItems {A : Type 0} (L : Listing A) (b : List ℕ) (d : Directory) (key : Key) (p : Place) : Type 0 where

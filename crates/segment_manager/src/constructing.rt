@@ -108,22 +108,11 @@ impl Segment {
         ensures step { IsStep self.old self.new (Construct (D.key key.now (kind_of (bare (F.content filling.now)))) (F.content filling.now)) (handle_answer result) }
         ensures refused { KeepsRefused self.old self.new result }
     {
-        let key = key.key_for(filling.shape().kind);
-        self.construct_filled(&key, filling)
-    }
-
-    /// The same under a key that suits what fills it.
-    #[inline(always)]
-    fn construct_filled<F: Filling>(&mut self, key: &NewKey, filling: &F) -> Result<Handle, Refusal>
-        requires stands { F.stands filling.now }
-        requires kind { IsOfKind (new_key_seen key.now) (kind_of (bare (F.content filling.now))) }
-        ensures step { IsStep self.old self.new (Construct (new_key_seen key.now) (F.content filling.now)) (handle_answer result) }
-        ensures refused { KeepsRefused self.old self.new result }
-    {
         if self.is_read_only() {
             return Err(Refusal::ReadOnly);
         }
-        construct_in(&mut self.heap, key, filling)
+        let key = key.key_for(filling.shape().kind);
+        construct_in(&mut self.heap, &key, filling)
     }
 }
 

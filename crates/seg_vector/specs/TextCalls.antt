@@ -27,12 +27,6 @@ pub record IsTextGrown (old new : Cut) (p : Place) (t : Table) (n : ℕ) (bytes 
 
 -- ---- what is read
 
-abbrev pub CountsBytes : List ℕ → Place → ℕ → Type 0
-CountsBytes b p n = (bytes : List ℕ) (t : Table) → IsText b p bytes t → n ≡ length bytes
-
-abbrev pub CountsBytePlaces : List ℕ → Place → ℕ → Type 0
-CountsBytePlaces b p n = (bytes : List ℕ) (t : Table) → IsText b p bytes t → n ≡ t.capacity
-
 abbrev pub ReadsText : List ℕ → Place → List ℕ → Type 0
 ReadsText b p out = (bytes : List ℕ) (t : Table) → IsText b p bytes t → out ≡ bytes
 
@@ -49,9 +43,6 @@ abbrev pub SetsByte : Cut → Cut → Place → ℕ → ℕ → Result (Unit {0}
 SetsByte old new p i x result =
     (bytes : List ℕ) (t : Table) → IsText old.bytes p bytes t
     → MatchResult result (λ u. (i < length bytes) × IsTextNow old new p t (slice_set bytes i x) t) (IsOutside old new (length bytes) i)
-
-abbrev pub ClearsText : Cut → Cut → Place → Type 0
-ClearsText old new p = (bytes : List ℕ) (t : Table) → IsText old.bytes p bytes t → IsTextNow old new p t [] t
 
 abbrev pub AssignsText : Cut → Cut → Place → List ℕ → Result (Unit {0}) Refusal → Type 0
 AssignsText old new p more result =

@@ -3,7 +3,7 @@ ghost use Rattle.std.specs.Prelude.{◌≡◌, ◌+◌, ◌*◌, ◌%◌, ◌<�
 ghost use Rattle.raw_region.specs.Format.{current};
 ghost use Rattle.best_fit.specs.Heap.{IsChanged, IsHeap, has_room, live_of};
 ghost use Rattle.seg_vector.specs.{Standing.place_at, Vector.capacity_for_text as places_for_text};
-ghost use Rattle.seg_vector.specs.TextCalls.{AppendsText, AssignsText, ClearsText, CountsBytePlaces, CountsBytes, GetsByte, IsSomeText, ReadsText, SetsByte, StartsText};
+ghost use Rattle.seg_vector.specs.TextCalls.{AppendsText, AssignsText, GetsByte, IsSomeText, ReadsText, SetsByte, StartsText};
 
 use crate::elements::{elements, extend, set_element, truncate};
 use crate::places::{Place, capacity_of, len_of};
@@ -47,22 +47,6 @@ impl SegString {
         SegString { place }
     }
 
-    /// The number of bytes.
-    pub fn len(self, heap: &Heap) -> u64
-        requires { IsSomeText heap.now.bytes self.place }
-        ensures { CountsBytes heap.now.bytes self.place result }
-    {
-        len_of(heap, self.place)
-    }
-
-    /// The number of bytes that the storage has places for.
-    pub fn capacity(self, heap: &Heap) -> u64
-        requires { IsSomeText heap.now.bytes self.place }
-        ensures { CountsBytePlaces heap.now.bytes self.place result }
-    {
-        capacity_of(heap, self.place)
-    }
-
     /// All bytes.
     pub fn as_bytes(self, heap: &Heap) -> &[u8]
         requires { IsSomeText heap.now.bytes self.place }
@@ -95,7 +79,7 @@ impl SegString {
         requires { IsSomeText heap.old.bytes self.place }
         ensures { SetsByte heap.old heap.new self.place index byte result }
     {
-        if index >= self.len(heap) {
+        if index >= len_of(heap, self.place) {
             return Err(Refusal::OutOfRange);
         }
         set_element(heap, self.place, 1, index, &[byte]);
@@ -113,7 +97,7 @@ impl SegString {
     {
         let len = bytes.len() as u64;
         sizing::reserve(heap, self.place, 1, len)?;
-        self.clear(heap);
+        truncate(heap, self.place, 1, 0);
         extend(heap, self.place, 1, len, bytes);
         Ok(())
     }
@@ -132,18 +116,10 @@ impl SegString {
         if more > LIMIT {
             return Err(Refusal::NoSpace);
         }
-        let needed = self.len(heap) + more;
-        let wanted = capacity_for_text(needed, self.capacity(heap));
+        let needed = len_of(heap, self.place) + more;
+        let wanted = capacity_for_text(needed, capacity_of(heap, self.place));
         sizing::reserve(heap, self.place, 1, wanted)?;
         extend(heap, self.place, 1, more, bytes);
         Ok(())
-    }
-
-    /// Leaves no byte. The places stay.
-    pub fn clear(self, heap: &mut Heap)
-        requires { IsSomeText heap.old.bytes self.place }
-        ensures { ClearsText heap.old heap.new self.place }
-    {
-        truncate(heap, self.place, 1, 0);
     }
 }

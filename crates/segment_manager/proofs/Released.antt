@@ -16,7 +16,7 @@ use Rattle.seg_vector.specs.Standing.{IsStanding}
 use Rattle.seg_vector.specs.TextsCalls.{ReleasesTexts}
 use Rattle.segment_manager.specs.Contents.{has_storage}
 use Rattle.segment_manager.specs.Stored.{each_of}
-use Rattle.segment_manager.proofs.{Contained.good-with, Contained.start-place, Frame.object-roomy, Here.standing}
+use Rattle.segment_manager.proofs.{Contained.good-with, Contained.start-place, Frame.object-roomy, Here.IsReadAt, Here.standing}
 use Rattle.segment_manager.proofs.{Live.IsIn, Rewritten.value_start, Rewritten.with_value, TextsHeld.HoldsTexts}
 use Rattle.segment_manager.proofs.{TextsHeld.holds-texts, Emptied.changed-itself, Emptied.emptied-is}
 use Rattle.segment_manager.proofs.{Emptied.emptied-numbers, Exchanged.Exchange, Exchanged.between}
@@ -60,10 +60,6 @@ found-container d key kind o p e f g =
     ∙ sym (ap (λ (q : Option Object). elim q as (λ _. Result Place Refusal) [ None ↦ Err NotFound | Some o ↦ place_of_kind o kind ]) e)
 
 -- ---- what the head says
-
--- it was read of each object that stands at the handle
-abbrev pub IsReadAt : List ℕ → ℕ → Head → Type 0
-IsReadAt b h head = (o : Object) → StandsAt b h o → IsHeadOf o head
 
 -- it says that elements of one length stand behind it, a vector of texts, or a map
 module _ (b : List ℕ) (h at : ℕ) (head : Head) (said : IsReadAt b h head) (behind : at ≡ head_len + padded head.name_len) (d : Directory) (o : Object) (s : StandsFor b d) (e : object_at d (ByHandle h) ≡ Some o) where

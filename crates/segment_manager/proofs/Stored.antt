@@ -11,7 +11,7 @@ use Rattle.segment_manager.proofs.Common.{value_len, with_changed, perform, Answ
 use Rattle.segment_manager.proofs.Common.{step_of_kind, and_then, map, values_of, None}
 use Rattle.std.proofs.Common.{negsuc, set}
 use Rattle.std.proofs.lemmas.List.{length-set}
-use Rattle.segment_manager.specs.declared.accessing.Place.{Place}
+use Rattle.seg_vector.specs.declared.places.Place.{Place}
 use Rattle.segment_manager.specs.Standing.{place_at}
 use Rattle.seg_types.specs.Commands as asked
 use Rattle.segment_manager.proofs.{Blocks.spelling-length, Frame.IsRoomy, Frame.object-roomy, Live.IsIn}

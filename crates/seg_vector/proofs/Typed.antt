@@ -197,10 +197,6 @@ pub text-then : {old mid new : Cut} {p : Place} (t : Table) {u : Table} {ys : Li
     → IsTextNow mid new p u ys u → IsTextNow old new p t ys u
 text-then t c w = record { change = exchange-then c w.change; text = w.text }
 
-pub text-grown : {old new : Cut} {p : Place} {n : ℕ} {t : Table} {bytes : List ℕ}
-    → IsGrown old new p 1 n (length bytes) t bytes → IsTextGrown old new p t n bytes
-text-grown g = record { table = g.table; grown = g.grown; now = record { change = g.change; text = g.stands } }
-
 pub text-grown-then : {old mid new : Cut} {p : Place} {n : ℕ} {t : Table} {bytes ys : List ℕ}
     → (g : IsGrown old mid p 1 n (length bytes) t bytes) → IsTextNow mid new p g.table ys g.table
     → IsTextGrown old new p t n ys

@@ -19,7 +19,7 @@ abbrev made_for : Directory → Key → Content → Option Object → Plan
 made_for d key content r = elim r as (λ _. Plan) [ Some o ↦ Refuse Exists | None ↦ with_new_object d key content (λ o e. Reply (Made (handle o.extent)) e) ]
 
 -- A command asks for a new object where no object has the key, and says this of it: it is made.
-makes : (old : State) (new : Cut) (key : Key) (content : Content) (h : ℕ) (c : Command) (say : Object → Answer) (answer : Answer) → is_read_only old.mode ≡ false → SamePlace old.cut new
+pub makes : (old : State) (new : Cut) (key : Key) (content : Content) (h : ℕ) (c : Command) (say : Object → Answer) (answer : Answer) → is_read_only old.mode ≡ false → SamePlace old.cut new
     → ((d : Directory) → object_at d key ≡ None → effect d c ≡ with_new_object d key content (λ o e. Reply (say o) e))
     → ((d : Directory) → (n : IsNewObject new d key content h) → say n.object ≡ answer)
     → ((d : Directory) → StandsFor old.cut.bytes d → (object_at d key ≡ None) × IsNewObject new d key content h) → IsStep old (record old { cut = new }) c answer
@@ -44,7 +44,7 @@ makes-nothing old new key content c say writing place asks each =
       denotes = (each d k).1.denotes;
     }))
 
-abbrev made_handle : Object → Answer
+abbrev pub made_handle : Object → Answer
 made_handle o = Made (handle o.extent)
 
 pub constructs : (old : State) (new : Cut) (key : Key) (content : Content) (h : ℕ) → is_read_only old.mode ≡ false → SamePlace old.cut new

@@ -5,11 +5,12 @@ use Rattle.segment_manager.proofs.Common.{Map, ScalarKind, Plain, Refusal, is_va
 use Rattle.segment_manager.proofs.Common.{Put, Remove, literal_of, Erases, Puts, FindsItem, FindsItemBefore}
 use Rattle.segment_manager.proofs.Common.{FindsLastItem, FindsValue, IsSomeMap}
 use Rattle.segment_manager.proofs.Common.{map_at}
-use Rattle.segment_manager.proofs.Common.{numbers_in, pair_above, pair_at_end, pair_below, pair_from, pair_up_to}
+use Rattle.segment_manager.proofs.Common.{numbers_in, pair_at_end, pair_below, pair_up_to}
 use Rattle.segment_manager.proofs.Common.{told_of_map, value_or_absent, Answers, IsReplyOfKind, IsSegment, State}
 use Rattle.segment_manager.proofs.Common.{is_read_only, List, NumberPair}
 use Rattle.seg_map.specs.declared.places.Place.{Place}
 use Rattle.segment_manager.specs.Maps.{IsPairs}
+use Rattle.segment_manager.specs.Walks.{pair_past}
 use Rattle.segment_manager.proofs.MapCalls.{TellsSafely, map-erased, map-got, map-put}
 use Rattle.segment_manager.proofs.MapCalls.{map-told, put_result, stands-map}
 use Rattle.segment_manager.proofs.PairNumbers.{IsScalarOf, erases-numbers, finds-back, finds-item, finds-last}
@@ -44,13 +45,9 @@ module _ {K V : Type 0} (k v : ScalarKind) (kp : Plain K) (vp : Plain V) (kw : K
   told-there say answer F finds each =
       subst (λ (u : State). Answers u (λ d. told_of_map d key k v say) (Ok answer)) view (map-told s key k v p b found-there say answer (finds (subst F same each)))
 
-  pub from-there : (x : K) (r : Option (K × V)) → FindsItem kp vp s.cut.bytes q.handle q.at false x r → Answers t (λ d. told_of_map d key k v (pair_from (kw x))) (Ok (numbers_in kw vw r))
-  from-there x r each =
-      told-there (pair_from (kw x)) (numbers_in kw vw r) (λ (c : Place). FindsItem kp vp s.cut.bytes c.handle c.at false x r) (finds-item k v kp vp kw vw kl vl s.cut.bytes p.handle p.at false x r) each
-
-  pub above-there : (x : K) (r : Option (K × V)) → FindsItem kp vp s.cut.bytes q.handle q.at true x r → Answers t (λ d. told_of_map d key k v (pair_above (kw x))) (Ok (numbers_in kw vw r))
-  above-there x r each =
-      told-there (pair_above (kw x)) (numbers_in kw vw r) (λ (c : Place). FindsItem kp vp s.cut.bytes c.handle c.at true x r) (finds-item k v kp vp kw vw kl vl s.cut.bytes p.handle p.at true x r) each
+  pub past-there : (above : Bool) (x : K) (r : Option (K × V)) → FindsItem kp vp s.cut.bytes q.handle q.at above x r → Answers t (λ d. told_of_map d key k v (pair_past above (kw x))) (Ok (numbers_in kw vw r))
+  past-there above x r each =
+      told-there (pair_past above (kw x)) (numbers_in kw vw r) (λ (c : Place). FindsItem kp vp s.cut.bytes c.handle c.at above x r) (finds-item k v kp vp kw vw kl vl s.cut.bytes p.handle p.at above x r) each
 
   pub up_to-there : (x : K) (r : Option (K × V)) → FindsItemBefore kp vp s.cut.bytes q.handle q.at true x r → Answers t (λ d. told_of_map d key k v (pair_up_to (kw x))) (Ok (numbers_in kw vw r))
   up_to-there x r each =

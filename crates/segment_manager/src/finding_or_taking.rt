@@ -41,30 +41,14 @@ impl Segment {
         if count == 0 || count > MOST {
             return Err(Refusal::OutOfRange);
         }
-        let entry = key.entry_for(Kind::Scalar(T::kind()));
-        self.find_or_take(&entry, count, items)
-    }
-
-    /// The same under an entry that suits them.
-    fn find_or_take<T: Scalar, I: Iterator<Item = T>>(
-        &mut self,
-        key: &IndexKey,
-        count: u32,
-        items: &mut I,
-    ) -> Result<(Handle, u32), Refusal>
-        requires kind { IsOfItsKind (index_key_seen key.now) T.kind }
-        requires some { 1 ≤ count }
-        requires few { count ≤ 1048576 }
-        requires ready { I.can_next items.old }
-        ensures { FindsOrTakes I.next_gives T.whole self.old self.new (index_key_seen key.now) T.kind count items.old items.new result }
-    {
         if self.is_read_only() {
             return Err(Refusal::ReadOnly);
         }
-        match locate(self, &key.into_key()) {
+        let entry = key.entry_for(Kind::Scalar(T::kind()));
+        match locate(self, &entry.into_key()) {
             Ok(object) => scalars_in(object, T::kind()),
             Err(_) => counted(
-                self.construct_items(&key.into_new_key(), count, items),
+                self.construct_items(&entry.into_new_key(), count, items),
                 count,
             ),
         }

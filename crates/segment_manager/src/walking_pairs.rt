@@ -74,24 +74,6 @@ impl Segment {
             ScalarKind::U64 => valued!(self.pair_past::<K, u64, O>(key, bound, above), U64),
         }
     }
-
-    /// The same of values of a type too.
-    #[inline(always)]
-    fn pair_past<K: Scalar, V: Scalar, O: Target>(
-        &self,
-        key: &O,
-        bound: K,
-        above: bool,
-    ) -> Result<Option<(K, V)>, Refusal>
-        requires { O.stands key.now self.now }
-        ensures { Answers self.now (λ d. told_of_map d (O.key key.now) K.kind V.kind (pair_past above (K.whole bound))) (pair_result K.whole V.whole result) }
-    {
-        if above {
-            self.map_next_after(key, bound)
-        } else {
-            self.map_first_from(key, bound)
-        }
-    }
 }
 
 /// The least value of a kind.

@@ -1,15 +1,15 @@
 //! Objects found, or constructed from the items of an iterator where there are none.
-ghost use Rattle.std.specs.Prelude.{◌≡◌, ◌≤◌, true, false};
-ghost use Rattle.seg_types.specs.{declared.kinds.Kind.TheVariants.Scalar as ScalarOf, Keys.index_key_seen};
+ghost use Rattle.std.specs.Prelude.{◌≡◌, true, false};
+ghost use Rattle.seg_types.specs.declared.kinds.Kind.TheVariants.{Scalar as ScalarOf};
 ghost use Rattle.segment_manager.specs.Counted.{RefusesCount, is_count};
-ghost use Rattle.segment_manager.specs.{Items.FindsOrTakes, Items.found_as, NewObjects.IsOfItsKind};
+ghost use Rattle.segment_manager.specs.Items.{FindsOrTakes, found_as};
 
 use crate::destinations::IndexDestination;
 use crate::fillings::MOST;
 use crate::finding_or_constructing::counted;
 use crate::segment::Segment;
 use crate::targets::{Object, locate};
-use seg_types::{Handle, IndexKey, Kind, Refusal, Scalar, ScalarKind};
+use seg_types::{Handle, Kind, Refusal, Scalar, ScalarKind};
 
 impl Segment {
     /// The handle of the scalars of a key, and how many they are. Where no object has the key one is made of the next `count`

@@ -2,7 +2,7 @@
 ghost use Rattle.std.specs.Prelude.{◌≡◌, option_map};
 ghost use Rattle.seg_types.specs.{Kinds.lowest, Values.kind_of_scalar, Values.value_of_scalar};
 ghost use Rattle.seg_map.specs.Places.{item_of};
-ghost use Rattle.segment_manager.specs.{Maps.pair_above, Maps.pair_result, Maps.told_of_map, State.Answers};
+ghost use Rattle.segment_manager.specs.{Maps.pair_above, Maps.told_of_map, State.Answers};
 ghost use Rattle.segment_manager.specs.Walks.{AreOfKinds, HasValueOf, IsMap, first_of, item_of_kinds, item_seen, numbers_read, pair_past, pairs_at};
 
 use crate::segment::Segment;

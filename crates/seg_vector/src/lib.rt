@@ -11,7 +11,9 @@ mod texts;
 mod values;
 mod vectors;
 
+pub use elements::truncate;
 pub use places::Place;
+pub use sizing::{fit, give_back, reserve};
 pub use strings::SegString;
 pub use texts::SegTexts;
 pub use vectors::SegVec;

@@ -1,14 +1,13 @@
 -- A call on whatever has storage: the kind of the object of the key says which call it is.
 use Rattle.segment_manager.proofs.Common.{◌≡◌, refl, sym, ap, ◌∙◌, ℕ, Bool, true, false, Option, Some, None, Result, Ok}
-use Rattle.segment_manager.proofs.Common.{Err, if◌then◌else◌, eq-eqb, Kind, ScalarOf, TextKind, VectorKind, MapKind}
-use Rattle.segment_manager.proofs.Common.{TextsKind, ScalarKind, Refusal, NotFound, WrongKind, code_of, same_kind, Key}
+use Rattle.segment_manager.proofs.Common.{Err, if◌then◌else◌, eq-eqb, Kind, ScalarOf}
+use Rattle.segment_manager.proofs.Common.{ScalarKind, Refusal, NotFound, WrongKind, code_of, same_kind, Key}
 use Rattle.segment_manager.proofs.Common.{Command, Place, Answer, Refused, kind_at, container_at, container_place}
 use Rattle.segment_manager.proofs.Common.{place_of_kind, sizes_at, sizes_at_kind, sizes_of, sizes_of_kind, Value}
 use Rattle.segment_manager.proofs.Common.{Numbers, Directory, Object, kind_of, live, object_at, IsMissing, Refuse}
 use Rattle.segment_manager.proofs.Common.{perform, Answers, IsStep, IsStepOfKind, State, StandsFor, effect}
-use Rattle.segment_manager.proofs.Common.{is_read_only, step, step_of_kind, Mode}
+use Rattle.segment_manager.proofs.Common.{has_sizes, has_storage, is_read_only, step, step_of_kind, Mode}
 use Rattle.segment_manager.proofs.{Refilled.refused-steps, Steps.step_of_kind-step, Steps.moves-same}
-use Rattle.segment_manager.proofs.{StorageSteps.has_storage}
 
 -- the object of the key, which is of the kind
 pub record IsOfKindAt (d : Directory) (key : Key) (kind : Kind) : Type 0 where
@@ -83,10 +82,6 @@ measures-nowhere s key why m = record {
   answers = λ d l. ap Err m.is ∙ sym (ap (λ (q : Option Object). elim q as (λ _. Result (ℕ × ℕ) Refusal) [ None ↦ Err NotFound | Some o ↦ sizes_of o.value ]) (m.missing d l));
 }
 
--- whether objects of a kind are containers
-abbrev pub has_sizes : Kind → Bool
-has_sizes k = elim k [ ScalarOf l ↦ false | TextKind ↦ true | VectorKind l ↦ true | MapKind l m ↦ true | TextsKind ↦ true ]
-
 no-sizes : (v : Value) → has_sizes (kind_of v) ≡ false → sizes_of v ≡ Err WrongKind
 no-sizes (Numbers k zs) h = refl
 no-sizes v h = absurd (cc)
@@ -100,19 +95,7 @@ measures-other s key kind h a = record {
       ∙ sym (ap (λ (q : Option Object). elim q as (λ _. Result (ℕ × ℕ) Refusal) [ None ↦ Err NotFound | Some o ↦ sizes_of o.value ]) e.is);
 }
 
--- ---- the kinds that are left
-
--- neither a string nor a vector, of numbers or of strings: it has no storage
-pub otherwise-no_storage : (kind : Kind) → (kind ≡ TextKind → ⊥) → (kind ≡ TextsKind → ⊥) → ((k : ScalarKind) → kind ≡ VectorKind k → ⊥) → has_storage kind ≡ false
-otherwise-no_storage TextKind n p m = absurd (n refl)
-otherwise-no_storage (VectorKind k) n p m = absurd (m k refl)
-otherwise-no_storage TextsKind n p m = absurd (p refl)
-otherwise-no_storage v n p m = refl
-
--- nor a map: it is no container
-pub otherwise-no_sizes : (kind : Kind) → (kind ≡ TextKind → ⊥) → (kind ≡ TextsKind → ⊥) → ((k : ScalarKind) → kind ≡ VectorKind k → ⊥) → ((k v : ScalarKind) → kind ≡ MapKind k v → ⊥) → has_sizes kind ≡ false
-otherwise-no_sizes (ScalarOf k) n p m q = refl
-otherwise-no_sizes TextKind n p m q = absurd (n refl)
-otherwise-no_sizes (VectorKind k) n p m q = absurd (m k refl)
-otherwise-no_sizes (MapKind k v) n p m q = absurd (q k v refl)
-otherwise-no_sizes TextsKind n p m q = absurd (p refl)
+-- one that is no array is one
+pub sized : (kind : Kind) → ((k : ScalarKind) → kind ≡ ScalarOf k → ⊥) → has_sizes kind ≡ true
+sized (ScalarOf k) n = absurd (n k refl)
+sized kind n = refl

@@ -108,13 +108,12 @@ pub use Rattle.segment_manager.specs.Begun.{IsLooseAlone, IsLooseEntry, IsNotBeg
 pub use Rattle.segment_manager.specs.Begun.{LeadsThere}
 pub use Rattle.segment_manager.specs.Calls.{IsTileOfIndex, elements_at, elements_of, kind_at}
 pub use Rattle.segment_manager.specs.Changeable.{IsChangeable, IsToChange, IsUnchangeable, IsValueOf}
-pub use Rattle.segment_manager.specs.Contents.{Contents, HasNoRoom, IsNumbers}
-pub use Rattle.segment_manager.specs.Contents.{IsNumbersGrown, IsNumbersNow, IsRefilled, are_bytes, bytes_at}
+pub use Rattle.segment_manager.specs.Contents.{Contents, IsRefilled, are_bytes, bytes_at}
 pub use Rattle.segment_manager.specs.Contents.{container_at, container_place, contents_of, has_values, place_of_kind}
-pub use Rattle.segment_manager.specs.Contents.{sizes_at, sizes_at_kind, sizes_of, sizes_of_kind}
+pub use Rattle.segment_manager.specs.Contents.{has_sizes, has_storage, sizes_at, sizes_at_kind, sizes_of, sizes_of_kind}
 pub use Rattle.segment_manager.specs.Denotes.{Denotes, IsHeader, IsObjectAt, IsValueAt, handles, padded_name}
 pub use Rattle.segment_manager.specs.Denotes.{two_halves}
-pub use Rattle.segment_manager.specs.Destroyed.{Becomes, Empties, HoldsObject, ReleasesNumbers, emptied}
+pub use Rattle.segment_manager.specs.Destroyed.{Becomes, Empties, HoldsObject, emptied}
 pub use Rattle.segment_manager.specs.Directory.{Bytes, Directory, Elements, IsDirectory, Numbers, Object, Pairs, Texts}
 pub use Rattle.segment_manager.specs.Directory.{Value, by_kind, by_name, count_of, empty, extents_of, has_good_name}
 pub use Rattle.segment_manager.specs.Directory.{has_key, has_own_block, insert_by, is_class, is_good_value, is_index}

@@ -38,30 +38,29 @@ elements_in k zs t = record { each = size_of k; len = length zs; table = t; byte
 abbrev bytes_in : List ℕ → Table → Contents
 bytes_in bs t = record { each = 1; len = length bs; table = t; bytes = bs }
 
-fits-elements : (k : ScalarKind) (zs : List ℤ) (t : Table) → IsTrue (is_good_value (Elements k zs t)) → Fits (Elements k zs t) (elements_in k zs t)
-fits-elements k zs t h =
-    let front : IsTrue (nat_le (length zs) t.capacity && is_table Storage (size_of k) t) = first (nat_le (length zs) t.capacity && is_table Storage (size_of k) t) (list_all (is_value k) zs) h in
-    record {
-      table = second (nat_le (length zs) t.capacity) (is_table Storage (size_of k) t) front;
-      fits = no_more (length zs) t.capacity (first (nat_le (length zs) t.capacity) (is_table Storage (size_of k) t) front);
-      long = spelled-length k zs;
-      values = second (nat_le (length zs) t.capacity && is_table Storage (size_of k) t) (list_all (is_value k) zs) h;
-    }
+-- a good value is one with no more elements than places, whose storage serves, and whose elements are values
+good-contents : (v : Value) (c : Contents) → contents_of v ≡ Some c → is_good_value v ≡ (nat_le c.len c.table.capacity && is_table Storage c.each c.table && has_values v)
+good-contents (Elements k zs t) c e = ap (λ (x : Contents). nat_le x.len x.table.capacity && is_table Storage x.each x.table && list_all (is_value k) zs) (same_Some (elements_in k zs t) c e)
+good-contents (Bytes bs t) c e = ap (λ (x : Contents). nat_le x.len x.table.capacity && is_table Storage x.each x.table && list_all (λ b. nat_lt b 256) bs) (same_Some (bytes_in bs t) c e)
+good-contents v c e = absurd (cc)
 
-fits-bytes : (bs : List ℕ) (t : Table) → IsTrue (is_good_value (Bytes bs t)) → Fits (Bytes bs t) (bytes_in bs t)
-fits-bytes bs t h =
-    let front : IsTrue (nat_le (length bs) t.capacity && is_table Storage 1 t) = first (nat_le (length bs) t.capacity && is_table Storage 1 t) (list_all (λ b. nat_lt b 256) bs) h in
-    record {
-      table = second (nat_le (length bs) t.capacity) (is_table Storage 1 t) front;
-      fits = no_more (length bs) t.capacity (first (nat_le (length bs) t.capacity) (is_table Storage 1 t) front);
-      long = omega arith;
-      values = second (nat_le (length bs) t.capacity && is_table Storage 1 t) (list_all (λ b. nat_lt b 256) bs) h;
-    }
+contents-long : (v : Value) (c : Contents) → contents_of v ≡ Some c → length c.bytes ≡ c.each * c.len
+contents-long (Elements k zs t) c e = subst (λ (x : Contents). length x.bytes ≡ x.each * x.len) (same_Some (elements_in k zs t) c e) (spelled-length k zs)
+contents-long (Bytes bs t) c e = subst (λ (x : Contents). length x.bytes ≡ x.each * x.len) (same_Some (bytes_in bs t) c e) (let one : length bs ≡ 1 * length bs = omega arith in one)
+contents-long v c e = absurd (cc)
 
 pub contents-fit : (v : Value) (c : Contents) → contents_of v ≡ Some c → IsTrue (is_good_value v) → Fits v c
-contents-fit (Elements k zs t) c e h = subst (Fits (Elements k zs t)) (same_Some (elements_in k zs t) c e) (fits-elements k zs t h)
-contents-fit (Bytes bs t) c e h = subst (Fits (Bytes bs t)) (same_Some (bytes_in bs t) c e) (fits-bytes bs t h)
-contents-fit v c e h = absurd (cc)
+contents-fit v c e h =
+    let many : Bool = nat_le c.len c.table.capacity in
+    let serves : Bool = is_table Storage c.each c.table in
+    let all : IsTrue (many && serves && has_values v) = subst (λ (t : Bool). IsTrue t) (good-contents v c e) h in
+    let front : IsTrue (many && serves) = first (many && serves) (has_values v) all in
+    record {
+      table = second many serves front;
+      fits = no_more c.len c.table.capacity (first many serves front);
+      long = contents-long v c e;
+      values = second (many && serves) (has_values v) all;
+    }
 
 pub contents-shape : (v : Value) (c : Contents) → contents_of v ≡ Some c → Shape v c
 contents-shape (Elements k zs t) c e = subst (Shape (Elements k zs t)) (same_Some (elements_in k zs t) c e) (record { extents = refl; len = refl; count = refl })
@@ -70,19 +69,10 @@ contents-shape v c e = absurd (cc)
 
 -- the other way round: elements that have their places make a good value
 pub contents-good : (v : Value) (c : Contents) → contents_of v ≡ Some c → c.len ≤ c.table.capacity → IsTrue (is_table Storage c.each c.table) → IsTrue (has_values v) → IsTrue (is_good_value v)
-contents-good (Elements k zs u) c e f t h =
-    let same : c ≡ elements_in k zs u = sym (same_Some (elements_in k zs u) c e) in
-    let fits : length zs ≤ u.capacity = subst (λ (x : Contents). x.len ≤ x.table.capacity) same f in
-    let table : IsTrue (is_table Storage (size_of k) u) = subst (λ (x : Contents). IsTrue (is_table Storage x.each x.table)) same t in
-    and_from (nat_le (length zs) u.capacity && is_table Storage (size_of k) u) (list_all (is_value k) zs)
-    (and_from (nat_le (length zs) u.capacity) (is_table Storage (size_of k) u) (le-leb (length zs) u.capacity fits) table) h
-contents-good (Bytes bs u) c e f t h =
-    let same : c ≡ bytes_in bs u = sym (same_Some (bytes_in bs u) c e) in
-    let fits : length bs ≤ u.capacity = subst (λ (x : Contents). x.len ≤ x.table.capacity) same f in
-    let table : IsTrue (is_table Storage 1 u) = subst (λ (x : Contents). IsTrue (is_table Storage x.each x.table)) same t in
-    and_from (nat_le (length bs) u.capacity && is_table Storage 1 u) (list_all (λ b. nat_lt b 256) bs)
-    (and_from (nat_le (length bs) u.capacity) (is_table Storage 1 u) (le-leb (length bs) u.capacity fits) table) h
-contents-good v c e f t h = absurd (cc)
+contents-good v c e f t h =
+    subst (λ (b : Bool). IsTrue b) (sym (good-contents v c e))
+    (and_from (nat_le c.len c.table.capacity && is_table Storage c.each c.table) (has_values v)
+    (and_from (nat_le c.len c.table.capacity) (is_table Storage c.each c.table) (le-leb c.len c.table.capacity f) t) h)
 
 -- what the bytes say of the value they say of its contents, and the other way round
 contents-said : (m : Memory) (at : ℕ) (v : Value) (c : Contents) → contents_of v ≡ Some c → IsValueAt m at v → IsContainerAt m at c.len c.table c.bytes

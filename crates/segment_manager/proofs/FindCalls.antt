@@ -1,16 +1,18 @@
 -- The calls that find an object of a kind and that walk the indexes, for each directory that the bytes stand for.
 use Rattle.segment_manager.proofs.Common.{◌≡◌, refl, sym, ap, subst, ◌∙◌, ℕ, ◌<◌, true, false, Option, Some, None}
-use Rattle.segment_manager.proofs.Common.{length, arith, if◌then◌else◌, slice_get, eq-eqb, ne_eqb, Kind, WrongKind}
-use Rattle.segment_manager.proofs.Common.{code_of, same_kind, Key, Index, Named, Unique, IsIndexOf, entry_count}
-use Rattle.segment_manager.proofs.Common.{place_of, Head, Answer, Number, Refused, Object, Directory, kind_of}
+use Rattle.segment_manager.proofs.Common.{length, arith, if◌then◌else◌, slice_get, Kind, WrongKind}
+use Rattle.segment_manager.proofs.Common.{same_kind, Key, Index, Named, Unique, IsIndexOf, entry_count}
+use Rattle.segment_manager.proofs.Common.{place_of, Answer, Number, Object, Directory, kind_of}
 use Rattle.segment_manager.proofs.Common.{named_objects, unique_objects, IsBelow, handle_at, entries_of, objects_of}
-use Rattle.segment_manager.proofs.Common.{table_of, Plan, Refuse, Reply, IsHeadOf, StandsAt, Answers, IsReply}
+use Rattle.segment_manager.proofs.Common.{table_of, Plan, Refuse, Reply, StandsAt, Answers, IsReply}
 use Rattle.segment_manager.proofs.Common.{IsSegment, State, StandsFor, found, Mode, Command, step}
-use Rattle.segment_manager.specs.Answers.{Absent, Found}
+use Rattle.segment_manager.specs.Answers.{Absent}
+use Rattle.segment_manager.proofs.Common.{Bool, Err, Ok, Refusal, Result, count_of, handle, pair_answer, pair_of_kind}
 use Rattle.seg_types.specs.Commands as asked
 use Rattle.segment_manager.proofs.{Denoted.handles-length, Here.IsHere, Here.here, Here.nothing-here, KeyCalls.ForIndex}
 use Rattle.segment_manager.proofs.{KeyCalls.of-directory, HeldIndexes.denotes-index, Steps.open-reading}
-use Rattle.segment_manager.proofs.{Steps.step-refuse, Steps.step-reply}
+use Rattle.segment_manager.proofs.{Steps.IsOpenFor, Steps.step-refuse, Steps.step-reply}
+use Rattle.segment_manager.proofs.Common.{effect}
 
 -- ---- an object of a kind
 
@@ -26,37 +28,24 @@ find-absent s key kind a = record {
       (step-reply s.mode d (asked.Find key kind) Absent d (open-reading s.mode (asked.Find key kind) refl) (ap (finds d kind) (nothing-here d key (a.answers d k)))));
 }
 
--- what was read of an object of the key
-abbrev pub IsRead : State → ℕ → Head → Type 0
-IsRead s h head = (o : Object) → StandsAt s.cut.bytes h o → IsHeadOf o head
+-- A command that asks of which kind an object is: it is found, or of another kind.
+kind-if : (mode : Mode) (d : Directory) (c : Command) (o : Object) (b : Bool) → IsOpenFor mode c → effect d c ≡ (if b then Reply (found o) d else Refuse WrongKind)
+    → step mode d c ≡ (pair_answer (if b then Ok (handle o.extent, count_of o.value) else Err WrongKind), d)
+kind-if mode d c o true may e = step-reply mode d c (found o) d may e
+kind-if mode d c o false may e = step-refuse mode d c WrongKind may e
 
--- it is of another kind
-pub find-other : (s : State) (key : Key) (kind : Kind) (h a b : ℕ) (head : Head) → Answers s (λ d. handle_at d key) (Some h) → IsRead s h head
-    → a ≡ code_of head.kind → b ≡ code_of kind → (a ≡ b → ⊥) → IsReply s (asked.Find key kind) (Refused WrongKind)
-find-other s key kind h a b head w r e f n = record {
-  answers = λ d k.
-      let o : IsHere s.cut.bytes d key h = here s.cut.bytes d key h k.denotes (w.answers d k) in
-      let said : IsHeadOf o.object head = r o.object o.stands in
-      let other : same_kind kind (kind_of o.object.value) ≡ false =
-      ne_eqb (code_of kind) (code_of (kind_of o.object.value)) (λ g. n (e ∙ ap code_of said.kind ∙ sym g ∙ sym f)) in
-      sym (ap (λ (r : Answer × Directory). r.0)
-      (step-refuse s.mode d (asked.Find key kind) WrongKind (open-reading s.mode (asked.Find key kind) refl)
-      (ap (finds d kind) o.is ∙ ap (λ t. if t then Reply (found o.object) d else Refuse WrongKind) other)));
-}
+pub kind-step : (mode : Mode) (d : Directory) (c : Command) (o : Object) (kind : Kind) → IsOpenFor mode c
+    → effect d c ≡ (if same_kind kind (kind_of o.value) then Reply (found o) d else Refuse WrongKind) → step mode d c ≡ (pair_answer (pair_of_kind o kind), d)
+kind-step mode d c o kind may e = kind-if mode d c o (same_kind kind (kind_of o.value)) may e
 
--- it is found
-pub find-found : (s : State) (key : Key) (kind : Kind) (h a b : ℕ) (head : Head) → Answers s (λ d. handle_at d key) (Some h) → IsRead s h head
-    → a ≡ code_of head.kind → b ≡ code_of kind → a ≡ b → IsReply s (asked.Find key kind) (Found h head.count)
-find-found s key kind h a b head w r e f n = record {
+-- an object has it, of the kind or of another
+pub find-there : (s t : State) (view : s ≡ t) (key : Key) (kind : Kind) (h : ℕ) (r : Result (ℕ × ℕ) Refusal) → Answers t (λ d. handle_at d key) (Some h)
+    → ((o : Object) → StandsAt s.cut.bytes h o → r ≡ pair_of_kind o kind) → IsReply t (asked.Find key kind) (pair_answer r)
+find-there s t view key kind h r a each = record {
   answers = λ d k.
-      let o : IsHere s.cut.bytes d key h = here s.cut.bytes d key h k.denotes (w.answers d k) in
-      let said : IsHeadOf o.object head = r o.object o.stands in
-      let same : same_kind kind (kind_of o.object.value) ≡ true =
-      eq-eqb (code_of kind) (code_of (kind_of o.object.value)) (sym f ∙ sym n ∙ e ∙ ap code_of said.kind) in
-      (λ i. Found (o.stands.at i) (said.count i))
-      ∙ sym (ap (λ (r : Answer × Directory). r.0)
-      (step-reply s.mode d (asked.Find key kind) (found o.object) d (open-reading s.mode (asked.Find key kind) refl)
-      (ap (finds d kind) o.is ∙ ap (λ t. if t then Reply (found o.object) d else Refuse WrongKind) same)));
+      let o : IsHere t.cut.bytes d key h = here t.cut.bytes d key h k.denotes (a.answers d k) in
+      ap pair_answer (each o.object (subst (λ (u : State). StandsAt u.cut.bytes h o.object) (sym view) o.stands))
+      ∙ sym (ap (λ (q : Answer × Directory). q.0) (kind-step t.mode d (asked.Find key kind) o.object kind (open-reading t.mode (asked.Find key kind) refl) (ap (finds d kind) o.is)));
 }
 
 -- ---- the entries of the indexes

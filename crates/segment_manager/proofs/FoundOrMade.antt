@@ -1,6 +1,6 @@
 -- An object found under a key, or constructed where there is none, as a step of the machine.
-use Rattle.segment_manager.proofs.Common.{◌≡◌, refl, sym, ap, ◌∙◌, ℕ, Bool, true, false, Some, None, Option, Result, Ok}
-use Rattle.segment_manager.proofs.Common.{Err, if◌then◌else◌, Cut, SamePlace, handle, Refusal, NoSpace, WrongKind}
+use Rattle.segment_manager.proofs.Common.{◌≡◌, refl, sym, ap, ◌∙◌, ℕ, false, Some, None, Option, Result}
+use Rattle.segment_manager.proofs.Common.{if◌then◌else◌, Cut, SamePlace, handle, Refusal, NoSpace, WrongKind}
 use Rattle.segment_manager.proofs.Common.{Exists, same_kind, Key, Content, Answer, Refused, Made, Object, Directory}
 use Rattle.segment_manager.proofs.Common.{count_of, kind_of, object_at, handle_at, pair_answer, Plan, Refuse, Reply}
 use Rattle.segment_manager.proofs.Common.{bare, with_new_object, StandsAt, pair_of_kind, Answers, IsStep, StandsFor}
@@ -8,7 +8,9 @@ use Rattle.segment_manager.proofs.Common.{State, found, is_read_only, step}
 use Rattle.segment_manager.specs.Answers.{Found}
 use Rattle.seg_types.specs.Commands as asked
 use Rattle.segment_manager.proofs.{Constructed.IsNewObject, Constructed.IsNoObject, Here.IsHere, Here.here}
-use Rattle.segment_manager.proofs.Steps.{by_no_change, by_step, lands, open-writing, step-plan, step-refuse, step-reply}
+use Rattle.segment_manager.proofs.Steps.{by_no_change, by_step, lands, open-writing, step-plan, step-refuse}
+use Rattle.segment_manager.proofs.FindCalls.{kind-step}
+use Rattle.segment_manager.proofs.Common.{Command, effect}
 
 -- ---- an object that is constructed
 
@@ -16,32 +18,46 @@ use Rattle.segment_manager.proofs.Steps.{by_no_change, by_step, lands, open-writ
 abbrev made_for : Directory → Key → Content → Option Object → Plan
 made_for d key content r = elim r as (λ _. Plan) [ Some o ↦ Refuse Exists | None ↦ with_new_object d key content (λ o e. Reply (Made (handle o.extent)) e) ]
 
--- the object is made
+-- A command asks for a new object where no object has the key, and says this of it: it is made.
+pub makes : (old : State) (new : Cut) (key : Key) (content : Content) (h : ℕ) (c : Command) (say : Object → Answer) (answer : Answer) → is_read_only old.mode ≡ false → SamePlace old.cut new
+    → ((d : Directory) → object_at d key ≡ None → effect d c ≡ with_new_object d key content (λ o e. Reply (say o) e))
+    → ((d : Directory) → (n : IsNewObject new d key content h) → say n.object ≡ answer)
+    → ((d : Directory) → StandsFor old.cut.bytes d → (object_at d key ≡ None) × IsNewObject new d key content h) → IsStep old (record old { cut = new }) c answer
+makes old new key content h c say answer writing place asks said each =
+    by_step old (record old { cut = new }) c answer (record { mode = refl; place = place }) (λ d k.
+    let n : IsNewObject new d key content h = (each d k).1 in
+    lands (record old { cut = new }) (step old.mode d c) answer n.after (record {
+      is = step-plan old.mode d c (with_new_object d key content (λ o e. Reply (say o) e)) (open-writing old.mode c writing) (asks d (each d k).0)
+          ∙ n.met (λ o e. Reply (say o) e) ∙ ap (λ (a : Answer). (a, n.after)) (said d n);
+      denotes = n.denotes;
+    }))
+
+-- or a request is refused
+makes-nothing : (old : State) (new : Cut) (key : Key) (content : Content) (c : Command) (say : Object → Answer) → is_read_only old.mode ≡ false → SamePlace old.cut new
+    → ((d : Directory) → object_at d key ≡ None → effect d c ≡ with_new_object d key content (λ o e. Reply (say o) e))
+    → ((d : Directory) → StandsFor old.cut.bytes d → (object_at d key ≡ None) × IsNoObject new d key content) → IsStep old (record old { cut = new }) c (Refused NoSpace)
+makes-nothing old new key content c say writing place asks each =
+    by_step old (record old { cut = new }) c (Refused NoSpace) (record { mode = refl; place = place }) (λ d k.
+    lands (record old { cut = new }) (step old.mode d c) (Refused NoSpace) d (record {
+      is = step-plan old.mode d c (with_new_object d key content (λ o e. Reply (say o) e)) (open-writing old.mode c writing) (asks d (each d k).0)
+          ∙ (each d k).1.refused (λ o e. Reply (say o) e);
+      denotes = (each d k).1.denotes;
+    }))
+
+abbrev pub made_handle : Object → Answer
+made_handle o = Made (handle o.extent)
+
 pub constructs : (old : State) (new : Cut) (key : Key) (content : Content) (h : ℕ) → is_read_only old.mode ≡ false → SamePlace old.cut new
     → ((d : Directory) → StandsFor old.cut.bytes d → (object_at d key ≡ None) × IsNewObject new d key content h)
     → IsStep old (record old { cut = new }) (asked.Construct key content) (Made h)
 constructs old new key content h writing place each =
-    by_step old (record old { cut = new }) (asked.Construct key content) (Made h) (record { mode = refl; place = place }) (λ d k.
-    let both : (object_at d key ≡ None) × IsNewObject new d key content h = each d k in
-    let n : IsNewObject new d key content h = both.1 in
-    lands (record old { cut = new }) (step old.mode d (asked.Construct key content)) (Made h) n.after (record {
-      is = step-plan old.mode d (asked.Construct key content) (with_new_object d key content (λ o e. Reply (Made (handle o.extent)) e)) (open-writing old.mode (asked.Construct key content) writing)
-          (ap (made_for d key content) both.0) ∙ n.met (λ o e. Reply (Made (handle o.extent)) e) ∙ (λ j. (Made (sym n.at j), n.after));
-      denotes = n.denotes;
-    }))
+    makes old new key content h (asked.Construct key content) made_handle (Made h) writing place (λ d e. ap (made_for d key content) e) (λ d n. ap Made (sym n.at)) each
 
--- a request is refused
 pub constructs-none : (old : State) (new : Cut) (key : Key) (content : Content) → is_read_only old.mode ≡ false → SamePlace old.cut new
     → ((d : Directory) → StandsFor old.cut.bytes d → (object_at d key ≡ None) × IsNoObject new d key content)
     → IsStep old (record old { cut = new }) (asked.Construct key content) (Refused NoSpace)
 constructs-none old new key content writing place each =
-    by_step old (record old { cut = new }) (asked.Construct key content) (Refused NoSpace) (record { mode = refl; place = place }) (λ d k.
-    let both : (object_at d key ≡ None) × IsNoObject new d key content = each d k in
-    lands (record old { cut = new }) (step old.mode d (asked.Construct key content)) (Refused NoSpace) d (record {
-      is = step-plan old.mode d (asked.Construct key content) (with_new_object d key content (λ o e. Reply (Made (handle o.extent)) e)) (open-writing old.mode (asked.Construct key content) writing)
-          (ap (made_for d key content) both.0) ∙ both.1.refused (λ o e. Reply (Made (handle o.extent)) e);
-      denotes = both.1.denotes;
-    }))
+    makes-nothing old new key content (asked.Construct key content) made_handle writing place (λ d e. ap (made_for d key content) e) each
 
 -- an object has the key
 pub constructs-exists : (s : State) (key : Key) (content : Content) → is_read_only s.mode ≡ false → ((d : Directory) → StandsFor s.cut.bytes d → (o : Object) × (object_at d key ≡ Some o))
@@ -64,43 +80,17 @@ pub makes-found : (old : State) (new : Cut) (key : Key) (content : Content) (h c
     → ((d : Directory) → StandsFor old.cut.bytes d → (object_at d key ≡ None) × IsNewObject new d key content h)
     → IsStep old (record old { cut = new }) (asked.FindOrConstruct key content) (Found h count)
 makes-found old new key content h count writing place many each =
-    let c = asked.FindOrConstruct key content in
-    by_step old (record old { cut = new }) c (Found h count) (record { mode = refl; place = place }) (λ d st.
-    let both : (object_at d key ≡ None) × IsNewObject new d key content h = each d st in
-    let n : IsNewObject new d key content h = both.1 in
-    let said : found n.object ≡ Found h count = (λ j. Found (sym n.at j) (n.count j)) ∙ ap (Found h) many in
-    lands (record old { cut = new }) (step old.mode d c) (Found h count) n.after (record {
-      is = step-plan old.mode d c (with_new_object d key content (λ o e. Reply (found o) e)) (open-writing old.mode c writing) (ap (finds d key content) both.0)
-          ∙ n.met (λ o e. Reply (found o) e) ∙ ap (λ (a : Answer). (a, n.after)) said;
-      denotes = n.denotes;
-    }))
+    makes old new key content h (asked.FindOrConstruct key content) found (Found h count) writing place (λ d e. ap (finds d key content) e)
+    (λ d n. (λ j. Found (sym n.at j) (n.count j)) ∙ ap (Found h) many) each
 
 -- a request is refused
 pub makes-none : (old : State) (new : Cut) (key : Key) (content : Content) → is_read_only old.mode ≡ false → SamePlace old.cut new
     → ((d : Directory) → StandsFor old.cut.bytes d → (object_at d key ≡ None) × IsNoObject new d key content)
     → IsStep old (record old { cut = new }) (asked.FindOrConstruct key content) (Refused NoSpace)
 makes-none old new key content writing place each =
-    let c = asked.FindOrConstruct key content in
-    by_step old (record old { cut = new }) c (Refused NoSpace) (record { mode = refl; place = place }) (λ d st.
-    let both : (object_at d key ≡ None) × IsNoObject new d key content = each d st in
-    lands (record old { cut = new }) (step old.mode d c) (Refused NoSpace) d (record {
-      is = step-plan old.mode d c (with_new_object d key content (λ o e. Reply (found o) e)) (open-writing old.mode c writing) (ap (finds d key content) both.0)
-          ∙ both.1.refused (λ o e. Reply (found o) e);
-      denotes = both.1.denotes;
-    }))
+    makes-nothing old new key content (asked.FindOrConstruct key content) found writing place (λ d e. ap (finds d key content) e) each
 
 -- ---- an object has the key
-
-finds-if : (s : State) (d : Directory) (key : Key) (content : Content) (o : Object) (b : Bool) → is_read_only s.mode ≡ false → object_at d key ≡ Some o
-    → same_kind (kind_of (bare content)) (kind_of o.value) ≡ b → step s.mode d (asked.FindOrConstruct key content) ≡ (pair_answer (if b then Ok (handle o.extent, count_of o.value) else Err WrongKind), d)
-finds-if s d key content o true writing is same =
-    let c = asked.FindOrConstruct key content in
-    step-reply s.mode d c (found o) d (open-writing s.mode c writing)
-    (ap (finds d key content) is ∙ ap (λ t. if t then Reply (found o) d else Refuse WrongKind) same)
-finds-if s d key content o false writing is same =
-    let c = asked.FindOrConstruct key content in
-    step-refuse s.mode d c WrongKind (open-writing s.mode c writing)
-    (ap (finds d key content) is ∙ ap (λ t. if t then Reply (found o) d else Refuse WrongKind) same)
 
 -- it is answered where it is of the kind
 pub found-there : (s : State) (key : Key) (content : Content) (h : ℕ) (result : Result (ℕ × ℕ) Refusal) → is_read_only s.mode ≡ false → Answers s (λ d. handle_at d key) (Some h)
@@ -108,5 +98,5 @@ pub found-there : (s : State) (key : Key) (content : Content) (h : ℕ) (result 
 found-there s key content h result writing a each =
     by_no_change s (asked.FindOrConstruct key content) (pair_answer result) (λ d st.
     let o : IsHere s.cut.bytes d key h = here s.cut.bytes d key h st.denotes (a.answers d st) in
-    finds-if s d key content o.object (same_kind (kind_of (bare content)) (kind_of o.object.value)) writing o.is refl
+    kind-step s.mode d (asked.FindOrConstruct key content) o.object (kind_of (bare content)) (open-writing s.mode (asked.FindOrConstruct key content) writing) (ap (finds d key content) o.is)
     ∙ ap (λ (r : Result (ℕ × ℕ) Refusal). (pair_answer r, d)) (sym (each o.object o.stands)))

@@ -3,6 +3,7 @@ use Rattle.segment_manager.proofs.Common.{◌≡◌, refl, sym, ap, subst, ◌�
 use Rattle.segment_manager.proofs.Common.{List, IsTrue, option_map, le-leb, current, handle, has_room, Refusal}
 use Rattle.segment_manager.proofs.Common.{NotFound, Key, Object, Directory, has_key, is_object, object_at, object_len}
 use Rattle.segment_manager.proofs.Common.{Denotes, handle_at, HasObject, StandsAt, Answers, IsSegment, State}
+use Rattle.segment_manager.proofs.Common.{Head, IsHeadOf}
 use Rattle.segment_manager.specs.Calls.{told_at}
 use Rattle.segment_manager.proofs.Calling.{denotes-live, object-at, object-room}
 use Rattle.segment_manager.proofs.{Frame.IsRoomy, Frame.object-roomy, Live.IsIn}
@@ -23,6 +24,10 @@ standing b d key o k e =
       room = subst (λ l. IsTrue (has_room l (handle o.extent) n)) (sym (denotes-live current b d k)) (object-room d o n f k.directory.proper (le-leb (n + 16) o.extent.len roomy.room));
       said = object-at current b d (handle o.extent) o k f;
     }
+
+-- a head was read of each object that stands at a handle
+abbrev pub IsReadAt : List ℕ → ℕ → Head → Type 0
+IsReadAt b h head = (o : Object) → StandsAt b h o → IsHeadOf o head
 
 -- the object that has the handle which a key means
 pub record IsHere (b : List ℕ) (d : Directory) (key : Key) (h : ℕ) : Type 0 where

@@ -18,7 +18,7 @@ use Rattle.seg_types.specs.Commands as asked
 use Rattle.segment_manager.proofs.{ArrayItems.by-items, ArrayItems.from-items, Bridge.lookup-absent}
 use Rattle.segment_manager.proofs.{Calling.denotes-live, HeldIndexes.denotes-index, KeyCalls.segment-index}
 use Rattle.segment_manager.proofs.{Loose.begun-room, MadeValues.headed-change, NewKeys.key-seeks, NewKeys.numbers-value}
-use Rattle.segment_manager.proofs.{NewNumbers.numbers-made}
+use Rattle.segment_manager.proofs.{FoundOrMade.made_handle, FoundOrMade.makes, NewNumbers.numbers-made}
 use Rattle.segment_manager.proofs.Constructed.{IsMet, IsNewObject, numbers-met, restored-denotes, IsNoObject}
 use Rattle.segment_manager.proofs.NewValues.{IsMadeNever, IsMadeNow, away-in, key-taken, no_key-none, value-built}
 use Rattle.segment_manager.proofs.NewValues.{value-not_begun}
@@ -48,14 +48,7 @@ module _ (old : State) (key : Key) (k : ScalarKind) (count : ℕ) (zs : List ℤ
       → ((d : Directory) → StandsFor old.cut.bytes d → (object_at d key ≡ None) × IsNewObject new d key (asked.Numbers k (take count zs)) h)
       → IsStep old (record old { cut = new }) c (Made h)
   items-made new h place enough each =
-      by_step old (record old { cut = new }) c (Made h) (record { mode = refl; place = place }) (λ d st.
-      let both : (object_at d key ≡ None) × IsNewObject new d key (asked.Numbers k (take count zs)) h = each d st in
-      let n : IsNewObject new d key (asked.Numbers k (take count zs)) h = both.1 in
-      lands (record old { cut = new }) (step old.mode d c) (Made h) n.after (record {
-        is = step-plan old.mode d c (by-items d key k count zs false) (open-writing old.mode c writing) (plan-of d false both.0 (le-ltb (length zs) count enough))
-            ∙ n.met (λ o e. Reply (Made (handle o.extent)) e) ∙ (λ j. (Made (sym n.at j), n.after));
-        denotes = n.denotes;
-      }))
+      makes old new key (asked.Numbers k (take count zs)) h c made_handle (Made h) writing place (λ d e. plan-of d false e (le-ltb (length zs) count enough)) (λ d n. ap Made (sym n.at)) each
 
   -- there are too few: what was taken is given back
   pub items-few : (new : Cut) → SamePlace old.cut new → length zs < count

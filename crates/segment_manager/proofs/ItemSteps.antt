@@ -1,21 +1,20 @@
 -- A call on a vector of numbers or on a text is one step: what the calls of seg_vector ensure of the elements at its place comes to the
 -- directory.
-use Rattle.segment_manager.proofs.Common.{◌&&◌, ◌<◌, Bool, Err, IsTrue, List, None, Ok, Result, Some, [], ap, false}
-use Rattle.segment_manager.proofs.Common.{length, refl, subst, sym, true, ℕ, ℤ, ◌∙◌, ◌≡◌, ◌≤◌, eqb-true, same_Some}
-use Rattle.segment_manager.proofs.Common.{list_all, MatchResult, option_to_list, current, Cut, IsExchanged, LiveSet}
-use Rattle.segment_manager.proofs.Common.{holds, live_of, Table, cut_table, Command, is_changing, code_of, is_value}
-use Rattle.segment_manager.proofs.Common.{kind_of_code, same_kind, size_of, Key, Kind, Vector, ScalarKind, Refusal}
-use Rattle.segment_manager.proofs.Common.{NoSpace, OutOfRange, Stands, place_at, spelled, grown_table, IsOutside}
+use Rattle.segment_manager.proofs.Common.{◌&&◌, ◌<◌, Bool, Err, IsTrue, List, None, Ok, Result, Some, ap, false}
+use Rattle.segment_manager.proofs.Common.{length, subst, sym, true, ℕ, ℤ, ◌∙◌, ◌≡◌, ◌≤◌, eqb-true, same_Some}
+use Rattle.segment_manager.proofs.Common.{MatchResult, option_to_list, current, Cut, IsExchanged}
+use Rattle.segment_manager.proofs.Common.{live_of, Table, Command, is_changing, code_of}
+use Rattle.segment_manager.proofs.Common.{kind_of_code, same_kind, Key, Kind, Vector, ScalarKind, Refusal}
+use Rattle.segment_manager.proofs.Common.{NoSpace, OutOfRange, Stands, place_at, grown_table, IsOutside}
 use Rattle.segment_manager.proofs.Common.{IsWithoutSpace, Place, Answer, Done, Refused, Contents, IsRefilled}
-use Rattle.segment_manager.proofs.Common.{container_at, container_place, contents_of, has_values, sizes_at_kind}
-use Rattle.segment_manager.proofs.Common.{sizes_of, Denotes, Directory, Elements, Object, Value, is_good_value, kind_of}
+use Rattle.segment_manager.proofs.Common.{container_at, container_place, contents_of, has_values}
+use Rattle.segment_manager.proofs.Common.{Denotes, Directory, Elements, Object, Value, is_good_value, kind_of}
 use Rattle.segment_manager.proofs.Common.{object_at, live, Refuse, Reply, met, perform, with_capacity, StandsAt}
-use Rattle.segment_manager.proofs.Common.{Answers, IsSegment, IsStepOfKind, StandsFor, State, changed, effect, found}
-use Rattle.segment_manager.proofs.Common.{is_read_only, plan, storage_of, with_items, with_table, StepsSafely}
-use Rattle.seg_types.specs.Commands as asked
-use Rattle.segment_manager.proofs.{AnyStorage.sizes-found, Calling.denotes-live, Codes.code-read}
-use Rattle.segment_manager.proofs.{Contained.contents-fit, Contained.contents-stand, ContentPlans.clear-plan}
-use Rattle.segment_manager.proofs.{ContentPlans.reserve-plan, ContentPlans.shrink-plan, Frame.object-roomy}
+use Rattle.segment_manager.proofs.Common.{Answers, IsSegment, IsStepOfKind, StandsFor, State, changed, effect}
+use Rattle.segment_manager.proofs.Common.{is_read_only, plan, StepsSafely}
+use Rattle.segment_manager.proofs.{Codes.code-read}
+use Rattle.segment_manager.proofs.{Contained.contents-fit, Contained.contents-stand}
+use Rattle.segment_manager.proofs.{Frame.object-roomy}
 use Rattle.segment_manager.proofs.{Here.standing, Safely.done-so, Safely.stays, Steps.by_no_change_of_kind}
 use Rattle.segment_manager.proofs.{Steps.open-writing, Steps.step_of_kind-found}
 use Rattle.segment_manager.proofs.Refilled.{HoldsAt, Refill, holds-at, room-asked, refill-steps_of_kind, replied}
@@ -47,28 +46,6 @@ pub record Listing (A : Type 0) : Type 0 where
   pub of_kind : (xs : List A) (t : Table) → kind_of (value xs t) ≡ kind
   pub held : (xs : List A) (t : Table) → contents_of (value xs t) ≡ Some (record { each = each; len = length xs; table = t; bytes = spell xs })
   pub values : (xs : List A) (t : Table) → has_values (value xs t) ≡ good xs
-  pub sizes : (xs : List A) (t : Table) → sizes_of (value xs t) ≡ Ok (length xs, t.capacity)
-  pub storage : (xs : List A) (t : Table) → storage_of (value xs t) ≡ Ok (each, length xs, t)
-  pub moved : (xs : List A) (t u : Table) → with_table (value xs t) u ≡ value xs u
-  pub emptied : (xs : List A) (t : Table) → with_items (value xs t) [] ≡ value [] t
-
--- vectors of numbers of a kind
-abbrev pub vectors : ScalarKind → Listing ℤ
-vectors k = record {
-  kind = Vector k;
-  each = size_of k;
-  spell = spelled k;
-  good = list_all (is_value k);
-  value = λ zs t. Elements k zs t;
-  only = λ v e good. vector-only k v e;
-  of_kind = λ zs t. refl;
-  held = λ zs t. refl;
-  values = λ zs t. refl;
-  sizes = λ zs t. refl;
-  storage = λ zs t. refl;
-  moved = λ zs t u. refl;
-  emptied = λ zs t. refl;
-}
 
 -- the object of the key is such a value, which stands at the place
 pub record HoldsItems {A : Type 0} (L : Listing A) (b : List ℕ) (d : Directory) (key : Key) (p : Place) : Type 0 where
@@ -186,16 +163,6 @@ module _ {A : Type 0} (L : Listing A) (s : State) (key : Key) (p : Place) (b : I
       let h : HoldsAt d key L.kind p = holds-at d key L.kind p (found.answers d l) in
       step_of_kind-found s.mode d key L.kind c h.object may h.is h.same ∙ each d l.denotes (found-items d l))
 
-  -- how many elements and places there are
-  pub items-measured : (m n : ℕ) → ((d : Directory) (h : Held d) → (m ≡ length h.items) × (n ≡ h.table.capacity)) → Answers s (λ d. sizes_at_kind d key L.kind) (Ok (m, n))
-  items-measured m n each = record {
-    answers = λ d l.
-        let h : Held d = found-items d l in
-        let r : (m ≡ length h.items) × (n ≡ h.table.capacity) = each d h in
-        (λ i. Ok (r.0 i, r.1 i)) ∙ sym (ap sizes_of h.value ∙ L.sizes h.items h.table)
-        ∙ sym (sizes-found d key L.kind h.object h.is (ap kind_of h.value ∙ L.of_kind h.items h.table));
-  }
-
   module _ (new : Cut) (writing : is_read_only s.mode ≡ false) where
     -- it is refused, and nothing has changed
     pub items-refused : (c : Command) (e why : Refusal) → e ≡ why → new ≡ s.cut → ((d : Directory) → Denotes current s.cut.bytes d → Held d → perform d (live d) (effect d c) ≡ (Refused why, d))
@@ -228,34 +195,6 @@ module _ {A : Type 0} (L : Listing A) (s : State) (key : Key) (p : Place) (b : I
     grows-safely c n ys (Err e) plan each =
         items-refused c e NoSpace (each b.0 some-items).refusal (each b.0 some-items).same
         (λ d den h. items-full c (n h.items h.table) (ys h.items) d den h (plan d h) (each d h).none)
-
-    pub reserves-safely : (n : ℕ) (r : Result (Unit {0}) Refusal)
-        → ((d : Directory) (h : Held d) → MatchResult r (λ u. ListedGrown L s.cut new p h.table n h.items) (IsWithoutSpace s.cut new L.each n h.table)) → StepsSafely s new key L.kind (asked.Reserve key n) r
-    reserves-safely n r each =
-        grows-safely (asked.Reserve key n) (λ xs t. n) (λ xs. xs) r
-        (λ d h.
-        reserve-plan d key h.object h.is n (Ok (L.each, length h.items, h.table)) (ap storage_of h.value ∙ L.storage h.items h.table)
-        ∙ ap (λ v. with_capacity L.each n h.table (λ u. Reply Done (changed d h.object (with_table v u)))) h.value
-        ∙ (λ i. with_capacity L.each n h.table (λ u. Reply Done (changed d h.object (L.moved h.items h.table u i))))) each
-
-    pub shrinks-safely : ((d : Directory) (h : Held d) → ListedNow L s.cut new p h.table h.items (cut_table (live_of s.cut.bytes) L.each (length h.items) h.table))
-        → StepsSafely s new key L.kind (asked.Shrink key) (Ok tt)
-    shrinks-safely each =
-        done-so (items-steps new (asked.Shrink key) Done writing
-        (λ d den h.
-        let cut : LiveSet → Table = λ l. cut_table l L.each (length h.items) h.table in
-        items-now L s.cut new d key p den h h.items (cut (live_of s.cut.bytes)) (asked.Shrink key) Done
-        (shrink-plan d key h.object h.is (Ok (L.each, length h.items, h.table)) (ap storage_of h.value ∙ L.storage h.items h.table)
-        ∙ ap (λ v. Reply Done (changed d h.object (with_table v (cut (live d))))) h.value ∙ ap (λ v. Reply Done (changed d h.object v)) (L.moved h.items h.table (cut (live d)))
-        ∙ ap (λ l. Reply Done (changed d h.object (L.value h.items (cut l)))) (sym (denotes-live current s.cut.bytes d den))) (each d h)))
-
-    pub clears-safely : ((d : Directory) (h : Held d) → ListedNow L s.cut new p h.table [] h.table) → StepsSafely s new key L.kind (asked.Clear key) (Ok tt)
-    clears-safely each =
-        done-so (items-steps new (asked.Clear key) Done writing
-        (λ d den h.
-        items-now L s.cut new d key p den h [] h.table (asked.Clear key) Done
-        (clear-plan d key h.object h.is (Ok (L.each, length h.items, h.table)) (ap storage_of h.value ∙ L.storage h.items h.table)
-        ∙ ap (λ v. Reply Done (changed d h.object (with_items v []))) h.value ∙ ap (λ v. Reply Done (changed d h.object v)) (L.emptied h.items h.table)) (each d h)))
 
 -- what is so where a call went well is so in other words
 pub so-too : (P Q : Type 0) (F : Refusal → Type 0) (r : Result (Unit {0}) Refusal) → MatchResult r (λ u. P) F → (P → Q) → MatchResult r (λ u. Q) F

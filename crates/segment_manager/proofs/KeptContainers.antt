@@ -1,16 +1,16 @@
 -- What calls on vectors, strings and maps leave to the last byte.
 use Rattle.segment_manager.proofs.Common.{◌≡◌, sym, ap, subst, ◌∙◌, ℕ, ◌≤◌, ℤ, Bool, true, false, Option, Some, None}
 use Rattle.segment_manager.proofs.Common.{Result, Ok, Err, List, [], MatchOption, int_lt, none-some, Cut, ScalarKind}
-use Rattle.segment_manager.proofs.Common.{Text, TextsKind, Vector, Plain, Refusal, NotFound, Key, MapPlace, Erases}
+use Rattle.segment_manager.proofs.Common.{TextsKind, Plain, Refusal, NotFound, Key, MapPlace, Erases}
 use Rattle.segment_manager.proofs.Common.{IsErased, pair_at, NumberPair, Place, container_at, sizes_of, Object}
 use Rattle.segment_manager.proofs.Common.{Directory, object_at, HasPlaces, KeepsWhere, map_at, numbers_of, Answers}
 use Rattle.segment_manager.proofs.Common.{State, StandsFor, pairs_of}
-use Rattle.seg_vector.specs.{TextCalls.ReservesNoBytes, TextsCalls.ReservesNoTexts, VectorCalls.ReservesNothing}
+use Rattle.segment_manager.proofs.Common.{Change, HasEnough, Reserve}
+use Rattle.segment_manager.specs.Stored.{ChangesTexts}
 use Rattle.segment_manager.specs.Keeping.{LacksPair}
 use Rattle.segment_manager.proofs.{MapCalls.HoldsPairs, MapCalls.holds-pairs, TextsHeld.HoldsTexts}
-use Rattle.segment_manager.proofs.{TextsHeld.holds-texts, Whole.IsOfKind}
+use Rattle.segment_manager.proofs.{TextsHeld.holds-texts}
 use Rattle.segment_manager.proofs.PairNumbers.{IsScalarOf, erases-numbers}
-use Rattle.segment_manager.proofs.{ItemSteps.HoldsItems, ItemSteps.holds-items, TextAnswers.texts, VectorAnswers.typed}
 
 -- the window is as it was, and so is the segment
 pub keeps-cut : (s t : State) (view : s ≡ t) (new : Cut) (P : Directory → Type 0) → ((d : Directory) → StandsFor s.cut.bytes d → P d → new ≡ s.cut) → KeepsWhere t (record s { cut = new }) P
@@ -23,28 +23,18 @@ places_in (Ok (len, capacity)) = capacity
 places_in (Err r) = 0
 
 -- those of the object that the key has
-enough-places : (d : Directory) (key : Key) (o : Object) (n len capacity : ℕ) → object_at d key ≡ Some o → sizes_of o.value ≡ Ok (len, capacity) → HasPlaces key n d → n ≤ capacity
+pub enough-places : (d : Directory) (key : Key) (o : Object) (n len capacity : ℕ) → object_at d key ≡ Some o → sizes_of o.value ≡ Ok (len, capacity) → HasPlaces key n d → n ≤ capacity
 enough-places d key o n len capacity is sizes has =
     let same : Ok (has.len, has.capacity) ≡ Ok (len, capacity) =
     sym has.says ∙ ap (λ (r : Option Object). elim r as (λ _. Result (ℕ × ℕ) Refusal) [ None ↦ Err NotFound | Some p ↦ sizes_of p.value ]) is ∙ sizes in
     subst (λ m. n ≤ m) (ap places_in same) has.enough
 
-module _ (s : State) (key : Key) (p : Place) (new : Cut) (n : ℕ) (r : Result (Unit {0}) Refusal) where
-  pub text-kept : Answers s (λ d. container_at d key Text) (Ok p) → ReservesNoBytes s.cut new p n r → (d : Directory) → StandsFor s.cut.bytes d → HasPlaces key n d → new ≡ s.cut
-  text-kept found each d l has =
-      let h : HoldsItems texts s.cut.bytes d key p = holds-items texts s.cut.bytes d key p l.denotes (found.answers d l) in
-      (each h.items h.table h.stands (enough-places d key h.object n _ h.table.capacity h.is (ap sizes_of h.value) has)).1
-
-  pub texts-kept : Answers s (λ d. container_at d key TextsKind) (Ok p) → ReservesNoTexts s.cut new p n r → (d : Directory) → StandsFor s.cut.bytes d → HasPlaces key n d → new ≡ s.cut
-  texts-kept found each d l has =
-      let h : HoldsTexts s.cut.bytes d key p = holds-texts s.cut.bytes d key p l.denotes (found.answers d l) in
-      (each h.texts h.table h.stand (enough-places d key h.object n _ h.table.capacity h.is (ap sizes_of h.value) has)).1
-
-  pub vector-kept : {T : Type 0} (k : ScalarKind) (w : T → ℤ) (size : ℕ) (test : T → Bool) (sp : T → List ℕ) → IsOfKind k w size test sp → Answers s (λ d. container_at d key (Vector k)) (Ok p)
-      → ReservesNothing size test sp s.cut new p n r → (d : Directory) → StandsFor s.cut.bytes d → HasPlaces key n d → new ≡ s.cut
-  vector-kept k w size test sp law found each d l has =
-      let h : HoldsItems (typed k w size test sp law) s.cut.bytes d key p = holds-items (typed k w size test sp law) s.cut.bytes d key p l.denotes (found.answers d l) in
-      (each h.items h.table (record { stands = h.stands; values = h.values }) (enough-places d key h.object n _ h.table.capacity h.is (ap sizes_of h.value) has)).1
+pub texts-kept : (s : State) (key : Key) (p : Place) (new : Cut) (change : Change) (r : Result (Unit {0}) Refusal) → Answers s (λ d. container_at d key TextsKind) (Ok p)
+    → ChangesTexts change s.cut new p r → (d : Directory) → StandsFor s.cut.bytes d → HasEnough change key d → new ≡ s.cut
+texts-kept s key p new (Reserve n) r found each d l has =
+    let h : HoldsTexts s.cut.bytes d key p = holds-texts s.cut.bytes d key p l.denotes (found.answers d l) in
+    (each.1 h.texts h.table h.stand (enough-places d key h.object n _ h.table.capacity h.is (ap sizes_of h.value) has)).1
+texts-kept s key p new change r found each d l has = absurd has
 
 -- ---- pairs
 

@@ -83,6 +83,7 @@ mod Destroys
 mod Keeping
 mod KeptContainers
 mod StoredCalls
+mod OneLength
 mod Here
 mod Places
 mod Replies

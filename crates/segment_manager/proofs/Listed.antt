@@ -10,7 +10,7 @@ use Rattle.seg_index.specs.declared.index.Index.TheVariants as index
 use Rattle.seg_index.specs.declared.keys.Key.{Key}
 use Rattle.seg_index.specs.declared.keys.Key.TheVariants as entry
 use Rattle.segment_manager.proofs.Bridge.{lookup-absent, own-kind, own-name}
-use Rattle.segment_manager.proofs.{FindCalls.IsRead, Here.IsHere, Here.has-object, Here.here}
+use Rattle.segment_manager.proofs.{Here.IsHere, Here.IsReadAt, Here.has-object, Here.here}
 use Rattle.segment_manager.proofs.KeyCalls.{ForIndex, handle-answers, of-directory}
 
 -- ---- the object of a handle
@@ -46,7 +46,7 @@ abbrev pub IsNamed : Key → List ℕ → Type 0
 IsNamed (entry.Name bytes) name = bytes.now ≡ name
 IsNamed (entry.Code n) name = ⊥
 
-module _ (s : State) (h : ℕ) (head : Head) (a : Answers s (λ d. is_object_at d h) true) (r : IsRead s h head) where
+module _ (s : State) (h : ℕ) (head : Head) (a : Answers s (λ d. is_object_at d h) true) (r : IsReadAt s.cut.bytes h head) where
   -- it has no key
   pub listed-none : head.class ≡ class.Anonymous → IsAnonymousAt s h
   listed-none e d k =

@@ -1,18 +1,17 @@
 -- What the calls of seg_map ensure of the map at the place that was found, as the steps of the calls on the object's map.
-use Rattle.segment_manager.proofs.Common.{◌≡◌, sym, ap, subst, ◌∙◌, ℕ, ◌+◌, ◌≤◌, ℤ, Bool, true, false, Option, Result}
-use Rattle.segment_manager.proofs.Common.{Ok, length, arith, IsTrue, option_map, current, Cut, bytes_of, word_at}
-use Rattle.segment_manager.proofs.Common.{has_room, live_of, Map, ScalarKind, Plain, Refusal, is_value, Key, Lookup}
+use Rattle.segment_manager.proofs.Common.{◌≡◌, sym, subst, ◌∙◌, ℤ, Bool, true, false, Option, Result}
+use Rattle.segment_manager.proofs.Common.{Ok, option_map, Cut}
+use Rattle.segment_manager.proofs.Common.{Map, ScalarKind, Plain, Refusal, is_value, Key, Lookup}
 use Rattle.segment_manager.proofs.Common.{Put, Remove, literal_of, Erases, Puts, FindsItem, FindsItemBefore}
-use Rattle.segment_manager.proofs.Common.{FindsLastItem, FindsValue, IsSomeMap, ContainerPlace, container_at}
-use Rattle.segment_manager.proofs.Common.{sizes_at_kind, sizes_of, Directory, kind_of, padded, head_len, map_at}
-use Rattle.segment_manager.proofs.Common.{numbers_in, pair_above, pair_at_end, pair_below, pair_from, pair_up_to}
+use Rattle.segment_manager.proofs.Common.{FindsLastItem, FindsValue, IsSomeMap}
+use Rattle.segment_manager.proofs.Common.{map_at}
+use Rattle.segment_manager.proofs.Common.{numbers_in, pair_at_end, pair_below, pair_up_to}
 use Rattle.segment_manager.proofs.Common.{told_of_map, value_or_absent, Answers, IsReplyOfKind, IsSegment, State}
-use Rattle.segment_manager.proofs.Common.{StandsFor, is_read_only, List, NumberPair}
-use Rattle.best_fit.proofs.Laws.{room-less}
+use Rattle.segment_manager.proofs.Common.{is_read_only, List, NumberPair}
 use Rattle.seg_map.specs.declared.places.Place.{Place}
 use Rattle.segment_manager.specs.Maps.{IsPairs}
-use Rattle.segment_manager.proofs.{AnyStorage.sizes-found, Heads.good-name, Heads.good_name-short}
-use Rattle.segment_manager.proofs.MapCalls.{HoldsPairs, TellsSafely, as_map, holds-pairs, map-erased, map-got, map-put}
+use Rattle.segment_manager.specs.Walks.{pair_past}
+use Rattle.segment_manager.proofs.MapCalls.{TellsSafely, map-erased, map-got, map-put}
 use Rattle.segment_manager.proofs.MapCalls.{map-told, put_result, stands-map}
 use Rattle.segment_manager.proofs.PairNumbers.{IsScalarOf, erases-numbers, finds-back, finds-item, finds-last}
 use Rattle.segment_manager.proofs.PairNumbers.{finds-value, puts-numbers, some-map}
@@ -46,13 +45,9 @@ module _ {K V : Type 0} (k v : ScalarKind) (kp : Plain K) (vp : Plain V) (kw : K
   told-there say answer F finds each =
       subst (λ (u : State). Answers u (λ d. told_of_map d key k v say) (Ok answer)) view (map-told s key k v p b found-there say answer (finds (subst F same each)))
 
-  pub from-there : (x : K) (r : Option (K × V)) → FindsItem kp vp s.cut.bytes q.handle q.at false x r → Answers t (λ d. told_of_map d key k v (pair_from (kw x))) (Ok (numbers_in kw vw r))
-  from-there x r each =
-      told-there (pair_from (kw x)) (numbers_in kw vw r) (λ (c : Place). FindsItem kp vp s.cut.bytes c.handle c.at false x r) (finds-item k v kp vp kw vw kl vl s.cut.bytes p.handle p.at false x r) each
-
-  pub above-there : (x : K) (r : Option (K × V)) → FindsItem kp vp s.cut.bytes q.handle q.at true x r → Answers t (λ d. told_of_map d key k v (pair_above (kw x))) (Ok (numbers_in kw vw r))
-  above-there x r each =
-      told-there (pair_above (kw x)) (numbers_in kw vw r) (λ (c : Place). FindsItem kp vp s.cut.bytes c.handle c.at true x r) (finds-item k v kp vp kw vw kl vl s.cut.bytes p.handle p.at true x r) each
+  pub past-there : (above : Bool) (x : K) (r : Option (K × V)) → FindsItem kp vp s.cut.bytes q.handle q.at above x r → Answers t (λ d. told_of_map d key k v (pair_past above (kw x))) (Ok (numbers_in kw vw r))
+  past-there above x r each =
+      told-there (pair_past above (kw x)) (numbers_in kw vw r) (λ (c : Place). FindsItem kp vp s.cut.bytes c.handle c.at above x r) (finds-item k v kp vp kw vw kl vl s.cut.bytes p.handle p.at above x r) each
 
   pub up_to-there : (x : K) (r : Option (K × V)) → FindsItemBefore kp vp s.cut.bytes q.handle q.at true x r → Answers t (λ d. told_of_map d key k v (pair_up_to (kw x))) (Ok (numbers_in kw vw r))
   up_to-there x r each =
@@ -84,30 +79,3 @@ module _ {K V : Type 0} (k v : ScalarKind) (kp : Plain K) (vp : Plain V) (kw : K
     erased-there x r good each =
         map-erased s key k v p b found-there new writing-there (kw x) r (as-value k kp kw kl x good)
         (erases-numbers k v kp vp kw vw kl vl s.cut new p.handle p.at x r (subst (λ (r' : Place). Erases kp vp s.cut new r'.handle r'.at x r) same each))
-
--- ---- how many pairs there are
-
-module _ (s : State) (key : Key) (k v : ScalarKind) (p : ContainerPlace) (found : Answers s (λ d. container_at d key (Map k v)) (Ok p)) where
-  pairs-in : (d : Directory) → StandsFor s.cut.bytes d → HoldsPairs s.cut.bytes d key k v (record { handle = p.handle; at = p.at })
-  pairs-in d l = holds-pairs s.cut.bytes d key k v (record { handle = p.handle; at = p.at }) l.denotes (ap as_map (found.answers d l))
-
-  -- no name is long
-  pub place-small : IsSegment s.cut.bytes → p.at + 8 ≤ 4096
-  place-small b =
-      let h : HoldsPairs s.cut.bytes b.0 key k v (record { handle = p.handle; at = p.at }) = pairs-in b.0 b.1 in
-      let short : length h.object.name ≤ 255 = good_name-short current h.object (good-name current h.object h.known.stands.good) in
-      let at : head_len + padded (length h.object.name) ≡ p.at = ap (λ (q : Place). q.at) h.at in
-      omega (arith, short, at)
-
-  -- their number stands in the object's block
-  pub count-room : (at : ℕ) → IsSegment s.cut.bytes → at ≡ p.at + 8 → IsTrue (has_room (live_of s.cut.bytes) p.handle (at + 8))
-  count-room at b e = room-less (live_of s.cut.bytes) p.handle (p.at + 24) (at + 8) (omega (arith, e)) (pairs-in b.0 b.1).map.room
-
-  pub pairs-measured : (n at : ℕ) → at ≡ p.at + 8 → n ≡ word_at (bytes_of s.cut.bytes) (p.handle + at) → Answers s (λ d. sizes_at_kind d key (Map k v)) (Ok (n, 0))
-  pairs-measured n at e f = record {
-    answers = λ d l.
-        let h : HoldsPairs s.cut.bytes d key k v (record { handle = p.handle; at = p.at }) = pairs-in d l in
-        let there : p.handle + at ≡ p.handle + p.at + 8 = omega (arith, e) in
-        let count : n ≡ length h.pairs = f ∙ ap (word_at (bytes_of s.cut.bytes)) there ∙ h.map.map.count in
-        (λ i. Ok (count i, 0)) ∙ sym (ap sizes_of h.known.value) ∙ sym (sizes-found d key (Map k v) h.object h.is (ap kind_of h.known.value));
-  }

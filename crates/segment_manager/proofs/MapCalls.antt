@@ -1,7 +1,7 @@
 -- The calls on maps of numbers, each as one step: what the calls of seg_map ensure of the map at its place comes to the directory.
 use Rattle.segment_manager.proofs.Common.{◌≡◌, refl, sym, ap, subst, ◌∙◌, ℕ, ℤ, Bool, true, false, Option, Some, None}
 use Rattle.segment_manager.proofs.Common.{Result, Ok, Err, List, [], if◌then◌else◌, MatchOption, MatchResult, int_lt}
-use Rattle.segment_manager.proofs.Common.{option_map, eq-eqb, current, Cut, SamePlace, Node, place, Kind, Map}
+use Rattle.segment_manager.proofs.Common.{option_map, eq-eqb, current, Cut, SamePlace, Node, Kind, Map}
 use Rattle.segment_manager.proofs.Common.{ScalarKind, Refusal, NoSpace, NotFound, WrongKind, code_of, is_value}
 use Rattle.segment_manager.proofs.Common.{same_kind, size_of, Key, Command, Literal, literal_of, value_of_literal}
 use Rattle.segment_manager.proofs.Common.{transitive, Erases, IsErased, IsFull, IsPut, IsPutAgain, Puts, node_len}

@@ -3,9 +3,9 @@
 use Rattle.segment_manager.proofs.Common.{◌≡◌, refl, sym, ap, subst, ◌∙◌, ℕ, ℤ, Bool, Some, None, Ok, Err, Result, List}
 use Rattle.segment_manager.proofs.Common.{[], length, map, IsTrue, MatchResult, option_to_list, length-map, current}
 use Rattle.segment_manager.proofs.Common.{Cut, bytes_of, IsExchanged, IsChanged, live_of, Table, no_table, keeps-refl}
-use Rattle.segment_manager.proofs.Common.{laid-heap, ScalarKind, Refusal, NoSpace, size_of, Content, Place, Stands}
-use Rattle.segment_manager.proofs.Common.{place_at, AssignsText, IsTextGrown, grown_table, spelled, Assigns}
-use Rattle.segment_manager.proofs.Common.{IsSomeVector, IsVectorGrown, IsWithoutSpace, Contents, IsNumbersGrown}
+use Rattle.segment_manager.proofs.Common.{laid-heap, ScalarKind, Refusal, NoSpace, Content, Place, Stands}
+use Rattle.segment_manager.proofs.Common.{place_at, AssignsText, IsTextGrown, grown_table, Assigns}
+use Rattle.segment_manager.proofs.Common.{IsSomeVector, IsVectorGrown, IsWithoutSpace, Contents, flat_map}
 use Rattle.segment_manager.proofs.Common.{are_bytes, contents_of, has_values, Value, Elements, Bytes, count_of, kind_of}
 use Rattle.segment_manager.proofs.Common.{value_extents, value_len, IsMadeValue, IsNoValue, MakesValue, Plan, bare}
 use Rattle.segment_manager.proofs.Common.{perform, with_storage, with_value}
@@ -13,7 +13,7 @@ use Rattle.seg_types.specs.Commands as asked
 use Rattle.seg_vector.specs.{TextCalls.StartsText, VectorCalls.Starts}
 use Rattle.segment_manager.proofs.Contained.{contents-good, value-said}
 use Rattle.segment_manager.proofs.MadeValues.{storage-met, storage-none, stored}
-use Rattle.segment_manager.proofs.Whole.{IsOfKind, whole-grown, whole-no_room}
+use Rattle.segment_manager.proofs.Whole.{IsOfKind, whole-spelled, whole-values}
 
 abbrev contents : ℕ → ℕ → List ℕ → Table → Contents
 contents each len bytes t = record { each = each; len = len; table = t; bytes = bytes }
@@ -26,9 +26,6 @@ record IsContainerOf (content : Content) (each len : ℕ) (bytes : List ℕ) (v 
   count : (t : Table) → count_of (v t) ≡ count_of (bare content)
   extents : (t : Table) → value_extents (v t) ≡ option_to_list t.extent
   holds : (t : Table) → contents_of (v t) ≡ Some (contents each len bytes t)
-
-elements-content : (k : ScalarKind) (zs : List ℤ) → IsContainerOf (asked.Elements k zs) (size_of k) (length zs) (spelled k zs) (Elements k zs)
-elements-content k zs = record { asks = λ next. refl; is_kind = λ t. refl; long = λ t. refl; count = λ t. refl; extents = λ t. refl; holds = λ t. refl }
 
 bytes-content : (bs : List ℕ) → IsContainerOf (asked.Bytes bs) 1 (length bs) bs (Bytes bs)
 bytes-content bs = record { asks = λ next. refl; is_kind = λ t. refl; long = λ t. refl; count = λ t. refl; extents = λ t. refl; holds = λ t. refl }
@@ -69,6 +66,16 @@ module _ {T : Type 0} (k : ScalarKind) (w : T → ℤ) (size : ℕ) (test : T �
   pub some-started : (old new : Cut) (p q : Place) → q ≡ p → Starts size test sp old new p → IsSomeVector size test sp new.bytes q
   some-started old new p q e r = subst (IsSomeVector size test sp new.bytes) (sym e) ([], (no_table, r.vector))
 
+  elements-content : (ys : List T) → IsContainerOf (asked.Elements k (map w ys)) size (length ys) (flat_map sp ys) (Elements k (map w ys))
+  elements-content ys = record {
+    asks = λ next. λ i. with_storage (sym law.long i) (length-map ys w i) (λ t. next (Elements k (map w ys) t));
+    is_kind = λ t. refl;
+    long = λ t. refl;
+    count = λ t. refl;
+    extents = λ t. refl;
+    holds = λ t. λ i. Some (contents (sym law.long i) (length-map ys w i) (sym (whole-spelled k w size test sp law ys) i) t);
+  }
+
   -- it is made, and then its values are put there
   pub vector-made : (old mid new : Cut) (p q : Place) (ys : List T) (r : Result (Unit {0}) Refusal) → q ≡ p → IsChanged current old mid (place_at p) 24 → Starts size test sp old mid p
       → Assigns size test sp mid new q ys r → MakesValue (asked.Elements k (map w ys)) old new p r
@@ -77,12 +84,10 @@ module _ {T : Type 0} (k : ScalarKind) (w : T → ℤ) (size : ℕ) (test : T �
       made : (r : Result (Unit {0}) Refusal) → MatchResult r (λ u. IsVectorGrown size test sp mid new p no_table (length ys) ys) (IsWithoutSpace mid new size (length ys) no_table)
           → MakesValue (asked.Elements k (map w ys)) old new p r
       made (Ok u) g =
-          let n : IsNumbersGrown k mid new p no_table (length ys) (map w ys) = whole-grown k w size test sp law mid new p no_table g.table (length ys) ys g.grown g.now.change g.now.vector.stands g.now.vector.values in
-          stored-value (asked.Elements k (map w ys)) (size_of k) (length (map w ys)) (spelled k (map w ys)) (Elements k (map w ys)) (elements-content k (map w ys)) old mid new p change n.table
-          (subst (λ (l : ℕ). grown_table (live_of mid.bytes) (size_of k) l no_table ≡ Some n.table) (sym (length-map ys w)) n.grown) n.now.change n.now.vector.stands n.now.vector.values
+          stored-value (asked.Elements k (map w ys)) size (length ys) (flat_map sp ys) (Elements k (map w ys)) (elements-content ys) old mid new p change g.table g.grown g.now.change g.now.vector.stands
+          (sym (whole-values k w size test sp law ys) ∙ g.now.vector.values)
       made (Err why) g =
-          unstored-value (asked.Elements k (map w ys)) (size_of k) (length (map w ys)) (spelled k (map w ys)) (Elements k (map w ys)) (elements-content k (map w ys)) old mid new p change why g.same
-          (subst (λ (l : ℕ). grown_table (live_of mid.bytes) (size_of k) l no_table ≡ None) (sym (length-map ys w)) (whole-no_room k w size test sp law mid.bytes (length ys) no_table g.none)) g.refusal
+          unstored-value (asked.Elements k (map w ys)) size (length ys) (flat_map sp ys) (Elements k (map w ys)) (elements-content ys) old mid new p change why g.same g.none g.refusal
 
 -- ---- a text
 

@@ -1,5 +1,5 @@
 -- Texts of numbered parts, for the crates that write what a segment holds: the text of so many parts, and what has gone out of it.
-use Rattle.segment_manager.proofs.Common.{◌≡◌, ℕ, zero, suc, ◌+◌, ◌<◌, ◌≤◌, Bool, true, false, List, [], ◌∷◌, ◌++◌}
+use Rattle.segment_manager.proofs.Common.{◌≡◌, ℕ, zero, suc, ◌+◌, ◌<◌, Bool, true, false, List, [], ◌∷◌, ◌++◌}
 use Rattle.segment_manager.proofs.Common.{length, take, nat_lt, Option, Some, None, Result, Ok, Err, slice_get, refl}
 use Rattle.segment_manager.proofs.Common.{sym, ap, subst, ◌∙◌, append_assoc, arith, flat_map, ltb-true, ltb-false}
 use Rattle.segment_manager.proofs.Common.{take_all, slice_get_within}

@@ -8,7 +8,7 @@ use Rattle.segment_manager.proofs.Common.{NotFound, WrongKind, OutOfRange, is_va
 use Rattle.segment_manager.proofs.Common.{spelled, Numbers, Object, Directory, count_of, is_good_value, is_object}
 use Rattle.segment_manager.proofs.Common.{kind_of, object_at, padded, value_len, Denotes, IsValueAt, handle_at}
 use Rattle.segment_manager.proofs.Common.{StandsAt, Answers, State}
-use Rattle.segment_manager.specs.declared.accessing.Place.{Place}
+use Rattle.seg_vector.specs.declared.places.Place.{Place}
 use Rattle.segment_manager.specs.Standing.{element_at, place_at, place_in}
 use Rattle.segment_manager.proofs.{Blocks.spelling-length, Codes.numbers-only, Frame.object-roomy, Rows.Has-element}
 use Rattle.segment_manager.proofs.{Standings.standing-room, Words.first, Words.second, Here.IsHere, Here.here}

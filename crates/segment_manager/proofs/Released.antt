@@ -1,29 +1,31 @@
 -- What becomes of an object whose contents are released, for each kind of value.
-use Rattle.segment_manager.proofs.Common.{◌≡◌, refl, sym, ap, subst, ◌∙◌, append-nil, ℕ, ◌+◌, ℤ, Bool, Option, Some}
-use Rattle.segment_manager.proofs.Common.{None, Result, Ok, Err, List, [], length, map, if◌then◌else◌, IsTrue, eq-eqb}
+use Rattle.segment_manager.proofs.Common.{◌≡◌, refl, sym, ap, subst, ◌∙◌, append-nil, ℕ, ◌+◌, Bool, Option, Some}
+use Rattle.segment_manager.proofs.Common.{None, Result, Ok, Err, List, [], length, if◌then◌else◌, IsTrue, eq-eqb}
 use Rattle.segment_manager.proofs.Common.{same_Some, current, Cut, bytes_of, IsExchanged, Extent, handle, no_table}
-use Rattle.segment_manager.proofs.Common.{Kind, Scalar, Text, Vector, Map, TextsKind, ScalarKind, Refusal, NotFound}
-use Rattle.segment_manager.proofs.Common.{WrongKind, code_of, ByHandle, Key, MapPlace, Place, place_at, IsSomeText}
-use Rattle.segment_manager.proofs.Common.{IsTextNow, IsSomeTexts, IsTextsNow, IsSomeVector, IsVectorNow, Head}
-use Rattle.segment_manager.proofs.Common.{IsNumbers, IsNumbersNow, container_at, container_place, place_of_kind}
-use Rattle.segment_manager.proofs.Common.{Denotes, IsValueAt, Becomes, Empties, HoldsObject, ReleasesNumbers, emptied}
-use Rattle.segment_manager.proofs.Common.{Value, Elements, Bytes, Pairs, Texts, Object, Directory, has_key, is_object}
+use Rattle.segment_manager.proofs.Common.{Kind, Scalar, Map, TextsKind, ScalarKind, Refusal, NotFound}
+use Rattle.segment_manager.proofs.Common.{WrongKind, code_of, ByHandle, Key, MapPlace, Place, place_at}
+use Rattle.segment_manager.proofs.Common.{IsSomeTexts, IsTextsNow, Head}
+use Rattle.segment_manager.proofs.Common.{container_at, container_place, place_of_kind}
+use Rattle.segment_manager.proofs.Common.{Denotes, IsValueAt, Becomes, Empties, HoldsObject, emptied}
+use Rattle.segment_manager.proofs.Common.{Value, Pairs, Texts, Object, Directory, has_key, is_object}
 use Rattle.segment_manager.proofs.Common.{kind_of, object_at, padded, value_extents, value_len, head_len, HasPairs}
 use Rattle.segment_manager.proofs.Common.{ReleasesPairs, numbers_of, HasObject, IsHeadOf, StandsAt, StandsFor, changed}
 use Rattle.seg_map.specs.Changing.{IsGivenUp}
-use Rattle.seg_vector.specs.TextCalls.{ReleasesText}
+use Rattle.seg_vector.specs.Elements.{GivesBack, IsGivenBack}
+use Rattle.seg_vector.specs.Standing.{IsStanding}
 use Rattle.seg_vector.specs.TextsCalls.{ReleasesTexts}
-use Rattle.seg_vector.specs.VectorCalls.{Releases}
-use Rattle.segment_manager.specs.Destroyed.{HasNumbers}
-use Rattle.segment_manager.proofs.{Contained.good-with, Contained.start-place, Frame.object-roomy, Here.standing}
+use Rattle.segment_manager.specs.Contents.{has_storage}
+use Rattle.segment_manager.specs.Stored.{each_of}
+use Rattle.segment_manager.proofs.{Contained.good-with, Contained.start-place, Frame.object-roomy, Here.IsReadAt, Here.standing}
 use Rattle.segment_manager.proofs.{Live.IsIn, Rewritten.value_start, Rewritten.with_value, TextsHeld.HoldsTexts}
 use Rattle.segment_manager.proofs.{TextsHeld.holds-texts, Emptied.changed-itself, Emptied.emptied-is}
 use Rattle.segment_manager.proofs.{Emptied.emptied-numbers, Exchanged.Exchange, Exchanged.between}
 use Rattle.segment_manager.proofs.{Exchanged.denotes-container, MapCalls.HoldsPairs, MapCalls.as_map}
 use Rattle.segment_manager.proofs.{MapCalls.holds-pairs, ObjectLists.all-found, ObjectLists.each-true}
-use Rattle.segment_manager.proofs.{ObjectLists.found-handle, ObjectLists.key-found, Whole.IsOfKind, Whole.of-whole}
-use Rattle.segment_manager.proofs.{Whole.stands-whole, Whole.whole-now, Whole.whole-reached, ItemSteps.HoldsItems}
-use Rattle.segment_manager.proofs.{ItemSteps.holds-items, ItemSteps.vectors, TextAnswers.texts}
+use Rattle.segment_manager.proofs.{ObjectLists.found-handle, ObjectLists.key-found}
+use Rattle.segment_manager.proofs.Contained.{Shape, contents-shape, value-said}
+use Rattle.segment_manager.proofs.OneLength.{HoldsElements, holds-elements, nothing-left}
+use Rattle.segment_manager.proofs.Common.{true}
 
 -- ---- the object of a handle
 
@@ -59,22 +61,15 @@ found-container d key kind o p e f g =
 
 -- ---- what the head says
 
--- it was read of each object that stands at the handle
-abbrev pub IsReadAt : List ℕ → ℕ → Head → Type 0
-IsReadAt b h head = (o : Object) → StandsAt b h o → IsHeadOf o head
-
--- it says that a text stands behind it, a vector of numbers or of texts, or a map
+-- it says that elements of one length stand behind it, a vector of texts, or a map
 module _ (b : List ℕ) (h at : ℕ) (head : Head) (said : IsReadAt b h head) (behind : at ≡ head_len + padded head.name_len) (d : Directory) (o : Object) (s : StandsFor b d) (e : object_at d (ByHandle h) ≡ Some o) where
   read-place : (kind : Kind) → head.kind ≡ kind → Ok (place_behind h at) ≡ container_at d (ByHandle h) kind
   read-place kind is =
       let there : StandsAt b h o = held-stands b h d o s e in
       found-container d (ByHandle h) kind o (place_behind h at) e (sym (said o there).kind ∙ is) (behind-head b h at o head there (said o there) behind)
 
-  read-text : head.kind ≡ Text → HoldsItems texts b d (ByHandle h) (place_behind h at)
-  read-text is = holds-items texts b d (ByHandle h) (place_behind h at) s.denotes (read-place Text is)
-
-  read-vector : (k : ScalarKind) → head.kind ≡ Vector k → HoldsItems (vectors k) b d (ByHandle h) (place_behind h at)
-  read-vector k is = holds-items (vectors k) b d (ByHandle h) (place_behind h at) s.denotes (read-place (Vector k) is)
+  read-elements : has_storage head.kind ≡ true → (head.kind ≡ TextsKind → ⊥) → HoldsElements b d (ByHandle h) head.kind (place_behind h at)
+  read-elements stored no_texts = holds-elements b d (ByHandle h) head.kind (place_behind h at) s.denotes (read-place head.kind refl) stored no_texts
 
   read-texts : head.kind ≡ TextsKind → HoldsTexts b d (ByHandle h) (place_behind h at)
   read-texts is = holds-texts b d (ByHandle h) (place_behind h at) s.denotes (read-place TextsKind is)
@@ -83,12 +78,9 @@ module _ (b : List ℕ) (h at : ℕ) (head : Head) (said : IsReadAt b h head) (b
   read-pairs k l is = holds-pairs b d (ByHandle h) k l (map_behind h at) s.denotes (ap as_map (read-place (Map k l) is))
 
 module _ (b : List ℕ) (h at : ℕ) (head : Head) (x : HoldsObject b h) (said : IsReadAt b h head) (behind : at ≡ head_len + padded head.name_len) where
-  pub some-text : head.kind ≡ Text → IsSomeText b (place_behind h at)
-  some-text is = let t : HoldsItems texts b x.directory (ByHandle h) (place_behind h at) = read-text b h at head said behind x.directory x.object x.stands x.is is in (t.items, (t.table, t.stands))
-
-  pub some-vector : (k : ScalarKind) → head.kind ≡ Vector k → HasNumbers k b (place_behind h at)
-  some-vector k is =
-      let v : HoldsItems (vectors k) b x.directory (ByHandle h) (place_behind h at) = read-vector b h at head said behind x.directory x.object x.stands x.is k is in (v.items, (v.table, record { stands = v.stands; values = v.values }))
+  pub some-elements : has_storage head.kind ≡ true → (head.kind ≡ TextsKind → ⊥) → IsStanding b (place_behind h at) (each_of head.kind)
+  some-elements stored no_texts =
+      let e : HoldsElements b x.directory (ByHandle h) head.kind (place_behind h at) = read-elements b h at head said behind x.directory x.object x.stands x.is stored no_texts in (e.len, (e.table, (e.bytes, e.stands)))
 
   pub some-texts : head.kind ≡ TextsKind → IsSomeTexts b (place_behind h at)
   some-texts is = let t : HoldsTexts b x.directory (ByHandle h) (place_behind h at) = read-texts b h at head said behind x.directory x.object x.stands x.is is in (t.texts, (t.table, t.stand))
@@ -131,23 +123,19 @@ container-released old new d key o p v k e is at len change said =
     (subst (λ from. IsExchanged current old new from 24 (value_extents o.value) []) (sym start) (subst (λ w. IsExchanged current old new (place_at p) 24 (value_extents w) []) (sym is) change))
     (subst (λ from. IsValueAt (bytes_of new.bytes) from (emptied o.value)) (sym start) (subst (λ w. IsValueAt (bytes_of new.bytes) (place_at p) (emptied w)) (sym is) said))
 
--- so it is of a text, of a vector of numbers or of texts, and of a map
+-- so it is of elements of one length, of a vector of texts, and of a map
 module _ (old new : Cut) (h at : ℕ) (head : Head) (said : IsReadAt old.bytes h head) (behind : at ≡ head_len + padded head.name_len) where
-  pub text-contents : head.kind ≡ Text → ReleasesText old new (place_behind h at) → Empties old new h
-  text-contents is released d o s e =
-      let x : HoldsItems texts old.bytes d (ByHandle h) (place_behind h at) = read-text old.bytes h at head said behind d o s e is in
-      let same : x.object ≡ o = same_Some x.object o (sym x.is ∙ e) in
-      let now : IsTextNow old new (place_behind h at) x.table [] no_table = released x.items x.table x.stands in
+  pub elements-contents : has_storage head.kind ≡ true → (head.kind ≡ TextsKind → ⊥) → GivesBack old new (place_behind h at) (each_of head.kind) → Empties old new h
+  elements-contents stored no_texts released d o s e =
+      let x : HoldsElements old.bytes d (ByHandle h) head.kind (place_behind h at) = read-elements old.bytes h at head said behind d o s e stored no_texts in
+      let p : Object = x.found.object in
+      let same : p ≡ o = same_Some p o (sym x.found.is ∙ e) in
+      let now : IsGivenBack old new (place_behind h at) (each_of head.kind) x.table = released x.len x.table x.bytes x.stands in
+      let shape : Shape p.value _ = contents-shape p.value _ x.held in
       subst (λ p. Becomes old new (changed d p (emptied p.value))) same
-      (container-released old new d (ByHandle h) x.object (place_behind h at) (Bytes x.items x.table) s.denotes x.is x.value x.at refl now.change now.text.words)
-
-  pub vector-contents : (k : ScalarKind) → head.kind ≡ Vector k → ReleasesNumbers k old new (place_behind h at) → Empties old new h
-  vector-contents k is released d o s e =
-      let x : HoldsItems (vectors k) old.bytes d (ByHandle h) (place_behind h at) = read-vector old.bytes h at head said behind d o s e k is in
-      let same : x.object ≡ o = same_Some x.object o (sym x.is ∙ e) in
-      let now : IsNumbersNow k old new (place_behind h at) x.table [] no_table = released.each x.items x.table (record { stands = x.stands; values = x.values }) in
-      subst (λ p. Becomes old new (changed d p (emptied p.value))) same
-      (container-released old new d (ByHandle h) x.object (place_behind h at) (Elements k x.items x.table) s.denotes x.is x.value x.at refl now.change now.vector.stands.words)
+      (container-released old new d (ByHandle h) p (place_behind h at) p.value s.denotes x.found.is refl x.found.at shape.len
+      (subst (λ (gone : List Extent). IsExchanged current old new (place_at (place_behind h at)) 24 gone []) (sym shape.extents) now.change)
+      (value-said (bytes_of new.bytes) (place_at (place_behind h at)) (emptied p.value) _ (nothing-left _ p.value x.held) now.stands.words))
 
   pub texts-contents : head.kind ≡ TextsKind → ReleasesTexts old new (place_behind h at) → Empties old new h
   texts-contents is released d o s e =
@@ -166,20 +154,10 @@ module _ (old new : Cut) (h at : ℕ) (head : Head) (said : IsReadAt old.bytes h
       subst (λ p. Becomes old new (changed d p (emptied p.value))) same
       (container-released old new d (ByHandle h) x.object (place_behind h at) (Pairs k l x.pairs) s.denotes x.is x.known.value place refl now.change now.empty.map)
 
--- ---- vectors of a type
+-- ---- the kinds that are left
 
-module _ {T : Type 0} (k : ScalarKind) (w : T → ℤ) (size : ℕ) (test : T → Bool) (sp : T → List ℕ) (law : IsOfKind k w size test sp) where
-  pub some-values : (b : List ℕ) (p : Place) → HasNumbers k b p → IsSomeVector size test sp b p
-  some-values b p h =
-      let r : (xs : List T) × (map w xs ≡ h.0) = whole-reached k w size test sp law h.0 h.1.1.values in
-      let both = stands-whole k w size test sp law b p r.0 h.1.0 (subst (λ (ys : List ℤ). IsNumbers k b p ys h.1.0) (sym r.1) h.1.1) in
-      (r.0, (h.1.0, record { stands = both.0; values = both.1 }))
-
-  pub values-released : (old new : Cut) (p q : Place) → q ≡ p → Releases size test sp old new q → ReleasesNumbers k old new p
-  values-released old new p q same released = record {
-    each = of-whole k w size test sp law old.bytes p (λ zs t. IsNumbersNow k old new p t [] no_table)
-        (λ xs t s v.
-        let none : List T = [] in
-        let now : IsVectorNow size test sp old new p t none no_table = subst (λ (r : Place). Releases size test sp old new r) same released xs t (record { stands = s; values = v }) in
-        whole-now k w size test sp law old new p t no_table none now.change now.vector.stands now.vector.values);
-  }
+-- no numbers, and no map
+pub has_storage-left : (kind : Kind) → ((k : ScalarKind) → kind ≡ Scalar k → ⊥) → ((k v : ScalarKind) → kind ≡ Map k v → ⊥) → has_storage kind ≡ true
+has_storage-left (Scalar k) n m = absurd (n k refl)
+has_storage-left (Map k v) n m = absurd (m k v refl)
+has_storage-left kind n m = refl

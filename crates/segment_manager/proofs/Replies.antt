@@ -13,7 +13,7 @@ use Rattle.byteorder.specs.Endian.{little_number}
 use Rattle.seg_types.specs.Kinds.{is_spelling, value_of}
 use Rattle.seg_types.specs.Values.{SpelledBy}
 use Rattle.seg_types.proofs.Laws.{all_spell_one}
-use Rattle.segment_manager.specs.declared.accessing.Place.{Place}
+use Rattle.seg_vector.specs.declared.places.Place.{Place}
 use Rattle.segment_manager.specs.Standing.{place_at}
 use Rattle.seg_types.specs.Commands as asked
 use Rattle.segment_manager.proofs.{Codes.numbers-only, ContentPlans.of_slice}

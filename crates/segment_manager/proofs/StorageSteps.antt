@@ -1,20 +1,15 @@
 -- The calls on whatever has storage where they are refused, reserve, shrink and clear; and calls that read.
-use Rattle.segment_manager.proofs.Common.{Bool, Err, None, Some, ap, false, refl, subst, true, ◌≡◌, Command}
-use Rattle.segment_manager.proofs.Common.{is_changing, Key, Kind, Map, Scalar, Text, TextsKind, Vector, Refusal}
+use Rattle.segment_manager.proofs.Common.{Err, None, Some, ap, false, refl, subst, true, ◌≡◌, Command}
+use Rattle.segment_manager.proofs.Common.{is_changing, Key, Kind, Refusal}
 use Rattle.segment_manager.proofs.Common.{NotFound, WrongKind, Answer, Refused, container_at, Directory, Numbers}
 use Rattle.segment_manager.proofs.Common.{Object, Pairs, Value, kind_of, object_at, live, Refuse, perform, Answers}
 use Rattle.segment_manager.proofs.Common.{IsReplyOfKind, IsStep, IsStepOfKind, StandsFor, State, effect, is_read_only}
-use Rattle.segment_manager.proofs.Common.{storage_of, command_of, Change, Clear, Reserve, Shrink}
-use Rattle.seg_types.specs.Commands as asked
+use Rattle.segment_manager.proofs.Common.{storage_of, command_of, has_storage, Change, Clear, Reserve, Shrink}
 use Rattle.segment_manager.proofs.ContentPlans.{clear-plan, reserve-plan, shrink-plan}
 use Rattle.segment_manager.proofs.Refilled.{finds-no_container, refused-steps}
 use Rattle.segment_manager.proofs.Steps.{open-reading, with-not_found}
 
 -- ---- refusals
-
--- a kind whose objects have no storage
-abbrev pub has_storage : Kind → Bool
-has_storage k = elim k [ Scalar l ↦ false | Text ↦ true | Vector l ↦ true | Map l m ↦ false | TextsKind ↦ true ]
 
 pub no-storage : (v : Value) → has_storage (kind_of v) ≡ false → storage_of v ≡ Err WrongKind
 no-storage (Numbers k zs) h = refl

@@ -3,7 +3,7 @@ use Rattle.segment_manager.proofs.Common.{◌≡◌, refl, sym, ap, subst, ◌�
 use Rattle.segment_manager.proofs.Common.{Bool, true, false, ◌&&◌, Some, Ok, Err, Result, List, [], ◌∷◌, length}
 use Rattle.segment_manager.proofs.Common.{if◌then◌else◌, arith, IsTrue, nat_le, list_all, mul-le-mul_left, and_from}
 use Rattle.segment_manager.proofs.Common.{slice_get_within, current, Cut, Memory, Has, SameBut, bytes_of, ObjectRole}
-use Rattle.segment_manager.proofs.Common.{handle, IsChanged, serves, ScalarKind, BoolKind, Scalar, Refusal, OutOfRange}
+use Rattle.segment_manager.proofs.Common.{IsChanged, serves, ScalarKind, BoolKind, Scalar, Refusal, OutOfRange}
 use Rattle.segment_manager.proofs.Common.{is_value, size_of, spelling, Key, Literal, literal_of, value_of_literal}
 use Rattle.segment_manager.proofs.Common.{spelled, Mode, Done, Refused, Denotes, IsValueAt, Numbers, Object, Directory}
 use Rattle.segment_manager.proofs.Common.{count_of, has_good_name, is_object, kind_of, live, padded, value_extents}
@@ -11,7 +11,7 @@ use Rattle.segment_manager.proofs.Common.{value_len, with_changed, perform, Answ
 use Rattle.segment_manager.proofs.Common.{step_of_kind, and_then, map, values_of, None}
 use Rattle.std.proofs.Common.{negsuc, set}
 use Rattle.std.proofs.lemmas.List.{length-set}
-use Rattle.segment_manager.specs.declared.accessing.Place.{Place}
+use Rattle.seg_vector.specs.declared.places.Place.{Place}
 use Rattle.segment_manager.specs.Standing.{place_at}
 use Rattle.seg_types.specs.Commands as asked
 use Rattle.segment_manager.proofs.{Blocks.spelling-length, Frame.IsRoomy, Frame.object-roomy, Live.IsIn}

@@ -1,10 +1,7 @@
 -- The calls on what has storage, as the code makes them: the container is found, and then the call at its place is the step.
-use Rattle.segment_manager.proofs.Common.{◌≡◌, refl, sym, ap, subst, ◌∙◌, false, Ok, Err, Result, Cut, Kind, Refusal}
+use Rattle.segment_manager.proofs.Common.{◌≡◌, sym, ap, subst, ◌∙◌, false, Ok, Result, Cut, Kind, Refusal}
 use Rattle.segment_manager.proofs.Common.{Command, Key, Place, container_at, Answers, State, is_read_only, StandsThere}
 use Rattle.segment_manager.proofs.Common.{StepsSafely, StepsThere}
-use Rattle.segment_manager.specs.Stored.{ChangesStorage}
-use Rattle.segment_manager.proofs.{Refilled.finds-no_container, Steps.open-writing}
-use Rattle.segment_manager.proofs.Safely.{answer-refused, answer-step}
 
 -- where it is found
 pub stands-there : (s t : State) (view : s ≡ t) (key : Key) (l kind : Kind) (p : Place) → l ≡ kind → Answers t (λ d. container_at d key l) (Ok p) → StandsThere s.cut kind p key
@@ -20,16 +17,3 @@ pub changes-there : (s t : State) (view : s ≡ t) (new : Cut) (key : Key) (l ki
 changes-there s t view new key l kind p command r writing e found each =
     each s.mode key (ap (λ (u : State). is_read_only u.mode) view ∙ writing)
     (stands-there s t view key l kind p e found)
-
--- it is found, and changed
-pub storage-changed : (s t : State) (view : s ≡ t) (new : Cut) (key : Key) (kind : Kind) (c : Command) (r : Result (Unit {0}) Refusal) → StepsSafely s new key kind c r
-    → ChangesStorage t (record s { cut = new }) key kind c r
-storage-changed s t view new key kind c r done = record { step = answer-step s t view new key kind c r done; refused = answer-refused s t view new key kind c r done }
-
--- or it is not there
-pub storage-missing : (t : State) (key : Key) (l kind : Kind) (c : Command) (why : Refusal) → is_read_only t.mode ≡ false → l ≡ kind → Answers t (λ d. container_at d key l) (Err why)
-    → ChangesStorage t t key kind c (Err why)
-storage-missing t key l kind c why writing e none = record {
-  step = finds-no_container t key kind c why (open-writing t.mode c writing) (subst (λ (m : Kind). Answers t (λ d. container_at d key m) (Err why)) e none);
-  refused = refl;
-}

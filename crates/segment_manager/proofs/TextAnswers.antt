@@ -7,19 +7,18 @@ use Rattle.segment_manager.proofs.Common.{slice_set, Cut, Table, Append, Assign,
 use Rattle.segment_manager.proofs.Common.{same_kind, Key, Text, U8, Refusal, NotFound, OutOfRange, WrongKind}
 use Rattle.segment_manager.proofs.Common.{AssignsText, IsSomeText, IsTextGrown, IsTextNow, capacity_for_text, Place}
 use Rattle.segment_manager.proofs.Common.{Done, Element, Refused, are_bytes, bytes_at, container_at, container_place}
-use Rattle.segment_manager.proofs.Common.{place_of_kind, sizes_at_kind, sizes_of, Bytes, Object, Value, kind_of}
+use Rattle.segment_manager.proofs.Common.{place_of_kind, Bytes, Object, Value, kind_of}
 use Rattle.segment_manager.proofs.Common.{object_at, live, Reply, perform, Answers, IsSegment, IsStepOfKind, State}
 use Rattle.segment_manager.proofs.Common.{changed, is_read_only, StepsSafely}
-use Rattle.seg_types.specs.Commands.{Clear, Reserve, Shrink}
-use Rattle.seg_vector.specs.TextCalls.{AppendsText, ClearsText, CountsBytePlaces, CountsBytes, GetsByte, ReadsText}
-use Rattle.seg_vector.specs.TextCalls.{ReservesBytes, SetsByte, ShrinksText}
+use Rattle.seg_vector.specs.TextCalls.{AppendsText, GetsByte, ReadsText}
+use Rattle.seg_vector.specs.TextCalls.{SetsByte}
 use Rattle.segment_manager.specs.Contents.{text_bytes}
-use Rattle.segment_manager.proofs.{AnyStorage.sizes-found, ContentPlans.append-plan, ContentPlans.byte-plan}
+use Rattle.segment_manager.proofs.{ContentPlans.append-plan, ContentPlans.byte-plan}
 use Rattle.segment_manager.proofs.{ContentPlans.set_byte-plan, ContentPlans.text-plan, Steps.open-reading}
 use Rattle.segment_manager.proofs.{Stored.literal-read, Words.first, Words.second}
-use Rattle.segment_manager.proofs.ItemSteps.{HoldsItems, ListedGrown, ListedNow, Listing, changes-safely, clears-safely}
-use Rattle.segment_manager.proofs.ItemSteps.{grows-safely, holds-items, items-stay, one-kind, reserves-safely}
-use Rattle.segment_manager.proofs.ItemSteps.{shrinks-safely, so-too, some-items}
+use Rattle.segment_manager.proofs.ItemSteps.{HoldsItems, ListedGrown, ListedNow, Listing, changes-safely}
+use Rattle.segment_manager.proofs.ItemSteps.{grows-safely, holds-items, items-stay, one-kind}
+use Rattle.segment_manager.proofs.ItemSteps.{so-too, some-items}
 
 -- ---- bytes
 
@@ -73,10 +72,6 @@ texts = record {
   of_kind = λ bs t. refl;
   held = λ bs t. refl;
   values = λ bs t. refl;
-  sizes = λ bs t. refl;
-  storage = λ bs t. refl;
-  moved = λ bs t u. refl;
-  emptied = λ bs t. refl;
 }
 
 -- what became of a text, with its bytes below 256
@@ -95,15 +90,6 @@ reads-bytes s key p out found reads = record {
       let h : HoldsItems texts s.cut.bytes d key p = holds-items texts s.cut.bytes d key p l.denotes (found.answers d l) in
       ap Ok (reads h.items h.table h.stands) ∙ sym (ap text_bytes h.value)
       ∙ sym (ap (λ (r : Option Object). elim r as (λ _. Result (List ℕ) Refusal) [ None ↦ Err NotFound | Some o ↦ text_bytes o.value ]) h.is);
-}
-
--- and so are the numbers of them and of their places
-pub text-measured : (s : State) (key : Key) (p : Place) (m n : ℕ) → Answers s (λ d. container_at d key Text) (Ok p) → CountsBytes s.cut.bytes p m → CountsBytePlaces s.cut.bytes p n
-    → Answers s (λ d. sizes_at_kind d key Text) (Ok (m, n))
-text-measured s key p m n found a c = record {
-  answers = λ d l.
-      let h : HoldsItems texts s.cut.bytes d key p = holds-items texts s.cut.bytes d key p l.denotes (found.answers d l) in
-      (λ i. Ok (a h.items h.table h.stands i, c h.items h.table h.stands i)) ∙ sym (ap sizes_of h.value) ∙ sym (sizes-found d key Text h.object h.is (ap kind_of h.value));
 }
 
 no-text : (v : Value) → same_kind Text (kind_of v) ≡ false → text_bytes v ≡ Err WrongKind
@@ -167,14 +153,3 @@ module _ (s : State) (key : Key) (p : Place) (b : IsSegment s.cut.bytes) (found 
         (λ d h past.
         set_byte-plan d key h.object h.items h.table h.is h.value i (literal_of U8 (pos x)) (pos x) None (literal-read U8 (pos x) v) (byte-got h.items i None (slice_get_past h.items i past)))
         (λ d h. so-too _ _ _ r (a h.items h.table h.stands) (λ q. (q.0, bytes-now (are_bytes-set h.items i x h.values small) q.1)))
-
-    -- ---- places
-
-    pub text-reserved : (n : ℕ) (r : Result (Unit {0}) Refusal) → ReservesBytes s.cut new p n r → StepsSafely s new key Text (Reserve key n) r
-    text-reserved n r a = reserves-safely texts s key p b found new writing n r (λ d h. so-too _ _ _ r (a h.items h.table h.stands) (λ g. bytes-grown h.values g))
-
-    pub text-shrunk : ShrinksText s.cut new p → StepsSafely s new key Text (Shrink key) (Ok tt)
-    text-shrunk a = shrinks-safely texts s key p b found new writing (λ d h. bytes-now h.values (a h.items h.table h.stands))
-
-    pub text-cleared : ClearsText s.cut new p → StepsSafely s new key Text (Clear key) (Ok tt)
-    text-cleared a = clears-safely texts s key p b found new writing (λ d h. bytes-now refl (a h.items h.table h.stands))

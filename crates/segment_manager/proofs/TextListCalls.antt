@@ -9,16 +9,18 @@ use Rattle.segment_manager.proofs.Common.{Table, cut_table, TextsKind, Refusal, 
 use Rattle.segment_manager.proofs.Common.{Place, AreTextsAssigned, AssignsTexts, IsGivenUp, IsTextsNow, all_texts}
 use Rattle.segment_manager.proofs.Common.{one_more, placed_text, placed_texts, text_blocks, with_array, with_text}
 use Rattle.segment_manager.proofs.Common.{OwnedText, grown_table, IsOutside, Answer, Done, Refused, TextElement}
-use Rattle.segment_manager.proofs.Common.{is_untouched, are_bytes, container_at, sizes_at_kind, sizes_of, Directory}
-use Rattle.segment_manager.proofs.Common.{Texts, kind_of, Plan, Reply, perform, Answers, IsSegment, IsStepOfKind, State}
+use Rattle.segment_manager.proofs.Common.{is_untouched, are_bytes, container_at, Change, Clear, Reserve, Shrink, Directory}
+use Rattle.segment_manager.proofs.Common.{command_of}
+use Rattle.segment_manager.specs.Stored.{ChangesTexts}
+use Rattle.segment_manager.proofs.Common.{Texts, Plan, Reply, perform, Answers, IsSegment, IsStepOfKind, State}
 use Rattle.segment_manager.proofs.Common.{StandsFor, answer_of, refusal_in, changed, effect, is_read_only, texts_of}
 use Rattle.segment_manager.proofs.Common.{StepsSafely}
 use Rattle.best_fit.specs.Exchange.{IsRestored}
-use Rattle.seg_vector.specs.TextsCalls.{ClearsTexts, CountsTextPlaces, CountsTexts, ErasesText, GetsText, InsertsText}
+use Rattle.seg_vector.specs.TextsCalls.{ClearsTexts, ErasesText, GetsText, InsertsText}
 use Rattle.seg_vector.specs.TextsCalls.{IsTextLeftOut, IsTextPutIn, IsTextSet, IsWithoutFit, PopsText, PushesText}
 use Rattle.seg_vector.specs.TextsCalls.{ReservesTexts, SetsText, ShrinksTexts}
 use Rattle.seg_types.specs.Commands as asked
-use Rattle.segment_manager.proofs.{AnyStorage.sizes-found, Calling.denotes-live, Safely.done-so, Safely.stays}
+use Rattle.segment_manager.proofs.{Calling.denotes-live, Safely.done-so, Safely.stays}
 use Rattle.segment_manager.proofs.{Steps.open-reading, Steps.open-writing, TextsHeld.HasBytes, TextsHeld.HoldsTexts}
 use Rattle.segment_manager.proofs.{Words.first, Words.second}
 use Rattle.segment_manager.proofs.TextLists.{part-all, part-inserted, part-none, part-removed, part-set, removed-last}
@@ -118,13 +120,6 @@ module _ (s : State) (key : Key) (p : Place) (b : IsSegment s.cut.bytes) (found 
       (texts-stay s key p b found (asked.Get key i) (Refused OutOfRange) (open-reading s.mode (asked.Get key i) refl)
       (λ d l h.
       ap (perform d heap) (got-text d key h.object h.texts h.table h.is h.value i None (slice_get_past h.texts i (a h.texts h.table h.stand).outside))))
-
-  pub texts-measured : (m n : ℕ) → CountsTexts s.cut.bytes p m → CountsTextPlaces s.cut.bytes p n → Answers s (λ d. sizes_at_kind d key TextsKind) (Ok (m, n))
-  texts-measured m n a c = record {
-    answers = λ d l.
-        let h : HoldsTexts s.cut.bytes d key p = holds d l in
-        (λ i. Ok (a h.texts h.table h.stand i, c h.texts h.table h.stand i)) ∙ sym (ap sizes_of h.value) ∙ sym (sizes-found d key TextsKind h.object h.is (ap kind_of h.value));
-  }
 
   module _ (new : Cut) (writing : is_read_only s.mode ≡ false) where
     -- ---- what becomes of the texts
@@ -377,7 +372,7 @@ module _ (s : State) (key : Key) (p : Place) (b : IsSegment s.cut.bytes) (found 
           outcome = ap (perform d heap) (each d h);
         })
 
-    pub texts-cleared : ClearsTexts s.cut new p → StepsSafely s new key TextsKind (asked.Clear key) (Ok tt)
+    texts-cleared : ClearsTexts s.cut new p → StepsSafely s new key TextsKind (asked.Clear key) (Ok tt)
     texts-cleared a =
         done-so (cleared (asked.Clear key) a (λ d h. clear-texts d key h.object h.texts h.table h.is h.value))
 
@@ -422,7 +417,7 @@ module _ (s : State) (key : Key) (p : Place) (b : IsSegment s.cut.bytes) (found 
         let next : Table → Plan = λ u. Reply Done (changed d h.object (Texts h.texts u)) in
         ap (perform d heap) (reserve-texts d key h.object h.texts h.table h.is h.value n) ∙ room-grown d heap h.table n next ∙ ap (then_room d heap h.table next) e
 
-    pub texts-reserved : (n : ℕ) (r : Result (Unit {0}) Refusal) → ReservesTexts s.cut new p n r → StepsSafely s new key TextsKind (asked.Reserve key n) r
+    texts-reserved : (n : ℕ) (r : Result (Unit {0}) Refusal) → ReservesTexts s.cut new p n r → StepsSafely s new key TextsKind (asked.Reserve key n) r
     texts-reserved n (Ok u) a =
         done-so (texts-steps s key p b found new (asked.Reserve key n) Done writing
         (λ d l h.
@@ -437,7 +432,7 @@ module _ (s : State) (key : Key) (p : Place) (b : IsSegment s.cut.bytes) (found 
         let o : IsWithoutFit s.cut new (grown_table heap 16 n some.table) e = a some.texts some.table some.stand in
         turned-down (asked.Reserve key n) e NoSpace o.refusal o.same (λ d l h. reserve-comes d h n None (a h.texts h.table h.stand).none)
 
-    pub texts-shrunk : ShrinksTexts s.cut new p → StepsSafely s new key TextsKind (asked.Shrink key) (Ok tt)
+    texts-shrunk : ShrinksTexts s.cut new p → StepsSafely s new key TextsKind (asked.Shrink key) (Ok tt)
     texts-shrunk a =
         done-so (texts-steps s key p b found new (asked.Shrink key) Done writing
         (λ d l h.
@@ -448,3 +443,8 @@ module _ (s : State) (key : Key) (p : Place) (b : IsSegment s.cut.bytes) (found 
           outcome = ap (perform d heap) (shrink-texts d key h.object h.texts h.table h.is h.value)
               ∙ ap (λ (m : LiveSet). after d h h.texts (cut_table m 16 (length h.texts) h.table)) (sym (denotes-live current s.cut.bytes d l.denotes));
         }))
+
+    pub texts-changed : (change : Change) (r : Result (Unit {0}) Refusal) → ChangesTexts change s.cut new p r → StepsSafely s new key TextsKind (command_of change key) r
+    texts-changed (Reserve n) r a = texts-reserved n r a.0
+    texts-changed Shrink r a = subst (StepsSafely s new key TextsKind (asked.Shrink key)) (sym a.0) (texts-shrunk a.1)
+    texts-changed Clear r a = subst (StepsSafely s new key TextsKind (asked.Clear key)) (sym a.0) (texts-cleared a.1)

@@ -5,7 +5,7 @@ use Rattle.segment_manager.proofs.Common.{Extent, Table, Kind, TextsKind, Refusa
 use Rattle.segment_manager.proofs.Common.{IsTextsNow, text_blocks, OwnedText, Answer, Refused, is_untouched, refusal_of}
 use Rattle.segment_manager.proofs.Common.{kind_at, container_at, Value, Texts, Directory, kind_of, perform, Answers}
 use Rattle.segment_manager.proofs.Common.{IsSegment, IsStepOfKind, LeadsOn, State, StandsFor, done_answer, changed}
-use Rattle.segment_manager.proofs.Common.{effect, is_read_only, step, step_of_kind, LeadsOnOfKind, LiveSet, live_of}
+use Rattle.segment_manager.proofs.Common.{effect, is_read_only, step_of_kind, LeadsOnOfKind, LiveSet, live_of}
 use Rattle.best_fit.specs.Exchange.{IsRestored}
 use Rattle.segment_manager.proofs.{Calling.denotes-live, AnyStorage.kind-told, AnyStorage.of_kind-same}
 use Rattle.segment_manager.proofs.{Constructed.restored-denotes, Safely.seen-refused, TextBlocks.IsPartOther}

@@ -7,20 +7,20 @@ use Rattle.segment_manager.proofs.Common.{list_all, flat_map, insert, option_map
 use Rattle.segment_manager.proofs.Common.{literal_of, value_of_literal, same_kind, size_of, Key, Vector, ScalarKind}
 use Rattle.segment_manager.proofs.Common.{Refusal, NoSpace, OutOfRange, capacity_for_one, Assigns, IsOutside}
 use Rattle.segment_manager.proofs.Common.{IsSomeVector, IsVectorGrown, IsVectorNow, IsWithoutSpace, Place, Done}
-use Rattle.segment_manager.proofs.Common.{Element, Refused, container_at, sizes_at_kind, Directory, Elements, Value}
+use Rattle.segment_manager.proofs.Common.{Element, Refused, container_at, Directory, Elements, Value}
 use Rattle.segment_manager.proofs.Common.{is_good_value, kind_of, live, Reply, perform, with_capacity, Answers}
 use Rattle.segment_manager.proofs.Common.{IsSegment, IsStepOfKind, State, answer_of, changed, effect, is_read_only}
-use Rattle.segment_manager.proofs.Common.{AnswersSafely, StandsThere, StepsSafely, Mode}
-use Rattle.seg_vector.specs.VectorCalls.{Clears, Counts, CountsPlaces, ErasesFrom, Gets, InsertsInto, IsVector, Pops}
-use Rattle.seg_vector.specs.VectorCalls.{Pushes, Reserves, Sets, Shrinks}
+use Rattle.segment_manager.proofs.Common.{AnswersSafely, StepsSafely}
+use Rattle.seg_vector.specs.VectorCalls.{ErasesFrom, Gets, InsertsInto, IsVector, Pops}
+use Rattle.seg_vector.specs.VectorCalls.{Pushes, Sets}
 use Rattle.seg_types.specs.Commands as asked
 use Rattle.segment_manager.proofs.{Contained.contents-fit, Safely.done-so, Steps.open-reading, Steps.open-writing}
 use Rattle.segment_manager.proofs.{Stored.literal-read, Stored.literals-read}
 use Rattle.segment_manager.proofs.ContentPlans.{assign-plan, erase-plan, get-plan, insert-plan, pop-plan, push-plan}
 use Rattle.segment_manager.proofs.ContentPlans.{set-plan}
-use Rattle.segment_manager.proofs.ItemSteps.{HoldsItems, ListedGrown, ListedNow, Listing, changes-safely, clears-safely}
-use Rattle.segment_manager.proofs.ItemSteps.{grows-safely, items-full, items-grown, items-measured, items-now}
-use Rattle.segment_manager.proofs.ItemSteps.{items-refused, items-stay, items-steps, reserves-safely, shrinks-safely}
+use Rattle.segment_manager.proofs.ItemSteps.{HoldsItems, ListedGrown, ListedNow, Listing, changes-safely}
+use Rattle.segment_manager.proofs.ItemSteps.{grows-safely, items-full, items-grown, items-now}
+use Rattle.segment_manager.proofs.ItemSteps.{items-refused, items-stay, items-steps}
 use Rattle.segment_manager.proofs.ItemSteps.{so-too, some-items, vector-only}
 use Rattle.segment_manager.proofs.Whole.{IsOfKind, whole-insert, whole-reached, whole-remove, whole-set, whole-spelled}
 use Rattle.segment_manager.proofs.Whole.{whole-values}
@@ -36,11 +36,6 @@ PopsSafely s new key k w = AnswersSafely (answer_of (λ x. Element k (w x))) s n
 pub found-at : (s : State) (key : Key) (l k : ScalarKind) (q p : Place) → l ≡ k → p ≡ q → Answers s (λ d. container_at d key (Vector l)) (Ok q) → Answers s (λ d. container_at d key (Vector k)) (Ok p)
 found-at s key l k q p e f a =
     subst (λ (r : Place). Answers s (λ d. container_at d key (Vector k)) (Ok r)) (sym f) (subst (λ (m : ScalarKind). Answers s (λ d. container_at d key (Vector m)) (Ok q)) e a)
-
--- whichever key has the object
-pub there-at : (c : Cut) (mode : Mode) (key : Key) (k : ScalarKind) (q p : Place) → p ≡ q → StandsThere c (Vector k) q key
-    → Answers (record { cut = c; mode = mode }) (λ d. container_at d key (Vector k)) (Ok p)
-there-at c mode key k q p f there = found-at (record { cut = c; mode = mode }) key k k q p refl f (record { answers = there })
 
 -- in the segment, as its view is named
 pub seen-at : (s t : State) (view : s ≡ t) (key : Key) (l k : ScalarKind) (q p : Place) → l ≡ k → p ≡ q → Answers t (λ d. container_at d key (Vector l)) (Ok q)
@@ -78,10 +73,6 @@ module _ {T : Type 0} (k : ScalarKind) (w : T → ℤ) (size : ℕ) (test : T �
     of_kind = λ xs t. refl;
     held = λ xs t. λ i. Some (record { each = sym law.long i; len = length-map xs w i; table = t; bytes = sym (whole-spelled k w size test sp law xs) i });
     values = λ xs t. sym (whole-values k w size test sp law xs);
-    sizes = λ xs t. λ i. Ok (length-map xs w i, t.capacity);
-    storage = λ xs t. λ i. Ok (sym law.long i, length-map xs w i, t);
-    moved = λ xs t u. refl;
-    emptied = λ xs t. refl;
   }
 
   now-so : {old new : Cut} {p : Place} {t u : Table} {ys : List T} → IsVectorNow size test sp old new p t ys u → ListedNow typed old new p t ys u
@@ -121,11 +112,6 @@ module _ {T : Type 0} (k : ScalarKind) (w : T → ℤ) (size : ℕ) (test : T �
         subst (λ (q : Refusal). IsStepOfKind s s key (Vector k) (asked.Get key i) (Refused q)) (sym (a some.items some.table (vector b.0 some)).refusal)
         (items-stay typed s key p b found (asked.Get key i) (Refused OutOfRange) (open-reading s.mode (asked.Get key i) refl)
         (λ d den h. ap (perform d (live d)) (get-plan d key h.object k (map w h.items) h.table h.is h.value i None (behind h.items i (a h.items h.table (vector d h)).outside))))
-
-    -- ---- sizes
-
-    pub vector-measured : (m n : ℕ) → Counts size test sp s.cut.bytes p m → CountsPlaces size test sp s.cut.bytes p n → Answers s (λ d. sizes_at_kind d key (Vector k)) (Ok (m, n))
-    vector-measured m n a c = items-measured typed s key p b found m n (λ d h. (a h.items h.table (vector d h), c h.items h.table (vector d h)))
 
     module _ (new : Cut) (writing : is_read_only s.mode ≡ false) where
       as-literal : (x : T) → test x ≡ true → value_of_literal k (literal_of k (w x)) ≡ Ok (w x)
@@ -237,14 +223,3 @@ module _ {T : Type 0} (k : ScalarKind) (w : T → ℤ) (size : ℕ) (test : T �
           assign-plan d key h.object k (map w h.items) h.table h.is h.value (map (literal_of k) (map w ys)) (map w ys) (literals-read k (map w ys) (sym (whole-values k w size test sp law ys) ∙ v))
           ∙ (λ i. with_capacity (sym law.long i) (length-map ys w i) h.table (λ u. Reply Done (changed d h.object (Elements k (map w ys) u)))))
           (λ d h. so-too _ _ _ r (a h.items h.table (vector d h)) (λ q. grown-so q))
-
-      -- ---- places
-
-      pub vector-reserved : (n : ℕ) (r : Result (Unit {0}) Refusal) → Reserves size test sp s.cut new p n r → StepsSafely s new key (Vector k) (asked.Reserve key n) r
-      vector-reserved n r a = reserves-safely typed s key p b found new writing n r (λ d h. so-too _ _ _ r (a h.items h.table (vector d h)) (λ q. grown-so q))
-
-      pub vector-shrunk : Shrinks size test sp s.cut new p → StepsSafely s new key (Vector k) (asked.Shrink key) (Ok tt)
-      vector-shrunk a = shrinks-safely typed s key p b found new writing (λ d h. now-so (a h.items h.table (vector d h)))
-
-      pub vector-cleared : Clears size test sp s.cut new p → StepsSafely s new key (Vector k) (asked.Clear key) (Ok tt)
-      vector-cleared a = clears-safely typed s key p b found new writing (λ d h. now-so (a h.items h.table (vector d h)))

@@ -1,21 +1,20 @@
 -- Vectors of numbers and texts: what the two have in common as values of objects, and where they stand.
-use Rattle.std.specs.Prelude.{◌≡◌, ℕ, ◌+◌, ℤ, Bool, true, Option, Some, None, Result, Ok, Err, List, length, option_to_list, nat_lt, if◌then◌else◌, IsTrue}
+use Rattle.std.specs.Prelude.{ℕ, ◌+◌, Bool, true, false, Option, Some, None, Result, Ok, Err, List, length, option_to_list, nat_lt, if◌then◌else◌}
 use Rattle.std.specs.List.{list_all}
 use Rattle.raw_region.specs.Format.{current}
 use Rattle.raw_region.specs.Memory.{Cut}
 use Rattle.best_fit.specs.Exchange.{IsExchanged}
 use Rattle.best_fit.specs.Extents.{handle}
-use Rattle.best_fit.specs.Heap.{live_of}
 use Rattle.best_fit.specs.Table.{Table}
 use Rattle.seg_types.specs.declared.kinds.Kind.{Kind}
-use Rattle.seg_types.specs.declared.kinds.ScalarKind.{ScalarKind}
+use Rattle.seg_types.specs.declared.kinds.Kind.TheVariants.{Map, Scalar}
 use Rattle.seg_types.specs.declared.refusals.Refusal.{Refusal}
 use Rattle.seg_types.specs.declared.refusals.Refusal.TheVariants.{NotFound, WrongKind}
 use Rattle.seg_types.specs.Kinds.{is_value, same_kind, size_of}
 use Rattle.seg_types.specs.Names.{Key}
 use Rattle.seg_vector.specs.declared.places.Place.{Place}
 use Rattle.seg_vector.specs.Standing.{Stands, place_at}
-use Rattle.seg_vector.specs.Vector.{grown_table, spelled}
+use Rattle.seg_vector.specs.Vector.{spelled}
 use Rattle.segment_manager.specs.Directory.{Value, Numbers, Elements, Bytes, Pairs, Texts, Object, Directory, kind_of, object_at, padded}
 use Rattle.segment_manager.specs.Layout.{head_len}
 
@@ -90,29 +89,17 @@ sizes_of_kind o kind = if same_kind kind (kind_of o.value) then sizes_of o.value
 abbrev pub sizes_at_kind : Directory → Key → Kind → Result (ℕ × ℕ) Refusal
 sizes_at_kind d key kind = elim (object_at d key) [ None ↦ Err NotFound | Some o ↦ sizes_of_kind o kind ]
 
+-- whether objects of a kind are containers, and whether they have storage of their own
+abbrev pub has_sizes : Kind → Bool
+has_sizes (Scalar k) = false
+has_sizes kind = true
+
+abbrev pub has_storage : Kind → Bool
+has_storage (Scalar k) = false
+has_storage (Map k v) = false
+has_storage kind = true
+
 -- The contents of a container are others. Of all blocks that stay no byte changes but its own 24.
 pub record IsRefilled (old new : Cut) (p : Place) (was is : Contents) : Type 0 where
   pub change : IsExchanged current old new (place_at p) 24 (option_to_list was.table.extent) (option_to_list is.table.extent)
   pub stands : Stands new.bytes p is.each is.len is.table is.bytes
-
--- ---- numbers of a kind
-
--- a vector at a place has these numbers
-pub record IsNumbers (k : ScalarKind) (b : List ℕ) (p : Place) (zs : List ℤ) (t : Table) : Type 0 where
-  pub stands : Stands b p (size_of k) (length zs) t (spelled k zs)
-  pub values : IsTrue (list_all (is_value k) zs)
-
--- the vector with these numbers and the table u is in the place of one with the table t
-pub record IsNumbersNow (k : ScalarKind) (old new : Cut) (p : Place) (t : Table) (zs : List ℤ) (u : Table) : Type 0 where
-  pub change : IsExchanged current old new (place_at p) 24 (option_to_list t.extent) (option_to_list u.extent)
-  pub vector : IsNumbers k new.bytes p zs u
-
--- it has n places, or more
-pub record IsNumbersGrown (k : ScalarKind) (old new : Cut) (p : Place) (t : Table) (n : ℕ) (zs : List ℤ) : Type 0 where
-  pub table : Table
-  pub grown : grown_table (live_of old.bytes) (size_of k) n t ≡ Some table
-  pub now : IsNumbersNow k old new p t zs table
-
--- in either: there is no space for n places of so many bytes
-abbrev pub HasNoRoom : List ℕ → ℕ → ℕ → Table → Type 0
-HasNoRoom b each n t = grown_table (live_of b) each n t ≡ None

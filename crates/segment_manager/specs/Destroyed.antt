@@ -1,14 +1,11 @@
 -- How an object goes: first the blocks that its value has, then its entry, if it has one, and then the block of its own.
-use Rattle.std.specs.Prelude.{◌≡◌, ℕ, ℤ, Some, List, [], slice_get}
+use Rattle.std.specs.Prelude.{◌≡◌, ℕ, Some, List, [], slice_get}
 use Rattle.raw_region.specs.Format.{current}
 use Rattle.raw_region.specs.Memory.{Cut, SamePlace}
-use Rattle.best_fit.specs.Table.{Table, no_table}
+use Rattle.best_fit.specs.Table.{no_table}
 use Rattle.seg_types.specs.declared.kinds.Class.TheVariants.{Anonymous}
-use Rattle.seg_types.specs.declared.kinds.ScalarKind.{ScalarKind}
 use Rattle.seg_types.specs.Names.{ByHandle}
 use Rattle.seg_index.specs.declared.index.Index.{Index}
-use Rattle.seg_vector.specs.declared.places.Place.{Place}
-use Rattle.segment_manager.specs.Contents.{IsNumbers, IsNumbersNow}
 use Rattle.segment_manager.specs.Denotes.{Denotes}
 use Rattle.segment_manager.specs.Directory.{Value, Numbers, Elements, Bytes, Pairs, Texts, Object, Directory, object_at, without_object}
 use Rattle.segment_manager.specs.Indexed.{objects_of}
@@ -41,14 +38,6 @@ pub record HoldsObject (b : List ℕ) (h : ℕ) : Type 0 where
 abbrev pub Empties : Cut → Cut → ℕ → Type 0
 Empties old new h =
     (d : Directory) (o : Object) → StandsFor old.bytes d → object_at d (ByHandle h) ≡ Some o → Becomes old new (changed d o (emptied o.value))
-
--- some vector of numbers of a kind stands at a place
-abbrev pub HasNumbers : ScalarKind → List ℕ → Place → Type 0
-HasNumbers k b p = (zs : List ℤ) × ((t : Table) × IsNumbers k b p zs t)
-
--- it has no number and no place
-pub record ReleasesNumbers (k : ScalarKind) (old new : Cut) (p : Place) : Type 0 where
-  pub each : (zs : List ℤ) (t : Table) → IsNumbers k old.bytes p zs t → IsNumbersNow k old new p t [] no_table
 
 -- ---- the object
 

@@ -1,12 +1,17 @@
 -- Containers with storage of their own, at a place: what calls on one answer and leave, whichever key has its object.
-use Rattle.std.specs.Prelude.{◌≡◌, ℕ, false, Result, Ok, OnErr}
+use Rattle.std.specs.Prelude.{◌≡◌, ◌≤◌, ℕ, false, List, Result, Ok, OnErr}
 use Rattle.raw_region.specs.Memory.{Cut}
 use Rattle.seg_types.specs.declared.kinds.Kind.{Kind}
 use Rattle.seg_types.specs.declared.refusals.Refusal.{Refusal}
+use Rattle.seg_types.specs.declared.kinds.Kind.TheVariants.{Vector}
+use Rattle.seg_types.specs.Kinds.{size_of}
 use Rattle.seg_types.specs.Commands as asked
 use Rattle.seg_types.specs.Commands.{Command}
 use Rattle.seg_types.specs.Names.{Key}
 use Rattle.seg_vector.specs.declared.places.Place.{Place}
+use Rattle.seg_vector.specs.Elements.{Fits, Truncates}
+use Rattle.seg_vector.specs.Standing.{Grows, IsStanding}
+use Rattle.seg_vector.specs.TextsCalls.{ClearsTexts, ReservesNoTexts, ReservesTexts, ShrinksTexts}
 use Rattle.segment_manager.specs.declared.modes.Mode.{Mode}
 use Rattle.segment_manager.specs.declared.storages.Change.{Change}
 use Rattle.segment_manager.specs.declared.storages.Change.TheVariants.{Clear, Reserve, Shrink}
@@ -44,11 +49,6 @@ abbrev pub StepsThere : Cut → Cut → Kind → Place → (Key → Command) →
 StepsThere old new kind p command result =
     (mode : Mode) (key : Key) → is_read_only mode ≡ false → StandsThere old kind p key → StepsSafely (record { cut = old; mode = mode }) new key kind (command key) result
 
--- and in the segment, by a key
-pub record ChangesStorage (old new : State) (key : Key) (kind : Kind) (command : Command) (result : Result (Unit {0}) Refusal) : Type 0 where
-  pub step : IsStepOfKind old new key kind command (done_answer result)
-  pub refused : OnErr result (new ≡ old)
-
 -- nothing changes where this holds of it
 abbrev pub KeepsThere : Cut → Cut → Kind → Place → (Key → Directory → Type 0) → Type 0
 KeepsThere old new kind p holds = (key : Key) → StandsThere old kind p key → (d : Directory) → StandsFor old.bytes d → holds key d → new ≡ old
@@ -66,3 +66,28 @@ abbrev pub HasEnough : Change → Key → Directory → Type 0
 HasEnough (Reserve n) key d = HasPlaces key n d
 HasEnough Shrink key d = ⊥
 HasEnough Clear key d = ⊥
+
+-- ---- elements of so many bytes each in storage
+
+-- those of a vector of numbers and of a text
+abbrev pub each_of : Kind → ℕ
+each_of (Vector k) = size_of k
+each_of kind = 1
+
+-- some stand there
+pub record IsElements (b : List ℕ) (p : Place) (each : ℕ) : Type 0 where
+  pub stands : IsStanding b p each
+  pub some : 1 ≤ each
+  pub short : each ≤ 8
+
+-- what is done with their storage
+abbrev pub ChangesElements : Change → Cut → Cut → Place → ℕ → Result (Unit {0}) Refusal → Type 0
+ChangesElements (Reserve n) old new p each result = Grows old new p each n result
+ChangesElements Shrink old new p each result = (result ≡ Ok tt) × Fits old new p each
+ChangesElements Clear old new p each result = (result ≡ Ok tt) × Truncates old new p each 0
+
+-- and with that of a vector of texts
+abbrev pub ChangesTexts : Change → Cut → Cut → Place → Result (Unit {0}) Refusal → Type 0
+ChangesTexts (Reserve n) old new p result = ReservesTexts old new p n result × ReservesNoTexts old new p n result
+ChangesTexts Shrink old new p result = (result ≡ Ok tt) × ShrinksTexts old new p
+ChangesTexts Clear old new p result = (result ≡ Ok tt) × ClearsTexts old new p

@@ -12,15 +12,7 @@ use crate::segment::Segment;
 use crate::targets::Target;
 use seg_types::theorems::scalar_is_number;
 use seg_types::{Refusal, Scalar, ScalarKind, ScalarValue};
-
-/// Where an element stands.
-#[derive(Clone, Copy, Debug, PartialEq, Eq)]
-pub(crate) struct Place {
-    /// The handle of its object.
-    pub(crate) handle: u64,
-    /// The offset in bytes from there.
-    pub(crate) at: u64,
-}
+use seg_vector::Place;
 
 impl Segment {
     /// The element at `index` in the object of a key, an object of scalars of the type.

@@ -1,17 +1,17 @@
 //! Objects constructed, whatever they hold; those of one number, so many times.
 ghost use Rattle.std.specs.Prelude.{◌≡◌, ◌≤◌, replicate, true};
 ghost use Rattle.seg_types.specs.{declared.kinds.Kind.TheVariants.Scalar as ScalarOf, Commands.Construct};
-ghost use Rattle.seg_types.specs.{Commands.Numbers, Keys.new_key_seen, Values.kind_of_scalar, Values.value_of_scalar};
-ghost use Rattle.segment_manager.specs.{Directory.kind_of, Filled.Builds, Filled.Constructs, Filled.HasBegun};
-ghost use Rattle.segment_manager.specs.{NewObjects.IsOfKind, Plan.bare, Counted.RefusesCount, Counted.is_count};
-ghost use Rattle.segment_manager.specs.State.{IsSegment, IsStep, KeepsRefused, handle_answer};
+ghost use Rattle.seg_types.specs.{Commands.Numbers, Values.kind_of_scalar, Values.value_of_scalar};
+ghost use Rattle.segment_manager.specs.{Directory.kind_of, Filled.Builds, Filled.HasBegun};
+ghost use Rattle.segment_manager.specs.{Plan.bare, Counted.RefusesCount, Counted.is_count};
+ghost use Rattle.segment_manager.specs.State.{IsStep, KeepsRefused, handle_answer};
 
 use crate::beginning::{Begun, begin, end};
 use crate::destinations::Destination;
 use crate::fillings::{Filling, MOST, NewNumbers, NewScalars};
 use crate::segment::Segment;
 use best_fit::Heap;
-use seg_types::{Handle, NewKey, Refusal, Scalar, ScalarValue};
+use seg_types::{Handle, Refusal, Scalar, ScalarValue};
 use seg_vector::Place;
 
 impl Segment {
@@ -108,36 +108,14 @@ impl Segment {
         ensures step { IsStep self.old self.new (Construct (D.key key.now (kind_of (bare (F.content filling.now)))) (F.content filling.now)) (handle_answer result) }
         ensures refused { KeepsRefused self.old self.new result }
     {
-        let key = key.key_for(filling.shape().kind);
-        self.construct_filled(&key, filling)
-    }
-
-    /// The same under a key that suits what fills it.
-    #[inline(always)]
-    fn construct_filled<F: Filling>(&mut self, key: &NewKey, filling: &F) -> Result<Handle, Refusal>
-        requires stands { F.stands filling.now }
-        requires kind { IsOfKind (new_key_seen key.now) (kind_of (bare (F.content filling.now))) }
-        ensures step { IsStep self.old self.new (Construct (new_key_seen key.now) (F.content filling.now)) (handle_answer result) }
-        ensures refused { KeepsRefused self.old self.new result }
-    {
         if self.is_read_only() {
             return Err(Refusal::ReadOnly);
         }
-        construct_in(&mut self.heap, key, filling)
+        let shape = filling.shape();
+        let key = key.key_for(shape.kind);
+        let begun = begin(&mut self.heap, &key, shape.kind, shape.count, shape.len)?;
+        build(&mut self.heap, begun, filling)
     }
-}
-
-/// The same on the heap of a segment that may be changed.
-#[inline(always)]
-fn construct_in<F: Filling>(heap: &mut Heap, key: &NewKey, filling: &F) -> Result<Handle, Refusal>
-    requires segment { IsSegment heap.old.bytes }
-    requires stands { F.stands filling.now }
-    requires kind { IsOfKind (new_key_seen key.now) (kind_of (bare (F.content filling.now))) }
-    ensures { Constructs heap.old heap.new (Construct (new_key_seen key.now) (F.content filling.now)) handle_answer result }
-{
-    let shape = filling.shape();
-    let begun = begin(heap, key, shape.kind, shape.count, shape.len)?;
-    build(heap, begun, filling)
 }
 
 /// Fills an object that was begun, and has its entry lead there. Where its elements have no gap, all that was taken for it is given back.

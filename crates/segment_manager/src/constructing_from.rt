@@ -100,29 +100,11 @@ impl Segment {
         requires of_kind { HoldsAlong I.next_gives items.old (AllByRecursion (λ v. kind_of_scalar v ≡ kind)) }
         ensures { TakesItems I.next_gives value_of_scalar self.old self.new (D.key key.now (ScalarOf kind)) kind count items.old items.new result }
     {
-        let key = key.key_for(Kind::Scalar(kind));
-        self.construct_items_of(&key, kind, count, items)
-    }
-
-    /// The same under a key that suits them.
-    fn construct_items_of<I: Iterator<Item = ScalarValue>>(
-        &mut self,
-        key: &NewKey,
-        kind: ScalarKind,
-        count: u32,
-        items: &mut I,
-    ) -> Result<Handle, Refusal>
-        requires kind { IsOfItsKind (new_key_seen key.now) kind }
-        requires some { 1 ≤ count }
-        requires few { count ≤ 1048576 }
-        requires ready { I.can_next items.old }
-        requires of_kind { HoldsAlong I.next_gives items.old (AllByRecursion (λ v. kind_of_scalar v ≡ kind)) }
-        ensures { TakesItems I.next_gives value_of_scalar self.old self.new (new_key_seen key.now) kind count items.old items.new result }
-    {
         if self.is_read_only() {
             return Err(Refusal::ReadOnly);
         }
-        let begun = begin_numbers(&mut self.heap, key, kind, count)?;
+        let key = key.key_for(Kind::Scalar(kind));
+        let begun = begin_numbers(&mut self.heap, &key, kind, count)?;
         let enough = fill_values(&mut self.heap, begun.handle, begun.at, kind, count, items);
         finish(&mut self.heap, begun, enough)
     }

@@ -7,7 +7,7 @@ ghost use Rattle.segment_manager.specs.Indexed.{Seeks, objects_of};
 ghost use Rattle.segment_manager.specs.Directory.{named_objects, unique_objects};
 ghost use Rattle.segment_manager.specs.Found.{IsBelow, found_answer, handle_at, is_object_at};
 
-use crate::head::read_head;
+use crate::finding_or_constructing::found_of;
 use crate::segment::Segment;
 use block_tags::Role;
 use raw_region::Steps;
@@ -29,11 +29,8 @@ impl Segment {
         let Some(handle) = self.handle_of(key) else {
             return Ok(None);
         };
-        let head = read_head(&self.heap, handle);
-        if head.kind.code() != kind.code() {
-            return Err(Refusal::WrongKind);
-        }
-        Ok(Some((handle, head.count)))
+        let found = found_of(&self.heap, handle, kind)?;
+        Ok(Some(found))
     }
 
     /// The handle of the scalars of a key, one or an array of a type, and how many they are, or nothing where no object

@@ -121,27 +121,11 @@ impl Segment {
         ensures refused { KeepsRefused self.old self.new result }
         ensures found { KeepsWhere self.old self.new (HasKey (D.key key.now (kind_of (bare (F.content filling.now))))) }
     {
-        let key = key.entry_for(filling.shape().kind);
-        self.find_or_construct_filled(&key, filling)
-    }
-
-    /// The same under an entry that suits what fills it.
-    #[inline(always)]
-    fn find_or_construct_filled<F: Filling>(
-        &mut self,
-        key: &IndexKey,
-        filling: &F,
-    ) -> Result<(Handle, u32), Refusal>
-        requires stands { F.stands filling.now }
-        requires kind { IsOfKind (index_key_seen key.now) (kind_of (bare (F.content filling.now))) }
-        ensures step { IsStep self.old self.new (FindOrConstruct (index_key_seen key.now) (F.content filling.now)) (pair_answer result) }
-        ensures refused { KeepsRefused self.old self.new result }
-        ensures found { KeepsWhere self.old self.new (HasKey (index_key_seen key.now)) }
-    {
         if self.is_read_only() {
             return Err(Refusal::ReadOnly);
         }
-        find_or_construct_in(&mut self.heap, key, filling)
+        let key = key.entry_for(filling.shape().kind);
+        find_or_construct_in(&mut self.heap, &key, filling)
     }
 }
 

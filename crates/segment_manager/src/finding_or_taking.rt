@@ -1,15 +1,15 @@
 //! Objects found, or constructed from the items of an iterator where there are none.
-ghost use Rattle.std.specs.Prelude.{◌≡◌, ◌≤◌, true, false};
-ghost use Rattle.seg_types.specs.{declared.kinds.Kind.TheVariants.Scalar as ScalarOf, Keys.index_key_seen};
+ghost use Rattle.std.specs.Prelude.{◌≡◌, true, false};
+ghost use Rattle.seg_types.specs.declared.kinds.Kind.TheVariants.{Scalar as ScalarOf};
 ghost use Rattle.segment_manager.specs.Counted.{RefusesCount, is_count};
-ghost use Rattle.segment_manager.specs.{Items.FindsOrTakes, Items.found_as, NewObjects.IsOfItsKind};
+ghost use Rattle.segment_manager.specs.Items.{FindsOrTakes, found_as};
 
 use crate::destinations::IndexDestination;
 use crate::fillings::MOST;
 use crate::finding_or_constructing::counted;
 use crate::segment::Segment;
 use crate::targets::{Object, locate};
-use seg_types::{Handle, IndexKey, Kind, Refusal, Scalar, ScalarKind};
+use seg_types::{Handle, Kind, Refusal, Scalar, ScalarKind};
 
 impl Segment {
     /// The handle of the scalars of a key, and how many they are. Where no object has the key one is made of the next `count`
@@ -41,30 +41,14 @@ impl Segment {
         if count == 0 || count > MOST {
             return Err(Refusal::OutOfRange);
         }
-        let entry = key.entry_for(Kind::Scalar(T::kind()));
-        self.find_or_take(&entry, count, items)
-    }
-
-    /// The same under an entry that suits them.
-    fn find_or_take<T: Scalar, I: Iterator<Item = T>>(
-        &mut self,
-        key: &IndexKey,
-        count: u32,
-        items: &mut I,
-    ) -> Result<(Handle, u32), Refusal>
-        requires kind { IsOfItsKind (index_key_seen key.now) T.kind }
-        requires some { 1 ≤ count }
-        requires few { count ≤ 1048576 }
-        requires ready { I.can_next items.old }
-        ensures { FindsOrTakes I.next_gives T.whole self.old self.new (index_key_seen key.now) T.kind count items.old items.new result }
-    {
         if self.is_read_only() {
             return Err(Refusal::ReadOnly);
         }
-        match locate(self, &key.into_key()) {
+        let entry = key.entry_for(Kind::Scalar(T::kind()));
+        match locate(self, &entry.into_key()) {
             Ok(object) => scalars_in(object, T::kind()),
             Err(_) => counted(
-                self.construct_items(&key.into_new_key(), count, items),
+                self.construct_items(&entry.into_new_key(), count, items),
                 count,
             ),
         }

@@ -5,6 +5,7 @@ ghost use Rattle.seg_types.specs.Commands.{Lookup, Put, Remove, literal_of};
 ghost use Rattle.segment_manager.specs.Keeping.{KeepsWhere, LacksPair};
 ghost use Rattle.segment_manager.specs.Maps.{map_at, pair_above, pair_at_end, pair_below, pair_from, pair_result, pair_up_to, told_of_map, value_answer};
 ghost use Rattle.segment_manager.specs.State.{Answers, IsReplyOfKind, IsStepOfKind, truth_answer};
+ghost use Rattle.segment_manager.specs.Walks.{pair_past};
 
 use crate::segment::Segment;
 use crate::targets::Target;
@@ -50,8 +51,7 @@ impl Segment {
         requires { O.stands key.now self.now }
         ensures { Answers self.now (λ d. told_of_map d (O.key key.now) K.kind V.kind (pair_from (K.whole from))) (pair_result K.whole V.whole result) }
     {
-        let place = self.find_map::<K, V, O>(key)?;
-        Ok(SegMap::<K, V>::at(place).first_from(&self.heap, from, &mut Steps::new()))
+        self.pair_past(key, from, false)
     }
 
     /// The pair with the least key above `after`, of the map of a key, a map of the types.
@@ -69,8 +69,27 @@ impl Segment {
         requires { O.stands key.now self.now }
         ensures { Answers self.now (λ d. told_of_map d (O.key key.now) K.kind V.kind (pair_above (K.whole after))) (pair_result K.whole V.whole result) }
     {
+        self.pair_past(key, after, true)
+    }
+
+    /// The pair with the least key that is above a bound, or not below it. It is inlined, so which of the two costs no test.
+    #[inline(always)]
+    pub(crate) fn pair_past<K: Scalar, V: Scalar, O: Target>(
+        &self,
+        key: &O,
+        bound: K,
+        above: bool,
+    ) -> Result<Option<(K, V)>, Refusal>
+        requires { O.stands key.now self.now }
+        ensures { Answers self.now (λ d. told_of_map d (O.key key.now) K.kind V.kind (pair_past above (K.whole bound))) (pair_result K.whole V.whole result) }
+    {
         let place = self.find_map::<K, V, O>(key)?;
-        Ok(SegMap::<K, V>::at(place).next_after(&self.heap, after, &mut Steps::new()))
+        let map = SegMap::<K, V>::at(place);
+        if above {
+            Ok(map.next_after(&self.heap, bound, &mut Steps::new()))
+        } else {
+            Ok(map.first_from(&self.heap, bound, &mut Steps::new()))
+        }
     }
 
     /// The pair with the greatest key, of the map of a key, a map of the types; `None` where it has no pair.

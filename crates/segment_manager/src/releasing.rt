@@ -1,14 +1,15 @@
 //! What the values of objects have blocks for, given back.
-ghost use Rattle.segment_manager.specs.Destroyed.{Empties, HasNumbers, HoldsObject, ReleasesNumbers};
+ghost use Rattle.segment_manager.specs.Destroyed.{Empties, HoldsObject};
 ghost use Rattle.segment_manager.specs.Maps.{HasPairs, ReleasesPairs};
 
 use crate::head::read_head;
 use crate::layout::value_at;
 use crate::maps::map_place;
+use crate::storages::element_len;
 use best_fit::Heap;
 use seg_map::{Place as MapPlace, SegMap};
 use seg_types::{Kind, Scalar, ScalarKind};
-use seg_vector::{Place, SegString, SegTexts, SegVec};
+use seg_vector::{Place, SegTexts, give_back};
 
 /// Gives back the blocks that the value of the object of a handle has. A container has nothing in it and no place then, and
 /// numbers stay as they are.
@@ -23,33 +24,10 @@ pub(crate) fn release_contents(heap: &mut Heap, handle: u64)
     };
     match head.kind {
         Kind::Scalar(_) => {}
-        Kind::Text => SegString { place }.release(heap),
-        Kind::Vector(element) => release_elements(heap, place, element),
         Kind::Map(keys, values) => release_pairs(heap, map_place(place), keys, values),
         Kind::Texts => SegTexts { place }.release(heap),
+        kind => give_back(heap, place, element_len(kind)),
     }
-}
-
-/// Gives back the storage of a vector of scalars of a kind.
-fn release_elements(heap: &mut Heap, place: Place, kind: ScalarKind)
-    requires { HasNumbers kind heap.old.bytes place }
-    ensures { ReleasesNumbers kind heap.old heap.new place }
-{
-    match kind {
-        ScalarKind::Bool => release_vector::<bool>(heap, place),
-        ScalarKind::U8 => release_vector::<u8>(heap, place),
-        ScalarKind::I32 => release_vector::<i32>(heap, place),
-        ScalarKind::I64 => release_vector::<i64>(heap, place),
-        ScalarKind::U64 => release_vector::<u64>(heap, place),
-    }
-}
-
-/// The same of a vector of a type.
-fn release_vector<T: Scalar>(heap: &mut Heap, place: Place)
-    requires { HasNumbers T.kind heap.old.bytes place }
-    ensures { ReleasesNumbers T.kind heap.old heap.new place }
-{
-    SegVec::<T>::at(place).release(heap);
 }
 
 /// Gives back the blocks of the pairs of a map of two kinds.

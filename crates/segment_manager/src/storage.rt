@@ -1,22 +1,17 @@
 //! The places of vectors and strings of objects, vectors of strings among them: reserved, given back and left empty; and how many
 //! elements containers have.
-ghost use Rattle.std.specs.Prelude.{◌≡◌, OnErr, false};
+ghost use Rattle.std.specs.Prelude.{◌≡◌, OnErr, true};
 ghost use Rattle.seg_types.specs.declared.kinds.Kind.TheVariants.{Map as MapOf, Vector as VectorOf, Texts as TextsKind};
 ghost use Rattle.seg_types.specs.Commands.{Clear, Reserve, Shrink};
-ghost use Rattle.segment_manager.specs.{Contents.sizes_at, Contents.sizes_at_kind, Keeping.HasPlaces};
+ghost use Rattle.segment_manager.specs.Contents.{has_sizes, sizes_at, sizes_at_kind};
+ghost use Rattle.segment_manager.specs.{Keeping.HasPlaces, Stored.HasEnough, Stored.command_of};
 ghost use Rattle.segment_manager.specs.{Keeping.KeepsWhere, State.Answers, State.IsStep, State.done_answer};
-ghost use Rattle.segment_manager.specs.{Step.is_read_only, ElementLists.array_length_at, ElementLists.length_at_kind};
-ghost use Rattle.segment_manager.specs.Stored.{ChangesStorage, HasContainer, HasEnough, KeepsThere, StepsThere, command_of};
+ghost use Rattle.segment_manager.specs.ElementLists.{array_length_at, length_at_kind};
 
 use crate::segment::Segment;
-use crate::storages::{Change, Stored};
-use crate::targets::{Object, Target, locate};
-use best_fit::Heap;
-use seg_types::{Kind, Refusal, Scalar, ScalarKind};
-use seg_vector::{Place, SegString, SegTexts, SegVec};
-
-/// Where the number of pairs stands in a map of any kinds.
-const PAIRS: u64 = 8;
+use crate::storages::{Change, change_there, is_stored, sizes};
+use crate::targets::{Target, locate};
+use seg_types::{Kind, Refusal, Scalar};
 
 impl Segment {
     /// How many elements the vector or string of a key has, and how many places; or how many pairs its map has, and 0.
@@ -32,52 +27,19 @@ impl Segment {
     {
         let object = locate(self, key)?;
         match object.kind {
-            Kind::Text => self.measure_stored::<SegString, Object>(&object),
-            Kind::Texts => self.measure_stored::<SegTexts, Object>(&object),
-            Kind::Vector(element) => self.measure_elements(&object, element),
-            Kind::Map(keys, values) => self.measure_pairs(&object, keys, values),
-            _ => Err(Refusal::WrongKind),
+            Kind::Scalar(_) => Err(Refusal::WrongKind),
+            kind => self.measure_kind(&object, kind),
         }
     }
 
-    /// The same of a vector of scalars of a kind.
-    fn measure_elements<O: Target>(&self, key: &O, kind: ScalarKind) -> Result<(u64, u64), Refusal>
-        requires { O.stands key.now self.now }
-        ensures { Answers self.now (λ d. sizes_at_kind d (O.key key.now) (VectorOf kind)) result }
+    /// The same of a container of a kind.
+    fn measure_kind<O: Target>(&self, key: &O, kind: Kind) -> Result<(u64, u64), Refusal>
+        requires target { O.stands key.now self.now }
+        requires container { has_sizes kind ≡ true }
+        ensures { Answers self.now (λ d. sizes_at_kind d (O.key key.now) kind) result }
     {
-        match kind {
-            ScalarKind::Bool => self.measure_stored::<SegVec<bool>, O>(key),
-            ScalarKind::U8 => self.measure_stored::<SegVec<u8>, O>(key),
-            ScalarKind::I32 => self.measure_stored::<SegVec<i32>, O>(key),
-            ScalarKind::I64 => self.measure_stored::<SegVec<i64>, O>(key),
-            ScalarKind::U64 => self.measure_stored::<SegVec<u64>, O>(key),
-        }
-    }
-
-    /// The same of what has storage.
-    pub(crate) fn measure_stored<S: Stored, O: Target>(
-        &self,
-        key: &O,
-    ) -> Result<(u64, u64), Refusal>
-        requires { O.stands key.now self.now }
-        ensures { Answers self.now (λ d. sizes_at_kind d (O.key key.now) S.kind) result }
-    {
-        let place = self.find_container(key, S::kind())?;
-        Ok(S::sizes(&self.heap, place))
-    }
-
-    /// The same of a map of two kinds.
-    pub(crate) fn measure_pairs<O: Target>(
-        &self,
-        key: &O,
-        keys: ScalarKind,
-        values: ScalarKind,
-    ) -> Result<(u64, u64), Refusal>
-        requires { O.stands key.now self.now }
-        ensures { Answers self.now (λ d. sizes_at_kind d (O.key key.now) (MapOf keys values)) result }
-    {
-        let place = self.find_container(key, Kind::Map(keys, values))?;
-        Ok((self.heap.word(place.handle, place.at + PAIRS), 0))
+        let place = self.find_container(key, kind)?;
+        Ok(sizes(&self.heap, place, kind))
     }
 
     /// Gives the vector or string of a key places for `n` elements, where it has fewer.
@@ -141,50 +103,11 @@ impl Segment {
             return Err(Refusal::ReadOnly);
         }
         let object = locate(self, key)?;
-        match object.kind {
-            Kind::Text => self.change_stored::<SegString, Object>(&object, change),
-            Kind::Texts => self.change_stored::<SegTexts, Object>(&object, change),
-            Kind::Vector(element) => self.change_elements(&object, element, change),
-            _ => Err(Refusal::WrongKind),
+        if !is_stored(object.kind) {
+            return Err(Refusal::WrongKind);
         }
-    }
-
-    /// The same of a vector of scalars of a kind, in a segment that may be changed.
-    #[inline(always)]
-    fn change_elements<O: Target>(
-        &mut self,
-        key: &O,
-        kind: ScalarKind,
-        change: Change,
-    ) -> Result<(), Refusal>
-        requires target { O.stands key.now self.old }
-        requires writing { is_read_only self.old.mode ≡ false }
-        ensures change { ChangesStorage self.old self.new (O.key key.now) (VectorOf kind) (command_of change (O.key key.now)) result }
-        ensures enough { KeepsWhere self.old self.new (HasEnough change (O.key key.now)) }
-    {
-        match kind {
-            ScalarKind::Bool => self.change_stored::<SegVec<bool>, O>(key, change),
-            ScalarKind::U8 => self.change_stored::<SegVec<u8>, O>(key, change),
-            ScalarKind::I32 => self.change_stored::<SegVec<i32>, O>(key, change),
-            ScalarKind::I64 => self.change_stored::<SegVec<i64>, O>(key, change),
-            ScalarKind::U64 => self.change_stored::<SegVec<u64>, O>(key, change),
-        }
-    }
-
-    /// The same of what has storage.
-    #[inline(always)]
-    fn change_stored<S: Stored, O: Target>(
-        &mut self,
-        key: &O,
-        change: Change,
-    ) -> Result<(), Refusal>
-        requires target { O.stands key.now self.old }
-        requires writing { is_read_only self.old.mode ≡ false }
-        ensures change { ChangesStorage self.old self.new (O.key key.now) S.kind (command_of change (O.key key.now)) result }
-        ensures enough { KeepsWhere self.old self.new (HasEnough change (O.key key.now)) }
-    {
-        let place = self.find_container(key, S::kind())?;
-        change_there::<S>(&mut self.heap, place, change)
+        let place = self.find_container(&object, object.kind)?;
+        change_there(&mut self.heap, place, object.kind, change)
     }
 
     /// How many elements the array of a key has, one scalar or an array of a type.
@@ -216,7 +139,7 @@ impl Segment {
         requires { O.stands key.now self.now }
         ensures { Answers self.now (λ d. length_at_kind d (O.key key.now) (VectorOf T.kind)) result }
     {
-        let (len, _places) = self.measure_stored::<SegVec<T>, O>(key)?;
+        let (len, _places) = self.measure_kind(key, Kind::Vector(T::kind()))?;
         Ok(len)
     }
 
@@ -231,7 +154,7 @@ impl Segment {
         requires { O.stands key.now self.now }
         ensures { Answers self.now (λ d. length_at_kind d (O.key key.now) TextsKind) result }
     {
-        let (len, _places) = self.measure_stored::<SegTexts, O>(key)?;
+        let (len, _places) = self.measure_kind(key, Kind::Texts)?;
         Ok(len)
     }
 
@@ -246,27 +169,7 @@ impl Segment {
         requires { O.stands key.now self.now }
         ensures { Answers self.now (λ d. length_at_kind d (O.key key.now) (MapOf K.kind V.kind)) result }
     {
-        let (len, _places) = self.measure_pairs(key, K::kind(), V::kind())?;
+        let (len, _places) = self.measure_kind(key, Kind::Map(K::kind(), V::kind()))?;
         Ok(len)
-    }
-}
-
-/// Changes the storage of a container at a place.
-#[inline(always)]
-fn change_there<S: Stored>(heap: &mut Heap, place: Place, change: Change) -> Result<(), Refusal>
-    requires { HasContainer heap.old S.kind place }
-    ensures change { StepsThere heap.old heap.new S.kind place (command_of change) result }
-    ensures enough { KeepsThere heap.old heap.new S.kind place (HasEnough change) }
-{
-    match change {
-        Change::Reserve(n) => S::reserve(heap, place, n),
-        Change::Shrink => {
-            S::shrink(heap, place);
-            Ok(())
-        }
-        Change::Clear => {
-            S::clear(heap, place);
-            Ok(())
-        }
     }
 }

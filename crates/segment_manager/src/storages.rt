@@ -1,14 +1,18 @@
-//! Containers with storage of their own: vectors of scalars, strings, vectors of strings.
-ghost use Rattle.std.specs.Prelude.{◌≡◌, Ok};
-ghost use Rattle.seg_types.specs.declared.kinds.Kind.{Kind as KindOf};
-ghost use Rattle.seg_types.specs.declared.kinds.Kind.TheVariants.{Text as TextKind, Texts as TextsKind, Vector as VectorOf};
-ghost use Rattle.seg_types.specs.Commands.{Clear, Reserve, Shrink};
-ghost use Rattle.segment_manager.specs.Keeping.{HasPlaces};
-ghost use Rattle.segment_manager.specs.Stored.{HasContainer, KeepsThere, StepsThere, TellsSizes};
+//! The storage of containers of objects: how many elements and places there are; reserved, given back and left empty. The words of
+//! vectors, strings and maps stand at the same places, and what has elements in its storage differs in their length alone.
+ghost use Rattle.std.specs.Prelude.{◌≡◌, true};
+ghost use Rattle.seg_vector.specs.TextsCalls.{IsSomeTexts};
+ghost use Rattle.segment_manager.specs.{Contents.has_sizes, Contents.has_storage};
+ghost use Rattle.segment_manager.specs.Stored.{ChangesElements, ChangesTexts, HasContainer, HasEnough, IsElements, KeepsThere, StepsThere, TellsSizes, command_of, each_of};
 
 use best_fit::Heap;
-use seg_types::{Kind, Refusal, Scalar};
-use seg_vector::{Place, SegString, SegTexts, SegVec};
+use seg_types::{Kind, Refusal};
+use seg_vector::{Place, SegTexts, fit, reserve, truncate};
+
+/// Where the number of elements or pairs stands in a container, and behind it that of places.
+const LEN: u64 = 8;
+
+const CAPACITY: u64 = 16;
 
 /// What is done with the storage of a container.
 #[derive(Clone, Copy)]
@@ -21,112 +25,90 @@ pub(crate) enum Change {
     Clear,
 }
 
-/// A container with storage of its own, at a place.
-pub(crate) trait Stored {
-    // The kind of its object.
-    ghost kind: { KindOf };
-
-    /// The kind of its object.
-    fn kind() -> Kind
-        ensures { result ≡ kind };
-
-    /// How many elements it has, and how many places.
-    fn sizes(heap: &Heap, place: Place) -> (u64, u64)
-        requires { HasContainer heap.now kind place }
-        ensures { TellsSizes heap.now kind place result };
-
-    /// Gives it places for `n` elements, where it has fewer.
-    ///
-    /// # Errors
-    ///
-    /// `NoSpace` where its storage cannot be regrown. Nothing changes.
-    fn reserve(heap: &mut Heap, place: Place, n: u64) -> Result<(), Refusal>
-        requires { HasContainer heap.old kind place }
-        ensures change { StepsThere heap.old heap.new kind place (λ key. Reserve key n) result }
-        ensures enough { KeepsThere heap.old heap.new kind place (λ key. HasPlaces key n) };
-
-    /// Gives back its places that have no element.
-    fn shrink(heap: &mut Heap, place: Place)
-        requires { HasContainer heap.old kind place }
-        ensures { StepsThere heap.old heap.new kind place Shrink (Ok tt) };
-
-    /// Takes all its elements out. The places stay.
-    fn clear(heap: &mut Heap, place: Place)
-        requires { HasContainer heap.old kind place }
-        ensures { StepsThere heap.old heap.new kind place Clear (Ok tt) };
-}
-
-impl<T: Scalar> Stored for SegVec<T> {
-    ghost kind = { VectorOf T.kind };
-
-    fn kind() -> Kind {
-        Kind::Vector(T::kind())
-    }
-
-    fn sizes(heap: &Heap, place: Place) -> (u64, u64) {
-        let vector = SegVec::<T>::at(place);
-        (vector.len(heap), vector.capacity(heap))
-    }
-
-    fn reserve(heap: &mut Heap, place: Place, n: u64) -> Result<(), Refusal> {
-        SegVec::<T>::at(place).reserve(heap, n)
-    }
-
-    fn shrink(heap: &mut Heap, place: Place) {
-        SegVec::<T>::at(place).shrink(heap);
-    }
-
-    fn clear(heap: &mut Heap, place: Place) {
-        SegVec::<T>::at(place).clear(heap);
+/// How many elements the container of a kind at a place has, and how many places; or how many pairs, and 0.
+#[inline(always)]
+pub(crate) fn sizes(heap: &Heap, place: Place, kind: Kind) -> (u64, u64)
+    requires there { HasContainer heap.now kind place }
+    requires container { has_sizes kind ≡ true }
+    ensures { TellsSizes heap.now kind place result }
+{
+    let len = heap.word(place.handle, place.at + LEN);
+    match kind {
+        Kind::Map(_, _) => (len, 0),
+        _ => (len, heap.word(place.handle, place.at + CAPACITY)),
     }
 }
 
-impl Stored for SegString {
-    ghost kind = { TextKind };
+/// Whether objects of a kind have storage: vectors and strings, vectors of strings among them.
+pub(crate) fn is_stored(kind: Kind) -> bool
+    ensures { result ≡ has_storage kind }
+{
+    !matches!(kind, Kind::Scalar(_) | Kind::Map(_, _))
+}
 
-    fn kind() -> Kind {
-        Kind::Text
-    }
-
-    fn sizes(heap: &Heap, place: Place) -> (u64, u64) {
-        let text = SegString { place };
-        (text.len(heap), text.capacity(heap))
-    }
-
-    fn reserve(heap: &mut Heap, place: Place, n: u64) -> Result<(), Refusal> {
-        SegString { place }.reserve(heap, n)
-    }
-
-    fn shrink(heap: &mut Heap, place: Place) {
-        SegString { place }.shrink(heap);
-    }
-
-    fn clear(heap: &mut Heap, place: Place) {
-        SegString { place }.clear(heap);
+/// The bytes of an element of a vector of scalars, or of a string.
+pub(crate) fn element_len(kind: Kind) -> u64
+    ensures { result ≡ each_of kind }
+{
+    match kind {
+        Kind::Vector(element) => element.size(),
+        _ => 1,
     }
 }
 
-impl Stored for SegTexts {
-    ghost kind = { TextsKind };
-
-    fn kind() -> Kind {
-        Kind::Texts
+/// Changes the storage of a container of a kind at a place.
+#[inline(always)]
+pub(crate) fn change_there(
+    heap: &mut Heap,
+    place: Place,
+    kind: Kind,
+    change: Change,
+) -> Result<(), Refusal>
+    requires there { HasContainer heap.old kind place }
+    requires stored { has_storage kind ≡ true }
+    ensures change { StepsThere heap.old heap.new kind place (command_of change) result }
+    ensures enough { KeepsThere heap.old heap.new kind place (HasEnough change) }
+{
+    match kind {
+        Kind::Texts => change_texts(heap, SegTexts { place }, change),
+        _ => change_elements(heap, place, element_len(kind), change),
     }
+}
 
-    fn sizes(heap: &Heap, place: Place) -> (u64, u64) {
-        let texts = SegTexts { place };
-        (texts.len(heap), texts.capacity(heap))
+/// The same of a vector of strings.
+#[inline(always)]
+fn change_texts(heap: &mut Heap, texts: SegTexts, change: Change) -> Result<(), Refusal>
+    requires { IsSomeTexts heap.old.bytes texts.place }
+    ensures { ChangesTexts change heap.old heap.new texts.place result }
+{
+    match change {
+        Change::Reserve(n) => texts.reserve(heap, n),
+        Change::Shrink => {
+            texts.shrink(heap);
+            Ok(())
+        }
+        Change::Clear => {
+            texts.clear(heap);
+            Ok(())
+        }
     }
+}
 
-    fn reserve(heap: &mut Heap, place: Place, n: u64) -> Result<(), Refusal> {
-        SegTexts { place }.reserve(heap, n)
-    }
-
-    fn shrink(heap: &mut Heap, place: Place) {
-        SegTexts { place }.shrink(heap);
-    }
-
-    fn clear(heap: &mut Heap, place: Place) {
-        SegTexts { place }.clear(heap);
+/// The same of elements of `each` bytes.
+#[inline(always)]
+fn change_elements(heap: &mut Heap, place: Place, each: u64, change: Change) -> Result<(), Refusal>
+    requires { IsElements heap.old.bytes place each }
+    ensures { ChangesElements change heap.old heap.new place each result }
+{
+    match change {
+        Change::Reserve(n) => reserve(heap, place, each, n),
+        Change::Shrink => {
+            fit(heap, place, each);
+            Ok(())
+        }
+        Change::Clear => {
+            truncate(heap, place, each, 0);
+            Ok(())
+        }
     }
 }

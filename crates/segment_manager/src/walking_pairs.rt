@@ -2,7 +2,7 @@
 ghost use Rattle.std.specs.Prelude.{◌≡◌, option_map};
 ghost use Rattle.seg_types.specs.{Kinds.lowest, Values.kind_of_scalar, Values.value_of_scalar};
 ghost use Rattle.seg_map.specs.Places.{item_of};
-ghost use Rattle.segment_manager.specs.{Maps.pair_above, Maps.pair_result, Maps.told_of_map, State.Answers};
+ghost use Rattle.segment_manager.specs.{Maps.pair_above, Maps.told_of_map, State.Answers};
 ghost use Rattle.segment_manager.specs.Walks.{AreOfKinds, HasValueOf, IsMap, first_of, item_of_kinds, item_seen, numbers_read, pair_past, pairs_at};
 
 use crate::segment::Segment;
@@ -72,24 +72,6 @@ impl Segment {
             ScalarKind::I32 => valued!(self.pair_past::<K, i32, O>(key, bound, above), I32),
             ScalarKind::I64 => valued!(self.pair_past::<K, i64, O>(key, bound, above), I64),
             ScalarKind::U64 => valued!(self.pair_past::<K, u64, O>(key, bound, above), U64),
-        }
-    }
-
-    /// The same of values of a type too.
-    #[inline(always)]
-    fn pair_past<K: Scalar, V: Scalar, O: Target>(
-        &self,
-        key: &O,
-        bound: K,
-        above: bool,
-    ) -> Result<Option<(K, V)>, Refusal>
-        requires { O.stands key.now self.now }
-        ensures { Answers self.now (λ d. told_of_map d (O.key key.now) K.kind V.kind (pair_past above (K.whole bound))) (pair_result K.whole V.whole result) }
-    {
-        if above {
-            self.map_next_after(key, bound)
-        } else {
-            self.map_first_from(key, bound)
         }
     }
 }

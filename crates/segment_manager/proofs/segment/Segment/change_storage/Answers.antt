@@ -1,11 +1,21 @@
--- The kind of the object of the key says which call it is.
-use Rattle.segment_manager.proofs.Common.{err_from_is_err_and, sym, ◌∙◌, Text, Vector, Key, command_of}
-use Rattle.seg_types.specs.declared.kinds.Kind.TheVariants.{Texts}
-use Rattle.segment_manager.proofs.AnyStorage.{kind-no_storage, nowhere-steps, otherwise-no_storage}
+-- The container of the object of the key is changed as its kind says.
+use Rattle.segment_manager.proofs.Common.{err_from_is_err_and, refl, sym, ◌∙◌, Key, ByHandle, StepsSafely, command_of}
+use Rattle.segment_manager.proofs.{AnyStorage.kind-no_storage, AnyStorage.nowhere-steps, KeptContainers.keeps-cut}
 use Rattle.segment_manager.proofs.Locating.{enough-by_key, kind-by_key, located-changes}
-use Rattle.segment_manager.proofs.Steps.{refuses-read_only}
+use Rattle.segment_manager.proofs.{Refilled.finds-no_container, Steps.open-writing, Steps.refuses-read_only}
+use Rattle.segment_manager.proofs.Safely.{answer-refused, answer-segment, answer-step}
 use Rattle.segment_manager.proofs.StorageSteps.{change-changes, change-nowhere, change-other}
+use Rattle.segment_manager.proofs.StoredCalls.{changes-there, stands-there}
 use Rattle.segment_manager.proofs.segment.Segment.change_storage.Goals as goal
+use Rattle.segment_manager.proofs.segment.Segment.change_storage.{Goals.After-change_there, Given.Over}
+
+-- what the call does, in each goal behind it
+done : (g : Over) (c : After-change_there g) → StepsSafely (record { cut = c.self.inside.heap; mode = c.self.inside.mode })
+    c.change_there.new.heap (ByHandle c.in_ok-object.object.handle) c.in_ok-object.object.kind
+    (command_of c.args.change (ByHandle c.in_ok-object.object.handle)) c.change_there.result
+done g c =
+    changes-there _ _ c.self.view_is _ _ _ _ _ (command_of c.args.change) _ (sym c.is_read_only.ensures ∙ c.if-is_read_only.false) refl
+    c.in_ok-place.ensures c.change_there.ensures.change
 
 pub returns-then-is_read_only-clause-step : goal.returns-then-is_read_only-clause-step
 returns-then-is_read_only-clause-step g c =
@@ -20,42 +30,43 @@ returns-in_err-object-clause-step g c =
     nowhere-steps c.args.self.now key c.in_err-object.field-0.0 (command_of c.args.change key)
     (sym c.is_read_only.ensures ∙ c.if-is_read_only.false) c.in_err-object.ensures (λ d e. change-nowhere c.args.change d key e))
 
-pub change_stored-requires-clause-writing : goal.change_stored-requires-clause-writing
-change_stored-requires-clause-writing g c = sym c.is_read_only.ensures ∙ c.if-is_read_only.false
-
-pub change_stored-requires-in-Texts-clause-writing : goal.change_stored-requires-in-Texts-clause-writing
-change_stored-requires-in-Texts-clause-writing g c = sym c.is_read_only.ensures ∙ c.if-is_read_only.false
-
-pub change_elements-requires-clause-writing : goal.change_elements-requires-clause-writing
-change_elements-requires-clause-writing g c = sym c.is_read_only.ensures ∙ c.if-is_read_only.false
-
-pub returns-in-Text-clause-step : goal.returns-in-Text-clause-step
-returns-in-Text-clause-step g c =
-    located-changes _ _ _ c.in_ok-object.ensures c.args.change _ Text _ c.in-Text.is c.change_stored.ensures.change.step
-
-pub returns-in-Texts-clause-step : goal.returns-in-Texts-clause-step
-returns-in-Texts-clause-step g c =
-    located-changes _ _ _ c.in_ok-object.ensures c.args.change _ Texts _ c.in-Texts.is c.change_stored-in-Texts.ensures.change.step
-
-pub returns-in-Vector-clause-step : goal.returns-in-Vector-clause-step
-returns-in-Vector-clause-step g c =
-    located-changes _ _ _ c.in_ok-object.ensures c.args.change _ (Vector c.in-Vector.element) _ c.in-Vector.is
-    c.change_elements.ensures.change.step
-
-pub returns-in_default-clause-step : goal.returns-in_default-clause-step
-returns-in_default-clause-step g c =
+pub returns-then-not-is_stored-clause-step : goal.returns-then-not-is_stored-clause-step
+returns-then-not-is_stored-clause-step g c =
     let key : Key = g.O.Target.key c.args.key.now in
     change-other c.args.change c.args.self.now key (sym c.is_read_only.ensures ∙ c.if-is_read_only.false)
-    (kind-no_storage c.args.self.now key c.in_ok-object.object.kind
-    (otherwise-no_storage c.in_ok-object.object.kind c.in_default.not-Text c.in_default.not-Texts c.in_default.not-Vector)
+    (kind-no_storage c.args.self.now key c.in_ok-object.object.kind (sym c.is_stored.ensures ∙ c.if-not-is_stored.true)
     (kind-by_key c.args.self.now key c.in_ok-object.object c.in_ok-object.ensures))
 
-pub returns-in-Text-clause-enough : goal.returns-in-Text-clause-enough
-returns-in-Text-clause-enough g c = enough-by_key _ _ _ c.in_ok-object.ensures c.args.change _ c.change_stored.ensures.enough
+pub returns-in_err-place-clause-step : goal.returns-in_err-place-clause-step
+returns-in_err-place-clause-step g c =
+    let p = err_from_is_err_and c.from_residual-in_err-place.result c.from_residual-in_err-place.ensures.1 in
+    rw (p.1, p.2) (located-changes _ _ _ c.in_ok-object.ensures c.args.change _ c.in_ok-object.object.kind _ refl
+    (finds-no_container _ _ _ (command_of c.args.change _) _ (open-writing _ (command_of c.args.change _) (sym c.is_read_only.ensures ∙ c.if-is_read_only.false)) c.in_err-place.ensures))
 
-pub returns-in-Texts-clause-enough : goal.returns-in-Texts-clause-enough
-returns-in-Texts-clause-enough g c =
-    enough-by_key _ _ _ c.in_ok-object.ensures c.args.change _ c.change_stored-in-Texts.ensures.enough
+pub change_there-requires-clause-there : goal.change_there-requires-clause-there
+change_there-requires-clause-there g c = (
+  c.self.invariant,
+  (
+    ByHandle c.in_ok-object.object.handle,
+    stands-there _ _ c.self.view_is (ByHandle c.in_ok-object.object.handle) c.in_ok-object.object.kind _ _ refl c.in_ok-place.ensures,
+  ),
+)
 
-pub returns-in-Vector-clause-enough : goal.returns-in-Vector-clause-enough
-returns-in-Vector-clause-enough g c = enough-by_key _ _ _ c.in_ok-object.ensures c.args.change _ c.change_elements.ensures.enough
+pub invariant_of-self : goal.invariant_of-self
+invariant_of-self g c =
+    answer-segment _ _ c.self.view_is _ _ _ _ _ (done g (goal.at.invariant_of-self g c).After-change_there) c.self.invariant
+
+pub returns-clause-step : goal.returns-clause-step
+returns-clause-step g c =
+    located-changes _ _ _ c.in_ok-object.ensures c.args.change _ c.in_ok-object.object.kind _ refl
+    (answer-step _ _ c.self.view_is _ _ _ _ _ (done g (goal.at.returns-clause-step g c).After-change_there))
+
+pub returns-clause-refused : goal.returns-clause-refused
+returns-clause-refused g c =
+    answer-refused _ _ c.self.view_is _ _ _ _ _ (done g (goal.at.returns-clause-refused g c).After-change_there)
+
+pub returns-clause-enough : goal.returns-clause-enough
+returns-clause-enough g c =
+    enough-by_key _ _ _ c.in_ok-object.ensures c.args.change _ (keeps-cut _ _ c.self.view_is c.change_there.new.heap _
+    (c.change_there.ensures.enough (ByHandle c.in_ok-object.object.handle)
+    (stands-there _ _ c.self.view_is (ByHandle c.in_ok-object.object.handle) c.in_ok-object.object.kind _ _ refl c.in_ok-place.ensures)))

@@ -1,6 +1,7 @@
 -- The place in the object at the handle.
 use Rattle.segment_manager.proofs.Common.{err_from_is_err_and, subst, Ok, Err, Answers}
-use Rattle.segment_manager.specs.{declared.accessing.Place.Place, Standing.place_at}
+use Rattle.segment_manager.specs.Standing.{place_at}
+use Rattle.seg_vector.specs.declared.places.Place.{Place}
 use Rattle.segment_manager.proofs.{Here.seen-handle, Here.seen-object, Places.places, Places.places-missing}
 use Rattle.segment_manager.proofs.segment.Segment.find_element.Goals as goal
 

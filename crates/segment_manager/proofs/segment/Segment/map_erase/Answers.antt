@@ -1,5 +1,5 @@
 -- The key is erased from the map that is found.
-use Rattle.segment_manager.proofs.Common.{err_from_is_err_and, refl, sym, ◌∙◌, false, Ok, Map, Command, Remove}
+use Rattle.segment_manager.proofs.Common.{err_from_is_err_and, refl, sym, ◌∙◌, Ok, Map, Command, Remove}
 use Rattle.segment_manager.proofs.Common.{literal_of}
 use Rattle.segment_manager.proofs.{KeptContainers.map-kept, MapAnswers.erased-there, MapAnswers.some-there}
 use Rattle.segment_manager.proofs.{MapCalls.TellsSafely, MapCalls.finds-no_map, ScalarTypes.of-map}

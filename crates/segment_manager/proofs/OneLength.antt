@@ -1,0 +1,270 @@
+-- The words of containers, and what the calls of seg_vector leave of storage whose elements have one length: as the steps of the calls
+-- on the object, a vector of numbers or a text.
+use Rattle.segment_manager.proofs.Common.{◌≡◌, ap, arith, ℕ, ◌+◌, ◌*◌, ◌∙◌, ◌≤◌, Err, IsTrue, List, None, Ok}
+use Rattle.segment_manager.proofs.Common.{Result, Some, [], false, length, refl, same_Some, subst, sym, take}
+use Rattle.segment_manager.proofs.Common.{true, Cut, Memory, current, bytes_of, word_at, handle, has_room, live_of}
+use Rattle.segment_manager.proofs.Common.{LiveSet, Table, cut_table, no_table, Kind}
+use Rattle.segment_manager.proofs.Common.{MapKind, ScalarKind, TextsKind, Refusal, NoSpace, Key, Command, Stands, place_at, Place}
+use Rattle.segment_manager.proofs.Common.{Change, Clear, Reserve, Shrink, Done, Refused, Contents, IsRefilled}
+use Rattle.segment_manager.proofs.Common.{container_at, contents_of, has_values, sizes_at_kind}
+use Rattle.segment_manager.proofs.Common.{sizes_of, Denotes, IsValueAt, Value, Numbers, Elements, Bytes, Pairs, Texts}
+use Rattle.segment_manager.proofs.Common.{Object, Directory, kind_of, live, padded, value_len, emptied, Reply}
+use Rattle.segment_manager.proofs.Common.{perform, with_capacity, StandsAt, Answers, IsSegment, StandsFor, State}
+use Rattle.segment_manager.proofs.Common.{changed, effect, is_read_only, storage_of, with_items, with_table}
+use Rattle.segment_manager.proofs.Common.{HasEnough, StepsSafely, command_of, has_sizes, has_storage}
+use Rattle.seg_types.specs.Commands as asked
+use Rattle.seg_vector.specs.Elements.{Fits, IsFitted, IsRewritten, Truncates}
+use Rattle.seg_vector.specs.Standing.{Grows, IsGrown}
+use Rattle.segment_manager.specs.Stored.{ChangesElements, HasContainer, IsElements, StandsThere, each_of}
+use Rattle.segment_manager.proofs.{AnyStorage.sizes-found, Calling.denotes-live, Contained.contents-fit}
+use Rattle.segment_manager.proofs.{Contained.contents-stand, Contained.start-place, Frame.object-roomy}
+use Rattle.segment_manager.proofs.{Here.standing, ItemSteps.one-kind, KeptContainers.enough-places}
+use Rattle.segment_manager.proofs.{Rewritten.value_start, Safely.done-so, Safely.stays, Standings.standing-room}
+use Rattle.segment_manager.proofs.{Standings.standing-short, Steps.by_no_change_of_kind, Steps.open-writing}
+use Rattle.segment_manager.proofs.{Steps.step_of_kind-found, Refilled.HoldsAt, Refilled.holds-at}
+use Rattle.segment_manager.proofs.ContentPlans.{clear-plan, reserve-plan, shrink-plan}
+use Rattle.segment_manager.proofs.Refilled.{refill-steps_of_kind, room-asked}
+
+-- ---- the words of a container
+
+-- how many places they say
+abbrev pub places_in : Memory → ℕ → Kind → ℕ
+places_in m at (MapKind k v) = 0
+places_in m at kind = word_at m (at + 16)
+
+said-sizes : (m : Memory) (at : ℕ) (v : Value) → has_sizes (kind_of v) ≡ true → IsValueAt m at v → Ok (word_at m (at + 8), places_in m at (kind_of v)) ≡ sizes_of v
+said-sizes m at (Elements k zs t) h s = λ i. Ok (s.len_word i, s.capacity i)
+said-sizes m at (Bytes bs t) h s = λ i. Ok (s.len_word i, s.capacity i)
+said-sizes m at (Pairs k v ps) h s = λ i. Ok (s.count i, 0)
+said-sizes m at (Texts ps t) h s = λ i. Ok (s.len_word i, s.capacity i)
+said-sizes m at v h s = absurd (cc)
+
+pub places-otherwise : (m : Memory) (p : Place) (kind : Kind) → ((k v : ScalarKind) → kind ≡ MapKind k v → ⊥) → (n : ℕ) → n ≡ word_at m (p.handle + (p.at + 16)) → n ≡ places_in m (p.handle + p.at) kind
+places-otherwise m p (MapKind k v) other n e = absurd (other k v refl)
+places-otherwise m p kind other n e = e ∙ ap (word_at m) (omega arith)
+
+three-words : (v : Value) → has_sizes (kind_of v) ≡ true → value_len v ≡ 24
+three-words (Numbers k zs) h = absurd (cc)
+three-words v h = refl
+
+module _ (c : Cut) (kind : Kind) (p : Place) (key : Key) (there : StandsThere c kind p key) (sized : has_sizes kind ≡ true) (d : Directory) (l : StandsFor c.bytes d) where
+  at-place : HoldsAt d key kind p
+  at-place = holds-at d key kind p (there d l)
+
+  of-kind : kind ≡ kind_of at-place.object.value
+  of-kind = one-kind kind (kind_of at-place.object.value) at-place.same
+
+  stands : StandsAt c.bytes (handle at-place.object.extent) at-place.object
+  stands = standing c.bytes d key at-place.object l.denotes at-place.is
+
+  -- they are within the object's block, near its front
+  container-room : (p.at + 24 ≤ 4096) × IsTrue (has_room (live_of c.bytes) p.handle (p.at + 24))
+  container-room =
+      let o : Object = at-place.object in
+      let short : length o.name ≤ 255 = standing-short c.bytes _ o stands in
+      let len : value_len o.value ≡ 24 = three-words o.value (ap has_sizes (sym of-kind) ∙ sized) in
+      let at : 16 + padded (length o.name) ≡ p.at = ap (λ (q : Place). q.at) at-place.at in (
+        omega (arith, short, at),
+        subst (λ (q : Place). IsTrue (has_room (live_of c.bytes) q.handle (q.at + 24))) at-place.at
+            (standing-room c.bytes _ (16 + padded (length o.name) + 24) o stands (omega (arith, len))),
+      )
+
+  pub container-measured : (m n : ℕ) → m ≡ word_at (bytes_of c.bytes) (p.handle + (p.at + 8)) → n ≡ places_in (bytes_of c.bytes) (p.handle + p.at) kind → Ok (m, n) ≡ sizes_at_kind d key kind
+  container-measured m n e f =
+      let o : Object = at-place.object in
+      let memory : Memory = bytes_of c.bytes in
+      let start : p.handle + p.at ≡ value_start o = sym (ap place_at at-place.at) ∙ sym (start-place o) in
+      let first : p.handle + (p.at + 8) ≡ value_start o + 8 = omega (arith, start) in
+      (λ i. Ok ((e ∙ ap (word_at memory) first) i, (f ∙ (λ j. places_in memory (start j) (of-kind j))) i))
+      ∙ said-sizes memory (value_start o) o.value (ap has_sizes (sym of-kind) ∙ sized) stands.said.value
+      ∙ sym (sizes-found d key kind o at-place.is (sym of-kind))
+
+pub room-there : (c : Cut) (kind : Kind) (p : Place) → HasContainer c kind p → has_sizes kind ≡ true → (p.at + 24 ≤ 4096) × IsTrue (has_room (live_of c.bytes) p.handle (p.at + 24))
+room-there c kind p x sized = container-room c kind p x.1.0 x.1.1 sized x.0.0 x.0.1
+
+-- ---- values of elements of one length
+
+-- with other elements, or another table
+pub record IsMoved (v w : Value) (next : Contents) : Type 0 where
+  pub kind : kind_of w ≡ kind_of v
+  pub held : contents_of w ≡ Some next
+  pub values : IsTrue (has_values v) → IsTrue (has_values w)
+
+module _ (c : Contents) where
+  table-moved : (v : Value) (u : Table) → contents_of v ≡ Some c → IsMoved v (with_table v u) (record c { table = u })
+  table-moved (Elements k zs t) u e = record { kind = refl; held = ap (λ (x : Contents). Some (record x { table = u })) (same_Some _ c e); values = λ h. h }
+  table-moved (Bytes bs t) u e = record { kind = refl; held = ap (λ (x : Contents). Some (record x { table = u })) (same_Some _ c e); values = λ h. h }
+  table-moved v u e = absurd (cc)
+
+  none-left : (v : Value) → contents_of v ≡ Some c → IsMoved v (with_items v []) (record c { len = 0; bytes = [] })
+  none-left (Elements k zs t) e = record { kind = refl; held = ap (λ (x : Contents). Some (record x { len = 0; bytes = [] })) (same_Some _ c e); values = λ h. refl }
+  none-left (Bytes bs t) e = record { kind = refl; held = ap (λ (x : Contents). Some (record x { len = 0; bytes = [] })) (same_Some _ c e); values = λ h. refl }
+  none-left v e = absurd (cc)
+
+  pub nothing-left : (v : Value) → contents_of v ≡ Some c → contents_of (emptied v) ≡ Some (record c { len = 0; table = no_table; bytes = [] })
+  nothing-left (Elements k zs t) e = ap (λ (x : Contents). Some (record x { len = 0; table = no_table; bytes = [] })) (same_Some _ c e)
+  nothing-left (Bytes bs t) e = ap (λ (x : Contents). Some (record x { len = 0; table = no_table; bytes = [] })) (same_Some _ c e)
+  nothing-left v e = absurd (cc)
+
+  storage-said : (v : Value) → contents_of v ≡ Some c → (storage_of v ≡ Ok (c.each, c.len, c.table)) × (sizes_of v ≡ Ok (c.len, c.table.capacity))
+  storage-said (Elements k zs t) e = let same = same_Some _ c e in (λ i. Ok ((same i).each, (same i).len, (same i).table), λ i. Ok ((same i).len, (same i).table.capacity))
+  storage-said (Bytes bs t) e = let same = same_Some _ c e in (λ i. Ok ((same i).each, (same i).len, (same i).table), λ i. Ok ((same i).len, (same i).table.capacity))
+  storage-said v e = absurd (cc)
+
+-- the contents of a value of a kind
+abbrev contents_at : Kind → ℕ → Table → List ℕ → Contents
+contents_at kind len t bytes = record { each = each_of kind; len = len; table = t; bytes = bytes }
+
+elements-in : (v : Value) → has_storage (kind_of v) ≡ true → (kind_of v ≡ TextsKind → ⊥)
+    → (len : ℕ) × ((t : Table) × ((bytes : List ℕ) × (contents_of v ≡ Some (contents_at (kind_of v) len t bytes))))
+elements-in (Elements k zs t) h n = (_, (_, (_, refl)))
+elements-in (Bytes bs t) h n = (_, (_, (_, refl)))
+elements-in (Texts ps t) h n = absurd (n refl)
+elements-in v h n = absurd (cc)
+
+each-few : (kind : Kind) → (1 ≤ each_of kind) × (each_of kind ≤ 8)
+each-few kind = grind arith
+
+-- the object of the key is of the kind, and its elements stand at the place
+pub record HoldsElements (b : List ℕ) (d : Directory) (key : Key) (kind : Kind) (p : Place) : Type 0 where
+  pub found : HoldsAt d key kind p
+  pub len : ℕ
+  pub table : Table
+  pub bytes : List ℕ
+  pub held : contents_of found.object.value ≡ Some (contents_at kind len table bytes)
+  pub stands : Stands b p (each_of kind) len table bytes
+  pub values : IsTrue (has_values found.object.value)
+
+pub holds-elements : (b : List ℕ) (d : Directory) (key : Key) (kind : Kind) (p : Place) → Denotes current b d → Ok p ≡ container_at d key kind → has_storage kind ≡ true → (kind ≡ TextsKind → ⊥)
+    → HoldsElements b d key kind p
+holds-elements b d key kind p den e stored no_texts =
+    let h : HoldsAt d key kind p = holds-at d key kind p e in
+    let o : Object = h.object in
+    let same : kind ≡ kind_of o.value = one-kind kind (kind_of o.value) h.same in
+    let x = elements-in o.value (ap has_storage (sym same) ∙ stored) (λ f. no_texts (same ∙ f)) in
+    let held : contents_of o.value ≡ Some (contents_at kind x.0 x.1.0 x.1.1.0) = x.1.1.1 ∙ (λ i. Some (contents_at (sym same i) x.0 x.1.0 x.1.1.0)) in
+    record {
+      found = h;
+      len = x.0;
+      table = x.1.0;
+      bytes = x.1.1.0;
+      held = held;
+      stands = subst (λ q. Stands b q (each_of kind) x.0 x.1.0 x.1.1.0) h.at (contents-stand b d key o (contents_at kind x.0 x.1.0 x.1.1.0) den h.is held);
+      values = (contents-fit o.value _ held (object-roomy current o (standing b d key o den h.is).good).value).values;
+    }
+
+-- ---- the calls on their storage
+
+module _ (s : State) (key : Key) (kind : Kind) (p : Place) (b : IsSegment s.cut.bytes) (there : Answers s (λ d. container_at d key kind) (Ok p)) (stored : has_storage kind ≡ true) (no_texts : kind ≡ TextsKind → ⊥) where
+  abbrev Held : Directory → Type 0
+  Held d = HoldsElements s.cut.bytes d key kind p
+
+  held : (d : Directory) → StandsFor s.cut.bytes d → Held d
+  held d l = holds-elements s.cut.bytes d key kind p l.denotes (there.answers d l) stored no_texts
+
+  -- some stand there
+  pub some-elements : IsElements s.cut.bytes p (each_of kind)
+  some-elements =
+      let h : Held b.0 = held b.0 b.1 in
+      record { stands = (h.len, (h.table, (h.bytes, h.stands))); some = (each-few kind).0; short = (each-few kind).1 }
+
+  pub elements-kept : (new : Cut) (change : Change) (r : Result (Unit {0}) Refusal) → ChangesElements change s.cut new p (each_of kind) r
+      → (d : Directory) → StandsFor s.cut.bytes d → HasEnough change key d → new ≡ s.cut
+  elements-kept new (Reserve n) (Ok u) a d l has =
+      let h : Held d = held d l in
+      (a h.len h.table h.bytes h.stands).enough (enough-places d key h.found.object n _ h.table.capacity h.found.is (storage-said _ h.found.object.value h.held).1 has)
+  elements-kept new (Reserve n) (Err e) a d l has = let h : Held d = held d l in (a h.len h.table h.bytes h.stands).same
+  elements-kept new change r a d l has = absurd has
+
+  module _ (new : Cut) (writing : is_read_only s.mode ≡ false) where
+    -- what becomes of them in a directory
+    record Becomes (d : Directory) (h : Held d) (c : Command) : Type 0 where
+      value : Value
+      next : Contents
+      moved : IsMoved h.found.object.value value next
+      change : IsRefilled s.cut new p (contents_at kind h.len h.table h.bytes) next
+      outcome : perform d (live d) (effect d c) ≡ (Done, changed d h.found.object value)
+
+    becomes-so : (c : Command) → ((d : Directory) (l : StandsFor s.cut.bytes d) → Becomes d (held d l) c) → StepsSafely s new key kind c (Ok tt)
+    becomes-so c each =
+        done-so (refill-steps_of_kind s new key kind c Done writing b
+        (λ d l.
+        let h : Held d = held d l in
+        let r : Becomes d h c = each d l in (
+          record {
+            object = h.found.object;
+            is = h.found.is;
+            value = r.value;
+            kind = r.moved.kind;
+            was = contents_at kind h.len h.table h.bytes;
+            held = h.held;
+            next = r.next;
+            holds = r.moved.held;
+            values = r.moved.values h.values;
+            change = subst (λ q. IsRefilled s.cut new q (contents_at kind h.len h.table h.bytes) r.next) (sym h.found.at) r.change;
+            outcome = r.outcome;
+          },
+          h.found.same,
+        )))
+
+    -- places are asked for
+    asks : (n : ℕ) (d : Directory) (h : Held d) → effect d (asked.Reserve key n) ≡ with_capacity (each_of kind) n h.table (λ u. Reply Done (changed d h.found.object (with_table h.found.object.value u)))
+    asks n d h = reserve-plan d key h.found.object h.found.is n _ (storage-said _ h.found.object.value h.held).0
+
+    elements-reserved : (n : ℕ) (r : Result (Unit {0}) Refusal) → Grows s.cut new p (each_of kind) n r → StepsSafely s new key kind (asked.Reserve key n) r
+    elements-reserved n (Ok u) a =
+        becomes-so (asked.Reserve key n)
+        (λ d l.
+        let h : Held d = held d l in
+        let g : IsGrown s.cut new p (each_of kind) n h.len h.table h.bytes = a h.len h.table h.bytes h.stands in
+        record {
+          value = with_table h.found.object.value g.table;
+          next = contents_at kind h.len g.table h.bytes;
+          moved = table-moved _ h.found.object.value g.table h.held;
+          change = record { change = g.change; stands = g.stands };
+          outcome = room-asked current s.cut.bytes d (asked.Reserve key n) (each_of kind) n h.table (Some g.table) Done (λ u. changed d h.found.object (with_table h.found.object.value u)) l.denotes (asks n d h) g.grown;
+        })
+    elements-reserved n (Err e) a =
+        let h : Held b.0 = held b.0 b.1 in
+        let full = a h.len h.table h.bytes h.stands in
+        stays s new key kind (asked.Reserve key n) e NoSpace full.refusal full.same
+        (by_no_change_of_kind s key kind (asked.Reserve key n) (Refused NoSpace)
+        (λ d l.
+        let h : Held d = held d l in
+        step_of_kind-found s.mode d key kind (asked.Reserve key n) h.found.object (open-writing s.mode (asked.Reserve key n) writing) h.found.is h.found.same
+        ∙ room-asked current s.cut.bytes d (asked.Reserve key n) (each_of kind) n h.table None Done (λ u. changed d h.found.object (with_table h.found.object.value u)) l.denotes (asks n d h) (a h.len h.table h.bytes h.stands).none))
+
+    elements-shrunk : Fits s.cut new p (each_of kind) → StepsSafely s new key kind (asked.Shrink key) (Ok tt)
+    elements-shrunk a =
+        becomes-so (asked.Shrink key)
+        (λ d l.
+        let h : Held d = held d l in
+        let cut : LiveSet → Table = λ (m : LiveSet). cut_table m (each_of kind) h.len h.table in
+        let f : IsFitted s.cut new p (each_of kind) h.len h.table h.bytes = a h.len h.table h.bytes h.stands in
+        record {
+          value = with_table h.found.object.value (cut (live_of s.cut.bytes));
+          next = contents_at kind h.len (cut (live_of s.cut.bytes)) h.bytes;
+          moved = table-moved _ h.found.object.value (cut (live_of s.cut.bytes)) h.held;
+          change = record { change = f.change; stands = f.stands };
+          outcome = ap (perform d (live d)) (shrink-plan d key h.found.object h.found.is _ (storage-said _ h.found.object.value h.held).0)
+              ∙ ap (λ m. (Done, changed d h.found.object (with_table h.found.object.value (cut m)))) (sym (denotes-live current s.cut.bytes d l.denotes));
+        })
+
+    elements-cleared : Truncates s.cut new p (each_of kind) 0 → StepsSafely s new key kind (asked.Clear key) (Ok tt)
+    elements-cleared a =
+        becomes-so (asked.Clear key)
+        (λ d l.
+        let h : Held d = held d l in
+        let r : IsRewritten s.cut new p (each_of kind) 0 h.table (take (each_of kind * 0) h.bytes) = a h.len h.table h.bytes h.stands in
+        record {
+          value = with_items h.found.object.value [];
+          next = contents_at kind 0 h.table [];
+          moved = none-left _ h.found.object.value h.held;
+          change = record { change = r.change; stands = subst (λ n. Stands new.bytes p (each_of kind) 0 h.table (take n h.bytes)) (let none : each_of kind * 0 ≡ 0 = omega arith in none) r.stands };
+          outcome = ap (perform d (live d)) (clear-plan d key h.found.object h.found.is _ (storage-said _ h.found.object.value h.held).0);
+        })
+
+    pub elements-changed : (change : Change) (r : Result (Unit {0}) Refusal) → ChangesElements change s.cut new p (each_of kind) r → StepsSafely s new key kind (command_of change key) r
+    elements-changed (Reserve n) r a = elements-reserved n r a
+    elements-changed Shrink r a = subst (StepsSafely s new key kind (asked.Shrink key)) (sym a.0) (elements-shrunk a.1)
+    elements-changed Clear r a = subst (StepsSafely s new key kind (asked.Clear key)) (sym a.0) (elements-cleared a.1)

@@ -6,7 +6,7 @@ use Rattle.seg_map.proofs.Common.{SamePlace-trans, Same-trans, link_at, IsTree, 
 use Rattle.seg_map.proofs.Common.{is_in, root_in, SameBlockBut, Extent, LiveSet, handle, is_proper, others, released}
 use Rattle.seg_map.proofs.Common.{cells_of, LaysOut, extent_at, live_of, found-less, lay_out_one, live-rises, Chains}
 use Rattle.seg_map.proofs.Common.{In, IsStrict, Pair, is_key, is_rising, pair_at, remove_pair, HoldsMap, nodes_of_pairs}
-use Rattle.seg_map.proofs.{Common.pair_node, Common.IsBesideMap, Common.IsErased, Leaving.in_from, Leaving.nodes_in}
+use Rattle.seg_map.proofs.{Common.pair_node, Common.IsBesideMap, Common.IsErased, PairLists.in_from, PairLists.nodes_in}
 use Rattle.seg_map.proofs.{Payloads.begins_behind, Payloads.own_handle, FoundPairs.either_right, FoundPairs.rising_rest}
 use Rattle.seg_map.proofs.{Entering.Laws, Staying.AtNode, Staying.at_node}
 use Rattle.seg_map.proofs.PairLists.{Below, in_nodes, removed_all, removed_length, rising_below}

@@ -1,6 +1,7 @@
 //! Pairs that are erased.
 ghost use Rattle.std.specs.Prelude.{◌≤◌};
-ghost use Rattle.seg_map.specs.Changing.{CanTakeOut, Drops, HasKeyNode, TakesOut, TreeSteps};
+ghost use Rattle.best_fit.specs.Heap.{heap_touches, live_of};
+ghost use Rattle.seg_map.specs.Changing.{CanGiveUp, Drops, TreeSteps};
 
 use crate::heading::{len, write_head};
 use crate::linking::unlink;
@@ -8,9 +9,9 @@ use best_fit::Heap;
 use raw_region::Steps;
 use seg_types::Plain;
 
-/// Takes a pair out of the map, from the root of the tree on or from where a search has found that it changes. Its
-/// block is still in use.
-pub fn take_out<K: Plain, V: Plain>(
+/// Takes a pair out of the map, from the root of the tree on or from where a search has found that it changes, and
+/// gives its block back.
+pub fn give_up<K: Plain, V: Plain>(
     heap: &mut Heap,
     handle: u64,
     at: u64,
@@ -18,22 +19,15 @@ pub fn take_out<K: Plain, V: Plain>(
     node: u64,
     steps: &mut Steps,
 )
-    requires { CanTakeOut K.Plain V.Plain heap.old handle at start node }
-    ensures taken { TakesOut K.Plain V.Plain heap.old heap.new handle at node }
+    requires { CanGiveUp K.Plain V.Plain heap.old handle at start node }
+    ensures dropped { Drops K.Plain V.Plain heap.old heap.new handle at node }
     ensures counted { steps.old ≤ steps.new }
-    ensures steps { TreeSteps K.Plain V.Plain heap.old handle at steps.old steps.new }
+    ensures steps { TreeSteps K.Plain V.Plain heap.old handle at (heap_touches (live_of heap.old.bytes))
+        steps.old steps.new }
 {
     let root = heap.link(handle, at);
     let count = len::<K, V>(&*heap, handle, at);
     let top = unlink::<K>(heap, root, start, node, steps);
     write_head(heap, handle, at, top, count - 1);
-}
-
-/// Takes a pair out of the map, and gives its block back.
-pub fn give_up<K: Plain, V: Plain>(heap: &mut Heap, handle: u64, at: u64, node: u64)
-    requires { HasKeyNode K.Plain V.Plain heap.old.bytes handle at node }
-    ensures { Drops K.Plain V.Plain heap.old heap.new handle at node }
-{
-    take_out::<K, V>(heap, handle, at, None, node, &mut Steps::new());
-    heap.deallocate(node, &mut Steps::new());
+    heap.deallocate(node, steps);
 }

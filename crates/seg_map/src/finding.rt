@@ -7,7 +7,7 @@ ghost use Rattle.seg_map.specs.Searches.{FindsEntry, FindsExit, IsOpened, LooksF
 ghost use Rattle.seg_map.specs.{Linking.HasTree, Searches.path_in, Searches.reading_steps};
 ghost use Rattle.seg_map.specs.{PairNodes.is_pair_node, Places.IsSomeMap, Places.first_pair, Places.last_pair};
 
-use crate::nodes::Reading;
+use crate::nodes::Pairs;
 use crate::owned::Own;
 use crate::reading::{KEY, Sought, value_at};
 use best_fit::Heap;
@@ -17,14 +17,14 @@ use seg_types::Plain;
 use std::marker::PhantomData;
 
 /// The pairs of the map at `at` in the block of a handle, for a search.
-pub fn open<'a, K: Plain, V: Plain>(heap: &'a Heap, handle: u64, at: u64) -> Reading<'a, K>
+pub fn open<'a, K: Plain, V: Plain>(heap: &'a Heap, handle: u64, at: u64) -> Pairs<&'a Heap, K>
     requires { IsSomeMap K.Plain V.Plain heap.now.bytes handle at }
     ensures leads { leads (is_pair_node (16 + K.SIZE) result.own result.heap.now) result.root ≡ true }
     ensures tree { HasTree K.Plain result.own result.heap.now result.root }
     ensures opened { IsOpened K.Plain V.Plain result.heap.now heap.now handle at result.own result.root }
 {
     let root = heap.link(handle, at);
-    Reading {
+    Pairs {
         heap,
         own: Own::new(heap, root, None),
         root,

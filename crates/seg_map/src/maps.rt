@@ -5,7 +5,7 @@ ghost use Rattle.seg_map.specs.Changing.{ChangeSteps, CountsPairs, Erases, IsNew
 ghost use Rattle.seg_map.specs.Places.{FindsItem, FindsItemBefore, FindsLastItem, FindsValue, IsSomeMap, SearchSteps};
 ghost use Rattle.seg_map.specs.Searches.{LastTakes, LookBackTakes, LookUpTakes};
 
-use crate::erasing::{give_up, take_out};
+use crate::erasing::give_up;
 use crate::finding::{find_before, find_from, find_in, find_out, open, read_found};
 use crate::heading::{len, write_head};
 use crate::places::Place;
@@ -186,8 +186,7 @@ impl<K: Plain, V: Plain> SegMap<K, V> {
         let Some(node) = trace.node else {
             return false;
         };
-        take_out::<K, V>(heap, place.handle, place.at, trace.start, node, steps);
-        heap.deallocate(node, steps);
+        give_up::<K, V>(heap, place.handle, place.at, trace.start, node, steps);
         true
     }
 
@@ -196,9 +195,10 @@ impl<K: Plain, V: Plain> SegMap<K, V> {
         requires { IsSomeMap K.Plain V.Plain heap.old.bytes self.place.handle self.place.at }
         ensures { Releases K.Plain V.Plain heap.old heap.new self.place.handle self.place.at }
     {
+        let place = self.place;
         // the pair at the root goes each time: the tree needs no walk then, and the map is one at each moment
-        'pairs: while let Some(node) = heap.link(self.place.handle, self.place.at) {
-            give_up::<K, V>(heap, self.place.handle, self.place.at, node);
+        'pairs: while let Some(node) = heap.link(place.handle, place.at) {
+            give_up::<K, V>(heap, place.handle, place.at, None, node, &mut Steps::new());
         }
     }
 }

@@ -81,7 +81,7 @@ pub fn put_in<K: Plain, V: Plain>(
     requires { CanPutIn K.Plain V.Plain heap.old handle at start node }
     ensures planted { PutsIn K.Plain V.Plain heap.old heap.new handle at node }
     ensures counted { steps.old ≤ steps.new }
-    ensures steps { TreeSteps K.Plain V.Plain heap.old handle at steps.old steps.new }
+    ensures steps { TreeSteps K.Plain V.Plain heap.old handle at 0 steps.old steps.new }
 {
     let root = heap.link(handle, at);
     let count = len::<K, V>(&*heap, handle, at);

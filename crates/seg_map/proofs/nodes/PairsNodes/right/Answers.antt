@@ -1,11 +1,10 @@
 -- The link stands in the node's block.
-use Rattle.seg_map.proofs.{◌∙◌, ◌+◌, arith, right_is, room_in}
+use Rattle.seg_map.proofs.{◌∙◌, ◌+◌, arith, is_pair_node-PairNode, right_is, room_in}
 use Rattle.seg_map.proofs.nodes.PairsNodes.right.Goals as goal
 
 pub link-requires-clause-room : goal.link-requires-clause-room
-link-requires-clause-room g c = room_in (16 + g.K.Plain.SIZE) c.args.self.now.own c.args.self.now.heap.now c.args.node
-    c.requires (8 + 8) (omega arith)
+link-requires-clause-room g c =
+    rw c.heap.ensures (room_in (is_pair_node-PairNode _ _ _ _ c.requires) (8 + 8) (omega arith))
 
 pub returns : goal.returns
-returns g c = c.link.ensures ∙ right_is (16 + g.K.Plain.SIZE) c.args.self.now.own c.args.self.now.heap.now c.args.node
-    c.requires
+returns g c = c.link.ensures ∙ rw c.heap.ensures (right_is (is_pair_node-PairNode _ _ _ _ c.requires))

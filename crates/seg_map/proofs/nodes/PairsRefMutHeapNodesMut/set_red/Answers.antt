@@ -1,0 +1,14 @@
+-- One colour changes.
+use Rattle.seg_map.proofs.{refl, is_pair_node-PairNode, node_live, place_of, red_set}
+use Rattle.seg_map.proofs.nodes.PairsRefMutHeapNodesMut.set_red.Goals as goal
+
+pub set_node_red-requires : goal.set_node_red-requires
+set_node_red-requires g c = node_live (place_of (is_pair_node-PairNode _ _ _ _ c.requires))
+
+pub returns : goal.returns
+returns g c =
+    let s = red_set g.K.Plain (is_pair_node-PairNode _ _ _ _ c.requires) c.set_node_red.ensures in
+    record {
+      cells = s.cells;
+      same = record { nodes = s.nodes; order = s.order; probe = s.probe; lender = refl; kept = s.kept };
+    }

@@ -242,3 +242,8 @@ module _ {K V : Type 0} {kp : Plain K} {vp : Plain V} (laws : Laws kp) (c : Cut)
 
   pub count_pairs : length ns ≡ length ps
   count_pairs = ap length s.map.tree.lists ∙ length-nodes ps
+
+-- a map has few pairs
+pub few_in_map : {K V : Type 0} {kp : Plain K} {vp : Plain V} (kl : Laws kp) (c : Cut) {h at : ℕ} {ps : List (Pair K V)}
+    (s : HoldsMap kp vp c.bytes h at ps) → length ps ≤ 1073741824
+few_in_map kl c s = let few = few_pairs kl c s in let same = count_pairs kl c s in omega (arith, few, same)

@@ -1,5 +1,5 @@
 -- What stays where a tree call changes the links and the colours of nodes alone.
-use Rattle.seg_map.proofs.Common.{◌≡◌, refl, ap, ◌∙◌, ℕ, ◌+◌, ◌-◌, ◌%◌, ◌<◌, ◌≤◌, ◌⊎◌, inl, inr, true, false, ◌&&◌}
+use Rattle.seg_map.proofs.Common.{IsTrue, has_room, is_proper, ◌≡◌, refl, ap, ◌∙◌, ℕ, ◌+◌, ◌-◌, ◌%◌, ◌<◌, ◌≤◌, ◌⊎◌, inl, inr, true, false, ◌&&◌}
 use Rattle.seg_map.proofs.Common.{◌||◌, not, List, [], ◌∷◌, arith, nat_lt, nat_le, ◌==◌, both_ways, or_left, or_right}
 use Rattle.seg_map.proofs.Common.{eq-eqb, le-leb, lt-ltb, Cut, SamePlace, bytes_of, word_at, is_in, Extent, handle}
 use Rattle.seg_map.proofs.Common.{end_of, Keeps, SameBlock, live_of, is_kept, is_link_byte, is_other, kept_of, Good, In}
@@ -11,6 +11,14 @@ use Rattle.seg_map.specs.PairNodes.{Kept, lies_in_block}
 pub live_stays : (c d : Cut) (ns ms : List ℕ) → kept_of ms d ≡ kept_of ns c → live_of d.bytes ≡ live_of c.bytes
 unfolding kept_of
 live_stays c d ns ms e = ap (λ (k : Kept). k.live) e
+
+pub kept_proper : (c d : Cut) (ns : List ℕ) → kept_of ns d ≡ kept_of ns c → IsTrue (is_proper (live_of c.bytes))
+    → IsTrue (is_proper (live_of d.bytes))
+kept_proper c d ns e proper = rw (live_stays c d ns ns e) proper
+
+pub kept_room : (c d : Cut) (ns : List ℕ) (h n : ℕ) → kept_of ns d ≡ kept_of ns c
+    → IsTrue (has_room (live_of c.bytes) h n) → IsTrue (has_room (live_of d.bytes) h n)
+kept_room c d ns h n e room = rw (live_stays c d ns ns e) room
 
 -- the list of nodes is kept
 pub own_stays : (c d : Cut) (ns ms : List ℕ) → kept_of ms d ≡ kept_of ns c → ms ≡ ns

@@ -433,35 +433,49 @@ module _ {K : Type 0} (k : Plain K) {ns : List ℕ} {c : Cut} {n : ℕ} (g : Pai
 
 -- ---- what is asked and answered of a node
 
-module _ {len : ℕ} {ns : List ℕ} {c : Cut} {n : ℕ} (g : PairNode len ns c n) where
-  pub place_of : Place len c n
-  place_of = node_place len ns c n g
+-- the heap may be reached by another name
+module _ (len : ℕ) (ns : List ℕ) (c w : Cut) (n : ℕ) (h : is_pair_node len ns c n ≡ true) (same : w ≡ c) where
+  g : PairNode len ns c n
+  g = is_pair_node-PairNode len ns c n h
 
-  pub room_in : (k : ℕ) → k ≤ len → IsTrue (has_room (live_of c.bytes) n k)
-  room_in k l = room_of k place_of l
+  pub node_room : (k : ℕ) → k ≤ len → IsTrue (has_room (live_of w.bytes) n k)
+  node_room k l = rw same (room_of k (node_place len ns c n g) l)
 
-  cell_is : cells_of (bytes_of c.bytes) n ≡ pair_cells len ns c n
-  cell_is = sym (cells_at len ns c n (PairNode-is_pair_node len ns c n g))
+  pub node_used : IsTrue (is_live_in (live_of w.bytes) n)
+  node_used = rw same (live_node (node_place len ns c n g))
 
-  pub left_is : link_at (bytes_of c.bytes) (n + 0) ≡ (pair_cells len ns c n).left
-  left_is = let e : n + 0 ≡ n = omega arith in ap (link_at (bytes_of c.bytes)) e ∙ ap (λ (x : Cell). x.left) cell_is
+  pub node_marked : IsTrue (is_node_in (live_of w.bytes) n)
+  node_marked = rw same (node_live (node_place len ns c n g))
 
-  pub right_is : link_at (bytes_of c.bytes) (n + 8) ≡ (pair_cells len ns c n).right
-  right_is = ap (λ (x : Cell). x.right) cell_is
+  pub node_proper : IsTrue (is_proper (live_of w.bytes))
+  node_proper = rw same g.good.proper
 
-  pub red_is : is_red (bytes_of c.bytes) n ≡ (pair_cells len ns c n).red
-  red_is = ap (λ (x : Cell). x.red) cell_is
+  cell_is : cells_of (bytes_of w.bytes) n ≡ pair_cells len ns c n
+  cell_is = rw same (sym (cells_at len ns c n h))
 
--- what reading its key asks for
-pub record KeyRoom (size : ℕ) (c : Cut) (n : ℕ) : Type 0 where
-  pub proper : IsTrue (is_proper (live_of c.bytes))
-  pub room : IsTrue (has_room (live_of c.bytes) n (16 + size))
+  pub node_left : link_at (bytes_of w.bytes) (n + 0) ≡ (pair_cells len ns c n).left
+  node_left = let e : n + 0 ≡ n = omega arith in ap (link_at (bytes_of w.bytes)) e ∙ ap (λ (x : Cell). x.left) cell_is
 
-pub key_room : {size : ℕ} {ns : List ℕ} {c : Cut} {n : ℕ} → PairNode (16 + size) ns c n → KeyRoom size c n
-key_room {size} g = record { proper = g.good.proper; room = room_in g (16 + size) (le_refl (16 + size)) }
+  pub node_right : link_at (bytes_of w.bytes) (n + 8) ≡ (pair_cells len ns c n).right
+  node_right = ap (λ (x : Cell). x.right) cell_is
 
--- the key that is read
-pub key_is : {K : Type 0} (value : List ℕ → Option K) (size : ℕ) {ns : List ℕ} {c : Cut} {n : ℕ}
-    → PairNode (16 + size) ns c n → value (read (bytes_of c.bytes) (n + 16) size) ≡ key_of value size ns c n
+  pub node_colour : is_red (bytes_of w.bytes) n ≡ (pair_cells len ns c n).red
+  node_colour = ap (λ (x : Cell). x.red) cell_is
+
+pub node_key : {K : Type 0} (value : List ℕ → Option K) (size : ℕ) (ns : List ℕ) (c w : Cut) (n : ℕ)
+    → is_pair_node (16 + size) ns c n ≡ true → w ≡ c
+    → value (read (bytes_of w.bytes) (n + 16) size) ≡ key_of value size ns c n
 unfolding key_of key_at
-key_is value size {ns} {c} {n} g = rw (PairNode-is_pair_node (16 + size) ns c n g) refl
+node_key value size ns c w n h same = rw (same, h) refl
+
+pub ruleset nodes = (
+  node_room,
+  node_used,
+  node_marked,
+  node_proper,
+  node_left,
+  node_right,
+  node_colour,
+  node_key,
+  target_whole,
+)

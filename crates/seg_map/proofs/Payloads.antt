@@ -2,11 +2,11 @@
 use Rattle.seg_map.proofs.Common.{◌≡◌, sym, ap, ◌∙◌, ℕ, ◌+◌, ◌-◌, ◌≤◌, inl, inr, true, ◌&&◌, List, [], ◌∷◌, length}
 use Rattle.seg_map.proofs.Common.{take, drop, arith, ◌==◌, IsTrue, Option, Some, None, find, list_any, and_parts}
 use Rattle.seg_map.proofs.Common.{eqb-true, eq-eqb, leb-true, bytes_of, read, Extent, handle, is_proper, has_room}
-use Rattle.seg_map.proofs.Common.{is_live_in, live_of, is_proper-IsProper, In, lies, live-rises, ne_eqb, passing, subst}
+use Rattle.seg_map.proofs.Common.{is_live_in, live_of, changed-room, room-less, is_proper-IsProper, In, lies, live-rises, ne_eqb, passing, subst}
 use Rattle.raw_region.specs.Memory.{part}
 use Rattle.raw_region.proofs.Laws.{length-part, part-part, read-part}
 use Rattle.best_fit.specs.{Extents.holds, Heap.payload_at}
-use Rattle.best_fit.proofs.Laws.{Rising, legal_size}
+use Rattle.best_fit.proofs.Laws.{allocated-room, Rising, legal_size}
 use Rattle.seg_map.specs.PairLaws.{Lies}
 use Rattle.seg_map.proofs.PairSteps.{any_at}
 
@@ -88,3 +88,6 @@ module _ (b : List ℕ) (h n : ℕ) (proper : IsTrue (is_proper (live_of b)))
       ∙ ap (λ (l : List ℕ). part l from size) payload
       ∙ part-part b h (r.extent.len - 16) from size (omega arith)
       ∙ sym (read-part b (h + from) size (omega arith))
+
+-- what shows that there is room, and that sums within a block fit
+pub ruleset rooms = (room-less, small, live, changed-room, allocated-room, payload_long)

@@ -1,12 +1,12 @@
 -- A pair whose node is made enters the map.
-use Rattle.seg_map.proofs.Common.{◌≡◌, refl, sym, ap, ◌∙◌, ℕ, ◌+◌, ◌≤◌, inl, inr, true, false, not}
+use Rattle.seg_map.proofs.Common.{◌≡◌, refl, sym, ap, ◌∙◌, ℕ, ◌+◌, inl, inr, true, false, not}
 use Rattle.seg_map.proofs.Common.{◌&&◌, List, ◌∷◌, length, arith, Option, Some, None, IfSome, and_parts, eqb-true}
 use Rattle.seg_map.proofs.Common.{eq-eqb, or_cases, or_left, or_right, Cut, bytes_of, link_at, nodes_of}
 use Rattle.seg_map.proofs.Common.{has_place, is_in, leads, put, entry_of, all_from, entry_same, handle, cells_of}
 use Rattle.seg_map.proofs.Common.{Pair, HoldsMap}
 use Rattle.seg_map.proofs.Common.{pair_node, comes_before, is_pair_node, key_at, key_of, links_among, own_nodes, stands}
 use Rattle.seg_map.proofs.Common.{stands_before, Good, PairNode-is_pair_node, IsKeyTree, Relinked, keys_in}
-use Rattle.seg_map.proofs.Entering.{HaveKeys, Laws, count_pairs, few_pairs, good, keys, keys_among, listed, pair_block}
+use Rattle.seg_map.proofs.Entering.{HaveKeys, Laws, good, keys, keys_among, listed, pair_block}
 use Rattle.seg_map.proofs.{Common.IsHeaded, Common.IsLoose, Common.IsPlanted, Common.entry_in}
 use Rattle.seg_map.proofs.{Beginnings.beside as not_beside, Beginnings.keys_agree, Beginnings.moved, Searching.lent_own}
 use Rattle.seg_map.proofs.{Entering.pair_parts, Entering.tree_among, Entering.read_spelled}
@@ -124,8 +124,3 @@ module _ {K V : Type 0} {kp : Plain K} {vp : Plain V} (kl : Laws kp) (c : Cut) {
       ∙ put_nodes kp.order (keys_in kp all c) p own_key ps keys_all l.absent)
       (λ P a. put_all kp.order P p ps a.0 a.1) (put_rising kp.order kl.transitive p ps l.absent s.rising)
       (let more = put_length kp.order p ps l.absent in omega (arith, more, count))
-
--- a map has few pairs
-pub few_in_map : {K V : Type 0} {kp : Plain K} {vp : Plain V} (kl : Laws kp) (c : Cut) {h at : ℕ} {ps : List (Pair K V)}
-    (s : HoldsMap kp vp c.bytes h at ps) → length ps ≤ 1073741824
-few_in_map kl c s = let few = few_pairs kl c s in let same = count_pairs kl c s in omega (arith, few, same)

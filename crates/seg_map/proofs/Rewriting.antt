@@ -9,24 +9,33 @@ use Rattle.seg_map.proofs.Common.{is_pair_node, pair_cells, Good, cells_at, Pair
 use Rattle.seg_map.proofs.Common.{is_pair_node-PairNode, IsKeyTree, IsBesideMap, IsHeaded}
 use Rattle.best_fit.proofs.Laws.{but-trans, written-but}
 use Rattle.seg_types.specs.declared.plain.Plain.{Ghosts as Plain}
-use Rattle.seg_map.proofs.Entering.{AreAt, AreIn, Laws, found_in, other_block, pair_parts}
+use Rattle.seg_map.proofs.Entering.{few_in_map, AreAt, AreIn, Laws, found_in, other_block, pair_parts}
 use Rattle.seg_map.proofs.PairSteps.{all_in, block_apart}
-use Rattle.seg_map.proofs.PairLists.{in_from, nodes_in}
+use Rattle.seg_map.proofs.PairLists.{removed_length, in_from, nodes_in}
 use Rattle.seg_map.proofs.Entering.{length-nodes}
 use Rattle.seg_map.proofs.PairSteps.{target_whole}
 use Rattle.seg_map.specs.Changing.{IsRelaid}
 use Rattle.seg_map.proofs.Common.{◌*◌, AllByRecursion, IfSome, IsPairAt, LaysOut, Relinked, bits, pair_node}
-use Rattle.seg_map.proofs.Frames.{kept_block, kept_inside, kept_keeps, live_stays}
+use Rattle.seg_map.proofs.Frames.{kept_proper, kept_room, kept_block, kept_inside, kept_keeps, live_stays}
 use Rattle.seg_map.proofs.Staying.{at_node, block_cells, lengths, pair_stays}
+
+-- a call of the tree changes no block, nor does what is written of the three words then
+module _ {K : Type 0} {kp : Plain K} {c d : Cut} {ns : List ℕ} {root top : Option ℕ} {becomes : List ℕ → List ℕ}
+    {steps : ℕ} (u : Relinked kp ns c d root top becomes steps) where
+  pub live_left : live_of d.bytes ≡ live_of c.bytes
+  live_left = live_stays c d ns ns u.kept
+
+  pub live_laid : {e : Cut} {at n : ℕ} → IsHeaded d e at top n → live_of e.bytes ≡ live_of c.bytes
+  live_laid head = changed-live _ _ _ _ _ head.change ∙ live_left
+
+-- what shows that a map has few pairs, and that its block and theirs stay where the tree is changed
+pub ruleset trees = (kept_proper, kept_room, removed_length, few_in_map)
 
 -- a call of the tree of a map
 module _ {K V : Type 0} {kp : Plain K} {vp : Plain V} {c d : Cut} {h at : ℕ} {ps : List (Pair K V)}
     (s : HoldsMap kp vp c.bytes h at ps) {ns : List ℕ} {root top : Option ℕ}
     (tree : IsKeyTree kp ns c root s.map.tree.tree) {becomes : List ℕ → List ℕ} {steps : ℕ}
     (u : Relinked kp ns c d root top becomes steps) where
-  pub live_left : live_of d.bytes ≡ live_of c.bytes
-  live_left = live_stays c d ns ns u.kept
-
   pub top_whole : IfSome top (λ t. t % 16 ≡ 0)
   top_whole = target_whole (16 + kp.SIZE) ns d top (u.tree s.map.tree.tree tree).1.leads
 
@@ -34,18 +43,15 @@ module _ {K V : Type 0} {kp : Plain K} {vp : Plain V} {c d : Cut} {h at : ℕ} {
   few_steps = subst (λ n. steps ≤ 32 * bits (n + 1) + 32) (ap length s.map.tree.lists ∙ length-nodes ps)
       (u.few s.map.tree.tree tree)
 
-  pub live_laid : {e : Cut} {n : ℕ} → IsHeaded d e (h + at) top n → live_of e.bytes ≡ live_of c.bytes
-  live_laid head = changed-live _ _ _ _ _ head.change ∙ live_left
-
   -- the words are written; the nodes are those of these pairs
   module _ (kl : Laws kp) (vl : Laws vp) (ws : List (Pair K V)) (pairs : AreIn kp vp (live_of c.bytes) h ws)
       (bytes : AreAt kp vp (bytes_of c.bytes) ws) (are : ns ≡ nodes_of_pairs ws) (good : Good (16 + kp.SIZE) ns c)
       {e : Cut} {n : ℕ} (head : IsHeaded d e (h + at) top n) where
     live_e : live_of e.bytes ≡ live_of c.bytes
-    live_e = live_laid head
+    live_e = live_laid u head
 
     room_d : IsTrue (has_room (live_of d.bytes) h (at + 24))
-    room_d = rw live_left s.room
+    room_d = rw (live_left u) s.room
 
     others_stay : Keeps d e (others h (live_of d.bytes).extents)
     others_stay = changed-keeps current d e h at 24 head.change room_d
@@ -53,7 +59,7 @@ module _ {K V : Type 0} {kp : Plain K} {vp : Plain V} {c d : Cut} {h at : ℕ} {
     -- the words are written in another block
     block_stays : (x : Extent) → extent_at (live_of c.bytes) (handle x) ≡ Some x → handle x ≢ h
         → SameBlock (bytes_of d.bytes) (bytes_of e.bytes) x
-    block_stays x f o = other_block (live_of d.bytes) h (handle x) others_stay (rw live_left f) o
+    block_stays x f o = other_block (live_of d.bytes) h (handle x) others_stay (rw (live_left u) f) o
 
     rest_kept : Keeps c d []
     rest_kept = kept_keeps d good u.kept (omega arith)
@@ -140,7 +146,7 @@ module _ {K V : Type 0} {kp : Plain K} {vp : Plain V} {c d : Cut} {h at : ℕ} {
         let own = in_from ns qs (all (λ q. is_in (pair_node q) ns ≡ true) (nodes_in ns ws (λ m i. ap (is_in m) are ∙ i))) in
         let these = all (IsPairIn kp vp (live_of c.bytes) h) pairs in
         record {
-          live = subst (LaysOut current e.bytes) live_left head.change.live;
+          live = subst (LaysOut current e.bytes) (live_left u) head.change.live;
           beside = subst (IsBesideMap c e (h + at)) are beside;
           map = record {
             heap = laid-heap _ _ head.change.live;

@@ -11,6 +11,7 @@ use seg_types::Plain;
 
 /// Takes a pair out of the map, from the root of the tree on or from where a search has found that it changes, and
 /// gives its block back.
+#[tactic(auto, using(crate::proofs::Payloads::rooms, crate::proofs::Rewriting::trees))]
 pub fn give_up<K: Plain, V: Plain>(
     heap: &mut Heap,
     handle: u64,

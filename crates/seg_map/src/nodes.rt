@@ -55,6 +55,7 @@ pub struct Pairs<H, K> {
     pub keys: PhantomData<K>,
 }
 
+#[tactic(auto, using(crate::proofs::PairSteps::nodes))]
 impl<H: Lent, K: Plain> Nodes for Pairs<H, K> {
     type Probe = Sought<K>;
 
@@ -111,6 +112,7 @@ impl<H: Lent, K: Plain> Nodes for Pairs<H, K> {
         (key_of (value_in K.reading K.is_value K.spelling) K.SIZE s.own (H.cut s.heap)) wanted.past wanted.key };
 }
 
+#[tactic(auto, using(crate::proofs::PairSteps::nodes))]
 impl<'a, K: Plain> NodesMut for Pairs<&'a mut Heap, K> {
     fn set_left(&mut self, node: u64, to: Option<u64>) {
         self.heap.set_link(node, 0, to);

@@ -70,6 +70,7 @@ pub fn make_node<K: Plain, V: Plain>(
 }
 
 /// Puts a pair into the map, whose node is made, from where the search for its key has found that the tree changes.
+#[tactic(auto, using(crate::proofs::Payloads::rooms, crate::proofs::Rewriting::trees))]
 pub fn put_in<K: Plain, V: Plain>(
     heap: &mut Heap,
     handle: u64,

@@ -1,11 +1,6 @@
 -- The pairs of the map are a search tree.
-use Rattle.seg_map.proofs.{◌+◌, arith, live_of, room-less, laws, lent_tree, opened}
+use Rattle.seg_map.proofs.{laws, lent_tree, opened}
 use Rattle.seg_map.proofs.finding.open.Goals as goal
-
-pub link-root-requires-clause-room : goal.link-root-requires-clause-room
-link-root-requires-clause-room g c =
-    room-less (live_of c.args.heap.now.bytes) c.args.handle (c.args.at + 24) (c.args.at + 8)
-    (omega arith) c.requires.1.room
 
 pub returns : goal.returns
 returns g c =

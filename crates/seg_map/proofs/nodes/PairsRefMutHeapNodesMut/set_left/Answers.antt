@@ -1,14 +1,6 @@
 -- One link changes.
-use Rattle.seg_map.proofs.{refl, ◌+◌, arith, is_pair_node-PairNode, left_set, room_in, target_whole}
+use Rattle.seg_map.proofs.{refl, is_pair_node-PairNode, left_set}
 use Rattle.seg_map.proofs.nodes.PairsRefMutHeapNodesMut.set_left.Goals as goal
-
-pub set_link-requires : goal.set_link-requires
-set_link-requires g c =
-    record {
-      whole = refl;
-      room = room_in (is_pair_node-PairNode _ _ _ _ c.requires.node) (0 + 8) (omega arith);
-      target = target_whole _ _ _ c.args.to c.requires.target;
-    }
 
 pub returns : goal.returns
 returns g c =

@@ -1,9 +1,6 @@
 -- One colour changes.
-use Rattle.seg_map.proofs.{refl, is_pair_node-PairNode, node_live, place_of, red_set}
+use Rattle.seg_map.proofs.{refl, is_pair_node-PairNode, red_set}
 use Rattle.seg_map.proofs.nodes.PairsRefMutHeapNodesMut.set_red.Goals as goal
-
-pub set_node_red-requires : goal.set_node_red-requires
-set_node_red-requires g c = node_live (place_of (is_pair_node-PairNode _ _ _ _ c.requires))
 
 pub returns : goal.returns
 returns g c =

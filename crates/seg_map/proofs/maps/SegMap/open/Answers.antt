@@ -1,6 +1,6 @@
 -- The pairs of the map are a search tree.
 use Rattle.seg_map.proofs.{laws, lent_tree, opened}
-use Rattle.seg_map.proofs.finding.open.Goals as goal
+use Rattle.seg_map.proofs.maps.SegMap.open.Goals as goal
 
 pub returns : goal.returns
 returns g c =
@@ -8,6 +8,6 @@ returns g c =
     record {
       leads = t.leads;
       tree = (c.requires.1.map.tree.tree, t.tree);
-      opened = opened (laws g.met.K.Plain) (laws g.met.V.Plain) c.args.heap.now c.args.handle c.args.at
+      opened = opened (laws g.met.K.Plain) (laws g.met.V.Plain) c.args.heap.now c.args.self.place.handle c.args.self.place.at
           c.link-root.ensures c.new.ensures;
     }

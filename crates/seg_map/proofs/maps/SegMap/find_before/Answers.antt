@@ -1,6 +1,6 @@
 -- The pair that is found is read.
 use Rattle.seg_map.proofs.{finds_before, found_room, looked_up}
-use Rattle.seg_map.proofs.finding.find_before.Goals as goal
+use Rattle.seg_map.proofs.maps.SegMap.find_before.Goals as goal
 
 pub read_found-requires-clause-room : goal.read_found-requires-clause-room
 read_found-requires-clause-room g c =

@@ -2,7 +2,7 @@
 use Rattle.seg_map.proofs.{refl, ap, arith, laws, can_unlink, erased, few_steps, gone_live, lent_tree, live_laid}
 use Rattle.seg_map.proofs.{removed_length, taken, top_whole}
 use Rattle.best_fit.specs.Heap.{heap_touches}
-use Rattle.seg_map.proofs.erasing.give_up.Goals as goal
+use Rattle.seg_map.proofs.maps.SegMap.give_up.Goals as goal
 
 pub unlink-top-requires : goal.unlink-top-requires
 unlink-top-requires g c =

@@ -1,6 +1,6 @@
 -- The node enters the tree, and the three words say so.
 use Rattle.seg_map.proofs.{sym, ap, ◌∙◌, ◌+◌, arith, bits, laws, can_link, few_steps, planted, planted_tree, top_whole}
-use Rattle.seg_map.proofs.putting.put_in.Goals as goal
+use Rattle.seg_map.proofs.maps.SegMap.put_in.Goals as goal
 
 pub link-top-requires : goal.link-top-requires
 link-top-requires g c =

@@ -17,7 +17,7 @@ use Rattle.seg_types.specs.declared.plain.Plain.{Ghosts as Plain}
 use Rattle.seg_types.proofs.Laws.{value-spelled}
 use Rattle.seg_map.specs.PairNodes.{is_block_in, nodes_in}
 use Rattle.seg_map.specs.PairLaws.{comes_irreflexive, comes_transitive, few_extents, handles_length, in_handles}
-use Rattle.seg_map.proofs.FoundLists.{all_reversed, each, find_mapped, map_reversed}
+use Rattle.seg_map.proofs.FoundLists.{all_reversed, each, each_both, find_mapped, map_reversed}
 use Rattle.seg_map.proofs.PairSteps.{all_in, any_at, in_others}
 
 -- the laws of a plain type
@@ -163,6 +163,12 @@ module _ {K V : Type 0} {kp : Plain K} {vp : Plain V} (laws : Laws kp) (c : Cut)
             let k = holds_closed (cells_of (bytes_of c.bytes)) s.map.tree.tree m s.map.tree.linked.holds i in
             rw (k.left, k.right) refl);
       }
+
+-- the pairs with their bytes
+pub with_bytes : {K V : Type 0} {kp : Plain K} {vp : Plain V} {b : List ℕ} {h at : ℕ} {ps : List (Pair K V)}
+    → HoldsMap kp vp b h at ps → AllByRecursion (λ (p : Pair K V). IsPairIn kp vp (live_of b) h p
+    × IsPairAt kp.SIZE kp.spelling vp.spelling (bytes_of b) p) ps
+with_bytes {ps = ps} s = each_both ps s.pairs s.map.pairs (λ p i b. (i, b))
 
 -- the nodes may be more than those of the tree
 module _ {K V : Type 0} {kp : Plain K} {vp : Plain V} (laws : Laws kp) {c : Cut} {h at : ℕ} {ps : List (Pair K V)}

@@ -1,22 +1,20 @@
 -- A pair leaves the map.
-use Rattle.seg_map.proofs.Common.{◌≡◌, refl, sym, ap, subst, ◌∙◌, ℕ, ◌+◌, ◌≢◌, false}
-use Rattle.seg_map.proofs.Common.{List, [], ◌∷◌, length, arith, ◌==◌, IsTrue, Option, Some, None, IfSome}
-use Rattle.seg_map.proofs.Common.{AllByRecursion, both_ways, eq-eqb}
-use Rattle.seg_map.proofs.Common.{current, Cut, bytes_of, SamePlace-trans, Same-trans, link_at, nodes_of, is_in}
-use Rattle.seg_map.proofs.Common.{without, Extent, LiveSet, handle, released, LaysOut, is_live_in, live_of, found-less}
-use Rattle.seg_map.proofs.Common.{found-room, laid-heap, lay_out_one, roomy, Pair, pair_at, remove_pair}
-use Rattle.seg_map.proofs.Common.{HoldsMap, IsPairIn, nodes_of_pairs, pair_node, own_nodes, Relinked}
-use Rattle.seg_map.proofs.PairLists.{in_nodes, none_left, other_nodes, removed_all, removed_length}
+use Rattle.seg_map.proofs.Common.{◌≡◌, refl, sym, ap, subst, ◌∙◌, ℕ, ◌+◌, ◌≢◌, false, List, length, arith, ◌==◌, IsTrue}
+use Rattle.seg_map.proofs.Common.{Option, Some, None, IfSome, both_ways, eq-eqb, current, Cut, bytes_of, link_at}
+use Rattle.seg_map.proofs.Common.{nodes_of, is_in, without, Extent, LiveSet, handle, released, LaysOut, is_live_in}
+use Rattle.seg_map.proofs.Common.{live_of, found-less, found-room, laid-heap, lay_out_one, roomy, Pair, pair_at}
+use Rattle.seg_map.proofs.Common.{remove_pair, HoldsMap, IsPairIn, nodes_of_pairs, pair_node, own_nodes, Relinked}
 use Rattle.seg_map.proofs.Common.{keys_in, IsErased, IsHeaded, exit_in}
-use Rattle.seg_map.proofs.Entering.{AreIn, Laws, found_in, good, keys, listed, other_block}
-use Rattle.seg_map.proofs.Rewriting.{relaid}
-use Rattle.seg_map.proofs.PairLists.{apart_all}
-use Rattle.seg_map.proofs.{Searching.lent_own, Searching.lent_tree, Staying.Still, Staying.at_node, Staying.map_stays}
-use Rattle.seg_map.proofs.{PairLists.removed_rising, PairLists.without_nodes, PairSteps.any_at}
+use Rattle.seg_map.proofs.PairLists.{in_nodes, none_left, other_nodes, removed_all, removed_length, apart_all}
+use Rattle.seg_map.proofs.PairLists.{removed_rising, without_nodes}
+use Rattle.seg_map.proofs.Entering.{Laws, found_in, good, keys, listed, other_block}
 use Rattle.best_fit.specs.Heap.{IsReleased}
 use Rattle.best_fit.proofs.Laws.{released-live}
 use Rattle.seg_types.specs.declared.plain.Plain.{Ghosts as Plain}
 use Rattle.seg_map.specs.{Linking.CanUnlink, Changing.IsTaken}
+use Rattle.seg_map.proofs.{FoundLists.each_both, Frames.beside_then, Frames.keeps_beside, Rewriting.relaid}
+use Rattle.seg_map.proofs.{Searching.lent_own, Searching.lent_tree, Staying.at_node, Staying.map_stays}
+use Rattle.seg_map.proofs.{PairSteps.any_at}
 
 module _ {K V : Type 0} {kp : Plain K} {vp : Plain V} (kl : Laws kp) (c : Cut) {h at : ℕ} {root : Option ℕ}
     {ps : List (Pair K V)} (s : HoldsMap kp vp c.bytes h at ps) (is : root ≡ link_at (bytes_of c.bytes) (h + at))
@@ -40,8 +38,8 @@ module _ {K V : Type 0} {kp : Plain K} {vp : Plain V} (kl : Laws kp) (c : Cut) {
   pub taken : {d e : Cut} {top : Option ℕ} {n steps : ℕ} → Relinked kp lent c d root top (without node) steps → Laws vp
       → n + 1 ≡ length ps → IsHeaded d e (h + at) top n → IsTaken kp vp c e h at ps key
   taken u vl count head =
-      relaid s (lent_tree kl c s is refl) u kl vl ps s.pairs s.map.pairs (ns_is ∙ listed kl c s) (rw ns_is (good kl c s)) head
-      ((λ i. without (sym here i) (listed kl c s i))
+      relaid s (lent_tree kl c s is refl) u kl vl ps s.pairs s.map.pairs (ns_is ∙ listed kl c s)
+      (rw ns_is (good kl c s)) head ((λ i. without (sym here i) (listed kl c s i))
       ∙ without_nodes kp.order kl.irreflexive kl.transitive (keys_in kp (nodes_of s.map.tree.tree) c) p key ps
       (keys kl c s) s.rising has)
       (λ P a. removed_all kp.order P ps key a) (removed_rising kp.order kl.transitive ps key s.rising)
@@ -59,18 +57,6 @@ module _ {K V : Type 0} {kp : Plain K} {vp : Plain V} (kl : Laws kp) (vl : Laws 
   other e' = both_ways _ (apart_all kp vp (live_of c.bytes) h ps s.pairs)
       (ap (λ n. is_in n (nodes_of_pairs ps)) (e' ∙ sym here) ∙ in_nodes kp.order ps key p has)
 
-  stills : (qs : List (Pair K V)) → AreIn kp vp (live_of e.bytes) h qs → AllByRecursion (λ q. pair_node q ≢ node) qs
-      → AllByRecursion (λ (q : Pair K V). Still e f q.node) qs
-  stills [] a o = tt
-  stills (q ∷ qs) a o = (
-    record {
-      found = rw (released-live _ _ _ _ r) (found-less (handle q.node) node q.node
-          (live_of e.bytes).extents o.0 a.0.listed);
-      same = other_block (live_of e.bytes) node (handle q.node) r.keeps a.0.listed o.0;
-    },
-    stills qs a.1 o.1,
-  )
-
   pub erased : IsErased kp vp c f h at ps p key
   erased =
       let room = roomy e h (at + 24) t.map.heap t.map.room in
@@ -78,22 +64,20 @@ module _ {K V : Type 0} {kp : Plain K} {vp : Plain V} (kl : Laws kp) (vl : Laws 
       let same = other_block (live_of e.bytes) node h r.keeps room.found (λ g. other (sym begins ∙ g)) in
       record {
         live = subst (λ l. LaysOut current f.bytes l) (λ i. released (live_is i) (sym here i)) r.live;
-        beside = record {
-          place = SamePlace-trans _ _ _ t.beside.place r.keeps.place;
-          front = Same-trans _ _ _ _ _ t.beside.front r.keeps.front;
-          behind = Same-trans _ _ _ _ _ t.beside.behind r.keeps.behind;
-          blocks = λ x found o.
-              let q = t.beside.blocks x found o in
-              let apart : handle x ≢ node = λ g. both_ways _ o
-              (ap (λ n. is_in n (nodes_of_pairs ps)) (g ∙ sym here) ∙ in_nodes kp.order ps key p has) in
-              let k = other_block (live_of e.bytes) node (handle x) {x = x} r.keeps (rw live_is found) apart in
-              record { payload = λ n a b g. k.payload.at n a b ∙ q.payload n a b g; colour = k.colour ∙ q.colour };
-        };
+        beside = beside_then t.beside (keeps_beside r.keeps (λ x found o.
+            other_block (live_of e.bytes) node (handle x) r.keeps found (λ g. both_ways _ o
+            (ap (λ n. is_in n (nodes_of_pairs ps)) (g ∙ sym here) ∙ in_nodes kp.order ps key p has))))
+            (λ x found o. (rw live_is found, o));
         map = map_stays kl vl e f t.map (laid-heap _ _ r.live)
             (rw (released-live _ _ _ _ r) (found-room (released (live_of e.bytes) node) h (at + 24) room.extent
             (found-less h node room.extent (live_of e.bytes).extents other room.found) room.room))
             (record { at = λ n a b. same.payload.at n (omega arith) (omega arith) })
-            (stills (remove_pair kp.order ps key) t.map.pairs (other_nodes node (remove_pair kp.order ps key) gone));
+            (each_both (remove_pair kp.order ps key) t.map.pairs (other_nodes node (remove_pair kp.order ps key) gone)
+            (λ q i o. record {
+              found = rw (released-live _ _ _ _ r) (found-less (handle q.node) node q.node
+                  (live_of e.bytes).extents o i.listed);
+              same = other_block (live_of e.bytes) node (handle q.node) r.keeps i.listed o;
+            }));
       }
     where
       gone : is_in node (nodes_of_pairs (remove_pair kp.order ps key)) ≡ false

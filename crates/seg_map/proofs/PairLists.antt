@@ -2,13 +2,12 @@
 use Rattle.seg_map.proofs.Common.{◌≡◌, refl, sym, ap, ◌∙◌, ℕ, suc, ◌≢◌, inl, inr, Bool, true, false, ◌||◌, List, []}
 use Rattle.seg_map.proofs.Common.{◌∷◌, length, ◌==◌, Option, Some, AllByRecursion, both_ways, cases_Bool, and_parts}
 use Rattle.seg_map.proofs.Common.{or_left, or_right, eq-eqb, ne_eqb, is_in, without, Chains, IsStrict, Pair, is_key}
-use Rattle.seg_map.proofs.Common.{is_rising, pair_at, remove_pair, nodes_of_pairs, pair_node}
-use Rattle.seg_map.proofs.{Entering.HaveKeys, FoundPairs.rising_rest}
+use Rattle.seg_map.proofs.Common.{is_rising, pair_at, remove_pair, nodes_of_pairs, pair_node, LiveSet, eqb-true}
+use Rattle.seg_map.proofs.Common.{false≢true, or_cases}
 use Rattle.seg_types.specs.declared.plain.Plain.{Ghosts as Plain}
-use Rattle.seg_map.proofs.{FoundLists.each, Entering.AreIn}
-use Rattle.seg_map.proofs.Common.{LiveSet, eqb-true, false≢true, or_cases}
 use Rattle.std.proofs.{Common.nat_eq, lemmas.Bool.or_parts}
 use Rattle.link_tree.proofs.Laws.{without_none}
+use Rattle.seg_map.proofs.{Entering.HaveKeys, Entering.AreIn, FoundPairs.rising_rest, FoundLists.each}
 
 -- ---- a node that is taken out
 

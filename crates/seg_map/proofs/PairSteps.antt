@@ -5,7 +5,7 @@ use Rattle.seg_map.proofs.Common.{IfSome, if◌then◌else◌, AllByRecursion, l
 use Rattle.seg_map.proofs.Common.{cases_eq, and_parts, or_cases, or_left, or_right, eqb-true, eq-eqb, ne_eqb, leb-true}
 use Rattle.seg_map.proofs.Common.{le-leb, ltb-true, lt-ltb, Cut, Same, SamePlace, bytes_of, read, word_at, current}
 use Rattle.seg_map.proofs.Common.{SameBut-Same, SameBut-word, is_in, leads, all_from, link_at, Same-link, SameBut-link}
-use Rattle.seg_map.proofs.Common.{Extent, LiveSet, handle, end_of, is_proper, others, cells_of, IsChanged, SameBlock}
+use Rattle.seg_map.proofs.Common.{Extent, LiveSet, handle, end_of, others, cells_of, IsChanged, SameBlock}
 use Rattle.seg_map.proofs.Common.{is_live_in, has_room, live_of, beside_cell, cell_stays, is_proper-IsProper}
 use Rattle.seg_map.proofs.Common.{lay_out_one, is_kept, is_link_byte, is_other, is_pair_node, kept_of, key_at, key_of}
 use Rattle.seg_map.proofs.Common.{links_among, pair_cells, Good, In, PairNode, PairNode-is_pair_node, cells_at}
@@ -281,8 +281,9 @@ module _ {len : ℕ} {ns : List ℕ} {c d : Cut} {n from : ℕ} (g : PairNode le
   links_set {left} {right} l r l_in r_in =
       let least = p.low in
       let red = ap (λ w. w / 2 % 2 == 1) (SameBut-word _ _ _ _ (n - 8) change.rest (inl (omega arith))) in
-      let own : cells_of (bytes_of d.bytes) n ≡ record { left = left; right = right; red = is_red (bytes_of c.bytes) n } =
-      λ i. record { left = l i; right = r i; red = red i } in
+      let own : cells_of (bytes_of d.bytes) n
+      ≡ record { left = left; right = right; red = is_red (bytes_of c.bytes) n } = λ i.
+      record { left = l i; right = r i; red = red i } in
       record {
         own = own;
         changed = link_changed (subst (λ (x : Cell). (leads (λ k. is_in k ns) x.left && leads (λ k. is_in k ns) x.right)
@@ -447,9 +448,6 @@ module _ (len : ℕ) (ns : List ℕ) (c w : Cut) (n : ℕ) (h : is_pair_node len
   pub node_marked : IsTrue (is_node_in (live_of w.bytes) n)
   node_marked = rw same (node_live (node_place len ns c n g))
 
-  pub node_proper : IsTrue (is_proper (live_of w.bytes))
-  node_proper = rw same g.good.proper
-
   cell_is : cells_of (bytes_of w.bytes) n ≡ pair_cells len ns c n
   cell_is = rw same (sym (cells_at len ns c n h))
 
@@ -472,7 +470,6 @@ pub ruleset nodes = (
   node_room,
   node_used,
   node_marked,
-  node_proper,
   node_left,
   node_right,
   node_colour,

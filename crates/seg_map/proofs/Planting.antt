@@ -1,20 +1,19 @@
 -- A pair whose node is made enters the map.
-use Rattle.seg_map.proofs.Common.{◌≡◌, refl, sym, ap, ◌∙◌, ℕ, ◌+◌, inl, inr, true, false, not}
-use Rattle.seg_map.proofs.Common.{◌&&◌, List, ◌∷◌, length, arith, Option, Some, None, IfSome, and_parts, eqb-true}
-use Rattle.seg_map.proofs.Common.{eq-eqb, or_cases, or_left, or_right, Cut, bytes_of, link_at, nodes_of}
-use Rattle.seg_map.proofs.Common.{has_place, is_in, leads, put, entry_of, all_from, entry_same, handle, cells_of}
-use Rattle.seg_map.proofs.Common.{Pair, HoldsMap}
-use Rattle.seg_map.proofs.Common.{pair_node, comes_before, is_pair_node, key_at, key_of, links_among, own_nodes, stands}
-use Rattle.seg_map.proofs.Common.{stands_before, Good, PairNode-is_pair_node, IsKeyTree, Relinked, keys_in}
-use Rattle.seg_map.proofs.Entering.{HaveKeys, Laws, good, keys, keys_among, listed, pair_block}
-use Rattle.seg_map.proofs.{Common.IsHeaded, Common.IsLoose, Common.IsPlanted, Common.entry_in}
-use Rattle.seg_map.proofs.{Beginnings.beside as not_beside, Beginnings.keys_agree, Beginnings.moved, Searching.lent_own}
-use Rattle.seg_map.proofs.{Entering.pair_parts, Entering.tree_among, Entering.read_spelled}
-use Rattle.seg_map.proofs.Rewriting.{relaid}
+use Rattle.seg_map.proofs.Common.{◌≡◌, refl, sym, ap, ◌∙◌, ℕ, ◌+◌, inl, inr, true, false, not, ◌&&◌, List, ◌∷◌, length}
+use Rattle.seg_map.proofs.Common.{arith, Option, Some, None, IfSome, and_parts, eqb-true, eq-eqb, or_cases, or_left}
+use Rattle.seg_map.proofs.Common.{or_right, Cut, bytes_of, link_at, nodes_of, has_place, is_in, leads, put, entry_of}
+use Rattle.seg_map.proofs.Common.{all_from, entry_same, handle, cells_of, Pair, HoldsMap, pair_node, comes_before}
+use Rattle.seg_map.proofs.Common.{is_pair_node, key_at, key_of, links_among, own_nodes, stands, stands_before, Good}
+use Rattle.seg_map.proofs.Common.{PairNode-is_pair_node, IsKeyTree, Relinked, keys_in, IsHeaded, IsLoose, IsPlanted}
+use Rattle.seg_map.proofs.Common.{entry_in}
+use Rattle.seg_map.proofs.Entering.{HaveKeys, Laws, good, keys, keys_among, listed, pair_block, pair_parts, tree_among}
+use Rattle.seg_map.proofs.Entering.{read_spelled}
+use Rattle.seg_map.proofs.Beginnings.{beside as not_beside, keys_agree, moved}
 use Rattle.seg_map.proofs.PutLists.{place_of, put_all, put_length, put_nodes, put_rising}
 use Rattle.link_tree.proofs.Laws.{all_at}
 use Rattle.seg_types.specs.declared.plain.Plain.{Ghosts as Plain}
 use Rattle.seg_map.specs.Linking.{CanLink}
+use Rattle.seg_map.proofs.{Searching.lent_own, Rewriting.relaid}
 
 -- a link among nodes is one among more of them
 leads_more : (n : ℕ) (ns : List ℕ) (o : Option ℕ) → leads (λ j. is_in j ns) o ≡ true

@@ -10,8 +10,8 @@ pub fewer : (n digits : ℕ) → n ≤ 28 * digits + 32 → n ≤ 32 * digits + 
 fewer n digits few = omega arith
 
 -- by the nodes as they were, and by the steps that were added
-pub relinked : {K : Type 0} (k : Plain K) (ns ms : List ℕ) {c d e : Cut} (root top : Option ℕ) {becomes : List ℕ → List ℕ}
-    (before : ℕ) {after : ℕ} (steps : ℕ) → e ≡ d → kept_of ms d ≡ kept_of ns c
+pub relinked : {K : Type 0} (k : Plain K) (ns ms : List ℕ) {c d e : Cut} (root top : Option ℕ)
+    {becomes : List ℕ → List ℕ} (before : ℕ) {after : ℕ} (steps : ℕ) → e ≡ d → kept_of ms d ≡ kept_of ns c
     → leads (is_pair_node (16 + k.SIZE) ms d) top ≡ true → after ≡ before + steps
     → ((t : Tree) → IsSearchTree (comes_before k.order (keys_in k ns c)) (pair_cells (16 + k.SIZE) ns c) root t
     → (s : Tree) × IsSearchTree (comes_before k.order (keys_in k ms d)) (pair_cells (16 + k.SIZE) ms d) top s

@@ -1,23 +1,22 @@
 -- The tree of a map is changed, and its three words are written.
-use Rattle.seg_map.proofs.Common.{◌≡◌, sym, ap, subst, ◌∙◌, ℕ, ◌+◌, ◌%◌, ◌<◌, ◌≤◌, ◌≢◌, ◌⊎◌, inl, inr, true}
-use Rattle.seg_map.proofs.Common.{List, [], ◌∷◌, length, arith, IsTrue, Option, Some, None, false≢true, cases_eq}
-use Rattle.seg_map.proofs.Common.{current, Cut, Same, bytes_of, SamePlace-trans, Same-trans, Tree, leaf, fork, nodes_of}
-use Rattle.seg_map.proofs.Common.{root_of, is_in, leads, tree_same, SameBlockBut, Extent, handle, end_of, others}
-use Rattle.seg_map.proofs.Common.{cells_of, Keeps, SameBlock, extent_at, has_room, live_of, changed-keeps}
-use Rattle.seg_map.proofs.Common.{changed-live, laid-heap, roomy, Pair, is_rising, HoldsMap, IsPairIn, nodes_of_pairs}
-use Rattle.seg_map.proofs.Common.{is_pair_node, pair_cells, Good, cells_at, PairNode, PairNode-is_pair_node}
-use Rattle.seg_map.proofs.Common.{is_pair_node-PairNode, IsKeyTree, IsBesideMap, IsHeaded}
+use Rattle.seg_map.proofs.Common.{◌≡◌, sym, ap, subst, ◌∙◌, ℕ, ◌+◌, ◌%◌, ◌<◌, ◌≤◌, ◌≢◌, ◌⊎◌, inl, inr, true, List, []}
+use Rattle.seg_map.proofs.Common.{◌∷◌, length, arith, IsTrue, Option, Some, None, false≢true, cases_eq, current, Cut}
+use Rattle.seg_map.proofs.Common.{Same, bytes_of, SamePlace-trans, Same-trans, Tree, leaf, fork, nodes_of, root_of}
+use Rattle.seg_map.proofs.Common.{is_in, leads, tree_same, SameBlockBut, Extent, handle, end_of, others, cells_of}
+use Rattle.seg_map.proofs.Common.{Keeps, SameBlock, extent_at, has_room, live_of, changed-keeps, changed-live}
+use Rattle.seg_map.proofs.Common.{laid-heap, roomy, Pair, is_rising, HoldsMap, IsPairIn, nodes_of_pairs, is_pair_node}
+use Rattle.seg_map.proofs.Common.{pair_cells, Good, cells_at, PairNode, PairNode-is_pair_node, is_pair_node-PairNode}
+use Rattle.seg_map.proofs.Common.{IsKeyTree, IsBesideMap, IsHeaded, ◌*◌, AllByRecursion, IfSome, IsPairAt, LaysOut}
+use Rattle.seg_map.proofs.Common.{Relinked, bits, pair_node}
 use Rattle.best_fit.proofs.Laws.{but-trans, written-but}
 use Rattle.seg_types.specs.declared.plain.Plain.{Ghosts as Plain}
-use Rattle.seg_map.proofs.Entering.{few_in_map, AreAt, AreIn, Laws, found_in, other_block, pair_parts}
-use Rattle.seg_map.proofs.PairSteps.{all_in, block_apart}
+use Rattle.seg_map.proofs.Entering.{few_in_map, AreAt, AreIn, Laws, found_in, other_block, pair_parts, length-nodes}
+use Rattle.seg_map.proofs.PairSteps.{all_in, block_apart, target_whole}
 use Rattle.seg_map.proofs.PairLists.{removed_length, in_from, nodes_in}
-use Rattle.seg_map.proofs.Entering.{length-nodes}
-use Rattle.seg_map.proofs.PairSteps.{target_whole}
 use Rattle.seg_map.specs.Changing.{IsRelaid}
-use Rattle.seg_map.proofs.Common.{◌*◌, AllByRecursion, IfSome, IsPairAt, LaysOut, Relinked, bits, pair_node}
 use Rattle.seg_map.proofs.Frames.{kept_proper, kept_room, kept_block, kept_inside, kept_keeps, live_stays}
 use Rattle.seg_map.proofs.Staying.{at_node, block_cells, lengths, pair_stays}
+use Rattle.seg_map.proofs.{FoundLists.each_both}
 
 -- a call of the tree changes no block, nor does what is written of the three words then
 module _ {K : Type 0} {kp : Plain K} {c d : Cut} {ns : List ℕ} {root top : Option ℕ} {becomes : List ℕ → List ℕ}
@@ -78,7 +77,8 @@ module _ {K V : Type 0} {kp : Plain K} {vp : Plain V} {c d : Cut} {h at : ℕ} {
               let p = kept_block d good u.kept (omega arith) x i o in
               let q = all_in (SameBlockBut (bytes_of d.bytes) (bytes_of e.bytes) (h + at) 24)
               (live_of c.bytes).extents x written i in
-              (but-trans (bytes_of c.bytes) (bytes_of d.bytes) (bytes_of e.bytes) (h + at) 24 (x ∷ []) (p, tt) (q, tt)).0;
+              (but-trans (bytes_of c.bytes) (bytes_of d.bytes) (bytes_of e.bytes) (h + at) 24 (x ∷ []) (p, tt)
+              (q, tt)).0;
         }
 
     -- a node of the tree is one of the nodes, whose links lead to nodes
@@ -118,12 +118,6 @@ module _ {K V : Type 0} {kp : Plain K} {vp : Plain V} {c d : Cut} {h at : ℕ} {
               | inr l ↦ inr (omega arith)
             ]
 
-    pairs_at : (qs : List (Pair K V)) → AreIn kp vp (live_of c.bytes) h qs → AreAt kp vp (bytes_of c.bytes) qs
-        → AreAt kp vp (bytes_of e.bytes) qs
-    pairs_at [] a b = tt
-    pairs_at (q ∷ qs) a b =
-        (pair_stays (bytes_of c.bytes) (bytes_of e.bytes) (lengths kl vl a.0) (pair_kept q a.0) b.0, pairs_at qs a.1 b.1)
-
     tree_cells : (qs : List (Pair K V)) {t : Tree} → IsKeyTree kp ns d top t → nodes_of t ≡ nodes_of_pairs qs
         → AreIn kp vp (live_of c.bytes) h qs → ((m : ℕ) → is_in m (nodes_of_pairs qs) ≡ true → is_in m ns ≡ true)
         → (m : ℕ) → is_in m (nodes_of t) ≡ true
@@ -143,7 +137,8 @@ module _ {K V : Type 0} {kp : Plain K} {vp : Plain V} {c d : Cut} {h at : ℕ} {
         → n ≡ length qs → IsRelaid kp vp c e h at (nodes_of_pairs ws) qs
     relaid {qs} becoming all rising count =
         let r = u.tree s.map.tree.tree tree in let lists = r.2 ∙ becoming in
-        let own = in_from ns qs (all (λ q. is_in (pair_node q) ns ≡ true) (nodes_in ns ws (λ m i. ap (is_in m) are ∙ i))) in
+        let own = in_from ns qs (all (λ q. is_in (pair_node q) ns ≡ true)
+        (nodes_in ns ws (λ m i. ap (is_in m) are ∙ i))) in
         let these = all (IsPairIn kp vp (live_of c.bytes) h) pairs in
         record {
           live = subst (LaysOut current e.bytes) (live_left u) head.change.live;
@@ -160,7 +155,8 @@ module _ {K V : Type 0} {kp : Plain K} {vp : Plain V} {c d : Cut} {h at : ℕ} {
                 red_black = r.1.tree.red_black;
                 lists = lists;
               };
-              pairs = pairs_at qs these (all (IsPairAt kp.SIZE kp.spelling vp.spelling (bytes_of c.bytes)) bytes);
+              pairs = each_both qs these (all (IsPairAt kp.SIZE kp.spelling vp.spelling (bytes_of c.bytes)) bytes)
+                  (λ q i b. pair_stays (bytes_of c.bytes) (bytes_of e.bytes) (lengths kl vl i) (pair_kept q i) b);
             };
             aligned = s.aligned;
             room = rw live_e s.room;

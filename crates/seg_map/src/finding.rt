@@ -2,7 +2,7 @@
 ghost use Rattle.std.specs.Prelude.{◌≡◌, ◌+◌, true, Option, Some, IfSome, IsTrue, option_and_then};
 ghost use Rattle.raw_region.specs.Memory.{bytes_of};
 ghost use Rattle.link_tree.specs.Nodes.{leads};
-ghost use Rattle.best_fit.specs.{Extents.is_proper, Heap.has_room, Heap.live_of};
+ghost use Rattle.best_fit.specs.Heap.{has_room, live_of};
 ghost use Rattle.seg_map.specs.Searches.{FindsEntry, FindsExit, IsOpened, LooksFor, LooksUp, item_at, node_with};
 ghost use Rattle.seg_map.specs.{Linking.HasTree, Searches.path_in, Searches.reading_steps};
 ghost use Rattle.seg_map.specs.{PairNodes.is_pair_node, Places.IsSomeMap, Places.first_pair, Places.last_pair};
@@ -115,8 +115,7 @@ impl<K: Plain, V: Plain> SegMap<K, V> {
 
 /// The key and the value of a node.
 fn item<K: Plain, V: Plain>(heap: &Heap, node: u64) -> Option<(K, V)>
-    requires proper { IsTrue (is_proper (live_of heap.now.bytes)) }
-    requires room { IsTrue (has_room (live_of heap.now.bytes) node (16 + K.SIZE + V.SIZE)) }
+    requires { IsTrue (has_room (live_of heap.now.bytes) node (16 + K.SIZE + V.SIZE)) }
     ensures { result ≡ item_at K.Plain V.Plain (bytes_of heap.now.bytes) node }
 {
     let key = value_at::<K>(heap, node, KEY)?;
@@ -130,8 +129,7 @@ pub fn read_found<K: Plain, V: Plain>(
     found: Found,
     steps: &mut Steps,
 ) -> Option<(K, V)>
-    requires proper { IsTrue (is_proper (live_of heap.now.bytes)) }
-    requires room { IfSome found.node (λ n. IsTrue (has_room (live_of heap.now.bytes) n (16 + K.SIZE + V.SIZE))) }
+    requires { IfSome found.node (λ n. IsTrue (has_room (live_of heap.now.bytes) n (16 + K.SIZE + V.SIZE))) }
     ensures item { result ≡ option_and_then (item_at K.Plain V.Plain (bytes_of heap.now.bytes)) found.node }
     ensures steps { steps.new ≡ steps.old + found.steps + reading_steps found.node }
 {
@@ -143,8 +141,7 @@ pub fn read_found<K: Plain, V: Plain>(
 
 /// The node that a search for a key has found, where it has that key.
 fn with_key<K: Plain>(heap: &Heap, node: Option<u64>, key: K, steps: &mut Steps) -> Option<u64>
-    requires proper { IsTrue (is_proper (live_of heap.now.bytes)) }
-    requires room { IfSome node (λ n. IsTrue (has_room (live_of heap.now.bytes) n (16 + K.SIZE))) }
+    requires { IfSome node (λ n. IsTrue (has_room (live_of heap.now.bytes) n (16 + K.SIZE))) }
     ensures node { result ≡ option_and_then (node_with K.Plain (bytes_of heap.now.bytes) key) node }
     ensures same { IfSome result (λ n. node ≡ Some n) }
     ensures value { IfSome result (λ n. K.is_value key ≡ true) }

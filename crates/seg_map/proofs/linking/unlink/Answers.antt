@@ -11,5 +11,6 @@ remove_at-changed-requires g c =
 pub returns-clause-change : goal.returns-clause-change
 returns-clause-change g c =
     let f = c.remove_at-changed.ensures in let lent = c.lend-pairs in let r = c.remove_at-changed.result in
-    rw (← lent.ensures.own, ← lent.ensures.heap) (relinked g.K.Plain lent.result.own c.remove_at-changed.new.nodes.own c.args.root
-    r.root c.args.steps.now r.steps (search rules) f.same.kept f.root c.add.ensures f.tree f.steps)
+    rw (← lent.ensures.own, ← lent.ensures.heap)
+    (relinked g.K.Plain lent.result.own c.remove_at-changed.new.nodes.own c.args.root r.root c.args.steps.now r.steps
+    (search rules) f.same.kept f.root c.add.ensures f.tree f.steps)

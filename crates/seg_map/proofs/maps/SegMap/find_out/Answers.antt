@@ -2,8 +2,8 @@
 use Rattle.seg_map.proofs.{false, arith, exit_is, finds_first, sought_room, looked_for}
 use Rattle.seg_map.proofs.maps.SegMap.find_out.Goals as goal
 
-pub with_key-requires-clause-room : goal.with_key-requires-clause-room
-with_key-requires-clause-room g c =
+pub with_key-requires : goal.with_key-requires
+with_key-requires g c =
     let way = c.find_way_out-way.ensures in
     sought_room (finds_first c.open-pairs.ensures.opened false c.args.key way.exact way.steps way.first) c.requires.map
 

@@ -17,7 +17,8 @@ write_head-requires-clause-root g c =
 
 pub deallocate-requires : goal.deallocate-requires
 deallocate-requires g c =
-    let r = c.requires in gone_live r.map r.key r.found r.is (live_laid c.unlink-top.ensures.change c.write_head.ensures)
+    let r = c.requires in
+    gone_live r.map r.key r.found r.is (live_laid c.unlink-top.ensures.change c.write_head.ensures)
 
 pub returns-clause-dropped : goal.returns-clause-dropped
 returns-clause-dropped g c = λ ps key p s has is.

@@ -8,6 +8,5 @@ returns g c =
     record {
       leads = t.leads;
       tree = (c.requires.1.map.tree.tree, t.tree);
-      opened = opened (laws g.met.K.Plain) (laws g.met.V.Plain) c.args.heap.now c.args.self.place.handle c.args.self.place.at
-          c.link-root.ensures c.new.ensures;
+      opened = opened (laws g.met.K.Plain) (laws g.met.V.Plain) c.args.heap.now _ _ c.link-root.ensures c.new.ensures;
     }

@@ -1,5 +1,5 @@
 -- Changes of a heap, one after another.
-use Rattle.seg_index.proofs.Common.{◌≡◌, ap, subst, ◌∙◌, ℕ, ◌+◌, ◌-◌, ◌≤◌, current, Cut, bytes_of, SamePlace-trans}
+use Rattle.seg_index.proofs.Common.{IsTrue, has_room, heap_touches, is_live_in, ◌≡◌, ap, subst, ◌∙◌, ℕ, ◌+◌, ◌-◌, ◌≤◌, current, Cut, bytes_of, SamePlace-trans}
 use Rattle.seg_index.proofs.Common.{Role, LiveSet, added, others, IsAllocated, IsChanged, IsHeap, LaysOut, live_of}
 use Rattle.seg_index.proofs.Common.{allocated-live, laid-heap}
 use Rattle.raw_region.proofs.Laws.{SameBut-trans, SameBut-wider}
@@ -9,6 +9,18 @@ use Rattle.best_fit.proofs.Laws.{changed-live, is_proper-IsProper, others-insert
 -- what a change leaves is the same live set
 pub same_live : {a b : Cut} {from n : ℕ} → IsChanged current a b from n → live_of b.bytes ≡ live_of a.bytes
 same_live c = changed-live current _ _ _ _ c
+
+pub changed_room : (a b : Cut) (from n h k : ℕ) → IsChanged current a b from n → IsTrue (has_room (live_of a.bytes) h k)
+    → IsTrue (has_room (live_of b.bytes) h k)
+changed_room a b from n h k c room = rw (same_live c) room
+
+pub changed_used : (a b : Cut) (from n h : ℕ) → IsChanged current a b from n → IsTrue (is_live_in (live_of a.bytes) h)
+    → IsTrue (is_live_in (live_of b.bytes) h)
+changed_used a b from n h c used = rw (same_live c) used
+
+pub changed_touches : (a b : Cut) (from n : ℕ) → IsChanged current a b from n
+    → heap_touches (live_of b.bytes) ≡ heap_touches (live_of a.bytes)
+changed_touches a b from n c = ap heap_touches (same_live c)
 
 pub changed_heap : {a b : Cut} {from n : ℕ} → IsChanged current a b from n → IsHeap current b.bytes
 changed_heap {a} {b} c = laid-heap b.bytes (live_of a.bytes) c.live

@@ -5,8 +5,11 @@ use Rattle.seg_index.proofs.Common.{none-some, same_Some, slice_get-get_or, Cut,
 use Rattle.seg_index.proofs.Common.{Extent, handle, holds, others, extent_at, has_room, live_of, Table, same_role}
 use Rattle.seg_index.proofs.Common.{serves, found-room, room-less, Key, Lookup, Found, Absent, comparisons_in, order_at}
 use Rattle.seg_index.proofs.Common.{beside_table, IsIndexOf, place_of, AreLinks, AreKeys, IsPlaceIn, order}
+use Rattle.seg_index.proofs.Changing.{changed_room, changed_used, changed_touches}
 use Rattle.seg_index.proofs.{Counting.none_left, Counting.same_comparisons, Rooms.Inside, Rooms.inside}
 use Rattle.seg_index.proofs.{Links.all_at, Links.at_links, Links.entry_here, Links.links_at, Rooms.block_small}
+use Rattle.seg_index.proofs.Rooms.{block_ends, found_live}
+use Rattle.seg_index.proofs.Common.{is_live_in}
 use Rattle.std.proofs.{lemmas.Bool.eqb-true, lemmas.Option.slice_get_within}
 use Rattle.block_tags.specs.declared.tile.Role.TheVariants.{Index as IndexRole}
 use Rattle.seg_index.specs.{declared.index.Index.Index, Lookups.HasKey, Lookups.HasKeys, Lookups.IsPlace}
@@ -105,9 +108,6 @@ capacity_small {c} {at} {t} i = by_case (link_at (bytes_of c.bytes) at) refl
     by_case None e = let z = bare i e in omega arith
     by_case (Some b) e = let s = (placed b i e).inside in omega arith
 
--- what shows that a sum within a block fits
-pub ruleset sizes = (block_small, capacity_small)
-
 pub leads_from : (c : Cut) {at place : ℕ} {o p : Option ℕ} → place ≡ at → o ≡ link_at (bytes_of c.bytes) place
     → o ≡ p → link_at (bytes_of c.bytes) at ≡ p
 leads_from c e f g = ap (λ k. link_at (bytes_of c.bytes) k) (sym e) ∙ sym f ∙ g
@@ -123,6 +123,30 @@ has_places {c} {at} {t} {hs} {block} {place} {o} i some e f b = by_case o refl
     by_case (Some h) q =
         let same : block ≡ h = b ∙ ap (λ (r : Option ℕ). unwrap_or r 0) q in
         placed block i (leads_from c e f q ∙ ap (λ k. Some k) (sym same))
+
+pub places_room : {c : Cut} {at : ℕ} {t : Table} {hs : List ℕ} (block place : ℕ) {o : Option ℕ} (k : ℕ)
+    → IsIndexOf c at t hs → 0 < t.capacity → place ≡ at → o ≡ link_at (bytes_of c.bytes) place → block ≡ unwrap_or o 0
+    → k ≤ 8 * t.capacity → IsTrue (has_room (live_of c.bytes) block k)
+places_room {c} {t = t} block place k i some e f b few =
+    room-less (live_of c.bytes) block (8 * t.capacity) k few (has_places i some e f b).room
+
+pub link_used : {c : Cut} {at : ℕ} {t : Table} {hs : List ℕ} (block place : ℕ) {o : Option ℕ} → IsIndexOf c at t hs
+    → place ≡ at → o ≡ link_at (bytes_of c.bytes) place → o ≡ Some block → IsTrue (is_live_in (live_of c.bytes) block)
+link_used {c} block place i e f is =
+    let p = placed block i (leads_from c e f is) in found_live (live_of c.bytes) block p.extent p.found
+
+-- what shows that there is room in a block, also once something changed, and that a sum within one fits
+pub ruleset sizes = (
+  block_small,
+  block_ends,
+  capacity_small,
+  room-less,
+  places_room,
+  link_used,
+  changed_room,
+  changed_used,
+  changed_touches,
+)
 
 -- ---- what a search is given, and what its answer says
 

@@ -55,3 +55,7 @@ inside c h n heap has =
 pub block_small : (c : Cut) (h n : ℕ) → IsHeap current c.bytes → IsTrue (has_room (live_of c.bytes) h n)
     → h + n + 16 ≤ 1073741824
 block_small c h n heap has = let s = inside c h n heap has in omega (arith, s.ends, s.small)
+
+pub block_ends : (c : Cut) (h n : ℕ) → IsHeap current c.bytes → IsTrue (has_room (live_of c.bytes) h n)
+    → h + n + 16 ≤ length c.bytes
+block_ends c h n heap has = (inside c h n heap has).ends

@@ -29,7 +29,7 @@ pub use Rattle.seg_map.specs.PairLaws.{Chains, Good, In, IsStrict, PairNode, Pai
 pub use Rattle.seg_map.specs.PairNodes.{before_key, comes_before, is_kept, is_link_byte, is_other, links_among}
 pub use Rattle.seg_map.specs.Places.{HoldsMap, IsPairIn, final_pair, first_pair, is_passed, last_pair, nodes_of_pairs}
 pub use Rattle.seg_map.specs.Changing.{IsBesideMap, IsErased, IsHeaded, IsLoose, IsMade, IsPlanted}
-pub use Rattle.seg_map.specs.{Linking.IsKeyTree, Linking.Linked, Linking.Unlinked, Linking.keys_in, Places.pair_node}
+pub use Rattle.seg_map.specs.{Linking.IsKeyTree, Linking.Relinked, Linking.keys_in, Places.pair_node}
 pub use Rattle.seg_map.specs.Map.{IsPairAt, Pair, is_key, is_rising, node_len, pair_at, put_pair, remove_pair}
 pub use Rattle.seg_map.specs.PairLaws.{is_pair_node-PairNode, lies, node_block, node_place, passing}
 pub use Rattle.seg_map.specs.PairNodes.{pair_cells, stands, stands_before}

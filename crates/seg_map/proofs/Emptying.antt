@@ -1,19 +1,18 @@
 -- A map is given up pair by pair.
 use Rattle.seg_map.proofs.Common.{◌≡◌, ◌⊎◌, refl, sym, ap, subst, ◌∙◌, ℕ, ◌+◌, ◌<◌, ◌≢◌, inl, inr, Bool, true, false}
 use Rattle.seg_map.proofs.Common.{List, [], ◌∷◌, map, arith, IsTrue, Option, Some, None, AllByRecursion, both_ways}
-use Rattle.seg_map.proofs.Common.{cases_Bool, cases_eq, eq-eqb, ne_eqb, current, Cut, bytes_of, word_at}
-use Rattle.seg_map.proofs.Common.{SamePlace-trans, Same-trans, link_at, IsTree, Tree, fork, leaf, nodes_of, root_of}
-use Rattle.seg_map.proofs.Common.{is_in, root_in, SameBlockBut, Extent, LiveSet, handle, is_proper, others, released}
-use Rattle.seg_map.proofs.Common.{cells_of, LaysOut, extent_at, live_of, found-less, lay_out_one, live-rises, Chains}
-use Rattle.seg_map.proofs.Common.{In, IsStrict, Pair, is_key, is_rising, pair_at, remove_pair, HoldsMap, nodes_of_pairs}
-use Rattle.seg_map.proofs.{Common.pair_node, Common.IsBesideMap, Common.IsErased, Leaving.in_from, Leaving.nodes_in}
-use Rattle.seg_map.proofs.{Payloads.begins_behind, Payloads.own_handle, FoundPairs.either_right, FoundPairs.rising_rest}
-use Rattle.seg_map.proofs.{Entering.Laws, Staying.AtNode, Staying.at_node}
-use Rattle.seg_map.proofs.PairLists.{Below, in_nodes, removed_all, removed_length, rising_below}
+use Rattle.seg_map.proofs.Common.{cases_Bool, cases_eq, eq-eqb, ne_eqb, current, Cut, bytes_of, word_at, link_at}
+use Rattle.seg_map.proofs.Common.{IsTree, Tree, fork, leaf, nodes_of, root_of, is_in, root_in, SameBlockBut, Extent}
+use Rattle.seg_map.proofs.Common.{LiveSet, handle, is_proper, others, released, cells_of, LaysOut, extent_at, live_of}
+use Rattle.seg_map.proofs.Common.{found-less, lay_out_one, live-rises, Chains, In, IsStrict, Pair, is_key, is_rising}
+use Rattle.seg_map.proofs.Common.{pair_at, remove_pair, HoldsMap, nodes_of_pairs, pair_node, IsBesideMap, IsErased}
+use Rattle.seg_map.proofs.PairLists.{in_from, nodes_in, Below, in_nodes, removed_all, removed_length, rising_below}
 use Rattle.best_fit.specs.Exchange.{exchanged, without_all}
-use Rattle.best_fit.proofs.Laws.{Rising, others-comm, rising-weak}
+use Rattle.best_fit.proofs.Laws.{keeps-refl, Rising, others-comm, rising-weak}
 use Rattle.seg_types.specs.declared.plain.Plain.{Ghosts as Plain}
 use Rattle.seg_map.specs.Changing.{IsGivenUp}
+use Rattle.seg_map.proofs.{Payloads.begins_behind, Payloads.own_handle, FoundPairs.either_right, FoundPairs.rising_rest}
+use Rattle.seg_map.proofs.{Entering.Laws, Staying.AtNode, Staying.at_node, Frames.beside_then, Frames.keeps_beside}
 
 -- ---- extents taken out one after another
 
@@ -113,12 +112,8 @@ going_first k v c h at ps s =
       pairs = ps;
       holds = s;
       among = λ m i. i;
-      beside = record {
-        place = record { before = refl; after = refl };
-        front = record { at = λ n a b. refl };
-        behind = record { at = λ n a b. refl };
-        blocks = λ x f o. record { payload = λ n a b g. refl; colour = refl };
-      };
+      beside = keeps_beside (keeps-refl c []) (λ x f o.
+          record { payload = record { at = λ n a b. refl }; colour = refl });
       there = λ x f o. f;
       size = refl;
       left = refl;
@@ -164,17 +159,7 @@ module _ {K V : Type 0} {k : Plain K} {v : Plain V} (kl : Laws k) {old now : Cut
           pairs = remove_pair k.order g.pairs key;
           holds = e.map;
           among = λ m i. g.among m (fewer_nodes m i);
-          beside = record {
-            place = SamePlace-trans _ _ _ g.beside.place e.beside.place;
-            front = Same-trans _ _ _ _ _ g.beside.front e.beside.front;
-            behind = Same-trans _ _ _ _ _ g.beside.behind e.beside.behind;
-            blocks = λ x f o.
-                let a = g.beside.blocks x f o in let b = e.beside.blocks x (g.there x f o) (off x o) in
-                record {
-                  payload = λ n low high z. b.payload n low high z ∙ a.payload n low high z;
-                  colour = b.colour ∙ a.colour;
-                };
-          };
+          beside = beside_then g.beside e.beside (λ x f o. (g.there x f o, off x o));
           there = λ x f o. rw live_new (found-less (handle x) (handle p.node) x (live_of now.bytes).extents (apart x o)
               (g.there x f o));
           size = ap (λ (l : LiveSet). l.size) live_new ∙ g.size;

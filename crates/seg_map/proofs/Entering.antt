@@ -17,7 +17,7 @@ use Rattle.seg_types.specs.declared.plain.Plain.{Ghosts as Plain}
 use Rattle.seg_types.proofs.Laws.{value-spelled}
 use Rattle.seg_map.specs.PairNodes.{is_block_in, nodes_in}
 use Rattle.seg_map.specs.PairLaws.{comes_irreflexive, comes_transitive, few_extents, handles_length, in_handles}
-use Rattle.seg_map.proofs.FoundLists.{all_reversed, each, find_mapped, map_reversed}
+use Rattle.seg_map.proofs.FoundLists.{all_reversed, each, each_both, find_mapped, map_reversed}
 use Rattle.seg_map.proofs.PairSteps.{all_in, any_at, in_others}
 
 -- the laws of a plain type
@@ -164,6 +164,12 @@ module _ {K V : Type 0} {kp : Plain K} {vp : Plain V} (laws : Laws kp) (c : Cut)
             rw (k.left, k.right) refl);
       }
 
+-- the pairs with their bytes
+pub with_bytes : {K V : Type 0} {kp : Plain K} {vp : Plain V} {b : List ℕ} {h at : ℕ} {ps : List (Pair K V)}
+    → HoldsMap kp vp b h at ps → AllByRecursion (λ (p : Pair K V). IsPairIn kp vp (live_of b) h p
+    × IsPairAt kp.SIZE kp.spelling vp.spelling (bytes_of b) p) ps
+with_bytes {ps = ps} s = each_both ps s.pairs s.map.pairs (λ p i b. (i, b))
+
 -- the nodes may be more than those of the tree
 module _ {K V : Type 0} {kp : Plain K} {vp : Plain V} (laws : Laws kp) {c : Cut} {h at : ℕ} {ps : List (Pair K V)}
     (s : HoldsMap kp vp c.bytes h at ps) {own : List ℕ} (g : Good (16 + kp.SIZE) own c)
@@ -242,3 +248,8 @@ module _ {K V : Type 0} {kp : Plain K} {vp : Plain V} (laws : Laws kp) (c : Cut)
 
   pub count_pairs : length ns ≡ length ps
   count_pairs = ap length s.map.tree.lists ∙ length-nodes ps
+
+-- a map has few pairs
+pub few_in_map : {K V : Type 0} {kp : Plain K} {vp : Plain V} (kl : Laws kp) (c : Cut) {h at : ℕ} {ps : List (Pair K V)}
+    (s : HoldsMap kp vp c.bytes h at ps) → length ps ≤ 1073741824
+few_in_map kl c s = let few = few_pairs kl c s in let same = count_pairs kl c s in omega (arith, few, same)

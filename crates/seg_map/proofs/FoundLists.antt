@@ -10,6 +10,11 @@ pub each : {A : Type 0} {P Q : A → Type 0} (xs : List A) → AllByRecursion P 
 each [] a f = tt
 each (x ∷ xs) a f = (f x a.0, each xs a.1 f)
 
+pub each_both : {A : Type 0} {P Q R : A → Type 0} (xs : List A) → AllByRecursion P xs → AllByRecursion Q xs
+    → ((x : A) → P x → Q x → R x) → AllByRecursion R xs
+each_both [] a b f = tt
+each_both (x ∷ xs) a b f = (f x a.0 b.0, each_both xs a.1 b.1 f)
+
 all_append : {A : Type 0} (P : A → Type 0) (xs ys : List A) → AllByRecursion P xs → AllByRecursion P ys
     → AllByRecursion P (xs ++ ys)
 all_append P [] ys a b = b

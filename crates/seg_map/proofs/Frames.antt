@@ -1,8 +1,10 @@
 -- What stays where a tree call changes the links and the colours of nodes alone.
-use Rattle.seg_map.proofs.Common.{◌≡◌, refl, ap, ◌∙◌, ℕ, ◌+◌, ◌-◌, ◌%◌, ◌<◌, ◌≤◌, ◌⊎◌, inl, inr, true, false, ◌&&◌}
-use Rattle.seg_map.proofs.Common.{◌||◌, not, List, [], ◌∷◌, arith, nat_lt, nat_le, ◌==◌, both_ways, or_left, or_right}
-use Rattle.seg_map.proofs.Common.{eq-eqb, le-leb, lt-ltb, Cut, SamePlace, bytes_of, word_at, is_in, Extent, handle}
-use Rattle.seg_map.proofs.Common.{end_of, Keeps, SameBlock, live_of, is_kept, is_link_byte, is_other, kept_of, Good, In}
+use Rattle.seg_map.proofs.Common.{Some, SamePlace-trans, Same-trans, extent_at, IsBesideMap, IsTrue, has_room}
+use Rattle.seg_map.proofs.Common.{is_proper, ◌≡◌, refl, ap, ◌∙◌, ℕ, ◌+◌, ◌-◌, ◌%◌, ◌<◌, ◌≤◌, ◌⊎◌, inl, inr, true, false}
+use Rattle.seg_map.proofs.Common.{◌&&◌, ◌||◌, not, List, [], ◌∷◌, arith, nat_lt, nat_le, ◌==◌, both_ways, or_left}
+use Rattle.seg_map.proofs.Common.{or_right, eq-eqb, le-leb, lt-ltb, Cut, SamePlace, bytes_of, word_at, is_in, Extent}
+use Rattle.seg_map.proofs.Common.{handle, end_of, Keeps, SameBlock, live_of, is_kept, is_link_byte, is_other, kept_of}
+use Rattle.seg_map.proofs.Common.{Good, In}
 use Rattle.seg_map.proofs.{Common.PairNode, Common.node_place, PairSteps.any_at, PairSteps.block_apart}
 use Rattle.std.proofs.lemmas.Bool.{le-ltb, lt-leb}
 use Rattle.seg_map.specs.PairNodes.{Kept, lies_in_block}
@@ -11,6 +13,14 @@ use Rattle.seg_map.specs.PairNodes.{Kept, lies_in_block}
 pub live_stays : (c d : Cut) (ns ms : List ℕ) → kept_of ms d ≡ kept_of ns c → live_of d.bytes ≡ live_of c.bytes
 unfolding kept_of
 live_stays c d ns ms e = ap (λ (k : Kept). k.live) e
+
+pub kept_proper : (c d : Cut) (ns : List ℕ) → kept_of ns d ≡ kept_of ns c → IsTrue (is_proper (live_of c.bytes))
+    → IsTrue (is_proper (live_of d.bytes))
+kept_proper c d ns e proper = rw (live_stays c d ns ns e) proper
+
+pub kept_room : (c d : Cut) (ns : List ℕ) (h n : ℕ) → kept_of ns d ≡ kept_of ns c
+    → IsTrue (has_room (live_of c.bytes) h n) → IsTrue (has_room (live_of d.bytes) h n)
+kept_room c d ns h n e room = rw (live_stays c d ns ns e) room
 
 -- the list of nodes is kept
 pub own_stays : (c d : Cut) (ns ms : List ℕ) → kept_of ms d ≡ kept_of ns c → ms ≡ ns
@@ -104,3 +114,35 @@ module _ {len : ℕ} {ns : List ℕ} {c : Cut} (d : Cut) (good : Good len ns c) 
         behind = record { at = λ k l h. kept_header k (inr (l, h)) };
         blocks = tt;
       }
+
+-- ---- what stays beside a map
+
+-- beside blocks that all stay
+pub keeps_beside : {a b : Cut} {at : ℕ} {ns : List ℕ} {xs : List Extent} → Keeps a b xs
+    → ((x : Extent) → extent_at (live_of a.bytes) (handle x) ≡ Some x → is_in (handle x) ns ≡ false
+    → SameBlock (bytes_of a.bytes) (bytes_of b.bytes) x) → IsBesideMap a b at ns
+keeps_beside k same =
+    record {
+      place = k.place;
+      front = k.front;
+      behind = k.behind;
+      blocks = λ x f o.
+          let s = same x f o in record { payload = λ n low high z. s.payload.at n low high; colour = s.colour };
+    }
+
+-- and then beside others, where those that stayed are among them
+pub beside_then : {a b c : Cut} {at : ℕ} {ns ms : List ℕ} → IsBesideMap a b at ns → IsBesideMap b c at ms
+    → ((x : Extent) → extent_at (live_of a.bytes) (handle x) ≡ Some x → is_in (handle x) ns ≡ false
+    → (extent_at (live_of b.bytes) (handle x) ≡ Some x) × (is_in (handle x) ms ≡ false)) → IsBesideMap a c at ns
+beside_then p q still =
+    record {
+      place = SamePlace-trans _ _ _ p.place q.place;
+      front = Same-trans _ _ _ _ _ p.front q.front;
+      behind = Same-trans _ _ _ _ _ p.behind q.behind;
+      blocks = λ x f o.
+          let s = still x f o in let m = p.blocks x f o in let n = q.blocks x s.0 s.1 in
+          record {
+            payload = λ k low high z. n.payload k low high z ∙ m.payload k low high z;
+            colour = n.colour ∙ m.colour;
+          };
+    }

@@ -28,6 +28,7 @@ pub use Searching.*
 pub use Relinking.*
 pub use Heads.*
 pub use PairLists.*
+pub use Rewriting.*
 pub use Leaving.*
 pub use Beginnings.*
 pub use Bounds.*

@@ -1,7 +1,7 @@
 -- A node is made: its four parts are written in a new block.
-use Rattle.seg_map.proofs.Common.{◌≡◌, subst, ◌∙◌, ℕ, ◌+◌, ◌≤◌, inl, true, arith, IsTrue, None, current, Cut, Has}
+use Rattle.seg_map.proofs.Common.{◌≡◌, subst, ◌∙◌, ℕ, ◌+◌, ◌≤◌, inl, true, arith, None, current, Cut, Has}
 use Rattle.seg_map.proofs.Common.{bytes_of, Has-same, SameBut-Same, Node, link_at, SameBut-link, IsAllocated, IsChanged}
-use Rattle.seg_map.proofs.{Common.has_room, Common.live_of, Common.IsMade, Common.node_len, Entering.Laws}
+use Rattle.seg_map.proofs.{Common.IsMade, Common.node_len, Entering.Laws}
 use Rattle.best_fit.proofs.Laws.{allocated-room, still_allocated-block}
 use Rattle.seg_types.specs.declared.plain.Plain.{Ghosts as Plain}
 
@@ -15,33 +15,21 @@ still {a} {b} {c} {n} {node} {from} {k} room new change long low high =
 
 module _ {K V : Type 0} {kp : Plain K} (kl : Laws kp) (vp : Plain V) {a b : Cut} {node : ℕ}
     (new : IsAllocated current a b (node_len kp.SIZE vp.SIZE) Node node) where
-  pub room_left : IsTrue (has_room (live_of b.bytes) node 8)
-  room_left = allocated-room _ _ _ _ _ _ 8 new (omega arith)
-
   module _ {c : Cut} (first : IsChanged current b c (node + 0) 8)
       (left : link_at (bytes_of c.bytes) (node + 0) ≡ None) where
     one : IsAllocated current a c (node_len kp.SIZE vp.SIZE) Node node
     one = still 16 new first (omega arith) (omega arith) (omega arith)
-
-    pub room_right : IsTrue (has_room (live_of c.bytes) node 16)
-    room_right = allocated-room _ _ _ _ _ _ 16 one (omega arith)
 
     module _ {d : Cut} (second : IsChanged current c d (node + 8) 8)
         (right : link_at (bytes_of d.bytes) (node + 8) ≡ None) where
       two : IsAllocated current a d (node_len kp.SIZE vp.SIZE) Node node
       two = still 16 one second (omega arith) (omega arith) (omega arith)
 
-      pub room_key : IsTrue (has_room (live_of d.bytes) node (16 + kp.SIZE))
-      room_key = allocated-room _ _ _ _ _ _ (16 + kp.SIZE) two (omega arith)
-
       module _ {e : Cut} {key : K} (is_key : kp.is_value key ≡ true)
           (third : IsChanged current d e (node + 16) kp.SIZE)
           (spelled : Has (bytes_of e.bytes) (node + 16) (kp.spelling key)) where
         three : IsAllocated current a e (node_len kp.SIZE vp.SIZE) Node node
         three = still (16 + kp.SIZE) two third (omega arith) (omega arith) (omega arith)
-
-        pub room_value : IsTrue (has_room (live_of e.bytes) node (16 + kp.SIZE + vp.SIZE))
-        room_value = allocated-room _ _ _ _ _ _ (16 + kp.SIZE + vp.SIZE) three (omega arith)
 
         pub made : {f : Cut} (value : V) → vp.is_value value ≡ true
             → IsChanged current e f (node + (16 + kp.SIZE)) vp.SIZE

@@ -1,12 +1,13 @@
 -- A new pair: its node is made, and enters the map.
 use Rattle.seg_map.proofs.Common.{◌≡◌, refl, sym, ap, subst, ◌∙◌, ℕ, ◌+◌, ◌≢◌, Bool, false, ◌||◌, List, arith, Option}
-use Rattle.seg_map.proofs.Common.{Some, None, IfSome, ne_eqb, current, Cut, Has, bytes_of, SamePlace-trans, Same-trans}
+use Rattle.seg_map.proofs.Common.{Some, None, IfSome, ne_eqb, current, Cut, Has, bytes_of}
 use Rattle.seg_map.proofs.Common.{Node, link_at, is_in, nodes_of, entry_of, entry_same, Extent, handle, LaysOut}
 use Rattle.seg_map.proofs.Common.{SameBlock, extent_at, live_of, laid-heap, live-rises, roomy, Pair, node_len, pair_at}
 use Rattle.seg_map.proofs.Common.{HoldsMap, nodes_of_pairs, In, stands, stands_before, keys_in, entry_in, IsLoose}
 use Rattle.seg_map.proofs.{Common.IsMade, Common.IsPlanted, PairLists.not_among, PairSteps.all_in, Staying.map_stays}
 use Rattle.seg_map.proofs.{Beginnings.keys_agree, Beginnings.known, Entering.Laws, Entering.found_in, Entering.keys}
 use Rattle.seg_map.proofs.FoundLists.{each}
+use Rattle.seg_map.proofs.Frames.{beside_then, keeps_beside}
 use Rattle.best_fit.specs.Fit.{added}
 use Rattle.best_fit.proofs.Laws.{Differs, allocated-live, allocated-room_before, found-more, found-new, place-serves}
 use Rattle.best_fit.proofs.Laws.{rising-insert}
@@ -105,19 +106,11 @@ module _ {K V : Type 0} {kp : Plain K} {vp : Plain V} (kl : Laws kp) (vl : Laws 
         extent = x;
         placed = m.block.placed;
         live = subst (LaysOut current e.bytes) live_d q.live;
-        beside = record {
-          place = SamePlace-trans _ _ _ m.block.keeps.place q.beside.place;
-          front = Same-trans _ _ _ _ _ m.block.keeps.front q.beside.front;
-          behind = Same-trans _ _ _ _ _ m.block.keeps.behind q.beside.behind;
-          blocks = λ y f o.
-              let i = found_in (live_of c.bytes).extents (handle y) y f in
-              let k = kept y i in
-              let b = q.beside.blocks y (still_there y f) (ap (λ (t : Bool). t || is_in (handle y) (nodes_of_pairs ps))
-              (ne_eqb _ _ (differs_at y i)) ∙ o) in
-              record {
-                payload = λ n low high g. b.payload n low high g ∙ k.payload.at n low high;
-                colour = b.colour ∙ k.colour;
-              };
-        };
+        beside = beside_then (keeps_beside m.block.keeps (λ y f o.
+            kept y (found_in (live_of c.bytes).extents (handle y) y f))) q.beside (λ y f o. (
+              still_there y f,
+              ap (λ (t : Bool). t || is_in (handle y) (nodes_of_pairs ps))
+                  (ne_eqb _ _ (differs_at y (found_in (live_of c.bytes).extents (handle y) y f))) ∙ o,
+            ));
         map = q.map;
       }

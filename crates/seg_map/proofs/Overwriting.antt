@@ -1,17 +1,18 @@
 -- Another value is written over that of a key.
-use Rattle.seg_map.proofs.Common.{◌≡◌, refl, sym, ap, subst, ◌∙◌, ℕ, ◌+◌, ◌≢◌, ◌⊎◌, inl, inr, true, false, List, []}
-use Rattle.seg_map.proofs.Common.{◌∷◌, arith, IsTrue, Option, Some, AllByRecursion, both_ways, cases_eq, current, Cut}
-use Rattle.seg_map.proofs.Common.{Has, Same, bytes_of, Has-same, SameBut-Same, nodes_of, is_in, Extent, handle, others}
-use Rattle.seg_map.proofs.Common.{cells_of, IsChanged, Keeps, SameBlock, extent_at, has_room, live_of, beside_cell}
-use Rattle.seg_map.proofs.Common.{changed-keeps, changed-live, changed-room, found-room, laid-heap, roomy, Pair}
-use Rattle.seg_map.proofs.Common.{IsPairAt, pair_at, put_pair, HoldsMap, IsPairIn, nodes_of_pairs, pair_node, PairNode}
-use Rattle.seg_map.proofs.{Common.node_place, Common.keys_in, PairLists.in_nodes}
-use Rattle.seg_map.proofs.Entering.{AreAt, AreIn, HaveKeys, Laws, good, keys, other_block, pair_parts}
+use Rattle.seg_map.proofs.Common.{◌≡◌, refl, sym, ap, subst, ◌∙◌, ℕ, ◌+◌, ◌≢◌, ◌⊎◌, inl, inr, true, false, List, arith}
+use Rattle.seg_map.proofs.Common.{IsTrue, Option, Some, AllByRecursion, both_ways, cases_eq, current, Cut, Has, Same}
+use Rattle.seg_map.proofs.Common.{bytes_of, Has-same, SameBut-Same, nodes_of, is_in, Extent, handle, others, cells_of}
+use Rattle.seg_map.proofs.Common.{IsChanged, Keeps, SameBlock, extent_at, has_room, live_of, beside_cell, changed-keeps}
+use Rattle.seg_map.proofs.Common.{changed-live, changed-room, found-room, laid-heap, roomy, Pair, IsPairAt, pair_at}
+use Rattle.seg_map.proofs.Common.{put_pair, HoldsMap, IsPairIn, nodes_of_pairs, pair_node, PairNode, node_place}
+use Rattle.seg_map.proofs.Common.{keys_in}
+use Rattle.seg_map.proofs.Entering.{with_bytes, Laws, good, keys, other_block, pair_parts}
 use Rattle.seg_map.proofs.PutLists.{neither_parts, pair_of, replaced_all, replaced_nodes, replaced_rising}
 use Rattle.seg_map.proofs.Staying.{at_node, block_cells, lengths, map_over, pair_stays}
 use Rattle.std.proofs.lemmas.Option.{same_Some}
 use Rattle.seg_types.specs.declared.plain.Plain.{Ghosts as Plain}
 use Rattle.seg_map.specs.Changing.{IsPutAgain}
+use Rattle.seg_map.proofs.{PairLists.in_nodes, FoundLists.each_both, Frames.keeps_beside}
 
 module _ {K V : Type 0} {kp : Plain K} {vp : Plain V} (c : Cut) {h at : ℕ} {ps : List (Pair K V)}
     (s : HoldsMap kp vp c.bytes h at ps) (key : K) {p : Pair K V} (has : pair_at kp.order ps key ≡ Some p) where
@@ -77,13 +78,8 @@ module _ {K V : Type 0} {kp : Plain K} {vp : Plain V} (c : Cut) {h at : ℕ} {ps
       bytes : IsPairAt kp.SIZE kp.spelling vp.spelling (bytes_of c.bytes) q
       key_is : keys_in kp (nodes_of s.map.tree.tree) c (pair_node q) ≡ Some q.key
 
-    all_were : (qs : List (Pair K V)) → AreIn kp vp (live_of c.bytes) h qs → AreAt kp vp (bytes_of c.bytes) qs
-        → HaveKeys (keys_in kp (nodes_of s.map.tree.tree) c) qs → AllByRecursion Was qs
-    all_were [] a b k = tt
-    all_were (q ∷ qs) a b k = (record { block = a.0; bytes = b.0; key_is = k.0 }, all_were qs a.1 b.1 k.1)
-
     were : AllByRecursion Was ps
-    were = all_were ps s.pairs s.map.pairs (keys kl c s)
+    were = each_both ps (with_bytes s) (keys kl c s) (λ q w k. record { block = w.0; bytes = w.1; key_is = k })
 
     -- another pair has another node
     other_node : (q : Pair K V) → Was q → (kp.order key q.key ≡ true) ⊎ (kp.order q.key key ≡ true)
@@ -145,14 +141,7 @@ module _ {K V : Type 0} {kp : Plain K} {vp : Plain V} (c : Cut) {h at : ℕ} {ps
     is_put_again =
         record {
           live = change.live;
-          beside = record {
-            place = change.place;
-            front = keeps.front;
-            behind = keeps.behind;
-            blocks = λ y f o.
-                let b = block_stays y (handle y) f (λ e. both_ways _ o
-                (ap (λ n. is_in n (nodes_of_pairs ps)) e ∙ in_nodes kp.order ps key p has)) in
-                record { payload = λ n low high g. b.payload.at n low high; colour = b.colour };
-          };
+          beside = keeps_beside keeps (λ y f o. block_stays y (handle y) f (λ e. both_ways _ o
+              (ap (λ n. is_in n (nodes_of_pairs ps)) e ∙ in_nodes kp.order ps key p has)));
           map = map_after;
         }

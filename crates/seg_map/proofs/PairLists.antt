@@ -2,10 +2,12 @@
 use Rattle.seg_map.proofs.Common.{◌≡◌, refl, sym, ap, ◌∙◌, ℕ, suc, ◌≢◌, inl, inr, Bool, true, false, ◌||◌, List, []}
 use Rattle.seg_map.proofs.Common.{◌∷◌, length, ◌==◌, Option, Some, AllByRecursion, both_ways, cases_Bool, and_parts}
 use Rattle.seg_map.proofs.Common.{or_left, or_right, eq-eqb, ne_eqb, is_in, without, Chains, IsStrict, Pair, is_key}
-use Rattle.seg_map.proofs.Common.{is_rising, pair_at, remove_pair, nodes_of_pairs, pair_node}
-use Rattle.seg_map.proofs.{Entering.HaveKeys, FoundPairs.rising_rest}
+use Rattle.seg_map.proofs.Common.{is_rising, pair_at, remove_pair, nodes_of_pairs, pair_node, LiveSet, eqb-true}
+use Rattle.seg_map.proofs.Common.{false≢true, or_cases}
+use Rattle.seg_types.specs.declared.plain.Plain.{Ghosts as Plain}
 use Rattle.std.proofs.{Common.nat_eq, lemmas.Bool.or_parts}
 use Rattle.link_tree.proofs.Laws.{without_none}
+use Rattle.seg_map.proofs.{Entering.HaveKeys, Entering.AreIn, FoundPairs.rising_rest, FoundLists.each}
 
 -- ---- a node that is taken out
 
@@ -27,6 +29,31 @@ pub not_among : {K V : Type 0} (n : ℕ) (ps : List (Pair K V)) → AllByRecursi
 not_among n [] a = refl
 not_among n (p ∷ ps) a = ap (λ (b : Bool). b || is_in n (nodes_of_pairs ps))
     (ne_eqb n (pair_node p) (λ e. a.0 (sym e))) ∙ not_among n ps a.1
+
+-- the object's block is no node
+pub apart_all : {K V : Type 0} (kp : Plain K) (vp : Plain V) (live : LiveSet) (h : ℕ) (ps : List (Pair K V))
+    → AreIn kp vp live h ps → is_in h (nodes_of_pairs ps) ≡ false
+apart_all kp vp live h ps a = not_among h ps (each ps a (λ q i. i.apart))
+
+pub in_from : {K V : Type 0} (ms : List ℕ) (ps : List (Pair K V))
+    → AllByRecursion (λ p. is_in (pair_node p) ms ≡ true) ps → (m : ℕ) → is_in m (nodes_of_pairs ps) ≡ true
+    → is_in m ms ≡ true
+in_from ms [] a m i = absurd (false≢true i)
+in_from ms (p ∷ ps) a m i =
+    elim (or_cases _ _ i) [
+      | inl e ↦ ap (λ n. is_in n ms) (eqb-true m (pair_node p) e) ∙ a.0
+      | inr e ↦ in_from ms ps a.1 m e
+    ]
+
+-- each pair's node is among the nodes
+pub nodes_in : {K V : Type 0} (ms : List ℕ) (ps : List (Pair K V))
+    → ((m : ℕ) → is_in m (nodes_of_pairs ps) ≡ true → is_in m ms ≡ true)
+    → AllByRecursion (λ p. is_in (pair_node p) ms ≡ true) ps
+nodes_in ms [] f = tt
+nodes_in ms (p ∷ ps) f = (
+  f (pair_node p) (or_left _ _ (eq-eqb (pair_node p) (pair_node p) refl)),
+  nodes_in ms ps (λ m i. f m (or_right _ _ i)),
+)
 
 module _ {K V : Type 0} (less : K → K → Bool) where
   pub in_nodes : (ps : List (Pair K V)) (key : K) (p : Pair K V) → pair_at less ps key ≡ Some p

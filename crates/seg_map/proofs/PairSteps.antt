@@ -5,7 +5,7 @@ use Rattle.seg_map.proofs.Common.{IfSome, if◌then◌else◌, AllByRecursion, l
 use Rattle.seg_map.proofs.Common.{cases_eq, and_parts, or_cases, or_left, or_right, eqb-true, eq-eqb, ne_eqb, leb-true}
 use Rattle.seg_map.proofs.Common.{le-leb, ltb-true, lt-ltb, Cut, Same, SamePlace, bytes_of, read, word_at, current}
 use Rattle.seg_map.proofs.Common.{SameBut-Same, SameBut-word, is_in, leads, all_from, link_at, Same-link, SameBut-link}
-use Rattle.seg_map.proofs.Common.{Extent, LiveSet, handle, end_of, is_proper, others, cells_of, IsChanged, SameBlock}
+use Rattle.seg_map.proofs.Common.{Extent, LiveSet, handle, end_of, others, cells_of, IsChanged, SameBlock}
 use Rattle.seg_map.proofs.Common.{is_live_in, has_room, live_of, beside_cell, cell_stays, is_proper-IsProper}
 use Rattle.seg_map.proofs.Common.{lay_out_one, is_kept, is_link_byte, is_other, is_pair_node, kept_of, key_at, key_of}
 use Rattle.seg_map.proofs.Common.{links_among, pair_cells, Good, In, PairNode, PairNode-is_pair_node, cells_at}
@@ -18,6 +18,9 @@ use Rattle.best_fit.specs.{FreeTree.is_red, Heap.IsRecoloured, Heap.is_node_in, 
 use Rattle.best_fit.proofs.Laws.{others-here, others-past}
 use Rattle.seg_map.specs.PairNodes.{is_good}
 use Rattle.seg_map.specs.PairLaws.{Good-is_good, Place, cells_off, link_parts, links_at}
+use Rattle.seg_types.specs.declared.plain.Plain.{Ghosts as Plain}
+use Rattle.seg_map.specs.declared.reading.Sought.{Sought}
+use Rattle.seg_map.proofs.Common.{comes_before, keys_in, stands_before, value_in}
 
 -- what a setter does to the window
 pub record Changed (len : ℕ) (ns : List ℕ) (c d : Cut) (n : ℕ) : Type 0 where
@@ -220,6 +223,11 @@ nodes_apart {len} {ns} {c} {n} {m} g h o =
 
 -- ---- a link is set
 
+-- the links of a node are these now, and nothing else changes
+record LinksSet (len : ℕ) (ns : List ℕ) (c d : Cut) (n : ℕ) (left right : Option ℕ) : Type 0 where
+  own : cells_of (bytes_of d.bytes) n ≡ record { left = left; right = right; red = is_red (bytes_of c.bytes) n }
+  changed : Changed len ns c d n
+
 module _ {len : ℕ} {ns : List ℕ} {c d : Cut} {n from : ℕ} (g : PairNode len ns c n)
     (change : IsChanged current c d from 8)
     (long : 16 ≤ len) (low : n ≤ from) (high : from + 8 ≤ n + 16) where
@@ -267,51 +275,20 @@ module _ {len : ℕ} {ns : List ℕ} {c d : Cut} {n from : ℕ} (g : PairNode le
             | inr l ↦ inr (omega arith)
           ]
 
-module _ {len : ℕ} {ns : List ℕ} {c d : Cut} {n from : ℕ} {to : Option ℕ} (g : PairNode len ns c n)
-    (target : leads (is_pair_node len ns c) to ≡ true) (set : link_at (bytes_of d.bytes) from ≡ to)
-    (change : IsChanged current c d from 8)
-    (long : 16 ≤ len) (at : from ≡ n) where
-  left_own : cells_of (bytes_of d.bytes) n ≡ record (cells_of (bytes_of c.bytes) n) { left = to }
-  left_own =
-      let low = (node_place len ns c n g).low in
-      let left : link_at (bytes_of d.bytes) n ≡ to = subst (λ k. link_at (bytes_of d.bytes) k ≡ to) at set in
-      let right = SameBut-link _ _ _ _ (n + 8) change.rest (inr (omega arith)) in
+  -- both links are known then
+  links_set : {left right : Option ℕ} → link_at (bytes_of d.bytes) n ≡ left → link_at (bytes_of d.bytes) (n + 8) ≡ right
+      → leads (λ k. is_in k ns) left ≡ true → leads (λ k. is_in k ns) right ≡ true → LinksSet len ns c d n left right
+  links_set {left} {right} l r l_in r_in =
+      let least = p.low in
       let red = ap (λ w. w / 2 % 2 == 1) (SameBut-word _ _ _ _ (n - 8) change.rest (inl (omega arith))) in
-      λ i. record { left = left i; right = right i; red = red i }
-
-  pub left_changed : Changed len ns c d n
-  left_changed =
-      let two = link_parts g in
-      link_changed g change long (omega arith) (omega arith)
-      (subst (λ (x : Cell). (leads (λ k. is_in k ns) x.left && leads (λ k. is_in k ns) x.right) ≡ true) (sym left_own)
-      (rw (leads_in len ns c to target, two.1) refl))
-
-  pub left_cells : pair_cells len ns d ≡ with_left (pair_cells len ns c) n to
-  unfolding with_left
-  left_cells = one_cell g left_changed (λ (x : Cell). record x { left = to }) left_own
-
-module _ {len : ℕ} {ns : List ℕ} {c d : Cut} {n from : ℕ} {to : Option ℕ} (g : PairNode len ns c n)
-    (target : leads (is_pair_node len ns c) to ≡ true) (set : link_at (bytes_of d.bytes) from ≡ to)
-    (change : IsChanged current c d from 8)
-    (long : 16 ≤ len) (at : from ≡ n + 8) where
-  right_own : cells_of (bytes_of d.bytes) n ≡ record (cells_of (bytes_of c.bytes) n) { right = to }
-  right_own =
-      let low = (node_place len ns c n g).low in
-      let left = SameBut-link _ _ _ _ n change.rest (inl (omega arith)) in
-      let right : link_at (bytes_of d.bytes) (n + 8) ≡ to = subst (λ k. link_at (bytes_of d.bytes) k ≡ to) at set in
-      let red = ap (λ w. w / 2 % 2 == 1) (SameBut-word _ _ _ _ (n - 8) change.rest (inl (omega arith))) in
-      λ i. record { left = left i; right = right i; red = red i }
-
-  pub right_changed : Changed len ns c d n
-  right_changed =
-      let two = link_parts g in
-      link_changed g change long (omega arith) (omega arith)
-      (subst (λ (x : Cell). (leads (λ k. is_in k ns) x.left && leads (λ k. is_in k ns) x.right) ≡ true) (sym right_own)
-      (rw (two.0, leads_in len ns c to target) refl))
-
-  pub right_cells : pair_cells len ns d ≡ with_right (pair_cells len ns c) n to
-  unfolding with_right
-  right_cells = one_cell g right_changed (λ (x : Cell). record x { right = to }) right_own
+      let own : cells_of (bytes_of d.bytes) n
+      ≡ record { left = left; right = right; red = is_red (bytes_of c.bytes) n } = λ i.
+      record { left = l i; right = r i; red = red i } in
+      record {
+        own = own;
+        changed = link_changed (subst (λ (x : Cell). (leads (λ k. is_in k ns) x.left && leads (λ k. is_in k ns) x.right)
+            ≡ true) (sym own) (rw (l_in, r_in) refl));
+      }
 
 -- ---- a colour is set
 
@@ -402,46 +379,100 @@ module _ {len : ℕ} {ns : List ℕ} {c d : Cut} {n : ℕ} {red : Bool} (g : Pai
             record { at = λ k l h. s.at k (omega arith) h };
       }
 
-  pub red_cells : pair_cells len ns d ≡ with_red (pair_cells len ns c) n red
+-- ---- what a setter leaves
+
+-- the nodes that stand before what is looked for
+abbrev ahead_of : {K : Type 0} → Plain K → List ℕ → Cut → Sought K → ℕ → Bool
+ahead_of k ns c s = stands_before k.order (keys_in k ns c) s.past s.key
+
+pub record IsSet {K : Type 0} (k : Plain K) (ns : List ℕ) (c d : Cut) (now : ℕ → Cell) : Type 0 where
+  pub cells : pair_cells (16 + k.SIZE) ns d ≡ now
+  pub nodes : is_pair_node (16 + k.SIZE) ns d ≡ is_pair_node (16 + k.SIZE) ns c
+  pub order : comes_before k.order (keys_in k ns d) ≡ comes_before k.order (keys_in k ns c)
+  pub probe : ahead_of k ns d ≡ ahead_of k ns c
+  pub kept : kept_of ns d ≡ kept_of ns c
+
+module _ {K : Type 0} (k : Plain K) {ns : List ℕ} {c : Cut} {n : ℕ} (g : PairNode (16 + k.SIZE) ns c n) {d : Cut} where
+  set : (cells : ℕ → Cell) → Changed (16 + k.SIZE) ns c d n → pair_cells (16 + k.SIZE) ns d ≡ cells
+      → IsSet k ns c d cells
+  set cells change is =
+      let keys = keys_stay (value_in k.reading k.is_value k.spelling) k.SIZE g change in
+      record {
+        cells = is;
+        nodes = nodes_stay g change;
+        order = λ i. comes_before k.order (keys i);
+        probe = λ i wanted. stands_before k.order (keys i) wanted.past wanted.key;
+        kept = kept_stays g change;
+      }
+
+  module _ (to : Option ℕ) (target : leads (is_pair_node (16 + k.SIZE) ns c) to ≡ true) where
+    pub left_set : link_at (bytes_of d.bytes) (n + 0) ≡ to → IsChanged current c d (n + 0) 8
+        → IsSet k ns c d (with_left (pair_cells (16 + k.SIZE) ns c) n to)
+    unfolding with_left
+    left_set left change =
+        let e : n + 0 ≡ n = omega arith in let one = rw e at left in
+        let right = SameBut-link _ _ _ _ (n + 8) change.rest (inr (omega arith)) in
+        let o = links_set g change (omega arith) (omega arith) (omega arith) one right
+        (leads_in (16 + k.SIZE) ns c to target) (link_parts g).1 in
+        set _ o.changed (one_cell g o.changed (λ (x : Cell). record x { left = to }) o.own)
+
+    pub right_set : link_at (bytes_of d.bytes) (n + 8) ≡ to → IsChanged current c d (n + 8) 8
+        → IsSet k ns c d (with_right (pair_cells (16 + k.SIZE) ns c) n to)
+    unfolding with_right
+    right_set right change =
+        let left = SameBut-link _ _ _ _ n change.rest (inl (omega arith)) in
+        let o = links_set g change (omega arith) (omega arith) (omega arith) left right (link_parts g).0
+        (leads_in (16 + k.SIZE) ns c to target) in
+        set _ o.changed (one_cell g o.changed (λ (x : Cell). record x { right = to }) o.own)
+
+  pub red_set : {red : Bool} → IsRecoloured current c d n red
+      → IsSet k ns c d (with_red (pair_cells (16 + k.SIZE) ns c) n red)
   unfolding with_red
-  red_cells = one_cell g red_changed (λ (x : Cell). record x { red = red }) red_own
+  red_set {red} change =
+      let changed = red_changed g change (omega arith) in
+      set _ changed (one_cell g changed (λ (x : Cell). record x { red = red }) (red_own g change (omega arith)))
 
 -- ---- what is asked and answered of a node
 
-module _ (len : ℕ) (ns : List ℕ) (c : Cut) (n : ℕ) (h : is_pair_node len ns c n ≡ true) where
-  pub place_of : Place len c n
-  place_of = node_place len ns c n (is_pair_node-PairNode len ns c n h)
+-- the heap may be reached by another name
+module _ (len : ℕ) (ns : List ℕ) (c w : Cut) (n : ℕ) (h : is_pair_node len ns c n ≡ true) (same : w ≡ c) where
+  g : PairNode len ns c n
+  g = is_pair_node-PairNode len ns c n h
 
-  pub proper_of : IsTrue (is_proper (live_of c.bytes))
-  proper_of = (is_pair_node-PairNode len ns c n h).good.proper
+  pub node_room : (k : ℕ) → k ≤ len → IsTrue (has_room (live_of w.bytes) n k)
+  node_room k l = rw same (room_of k (node_place len ns c n g) l)
 
-  pub room_in : (k : ℕ) → k ≤ len → IsTrue (has_room (live_of c.bytes) n k)
-  room_in k l = room_of k place_of l
+  pub node_used : IsTrue (is_live_in (live_of w.bytes) n)
+  node_used = rw same (live_node (node_place len ns c n g))
 
-  pub left_is : link_at (bytes_of c.bytes) (n + 0) ≡ (pair_cells len ns c n).left
-  left_is = let e : n + 0 ≡ n = omega arith in ap (link_at (bytes_of c.bytes)) e
-      ∙ ap (λ (x : Cell). x.left) (sym (cells_at len ns c n h))
+  pub node_marked : IsTrue (is_node_in (live_of w.bytes) n)
+  node_marked = rw same (node_live (node_place len ns c n g))
 
-  pub right_is : link_at (bytes_of c.bytes) (n + 8) ≡ (pair_cells len ns c n).right
-  right_is = ap (λ (x : Cell). x.right) (sym (cells_at len ns c n h))
+  cell_is : cells_of (bytes_of w.bytes) n ≡ pair_cells len ns c n
+  cell_is = rw same (sym (cells_at len ns c n h))
 
-  pub red_is : is_red (bytes_of c.bytes) n ≡ (pair_cells len ns c n).red
-  red_is = ap (λ (x : Cell). x.red) (sym (cells_at len ns c n h))
+  pub node_left : link_at (bytes_of w.bytes) (n + 0) ≡ (pair_cells len ns c n).left
+  node_left = let e : n + 0 ≡ n = omega arith in ap (link_at (bytes_of w.bytes)) e ∙ ap (λ (x : Cell). x.left) cell_is
 
--- what reading its key asks for
-pub record KeyRoom (size : ℕ) (c : Cut) (n : ℕ) : Type 0 where
-  pub proper : IsTrue (is_proper (live_of c.bytes))
-  pub room : IsTrue (has_room (live_of c.bytes) n (16 + size))
+  pub node_right : link_at (bytes_of w.bytes) (n + 8) ≡ (pair_cells len ns c n).right
+  node_right = ap (λ (x : Cell). x.right) cell_is
 
-pub key_room : (size : ℕ) (ns : List ℕ) (c : Cut) (n : ℕ) → is_pair_node (16 + size) ns c n ≡ true → KeyRoom size c n
-key_room size ns c n h =
-    record {
-      proper = proper_of (16 + size) ns c n h;
-      room = room_in (16 + size) ns c n h (16 + size) (le_refl (16 + size));
-    }
+  pub node_colour : is_red (bytes_of w.bytes) n ≡ (pair_cells len ns c n).red
+  node_colour = ap (λ (x : Cell). x.red) cell_is
 
--- the key that is read
-pub key_is : {K : Type 0} (value : List ℕ → Option K) (size : ℕ) (ns : List ℕ) (c : Cut) (n : ℕ)
-    → is_pair_node (16 + size) ns c n ≡ true → value (read (bytes_of c.bytes) (n + 16) size) ≡ key_of value size ns c n
+pub node_key : {K : Type 0} (value : List ℕ → Option K) (size : ℕ) (ns : List ℕ) (c w : Cut) (n : ℕ)
+    → is_pair_node (16 + size) ns c n ≡ true → w ≡ c
+    → value (read (bytes_of w.bytes) (n + 16) size) ≡ key_of value size ns c n
 unfolding key_of key_at
-key_is value size ns c n h = rw h refl
+node_key value size ns c w n h same = rw (same, h) refl
+
+pub ruleset nodes = (
+  node_room,
+  node_used,
+  node_marked,
+  node_left,
+  node_right,
+  node_colour,
+  node_key,
+  target_whole,
+)

@@ -1,20 +1,19 @@
 -- A pair whose node is made enters the map.
-use Rattle.seg_map.proofs.Common.{◌≡◌, refl, sym, ap, subst, ◌∙◌, ℕ, ◌+◌, ◌*◌, ◌%◌, ◌≤◌, inl, inr, true, false, not}
-use Rattle.seg_map.proofs.Common.{◌&&◌, List, ◌∷◌, length, arith, Option, Some, None, IfSome, and_parts, eqb-true}
-use Rattle.seg_map.proofs.Common.{eq-eqb, or_cases, or_left, or_right, current, Cut, bytes_of, link_at, bits, nodes_of}
-use Rattle.seg_map.proofs.Common.{has_place, is_in, leads, put, entry_of, all_from, entry_same, handle, cells_of}
-use Rattle.seg_map.proofs.Common.{LaysOut, live_of, Pair, IsPairAt, put_pair, HoldsMap, IsPairIn, nodes_of_pairs}
-use Rattle.seg_map.proofs.Common.{pair_node, comes_before, is_pair_node, key_at, key_of, links_among, own_nodes, stands}
-use Rattle.seg_map.proofs.Common.{stands_before, Good, PairNode-is_pair_node, IsKeyTree, Linked, keys_in, IsBesideMap}
-use Rattle.seg_map.proofs.Entering.{HaveKeys, Laws, count_pairs, few_pairs, good, keys, keys_among, listed, pair_block}
-use Rattle.seg_map.proofs.{Common.IsHeaded, Common.IsLoose, Common.IsPlanted, Common.entry_in, PairSteps.target_whole}
-use Rattle.seg_map.proofs.{Beginnings.beside as not_beside, Beginnings.keys_agree, Beginnings.moved, Searching.lent_own}
-use Rattle.seg_map.proofs.{Entering.pair_parts, Entering.tree_among, Entering.read_spelled, Frames.live_stays}
-use Rattle.seg_map.proofs.{Rewriting.beside, Rewriting.rewritten, Leaving.apart_all, Leaving.in_from, Leaving.nodes_in}
+use Rattle.seg_map.proofs.Common.{◌≡◌, refl, sym, ap, ◌∙◌, ℕ, ◌+◌, inl, inr, true, false, not, ◌&&◌, List, ◌∷◌, length}
+use Rattle.seg_map.proofs.Common.{arith, Option, Some, None, IfSome, and_parts, eqb-true, eq-eqb, or_cases, or_left}
+use Rattle.seg_map.proofs.Common.{or_right, Cut, bytes_of, link_at, nodes_of, has_place, is_in, leads, put, entry_of}
+use Rattle.seg_map.proofs.Common.{all_from, entry_same, handle, cells_of, Pair, HoldsMap, pair_node, comes_before}
+use Rattle.seg_map.proofs.Common.{is_pair_node, key_at, key_of, links_among, own_nodes, stands, stands_before, Good}
+use Rattle.seg_map.proofs.Common.{PairNode-is_pair_node, IsKeyTree, Relinked, keys_in, IsHeaded, IsLoose, IsPlanted}
+use Rattle.seg_map.proofs.Common.{entry_in}
+use Rattle.seg_map.proofs.Entering.{HaveKeys, Laws, good, keys, keys_among, listed, pair_block, pair_parts, tree_among}
+use Rattle.seg_map.proofs.Entering.{read_spelled}
+use Rattle.seg_map.proofs.Beginnings.{beside as not_beside, keys_agree, moved}
 use Rattle.seg_map.proofs.PutLists.{place_of, put_all, put_length, put_nodes, put_rising}
 use Rattle.link_tree.proofs.Laws.{all_at}
 use Rattle.seg_types.specs.declared.plain.Plain.{Ghosts as Plain}
 use Rattle.seg_map.specs.Linking.{CanLink}
+use Rattle.seg_map.proofs.{Searching.lent_own, Rewriting.relaid}
 
 -- a link among nodes is one among more of them
 leads_more : (n : ℕ) (ns : List ℕ) (o : Option ℕ) → leads (λ j. is_in j ns) o ≡ true
@@ -24,19 +23,19 @@ leads_more n ns (Some m) h = or_right _ _ h
 
 module _ {K V : Type 0} {kp : Plain K} {vp : Plain V} (kl : Laws kp) (c : Cut) {h at : ℕ} {root : Option ℕ}
     {ps : List (Pair K V)} (s : HoldsMap kp vp c.bytes h at ps) (is : root ≡ link_at (bytes_of c.bytes) (h + at))
-    {p : Pair K V} (l : IsLoose kp vp c.bytes h ps p) where
+    {p : Pair K V} (l : IsLoose kp vp c.bytes h ps p) {node : ℕ} (here : pair_node p ≡ node) where
+  abbrev lent : List ℕ
+  lent = own_nodes c.bytes root (Some node)
+
   abbrev ns : List ℕ
   ns = nodes_of s.map.tree.tree
 
   abbrev all : List ℕ
   all = pair_node p ∷ nodes_of s.map.tree.tree
 
-  ns_is : own_nodes c.bytes root (Some (pair_node p)) ≡ all
+  ns_is : lent ≡ all
   unfolding own_nodes
-  ns_is = ap (λ (ms : List ℕ). pair_node p ∷ ms) (lent_own kl c s is refl)
-
-  all_own : all ≡ pair_node p ∷ nodes_of_pairs ps
-  all_own = ap (λ (ms : List ℕ). pair_node p ∷ ms) (listed kl c s)
+  ns_is = λ i. sym here i ∷ lent_own kl c s is refl i
 
   links_all : (m : ℕ) → is_in m all ≡ true → links_among (bytes_of c.bytes) all m ≡ true
   links_all m i =
@@ -83,8 +82,8 @@ module _ {K V : Type 0} {kp : Plain K} {vp : Plain V} (kl : Laws kp) (c : Cut) {
   keys_all : HaveKeys (keys_in kp all c) ps
   keys_all = keys_among kl s good_all in_all
 
-  key_tree : IsKeyTree kp all c root s.map.tree.tree
-  key_tree = rw is (tree_among kl s good_all in_all)
+  pub planted_tree : IsKeyTree kp lent c root s.map.tree.tree
+  planted_tree = rw (ns_is, is) (tree_among kl s good_all in_all)
 
   -- an insertion begins where the search for the key says
   begins_all : (start : Option ℕ) → IfSome start (λ n. entry_in kp c p.key s.map.tree.tree ≡ Some n)
@@ -101,60 +100,26 @@ module _ {K V : Type 0} {kp : Plain K} {vp : Plain V} (kl : Laws kp) (c : Cut) {
       ap (stands kp.order false p.key) (keys_agree (keys_in kp ns c) (keys_in kp all c) ps (keys kl c s) keys_all m j)
       ∙ not_beside kp.order kl.irreflexive kl.transitive (keys_in kp all c) p own_key ps keys_all l.absent m j)) b
 
-  pub can_link : (start : Option ℕ) → IfSome start (λ n. entry_in kp c p.key s.map.tree.tree ≡ Some n) → {node : ℕ}
-      → pair_node p ≡ node
-      → CanLink kp (own_nodes c.bytes root (Some node)) c root start node
-  can_link start begins {node} e =
-      subst (λ (n : ℕ). CanLink kp (own_nodes c.bytes root (Some n)) c root start n) e
-      (rw ns_is (record {
+  pub can_link : (start : Option ℕ) → IfSome start (λ n. entry_in kp c p.key s.map.tree.tree ≡ Some n)
+      → CanLink kp lent c root start node
+  can_link start begins =
+      rw (ns_is, ← here) (record {
         shape = s.map.tree.tree;
-        tree = key_tree;
+        tree = rw is (tree_among kl s good_all in_all);
         own = node_all (pair_node p) own_in;
         place = ap (has_place (comes_before kp.order (keys_in kp all c)) (pair_node p)) (listed kl c s)
             ∙ place_of kp.order (keys_in kp all c) p own_key ps keys_all l.absent;
         begins = begins_all start begins;
-      }))
+      })
 
-  module _ {d : Cut} {node : ℕ} (here : pair_node p ≡ node) {top : Option ℕ} {steps : ℕ}
-      (k : Linked kp (own_nodes c.bytes root (Some node)) c d root node top steps) where
-    u : Linked kp all c d root (pair_node p) top steps
-    u = subst (λ (ms : List ℕ). Linked kp ms c d root (pair_node p) top steps) ns_is
-        (subst (λ (n : ℕ). Linked kp (own_nodes c.bytes root (Some n)) c d root n top steps) (sym here) k)
-
-    pub live_put : live_of d.bytes ≡ live_of c.bytes
-    live_put = live_stays c d all all u.kept
-
-    pub top_put : IfSome top (λ t. t % 16 ≡ 0)
-    top_put = let r = u.tree s.map.tree.tree key_tree in target_whole (16 + kp.SIZE) all d top r.1.leads
-
-    pub few_put : steps ≤ 32 * bits (length ps + 1) + 32
-    few_put = subst (λ n. steps ≤ 32 * bits (n + 1) + 32) (count_pairs kl c s) (u.few s.map.tree.tree key_tree)
-
-    off : is_in h all ≡ false
-    off = ap (is_in h) all_own ∙ apart_all kp vp (live_of c.bytes) h (p ∷ ps) (l.block, s.pairs)
-
-    -- the map with the pair
-    pub planted : Laws vp → {e : Cut} {n : ℕ} → n ≡ length ps + 1 → IsHeaded d e (h + at) top n
-        → IsPlanted kp vp c e h at ps p
-    planted vl {e} {n} count head =
-        let r = u.tree s.map.tree.tree key_tree in
-        let lists : nodes_of r.0 ≡ nodes_of_pairs (put_pair kp.order p ps) =
-        r.2 ∙ ap (put (comes_before kp.order (keys_in kp all c)) (pair_node p)) (listed kl c s)
-        ∙ put_nodes kp.order (keys_in kp all c) p own_key ps keys_all l.absent in
-        let more = put_length kp.order p ps l.absent in
-        record {
-          live = subst (LaysOut current e.bytes) live_put head.change.live;
-          beside = subst (IsBesideMap c e (h + at)) all_own (beside kl vl h at s.heap good_all u.kept s.room off head);
-          map = rewritten kl vl h at s.heap good_all u.kept s.room off head (put_pair kp.order p ps) r.1 lists
-              (put_all kp.order (IsPairIn kp vp (live_of c.bytes) h) p ps l.block s.pairs)
-              (in_from all (put_pair kp.order p ps) (put_all kp.order (λ q. is_in (pair_node q) all ≡ true) p ps own_in
-              (nodes_in all ps (λ m i. in_all m (ap (λ ms. is_in m ms) (listed kl c s) ∙ i)))))
-              s.aligned (put_rising kp.order kl.transitive p ps l.absent s.rising)
-              (put_all kp.order (IsPairAt kp.SIZE kp.spelling vp.spelling (bytes_of c.bytes)) p ps l.bytes s.map.pairs)
-              (omega (arith, more, count));
-        }
-
--- a map has few pairs
-pub few_in_map : {K V : Type 0} {kp : Plain K} {vp : Plain V} (kl : Laws kp) (c : Cut) {h at : ℕ} {ps : List (Pair K V)}
-    (s : HoldsMap kp vp c.bytes h at ps) → length ps ≤ 1073741824
-few_in_map kl c s = let few = few_pairs kl c s in let same = count_pairs kl c s in omega (arith, few, same)
+  -- the map with the pair
+  pub planted : {d e : Cut} {top : Option ℕ} {n steps : ℕ}
+      → Relinked kp lent c d root top (put (comes_before kp.order (keys_in kp lent c)) node) steps → Laws vp
+      → n ≡ length ps + 1 → IsHeaded d e (h + at) top n → IsPlanted kp vp c e h at ps p
+  planted u vl count head =
+      relaid s planted_tree u kl vl (p ∷ ps) (l.block, s.pairs) (l.bytes, s.map.pairs)
+      (ns_is ∙ ap (λ (ms : List ℕ). pair_node p ∷ ms) (listed kl c s)) (rw ns_is good_all) head
+      ((λ i. put (comes_before kp.order (keys_in kp (ns_is i) c)) (sym here i) (listed kl c s i))
+      ∙ put_nodes kp.order (keys_in kp all c) p own_key ps keys_all l.absent)
+      (λ P a. put_all kp.order P p ps a.0 a.1) (put_rising kp.order kl.transitive p ps l.absent s.rising)
+      (let more = put_length kp.order p ps l.absent in omega (arith, more, count))

@@ -5,17 +5,17 @@ use Rattle.seg_map.proofs.Common.{if◌then◌else◌, AllByRecursion, last_or, 
 use Rattle.seg_map.proofs.Common.{Tree, bits, nodes_of, first_not, last_before, entry_of, has_room, live_of, found-room}
 use Rattle.seg_map.proofs.Common.{room-less, IsKeyTree, keys_in, Pair, IsPairAt, is_rising, pair_at, Chains}
 use Rattle.seg_map.proofs.Common.{comes_before, own_nodes, pair_cells, stands_before, HoldsMap, IsPairIn, final_pair}
-use Rattle.seg_map.proofs.Entering.{AreAt, AreIn, HaveKeys, Laws, first_node, key_tree, keys, last_node, length-nodes}
 use Rattle.seg_map.proofs.Common.{first_pair, is_passed, last_pair, pair_node, entry_in, exit_in}
-use Rattle.seg_map.proofs.Entering.{own, pair_parts, read_spelled, value_of}
-use Rattle.seg_map.proofs.{Beginnings.narrowed, FoundLists.all_reversed, FoundLists.each, FoundLists.last_mapped}
-use Rattle.seg_map.proofs.FoundPairs.{by_key, pair_by_key}
+use Rattle.seg_map.proofs.Entering.{Laws, first_node, key_tree, keys, last_node, length-nodes, with_bytes, own}
+use Rattle.seg_map.proofs.Entering.{pair_parts, read_spelled, value_of}
+use Rattle.seg_map.proofs.FoundLists.{each_both, all_reversed, each, last_mapped}
 use Rattle.std.specs.Prelude.{option_and_then}
 use Rattle.link_tree.specs.{Searching.path_length, Ways.exit_of}
 use Rattle.seg_types.specs.declared.plain.Plain.{Ghosts as Plain}
 use Rattle.seg_map.specs.Searches.{FindsExit, IsOpened, IsRead, LooksFor, LooksUp, item_at, last_path, node_with}
 use Rattle.seg_map.specs.{PairNodes.both, Places.IsSomeMap, Places.SearchSteps, Places.item_of, Places.value_of_pair}
 use Rattle.seg_map.specs.Searches.{path_in, reading_steps}
+use Rattle.seg_map.proofs.{Beginnings.narrowed, FoundPairs.by_key, FoundPairs.pair_by_key}
 
 module _ {K V : Type 0} {kp : Plain K} {vp : Plain V} (laws : Laws kp) (c : Cut) {h at : ℕ} {ps : List (Pair K V)}
     (s : HoldsMap kp vp c.bytes h at ps) {root : Option ℕ} {ms : List ℕ}
@@ -46,12 +46,6 @@ module _ {K V : Type 0} {kp : Plain K} {vp : Plain V} (kl : Laws kp) (vl : Laws 
         room = found-room (live_of c.bytes) (pair_node p) (16 + kp.SIZE + vp.SIZE) p.node i.listed q.long;
       }
 
-  read_pairs : (by : ℕ → Option K) (ps : List (Pair K V)) → AreIn kp vp (live_of c.bytes) h ps
-      → AreAt kp vp (bytes_of c.bytes) ps → HaveKeys by ps
-      → AllByRecursion (IsRead kp vp c by) ps
-  read_pairs by [] i b k = tt
-  read_pairs by (p ∷ ps) i b k = (read_pair by p i.0 b.0 k.0, read_pairs by ps i.1 b.1 k.1)
-
   pub opened : (at : ℕ) {root : Option ℕ} {ms : List ℕ} → root ≡ link_at (bytes_of c.bytes) (h + at)
       → ms ≡ own_nodes c.bytes root None → IsOpened kp vp c c h at ms root
   opened at {root} {ms} is are =
@@ -59,8 +53,8 @@ module _ {K V : Type 0} {kp : Plain K} {vp : Plain V} (kl : Laws kp) (vl : Laws 
         same = refl;
         nodes = λ ps s. lent_own kl c s is are;
         tree = λ ps s. lent_tree kl c s is are;
-        pairs = λ ps s. read_pairs (keys_in kp ms c) ps s.pairs s.map.pairs
-            (rw (lent_own kl c s is are) (keys kl c s));
+        pairs = λ ps s. each_both ps (with_bytes s) (rw (lent_own kl c s is are) (keys kl c s))
+            (λ p w k. read_pair (keys_in kp ms c) p w.0 w.1 k);
       }
 
 -- ---- what a search finds

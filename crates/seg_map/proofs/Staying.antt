@@ -4,7 +4,7 @@ use Rattle.seg_map.proofs.Common.{length, arith, IsTrue, Some, AllByRecursion, f
 use Rattle.seg_map.proofs.Common.{Memory, Cut, Same, bytes_of, word_at, Has-same, Same-word, Same-link, nodes_of, is_in}
 use Rattle.seg_map.proofs.Common.{holds_same, Extent, LiveSet, handle, cells_of, IsHeap, SameBlock, extent_at, has_room}
 use Rattle.seg_map.proofs.Common.{live_of, cell_stays, Pair, IsPairAt, is_rising, HoldsMap, IsPairIn, nodes_of_pairs}
-use Rattle.seg_map.proofs.{Common.pair_node, PairSteps.same_red}
+use Rattle.seg_map.proofs.{Common.pair_node, FoundLists.each, FoundLists.each_both, PairSteps.same_red}
 use Rattle.seg_map.proofs.Entering.{AreAt, AreIn, Laws, length-nodes, pair_parts}
 use Rattle.seg_types.specs.declared.plain.Plain.{Ghosts as Plain}
 
@@ -97,37 +97,24 @@ module _ {K V : Type 0} {kp : Plain K} {vp : Plain V} (kl : Laws kp) (vl : Laws 
     (room : IsTrue (has_room (live_of e.bytes) h (at + 24)))
     (words : Same (bytes_of c.bytes) (bytes_of e.bytes) (h + at) (h + at + 24))
     (blocks : AllByRecursion (λ (p : Pair K V). Still c e p.node) ps) where
-  pub pairs_in : (qs : List (Pair K V)) → AreIn kp vp (live_of c.bytes) h qs
-      → AllByRecursion (λ (p : Pair K V). Still c e p.node) qs → AreIn kp vp (live_of e.bytes) h qs
-  pairs_in [] a f = tt
-  pairs_in (q ∷ qs) a f = (record { good = a.0.good; listed = f.0.found; apart = a.0.apart }, pairs_in qs a.1 f.1)
-
-  pub pairs_at : (qs : List (Pair K V)) → AreIn kp vp (live_of c.bytes) h qs → AreAt kp vp (bytes_of c.bytes) qs
-      → AllByRecursion (λ (p : Pair K V). Still c e p.node) qs → AreAt kp vp (bytes_of e.bytes) qs
-  pairs_at [] a b f = tt
-  pairs_at (q ∷ qs) a b f =
-      let long = (pair_parts a.0).long in let same = f.0.same in (
-        pair_stays (bytes_of c.bytes) (bytes_of e.bytes) (lengths kl vl a.0)
-            (record { at = λ k low high. same.payload.at k (omega arith) (omega arith) }) b.0,
-        pairs_at qs a.1 b.1 f.1,
-      )
-
-  with_blocks : (qs : List (Pair K V)) → AreIn kp vp (live_of c.bytes) h qs
-      → AllByRecursion (λ (p : Pair K V). Still c e p.node) qs
-      → AllByRecursion (λ (p : Pair K V). IsPairIn kp vp (live_of c.bytes) h p × Still c e p.node) qs
-  with_blocks [] a f = tt
-  with_blocks (q ∷ qs) a f = ((a.0, f.0), with_blocks qs a.1 f.1)
+  pub both : AllByRecursion (λ (p : Pair K V). IsPairIn kp vp (live_of c.bytes) h p × Still c e p.node) ps
+  both = each_both ps s.pairs blocks (λ p i b. (i, b))
 
   pub cells : (m : ℕ) → is_in m (nodes_of s.map.tree.tree) ≡ true
       → cells_of (bytes_of e.bytes) m ≡ cells_of (bytes_of c.bytes) m
   cells m i =
       let n = at_node (λ (p : Pair K V). IsPairIn kp vp (live_of c.bytes) h p × Still c e p.node) ps m
-      (ap (λ ns. is_in m ns) (sym s.map.tree.lists) ∙ i) (with_blocks ps s.pairs blocks) in
+      (ap (λ ns. is_in m ns) (sym s.map.tree.lists) ∙ i) both in
       let long = (pair_parts n.holds.0).long in
       subst (λ k. cells_of (bytes_of e.bytes) k ≡ cells_of (bytes_of c.bytes) k) n.at
       (block_cells (bytes_of c.bytes) (bytes_of e.bytes) n.pair.node n.holds.1.same (omega arith))
 
   unfoldable pub map_stays : HoldsMap kp vp e.bytes h at ps
   unfolding map_over
-  map_stays = map_over c e s heap room words cells ps refl s.rising (pairs_in ps s.pairs blocks)
-      (pairs_at ps s.pairs s.map.pairs blocks)
+  map_stays =
+      map_over c e s heap room words cells ps refl s.rising
+      (each ps both (λ q w. record { good = w.0.good; listed = w.1.found; apart = w.0.apart }))
+      (each_both ps both s.map.pairs (λ q w b.
+      let long = (pair_parts w.0).long in let same = w.1.same in
+      pair_stays (bytes_of c.bytes) (bytes_of e.bytes) (lengths kl vl w.0)
+      (record { at = λ k low high. same.payload.at k (omega arith) (omega arith) }) b))

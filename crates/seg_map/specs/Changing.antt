@@ -39,36 +39,32 @@ pub record IsNew {K V : Type 0} (k : Plain K) (v : Plain V) (old new : Cut) (h a
   pub change : IsChanged current old new (h + at) 24
   pub map : let none : List (Pair K V) = [] in HoldsMap k v new.bytes h at none
 
--- the node of a pair of the map
-pub record HasKeyNode {K V : Type 0} (k : Plain K) (v : Plain V) (b : List ℕ) (h at node : ℕ) : Type 0 where
+-- the node of a pair of the map, and where its removal begins, if that is known
+pub record CanGiveUp {K V : Type 0} (k : Plain K) (v : Plain V) (c : Cut) (h at : ℕ) (start : Option ℕ)
+    (node : ℕ) : Type 0 where
   pub pairs : List (Pair K V)
   pub key : K
   pub pair : Pair K V
-  pub map : HoldsMap k v b h at pairs
+  pub map : HoldsMap k v c.bytes h at pairs
   pub found : pair_at k.order pairs key ≡ Some pair
   pub is : pair_node pair ≡ node
+  pub begins : IfSome start (λ n. exit_in k c node map.map.tree.tree ≡ Some n)
 
--- such a node, and where its removal begins, if that is known
-pub record CanTakeOut {K V : Type 0} (k : Plain K) (v : Plain V) (c : Cut) (h at : ℕ) (start : Option ℕ)
-    (node : ℕ) : Type 0 where
-  pub there : HasKeyNode k v c.bytes h at node
-  pub begins : IfSome start (λ n. exit_in k c node there.map.map.tree.tree ≡ Some n)
+-- the map has these pairs now: no block comes or goes, and of all but these nodes no byte changes but the 24 of the map
+pub record IsRelaid {K V : Type 0} (k : Plain K) (v : Plain V) (old new : Cut) (h at : ℕ) (ns : List ℕ)
+    (ps : List (Pair K V)) : Type 0 where
+  pub live : LaysOut current new.bytes (live_of old.bytes)
+  pub beside : IsBesideMap old new (h + at) ns
+  pub map : HoldsMap k v new.bytes h at ps
 
 -- the pair of a key is no longer in the map; its block is still in use
-pub record IsTaken {K V : Type 0} (k : Plain K) (v : Plain V) (old new : Cut) (h at : ℕ) (ps : List (Pair K V))
-    (key : K) : Type 0 where
-  pub live : LaysOut current new.bytes (live_of old.bytes)
-  pub beside : IsBesideMap old new (h + at) (nodes_of_pairs ps)
-  pub map : HoldsMap k v new.bytes h at (remove_pair k.order ps key)
+abbrev pub IsTaken : {K V : Type 0} → Plain K → Plain V → Cut → Cut → ℕ → ℕ → List (Pair K V) → K → Type 0
+IsTaken k v old new h at ps key = IsRelaid k v old new h at (nodes_of_pairs ps) (remove_pair k.order ps key)
 
-abbrev pub TakesOut : {K V : Type 0} → Plain K → Plain V → Cut → Cut → ℕ → ℕ → ℕ → Type 0
-TakesOut {K} {V} k v old new h at node =
-    (ps : List (Pair K V)) (key : K) (p : Pair K V) → HoldsMap k v old.bytes h at ps → pair_at k.order ps key ≡ Some p
-    → pair_node p ≡ node → IsTaken k v old new h at ps key
-
-abbrev pub TreeSteps : {K V : Type 0} → Plain K → Plain V → Cut → ℕ → ℕ → ℕ → ℕ → Type 0
-TreeSteps {K} {V} k v old h at before after = (ps : List (Pair K V)) → HoldsMap k v old.bytes h at ps
-    → after ≤ before + 32 * bits (length ps + 1) + 32
+-- the steps of a call of the tree, and so many more
+abbrev pub TreeSteps : {K V : Type 0} → Plain K → Plain V → Cut → ℕ → ℕ → ℕ → ℕ → ℕ → Type 0
+TreeSteps {K} {V} k v old h at more before after = (ps : List (Pair K V)) → HoldsMap k v old.bytes h at ps
+    → after ≤ before + 32 * bits (length ps + 1) + 32 + more
 
 -- the pair of a key is gone, and its block
 pub record IsErased {K V : Type 0} (k : Plain K) (v : Plain V) (old new : Cut) (h at : ℕ) (ps : List (Pair K V))
@@ -141,11 +137,8 @@ pub record CanPutIn {K V : Type 0} (k : Plain K) (v : Plain V) (c : Cut) (h at :
   pub begins : IfSome start (λ n. entry_in k c there.pair.key there.map.map.tree.tree ≡ Some n)
 
 -- the pair is in the map
-pub record IsPlanted {K V : Type 0} (k : Plain K) (v : Plain V) (old new : Cut) (h at : ℕ) (ps : List (Pair K V))
-    (p : Pair K V) : Type 0 where
-  pub live : LaysOut current new.bytes (live_of old.bytes)
-  pub beside : IsBesideMap old new (h + at) (pair_node p ∷ nodes_of_pairs ps)
-  pub map : HoldsMap k v new.bytes h at (put_pair k.order p ps)
+abbrev pub IsPlanted : {K V : Type 0} → Plain K → Plain V → Cut → Cut → ℕ → ℕ → List (Pair K V) → Pair K V → Type 0
+IsPlanted k v old new h at ps p = IsRelaid k v old new h at (pair_node p ∷ nodes_of_pairs ps) (put_pair k.order p ps)
 
 abbrev pub PutsIn : {K V : Type 0} → Plain K → Plain V → Cut → Cut → ℕ → ℕ → ℕ → Type 0
 PutsIn {K} {V} k v old new h at node =

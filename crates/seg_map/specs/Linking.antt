@@ -2,7 +2,7 @@
 use Rattle.std.specs.Prelude.{◌≡◌, ℕ, ◌+◌, ◌*◌, ◌≤◌, true, not, Option, Some, List, length, IfSome}
 use Rattle.raw_region.specs.Memory.{Cut}
 use Rattle.link_tree.specs.{Tree.Tree, Tree.IsSearchTree, Tree.bits, Tree.nodes_of, Ways.entry_of, Ways.exit_of}
-use Rattle.link_tree.specs.Nodes.{has_place, is_in, leads, put, without}
+use Rattle.link_tree.specs.Nodes.{has_place, is_in, leads}
 use Rattle.seg_types.specs.{declared.plain.Plain.Ghosts as Plain, Plain.value_in}
 use Rattle.seg_map.specs.PairNodes.{comes_before, is_pair_node, kept_of, key_of, pair_cells}
 
@@ -28,14 +28,6 @@ pub record CanUnlink {K : Type 0} (k : Plain K) (ns : List ℕ) (c : Cut) (root 
     pub listed : is_in node (nodes_of shape) ≡ true
     pub begins : IfSome start (λ n. exit_of (comes_before k.order (keys_in k ns c)) node shape ≡ Some n)
 
--- the node is no longer in the tree; nothing changes but links and colours of the nodes
-pub record Unlinked {K : Type 0} (k : Plain K) (ns : List ℕ) (old new : Cut) (root : Option ℕ) (node : ℕ)
-    (top : Option ℕ) (steps : ℕ) : Type 0 where
-  pub kept : kept_of ns new ≡ kept_of ns old
-  pub tree : (t : Tree) → IsKeyTree k ns old root t → (s : Tree) × IsKeyTree k ns new top s
-      × (nodes_of s ≡ without node (nodes_of t))
-  pub few : (t : Tree) → IsKeyTree k ns old root t → steps ≤ 32 * bits (length (nodes_of t) + 1) + 32
-
 -- a node that has a place in the tree, and is put there from the root on or from where its insertion begins
 pub record CanLink {K : Type 0} (k : Plain K) (ns : List ℕ) (c : Cut) (root start : Option ℕ) (node : ℕ) : Type 0 where
   pub shape : Tree
@@ -44,10 +36,10 @@ pub record CanLink {K : Type 0} (k : Plain K) (ns : List ℕ) (c : Cut) (root st
   pub place : has_place (comes_before k.order (keys_in k ns c)) node (nodes_of shape) ≡ true
   pub begins : IfSome start (λ n. entry_of (λ m. not (comes_before k.order (keys_in k ns c) node m)) shape ≡ Some n)
 
--- the node is in the tree too
-pub record Linked {K : Type 0} (k : Plain K) (ns : List ℕ) (old new : Cut) (root : Option ℕ) (node : ℕ)
-    (top : Option ℕ) (steps : ℕ) : Type 0 where
+-- a link leads to a tree whose nodes became these; nothing changes but links and colours of the nodes
+pub record Relinked {K : Type 0} (k : Plain K) (ns : List ℕ) (old new : Cut) (root top : Option ℕ)
+    (becomes : List ℕ → List ℕ) (steps : ℕ) : Type 0 where
   pub kept : kept_of ns new ≡ kept_of ns old
   pub tree : (t : Tree) → IsKeyTree k ns old root t → (s : Tree) × IsKeyTree k ns new top s
-      × (nodes_of s ≡ put (comes_before k.order (keys_in k ns old)) node (nodes_of t))
+      × (nodes_of s ≡ becomes (nodes_of t))
   pub few : (t : Tree) → IsKeyTree k ns old root t → steps ≤ 32 * bits (length (nodes_of t) + 1) + 32

@@ -2,12 +2,13 @@
 ghost use Rattle.std.specs.Prelude.{◌≡◌, ◌+◌, true, Option, Some, IfSome, IsTrue, option_and_then};
 ghost use Rattle.raw_region.specs.Memory.{bytes_of};
 ghost use Rattle.link_tree.specs.Nodes.{leads};
-ghost use Rattle.best_fit.specs.{Extents.is_proper, Heap.has_room, Heap.live_of};
+ghost use Rattle.best_fit.specs.Heap.{has_room, live_of};
 ghost use Rattle.seg_map.specs.Searches.{FindsEntry, FindsExit, IsOpened, LooksFor, LooksUp, item_at, node_with};
 ghost use Rattle.seg_map.specs.{Linking.HasTree, Searches.path_in, Searches.reading_steps};
 ghost use Rattle.seg_map.specs.{PairNodes.is_pair_node, Places.IsSomeMap, Places.first_pair, Places.last_pair};
 
-use crate::nodes::Reading;
+use crate::maps::SegMap;
+use crate::nodes::Pairs;
 use crate::owned::Own;
 use crate::reading::{KEY, Sought, value_at};
 use best_fit::Heap;
@@ -16,26 +17,105 @@ use raw_region::Steps;
 use seg_types::Plain;
 use std::marker::PhantomData;
 
-/// The pairs of the map at `at` in the block of a handle, for a search.
-pub fn open<'a, K: Plain, V: Plain>(heap: &'a Heap, handle: u64, at: u64) -> Reading<'a, K>
-    requires { IsSomeMap K.Plain V.Plain heap.now.bytes handle at }
-    ensures leads { leads (is_pair_node (16 + K.SIZE) result.own result.heap.now) result.root ≡ true }
-    ensures tree { HasTree K.Plain result.own result.heap.now result.root }
-    ensures opened { IsOpened K.Plain V.Plain result.heap.now heap.now handle at result.own result.root }
-{
-    let root = heap.link(handle, at);
-    Reading {
-        heap,
-        own: Own::new(heap, root, None),
-        root,
-        keys: PhantomData,
+/// The node of a key, and where a change of the tree begins, which its search has found.
+#[derive(Clone, Copy)]
+pub struct Trace {
+    /// The node; none where the key is not there.
+    pub node: Option<u64>,
+    /// Where the change begins; none where it begins at the root.
+    pub start: Option<u64>,
+}
+
+impl<K: Plain, V: Plain> SegMap<K, V> {
+    /// The pairs of the map, for a search.
+    pub(crate) fn open(self, heap: &Heap) -> Pairs<&Heap, K>
+        requires { IsSomeMap K.Plain V.Plain heap.now.bytes self.place.handle self.place.at }
+        ensures leads { leads (is_pair_node (16 + K.SIZE) result.own result.heap.now) result.root ≡ true }
+        ensures tree { HasTree K.Plain result.own result.heap.now result.root }
+        ensures opened { IsOpened K.Plain V.Plain result.heap.now heap.now self.place.handle self.place.at
+            result.own result.root }
+    {
+        let root = heap.link(self.place.handle, self.place.at);
+        Pairs {
+            heap,
+            own: Own::new(heap, root, None),
+            root,
+            keys: PhantomData,
+        }
+    }
+
+    /// The key and the value of the first pair that does not stand before what is looked for.
+    pub(crate) fn find_from(
+        self,
+        heap: &Heap,
+        sought: &Sought<K>,
+        steps: &mut Steps,
+    ) -> Option<(K, V)>
+        requires { IsSomeMap K.Plain V.Plain heap.now.bytes self.place.handle self.place.at }
+        ensures { LooksUp K.Plain V.Plain heap.now self.place.handle self.place.at
+            (first_pair K.order sought.now.past sought.now.key)
+            (path_in K.Plain heap.now sought.now.past sought.now.key) result steps.old steps.new }
+    {
+        let pairs = self.open(heap);
+        let found = find_first_not_before(&pairs, pairs.root, sought);
+        read_found(heap, found, steps)
+    }
+
+    /// The key and the value of the last pair that stands before what is looked for.
+    pub(crate) fn find_before(
+        self,
+        heap: &Heap,
+        sought: &Sought<K>,
+        steps: &mut Steps,
+    ) -> Option<(K, V)>
+        requires { IsSomeMap K.Plain V.Plain heap.now.bytes self.place.handle self.place.at }
+        ensures { LooksUp K.Plain V.Plain heap.now self.place.handle self.place.at
+            (last_pair K.order sought.now.past sought.now.key)
+            (path_in K.Plain heap.now sought.now.past sought.now.key) result steps.old steps.new }
+    {
+        let pairs = self.open(heap);
+        let found = find_last_before(&pairs, pairs.root, sought);
+        read_found(heap, found, steps)
+    }
+
+    /// The node of a key, and where a node with that key would enter.
+    pub(crate) fn find_in(self, heap: &Heap, key: K, steps: &mut Steps) -> Trace
+        requires map { IsSomeMap K.Plain V.Plain heap.now.bytes self.place.handle self.place.at }
+        ensures found { LooksFor K.Plain V.Plain heap.now self.place.handle self.place.at key result.node
+            steps.old steps.new }
+        ensures value { IfSome result.node (λ node. K.is_value key ≡ true) }
+        ensures entry { FindsEntry K.Plain V.Plain heap.now self.place.handle self.place.at key result.start }
+    {
+        let pairs = self.open(heap);
+        let way = find_way_in(&pairs, pairs.root, &Sought { key, past: false });
+        steps.add(way.steps);
+        Trace {
+            node: with_key(heap, way.node, key, steps),
+            start: way.entry,
+        }
+    }
+
+    /// The node of a key, and where its removal begins.
+    pub(crate) fn find_out(self, heap: &Heap, key: K, steps: &mut Steps) -> Trace
+        requires map { IsSomeMap K.Plain V.Plain heap.now.bytes self.place.handle self.place.at }
+        ensures found { LooksFor K.Plain V.Plain heap.now self.place.handle self.place.at key result.node
+            steps.old steps.new }
+        ensures value { IfSome result.node (λ node. K.is_value key ≡ true) }
+        ensures exit { FindsExit K.Plain V.Plain heap.now self.place.handle self.place.at result.node result.start }
+    {
+        let pairs = self.open(heap);
+        let way = find_way_out(&pairs, pairs.root, &Sought { key, past: false });
+        steps.add(way.steps);
+        Trace {
+            node: with_key(heap, way.node, key, steps),
+            start: way.exit,
+        }
     }
 }
 
 /// The key and the value of a node.
 fn item<K: Plain, V: Plain>(heap: &Heap, node: u64) -> Option<(K, V)>
-    requires proper { IsTrue (is_proper (live_of heap.now.bytes)) }
-    requires room { IsTrue (has_room (live_of heap.now.bytes) node (16 + K.SIZE + V.SIZE)) }
+    requires { IsTrue (has_room (live_of heap.now.bytes) node (16 + K.SIZE + V.SIZE)) }
     ensures { result ≡ item_at K.Plain V.Plain (bytes_of heap.now.bytes) node }
 {
     let key = value_at::<K>(heap, node, KEY)?;
@@ -49,8 +129,7 @@ pub fn read_found<K: Plain, V: Plain>(
     found: Found,
     steps: &mut Steps,
 ) -> Option<(K, V)>
-    requires proper { IsTrue (is_proper (live_of heap.now.bytes)) }
-    requires room { IfSome found.node (λ n. IsTrue (has_room (live_of heap.now.bytes) n (16 + K.SIZE + V.SIZE))) }
+    requires { IfSome found.node (λ n. IsTrue (has_room (live_of heap.now.bytes) n (16 + K.SIZE + V.SIZE))) }
     ensures item { result ≡ option_and_then (item_at K.Plain V.Plain (bytes_of heap.now.bytes)) found.node }
     ensures steps { steps.new ≡ steps.old + found.steps + reading_steps found.node }
 {
@@ -60,44 +139,9 @@ pub fn read_found<K: Plain, V: Plain>(
     item(heap, node)
 }
 
-/// The key and the value of the first pair that does not stand before what is looked for.
-pub fn find_from<K: Plain, V: Plain>(
-    heap: &Heap,
-    handle: u64,
-    at: u64,
-    sought: &Sought<K>,
-    steps: &mut Steps,
-) -> Option<(K, V)>
-    requires { IsSomeMap K.Plain V.Plain heap.now.bytes handle at }
-    ensures { LooksUp K.Plain V.Plain heap.now handle at (first_pair K.order sought.now.past sought.now.key)
-        (path_in K.Plain heap.now sought.now.past sought.now.key) result steps.old steps.new }
-{
-    let pairs = open::<K, V>(heap, handle, at);
-    let found = find_first_not_before(&pairs, pairs.root, sought);
-    read_found(heap, found, steps)
-}
-
-/// The key and the value of the last pair that stands before what is looked for.
-pub fn find_before<K: Plain, V: Plain>(
-    heap: &Heap,
-    handle: u64,
-    at: u64,
-    sought: &Sought<K>,
-    steps: &mut Steps,
-) -> Option<(K, V)>
-    requires { IsSomeMap K.Plain V.Plain heap.now.bytes handle at }
-    ensures { LooksUp K.Plain V.Plain heap.now handle at (last_pair K.order sought.now.past sought.now.key)
-        (path_in K.Plain heap.now sought.now.past sought.now.key) result steps.old steps.new }
-{
-    let pairs = open::<K, V>(heap, handle, at);
-    let found = find_last_before(&pairs, pairs.root, sought);
-    read_found(heap, found, steps)
-}
-
 /// The node that a search for a key has found, where it has that key.
 fn with_key<K: Plain>(heap: &Heap, node: Option<u64>, key: K, steps: &mut Steps) -> Option<u64>
-    requires proper { IsTrue (is_proper (live_of heap.now.bytes)) }
-    requires room { IfSome node (λ n. IsTrue (has_room (live_of heap.now.bytes) n (16 + K.SIZE))) }
+    requires { IfSome node (λ n. IsTrue (has_room (live_of heap.now.bytes) n (16 + K.SIZE))) }
     ensures node { result ≡ option_and_then (node_with K.Plain (bytes_of heap.now.bytes) key) node }
     ensures same { IfSome result (λ n. node ≡ Some n) }
     ensures value { IfSome result (λ n. K.is_value key ≡ true) }
@@ -110,58 +154,5 @@ fn with_key<K: Plain>(heap: &Heap, node: Option<u64>, key: K, steps: &mut Steps)
         None
     } else {
         Some(node)
-    }
-}
-
-/// The node of a key, and where a change of the tree begins, which its search has found.
-#[derive(Clone, Copy)]
-pub struct Trace {
-    /// The node; none where the key is not there.
-    pub node: Option<u64>,
-    /// Where the change begins; none where it begins at the root.
-    pub start: Option<u64>,
-}
-
-/// The node of a key, and where a node with that key would enter.
-pub fn find_in<K: Plain, V: Plain>(
-    heap: &Heap,
-    handle: u64,
-    at: u64,
-    key: K,
-    steps: &mut Steps,
-) -> Trace
-    requires map { IsSomeMap K.Plain V.Plain heap.now.bytes handle at }
-    ensures found { LooksFor K.Plain V.Plain heap.now handle at key result.node steps.old steps.new }
-    ensures value { IfSome result.node (λ node. K.is_value key ≡ true) }
-    ensures entry { FindsEntry K.Plain V.Plain heap.now handle at key result.start }
-{
-    let pairs = open::<K, V>(heap, handle, at);
-    let way = find_way_in(&pairs, pairs.root, &Sought { key, past: false });
-    steps.add(way.steps);
-    Trace {
-        node: with_key(heap, way.node, key, steps),
-        start: way.entry,
-    }
-}
-
-/// The node of a key, and where its removal begins.
-pub fn find_out<K: Plain, V: Plain>(
-    heap: &Heap,
-    handle: u64,
-    at: u64,
-    key: K,
-    steps: &mut Steps,
-) -> Trace
-    requires map { IsSomeMap K.Plain V.Plain heap.now.bytes handle at }
-    ensures found { LooksFor K.Plain V.Plain heap.now handle at key result.node steps.old steps.new }
-    ensures value { IfSome result.node (λ node. K.is_value key ≡ true) }
-    ensures exit { FindsExit K.Plain V.Plain heap.now handle at result.node result.start }
-{
-    let pairs = open::<K, V>(heap, handle, at);
-    let way = find_way_out(&pairs, pairs.root, &Sought { key, past: false });
-    steps.add(way.steps);
-    Trace {
-        node: with_key(heap, way.node, key, steps),
-        start: way.exit,
     }
 }

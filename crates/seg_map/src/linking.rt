@@ -1,7 +1,8 @@
 //! Nodes that enter and leave the tree of a map.
 ghost use Rattle.std.specs.Prelude.{◌≡◌, ◌-◌, ◌≤◌, Some, None};
-ghost use Rattle.seg_map.specs.PairNodes.{own_nodes};
-ghost use Rattle.seg_map.specs.Linking.{CanLink, CanUnlink, Linked, Unlinked};
+ghost use Rattle.link_tree.specs.Nodes.{put, without};
+ghost use Rattle.seg_map.specs.PairNodes.{comes_before, own_nodes};
+ghost use Rattle.seg_map.specs.Linking.{CanLink, CanUnlink, Relinked, keys_in};
 
 use crate::nodes::Pairs;
 use crate::owned::Own;
@@ -12,7 +13,11 @@ use seg_types::Plain;
 use std::marker::PhantomData;
 
 /// The pairs that a link leads to, and one node more, lent to a call of the tree.
-fn lend<'a, K: Plain>(heap: &'a mut Heap, root: Option<u64>, spare: Option<u64>) -> Pairs<'a, K>
+fn lend<'a, K: Plain>(
+    heap: &'a mut Heap,
+    root: Option<u64>,
+    spare: Option<u64>,
+) -> Pairs<&'a mut Heap, K>
     ensures reference { result.heap.ghost_name ≡ heap.entry.ghost_name }
     ensures heap { result.heap.now ≡ heap.old }
     ensures own { result.own ≡ own_nodes heap.old.bytes root spare }
@@ -21,46 +26,9 @@ fn lend<'a, K: Plain>(heap: &'a mut Heap, root: Option<u64>, spare: Option<u64>)
     Pairs {
         heap,
         own,
+        root,
         keys: PhantomData,
     }
-}
-
-/// `remove_at` of the tree, which keeps the heap's reference. What it takes is counted here, and nowhere else.
-fn uproot<K: Plain>(
-    pairs: &mut Pairs<K>,
-    root: Option<u64>,
-    start: Option<u64>,
-    node: u64,
-    steps: &mut Steps,
-) -> Option<u64>
-    requires { CanUnlink K.Plain pairs.old.own pairs.old.heap.now root start node }
-    ensures reference { pairs.new.heap.ghost_name ≡ pairs.old.heap.ghost_name }
-    ensures counted { steps.old ≤ steps.new }
-    ensures change { Unlinked K.Plain pairs.old.own pairs.old.heap.now pairs.new.heap.now
-        root node result (steps.new - steps.old) }
-{
-    let changed = remove_at(pairs, root, start, node);
-    steps.add(changed.steps);
-    changed.root
-}
-
-/// `insert_at` of the tree, which keeps the heap's reference. What it takes is counted here, and nowhere else.
-fn plant<K: Plain>(
-    pairs: &mut Pairs<K>,
-    root: Option<u64>,
-    start: Option<u64>,
-    node: u64,
-    steps: &mut Steps,
-) -> Option<u64>
-    requires { CanLink K.Plain pairs.old.own pairs.old.heap.now root start node }
-    ensures reference { pairs.new.heap.ghost_name ≡ pairs.old.heap.ghost_name }
-    ensures counted { steps.old ≤ steps.new }
-    ensures change { Linked K.Plain pairs.old.own pairs.old.heap.now pairs.new.heap.now
-        root node result (steps.new - steps.old) }
-{
-    let changed = insert_at(pairs, root, start, node);
-    steps.add(changed.steps);
-    changed.root
 }
 
 /// Takes a node out of the tree that a link leads to, from the root on or from where a search has found that its
@@ -74,11 +42,13 @@ pub fn unlink<K: Plain>(
 ) -> Option<u64>
     requires { CanUnlink K.Plain (own_nodes heap.old.bytes root None) heap.old root start node }
     ensures counted { steps.old ≤ steps.new }
-    ensures change { Unlinked K.Plain (own_nodes heap.old.bytes root None) heap.old heap.new
-        root node result (steps.new - steps.old) }
+    ensures change { Relinked K.Plain (own_nodes heap.old.bytes root None) heap.old heap.new root result
+        (without node) (steps.new - steps.old) }
 {
     let mut pairs = lend::<K>(heap, root, None);
-    uproot(&mut pairs, root, start, node, steps)
+    let changed = remove_at(&mut pairs, root, start, node);
+    steps.add(changed.steps);
+    changed.root
 }
 
 /// Puts a node into the tree that a link leads to, from the root on or from where a search has found that its
@@ -92,9 +62,12 @@ pub fn link<K: Plain>(
 ) -> Option<u64>
     requires { CanLink K.Plain (own_nodes heap.old.bytes root (Some node)) heap.old root start node }
     ensures counted { steps.old ≤ steps.new }
-    ensures change { Linked K.Plain (own_nodes heap.old.bytes root (Some node)) heap.old heap.new
-        root node result (steps.new - steps.old) }
+    ensures change { Relinked K.Plain (own_nodes heap.old.bytes root (Some node)) heap.old heap.new root result
+        (put (comes_before K.order (keys_in K.Plain (own_nodes heap.old.bytes root (Some node)) heap.old)) node)
+        (steps.new - steps.old) }
 {
     let mut pairs = lend::<K>(heap, root, Some(node));
-    plant(&mut pairs, root, start, node, steps)
+    let changed = insert_at(&mut pairs, root, start, node);
+    steps.add(changed.steps);
+    changed.root
 }

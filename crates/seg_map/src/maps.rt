@@ -5,11 +5,10 @@ ghost use Rattle.seg_map.specs.Changing.{ChangeSteps, CountsPairs, Erases, IsNew
 ghost use Rattle.seg_map.specs.Places.{FindsItem, FindsItemBefore, FindsLastItem, FindsValue, IsSomeMap, SearchSteps};
 ghost use Rattle.seg_map.specs.Searches.{LastTakes, LookBackTakes, LookUpTakes};
 
-use crate::erasing::{give_up, take_out};
-use crate::finding::{find_before, find_from, find_in, find_out, open, read_found};
-use crate::heading::{len, write_head};
+use crate::finding::read_found;
+use crate::heading::{COUNT, write_head};
 use crate::places::Place;
-use crate::putting::{make_node, put_in, write_value};
+use crate::putting::{make_node, write_value};
 use crate::reading::{KEY, Sought};
 use best_fit::{Heap, NoSpace};
 use link_tree::find_last;
@@ -49,7 +48,7 @@ impl<K: Plain, V: Plain> SegMap<K, V> {
         ensures place { result.place ≡ place }
         ensures map { IsNew K.Plain V.Plain heap.old heap.new place.handle place.at }
     {
-        write_head(heap, place.handle, place.at, None, 0);
+        write_head(heap, place, None, 0);
         SegMap::at(place)
     }
 
@@ -58,7 +57,7 @@ impl<K: Plain, V: Plain> SegMap<K, V> {
         requires { IsSomeMap K.Plain V.Plain heap.now.bytes self.place.handle self.place.at }
         ensures { CountsPairs K.Plain V.Plain heap.now.bytes self.place.handle self.place.at result }
     {
-        len::<K, V>(heap, self.place.handle, self.place.at)
+        heap.word(self.place.handle, self.place.at + COUNT)
     }
 
     /// The value of a key.
@@ -90,7 +89,7 @@ impl<K: Plain, V: Plain> SegMap<K, V> {
             steps.old steps.new }
     {
         let from = Sought { key, past: false };
-        find_from::<K, V>(heap, self.place.handle, self.place.at, &from, steps)
+        self.find_from(heap, &from, steps)
     }
 
     /// The key and the value of the pair with the least key above `key`.
@@ -104,7 +103,7 @@ impl<K: Plain, V: Plain> SegMap<K, V> {
             steps.old steps.new }
     {
         let above = Sought { key, past: true };
-        find_from::<K, V>(heap, self.place.handle, self.place.at, &above, steps)
+        self.find_from(heap, &above, steps)
     }
 
     /// The key and the value of the pair with the greatest key.
@@ -116,7 +115,7 @@ impl<K: Plain, V: Plain> SegMap<K, V> {
             steps.old steps.new }
         ensures exact { LastTakes K.Plain V.Plain heap.now self.place.handle self.place.at steps.old steps.new }
     {
-        let pairs = open::<K, V>(heap, self.place.handle, self.place.at);
+        let pairs = self.open(heap);
         let found = find_last(&pairs, pairs.root);
         read_found(heap, found, steps)
     }
@@ -132,7 +131,7 @@ impl<K: Plain, V: Plain> SegMap<K, V> {
             steps.old steps.new }
     {
         let up_to = Sought { key, past: true };
-        find_before::<K, V>(heap, self.place.handle, self.place.at, &up_to, steps)
+        self.find_before(heap, &up_to, steps)
     }
 
     /// The key and the value of the pair with the greatest key below `key`.
@@ -146,7 +145,7 @@ impl<K: Plain, V: Plain> SegMap<K, V> {
             steps.old steps.new }
     {
         let below = Sought { key, past: false };
-        find_before::<K, V>(heap, self.place.handle, self.place.at, &below, steps)
+        self.find_before(heap, &below, steps)
     }
 
     /// Puts the value of a key, and answers whether the key is new. All other pairs keep their blocks, and so does this
@@ -161,14 +160,13 @@ impl<K: Plain, V: Plain> SegMap<K, V> {
         ensures counted { steps.old ≤ steps.new }
         ensures steps { ChangeSteps K.Plain V.Plain heap.old self.place.handle self.place.at steps.old steps.new }
     {
-        let place = self.place;
-        let trace = find_in::<K, V>(&*heap, place.handle, place.at, key, steps);
+        let trace = self.find_in(&*heap, key, steps);
         if let Some(node) = trace.node {
             write_value::<V>(heap, node, KEY + K::SIZE, value);
             return Ok(false);
         }
         let node = make_node::<K, V>(heap, key, value, steps)?;
-        put_in::<K, V>(heap, place.handle, place.at, trace.start, node, steps);
+        self.put_in(heap, trace.start, node, steps);
         Ok(true)
     }
 
@@ -181,13 +179,11 @@ impl<K: Plain, V: Plain> SegMap<K, V> {
         ensures steps { ChangeSteps K.Plain V.Plain heap.old self.place.handle self.place.at steps.old steps.new }
         ensures absent { result ≡ false → heap.new ≡ heap.old }
     {
-        let place = self.place;
-        let trace = find_out::<K, V>(&*heap, place.handle, place.at, key, steps);
+        let trace = self.find_out(&*heap, key, steps);
         let Some(node) = trace.node else {
             return false;
         };
-        take_out::<K, V>(heap, place.handle, place.at, trace.start, node, steps);
-        heap.deallocate(node, steps);
+        self.give_up(heap, trace.start, node, steps);
         true
     }
 
@@ -198,7 +194,7 @@ impl<K: Plain, V: Plain> SegMap<K, V> {
     {
         // the pair at the root goes each time: the tree needs no walk then, and the map is one at each moment
         'pairs: while let Some(node) = heap.link(self.place.handle, self.place.at) {
-            give_up::<K, V>(heap, self.place.handle, self.place.at, node);
+            self.give_up(heap, None, node, &mut Steps::new());
         }
     }
 }

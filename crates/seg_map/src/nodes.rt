@@ -1,5 +1,6 @@
 //! The pairs of a map as the nodes of a tree.
-ghost use Rattle.std.specs.Prelude.{◌+◌};
+ghost use Rattle.std.specs.Prelude.{◌≡◌, ℕ, ◌+◌};
+ghost use Rattle.raw_region.specs.Memory.{Cut};
 ghost use Rattle.seg_types.specs.Plain.{value_in};
 ghost use Rattle.seg_map.specs.PairNodes.{Kept as WhatStays, comes_before, is_pair_node, kept_of, key_of, pair_cells};
 ghost use Rattle.seg_map.specs.PairLaws.{comes_agrees, comes_irreflexive, comes_transitive, pairs_finite, pairs_left};
@@ -12,77 +13,107 @@ use link_tree::{Nodes, NodesMut};
 use seg_types::Plain;
 use std::marker::PhantomData;
 
-/// A heap with the pairs of one map in it, to be changed.
-#[derive(Drop)]
-pub struct Pairs<'a, K> {
-    pub heap: &'a mut Heap,
-    pub own: Own,
-    pub keys: PhantomData<K>,
+/// A heap that is lent to a call of the tree, to be read or to be changed.
+pub trait Lent {
+    // What the heap has.
+    ghost cut: { Self → Cut };
+
+    // The name of the reference, where the heap is lent to be changed.
+    ghost lender: { Self → ℕ } = { λ _. 0 };
+
+    /// The heap, to be read.
+    fn heap(&self) -> &Heap
+        ensures { result.now ≡ cut self.now };
 }
 
-/// A heap with the pairs of one map in it, to be read, and the link to the root of their tree.
+impl Lent for &Heap {
+    ghost cut = { λ s. s.now };
+
+    #[inline(always)]
+    fn heap(&self) -> &Heap {
+        self
+    }
+}
+
+impl Lent for &mut Heap {
+    ghost cut = { λ s. s.now };
+
+    ghost lender = { λ s. s.ghost_name };
+
+    #[inline(always)]
+    fn heap(&self) -> &Heap {
+        self
+    }
+}
+
+/// A heap with the pairs of one map in it, and the link to the root of their tree.
 #[derive(Drop)]
-pub struct Reading<'a, K> {
-    pub heap: &'a Heap,
+pub struct Pairs<H, K> {
+    pub heap: H,
     pub own: Own,
     pub root: Option<u64>,
     pub keys: PhantomData<K>,
 }
 
-impl<'a, K: Plain> Nodes for Pairs<'a, K> {
+#[tactic(auto, using(crate::proofs::PairSteps::nodes))]
+impl<H: Lent, K: Plain> Nodes for Pairs<H, K> {
     type Probe = Sought<K>;
 
-    ghost cells = { λ s. pair_cells (16 + K.SIZE) s.own s.heap.now };
+    ghost cells = { λ s. pair_cells (16 + K.SIZE) s.own (H.cut s.heap) };
 
-    ghost is_node = { λ s. is_pair_node (16 + K.SIZE) s.own s.heap.now };
+    ghost is_node = { λ s. is_pair_node (16 + K.SIZE) s.own (H.cut s.heap) };
 
-    ghost order = { λ s. comes_before K.order (keys_in K.Plain s.own s.heap.now) };
+    ghost order = { λ s. comes_before K.order (keys_in K.Plain s.own (H.cut s.heap)) };
 
-    ghost before = { λ s wanted. stands_before K.order (keys_in K.Plain s.own s.heap.now) wanted.past wanted.key };
+    ghost before = { λ s wanted. stands_before K.order (keys_in K.Plain s.own (H.cut s.heap)) wanted.past wanted.key };
 
-    ghost lender = { λ s. s.heap.ghost_name };
+    ghost lender = { λ s. H.lender s.heap };
 
     ghost Kept = { WhatStays };
 
-    ghost kept = { λ s. kept_of s.own s.heap.now };
+    ghost kept = { λ s. kept_of s.own (H.cut s.heap) };
 
     fn left(&self, node: u64) -> Option<u64> {
-        self.heap.link(node, 0)
+        self.heap.heap().link(node, 0)
     }
 
     fn right(&self, node: u64) -> Option<u64> {
-        self.heap.link(node, RIGHT)
+        self.heap.heap().link(node, RIGHT)
     }
 
     fn red(&self, node: u64) -> bool {
-        self.heap.node_red(node)
+        self.heap.heap().node_red(node)
     }
 
     fn precedes(&self, a: u64, b: u64) -> bool {
-        is_below::<K>(value_at(&*self.heap, a, KEY), value_at(&*self.heap, b, KEY))
+        is_below::<K>(
+            value_at(self.heap.heap(), a, KEY),
+            value_at(self.heap.heap(), b, KEY),
+        )
     }
 
     fn before_probe(&self, node: u64, probe: &Sought<K>) -> bool {
-        is_before(value_at(&*self.heap, node, KEY), probe)
+        is_before(value_at(self.heap.heap(), node, KEY), probe)
     }
 
-    ghost finite = { λ s. pairs_finite (16 + K.SIZE) s.own s.heap.now };
+    ghost finite = { λ s. pairs_finite (16 + K.SIZE) s.own (H.cut s.heap) };
 
-    ghost left_closed = { λ s. pairs_left (16 + K.SIZE) s.own s.heap.now };
+    ghost left_closed = { λ s. pairs_left (16 + K.SIZE) s.own (H.cut s.heap) };
 
-    ghost right_closed = { λ s. pairs_right (16 + K.SIZE) s.own s.heap.now };
+    ghost right_closed = { λ s. pairs_right (16 + K.SIZE) s.own (H.cut s.heap) };
 
     ghost irreflexive = { λ s. comes_irreflexive K.order K.irreflexive
-        (key_of (value_in K.reading K.is_value K.spelling) K.SIZE s.own s.heap.now) };
+        (key_of (value_in K.reading K.is_value K.spelling) K.SIZE s.own (H.cut s.heap)) };
 
     ghost transitive = { λ s. comes_transitive K.order K.transitive
-        (key_of (value_in K.reading K.is_value K.spelling) K.SIZE s.own s.heap.now) };
+        (key_of (value_in K.reading K.is_value K.spelling) K.SIZE s.own (H.cut s.heap)) };
 
     ghost agrees = { λ s wanted. comes_agrees K.order K.transitive
-        (key_of (value_in K.reading K.is_value K.spelling) K.SIZE s.own s.heap.now) wanted.past wanted.key };
+        (key_of (value_in K.reading K.is_value K.spelling) K.SIZE s.own (H.cut s.heap)) wanted.past wanted.key };
 }
 
-impl<'a, K: Plain> NodesMut for Pairs<'a, K> {
+#[tactic(auto, using(crate::proofs::PairSteps::nodes))]
+impl<'a, K: Plain> NodesMut for Pairs<&'a mut Heap, K> {
     fn set_left(&mut self, node: u64, to: Option<u64>) {
         self.heap.set_link(node, 0, to);
     }
@@ -94,53 +125,4 @@ impl<'a, K: Plain> NodesMut for Pairs<'a, K> {
     fn set_red(&mut self, node: u64, red: bool) {
         self.heap.set_node_red(node, red);
     }
-}
-
-impl<'a, K: Plain> Nodes for Reading<'a, K> {
-    type Probe = Sought<K>;
-
-    ghost cells = { λ s. pair_cells (16 + K.SIZE) s.own s.heap.now };
-
-    ghost is_node = { λ s. is_pair_node (16 + K.SIZE) s.own s.heap.now };
-
-    ghost order = { λ s. comes_before K.order (keys_in K.Plain s.own s.heap.now) };
-
-    ghost before = { λ s wanted. stands_before K.order (keys_in K.Plain s.own s.heap.now) wanted.past wanted.key };
-
-    ghost kept = { λ s. tt };
-
-    fn left(&self, node: u64) -> Option<u64> {
-        self.heap.link(node, 0)
-    }
-
-    fn right(&self, node: u64) -> Option<u64> {
-        self.heap.link(node, RIGHT)
-    }
-
-    fn red(&self, node: u64) -> bool {
-        self.heap.node_red(node)
-    }
-
-    fn precedes(&self, a: u64, b: u64) -> bool {
-        is_below::<K>(value_at(self.heap, a, KEY), value_at(self.heap, b, KEY))
-    }
-
-    fn before_probe(&self, node: u64, probe: &Sought<K>) -> bool {
-        is_before(value_at(self.heap, node, KEY), probe)
-    }
-
-    ghost finite = { λ s. pairs_finite (16 + K.SIZE) s.own s.heap.now };
-
-    ghost left_closed = { λ s. pairs_left (16 + K.SIZE) s.own s.heap.now };
-
-    ghost right_closed = { λ s. pairs_right (16 + K.SIZE) s.own s.heap.now };
-
-    ghost irreflexive = { λ s. comes_irreflexive K.order K.irreflexive
-        (key_of (value_in K.reading K.is_value K.spelling) K.SIZE s.own s.heap.now) };
-
-    ghost transitive = { λ s. comes_transitive K.order K.transitive
-        (key_of (value_in K.reading K.is_value K.spelling) K.SIZE s.own s.heap.now) };
-
-    ghost agrees = { λ s wanted. comes_agrees K.order K.transitive
-        (key_of (value_in K.reading K.is_value K.spelling) K.SIZE s.own s.heap.now) wanted.past wanted.key };
 }

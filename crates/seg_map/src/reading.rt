@@ -1,7 +1,7 @@
 //! Keys and values that are read, and compared.
 ghost use Rattle.std.specs.Prelude.{◌≡◌, ◌+◌, IsTrue};
 ghost use Rattle.raw_region.specs.Memory.{bytes_of, read};
-ghost use Rattle.best_fit.specs.{Extents.is_proper, Heap.has_room, Heap.live_of};
+ghost use Rattle.best_fit.specs.Heap.{has_room, live_of};
 ghost use Rattle.seg_types.specs.Plain.{value_in};
 ghost use Rattle.seg_map.specs.PairNodes.{before_key, stands};
 
@@ -20,12 +20,10 @@ pub struct Sought<K> {
 
 /// The value that the bytes at `at` in the block of a handle spell.
 pub fn value_at<T: Plain>(heap: &Heap, handle: u64, at: u64) -> Option<T>
-    requires proper { IsTrue (is_proper (live_of heap.now.bytes)) }
-    requires room { IsTrue (has_room (live_of heap.now.bytes) handle (at + T.SIZE)) }
+    requires { IsTrue (has_room (live_of heap.now.bytes) handle (at + T.SIZE)) }
     ensures { result ≡ value_in T.reading T.is_value T.spelling (read (bytes_of heap.now.bytes) (handle + at) T.SIZE) }
 {
-    let from = at as usize;
-    T::read(&heap.block(handle)[from..from + T::SIZE as usize])
+    T::read(heap.bytes(handle, at, T::SIZE))
 }
 
 /// Whether a pair with the first key stands before one with the second. Without a key it does not.

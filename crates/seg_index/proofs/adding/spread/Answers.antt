@@ -1,24 +1,7 @@
 -- The links that make way, and then the new one.
-use Rattle.seg_index.proofs.{◌≡◌, ◌+◌, ◌-◌, ◌*◌, ◌∙◌, ap, sym, subst, arith, IsTrue, inr, bytes_of, link_at}
-use Rattle.seg_index.proofs.{SameBut-link, LiveSet, has_room, live_of, room-less, changed_trans, same_live}
+use Rattle.seg_index.proofs.{◌≡◌, ◌+◌, ◌-◌, ◌*◌, ◌∙◌, ap, arith, inr, bytes_of, link_at}
+use Rattle.seg_index.proofs.{SameBut-link, changed_trans}
 use Rattle.seg_index.proofs.adding.spread.Goals as goal
-
-pub shift_non_null_links-requires-clause-source : goal.shift_non_null_links-requires-clause-source
-shift_non_null_links-requires-clause-source c =
-    let a = c.args in let rest = 8 * (a.count - a.place) in
-    room-less (live_of a.heap.now.bytes) a.from (8 * a.count) (8 * a.place + rest) (omega arith) c.requires.source
-
-pub shift_non_null_links-requires-clause-target : goal.shift_non_null_links-requires-clause-target
-shift_non_null_links-requires-clause-target c =
-    let a = c.args in let rest = 8 * (a.count - a.place) in
-    room-less (live_of a.heap.now.bytes) a.to (8 * a.count + 8) (8 * a.place + 8 + rest) (omega arith) c.requires.target
-
-pub set_link-requires-clause-room : goal.set_link-requires-clause-room
-set_link-requires-clause-room c =
-    let a = c.args in
-    subst (λ (l : LiveSet). IsTrue (has_room l a.to (8 * a.place + 8)))
-    (sym (same_live c.shift_non_null_links.ensures.change))
-    (room-less (live_of a.heap.now.bytes) a.to (8 * a.count + 8) (8 * a.place + 8) (omega arith) c.requires.target)
 
 pub returns-clause-change : goal.returns-clause-change
 returns-clause-change c =

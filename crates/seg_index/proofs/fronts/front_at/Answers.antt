@@ -1,19 +1,8 @@
 -- The eight bytes lie in the heap, whose last 16 bytes are no block's.
-use Rattle.seg_index.proofs.{◌≡◌, ◌+◌, ◌-◌, ◌*◌, ◌/◌, ◌%◌, ◌^◌, ◌∙◌, ap, subst, arith, bit_and, ℕ, List, length}
-use Rattle.seg_index.proofs.{slice_range, big_number, bytes_of, live_of, room-less, AreBytes, name_len_at, long_front}
-use Rattle.seg_index.proofs.{short_front, inside}
+use Rattle.seg_index.proofs.{◌≡◌, ◌+◌, ◌-◌, ◌*◌, ◌/◌, ◌%◌, ◌^◌, ◌∙◌, ap, subst, arith, bit_and, ℕ, List}
+use Rattle.seg_index.proofs.{slice_range, big_number, bytes_of, AreBytes, name_len_at, long_front}
+use Rattle.seg_index.proofs.{short_front}
 use Rattle.seg_index.proofs.fronts.front_at.Goals as goal
-
-pub word-len-requires : goal.word-len-requires
-word-len-requires c =
-    let b = c.args.heap.now.bytes in let h = c.args.handle in
-    room-less (live_of b) h (16 + name_len_at (bytes_of b) h) 16 (omega arith) c.requires.room
-
-pub slice_bounds-read_u64-end : goal.slice_bounds-read_u64-end
-slice_bounds-read_u64-end c =
-    let n = 16 + name_len_at (bytes_of c.args.heap.now.bytes) c.args.handle in
-    let lies = inside c.args.heap.now c.args.handle n c.requires.heap c.requires.room in
-    let whole = ap (λ (b : List ℕ). length b) c.as_bytes-bytes.ensures in omega (arith, lies.ends, whole)
 
 -- the bytes of the name, of the length that was read
 bytes_there : (b held : List ℕ) → held ≡ b → AreBytes held → AreBytes b

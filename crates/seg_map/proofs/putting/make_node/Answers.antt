@@ -1,6 +1,5 @@
 -- The links, the key and the value are written one after another.
-use Rattle.seg_map.proofs.{current, Node, IsAllocated, node_len, laws, made, room_key, room_left, room_right}
-use Rattle.seg_map.proofs.{room_value}
+use Rattle.seg_map.proofs.{current, Node, IsAllocated, node_len, laws, made}
 use Rattle.seg_map.proofs.{putting.make_node.Given.Over, putting.make_node.Goals.In_ok-node}
 use Rattle.seg_map.proofs.putting.make_node.Goals as goal
 
@@ -8,31 +7,6 @@ use Rattle.seg_map.proofs.putting.make_node.Goals as goal
 new : (g : Over) (c : In_ok-node g) → IsAllocated current c.args.heap.now c.allocate.new.self
     (node_len g.K.Plain.SIZE g.V.Plain.SIZE) Node c.in_ok-node.node
 new g c = rw (c.SIZE.ensures, c.SIZE-2.ensures) at c.in_ok-node.ensures.answer
-
-pub set_link-requires-clause-room : goal.set_link-requires-clause-room
-set_link-requires-clause-room g c = room_left (laws g.met.K.Plain) g.V.Plain
-    (new g (goal.at.set_link-requires-clause-room g c).In_ok-node)
-
-pub set_link-requires-2-clause-room : goal.set_link-requires-2-clause-room
-set_link-requires-2-clause-room g c =
-    let left = c.set_link.ensures in
-    room_right (laws g.met.K.Plain) g.V.Plain (new g (goal.at.set_link-requires-2-clause-room g c).In_ok-node)
-    left.change left.leads
-
-pub write_value-requires : goal.write_value-requires
-write_value-requires g c =
-    let left = c.set_link.ensures in let right = c.set_link-2.ensures in
-    room_key (laws g.met.K.Plain) g.V.Plain (new g (goal.at.write_value-requires g c).In_ok-node) left.change
-    left.leads right.change
-    right.leads
-
-pub write_value-requires-2 : goal.write_value-requires-2
-write_value-requires-2 g c =
-    let left = c.set_link.ensures in let right = c.set_link-2.ensures in let key = c.write_value.ensures in
-    rw c.SIZE-3.ensures (room_value (laws g.met.K.Plain) g.V.Plain (new g (goal.at.write_value-requires-2 g
-    c).In_ok-node)
-    left.change left.leads right.change
-    right.leads key.value key.change key.content)
 
 pub returns-clause-made : goal.returns-clause-made
 returns-clause-made g c =

@@ -1,6 +1,6 @@
 -- The links are put round the new one, and then the block is the index's.
-use Rattle.seg_index.proofs.{◌≡◌, ap, ap₂, refl, sym, subst, ◌∙◌, ◌+◌, ◌-◌, ◌*◌, ◌%◌, ◌≤◌, arith, insert, length-insert}
-use Rattle.seg_index.proofs.{current, LiveSet, LaysOut, heap_touches, IsBlockFor, without_link, grown_capacity}
+use Rattle.seg_index.proofs.{◌≡◌, ap, ap₂, refl, sym, subst, ◌∙◌, ◌+◌, ◌-◌, ◌*◌, ◌%◌, arith, insert, length-insert}
+use Rattle.seg_index.proofs.{current, LiveSet, LaysOut, IsBlockFor, without_link, grown_capacity}
 use Rattle.seg_index.proofs.{same_live, capacity_small, in_header, insert_all, links_lead, filled, index_in, offer}
 use Rattle.seg_index.proofs.{source, target, written, written_both, written_keeps}
 use Rattle.seg_index.proofs.index.Index.insert_into.Goals as goal
@@ -55,30 +55,34 @@ settle-requires c =
       within = omega arith;
     }
 
-pub returns : goal.returns
-returns c =
-    let q = c.requires.index in let E = c.settle.new.heap in let place = c.args.place in
-    let cap = c.grown-capacity.ensures ∙ ap grown_capacity c.capacity.ensures.word in
+pub returns-clause-index : goal.returns-clause-index
+returns-clause-index c = λ t hs i.
+    let cap = c.grown-capacity.ensures ∙ ap grown_capacity c.capacity.ensures.word in let place = c.args.place in
+    let before = offer (in_header c.args.self) c.place.ensures c.header_link.ensures c.unwrap_or-from.ensures
+    c.requires.block c.requires.apart i in
+    let behind = written before c.shift_non_null_links.ensures.change (omega arith) in
+    let long = c.len-count.ensures.len t hs i in let more = length-insert hs place c.args.handle (omega arith) in
+    let links = filled c.unwrap_or-from.result c.args.block hs (source before).links (source behind).links
+    long (omega arith) c.shift_non_null_links.ensures.lead c.spread.ensures.change c.spread.ensures.here
+    c.spread.ensures.tail in
+    let whole = insert_all (λ k. k % 16 ≡ 0) hs place c.args.handle (omega arith) i.whole c.requires.handle in
+    let all = written_both c.args.block c.shift_non_null_links.ensures.change c.spread.ensures.change (omega arith) in
+    index_in c.args.heap.now c.spread.new.heap c.settle.new.heap c.args.block (same_live all) cap
+    (c.settle.ensures.index (insert hs place c.args.handle) links (omega arith) whole)
+
+pub returns-clause-live : goal.returns-clause-live
+returns-clause-live c =
+    let q = c.requires.index in
     let o = offer (in_header c.args.self) c.place.ensures c.header_link.ensures c.unwrap_or-from.ensures
     c.requires.block c.requires.apart q.index in
     let all = written_both c.args.block c.shift_non_null_links.ensures.change c.spread.ensures.change (omega arith) in
-    let p = written o all (omega arith) in let live = same_live all in
-    record {
-      index = λ t hs i.
-          let before = offer (in_header c.args.self) c.place.ensures c.header_link.ensures c.unwrap_or-from.ensures
-          c.requires.block c.requires.apart i in
-          let behind = written before c.shift_non_null_links.ensures.change (omega arith) in
-          let long = c.len-count.ensures.len t hs i in let more = length-insert hs place c.args.handle (omega arith) in
-          let links = filled c.unwrap_or-from.result c.args.block hs (source before).links (source behind).links
-          long (omega arith) c.shift_non_null_links.ensures.lead c.spread.ensures.change c.spread.ensures.here
-          c.spread.ensures.tail in
-          let whole = insert_all (λ k. k % 16 ≡ 0) hs place c.args.handle (omega arith) i.whole c.requires.handle in
-          index_in c.args.heap.now c.spread.new.heap E c.args.block live cap
-          (c.settle.ensures.index (insert hs place c.args.handle) links (omega arith) whole);
-      live = subst (λ (l : LiveSet). LaysOut current E.bytes l) (ap₂ without_link live (p.leads ∙ sym o.leads))
-          c.settle.ensures.live;
-      keeps = written_keeps o all (omega arith) c.settle.ensures.keeps;
-      counted = c.settle.ensures.counted;
-      steps = subst (λ (l : LiveSet). c.settle.new.steps ≤ c.args.steps.now + heap_touches l) live
-          c.settle.ensures.steps;
-    }
+    subst (λ (l : LiveSet). LaysOut current c.settle.new.heap.bytes l)
+    (ap₂ without_link (same_live all) ((written o all (omega arith)).leads ∙ sym o.leads)) c.settle.ensures.live
+
+pub returns-clause-keeps : goal.returns-clause-keeps
+returns-clause-keeps c =
+    let q = c.requires.index in
+    let o = offer (in_header c.args.self) c.place.ensures c.header_link.ensures c.unwrap_or-from.ensures
+    c.requires.block c.requires.apart q.index in
+    let all = written_both c.args.block c.shift_non_null_links.ensures.change c.spread.ensures.change (omega arith) in
+    written_keeps o all (omega arith) c.settle.ensures.keeps

@@ -1,22 +1,12 @@
 -- The words lead to the block, and the old one goes.
-use Rattle.seg_index.proofs.{◌≡◌, ap, sym, subst, ◌∙◌, ◌+◌, ◌≤◌, IsTrue, arith, current, LiveSet, released, LaysOut}
-use Rattle.seg_index.proofs.{heap_touches, is_live_in, live_of, KeepsRest, unlinked, without_link, place_of, same_live}
+use Rattle.seg_index.proofs.{◌≡◌, ap, sym, subst, ◌∙◌, ◌+◌, ◌≤◌, arith, current, LiveSet, released, LaysOut}
+use Rattle.seg_index.proofs.{heap_touches, live_of, KeepsRest, unlinked, without_link, place_of, same_live}
 use Rattle.seg_index.proofs.{in_header, leads_from, keeps_words, block_whole, gone, headed, headed_released_keeps}
 use Rattle.seg_index.proofs.{settled, settled_released}
 use Rattle.seg_index.proofs.index.Index.settle.Goals as goal
 
 pub set_header_link-requires-clause-target : goal.set_header_link-requires-clause-target
 set_header_link-requires-clause-target c = block_whole c.requires.heap c.requires.block
-
-pub deallocate-requires : goal.deallocate-requires
-deallocate-requires c =
-    let A = c.args.heap.now in let old = c.in-Some.old in
-    let w = headed c.place-place.ensures c.set_header_link.ensures.change c.set_header_link.ensures.leads
-    c.set_header_word.ensures.change c.set_header_word.ensures.word c.set_header_word-2.ensures.change
-    c.set_header_word-2.ensures.word in
-    let leads = leads_from A c.place-place.ensures c.header_link-old.ensures c.in-Some.is in
-    subst (λ (l : LiveSet). IsTrue (is_live_in l old)) (sym (same_live w.change))
-    (gone A old leads c.requires.released).0
 
 pub returns-in-Some : goal.returns-in-Some
 returns-in-Some c =

@@ -2,8 +2,8 @@
 use Rattle.seg_map.proofs.{arith, finds_last, found_room, looked_up}
 use Rattle.seg_map.proofs.maps.SegMap.last.Goals as goal
 
-pub read_found-requires-clause-room : goal.read_found-requires-clause-room
-read_found-requires-clause-room g c =
+pub read_found-requires : goal.read_found-requires
+read_found-requires g c =
     let f = c.find_last-found.ensures in
     found_room (finds_last c.open-pairs.ensures.opened f.last f.exact f.steps) c.requires
 

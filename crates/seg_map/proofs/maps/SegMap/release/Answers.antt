@@ -13,7 +13,15 @@ pub give_up-requires : goal.give_up-requires
 give_up-requires g c =
     let going = c.pairs.invariant c.requires.0 c.requires.1 in
     let n = root_pair (laws g.met.K.Plain) going (sym c.link.ensures ∙ c.in-Some.is) in
-    record { pairs = going.pairs; key = n.pair.key; pair = n.pair; map = going.holds; found = n.holds; is = n.at }
+    record {
+      pairs = going.pairs;
+      key = n.pair.key;
+      pair = n.pair;
+      map = going.holds;
+      found = n.holds;
+      is = n.at;
+      begins = tt;
+    }
 
 pub pairs-init : goal.pairs-init
 pairs-init g c = λ ps s. going_first g.K.Plain g.V.Plain c.args.heap.now c.args.self.place.handle c.args.self.place.at
@@ -24,14 +32,14 @@ pairs-smaller g c =
     let going = c.pairs.invariant c.requires.0 c.requires.1 in
     let n = root_pair (laws g.met.K.Plain) going (sym c.link.ensures ∙ c.in-Some.is) in
     one_less (laws g.met.K.Plain) going n.holds
-    (c.give_up.ensures going.pairs n.pair.key n.pair going.holds n.holds n.at)
+    (c.give_up.ensures.dropped going.pairs n.pair.key n.pair going.holds n.holds n.at)
 
 pub pairs-preserved : goal.pairs-preserved
 pairs-preserved g c = λ ps s.
     let going = c.pairs.invariant ps s in
     let n = root_pair (laws g.met.K.Plain) going (sym c.link.ensures ∙ c.in-Some.is) in
     going_on (laws g.met.K.Plain) going n.holds
-    (c.give_up.ensures going.pairs n.pair.key n.pair going.holds n.holds n.at)
+    (c.give_up.ensures.dropped going.pairs n.pair.key n.pair going.holds n.holds n.at)
 
 pub returns : goal.returns
 returns g c =

@@ -1,46 +1,90 @@
-//! A segment under test: each call compares what a call of the segment answers under a name with what is wanted, so
-//! that a test is a line of calls without facts.
+//! A segment under test: each call compares what a call of the segment answers under a name of one letter with what is
+//! wanted, and notes where that is something else. So a test is a line of calls without facts, and its last one asks.
 ghost use Rattle.std.specs.Prelude.{◌≤◌};
 
-use crate::checks::same;
-use crate::segments::{entry, named, new_named};
-use seg_types::{Class, Handle, Key, Kind, Refusal, Scalar};
+use crate::checks::holds;
+use seg_types::{Class, Handle, IndexKey, Key, Kind, Name, NewKey, Refusal, Scalar};
 use segment_manager::Segment;
 use std::process::Abort;
 
-/// A segment under test.
+/// A segment under test, and whether all was as is wanted so far.
 #[derive(Drop)]
 pub struct Bench {
     pub segment: Segment,
+    is_right: bool,
+}
+
+/// What is answered of an object that is looked for: its handle and count, nothing, or a refusal.
+pub type Found = Result<Option<(Handle, u32)>, Refusal>;
+
+/// What an object tells of itself: `kind_of`, `instance_name`, `instance_class` and `instance_length`.
+#[derive(Clone, Copy)]
+pub struct Told {
+    pub kind: Kind,
+    pub name: Option<&'static [u8]>,
+    pub class: Class,
+    pub count: u64,
 }
 
 impl Bench {
+    /// A segment of which nothing was asked yet.
+    pub fn new(segment: Segment) -> Bench {
+        Bench {
+            segment,
+            is_right: true,
+        }
+    }
+
+    /// Fails where something was not as is wanted. It takes the segment, since to let go of one in each test is dear to prove.
+    pub fn ends(self, rt: &impl Abort) {
+        holds(rt, self.is_right);
+    }
+
+    /// Whether all was as is wanted so far.
+    pub fn is_right(&self) -> bool {
+        self.is_right
+    }
+
+    /// Notes where something is not so.
+    pub fn holds(&mut self, so: bool) {
+        if !so {
+            self.is_right = false;
+        }
+    }
+
+    /// Notes where a call answers something else than is wanted.
+    pub fn same<T: PartialEq + Drop>(&mut self, got: T, want: T) {
+        self.holds(got == want);
+    }
+
+    /// The name of these bytes, which are one.
+    pub fn name<'a>(&mut self, bytes: &'a [u8]) -> Option<Name<'a>> {
+        let name = Name::new(bytes);
+        self.holds(name.is_some());
+        name
+    }
+
     /// So many bytes are free.
-    pub fn has_free(&self, rt: &impl Abort, free: u64) {
-        same(rt, self.segment.free(), free);
+    pub fn has_free(&mut self, free: u64) {
+        let is_free = self.segment.free() == free;
+        self.holds(is_free);
     }
 
     /// `construct`: so many times the value, at this handle.
-    pub fn makes<T: Scalar>(
-        &mut self,
-        rt: &impl Abort,
-        name: &[u8],
-        count: u32,
-        value: T,
-        handle: Handle,
-    )
+    pub fn makes<T: Scalar>(&mut self, name: u8, count: u32, value: T, handle: Handle)
         requires some { 1 ≤ count }
         requires few { count ≤ 1048576 }
     {
-        let made = self.segment.construct(&new_named(rt, name), count, value);
-        same(rt, made, Ok(handle));
+        if let Some(name) = self.name(&[name]) {
+            let made = self.segment.construct(&NewKey::Name(name), count, value);
+            self.same(made, Ok(handle));
+        }
     }
 
     /// `find_or_construct`: handle and count of what is there then.
     pub fn finds_or_makes<T: Scalar>(
         &mut self,
-        rt: &impl Abort,
-        name: &[u8],
+        name: u8,
         count: u32,
         value: T,
         found: (Handle, u32),
@@ -48,56 +92,52 @@ impl Bench {
         requires some { 1 ≤ count }
         requires few { count ≤ 1048576 }
     {
-        let made = self
-            .segment
-            .find_or_construct(&entry(rt, name), count, value);
-        same(rt, made, Ok(found));
+        if let Some(name) = self.name(&[name]) {
+            let key = IndexKey::Name(name);
+            let made = self.segment.find_or_construct(&key, count, value);
+            self.same(made, Ok(found));
+        }
     }
 
     /// `find`: handle and count, or nothing.
-    pub fn finds<T: Scalar>(&self, rt: &impl Abort, name: &[u8], found: Found) {
-        same(rt, self.segment.find::<T>(&named(rt, name)), found);
+    pub fn finds<T: Scalar>(&mut self, name: u8, found: Found) {
+        if let Some(name) = self.name(&[name]) {
+            let got = self.segment.find::<T>(&Key::Name(name));
+            self.same(got, found);
+        }
     }
 
     /// `get`: the element at `i`.
-    pub fn has<T: Scalar + PartialEq>(
-        &self,
-        rt: &impl Abort,
-        name: &[u8],
-        i: u64,
-        value: Result<T, Refusal>,
-    ) {
-        same(rt, self.segment.get(&named(rt, name), i), value);
+    pub fn has<T: Scalar + PartialEq>(&mut self, name: u8, i: u64, value: T) {
+        self.gets(name, i, Ok(value));
     }
 
-    /// `set`: the element at `i` is another value.
-    pub fn sets<T: Scalar>(
-        &mut self,
-        rt: &impl Abort,
-        name: &[u8],
-        i: u64,
-        value: T,
-        done: Result<(), Refusal>,
-    ) {
-        same(rt, self.segment.set(&named(rt, name), i, value), done);
+    /// `get`: there is no such element, and why.
+    pub fn lacks<T: Scalar + PartialEq>(&mut self, name: u8, i: u64, why: Refusal) {
+        self.gets::<T>(name, i, Err(why));
     }
 
-    /// What an object tells of itself: `kind_of`, `instance_name`, `instance_class` and `instance_length`.
-    pub fn tells(
-        &self,
-        rt: &impl Abort,
-        key: &Key,
-        kind: Kind,
-        name: Option<&[u8]>,
-        class: Class,
-        count: u64,
-    ) {
-        same(rt, self.segment.kind_of(key), Ok(kind));
-        same(rt, self.segment.instance_name(key), Ok(name));
-        same(rt, self.segment.instance_class(key), Ok(class));
-        same(rt, self.segment.instance_length(key), Ok(count));
+    fn gets<T: Scalar + PartialEq>(&mut self, name: u8, i: u64, wanted: Result<T, Refusal>) {
+        if let Some(name) = self.name(&[name]) {
+            let got = self.segment.get(&Key::Name(name), i);
+            self.same(got, wanted);
+        }
+    }
+
+    /// `set`: the element at `i` is another value, or this is refused.
+    pub fn sets<T: Scalar>(&mut self, name: u8, i: u64, value: T, done: Result<(), Refusal>) {
+        if let Some(name) = self.name(&[name]) {
+            let set = self.segment.set(&Key::Name(name), i, value);
+            self.same(set, done);
+        }
+    }
+
+    /// What an object tells of itself.
+    pub fn tells(&mut self, key: &Key, told: &Told) {
+        let is_told = self.segment.kind_of(key) == Ok(told.kind)
+            && self.segment.instance_name(key) == Ok(told.name)
+            && self.segment.instance_class(key) == Ok(told.class)
+            && self.segment.instance_length(key) == Ok(told.count);
+        self.holds(is_told);
     }
 }
-
-/// What is answered of an object that is looked for: its handle and count, nothing, or a refusal.
-pub type Found = Result<Option<(Handle, u32)>, Refusal>;

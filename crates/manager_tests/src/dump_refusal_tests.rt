@@ -2,7 +2,6 @@
 use crate::checks::{holds, same};
 use crate::dumps::{is_refused, loaded, refused_in};
 use segment_dump::{BadDump, Count, DumpFault, LoadError, Needs, count_dump};
-use std::alloc::Global;
 use std::process::Abort;
 
 /// Texts that are no dumps: in which line and column, and why. Counts that no lines stand behind are no reason to say that there
@@ -74,7 +73,7 @@ fn damaged_dumps(rt: HostRuntime) {
             column,
             cause,
         };
-        is_refused(&rt, rt.alloc(), text, 1024, LoadError::BadDump(bad));
+        is_refused(&rt, text, 1024, LoadError::BadDump(bad));
     }
 }
 
@@ -89,7 +88,7 @@ fn too_small(rt: HostRuntime) {
         (160, LoadError::BadSize),
         (16384, LoadError::RegionTooSmall),
     ] {
-        is_refused(&rt, rt.alloc(), NEEDS_MORE, size, cause);
+        is_refused(&rt, NEEDS_MORE, size, cause);
     }
 }
 
@@ -109,16 +108,18 @@ fn needs_are_counted(rt: HostRuntime) {
 }
 
 /// The dump is not loaded with this room for its longest text: the region comes back.
-fn leaves_the_region(rt: &impl Abort, alloc: Global, room: &mut [u8], size: u64, cause: LoadError) {
-    let refused = refused_in(rt, alloc, NEEDS_560, room, Some(size));
+fn leaves_the_region<R: Abort + AllocGlobal>(rt: &R, room: &mut [u8], size: u64, cause: LoadError) {
+    let refused = refused_in(rt, NEEDS_560, room, Some(size));
     same(rt, refused.cause, cause);
     holds(rt, refused.region.is_some());
+    drop(refused);
 }
 
 #[test]
 fn just_enough(rt: HostRuntime) {
-    let segment = loaded(&rt, rt.alloc(), NEEDS_560, Some(560));
+    let segment = loaded(&rt, NEEDS_560, Some(560));
     same(&rt, segment.free(), 0);
-    leaves_the_region(&rt, rt.alloc(), &mut [0; 100], 544, LoadError::NoSpace);
-    leaves_the_region(&rt, rt.alloc(), &mut [0; 19], 560, LoadError::LongText);
+    drop(segment);
+    leaves_the_region(&rt, &mut [0; 100], 544, LoadError::NoSpace);
+    leaves_the_region(&rt, &mut [0; 19], 560, LoadError::LongText);
 }

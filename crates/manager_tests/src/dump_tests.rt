@@ -5,7 +5,6 @@ use crate::segments::{named, new_named};
 use seg_types::{Handle, Key, ScalarKind, ScalarValue};
 use segment_dump::{dump_with_capacities, said_size, without_notes};
 use segment_manager::{AnonymousInstance, Segment, UniqueInstance};
-use std::alloc::Global;
 use std::process::Abort;
 
 /// A segment with nothing in it, as a dump has it.
@@ -44,44 +43,55 @@ fn fill(rt: &impl Abort, segment: &mut Segment) {
 
 #[test]
 fn one_object_of_each_kind(rt: HostRuntime) {
-    let mut segment = empty(&rt, rt.alloc());
-    is_dumped(&rt, rt.alloc(), &segment, NOTHING);
+    let mut segment = empty(&rt);
+    is_dumped(&rt, &segment, NOTHING);
     fill(&rt, &mut segment);
-    is_dumped(&rt, rt.alloc(), &segment, ONE_OF_EACH);
+    is_dumped(&rt, &segment, ONE_OF_EACH);
+    drop(segment);
+}
+
+/// A dump is loaded as a segment of 4096 bytes, which is dumped as this text.
+fn loads_alike<R: Abort + AllocGlobal>(rt: &R, dump: &[u8], text: &[u8]) {
+    let alike = loaded(rt, dump, Some(4096));
+    is_dumped(rt, &alike, text);
+    drop(alike);
 }
 
 #[test]
 fn what_was_dumped_is_loaded(rt: HostRuntime) {
-    let alike = loaded(&rt, rt.alloc(), ONE_OF_EACH, Some(4096));
-    is_dumped(&rt, rt.alloc(), &alike, ONE_OF_EACH);
-    let least = loaded(&rt, rt.alloc(), NOTHING, None);
+    loads_alike(&rt, ONE_OF_EACH, ONE_OF_EACH);
+    let least = loaded(&rt, NOTHING, None);
     same(&rt, least.size(), 144);
+    drop(least);
 }
 
 /// Loads a dump in just as many bytes as it needs, and what that is dumped as.
-fn is_loaded_again(rt: &impl Abort, alloc: Global, dump: &[u8]) {
-    let least = loaded(rt, alloc, dump, None);
+fn is_loaded_again<R: Abort + AllocGlobal>(rt: &R, dump: &[u8]) {
+    let least = loaded(rt, dump, None);
     same(rt, least.free(), 0);
-    let text = text_of(rt, alloc, &least);
-    let again = loaded(rt, alloc, text.taken(), Some(least.size()));
-    is_dumped(rt, alloc, &again, text.taken());
+    let text = text_of(rt, &least);
+    let again = loaded(rt, text.taken(), Some(least.size()));
+    is_dumped(rt, &again, text.taken());
+    drop((least, text, again));
 }
 
 #[test]
 fn what_was_loaded_is_loaded_again(rt: HostRuntime) {
-    is_loaded_again(&rt, rt.alloc(), ONE_OF_EACH);
+    is_loaded_again(&rt, ONE_OF_EACH);
 }
 
 #[test]
 fn a_long_text(rt: HostRuntime) {
-    let mut segment = empty(&rt, rt.alloc());
+    let mut segment = empty(&rt);
     let bytes = [0x61; 1001];
     done(&rt, segment.construct_string(&new_named(&rt, b"s"), &bytes));
     done(
         &rt,
         segment.construct_texts(&new_named(&rt, b"t"), &[&bytes]),
     );
-    is_loaded_again(&rt, rt.alloc(), text_of(&rt, rt.alloc(), &segment).taken());
+    let text = text_of(&rt, &segment);
+    is_loaded_again(&rt, text.taken());
+    drop((segment, text));
 }
 
 /// A vector with more places than elements, and a string.
@@ -93,8 +103,8 @@ const NOTED: &[u8] =
     b"segment dump 1\nsize 4096\nindexes 1 0\nnamed a vec<i64> 1\n  7\nanonymous string 1\n  2 \"xy\"\nend\n# capacity of names: 4\n# capacity of kinds: 0\n# capacity of named a vec<i64>: 10\n# capacity of anonymous string: 2\n";
 
 /// A writer with room for so many bytes of the dump with capacities takes these, and then fails.
-fn is_noted(rt: &impl Abort, alloc: Global, segment: &Segment, room: usize) {
-    let mut out = writer(rt, alloc, room);
+fn is_noted<R: Abort + AllocGlobal>(rt: &R, segment: &Segment, room: usize) {
+    let mut out = writer(rt, room);
     let told = dump_with_capacities(segment, &mut out).is_ok();
     same(rt, told, room >= NOTED.len());
     holds(rt, NOTED.starts_with(out.taken()));
@@ -103,13 +113,14 @@ fn is_noted(rt: &impl Abort, alloc: Global, segment: &Segment, room: usize) {
 
 #[test]
 fn capacities_are_told(rt: HostRuntime) {
-    let mut segment = empty(&rt, rt.alloc());
+    let mut segment = empty(&rt);
     let name = new_named(&rt, b"a");
     done(&rt, segment.construct_vec(&name, &[7i64]));
     done(&rt, segment.reserve(&named(&rt, b"a"), 10));
     done(&rt, segment.construct_string(&AnonymousInstance, b"xy"));
-    is_noted(&rt, rt.alloc(), &segment, 16384);
-    is_noted(&rt, rt.alloc(), &segment, DUMP.len() + 30);
+    is_noted(&rt, &segment, 16384);
+    is_noted(&rt, &segment, DUMP.len() + 30);
+    drop(segment);
 }
 
 /// Texts, and what is left of them without notes.
@@ -126,8 +137,7 @@ fn notes_are_left_out(rt: HostRuntime) {
     for (text, left) in NOTES {
         same(&rt, without_notes(text), left);
     }
-    let alike = loaded(&rt, rt.alloc(), NOTED, Some(4096));
-    is_dumped(&rt, rt.alloc(), &alike, DUMP);
+    loads_alike(&rt, NOTED, DUMP);
 }
 
 #[test]

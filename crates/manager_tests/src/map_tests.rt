@@ -1,143 +1,185 @@
 //! Maps by the types of their keys and values.
 use crate::bench::Bench;
-use crate::checks::same;
-use crate::segments::{fresh, named, new_named};
+use crate::segments::fresh;
 use seg_types::{IndexKey, Key, Kind, NewKey, Refusal, ScalarKind, ScalarValue};
-use std::process::Abort;
 
 /// The kind of maps from i64 to u8.
 const BYTES: Kind = Kind::Map(ScalarKind::I64, ScalarKind::U8);
 
+/// The key of the map `m`.
+fn map<'a>(bench: &mut Bench) -> Key<'a> {
+    match bench.name(b"m") {
+        Some(name) => Key::Name(name),
+        None => Key::Handle(0),
+    }
+}
+
 /// Puts a pair into the map `m`, whose key is new or not.
-fn puts(rt: &impl Abort, bench: &mut Bench, key: i64, value: u8, is_new: bool) {
-    let put = bench.segment.map_put(&named(rt, b"m"), key, value);
-    same(rt, put, Ok(is_new));
+fn puts(bench: &mut Bench, key: i64, value: u8, is_new: bool) {
+    let map = map(bench);
+    let put = bench.segment.map_put(&map, key, value);
+    bench.same(put, Ok(is_new));
 }
 
 /// Takes a key out of the map `m`, which has it or not.
-fn erases(rt: &impl Abort, bench: &mut Bench, key: i64, is_there: bool) {
-    let erased = bench.segment.map_erase::<i64, u8, _>(&named(rt, b"m"), key);
-    same(rt, erased, Ok(is_there));
+fn erases(bench: &mut Bench, key: i64, is_there: bool) {
+    let map = map(bench);
+    let erased = bench.segment.map_erase::<i64, u8, _>(&map, key);
+    bench.same(erased, Ok(is_there));
 }
 
 /// Looks a key up in the map `m`.
-fn leads(rt: &impl Abort, bench: &Bench, key: i64, value: Option<u8>) {
-    let found = bench.segment.map_get(&named(rt, b"m"), key);
-    same(rt, found, Ok(value));
+fn leads(bench: &mut Bench, key: i64, value: Option<u8>) {
+    let map = map(bench);
+    let found = bench.segment.map_get(&map, key);
+    bench.same(found, Ok(value));
 }
 
+/// A pair of a map, or nothing.
+type Pair = Option<(i64, u8)>;
+
 /// The pair of the map `m` from a key on, and the one above the key.
-fn stands(
-    rt: &impl Abort,
-    bench: &Bench,
-    key: i64,
-    from: Option<(i64, u8)>,
-    above: Option<(i64, u8)>,
-) {
-    let map = named(rt, b"m");
-    same(rt, bench.segment.map_first_from(&map, key), Ok(from));
-    same(rt, bench.segment.map_next_after(&map, key), Ok(above));
+fn stands(bench: &mut Bench, key: i64, from: Pair, above: Pair) {
+    let map = map(bench);
+    let got = bench.segment.map_first_from(&map, key);
+    bench.same(got, Ok(from));
+    let got = bench.segment.map_next_after(&map, key);
+    bench.same(got, Ok(above));
 }
 
 /// The pair of the map `m` up to a key, and the one below the key.
-fn stands_back(
-    rt: &impl Abort,
-    bench: &Bench,
-    key: i64,
-    up_to: Option<(i64, u8)>,
-    below: Option<(i64, u8)>,
-) {
-    let map = named(rt, b"m");
-    same(rt, bench.segment.map_last_up_to(&map, key), Ok(up_to));
-    same(rt, bench.segment.map_previous_before(&map, key), Ok(below));
+fn stands_back(bench: &mut Bench, key: i64, up_to: Pair, below: Pair) {
+    let map = map(bench);
+    let got = bench.segment.map_last_up_to(&map, key);
+    bench.same(got, Ok(up_to));
+    let got = bench.segment.map_previous_before(&map, key);
+    bench.same(got, Ok(below));
 }
 
 /// The last pair of the map `m`.
-fn ends(rt: &impl Abort, bench: &Bench, last: Option<(i64, u8)>) {
-    same(rt, bench.segment.map_last(&named(rt, b"m")), Ok(last));
+fn ends(bench: &mut Bench, last: Pair) {
+    let map = map(bench);
+    let got = bench.segment.map_last(&map);
+    bench.same(got, Ok(last));
 }
 
 /// A segment with the map `m`.
-fn with_map(rt: &impl Abort, bench: &mut Bench) {
-    let made = bench
-        .segment
-        .construct_map::<i64, u8, _>(&new_named(rt, b"m"));
-    same(rt, made, Ok(192));
+fn with_map(bench: &mut Bench) {
+    if let Some(name) = bench.name(b"m") {
+        let made = bench
+            .segment
+            .construct_map::<i64, u8, _>(&NewKey::Name(name));
+        bench.same(made, Ok(192));
+    }
+}
+
+/// Puts three pairs into the map `m`, the last one first.
+fn put_three(bench: &mut Bench) {
+    puts(bench, 6, 60, true);
+    puts(bench, -2, 20, true);
+    puts(bench, 4, 40, true);
 }
 
 #[test]
 fn a_key_leads_to_its_value(rt: HostRuntime) {
-    let mut bench = fresh(&rt, rt.alloc(), 1024);
-    with_map(&rt, &mut bench);
-    puts(&rt, &mut bench, -4, 40, true);
-    puts(&rt, &mut bench, 2, 20, true);
-    puts(&rt, &mut bench, 2, 21, false);
-    leads(&rt, &bench, -4, Some(40));
-    leads(&rt, &bench, 2, Some(21));
-    erases(&rt, &mut bench, -4, true);
-    erases(&rt, &mut bench, -4, false);
-    leads(&rt, &bench, -4, None);
-    bench.has_free(&rt, 720);
+    let mut bench = fresh(&rt);
+    with_map(&mut bench);
+    puts(&mut bench, -4, 40, true);
+    puts(&mut bench, 2, 20, true);
+    puts(&mut bench, 2, 21, false);
+    leads(&mut bench, -4, Some(40));
+    leads(&mut bench, 2, Some(21));
+    erases(&mut bench, -4, true);
+    erases(&mut bench, -4, false);
+    leads(&mut bench, -4, None);
+    bench.has_free(720);
+    bench.ends(&rt);
 }
+
+/// Keys, the pair from each on, and the one above it.
+const RISING: [(i64, Pair, Pair); 5] = [
+    (i64::MIN, Some((-2, 20)), Some((-2, 20))),
+    (-2, Some((-2, 20)), Some((4, 40))),
+    (5, Some((6, 60)), Some((6, 60))),
+    (6, Some((6, 60)), None),
+    (7, None, None),
+];
 
 #[test]
 fn pairs_rise(rt: HostRuntime) {
-    let mut bench = fresh(&rt, rt.alloc(), 1024);
-    with_map(&rt, &mut bench);
-    stands(&rt, &bench, i64::MIN, None, None);
-    puts(&rt, &mut bench, 6, 60, true);
-    puts(&rt, &mut bench, -2, 20, true);
-    puts(&rt, &mut bench, 4, 40, true);
-    stands(&rt, &bench, i64::MIN, Some((-2, 20)), Some((-2, 20)));
-    stands(&rt, &bench, -2, Some((-2, 20)), Some((4, 40)));
-    stands(&rt, &bench, 5, Some((6, 60)), Some((6, 60)));
-    stands(&rt, &bench, 6, Some((6, 60)), None);
-    stands(&rt, &bench, 7, None, None);
+    let mut bench = fresh(&rt);
+    with_map(&mut bench);
+    stands(&mut bench, i64::MIN, None, None);
+    put_three(&mut bench);
+    for (key, from, above) in RISING {
+        stands(&mut bench, key, from, above);
+    }
+    bench.ends(&rt);
 }
+
+/// Keys, the pair up to each, and the one below it.
+const FALLING: [(i64, Pair, Pair); 5] = [
+    (i64::MAX, Some((6, 60)), Some((6, 60))),
+    (6, Some((6, 60)), Some((4, 40))),
+    (5, Some((4, 40)), Some((4, 40))),
+    (-2, Some((-2, 20)), None),
+    (-3, None, None),
+];
 
 #[test]
 fn pairs_fall(rt: HostRuntime) {
-    let mut bench = fresh(&rt, rt.alloc(), 1024);
-    with_map(&rt, &mut bench);
-    ends(&rt, &bench, None);
-    stands_back(&rt, &bench, i64::MAX, None, None);
-    puts(&rt, &mut bench, 6, 60, true);
-    puts(&rt, &mut bench, -2, 20, true);
-    puts(&rt, &mut bench, 4, 40, true);
-    ends(&rt, &bench, Some((6, 60)));
-    stands_back(&rt, &bench, i64::MAX, Some((6, 60)), Some((6, 60)));
-    stands_back(&rt, &bench, 6, Some((6, 60)), Some((4, 40)));
-    stands_back(&rt, &bench, 5, Some((4, 40)), Some((4, 40)));
-    stands_back(&rt, &bench, -2, Some((-2, 20)), None);
-    stands_back(&rt, &bench, -3, None, None);
+    let mut bench = fresh(&rt);
+    with_map(&mut bench);
+    ends(&mut bench, None);
+    stands_back(&mut bench, i64::MAX, None, None);
+    put_three(&mut bench);
+    ends(&mut bench, Some((6, 60)));
+    for (key, up_to, below) in FALLING {
+        stands_back(&mut bench, key, up_to, below);
+    }
+    bench.ends(&rt);
+}
+
+/// Finds the only map of its kind, or makes it.
+fn finds_or_makes(bench: &mut Bench) {
+    let key = IndexKey::Unique(BYTES);
+    let made = bench.segment.find_or_construct_map::<i64, u8, _>(&key);
+    bench.same(made, Ok((192, 1)));
 }
 
 #[test]
 fn a_map_is_found_or_made(rt: HostRuntime) {
-    let mut bench = fresh(&rt, rt.alloc(), 1024);
-    let segment = &mut bench.segment;
-    let key = IndexKey::Unique(BYTES);
-    let made = segment.find_or_construct_map::<i64, u8, _>(&key);
-    same(&rt, made, Ok((192, 1)));
-    let found = segment.find_or_construct_map::<i64, u8, _>(&key);
-    same(&rt, found, Ok((192, 1)));
-    let found = segment.find_kind(&Key::Unique(BYTES), BYTES);
-    same(&rt, found, Ok(Some((192, 1))));
+    let mut bench = fresh(&rt);
+    finds_or_makes(&mut bench);
+    finds_or_makes(&mut bench);
+    let found = bench.segment.find_kind(&Key::Unique(BYTES), BYTES);
+    bench.same(found, Ok(Some((192, 1))));
+    bench.ends(&rt);
+}
+
+/// Looks a key up in the map at 144, and takes it out, with values of a kind.
+fn asks(
+    bench: &mut Bench,
+    values: ScalarKind,
+    found: Result<Option<ScalarValue>, Refusal>,
+    erased: Result<bool, Refusal>,
+) {
+    let (map, key) = (Key::Handle(144), ScalarValue::U8(255));
+    let got = bench.segment.map_get_any(&map, key, values);
+    bench.same(got, found);
+    let got = bench.segment.map_erase_any(&map, key, values);
+    bench.same(got, erased);
 }
 
 // No script names the kind of a map's values, so this refusal is none of a script's.
 #[test]
 fn a_map_has_values_of_its_kind(rt: HostRuntime) {
-    let mut bench = fresh(&rt, rt.alloc(), 1024);
-    let segment = &mut bench.segment;
+    let mut bench = fresh(&rt);
     let (from, to) = (ScalarKind::U8, ScalarKind::Bool);
-    let made = segment.construct_map_of(&NewKey::Anonymous, from, to);
-    same(&rt, made, Ok(144));
-    let (map, key) = (Key::Handle(144), ScalarValue::U8(255));
-    let wrong = Err(Refusal::WrongKind);
-    same(&rt, segment.map_get_any(&map, key, from), wrong);
-    let wrong = Err(Refusal::WrongKind);
-    same(&rt, segment.map_erase_any(&map, key, from), wrong);
-    same(&rt, segment.map_get_any(&map, key, to), Ok(None));
-    same(&rt, segment.map_erase_any(&map, key, to), Ok(false));
+    let made = bench.segment.construct_map_of(&NewKey::Anonymous, from, to);
+    bench.same(made, Ok(144));
+    let wrong = Refusal::WrongKind;
+    asks(&mut bench, from, Err(wrong), Err(wrong));
+    asks(&mut bench, to, Ok(None), Ok(false));
+    bench.ends(&rt);
 }

@@ -2,7 +2,7 @@
 //!
 //! Without a refusal each of these succeeds at once. Run by `.ci/refused-memory`, or with
 //! `rt try --test --fail-alloc N`, a request for memory is refused, and then the second try succeeds.
-use crate::checks::{done, holds, refusal, same};
+use crate::checks::{done, refusal, same};
 use crate::segments::{named, new_named};
 use image_check::{ImageClass, OpenError, OpenRefused, open, open_any};
 use memory_devices::{Last, MemorySource};
@@ -46,7 +46,9 @@ fn write(rt: &impl Abort, image: &mut [u8], from: usize, bytes: &[u8]) {
 /// The image of a segment with the map.
 fn image(rt: &impl Abort, alloc: Global) -> Option<Vec<u8>> {
     let segment = map(rt, alloc)?;
-    segment.as_bytes().to_vec(alloc).ok()
+    let image = segment.as_bytes().to_vec(alloc).ok();
+    drop(segment);
+    image
 }
 
 /// Opens an image of the newest format, or of any, in a region, of which it takes the last 1024 bytes.
@@ -72,9 +74,10 @@ fn handed_back(rt: &impl Abort, refused: OpenRefused) -> RawRegion {
 }
 
 /// What was opened is the segment of the image, whose format stands in its first 16 bytes.
-fn is_opened(rt: &impl Abort, image: &[u8], opened: &Segment) -> Tried {
+fn is_opened(rt: &impl Abort, image: &[u8], opened: Segment) -> Tried {
     same(rt, opened.as_bytes().get(16..), image.get(16..));
     same(rt, opened.map_get(&named(rt, b"m"), 1i64), Ok(Some(10i64)));
+    drop(opened);
     Tried::Done
 }
 
@@ -87,7 +90,7 @@ fn serves(
     of_any: bool,
 ) -> Tried {
     let region = handed_back(rt, refused);
-    holds(rt, opens(alloc, image, region, of_any).is_ok());
+    drop(done(rt, opens(alloc, image, region, of_any)));
     Tried::Refused
 }
 
@@ -95,7 +98,7 @@ fn serves(
 fn open_anew(rt: &impl Abort, alloc: Global, image: &[u8], of_any: bool) -> Option<Tried> {
     let region = RawRegion::new(alloc, 2048).ok()?;
     match opens(alloc, image, region, of_any) {
-        Ok(opened) => Some(is_opened(rt, image, &opened)),
+        Ok(opened) => Some(is_opened(rt, image, opened)),
         Err(refused) => Some(serves(rt, alloc, image, refused, of_any)),
     }
 }
@@ -105,6 +108,7 @@ fn refuse(rt: &impl Abort, alloc: Global, image: &[u8]) -> Option<Tried> {
     let region = RawRegion::new(alloc, 2048).ok()?;
     let refused = refusal(rt, opens(alloc, image, region, false));
     same(rt, refused.cause, OpenError::Image(ImageClass::BadFreeTree));
+    drop(refused);
     Some(Tried::Done)
 }
 

@@ -7,7 +7,6 @@ use crate::checks::{done, holds, refusal, same};
 use crate::regions::{are_sevens, reads, region_of_sevens};
 use crate::segments::fresh;
 use raw_region::RawRegion;
-use std::alloc::Global;
 use std::process::Abort;
 
 /// Moves a segment, which stands at `from` in its region, to `base` in another. Its bytes are the same there, and where
@@ -21,51 +20,55 @@ fn moves(
 ) -> (Bench, RawRegion)
     requires { base % 16 ≡ 0 }
 {
+    holds(rt, bench.is_right());
     let (segment, left) = done(rt, bench.segment.relocate(region, base));
     reads(rt, &left, from, segment.as_bytes());
-    (Bench { segment }, left)
+    (Bench::new(segment), left)
 }
 
 #[test]
 fn a_segment_moves_into_another_region_and_back(rt: HostRuntime) {
-    let mut bench = fresh(&rt, rt.alloc(), 1024);
-    bench.makes(&rt, b"b", 1, 5i64, 192);
-    let region = region_of_sevens(&rt, rt.alloc(), 2048);
+    let mut bench = fresh(&rt);
+    bench.makes(b'b', 1, 5i64, 192);
+    let region = region_of_sevens(&rt, 2048);
     let (mut moved, home) = moves(&rt, bench, 0, region, 160);
     same(&rt, home.capacity(), 1024);
     same(&rt, moved.segment.region_left(), 864);
-    moved.has(&rt, b"b", 0, Ok(5i64));
-    moved.makes(&rt, b"a", 1, 6i64, 240);
-    let (back, left) = moves(&rt, moved, 160, home, 0);
-    back.has(&rt, b"a", 0, Ok(6i64));
-    back.has_free(&rt, 736);
+    moved.has(b'b', 0, 5i64);
+    moved.makes(b'a', 1, 6i64, 240);
+    let (mut back, left) = moves(&rt, moved, 160, home, 0);
+    back.has(b'a', 0, 6i64);
+    back.has_free(736);
+    back.ends(&rt);
     are_sevens(&rt, &left, 0, 160);
     are_sevens(&rt, &left, 1184, 864);
+    drop(left);
 }
 
 /// Fails to move a segment into a region of so many bytes, from `base` on. Both come back as they were.
-fn stays(rt: &impl Abort, alloc: Global, bench: Bench, capacity: u64, base: u64) -> Bench
+fn stays<R: Abort + AllocGlobal>(rt: &R, bench: Bench, capacity: u64, base: u64) -> Bench
     requires capacity { IsCapacity capacity }
     requires base { base % 16 ≡ 0 }
 {
-    let bytes = done(rt, bench.segment.as_bytes().to_vec(alloc));
-    let region = region_of_sevens(rt, alloc, capacity);
+    holds(rt, bench.is_right());
+    let bytes = done(rt, bench.segment.as_bytes().to_vec(rt.alloc()));
+    let region = region_of_sevens(rt, capacity);
     let refused = refusal(rt, bench.segment.relocate(region, base));
     holds(rt, refused.segment.as_bytes() == bytes.as_slice());
     same(rt, refused.region.capacity(), capacity);
     are_sevens(rt, &refused.region, 0, capacity as usize);
-    let segment = refused.segment;
-    Bench { segment }
+    Bench::new(refused.segment)
 }
 
 #[test]
 fn a_segment_stays_where_the_region_is_too_small(rt: HostRuntime) {
-    let mut bench = fresh(&rt, rt.alloc(), 1024);
-    bench.makes(&rt, b"a", 1, 5i64, 192);
-    bench = stays(&rt, rt.alloc(), bench, 512, 0);
-    bench = stays(&rt, rt.alloc(), bench, 2048, 1040);
-    let region = region_of_sevens(&rt, rt.alloc(), 2048);
-    let (moved, _) = moves(&rt, bench, 0, region, 1024);
-    moved.has(&rt, b"a", 0, Ok(5i64));
+    let mut bench = fresh(&rt);
+    bench.makes(b'a', 1, 5i64, 192);
+    bench = stays(&rt, bench, 512, 0);
+    bench = stays(&rt, bench, 2048, 1040);
+    let region = region_of_sevens(&rt, 2048);
+    let (mut moved, _) = moves(&rt, bench, 0, region, 1024);
+    moved.has(b'a', 0, 5i64);
     same(&rt, moved.segment.region_left(), 0);
+    moved.ends(&rt);
 }

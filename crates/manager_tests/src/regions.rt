@@ -3,14 +3,13 @@ ghost use Rattle.raw_region.specs.Regions.{IsCapacity};
 
 use crate::checks::holds;
 use raw_region::RawRegion;
-use std::alloc::Global;
 use std::process::Abort;
 
 /// A region of so many bytes, each of them 7.
-pub fn region_of_sevens(rt: &impl Abort, alloc: Global, capacity: u64) -> RawRegion
+pub fn region_of_sevens<R: Abort + AllocGlobal>(rt: &R, capacity: u64) -> RawRegion
     requires { IsCapacity capacity }
 {
-    let Ok(mut region) = RawRegion::new(alloc, capacity) else {
+    let Ok(mut region) = RawRegion::new(rt.alloc(), capacity) else {
         panic!(rt; "out of memory");
     };
     region.fill(0, capacity, 7);

@@ -2,7 +2,7 @@
 ghost use Rattle.std.specs.Prelude.{◌≡◌};
 ghost use Rattle.std.specs.Result.{IfOk};
 ghost use Rattle.seg_types.specs.declared.kinds.Kind.{Kind};
-ghost use Rattle.seg_types.specs.Keys.{index_key_seen, new_key_seen};
+ghost use Rattle.seg_types.specs.Keys.{new_key_seen};
 ghost use Rattle.segment_manager.specs.NewObjects.{IsOfKind};
 
 use crate::bench::Bench;
@@ -10,28 +10,25 @@ use crate::checks::{done, holds, same};
 use image_check::open;
 use memory_devices::{Last, MemorySource};
 use raw_region::{RawRegion, Steps};
-use seg_types::{Handle, IndexKey, Key, Name, NewKey};
+use seg_types::{Handle, Key, Name, NewKey};
 use segment_manager::conditioned::{named_at, unique_at};
 use segment_manager::{Mode, Segment};
-use std::alloc::Global;
 use std::process::Abort;
 
-/// A segment of some bytes with nothing in it.
-pub fn fresh(rt: &impl Abort, alloc: Global, size: u64) -> Bench {
-    let region = done(rt, RawRegion::new(alloc, 1024));
-    let segment = done(rt, Segment::create(region, 0, size, Mode::Write));
-    Bench { segment }
+/// A segment of 1024 bytes with nothing in it.
+pub fn fresh<R: Abort + AllocGlobal>(rt: &R) -> Bench {
+    let region = done(rt, RawRegion::new(rt.alloc(), 1024));
+    Bench::new(done(rt, Segment::create(region, 0, 1024, Mode::Write)))
 }
 
-/// The bytes of a segment, opened as one in another region.
-pub fn opened(rt: &impl Abort, alloc: Global, bench: &Bench, mode: Mode) -> Bench {
+/// The bytes of a segment, opened as one in another region, where all was as is wanted so far.
+pub fn opened<R: Abort + AllocGlobal>(rt: &R, bench: Bench, mode: Mode) -> Bench {
     let mut reader = MemorySource::new(bench.segment.as_bytes(), 4096, Last::Ends);
-    let region = done(rt, RawRegion::new(alloc, 2048));
-    let segment = done(
-        rt,
-        open(alloc, &mut reader, region, 16, mode, &mut Steps::new()),
-    );
-    Bench { segment }
+    let region = done(rt, RawRegion::new(rt.alloc(), 2048));
+    let mut steps = Steps::new();
+    let opened = open(rt.alloc(), &mut reader, region, 16, mode, &mut steps);
+    bench.ends(rt);
+    Bench::new(done(rt, opened))
 }
 
 fn name<'a>(rt: &impl Abort, bytes: &'a [u8]) -> Name<'a> {
@@ -41,13 +38,6 @@ fn name<'a>(rt: &impl Abort, bytes: &'a [u8]) -> Name<'a> {
 /// The key of the object of this name.
 pub fn named<'a>(rt: &impl Abort, bytes: &'a [u8]) -> Key<'a> {
     Key::Name(name(rt, bytes))
-}
-
-/// The entry of the object of this name.
-pub fn entry<'a>(rt: &impl Abort, bytes: &'a [u8]) -> IndexKey<'a>
-    ensures { (kind : Kind) → IsOfKind (index_key_seen result) kind }
-{
-    IndexKey::Name(name(rt, bytes))
 }
 
 /// The key of an object that is to be made under this name.

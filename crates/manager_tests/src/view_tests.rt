@@ -6,96 +6,118 @@ use seg_types::{Key, NewKey, Refusal};
 use segment_views::{ArrayView, MapView, StringsView, VectorView};
 use std::process::Abort;
 
+/// The object that the tests make.
+const MADE: Key<'static> = Key::Handle(144);
+
+const BEHIND: Refusal = Refusal::OutOfRange;
+
+/// A view of an array of three elements.
+fn array<'a>(rt: &impl Abort, bench: &'a mut Bench) -> ArrayView<'a, i64> {
+    let made = bench.segment.construct(&NewKey::Anonymous, 3, 7i64);
+    same(rt, made, Ok(144));
+    done(rt, ArrayView::of(&mut bench.segment, &MADE))
+}
+
 #[test]
 fn elements_of_an_array(rt: HostRuntime) {
-    let mut bench = fresh(&rt, rt.alloc(), 1024);
-    let made = bench.segment.construct(&NewKey::Anonymous, 3, 7i64);
-    same(&rt, made, Ok(144));
-    let view = done(
-        &rt,
-        ArrayView::<i64>::of(&mut bench.segment, &Key::Handle(144)),
-    );
+    let mut bench = fresh(&rt);
+    let view = array(&rt, &mut bench);
     same(&rt, view.len(), Ok(3));
     same(&rt, view.get(2), Ok(7));
-    same(&rt, view.get(3), Err(Refusal::OutOfRange));
+    same(&rt, view.get(3), Err(BEHIND));
     let mut left = view.iter();
     same(&rt, left.nth(2), Some(7));
     same(&rt, left.next(), None);
+    bench.ends(&rt);
+}
+
+/// A view of a vector of the numbers 3, 5 and 8.
+fn vector<'a>(rt: &impl Abort, bench: &'a mut Bench) -> VectorView<'a, i32> {
+    let numbers = [3i32, 5, 8];
+    let made = bench.segment.construct_vec(&NewKey::Anonymous, &numbers);
+    same(rt, made, Ok(144));
+    done(rt, VectorView::of(&mut bench.segment, &MADE))
 }
 
 #[test]
 fn elements_of_a_vector(rt: HostRuntime) {
-    let mut bench = fresh(&rt, rt.alloc(), 1024);
-    let made = bench
-        .segment
-        .construct_vec(&NewKey::Anonymous, &[3i32, 5, 8]);
-    same(&rt, made, Ok(144));
-    let view = done(
-        &rt,
-        VectorView::<i32>::of(&mut bench.segment, &Key::Handle(144)),
-    );
+    let mut bench = fresh(&rt);
+    let view = vector(&rt, &mut bench);
     same(&rt, view.measure(), Ok((3, 3)));
     same(&rt, view.get(1), Ok(5));
     let mut values = [0, 0];
     same(&rt, view.copy_to(&mut values), Ok(()));
     same(&rt, values, [3, 5]);
     let mut values = [9, 9, 9, 9];
-    same(&rt, view.copy_to(&mut values), Err(Refusal::OutOfRange));
+    same(&rt, view.copy_to(&mut values), Err(BEHIND));
     same(&rt, values, [9, 9, 9, 9]);
+    bench.ends(&rt);
+}
+
+/// A view of a vector of a text and an empty one.
+fn texts<'a>(rt: &impl Abort, bench: &'a mut Bench) -> StringsView<'a> {
+    let texts: [&[u8]; 2] = [b"one", b""];
+    let made = bench.segment.construct_texts(&NewKey::Anonymous, &texts);
+    same(rt, made, Ok(144));
+    done(rt, StringsView::of(&mut bench.segment, &MADE))
 }
 
 #[test]
 fn texts_of_a_list(rt: HostRuntime) {
-    let mut bench = fresh(&rt, rt.alloc(), 1024);
-    let made = bench
-        .segment
-        .construct_texts(&NewKey::Anonymous, &[b"one", b""]);
-    same(&rt, made, Ok(144));
-    let view = done(&rt, StringsView::of(&mut bench.segment, &Key::Handle(144)));
+    let mut bench = fresh(&rt);
+    let view = texts(&rt, &mut bench);
     same(&rt, view.len(), Ok(2));
     same(&rt, view.get(0), Ok(b"one".as_slice()));
-    same(&rt, view.get(2), Err(Refusal::OutOfRange));
+    same(&rt, view.get(2), Err(BEHIND));
+    bench.ends(&rt);
 }
 
-/// A map with the keys -2, 4 and 6.
-fn with_pairs(rt: &impl Abort, bench: &mut Bench) {
+/// A view of a map with the keys -2, 4 and 6.
+fn pairs<'a>(rt: &impl Abort, bench: &'a mut Bench) -> MapView<'a, i64, u8> {
     let segment = &mut bench.segment;
     let made = segment.construct_map::<i64, u8, _>(&NewKey::Anonymous);
     same(rt, made, Ok(144));
     for (key, value) in [(6i64, 60u8), (-2, 20), (4, 40)] {
-        same(rt, segment.map_put(&Key::Handle(144), key, value), Ok(true));
+        same(rt, segment.map_put(&MADE, key, value), Ok(true));
     }
+    done(rt, MapView::of(segment, &MADE))
+}
+
+const FIRST: Option<(i64, u8)> = Some((-2, 20));
+
+const SECOND: Option<(i64, u8)> = Some((4, 40));
+
+const LAST: Option<(i64, u8)> = Some((6, 60));
+
+#[test]
+fn pairs_are_counted_and_found(rt: HostRuntime) {
+    let mut bench = fresh(&rt);
+    let view = pairs(&rt, &mut bench);
+    same(&rt, view.len(), Ok(3));
+    same(&rt, view.first_from(5), Ok(LAST));
+    same(&rt, view.last(), Ok(LAST));
+    bench.ends(&rt);
 }
 
 #[test]
 fn pairs_come_from_both_ends(rt: HostRuntime) {
-    let mut bench = fresh(&rt, rt.alloc(), 1024);
-    with_pairs(&rt, &mut bench);
-    let view = done(
-        &rt,
-        MapView::<i64, u8>::of(&mut bench.segment, &Key::Handle(144)),
-    );
-    same(&rt, view.len(), Ok(3));
-    same(&rt, view.first_from(5), Ok(Some((6, 60))));
-    same(&rt, view.last(), Ok(Some((6, 60))));
+    let mut bench = fresh(&rt);
+    let view = pairs(&rt, &mut bench);
     let mut left = view.iter();
-    same(&rt, left.next_back(), Some((6, 60)));
-    same(&rt, left.next(), Some((-2, 20)));
-    same(&rt, left.next_back(), Some((4, 40)));
+    let ends = [left.next_back(), left.next(), left.next_back()];
+    same(&rt, ends, [LAST, FIRST, SECOND]);
     same(&rt, left.next(), None);
     same(&rt, left.next_back(), None);
+    bench.ends(&rt);
 }
 
 #[test]
 fn a_range_is_read_backwards(rt: HostRuntime) {
-    let mut bench = fresh(&rt, rt.alloc(), 1024);
-    with_pairs(&rt, &mut bench);
-    let view = done(
-        &rt,
-        MapView::<i64, u8>::of(&mut bench.segment, &Key::Handle(144)),
-    );
-    same(&rt, view.range(4..6).next_back(), Some((4, 40)));
-    same(&rt, view.range(4..=6).next_back(), Some((6, 60)));
-    same(&rt, view.range(..5).next_back(), Some((4, 40)));
+    let mut bench = fresh(&rt);
+    let view = pairs(&rt, &mut bench);
+    same(&rt, view.range(4..6).next_back(), SECOND);
+    same(&rt, view.range(4..=6).next_back(), LAST);
+    same(&rt, view.range(..5).next_back(), SECOND);
     same(&rt, view.range(5..6).next_back(), None);
+    bench.ends(&rt);
 }

@@ -1,7 +1,7 @@
 -- Changes of a heap, one after another.
-use Rattle.seg_index.proofs.Common.{IsTrue, has_room, heap_touches, is_live_in, ◌≡◌, ap, subst, ◌∙◌, ℕ, ◌+◌, ◌-◌, ◌≤◌, current, Cut, bytes_of, SamePlace-trans}
-use Rattle.seg_index.proofs.Common.{Role, LiveSet, added, others, IsAllocated, IsChanged, IsHeap, LaysOut, live_of}
-use Rattle.seg_index.proofs.Common.{allocated-live, laid-heap}
+use Rattle.seg_index.proofs.Common.{IsTrue, has_room, heap_touches, is_live_in, ◌≡◌, ap, subst, ◌∙◌, ℕ, ◌+◌, ◌-◌, ◌≤◌}
+use Rattle.seg_index.proofs.Common.{current, Cut, bytes_of, SamePlace-trans, Role, LiveSet, added, others, IsAllocated}
+use Rattle.seg_index.proofs.Common.{IsChanged, IsHeap, LaysOut, live_of, allocated-live, laid-heap}
 use Rattle.raw_region.proofs.Laws.{SameBut-trans, SameBut-wider}
 use Rattle.best_fit.specs.Fit.{insert}
 use Rattle.best_fit.proofs.Laws.{changed-live, is_proper-IsProper, others-insert_same}

@@ -4,17 +4,16 @@ use Rattle.seg_index.proofs.Common.{get_or, Option, Some, None, slice_get, unwra
 use Rattle.seg_index.proofs.Common.{none-some, same_Some, slice_get-get_or, Cut, Memory, bytes_of, word_at, link_at}
 use Rattle.seg_index.proofs.Common.{Extent, handle, holds, others, extent_at, has_room, live_of, Table, same_role}
 use Rattle.seg_index.proofs.Common.{serves, found-room, room-less, Key, Lookup, Found, Absent, comparisons_in, order_at}
-use Rattle.seg_index.proofs.Common.{beside_table, IsIndexOf, place_of, AreLinks, AreKeys, IsPlaceIn, order}
+use Rattle.seg_index.proofs.Common.{beside_table, IsIndexOf, place_of, AreLinks, AreKeys, IsPlaceIn, order, is_live_in}
 use Rattle.seg_index.proofs.Changing.{changed_room, changed_used, changed_touches}
-use Rattle.seg_index.proofs.{Counting.none_left, Counting.same_comparisons, Rooms.Inside, Rooms.inside}
-use Rattle.seg_index.proofs.{Links.all_at, Links.at_links, Links.entry_here, Links.links_at, Rooms.block_small}
-use Rattle.seg_index.proofs.Rooms.{block_ends, found_live}
-use Rattle.seg_index.proofs.Common.{is_live_in}
+use Rattle.seg_index.proofs.Rooms.{Inside, inside, block_small, block_ends, found_live}
+use Rattle.seg_index.proofs.Links.{all_at, at_links, entry_here, links_at}
 use Rattle.std.proofs.{lemmas.Bool.eqb-true, lemmas.Option.slice_get_within}
 use Rattle.block_tags.specs.declared.tile.Role.TheVariants.{Index as IndexRole}
 use Rattle.seg_index.specs.{declared.index.Index.Index, Lookups.HasKey, Lookups.HasKeys, Lookups.IsPlace}
 use Rattle.seg_index.specs.declared.index.Index.TheVariants.{Named, Unique}
 use Rattle.seg_index.specs.Comparing.{comparisons}
+use Rattle.seg_index.proofs.{Counting.none_left, Counting.same_comparisons}
 
 -- ---- the place of an index
 

@@ -57,11 +57,7 @@ impl<'a> Comparisons<'a> {
         requires front { self.old.front ≡ key_front self.old.key }
         requires room { self.old.count < 2 ^ 63 }
         ensures order { result ≡ order_at (bytes_of self.old.heap.now.bytes) self.old.key self.old.block i }
-        ensures count { self.new.count ≡ self.old.count + 1 }
-        ensures heap { self.new.heap ≡ self.old.heap }
-        ensures key { self.new.key ≡ self.old.key }
-        ensures front { self.new.front ≡ self.old.front }
-        ensures block { self.new.block ≡ self.old.block }
+        ensures counted { self.new ≡ record self.old { count = self.old.count + 1 } }
     {
         self.count += 1;
         let handle = self.heap.link(self.block, 8 * i).unwrap_or(0);

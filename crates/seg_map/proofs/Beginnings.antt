@@ -2,7 +2,7 @@
 use Rattle.seg_map.proofs.Common.{◌≡◌, sym, ap, ◌∙◌, ℕ, inl, inr, Bool, true, false, not, ◌||◌, List, [], ◌∷◌, Option}
 use Rattle.seg_map.proofs.Common.{Some, None, IfSome, cases_Bool, eqb-true, false≢true, or_cases, is_in, Chains}
 use Rattle.seg_map.proofs.Common.{IsStrict, Pair, pair_at, nodes_of_pairs, pair_node, before_key, comes_before, stands}
-use Rattle.seg_map.proofs.{Common.stands_before, Entering.HaveKeys, PutLists.absent_here, PutLists.either_one}
+use Rattle.seg_map.proofs.{Common.stands_before, Entering.HaveKeys, PairLists.absent_here, PairLists.either_one}
 use Rattle.std.proofs.lemmas.Bool.{true≢false, false_from_ne_true}
 
 -- ---- what is known of a beginning

@@ -1,20 +1,25 @@
--- A pair leaves the map.
+-- A pair leaves the map, and all of them.
 use Rattle.seg_map.proofs.Common.{◌≡◌, refl, sym, ap, subst, ◌∙◌, ℕ, ◌+◌, ◌≢◌, false, List, length, arith, ◌==◌, IsTrue}
 use Rattle.seg_map.proofs.Common.{Option, Some, None, IfSome, both_ways, eq-eqb, current, Cut, bytes_of, link_at}
 use Rattle.seg_map.proofs.Common.{nodes_of, is_in, without, Extent, LiveSet, handle, released, LaysOut, is_live_in}
 use Rattle.seg_map.proofs.Common.{live_of, found-less, found-room, laid-heap, lay_out_one, roomy, Pair, pair_at}
 use Rattle.seg_map.proofs.Common.{remove_pair, HoldsMap, IsPairIn, nodes_of_pairs, pair_node, own_nodes, Relinked}
-use Rattle.seg_map.proofs.Common.{keys_in, IsErased, IsHeaded, exit_in}
+use Rattle.seg_map.proofs.Common.{keys_in, IsErased, IsHeaded, exit_in, ◌⊎◌, ◌<◌, inl, inr, Bool, true, [], ◌∷◌, map}
+use Rattle.seg_map.proofs.Common.{AllByRecursion, cases_Bool, cases_eq, ne_eqb, word_at, IsTree, Tree, fork, leaf}
+use Rattle.seg_map.proofs.Common.{root_of, root_in, SameBlockBut, is_proper, others, cells_of, extent_at, live-rises}
+use Rattle.seg_map.proofs.Common.{Chains, In, IsStrict, is_key, is_rising, IsBesideMap}
 use Rattle.seg_map.proofs.PairLists.{in_nodes, none_left, other_nodes, removed_all, removed_length, apart_all}
-use Rattle.seg_map.proofs.PairLists.{removed_rising, without_nodes}
+use Rattle.seg_map.proofs.PairLists.{removed_rising, without_nodes, in_from, nodes_in, Below, rising_below}
+use Rattle.seg_map.proofs.PairLists.{either_right, rising_rest}
 use Rattle.seg_map.proofs.Entering.{Laws, found_in, good, keys, listed, other_block}
-use Rattle.best_fit.specs.Heap.{IsReleased}
-use Rattle.best_fit.proofs.Laws.{released-live}
+use Rattle.best_fit.proofs.Laws.{released-live, keeps-refl, Rising, others-comm, rising-weak}
 use Rattle.seg_types.specs.declared.plain.Plain.{Ghosts as Plain}
-use Rattle.seg_map.specs.{Linking.CanUnlink, Changing.IsTaken}
+use Rattle.seg_map.proofs.Staying.{at_node, map_stays, AtNode}
+use Rattle.best_fit.specs.{Heap.IsReleased, Exchange.exchanged, Exchange.without_all}
+use Rattle.seg_map.specs.{Linking.CanUnlink, Changing.IsTaken, Changing.IsGivenUp}
 use Rattle.seg_map.proofs.{FoundLists.each_both, Frames.beside_then, Frames.keeps_beside, Rewriting.relaid}
-use Rattle.seg_map.proofs.{Searching.lent_own, Searching.lent_tree, Staying.at_node, Staying.map_stays}
-use Rattle.seg_map.proofs.{PairSteps.any_at}
+use Rattle.seg_map.proofs.{Searching.lent_own, Searching.lent_tree, PairSteps.any_at, Payloads.begins_behind}
+use Rattle.seg_map.proofs.{Payloads.own_handle}
 
 module _ {K V : Type 0} {kp : Plain K} {vp : Plain V} (kl : Laws kp) (c : Cut) {h at : ℕ} {root : Option ℕ}
     {ps : List (Pair K V)} (s : HoldsMap kp vp c.bytes h at ps) (is : root ≡ link_at (bytes_of c.bytes) (h + at))
@@ -96,3 +101,191 @@ gone_live {kp = kp} {vp = vp} {b = b} {h = h} {ps = ps} s key {p} has {node} her
     let x = n.pair.node in let xs = (live_of b).extents in
     rw same (any_at (λ (x : Extent). handle x == node) xs x
     (found_in xs (handle x) x n.holds.listed) (eq-eqb _ _ (n.at ∙ here)))
+
+-- ---- extents taken out one after another
+
+abbrev blocks_of : {K V : Type 0} → List (Pair K V) → List Extent
+blocks_of {K} {V} ps = map (λ (p : Pair K V). p.node) ps
+
+module _ {K V : Type 0} (less : K → K → Bool) where
+  -- one block and then those of the other pairs
+  without_removed : (qs : List (Pair K V)) (key : K) (p : Pair K V) (zs : List Extent) → pair_at less qs key ≡ Some p
+      → without_all (map (λ (q : Pair K V). q.node) (remove_pair less qs key)) (others (handle p.node) zs)
+      ≡ without_all (map (λ (q : Pair K V). q.node) qs) zs
+  without_removed [] key p zs e = absurd (cc)
+  without_removed (q ∷ qs) key p zs e =
+      elim (cases_Bool (is_key less key q)) [
+        | inl y ↦
+            let f = rw y at e in let same : p ≡ q = cc in
+            rw y (ap (λ (x : Pair K V). without_all (blocks_of qs) (others (handle x.node) zs)) same)
+        | inr z ↦
+            rw z (ap (without_all (blocks_of (remove_pair less qs key)))
+            (others-comm (handle q.node) (handle p.node) zs)
+            ∙ without_removed qs key p (others (handle q.node) zs) (rw z at e))
+      ]
+
+  -- each pair is the one of its key
+  own_found : IsStrict less → Chains less → (qs : List (Pair K V)) → is_rising less qs ≡ true
+      → AllByRecursion (λ (q : Pair K V). pair_at less qs q.key ≡ Some q) qs
+  own_found strict on [] r = tt
+  own_found strict on (q ∷ qs) r = (
+    rw (strict q.key) refl,
+    behind qs (rising_below less on q qs r) (own_found strict on qs (rising_rest less on q qs r)),
+  )
+    where
+      behind : (xs : List (Pair K V)) → Below less q.key xs
+          → AllByRecursion (λ (x : Pair K V). pair_at less qs x.key ≡ Some x) xs
+          → AllByRecursion (λ (x : Pair K V). pair_at less (q ∷ qs) x.key ≡ Some x) xs
+      behind [] b a = tt
+      behind (x ∷ xs) b a = (rw (either_right (less x.key q.key) (less q.key x.key) b.0) a.0, behind xs b.1 a.1)
+
+-- ---- extents in order
+
+rises_others : (n h : ℕ) (zs : List Extent) → Rising n zs → Rising n (others h zs)
+rises_others n h [] r = tt
+rises_others n h (z ∷ zs) r =
+    elim (cases_eq (handle z) h) [
+      | inl e ↦ rw (eq-eqb _ _ e) (rising-weak n (z.offset + 1) zs (omega (arith, r.0)) r.1)
+      | inr o ↦ rw (ne_eqb _ _ o) (r.0, rises_others (z.offset + 1) h zs r.1)
+    ]
+
+-- what is left beside one is another
+beside_one : (n h : ℕ) (zs : List Extent) (x : Extent) → Rising n zs → In x (others h zs) → In x zs × (handle x ≢ h)
+beside_one n h [] x r i = absurd i
+beside_one n h (z ∷ zs) x r i =
+    elim (cases_eq (handle z) h) [
+      | inl e ↦
+          let j : In x zs = rw (eq-eqb _ _ e) at i in
+          (inr j, λ f. omega (arith, begins_behind (z.offset + 1) zs x r.1 j, e, f))
+      | inr o ↦
+          let k : (z ≡ x) ⊎ In x (others h zs) = rw (ne_eqb _ _ o) at i in
+          elim k [
+            | inl e ↦ (inl e, λ f. o (ap handle e ∙ f))
+            | inr j ↦ let b = beside_one (z.offset + 1) h zs x r.1 j in (inr b.0, b.1)
+          ]
+    ]
+
+-- and beside all that are gone it is none of them
+beside_all : {K V : Type 0} (n : ℕ) (ps : List (Pair K V)) (zs : List Extent) (x : Extent) → Rising n zs
+    → In x (without_all (map (λ (p : Pair K V). p.node) ps) zs)
+    → In x zs × (is_in (handle x) (nodes_of_pairs ps) ≡ false)
+beside_all n [] zs x r i = (i, refl)
+beside_all n (p ∷ ps) zs x r i =
+    let b = beside_all n ps (others (handle p.node) zs) x (rises_others n (handle p.node) zs r) i in
+    let c = beside_one n (handle p.node) zs x r b.0 in (c.0, rw (ne_eqb _ _ c.1) b.1)
+
+all_each : (P : Extent → Type 0) (xs : List Extent) → ((x : Extent) → In x xs → P x) → AllByRecursion P xs
+all_each P [] f = tt
+all_each P (x ∷ xs) f = (f x (inl refl), all_each P xs (λ y i. f y (inr i)))
+
+-- ---- the map on its way
+
+-- the pairs that are left, and what is beside them
+pub record IsGoing {K V : Type 0} (k : Plain K) (v : Plain V) (old now : Cut) (h at : ℕ)
+    (ps : List (Pair K V)) : Type 0 where
+  pub pairs : List (Pair K V)
+  pub holds : HoldsMap k v now.bytes h at pairs
+  pub among : (m : ℕ) → is_in m (nodes_of_pairs pairs) ≡ true → is_in m (nodes_of_pairs ps) ≡ true
+  pub beside : IsBesideMap old now (h + at) (nodes_of_pairs ps)
+  pub there : (x : Extent) → extent_at (live_of old.bytes) (handle x) ≡ Some x
+      → is_in (handle x) (nodes_of_pairs ps) ≡ false → extent_at (live_of now.bytes) (handle x) ≡ Some x
+  pub size : (live_of now.bytes).size ≡ (live_of old.bytes).size
+  pub left : without_all (map (λ (p : Pair K V). p.node) pairs) (live_of now.bytes).extents ≡ without_all
+      (map (λ (p : Pair K V). p.node) ps) (live_of old.bytes).extents
+
+pub going_first : {K V : Type 0} (k : Plain K) (v : Plain V) (c : Cut) (h at : ℕ) (ps : List (Pair K V))
+    → HoldsMap k v c.bytes h at ps → IsGoing k v c c h at ps
+going_first k v c h at ps s =
+    record {
+      pairs = ps;
+      holds = s;
+      among = λ m i. i;
+      beside = keeps_beside (keeps-refl c []) (λ x f o.
+          record { payload = record { at = λ n a b. refl }; colour = refl });
+      there = λ x f o. f;
+      size = refl;
+      left = refl;
+    }
+
+module _ {K V : Type 0} {k : Plain K} {v : Plain V} (kl : Laws k) {old now : Cut} {h at : ℕ} {ps : List (Pair K V)}
+    (g : IsGoing k v old now h at ps) where
+  -- the node at the root is that of a pair
+  pub root_pair : {node : ℕ} → link_at (bytes_of now.bytes) (h + at) ≡ Some node
+      → AtNode (λ (q : Pair K V). pair_at k.order g.pairs q.key ≡ Some q) node
+  root_pair {node} e =
+      let s = g.holds in
+      let i = root_in (cells_of (bytes_of now.bytes)) node s.map.tree.tree
+      (subst (λ (o : Option ℕ). IsTree (cells_of (bytes_of now.bytes)) o s.map.tree.tree) e s.map.tree.linked) in
+      at_node (λ (q : Pair K V). pair_at k.order g.pairs q.key ≡ Some q) g.pairs node
+      (ap (λ ms. is_in node ms) (sym s.map.tree.lists) ∙ i)
+      (own_found k.order kl.irreflexive kl.transitive g.pairs s.rising)
+
+  module _ {new : Cut} {key : K} {p : Pair K V} (has : pair_at k.order g.pairs key ≡ Some p)
+      (e : IsErased k v now new h at g.pairs p key) where
+    live_new : live_of new.bytes ≡ released (live_of now.bytes) (handle p.node)
+    live_new = lay_out_one _ _ _ e.live
+
+    off : (x : Extent) → is_in (handle x) (nodes_of_pairs ps) ≡ false
+        → is_in (handle x) (nodes_of_pairs g.pairs) ≡ false
+    off x o = elim (cases_Bool (is_in (handle x) (nodes_of_pairs g.pairs)))
+        [ inl t ↦ absurd (both_ways _ o (g.among (handle x) t)) | inr f ↦ f ]
+
+    apart : (x : Extent) → is_in (handle x) (nodes_of_pairs ps) ≡ false → handle x ≢ handle p.node
+    apart x o f = both_ways _ (off x o) (ap (λ n. is_in n (nodes_of_pairs g.pairs)) f
+        ∙ in_nodes k.order g.pairs key p has)
+
+    fewer_nodes : (m : ℕ) → is_in m (nodes_of_pairs (remove_pair k.order g.pairs key)) ≡ true
+        → is_in m (nodes_of_pairs g.pairs) ≡ true
+    fewer_nodes =
+        in_from (nodes_of_pairs g.pairs) (remove_pair k.order g.pairs key)
+        (removed_all k.order (λ q. is_in (pair_node q) (nodes_of_pairs g.pairs) ≡ true) g.pairs key
+        (nodes_in (nodes_of_pairs g.pairs) g.pairs (λ m i. i)))
+
+    pub going_on : IsGoing k v old new h at ps
+    going_on =
+        record {
+          pairs = remove_pair k.order g.pairs key;
+          holds = e.map;
+          among = λ m i. g.among m (fewer_nodes m i);
+          beside = beside_then g.beside e.beside (λ x f o. (g.there x f o, off x o));
+          there = λ x f o. rw live_new (found-less (handle x) (handle p.node) x (live_of now.bytes).extents (apart x o)
+              (g.there x f o));
+          size = ap (λ (l : LiveSet). l.size) live_new ∙ g.size;
+          left = ap (λ (l : LiveSet). without_all (blocks_of (remove_pair k.order g.pairs key)) l.extents) live_new
+              ∙ without_removed k.order g.pairs key p (live_of now.bytes).extents has ∙ g.left;
+        }
+
+    -- there is a pair less
+    pub one_less : word_at (bytes_of new.bytes) (h + at + 8) < word_at (bytes_of now.bytes) (h + at + 8)
+    one_less =
+        let a = e.map.map.count in let b = g.holds.map.count in let l = removed_length k.order g.pairs key p has in
+        omega (arith, a, b, l)
+
+  no_pairs : (t : Tree) (qs : List (Pair K V)) → None ≡ root_of t → nodes_of t ≡ nodes_of_pairs qs → qs ≡ []
+  no_pairs leaf [] e f = refl
+  no_pairs leaf (q ∷ qs) e f = absurd (cc)
+  no_pairs (fork red left n right) qs e f = absurd (cc)
+
+  pub given_up : IsTrue (is_proper (live_of old.bytes)) → link_at (bytes_of now.bytes) (h + at) ≡ None
+      → IsGivenUp k v old now h at ps
+  given_up proper e =
+      let none : g.pairs ≡ [] = no_pairs g.holds.map.tree.tree g.pairs
+      (sym e ∙ g.holds.map.tree.linked.root) g.holds.map.tree.lists in
+      let rest : (live_of now.bytes).extents ≡ without_all (blocks_of ps) (live_of old.bytes).extents =
+      ap (λ (qs : List (Pair K V)). without_all (blocks_of qs) (live_of now.bytes).extents) (sym none) ∙ g.left in
+      let live : live_of now.bytes ≡ exchanged (live_of old.bytes) (blocks_of ps) [] = λ i.
+      record { size = g.size i; extents = rest i } in
+      let rises = live-rises (live_of old.bytes) proper in
+      record {
+        change = record {
+          live = subst (LaysOut current now.bytes) live g.holds.heap;
+          place = g.beside.place;
+          front = g.beside.front;
+          behind = g.beside.behind;
+          blocks = all_each (SameBlockBut (bytes_of old.bytes) (bytes_of now.bytes) (h + at) 24)
+              (without_all (blocks_of ps) (live_of old.bytes).extents) (λ x i.
+              let b = beside_all 128 ps (live_of old.bytes).extents x rises i in
+              g.beside.blocks x (own_handle 128 (live_of old.bytes).extents x rises b.0) b.1);
+        };
+        empty = subst (λ (qs : List (Pair K V)). HoldsMap k v now.bytes h at qs) none g.holds;
+      }

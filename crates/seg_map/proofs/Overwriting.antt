@@ -7,7 +7,7 @@ use Rattle.seg_map.proofs.Common.{changed-live, changed-room, found-room, laid-h
 use Rattle.seg_map.proofs.Common.{put_pair, HoldsMap, IsPairIn, nodes_of_pairs, pair_node, PairNode, node_place}
 use Rattle.seg_map.proofs.Common.{keys_in}
 use Rattle.seg_map.proofs.Entering.{with_bytes, Laws, good, keys, other_block, pair_parts}
-use Rattle.seg_map.proofs.PutLists.{neither_parts, pair_of, replaced_all, replaced_nodes, replaced_rising}
+use Rattle.seg_map.proofs.PairLists.{neither_parts, pair_of, replaced_all, replaced_nodes, replaced_rising}
 use Rattle.seg_map.proofs.Staying.{at_node, block_cells, lengths, map_over, pair_stays}
 use Rattle.std.proofs.lemmas.Option.{same_Some}
 use Rattle.seg_types.specs.declared.plain.Plain.{Ghosts as Plain}

@@ -12,10 +12,11 @@ use Rattle.seg_map.proofs.FoundLists.{each_both, all_reversed, each, last_mapped
 use Rattle.std.specs.Prelude.{option_and_then}
 use Rattle.link_tree.specs.{Searching.path_length, Ways.exit_of}
 use Rattle.seg_types.specs.declared.plain.Plain.{Ghosts as Plain}
+use Rattle.seg_map.specs.declared.places.Place.{Place}
 use Rattle.seg_map.specs.Searches.{FindsExit, IsOpened, IsRead, LooksFor, LooksUp, item_at, last_path, node_with}
 use Rattle.seg_map.specs.{PairNodes.both, Places.IsSomeMap, Places.SearchSteps, Places.item_of, Places.value_of_pair}
 use Rattle.seg_map.specs.Searches.{path_in, reading_steps}
-use Rattle.seg_map.proofs.{Beginnings.narrowed, FoundPairs.by_key, FoundPairs.pair_by_key}
+use Rattle.seg_map.proofs.{Beginnings.narrowed, PairLists.by_key, PairLists.pair_by_key}
 
 module _ {K V : Type 0} {kp : Plain K} {vp : Plain V} (laws : Laws kp) (c : Cut) {h at : ℕ} {ps : List (Pair K V)}
     (s : HoldsMap kp vp c.bytes h at ps) {root : Option ℕ} {ms : List ℕ}
@@ -47,7 +48,7 @@ module _ {K V : Type 0} {kp : Plain K} {vp : Plain V} (kl : Laws kp) (vl : Laws 
       }
 
   pub opened : (at : ℕ) {root : Option ℕ} {ms : List ℕ} → root ≡ link_at (bytes_of c.bytes) (h + at)
-      → ms ≡ own_nodes c.bytes root None → IsOpened kp vp c c h at ms root
+      → ms ≡ own_nodes c.bytes root None → IsOpened kp vp c c (record { handle = h; at = at }) ms root
   opened at {root} {ms} is are =
       record {
         same = refl;
@@ -60,13 +61,13 @@ module _ {K V : Type 0} {kp : Plain K} {vp : Plain V} (kl : Laws kp) (vl : Laws 
 -- ---- what a search finds
 
 -- the node of a pair, or none, after so many steps
-pub record Finds {K V : Type 0} (k : Plain K) (v : Plain V) (c : Cut) (h at : ℕ)
+pub record Finds {K V : Type 0} (k : Plain K) (v : Plain V) (c : Cut) (at : Place)
     (pair : List (Pair K V) → Option (Pair K V)) (path : Tree → ℕ) (found : Option ℕ) (taken : ℕ) : Type 0 where
   pub keys : ℕ → Option K
-  pub good : (ps : List (Pair K V)) → HoldsMap k v c.bytes h at ps → IfSome (pair ps) (IsRead k v c keys)
-  pub node : (ps : List (Pair K V)) → HoldsMap k v c.bytes h at ps → found ≡ option_map pair_node (pair ps)
-  pub exact : (ps : List (Pair K V)) (s : HoldsMap k v c.bytes h at ps) → taken ≡ path s.map.tree.tree
-  pub most : SearchSteps k v c.bytes h at 0 0 taken
+  pub good : (ps : List (Pair K V)) → HoldsMap k v c.bytes at.handle at.at ps → IfSome (pair ps) (IsRead k v c keys)
+  pub node : (ps : List (Pair K V)) → HoldsMap k v c.bytes at.handle at.at ps → found ≡ option_map pair_node (pair ps)
+  pub exact : (ps : List (Pair K V)) (s : HoldsMap k v c.bytes at.handle at.at ps) → taken ≡ path s.map.tree.tree
+  pub most : SearchSteps k v c.bytes at 0 0 taken
 
 find_good : {A : Type 0} (P : A → Type 0) (test : A → Bool) (xs : List A) → AllByRecursion P xs
     → IfSome (find test xs) P
@@ -82,8 +83,8 @@ last_good : {A : Type 0} (P : A → Type 0) (o : Option A) (xs : List A) → IfS
 last_good P o [] h a = h
 last_good P o (x ∷ xs) h a = last_good P (Some x) xs a.0 a.1
 
-module _ {K V : Type 0} {k : Plain K} {v : Plain V} {now c : Cut} {h at : ℕ} {own : List ℕ}
-    {root : Option ℕ} (o : IsOpened k v now c h at own root) where
+module _ {K V : Type 0} {k : Plain K} {v : Plain V} {now c : Cut} {at : Place} {own : List ℕ}
+    {root : Option ℕ} (o : IsOpened k v now c at own root) where
   abbrev Asked : (Tree → Type 0) → Type 0
   Asked P = (t : Tree) → IsSearchTree (comes_before k.order (keys_in k own now))
       (pair_cells (16 + k.SIZE) own now) root t
@@ -92,23 +93,24 @@ module _ {K V : Type 0} {k : Plain K} {v : Plain V} {now c : Cut} {h at : ℕ} {
   abbrev ahead : Bool → K → ℕ → Bool
   ahead past key = stands_before k.order (keys_in k own now) past key
 
-  keys_are : (ps : List (Pair K V)) (s : HoldsMap k v c.bytes h at ps)
+  keys_are : (ps : List (Pair K V)) (s : HoldsMap k v c.bytes at.handle at.at ps)
       → keys_in k own now ≡ keys_in k (nodes_of s.map.tree.tree) c
   keys_are ps s = λ i. keys_in k (o.nodes ps s i) (o.same i)
 
-  few : {taken : ℕ} → Asked (λ t. taken ≤ 2 * bits (length (nodes_of t) + 1)) → SearchSteps k v c.bytes h at 0 0 taken
+  few : {taken : ℕ} → Asked (λ t. taken ≤ 2 * bits (length (nodes_of t) + 1)) → SearchSteps k v c.bytes at 0 0 taken
   few {taken} most = λ ps s.
       let m = most s.map.tree.tree (o.tree ps s).tree in
       let n = ap (λ n. bits (n + 1)) (ap length s.map.tree.lists ∙ length-nodes ps) in omega arith
 
   module _ (past : Bool) (key : K) {taken : ℕ} (exact : Asked (λ t. taken ≡ path_length (ahead past key) t))
       (most : Asked (λ t. taken ≤ 2 * bits (length (nodes_of t) + 1))) where
-    path_is : (ps : List (Pair K V)) (s : HoldsMap k v c.bytes h at ps) → taken ≡ path_in k c past key s.map.tree.tree
+    path_is : (ps : List (Pair K V)) (s : HoldsMap k v c.bytes at.handle at.at ps)
+        → taken ≡ path_in k c past key s.map.tree.tree
     path_is ps s = exact s.map.tree.tree (o.tree ps s).tree
         ∙ ap (λ ks. path_length (stands_before k.order ks past key) s.map.tree.tree) (keys_are ps s)
 
     pub finds_first : {found : Option ℕ} → Asked (λ t. found ≡ first_not (ahead past key) (nodes_of t))
-        → Finds k v c h at (first_pair k.order past key) (path_in k c past key) found taken
+        → Finds k v c at (first_pair k.order past key) (path_in k c past key) found taken
     finds_first first =
         record {
           keys = keys_in k own now;
@@ -123,7 +125,7 @@ module _ {K V : Type 0} {k : Plain K} {v : Plain V} {now c : Cut} {h at : ℕ} {
         }
 
     pub finds_before : {found : Option ℕ} → Asked (λ t. found ≡ last_before (ahead past key) (nodes_of t))
-        → Finds k v c h at (last_pair k.order past key) (path_in k c past key) found taken
+        → Finds k v c at (last_pair k.order past key) (path_in k c past key) found taken
     finds_before last =
         record {
           keys = keys_in k own now;
@@ -139,7 +141,7 @@ module _ {K V : Type 0} {k : Plain K} {v : Plain V} {now c : Cut} {h at : ℕ} {
 
   pub finds_last : {found : Option ℕ} {taken : ℕ} → Asked (λ t. found ≡ last_or None (nodes_of t))
       → Asked (λ t. taken ≡ path_length (λ n. true) t)
-      → Asked (λ t. taken ≤ 2 * bits (length (nodes_of t) + 1)) → Finds k v c h at final_pair last_path found taken
+      → Asked (λ t. taken ≤ 2 * bits (length (nodes_of t) + 1)) → Finds k v c at final_pair last_path found taken
   finds_last last exact most =
       record {
         keys = keys_in k own now;
@@ -153,13 +155,13 @@ module _ {K V : Type 0} {k : Plain K} {v : Plain V} {now c : Cut} {h at : ℕ} {
 
   -- where a change begins, by the keys of the map
   pub entry_is : (key : K) {start : Option ℕ} → Asked (λ t. start ≡ entry_of (ahead false key) t)
-      → (ps : List (Pair K V)) (s : HoldsMap k v c.bytes h at ps) → start ≡ entry_in k c key s.map.tree.tree
+      → (ps : List (Pair K V)) (s : HoldsMap k v c.bytes at.handle at.at ps) → start ≡ entry_in k c key s.map.tree.tree
   entry_is key entry ps s = entry s.map.tree.tree (o.tree ps s).tree
       ∙ ap (λ ks. entry_of (stands_before k.order ks false key) s.map.tree.tree) (keys_are ps s)
 
   pub exit_is : (r found start : Option ℕ) → IfSome r (λ n. found ≡ Some n)
       → Asked (λ t. IfSome found (λ n. start ≡ exit_of (comes_before k.order (keys_in k own now)) n t))
-      → FindsExit k v c h at r start
+      → FindsExit k v c at r start
   exit_is r found start same exit = λ ps s.
       narrowed r found (λ n. start ≡ exit_in k c n s.map.tree.tree) same
       (subst (λ (ks : ℕ → Option K). IfSome found (λ n. start ≡ exit_of (comes_before k.order ks) n s.map.tree.tree))
@@ -202,13 +204,13 @@ reads_same : {K V : Type 0} (o : Option (Pair K V)) → reading_steps (option_ma
 reads_same None = refl
 reads_same (Some p) = refl
 
-module _ {K V : Type 0} {k : Plain K} {v : Plain V} {c : Cut} {h at : ℕ} {pair : List (Pair K V) → Option (Pair K V)}
-    {path : Tree → ℕ} {found : Option ℕ} {taken : ℕ} (f : Finds k v c h at pair path found taken) where
-  pub found_room : IsSomeMap k v c.bytes h at
+module _ {K V : Type 0} {k : Plain K} {v : Plain V} {c : Cut} {at : Place} {pair : List (Pair K V) → Option (Pair K V)}
+    {path : Tree → ℕ} {found : Option ℕ} {taken : ℕ} (f : Finds k v c at pair path found taken) where
+  pub found_room : IsSomeMap k v c.bytes at.handle at.at
       → IfSome found (λ n. IsTrue (has_room (live_of c.bytes) n (16 + k.SIZE + v.SIZE)))
   found_room s = rw (f.node s.0 s.1) (room_read k v c f.keys (pair s.0) (f.good s.0 s.1))
 
-  pub sought_room : IsSomeMap k v c.bytes h at
+  pub sought_room : IsSomeMap k v c.bytes at.handle at.at
       → IfSome found (λ n. IsTrue (has_room (live_of c.bytes) n (16 + k.SIZE)))
   sought_room s = less found (found_room s)
     where
@@ -218,12 +220,12 @@ module _ {K V : Type 0} {k : Plain K} {v : Plain V} {c : Cut} {h at : ℕ} {pair
       less (Some n) r = room-less (live_of c.bytes) n (16 + k.SIZE + v.SIZE) (16 + k.SIZE) (omega arith) r
 
   steps_read : (before after : ℕ) → after ≡ before + taken + reading_steps found → (ps : List (Pair K V))
-      (s : HoldsMap k v c.bytes h at ps) → after ≡ before + path s.map.tree.tree + reading_steps (pair ps)
+      (s : HoldsMap k v c.bytes at.handle at.at ps) → after ≡ before + path s.map.tree.tree + reading_steps (pair ps)
   steps_read before after e ps s =
       let t = f.exact ps s in let r = ap reading_steps (f.node ps s) ∙ reads_same (pair ps) in omega (arith, e, t, r)
 
   few_read : (before after : ℕ) → after ≡ before + taken + reading_steps found
-      → SearchSteps k v c.bytes h at 1 before after
+      → SearchSteps k v c.bytes at 1 before after
   few_read before after e = λ ps s. let t = f.most ps s in let r = one found in omega (arith, e, t, r)
     where
       one : (o : Option ℕ) → reading_steps o ≤ 1
@@ -232,7 +234,7 @@ module _ {K V : Type 0} {k : Plain K} {v : Plain V} {c : Cut} {h at : ℕ} {pair
 
   pub looked_up : {result : Option (K × V)} {before after : ℕ}
       → result ≡ option_and_then (item_at k v (bytes_of c.bytes)) found → after ≡ before + taken + reading_steps found
-      → LooksUp k v c h at pair path result before after
+      → LooksUp k v c at pair path result before after
   looked_up {before = before} {after = after} i e =
       record {
         item = λ ps s. i ∙ ap (option_and_then (item_at k v (bytes_of c.bytes))) (f.node ps s)
@@ -242,11 +244,11 @@ module _ {K V : Type 0} {k : Plain K} {v : Plain V} {c : Cut} {h at : ℕ} {pair
         exact = steps_read before after e;
       }
 
-pub looked_for : {K V : Type 0} {k : Plain K} {v : Plain V} {c : Cut} {h at : ℕ} (key : K)
+pub looked_for : {K V : Type 0} {k : Plain K} {v : Plain V} {c : Cut} {at : Place} (key : K)
     {found result : Option ℕ} {taken before after : ℕ}
-    → Finds k v c h at (first_pair k.order false key) (path_in k c false key) found taken → Chains k.order
+    → Finds k v c at (first_pair k.order false key) (path_in k c false key) found taken → Chains k.order
     → result ≡ option_and_then (node_with k (bytes_of c.bytes) key) found → after ≡ before + taken + reading_steps found
-    → LooksFor k v c h at key result before after
+    → LooksFor k v c at key result before after
 looked_for {k = k} {v = v} {c} key {before = before} {after = after} f on i e =
     record {
       node = λ ps s. i ∙ ap (option_and_then (node_with k (bytes_of c.bytes) key)) (f.node ps s)
@@ -286,8 +288,9 @@ pub record KeyAt {K V : Type 0} (o : Option (Pair K V)) (node : ℕ) : Type 0 wh
   pub is : o ≡ Some pair
   pub at : pair_node pair ≡ node
 
-module _ {K V : Type 0} {k : Plain K} {v : Plain V} {c : Cut} {h at : ℕ} {key : K} {found : Option ℕ} {before after : ℕ}
-    (f : LooksFor k v c h at key found before after) {ps : List (Pair K V)} (s : HoldsMap k v c.bytes h at ps) where
+module _ {K V : Type 0} {k : Plain K} {v : Plain V} {c : Cut} {at : Place} {key : K} {found : Option ℕ}
+    {before after : ℕ} (f : LooksFor k v c at key found before after) {ps : List (Pair K V)}
+    (s : HoldsMap k v c.bytes at.handle at.at ps) where
   pub key_at_node : {node : ℕ} → found ≡ Some node → KeyAt (pair_at k.order ps key) node
   key_at_node {node} e = by_pair (pair_at k.order ps key) (sym e ∙ f.node ps s)
     where

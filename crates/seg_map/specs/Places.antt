@@ -6,6 +6,7 @@ use Rattle.raw_region.specs.{Format.current, Memory.bytes_of}
 use Rattle.link_tree.specs.Tree.{bits}
 use Rattle.best_fit.specs.{Extents.LiveSet, Extents.handle, Heap.IsHeap, Heap.extent_at, Heap.has_room, Heap.live_of}
 use Rattle.seg_types.specs.declared.plain.Plain.{Ghosts as Plain}
+use Rattle.seg_map.specs.declared.places.Place.{Place}
 use Rattle.seg_map.specs.Map.{Pair, IsMapAt, is_pair, is_rising, pair_at}
 
 abbrev pub pair_node : {K V : Type 0} → Pair K V → ℕ
@@ -80,6 +81,6 @@ FindsKey {K} {V} k v b h at key r = (ps : List (Pair K V)) → HoldsMap k v b h 
     → r ≡ option_map pair_node (pair_at k.order ps key)
 
 -- a search, and so many steps more
-abbrev pub SearchSteps : {K V : Type 0} → Plain K → Plain V → List ℕ → ℕ → ℕ → ℕ → ℕ → ℕ → Type 0
-SearchSteps {K} {V} k v b h at more before after = (ps : List (Pair K V)) → HoldsMap k v b h at ps
+abbrev pub SearchSteps : {K V : Type 0} → Plain K → Plain V → List ℕ → Place → ℕ → ℕ → ℕ → Type 0
+SearchSteps {K} {V} k v b at more before after = (ps : List (Pair K V)) → HoldsMap k v b at.handle at.at ps
     → after ≤ before + 2 * bits (length ps + 1) + more

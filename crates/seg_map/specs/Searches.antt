@@ -5,6 +5,7 @@ use Rattle.raw_region.specs.Memory.{Cut, Memory, bytes_of, read}
 use Rattle.link_tree.specs.{Searching.path_length, Tree.Tree, Tree.nodes_of, Ways.entry_of, Ways.exit_of}
 use Rattle.best_fit.specs.Heap.{has_room, live_of}
 use Rattle.seg_types.specs.{declared.plain.Plain.Ghosts as Plain, Plain.value_in}
+use Rattle.seg_map.specs.declared.places.Place.{Place}
 use Rattle.seg_map.specs.Linking.{IsKeyTree, keys_in}
 use Rattle.seg_map.specs.{Map.Pair, PairNodes.both, PairNodes.comes_before, PairNodes.stands_before}
 use Rattle.seg_map.specs.Places.{FindsKey, HoldsMap, SearchSteps, final_pair, first_pair, item_of, last_pair, pair_node}
@@ -19,24 +20,24 @@ reading_steps None = 0
 reading_steps (Some x) = 1
 
 -- a look-up takes the steps of a search, and one more where there is such a pair
-abbrev pub LookUpTakes : {K V : Type 0} → Plain K → Plain V → Cut → ℕ → ℕ → Bool → K → ℕ → ℕ → Type 0
-LookUpTakes {K} {V} k v c h at past key before after =
-    (ps : List (Pair K V)) (s : HoldsMap k v c.bytes h at ps) → after ≡ before + path_in k c past key s.map.tree.tree
-    + reading_steps (first_pair k.order past key ps)
+abbrev pub LookUpTakes : {K V : Type 0} → Plain K → Plain V → Cut → Place → Bool → K → ℕ → ℕ → Type 0
+LookUpTakes {K} {V} k v c at past key before after =
+    (ps : List (Pair K V)) (s : HoldsMap k v c.bytes at.handle at.at ps)
+    → after ≡ before + path_in k c past key s.map.tree.tree + reading_steps (first_pair k.order past key ps)
 
 -- So does one that looks back: it goes down the same path as the look-up of that key.
-abbrev pub LookBackTakes : {K V : Type 0} → Plain K → Plain V → Cut → ℕ → ℕ → Bool → K → ℕ → ℕ → Type 0
-LookBackTakes {K} {V} k v c h at past key before after =
-    (ps : List (Pair K V)) (s : HoldsMap k v c.bytes h at ps) → after ≡ before + path_in k c past key s.map.tree.tree
-    + reading_steps (last_pair k.order past key ps)
+abbrev pub LookBackTakes : {K V : Type 0} → Plain K → Plain V → Cut → Place → Bool → K → ℕ → ℕ → Type 0
+LookBackTakes {K} {V} k v c at past key before after =
+    (ps : List (Pair K V)) (s : HoldsMap k v c.bytes at.handle at.at ps)
+    → after ≡ before + path_in k c past key s.map.tree.tree + reading_steps (last_pair k.order past key ps)
 
 -- the path to the last pair goes to the right from each node
 abbrev pub last_path : Tree → ℕ
 last_path t = path_length (λ n. true) t
 
-abbrev pub LastTakes : {K V : Type 0} → Plain K → Plain V → Cut → ℕ → ℕ → ℕ → ℕ → Type 0
-LastTakes {K} {V} k v c h at before after =
-    (ps : List (Pair K V)) (s : HoldsMap k v c.bytes h at ps) → after ≡ before + last_path s.map.tree.tree
+abbrev pub LastTakes : {K V : Type 0} → Plain K → Plain V → Cut → Place → ℕ → ℕ → Type 0
+LastTakes {K} {V} k v c at before after =
+    (ps : List (Pair K V)) (s : HoldsMap k v c.bytes at.handle at.at ps) → after ≡ before + last_path s.map.tree.tree
     + reading_steps (final_pair ps)
 
 -- ---- what is read where a search has ended
@@ -61,31 +62,32 @@ pub record IsRead {K V : Type 0} (k : Plain K) (v : Plain V) (c : Cut) (keys : �
     pub room : IsTrue (has_room (live_of c.bytes) (pair_node p) (16 + k.SIZE + v.SIZE))
 
 -- the nodes that are searched are those of a map, with its tree and its pairs
-pub record IsOpened {K V : Type 0} (k : Plain K) (v : Plain V) (now c : Cut) (h at : ℕ) (own : List ℕ)
+pub record IsOpened {K V : Type 0} (k : Plain K) (v : Plain V) (now c : Cut) (at : Place) (own : List ℕ)
     (root : Option ℕ) : Type 0 where
   pub same : now ≡ c
-  pub nodes : (ps : List (Pair K V)) (s : HoldsMap k v c.bytes h at ps) → own ≡ nodes_of s.map.tree.tree
-  pub tree : (ps : List (Pair K V)) (s : HoldsMap k v c.bytes h at ps) → IsKeyTree k own now root s.map.tree.tree
-  pub pairs : (ps : List (Pair K V)) → HoldsMap k v c.bytes h at ps
+  pub nodes : (ps : List (Pair K V)) (s : HoldsMap k v c.bytes at.handle at.at ps) → own ≡ nodes_of s.map.tree.tree
+  pub tree : (ps : List (Pair K V)) (s : HoldsMap k v c.bytes at.handle at.at ps)
+      → IsKeyTree k own now root s.map.tree.tree
+  pub pairs : (ps : List (Pair K V)) → HoldsMap k v c.bytes at.handle at.at ps
       → AllByRecursion (IsRead k v c (keys_in k own now)) ps
 
 -- the key and the value of the pair that is looked for, and the steps of the path to it
-pub record LooksUp {K V : Type 0} (k : Plain K) (v : Plain V) (c : Cut) (h at : ℕ)
+pub record LooksUp {K V : Type 0} (k : Plain K) (v : Plain V) (c : Cut) (at : Place)
     (pair : List (Pair K V) → Option (Pair K V)) (path : Tree → ℕ) (result : Option (K × V)) (before after : ℕ) : Type 0
   where
-    pub item : (ps : List (Pair K V)) → HoldsMap k v c.bytes h at ps → result ≡ option_map item_of (pair ps)
+    pub item : (ps : List (Pair K V)) → HoldsMap k v c.bytes at.handle at.at ps → result ≡ option_map item_of (pair ps)
     pub counted : before ≤ after
-    pub steps : SearchSteps k v c.bytes h at 1 before after
-    pub exact : (ps : List (Pair K V)) (s : HoldsMap k v c.bytes h at ps)
+    pub steps : SearchSteps k v c.bytes at 1 before after
+    pub exact : (ps : List (Pair K V)) (s : HoldsMap k v c.bytes at.handle at.at ps)
         → after ≡ before + path s.map.tree.tree + reading_steps (pair ps)
 
 -- the node of a key, with the steps of a look-up
-pub record LooksFor {K V : Type 0} (k : Plain K) (v : Plain V) (c : Cut) (h at : ℕ) (key : K) (found : Option ℕ)
+pub record LooksFor {K V : Type 0} (k : Plain K) (v : Plain V) (c : Cut) (at : Place) (key : K) (found : Option ℕ)
     (before after : ℕ) : Type 0 where
-  pub node : FindsKey k v c.bytes h at key found
+  pub node : FindsKey k v c.bytes at.handle at.at key found
   pub counted : before ≤ after
-  pub steps : SearchSteps k v c.bytes h at 1 before after
-  pub exact : LookUpTakes k v c h at false key before after
+  pub steps : SearchSteps k v c.bytes at 1 before after
+  pub exact : LookUpTakes k v c at false key before after
 
 -- ---- where a change of the tree begins
 
@@ -97,10 +99,11 @@ entry_in k c key t = entry_of (stands_before k.order (keys_in k (nodes_of t) c) 
 abbrev pub exit_in : {K : Type 0} → Plain K → Cut → ℕ → Tree → Option ℕ
 exit_in k c node t = exit_of (comes_before k.order (keys_in k (nodes_of t) c)) node t
 
-abbrev pub FindsEntry : {K V : Type 0} → Plain K → Plain V → Cut → ℕ → ℕ → K → Option ℕ → Type 0
-FindsEntry {K} {V} k v c h at key start =
-    (ps : List (Pair K V)) (s : HoldsMap k v c.bytes h at ps) → start ≡ entry_in k c key s.map.tree.tree
+abbrev pub FindsEntry : {K V : Type 0} → Plain K → Plain V → Cut → Place → K → Option ℕ → Type 0
+FindsEntry {K} {V} k v c at key start =
+    (ps : List (Pair K V)) (s : HoldsMap k v c.bytes at.handle at.at ps) → start ≡ entry_in k c key s.map.tree.tree
 
-abbrev pub FindsExit : {K V : Type 0} → Plain K → Plain V → Cut → ℕ → ℕ → Option ℕ → Option ℕ → Type 0
-FindsExit {K} {V} k v c h at node start =
-    (ps : List (Pair K V)) (s : HoldsMap k v c.bytes h at ps) → IfSome node (λ n. start ≡ exit_in k c n s.map.tree.tree)
+abbrev pub FindsExit : {K V : Type 0} → Plain K → Plain V → Cut → Place → Option ℕ → Option ℕ → Type 0
+FindsExit {K} {V} k v c at node start =
+    (ps : List (Pair K V)) (s : HoldsMap k v c.bytes at.handle at.at ps)
+    → IfSome node (λ n. start ≡ exit_in k c n s.map.tree.tree)

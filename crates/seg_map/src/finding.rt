@@ -32,8 +32,7 @@ impl<K: Plain, V: Plain> SegMap<K, V> {
         requires { IsSomeMap K.Plain V.Plain heap.now.bytes self.place.handle self.place.at }
         ensures leads { leads (is_pair_node (16 + K.SIZE) result.own result.heap.now) result.root ≡ true }
         ensures tree { HasTree K.Plain result.own result.heap.now result.root }
-        ensures opened { IsOpened K.Plain V.Plain result.heap.now heap.now self.place.handle self.place.at
-            result.own result.root }
+        ensures opened { IsOpened K.Plain V.Plain result.heap.now heap.now self.place result.own result.root }
     {
         let root = heap.link(self.place.handle, self.place.at);
         Pairs {
@@ -52,8 +51,7 @@ impl<K: Plain, V: Plain> SegMap<K, V> {
         steps: &mut Steps,
     ) -> Option<(K, V)>
         requires { IsSomeMap K.Plain V.Plain heap.now.bytes self.place.handle self.place.at }
-        ensures { LooksUp K.Plain V.Plain heap.now self.place.handle self.place.at
-            (first_pair K.order sought.now.past sought.now.key)
+        ensures { LooksUp K.Plain V.Plain heap.now self.place (first_pair K.order sought.now.past sought.now.key)
             (path_in K.Plain heap.now sought.now.past sought.now.key) result steps.old steps.new }
     {
         let pairs = self.open(heap);
@@ -69,8 +67,7 @@ impl<K: Plain, V: Plain> SegMap<K, V> {
         steps: &mut Steps,
     ) -> Option<(K, V)>
         requires { IsSomeMap K.Plain V.Plain heap.now.bytes self.place.handle self.place.at }
-        ensures { LooksUp K.Plain V.Plain heap.now self.place.handle self.place.at
-            (last_pair K.order sought.now.past sought.now.key)
+        ensures { LooksUp K.Plain V.Plain heap.now self.place (last_pair K.order sought.now.past sought.now.key)
             (path_in K.Plain heap.now sought.now.past sought.now.key) result steps.old steps.new }
     {
         let pairs = self.open(heap);
@@ -81,10 +78,9 @@ impl<K: Plain, V: Plain> SegMap<K, V> {
     /// The node of a key, and where a node with that key would enter.
     pub(crate) fn find_in(self, heap: &Heap, key: K, steps: &mut Steps) -> Trace
         requires map { IsSomeMap K.Plain V.Plain heap.now.bytes self.place.handle self.place.at }
-        ensures found { LooksFor K.Plain V.Plain heap.now self.place.handle self.place.at key result.node
-            steps.old steps.new }
+        ensures found { LooksFor K.Plain V.Plain heap.now self.place key result.node steps.old steps.new }
         ensures value { IfSome result.node (λ node. K.is_value key ≡ true) }
-        ensures entry { FindsEntry K.Plain V.Plain heap.now self.place.handle self.place.at key result.start }
+        ensures entry { FindsEntry K.Plain V.Plain heap.now self.place key result.start }
     {
         let pairs = self.open(heap);
         let way = find_way_in(&pairs, pairs.root, &Sought { key, past: false });
@@ -98,10 +94,9 @@ impl<K: Plain, V: Plain> SegMap<K, V> {
     /// The node of a key, and where its removal begins.
     pub(crate) fn find_out(self, heap: &Heap, key: K, steps: &mut Steps) -> Trace
         requires map { IsSomeMap K.Plain V.Plain heap.now.bytes self.place.handle self.place.at }
-        ensures found { LooksFor K.Plain V.Plain heap.now self.place.handle self.place.at key result.node
-            steps.old steps.new }
+        ensures found { LooksFor K.Plain V.Plain heap.now self.place key result.node steps.old steps.new }
         ensures value { IfSome result.node (λ node. K.is_value key ≡ true) }
-        ensures exit { FindsExit K.Plain V.Plain heap.now self.place.handle self.place.at result.node result.start }
+        ensures exit { FindsExit K.Plain V.Plain heap.now self.place result.node result.start }
     {
         let pairs = self.open(heap);
         let way = find_way_out(&pairs, pairs.root, &Sought { key, past: false });

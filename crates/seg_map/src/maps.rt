@@ -65,10 +65,8 @@ impl<K: Plain, V: Plain> SegMap<K, V> {
         requires { IsSomeMap K.Plain V.Plain heap.now.bytes self.place.handle self.place.at }
         ensures value { FindsValue K.Plain V.Plain heap.now.bytes self.place.handle self.place.at key result }
         ensures counted { steps.old ≤ steps.new }
-        ensures steps { SearchSteps K.Plain V.Plain heap.now.bytes self.place.handle self.place.at 1
-            steps.old steps.new }
-        ensures exact { LookUpTakes K.Plain V.Plain heap.now self.place.handle self.place.at false key
-            steps.old steps.new }
+        ensures steps { SearchSteps K.Plain V.Plain heap.now.bytes self.place 1 steps.old steps.new }
+        ensures exact { LookUpTakes K.Plain V.Plain heap.now self.place false key steps.old steps.new }
     {
         let (found, value) = self.first_from(heap, key, steps)?;
         if key.precedes(found) {
@@ -83,10 +81,8 @@ impl<K: Plain, V: Plain> SegMap<K, V> {
         requires { IsSomeMap K.Plain V.Plain heap.now.bytes self.place.handle self.place.at }
         ensures item { FindsItem K.Plain V.Plain heap.now.bytes self.place.handle self.place.at false key result }
         ensures counted { steps.old ≤ steps.new }
-        ensures steps { SearchSteps K.Plain V.Plain heap.now.bytes self.place.handle self.place.at 1
-            steps.old steps.new }
-        ensures exact { LookUpTakes K.Plain V.Plain heap.now self.place.handle self.place.at false key
-            steps.old steps.new }
+        ensures steps { SearchSteps K.Plain V.Plain heap.now.bytes self.place 1 steps.old steps.new }
+        ensures exact { LookUpTakes K.Plain V.Plain heap.now self.place false key steps.old steps.new }
     {
         let from = Sought { key, past: false };
         self.find_from(heap, &from, steps)
@@ -97,10 +93,8 @@ impl<K: Plain, V: Plain> SegMap<K, V> {
         requires { IsSomeMap K.Plain V.Plain heap.now.bytes self.place.handle self.place.at }
         ensures item { FindsItem K.Plain V.Plain heap.now.bytes self.place.handle self.place.at true key result }
         ensures counted { steps.old ≤ steps.new }
-        ensures steps { SearchSteps K.Plain V.Plain heap.now.bytes self.place.handle self.place.at 1
-            steps.old steps.new }
-        ensures exact { LookUpTakes K.Plain V.Plain heap.now self.place.handle self.place.at true key
-            steps.old steps.new }
+        ensures steps { SearchSteps K.Plain V.Plain heap.now.bytes self.place 1 steps.old steps.new }
+        ensures exact { LookUpTakes K.Plain V.Plain heap.now self.place true key steps.old steps.new }
     {
         let above = Sought { key, past: true };
         self.find_from(heap, &above, steps)
@@ -111,9 +105,8 @@ impl<K: Plain, V: Plain> SegMap<K, V> {
         requires { IsSomeMap K.Plain V.Plain heap.now.bytes self.place.handle self.place.at }
         ensures item { FindsLastItem K.Plain V.Plain heap.now.bytes self.place.handle self.place.at result }
         ensures counted { steps.old ≤ steps.new }
-        ensures steps { SearchSteps K.Plain V.Plain heap.now.bytes self.place.handle self.place.at 1
-            steps.old steps.new }
-        ensures exact { LastTakes K.Plain V.Plain heap.now self.place.handle self.place.at steps.old steps.new }
+        ensures steps { SearchSteps K.Plain V.Plain heap.now.bytes self.place 1 steps.old steps.new }
+        ensures exact { LastTakes K.Plain V.Plain heap.now self.place steps.old steps.new }
     {
         let pairs = self.open(heap);
         let found = find_last(&pairs, pairs.root);
@@ -125,10 +118,8 @@ impl<K: Plain, V: Plain> SegMap<K, V> {
         requires { IsSomeMap K.Plain V.Plain heap.now.bytes self.place.handle self.place.at }
         ensures item { FindsItemBefore K.Plain V.Plain heap.now.bytes self.place.handle self.place.at true key result }
         ensures counted { steps.old ≤ steps.new }
-        ensures steps { SearchSteps K.Plain V.Plain heap.now.bytes self.place.handle self.place.at 1
-            steps.old steps.new }
-        ensures exact { LookBackTakes K.Plain V.Plain heap.now self.place.handle self.place.at true key
-            steps.old steps.new }
+        ensures steps { SearchSteps K.Plain V.Plain heap.now.bytes self.place 1 steps.old steps.new }
+        ensures exact { LookBackTakes K.Plain V.Plain heap.now self.place true key steps.old steps.new }
     {
         let up_to = Sought { key, past: true };
         self.find_before(heap, &up_to, steps)
@@ -139,10 +130,8 @@ impl<K: Plain, V: Plain> SegMap<K, V> {
         requires { IsSomeMap K.Plain V.Plain heap.now.bytes self.place.handle self.place.at }
         ensures item { FindsItemBefore K.Plain V.Plain heap.now.bytes self.place.handle self.place.at false key result }
         ensures counted { steps.old ≤ steps.new }
-        ensures steps { SearchSteps K.Plain V.Plain heap.now.bytes self.place.handle self.place.at 1
-            steps.old steps.new }
-        ensures exact { LookBackTakes K.Plain V.Plain heap.now self.place.handle self.place.at false key
-            steps.old steps.new }
+        ensures steps { SearchSteps K.Plain V.Plain heap.now.bytes self.place 1 steps.old steps.new }
+        ensures exact { LookBackTakes K.Plain V.Plain heap.now self.place false key steps.old steps.new }
     {
         let below = Sought { key, past: false };
         self.find_before(heap, &below, steps)

@@ -1,6 +1,5 @@
 -- The links that make way, and then the new one.
-use Rattle.seg_index.proofs.{◌≡◌, ◌+◌, ◌-◌, ◌*◌, ◌∙◌, ap, arith, inr, bytes_of, link_at}
-use Rattle.seg_index.proofs.{SameBut-link, changed_trans}
+use Rattle.seg_index.proofs.{◌≡◌, ◌+◌, ◌-◌, ◌*◌, ◌∙◌, ap, arith, inr, bytes_of, link_at, SameBut-link, changed_trans}
 use Rattle.seg_index.proofs.adding.spread.Goals as goal
 
 pub returns-clause-change : goal.returns-clause-change

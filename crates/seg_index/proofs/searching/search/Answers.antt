@@ -1,18 +1,16 @@
 -- Each turn halves what is left, and compares one key.
 use Rattle.seg_index.proofs.{◌≡◌, ◌+◌, ap, refl, sym, subst, ◌∙◌, ◌≤◌, arith, bytes_of, bits, HasEntry, middle}
 use Rattle.seg_index.proofs.{order_at, IsLeft, entry_of, left_down, left_first, left_found, left_none, left_up}
-use Rattle.seg_index.proofs.{same_search, bits_few}
+use Rattle.seg_index.proofs.{bits_few}
 use Rattle.seg_index.specs.Beginnings.{key_front}
+use Rattle.seg_index.specs.declared.comparing.Comparisons.{Comparisons}
 use Rattle.seg_index.proofs.searching.search.Goals as goal
 use Rattle.seg_index.proofs.searching.search.Goals.{After-compare}
 
 pub halves-init : goal.halves-init
 halves-init c =
     let a = c.args.comparisons.now in record {
-      heap = refl;
-      key = refl;
-      front = refl;
-      block = refl;
+      same = refl;
       left = subst (λ k. IsLeft a.heap.now a.key a.block c.args.count 0 c.args.count k) (sym c.requires.none)
           (left_first a.heap.now a.key a.block c.args.count);
     }
@@ -23,59 +21,50 @@ compare-requires c =
     let within = i.left.within in
     let entry = entry_of (middle c.halves.low c.halves.high) c.requires.keys (omega arith) in
     record {
-      entry = same_search (λ v k b. HasEntry v k b (middle c.halves.low c.halves.high))
-          (sym (ap (λ b. b.now) i.heap)) (sym i.key) (sym i.block) entry;
-      front = i.front ∙ c.requires.front ∙ ap key_front (sym i.key);
+      entry = subst (λ (s : Comparisons). HasEntry s.heap.now s.key s.block (middle c.halves.low c.halves.high))
+          (sym i.same) entry;
+      front = subst (λ (s : Comparisons). s.front ≡ key_front s.key) (sym i.same) c.requires.front;
       room = omega arith;
     }
 
--- how the compared key stands
+-- how the compared key stands, and what is known of the comparisons then
 stands : (c : After-compare) → order_at (bytes_of c.args.comparisons.now.heap.now.bytes) c.args.comparisons.now.key
     c.args.comparisons.now.block (middle c.halves.low c.halves.high) ≡ c.compare.result
 stands c =
-    let i = c.halves.invariant in
-    same_search (λ v k b. order_at (bytes_of v.bytes) k b (middle c.halves.low c.halves.high) ≡ c.compare.result)
-    (ap (λ b. b.now) i.heap) i.key i.block (sym c.compare.ensures.order)
+    subst (λ (s : Comparisons). order_at (bytes_of s.heap.now.bytes) s.key s.block (middle c.halves.low c.halves.high)
+    ≡ c.compare.result) c.halves.invariant.same (sym c.compare.ensures.order)
+
+still : (c : After-compare) → c.compare.new.self ≡ record c.args.comparisons.now { count = c.compare.new.self.count }
+still c =
+    let counting = λ (s : Comparisons). record s { count = c.compare.new.self.count } in
+    ap counting c.compare.ensures.counted ∙ ap counting c.halves.invariant.same
 
 pub halves-preserved-in-Less : goal.halves-preserved-in-Less
 halves-preserved-in-Less c =
-    let a = c.args.comparisons.now in let i = c.halves.invariant in let e = c.compare.ensures in
-    let is = stands (goal.at.halves-preserved-in-Less c).After-compare ∙ c.in-Less.is in
+    let a = c.args.comparisons.now in let after = (goal.at.halves-preserved-in-Less c).After-compare in
     record {
-      heap = e.heap ∙ i.heap;
-      key = e.key ∙ i.key;
-      front = e.front ∙ i.front;
-      block = e.block ∙ i.block;
+      same = still after;
       left = subst (λ k. IsLeft a.heap.now a.key a.block c.args.count (middle c.halves.low c.halves.high + 1)
-          c.halves.high k) (sym e.count)
-          (left_up c.requires.keys i.left c.halves-test.true is);
+          c.halves.high k) (sym (ap (λ (s : Comparisons). s.count) c.compare.ensures.counted))
+          (left_up c.requires.keys c.halves.invariant.left c.halves-test.true (stands after ∙ c.in-Less.is));
     }
 
 pub halves-preserved : goal.halves-preserved
 halves-preserved c =
-    let a = c.args.comparisons.now in let i = c.halves.invariant in let e = c.compare.ensures in
-    let is = stands (goal.at.halves-preserved c).After-compare ∙ c.in-Greater.is in
+    let a = c.args.comparisons.now in let after = (goal.at.halves-preserved c).After-compare in
     record {
-      heap = e.heap ∙ i.heap;
-      key = e.key ∙ i.key;
-      front = e.front ∙ i.front;
-      block = e.block ∙ i.block;
+      same = still after;
       left = subst (λ k. IsLeft a.heap.now a.key a.block c.args.count c.halves.low (middle c.halves.low c.halves.high)
-          k) (sym e.count)
-          (left_down c.requires.keys i.left c.halves-test.true is);
+          k) (sym (ap (λ (s : Comparisons). s.count) c.compare.ensures.counted))
+          (left_down c.requires.keys c.halves.invariant.left c.halves-test.true (stands after ∙ c.in-Greater.is));
     }
 
 pub returns-in-Equal : goal.returns-in-Equal
 returns-in-Equal c =
-    let a = c.args.comparisons.now in let i = c.halves.invariant in let e = c.compare.ensures in
     let is = stands (goal.at.returns-in-Equal c).After-compare ∙ c.in-Equal.is in
-    let r = left_found i.left c.halves-test.true is in
-    record {
-      place = r.place;
-      count = subst (λ k. k ≤ bits c.args.count) (sym e.count) r.few;
-      exact = e.count
-          ∙ r.exact;
-    }
+    let r = left_found c.halves.invariant.left c.halves-test.true is in
+    let e = ap (λ (s : Comparisons). s.count) c.compare.ensures.counted in
+    record { place = r.place; count = subst (λ k. k ≤ bits c.args.count) (sym e) r.few; exact = e ∙ r.exact }
 
 pub returns : goal.returns
 returns c =

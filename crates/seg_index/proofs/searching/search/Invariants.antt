@@ -4,10 +4,7 @@ use Rattle.seg_index.proofs.searching.search.Given as goal
 
 abbrev pub invariant-halves : goal.invariant-halves
 invariant-halves l = record {
-  heap : l.comparisons.heap ≡ l.fn.comparisons.heap;
-  key : l.comparisons.key ≡ l.fn.comparisons.key;
-  front : l.comparisons.front ≡ l.fn.comparisons.front;
-  block : l.comparisons.block ≡ l.fn.comparisons.block;
+  same : l.comparisons ≡ record l.fn.comparisons { count = l.comparisons.count };
   left : IsLeft l.fn.comparisons.heap.now l.fn.comparisons.key l.fn.comparisons.block l.count l.low l.high
       l.comparisons.count;
 }

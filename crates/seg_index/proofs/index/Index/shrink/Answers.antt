@@ -1,7 +1,5 @@
 -- The block goes, or is cut.
-use Rattle.seg_index.proofs.{sym, ◌∙◌}
-use Rattle.seg_index.proofs.{in_header, leads_from, placed, emptied, shrunk_bare, shrunk_empty}
-use Rattle.seg_index.proofs.{shrunk_short}
+use Rattle.seg_index.proofs.{sym, ◌∙◌, in_header, leads_from, placed, emptied, shrunk_bare, shrunk_empty, shrunk_short}
 use Rattle.seg_index.proofs.index.Index.shrink.Goals as goal
 
 pub returns-in_default-clause-shrunk : goal.returns-in_default-clause-shrunk

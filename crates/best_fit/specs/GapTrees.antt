@@ -1,14 +1,13 @@
 -- Trees of gaps while a heap changes: the tree at word 24 has some of the gaps, and nothing else changes.
-use Rattle.std.specs.Prelude.{◌≡◌, ℕ, ◌+◌, ◌≤◌, ◌<◌, ◌⊎◌, Bool, true, not, Option, Some, None, IfSome, if◌then◌else◌, List, [], ◌∷◌, ◌++◌, length, map, IsTrue, nat_le}
+use Rattle.std.specs.Prelude.{◌≡◌, ℕ, ◌+◌, ◌≤◌, ◌<◌, ◌⊎◌, Bool, true, Option, Some, None, IfSome, if◌then◌else◌, List, [], ◌∷◌, ◌++◌, length, map, IsTrue, nat_le}
 use Rattle.std.specs.List.{AllByRecursion}
 use Rattle.raw_region.specs.Memory.{Cut, SamePlace, bytes_of}
 use Rattle.block_tags.specs.declared.tile.Tile.{Tile}
 use Rattle.block_tags.specs.Tiles.{is_free, is_merged}
 use Rattle.block_tags.specs.Windows.{SaysTiles}
 use Rattle.offset_link.specs.Link.{link_at}
-use Rattle.link_tree.specs.Tree.{nodes_of}
-use Rattle.link_tree.specs.Nodes.{has_place, is_in}
-use Rattle.link_tree.specs.Ways.{entry_of, exit_of}
+use Rattle.link_tree.specs.Nodes.{is_in}
+use Rattle.link_tree.specs.Ways.{exit_of}
 use Rattle.best_fit.specs.Extents.{Gap}
 use Rattle.best_fit.specs.FreeTree.{IsTreeOf, payloads, sorted_gaps}
 use Rattle.best_fit.specs.GapNodes.{comes_before, gaps_in, gaps_of, is_good, is_kept, len_in, plain, tiles_in}
@@ -49,11 +48,6 @@ root_of_gaps c = link_at (bytes_of c.bytes) 24
 -- where the removal of a node of the tree may begin: at the root, or at its exit
 pub record MayBegin (c : Cut) (node : ℕ) (exit : Option ℕ) : Type 0 where
   pub begins : (hs : List Gap) (h : HasTree c hs) → IfSome exit (λ n. exit_of (comes_before (gaps_in c)) node h.tree.tree ≡ Some n)
-
--- where a gap that is not in the tree may enter it: at the root, or where a search for it ends
-pub record MayEnter (c : Cut) (node : ℕ) (entry : Option ℕ) : Type 0 where
-  pub enters : (hs : List Gap) (h : HasTree c hs) → IsTrue (has_place (comes_before (gaps_in c)) node (nodes_of h.tree.tree))
-      → IfSome entry (λ n. entry_of (λ m. not (comes_before (gaps_in c) node m)) h.tree.tree ≡ Some n)
 
 -- good tags, and a tree of all gaps but one, whose links may be anything
 pub record LacksOne (c : Cut) (xs : List Gap) (g : Gap) (ys : List Gap) : Type 0 where

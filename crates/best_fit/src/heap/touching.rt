@@ -12,13 +12,11 @@ ghost use Rattle.best_fit.specs.Extents.{Gap};
 ghost use Rattle.best_fit.specs.Fit.{least};
 ghost use Rattle.best_fit.specs.FreeTree.{payloads};
 ghost use Rattle.best_fit.specs.GapNodes.{from_first, gaps_in, is_gap_node, kept_of, stands_before};
-ghost use Rattle.best_fit.specs.GapTrees.{HasTree, LacksOne, MayBegin, MayEnter, Regrown, is_long, node_of, root_of_gaps};
+ghost use Rattle.best_fit.specs.GapTrees.{HasTree, LacksOne, MayBegin, Regrown, is_long, node_of, root_of_gaps};
 
 use crate::heap::nodes::{FREE_TREE, Gaps, RIGHT, Sought, set_link};
 use block_tags::{Role, TAG, Tile};
-use link_tree::{
-    WayIn, WayOut, find_first_not_before, find_way_in, find_way_out, insert_at, remove_at,
-};
+use link_tree::{WayOut, find_first_not_before, find_way_out, insert, remove_at};
 use offset_link::load;
 
 /// The gaps of a heap's window, and how often they were touched: by a step of their tree, or by a call on one tile.
@@ -66,6 +64,7 @@ impl<'a> Touches<'a> {
     }
 
     /// Takes a gap out of the tree.
+    #[inline(always)]
     pub fn take_out(&mut self, node: u64)
         requires tree { (hs : List Gap) × HasTree self.old.gaps.now.window hs × (is_in node (payloads hs) ≡ true) }
         requires room { self.old.count < 2 ^ 63 }
@@ -76,9 +75,46 @@ impl<'a> Touches<'a> {
         ensures reference { self.new.gaps.ghost_name ≡ self.old.gaps.ghost_name }
     {
         let root = load(&self.gaps.window, FREE_TREE);
+        // The root is there without a search, as where there is one gap.
+        if root == Some(node) {
+            self.take_out_at(root, None, node);
+        } else {
+            self.take_out_below(root, node);
+        }
+    }
+
+    /// The same of a gap that is looked for first.
+    #[inline(never)]
+    fn take_out_below(&mut self, root: Option<u64>, node: u64)
+        requires root { root ≡ root_of_gaps self.old.gaps.now.window }
+        requires tree { (hs : List Gap) × HasTree self.old.gaps.now.window hs × (is_in node (payloads hs) ≡ true) }
+        requires room { self.old.count < 2 ^ 63 }
+        ensures tree { (xs : List Gap) (g : Gap) (ys : List Gap) → node ≡ node_of g → HasTree self.old.gaps.now.window (xs ++ g ∷ ys) → HasTree self.new.gaps.now.window (xs ++ ys) }
+        ensures rest { Regrown self.old.gaps.now.window self.new.gaps.now.window }
+        ensures counted { self.old.count < self.new.count }
+        ensures steps { (hs : List Gap) → HasTree self.old.gaps.now.window hs → self.new.count ≤ self.old.count + 32 * bits (length hs + 1) + 32 }
+        ensures reference { self.new.gaps.ghost_name ≡ self.old.gaps.ghost_name }
+    {
         let way = way_out(&*self.gaps, root, node);
-        let changed = remove_at(self.gaps, root, way.exit, node);
-        self.count += way.steps + changed.steps;
+        self.count += way.steps;
+        self.take_out_at(root, way.exit, node);
+    }
+
+    /// The same from the root on, or from where a search has found that the removal begins.
+    #[inline(always)]
+    fn take_out_at(&mut self, root: Option<u64>, exit: Option<u64>, node: u64)
+        requires root { root ≡ root_of_gaps self.old.gaps.now.window }
+        requires tree { (hs : List Gap) × HasTree self.old.gaps.now.window hs × (is_in node (payloads hs) ≡ true) }
+        requires exit { MayBegin self.old.gaps.now.window node exit }
+        requires room { self.old.count + 2 ^ 12 < 2 ^ 64 }
+        ensures tree { (xs : List Gap) (g : Gap) (ys : List Gap) → node ≡ node_of g → HasTree self.old.gaps.now.window (xs ++ g ∷ ys) → HasTree self.new.gaps.now.window (xs ++ ys) }
+        ensures rest { Regrown self.old.gaps.now.window self.new.gaps.now.window }
+        ensures counted { self.old.count < self.new.count }
+        ensures steps { (hs : List Gap) → HasTree self.old.gaps.now.window hs → self.new.count ≤ self.old.count + 30 * bits (length hs + 1) + 32 }
+        ensures reference { self.new.gaps.ghost_name ≡ self.old.gaps.ghost_name }
+    {
+        let changed = remove_at(self.gaps, root, exit, node);
+        self.count += changed.steps;
         set_link(&mut self.gaps.window, FREE_TREE, changed.root);
     }
 
@@ -95,9 +131,8 @@ impl<'a> Touches<'a> {
         self.count += 1;
         clear_links(self.gaps, node);
         let root = load(&self.gaps.window, FREE_TREE);
-        let way = way_in(&*self.gaps, root, node);
-        let changed = insert_at(self.gaps, root, way.entry, node);
-        self.count += way.steps + changed.steps;
+        let changed = insert(self.gaps, root, node);
+        self.count += changed.steps;
         set_link(&mut self.gaps.window, FREE_TREE, changed.root);
     }
 
@@ -269,34 +304,6 @@ fn way_out(gaps: &Gaps, root: Option<u64>, node: u64) -> WayOut
     ensures exit { MayBegin gaps.now.window node result.exit }
     ensures steps { (hs : List Gap) → HasTree gaps.now.window hs → result.steps ≤ 2 * bits (length hs + 1) }
 {
-    // The way to the root ends there.
-    if root == Some(node) {
-        return WayOut {
-            node: root,
-            exit: None,
-            steps: 0,
-        };
-    }
     let len = block_tags::tile_at(&gaps.window, node - TAG).len;
     find_way_out(gaps, root, &Sought { len, from: node })
-}
-
-/// The way from the root to where a gap enters the tree.
-fn way_in(gaps: &Gaps, root: Option<u64>, node: u64) -> WayIn
-    requires root { root ≡ root_of_gaps gaps.now.window }
-    requires node { is_gap_node gaps.now.window node ≡ true }
-    requires tree { (hs : List Gap) × HasTree gaps.now.window hs }
-    ensures entry { MayEnter gaps.now.window node result.entry }
-    ensures steps { (hs : List Gap) → HasTree gaps.now.window hs → result.steps ≤ 2 * bits (length hs + 1) }
-{
-    // Where there is no gap yet it becomes the root.
-    if root.is_none() {
-        return WayIn {
-            node: None,
-            entry: None,
-            steps: 0,
-        };
-    }
-    let len = block_tags::tile_at(&gaps.window, node - TAG).len;
-    find_way_in(gaps, root, &Sought { len, from: node })
 }

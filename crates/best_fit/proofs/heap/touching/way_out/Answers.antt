@@ -33,10 +33,6 @@ find_way_out-requires-clause-tree c =
     let w = c.args.gaps.now.window in let h = c.requires.tree.1 in
     (h.tree.tree, rw c.requires.root (search_tree w c.requires.tree.0 h))
 
--- at the root or elsewhere
-pub returns-then-eq-clause-exit : goal.returns-then-eq-clause-exit
-returns-then-eq-clause-exit c = record { begins = λ hs h. tt }
-
 -- what is looked for is the gap
 sought_is : (c : After-tile_at-len) → (let p : Sought = record { len = c.tile_at-len.result.len; from = c.args.node } in p)
     ≡ record { len = len_in (gaps_in c.args.gaps.now.window) c.args.node; from = c.args.node }

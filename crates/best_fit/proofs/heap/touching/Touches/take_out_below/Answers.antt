@@ -1,0 +1,16 @@
+-- The search takes few steps.
+use Rattle.best_fit.proofs.Common.{arith}
+use Rattle.best_fit.proofs.Replanting.{few_bits}
+use Rattle.best_fit.proofs.heap.touching.Touches.take_out_below.Goals as goal
+
+pub overflow_add-self : goal.overflow_add-self
+overflow_add-self c =
+    let w = c.args.self.now.gaps.now.window in let hs = c.requires.tree.0 in let h = c.requires.tree.1 in
+    let steps = c.way_out-way.ensures.steps hs h in let few = few_bits w hs h in let room = c.requires.room in
+    omega arith
+
+pub take_out_at-requires-clause-room : goal.take_out_at-requires-clause-room
+take_out_at-requires-clause-room c =
+    let w = c.args.self.now.gaps.now.window in let hs = c.requires.tree.0 in let h = c.requires.tree.1 in
+    let steps = c.way_out-way.ensures.steps hs h in let few = few_bits w hs h in let room = c.requires.room in
+    omega arith

@@ -5,9 +5,11 @@ use Rattle.segment_manager.proofs.Common.{ScalarKind, Refusal, NotFound, WrongKi
 use Rattle.segment_manager.proofs.Common.{Command, Place, Answer, Refused, kind_at, container_at, container_place}
 use Rattle.segment_manager.proofs.Common.{place_of_kind, sizes_at, sizes_at_kind, sizes_of, sizes_of_kind, Value}
 use Rattle.segment_manager.proofs.Common.{Numbers, Directory, Object, kind_of, live, object_at, IsMissing, Refuse}
-use Rattle.segment_manager.proofs.Common.{perform, Answers, IsStep, IsStepOfKind, State, StandsFor, effect}
+use Rattle.segment_manager.proofs.Common.{perform, Answers, IsStep, IsStepOfKind, State, effect}
 use Rattle.segment_manager.proofs.Common.{has_sizes, has_storage, is_read_only, step, step_of_kind, Mode}
 use Rattle.segment_manager.proofs.{Refilled.refused-steps, Steps.step_of_kind-step, Steps.moves-same}
+use Rattle.segment_manager.proofs.StorageSteps.{change-refused, no-storage}
+use Rattle.segment_manager.proofs.Common.{Change, command_of}
 
 -- the object of the key, which is of the kind
 pub record IsOfKindAt (d : Directory) (key : Key) (kind : Kind) : Type 0 where
@@ -38,11 +40,13 @@ of_kind-steps old new key kind c answer a r =
     moves-same old new answer (λ d. step_of_kind old.mode d key kind c) (λ d. step old.mode d c) (λ d k. of_kind-same old.mode d key kind c (kind-told d key kind (a.answers d k))) r
 
 -- it has no storage
-pub kind-no_storage : (s : State) (key : Key) (kind : Kind) → has_storage kind ≡ false → Answers s (λ d. kind_at d key) (Ok kind)
-    → (d : Directory) → StandsFor s.cut.bytes d → (o : Object) × ((object_at d key ≡ Some o) × (has_storage (kind_of o.value) ≡ false))
-kind-no_storage s key kind h a d l =
+pub change-other : (change : Change) (s : State) (key : Key) (kind : Kind) → is_read_only s.mode ≡ false → has_storage kind ≡ false → Answers s (λ d. kind_at d key) (Ok kind)
+    → IsStep s s (command_of change key) (Refused WrongKind)
+change-other change s key kind writing h a =
+    refused-steps s (command_of change key) WrongKind writing
+    (λ d l.
     let e : IsOfKindAt d key kind = kind-told d key kind (a.answers d l) in
-    (e.object, (e.is, ap has_storage e.kind_is ∙ h))
+    ap (perform d (live d)) (change-refused change d key e.object e.is (no-storage e.object.value (ap has_storage e.kind_is ∙ h))))
 
 -- ---- sizes
 

@@ -5,11 +5,13 @@ use Rattle.segment_manager.proofs.Common.{Map, ScalarKind, Plain, Refusal, is_va
 use Rattle.segment_manager.proofs.Common.{Put, Remove, literal_of, Erases, Puts, FindsItem, FindsItemBefore}
 use Rattle.segment_manager.proofs.Common.{FindsLastItem, FindsValue, IsSomeMap}
 use Rattle.segment_manager.proofs.Common.{map_at}
-use Rattle.segment_manager.proofs.Common.{numbers_in, pair_at_end, pair_below, pair_up_to}
+use Rattle.segment_manager.proofs.Common.{numbers_in, pair_at_end}
 use Rattle.segment_manager.proofs.Common.{told_of_map, value_or_absent, Answers, IsReplyOfKind, IsSegment, State}
 use Rattle.segment_manager.proofs.Common.{is_read_only, List, NumberPair}
 use Rattle.seg_map.specs.declared.places.Place.{Place}
 use Rattle.segment_manager.specs.Maps.{IsPairs}
+use Rattle.segment_manager.proofs.Common.{int_lt, item_of}
+use Rattle.seg_map.specs.Places.{last_pair}
 use Rattle.segment_manager.specs.Walks.{pair_past}
 use Rattle.segment_manager.proofs.MapCalls.{TellsSafely, map-erased, map-got, map-put}
 use Rattle.segment_manager.proofs.MapCalls.{map-told, put_result, stands-map}
@@ -49,13 +51,11 @@ module _ {K V : Type 0} (k v : ScalarKind) (kp : Plain K) (vp : Plain V) (kw : K
   past-there above x r each =
       told-there (pair_past above (kw x)) (numbers_in kw vw r) (λ (c : Place). FindsItem kp vp s.cut.bytes c.handle c.at above x r) (finds-item k v kp vp kw vw kl vl s.cut.bytes p.handle p.at above x r) each
 
-  pub up_to-there : (x : K) (r : Option (K × V)) → FindsItemBefore kp vp s.cut.bytes q.handle q.at true x r → Answers t (λ d. told_of_map d key k v (pair_up_to (kw x))) (Ok (numbers_in kw vw r))
-  up_to-there x r each =
-      told-there (pair_up_to (kw x)) (numbers_in kw vw r) (λ (c : Place). FindsItemBefore kp vp s.cut.bytes c.handle c.at true x r) (finds-back k v kp vp kw vw kl vl s.cut.bytes p.handle p.at true x r) each
-
-  pub below-there : (x : K) (r : Option (K × V)) → FindsItemBefore kp vp s.cut.bytes q.handle q.at false x r → Answers t (λ d. told_of_map d key k v (pair_below (kw x))) (Ok (numbers_in kw vw r))
-  below-there x r each =
-      told-there (pair_below (kw x)) (numbers_in kw vw r) (λ (c : Place). FindsItemBefore kp vp s.cut.bytes c.handle c.at false x r) (finds-back k v kp vp kw vw kl vl s.cut.bytes p.handle p.at false x r) each
+  pub back-there : (reached : Bool) (x : K) (r : Option (K × V)) → FindsItemBefore kp vp s.cut.bytes q.handle q.at reached x r
+      → Answers t (λ d. told_of_map d key k v (λ ps. option_map item_of (last_pair int_lt reached (kw x) ps))) (Ok (numbers_in kw vw r))
+  back-there reached x r each =
+      told-there (λ ps. option_map item_of (last_pair int_lt reached (kw x) ps)) (numbers_in kw vw r) (λ (c : Place). FindsItemBefore kp vp s.cut.bytes c.handle c.at reached x r)
+      (finds-back k v kp vp kw vw kl vl s.cut.bytes p.handle p.at reached x r) each
 
   pub last-there : (r : Option (K × V)) → FindsLastItem kp vp s.cut.bytes q.handle q.at r → Answers t (λ d. told_of_map d key k v pair_at_end) (Ok (numbers_in kw vw r))
   last-there r each =

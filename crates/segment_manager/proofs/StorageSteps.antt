@@ -1,12 +1,12 @@
 -- The calls on whatever has storage where they are refused, reserve, shrink and clear; and calls that read.
-use Rattle.segment_manager.proofs.Common.{Err, None, Some, ap, false, refl, subst, true, ◌≡◌, Command}
+use Rattle.segment_manager.proofs.Common.{Err, None, Some, false, refl, subst, true, ◌≡◌, Command}
 use Rattle.segment_manager.proofs.Common.{is_changing, Key, Kind, Refusal}
 use Rattle.segment_manager.proofs.Common.{NotFound, WrongKind, Answer, Refused, container_at, Directory, Numbers}
-use Rattle.segment_manager.proofs.Common.{Object, Pairs, Value, kind_of, object_at, live, Refuse, perform, Answers}
-use Rattle.segment_manager.proofs.Common.{IsReplyOfKind, IsStep, IsStepOfKind, StandsFor, State, effect, is_read_only}
+use Rattle.segment_manager.proofs.Common.{Object, Pairs, Value, kind_of, object_at, Refuse, Answers}
+use Rattle.segment_manager.proofs.Common.{IsReplyOfKind, IsStepOfKind, State, effect}
 use Rattle.segment_manager.proofs.Common.{storage_of, command_of, has_storage, Change, Clear, Reserve, Shrink}
 use Rattle.segment_manager.proofs.ContentPlans.{clear-plan, reserve-plan, shrink-plan}
-use Rattle.segment_manager.proofs.Refilled.{finds-no_container, refused-steps}
+use Rattle.segment_manager.proofs.Refilled.{finds-no_container}
 use Rattle.segment_manager.proofs.Steps.{open-reading, with-not_found}
 
 -- ---- refusals
@@ -16,21 +16,11 @@ no-storage (Numbers k zs) h = refl
 no-storage (Pairs k v ps) h = refl
 no-storage v h = absurd (cc)
 
--- for each directory the object of the key is of a kind without storage
-abbrev HasNoStorage : State → Key → Type 0
-HasNoStorage s key = (d : Directory) → StandsFor s.cut.bytes d → (o : Object) × ((object_at d key ≡ Some o) × (has_storage (kind_of o.value) ≡ false))
-
-change-refused : (change : Change) (d : Directory) (key : Key) (o : Object) → object_at d key ≡ Some o → storage_of o.value ≡ Err WrongKind
+pub change-refused : (change : Change) (d : Directory) (key : Key) (o : Object) → object_at d key ≡ Some o → storage_of o.value ≡ Err WrongKind
     → effect d (command_of change key) ≡ Refuse WrongKind
 change-refused (Reserve n) d key o e f = reserve-plan d key o e n (Err WrongKind) f
 change-refused Shrink d key o e f = shrink-plan d key o e (Err WrongKind) f
 change-refused Clear d key o e f = clear-plan d key o e (Err WrongKind) f
-
-pub change-other : (change : Change) (s : State) (key : Key) → is_read_only s.mode ≡ false → HasNoStorage s key
-    → IsStep s s (command_of change key) (Refused WrongKind)
-change-other change s key writing each =
-    refused-steps s (command_of change key) WrongKind writing
-    (λ d l. let x = each d l in ap (perform d (live d)) (change-refused change d key x.0 x.1.0 (no-storage x.0.value x.1.1)))
 
 -- no object has the key
 pub change-nowhere : (change : Change) (d : Directory) (key : Key) → object_at d key ≡ None

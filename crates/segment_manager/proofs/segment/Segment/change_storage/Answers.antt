@@ -1,10 +1,10 @@
 -- The container of the object of the key is changed as its kind says.
 use Rattle.segment_manager.proofs.Common.{err_from_is_err_and, refl, sym, ◌∙◌, Key, ByHandle, StepsSafely, command_of}
-use Rattle.segment_manager.proofs.{AnyStorage.kind-no_storage, AnyStorage.nowhere-steps, KeptContainers.keeps-cut}
+use Rattle.segment_manager.proofs.{AnyStorage.change-other, AnyStorage.nowhere-steps, KeptContainers.keeps-cut}
 use Rattle.segment_manager.proofs.Locating.{enough-by_key, kind-by_key, located-changes}
 use Rattle.segment_manager.proofs.{Refilled.finds-no_container, Steps.open-writing, Steps.refuses-read_only}
 use Rattle.segment_manager.proofs.Safely.{answer-refused, answer-segment, answer-step}
-use Rattle.segment_manager.proofs.StorageSteps.{change-changes, change-nowhere, change-other}
+use Rattle.segment_manager.proofs.StorageSteps.{change-changes, change-nowhere}
 use Rattle.segment_manager.proofs.StoredCalls.{changes-there, stands-there}
 use Rattle.segment_manager.proofs.segment.Segment.change_storage.Goals as goal
 use Rattle.segment_manager.proofs.segment.Segment.change_storage.{Goals.After-change_there, Given.Over}
@@ -33,9 +33,8 @@ returns-in_err-object-clause-step g c =
 pub returns-then-not-is_stored-clause-step : goal.returns-then-not-is_stored-clause-step
 returns-then-not-is_stored-clause-step g c =
     let key : Key = g.O.Target.key c.args.key.now in
-    change-other c.args.change c.args.self.now key (sym c.is_read_only.ensures ∙ c.if-is_read_only.false)
-    (kind-no_storage c.args.self.now key c.in_ok-object.object.kind (sym c.is_stored.ensures ∙ c.if-not-is_stored.true)
-    (kind-by_key c.args.self.now key c.in_ok-object.object c.in_ok-object.ensures))
+    change-other c.args.change c.args.self.now key c.in_ok-object.object.kind (sym c.is_read_only.ensures ∙ c.if-is_read_only.false)
+    (sym c.is_stored.ensures ∙ c.if-not-is_stored.true) (kind-by_key c.args.self.now key c.in_ok-object.object c.in_ok-object.ensures)
 
 pub returns-in_err-place-clause-step : goal.returns-in_err-place-clause-step
 returns-in_err-place-clause-step g c =

@@ -1,6 +1,6 @@
 -- The pair is looked for in the map that is found.
-use Rattle.segment_manager.proofs.Common.{err_from_is_err_and, pair_up_to}
-use Rattle.segment_manager.proofs.MapAnswers.{up_to-there, some-there}
+use Rattle.segment_manager.proofs.Common.{err_from_is_err_and, true, pair_up_to}
+use Rattle.segment_manager.proofs.MapAnswers.{back-there, some-there}
 use Rattle.segment_manager.proofs.{MapCalls.tells-nothing, ScalarTypes.of-map}
 use Rattle.segment_manager.proofs.segment.Segment.map_last_up_to.Goals as goal
 
@@ -16,5 +16,5 @@ returns-in_err-place g c =
 
 pub returns : goal.returns
 returns g c =
-    up_to-there _ _ _ _ _ _ (of-map g.met.K.Scalar) (of-map g.met.V.Scalar) _ _ c.self.view_is _ _ _ c.at.ensures
-    c.self.invariant c.in_ok-place.ensures c.args.to c.last_up_to.result c.last_up_to.ensures.item
+    back-there _ _ _ _ _ _ (of-map g.met.K.Scalar) (of-map g.met.V.Scalar) _ _ c.self.view_is _ _ _ c.at.ensures
+    c.self.invariant c.in_ok-place.ensures true c.args.to c.last_up_to.result c.last_up_to.ensures.item

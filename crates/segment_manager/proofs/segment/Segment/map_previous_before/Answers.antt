@@ -1,6 +1,6 @@
 -- The pair is looked for in the map that is found.
-use Rattle.segment_manager.proofs.Common.{err_from_is_err_and, pair_below}
-use Rattle.segment_manager.proofs.MapAnswers.{below-there, some-there}
+use Rattle.segment_manager.proofs.Common.{err_from_is_err_and, false, pair_below}
+use Rattle.segment_manager.proofs.MapAnswers.{back-there, some-there}
 use Rattle.segment_manager.proofs.{MapCalls.tells-nothing, ScalarTypes.of-map}
 use Rattle.segment_manager.proofs.segment.Segment.map_previous_before.Goals as goal
 
@@ -16,5 +16,5 @@ returns-in_err-place g c =
 
 pub returns : goal.returns
 returns g c =
-    below-there _ _ _ _ _ _ (of-map g.met.K.Scalar) (of-map g.met.V.Scalar) _ _ c.self.view_is _ _ _ c.at.ensures
-    c.self.invariant c.in_ok-place.ensures c.args.before c.previous_before.result c.previous_before.ensures.item
+    back-there _ _ _ _ _ _ (of-map g.met.K.Scalar) (of-map g.met.V.Scalar) _ _ c.self.view_is _ _ _ c.at.ensures
+    c.self.invariant c.in_ok-place.ensures false c.args.before c.previous_before.result c.previous_before.ensures.item

@@ -17,7 +17,7 @@ use Rattle.seg_vector.proofs.Runs.{head-room, head-wider, len-written, none-some
 use Rattle.seg_vector.proofs.Runs.{run-swapped, same-some, serves-full, table, table-full, words-kept}
 use Rattle.seg_vector.proofs.TextBlocks.{none-stands, IsArrayLeft, all-split, array-left, drop-at, element-beside}
 use Rattle.seg_vector.proofs.TextBlocks.{element-in, element-trans, even-block, found-texts, held-element, links-edited}
-use Rattle.seg_vector.proofs.TextBlocks.{links-moved, no-array, none-of, of-none, one-of, own-head}
+use Rattle.seg_vector.proofs.TextBlocks.{links-moved, links-split, no-array, none-of, of-none, one-of, own-head}
 use Rattle.seg_vector.proofs.TextBlocks.{own_blocks, run-begin, swapped-none, texts-between, texts-own}
 use Rattle.seg_vector.proofs.{Fewer.cut-some, Typed.set-pieces, Bytes.length-read, Bytes.no-bytes}
 use Rattle.best_fit.specs.Table.{cut_table}

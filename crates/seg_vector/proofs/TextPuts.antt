@@ -14,9 +14,9 @@ use W.{IsTextPutIn, placed_text, with_array, AreTextLinks, OwnedText, IsOwnedTex
 use Rattle.seg_vector.proofs.Runs.{AreHeadWords, IsHead, IsRun, beside-head, block-written, head-kept, head-wider}
 use Rattle.seg_vector.proofs.Runs.{len-written, none-some, own-facts, run-found, run-headed, run-none, run-swapped}
 use Rattle.seg_vector.proofs.TextBlocks.{element-beside, element-in, element-trans, even-block, found-live, found-texts}
-use Rattle.seg_vector.proofs.TextBlocks.{links-at, links-edited, one-of, own-head, run-begin}
+use Rattle.seg_vector.proofs.TextBlocks.{links-at, links-edited, links-moved, links-split, one-of, own-head, run-begin}
 use Rattle.seg_vector.proofs.TextBlocks.{texts-between, texts-own}
-use Rattle.seg_vector.proofs.TextGrowth.{grown-to, not-grown, all-beside-head, new-other, IsReadyRun, ready-in}
+use Rattle.seg_vector.proofs.TextGrowth.{grown-to, not-grown, all-beside-head, new-other, IsReadyRun, ready-in, ready}
 use Rattle.seg_vector.proofs.TextCalls.{loose-kept, run-others, texts-stand, texts-still}
 use Rattle.seg_vector.proofs.{Runs.same-some, Runs.serves-full, Runs.table, Runs.table-full, Typed.has-element}
 use Rattle.seg_vector.proofs.{Storage.capacity-bytes, Storage.grown-same, TextGrowth.asked-alone, TextGrowth.new-table}

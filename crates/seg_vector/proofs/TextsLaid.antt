@@ -4,7 +4,7 @@ use W.{◌≡◌, ◌≢◌, refl, sym, ap, subst, ◌∙◌, inl, ℕ, zero, su
 use W.{append-nil, append_assoc, arith, length, length-append, drop, map, slice_index_or, Bor, ◌%◌, inr, if◌then◌else◌}
 use W.{false, ◌==◌, Ok, IfSome, IsTrue, option_map, option_to_list, AllByRecursion, flat_map-append, ne_eqb, drop_all}
 use W.{Memory, Cut, bytes_of, word_at, current, link_at, exchanged, inserted, without_all, IsRestored, SameBlockBut}
-use W.{IsExchanged, Extent, LiveSet, handle, resized, place, IsChanged, IsHeap, SameBlock, extent_at, has_room}
+use W.{IsExchanged, Extent, LiveSet, handle, others, resized, place, IsChanged, IsHeap, SameBlock, extent_at, has_room}
 use W.{live_of, IsAllocated, NoSpace, Refusal, IsReleased, is_live_in, IsFound, IsNone, all-found-in, all-in-use}
 use W.{changed-live, exchange-next, exchange-order, exchange-same, exchanged-live, found-room, kept, laid-heap}
 use W.{last-first, live-rises, rising-others, roomy, spread-refl, exchange-released, exchange-taken, keeps-refl}

@@ -10,7 +10,7 @@ use W.{Extends, Fits, GivesBack, Inserts, IsFitted, IsGivenBack, IsRewritten, Ov
 use W.{IsGrown, Grows, IsStanding, Stands, place_at, IsText, IsTextGrown, IsTextNow, capacity_for_one}
 use W.{capacity_for_text, IsVector, IsVectorGrown, IsVectorNow, IsWithoutSpace, Starts, []}
 use Rattle.seg_vector.proofs.Storage.{capacity-bytes, exchange-then, has-place, not-refused, unchanged-rewritten}
-use Rattle.seg_vector.proofs.{Runs.head-exchanged, Runs.same-some, Storage.wanted-places}
+use Rattle.seg_vector.proofs.{Runs.head-exchanged, Runs.same-some, Runs.table, Storage.wanted-places}
 use Rattle.best_fit.specs.Table.{cut_table}
 
 -- ---- what holds of each
@@ -197,6 +197,10 @@ pub text-then : {old mid new : Cut} {p : Place} (t : Table) {u : Table} {ys : Li
     → IsTextNow mid new p u ys u → IsTextNow old new p t ys u
 text-then t c w = record { change = exchange-then c w.change; text = w.text }
 
+pub text-grown : {old new : Cut} {p : Place} {n : ℕ} {t : Table} {bytes : List ℕ}
+    → IsGrown old new p 1 n (length bytes) t bytes → IsTextGrown old new p t n bytes
+text-grown g = record { table = g.table; grown = g.grown; now = record { change = g.change; text = g.stands } }
+
 pub text-grown-then : {old mid new : Cut} {p : Place} {n : ℕ} {t : Table} {bytes ys : List ℕ}
     → (g : IsGrown old mid p 1 n (length bytes) t bytes) → IsTextNow mid new p g.table ys g.table
     → IsTextGrown old new p t n ys
@@ -371,6 +375,16 @@ module _ (old mid : Cut) {p : Place} {bytes : List ℕ} {t : Table} (v : IsText 
   pub few-bytes : t.capacity < 1073741824
   few-bytes = let few : 1 * t.capacity < 1073741824 = capacity-bytes old v.heap v in omega (arith, few)
 
+  pub text-reserved : (n : ℕ) (r : Result (Unit {0}) Refusal) → Grows old mid p 1 n r
+      → MatchResult r (λ u. IsTextGrown old mid p t n bytes) (IsWithoutSpace old mid 1 n t)
+  text-reserved n (Ok u) h = text-grown (h (length bytes) t bytes v)
+  text-reserved n (Err f) h = h (length bytes) t bytes v
+
+  pub text-enough : (n : ℕ) (r : Result (Unit {0}) Refusal) → Grows old mid p 1 n r → n ≤ t.capacity
+      → (r ≡ Ok tt) × (mid ≡ old)
+  text-enough n (Ok tt) h less = (refl, (h (length bytes) t bytes v).enough less)
+  text-enough n (Err f) h less = absurd (not-refused less (h (length bytes) t bytes v))
+
   pub text-cleared : Truncates old mid p 1 0 → IsTextNow old mid p t [] t
   text-cleared h = text-now [] (h (length bytes) t bytes v) refl refl
 
@@ -388,6 +402,14 @@ module _ (old mid : Cut) {p : Place} {bytes : List ℕ} {t : Table} (v : IsText 
 
   pub text-extended : (more : List ℕ) → Extends old mid p 1 (length more) more → IsTextNow old mid p t (bytes ++ more) t
   text-extended more h = text-now (bytes ++ more) (h (length bytes) t bytes v) (sym (length-append bytes more)) refl
+
+  pub text-fitted : Fits old mid p 1 → IsTextNow old mid p t bytes (cut_table (live_of old.bytes) 1 (length bytes) t)
+  text-fitted h = let r : IsFitted old mid p 1 (length bytes) t bytes = h (length bytes) t bytes v in record
+      { change = r.change; text = r.stands }
+
+  pub text-released : GivesBack old mid p 1 → IsTextNow old mid p t [] no_table
+  text-released h = let r : IsGivenBack old mid p 1 t = h (length bytes) t bytes v in record
+      { change = r.change; text = r.stands }
 
   -- places for bytes behind the last one
   pub text-space : (more : List ℕ) → length bytes + length more ≤ t.capacity

@@ -1,7 +1,7 @@
 -- A text at a place, and what its calls answer and do: elements of a byte each, under their own bytes.
-use Rattle.std.specs.Prelude.{◌≡◌, ℕ, ◌<◌, Some, Result, MatchResult, List, [], ◌++◌, length, slice_get, slice_set, option_to_list}
+use Rattle.std.specs.Prelude.{◌≡◌, ℕ, ◌<◌, ◌≤◌, Some, Result, Ok, MatchResult, List, [], ◌++◌, length, slice_get, slice_set, option_to_list}
 use Rattle.raw_region.specs.{Memory.Cut, Format.current}
-use Rattle.best_fit.specs.{Exchange.IsExchanged, Heap.live_of, Table.Table, Table.no_table}
+use Rattle.best_fit.specs.{Exchange.IsExchanged, Heap.live_of, Table.Table, Table.cut_table, Table.no_table}
 use Rattle.seg_types.specs.declared.refusals.Refusal.{Refusal}
 use Rattle.seg_vector.specs.{declared.places.Place.Place, Vector.capacity_for_text, Vector.grown_table}
 use Rattle.seg_vector.specs.{Standing.Stands, Standing.place_at, VectorCalls.IsOutside, VectorCalls.IsWithoutSpace}
@@ -27,6 +27,12 @@ pub record IsTextGrown (old new : Cut) (p : Place) (t : Table) (n : ℕ) (bytes 
 
 -- ---- what is read
 
+abbrev pub CountsBytes : List ℕ → Place → ℕ → Type 0
+CountsBytes b p n = (bytes : List ℕ) (t : Table) → IsText b p bytes t → n ≡ length bytes
+
+abbrev pub CountsBytePlaces : List ℕ → Place → ℕ → Type 0
+CountsBytePlaces b p n = (bytes : List ℕ) (t : Table) → IsText b p bytes t → n ≡ t.capacity
+
 abbrev pub ReadsText : List ℕ → Place → List ℕ → Type 0
 ReadsText b p out = (bytes : List ℕ) (t : Table) → IsText b p bytes t → out ≡ bytes
 
@@ -44,6 +50,17 @@ SetsByte old new p i x result =
     (bytes : List ℕ) (t : Table) → IsText old.bytes p bytes t
     → MatchResult result (λ u. (i < length bytes) × IsTextNow old new p t (slice_set bytes i x) t) (IsOutside old new (length bytes) i)
 
+abbrev pub ClearsText : Cut → Cut → Place → Type 0
+ClearsText old new p = (bytes : List ℕ) (t : Table) → IsText old.bytes p bytes t → IsTextNow old new p t [] t
+
+abbrev pub ReservesBytes : Cut → Cut → Place → ℕ → Result (Unit {0}) Refusal → Type 0
+ReservesBytes old new p n result =
+    (bytes : List ℕ) (t : Table) → IsText old.bytes p bytes t → MatchResult result (λ u. IsTextGrown old new p t n bytes) (IsWithoutSpace old new 1 n t)
+
+-- where there are n places already, nothing changes
+abbrev pub ReservesNoBytes : Cut → Cut → Place → ℕ → Result (Unit {0}) Refusal → Type 0
+ReservesNoBytes old new p n result = (bytes : List ℕ) (t : Table) → IsText old.bytes p bytes t → n ≤ t.capacity → (result ≡ Ok tt) × (new ≡ old)
+
 abbrev pub AssignsText : Cut → Cut → Place → List ℕ → Result (Unit {0}) Refusal → Type 0
 AssignsText old new p more result =
     (bytes : List ℕ) (t : Table) → IsText old.bytes p bytes t
@@ -53,3 +70,9 @@ abbrev pub AppendsText : Cut → Cut → Place → List ℕ → Result (Unit {0}
 AppendsText old new p more result =
     (bytes : List ℕ) (t : Table) → IsText old.bytes p bytes t → let n = capacity_for_text (length (bytes ++ more)) t.capacity in
     MatchResult result (λ u. IsTextGrown old new p t n (bytes ++ more)) (IsWithoutSpace old new 1 n t)
+
+abbrev pub ShrinksText : Cut → Cut → Place → Type 0
+ShrinksText old new p = (bytes : List ℕ) (t : Table) → IsText old.bytes p bytes t → IsTextNow old new p t bytes (cut_table (live_of old.bytes) 1 (length bytes) t)
+
+abbrev pub ReleasesText : Cut → Cut → Place → Type 0
+ReleasesText old new p = (bytes : List ℕ) (t : Table) → IsText old.bytes p bytes t → IsTextNow old new p t [] no_table

@@ -74,6 +74,13 @@ new_array live n = if n == 0 then Some no_table else option_map (λ (x : Extent)
 
 -- ---- what calls answer and do
 
+abbrev pub CountsTexts : List ℕ → Place → ℕ → Type 0
+CountsTexts b p n = (ps : List OwnedText) (t : Table) → IsTexts b p ps t → n ≡ length ps
+
+abbrev pub CountsTextPlaces : List ℕ → Place → ℕ → Type 0
+CountsTextPlaces b p n = (ps : List OwnedText) (t : Table) → IsTexts b p ps t → n ≡ t.capacity
+
+-- a vector without a place, whatever stood there
 abbrev pub StartsTexts : Cut → Cut → Place → Type 0
 StartsTexts old new p = IsTextsNow old new p [] [] [] no_table
 

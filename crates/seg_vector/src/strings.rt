@@ -3,11 +3,11 @@ ghost use Rattle.std.specs.Prelude.{◌≡◌, ◌+◌, ◌*◌, ◌%◌, ◌<�
 ghost use Rattle.raw_region.specs.Format.{current};
 ghost use Rattle.best_fit.specs.Heap.{IsChanged, IsHeap, has_room, live_of};
 ghost use Rattle.seg_vector.specs.{Standing.place_at, Vector.capacity_for_text as places_for_text};
-ghost use Rattle.seg_vector.specs.TextCalls.{AppendsText, AssignsText, GetsByte, IsSomeText, ReadsText, SetsByte, StartsText};
+ghost use Rattle.seg_vector.specs.TextCalls.{AppendsText, AssignsText, ClearsText, CountsBytePlaces, CountsBytes, GetsByte, IsSomeText, ReadsText, ReleasesText, ReservesBytes, ReservesNoBytes, SetsByte, ShrinksText, StartsText};
 
 use crate::elements::{elements, extend, set_element, truncate};
 use crate::places::{Place, capacity_of, len_of};
-use crate::sizing::{self, LIMIT, start};
+use crate::sizing::{self, LIMIT, fit, give_back, start};
 use best_fit::Heap;
 use seg_types::Refusal;
 
@@ -47,6 +47,22 @@ impl SegString {
         SegString { place }
     }
 
+    /// The number of bytes.
+    pub fn len(self, heap: &Heap) -> u64
+        requires { IsSomeText heap.now.bytes self.place }
+        ensures { CountsBytes heap.now.bytes self.place result }
+    {
+        len_of(heap, self.place)
+    }
+
+    /// The number of bytes that the storage has places for.
+    pub fn capacity(self, heap: &Heap) -> u64
+        requires { IsSomeText heap.now.bytes self.place }
+        ensures { CountsBytePlaces heap.now.bytes self.place result }
+    {
+        capacity_of(heap, self.place)
+    }
+
     /// All bytes.
     pub fn as_bytes(self, heap: &Heap) -> &[u8]
         requires { IsSomeText heap.now.bytes self.place }
@@ -79,11 +95,24 @@ impl SegString {
         requires { IsSomeText heap.old.bytes self.place }
         ensures { SetsByte heap.old heap.new self.place index byte result }
     {
-        if index >= len_of(heap, self.place) {
+        if index >= self.len(heap) {
             return Err(Refusal::OutOfRange);
         }
         set_element(heap, self.place, 1, index, &[byte]);
         Ok(())
+    }
+
+    /// Makes places for `n` bytes, where there are fewer, and else changes nothing. The bytes stay.
+    ///
+    /// # Errors
+    ///
+    /// `NoSpace` where there are fewer and the storage cannot be regrown. Nothing changes.
+    pub fn reserve(self, heap: &mut Heap, n: u64) -> Result<(), Refusal>
+        requires { IsSomeText heap.old.bytes self.place }
+        ensures reserved { ReservesBytes heap.old heap.new self.place n result }
+        ensures enough { ReservesNoBytes heap.old heap.new self.place n result }
+    {
+        sizing::reserve(heap, self.place, 1, n)
     }
 
     /// Leaves these bytes in place of those that there are. There are places for just so many, where there were fewer.
@@ -97,7 +126,7 @@ impl SegString {
     {
         let len = bytes.len() as u64;
         sizing::reserve(heap, self.place, 1, len)?;
-        truncate(heap, self.place, 1, 0);
+        self.clear(heap);
         extend(heap, self.place, 1, len, bytes);
         Ok(())
     }
@@ -116,10 +145,35 @@ impl SegString {
         if more > LIMIT {
             return Err(Refusal::NoSpace);
         }
-        let needed = len_of(heap, self.place) + more;
-        let wanted = capacity_for_text(needed, capacity_of(heap, self.place));
+        let needed = self.len(heap) + more;
+        let wanted = capacity_for_text(needed, self.capacity(heap));
         sizing::reserve(heap, self.place, 1, wanted)?;
         extend(heap, self.place, 1, more, bytes);
         Ok(())
+    }
+
+    /// Makes the capacity the number of bytes. The storage is shortened to it, as far as a block can be, and given back where
+    /// there is no byte.
+    pub fn shrink(self, heap: &mut Heap)
+        requires { IsSomeText heap.old.bytes self.place }
+        ensures { ShrinksText heap.old heap.new self.place }
+    {
+        fit(heap, self.place, 1);
+    }
+
+    /// Leaves no byte. The places stay.
+    pub fn clear(self, heap: &mut Heap)
+        requires { IsSomeText heap.old.bytes self.place }
+        ensures { ClearsText heap.old heap.new self.place }
+    {
+        truncate(heap, self.place, 1, 0);
+    }
+
+    /// Gives the storage back. There is no byte and no place then.
+    pub fn release(self, heap: &mut Heap)
+        requires { IsSomeText heap.old.bytes self.place }
+        ensures { ReleasesText heap.old heap.new self.place }
+    {
+        give_back(heap, self.place, 1);
     }
 }

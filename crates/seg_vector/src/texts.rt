@@ -3,7 +3,7 @@ ghost use Rattle.std.specs.Prelude.{◌≡◌, ◌+◌, ◌%◌, ◌<◌, None, 
 ghost use Rattle.raw_region.specs.Format.{current};
 ghost use Rattle.best_fit.specs.{Heap.IsChanged, Heap.IsHeap, Heap.has_room, Heap.live_of, Table.Table as ATable};
 ghost use Rattle.seg_vector.specs.{Standing.place_at, TextParts.ReplacesText, Vector.OwnedText};
-ghost use Rattle.seg_vector.specs.TextsCalls.{AssignsTexts, ClearsTexts, ErasesText, GetsText, InsertsText, IsSomeTexts, IsTextElement, IsTexts, PopsText, PushesText, ReleasesTexts, ReservesNoTexts, ReservesTexts, SetsText, ShrinksTexts, StartsTexts, StaysAtFirst, new_array};
+ghost use Rattle.seg_vector.specs.TextsCalls.{AssignsTexts, ClearsTexts, CountsTextPlaces, CountsTexts, ErasesText, GetsText, InsertsText, IsSomeTexts, IsTextElement, IsTexts, PopsText, PushesText, ReleasesTexts, ReservesNoTexts, ReservesTexts, SetsText, ShrinksTexts, StartsTexts, StaysAtFirst, new_array};
 
 use crate::owning::{lay_out, place_text, release_all, release_text};
 use crate::places::{ELEMENT, LEN, Place, capacity_of, len_of, link_of};
@@ -38,6 +38,22 @@ impl SegTexts {
         SegTexts { place }
     }
 
+    /// The number of texts.
+    pub fn len(self, heap: &Heap) -> u64
+        requires { IsSomeTexts heap.now.bytes self.place }
+        ensures { CountsTexts heap.now.bytes self.place result }
+    {
+        len_of(heap, self.place)
+    }
+
+    /// The number of texts that the array has places for.
+    pub fn capacity(self, heap: &Heap) -> u64
+        requires { IsSomeTexts heap.now.bytes self.place }
+        ensures { CountsTextPlaces heap.now.bytes self.place result }
+    {
+        capacity_of(heap, self.place)
+    }
+
     /// The text with `index` others before it.
     ///
     /// # Errors
@@ -47,7 +63,7 @@ impl SegTexts {
         requires { IsSomeTexts heap.now.bytes self.place }
         ensures { GetsText heap.now self.place index result }
     {
-        if index >= len_of(heap, self.place) {
+        if index >= self.len(heap) {
             return Err(Refusal::OutOfRange);
         }
         match link_of(heap, self.place) {
@@ -65,7 +81,7 @@ impl SegTexts {
         requires { IsSomeTexts heap.old.bytes self.place }
         ensures { SetsText heap.old heap.new self.place index text.now result }
     {
-        if index >= len_of(heap, self.place) {
+        if index >= self.len(heap) {
             return Err(Refusal::OutOfRange);
         }
         let block = place_text(heap, text)?;
@@ -86,11 +102,11 @@ impl SegTexts {
         ensures inserted { InsertsText heap.old heap.new self.place index text.now result }
         ensures first { StaysAtFirst heap.old heap.new self.place text.now }
     {
-        let len = len_of(heap, self.place);
+        let len = self.len(heap);
         if index > len {
             return Err(Refusal::OutOfRange);
         }
-        let capacity = capacity_of(heap, self.place);
+        let capacity = self.capacity(heap);
         if len < capacity {
             insert_within(heap, self.place, index, text)
         } else {
@@ -110,7 +126,7 @@ impl SegTexts {
         ensures pushed { PushesText heap.old heap.new self.place text.now result }
         ensures first { StaysAtFirst heap.old heap.new self.place text.now }
     {
-        let len = len_of(heap, self.place);
+        let len = self.len(heap);
         self.insert(heap, len, text)
     }
 
@@ -123,7 +139,7 @@ impl SegTexts {
         requires { IsSomeTexts heap.old.bytes self.place }
         ensures { ErasesText heap.old heap.new self.place index result }
     {
-        let len = len_of(heap, self.place);
+        let len = self.len(heap);
         if index >= len {
             return Err(Refusal::OutOfRange);
         }
@@ -148,7 +164,7 @@ impl SegTexts {
         requires { IsSomeTexts heap.old.bytes self.place }
         ensures { PopsText heap.old heap.new self.place result }
     {
-        let len = len_of(heap, self.place);
+        let len = self.len(heap);
         if len == 0 {
             return Err(Refusal::OutOfRange);
         }
@@ -165,7 +181,7 @@ impl SegTexts {
         ensures reserved { ReservesTexts heap.old heap.new self.place n result }
         ensures enough { ReservesNoTexts heap.old heap.new self.place n result }
     {
-        if n <= capacity_of(heap, self.place) {
+        if n <= self.capacity(heap) {
             return Ok(());
         }
         if n > LIMIT {

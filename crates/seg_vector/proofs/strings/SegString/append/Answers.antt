@@ -1,5 +1,5 @@
 -- The storage grows, and then the bytes are put in behind the others.
-use Rattle.seg_vector.proofs.{◌∙◌, ◌++◌, arith, length, length-append, subst, live_of, capacity_for_text, IsGrown}
+use Rattle.seg_vector.proofs.{◌++◌, arith, length, length-append, subst, live_of, capacity_for_text, IsGrown}
 use Rattle.seg_vector.proofs.{IsWithoutSpace, err_from_is_err_and, table-places, too-many, few-bytes, text-extended}
 use Rattle.seg_vector.proofs.{text-grown-then, text-space, text-wanted, wanted-bytes}
 use Rattle.seg_vector.proofs.strings.SegString.append.Goals as goal
@@ -11,7 +11,7 @@ overflow_add-needed c =
       arith,
       few,
       c.requires.1.1.fits,
-      (c.len_of.ensures ∙ c.requires.1.1.words.len_word),
+      c.len.ensures c.requires.0 c.requires.1.0 c.requires.1.1,
       c.if-more-gt-LIMIT.false,
     )
 
@@ -25,7 +25,7 @@ returns-then-more-gt-LIMIT c bytes t v =
 pub capacity_for_text-wanted-requires : goal.capacity_for_text-wanted-requires
 capacity_for_text-wanted-requires c =
     let few = few-bytes c.args.heap.now c.args.heap.now c.requires.1.1 in
-    omega (arith, few, (c.capacity_of.ensures ∙ c.requires.1.1.words.capacity))
+    omega (arith, few, c.capacity.ensures c.requires.0 c.requires.1.0 c.requires.1.1)
 
 pub extend-requires-clause-stands : goal.extend-requires-clause-stands
 extend-requires-clause-stands c =
@@ -36,7 +36,7 @@ pub extend-requires-clause-space : goal.extend-requires-clause-space
 extend-requires-clause-space c =
     let bytes = c.requires.0 in let t = c.requires.1.0 in
     let wanted = text-wanted bytes c.args.bytes.now c.capacity_for_text-wanted.ensures
-    ((c.len_of.ensures ∙ c.requires.1.1.words.len_word)) ((c.capacity_of.ensures ∙ c.requires.1.1.words.capacity)) in
+    (c.len.ensures bytes t c.requires.1.1) (c.capacity.ensures bytes t c.requires.1.1) in
     let grown = c.in_ok-reserve.ensures _ _ _ c.requires.1.1 in
     let places = table-places (live_of c.args.heap.now.bytes) 1 c.capacity_for_text-wanted.result t grown.grown in
     let enough = wanted-bytes (length (bytes ++ c.args.bytes.now)) t.capacity in
@@ -45,8 +45,8 @@ extend-requires-clause-space c =
 
 pub returns-in_err-reserve : goal.returns-in_err-reserve
 returns-in_err-reserve c bytes t v =
-    let wanted = text-wanted bytes c.args.bytes.now c.capacity_for_text-wanted.ensures ((c.len_of.ensures ∙ v.words.len_word))
-    ((c.capacity_of.ensures ∙ v.words.capacity)) in
+    let wanted = text-wanted bytes c.args.bytes.now c.capacity_for_text-wanted.ensures (c.len.ensures bytes t v)
+    (c.capacity.ensures bytes t v) in
     let p = err_from_is_err_and c.from_residual.result c.from_residual.ensures.1 in
     rw (p.1, p.2) (subst (λ n. IsWithoutSpace c.args.heap.now c.reserve.new.heap 1 n t c.in_err-reserve.field-0.0)
     wanted
@@ -54,8 +54,8 @@ returns-in_err-reserve c bytes t v =
 
 pub returns : goal.returns
 returns c bytes t v =
-    let wanted = text-wanted bytes c.args.bytes.now c.capacity_for_text-wanted.ensures ((c.len_of.ensures ∙ v.words.len_word))
-    ((c.capacity_of.ensures ∙ v.words.capacity)) in
+    let wanted = text-wanted bytes c.args.bytes.now c.capacity_for_text-wanted.ensures (c.len.ensures bytes t v)
+    (c.capacity.ensures bytes t v) in
     let grown = subst (λ n. IsGrown c.args.heap.now c.reserve.new.heap c.args.self.place 1 n (length bytes) t bytes)
     wanted (c.in_ok-reserve.ensures (length bytes) t bytes v) in
     text-grown-then grown

@@ -1,24 +1,22 @@
 -- The storage grows, and then the bytes are put in from the front.
 use Rattle.seg_vector.proofs.{arith, length, [], live_of, err_from_is_err_and, table-places, text-extended}
-use Rattle.seg_vector.proofs.{text-cleared, text-grown-then, text-space, text-then}
+use Rattle.seg_vector.proofs.{text-grown-then, text-space, text-then}
 use Rattle.seg_vector.proofs.strings.SegString.assign.Goals as goal
 
-pub truncate-requires-clause-stands : goal.truncate-requires-clause-stands
-truncate-requires-clause-stands c =
-    let grown = c.in_ok-reserve.ensures _ _ _ c.requires.1.1 in
-    (length c.requires.0, (grown.table, (c.requires.0, grown.stands)))
+pub clear-requires : goal.clear-requires
+clear-requires c =
+    let grown = c.in_ok-reserve.ensures _ _ _ c.requires.1.1 in (c.requires.0, (grown.table, grown.stands))
 
 pub extend-requires-clause-stands : goal.extend-requires-clause-stands
 extend-requires-clause-stands c =
     let grown = c.in_ok-reserve.ensures _ _ _ c.requires.1.1 in
-    (0, (grown.table, ([], (text-cleared c.reserve.new.heap c.truncate.new.heap grown.stands c.truncate.ensures).text)))
+    (0, (grown.table, ([], (c.clear.ensures c.requires.0 grown.table grown.stands).text)))
 
 pub extend-requires-clause-space : goal.extend-requires-clause-space
 extend-requires-clause-space c =
     let grown = c.in_ok-reserve.ensures _ _ _ c.requires.1.1 in
     let places = table-places (live_of c.args.heap.now.bytes) 1 (length c.args.bytes.now) c.requires.1.0 grown.grown in
-    text-space c.truncate.new.heap c.truncate.new.heap
-    (text-cleared c.reserve.new.heap c.truncate.new.heap grown.stands c.truncate.ensures).text
+    text-space c.clear.new.heap c.clear.new.heap (c.clear.ensures c.requires.0 grown.table grown.stands).text
     c.args.bytes.now (omega (arith, places))
 
 pub returns-in_err-reserve : goal.returns-in_err-reserve
@@ -29,6 +27,6 @@ returns-in_err-reserve c bytes t v =
 pub returns : goal.returns
 returns c bytes t v =
     let grown = c.in_ok-reserve.ensures (length bytes) t bytes v in
-    let cleared = text-cleared c.reserve.new.heap c.truncate.new.heap grown.stands c.truncate.ensures in
+    let cleared = c.clear.ensures bytes grown.table grown.stands in
     text-grown-then grown (text-then grown.table cleared.change
-    (text-extended c.truncate.new.heap c.extend.new.heap cleared.text c.args.bytes.now c.extend.ensures))
+    (text-extended c.clear.new.heap c.extend.new.heap cleared.text c.args.bytes.now c.extend.ensures))

@@ -8,24 +8,24 @@ use Rattle.seg_vector.proofs.texts.SegTexts.erase.Goals as goal
 pub unreachable-requires : goal.unreachable-requires
 unreachable-requires c =
     let none = no-array c.args.heap.now c.requires.1.1 (sym c.link_of.ensures ∙ c.in-None.is) in
-    omega (arith, none, (c.len_of-len.ensures ∙ c.requires.1.1.words.len_word), c.if-index-len.false)
+    omega (arith, none, c.len-len.ensures c.requires.0 c.requires.1.0 c.requires.1.1, c.if-index-len.false)
 
 pub overflow_mul-at : goal.overflow_mul-at
 overflow_mul-at c =
     let h = held-elements (length c.requires.0) c.requires.1.1 (sym c.link_of.ensures ∙ c.in-Some.is) refl in
     let small = room-small c.args.heap.now c.in-Some.array (16 * length c.requires.0) h.heap h.room in
-    omega (arith, small, c.if-index-len.false, (c.len_of-len.ensures ∙ c.requires.1.1.words.len_word))
+    omega (arith, small, c.if-index-len.false, c.len-len.ensures c.requires.0 c.requires.1.0 c.requires.1.1)
 
 pub overflow_add-at : goal.overflow_add-at
 overflow_add-at c =
     let h = held-elements (length c.requires.0) c.requires.1.1 (sym c.link_of.ensures ∙ c.in-Some.is) refl in
     let small = room-small c.args.heap.now c.in-Some.array (16 * length c.requires.0) h.heap h.room in
-    omega (arith, small, c.if-index-len.false, (c.len_of-len.ensures ∙ c.requires.1.1.words.len_word))
+    omega (arith, small, c.if-index-len.false, c.len-len.ensures c.requires.0 c.requires.1.0 c.requires.1.1)
 
 pub release_text-requires : goal.release_text-requires
 release_text-requires c =
     let q = has-element c.requires.0 c.args.index
-    (omega (arith, c.if-index-len.false, (c.len_of-len.ensures ∙ c.requires.1.1.words.len_word))) in (
+    (omega (arith, c.if-index-len.false, c.len-len.ensures c.requires.0 c.requires.1.0 c.requires.1.1)) in (
       q.0,
       (left c.args.heap.now c.args.heap.now c.args.index c.requires.1.1 q.1
           (sym c.link_of.ensures ∙ c.in-Some.is)).element,
@@ -35,7 +35,7 @@ left-at : (c : After-release_text) → IsArrayLeft c.release_text.new.heap c.in-
     c.release_text.new.heap c.args.self.place
 left-at c =
     let q = has-element c.requires.0 c.args.index
-    (omega (arith, c.if-index-len.false, (c.len_of-len.ensures ∙ c.requires.1.1.words.len_word))) in
+    (omega (arith, c.if-index-len.false, c.len-len.ensures c.requires.0 c.requires.1.0 c.requires.1.1)) in
     let w = left c.args.heap.now c.release_text.new.heap c.args.index c.requires.1.1 q.1
     (sym c.link_of.ensures ∙ c.in-Some.is) in
     w.after (c.release_text.ensures q.0 w.element)
@@ -43,10 +43,10 @@ left-at c =
 pub carry_down-requires : goal.carry_down-requires
 carry_down-requires c =
     let a = (left-at (goal.at.carry_down-requires c).After-release_text).0 in let k = length c.requires.0 in
-    let n = (c.len_of-len.ensures ∙ c.requires.1.1.words.len_word) in
+    let n = c.len-len.ensures c.requires.0 c.requires.1.0 c.requires.1.1 in
     let l = live_of c.release_text.new.heap.bytes in
     let at : ℕ = 16 * c.args.index in
-    let rest : ℕ = c.len_of-len.result - c.args.index - 1 in
+    let rest : ℕ = c.len-len.result - c.args.index - 1 in
     record {
       heap = a.heap;
       from_whole = omega arith;
@@ -67,13 +67,13 @@ set_word-requires c =
 
 pub returns : goal.returns
 returns c ps t s =
-    let n = (c.len_of-len.ensures ∙ s.words.len_word) in
+    let n = c.len-len.ensures ps t s in
     let q = has-element ps c.args.index (omega (arith, c.if-index-len.false, n)) in
     let w = left c.args.heap.now c.release_text.new.heap c.args.index s q.1 (sym c.link_of.ensures ∙ c.in-Some.is) in
     record {
       before = q.0;
       found = q.1;
-      now = erased-by c.args.index c.len_of-len.result s q.1 (sym c.link_of.ensures ∙ c.in-Some.is) n
+      now = erased-by c.args.index c.len-len.result s q.1 (sym c.link_of.ensures ∙ c.in-Some.is) n
           (c.release_text.ensures q.0 w.element) c.carry_down.ensures.change c.carry_down.ensures.carried
           c.set_word.ensures.change c.set_word.ensures.word;
     }

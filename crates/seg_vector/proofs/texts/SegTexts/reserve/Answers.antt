@@ -1,11 +1,11 @@
 -- Nothing is asked for, or an array, which the vector has then.
-use Rattle.seg_vector.proofs.{◌∙◌, refl, ◌<◌, arith, live_of, err_from_is_err_and, asked-alone, not-grown, ready-of}
+use Rattle.seg_vector.proofs.{refl, ◌<◌, arith, live_of, err_from_is_err_and, asked-alone, not-grown, ready-of}
 use Rattle.seg_vector.proofs.{reserved, reserved-same, too-many-texts}
 use Rattle.seg_vector.proofs.texts.SegTexts.reserve.Goals as goal
 
-pub returns-then-n-capacity_of-clause-reserved : goal.returns-then-n-capacity_of-clause-reserved
-returns-then-n-capacity_of-clause-reserved c ps t s = reserved-same c.args.heap.now c.args.n s
-    (omega (arith, c.if-n-capacity_of.true, (c.capacity_of.ensures ∙ s.words.capacity)))
+pub returns-then-n-capacity-clause-reserved : goal.returns-then-n-capacity-clause-reserved
+returns-then-n-capacity-clause-reserved c ps t s = reserved-same c.args.heap.now c.args.n s
+    (omega (arith, c.if-n-capacity.true, c.capacity.ensures ps t s))
 
 pub returns-then-n-gt-LIMIT-clause-reserved : goal.returns-then-n-gt-LIMIT-clause-reserved
 returns-then-n-gt-LIMIT-clause-reserved c ps t s =
@@ -15,7 +15,7 @@ pub adopt-requires : goal.adopt-requires
 adopt-requires c =
     let t = c.requires.1.0 in let a = c.in_ok-array.ensures c.requires.0 t c.requires.1.1 in
     ready-of c.args.n c.requires.1.1
-    (omega (arith, c.if-n-capacity_of.false, (c.capacity_of.ensures ∙ c.requires.1.1.words.capacity))) a (asked-alone a)
+    (omega (arith, c.if-n-capacity.false, c.capacity.ensures c.requires.0 t c.requires.1.1)) a (asked-alone a)
 
 pub returns-in_err-array-clause-reserved : goal.returns-in_err-array-clause-reserved
 returns-in_err-array-clause-reserved c ps t s =
@@ -24,27 +24,27 @@ returns-in_err-array-clause-reserved c ps t s =
     rw (p.1, p.2) (record {
       refusal = e.refusal;
       none = not-grown (live_of c.args.heap.now.bytes) c.args.n t
-          (omega (arith, c.if-n-capacity_of.false, (c.capacity_of.ensures ∙ s.words.capacity))) e.none;
+          (omega (arith, c.if-n-capacity.false, c.capacity.ensures ps t s)) e.none;
       same = e.same;
     })
 
 pub returns-clause-reserved : goal.returns-clause-reserved
 returns-clause-reserved c ps t s =
-    let more : t.capacity < c.args.n = omega (arith, c.if-n-capacity_of.false, (c.capacity_of.ensures ∙ s.words.capacity)) in
+    let more : t.capacity < c.args.n = omega (arith, c.if-n-capacity.false, c.capacity.ensures ps t s) in
     let a = c.in_ok-array.ensures ps t s in
     reserved s more (c.adopt.ensures (ready-of c.args.n s more a (asked-alone a)))
 
-pub returns-then-n-capacity_of-clause-enough : goal.returns-then-n-capacity_of-clause-enough
-returns-then-n-capacity_of-clause-enough c = λ ps t s less. (refl, refl)
+pub returns-then-n-capacity-clause-enough : goal.returns-then-n-capacity-clause-enough
+returns-then-n-capacity-clause-enough c = λ ps t s less. (refl, refl)
 
 pub returns-then-n-gt-LIMIT-clause-enough : goal.returns-then-n-gt-LIMIT-clause-enough
 returns-then-n-gt-LIMIT-clause-enough c =
-    λ ps t s less. absurd (omega (arith, less, c.if-n-capacity_of.false, (c.capacity_of.ensures ∙ s.words.capacity)))
+    λ ps t s less. absurd (omega (arith, less, c.if-n-capacity.false, c.capacity.ensures ps t s))
 
 pub returns-in_err-array-clause-enough : goal.returns-in_err-array-clause-enough
 returns-in_err-array-clause-enough c =
-    λ ps t s less. absurd (omega (arith, less, c.if-n-capacity_of.false, (c.capacity_of.ensures ∙ s.words.capacity)))
+    λ ps t s less. absurd (omega (arith, less, c.if-n-capacity.false, c.capacity.ensures ps t s))
 
 pub returns-clause-enough : goal.returns-clause-enough
 returns-clause-enough c =
-    λ ps t s less. absurd (omega (arith, less, c.if-n-capacity_of.false, (c.capacity_of.ensures ∙ s.words.capacity)))
+    λ ps t s less. absurd (omega (arith, less, c.if-n-capacity.false, c.capacity.ensures ps t s))

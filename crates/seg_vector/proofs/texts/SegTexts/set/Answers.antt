@@ -1,5 +1,5 @@
 -- The text is placed, and then its element is written.
-use Rattle.seg_vector.proofs.{◌∙◌, ◌≡◌, refl, sym, subst, ◌%◌, arith, IfSome, come-even, text-set, texts-still, has-element}
+use Rattle.seg_vector.proofs.{◌≡◌, refl, sym, subst, ◌%◌, arith, IfSome, come-even, text-set, texts-still, has-element}
 use Rattle.seg_vector.proofs.texts.SegTexts.set.Goals as goal
 
 pub replace_text-requires-clause-texts : goal.replace_text-requires-clause-texts
@@ -10,7 +10,7 @@ replace_text-requires-clause-texts c = (
     (
       texts-still c.requires.1.1 c.in_ok-block.ensures.change,
       omega
-          (arith, c.if-index-len_of.false, (c.len_of.ensures ∙ c.requires.1.1.words.len_word)),
+          (arith, c.if-index-len.false, c.len.ensures c.requires.0 c.requires.1.0 c.requires.1.1),
     ),
   ),
 )
@@ -21,7 +21,7 @@ replace_text-requires-clause-target c = subst (λ o. IfSome o (λ target. target
 
 pub returns : goal.returns
 returns c ps t s =
-    let q = has-element ps c.args.index (omega (arith, c.if-index-len_of.false, (c.len_of.ensures ∙ s.words.len_word))) in
+    let q = has-element ps c.args.index (omega (arith, c.if-index-len.false, c.len.ensures ps t s)) in
     record {
       before = q.0;
       found = q.1;

@@ -113,10 +113,7 @@ module _ {K V : Type 0} {kp : Plain K} {vp : Plain V} {c d : Cut} {h at : ℕ} {
         apart k from to m j (inl f) = inr (omega arith)
         apart k from to m j (inr o) =
             let q : PairNode (16 + kp.SIZE) ns c m = record { good = good; listed = j } in
-            elim (block_apart p.node q (found_in (live_of c.bytes).extents (handle p.node) p.node i.listed) o) [
-              | inl l ↦ inl (omega arith)
-              | inr l ↦ inr (omega arith)
-            ]
+            grind (arith, block_apart p.node q (found_in (live_of c.bytes).extents (handle p.node) p.node i.listed) o)
 
     tree_cells : (qs : List (Pair K V)) {t : Tree} → IsKeyTree kp ns d top t → nodes_of t ≡ nodes_of_pairs qs
         → AreIn kp vp (live_of c.bytes) h qs → ((m : ℕ) → is_in m (nodes_of_pairs qs) ≡ true → is_in m ns ≡ true)

@@ -103,10 +103,7 @@ module _ {len : ℕ} {ns : List ℕ} {c : Cut} (d : Cut) (good : Good len ns c) 
       apart : (n : ℕ) → is_in n ns ≡ true → (k : ℕ) → handle x ≤ k → k < end_of x → (k < n) ⊎ (n + 16 ≤ k)
       apart n j k low high =
           let q : PairNode len ns c n = record { good = good; listed = j } in
-          elim (block_apart x q i (λ e. both_ways _ o (ap (λ m. is_in m ns) e ∙ j))) [
-            | inl l ↦ inl (omega arith)
-            | inr l ↦ inr (omega arith)
-          ]
+          grind (arith, block_apart x q i (λ e. both_ways _ o (ap (λ m. is_in m ns) e ∙ j)))
 
   -- the header but word 24 stays, and what lies round the window
   pub kept_keeps : Keeps c d []

@@ -206,20 +206,14 @@ block_apart {len} {ns} {c} {n} x g i o =
     let r = is_proper-IsProper (live_of c.bytes) g.good.proper in
     elim (disjoint 128 (live_of c.bytes).extents ((live_of c.bytes).size - 16) b.extent x r.list b.listed i) [
       | inl e ↦ absurd (o (ap handle (sym e) ∙ at))
-      | inr d ↦ elim d [
-        | inl l ↦ inr (omega arith)
-        | inr l ↦ inl (omega arith)
-      ]
+      | inr d ↦ grind (arith, d)
     ]
 
 pub nodes_apart : {len : ℕ} {ns : List ℕ} {c : Cut} {n m : ℕ} → PairNode len ns c n → PairNode len ns c m → (m ≡ n → ⊥)
     → (m + len ≤ n - 16) ⊎ (n + len ≤ m - 16)
 nodes_apart {len} {ns} {c} {n} {m} g h o =
     let p = node_place len ns c m h in let b = p.block in let at = b.at in let enough = b.holds in
-    elim (block_apart b.extent g b.listed (λ e. o (sym at ∙ e))) [
-      | inl l ↦ inl (omega arith)
-      | inr l ↦ inr (omega arith)
-    ]
+    grind (arith, block_apart b.extent g b.listed (λ e. o (sym at ∙ e)))
 
 -- ---- a link is set
 
@@ -237,11 +231,7 @@ module _ {len : ℕ} {ns : List ℕ} {c d : Cut} {n from : ℕ} (g : PairNode le
   other_cell : (m : ℕ) → is_in m ns ≡ true → (m ≡ n → ⊥) → cells_of (bytes_of d.bytes) m ≡ cells_of (bytes_of c.bytes) m
   other_cell m i o =
       let q : PairNode len ns c m = record { good = g.good; listed = i } in let least = (node_place len ns c m q).low in
-      beside_cell _ _ _ _ m change.rest least
-      (elim (nodes_apart g q o) [
-        | inl l ↦ inl (omega arith)
-        | inr l ↦ inr (omega arith)
-      ])
+      beside_cell _ _ _ _ m change.rest least (grind (arith, nodes_apart g q o))
 
   link_changed : links_among (bytes_of d.bytes) ns n ≡ true → Changed len ns c d n
   link_changed links =
@@ -261,19 +251,13 @@ module _ {len : ℕ} {ns : List ℕ} {c d : Cut} {n from : ℕ} (g : PairNode le
       tag_apart x i o =
           let r = is_proper-IsProper (live_of c.bytes) g.good.proper in
           let b = (lies 128 (live_of c.bytes).extents ((live_of c.bytes).size - 16) x r.list i).long in
-          elim (block_apart x g i o) [
-            | inl l ↦ inl (omega arith)
-            | inr l ↦ inr (omega arith)
-          ]
+          grind (arith, block_apart x g i o)
 
       key_apart : (m : ℕ) → is_in m ns ≡ true → (m ≡ n) ⊎ (m ≡ n → ⊥) → (m + len ≤ from) ⊎ (from + 8 ≤ m + 16)
       key_apart m i (inl e) = inr (rw e high)
       key_apart m i (inr o) =
           let q : PairNode len ns c m = record { good = g.good; listed = i } in
-          elim (nodes_apart g q o) [
-            | inl l ↦ inl (omega arith)
-            | inr l ↦ inr (omega arith)
-          ]
+          grind (arith, nodes_apart g q o)
 
   -- both links are known then
   links_set : {left right : Option ℕ} → link_at (bytes_of d.bytes) n ≡ left → link_at (bytes_of d.bytes) (n + 8) ≡ right

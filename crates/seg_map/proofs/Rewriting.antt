@@ -10,7 +10,7 @@ use Rattle.seg_map.proofs.Common.{IsKeyTree, IsBesideMap, IsHeaded, ◌*◌, All
 use Rattle.seg_map.proofs.Common.{Relinked, bits, pair_node}
 use Rattle.best_fit.proofs.Laws.{but-trans, written-but}
 use Rattle.seg_types.specs.declared.plain.Plain.{Ghosts as Plain}
-use Rattle.seg_map.proofs.Entering.{few_in_map, AreAt, AreIn, Laws, found_in, other_block, pair_parts, length-nodes}
+use Rattle.seg_map.proofs.Entering.{AreAt, AreIn, Laws, found_in, other_block, pair_parts, length-nodes}
 use Rattle.seg_map.proofs.PairSteps.{all_in, block_apart, target_whole}
 use Rattle.seg_map.proofs.PairLists.{removed_length, in_from, nodes_in}
 use Rattle.seg_map.specs.Changing.{IsRelaid}
@@ -27,8 +27,8 @@ module _ {K : Type 0} {kp : Plain K} {c d : Cut} {ns : List ℕ} {root top : Opt
   pub live_laid : {e : Cut} {at n : ℕ} → IsHeaded d e at top n → live_of e.bytes ≡ live_of c.bytes
   live_laid head = changed-live _ _ _ _ _ head.change ∙ live_left
 
--- what shows that a map has few pairs, and that its block and theirs stay where the tree is changed
-pub ruleset trees = (kept_proper, kept_room, removed_length, few_in_map)
+-- what shows that a map with a pair less has one less, and that its block and theirs stay where the tree is changed
+pub ruleset trees = (kept_proper, kept_room, removed_length)
 
 -- a call of the tree of a map
 module _ {K V : Type 0} {kp : Plain K} {vp : Plain V} {c d : Cut} {h at : ℕ} {ps : List (Pair K V)}
@@ -113,10 +113,7 @@ module _ {K V : Type 0} {kp : Plain K} {vp : Plain V} {c d : Cut} {h at : ℕ} {
         apart k from to m j (inl f) = inr (omega arith)
         apart k from to m j (inr o) =
             let q : PairNode (16 + kp.SIZE) ns c m = record { good = good; listed = j } in
-            elim (block_apart p.node q (found_in (live_of c.bytes).extents (handle p.node) p.node i.listed) o) [
-              | inl l ↦ inl (omega arith)
-              | inr l ↦ inr (omega arith)
-            ]
+            grind (arith, block_apart p.node q (found_in (live_of c.bytes).extents (handle p.node) p.node i.listed) o)
 
     tree_cells : (qs : List (Pair K V)) {t : Tree} → IsKeyTree kp ns d top t → nodes_of t ≡ nodes_of_pairs qs
         → AreIn kp vp (live_of c.bytes) h qs → ((m : ℕ) → is_in m (nodes_of_pairs qs) ≡ true → is_in m ns ≡ true)

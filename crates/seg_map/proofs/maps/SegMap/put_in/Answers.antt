@@ -1,5 +1,6 @@
 -- The node enters the tree, and the three words say so.
 use Rattle.seg_map.proofs.{sym, ap, ◌∙◌, ◌+◌, arith, bits, laws, can_link, few_steps, planted, planted_tree, top_whole}
+use Rattle.seg_map.proofs.Entering.{few_in_map}
 use Rattle.seg_map.proofs.maps.SegMap.put_in.Goals as goal
 
 pub link-top-requires : goal.link-top-requires
@@ -7,6 +8,11 @@ link-top-requires g c =
     let r = c.requires.there in
     can_link (laws g.met.K.Plain) c.args.heap.now r.map c.link-root.ensures r.loose r.is c.args.start
     c.requires.begins
+
+pub overflow_add-count : goal.overflow_add-count
+overflow_add-count g c =
+    let r = c.requires.there in
+    omega (arith, c.len-count.ensures r.pairs r.map, few_in_map (laws g.met.K.Plain) c.args.heap.now r.map)
 
 pub write_head-requires-clause-root : goal.write_head-requires-clause-root
 write_head-requires-clause-root g c =

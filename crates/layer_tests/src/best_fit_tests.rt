@@ -2,7 +2,7 @@
 ghost use Rattle.std.specs.Prelude.{◌%◌, ◌≡◌, ◌≤◌, IfSome, IsTrue};
 ghost use Rattle.best_fit.specs.Heap.{has_room, live_of};
 
-use crate::checks::{holds, same};
+use crate::checks::{done, holds, same};
 use best_fit::{Heap, NoSpace};
 use block_tags::Role;
 use offset_link::load;
@@ -22,26 +22,48 @@ fn takes_for(rt: &impl Abort, heap: &mut Heap, n: u64, role: Role, handle: u64) 
     same(rt, taken, Ok(handle));
 }
 
-/// Asks for a block for an object.
-fn takes(rt: &impl Abort, heap: &mut Heap, n: u64, handle: u64) {
-    takes_for(rt, heap, n, Role::Object, handle);
-}
-
 /// Asks for a block that has no fit.
 fn takes_none(rt: &impl Abort, heap: &mut Heap, n: u64) {
     let taken = heap.allocate(n, Role::Object, &mut Steps::new());
     same(rt, taken, Err(NoSpace));
 }
 
-/// A heap with blocks for 64, 16, 32 and 16 bytes, of which the first is given back.
-fn with_three_blocks(rt: &impl Abort, alloc: Global) -> Result<Heap, Fail> {
-    let mut heap = empty(alloc)?;
-    takes(rt, &mut heap, 64, 144);
-    takes(rt, &mut heap, 16, 224);
-    takes(rt, &mut heap, 32, 256);
-    takes(rt, &mut heap, 16, 304);
-    gives_back(rt, &mut heap, 144);
-    Ok(heap)
+/// What is done to a heap, or seen of it: blocks are said by their handles.
+#[derive(Clone, Copy)]
+enum Step {
+    /// A block for an object of so many bytes is the one of a handle.
+    Takes(u64, u64),
+    /// No gap is so long.
+    TakesNone(u64),
+    GivesBack(u64),
+    /// A block is lengthened in its place to so many bytes, or is not.
+    Extends(u64, u64, bool),
+    /// A block is shortened to so many bytes, and has so much room then.
+    Shrinks(u64, u64, u64),
+    /// So many bytes are free, and so many blocks are in use.
+    HasFree(u64, u64),
+}
+
+/// Makes a step.
+fn play(rt: &impl Abort, heap: &mut Heap, step: Step) {
+    match step {
+        Step::Takes(n, handle) => takes_for(rt, heap, n, Role::Object, handle),
+        Step::TakesNone(n) => takes_none(rt, heap, n),
+        Step::GivesBack(handle) => gives_back(rt, heap, handle),
+        Step::Extends(handle, n, is_longer) => extends(rt, heap, handle, n, is_longer),
+        Step::Shrinks(handle, n, room) => shrinks(rt, heap, handle, n, room),
+        Step::HasFree(free, blocks) => has_free(rt, heap, free, blocks),
+    }
+}
+
+/// A heap behind some steps.
+fn played<R: Abort + AllocGlobal>(rt: &R, steps: &[Step]) -> Heap {
+    let region = done(rt, RawRegion::new(rt.alloc(), 1024));
+    let mut heap = Heap::fresh(Window::new(region, 0, 1024));
+    for step in steps {
+        play(rt, &mut heap, *step);
+    }
+    heap
 }
 
 fn gives_back(rt: &impl Abort, heap: &mut Heap, handle: u64) {
@@ -131,52 +153,75 @@ fn leads(rt: &impl Abort, window: &Window, at: u64, target: Option<u64>) {
     same(rt, load(window, at), target);
 }
 
+/// Blocks for 64, 16, 32 and 16 bytes, of which the first and the third are given back: the third is the least gap for 32.
+const LEAST_GAP: [Step; 10] = [
+    Step::Takes(64, 144),
+    Step::Takes(16, 224),
+    Step::Takes(32, 256),
+    Step::Takes(16, 304),
+    Step::GivesBack(144),
+    Step::GivesBack(256),
+    Step::Takes(32, 256),
+    Step::HasFree(768, 3),
+    Step::TakesNone(2000),
+    Step::TakesNone(1073741825),
+];
+
 #[test]
-fn the_least_gap_is_taken(rt: HostRuntime) -> Result<(), Fail> {
-    let mut heap = with_three_blocks(&rt, rt.alloc())?;
-    gives_back(&rt, &mut heap, 256);
-    takes(&rt, &mut heap, 32, 256);
-    has_free(&rt, &heap, 768, 3);
-    takes_none(&rt, &mut heap, 2000);
-    takes_none(&rt, &mut heap, 1073741825);
+fn the_least_gap_is_taken(rt: HostRuntime) {
+    let heap = played(&rt, &LEAST_GAP);
     holds(&rt, heap.sanity());
-    Ok(())
+    drop(heap);
 }
 
-#[test]
-fn blocks_change_their_length(rt: HostRuntime) -> Result<(), Fail> {
-    let mut heap = with_three_blocks(&rt, rt.alloc())?;
-    extends(&rt, &mut heap, 304, 40, true);
-    has_free(&rt, &heap, 736, 3);
-    extends(&rt, &mut heap, 224, 40, false);
-    shrinks(&rt, &mut heap, 256, 16, 32);
-    shrinks(&rt, &mut heap, 304, 16, 16);
-    has_free(&rt, &heap, 768, 3);
-    Ok(())
-}
+/// The same blocks, of which the first is given back, and the others become longer and shorter.
+const LENGTHS: [Step; 11] = [
+    Step::Takes(64, 144),
+    Step::Takes(16, 224),
+    Step::Takes(32, 256),
+    Step::Takes(16, 304),
+    Step::GivesBack(144),
+    Step::Extends(304, 40, true),
+    Step::HasFree(736, 3),
+    Step::Extends(224, 40, false),
+    Step::Shrinks(256, 16, 32),
+    Step::Shrinks(304, 16, 16),
+    Step::HasFree(768, 3),
+];
 
 #[test]
-fn the_free_tree_lists_three_gaps(rt: HostRuntime) -> Result<(), Fail> {
-    let mut heap = empty(rt.alloc())?;
-    takes(&rt, &mut heap, 24, 144);
-    takes(&rt, &mut heap, 24, 192);
-    takes(&rt, &mut heap, 24, 240);
-    takes(&rt, &mut heap, 24, 288);
-    gives_back(&rt, &mut heap, 144);
-    gives_back(&rt, &mut heap, 240);
-    gaps_are(&rt, &heap.into_window());
-    Ok(())
+fn blocks_change_their_length(rt: HostRuntime) {
+    drop(played(&rt, &LENGTHS));
 }
+
+/// Three gaps: the first, the third, and what is behind the last block.
+const THREE_GAPS: [Step; 6] = [
+    Step::Takes(24, 144),
+    Step::Takes(24, 192),
+    Step::Takes(24, 240),
+    Step::Takes(24, 288),
+    Step::GivesBack(144),
+    Step::GivesBack(240),
+];
 
 /// The gaps 144, 240 and 336, in this order: a root, and a leaf at each side.
-fn gaps_are(rt: &impl Abort, window: &Window) {
-    leads(rt, window, 24, Some(240));
-    leads(rt, window, 240, Some(144));
-    leads(rt, window, 248, Some(336));
-    leads(rt, window, 144, None);
-    leads(rt, window, 152, None);
-    leads(rt, window, 336, None);
-    leads(rt, window, 344, None);
+const LINKS: [(u64, Option<u64>); 7] = [
+    (24, Some(240)),
+    (240, Some(144)),
+    (248, Some(336)),
+    (144, None),
+    (152, None),
+    (336, None),
+    (344, None),
+];
+
+#[test]
+fn the_free_tree_lists_three_gaps(rt: HostRuntime) {
+    let window = played(&rt, &THREE_GAPS).into_window();
+    for (at, target) in LINKS {
+        leads(&rt, &window, at, target);
+    }
+    drop(window);
 }
 
 /// Makes a link of the header lead to a target, or nowhere.
@@ -188,11 +233,11 @@ fn links_header(rt: &impl Abort, heap: &mut Heap, to: Option<u64>)
 }
 
 #[test]
-fn header_links_are_read_back(rt: HostRuntime) -> Result<(), Fail> {
-    let mut heap = empty(rt.alloc())?;
+fn header_links_are_read_back(rt: HostRuntime) {
+    let mut heap = played(&rt, &[]);
     links_header(&rt, &mut heap, Some(144));
     links_header(&rt, &mut heap, None);
-    Ok(())
+    drop(heap);
 }
 
 /// Makes the second link of a new block lead where the first leads, and the third where the second led: nowhere.
@@ -207,14 +252,14 @@ fn moves_links(rt: &impl Abort, heap: &mut Heap, handle: u64) {
 }
 
 #[test]
-fn links_of_a_block_move(rt: HostRuntime) -> Result<(), Fail> {
-    let mut heap = empty(rt.alloc())?;
+fn links_of_a_block_move(rt: HostRuntime) {
+    let mut heap = played(&rt, &[]);
     takes_for(&rt, &mut heap, 32, Role::Node, 144);
     moves_links(&rt, &mut heap, 144);
     is_linked(&rt, &heap, 144, 0, Some(144));
     is_linked(&rt, &heap, 144, 1, Some(144));
     is_linked(&rt, &heap, 144, 2, None);
-    Ok(())
+    drop(heap);
 }
 
 /// Writes text at the end of a block of 32 bytes.
@@ -231,8 +276,8 @@ fn copies_word(rt: &impl Abort, heap: &mut Heap, handle: u64) {
 }
 
 #[test]
-fn words_of_a_block_are_read_back(rt: HostRuntime) -> Result<(), Fail> {
-    let mut heap = empty(rt.alloc())?;
+fn words_of_a_block_are_read_back(rt: HostRuntime) {
+    let mut heap = played(&rt, &[]);
     takes_for(&rt, &mut heap, 32, Role::Storage, 144);
     writes_end(&rt, &mut heap, 144);
     sets_word(&rt, &mut heap, 144, 0, 0x0807060504030201);
@@ -240,7 +285,7 @@ fn words_of_a_block_are_read_back(rt: HostRuntime) -> Result<(), Fail> {
     has_word(&rt, &heap, 144, 0, 0x0403020104030201);
     has_word(&rt, &heap, 144, 4, 0x0807060504030201);
     ends_with(&rt, &heap, 144, Role::Storage, b"of bytes");
-    Ok(())
+    drop(heap);
 }
 
 #[test]
@@ -252,6 +297,7 @@ fn a_node_block_has_a_colour(rt: HostRuntime) -> Result<(), Fail> {
     is_red(&rt, &heap, handle, true);
     heap.set_node_red(handle, false);
     is_red(&rt, &heap, handle, false);
+    drop(heap);
     Ok(())
 }
 
@@ -268,14 +314,12 @@ fn repeats_last(rt: &impl Abort, heap: &mut Heap, first: u64, second: u64) {
 }
 
 #[test]
-fn two_blocks_are_lent_together(rt: HostRuntime) -> Result<(), Fail> {
-    let mut heap = empty(rt.alloc())?;
-    takes(&rt, &mut heap, 32, 144);
-    takes(&rt, &mut heap, 16, 192);
+fn two_blocks_are_lent_together(rt: HostRuntime) {
+    let mut heap = played(&rt, &[Step::Takes(32, 144), Step::Takes(16, 192)]);
     fills(&rt, &mut heap, 144, 5);
     has_just(&rt, &heap, 144, 32);
     repeats_last(&rt, &mut heap, 144, 192);
     ends_with(&rt, &heap, 144, Role::Object, &[5; 32]);
     ends_with(&rt, &heap, 192, Role::Object, &[5; 16]);
-    Ok(())
+    drop(heap);
 }

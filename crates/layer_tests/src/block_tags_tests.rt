@@ -41,6 +41,7 @@ fn splits_and_joins(rt: HostRuntime) -> Result<(), Fail> {
     same(&rt, check(&window), Err(BadTag));
     merge_next(&mut window, 128);
     same(&rt, first(&window), Some(free(128, 880)));
+    drop(window);
     Ok(())
 }
 
@@ -59,6 +60,7 @@ fn gives_use_and_colour(rt: HostRuntime) -> Result<(), Fail> {
     };
     same(&rt, tile_at(&window, 128), wanted);
     same(&rt, check(&window), Ok(()));
+    drop(window);
     Ok(())
 }
 
@@ -69,5 +71,6 @@ fn moves_the_end(rt: HostRuntime) -> Result<(), Fail> {
     same(&rt, size, 144);
     append_free(&mut window, size);
     same(&rt, first(&window), Some(free(128, 880)));
+    drop(window);
     Ok(())
 }

@@ -1,5 +1,5 @@
 //! What the tests compare by: calls, since what a macro writes in each test is dear to prove.
-ghost use Rattle.std.specs.Prelude.{IsTrue};
+ghost use Rattle.std.specs.Prelude.{◌≡◌, IsTrue, Ok};
 
 use std::process::Abort;
 
@@ -13,4 +13,14 @@ pub fn holds(rt: &impl Abort, so: bool)
     ensures { IsTrue so }
 {
     assert!(rt; so);
+}
+
+/// What a call answers, which is not refused.
+pub fn done<T, E: Drop>(rt: &impl Abort, got: Result<T, E>) -> T
+    ensures { got ≡ Ok result }
+{
+    match got {
+        Ok(it) => it,
+        Err(_) => panic!(rt; "refused"),
+    }
 }

@@ -1,15 +1,14 @@
 //! Links in a window of 400 bytes. What a call asks for is asked of the window before, so a test is a line of calls without facts.
-use crate::checks::{holds, same};
+use crate::checks::{done, holds, same};
 use offset_link::{
     Places, all_lead, are_links, checked, copy, load, shift, shift_non_null, store, store_null,
 };
-use raw_region::{OutOfMemory, RawRegion, Window};
-use std::alloc::Global;
+use raw_region::{RawRegion, Window};
 use std::process::Abort;
-use std::test::Fail;
 
-fn window(alloc: Global) -> Result<Window, OutOfMemory> {
-    Ok(Window::new(RawRegion::new(alloc, 512)?, 64, 400))
+fn window<R: Abort + AllocGlobal>(rt: &R) -> Window {
+    let region = done(rt, RawRegion::new(rt.alloc(), 512));
+    Window::new(region, 64, 400)
 }
 
 /// A window has these bytes from an offset on.
@@ -41,19 +40,23 @@ fn leads(rt: &impl Abort, w: &Window, at: u64, target: Option<u64>) {
     same(rt, load(w, at), target);
 }
 
+/// The link at an offset leads to a target, or nowhere, and is stored so.
+fn stores(rt: &impl Abort, w: &Window, at: u64, target: Option<u64>, bytes: &[u8]) {
+    leads(rt, w, at, target);
+    reads(rt, w, at, bytes);
+}
+
 #[test]
-fn a_link_stores_its_distance(rt: HostRuntime) -> Result<(), Fail> {
-    let mut w = window(rt.alloc())?;
+fn a_link_stores_its_distance(rt: HostRuntime) {
+    let mut w = window(&rt);
     links(&rt, &mut w, 24, 144);
-    leads(&rt, &w, 24, Some(144));
-    reads(&rt, &w, 24, b"\x78\0\0\0\0\0\0\0");
+    stores(&rt, &w, 24, Some(144), b"\x78\0\0\0\0\0\0\0");
     links(&rt, &mut w, 160, 144);
-    leads(&rt, &w, 160, Some(144));
-    reads(&rt, &w, 160, b"\xF0\xFF\xFF\xFF\xFF\xFF\xFF\xFF");
+    let back = b"\xF0\xFF\xFF\xFF\xFF\xFF\xFF\xFF";
+    stores(&rt, &w, 160, Some(144), back);
     unlinks(&rt, &mut w, 24);
-    leads(&rt, &w, 24, None);
-    reads(&rt, &w, 24, b"\x01\0\0\0\0\0\0\0");
-    Ok(())
+    stores(&rt, &w, 24, None, b"\x01\0\0\0\0\0\0\0");
+    drop(w);
 }
 
 /// Makes the link at 200 lead where the one at 32 leads.
@@ -64,8 +67,8 @@ fn copies(rt: &impl Abort, w: &mut Window) {
 }
 
 #[test]
-fn a_copy_leads_where_its_source_leads(rt: HostRuntime) -> Result<(), Fail> {
-    let mut w = window(rt.alloc())?;
+fn a_copy_leads_where_its_source_leads(rt: HostRuntime) {
+    let mut w = window(&rt);
     links(&rt, &mut w, 32, 176);
     copies(&rt, &mut w);
     leads(&rt, &w, 32, Some(176));
@@ -73,7 +76,7 @@ fn a_copy_leads_where_its_source_leads(rt: HostRuntime) -> Result<(), Fail> {
     unlinks(&rt, &mut w, 32);
     copies(&rt, &mut w);
     leads(&rt, &w, 200, None);
-    Ok(())
+    drop(w);
 }
 
 /// Moves three links from 24 on over one another.
@@ -97,22 +100,29 @@ fn has_no_links(rt: &impl Abort, w: &mut Window) {
     holds(rt, !are_links(w, 24, 2));
 }
 
+/// Where the three links lead that moved up, and the one that stands where the first stood.
+const MOVED: [(u64, Option<u64>); 4] = [
+    (24, Some(144)),
+    (32, Some(144)),
+    (40, None),
+    (48, Some(352)),
+];
+
 #[test]
-fn links_move(rt: HostRuntime) -> Result<(), Fail> {
-    let mut w = window(rt.alloc())?;
+fn links_move(rt: HostRuntime) {
+    let mut w = window(&rt);
     links(&rt, &mut w, 24, 144);
     unlinks(&rt, &mut w, 32);
     links(&rt, &mut w, 40, 352);
     moves_up(&rt, &mut w);
-    leads(&rt, &w, 24, Some(144));
-    leads(&rt, &w, 32, Some(144));
-    leads(&rt, &w, 40, None);
-    leads(&rt, &w, 48, Some(352));
+    for (at, target) in MOVED {
+        leads(&rt, &w, at, target);
+    }
     moves_back(&rt, &mut w);
     leads(&rt, &w, 8, Some(144));
     leads(&rt, &w, 16, Some(144));
     has_no_links(&rt, &mut w);
-    Ok(())
+    drop(w);
 }
 
 /// Moves eleven links from 24 on up.
@@ -144,8 +154,8 @@ fn not_all_lead(rt: &impl Abort, w: &mut Window) {
 }
 
 #[test]
-fn a_run_of_links_moves_up_and_down(rt: HostRuntime) -> Result<(), Fail> {
-    let mut w = window(rt.alloc())?;
+fn a_run_of_links_moves_up_and_down(rt: HostRuntime) {
+    let mut w = window(&rt);
     for i in 0..11 {
         links(&rt, &mut w, 24 + 8 * i, 144 + 16 * i);
     }
@@ -154,7 +164,7 @@ fn a_run_of_links_moves_up_and_down(rt: HostRuntime) -> Result<(), Fail> {
     moves_run_down(&rt, &mut w);
     lead_to_blocks(&rt, &w, 16);
     not_all_lead(&rt, &mut w);
-    Ok(())
+    drop(w);
 }
 
 /// Words of a link at 24, and where they lead: nowhere, to a block, or (`None`) to no place where a block may begin.
@@ -179,10 +189,10 @@ fn is_checked(rt: &impl Abort, w: &mut Window, word: u64, target: Option<Option<
 }
 
 #[test]
-fn a_checked_link_leads_to_a_block(rt: HostRuntime) -> Result<(), Fail> {
-    let mut w = window(rt.alloc())?;
+fn a_checked_link_leads_to_a_block(rt: HostRuntime) {
+    let mut w = window(&rt);
     for (word, target) in WORDS {
         is_checked(&rt, &mut w, word, target);
     }
-    Ok(())
+    drop(w);
 }

@@ -63,6 +63,7 @@ fn tickets_lead_to_tickets(rt: HostRuntime) -> Result<(), Fail> {
     same(&rt, put(&mut heap, map, one, forty), Ok(false));
     same(&rt, get(&heap, map, one), Some(forty));
     same(&rt, get(&heap, map, forty), None);
+    drop(heap);
     Ok(())
 }
 
@@ -77,5 +78,6 @@ fn tickets_rise(rt: HostRuntime) -> Result<(), Fail> {
     same(&rt, first, Some((two, two)));
     same(&rt, next_after(&heap, map, two), Some((one, one)));
     same(&rt, next_after(&heap, map, one), None);
+    drop(heap);
     Ok(())
 }

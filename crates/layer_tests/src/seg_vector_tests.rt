@@ -56,5 +56,6 @@ fn tickets_stand_in_a_vector(rt: HostRuntime) -> Result<(), Fail> {
     same(&rt, tickets.get(&heap, 1), Ok(Ticket::urgent(0)));
     same(&rt, tickets.get(&heap, 2), Ok(Ticket::urgent(9)));
     same(&rt, sizes(&heap, tickets), (3, 4));
+    drop(heap);
     Ok(())
 }

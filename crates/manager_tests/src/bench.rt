@@ -64,6 +64,14 @@ impl Bench {
         name
     }
 
+    /// The key of the object of this name.
+    fn key<'a>(&mut self, bytes: &'a [u8]) -> Key<'a> {
+        match self.name(bytes) {
+            Some(name) => Key::Name(name),
+            None => Key::Handle(0),
+        }
+    }
+
     /// So many bytes are free.
     pub fn has_free(&mut self, free: u64) {
         let is_free = self.segment.free() == free;
@@ -101,10 +109,10 @@ impl Bench {
 
     /// `find`: handle and count, or nothing.
     pub fn finds<T: Scalar>(&mut self, name: u8, found: Found) {
-        if let Some(name) = self.name(&[name]) {
-            let got = self.segment.find::<T>(&Key::Name(name));
-            self.same(got, found);
-        }
+        let name = [name];
+        let key = self.key(&name);
+        let got = self.segment.find::<T>(&key);
+        self.same(got, found);
     }
 
     /// `get`: the element at `i`.
@@ -118,26 +126,29 @@ impl Bench {
     }
 
     fn gets<T: Scalar + PartialEq>(&mut self, name: u8, i: u64, wanted: Result<T, Refusal>) {
-        if let Some(name) = self.name(&[name]) {
-            let got = self.segment.get(&Key::Name(name), i);
-            self.same(got, wanted);
-        }
+        let name = [name];
+        let key = self.key(&name);
+        let got = self.segment.get(&key, i);
+        self.same(got, wanted);
     }
 
     /// `set`: the element at `i` is another value, or this is refused.
     pub fn sets<T: Scalar>(&mut self, name: u8, i: u64, value: T, done: Result<(), Refusal>) {
-        if let Some(name) = self.name(&[name]) {
-            let set = self.segment.set(&Key::Name(name), i, value);
-            self.same(set, done);
-        }
+        let name = [name];
+        let key = self.key(&name);
+        let set = self.segment.set(&key, i, value);
+        self.same(set, done);
     }
 
     /// What an object tells of itself.
     pub fn tells(&mut self, key: &Key, told: &Told) {
-        let is_told = self.segment.kind_of(key) == Ok(told.kind)
-            && self.segment.instance_name(key) == Ok(told.name)
-            && self.segment.instance_class(key) == Ok(told.class)
-            && self.segment.instance_length(key) == Ok(told.count);
-        self.holds(is_told);
+        let kind = self.segment.kind_of(key);
+        self.same(kind, Ok(told.kind));
+        let is_named = self.segment.instance_name(key) == Ok(told.name);
+        self.holds(is_named);
+        let class = self.segment.instance_class(key);
+        self.same(class, Ok(told.class));
+        let count = self.segment.instance_length(key);
+        self.same(count, Ok(told.count));
     }
 }

@@ -72,7 +72,9 @@ fn is_loaded_again<R: Abort + AllocGlobal>(rt: &R, dump: &[u8]) {
     let text = text_of(rt, &least);
     let again = loaded(rt, text.taken(), Some(least.size()));
     is_dumped(rt, &again, text.taken());
-    drop((least, text, again));
+    drop(least);
+    drop(text);
+    drop(again);
 }
 
 #[test]
@@ -91,7 +93,8 @@ fn a_long_text(rt: HostRuntime) {
     );
     let text = text_of(&rt, &segment);
     is_loaded_again(&rt, text.taken());
-    drop((segment, text));
+    drop(segment);
+    drop(text);
 }
 
 /// A vector with more places than elements, and a string.

@@ -66,8 +66,8 @@ fn kinds_rise(rt: HostRuntime) {
     makes_only(&mut bench, 7i32, 240);
     makes_only(&mut bench, true, 288);
     same(&rt, bench.segment.num_unique(), 3);
-    for (i, handle) in [(0, 288), (1, 240), (2, 192)] {
-        unique_is(&rt, &bench, i, handle);
-    }
+    unique_is(&rt, &bench, 0, 288);
+    unique_is(&rt, &bench, 1, 240);
+    unique_is(&rt, &bench, 2, 192);
     bench.ends(&rt);
 }

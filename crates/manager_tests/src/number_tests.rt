@@ -87,6 +87,13 @@ const ANONYMOUS: Told = Told {
     count: 3,
 };
 
+const TOLD: [(Key<'static>, Told); 4] = [
+    (Key::Handle(192), NAMED),
+    (Key::Unique(U64), ONLY),
+    (Key::Handle(288), ONLY),
+    (Key::Handle(336), ANONYMOUS),
+];
+
 /// An object of each class.
 fn make_three(bench: &mut Bench) {
     bench.makes(b'a', 1, true, 192);
@@ -103,12 +110,7 @@ fn an_object_tells_of_itself(rt: HostRuntime) {
     if let Some(name) = bench.name(b"a") {
         bench.tells(&Key::Name(name), &NAMED);
     }
-    for (key, told) in [
-        (Key::Handle(192), NAMED),
-        (Key::Unique(U64), ONLY),
-        (Key::Handle(288), ONLY),
-        (Key::Handle(336), ANONYMOUS),
-    ] {
+    for (key, told) in TOLD {
         bench.tells(&key, &told);
     }
     bench.ends(&rt);

@@ -10,7 +10,6 @@ use raw_region::{RawRegion, Steps};
 use seg_types::Refusal;
 use segment_manager::{CreateError, Mode, Segment};
 use std::process::Abort;
-use std::test::Fail;
 
 /// A segment of so many bytes at `base` of a region of 1024 sevens.
 fn made<R: Abort + AllocGlobal>(rt: &R, base: u64, size: u64, mode: Mode) -> Segment
@@ -178,9 +177,8 @@ fn a_wrong_image_is_told_and_writes_nothing_beside(rt: HostRuntime) {
 }
 
 #[test]
-fn each_reason_has_its_words(rt: HostRuntime) -> Result<(), Fail> {
+fn each_reason_has_its_words(rt: HostRuntime) {
     let (size, region) = (CreateError::BadSize, CreateError::RegionTooSmall);
-    let words = format!(in rt.alloc(); "{size}, {region}")?;
+    let words = done(&rt, format!(in rt.alloc(); "{size}, {region}"));
     same(&rt, words.as_str(), "size refused, region too small");
-    Ok(())
 }

@@ -4,6 +4,7 @@ use crate::checks::{done, same};
 use crate::segments::fresh;
 use seg_types::{Key, NewKey, Refusal};
 use segment_views::{ArrayView, MapView, StringsView, VectorView};
+use std::ops::RangeBounds;
 use std::process::Abort;
 
 /// The object that the tests make.
@@ -111,13 +112,18 @@ fn pairs_come_from_both_ends(rt: HostRuntime) {
     bench.ends(&rt);
 }
 
+/// The last pair of a range.
+fn last_in<R: RangeBounds<i64>>(view: &MapView<'_, i64, u8>, range: R) -> Option<(i64, u8)> {
+    view.range(range).next_back()
+}
+
 #[test]
 fn a_range_is_read_backwards(rt: HostRuntime) {
     let mut bench = fresh(&rt);
     let view = pairs(&rt, &mut bench);
-    same(&rt, view.range(4..6).next_back(), SECOND);
-    same(&rt, view.range(4..=6).next_back(), LAST);
-    same(&rt, view.range(..5).next_back(), SECOND);
-    same(&rt, view.range(5..6).next_back(), None);
+    same(&rt, last_in(&view, 4..6), SECOND);
+    same(&rt, last_in(&view, 4..=6), LAST);
+    same(&rt, last_in(&view, ..5), SECOND);
+    same(&rt, last_in(&view, 5..6), None);
     bench.ends(&rt);
 }

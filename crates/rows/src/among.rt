@@ -8,27 +8,32 @@ use raw_region::{RawRegion, Steps};
 use rows_trials::{Case, Place};
 use segment_cli::run;
 use segment_manager::{Mode, Segment};
-use std::alloc::{AllocError, Global};
+use std::alloc::Global;
 
 /// The byte round the segment.
 const MARK: u8 = 7;
 
 /// Makes the session of a call in a segment among other bytes, and moves the segment into another region: whether it prints and
-/// leaves what is wanted, and the other bytes as they were.
-pub fn runs_among(alloc: Global, case: &Case<'_>) -> Result<bool, AllocError> {
+/// leaves what is wanted, and the other bytes as they were. It is not so where there is no memory.
+pub fn runs_among(alloc: Global, case: &Case<'_>) -> bool {
     let saved = case.saved.unwrap_or(&[]);
     let [_, place] = Place::usual(saved.len() as u64);
-    let mut region = region_of(alloc, place)?;
-    let capacity = region.capacity();
-    region.fill(0, capacity, MARK);
-    match begun(alloc, case, region, base_of(place)) {
+    match begun(alloc, case, place) {
         Some(segment) => answers_alike(alloc, segment, case, place),
-        None => Ok(false),
+        None => false,
     }
 }
 
-/// The segment that a session begins with.
-fn begun(alloc: Global, case: &Case<'_>, region: RawRegion, base: u64) -> Option<Segment>
+/// The segment that a session begins with, in a place of a region whose other bytes are marked.
+fn begun(alloc: Global, case: &Case<'_>, place: Place) -> Option<Segment> {
+    let mut region = region_of(alloc, place).ok()?;
+    let capacity = region.capacity();
+    region.fill(0, capacity, MARK);
+    begun_in(alloc, case, region, base_of(place))
+}
+
+/// The segment that a session begins with, in a region.
+fn begun_in(alloc: Global, case: &Case<'_>, region: RawRegion, base: u64) -> Option<Segment>
     requires { base % 16 ≡ 0 }
 {
     if let Some(size) = case.fresh {
@@ -40,25 +45,39 @@ fn begun(alloc: Global, case: &Case<'_>, region: RawRegion, base: u64) -> Option
 }
 
 /// Runs the script on a segment, and moves it into another region.
-fn answers_alike(
-    alloc: Global,
-    mut segment: Segment,
-    case: &Case<'_>,
-    place: Place,
-) -> Result<bool, AllocError> {
+fn answers_alike(alloc: Global, segment: Segment, case: &Case<'_>, place: Place) -> bool {
+    let mut segment = segment;
+    let is_alike = answers(alloc, &mut segment, case);
+    let is_moved = moves_alike(alloc, segment, case.saved.unwrap_or(&[]), place);
+    is_alike && is_moved
+}
+
+/// Runs the script on a segment: whether it prints what is wanted.
+fn answers(alloc: Global, segment: &mut Segment, case: &Case<'_>) -> bool {
     let mut reader = MemorySource::new(case.script, 4096, Last::Ends);
-    let mut answers = MemorySink::new(alloc, case.answer_room, 4096, Last::Fails)?;
-    let is_run = run(&mut segment, &mut reader, &mut answers).is_ok();
-    let is_alike = is_run && case.answers == Some(answers.taken());
-    let room = region_of(alloc, place)?;
-    Ok(is_alike && moves_alike(segment, room, case.saved.unwrap_or(&[]), place))
+    let Ok(mut answers) = MemorySink::new(alloc, case.answer_room, 4096, Last::Fails) else {
+        return false;
+    };
+    let is_run = run(segment, &mut reader, &mut answers).is_ok();
+    is_run && case.answers == Some(answers.taken())
 }
 
 /// Moves a segment into another region: whether it has these bytes there, and the one that it leaves has them in a place among others
 /// that are as they were.
-fn moves_alike(segment: Segment, room: RawRegion, wanted: &[u8], place: Place) -> bool {
+fn moves_alike(alloc: Global, segment: Segment, wanted: &[u8], place: Place) -> bool {
+    match region_of(alloc, place) {
+        Ok(room) => relocates_alike(segment, room, wanted, place),
+        Err(_) => false,
+    }
+}
+
+fn relocates_alike(segment: Segment, room: RawRegion, wanted: &[u8], place: Place) -> bool {
     match segment.relocate(room, 0) {
-        Ok((segment, left)) => segment.as_bytes() == wanted && stands_among(&left, place, wanted),
+        Ok((segment, left)) => {
+            let is_same = segment.as_bytes() == wanted;
+            drop(segment);
+            is_same && stands_among(&left, place, wanted)
+        }
         Err(_) => false,
     }
 }
@@ -75,5 +94,10 @@ fn stands_among(region: &RawRegion, place: Place, segment: &[u8]) -> bool {
 
 /// Whether all of these bytes are marked.
 fn is_marked(bytes: Option<&[u8]>) -> bool {
-    bytes.unwrap_or(&[]).iter().all(|byte| *byte == MARK)
+    for byte in bytes.unwrap_or(&[]) {
+        if *byte != MARK {
+            return false;
+        }
+    }
+    true
 }

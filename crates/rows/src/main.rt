@@ -7,7 +7,7 @@ mod names;
 mod runs;
 mod segments;
 
-use rows_trials::{Desk, Trouble, lines_of};
+use rows_trials::{Desk, Line, Trouble, lines_of};
 use runs::{Tally, make_runs};
 use segments::Segments;
 use std::process::ExitCode;
@@ -15,23 +15,52 @@ use std::{env, fs, io};
 
 /// Runs the files, and ends with status 1 where something differs from what they say.
 fn main(rt: HostRuntime) -> io::Result<ExitCode> {
+    let is_sound = run_files(&rt)?;
+    let is_right = run_own(&rt)?;
+    Ok(ExitCode::from(u8::from(!is_sound || !is_right)))
+}
+
+/// Runs the files that the arguments name: whether all is as they say.
+fn run_files(rt: &HostRuntime) -> io::Result<bool> {
     let mut is_sound = true;
-    for name in env::args(&rt)?.skip(1) {
-        let text = fs::read_to_string(&rt, name.as_str())?;
-        if !run_file(&rt, name.as_str(), text.as_str())? {
+    for name in env::args(rt)?.skip(1) {
+        if !run_file(rt, name.as_str())? {
             is_sound = false;
         }
     }
-    let Tally { runs, wrong } = make_runs(rt.alloc())?;
-    println!(rt; "its own: {runs} runs, {wrong} of them wrong")?;
-    Ok(ExitCode::from(u8::from(!is_sound || wrong != 0)))
+    Ok(is_sound)
 }
 
-/// Runs the items of a file, and prints what they come to: whether all is as they say.
-fn run_file<R: Print + AllocGlobal>(rt: &R, name: &str, text: &str) -> io::Result<bool> {
+/// Makes the runs of its own, and prints what they come to: whether all came out as is wanted.
+fn run_own<R: Print + AllocGlobal>(rt: &R) -> io::Result<bool> {
+    let Tally { runs, wrong } = make_runs(rt.alloc())?;
+    println!(rt; "its own: {runs} runs, {wrong} of them wrong")?;
+    Ok(wrong == 0)
+}
+
+/// Runs a file.
+fn run_file(rt: &HostRuntime, name: &str) -> io::Result<bool> {
+    let text = fs::read_to_string(rt, name)?;
+    let lines = lines_of(rt.alloc(), text.as_str())?;
+    run_lines(rt, name, &lines)
+}
+
+/// Runs the lines of a file.
+fn run_lines<R: Print + AllocGlobal>(rt: &R, name: &str, lines: &[Line<'_>]) -> io::Result<bool> {
     let alloc = rt.alloc();
-    let lines = lines_of(alloc, text)?;
     let mut desk = Desk::new(alloc, Segments { alloc });
+    let is_sound = run_items(rt, name, lines, &mut desk);
+    drop(desk);
+    is_sound
+}
+
+/// Runs the items of a file, and prints what differs from what they say, and what they come to: whether all is as they say.
+fn run_items<'a, R: Print>(
+    rt: &R,
+    name: &str,
+    lines: &[Line<'a>],
+    desk: &mut Desk<'a, Segments>,
+) -> io::Result<bool> {
     let mut is_sound = true;
     for item in lines.chunk_by(|_, line| !line.begins_item()) {
         if let Some(Trouble { line, what }) = desk.check(item) {
@@ -39,8 +68,13 @@ fn run_file<R: Print + AllocGlobal>(rt: &R, name: &str, text: &str) -> io::Resul
             is_sound = false;
         }
     }
+    tell(rt, name, desk)?;
+    Ok(is_sound)
+}
+
+/// Prints how many rows there were, and what was in them.
+fn tell<R: Print>(rt: &R, name: &str, desk: &Desk<'_, Segments>) -> io::Result<()> {
     let bench = &desk.bench;
     let (rows, lines, cuts) = (bench.rows.get(), bench.lines.get(), bench.cuts.get());
-    println!(rt; "{name}: {rows} rows, {lines} lines, {cuts} cuts")?;
-    Ok(is_sound)
+    println!(rt; "{name}: {rows} rows, {lines} lines, {cuts} cuts")
 }

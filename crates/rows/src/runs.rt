@@ -43,6 +43,9 @@ impl Machine for Lengths {
 
 const SCRIPT: &[u8] = b"ab\n\ncde\nf";
 
+/// A script for a segment of 1024 bytes.
+const COMMANDS: &[u8] = b"size\nconstruct i64 - 5\nfree\n";
+
 const ANSWERS: [u8; 12] = [0, 0, 2, 1, 0, 0, 2, 0, 3, 3, 0, 1];
 
 /// How many runs there were, and how many of them came out otherwise than is wanted.
@@ -101,14 +104,16 @@ impl Tally {
     /// Runs a script on a segment with a writer that takes so many bytes: these go out, and the line whose answer is cut is executed,
     /// so that so many bytes are free.
     fn stops(&mut self, alloc: Global, room: usize, free: u64) -> Result<(), AllocError> {
-        let mut segment = empty_segment(alloc)?;
-        let mut script = MemorySource::new(b"size\nconstruct i64 - 5\nfree\n", 4096, Last::Ends);
         let mut out = MemorySink::new(alloc, room, 3, Last::Fails)?;
+        let mut segment = empty_segment(alloc)?;
+        let mut script = MemorySource::new(COMMANDS, 4096, Last::Ends);
         let result = run(&mut segment, &mut script, &mut out);
-        let is_cut = b"1024\n#144\n832\n".get(..room) == Some(out.taken());
-        self.count(is_cut && result == Err(RunFault::WriteFault) && segment.free() == free);
+        let is_left = result == Err(RunFault::WriteFault) && segment.free() == free;
+        drop(segment);
+        self.count(is_left && b"1024\n#144\n832\n".get(..room) == Some(out.taken()));
         Ok(())
     }
+
     /// Reads the script in pieces.
     fn read_pieces(&mut self, alloc: Global) -> Result<(), AllocError> {
         for piece in [1, 7, 4096] {

@@ -29,7 +29,7 @@ impl Runner for Segments {
     }
 
     fn runs_among(&self, case: &Case<'_>) -> bool {
-        runs_among(self.alloc, case).unwrap_or(false)
+        runs_among(self.alloc, case)
     }
 }
 
@@ -57,8 +57,21 @@ fn outcome(alloc: Global, case: &Case<'_>) -> Result<Outcome, AllocError> {
     let piece = case.piece;
     let mut answers = MemorySink::new(alloc, case.answer_room, piece, case.writers_last)?;
     let mut saved = MemorySink::new(alloc, case.image_room, piece, case.writers_last)?;
+    outcome_by(alloc, case, &mut answers, &mut saved)
+}
+
+/// Makes a call with these writers, and gives what comes of it.
+fn outcome_by(
+    alloc: Global,
+    case: &Case<'_>,
+    answers: &mut MemorySink,
+    saved: &mut MemorySink,
+) -> Result<Outcome, AllocError>
+    requires answers { answers.old.failures < 2 ^ 64 - 1 }
+    requires saved { saved.old.failures < 2 ^ 64 - 1 }
+{
     Ok(Outcome {
-        fault: fault(alloc, case, &mut answers, &mut saved)?,
+        fault: fault(alloc, case, answers, saved)?,
         answers: answers.taken().to_vec(alloc)?,
         saved: saved.taken().to_vec(alloc)?,
     })

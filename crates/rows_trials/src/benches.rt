@@ -62,7 +62,7 @@ impl<R: Runner> Bench<R> {
 
     /// Makes a call.
     pub fn check(&self, case: &Case<'_>) {
-        self.outcome(case);
+        drop(self.outcome(case));
     }
 
     /// Makes a call in all places.

@@ -17,6 +17,12 @@ impl Place {
         Place { capacity, base }
     }
 
+    /// Whether there may be such a region, and a segment there.
+    pub fn is_right(&self) -> bool {
+        let is_region = 16 <= self.capacity && self.capacity <= 1 << 40;
+        is_region && self.capacity % 16 == 0 && self.base % 16 == 0
+    }
+
     /// Places where a segment of so many bytes lies usually: in a region that it fills, and among other bytes.
     pub fn usual(size: u64) -> [Place; 2] {
         [
@@ -124,6 +130,19 @@ impl<'a> Case<'a> {
         case
     }
 
+    /// A session on an image without a line, which is saved as it is.
+    pub fn kept(&self, image: &'a [u8]) -> Case<'a> {
+        let mut case = *self;
+        case.fresh = None;
+        case.image = image;
+        case.script = &[];
+        case.answers = Some(&[]);
+        case.answer_room = 16;
+        case.saved = Some(image);
+        case.image_room = image.len().saturating_add(16);
+        case
+    }
+
     /// The same, where this is the fault.
     pub fn failing(&self, fault: &'a str) -> Case<'a> {
         let mut case = *self;
@@ -133,9 +152,7 @@ impl<'a> Case<'a> {
 
     /// The line of the file whose answer differs first, where another answer comes.
     pub fn differs_at(&self, wanted: &[u8], got: &[u8]) -> usize {
-        let mut pairs = wanted.iter().zip(got);
-        let differs = pairs.position(|(x, y)| x != y);
-        let at = differs.unwrap_or(wanted.len().min(got.len()));
+        let at = alike(wanted, got);
         let mut line = self.line;
         for mark in self.marks {
             if mark.answers_begin <= at {
@@ -144,6 +161,18 @@ impl<'a> Case<'a> {
         }
         line
     }
+}
+
+/// How many bytes are the same at the front of both.
+fn alike(one: &[u8], other: &[u8]) -> usize {
+    let mut count = 0usize;
+    for (x, y) in one.iter().zip(other) {
+        if x != y {
+            break;
+        }
+        count = count.saturating_add(1);
+    }
+    count
 }
 
 /// What a call answered, printed and saved. Its fault has the name that row files have for it: that of a class of images, or

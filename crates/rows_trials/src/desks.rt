@@ -56,7 +56,7 @@ impl<R: Runner> Bench<R> {
     /// Runs a row: in fresh segments of some sizes, or on an image with changes.
     fn check_row<'a>(&self, images: &mut Images<'a>, row: &Line<'a>, lines: &[Line<'a>]) {
         let notes = &self.notes;
-        let line = lines.iter().find(|line| line.is_beginning()).unwrap_or(row);
+        let line = beginning_of(row, lines);
         notes.is_placed(line.is_beginning(), row);
         if line.word == "image" {
             let mut image = notes.copy(images.get(notes, line, line.rest));
@@ -82,7 +82,7 @@ impl<R: Runner> Bench<R> {
     ) {
         let (mut fresh, mut image) = (fresh, image);
         let places = self.places(lines, fresh.unwrap_or(size_of(&image)));
-        let once = lines.iter().any(|line| line.word == "once");
+        let once = is_said(lines, "once");
         for lines in lines.chunk_by(|_, line| !line.begins_part()) {
             let part = Part::read(&self.notes, lines);
             count(&self.lines, part.script.marks.len());
@@ -92,6 +92,7 @@ impl<R: Runner> Bench<R> {
                 fresh = None;
                 image = saved;
             }
+            drop(part);
         }
         count(&self.rows, 1);
     }
@@ -99,22 +100,26 @@ impl<R: Runner> Bench<R> {
     /// The places that a row says, or the usual ones.
     fn places(&self, lines: &[Line<'_>], size: u64) -> Vec<Place> {
         let mut places = Vec::new(self.notes.alloc);
-        for line in lines.iter().filter(|line| line.word == "place") {
-            let (capacity, base) = self.notes.pair(line, line.rest, ' ');
-            let is_place = 16 <= capacity
-                && capacity <= 1 << 40
-                && capacity % 16 == 0
-                && base % 16 == 0;
-            self.notes
-                .holds(is_place, line.number, "there is no such place");
-            self.notes
-                .has_memory(places.push(Place { capacity, base }).is_ok());
+        for line in lines {
+            if line.word == "place" {
+                let place = self.place(line);
+                self.notes.has_memory(places.push(place).is_ok());
+            }
         }
         if places.is_empty() {
-            self.notes
-                .has_memory(places.extend_from_slice(&Place::usual(size)).is_ok());
+            let usual = places.extend_from_slice(&Place::usual(size));
+            self.notes.has_memory(usual.is_ok());
         }
         places
+    }
+
+    /// The place that a line says.
+    fn place(&self, line: &Line<'_>) -> Place {
+        let (capacity, base) = self.notes.pair(line, line.rest, ' ');
+        let place = Place { capacity, base };
+        let what = "there is no such place";
+        self.notes.holds(place.is_right(), line.number, what);
+        place
     }
 
     /// Sees that an image is refused with each of the changes that the lines say, by the class that stands before them.
@@ -125,13 +130,38 @@ impl<R: Runner> Bench<R> {
             for change in line.rest.split(',') {
                 notes.put_at(line, change.trim_start(), &mut image);
             }
-            let places = Place::usual((image.len() as u64).max(4096));
-            let case = Case::new(line.number, None, &image, &places).saving(&[]);
-            let case = case.with_text(b"size\n", &[]);
-            self.refuse(&case.failing(line.word), false);
-            count(&self.rows, 1);
+            self.refuse_damaged(line, &image);
         }
     }
+
+    /// Sees that an image is refused by the class that a line says.
+    fn refuse_damaged(&self, line: &Line<'_>, image: &[u8]) {
+        let places = Place::usual((image.len() as u64).max(4096));
+        let case = Case::new(line.number, None, image, &places).saving(&[]);
+        let case = case.with_text(b"size\n", &[]);
+        self.refuse(&case.failing(line.word), false);
+        count(&self.rows, 1);
+    }
+}
+
+/// The line that says what a row begins with, the first of these, or that of the row where there is none.
+fn beginning_of<'x, 'a>(row: &'x Line<'a>, lines: &'x [Line<'a>]) -> &'x Line<'a> {
+    for line in lines {
+        if line.is_beginning() {
+            return line;
+        }
+    }
+    row
+}
+
+/// Whether some line has this word.
+fn is_said(lines: &[Line<'_>], word: &str) -> bool {
+    for line in lines {
+        if line.word == word {
+            return true;
+        }
+    }
+    false
 }
 
 /// The bytes of the segment of an image: those that it has, or says that it has, if these are more and not too many.

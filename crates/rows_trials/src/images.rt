@@ -27,13 +27,15 @@ impl<'a> Images<'a> {
 
     /// The image of a name, which is said in a line: the last one that got it.
     pub fn get(&self, notes: &Notes, line: &Line<'_>, name: &str) -> &[u8] {
-        match self.named.iter().rev().find(|it| it.name == name) {
-            Some(named) => &named.image,
-            None => {
-                notes.holds(false, line.number, "there is no image of this name");
-                &[]
+        let mut found: Option<&[u8]> = None;
+        for it in &self.named {
+            if it.name == name {
+                found = Some(&it.image);
             }
         }
+        let what = "there is no image of this name";
+        notes.holds(found.is_some(), line.number, what);
+        found.unwrap_or(&[])
     }
 
     fn keep(&mut self, notes: &Notes, name: &'a str, image: Vec<u8>) {

@@ -2,7 +2,7 @@
 
 use crate::benches::{Bench, Runner};
 use crate::cases::{Call, Case};
-use crate::scripts::{Mark, Script};
+use crate::scripts::{Mark, Script, front_of};
 
 /// The commands that may change a segment.
 const CHANGING: [&[u8]; 21] = [
@@ -32,10 +32,33 @@ const CHANGING: [&[u8]; 21] = [
 impl Script {
     /// Whether a line may change a segment. One with an error before the fourth is refused whatever the mode is.
     fn is_changing(&self, mark: &Mark) -> bool {
-        let mut words = self.text_of(mark).split(|byte| b" \t\r".contains(byte));
-        let first = words.find(|word| !word.is_empty()).unwrap_or(&[]);
+        let first = first_word(self.text_of(mark));
         CHANGING.contains(&first) && !is_misspelled(self.answer_of(mark))
     }
+}
+
+impl Script {
+    /// How many lines there are up to the last that may change a segment.
+    fn changing(&self) -> usize {
+        let mut count = 0;
+        for (index, mark) in self.marks.iter().enumerate() {
+            if self.is_changing(mark) {
+                count = index.saturating_add(1);
+            }
+        }
+        count
+    }
+}
+
+/// The first word of a line, or nothing.
+fn first_word(line: &[u8]) -> &[u8] {
+    let line = line.trim_ascii_start();
+    for (index, byte) in line.iter().enumerate() {
+        if b" \t\r".contains(byte) {
+            return front_of(line, index);
+        }
+    }
+    line
 }
 
 /// Whether an answer is an error that comes before all others.
@@ -50,11 +73,7 @@ impl<R: Runner> Bench<R> {
     /// Runs each line in mode `ReadOnly` on the image that the lines leave, if it is known what it prints there: one that may change
     /// it is refused; one behind the last of these, and one that is misspelled, answers as it did.
     pub fn check_read_only<'x>(&self, left: &Case<'x>, script: &'x Script) {
-        let last = script
-            .marks
-            .iter()
-            .rposition(|mark| script.is_changing(mark));
-        let behind = last.map_or(0, |index| index.saturating_add(1));
+        let behind = script.changing();
         let mut case = left.saving(&[]);
         case.call = Call::ReadOnly;
         for (index, mark) in script.marks.iter().enumerate() {

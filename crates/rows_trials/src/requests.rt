@@ -31,6 +31,8 @@ impl<R: Runner> Bench<R> {
                 }
             }
         }
+        drop(before);
+        drop(command);
     }
 
     /// Makes the requests in sizes of one line, each with the bytes that are free then.
@@ -52,10 +54,22 @@ impl<R: Runner> Bench<R> {
         self.notes.put(&mut free, b"\n");
         for place in &places {
             case.place = *place;
-            for piece in PIECES {
-                case.piece = piece;
-                self.request(&case, line, &free, before, command);
-            }
+            self.request_by_pieces(&case, line, &free, before, command);
+        }
+    }
+
+    fn request_by_pieces<'x>(
+        &self,
+        case: &Case<'x>,
+        line: &Line<'_>,
+        free: &[u8],
+        before: &'x Script,
+        command: &Script,
+    ) {
+        let mut case = *case;
+        for piece in PIECES {
+            case.piece = piece;
+            self.request(&case, line, free, before, command);
         }
     }
 
@@ -82,6 +96,7 @@ impl<R: Runner> Bench<R> {
         } else {
             self.ask_in_vain(&case, free, command);
         }
+        drop(made);
     }
 
     /// Makes requests of which one has no fit: behind it all is as before.
@@ -97,6 +112,8 @@ impl<R: Runner> Bench<R> {
         behind.add_line(notes, case.line, LOOK, &stood.answers);
         let case = case.with_text(&behind.text, &behind.answers);
         self.check(&case.saving(&stood.saved));
+        drop(stood);
+        drop(behind);
     }
 
     /// Makes requests that have a fit: what they leave is an image, which is read and saved as it is.
@@ -107,8 +124,8 @@ impl<R: Runner> Bench<R> {
         behind.add_line(notes, case.line, b"free\n", free);
         let opened = *case;
         let done = self.outcome(&opened.with_text(&behind.text, &behind.answers));
-        let left = opened.on(&done.saved);
-        let left = left.with_text(&[], &[]);
-        self.check(&left.saving(&done.saved));
+        self.check(&opened.kept(&done.saved));
+        drop(done);
+        drop(behind);
     }
 }

@@ -106,5 +106,10 @@ pub fn front_of(bytes: &[u8], len: usize) -> &[u8] {
 
 /// Whether some bytes stand one behind another among others.
 pub fn has_piece(bytes: &[u8], piece: &[u8]) -> bool {
-    bytes.windows(piece.len().max(1)).any(|it| it == piece)
+    for it in bytes.windows(piece.len().max(1)) {
+        if it == piece {
+            return true;
+        }
+    }
+    false
 }

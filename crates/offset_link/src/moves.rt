@@ -139,44 +139,54 @@ fn runs_up(bytes: &mut [u8], at: usize, n: usize, by: usize, non_null: bool)
     ensures { bytes.new ≡ patched bytes.old (at + by) (relinked (bytes_of bytes.old) at (at + by) (8 * n)) }
 {
     if n <= NEAR {
-        return turns_up(bytes, at, n, by, 0, non_null);
+        turns_up(bytes, at, n, by, 0, non_null);
+        return;
     }
-    turns_up(bytes, at + 64 * AHEAD, n - AHEAD, by, 64 * AHEAD, non_null);
-    turns_up(bytes, at, AHEAD, by, 0, non_null);
+    let seen = turns_up(bytes, at + 64 * AHEAD, n - AHEAD, by, 64 * AHEAD, non_null);
+    turns_up(bytes, at, AHEAD, by, 0, still_known(non_null, seen));
 }
 
-/// The runs, the last of them first, two in a turn. Where they are far, words are looked at so many bytes `ahead`.
+/// The runs, the last of them first, two in a turn. Where they are far, words are looked at so many bytes `ahead`, so that a
+/// processor has them near in time. What was seen is answered and then asked, so that no compiler leaves the look out.
 #[inline(always)]
-fn turns_up(bytes: &mut [u8], at: usize, n: usize, by: usize, ahead: usize, non_null: bool)
+fn turns_up(bytes: &mut [u8], at: usize, n: usize, by: usize, ahead: usize, non_null: bool) -> u64
     requires ahead { ahead ≤ at }
     requires inside { at + by + 64 * n ≤ length bytes.old }
     requires non_null { IsTrue non_null → NoneIsNull (bytes_of bytes.old) at (8 * n) }
     ensures { bytes.new ≡ patched bytes.old (at + by) (relinked (bytes_of bytes.old) at (at + by) (8 * n)) }
 {
     let mut left = n;
+    let mut seen = 0;
     'runs: while left > 1 {
         left -= 2;
         let from = at + 64 * left;
-        let known = look_ahead(bytes, from - ahead, ahead > 0, non_null);
-        run_up(bytes, from + 64, by, known);
-        run_up(bytes, from, by, known);
+        seen |= look_ahead(bytes, from - ahead, ahead > 0);
+        run_up(bytes, from + 64, by, non_null);
+        run_up(bytes, from, by, non_null);
     }
     if left == 1 {
         run_up(bytes, at, by, non_null);
     }
+    seen
 }
 
-/// Looks at a word of each of two runs whose turn comes later, where they are far: a processor then has them near in time. So
-/// that this is not left out by a compiler, what was known of nulls is known no more where one of the two is one.
+/// A word of each of two runs whose turn comes later, in one, where they are far.
 #[inline(always)]
-fn look_ahead(bytes: &[u8], later: usize, far: bool, non_null: bool) -> bool
+fn look_ahead(bytes: &[u8], later: usize, far: bool) -> u64
     requires { later + 72 ≤ length bytes.now }
-    ensures { IsTrue result → IsTrue non_null }
 {
     if !far {
-        return non_null;
+        return 0;
     }
-    non_null && (word_in(bytes, later) | word_in(bytes, later + 64)) % 2 == 0
+    word_in(bytes, later) | word_in(bytes, later + 64)
+}
+
+/// Whether none is null is known still, after words ahead of their turn were seen.
+#[inline(always)]
+fn still_known(non_null: bool, seen: u64) -> bool
+    ensures { IsTrue result → IsTrue non_null }
+{
+    non_null && seen % 2 == 0
 }
 
 /// One run, link by link where one of it is null.
@@ -230,30 +240,34 @@ fn runs_down(bytes: &mut [u8], at: usize, n: usize, by: usize, non_null: bool)
     ensures { bytes.new ≡ patched bytes.old (at - by) (relinked (bytes_of bytes.old) at (at - by) (8 * n)) }
 {
     if n <= NEAR {
-        return turns_down(bytes, at, n, by, 0, non_null);
+        turns_down(bytes, at, n, by, 0, non_null);
+        return;
     }
     let far = n - AHEAD;
-    turns_down(bytes, at, far, by, 64 * AHEAD, non_null);
-    turns_down(bytes, at + 64 * far, AHEAD, by, 0, non_null);
+    let seen = turns_down(bytes, at, far, by, 64 * AHEAD, non_null);
+    turns_down(bytes, at + 64 * far, AHEAD, by, 0, still_known(non_null, seen));
 }
 
-/// The runs, the first of them first, two in a turn. Where they are far, words are looked at so many bytes `ahead`.
+/// The runs, the first of them first, two in a turn. Where they are far, words are looked at so many bytes `ahead`, as
+/// `turns_up` does.
 #[inline(always)]
-fn turns_down(bytes: &mut [u8], at: usize, n: usize, by: usize, ahead: usize, non_null: bool)
+fn turns_down(bytes: &mut [u8], at: usize, n: usize, by: usize, ahead: usize, non_null: bool) -> u64
     requires source { at + 64 * n + ahead ≤ length bytes.old }
     requires inside { by ≤ at }
     requires non_null { IsTrue non_null → NoneIsNull (bytes_of bytes.old) at (8 * n) }
     ensures { bytes.new ≡ patched bytes.old (at - by) (relinked (bytes_of bytes.old) at (at - by) (8 * n)) }
 {
+    let mut seen = 0;
     'runs: for i in 0..n / 2 {
         let from = at + 128 * i;
-        let known = look_ahead(bytes, from + ahead, ahead > 0, non_null);
-        run_down(bytes, from, by, known);
-        run_down(bytes, from + 64, by, known);
+        seen |= look_ahead(bytes, from + ahead, ahead > 0);
+        run_down(bytes, from, by, non_null);
+        run_down(bytes, from + 64, by, non_null);
     }
     if n % 2 == 1 {
         run_down(bytes, at + 64 * (n - 1), by, non_null);
     }
+    seen
 }
 
 /// One run, link by link where one of it is null.

@@ -1,4 +1,4 @@
-use Rattle.std.proofs.Common.{◌≡◌, ℕ, ◌+◌, ◌-◌, ◌*◌, ◌<◌, ◌≤◌, List, length, ap, ◌∙◌, arith}
+use Rattle.std.proofs.Common.{◌≡◌, ℕ, ◌+◌, ◌-◌, ◌*◌, ◌≤◌, List, length, ap, ◌∙◌, arith}
 use Rattle.raw_region.specs.Memory.{bytes_of, patched}
 use Rattle.offset_link.specs.Relinked.{relinked, NoneIsNull}
 use Rattle.offset_link.proofs.Shifting.{non_null-after, non_null-part, run_after}
@@ -24,12 +24,12 @@ module _ (b one : List ℕ) (at by n : ℕ) (within : at + 64 * n ≤ length b) 
       (f ∙ (λ i. patched one (t i) (relinked (bytes_of one) (a i) (t i) 64)))
       ∙ ap (λ (i : ℕ). patched b (at - by) (relinked (bytes_of b) at (at - by) i)) all
 
-pub turns_down-requires-3-clause-non_null : goal.turns_down-requires-3-clause-non_null
-turns_down-requires-3-clause-non_null c = λ known.
-    last c.args.bytes.now c.turns_down-2.new.bytes c.args.at c.args.by c.args.n c.requires.source c.requires.inside
-    (omega (arith, c.if-n-le-NEAR.false)) c.turns_down-2.ensures (c.requires.non_null known)
+pub turns_down-requires-2-clause-non_null : goal.turns_down-requires-2-clause-non_null
+turns_down-requires-2-clause-non_null c = λ known.
+    last c.args.bytes.now c.turns_down-seen.new.bytes c.args.at c.args.by c.args.n c.requires.source c.requires.inside
+    (omega (arith, c.if-n-le-NEAR.false)) c.turns_down-seen.ensures (c.requires.non_null (c.still_known.ensures known))
 
 pub returns : goal.returns
 returns c =
-    both c.args.bytes.now c.turns_down-2.new.bytes c.args.at c.args.by c.args.n c.requires.source c.requires.inside
-    (omega (arith, c.if-n-le-NEAR.false)) c.turns_down-2.ensures c.turns_down-3.new.bytes c.turns_down-3.ensures
+    both c.args.bytes.now c.turns_down-seen.new.bytes c.args.at c.args.by c.args.n c.requires.source c.requires.inside
+    (omega (arith, c.if-n-le-NEAR.false)) c.turns_down-seen.ensures c.turns_down-2.new.bytes c.turns_down-2.ensures

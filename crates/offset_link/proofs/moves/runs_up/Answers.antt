@@ -1,4 +1,4 @@
-use Rattle.std.proofs.Common.{◌≡◌, ℕ, ◌+◌, ◌-◌, ◌*◌, ◌<◌, ◌≤◌, List, length, ap, ◌∙◌, arith}
+use Rattle.std.proofs.Common.{◌≡◌, ℕ, ◌+◌, ◌-◌, ◌*◌, ◌≤◌, List, length, ap, ◌∙◌, arith}
 use Rattle.raw_region.specs.Memory.{bytes_of, patched}
 use Rattle.offset_link.specs.Relinked.{relinked, NoneIsNull}
 use Rattle.offset_link.proofs.Shifting.{non_null-before, non_null-part, run_before}
@@ -21,18 +21,18 @@ module _ (b one : List ℕ) (at by n : ℕ) (within : at + by + 64 * n ≤ lengt
       (e ∙ (λ j. patched b (t j) (relinked (bytes_of b) (a j) (t j) (8 * (n - 8))))) f
       ∙ ap (λ (j : ℕ). patched b (at + by) (relinked (bytes_of b) at (at + by) j)) all
 
-pub turns_up-requires-2-clause-non_null : goal.turns_up-requires-2-clause-non_null
-turns_up-requires-2-clause-non_null c = λ known.
+pub turns_up-seen-requires-clause-non_null : goal.turns_up-seen-requires-clause-non_null
+turns_up-seen-requires-clause-non_null c = λ known.
     let many = c.if-n-le-NEAR.false in
     non_null-part (bytes_of c.args.bytes.now) c.args.at (8 * c.args.n) (c.args.at + 512) 64 (8 * (c.args.n - 8))
     (omega arith) (omega arith) (c.requires.non_null known)
 
-pub turns_up-requires-3-clause-non_null : goal.turns_up-requires-3-clause-non_null
-turns_up-requires-3-clause-non_null c = λ known.
-    first c.args.bytes.now c.turns_up-2.new.bytes c.args.at c.args.by c.args.n c.requires.inside
-    (omega (arith, c.if-n-le-NEAR.false)) c.turns_up-2.ensures (c.requires.non_null known)
+pub turns_up-requires-2-clause-non_null : goal.turns_up-requires-2-clause-non_null
+turns_up-requires-2-clause-non_null c = λ known.
+    first c.args.bytes.now c.turns_up-seen.new.bytes c.args.at c.args.by c.args.n c.requires.inside
+    (omega (arith, c.if-n-le-NEAR.false)) c.turns_up-seen.ensures (c.requires.non_null (c.still_known.ensures known))
 
 pub returns : goal.returns
 returns c =
-    both c.args.bytes.now c.turns_up-2.new.bytes c.args.at c.args.by c.args.n c.requires.inside
-    (omega (arith, c.if-n-le-NEAR.false)) c.turns_up-2.ensures c.turns_up-3.new.bytes c.turns_up-3.ensures
+    both c.args.bytes.now c.turns_up-seen.new.bytes c.args.at c.args.by c.args.n c.requires.inside
+    (omega (arith, c.if-n-le-NEAR.false)) c.turns_up-seen.ensures c.turns_up-2.new.bytes c.turns_up-2.ensures

@@ -68,12 +68,12 @@ module _ (b cur : List ℕ) (at by n i : ℕ) (within : at + 64 * n ≤ length b
 pub run_down-requires-clause-non_null : goal.run_down-requires-clause-non_null
 run_down-requires-clause-non_null c = λ known.
     set_first c.args.bytes.now c.runs.bytes c.args.at c.args.by c.args.n c.runs.i (omega (arith, c.requires.source)) c.requires.inside
-    (omega arith) c.runs.invariant (c.requires.non_null (c.look_ahead-known.ensures known))
+    (omega arith) c.runs.invariant (c.requires.non_null known)
 
 pub run_down-requires-in-runs-clause-non_null : goal.run_down-requires-in-runs-clause-non_null
 run_down-requires-in-runs-clause-non_null c = λ known.
     set_second c.args.bytes.now c.runs.bytes c.args.at c.args.by c.args.n c.runs.i (omega (arith, c.requires.source)) c.requires.inside
-    (omega arith) c.runs.invariant c.run_down.new.bytes c.run_down.ensures (c.requires.non_null (c.look_ahead-known.ensures known))
+    (omega arith) c.runs.invariant c.run_down.new.bytes c.run_down.ensures (c.requires.non_null known)
 
 pub runs-preserved : goal.runs-preserved
 runs-preserved c =

@@ -79,12 +79,12 @@ module _ (b cur : List ℕ) (at by n left : ℕ) (within : at + by + 64 * n ≤ 
 pub run_up-requires-clause-non_null : goal.run_up-requires-clause-non_null
 run_up-requires-clause-non_null c = λ known.
     set_first c.args.bytes.now c.runs.bytes c.args.at c.args.by c.args.n c.runs.left c.requires.inside (omega arith)
-    c.runs.invariant.some c.runs.invariant.moved (c.requires.non_null (c.look_ahead-known.ensures known))
+    c.runs.invariant.some c.runs.invariant.moved (c.requires.non_null known)
 
 pub run_up-requires-in-runs-clause-non_null : goal.run_up-requires-in-runs-clause-non_null
 run_up-requires-in-runs-clause-non_null c = λ known.
     set_second c.args.bytes.now c.runs.bytes c.args.at c.args.by c.args.n c.runs.left c.requires.inside (omega arith)
-    c.runs.invariant.some c.runs.invariant.moved c.run_up.new.bytes c.run_up.ensures (c.requires.non_null (c.look_ahead-known.ensures known))
+    c.runs.invariant.some c.runs.invariant.moved c.run_up.new.bytes c.run_up.ensures (c.requires.non_null known)
 
 pub runs-preserved : goal.runs-preserved
 runs-preserved c = record {

@@ -245,7 +245,14 @@ fn runs_down(bytes: &mut [u8], at: usize, n: usize, by: usize, non_null: bool)
     }
     let far = n - AHEAD;
     let seen = turns_down(bytes, at, far, by, 64 * AHEAD, non_null);
-    turns_down(bytes, at + 64 * far, AHEAD, by, 0, still_known(non_null, seen));
+    turns_down(
+        bytes,
+        at + 64 * far,
+        AHEAD,
+        by,
+        0,
+        still_known(non_null, seen),
+    );
 }
 
 /// The runs, the first of them first, two in a turn. Where they are far, words are looked at so many bytes `ahead`, as

@@ -1,16 +1,18 @@
 -- The words for the codes.
 use Rattle.std.specs.Prelude.{ℕ, List, [], codes, ◌==◌, if◌then◌else◌}
+use Rattle.seg_types.specs.Refusals.{refusal_words}
+use Rattle.seg_types.specs.declared.refusals.Refusal.TheVariants.{ReadOnly, Exists, NotFound, WrongKind, OutOfRange, NoSpace}
 
 -- those of a segment, of what is passed, and of images that are none
 abbrev pub code_words : ℕ → List ℕ
 code_words code =
     if code == 0 then codes "done"
-    else if code == 4 then codes "read only"
-    else if code == 5 then codes "already exists"
-    else if code == 6 then codes "not found"
-    else if code == 7 then codes "wrong kind"
-    else if code == 8 then codes "out of range"
-    else if code == 9 then codes "no space"
+    else if code == 4 then refusal_words ReadOnly
+    else if code == 5 then refusal_words Exists
+    else if code == 6 then refusal_words NotFound
+    else if code == 7 then refusal_words WrongKind
+    else if code == 8 then refusal_words OutOfRange
+    else if code == 9 then refusal_words NoSpace
     else if code == 10 then codes "nothing is there"
     else if code == 16 then codes "the handle is closed"
     else if code == 17 then codes "no such key"

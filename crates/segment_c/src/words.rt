@@ -2,6 +2,8 @@
 ghost use Rattle.std.specs.Prelude.{◌≡◌};
 ghost use Rattle.segment_c.specs.Words.{code_words};
 
+use seg_types::Refusal;
+
 /// The words for a code, which stay as long as the program runs; none where it is no code.
 #[unsafe(no_mangle)]
 pub extern "C" fn zx_words(code: u32, words: &mut &'static [u8])
@@ -16,12 +18,12 @@ fn code_words(code: u32) -> &'static [u8]
 {
     match code {
         0 => b"done",
-        4 => b"read only",
-        5 => b"already exists",
-        6 => b"not found",
-        7 => b"wrong kind",
-        8 => b"out of range",
-        9 => b"no space",
+        4 => Refusal::ReadOnly.words().as_bytes(),
+        5 => Refusal::Exists.words().as_bytes(),
+        6 => Refusal::NotFound.words().as_bytes(),
+        7 => Refusal::WrongKind.words().as_bytes(),
+        8 => Refusal::OutOfRange.words().as_bytes(),
+        9 => Refusal::NoSpace.words().as_bytes(),
         10 => b"nothing is there",
         16 => b"the handle is closed",
         17 => b"no such key",

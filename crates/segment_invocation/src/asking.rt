@@ -8,7 +8,8 @@ ghost use Rattle.clap.specs.declared.error.kind.ErrorKind.TheVariants.{DisplayVe
 ghost use Rattle.segment_lang.specs.Words.{number_of};
 ghost use Rattle.segment_invocation.specs.Invocations.{Asked, IsAskedBy, IsWritten, Reads, asked_by, asked_help, asked_in, asked_run, is_set, mode_of, saving_of, size_of};
 ghost use Rattle.segment_invocation.specs.declared.invocations.Invocation.TheVariants.{Version};
-ghost use Rattle.segment_invocation.specs.declared.usage.InvocationFault.TheVariants.{OutOfMemory};
+ghost use Rattle.segment_invocation.specs.declared.usage.InvocationFault.TheVariants.{OutOfMemory, Usage};
+ghost use Rattle.segment_invocation.specs.declared.usage.UsageError.TheVariants.{Words};
 
 use crate::command_line::command_line;
 use crate::invocations::{Answering, Invocation, ModeName, Saving};
@@ -172,6 +173,8 @@ fn read_command<'a>(
 fn read_other<'a>(other: Misread) -> Result<Invocation<'a>, InvocationFault>
     ensures version { kind_of other ≡ DisplayVersion → result ≡ Ok Version }
     ensures memory { kind_of other ≡ NoMemory → result ≡ Err OutOfMemory }
+    ensures wrong { (kind_of other ≡ DisplayVersion → ⊥) → (kind_of other ≡ NoMemory → ⊥)
+        → result ≡ Err (Usage (Words other)) }
     ensures only { IfOk result (λ i. (i ≡ Version) × (kind_of other ≡ DisplayVersion)) }
 {
     if other.kind() == ErrorKind::DisplayVersion {

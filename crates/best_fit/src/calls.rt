@@ -1,5 +1,5 @@
-//! The calls of a heap that take blocks, give them back and change their sizes. No window is in reach here: what they do, they
-//! do through `Touches`, which counts it.
+//! The calls of a heap that take blocks, give them back and change their sizes. What they do, they do through `Touches`, which
+//! counts it.
 ghost use Rattle.std.specs.Prelude.{◌≡◌, ◌≢◌, true, is_ok, ◌<◌, ◌+◌, ◌≤◌, IsTrue};
 ghost use Rattle.raw_region.specs.Format.{current};
 ghost use Rattle.best_fit.specs.Heap.{Allocates, IsExtended, IsReleased, IsShortened, heap_touches, is_live_in, live_of};

@@ -1,7 +1,7 @@
-pub mod AbsentPairs
-pub mod NoTexts
-pub mod RangeLists
-pub mod RangeObjects
-pub mod RangeReads
-pub mod RangeRows
-pub mod RangeWrites
+mod AbsentPairs
+mod NoTexts
+mod RangeLists
+mod RangeObjects
+mod RangeReads
+mod RangeRows
+mod RangeWrites

@@ -2,6 +2,7 @@ mod TextItems
 mod Decimals
 mod LongLines
 mod WordList
+mod BareWords
 mod TextSpelling
 mod FormTables
 mod FirstWords

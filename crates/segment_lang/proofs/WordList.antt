@@ -93,10 +93,10 @@ bare_longer true true c front rest = refl
 bare_longer true false c front rest = refl
 bare_longer false a c front rest = refl
 
-bare_at_blank : (c : ℕ) (cs : List ℕ) → is_blank c ≡ true → bare_at (c ∷ cs) ≡ Some ([], c ∷ cs)
+pub bare_at_blank : (c : ℕ) (cs : List ℕ) → is_blank c ≡ true → bare_at (c ∷ cs) ≡ Some ([], c ∷ cs)
 bare_at_blank c cs h = front_cons c cs ∙ rw h refl
 
-bare_at_more : (c : ℕ) (cs : List ℕ) → is_blank c ≡ false
+pub bare_at_more : (c : ℕ) (cs : List ℕ) → is_blank c ≡ false
     → bare_at (c ∷ cs) ≡ cond (is_bare c) (longer c (bare_at cs)) None
 unfolding bare_at
 bare_at_more c cs h = front_cons c cs

@@ -1,9 +1,9 @@
 //! Where words begin and end: the blanks of a line.
 
-ghost use Rattle.std.specs.Prelude.{◌≡◌, ◌≤◌, ◌+◌, length};
+ghost use Rattle.std.specs.Prelude.{◌≡◌, ◌≤◌, length};
 ghost use Rattle.segment_lang.specs.Words.{is_blank};
 ghost use Rattle.segment_lang.specs.Reading.{skip_blanks};
-ghost use Rattle.segment_lang.specs.Tokens.{at_end, up_to_blank, behind_word};
+ghost use Rattle.segment_lang.specs.Tokens.{at_end};
 
 /// Whether a byte parts words: a space or a tab.
 pub fn is_blank(byte: u8) -> bool
@@ -32,20 +32,4 @@ pub fn at_end(bytes: &[u8]) -> bool
     ensures { result ≡ at_end bytes.now }
 {
     skip_blanks(bytes).is_empty()
-}
-
-/// The bytes up to the first blank, or all of them, and what is behind them.
-pub fn split_word(bytes: &[u8]) -> (&[u8], &[u8])
-    ensures word { result.0.now ≡ up_to_blank bytes.now }
-    ensures rest { result.1.now ≡ behind_word bytes.now }
-    ensures shorter { length result.0.now + length result.1.now ≡ length bytes.now }
-{
-    let mut rest = bytes;
-    'word: while let [first, tail @ ..] = rest {
-        if is_blank(*first) {
-            break;
-        }
-        rest = tail;
-    }
-    bytes.split_at(bytes.len() - rest.len())
 }

@@ -1,8 +1,8 @@
 //! The words of a line, one after another.
 
-ghost use Rattle.std.specs.Prelude.{◌≡◌, ◌≤◌, ◌<◌, ◌+◌, ◌++◌, drop, length, option_map, take_while, IfSome, Some, None};
+ghost use Rattle.std.specs.Prelude.{◌≡◌, ◌≤◌, ◌<◌, ◌+◌, ◌++◌, drop, length, option_map, take, take_while, IfSome, Some, None};
 ghost use Rattle.std.specs.Prelude.{if◌then◌else◌};
-ghost use Rattle.std.specs.List.{list_all};
+ghost use Rattle.std.specs.List.{prefix_len};
 ghost use Rattle.raw_region.specs.Format.{current};
 ghost use Rattle.seg_types.specs.Names.{is_name};
 ghost use Rattle.segment_lang.specs.Words.{is_bare, is_plain, digit_of};
@@ -11,7 +11,7 @@ ghost use Rattle.segment_lang.specs.Tokens.{next_word, only_word, three_words, t
 ghost use Rattle.segment_lang.specs.Tokens.{behind_text, text_in, up_to_blank};
 ghost use Rattle.segment_lang.specs.Seen.{bytes_said, word_of};
 
-use crate::blanks::{at_end, is_blank, skip_blanks, split_word};
+use crate::blanks::{at_end, is_blank, skip_blanks};
 use crate::buffer::Text;
 use seg_types::{LONGEST_NAME, Name};
 use std::marker::Model;
@@ -122,22 +122,30 @@ fn is_bare(byte: u8) -> bool
     byte.is_ascii_graphic() && byte != b'"'
 }
 
-/// Whether each byte may stand in a bare word.
-fn are_bare(bytes: &[u8]) -> bool
-    ensures { result ≡ list_all is_bare bytes.now }
+/// The bytes in front that may stand in a bare word, and what is from the first other one on.
+fn split_bare(bytes: &[u8]) -> (&[u8], &[u8])
+    ensures front { result.0.now ≡ take (prefix_len is_bare bytes.now) bytes.now }
+    ensures rest { result.1.now ≡ drop (prefix_len is_bare bytes.now) bytes.now }
+    ensures shorter { length result.0.now + length result.1.now ≡ length bytes.now }
 {
-    bytes.iter().all(|byte| is_bare(*byte))
+    let mut rest = bytes;
+    'bare: while let [first, tail @ ..] = rest {
+        if !is_bare(*first) {
+            break;
+        }
+        rest = tail;
+    }
+    bytes.split_at(bytes.len() - rest.len())
 }
 
 /// The bare word in front, up to a blank, and what is behind it.
-#[tactic(auto, unfolding(crate::specs::Tokens::bare_at))]
 fn read_bare(bytes: &[u8]) -> Option<(&[u8], &[u8])>
     ensures value { option_map (λ x. (x.0.now, x.1.now)) result ≡ bare_at bytes.now }
     ensures shorter { IfSome result (λ x. length (up_to_blank bytes.now) + length x.1.now ≡ length bytes.now) }
     ensures fits { IfSome result (λ x. length x.0.now ≤ length bytes.now) }
 {
-    let (word, rest) = split_word(bytes);
-    if !are_bare(word) {
+    let (word, rest) = split_bare(bytes);
+    if !ends_word(rest) {
         return None;
     }
     Some((word, rest))

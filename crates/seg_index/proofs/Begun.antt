@@ -3,12 +3,12 @@ use Rattle.seg_index.proofs.Common.{◌≡◌, ◌≢◌, refl, sym, ap, subst, 
 use Rattle.seg_index.proofs.Common.{◌<◌, ◌≤◌, inl, inr, List, [], ◌∷◌, length, bit_and, arith, slice_cmp, slice_range}
 use Rattle.seg_index.proofs.Common.{nat_cmp, ordering_reverse, Ordering, Less, Equal, Greater, cases_lt}
 use Rattle.seg_index.proofs.Common.{nat_list_cmp_total, big_number, Memory, bytes_of, read, AreBytes, front}
-use Rattle.std.proofs.{Common.drop, Common.slice_index, Math.Nat.add-mul, Math.Nat.mul-le-mul_right, Math.Nat.mul_assoc}
-use Rattle.std.proofs.lemmas.List.{get_or-drop, get_or-take, get_or_past, length-take}
-use Rattle.std.proofs.{lemmas.Nat.and_mask, lemmas.Nat.mod_low, lemmas.Nat.pow-add, lemmas.Nat.Bits.ones_shr}
-use Rattle.std.specs.{Cmp.nat_cmp_is, Ordering.ordering_then}
+use Rattle.std.proofs.{Math.Nat.add-mul, Math.Nat.mul-le-mul_right, Math.Nat.mul_assoc, Common.drop, Common.slice_index}
+use Rattle.std.proofs.lemmas.{List.get_or-drop, List.get_or-take, List.get_or_past, List.length-take, Nat.Bits.ones_shr}
+use Rattle.std.{proofs.lemmas.Nat.and_mask, proofs.lemmas.Nat.mod_low, proofs.lemmas.Nat.pow-add, specs.Cmp.nat_cmp_is}
+use Rattle.std.specs.Ordering.{ordering_then}
 use Rattle.byteorder.proofs.Bytes.{pow256}
-use Rattle.byteorder.specs.{Endian.big_from, Numbers.big_from-cons, Numbers.big_from-lt}
+use Rattle.byteorder.specs.{Numbers.big_from-cons, Numbers.big_from-lt, Endian.big_from}
 
 -- ---- numbers of bytes
 nothing : (i n : ℕ) → big_from i n [] ≡ 0

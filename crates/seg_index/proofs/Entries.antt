@@ -5,15 +5,13 @@ use Rattle.seg_index.proofs.Common.{none-some, same_Some, slice_get-get_or, Cut,
 use Rattle.seg_index.proofs.Common.{Extent, handle, holds, others, extent_at, has_room, live_of, Table, same_role}
 use Rattle.seg_index.proofs.Common.{serves, found-room, room-less, Key, Lookup, Found, Absent, comparisons_in, order_at}
 use Rattle.seg_index.proofs.Common.{beside_table, IsIndexOf, place_of, AreLinks, AreKeys, IsPlaceIn, order, is_live_in}
-use Rattle.seg_index.proofs.Changing.{changed_room, changed_used, changed_touches}
-use Rattle.seg_index.proofs.Rooms.{Inside, inside, block_small, block_ends, found_live}
-use Rattle.seg_index.proofs.Links.{all_at, at_links, entry_here, links_at}
-use Rattle.std.proofs.{lemmas.Bool.eqb-true, lemmas.Option.slice_get_within}
-use Rattle.block_tags.specs.declared.tile.Role.TheVariants.{Index as IndexRole}
-use Rattle.seg_index.specs.{declared.index.Index.Index, Lookups.HasKey, Lookups.HasKeys, Lookups.IsPlace}
-use Rattle.seg_index.specs.declared.index.Index.TheVariants.{Named, Unique}
-use Rattle.seg_index.specs.Comparing.{comparisons}
-use Rattle.seg_index.proofs.{Counting.none_left, Counting.same_comparisons}
+use Rattle.seg_index.proofs.{Changing.changed_room, Changing.changed_used, Changing.changed_touches, Common.IndexRole}
+use Rattle.seg_index.proofs.Links.{Inside, inside, block_small, block_ends, found_live, all_at, at_links, entry_here}
+use Rattle.seg_index.proofs.Links.{links_at}
+use Rattle.std.proofs.lemmas.{Option.slice_get_within, Bool.eqb-true}
+use Rattle.seg_index.specs.declared.index.Index.{TheVariants.Named, TheVariants.Unique, Index}
+use Rattle.seg_index.{specs.Lookups.HasKey, specs.Lookups.HasKeys, specs.Lookups.IsPlace, proofs.Changing.InHeader}
+use Rattle.seg_index.{proofs.Orders.none_left, proofs.Orders.same_comparisons, specs.Comparing.comparisons}
 
 -- ---- the place of an index
 
@@ -24,10 +22,6 @@ place_small Unique = omega arith
 pub place_behind : (i : Index) → 32 ≤ place_of i
 place_behind Named = omega arith
 place_behind Unique = omega arith
-
-pub record InHeader (at : ℕ) : Type 0 where
-  pub behind : 32 ≤ at
-  pub small : at + 24 ≤ 128
 
 pub in_header : (i : Index) → InHeader (place_of i)
 in_header i = record { behind = place_behind i; small = place_small i }

@@ -1,6 +1,6 @@
 -- What was taken goes back.
 use Rattle.seg_index.proofs.{ℕ, sym, subst, Option, IfSome, current, Cut, IsAllocated, Keeps, LaysOut, live_of}
-use Rattle.block_tags.specs.declared.tile.Role.TheVariants.{Index as IndexRole}
+use Rattle.seg_index.proofs.{IndexRole}
 use Rattle.best_fit.proofs.Laws.{taken-back}
 use Rattle.seg_index.proofs.index.Index.give_back.Goals as goal
 

@@ -11,9 +11,6 @@ mod fronts;
 mod growing;
 mod index;
 mod keys;
-mod removing;
-mod resizing;
-mod searching;
 pub mod theorems;
 
 pub use growing::Growth;

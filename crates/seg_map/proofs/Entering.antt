@@ -1,23 +1,21 @@
 -- The pairs of a map as a search tree.
 use Rattle.seg_map.proofs.Common.{◌≡◌, refl, sym, ap, ◌∙◌, ℕ, suc, ◌+◌, ◌≤◌, ◌≢◌, inl, inr, Bool, true, ◌&&◌, not, List}
-use Rattle.seg_map.proofs.Common.{[], ◌∷◌, length, map, arith, ◌==◌, Option, Some, None, find, option_map}
-use Rattle.seg_map.proofs.Common.{AllByRecursion, list_all, reverse, and_parts, cases_Bool, eq-eqb, le-leb, leb-true}
-use Rattle.seg_map.proofs.Common.{Memory, Has, bytes_of, read, Cut, Node, link_at, Tree, IsTree, nodes_of, rises}
-use Rattle.seg_map.proofs.Common.{first_not, is_in, last_before, leads, all_from, root_in, tree_same, Extent, LiveSet}
-use Rattle.seg_map.proofs.Common.{handle, cells_of, others, Keeps, SameBlock, extent_at, live_of, value_in, IsKeyTree}
-use Rattle.seg_map.proofs.Common.{keys_in, Pair, IsPairAt, is_rising, HoldsMap, IsPairIn, first_pair, is_passed}
-use Rattle.seg_map.proofs.Common.{last_pair, nodes_of_pairs, pair_node, before_key, comes_before, stands, is_pair_node}
-use Rattle.seg_map.proofs.Common.{key_at, key_of, links_among, own_nodes, pair_cells, stands_before, Chains, IsStrict}
-use Rattle.seg_map.proofs.Common.{Good, In, PairNode-is_pair_node, cells_at, node_block}
+use Rattle.seg_map.proofs.Common.{◌∷◌, length, map, arith, ◌==◌, Option, Some, None, find, option_map, AllByRecursion}
+use Rattle.seg_map.proofs.Common.{list_all, reverse, and_parts, cases_Bool, eq-eqb, le-leb, leb-true, Memory, Has}
+use Rattle.seg_map.proofs.Common.{bytes_of, read, Cut, Node, link_at, Tree, IsTree, nodes_of, rises, first_not, is_in}
+use Rattle.seg_map.proofs.Common.{last_before, leads, all_from, root_in, tree_same, Extent, LiveSet, handle, cells_of}
+use Rattle.seg_map.proofs.Common.{others, Keeps, SameBlock, extent_at, live_of, value_in, IsKeyTree, keys_in, Pair}
+use Rattle.seg_map.proofs.Common.{IsPairAt, is_rising, HoldsMap, IsPairIn, first_pair, is_passed, last_pair}
+use Rattle.seg_map.proofs.Common.{nodes_of_pairs, pair_node, before_key, comes_before, stands, is_pair_node, key_at}
+use Rattle.seg_map.proofs.Common.{key_of, links_among, own_nodes, pair_cells, stands_before, Chains, IsStrict, Good, In}
+use Rattle.seg_map.proofs.Common.{PairNode-is_pair_node, cells_at, node_block, Plain, []}
 use Rattle.std.proofs.Common.{◌^◌}
 use Rattle.link_tree.proofs.Laws.{above_more, bits_most, bounds_height, reads_off, tree_limit}
-use Rattle.best_fit.specs.Table.{same_role, serves}
-use Rattle.best_fit.proofs.Laws.{holds_closed}
-use Rattle.seg_types.specs.declared.plain.Plain.{Ghosts as Plain}
+use Rattle.best_fit.{specs.Table.same_role, specs.Table.serves, proofs.Laws.holds_closed}
 use Rattle.seg_types.proofs.Laws.{value-spelled}
 use Rattle.seg_map.specs.PairNodes.{is_block_in, nodes_in}
 use Rattle.seg_map.specs.PairLaws.{comes_irreflexive, comes_transitive, few_extents, handles_length, in_handles}
-use Rattle.seg_map.proofs.FoundLists.{all_reversed, each, each_both, find_mapped, map_reversed}
+use Rattle.seg_map.proofs.PairLists.{AreAt, AreIn, HaveKeys, all_reversed, each, each_both, find_mapped, map_reversed}
 use Rattle.seg_map.proofs.PairSteps.{all_in, any_at, in_others}
 
 -- the laws of a plain type
@@ -74,19 +72,6 @@ pub other_block : {c d : Cut} (live : LiveSet) (h g : ℕ) {x : Extent} → Keep
 other_block {c} {d} live h g {x} k f o =
     all_in (SameBlock (bytes_of c.bytes) (bytes_of d.bytes)) (others h live.extents) x k.blocks
     (in_others h x live.extents (found_in live.extents g x f) o)
-
--- ---- lists of pairs
-
--- all are pairs of a map, and the bytes of each are there
-abbrev pub AreIn : {K V : Type 0} → Plain K → Plain V → LiveSet → ℕ → List (Pair K V) → Type 0
-AreIn kp vp live h = AllByRecursion (IsPairIn kp vp live h)
-
-abbrev pub AreAt : {K V : Type 0} → Plain K → Plain V → Memory → List (Pair K V) → Type 0
-AreAt kp vp m = AllByRecursion (IsPairAt kp.SIZE kp.spelling vp.spelling m)
-
--- the keys are those of the pairs
-abbrev pub HaveKeys : {K V : Type 0} → (ℕ → Option K) → List (Pair K V) → Type 0
-HaveKeys {K} {V} keys ps = AllByRecursion (λ (p : Pair K V). keys (pair_node p) ≡ Some p.key) ps
 
 module _ {K V : Type 0} (less : K → K → Bool) where
   pub rising_nodes : Chains less → (keys : ℕ → Option K) (ps : List (Pair K V)) → HaveKeys keys ps

@@ -4,22 +4,19 @@ use Rattle.seg_map.proofs.Common.{Option, Some, None, IfSome, both_ways, eq-eqb,
 use Rattle.seg_map.proofs.Common.{nodes_of, is_in, without, Extent, LiveSet, handle, released, LaysOut, is_live_in}
 use Rattle.seg_map.proofs.Common.{live_of, found-less, found-room, laid-heap, lay_out_one, roomy, Pair, pair_at}
 use Rattle.seg_map.proofs.Common.{remove_pair, HoldsMap, IsPairIn, nodes_of_pairs, pair_node, own_nodes, Relinked}
-use Rattle.seg_map.proofs.Common.{keys_in, IsErased, IsHeaded, exit_in, ◌⊎◌, ◌<◌, inl, inr, Bool, true, [], ◌∷◌, map}
+use Rattle.seg_map.proofs.Common.{keys_in, IsErased, IsHeaded, exit_in, ◌⊎◌, ◌<◌, inl, inr, Bool, true, ◌∷◌, map}
 use Rattle.seg_map.proofs.Common.{AllByRecursion, cases_Bool, cases_eq, ne_eqb, word_at, IsTree, Tree, fork, leaf}
 use Rattle.seg_map.proofs.Common.{root_of, root_in, SameBlockBut, is_proper, others, cells_of, extent_at, live-rises}
-use Rattle.seg_map.proofs.Common.{Chains, In, IsStrict, is_key, is_rising, IsBesideMap}
+use Rattle.seg_map.proofs.Common.{Chains, In, IsStrict, is_key, is_rising, IsBesideMap, Rising, Plain, []}
 use Rattle.seg_map.proofs.PairLists.{in_nodes, none_left, other_nodes, removed_all, removed_length, apart_all}
 use Rattle.seg_map.proofs.PairLists.{removed_rising, without_nodes, in_from, nodes_in, Below, rising_below}
-use Rattle.seg_map.proofs.PairLists.{either_right, rising_rest}
+use Rattle.seg_map.proofs.{PairLists.either_right, PairLists.rising_rest, PairLists.each_both, PairSteps.any_at}
+use Rattle.seg_map.proofs.{Payloads.begins_behind, Payloads.own_handle, Searching.lent_own, Searching.lent_tree}
 use Rattle.seg_map.proofs.Entering.{Laws, found_in, good, keys, listed, other_block}
-use Rattle.best_fit.proofs.Laws.{released-live, keeps-refl, Rising, others-comm, rising-weak}
-use Rattle.seg_types.specs.declared.plain.Plain.{Ghosts as Plain}
-use Rattle.seg_map.proofs.Staying.{at_node, map_stays, AtNode}
-use Rattle.best_fit.specs.{Heap.IsReleased, Exchange.exchanged, Exchange.without_all}
-use Rattle.seg_map.specs.{Linking.CanUnlink, Changing.IsTaken, Changing.IsGivenUp}
-use Rattle.seg_map.proofs.{FoundLists.each_both, Frames.beside_then, Frames.keeps_beside, Rewriting.relaid}
-use Rattle.seg_map.proofs.{Searching.lent_own, Searching.lent_tree, PairSteps.any_at, Payloads.begins_behind}
-use Rattle.seg_map.proofs.{Payloads.own_handle}
+use Rattle.best_fit.proofs.Laws.{released-live, keeps-refl, others-comm, rising-weak}
+use Rattle.seg_map.proofs.Staying.{at_node, map_stays, AtNode, beside_then, keeps_beside, relaid}
+use Rattle.best_fit.specs.{Exchange.exchanged, Exchange.without_all, Heap.IsReleased}
+use Rattle.seg_map.specs.{Changing.IsTaken, Changing.IsGivenUp, Linking.CanUnlink}
 
 module _ {K V : Type 0} {kp : Plain K} {vp : Plain V} (kl : Laws kp) (c : Cut) {h at : ℕ} {root : Option ℕ}
     {ps : List (Pair K V)} (s : HoldsMap kp vp c.bytes h at ps) (is : root ≡ link_at (bytes_of c.bytes) (h + at))

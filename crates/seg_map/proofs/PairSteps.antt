@@ -1,26 +1,24 @@
 -- One field of one node changes.
 use Rattle.seg_map.proofs.Common.{◌≡◌, refl, sym, ap, subst, ◌∙◌, ℕ, ◌+◌, ◌-◌, ◌%◌, ◌<◌, ◌≤◌, ◌⊎◌, inl, inr, Bool, true}
-use Rattle.seg_map.proofs.Common.{false, ◌&&◌, List, [], ◌∷◌, arith, nat_lt, nat_le, ◌==◌, IsTrue, Option, Some, None}
+use Rattle.seg_map.proofs.Common.{false, ◌&&◌, List, ◌∷◌, arith, nat_lt, nat_le, ◌==◌, IsTrue, Option, Some, None}
 use Rattle.seg_map.proofs.Common.{IfSome, if◌then◌else◌, AllByRecursion, list_any, false≢true, both_ways, cases_Bool}
 use Rattle.seg_map.proofs.Common.{cases_eq, and_parts, or_cases, or_left, or_right, eqb-true, eq-eqb, ne_eqb, leb-true}
 use Rattle.seg_map.proofs.Common.{le-leb, ltb-true, lt-ltb, Cut, Same, SamePlace, bytes_of, read, word_at, current}
 use Rattle.seg_map.proofs.Common.{SameBut-Same, SameBut-word, is_in, leads, all_from, link_at, Same-link, SameBut-link}
-use Rattle.seg_map.proofs.Common.{Extent, LiveSet, handle, end_of, others, cells_of, IsChanged, SameBlock}
-use Rattle.seg_map.proofs.Common.{is_live_in, has_room, live_of, beside_cell, cell_stays, is_proper-IsProper}
-use Rattle.seg_map.proofs.Common.{lay_out_one, is_kept, is_link_byte, is_other, is_pair_node, kept_of, key_at, key_of}
-use Rattle.seg_map.proofs.Common.{links_among, pair_cells, Good, In, PairNode, PairNode-is_pair_node, cells_at}
-use Rattle.seg_map.proofs.Common.{disjoint, is_pair_node-PairNode, lies, node_block, node_place, passing}
-use Rattle.std.proofs.{Common.◌/◌, Math.Nat.le_refl, Math.Nat.le_trans, Math.Nat.lt_of_lt_of_le}
+use Rattle.seg_map.proofs.Common.{Extent, LiveSet, handle, end_of, others, cells_of, IsChanged, SameBlock, is_live_in}
+use Rattle.seg_map.proofs.Common.{has_room, live_of, beside_cell, cell_stays, is_proper-IsProper, lay_out_one, is_kept}
+use Rattle.seg_map.proofs.Common.{is_link_byte, is_other, is_pair_node, kept_of, key_at, key_of, links_among}
+use Rattle.seg_map.proofs.Common.{pair_cells, Good, In, PairNode, PairNode-is_pair_node, cells_at, disjoint}
+use Rattle.seg_map.proofs.Common.{is_pair_node-PairNode, lies, node_block, node_place, passing, comes_before, keys_in}
+use Rattle.seg_map.proofs.Common.{stands_before, value_in, Plain, []}
+use Rattle.seg_map.specs.{declared.reading.Sought.Sought, PairNodes.is_good}
+use Rattle.std.proofs.{Math.Nat.le_refl, Math.Nat.le_trans, Math.Nat.lt_of_lt_of_le, Common.◌/◌}
 use Rattle.std.proofs.lemmas.Bool.{cases_lt, not-true}
 use Rattle.raw_region.proofs.Laws.{Same-read}
-use Rattle.link_tree.specs.{Tree.Cell, Nodes.with_left, Nodes.with_right, Nodes.with_red}
-use Rattle.best_fit.specs.{FreeTree.is_red, Heap.IsRecoloured, Heap.is_node_in, Heap.is_node_role}
+use Rattle.link_tree.specs.{Nodes.with_left, Nodes.with_right, Nodes.with_red, Tree.Cell}
+use Rattle.best_fit.specs.{Heap.IsRecoloured, Heap.is_node_in, Heap.is_node_role, FreeTree.is_red}
 use Rattle.best_fit.proofs.Laws.{others-here, others-past}
-use Rattle.seg_map.specs.PairNodes.{is_good}
 use Rattle.seg_map.specs.PairLaws.{Good-is_good, Place, cells_off, link_parts, links_at}
-use Rattle.seg_types.specs.declared.plain.Plain.{Ghosts as Plain}
-use Rattle.seg_map.specs.declared.reading.Sought.{Sought}
-use Rattle.seg_map.proofs.Common.{comes_before, keys_in, stands_before, value_in}
 
 -- what a setter does to the window
 pub record Changed (len : ℕ) (ns : List ℕ) (c d : Cut) (n : ℕ) : Type 0 where

@@ -1,32 +1,10 @@
 -- Bytes of a block that are read.
-use Rattle.seg_map.proofs.Common.{Memory, refl, suc, ◌≡◌, sym, ap, ◌∙◌, ℕ, ◌+◌, ◌-◌, ◌≤◌, inl, inr, true, ◌&&◌, List}
-use Rattle.seg_map.proofs.Common.{[], ◌∷◌, length, take, drop, arith, ◌==◌, IsTrue, Option, Some, None, find, list_any}
-use Rattle.seg_map.proofs.Common.{and_parts, eqb-true, eq-eqb, leb-true, bytes_of, read, Extent, handle, is_proper}
-use Rattle.seg_map.proofs.Common.{has_room, is_live_in, live_of, changed-room, room-less, is_proper-IsProper, In, lies}
-use Rattle.seg_map.proofs.Common.{live-rises, ne_eqb, passing, subst}
-use Rattle.best_fit.specs.Extents.{holds}
+use Rattle.seg_map.proofs.Common.{Memory, refl, suc, ◌≡◌, ap, ℕ, ◌+◌, ◌-◌, ◌≤◌, inl, inr, ◌&&◌, List, ◌∷◌, length}
+use Rattle.seg_map.proofs.Common.{arith, ◌==◌, IsTrue, Some, find, and_parts, eqb-true, eq-eqb, leb-true, read, Extent}
+use Rattle.seg_map.proofs.Common.{handle, is_proper, has_room, live_of, changed-room, room-less, is_proper-IsProper, In}
+use Rattle.seg_map.proofs.Common.{lies, ne_eqb, passing, subst, allocated-room, Rising, []}
+use Rattle.best_fit.{proofs.Laws.legal_size, specs.Extents.holds}
 use Rattle.std.proofs.Common.{zero}
-use Rattle.best_fit.proofs.Laws.{allocated-room, Rising, legal_size}
-use Rattle.seg_map.specs.PairLaws.{Lies}
-
--- a block with room for so many bytes
-pub record RoomAt (xs : List Extent) (h n : ℕ) : Type 0 where
-  pub extent : Extent
-  pub listed : In extent xs
-  pub at : handle extent ≡ h
-  pub long : n + 16 ≤ extent.len
-
-pub room_at : (xs : List Extent) (h n : ℕ) → list_any (λ (x : Extent). (handle x == h) && holds x n) xs ≡ true
-    → RoomAt xs h n
-room_at xs h n e =
-    let p = passing (λ (x : Extent). (handle x == h) && holds x n) xs e in
-    let two = and_parts _ _ p.passes in
-    record {
-      extent = p.extent;
-      listed = p.listed;
-      at = eqb-true (handle p.extent) h two.0;
-      long = leb-true (n + 16) p.extent.len two.1;
-    }
 
 -- no extent begins before the first
 pub begins_behind : (n : ℕ) (zs : List Extent) (x : Extent) → Rising n zs → In x zs → n ≤ x.offset
@@ -43,21 +21,16 @@ own_handle n (z ∷ zs) x r (inr i) =
     let l = begins_behind (z.offset + 1) zs x r.1 i in
     rw (ne_eqb (handle z) (handle x) (λ f. omega (arith, l, f))) (own_handle (z.offset + 1) zs x r.1 i)
 
-module _ (b : List ℕ) (h n : ℕ) (proper : IsTrue (is_proper (live_of b)))
-    (room : IsTrue (has_room (live_of b) h n)) where
-  r : RoomAt (live_of b).extents h n
-  r = room_at (live_of b).extents h n room
-
-  lying : Lies 128 r.extent ((live_of b).size - 16)
-  lying =
-      let p = is_proper-IsProper (live_of b) proper in
-      lies 128 (live_of b).extents ((live_of b).size - 16) r.extent p.list r.listed
-
-  pub small : h + n ≤ 1073741824
-  unfolding live_of
-  small =
-      let high = lying.high in let at = r.at in let long = r.long in
-      let p = is_proper-IsProper (live_of b) proper in let s = (legal_size (live_of b).size p.size).high in omega arith
+-- a sum within a block is small
+pub small : (b : List ℕ) (h n : ℕ) → IsTrue (is_proper (live_of b)) → IsTrue (has_room (live_of b) h n)
+    → h + n ≤ 1073741824
+unfolding live_of
+small b h n proper room =
+    let r = passing (λ (x : Extent). (handle x == h) && holds x n) (live_of b).extents room in
+    let two = and_parts _ _ r.passes in let at = eqb-true (handle r.extent) h two.0 in
+    let long = leb-true (n + 16) r.extent.len two.1 in let p = is_proper-IsProper (live_of b) proper in
+    let high = (lies 128 (live_of b).extents ((live_of b).size - 16) r.extent p.list r.listed).high in
+    let size = (legal_size (live_of b).size p.size).high in omega arith
 
 pub length-read : (m : Memory) (at n : ℕ) → length (read m at n) ≡ n
 length-read m at zero = refl

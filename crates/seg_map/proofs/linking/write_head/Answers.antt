@@ -1,6 +1,6 @@
 -- Three words that follow each other.
 use Rattle.seg_map.proofs.{◌≡◌, ◌+◌, arith, headed}
-use Rattle.seg_map.proofs.heading.write_head.Goals as goal
+use Rattle.seg_map.proofs.linking.write_head.Goals as goal
 
 pub returns : goal.returns
 returns c =

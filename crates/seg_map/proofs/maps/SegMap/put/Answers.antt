@@ -7,7 +7,7 @@ pub write_value-requires : goal.write_value-requires
 write_value-requires g c =
     let ps = c.requires.0 in let s = c.requires.1 in
     let k = key_at_node c.find_in-trace.ensures.found s c.in-Some.is in
-    rw (← k.at, c.SIZE.ensures) (value_room c.args.heap.now s c.args.key k.is)
+    rw (← k.at, c.SIZE.ensures) (value_room c.args.heap.now s c.args.key k.holds)
 
 pub returns-in-Some-clause-put : goal.returns-in-Some-clause-put
 returns-in-Some-clause-put g c = λ ps s.
@@ -16,9 +16,9 @@ returns-in-Some-clause-put g c = λ ps s.
     let place : c.in-Some.node + (16 + c.SIZE.result) ≡ handle k.pair.node + (16 + g.K.Plain.SIZE) =
     (λ i. sym k.at i + (16 + c.SIZE.ensures i)) in
     let one : g.K.Plain.is_value c.args.key ≡ true = rw c.in-Some.is at c.find_in-trace.ensures.value in
-    rw k.is (
+    rw k.holds (
       refl,
-      is_put_again w s c.args.key k.is (laws g.met.K.Plain) (laws g.met.V.Plain) g.met.K.Plain.total c.args.value one
+      is_put_again w s c.args.key k.holds (laws g.met.K.Plain) (laws g.met.V.Plain) g.met.K.Plain.total c.args.value one
           written.value
           (rw place at written.change)
           (rw place at written.content),

@@ -11,10 +11,6 @@ use Rattle.byteorder.proofs.Bytes.{pow256}
 use Rattle.byteorder.specs.{Numbers.big_from-cons, Numbers.big_from-lt, Endian.big_from}
 
 -- ---- numbers of bytes
-nothing : (i n : ℕ) → big_from i n [] ≡ 0
-nothing i zero = refl
-nothing i (suc n) = omega (arith, nothing (suc i) n)
-
 big_from-same : (i n : ℕ) (xs ys : List ℕ) → ((k : ℕ) → i ≤ k → k < i + n → slice_index xs k ≡ slice_index ys k)
     → big_from i n xs ≡ big_from i n ys
 big_from-same i zero xs ys same = refl
@@ -71,7 +67,7 @@ front_less : (n : ℕ) (xs ys : List ℕ) → AreBytes xs → AreBytes ys → bi
 front_less zero xs ys bx by l = absurd (omega arith)
 front_less (suc n) [] [] bx by l = absurd (omega arith)
 front_less (suc n) [] (y ∷ ys) bx by l = refl
-front_less (suc n) (x ∷ xs) [] bx by l = absurd (omega (arith, nothing 0 (suc n)))
+front_less (suc n) (x ∷ xs) [] bx by l = absurd (omega (arith, big_from-zeros 0 (suc n) [] (λ k low. refl)))
 front_less (suc n) (x ∷ xs) (y ∷ ys) bx by l = elim (cases_lt x y) [
   | inl before ↦ then_rest x y xs ys Less (nat_cmp_is x y Less before)
   | inr not_before ↦ elim (cases_lt y x) [

@@ -13,10 +13,6 @@ use Rattle.best_fit.proofs.Laws.{blocks-trans, changed-header_blocks, others-com
 pub same_live : {a b : Cut} {from n : ℕ} → IsChanged current a b from n → live_of b.bytes ≡ live_of a.bytes
 same_live c = changed-live current _ _ _ _ c
 
-pub changed_room : (a b : Cut) (from n h k : ℕ) → IsChanged current a b from n → IsTrue (has_room (live_of a.bytes) h k)
-    → IsTrue (has_room (live_of b.bytes) h k)
-changed_room a b from n h k c room = rw (same_live c) room
-
 pub changed_used : (a b : Cut) (from n h : ℕ) → IsChanged current a b from n → IsTrue (is_live_in (live_of a.bytes) h)
     → IsTrue (is_live_in (live_of b.bytes) h)
 changed_used a b from n h c used = rw (same_live c) used

@@ -22,7 +22,7 @@ pub use Rattle.seg_index.specs.declared.keys.Lookup.{TheVariants.Absent, TheVari
 pub use Rattle.std.proofs.Common.{Bool, IsTrue, List, [], ap, ap₂, arith, bit_and, false, get_or, inl, inr, length, min}
 pub use Rattle.std.proofs.Common.{refl, subst, suc, sym, true, zero, ℕ, ◌%◌, ◌*◌, ◌+◌, ◌-◌, ◌/◌, ◌<◌, ◌==◌, ◌^◌, ◌∙◌}
 pub use Rattle.std.proofs.Common.{◌∷◌, ◌≡◌, ◌≢◌, ◌≤◌}
-pub use Rattle.std.proofs.lemmas.Bool.{and_from, and_parts, cases_lt, leb-true, lt-ltb}
+pub use Rattle.std.proofs.lemmas.Bool.{and_from, and_parts, cases_lt, leb-true, lt-ltb, cases_Bool}
 pub use Rattle.std.proofs.lemmas.{Option.none-some, Option.same_Some, Option.slice_get-get_or, Cmp.nat_list_cmp_total}
 pub use Rattle.std.proofs.lemmas.List.Edits.{length-insert, length-remove}
 pub use Rattle.std.specs.Cmp.Lexicographic.{slice_cmp}

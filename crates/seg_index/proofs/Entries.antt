@@ -5,13 +5,13 @@ use Rattle.seg_index.proofs.Common.{none-some, same_Some, slice_get-get_or, Cut,
 use Rattle.seg_index.proofs.Common.{Extent, handle, holds, others, extent_at, has_room, live_of, Table, same_role}
 use Rattle.seg_index.proofs.Common.{serves, found-room, room-less, Key, Lookup, Found, Absent, comparisons_in, order_at}
 use Rattle.seg_index.proofs.Common.{beside_table, IsIndexOf, place_of, AreLinks, AreKeys, IsPlaceIn, order, is_live_in}
-use Rattle.seg_index.proofs.{Changing.changed_room, Changing.changed_used, Changing.changed_touches, Common.IndexRole}
+use Rattle.seg_index.proofs.{Changing.changed_used, Changing.changed_touches, Changing.InHeader, Common.IndexRole}
 use Rattle.seg_index.proofs.Links.{Inside, inside, block_small, block_ends, found_live, all_at, at_links, entry_here}
-use Rattle.seg_index.proofs.Links.{links_at}
+use Rattle.seg_index.{specs.Lookups.HasKey, specs.Lookups.HasKeys, specs.Lookups.IsPlace, proofs.Links.links_at}
 use Rattle.std.proofs.lemmas.{Option.slice_get_within, Bool.eqb-true}
 use Rattle.seg_index.specs.declared.index.Index.{TheVariants.Named, TheVariants.Unique, Index}
-use Rattle.seg_index.{specs.Lookups.HasKey, specs.Lookups.HasKeys, specs.Lookups.IsPlace, proofs.Changing.InHeader}
 use Rattle.seg_index.{proofs.Orders.none_left, proofs.Orders.same_comparisons, specs.Comparing.comparisons}
+use Rattle.best_fit.proofs.Laws.{changed-room}
 
 -- ---- the place of an index
 
@@ -126,7 +126,7 @@ places_room {c} {t = t} block place k i some e f b few =
 pub link_used : {c : Cut} {at : ℕ} {t : Table} {hs : List ℕ} (block place : ℕ) {o : Option ℕ} → IsIndexOf c at t hs
     → place ≡ at → o ≡ link_at (bytes_of c.bytes) place → o ≡ Some block → IsTrue (is_live_in (live_of c.bytes) block)
 link_used {c} block place i e f is =
-    let p = placed block i (leads_from c e f is) in found_live (live_of c.bytes) block p.extent p.found
+    let p = placed block i (leads_from c e f is) in found_live block (live_of c.bytes).extents p.extent p.found
 
 -- what shows that there is room in a block, also once something changed, and that a sum within one fits
 pub ruleset sizes = (
@@ -136,7 +136,7 @@ pub ruleset sizes = (
   room-less,
   places_room,
   link_used,
-  changed_room,
+  changed-room,
   changed_used,
   changed_touches,
 )

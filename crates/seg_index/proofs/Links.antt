@@ -1,11 +1,11 @@
 -- Blocks in use, their links, and the handles that these lead to.
-use Rattle.seg_index.proofs.Common.{◌≡◌, refl, subst, ℕ, ◌+◌, ◌≤◌, Bool, true, false, List, [], ◌∷◌, length, arith}
-use Rattle.seg_index.proofs.Common.{IsTrue, ◌==◌, AllByRecursion, Option, Some, none-some, same_Some, current, Cut}
-use Rattle.seg_index.proofs.Common.{Extent, LiveSet, handle, IsHeap, extent_at, has_room, is_live_in, live_of, among}
-use Rattle.seg_index.proofs.Common.{live-rises, room_block, sym, ap, ◌∙◌, zero, suc, ◌-◌, ◌*◌, ◌%◌, ◌<◌, inl, inr}
-use Rattle.seg_index.proofs.Common.{get_or, insert, remove, slice_get, cases_lt, length-insert, length-remove}
-use Rattle.seg_index.proofs.Common.{slice_get-get_or, Memory, link_at, AllLead, KeepTargets, AreLinks}
-use Rattle.std.{proofs.Common.◌||◌, proofs.Common.cond, specs.List.list_any, specs.Prelude.find}
+use Rattle.seg_index.proofs.Common.{◌≡◌, refl, subst, ℕ, ◌+◌, ◌≤◌, List, [], ◌∷◌, length, arith, IsTrue, ◌==◌}
+use Rattle.seg_index.proofs.Common.{AllByRecursion, Option, Some, none-some, same_Some, current, Cut, Extent, handle}
+use Rattle.seg_index.proofs.Common.{IsHeap, extent_at, has_room, live_of, among, live-rises, room_block, sym, ap, ◌∙◌}
+use Rattle.seg_index.proofs.Common.{zero, suc, ◌-◌, ◌*◌, ◌%◌, ◌<◌, inl, inr, get_or, insert, remove, slice_get}
+use Rattle.seg_index.proofs.Common.{cases_lt, length-insert, length-remove, slice_get-get_or, Memory, link_at, AllLead}
+use Rattle.seg_index.proofs.Common.{KeepTargets, AreLinks, cases_Bool}
+use Rattle.std.specs.{List.list_any, Prelude.find}
 use Rattle.std.proofs.lemmas.List.Edits.{get_or-insert_above, get_or-insert_at, get_or-insert_below}
 use Rattle.std.proofs.lemmas.List.Edits.{get_or-remove_above, get_or-remove_below}
 
@@ -17,27 +17,18 @@ first h xs = find (λ (y : Extent). handle y == h) xs
 pub all_found : (P : Extent → Type 0) (h : ℕ) (xs : List Extent) (x : Extent) → AllByRecursion P xs
     → first h xs ≡ Some x → P x
 all_found P h [] x a e = absurd (none-some x e)
-all_found P h (y ∷ ys) x a e = by_case (handle y == h) e (all_found P h ys x a.1)
-  where
-    by_case : (b : Bool) → cond b (Some y) (first h ys) ≡ Some x → (first h ys ≡ Some x → P x) → P x
-    by_case true e rest = subst P (same_Some y x e) a.0
-    by_case false e rest = rest e
+all_found P h (y ∷ ys) x a e = elim (cases_Bool (handle y == h)) [
+  | inl here ↦ let f = rw here at e in subst P (same_Some y x f) a.0
+  | inr other ↦ all_found P h ys x a.1 (rw other at e)
+]
 
-any_found : (h : ℕ) (xs : List Extent) (x : Extent) → first h xs ≡ Some x
+pub found_live : (h : ℕ) (xs : List Extent) (x : Extent) → first h xs ≡ Some x
     → IsTrue (list_any (λ (y : Extent). handle y == h) xs)
-any_found h [] x e = absurd (none-some x e)
-any_found h (y ∷ ys) x e = by_case (handle y == h) e (any_found h ys x)
-  where
-    any : Bool
-    any = list_any (λ (z : Extent). handle z == h) ys
-
-    by_case : (b : Bool) → cond b (Some y) (first h ys) ≡ Some x → (first h ys ≡ Some x → IsTrue any)
-        → IsTrue (b || any)
-    by_case true e rest = refl
-    by_case false e rest = rest e
-
-pub found_live : (l : LiveSet) (h : ℕ) (x : Extent) → extent_at l h ≡ Some x → IsTrue (is_live_in l h)
-found_live l h x e = any_found h l.extents x e
+found_live h [] x e = absurd (none-some x e)
+found_live h (y ∷ ys) x e = elim (cases_Bool (handle y == h)) [
+  | inl here ↦ rw here refl
+  | inr other ↦ rw other (found_live h ys x (rw other at e))
+]
 
 pub found_handle : (c : Cut) (h : ℕ) (x : Extent) → IsHeap current c.bytes → extent_at (live_of c.bytes) h ≡ Some x
     → handle x ≡ h

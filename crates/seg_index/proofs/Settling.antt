@@ -273,7 +273,7 @@ source {c} {m} o = subst (λ (p : Option ℕ). Source c m p) (sym o.leads) (by_c
           links = subst (λ k. AreLinks (bytes_of c.bytes) k m.handles) (sym begins) p.links;
           room = λ n few. subst (λ k. IsTrue (has_room (live_of c.bytes) k n)) (sym begins)
               (room-less (live_of c.bytes) b (8 * m.table.capacity) n (omega arith) p.room);
-          left = (found_live (live_of c.bytes) b p.extent p.found, λ q. apart (ap (λ k. Some k) q));
+          left = (found_live b (live_of c.bytes).extents p.extent p.found, λ q. apart (ap (λ k. Some k) q));
         }
 
 -- where the block is written it is still offered

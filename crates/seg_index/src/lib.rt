@@ -7,7 +7,6 @@
 
 mod adding;
 mod comparing;
-mod fronts;
 mod growing;
 mod index;
 mod keys;

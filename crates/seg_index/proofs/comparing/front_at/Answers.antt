@@ -1,7 +1,7 @@
 -- The eight bytes lie in the heap, whose last 16 bytes are no block's.
 use Rattle.seg_index.proofs.{◌≡◌, ◌+◌, ◌-◌, ◌*◌, ◌/◌, ◌%◌, ◌^◌, ◌∙◌, ap, subst, arith, bit_and, ℕ, List, slice_range}
 use Rattle.seg_index.proofs.{big_number, bytes_of, AreBytes, name_len_at, long_front, short_front}
-use Rattle.seg_index.proofs.fronts.front_at.Goals as goal
+use Rattle.seg_index.proofs.comparing.front_at.Goals as goal
 
 -- the bytes of the name, of the length that was read
 bytes_there : (b held : List ℕ) → held ≡ b → AreBytes held → AreBytes b

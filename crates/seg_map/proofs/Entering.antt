@@ -124,9 +124,6 @@ length-nodes (p ∷ ps) = ap suc (length-nodes ps)
 
 module _ {K V : Type 0} {kp : Plain K} {vp : Plain V} (laws : Laws kp) (c : Cut) {h at : ℕ} {ps : List (Pair K V)}
     (s : HoldsMap kp vp c.bytes h at ps) where
-  pub listed : nodes_of s.map.tree.tree ≡ nodes_of_pairs ps
-  listed = s.map.tree.lists
-
   pub pair_block : (p : Pair K V) → IsPairIn kp vp (live_of c.bytes) h p
       → is_block_in (16 + kp.SIZE) (live_of c.bytes) (pair_node p) ≡ true
   pair_block p i =
@@ -141,7 +138,7 @@ module _ {K V : Type 0} {kp : Plain K} {vp : Plain V} (laws : Laws kp) (c : Cut)
       let ns = nodes_of s.map.tree.tree in
       record {
         proper = s.heap.proper;
-        blocks = rw listed (pairs_all (is_block_in (16 + kp.SIZE) (live_of c.bytes))
+        blocks = rw s.map.tree.lists (pairs_all (is_block_in (16 + kp.SIZE) (live_of c.bytes))
             (IsPairIn kp vp (live_of c.bytes) h) ps
             pair_block s.pairs);
         links = all_from (links_among (bytes_of c.bytes) ns) ns (λ m i.
@@ -176,7 +173,7 @@ module _ {K V : Type 0} {kp : Plain K} {vp : Plain V} (laws : Laws kp) {c : Cut}
   pub keys_among : HaveKeys (keys_in kp own c) ps
   keys_among =
       keys_from ps (all_from (λ n. is_in n (nodes_of s.map.tree.tree)) (nodes_of_pairs ps)
-      (λ m i. ap (λ ms. is_in m ms) (listed laws c s) ∙ i)) s.pairs s.map.pairs
+      (λ m i. ap (λ ms. is_in m ms) s.map.tree.lists ∙ i)) s.pairs s.map.pairs
 
   leads_among : (o : Option ℕ) → IsTree (cells_of (bytes_of c.bytes)) o s.map.tree.tree
       → leads (is_pair_node (16 + kp.SIZE) own c) o ≡ true
@@ -190,7 +187,7 @@ module _ {K V : Type 0} {kp : Plain K} {vp : Plain V} (laws : Laws kp) {c : Cut}
         tree = record {
           tree = tree_same (cells_of (bytes_of c.bytes)) (pair_cells (16 + kp.SIZE) own c) root s.map.tree.tree
               (λ m i. cells_at (16 + kp.SIZE) own c m (node_in m i)) s.map.tree.linked;
-          ordered = ap (rises (comes_before kp.order (keys_in kp own c))) (listed laws c s)
+          ordered = ap (rises (comes_before kp.order (keys_in kp own c))) s.map.tree.lists
               ∙ rising_nodes kp.order laws.transitive (keys_in kp own c) ps keys_among s.rising;
           red_black = s.map.tree.red_black;
         };
@@ -231,10 +228,7 @@ module _ {K V : Type 0} {kp : Plain K} {vp : Plain V} (laws : Laws kp) (c : Cut)
       ap nodes_in (reads_off.whole 82 (λ n. true) (cells_of (bytes_of c.bytes)) (link_at (bytes_of c.bytes) (h + at)) t
       s.map.tree.linked (all_from (λ n. true) ns (λ m i. refl)) (omega arith))
 
-  pub count_pairs : length ns ≡ length ps
-  count_pairs = ap length s.map.tree.lists ∙ length-nodes ps
-
 -- a map has few pairs
 pub few_in_map : {K V : Type 0} {kp : Plain K} {vp : Plain V} (kl : Laws kp) (c : Cut) {h at : ℕ} {ps : List (Pair K V)}
     (s : HoldsMap kp vp c.bytes h at ps) → length ps ≤ 1073741824
-few_in_map kl c s = let few = few_pairs kl c s in let same = count_pairs kl c s in omega (arith, few, same)
+few_in_map kl c {ps = ps} s = omega (arith, few_pairs kl c s, ap length s.map.tree.lists ∙ length-nodes ps)

@@ -7,16 +7,17 @@ use Rattle.seg_map.proofs.Common.{remove_pair, HoldsMap, IsPairIn, nodes_of_pair
 use Rattle.seg_map.proofs.Common.{keys_in, IsErased, IsHeaded, exit_in, ◌⊎◌, ◌<◌, inl, inr, Bool, true, ◌∷◌, map}
 use Rattle.seg_map.proofs.Common.{AllByRecursion, cases_Bool, cases_eq, ne_eqb, word_at, IsTree, Tree, fork, leaf}
 use Rattle.seg_map.proofs.Common.{root_of, root_in, SameBlockBut, is_proper, others, cells_of, extent_at, live-rises}
-use Rattle.seg_map.proofs.Common.{Chains, In, IsStrict, is_key, is_rising, IsBesideMap, Rising, Plain, []}
+use Rattle.seg_map.proofs.Common.{Chains, In, IsStrict, is_key, is_rising, IsBesideMap, Rising, Plain, [], not}
+use Rattle.seg_map.{specs.Changing.IsTaken, specs.Changing.IsGivenUp, proofs.Common.or_right}
+use Rattle.seg_map.{proofs.Searching.lent_own, proofs.Searching.lent_tree, specs.Linking.CanUnlink}
 use Rattle.seg_map.proofs.PairLists.{in_nodes, none_left, other_nodes, removed_all, removed_length, apart_all}
-use Rattle.seg_map.proofs.PairLists.{removed_rising, without_nodes, in_from, nodes_in, Below, rising_below}
-use Rattle.seg_map.proofs.{PairLists.either_right, PairLists.rising_rest, PairLists.each_both, PairSteps.any_at}
-use Rattle.seg_map.proofs.{Payloads.begins_behind, Payloads.own_handle, Searching.lent_own, Searching.lent_tree}
-use Rattle.seg_map.proofs.Entering.{Laws, found_in, good, keys, listed, other_block}
+use Rattle.seg_map.proofs.PairLists.{removed_rising, without_nodes, in_from, nodes_in, Below, rising_below, rising_rest}
+use Rattle.seg_map.proofs.{PairSteps.any_at, PairSteps.begins_behind, PairSteps.own_handle, PairLists.each_both}
+use Rattle.seg_map.proofs.Entering.{Laws, found_in, good, keys, other_block}
 use Rattle.best_fit.proofs.Laws.{released-live, keeps-refl, others-comm, rising-weak}
 use Rattle.seg_map.proofs.Staying.{at_node, map_stays, AtNode, beside_then, keeps_beside, relaid}
 use Rattle.best_fit.specs.{Exchange.exchanged, Exchange.without_all, Heap.IsReleased}
-use Rattle.seg_map.specs.{Changing.IsTaken, Changing.IsGivenUp, Linking.CanUnlink}
+use Rattle.std.proofs.lemmas.Bool.{false_from_ne_true}
 
 module _ {K V : Type 0} {kp : Plain K} {vp : Plain V} (kl : Laws kp) (c : Cut) {h at : ℕ} {root : Option ℕ}
     {ps : List (Pair K V)} (s : HoldsMap kp vp c.bytes h at ps) (is : root ≡ link_at (bytes_of c.bytes) (h + at))
@@ -32,7 +33,7 @@ module _ {K V : Type 0} {kp : Plain K} {vp : Plain V} (kl : Laws kp) (c : Cut) {
   can_unlink start begins = record {
     shape = s.map.tree.tree;
     tree = lent_tree kl c s is refl;
-    listed = (λ i. is_in (sym here i) (listed kl c s i)) ∙ in_nodes kp.order ps key p has;
+    listed = (λ i. is_in (sym here i) (s.map.tree.lists i)) ∙ in_nodes kp.order ps key p has;
     begins = rw ns_is begins;
   }
 
@@ -40,8 +41,8 @@ module _ {K V : Type 0} {kp : Plain K} {vp : Plain V} (kl : Laws kp) (c : Cut) {
   pub taken : {d e : Cut} {top : Option ℕ} {n steps : ℕ} → Relinked kp lent c d root top (without node) steps → Laws vp
       → n + 1 ≡ length ps → IsHeaded d e (h + at) top n → IsTaken kp vp c e h at ps key
   taken u vl count head =
-      relaid s (lent_tree kl c s is refl) u kl vl ps s.pairs s.map.pairs (ns_is ∙ listed kl c s)
-      (rw ns_is (good kl c s)) head ((λ i. without (sym here i) (listed kl c s i))
+      relaid s (lent_tree kl c s is refl) u kl vl ps s.pairs s.map.pairs (ns_is ∙ s.map.tree.lists)
+      (rw ns_is (good kl c s)) head ((λ i. without (sym here i) (s.map.tree.lists i))
       ∙ without_nodes kp.order kl.irreflexive kl.transitive (keys_in kp (nodes_of s.map.tree.tree) c) p key ps
       (keys kl c s) s.rising has)
       (λ P a. removed_all kp.order P ps key a) (removed_rising kp.order kl.transitive ps key s.rising)
@@ -134,7 +135,7 @@ module _ {K V : Type 0} (less : K → K → Bool) where
           → AllByRecursion (λ (x : Pair K V). pair_at less qs x.key ≡ Some x) xs
           → AllByRecursion (λ (x : Pair K V). pair_at less (q ∷ qs) x.key ≡ Some x) xs
       behind [] b a = tt
-      behind (x ∷ xs) b a = (rw (either_right (less x.key q.key) (less q.key x.key) b.0) a.0, behind xs b.1 a.1)
+      behind (x ∷ xs) b a = (rw (ap not (or_right (less x.key q.key) (less q.key x.key) b.0)) a.0, behind xs b.1 a.1)
 
 -- ---- extents in order
 
@@ -224,8 +225,7 @@ module _ {K V : Type 0} {k : Plain K} {v : Plain V} (kl : Laws k) {old now : Cut
 
     off : (x : Extent) → is_in (handle x) (nodes_of_pairs ps) ≡ false
         → is_in (handle x) (nodes_of_pairs g.pairs) ≡ false
-    off x o = elim (cases_Bool (is_in (handle x) (nodes_of_pairs g.pairs)))
-        [ inl t ↦ absurd (both_ways _ o (g.among (handle x) t)) | inr f ↦ f ]
+    off x o = false_from_ne_true _ (λ t. both_ways _ o (g.among (handle x) t))
 
     apart : (x : Extent) → is_in (handle x) (nodes_of_pairs ps) ≡ false → handle x ≢ handle p.node
     apart x o f = both_ways _ (off x o) (ap (λ n. is_in n (nodes_of_pairs g.pairs)) f

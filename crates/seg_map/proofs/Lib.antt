@@ -1,6 +1,5 @@
 mod Common
 mod PairSteps
-mod Payloads
 mod PairLists
 mod Entering
 mod Searching
@@ -10,7 +9,6 @@ mod PutPairs
 pub mod Laws
 pub use Common.*
 pub use PairSteps.*
-pub use Payloads.*
 pub use Searching.*
 pub use Staying.*
 pub use PairLists.*

@@ -6,9 +6,9 @@ use Rattle.seg_map.proofs.Common.{length, ◌==◌, both_ways, or_left, or_right
 use Rattle.seg_map.proofs.Common.{is_key, remove_pair, nodes_of_pairs, pair_node, LiveSet, eqb-true, false≢true}
 use Rattle.seg_map.proofs.Common.{or_cases, ◌⊎◌, has_place, put, put_pair, before_key, comes_before, Plain, Memory}
 use Rattle.seg_map.proofs.Common.{IsPairAt, IsPairIn, IfSome, stands, stands_before, []}
-use Rattle.std.proofs.Common.{◌++◌, nat_eq}
+use Rattle.std.proofs.{lemmas.List.map-append, Common.◌++◌, Common.nat_eq}
 use mathlib.Core.List.{reverse-cons}
-use Rattle.std.proofs.lemmas.Bool.{or_parts, and_from, true≢false, false_from_ne_true}
+use Rattle.std.proofs.lemmas.Bool.{or_parts, and_from, true≢false, false_from_ne_true, not-false}
 use Rattle.link_tree.proofs.Laws.{without_none}
 
 -- what follows of each from what holds of each
@@ -34,15 +34,11 @@ all_reversed P (x ∷ xs) a =
     subst (AllByRecursion P) (sym (reverse-cons x xs)) (all_append P (reverse xs) (x ∷ []) (all_reversed P xs a.1)
     (a.0, tt))
 
-map_append : {A B : Type 0} (f : A → B) (xs ys : List A) → map f (xs ++ ys) ≡ map f xs ++ map f ys
-map_append f [] ys = refl
-map_append f (x ∷ xs) ys = ap (λ zs. f x ∷ zs) (map_append f xs ys)
-
 pub map_reversed : {A B : Type 0} (f : A → B) (xs : List A) → reverse (map f xs) ≡ map f (reverse xs)
 map_reversed f [] = refl
 map_reversed f (x ∷ xs) =
     reverse-cons (f x) (map f xs) ∙ ap (λ zs. zs ++ f x ∷ []) (map_reversed f xs)
-    ∙ sym (ap (map f) (reverse-cons x xs) ∙ map_append f (reverse xs) (x ∷ []))
+    ∙ sym (ap (map f) (reverse-cons x xs) ∙ map-append f (reverse xs) (x ∷ []))
 
 -- where a test says of what is made of each what another says of it, the first that passes is made of the first that
 -- passes
@@ -74,10 +70,6 @@ AreAt kp vp m = AllByRecursion (IsPairAt kp.SIZE kp.spelling vp.spelling m)
 -- the keys are those of the pairs
 abbrev pub HaveKeys : {K V : Type 0} → (ℕ → Option K) → List (Pair K V) → Type 0
 HaveKeys {K} {V} keys ps = AllByRecursion (λ (p : Pair K V). keys (pair_node p) ≡ Some p.key) ps
-
-pub either_right : (b c : Bool) → c ≡ true → not (b || c) ≡ false
-either_right true c e = refl
-either_right false c e = ap not e
 
 -- the first that is not below the key has it, or none has
 abbrev pub by_key : {K V : Type 0} → (K → K → Bool) → K → Option (Pair K V) → Option (Pair K V)
@@ -255,19 +247,7 @@ module _ {K V : Type 0} (less : K → K → Bool) (strict : IsStrict less) (on :
       ]
 
 pub either_one : (b c : Bool) → not (b || c) ≡ false → b ≡ false → c ≡ true
-either_one true c e f = absurd (false≢true (sym f))
-either_one false true e f = refl
-either_one false false e f = absurd (false≢true (sym e))
-
-either_two : (b c : Bool) → not (b || c) ≡ false → (b || c) ≡ true
-either_two true c e = refl
-either_two false true e = refl
-either_two false false e = absurd (false≢true (sym e))
-
-pub neither_parts : (b c : Bool) → not (b || c) ≡ true → (b ≡ false) × (c ≡ false)
-neither_parts true c e = absurd (false≢true e)
-neither_parts false true e = absurd (false≢true e)
-neither_parts false false e = (refl, refl)
+either_one b c e f = rw f at (not-false (b || c) e)
 
 module _ {K V : Type 0} (less : K → K → Bool) where
   -- a key that no pair has
@@ -336,7 +316,7 @@ module _ {K V : Type 0} (less : K → K → Bool) where
         and_from (comes_before less keys (pair_node p) (pair_node q) || comes_before less keys (pair_node q)
         (pair_node p)) (has_place (comes_before less keys) (pair_node p) (nodes_of_pairs qs))
         ((λ i. before_key less (own i) (k.0 i) || before_key less (k.0 i) (own i))
-        ∙ either_two (less p.key q.key) (less q.key p.key) two.0)
+        ∙ not-false (less p.key q.key || less q.key p.key) two.0)
         (place_of qs k.1 two.1)
 
     pub put_nodes : (ps : List (Pair K V)) → HaveKeys keys ps → pair_at less ps p.key ≡ None
@@ -417,10 +397,6 @@ module _ {K V : Type 0} (less : K → K → Bool) where
 pub known : (start o : Option ℕ) → start ≡ o → IfSome start (λ n. o ≡ Some n)
 known None o e = tt
 known (Some n) o e = sym e
-
-pub moved : (start a b : Option ℕ) → a ≡ b → IfSome start (λ n. a ≡ Some n) → IfSome start (λ n. b ≡ Some n)
-moved None a b e h = tt
-moved (Some n) a b e h = sym e ∙ h
 
 -- what is said of the node that was found is said of what is left of it
 pub narrowed : (r f : Option ℕ) (P : ℕ → Type 0) → IfSome r (λ n. f ≡ Some n) → IfSome f P → IfSome r P

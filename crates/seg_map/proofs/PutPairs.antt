@@ -11,20 +11,20 @@ use Rattle.seg_map.proofs.Common.{eq-eqb, or_cases, or_left, or_right, has_place
 use Rattle.seg_map.proofs.Common.{pair_node, comes_before, is_pair_node, key_at, key_of, links_among, own_nodes, Good}
 use Rattle.seg_map.proofs.Common.{PairNode-is_pair_node, IsKeyTree, Relinked, ◌⊎◌, AllByRecursion, both_ways, cases_eq}
 use Rattle.seg_map.proofs.Common.{Same, others, Keeps, beside_cell, changed-keeps, changed-room, found-room, IsPairAt}
-use Rattle.seg_map.proofs.{Common.put_pair, Common.IsPairIn, Common.PairNode, Common.node_place, Searching.lent_own}
-use Rattle.seg_map.{specs.Changing.IsNew, specs.Changing.IsPut, specs.Changing.IsPutAgain, proofs.PairSteps.all_in}
-use Rattle.seg_map.specs.Linking.{CanLink}
-use Rattle.seg_map.proofs.Entering.{Laws, found_in, keys, good, keys_among, listed, pair_block, pair_parts, tree_among}
-use Rattle.seg_map.proofs.{Entering.read_spelled, Entering.with_bytes, Entering.other_block, Staying.pair_stays}
+use Rattle.seg_map.proofs.{Common.put_pair, Common.IsPairIn, Common.PairNode, Common.node_place, Staying.block_cells}
+use Rattle.seg_map.proofs.{Entering.pair_block, Entering.pair_parts, Entering.tree_among, Searching.lent_own}
+use Rattle.seg_map.specs.Changing.{IsNew, IsPut, IsPutAgain, CanPutIn, PutsIn}
+use Rattle.seg_map.{proofs.PairSteps.all_in, specs.Linking.CanLink}
+use Rattle.seg_map.proofs.Staying.{map_over, pair_stays, beside_then, keeps_beside, map_stays, relaid, at_node}
+use Rattle.seg_map.proofs.PairLists.{replaced_nodes, replaced_rising, in_nodes, not_among, place_of, put_all}
+use Rattle.seg_map.proofs.PairLists.{put_length, put_nodes, put_rising, HaveKeys, keys_agree, known}
+use Rattle.seg_map.proofs.PairLists.{beside as not_beside, each, each_both, pair_of, replaced_all}
+use Rattle.seg_map.proofs.Entering.{read_spelled, with_bytes, other_block, Laws, found_in, keys, good, keys_among}
 use Rattle.raw_region.proofs.Laws.{SameBut-trans, SameBut-wider}
 use Rattle.best_fit.proofs.Laws.{still_allocated-block, Differs, allocated-live, allocated-room_before, found-more}
 use Rattle.best_fit.{proofs.Laws.found-new, proofs.Laws.place-serves, proofs.Laws.rising-insert, specs.Fit.added}
-use Rattle.seg_map.proofs.PairLists.{not_among, place_of, put_all, put_length, put_nodes, put_rising, HaveKeys}
-use Rattle.seg_map.proofs.PairLists.{keys_agree, known, beside as not_beside, moved, each, each_both, neither_parts}
-use Rattle.seg_map.proofs.PairLists.{pair_of, replaced_all, replaced_nodes, replaced_rising, in_nodes}
-use Rattle.seg_map.proofs.Staying.{beside_then, keeps_beside, map_stays, relaid, at_node, block_cells, map_over}
 use Rattle.link_tree.proofs.Laws.{all_at}
-use Rattle.std.proofs.lemmas.Option.{same_Some}
+use Rattle.std.proofs.lemmas.{Bool.or_parts, Bool.not-true, Option.same_Some}
 
 module _ {a b c d : Cut} {at : ℕ} {root : Option ℕ} {count : ℕ} (first : IsChanged current a b at 8)
     (link : link_at (bytes_of b.bytes) at ≡ root)
@@ -168,22 +168,10 @@ module _ {K V : Type 0} {kp : Plain K} {vp : Plain V} (kl : Laws kp) (vl : Laws 
   unfolding map_there map_stays
   there_tree = refl
 
-  -- an insertion begins where it did before the block was taken
-  pub entry_there : {start : Option ℕ} → start ≡ entry_in kp c key s.map.tree.tree
-      → IfSome start (λ n. entry_in kp d key map_there.map.tree.tree ≡ Some n)
-  entry_there {start} e =
-      let old = keys_in kp (nodes_of s.map.tree.tree) c in let new = keys_in kp (nodes_of map_there.map.tree.tree) d in
-      let before = keys kl c s in let after = keys kl d map_there in
-      known start (entry_in kp d key map_there.map.tree.tree) (e
-      ∙ entry_same (stands_before kp.order old false key) (stands_before kp.order new false key) s.map.tree.tree
-      (λ n i. ap (stands kp.order false key)
-      (keys_agree old new ps before after n (ap (is_in n) (sym s.map.tree.lists) ∙ i)))
-      ∙ ap (entry_of (stands_before kp.order new false key)) (sym there_tree))
-
-  abbrev pub new_pair : Pair K V
+  abbrev new_pair : Pair K V
   new_pair = record { key = key; value = value; node = m.block.extent }
 
-  pub loose : IsLoose kp vp d.bytes h ps (record { key = key; value = value; node = m.block.extent })
+  loose : IsLoose kp vp d.bytes h ps new_pair
   loose =
       let r = roomy c h (at + 24) s.heap s.room in let begins = r.at in
       record {
@@ -192,8 +180,7 @@ module _ {K V : Type 0} {kp : Plain K} {vp : Plain V} (kl : Laws kp) (vl : Laws 
           good = rw (
             m.is_a_key,
             m.is_a_value,
-            place-serves (live_of c.bytes)
-                (node_len kp.SIZE vp.SIZE) Node x m.block.placed,
+            place-serves (live_of c.bytes) (node_len kp.SIZE vp.SIZE) Node x m.block.placed,
           ) refl;
           listed = rw live_d (found-new x (live_of c.bytes).extents differs);
           apart = λ e. differs_at _ r.found (begins ∙ sym e);
@@ -203,14 +190,27 @@ module _ {K V : Type 0} {kp : Plain K} {vp : Plain V} (kl : Laws kp) (vl : Laws 
         right = subst (λ k. link_at (bytes_of d.bytes) (k + 8) ≡ None) m.block.at m.right;
         bytes = (
           subst (λ k. Has (bytes_of d.bytes) (k + 16) (kp.spelling key)) m.block.at m.key_there,
-          subst
-              (λ k. Has (bytes_of d.bytes) (k + 16 + kp.SIZE) (vp.spelling value)) m.block.at m.value_there,
+          subst (λ k. Has (bytes_of d.bytes) (k + 16 + kp.SIZE) (vp.spelling value)) m.block.at m.value_there,
         );
       }
 
-  pub is_put : {e : Cut} → IsPlanted kp vp d e h at ps (record { key = key; value = value; node = m.block.extent })
-      → IsPut kp vp c e h at ps key value
-  is_put {e} q =
+  -- an insertion begins where it did before the block was taken
+  pub can_put_in : {start : Option ℕ} → start ≡ entry_in kp c key s.map.tree.tree → CanPutIn kp vp d h at start node
+  can_put_in {start} e =
+      let old = keys_in kp (nodes_of s.map.tree.tree) c in let new = keys_in kp (nodes_of map_there.map.tree.tree) d in
+      let before = keys kl c s in let after = keys kl d map_there in
+      record {
+        there = record { pairs = ps; pair = new_pair; map = map_there; loose = loose; is = sym m.block.at };
+        begins = known start (entry_in kp d key map_there.map.tree.tree) (e
+            ∙ entry_same (stands_before kp.order old false key) (stands_before kp.order new false key) s.map.tree.tree
+            (λ n i. ap (stands kp.order false key)
+            (keys_agree old new ps before after n (ap (is_in n) (sym s.map.tree.lists) ∙ i)))
+            ∙ ap (entry_of (stands_before kp.order new false key)) (sym there_tree));
+      }
+
+  pub is_put : {e : Cut} → PutsIn kp vp d e h at node → IsPut kp vp c e h at ps key value
+  is_put {e} puts =
+      let q = puts ps new_pair map_there loose (sym m.block.at) in
       record {
         extent = x;
         placed = m.block.placed;
@@ -294,21 +294,6 @@ module _ {K V : Type 0} {kp : Plain K} {vp : Plain V} (kl : Laws kp) (c : Cut) {
   pub planted_tree : IsKeyTree kp lent c root s.map.tree.tree
   planted_tree = rw (ns_is, is) (tree_among kl s good_all in_all)
 
-  -- an insertion begins where the search for the key says
-  begins_all : (start : Option ℕ) → IfSome start (λ n. entry_in kp c p.key s.map.tree.tree ≡ Some n)
-      → IfSome start
-      (λ n. entry_of
-      (λ m. not (comes_before kp.order (keys_in kp all c) (pair_node p)
-      m)) s.map.tree.tree ≡ Some n)
-  begins_all start b =
-      moved start (entry_in kp c p.key s.map.tree.tree)
-      (entry_of (λ m. not (comes_before kp.order (keys_in kp all c) (pair_node p) m)) s.map.tree.tree)
-      (entry_same (stands_before kp.order (keys_in kp ns c) false p.key)
-      (λ m. not (comes_before kp.order (keys_in kp all c) (pair_node p) m)) s.map.tree.tree
-      (λ m i. let j = ap (is_in m) (sym (listed kl c s)) ∙ i in
-      ap (stands kp.order false p.key) (keys_agree (keys_in kp ns c) (keys_in kp all c) ps (keys kl c s) keys_all m j)
-      ∙ not_beside kp.order kl.irreflexive kl.transitive (keys_in kp all c) p own_key ps keys_all l.absent m j)) b
-
   pub can_link : (start : Option ℕ) → IfSome start (λ n. entry_in kp c p.key s.map.tree.tree ≡ Some n)
       → CanLink kp lent c root start node
   can_link start begins =
@@ -316,9 +301,17 @@ module _ {K V : Type 0} {kp : Plain K} {vp : Plain V} (kl : Laws kp) (c : Cut) {
         shape = s.map.tree.tree;
         tree = rw is (tree_among kl s good_all in_all);
         own = node_all (pair_node p) own_in;
-        place = ap (has_place (comes_before kp.order (keys_in kp all c)) (pair_node p)) (listed kl c s)
+        place = ap (has_place (comes_before kp.order (keys_in kp all c)) (pair_node p)) s.map.tree.lists
             ∙ place_of kp.order (keys_in kp all c) p own_key ps keys_all l.absent;
-        begins = begins_all start begins;
+        -- an insertion begins where the search for the key says
+        begins = subst (λ (o : Option ℕ). IfSome start (λ n. o ≡ Some n))
+            (entry_same (stands_before kp.order (keys_in kp ns c) false p.key)
+            (λ m. not (comes_before kp.order (keys_in kp all c) (pair_node p) m)) s.map.tree.tree
+            (λ m i. let j = ap (is_in m) (sym s.map.tree.lists) ∙ i in
+            ap (stands kp.order false p.key)
+            (keys_agree (keys_in kp ns c) (keys_in kp all c) ps (keys kl c s) keys_all m j)
+            ∙ not_beside kp.order kl.irreflexive kl.transitive (keys_in kp all c) p own_key ps keys_all l.absent m j))
+            begins;
       })
 
   -- the map with the pair
@@ -327,8 +320,8 @@ module _ {K V : Type 0} {kp : Plain K} {vp : Plain V} (kl : Laws kp) (c : Cut) {
       → n ≡ length ps + 1 → IsHeaded d e (h + at) top n → IsPlanted kp vp c e h at ps p
   planted u vl count head =
       relaid s planted_tree u kl vl (p ∷ ps) (l.block, s.pairs) (l.bytes, s.map.pairs)
-      (ns_is ∙ ap (λ (ms : List ℕ). pair_node p ∷ ms) (listed kl c s)) (rw ns_is good_all) head
-      ((λ i. put (comes_before kp.order (keys_in kp (ns_is i) c)) (sym here i) (listed kl c s i))
+      (ns_is ∙ ap (λ (ms : List ℕ). pair_node p ∷ ms) s.map.tree.lists) (rw ns_is good_all) head
+      ((λ i. put (comes_before kp.order (keys_in kp (ns_is i) c)) (sym here i) (s.map.tree.lists i))
       ∙ put_nodes kp.order (keys_in kp all c) p own_key ps keys_all l.absent)
       (λ P a. put_all kp.order P p ps a.0 a.1) (put_rising kp.order kl.transitive p ps l.absent s.rising)
       (let more = put_length kp.order p ps l.absent in omega (arith, more, count))
@@ -356,8 +349,8 @@ module _ {K V : Type 0} {kp : Plain K} {vp : Plain V} (c : Cut) {h at : ℕ} {ps
 
     same_key_is : key ≡ p.key
     same_key_is =
-        let two = neither_parts (kp.order key p.key) (kp.order p.key key)
-        (pair_of kp.order (IsPairIn kp vp (live_of c.bytes) h) ps key p has s.pairs).1 in
+        let two = or_parts (kp.order key p.key) (kp.order p.key key) (not-true _
+        (pair_of kp.order (IsPairIn kp vp (live_of c.bytes) h) ps key p has s.pairs).1) in
         total key p.key is_key_value (pair_parts own).key two.0 two.1
 
     keeps : Keeps c d (others (handle p.node) (live_of c.bytes).extents)
@@ -418,8 +411,7 @@ module _ {K V : Type 0} {kp : Plain K} {vp : Plain V} (c : Cut) {h at : ℕ} {ps
         pair_stays kl vl (bytes_of c.bytes) (bytes_of d.bytes) w.block
         (record { at = λ k low high. same.payload.at k (omega arith) (omega arith) }) w.bytes
 
-    own_bytes : IsPairAt kp.SIZE kp.spelling vp.spelling (bytes_of d.bytes)
-        (record { key = key; value = value; node = p.node })
+    own_bytes : IsPairAt kp.SIZE kp.spelling vp.spelling (bytes_of d.bytes) new
     own_bytes =
         let found = pair_of kp.order Was ps key p has were in
         let size = kl.spells p.key (pair_parts own).key in
@@ -429,7 +421,7 @@ module _ {K V : Type 0} {kp : Plain K} {vp : Plain V} (c : Cut) {h at : ℕ} {ps
         let behind : handle p.node + (16 + kp.SIZE) ≡ handle p.node + 16 + kp.SIZE = omega arith in
         (rw same_key_is old, subst (λ k. Has (bytes_of d.bytes) k (vp.spelling value)) behind there)
 
-    own_block : IsPairIn kp vp (live_of c.bytes) h (record { key = key; value = value; node = p.node })
+    own_block : IsPairIn kp vp (live_of c.bytes) h new
     own_block =
         record {
           good = rw (is_key_value, is_value, (pair_parts own).serves) refl;
@@ -437,18 +429,15 @@ module _ {K V : Type 0} {kp : Plain K} {vp : Plain V} (c : Cut) {h at : ℕ} {ps
           apart = own.apart;
         }
 
-    nodes_same : nodes_of_pairs (put_pair kp.order (record { key = key; value = value; node = p.node }) ps)
-        ≡ nodes_of_pairs ps
-    nodes_same = replaced_nodes kp.order kl.transitive p new same_key_is refl ps s.rising has
-
-    map_after : HoldsMap kp vp d.bytes h at (put_pair kp.order (record { key = key; value = value; node = p.node }) ps)
+    map_after : HoldsMap kp vp d.bytes h at (put_pair kp.order new ps)
     map_after =
         let r = roomy c h (at + 24) s.heap s.room in let begins = r.at in let long = r.room in
         let block = block_stays r.extent h r.found (λ e. own.apart (sym e ∙ begins)) in
         let words : Same (bytes_of c.bytes) (bytes_of d.bytes) (h + at) (h + at + 24) =
         record { at = λ n a b. block.payload.at n (omega arith) (omega arith) } in
         map_over c d s (laid-heap _ _ change.live) (changed-room _ _ _ _ _ h (at + 24) change s.room) words cells
-        (put_pair kp.order new ps) (sym nodes_same)
+        (put_pair kp.order new ps)
+        (sym (replaced_nodes kp.order kl.transitive p new same_key_is refl ps s.rising has))
         (replaced_rising kp.order kl.transitive p new same_key_is ps s.rising has)
         (rw (changed-live _ _ _ _ _ change) (replaced_all kp.order kl.transitive p new same_key_is
         (IsPairIn kp vp (live_of c.bytes) h) (IsPairIn kp vp (live_of c.bytes) h) (λ q a o. a) own_block ps s.rising has

@@ -321,11 +321,8 @@ module _ {K V : Type 0} {kp : Plain K} {vp : Plain V} {c d : Cut} {h at : ℕ} {
     live_e : live_of e.bytes ≡ live_of c.bytes
     live_e = live_laid u head
 
-    room_d : IsTrue (has_room (live_of d.bytes) h (at + 24))
-    room_d = rw (live_left u) s.room
-
     others_stay : Keeps d e (others h (live_of d.bytes).extents)
-    others_stay = changed-keeps current d e h at 24 head.change room_d
+    others_stay = changed-keeps current d e h at 24 head.change (rw (live_left u) s.room)
 
     -- the words are written in another block
     block_stays : (x : Extent) → extent_at (live_of c.bytes) (handle x) ≡ Some x → handle x ≢ h

@@ -36,7 +36,7 @@ pub fn write_head(heap: &mut Heap, place: Place, root: Option<u64>, count: u64)
 impl<K: Plain, V: Plain> SegMap<K, V> {
     /// Takes a pair out of the map, from the root of the tree on or from where a search has found that it changes, and
     /// gives its block back.
-    #[tactic(auto, using(crate::proofs::Payloads::rooms, crate::proofs::Staying::trees))]
+    #[tactic(auto, using(crate::proofs::PairSteps::rooms, crate::proofs::Staying::trees))]
     pub(crate) fn give_up(self, heap: &mut Heap, start: Option<u64>, node: u64, steps: &mut Steps)
         requires { CanGiveUp K.Plain V.Plain heap.old self.place.handle self.place.at start node }
         ensures dropped { Drops K.Plain V.Plain heap.old heap.new self.place.handle self.place.at node }
@@ -52,7 +52,7 @@ impl<K: Plain, V: Plain> SegMap<K, V> {
     }
 
     /// Puts a pair into the map, whose node is made, from where the search for its key has found that the tree changes.
-    #[tactic(auto, using(crate::proofs::Payloads::rooms, crate::proofs::Staying::trees))]
+    #[tactic(auto, using(crate::proofs::PairSteps::rooms, crate::proofs::Staying::trees))]
     pub(crate) fn put_in(self, heap: &mut Heap, start: Option<u64>, node: u64, steps: &mut Steps)
         requires { CanPutIn K.Plain V.Plain heap.old self.place.handle self.place.at start node }
         ensures planted { PutsIn K.Plain V.Plain heap.old heap.new self.place.handle self.place.at node }

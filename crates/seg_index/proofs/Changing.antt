@@ -2,8 +2,8 @@
 use Rattle.seg_index.proofs.Common.{IsTrue, has_room, heap_touches, is_live_in, ◌≡◌, ap, subst, ◌∙◌, ℕ, ◌+◌, ◌-◌, ◌≤◌}
 use Rattle.seg_index.proofs.Common.{current, Cut, bytes_of, SamePlace-trans, Role, LiveSet, added, others, IsAllocated}
 use Rattle.seg_index.proofs.Common.{IsChanged, IsHeap, LaysOut, live_of, allocated-live, laid-heap, inl, inr, List}
-use Rattle.seg_index.proofs.Common.{arith, AllByRecursion, Option, Some, None, Same-part, Extent, Keeps, SameBlock}
-use Rattle.seg_index.proofs.Common.{changed-keeps, KeepsRest, without_link}
+use Rattle.seg_index.proofs.Common.{arith, Option, Some, None, Same-part, Extent, Keeps, SameBlock, changed-keeps}
+use Rattle.seg_index.proofs.Common.{KeepsRest, without_link}
 use Rattle.raw_region.proofs.Laws.{SameBut-trans, SameBut-wider, Same-trans, SameBut-Same}
 use Rattle.best_fit.specs.Fit.{insert}
 use Rattle.best_fit.proofs.Laws.{changed-live, is_proper-IsProper, others-insert_same, AllByRecursion-others}
@@ -51,9 +51,6 @@ pub record InHeader (at : ℕ) : Type 0 where
   pub behind : 32 ≤ at
   pub small : at + 24 ≤ 128
 
-abbrev AllSame : Cut → Cut → List Extent → Type 0
-AllSame a b = AllByRecursion (SameBlock (bytes_of a.bytes) (bytes_of b.bytes))
-
 -- what keeps the header keeps the words beside those of an index
 pub rest_of : {a b : Cut} {at : ℕ} {xs : List Extent} → Keeps a b xs → InHeader at → KeepsRest a b at xs
 rest_of {a} {b} {at} k h =
@@ -78,14 +75,15 @@ rest_trans {a} {b} {c} {at} {xs} p q =
       blocks = blocks-trans A B C xs p.blocks q.blocks;
     }
 
-rest_fewer : {a b : Cut} {at : ℕ} {xs : List Extent} (ys : List Extent) → (AllSame a b xs → AllSame a b ys)
-    → KeepsRest a b at xs → KeepsRest a b at ys
-rest_fewer ys f k =
-    record { place = k.place; front = k.front; before = k.before; behind = k.behind; blocks = f k.blocks }
-
 pub rest_others : {a b : Cut} {at : ℕ} {xs : List Extent} (h : ℕ) → KeepsRest a b at xs → KeepsRest a b at (others h xs)
 rest_others {a} {b} {xs = xs} h k =
-    rest_fewer (others h xs) (AllByRecursion-others (SameBlock (bytes_of a.bytes) (bytes_of b.bytes)) h xs) k
+    record {
+      place = k.place;
+      front = k.front;
+      before = k.before;
+      behind = k.behind;
+      blocks = AllByRecursion-others (SameBlock (bytes_of a.bytes) (bytes_of b.bytes)) h xs k.blocks;
+    }
 
 pub rest_without : {a b : Cut} {at : ℕ} (l : LiveSet) (o : Option ℕ) → KeepsRest a b at l.extents
     → KeepsRest a b at (without_link l o).extents

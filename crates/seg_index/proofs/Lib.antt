@@ -5,7 +5,6 @@ mod Orders
 mod Entries
 mod Staying
 pub mod Laws
-mod Links
 mod Settling
 unfoldable pub use Common.*
 pub use Begun.*
@@ -13,5 +12,4 @@ pub use Changing.*
 pub use Orders.*
 pub use Entries.*
 pub use Staying.*
-pub use Links.*
 pub use Settling.*

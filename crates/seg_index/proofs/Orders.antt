@@ -71,44 +71,38 @@ pub record Counting (stands : ℕ → Ordering) (count low high made : ℕ) : Ty
 pub counting_start : (stands : ℕ → Ordering) (count : ℕ) → Counting stands count 0 count 0
 counting_start stands count = record { most = count; enough = omega arith; all = omega arith }
 
--- where keys are left one more may be compared
-record More (stands : ℕ → Ordering) (count low high made : ℕ) : Type 0 where
+-- where keys are left one more is compared
+record More (stands : ℕ → Ordering) (count low high made : ℕ) (o : Ordering) : Type 0 where
   most : ℕ
   enough : high - low ≤ suc most
-  all : made + comparisons_among (suc most) stands low high ≡ comparisons_among count stands 0 count
+  all : made + turn most stands low high o ≡ comparisons_among count stands 0 count
 
-one_more : {stands : ℕ → Ordering} {count low high made : ℕ} → Counting stands count low high made → low < high
-    → More stands count low high made
-one_more {stands} {count} {low} {high} {made} k l = by_most k.most k.enough k.all
+one_more : {stands : ℕ → Ordering} {count low high made : ℕ} (o : Ordering) → Counting stands count low high made
+    → low < high → stands (middle low high) ≡ o → More stands count low high made o
+one_more {stands} {count} {low} {high} {made} o k l is = by_most k.most k.enough k.all
   where
     by_most : (most : ℕ) → high - low ≤ most
         → made + comparisons_among most stands low high ≡ comparisons_among count stands 0 count
-        → More stands count low high made
+        → More stands count low high made o
     by_most zero e a = absurd (omega arith)
-    by_most (suc most) e a = record { most = most; enough = e; all = a }
+    by_most (suc most) e a = let turned = ap (λ n. made + n) (sym (one_turn most stands low high o l is)) in
+        record { most = most; enough = e; all = turned ∙ a }
 
 pub counts_up : {stands : ℕ → Ordering} {count low high made : ℕ} → Counting stands count low high made → low < high
     → stands (middle low high) ≡ Less → Counting stands count (middle low high + 1) high (made + 1)
-counts_up {stands} {low = low} {high} k l is =
-    let m = one_more k l in let few = m.enough in record {
-      most = m.most;
-      enough = omega arith;
-      all = omega (arith, m.all, one_turn m.most stands low high Less l is);
-    }
+counts_up k l is =
+    let m = one_more Less k l is in let few = m.enough in
+    record { most = m.most; enough = omega arith; all = omega (arith, m.all) }
 
 pub counts_down : {stands : ℕ → Ordering} {count low high made : ℕ} → Counting stands count low high made → low < high
     → stands (middle low high) ≡ Greater → Counting stands count low (middle low high) (made + 1)
-counts_down {stands} {low = low} {high} k l is =
-    let m = one_more k l in let few = m.enough in record {
-      most = m.most;
-      enough = omega arith;
-      all = omega (arith, m.all, one_turn m.most stands low high Greater l is);
-    }
+counts_down k l is =
+    let m = one_more Greater k l is in let few = m.enough in
+    record { most = m.most; enough = omega arith; all = omega (arith, m.all) }
 
 pub counts_found : {stands : ℕ → Ordering} {count low high made : ℕ} → Counting stands count low high made → low < high
     → stands (middle low high) ≡ Equal → made + 1 ≡ comparisons_among count stands 0 count
-counts_found {stands} {low = low} {high} k l is =
-    let m = one_more k l in omega (arith, m.all, one_turn m.most stands low high Equal l is)
+counts_found k l is = let m = one_more Equal k l is in omega (arith, m.all)
 
 pub counts_none : {stands : ℕ → Ordering} {count low high made : ℕ} → Counting stands count low high made → high ≤ low
     → made ≡ comparisons_among count stands 0 count

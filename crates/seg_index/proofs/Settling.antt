@@ -4,20 +4,20 @@ use Rattle.seg_index.proofs.Common.{arith, Option, Some, IfSome, insert, remove,
 use Rattle.seg_index.proofs.Common.{length-remove, current, Cut, bytes_of, word_at, SameBut-word, link_at, KeepTargets}
 use Rattle.seg_index.proofs.Common.{SameBut-link, Extent, LiveSet, handle, IsChanged, extent_at, live_of, Table}
 use Rattle.seg_index.proofs.Common.{room-less, KeepsRest, beside_table, IsIndexOf, AreEntries, AreLinks, refl, ap₂, ◌^◌}
-use Rattle.seg_index.proofs.Common.{min, [], ◌∷◌, IsTrue, None, nat_lt, unwrap_or, and_from, and_parts, leb-true}
-use Rattle.seg_index.proofs.Common.{same_Some, Memory, Role, holds, others, IsAllocated, IsHeap, IsReleased, has_room}
-use Rattle.seg_index.proofs.Common.{is_live_in, same_role, serves, found-room, room_block, IsBlockFor, unlinked}
-use Rattle.seg_index.proofs.Common.{without_link, lt-ltb, IndexRole, ◌==◌, none-some, Same-word, Same-link, released}
-use Rattle.seg_index.proofs.Common.{LaysOut, among, found-new, laid-heap, live-rises, rising-insert}
+use Rattle.seg_index.proofs.Common.{min, [], IsTrue, None, nat_lt, unwrap_or, and_from, and_parts, leb-true, same_Some}
+use Rattle.seg_index.proofs.Common.{Memory, Role, holds, others, IsAllocated, IsHeap, IsReleased, has_room, is_live_in}
+use Rattle.seg_index.proofs.Common.{same_role, serves, found-room, room_block, IsBlockFor, unlinked, without_link}
+use Rattle.seg_index.proofs.Common.{lt-ltb, IndexRole, ◌==◌, none-some, Same-word, Same-link, released, LaysOut, among}
+use Rattle.seg_index.proofs.Common.{found-new, laid-heap, live-rises, rising-insert}
 use Rattle.seg_index.proofs.Changing.{changed_heap, same_live, keeps_both, InHeader, keeps_words, keeps_written}
 use Rattle.seg_index.proofs.Changing.{others_without, rest_of, rest_others, rest_trans, rest_without, changed_trans}
-use Rattle.seg_index.proofs.{Links.found_live, Links.inside, Links.entry_here, Changing.taken_others}
-use Rattle.seg_index.proofs.Entries.{Placed, beside, leads_from, no_entries, placed, bare, table_cases}
-use Rattle.seg_index.proofs.Links.{insert_all, insert_links, links_moved, remove_all, remove_links, found_handle}
+use Rattle.seg_index.proofs.{Entries.leads_from, Entries.no_entries, Changing.taken_others}
+use Rattle.seg_index.proofs.Entries.{placed, bare, table_cases, remove_links, found_handle, found_live, inside}
+use Rattle.seg_index.proofs.Entries.{entry_here, insert_all, insert_links, links_moved, remove_all, Placed, beside}
 use Rattle.seg_index.specs.{Capacities.IsShrunk, Capacities.with_cut, Held.IsIndexIn}
 use Rattle.seg_index.proofs.Staying.{still_released, still_taken, still_written, meant, not_its_own, taken_block}
 use Rattle.best_fit.proofs.Laws.{block_aligned, keeps-refl, resized-live, Rising, shorter-IsShorter}
-use Rattle.std.specs.Prelude.{option_map}
+use Rattle.std.{proofs.lemmas.List.nil_from_length, specs.Prelude.option_map}
 use Rattle.std.proofs.lemmas.Bool.{cond-false, cond-true, eq-eqb, le-leb, ne_eqb}
 use Rattle.best_fit.specs.{Heap.IsResized, Heap.IsShortened, Table.cut_table, Table.no_table, Fit.resized, Fit.shorter}
 
@@ -247,10 +247,6 @@ taken_offer {a} {b} {at} {n} {k} {h} {t = t} {hs} w al much e f begins i =
     offer w e f begins (taken_block a b k n h al (meant n i.heap al much))
     (λ q. not_its_own a b at k IndexRole h t hs i al (same ∙ q)) j
 
-no_links : (m : Memory) (at : ℕ) (hs : List ℕ) → length hs ≡ 0 → AreLinks m at hs
-no_links m at [] e = tt
-no_links m at (x ∷ xs) e = absurd (omega arith)
-
 -- what is known of the place from which the links are moved, and of the block that is left
 pub record Source (c : Cut) (m : Move) (link : Option ℕ) : Type 0 where
   pub links : AreLinks (bytes_of c.bytes) m.from m.handles
@@ -264,7 +260,7 @@ source {c} {m} o = subst (λ (p : Option ℕ). Source c m p) (sym o.leads) (by_c
         → (p ≡ Some m.block → ⊥) → Source c m p
     by_case None leads begins apart =
         let none = no_entries o.index leads in record {
-          links = no_links (bytes_of c.bytes) m.from m.handles none;
+          links = subst (AreLinks (bytes_of c.bytes) m.from) (sym (nil_from_length m.handles none)) tt;
           room = λ n few. subst (λ k. IsTrue (has_room (live_of c.bytes) k n)) (sym begins) (target n o (omega arith));
           left = tt;
         }
@@ -360,10 +356,6 @@ unfolding cut_table
 cut_some l n cap x some =
     cond-false (n == 0) no_table (record { capacity = n; extent = Some (shorter l x (8 * n)) }) (ne_eqb n 0 some)
 
-no_list : (hs : List ℕ) → length hs ≡ 0 → hs ≡ []
-no_list [] e = refl
-no_list (x ∷ xs) e = absurd (omega arith)
-
 -- ---- without a block
 
 pub shrunk_bare : {a : Cut} {at : ℕ} {t : Table} {hs : List ℕ} → IsIndexOf a at t hs
@@ -391,7 +383,7 @@ empty_index hs w zero whole =
         link = w.link;
         count = w.count_word ∙ sym zero;
         capacity = w.capacity_word;
-        entries = no_list hs zero;
+        entries = nil_from_length hs zero;
       };
       places = refl;
       few = omega arith;

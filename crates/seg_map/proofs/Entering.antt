@@ -11,7 +11,8 @@ use Rattle.seg_map.proofs.Common.{key_of, links_among, own_nodes, pair_cells, st
 use Rattle.seg_map.proofs.Common.{PairNode-is_pair_node, cells_at, node_block, Plain, []}
 use Rattle.std.proofs.Common.{◌^◌}
 use Rattle.link_tree.proofs.Laws.{above_more, bits_most, bounds_height, reads_off, tree_limit}
-use Rattle.best_fit.{specs.Table.same_role, specs.Table.serves, proofs.Laws.holds_closed}
+use Rattle.best_fit.specs.Table.{same_role, serves}
+use Rattle.best_fit.proofs.Laws.{holds_closed}
 use Rattle.seg_types.proofs.Laws.{value-spelled}
 use Rattle.seg_map.specs.PairNodes.{is_block_in, nodes_in}
 use Rattle.seg_map.specs.PairLaws.{comes_irreflexive, comes_transitive, few_extents, handles_length, in_handles}

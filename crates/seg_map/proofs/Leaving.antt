@@ -8,11 +8,11 @@ use Rattle.seg_map.proofs.Common.{keys_in, IsErased, IsHeaded, exit_in, ◌⊎�
 use Rattle.seg_map.proofs.Common.{AllByRecursion, cases_Bool, cases_eq, ne_eqb, word_at, IsTree, Tree, fork, leaf}
 use Rattle.seg_map.proofs.Common.{root_of, root_in, SameBlockBut, is_proper, others, cells_of, extent_at, live-rises}
 use Rattle.seg_map.proofs.Common.{Chains, In, IsStrict, is_key, is_rising, IsBesideMap, Rising, Plain, [], not}
-use Rattle.seg_map.{specs.Changing.IsTaken, specs.Changing.IsGivenUp, proofs.Common.or_right}
-use Rattle.seg_map.{proofs.Searching.lent_own, proofs.Searching.lent_tree, specs.Linking.CanUnlink}
-use Rattle.seg_map.proofs.PairLists.{in_nodes, none_left, other_nodes, removed_all, removed_length, apart_all}
-use Rattle.seg_map.proofs.PairLists.{removed_rising, without_nodes, in_from, nodes_in, Below, rising_below, rising_rest}
-use Rattle.seg_map.proofs.{PairSteps.any_at, PairSteps.begins_behind, PairSteps.own_handle, PairLists.each_both}
+use Rattle.seg_map.proofs.{Searching.lent_own, Searching.lent_tree, Common.or_right}
+use Rattle.seg_map.proofs.{PairSteps.any_at, PairSteps.begins_behind, PairSteps.own_handle, PairLists.rising_below}
+use Rattle.seg_map.proofs.PairLists.{rising_rest, each_both, pair_of, in_nodes, none_left, other_nodes, removed_all}
+use Rattle.seg_map.proofs.PairLists.{removed_length, apart_all, removed_rising, without_nodes, in_from, nodes_in, Below}
+use Rattle.seg_map.specs.{Changing.IsTaken, Changing.IsGivenUp, Linking.CanUnlink}
 use Rattle.seg_map.proofs.Entering.{Laws, found_in, good, keys, other_block}
 use Rattle.best_fit.proofs.Laws.{released-live, keeps-refl, others-comm, rising-weak}
 use Rattle.seg_map.proofs.Staying.{at_node, map_stays, AtNode, beside_then, keeps_beside, relaid}
@@ -56,24 +56,24 @@ module _ {K V : Type 0} {kp : Plain K} {vp : Plain V} (kl : Laws kp) (vl : Laws 
   live_is : live_of e.bytes ≡ live_of c.bytes
   live_is = lay_out_one _ _ _ t.live
 
-  other : h ≢ node
-  other e' = both_ways _ (apart_all kp vp (live_of c.bytes) h ps s.pairs)
+  other : (g : ℕ) → is_in g (nodes_of_pairs ps) ≡ false → g ≢ node
+  other g o e' = both_ways _ o
       (ap (λ n. is_in n (nodes_of_pairs ps)) (e' ∙ sym here) ∙ in_nodes kp.order ps key p has)
 
   pub erased : IsErased kp vp c f h at ps p key
   erased =
       let room = roomy e h (at + 24) t.map.heap t.map.room in
       let begins = room.at in let long = room.room in
-      let same = other_block (live_of e.bytes) node h r.keeps room.found (λ g. other (sym begins ∙ g)) in
+      let apart = other h (apart_all kp vp (live_of c.bytes) h ps s.pairs) in
+      let same = other_block (live_of e.bytes) node h r.keeps room.found (λ g. apart (sym begins ∙ g)) in
       record {
         live = subst (λ l. LaysOut current f.bytes l) (λ i. released (live_is i) (sym here i)) r.live;
         beside = beside_then t.beside (keeps_beside r.keeps (λ x found o.
-            other_block (live_of e.bytes) node (handle x) r.keeps found (λ g. both_ways _ o
-            (ap (λ n. is_in n (nodes_of_pairs ps)) (g ∙ sym here) ∙ in_nodes kp.order ps key p has))))
+            other_block (live_of e.bytes) node (handle x) r.keeps found (other (handle x) o)))
             (λ x found o. (rw live_is found, o));
         map = map_stays kl vl e f t.map (laid-heap _ _ r.live)
             (rw (released-live _ _ _ _ r) (found-room (released (live_of e.bytes) node) h (at + 24) room.extent
-            (found-less h node room.extent (live_of e.bytes).extents other room.found) room.room))
+            (found-less h node room.extent (live_of e.bytes).extents apart room.found) room.room))
             (record { at = λ n a b. same.payload.at n (omega arith) (omega arith) })
             (each_both (remove_pair kp.order ps key) t.map.pairs (other_nodes node (remove_pair kp.order ps key) gone)
             (λ q i o. record {
@@ -95,10 +95,9 @@ pub gone_live : {K V : Type 0} {kp : Plain K} {vp : Plain V} {b : List ℕ} {h a
     (s : HoldsMap kp vp b h at ps) (key : K) {p : Pair K V} → pair_at kp.order ps key ≡ Some p
     → {node : ℕ} → pair_node p ≡ node → {live : LiveSet} → live ≡ live_of b → IsTrue (is_live_in live node)
 gone_live {kp = kp} {vp = vp} {b = b} {h = h} {ps = ps} s key {p} has {node} here same =
-    let n = at_node (IsPairIn kp vp (live_of b) h) ps (pair_node p) (in_nodes kp.order ps key p has) s.pairs in
-    let x = n.pair.node in let xs = (live_of b).extents in
-    rw same (any_at (λ (x : Extent). handle x == node) xs x
-    (found_in xs (handle x) x n.holds.listed) (eq-eqb _ _ (n.at ∙ here)))
+    let i = (pair_of kp.order (IsPairIn kp vp (live_of b) h) ps key p has s.pairs).0 in let xs = (live_of b).extents in
+    rw same (any_at (λ (x : Extent). handle x == node) xs p.node
+    (found_in xs (handle p.node) p.node i.listed) (eq-eqb _ _ here))
 
 -- ---- extents taken out one after another
 

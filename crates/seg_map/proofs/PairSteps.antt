@@ -67,9 +67,6 @@ pub record Changed (len : ℕ) (ns : List ℕ) (c d : Cut) (n : ℕ) : Type 0 wh
   pub others : (m : ℕ) → is_in m ns ≡ true → (m ≡ n → ⊥) → cells_of (bytes_of d.bytes) m ≡ cells_of (bytes_of c.bytes) m
   pub keys : (m : ℕ) → is_in m ns ≡ true → Same (bytes_of c.bytes) (bytes_of d.bytes) (m + 16) (m + len)
 
-in_own : (n : ℕ) (ns : List ℕ) → is_in n ns ≡ true → (h : ℕ) → is_in h ns ≡ false → h ≡ n → ⊥
-in_own n ns i h o e = both_ways (is_in n ns) (subst (λ k. is_in k ns ≡ false) e o) i
-
 module _ {len : ℕ} {ns : List ℕ} {c d : Cut} {n : ℕ} (g : PairNode len ns c n) (h : Changed len ns c d n) where
   links_d : (m : ℕ) → is_in m ns ≡ true → links_among (bytes_of d.bytes) ns m ≡ true
   links_d m i = by_place (cases_eq m n)
@@ -105,7 +102,8 @@ module _ {len : ℕ} {ns : List ℕ} {c d : Cut} {n : ℕ} (g : PairNode len ns 
   other_colour k t =
       let two = and_parts _ _ t in
       let l = passing (λ (x : Extent). handle x == k) (live_of c.bytes).extents two.0 in
-      let far = in_own n ns g.listed k (not-true (is_in k ns) two.1) in
+      let far : k ≡ n → ⊥ = λ e. both_ways (is_in k ns) (not-true (is_in k ns) two.1)
+      (ap (λ j. is_in j ns) e ∙ g.listed) in
       let at = eqb-true (handle l.extent) k l.passes in
       let w : l.extent.offset + 8 ≡ k - 8 = omega arith in
       subst (λ a. word_at (bytes_of d.bytes) a % 16 ≡ word_at (bytes_of c.bytes) a % 16) w
@@ -135,14 +133,11 @@ module _ {len : ℕ} {ns : List ℕ} {c d : Cut} {n : ℕ} (g : PairNode len ns 
       → pair_cells len ns d ≡ (λ (m : ℕ). if m == n then f (pair_cells len ns c m) else pair_cells len ns c m)
   one_cell f own = λ i m. at m (cases_eq m n) i
     where
-      at_node : (m : ℕ) → is_pair_node len ns c m ≡ true → (m ≡ n → ⊥) → pair_cells len ns d m ≡ pair_cells len ns c m
-      at_node m e o =
-          cells_at len ns d m (ap (λ (p : ℕ → Bool). p m) nodes_stay ∙ e)
-          ∙ h.others m (is_pair_node-PairNode len ns c m e).listed o ∙ sym (cells_at len ns c m e)
-
       other : (m : ℕ) → (m ≡ n → ⊥) → (is_pair_node len ns c m ≡ true) ⊎ (is_pair_node len ns c m ≡ false)
           → pair_cells len ns d m ≡ pair_cells len ns c m
-      other m o (inl e) = at_node m e o
+      other m o (inl e) =
+          cells_at len ns d m (ap (λ (p : ℕ → Bool). p m) nodes_stay ∙ e)
+          ∙ h.others m (is_pair_node-PairNode len ns c m e).listed o ∙ sym (cells_at len ns c m e)
       other m o (inr e) = cells_off len ns d m (ap (λ (p : ℕ → Bool). p m) nodes_stay ∙ e)
           ∙ sym (cells_off len ns c m e)
 

@@ -11,18 +11,20 @@ use Rattle.seg_map.proofs.Common.{eq-eqb, or_cases, or_left, or_right, has_place
 use Rattle.seg_map.proofs.Common.{pair_node, comes_before, is_pair_node, key_at, key_of, links_among, own_nodes, Good}
 use Rattle.seg_map.proofs.Common.{PairNode-is_pair_node, IsKeyTree, Relinked, ◌⊎◌, AllByRecursion, both_ways, cases_eq}
 use Rattle.seg_map.proofs.Common.{Same, others, Keeps, beside_cell, changed-keeps, changed-room, found-room, IsPairAt}
-use Rattle.seg_map.proofs.{Common.put_pair, Common.IsPairIn, Common.PairNode, Common.node_place, Staying.block_cells}
-use Rattle.seg_map.proofs.{Entering.pair_block, Entering.pair_parts, Entering.tree_among, Searching.lent_own}
+use Rattle.seg_map.proofs.{Common.put_pair, Common.IsPairIn, Common.PairNode, Common.node_place, Searching.lent_own}
+use Rattle.seg_map.proofs.Staying.{block_cells, map_over, pair_stays, beside_then, keeps_beside, map_stays, relaid}
+use Rattle.seg_map.proofs.Staying.{at_node}
+use Rattle.seg_map.proofs.Entering.{pair_block, pair_parts, tree_among, read_spelled, with_bytes, other_block, Laws}
+use Rattle.seg_map.proofs.{Entering.found_in, Entering.keys, Entering.good, Entering.keys_among, PairSteps.all_in}
 use Rattle.seg_map.specs.Changing.{IsNew, IsPut, IsPutAgain, CanPutIn, PutsIn}
-use Rattle.seg_map.{proofs.PairSteps.all_in, specs.Linking.CanLink}
-use Rattle.seg_map.proofs.Staying.{map_over, pair_stays, beside_then, keeps_beside, map_stays, relaid, at_node}
+use Rattle.seg_map.specs.Linking.{CanLink}
 use Rattle.seg_map.proofs.PairLists.{replaced_nodes, replaced_rising, in_nodes, not_among, place_of, put_all}
 use Rattle.seg_map.proofs.PairLists.{put_length, put_nodes, put_rising, HaveKeys, keys_agree, known}
 use Rattle.seg_map.proofs.PairLists.{beside as not_beside, each, each_both, pair_of, replaced_all}
-use Rattle.seg_map.proofs.Entering.{read_spelled, with_bytes, other_block, Laws, found_in, keys, good, keys_among}
 use Rattle.raw_region.proofs.Laws.{SameBut-trans, SameBut-wider}
 use Rattle.best_fit.proofs.Laws.{still_allocated-block, Differs, allocated-live, allocated-room_before, found-more}
-use Rattle.best_fit.{proofs.Laws.found-new, proofs.Laws.place-serves, proofs.Laws.rising-insert, specs.Fit.added}
+use Rattle.best_fit.proofs.Laws.{found-new, place-serves, rising-insert}
+use Rattle.best_fit.specs.Fit.{added}
 use Rattle.link_tree.proofs.Laws.{all_at}
 use Rattle.std.proofs.lemmas.{Bool.or_parts, Bool.not-true, Option.same_Some}
 

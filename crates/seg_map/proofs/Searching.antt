@@ -3,18 +3,17 @@ use Rattle.seg_map.proofs.Common.{◌≡◌, refl, sym, ap, subst, ◌∙◌, �
 use Rattle.seg_map.proofs.Common.{false, arith, not, IsTrue, reverse, Option, Some, None, IfSome, find, option_map}
 use Rattle.seg_map.proofs.Common.{if◌then◌else◌, AllByRecursion, last_or, Cut, bytes_of, read, link_at, IsSearchTree}
 use Rattle.seg_map.proofs.Common.{Tree, bits, nodes_of, first_not, last_before, entry_of, has_room, live_of, found-room}
-use Rattle.seg_map.proofs.Common.{room-less, IsKeyTree, keys_in, Pair, IsPairAt, is_rising, pair_at, Chains}
-use Rattle.seg_map.proofs.Common.{comes_before, own_nodes, pair_cells, stands_before, HoldsMap, IsPairIn, final_pair}
-use Rattle.seg_map.proofs.Common.{first_pair, is_passed, last_pair, pair_node, entry_in, exit_in, Plain, []}
-use Rattle.seg_map.proofs.{Entering.pair_parts, Entering.read_spelled, Entering.value_of, Common.nodes_of_pairs}
-use Rattle.seg_map.proofs.Entering.{Laws, first_node, key_tree, keys, last_node, length-nodes, with_bytes, own}
-use Rattle.seg_map.proofs.PairLists.{narrowed, each_both, all_reversed, each, last_mapped, by_key, pair_by_key}
-use Rattle.seg_map.proofs.{PairLists.HaveKeys, Staying.AtNode}
+use Rattle.seg_map.proofs.Common.{room-less, IsKeyTree, keys_in, Pair, IsPairAt, pair_at, Chains, comes_before}
+use Rattle.seg_map.proofs.Common.{own_nodes, pair_cells, stands_before, HoldsMap, IsPairIn, final_pair, first_pair}
+use Rattle.seg_map.proofs.Common.{is_passed, last_pair, pair_node, entry_in, exit_in, Plain, [], nodes_of_pairs}
+use Rattle.seg_map.proofs.Entering.{length-nodes, with_bytes, own, pair_parts, read_spelled, value_of, Laws, first_node}
+use Rattle.seg_map.proofs.{Entering.key_tree, Entering.keys, Entering.last_node, PairLists.by_key, Staying.AtNode}
+use Rattle.seg_map.proofs.PairLists.{pair_by_key, HaveKeys, narrowed, each_both, all_reversed, each, last_mapped}
 use Rattle.std.specs.Prelude.{option_and_then}
 use Rattle.link_tree.specs.{Searching.path_length, Ways.exit_of}
 use Rattle.seg_map.specs.Searches.{path_in, reading_steps, FindsExit, IsOpened, IsRead, LooksFor, LooksUp, item_at}
-use Rattle.seg_map.specs.{Searches.last_path, Searches.node_with, declared.places.Place.Place}
-use Rattle.seg_map.specs.{Places.IsSomeMap, Places.SearchSteps, Places.item_of, Places.value_of_pair, PairNodes.both}
+use Rattle.seg_map.specs.{Searches.last_path, Searches.node_with, declared.places.Place.Place, PairNodes.both}
+use Rattle.seg_map.specs.Places.{IsSomeMap, SearchSteps, item_of, value_of_pair, FindsItem}
 
 module _ {K V : Type 0} {kp : Plain K} {vp : Plain V} (laws : Laws kp) (c : Cut) {h at : ℕ} {ps : List (Pair K V)}
     (s : HoldsMap kp vp c.bytes h at ps) {root : Option ℕ} {ms : List ℕ}
@@ -252,15 +251,14 @@ looked_for {k = k} {v = v} {c} key {before = before} {after = after} f on i e =
     }
 
 -- the value of a key, of the item that is not below it
-pub value_by_key : {K V : Type 0} (k : Plain K) (on : Chains k.order) (key : K) (ps : List (Pair K V))
-    (i : Option (K × V))
-    → is_rising k.order ps ≡ true → i ≡ option_map item_of (first_pair k.order false key ps)
+pub value_by_key : {K V : Type 0} {k : Plain K} {v : Plain V} {b : List ℕ} {h at : ℕ} {i : Option (K × V)}
+    → Chains k.order → (key : K) → FindsItem k v b h at false key i → (ps : List (Pair K V)) → HoldsMap k v b h at ps
     → option_and_then (λ (x : K × V). if k.order key x.0 then None else Some x.1) i
     ≡ option_map value_of_pair (pair_at k.order ps key)
-value_by_key {K} {V} k on key ps i r e =
-    ap (option_and_then (λ (x : K × V). if k.order key x.0 then None else Some x.1)) e
+value_by_key {K} {V} {k} on key item ps s =
+    ap (option_and_then (λ (x : K × V). if k.order key x.0 then None else Some x.1)) (item ps s)
     ∙ by_pair (first_pair k.order false key ps)
-    ∙ sym (ap (option_map value_of_pair) (pair_by_key k.order on key ps r))
+    ∙ sym (ap (option_map value_of_pair) (pair_by_key k.order on key ps s.rising))
   where
     by_pair : (o : Option (Pair K V)) → option_and_then (λ (x : K × V). if k.order key x.0 then None else Some x.1)
         (option_map item_of o)

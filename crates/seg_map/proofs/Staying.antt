@@ -2,13 +2,13 @@
 use Rattle.seg_map.proofs.Common.{Some, SamePlace-trans, Same-trans, extent_at, IsBesideMap, IsTrue, has_room}
 use Rattle.seg_map.proofs.Common.{is_proper, ◌≡◌, refl, ap, ◌∙◌, ℕ, ◌+◌, ◌-◌, ◌%◌, ◌<◌, ◌≤◌, ◌⊎◌, inl, inr, true, false}
 use Rattle.seg_map.proofs.Common.{◌&&◌, ◌||◌, not, List, ◌∷◌, arith, nat_lt, nat_le, ◌==◌, both_ways, or_left, or_right}
-use Rattle.seg_map.proofs.Common.{eq-eqb, le-leb, lt-ltb, Cut, SamePlace, bytes_of, word_at, is_in, Extent, handle}
-use Rattle.seg_map.proofs.Common.{end_of, Keeps, SameBlock, live_of, is_kept, is_link_byte, is_other, kept_of, Good, In}
-use Rattle.seg_map.proofs.Common.{PairNode, node_place, sym, subst, ◌*◌, length, Option, IsSearchTree, Tree, bits}
-use Rattle.seg_map.proofs.Common.{nodes_of, leads, comes_before, is_pair_node, pair_cells, IsKeyTree, Relinked, keys_in}
-use Rattle.seg_map.proofs.Common.{Plain, AllByRecursion, false≢true, or_cases, eqb-true, current, Memory, Same}
-use Rattle.seg_map.proofs.Common.{Has-same, Same-word, Same-link, holds_same, LiveSet, cells_of, IsHeap, cell_stays}
-use Rattle.seg_map.proofs.Common.{Pair, IsPairAt, is_rising, HoldsMap, IsPairIn, nodes_of_pairs, pair_node, ◌≢◌, None}
+use Rattle.seg_map.proofs.Common.{eq-eqb, le-leb, lt-ltb, Cut, bytes_of, word_at, is_in, Extent, handle, end_of, Keeps}
+use Rattle.seg_map.proofs.Common.{SameBlock, live_of, is_kept, is_link_byte, is_other, kept_of, Good, In, PairNode}
+use Rattle.seg_map.proofs.Common.{node_place, sym, subst, ◌*◌, length, Option, IsSearchTree, Tree, bits, nodes_of}
+use Rattle.seg_map.proofs.Common.{leads, comes_before, is_pair_node, pair_cells, IsKeyTree, Relinked, keys_in, Plain}
+use Rattle.seg_map.proofs.Common.{AllByRecursion, false≢true, or_cases, eqb-true, current, Memory, Same, Has-same}
+use Rattle.seg_map.proofs.Common.{Same-word, Same-link, holds_same, LiveSet, cells_of, IsHeap, cell_stays, Pair}
+use Rattle.seg_map.proofs.Common.{IsPairAt, is_rising, HoldsMap, IsPairIn, nodes_of_pairs, pair_node, ◌≢◌, None}
 use Rattle.seg_map.proofs.Common.{cases_eq, leaf, fork, root_of, tree_same, SameBlockBut, others, changed-keeps}
 use Rattle.seg_map.proofs.Common.{changed-live, laid-heap, roomy, cells_at, PairNode-is_pair_node}
 use Rattle.seg_map.proofs.Common.{is_pair_node-PairNode, IsHeaded, IfSome, LaysOut, []}
@@ -50,10 +50,6 @@ no_link (n ∷ ns) k off =
 
 module _ {len : ℕ} {ns : List ℕ} {c : Cut} (d : Cut) (good : Good len ns c) (same : kept_of ns d ≡ kept_of ns c)
     (long : 16 ≤ len) where
-  kept_place : SamePlace c d
-  unfolding kept_of
-  kept_place = record { before = ap (λ (k : Kept). k.before) same; after = ap (λ (k : Kept). k.after) same }
-
   kept_byte : (k : ℕ) → is_kept ns (live_of c.bytes) k ≡ true → bytes_of d.bytes k ≡ bytes_of c.bytes k
   unfolding kept_of
   kept_byte k t = let e = ap (λ (r : Kept). r.byte k) same in rw (live_stays c d ns ns same, t) at e
@@ -115,9 +111,10 @@ module _ {len : ℕ} {ns : List ℕ} {c : Cut} (d : Cut) (good : Good len ns c) 
 
   -- the header but word 24 stays, and what lies round the window
   pub kept_keeps : Keeps c d []
+  unfolding kept_of
   kept_keeps =
       record {
-        place = kept_place;
+        place = record { before = ap (λ (k : Kept). k.before) same; after = ap (λ (k : Kept). k.after) same };
         front = record { at = λ k l h. kept_header k (inl h) };
         behind = record { at = λ k l h. kept_header k (inr (l, h)) };
         blocks = tt;

@@ -5,8 +5,8 @@ use Rattle.seg_index.proofs.Common.{nat_cmp, ordering_reverse, Ordering, Less, E
 use Rattle.seg_index.proofs.Common.{nat_list_cmp_total, big_number, Memory, bytes_of, read, AreBytes, front}
 use Rattle.std.proofs.{Math.Nat.add-mul, Math.Nat.mul-le-mul_right, Math.Nat.mul_assoc, Common.drop, Common.slice_index}
 use Rattle.std.proofs.lemmas.{List.get_or-drop, List.get_or-take, List.get_or_past, List.length-take, Nat.Bits.ones_shr}
-use Rattle.std.{proofs.lemmas.Nat.and_mask, proofs.lemmas.Nat.mod_low, proofs.lemmas.Nat.pow-add, specs.Cmp.nat_cmp_is}
-use Rattle.std.specs.Ordering.{ordering_then}
+use Rattle.std.proofs.lemmas.Nat.{and_mask, mod_low, pow-add}
+use Rattle.std.specs.{Ordering.ordering_then, Cmp.nat_cmp_is}
 use Rattle.byteorder.proofs.Bytes.{pow256}
 use Rattle.byteorder.specs.{Numbers.big_from-cons, Numbers.big_from-lt, Endian.big_from}
 

@@ -9,8 +9,8 @@ pub use Rattle.best_fit.specs.Table.{Table, same_role, serves}
 pub use Rattle.block_tags.specs.declared.tile.Role.{TheVariants.Index as IndexRole, Role}
 pub use Rattle.byteorder.specs.Endian.{big_number}
 pub use Rattle.link_tree.specs.Tree.{bits}
-pub use Rattle.offset_link.{proofs.Laws.Same-link, proofs.Laws.SameBut-link, specs.Link.link_at}
-pub use Rattle.offset_link.specs.Relinked.{AllLead, KeepTargets}
+pub use Rattle.offset_link.proofs.Laws.{Same-link, SameBut-link}
+pub use Rattle.offset_link.specs.{Relinked.AllLead, Relinked.KeepTargets, Link.link_at}
 pub use Rattle.raw_region.proofs.Laws.{Same-part, Same-word, SameBut-word, SamePlace-trans}
 pub use Rattle.raw_region.specs.{Memory.Cut, Memory.Memory, Memory.Same, Memory.bytes_of, Memory.read, Format.current}
 pub use Rattle.seg_index.specs.{Held.IsIndexOf, Held.capacity_at, Held.place_of, Beginnings.AreBytes, Beginnings.front}

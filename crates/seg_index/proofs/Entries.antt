@@ -8,13 +8,14 @@ use Rattle.seg_index.proofs.Common.{KeepTargets, AreLinks, cases_Bool, None, unw
 use Rattle.seg_index.proofs.Common.{bytes_of, word_at, holds, others, Table, same_role, serves, found-room, room-less}
 use Rattle.seg_index.proofs.Common.{Key, Lookup, Found, Absent, comparisons_in, order_at, beside_table, IsIndexOf}
 use Rattle.seg_index.proofs.Common.{place_of, AreKeys, IsPlaceIn, order, is_live_in, IndexRole}
-use Rattle.std.{proofs.lemmas.Bool.eqb-true, specs.List.list_any, specs.Prelude.find}
+use Rattle.std.proofs.lemmas.Bool.{eqb-true}
+use Rattle.std.specs.{List.list_any, Prelude.find}
 use Rattle.std.proofs.lemmas.List.Edits.{get_or-insert_above, get_or-insert_at, get_or-insert_below}
 use Rattle.std.proofs.lemmas.{List.Edits.get_or-remove_above, List.Edits.get_or-remove_below, Option.slice_get_within}
 use Rattle.seg_index.proofs.Changing.{changed_used, changed_touches, InHeader}
-use Rattle.seg_index.specs.Lookups.{HasKey, HasKeys, IsPlace}
+use Rattle.seg_index.specs.{Lookups.HasKey, Lookups.HasKeys, Lookups.IsPlace, Comparing.comparisons}
 use Rattle.seg_index.specs.declared.index.Index.{TheVariants.Named, TheVariants.Unique, Index}
-use Rattle.seg_index.{proofs.Orders.none_left, proofs.Orders.same_comparisons, specs.Comparing.comparisons}
+use Rattle.seg_index.proofs.Orders.{none_left, same_comparisons}
 use Rattle.best_fit.proofs.Laws.{changed-room}
 
 -- the first extent of a handle

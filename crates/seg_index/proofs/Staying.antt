@@ -8,8 +8,8 @@ use Rattle.seg_index.proofs.Common.{IsIndexOf, AreEntries, sym, ◌-◌, ◌^◌
 use Rattle.seg_index.proofs.Common.{allocated-live, found-new, live-rises, rising-insert, IsBlockFor, IndexRole, ◌<◌}
 use Rattle.seg_index.proofs.Common.{capacity_at, grown_capacity, LaysOut, Keeps}
 use Rattle.seg_index.proofs.Entries.{all_found, first, links_moved, long_enough, table_cases, placed}
-use Rattle.seg_index.{proofs.Changing.InHeader, proofs.Changing.same_live, specs.Growth.CanGrow, specs.Growth.IsGrowth}
-use Rattle.seg_index.specs.Held.{entry_count}
+use Rattle.seg_index.proofs.Changing.{InHeader, same_live}
+use Rattle.seg_index.specs.{Growth.CanGrow, Growth.IsGrowth, Held.entry_count}
 use Rattle.best_fit.proofs.Laws.{exchange-taken, kept-found, IsFresh, place-serves, too_long}
 use Rattle.best_fit.specs.{Extents.end_of, Fit.insert}
 

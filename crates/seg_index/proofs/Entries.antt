@@ -225,30 +225,24 @@ long_enough {cap = cap} {x} i =
     let two = and_parts (nat_lt 0 cap) (serves x IndexRole (8 * cap)) i.places in
     leb-true (8 * cap + 16) x.len (and_parts (same_role x.role IndexRole) (holds x (8 * cap)) two.1).1
 
-placed_some : (c : Cut) (at cap : ℕ) (x : Extent) (hs : List ℕ) (block : ℕ)
-    → IsIndexOf c at (record { capacity = cap; extent = Some x }) hs → link_at (bytes_of c.bytes) at ≡ Some block
-    → Placed c at (record { capacity = cap; extent = Some x }) hs block
-placed_some c at cap x hs block i leads =
-    let same : handle x ≡ block = same_Some (handle x) block (sym i.stands.link ∙ leads) in
+pub placed : {c : Cut} {at : ℕ} {t : Table} {hs : List ℕ} (block : ℕ) → IsIndexOf c at t hs
+    → link_at (bytes_of c.bytes) at ≡ Some block → Placed c at t hs block
+placed {c} {at} {t} {hs} block i leads = table_cases (λ u. IsIndexOf c at u hs → Placed c at u hs block)
+    (λ cap j. absurd (none-some block (sym j.stands.link ∙ leads))) (λ cap x j.
+    let same : handle x ≡ block = same_Some (handle x) block (sym j.stands.link ∙ leads) in
     let found : extent_at (live_of c.bytes) block ≡ Some x =
-    subst (λ k. extent_at (live_of c.bytes) k ≡ Some x) same i.held in
-    let room = found-room (live_of c.bytes) block (8 * cap) x found (long_enough i) in
+    subst (λ k. extent_at (live_of c.bytes) k ≡ Some x) same j.held in
+    let room = found-room (live_of c.bytes) block (8 * cap) x found (long_enough j) in
     record {
-      index = i;
+      index = j;
       extent = x;
       is = refl;
       begins = same;
       found = found;
       room = room;
-      inside = inside c block (8 * cap) i.heap room;
-      links = subst (λ k. AreLinks (bytes_of c.bytes) k hs) same i.stands.entries;
-    }
-
-pub placed : {c : Cut} {at : ℕ} {t : Table} {hs : List ℕ} (block : ℕ) → IsIndexOf c at t hs
-    → link_at (bytes_of c.bytes) at ≡ Some block → Placed c at t hs block
-placed {c} {at} {t} {hs} block i leads = table_cases (λ u. IsIndexOf c at u hs → Placed c at u hs block)
-    (λ cap j. absurd (none-some block (sym j.stands.link ∙ leads))) (λ cap x j. placed_some c at cap x hs block j leads)
-    t i
+      inside = inside c block (8 * cap) j.heap room;
+      links = subst (λ k. AreLinks (bytes_of c.bytes) k hs) same j.stands.entries;
+    }) t i
 
 -- the blocks beside that of the index
 pub beside : {c : Cut} {at : ℕ} {t : Table} {hs : List ℕ} {block : ℕ} → Placed c at t hs block → (xs : List Extent)

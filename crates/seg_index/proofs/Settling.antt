@@ -11,9 +11,9 @@ use Rattle.seg_index.proofs.Common.{lt-ltb, IndexRole, ◌==◌, none-some, Same
 use Rattle.seg_index.proofs.Common.{found-new, laid-heap, live-rises, rising-insert}
 use Rattle.seg_index.proofs.Changing.{changed_heap, same_live, keeps_both, InHeader, keeps_words, keeps_written}
 use Rattle.seg_index.proofs.Changing.{others_without, rest_of, rest_others, rest_trans, rest_without, changed_trans}
-use Rattle.seg_index.proofs.{Entries.Placed, Entries.beside, Changing.taken_others}
-use Rattle.seg_index.proofs.Entries.{leads_from, no_entries, placed, bare, table_cases, remove_links, found_handle}
-use Rattle.seg_index.proofs.Entries.{found_live, inside, entry_here, insert_all, insert_links, links_moved, remove_all}
+use Rattle.seg_index.proofs.{Entries.links_moved, Entries.remove_all, Changing.taken_others}
+use Rattle.seg_index.proofs.Entries.{Placed, beside, leads_from, no_entries, placed, bare, table_cases, remove_links}
+use Rattle.seg_index.proofs.Entries.{found_handle, found_live, inside, entry_here, insert_all, insert_links}
 use Rattle.seg_index.specs.{Capacities.IsShrunk, Capacities.with_cut, Held.IsIndexIn}
 use Rattle.seg_index.proofs.Staying.{still_released, still_taken, still_written, meant, not_its_own, taken_block}
 use Rattle.best_fit.proofs.Laws.{block_aligned, keeps-refl, resized-live, Rising, shorter-IsShorter}

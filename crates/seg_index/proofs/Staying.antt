@@ -20,15 +20,6 @@ pub record Around (a b : Cut) (at : ℕ) (t : Table) : Type 0 where
   pub block : IfSome t.extent (λ x. (extent_at (live_of b.bytes) (handle x) ≡ Some x)
       × Same (bytes_of a.bytes) (bytes_of b.bytes) (handle x) (end_of x))
 
--- the links are in the block, which has room for them
-same_entries : {a b : Cut} {at : ℕ} {t : Table} {hs : List ℕ} → IsIndexOf a at t hs → Around a b at t
-    → AreEntries (bytes_of b.bytes) t hs
-same_entries {a} {b} {at} {t} {hs} = table_cases (λ u. IsIndexOf a at u hs → Around a b at u
-    → AreEntries (bytes_of b.bytes) u hs) (λ cap i r. i.stands.entries) (λ cap x i r.
-    let A = bytes_of a.bytes in let B = bytes_of b.bytes in let few = i.few in let long = long_enough i in
-    links_moved A B (handle x) (handle x) hs i.stands.entries
-    (λ j l. Same-link A B (handle x) (end_of x) (handle x + 8 * j) r.block.1 (omega arith) (omega arith))) t
-
 pub stays : (a b : Cut) (at : ℕ) (t : Table) (hs : List ℕ) → IsIndexOf a at t hs → Around a b at t → IsIndexOf b at t hs
 stays a b at t hs i r =
     let A = bytes_of a.bytes in let B = bytes_of b.bytes in
@@ -38,7 +29,13 @@ stays a b at t hs i r =
         link = Same-link A B at (at + 24) at r.words (omega arith) (omega arith) ∙ i.stands.link;
         count = Same-word A B at (at + 24) (at + 8) r.words (omega arith) (omega arith) ∙ i.stands.count;
         capacity = Same-word A B at (at + 24) (at + 16) r.words (omega arith) (omega arith) ∙ i.stands.capacity;
-        entries = same_entries i r;
+        -- the links are in the block, which has room for them
+        entries = table_cases (λ u. IsIndexOf a at u hs → Around a b at u → AreEntries B u hs)
+            (λ cap j q. j.stands.entries) (λ cap x j q.
+            let few = j.few in let long = long_enough j in
+            links_moved A B (handle x) (handle x) hs j.stands.entries
+            (λ k l. Same-link A B (handle x) (end_of x) (handle x + 8 * k) q.block.1 (omega arith) (omega arith)))
+            t i r;
       };
       places = i.places;
       few = i.few;
@@ -123,7 +120,7 @@ still_written {a} {b} {n = n} h k w d room other i =
     still_kept (others h (live_of a.bytes).extents) w i d.live (changed-keeps current a b h k n d room)
     (λ x q. (among_others other x q, ap (λ (s : LiveSet). extent_at s (handle x)) (same_live d) ∙ q.found))
 
--- ---- what it is
+-- ---- the block that a request took
 
 fresh : {a b : Cut} {n h : ℕ} {role : Role} → (i : IsAllocated current a b n role h)
     → IsFresh 128 i.extent (live_of a.bytes).extents

@@ -16,8 +16,8 @@ use Rattle.best_fit.proofs.Laws.{holds_closed}
 use Rattle.seg_types.proofs.Laws.{value-spelled}
 use Rattle.seg_map.specs.PairNodes.{is_block_in, nodes_in}
 use Rattle.seg_map.specs.PairLaws.{comes_irreflexive, comes_transitive, few_extents, handles_length, in_handles}
-use Rattle.seg_map.proofs.PairLists.{AreAt, AreIn, HaveKeys, all_reversed, each, each_both, find_mapped, map_reversed}
-use Rattle.seg_map.proofs.PairSteps.{all_in, any_at, in_others}
+use Rattle.seg_map.proofs.PairLists.{HaveKeys, all_reversed, each, each_both, find_mapped, map_reversed}
+use Rattle.seg_map.proofs.{PairSteps.all_in, PairSteps.any_at, PairSteps.in_others, PairLists.nodes_in as pairs_in}
 
 -- the laws of a plain type
 pub record Laws {T : Type 0} (p : Plain T) : Type 0 where
@@ -153,6 +153,14 @@ pub with_bytes : {K V : Type 0} {kp : Plain K} {vp : Plain V} {b : List ℕ} {h 
     × IsPairAt kp.SIZE kp.spelling vp.spelling (bytes_of b) p) ps
 with_bytes {ps = ps} s = each_both ps s.pairs s.map.pairs (λ p i b. (i, b))
 
+-- the key of a pair's node is the pair's
+pub key_is : {K V : Type 0} {kp : Plain K} {vp : Plain V} → Laws kp → (own : List ℕ) (c : Cut) {h : ℕ} {p : Pair K V}
+    → is_pair_node (16 + kp.SIZE) own c (pair_node p) ≡ true → IsPairIn kp vp (live_of c.bytes) h p
+    → IsPairAt kp.SIZE kp.spelling vp.spelling (bytes_of c.bytes) p → keys_in kp own c (pair_node p) ≡ Some p.key
+unfolding key_of key_at
+key_is {kp = kp} l own c {p = p} e i b =
+    rw e (read_spelled kp l (bytes_of c.bytes) (handle p.node + 16) p.key (pair_parts i).key b.0)
+
 -- the nodes may be more than those of the tree
 module _ {K V : Type 0} {kp : Plain K} {vp : Plain V} (laws : Laws kp) {c : Cut} {h at : ℕ} {ps : List (Pair K V)}
     (s : HoldsMap kp vp c.bytes h at ps) {own : List ℕ} (g : Good (16 + kp.SIZE) own c)
@@ -160,21 +168,9 @@ module _ {K V : Type 0} {kp : Plain K} {vp : Plain V} (laws : Laws kp) {c : Cut}
   node_in : (n : ℕ) → is_in n (nodes_of s.map.tree.tree) ≡ true → is_pair_node (16 + kp.SIZE) own c n ≡ true
   node_in n i = PairNode-is_pair_node (16 + kp.SIZE) own c n (record { good = g; listed = among n i })
 
-  keys_from : (qs : List (Pair K V)) → list_all (λ n. is_in n (nodes_of s.map.tree.tree)) (nodes_of_pairs qs) ≡ true
-      → AreIn kp vp (live_of c.bytes) h qs → AreAt kp vp (bytes_of c.bytes) qs → HaveKeys (keys_in kp own c) qs
-  unfolding key_of key_at
-  keys_from [] i k b = tt
-  keys_from (q ∷ qs) i k b =
-      let two = and_parts _ _ i in (
-        rw (node_in (pair_node q) two.0)
-            (read_spelled kp laws (bytes_of c.bytes) (handle q.node + 16) q.key (pair_parts k.0).key b.0.0),
-        keys_from qs two.1 k.1 b.1,
-      )
-
   pub keys_among : HaveKeys (keys_in kp own c) ps
-  keys_among =
-      keys_from ps (all_from (λ n. is_in n (nodes_of s.map.tree.tree)) (nodes_of_pairs ps)
-      (λ m i. ap (λ ms. is_in m ms) s.map.tree.lists ∙ i)) s.pairs s.map.pairs
+  keys_among = each_both ps (pairs_in (nodes_of s.map.tree.tree) ps (λ m i. ap (is_in m) s.map.tree.lists ∙ i))
+      (with_bytes s) (λ p i w. key_is laws own c (node_in (pair_node p) i) w.0 w.1)
 
   leads_among : (o : Option ℕ) → IsTree (cells_of (bytes_of c.bytes)) o s.map.tree.tree
       → leads (is_pair_node (16 + kp.SIZE) own c) o ≡ true

@@ -8,10 +8,10 @@ use Rattle.seg_map.proofs.Common.{keys_in, IsErased, IsHeaded, exit_in, ◌⊎�
 use Rattle.seg_map.proofs.Common.{AllByRecursion, cases_Bool, cases_eq, ne_eqb, word_at, IsTree, Tree, fork, leaf}
 use Rattle.seg_map.proofs.Common.{root_of, root_in, SameBlockBut, is_proper, others, cells_of, extent_at, live-rises}
 use Rattle.seg_map.proofs.Common.{Chains, In, IsStrict, is_key, is_rising, IsBesideMap, Rising, Plain, [], not}
-use Rattle.seg_map.proofs.{Searching.lent_own, Searching.lent_tree, Common.or_right}
-use Rattle.seg_map.proofs.{PairSteps.any_at, PairSteps.begins_behind, PairSteps.own_handle, PairLists.rising_below}
-use Rattle.seg_map.proofs.PairLists.{rising_rest, each_both, pair_of, in_nodes, none_left, other_nodes, removed_all}
-use Rattle.seg_map.proofs.PairLists.{removed_length, apart_all, removed_rising, without_nodes, in_from, nodes_in, Below}
+use Rattle.seg_map.proofs.{PairSteps.any_at, PairSteps.begins_behind, PairSteps.own_handle, Common.or_right}
+use Rattle.seg_map.proofs.{Searching.lent_own, Searching.lent_tree, PairLists.nodes_in, PairLists.Below}
+use Rattle.seg_map.proofs.PairLists.{rising_below, rising_rest, each_both, pair_of, in_nodes, none_left, other_nodes}
+use Rattle.seg_map.proofs.PairLists.{removed_all, removed_length, apart_all, removed_rising, without_nodes, in_from}
 use Rattle.seg_map.specs.{Changing.IsTaken, Changing.IsGivenUp, Linking.CanUnlink}
 use Rattle.seg_map.proofs.Entering.{Laws, found_in, good, keys, other_block}
 use Rattle.best_fit.proofs.Laws.{released-live, keeps-refl, others-comm, rising-weak}

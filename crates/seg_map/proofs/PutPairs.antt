@@ -8,14 +8,14 @@ use Rattle.seg_map.proofs.Common.{nodes_of, entry_of, entry_same, Extent, handle
 use Rattle.seg_map.proofs.Common.{roomy, Pair, pair_at, HoldsMap, nodes_of_pairs, stands, stands_before, keys_in}
 use Rattle.seg_map.proofs.Common.{entry_in, IsLoose, IsPlanted, inr, not, ◌&&◌, ◌∷◌, length, and_parts, eqb-true}
 use Rattle.seg_map.proofs.Common.{eq-eqb, or_cases, or_left, or_right, has_place, leads, put, all_from, cells_of}
-use Rattle.seg_map.proofs.Common.{pair_node, comes_before, is_pair_node, key_at, key_of, links_among, own_nodes, Good}
+use Rattle.seg_map.proofs.Common.{pair_node, comes_before, is_pair_node, links_among, own_nodes, Good}
 use Rattle.seg_map.proofs.Common.{PairNode-is_pair_node, IsKeyTree, Relinked, ◌⊎◌, AllByRecursion, both_ways, cases_eq}
 use Rattle.seg_map.proofs.Common.{Same, others, Keeps, beside_cell, changed-keeps, changed-room, found-room, IsPairAt}
 use Rattle.seg_map.proofs.{Common.put_pair, Common.IsPairIn, Common.PairNode, Common.node_place, Searching.lent_own}
 use Rattle.seg_map.proofs.Staying.{block_cells, map_over, pair_stays, beside_then, keeps_beside, map_stays, relaid}
 use Rattle.seg_map.proofs.Staying.{at_node}
-use Rattle.seg_map.proofs.Entering.{pair_block, pair_parts, tree_among, read_spelled, with_bytes, other_block, Laws}
-use Rattle.seg_map.proofs.{Entering.found_in, Entering.keys, Entering.good, Entering.keys_among, PairSteps.all_in}
+use Rattle.seg_map.proofs.Entering.{good, keys_among, key_is, pair_block, pair_parts, tree_among, with_bytes}
+use Rattle.seg_map.proofs.{Entering.other_block, Entering.Laws, Entering.found_in, Entering.keys, PairSteps.all_in}
 use Rattle.seg_map.specs.Changing.{IsNew, IsPut, IsPutAgain, CanPutIn, PutsIn}
 use Rattle.seg_map.specs.Linking.{CanLink}
 use Rattle.seg_map.proofs.PairLists.{replaced_nodes, replaced_rising, in_nodes, not_among, place_of, put_all}
@@ -285,10 +285,7 @@ module _ {K V : Type 0} {kp : Plain K} {vp : Plain V} (kl : Laws kp) (c : Cut) {
   own_in = or_left _ _ (eq-eqb (pair_node p) (pair_node p) refl)
 
   own_key : keys_in kp all c (pair_node p) ≡ Some p.key
-  unfolding key_of key_at
-  own_key =
-      rw (node_all (pair_node p) own_in)
-      (read_spelled kp kl (bytes_of c.bytes) (handle p.node + 16) p.key (pair_parts l.block).key l.bytes.0)
+  own_key = key_is kl all c (node_all (pair_node p) own_in) l.block l.bytes
 
   keys_all : HaveKeys (keys_in kp all c) ps
   keys_all = keys_among kl s good_all in_all

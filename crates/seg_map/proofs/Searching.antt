@@ -7,8 +7,8 @@ use Rattle.seg_map.proofs.Common.{room-less, IsKeyTree, keys_in, Pair, IsPairAt,
 use Rattle.seg_map.proofs.Common.{own_nodes, pair_cells, stands_before, HoldsMap, IsPairIn, final_pair, first_pair}
 use Rattle.seg_map.proofs.Common.{is_passed, last_pair, pair_node, entry_in, exit_in, Plain, [], nodes_of_pairs}
 use Rattle.seg_map.proofs.Entering.{length-nodes, with_bytes, own, pair_parts, read_spelled, value_of, Laws, first_node}
-use Rattle.seg_map.proofs.{Entering.key_tree, Entering.keys, Entering.last_node, PairLists.by_key, Staying.AtNode}
-use Rattle.seg_map.proofs.PairLists.{pair_by_key, HaveKeys, narrowed, each_both, all_reversed, each, last_mapped}
+use Rattle.seg_map.proofs.{Entering.key_tree, Entering.keys, Entering.last_node, PairLists.last_mapped, Staying.AtNode}
+use Rattle.seg_map.proofs.PairLists.{by_key, pair_by_key, HaveKeys, narrowed, each_both, all_reversed, each}
 use Rattle.std.specs.Prelude.{option_and_then}
 use Rattle.link_tree.specs.{Searching.path_length, Ways.exit_of}
 use Rattle.seg_map.specs.Searches.{path_in, reading_steps, FindsExit, IsOpened, IsRead, LooksFor, LooksUp, item_at}

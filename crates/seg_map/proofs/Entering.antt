@@ -1,6 +1,6 @@
 -- The pairs of a map as a search tree.
-use Rattle.seg_map.proofs.Common.{◌≡◌, refl, sym, ap, ◌∙◌, ℕ, suc, ◌+◌, ◌≤◌, ◌≢◌, inl, inr, Bool, true, ◌&&◌, not, List}
-use Rattle.seg_map.proofs.Common.{◌∷◌, length, map, arith, ◌==◌, Option, Some, None, find, option_map, AllByRecursion}
+use Rattle.seg_map.proofs.Common.{◌≡◌, refl, sym, ap, ◌∙◌, ℕ, ◌+◌, ◌≤◌, ◌≢◌, inl, inr, Bool, true, ◌&&◌, not, List, ◌∷◌}
+use Rattle.seg_map.proofs.Common.{length, map, arith, ◌==◌, Option, Some, None, find, option_map, AllByRecursion}
 use Rattle.seg_map.proofs.Common.{list_all, reverse, and_parts, cases_Bool, eq-eqb, le-leb, leb-true, Memory, Has}
 use Rattle.seg_map.proofs.Common.{bytes_of, read, Cut, Node, link_at, Tree, IsTree, nodes_of, rises, first_not, is_in}
 use Rattle.seg_map.proofs.Common.{last_before, leads, all_from, root_in, tree_same, Extent, LiveSet, handle, cells_of}
@@ -8,7 +8,7 @@ use Rattle.seg_map.proofs.Common.{others, Keeps, SameBlock, extent_at, live_of, 
 use Rattle.seg_map.proofs.Common.{IsPairAt, is_rising, HoldsMap, IsPairIn, first_pair, is_passed, last_pair}
 use Rattle.seg_map.proofs.Common.{nodes_of_pairs, pair_node, before_key, comes_before, stands, is_pair_node, key_at}
 use Rattle.seg_map.proofs.Common.{key_of, links_among, own_nodes, pair_cells, stands_before, Chains, IsStrict, Good, In}
-use Rattle.seg_map.proofs.Common.{PairNode-is_pair_node, cells_at, node_block, Plain, []}
+use Rattle.seg_map.proofs.Common.{PairNode-is_pair_node, cells_at, node_block, Plain, [], length-map}
 use Rattle.std.proofs.Common.{◌^◌}
 use Rattle.link_tree.proofs.Laws.{above_more, bits_most, bounds_height, reads_off, tree_limit}
 use Rattle.best_fit.specs.Table.{same_role, serves}
@@ -117,10 +117,6 @@ pub pairs_all : {K V : Type 0} (P : ℕ → Bool) (Q : Pair K V → Type 0) (ps 
 pairs_all P Q [] f a = refl
 pairs_all P Q (p ∷ ps) f a = rw (f p a.0, pairs_all P Q ps f a.1) refl
 
-pub length-nodes : {K V : Type 0} (ps : List (Pair K V)) → length (nodes_of_pairs ps) ≡ length ps
-length-nodes [] = refl
-length-nodes (p ∷ ps) = ap suc (length-nodes ps)
-
 -- ---- the tree of a map
 
 module _ {K V : Type 0} {kp : Plain K} {vp : Plain V} (laws : Laws kp) (c : Cut) {h at : ℕ} {ps : List (Pair K V)}
@@ -228,4 +224,4 @@ module _ {K V : Type 0} {kp : Plain K} {vp : Plain V} (laws : Laws kp) (c : Cut)
 -- a map has few pairs
 pub few_in_map : {K V : Type 0} {kp : Plain K} {vp : Plain V} (kl : Laws kp) (c : Cut) {h at : ℕ} {ps : List (Pair K V)}
     (s : HoldsMap kp vp c.bytes h at ps) → length ps ≤ 1073741824
-few_in_map kl c {ps = ps} s = omega (arith, few_pairs kl c s, ap length s.map.tree.lists ∙ length-nodes ps)
+few_in_map kl c {ps = ps} s = omega (arith, few_pairs kl c s, ap length s.map.tree.lists ∙ length-map ps pair_node)

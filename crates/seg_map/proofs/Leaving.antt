@@ -8,16 +8,16 @@ use Rattle.seg_map.proofs.Common.{keys_in, IsErased, IsHeaded, exit_in, ◌⊎�
 use Rattle.seg_map.proofs.Common.{AllByRecursion, cases_Bool, cases_eq, ne_eqb, word_at, IsTree, Tree, fork, leaf}
 use Rattle.seg_map.proofs.Common.{root_of, root_in, SameBlockBut, is_proper, others, cells_of, extent_at, live-rises}
 use Rattle.seg_map.proofs.Common.{Chains, In, IsStrict, is_key, is_rising, IsBesideMap, Rising, Plain, [], not}
-use Rattle.seg_map.proofs.{PairSteps.any_at, PairSteps.begins_behind, PairSteps.own_handle, Common.or_right}
-use Rattle.seg_map.proofs.{Searching.lent_own, Searching.lent_tree, PairLists.nodes_in, PairLists.Below}
-use Rattle.seg_map.proofs.PairLists.{rising_below, rising_rest, each_both, pair_of, in_nodes, none_left, other_nodes}
-use Rattle.seg_map.proofs.PairLists.{removed_all, removed_length, apart_all, removed_rising, without_nodes, in_from}
+use Rattle.seg_map.proofs.{Common.or_right, Common.false_from_ne_true, PairLists.without_nodes, PairLists.in_from}
+use Rattle.seg_map.proofs.PairSteps.{any_at, begins_behind, own_handle}
+use Rattle.seg_map.proofs.Searching.{lent_own, lent_tree}
+use Rattle.seg_map.proofs.PairLists.{nodes_in, Below, rising_below, rising_rest, each_both, pair_of, in_nodes}
+use Rattle.seg_map.proofs.PairLists.{none_left, other_nodes, removed_all, removed_length, apart_all, removed_rising}
 use Rattle.seg_map.specs.{Changing.IsTaken, Changing.IsGivenUp, Linking.CanUnlink}
 use Rattle.seg_map.proofs.Entering.{Laws, found_in, good, keys, other_block}
 use Rattle.best_fit.proofs.Laws.{released-live, keeps-refl, others-comm, rising-weak}
 use Rattle.seg_map.proofs.Staying.{at_node, map_stays, AtNode, beside_then, keeps_beside, relaid}
 use Rattle.best_fit.specs.{Exchange.exchanged, Exchange.without_all, Heap.IsReleased}
-use Rattle.std.proofs.lemmas.Bool.{false_from_ne_true}
 
 module _ {K V : Type 0} {kp : Plain K} {vp : Plain V} (kl : Laws kp) (c : Cut) {h at : ℕ} {root : Option ℕ}
     {ps : List (Pair K V)} (s : HoldsMap kp vp c.bytes h at ps) (is : root ≡ link_at (bytes_of c.bytes) (h + at))

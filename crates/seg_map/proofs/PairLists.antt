@@ -5,10 +5,10 @@ use Rattle.seg_map.proofs.Common.{if◌then◌else◌, and_parts, Chains, Pair, 
 use Rattle.seg_map.proofs.Common.{length, ◌==◌, both_ways, or_left, or_right, eq-eqb, ne_eqb, is_in, without, IsStrict}
 use Rattle.seg_map.proofs.Common.{is_key, remove_pair, nodes_of_pairs, pair_node, LiveSet, eqb-true, false≢true}
 use Rattle.seg_map.proofs.Common.{or_cases, ◌⊎◌, has_place, put, put_pair, before_key, comes_before, Plain, Memory}
-use Rattle.seg_map.proofs.Common.{IsPairAt, IsPairIn, IfSome, stands, stands_before, []}
-use Rattle.std.proofs.{lemmas.List.map-append, Common.◌++◌, Common.nat_eq}
+use Rattle.seg_map.proofs.Common.{IsPairAt, IsPairIn, IfSome, stands, stands_before, [], or_parts, false_from_ne_true}
+use Rattle.std.proofs.lemmas.{Bool.and_from, Bool.true≢false, Bool.not-false, List.map-append}
+use Rattle.std.proofs.Common.{◌++◌, nat_eq}
 use mathlib.Core.List.{reverse-cons}
-use Rattle.std.proofs.lemmas.Bool.{or_parts, and_from, true≢false, false_from_ne_true, not-false}
 use Rattle.link_tree.proofs.Laws.{without_none}
 
 -- what follows of each from what holds of each

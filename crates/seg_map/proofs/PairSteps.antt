@@ -11,12 +11,12 @@ use Rattle.seg_map.proofs.Common.{SameBut-link, LiveSet, end_of, others, cells_o
 use Rattle.seg_map.proofs.Common.{beside_cell, cell_stays, lay_out_one, is_kept, is_link_byte, is_other, is_pair_node}
 use Rattle.seg_map.proofs.Common.{kept_of, key_at, key_of, links_among, pair_cells, Good, PairNode}
 use Rattle.seg_map.proofs.Common.{PairNode-is_pair_node, cells_at, disjoint, is_pair_node-PairNode, node_block}
-use Rattle.seg_map.proofs.Common.{node_place, comes_before, keys_in, stands_before, value_in, Plain}
+use Rattle.seg_map.proofs.Common.{node_place, comes_before, keys_in, stands_before, value_in, Plain, not-true}
 use Rattle.best_fit.proofs.Laws.{legal_size, others-here, others-past}
 use Rattle.best_fit.specs.{Heap.IsRecoloured, Heap.is_node_in, Heap.is_node_role, FreeTree.is_red, Extents.holds}
-use Rattle.std.proofs.{Math.Nat.le_refl, Math.Nat.le_trans, Math.Nat.lt_of_lt_of_le, Common.zero, Common.◌/◌}
+use Rattle.std.proofs.{Math.Nat.le_refl, Math.Nat.le_trans, Math.Nat.lt_of_lt_of_le, lemmas.Bool.cases_lt}
+use Rattle.std.proofs.Common.{zero, ◌/◌}
 use Rattle.seg_map.specs.{declared.reading.Sought.Sought, PairNodes.is_good}
-use Rattle.std.proofs.lemmas.Bool.{cases_lt, not-true}
 use Rattle.raw_region.proofs.Laws.{Same-read}
 use Rattle.link_tree.specs.{Nodes.with_left, Nodes.with_right, Nodes.with_red, Tree.Cell}
 use Rattle.seg_map.specs.PairLaws.{Good-is_good, Place, cells_off, link_parts, links_at, Block}

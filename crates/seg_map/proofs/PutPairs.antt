@@ -11,11 +11,11 @@ use Rattle.seg_map.proofs.Common.{eq-eqb, or_cases, or_left, or_right, has_place
 use Rattle.seg_map.proofs.Common.{pair_node, comes_before, is_pair_node, links_among, own_nodes, Good}
 use Rattle.seg_map.proofs.Common.{PairNode-is_pair_node, IsKeyTree, Relinked, ◌⊎◌, AllByRecursion, both_ways, cases_eq}
 use Rattle.seg_map.proofs.Common.{Same, others, Keeps, beside_cell, changed-keeps, changed-room, found-room, IsPairAt}
-use Rattle.seg_map.proofs.{Common.put_pair, Common.IsPairIn, Common.PairNode, Common.node_place, Searching.lent_own}
+use Rattle.seg_map.proofs.Common.{put_pair, IsPairIn, PairNode, node_place, or_parts, not-true}
+use Rattle.seg_map.proofs.{Entering.other_block, Entering.Laws, Entering.found_in, Entering.keys, Searching.lent_own}
 use Rattle.seg_map.proofs.Staying.{block_cells, map_over, pair_stays, beside_then, keeps_beside, map_stays, relaid}
-use Rattle.seg_map.proofs.Staying.{at_node}
+use Rattle.seg_map.proofs.{PairSteps.all_in, Staying.at_node}
 use Rattle.seg_map.proofs.Entering.{good, keys_among, key_is, pair_block, pair_parts, tree_among, with_bytes}
-use Rattle.seg_map.proofs.{Entering.other_block, Entering.Laws, Entering.found_in, Entering.keys, PairSteps.all_in}
 use Rattle.seg_map.specs.Changing.{IsNew, IsPut, IsPutAgain, CanPutIn, PutsIn}
 use Rattle.seg_map.specs.Linking.{CanLink}
 use Rattle.seg_map.proofs.PairLists.{replaced_nodes, replaced_rising, in_nodes, not_among, place_of, put_all}
@@ -26,7 +26,7 @@ use Rattle.best_fit.proofs.Laws.{still_allocated-block, Differs, allocated-live,
 use Rattle.best_fit.proofs.Laws.{found-new, place-serves, rising-insert}
 use Rattle.best_fit.specs.Fit.{added}
 use Rattle.link_tree.proofs.Laws.{all_at}
-use Rattle.std.proofs.lemmas.{Bool.or_parts, Bool.not-true, Option.same_Some}
+use Rattle.std.proofs.lemmas.Option.{same_Some}
 
 module _ {a b c d : Cut} {at : ℕ} {root : Option ℕ} {count : ℕ} (first : IsChanged current a b at 8)
     (link : link_at (bytes_of b.bytes) at ≡ root)

@@ -6,9 +6,9 @@ use Rattle.seg_map.proofs.Common.{Tree, bits, nodes_of, first_not, last_before, 
 use Rattle.seg_map.proofs.Common.{room-less, IsKeyTree, keys_in, Pair, IsPairAt, pair_at, Chains, comes_before}
 use Rattle.seg_map.proofs.Common.{own_nodes, pair_cells, stands_before, HoldsMap, IsPairIn, final_pair, first_pair}
 use Rattle.seg_map.proofs.Common.{is_passed, last_pair, pair_node, entry_in, exit_in, Plain, [], nodes_of_pairs}
-use Rattle.seg_map.proofs.Entering.{length-nodes, with_bytes, own, pair_parts, read_spelled, value_of, Laws, first_node}
-use Rattle.seg_map.proofs.{Entering.key_tree, Entering.keys, Entering.last_node, PairLists.last_mapped, Staying.AtNode}
-use Rattle.seg_map.proofs.PairLists.{by_key, pair_by_key, HaveKeys, narrowed, each_both, all_reversed, each}
+use Rattle.seg_map.proofs.{Entering.keys, Entering.last_node, PairLists.all_reversed, Common.length-map, Staying.AtNode}
+use Rattle.seg_map.proofs.Entering.{with_bytes, own, pair_parts, read_spelled, value_of, Laws, first_node, key_tree}
+use Rattle.seg_map.proofs.PairLists.{each, last_mapped, by_key, pair_by_key, HaveKeys, narrowed, each_both}
 use Rattle.std.specs.Prelude.{option_and_then}
 use Rattle.link_tree.specs.{Searching.path_length, Ways.exit_of}
 use Rattle.seg_map.specs.Searches.{path_in, reading_steps, FindsExit, IsOpened, IsRead, LooksFor, LooksUp, item_at}
@@ -97,7 +97,7 @@ module _ {K V : Type 0} {k : Plain K} {v : Plain V} {now c : Cut} {at : Place} {
   few : {taken : ℕ} → Asked (λ t. taken ≤ 2 * bits (length (nodes_of t) + 1)) → SearchSteps k v c.bytes at 0 0 taken
   few {taken} most = λ ps s.
       let m = most s.map.tree.tree (o.tree ps s).tree in
-      let n = ap (λ n. bits (n + 1)) (ap length s.map.tree.lists ∙ length-nodes ps) in omega arith
+      let n = ap (λ n. bits (n + 1)) (ap length s.map.tree.lists ∙ length-map ps pair_node) in omega arith
 
   -- what holds of each pair holds of the one whose node is found
   finds : {found : Option ℕ} {taken : ℕ} (node : List ℕ → Option ℕ) (pair : List (Pair K V) → Option (Pair K V))

@@ -11,11 +11,11 @@ use Rattle.seg_map.proofs.Common.{Same-word, Same-link, holds_same, LiveSet, cel
 use Rattle.seg_map.proofs.Common.{IsPairAt, is_rising, HoldsMap, IsPairIn, nodes_of_pairs, pair_node, ◌≢◌, None}
 use Rattle.seg_map.proofs.Common.{cases_eq, leaf, fork, root_of, tree_same, SameBlockBut, others, changed-keeps}
 use Rattle.seg_map.proofs.Common.{changed-live, laid-heap, roomy, cells_at, PairNode-is_pair_node}
-use Rattle.seg_map.proofs.Common.{is_pair_node-PairNode, IsHeaded, IfSome, LaysOut, []}
+use Rattle.seg_map.proofs.Common.{is_pair_node-PairNode, IsHeaded, IfSome, LaysOut, [], length-map}
 use Rattle.seg_map.proofs.PairSteps.{any_at, block_apart, same_red, all_in, target_whole}
 use Rattle.std.proofs.lemmas.Bool.{le-ltb, lt-leb}
 use Rattle.seg_map.specs.{PairNodes.Kept, PairNodes.lies_in_block, Changing.IsRelaid}
-use Rattle.seg_map.proofs.Entering.{Laws, length-nodes, pair_parts, found_in, other_block}
+use Rattle.seg_map.proofs.Entering.{Laws, pair_parts, found_in, other_block}
 use Rattle.seg_map.proofs.PairLists.{each, each_both, AreAt, AreIn, removed_length, in_from, nodes_in}
 use Rattle.best_fit.proofs.Laws.{but-trans, written-but}
 use Rattle.seg_types.specs.contracts.plain.Plain.TheBound.{Met}
@@ -238,7 +238,7 @@ map_over c e {h} {at} {ps} s heap room words cells qs nodes rising blocks bytes 
       heap = heap;
       map = record {
         count = Same-word _ _ _ _ (h + at + 8) words (omega arith) (omega arith) ∙ s.map.count
-            ∙ sym (length-nodes ps) ∙ ap (λ (ms : List ℕ). length ms) nodes ∙ length-nodes qs;
+            ∙ sym (length-map ps pair_node) ∙ ap (λ (ms : List ℕ). length ms) nodes ∙ length-map qs pair_node;
         third = Same-word _ _ _ _ (h + at + 16) words (omega arith) (omega arith) ∙ s.map.third;
         tree = record {
           tree = s.map.tree.tree;
@@ -308,7 +308,7 @@ module _ {K V : Type 0} {kp : Plain K} {vp : Plain V} {c d : Cut} {h at : ℕ} {
   top_whole = target_whole (16 + kp.SIZE) ns d top (u.tree s.map.tree.tree tree).1.leads
 
   pub few_steps : steps ≤ 32 * bits (length ps + 1) + 32
-  few_steps = subst (λ n. steps ≤ 32 * bits (n + 1) + 32) (ap length s.map.tree.lists ∙ length-nodes ps)
+  few_steps = subst (λ n. steps ≤ 32 * bits (n + 1) + 32) (ap length s.map.tree.lists ∙ length-map ps pair_node)
       (u.few s.map.tree.tree tree)
 
   -- the words are written; the nodes are those of these pairs

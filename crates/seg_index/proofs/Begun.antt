@@ -3,18 +3,14 @@ use Rattle.seg_index.proofs.Common.{◌≡◌, ◌≢◌, refl, sym, ap, subst, 
 use Rattle.seg_index.proofs.Common.{◌<◌, ◌≤◌, inl, inr, List, [], ◌∷◌, length, bit_and, arith, slice_cmp, slice_range}
 use Rattle.seg_index.proofs.Common.{nat_cmp, ordering_reverse, Ordering, Less, Equal, Greater, cases_lt}
 use Rattle.seg_index.proofs.Common.{nat_list_cmp_total, big_number, Memory, bytes_of, read, AreBytes, front}
-use Rattle.std.proofs.{Common.drop, Common.slice_index, Math.Nat.add-mul, Math.Nat.mul-le-mul_right, Math.Nat.mul_assoc}
-use Rattle.std.proofs.lemmas.List.{get_or-drop, get_or-take, get_or_past, length-take}
-use Rattle.std.proofs.{lemmas.Nat.and_mask, lemmas.Nat.mod_low, lemmas.Nat.pow-add, lemmas.Nat.Bits.ones_shr}
-use Rattle.std.specs.{Cmp.nat_cmp_is, Ordering.ordering_then}
+use Rattle.std.proofs.{Math.Nat.add-mul, Math.Nat.mul-le-mul_right, Math.Nat.mul_assoc, Common.drop, Common.slice_index}
+use Rattle.std.proofs.lemmas.{List.get_or-drop, List.get_or-take, List.get_or_past, List.length-take, Nat.Bits.ones_shr}
+use Rattle.std.proofs.lemmas.Nat.{and_mask, mod_low, pow-add}
+use Rattle.std.specs.{Ordering.ordering_then, Cmp.nat_cmp_is}
 use Rattle.byteorder.proofs.Bytes.{pow256}
-use Rattle.byteorder.specs.{Endian.big_from, Numbers.big_from-cons, Numbers.big_from-lt}
+use Rattle.byteorder.specs.{Numbers.big_from-cons, Numbers.big_from-lt, Endian.big_from}
 
 -- ---- numbers of bytes
-nothing : (i n : ℕ) → big_from i n [] ≡ 0
-nothing i zero = refl
-nothing i (suc n) = omega (arith, nothing (suc i) n)
-
 big_from-same : (i n : ℕ) (xs ys : List ℕ) → ((k : ℕ) → i ≤ k → k < i + n → slice_index xs k ≡ slice_index ys k)
     → big_from i n xs ≡ big_from i n ys
 big_from-same i zero xs ys same = refl
@@ -71,7 +67,7 @@ front_less : (n : ℕ) (xs ys : List ℕ) → AreBytes xs → AreBytes ys → bi
 front_less zero xs ys bx by l = absurd (omega arith)
 front_less (suc n) [] [] bx by l = absurd (omega arith)
 front_less (suc n) [] (y ∷ ys) bx by l = refl
-front_less (suc n) (x ∷ xs) [] bx by l = absurd (omega (arith, nothing 0 (suc n)))
+front_less (suc n) (x ∷ xs) [] bx by l = absurd (omega (arith, big_from-zeros 0 (suc n) [] (λ k low. refl)))
 front_less (suc n) (x ∷ xs) (y ∷ ys) bx by l = elim (cases_lt x y) [
   | inl before ↦ then_rest x y xs ys Less (nat_cmp_is x y Less before)
   | inr not_before ↦ elim (cases_lt y x) [

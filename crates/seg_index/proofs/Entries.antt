@@ -1,19 +1,190 @@
--- The entries of an index: the links of its block.
-use Rattle.seg_index.proofs.Common.{◌≡◌, refl, sym, ap, subst, ◌∙◌, ℕ, ◌+◌, ◌*◌, ◌<◌, ◌≤◌, List, length, arith, IsTrue}
-use Rattle.seg_index.proofs.Common.{get_or, Option, Some, None, slice_get, unwrap_or, nat_lt, and_parts, leb-true}
-use Rattle.seg_index.proofs.Common.{none-some, same_Some, slice_get-get_or, Cut, Memory, bytes_of, word_at, link_at}
-use Rattle.seg_index.proofs.Common.{Extent, handle, holds, others, extent_at, has_room, live_of, Table, same_role}
-use Rattle.seg_index.proofs.Common.{serves, found-room, room-less, Key, Lookup, Found, Absent, comparisons_in, order_at}
-use Rattle.seg_index.proofs.Common.{beside_table, IsIndexOf, place_of, AreLinks, AreKeys, IsPlaceIn, order, is_live_in}
-use Rattle.seg_index.proofs.Changing.{changed_room, changed_used, changed_touches}
-use Rattle.seg_index.proofs.Rooms.{Inside, inside, block_small, block_ends, found_live}
-use Rattle.seg_index.proofs.Links.{all_at, at_links, entry_here, links_at}
-use Rattle.std.proofs.{lemmas.Bool.eqb-true, lemmas.Option.slice_get_within}
-use Rattle.block_tags.specs.declared.tile.Role.TheVariants.{Index as IndexRole}
-use Rattle.seg_index.specs.{declared.index.Index.Index, Lookups.HasKey, Lookups.HasKeys, Lookups.IsPlace}
-use Rattle.seg_index.specs.declared.index.Index.TheVariants.{Named, Unique}
-use Rattle.seg_index.specs.Comparing.{comparisons}
-use Rattle.seg_index.proofs.{Counting.none_left, Counting.same_comparisons}
+-- Blocks in use, their links, and the entries of an index.
+use Rattle.seg_index.proofs.Common.{◌≡◌, refl, subst, ℕ, ◌+◌, ◌≤◌, List, [], ◌∷◌, length, arith, IsTrue, ◌==◌}
+use Rattle.seg_index.proofs.Common.{AllByRecursion, Option, Some, none-some, same_Some, current, Cut, Extent, handle}
+use Rattle.seg_index.proofs.Common.{IsHeap, extent_at, has_room, live_of, among, live-rises, room_block, sym, ap, ◌∙◌}
+use Rattle.seg_index.proofs.Common.{zero, suc, ◌-◌, ◌*◌, ◌%◌, ◌<◌, inl, inr, get_or, insert, remove, slice_get}
+use Rattle.seg_index.proofs.Common.{cases_lt, length-insert, length-remove, slice_get-get_or, Memory, link_at, AllLead}
+use Rattle.seg_index.proofs.Common.{KeepTargets, AreLinks, cases_Bool, None, unwrap_or, nat_lt, and_parts, leb-true}
+use Rattle.seg_index.proofs.Common.{bytes_of, word_at, holds, others, Table, same_role, serves, found-room, room-less}
+use Rattle.seg_index.proofs.Common.{Key, Lookup, Found, Absent, comparisons_in, order_at, beside_table, IsIndexOf}
+use Rattle.seg_index.proofs.Common.{place_of, AreKeys, IsPlaceIn, order, is_live_in, IndexRole}
+use Rattle.std.proofs.lemmas.Bool.{eqb-true}
+use Rattle.std.specs.{List.list_any, Prelude.find}
+use Rattle.std.proofs.lemmas.List.Edits.{get_or-insert_above, get_or-insert_at, get_or-insert_below}
+use Rattle.std.proofs.lemmas.{List.Edits.get_or-remove_above, List.Edits.get_or-remove_below, Option.slice_get_within}
+use Rattle.seg_index.proofs.Changing.{changed_used, changed_touches, InHeader}
+use Rattle.seg_index.specs.{Lookups.HasKey, Lookups.HasKeys, Lookups.IsPlace, Comparing.comparisons}
+use Rattle.seg_index.specs.declared.index.Index.{TheVariants.Named, TheVariants.Unique, Index}
+use Rattle.seg_index.proofs.Orders.{none_left, same_comparisons}
+use Rattle.best_fit.proofs.Laws.{changed-room}
+
+-- the first extent of a handle
+abbrev pub first : ℕ → List Extent → Option Extent
+first h xs = find (λ (y : Extent). handle y == h) xs
+
+-- what holds of all extents holds of the one that is found
+pub all_found : (P : Extent → Type 0) (h : ℕ) (xs : List Extent) (x : Extent) → AllByRecursion P xs
+    → first h xs ≡ Some x → P x
+all_found P h [] x a e = absurd (none-some x e)
+all_found P h (y ∷ ys) x a e = elim (cases_Bool (handle y == h)) [
+  | inl here ↦ let f = rw here at e in subst P (same_Some y x f) a.0
+  | inr other ↦ all_found P h ys x a.1 (rw other at e)
+]
+
+pub found_live : (h : ℕ) (xs : List Extent) (x : Extent) → first h xs ≡ Some x
+    → IsTrue (list_any (λ (y : Extent). handle y == h) xs)
+found_live h [] x e = absurd (none-some x e)
+found_live h (y ∷ ys) x e = elim (cases_Bool (handle y == h)) [
+  | inl here ↦ rw here refl
+  | inr other ↦ rw other (found_live h ys x (rw other at e))
+]
+
+pub found_handle : (c : Cut) (h : ℕ) (x : Extent) → IsHeap current c.bytes → extent_at (live_of c.bytes) h ≡ Some x
+    → handle x ≡ h
+found_handle c h x heap e = let l = live_of c.bytes in (among 128 h x l.extents (live-rises l heap.proper) e).at
+
+-- a block lies behind the header, and behind it are 16 bytes more
+pub record Inside (c : Cut) (h n : ℕ) : Type 0 where
+  pub low : 144 ≤ h
+  pub ends : h + n + 16 ≤ length c.bytes
+  pub small : length c.bytes ≤ 1073741824
+
+pub inside : (c : Cut) (h n : ℕ) → IsHeap current c.bytes → IsTrue (has_room (live_of c.bytes) h n) → Inside c h n
+inside c h n heap has =
+    let r = room_block c h n heap has in let b = r.block in let o = b.at in let low = b.low in
+    let enough = r.enough in let ends = b.inside in let size = b.size in
+    record { low = omega arith; ends = omega arith; small = omega arith }
+
+pub block_small : (c : Cut) (h n : ℕ) → IsHeap current c.bytes → IsTrue (has_room (live_of c.bytes) h n)
+    → h + n + 16 ≤ 1073741824
+block_small c h n heap has = let s = inside c h n heap has in omega (arith, s.ends, s.small)
+
+pub block_ends : (c : Cut) (h n : ℕ) → IsHeap current c.bytes → IsTrue (has_room (live_of c.bytes) h n)
+    → h + n + 16 ≤ length c.bytes
+block_ends c h n heap has = (inside c h n heap has).ends
+
+-- ---- the links of a block, and the handles that they lead to
+
+-- an element of a list of which all hold
+pub all_at : (P : ℕ → Type 0) (hs : List ℕ) (j h : ℕ) → AllByRecursion P hs → slice_get hs j ≡ Some h → P h
+all_at P [] j h a e = absurd (none-some h e)
+all_at P (x ∷ xs) zero h a e = subst P (same_Some x h e) a.0
+all_at P (x ∷ xs) (suc j) h a e = all_at P xs j h a.1 e
+
+all_from : (P : ℕ → Type 0) (hs : List ℕ) → ((k : ℕ) → k < length hs → P (get_or hs k 0)) → AllByRecursion P hs
+all_from P [] f = tt
+all_from P (x ∷ xs) f = (f 0 (omega arith), all_from P xs (λ k l. f (suc k) (omega arith)))
+
+-- the link of an entry
+pub links_at : (m : Memory) (at : ℕ) (hs : List ℕ) (j h : ℕ) → AreLinks m at hs → slice_get hs j ≡ Some h
+    → link_at m (at + 8 * j) ≡ Some h
+links_at m at [] j h a e = absurd (none-some h e)
+links_at m at (x ∷ xs) zero h a e = let z : at + 8 * 0 ≡ at = omega arith in ap (λ k. link_at m k) z ∙ a.0 ∙ e
+links_at m at (x ∷ xs) (suc j) h a e =
+    let z : at + 8 * suc j ≡ at + 8 + 8 * j = omega arith in ap (λ k. link_at m k) z ∙ links_at m (at + 8) xs j h a.1 e
+
+pub entry_here : (m : Memory) (at : ℕ) (hs : List ℕ) (j : ℕ) → AreLinks m at hs → j < length hs
+    → link_at m (at + 8 * j) ≡ Some (get_or hs j 0)
+entry_here m at hs j a l = links_at m at hs j (get_or hs j 0) a (slice_get-get_or hs j 0 l)
+
+pub at_links : (m : Memory) (at : ℕ) (hs : List ℕ) (j h : ℕ) → AreLinks m at hs → j < length hs
+    → link_at m (at + 8 * j) ≡ Some h → slice_get hs j ≡ Some h
+at_links m at hs j h a l e = slice_get-get_or hs j 0 l ∙ sym (entry_here m at hs j a l) ∙ e
+
+links_from : (m : Memory) (at : ℕ) (hs : List ℕ)
+    → ((k : ℕ) → k < length hs → link_at m (at + 8 * k) ≡ Some (get_or hs k 0)) → AreLinks m at hs
+links_from m at [] f = tt
+links_from m at (x ∷ xs) f =
+    let z : at ≡ at + 8 * 0 = omega arith in (
+      ap (λ k. link_at m k) z ∙ f 0 (omega arith),
+      links_from m (at + 8) xs (λ k l.
+          let e : at + 8 + 8 * k ≡ at + 8 * suc k = omega arith in ap (λ j. link_at m j) e ∙ f (suc k) (omega arith)),
+    )
+
+pub links_moved : (m m' : Memory) (at to : ℕ) (hs : List ℕ) → AreLinks m at hs
+    → ((k : ℕ) → k < length hs → link_at m' (to + 8 * k) ≡ link_at m (at + 8 * k)) → AreLinks m' to hs
+links_moved m m' at to hs a f = links_from m' to hs (λ k l. f k l ∙ entry_here m at hs k a l)
+
+-- a run of the links of an index leads to multiples of 16
+pub links_lead : {m : Memory} (block i n : ℕ) (hs : List ℕ) → AreLinks m block hs
+    → AllByRecursion (λ h. h % 16 ≡ 0) hs → i + n ≤ length hs → AllLead m (block + 8 * i) n
+links_lead {m} block i n hs a whole within = record {
+  each = λ k l.
+      let e : block + 8 * i + 8 * k ≡ block + 8 * (i + k) = omega arith in
+      let s = slice_get-get_or hs (i + k) 0 (omega arith) in (
+        get_or hs (i + k) 0,
+        ap (λ j. link_at m j) e ∙ entry_here m block hs (i + k) a (omega arith),
+        all_at (λ h. h % 16 ≡ 0) hs (i + k) (get_or hs (i + k) 0) whole s,
+      );
+}
+
+-- ---- one more, and one less
+
+-- what holds of each element at its place, where one more is put in
+insert_each : (P : ℕ → ℕ → Type 0) (hs : List ℕ) (i h : ℕ) → i ≤ length hs → ((k : ℕ) → k < i → P k (get_or hs k 0))
+    → P i h → ((k : ℕ) → i ≤ k → k < length hs → P (k + 1) (get_or hs k 0))
+    → (k : ℕ) → k < length (insert hs i h) → P k (get_or (insert hs i h) k 0)
+insert_each P hs i h within low here high k l = elim (cases_lt k i) [
+  | inl before ↦ subst (P k) (sym (get_or-insert_below hs i h 0 k before within)) (low k before)
+  | inr not_before ↦ elim (cases_lt i k) [
+    | inl behind ↦
+        let long = length-insert hs i h within in let e : k - 1 + 1 ≡ k = omega arith in
+        subst (λ j. P j (get_or (insert hs i h) j 0)) e
+        (subst (P (k - 1 + 1)) (sym (get_or-insert_above hs i h 0 (k - 1) (omega arith) within))
+        (high (k - 1) (omega arith) (omega arith)))
+    | inr not_behind ↦
+        let e : i ≡ k = omega arith in
+        subst (λ j. P j (get_or (insert hs i h) j 0)) e (subst (P i) (sym (get_or-insert_at hs i h 0 within)) here)
+  ]
+]
+
+pub insert_all : (P : ℕ → Type 0) (hs : List ℕ) (i h : ℕ) → i ≤ length hs → AllByRecursion P hs → P h
+    → AllByRecursion P (insert hs i h)
+insert_all P hs i h within a p =
+    let each : (k : ℕ) → k < length hs → P (get_or hs k 0) =
+    λ k l. all_at P hs k (get_or hs k 0) a (slice_get-get_or hs k 0 l) in
+    all_from P (insert hs i h) (insert_each (λ k x. P x) hs i h within (λ k l. each k (omega arith)) p (λ k l. each k))
+
+-- the links behind a place make way for a new one
+pub insert_links : {m m' : Memory} (from to i h : ℕ) (hs : List ℕ) → AreLinks m from hs → i ≤ length hs
+    → ((k : ℕ) → k < i → link_at m' (to + 8 * k) ≡ link_at m (from + 8 * k)) → link_at m' (to + 8 * i) ≡ Some h
+    → KeepTargets m m' (from + 8 * i) (to + 8 * i + 8) (length hs - i) → AreLinks m' to (insert hs i h)
+insert_links {m} {m'} from to i h hs a within low here tail =
+    links_from m' to (insert hs i h) (insert_each (λ k x. link_at m' (to + 8 * k) ≡ Some x) hs i h within
+    (λ k l. low k l ∙ entry_here m from hs k a (omega arith)) here (λ k f l.
+    let p : to + 8 * (k + 1) ≡ to + 8 * i + 8 + 8 * (k - i) = omega arith in
+    let q : from + 8 * i + 8 * (k - i) ≡ from + 8 * k = omega arith in
+    ap (λ j. link_at m' j) p ∙ tail.each (k - i) (omega arith) ∙ ap (λ j. link_at m j) q ∙ entry_here m from hs k a l))
+
+-- what holds of each element at its place, where one is taken out
+remove_each : (P : ℕ → ℕ → Type 0) (hs : List ℕ) (i : ℕ) → i < length hs → ((k : ℕ) → k < i → P k (get_or hs k 0))
+    → ((k : ℕ) → i ≤ k → k + 1 < length hs → P k (get_or hs (k + 1) 0))
+    → (k : ℕ) → k < length (remove hs i) → P k (get_or (remove hs i) k 0)
+remove_each P hs i within low high k l = elim (cases_lt k i) [
+  | inl before ↦ subst (P k) (sym (get_or-remove_below hs i 0 k before within)) (low k before)
+  | inr behind ↦
+      let long = length-remove hs i within in
+      subst (P k) (sym (get_or-remove_above hs i 0 k behind within)) (high k behind (omega arith))
+]
+
+pub remove_all : (P : ℕ → Type 0) (hs : List ℕ) (i : ℕ) → i < length hs → AllByRecursion P hs
+    → AllByRecursion P (remove hs i)
+remove_all P hs i within a =
+    let each : (k : ℕ) → k < length hs → P (get_or hs k 0) =
+    λ k l. all_at P hs k (get_or hs k 0) a (slice_get-get_or hs k 0 l) in
+    all_from P (remove hs i) (remove_each (λ k x. P x) hs i within (λ k l. each k (omega arith)) (λ k f. each (k + 1)))
+
+-- the links behind a place close up
+pub remove_links : {m m' : Memory} (at i : ℕ) (hs : List ℕ) → AreLinks m at hs → i < length hs
+    → ((k : ℕ) → k < i → link_at m' (at + 8 * k) ≡ link_at m (at + 8 * k))
+    → KeepTargets m m' (at + (8 * i + 8)) (at + 8 * i) (length hs - i - 1) → AreLinks m' at (remove hs i)
+remove_links {m} {m'} at i hs a within low tail =
+    links_from m' at (remove hs i) (remove_each (λ k x. link_at m' (at + 8 * k) ≡ Some x) hs i within
+    (λ k l. low k l ∙ entry_here m at hs k a (omega arith)) (λ k f l.
+    let p : at + 8 * k ≡ at + 8 * i + 8 * (k - i) = omega arith in
+    let q : at + (8 * i + 8) + 8 * (k - i) ≡ at + 8 * (k + 1) = omega arith in
+    ap (λ j. link_at m' j) p ∙ tail.each (k - i) (omega arith) ∙ ap (λ j. link_at m j) q
+    ∙ entry_here m at hs (k + 1) a l))
 
 -- ---- the place of an index
 
@@ -24,10 +195,6 @@ place_small Unique = omega arith
 pub place_behind : (i : Index) → 32 ≤ place_of i
 place_behind Named = omega arith
 place_behind Unique = omega arith
-
-pub record InHeader (at : ℕ) : Type 0 where
-  pub behind : 32 ≤ at
-  pub small : at + 24 ≤ 128
 
 pub in_header : (i : Index) → InHeader (place_of i)
 in_header i = record { behind = place_behind i; small = place_small i }
@@ -58,30 +225,24 @@ long_enough {cap = cap} {x} i =
     let two = and_parts (nat_lt 0 cap) (serves x IndexRole (8 * cap)) i.places in
     leb-true (8 * cap + 16) x.len (and_parts (same_role x.role IndexRole) (holds x (8 * cap)) two.1).1
 
-placed_some : (c : Cut) (at cap : ℕ) (x : Extent) (hs : List ℕ) (block : ℕ)
-    → IsIndexOf c at (record { capacity = cap; extent = Some x }) hs → link_at (bytes_of c.bytes) at ≡ Some block
-    → Placed c at (record { capacity = cap; extent = Some x }) hs block
-placed_some c at cap x hs block i leads =
-    let same : handle x ≡ block = same_Some (handle x) block (sym i.stands.link ∙ leads) in
+pub placed : {c : Cut} {at : ℕ} {t : Table} {hs : List ℕ} (block : ℕ) → IsIndexOf c at t hs
+    → link_at (bytes_of c.bytes) at ≡ Some block → Placed c at t hs block
+placed {c} {at} {t} {hs} block i leads = table_cases (λ u. IsIndexOf c at u hs → Placed c at u hs block)
+    (λ cap j. absurd (none-some block (sym j.stands.link ∙ leads))) (λ cap x j.
+    let same : handle x ≡ block = same_Some (handle x) block (sym j.stands.link ∙ leads) in
     let found : extent_at (live_of c.bytes) block ≡ Some x =
-    subst (λ k. extent_at (live_of c.bytes) k ≡ Some x) same i.held in
-    let room = found-room (live_of c.bytes) block (8 * cap) x found (long_enough i) in
+    subst (λ k. extent_at (live_of c.bytes) k ≡ Some x) same j.held in
+    let room = found-room (live_of c.bytes) block (8 * cap) x found (long_enough j) in
     record {
-      index = i;
+      index = j;
       extent = x;
       is = refl;
       begins = same;
       found = found;
       room = room;
-      inside = inside c block (8 * cap) i.heap room;
-      links = subst (λ k. AreLinks (bytes_of c.bytes) k hs) same i.stands.entries;
-    }
-
-pub placed : {c : Cut} {at : ℕ} {t : Table} {hs : List ℕ} (block : ℕ) → IsIndexOf c at t hs
-    → link_at (bytes_of c.bytes) at ≡ Some block → Placed c at t hs block
-placed {c} {at} {t} {hs} block i leads = table_cases (λ u. IsIndexOf c at u hs → Placed c at u hs block)
-    (λ cap j. absurd (none-some block (sym j.stands.link ∙ leads))) (λ cap x j. placed_some c at cap x hs block j leads)
-    t i
+      inside = inside c block (8 * cap) j.heap room;
+      links = subst (λ k. AreLinks (bytes_of c.bytes) k hs) same j.stands.entries;
+    }) t i
 
 -- the blocks beside that of the index
 pub beside : {c : Cut} {at : ℕ} {t : Table} {hs : List ℕ} {block : ℕ} → Placed c at t hs block → (xs : List Extent)
@@ -132,7 +293,7 @@ places_room {c} {t = t} block place k i some e f b few =
 pub link_used : {c : Cut} {at : ℕ} {t : Table} {hs : List ℕ} (block place : ℕ) {o : Option ℕ} → IsIndexOf c at t hs
     → place ≡ at → o ≡ link_at (bytes_of c.bytes) place → o ≡ Some block → IsTrue (is_live_in (live_of c.bytes) block)
 link_used {c} block place i e f is =
-    let p = placed block i (leads_from c e f is) in found_live (live_of c.bytes) block p.extent p.found
+    let p = placed block i (leads_from c e f is) in found_live block (live_of c.bytes).extents p.extent p.found
 
 -- what shows that there is room in a block, also once something changed, and that a sum within one fits
 pub ruleset sizes = (
@@ -142,7 +303,7 @@ pub ruleset sizes = (
   room-less,
   places_room,
   link_used,
-  changed_room,
+  changed-room,
   changed_used,
   changed_touches,
 )

@@ -1,5 +1,5 @@
-//! An entry more.
-ghost use Rattle.std.specs.Prelude.{◌≡◌, ℕ, ◌+◌, ◌-◌, ◌*◌, ◌%◌, ◌<◌, ◌≤◌, IsTrue, List, Some, insert, length};
+//! An entry more, or less.
+ghost use Rattle.std.specs.Prelude.{◌≡◌, ℕ, ◌+◌, ◌-◌, ◌*◌, ◌%◌, ◌<◌, ◌≤◌, IsTrue, List, Some, insert, remove};
 ghost use Rattle.raw_region.specs.{Format.current, Memory.bytes_of};
 ghost use Rattle.offset_link.specs.{Link.link_at, Relinked.AllLead, Relinked.KeepTargets};
 ghost use Rattle.best_fit.specs.{Fit.others, Table.Table as ATable};
@@ -33,6 +33,23 @@ impl Index {
             None => self.insert(heap, place, handle),
             Some(block) => self.insert_into(heap, block, place, handle, steps),
         }
+    }
+
+    /// Takes the entry at a place out. Those behind it stand one place before; the block stays.
+    pub fn remove(self, heap: &mut Heap, place: u64)
+        requires index { HasIndex heap.old (place_of self) }
+        requires below { place < entry_count heap.old (place_of self) }
+        ensures index { (t : ATable) (handles : List ℕ) → IsIndexOf heap.old (place_of self) t handles
+            → IsIndexOf heap.new (place_of self) t (remove handles place) }
+        ensures live { LaysOut current heap.new.bytes (live_of heap.old.bytes) }
+        ensures keeps { (t : ATable) (handles : List ℕ) → IsIndexOf heap.old (place_of self) t handles
+            → KeepsRest heap.old heap.new (place_of self) (beside_table t (live_of heap.old.bytes).extents) }
+    {
+        let count = self.len(heap);
+        let block = heap.header_link(self.place()).unwrap_or(0);
+        let at = LINK * place;
+        heap.shift_non_null_links(block, at + LINK, block, at, count - place - 1);
+        heap.set_header_word(self.place() + 8, count - 1);
     }
 
     /// Puts an entry at a place of an index that has places left.

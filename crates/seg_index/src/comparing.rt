@@ -1,19 +1,22 @@
-//! The one way from an entry to the key that it leads to: each comparison is counted.
-ghost use Rattle.std.specs.Prelude.{◌≡◌, ℕ, ◌+◌, ◌*◌, ◌%◌, ◌^◌, ◌<◌, ◌≤◌, Some, IsTrue};
+//! Binary search over the entries of a block, and the one way from an entry to the key that it leads to: each comparison
+//! is counted. The first eight bytes of a name, as one number, tell most names apart in one step.
+ghost use Rattle.std.specs.Prelude.{◌≡◌, ◌+◌, ◌*◌, ◌%◌, ◌^◌, ◌<◌, ◌≤◌, IsTrue};
 ghost use Rattle.std.specs.{Cmp.Lexicographic.slice_cmp, Ordering.nat_cmp};
 ghost use Rattle.raw_region.specs.{Memory.bytes_of, Format.current};
+ghost use Rattle.link_tree.specs.Tree.{bits};
 ghost use Rattle.best_fit.specs.Heap.{IsHeap, has_room, live_of};
-ghost use Rattle.seg_index.specs.Beginnings.{front as front_of_bytes, key_front};
-ghost use Rattle.seg_index.specs.{Comparing.HasEntry, Comparing.order_at, Keys.name_at, Keys.name_len_at};
-ghost use Rattle.seg_index.specs.Lookups.{HasKey, order};
+ghost use Rattle.seg_index.specs.Beginnings.{AreBytes, front as front_of_bytes, key_front};
+ghost use Rattle.seg_index.specs.Comparing.{HasEntry, comparisons_in, order_at};
+ghost use Rattle.seg_index.specs.Keys.{name_at, name_len_at};
+ghost use Rattle.seg_index.specs.Lookups.{AreKeys, HasKey, IsPlaceIn, order};
 
-use crate::fronts::{front_at, front_of_key, hold_bytes};
-use crate::keys::Key;
+use crate::keys::{Key, Lookup};
 use best_fit::Heap;
+use byteorder::{BigEndian, ByteOrder};
 use std::cmp::Ordering;
 
 /// A number in the low half of a word.
-pub(crate) const HALF: u64 = 4294967296;
+const HALF: u64 = 4294967296;
 
 /// The entries of a block, and how often one of their keys was compared with the one that is looked up.
 #[derive(Drop)]
@@ -65,6 +68,31 @@ impl<'a> Comparisons<'a> {
     }
 }
 
+/// Where the key stands among those that the first entries lead to.
+pub fn search(comparisons: &mut Comparisons<'_>, count: u64) -> Lookup
+    requires keys { AreKeys comparisons.old.heap.now comparisons.old.block count comparisons.old.key }
+    requires few { count < 2 ^ 40 }
+    requires front { comparisons.old.front ≡ key_front comparisons.old.key }
+    requires none { comparisons.old.count ≡ 0 }
+    ensures place { IsPlaceIn (bytes_of comparisons.old.heap.now.bytes) comparisons.old.key comparisons.old.block
+        count result }
+    ensures count { comparisons.new.count ≤ bits count }
+    ensures exact { comparisons.new.count
+        ≡ comparisons_in (bytes_of comparisons.old.heap.now.bytes) comparisons.old.key comparisons.old.block count }
+{
+    let mut low = 0;
+    let mut high = count;
+    'halves: while low < high {
+        let middle = low + (high - low) / 2;
+        match comparisons.compare(middle) {
+            Ordering::Less => low = middle + 1,
+            Ordering::Greater => high = middle,
+            Ordering::Equal => return Lookup::Found(middle),
+        }
+    }
+    Lookup::Absent(low)
+}
+
 /// How the key of an object stands to a key, of which it is known how it begins.
 fn order_of(heap: &Heap, key: Key<'_>, front: u64, handle: u64) -> Ordering
     requires key { HasKey heap.now key handle }
@@ -109,3 +137,53 @@ fn name_of(heap: &Heap, handle: u64) -> &[u8]
     let len = heap.word(handle, 8) % HALF;
     heap.bytes(handle, 16, len)
 }
+
+/// The bytes that a front is made of.
+const FRONT: usize = 8;
+
+/// The front of a name that is looked up. A code has none.
+fn front_of_key(key: Key<'_>) -> u64
+    ensures { result ≡ key_front key.entry }
+{
+    match key {
+        Key::Name(name) => front_of(name),
+        Key::Code(_) => 0,
+    }
+}
+
+/// The front of a name.
+fn front_of(name: &[u8]) -> u64
+    ensures { result ≡ front_of_bytes name.now }
+{
+    if name.len() >= FRONT {
+        return BigEndian::read_u64(name);
+    }
+    let mut bytes = [0; FRONT];
+    bytes[..name.len()].copy_from_slice(name);
+    BigEndian::read_u64(&bytes)
+}
+
+/// The front of the name of an object. Eight bytes are read also of a shorter name, for behind each block there are as
+/// many, and those that are not of the name count as zeros.
+fn front_at(heap: &Heap, handle: u64) -> u64
+    requires heap { IsHeap current heap.now.bytes }
+    requires room { IsTrue (has_room (live_of heap.now.bytes) handle
+        (16 + name_len_at (bytes_of heap.now.bytes) handle)) }
+    ensures { result ≡ front_of_bytes (name_at (bytes_of heap.now.bytes) handle) }
+{
+    let len = heap.word(handle, 8) % HALF;
+    let at = handle as usize + 16;
+    let bytes = heap.as_bytes();
+    hold_bytes(bytes);
+    let word = BigEndian::read_u64(&bytes[at..at + FRONT]);
+    if len >= FRONT as u64 {
+        return word;
+    }
+    word - (word & (u64::MAX >> (8 * len)))
+}
+
+/// Bytes are below 256. It does nothing.
+#[inline(always)]
+fn hold_bytes(bytes: &[u8])
+    ensures { AreBytes bytes.now }
+{}

@@ -7,13 +7,9 @@
 
 mod adding;
 mod comparing;
-mod fronts;
 mod growing;
 mod index;
 mod keys;
-mod removing;
-mod resizing;
-mod searching;
 pub mod theorems;
 
 pub use growing::Growth;

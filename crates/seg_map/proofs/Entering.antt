@@ -1,24 +1,23 @@
 -- The pairs of a map as a search tree.
-use Rattle.seg_map.proofs.Common.{◌≡◌, refl, sym, ap, ◌∙◌, ℕ, suc, ◌+◌, ◌≤◌, ◌≢◌, inl, inr, Bool, true, ◌&&◌, not, List}
-use Rattle.seg_map.proofs.Common.{[], ◌∷◌, length, map, arith, ◌==◌, Option, Some, None, find, option_map}
-use Rattle.seg_map.proofs.Common.{AllByRecursion, list_all, reverse, and_parts, cases_Bool, eq-eqb, le-leb, leb-true}
-use Rattle.seg_map.proofs.Common.{Memory, Has, bytes_of, read, Cut, Node, link_at, Tree, IsTree, nodes_of, rises}
-use Rattle.seg_map.proofs.Common.{first_not, is_in, last_before, leads, all_from, root_in, tree_same, Extent, LiveSet}
-use Rattle.seg_map.proofs.Common.{handle, cells_of, others, Keeps, SameBlock, extent_at, live_of, value_in, IsKeyTree}
-use Rattle.seg_map.proofs.Common.{keys_in, Pair, IsPairAt, is_rising, HoldsMap, IsPairIn, first_pair, is_passed}
-use Rattle.seg_map.proofs.Common.{last_pair, nodes_of_pairs, pair_node, before_key, comes_before, stands, is_pair_node}
-use Rattle.seg_map.proofs.Common.{key_at, key_of, links_among, own_nodes, pair_cells, stands_before, Chains, IsStrict}
-use Rattle.seg_map.proofs.Common.{Good, In, PairNode-is_pair_node, cells_at, node_block}
+use Rattle.seg_map.proofs.Common.{◌≡◌, refl, sym, ap, ◌∙◌, ℕ, ◌+◌, ◌≤◌, ◌≢◌, inl, inr, Bool, true, ◌&&◌, not, List, ◌∷◌}
+use Rattle.seg_map.proofs.Common.{length, map, arith, ◌==◌, Option, Some, None, find, option_map, AllByRecursion}
+use Rattle.seg_map.proofs.Common.{list_all, reverse, and_parts, cases_Bool, eq-eqb, le-leb, leb-true, Memory, Has}
+use Rattle.seg_map.proofs.Common.{bytes_of, read, Cut, Node, link_at, Tree, IsTree, nodes_of, rises, first_not, is_in}
+use Rattle.seg_map.proofs.Common.{last_before, leads, all_from, root_in, tree_same, Extent, LiveSet, handle, cells_of}
+use Rattle.seg_map.proofs.Common.{others, Keeps, SameBlock, extent_at, live_of, value_in, IsKeyTree, keys_in, Pair}
+use Rattle.seg_map.proofs.Common.{IsPairAt, is_rising, HoldsMap, IsPairIn, first_pair, is_passed, last_pair}
+use Rattle.seg_map.proofs.Common.{nodes_of_pairs, pair_node, before_key, comes_before, stands, is_pair_node, key_at}
+use Rattle.seg_map.proofs.Common.{key_of, links_among, own_nodes, pair_cells, stands_before, Chains, IsStrict, Good, In}
+use Rattle.seg_map.proofs.Common.{PairNode-is_pair_node, cells_at, node_block, Plain, [], length-map}
 use Rattle.std.proofs.Common.{◌^◌}
 use Rattle.link_tree.proofs.Laws.{above_more, bits_most, bounds_height, reads_off, tree_limit}
 use Rattle.best_fit.specs.Table.{same_role, serves}
 use Rattle.best_fit.proofs.Laws.{holds_closed}
-use Rattle.seg_types.specs.declared.plain.Plain.{Ghosts as Plain}
 use Rattle.seg_types.proofs.Laws.{value-spelled}
 use Rattle.seg_map.specs.PairNodes.{is_block_in, nodes_in}
 use Rattle.seg_map.specs.PairLaws.{comes_irreflexive, comes_transitive, few_extents, handles_length, in_handles}
-use Rattle.seg_map.proofs.FoundLists.{all_reversed, each, each_both, find_mapped, map_reversed}
-use Rattle.seg_map.proofs.PairSteps.{all_in, any_at, in_others}
+use Rattle.seg_map.proofs.PairLists.{HaveKeys, all_reversed, each, each_both, find_mapped, map_reversed}
+use Rattle.seg_map.proofs.{PairSteps.all_in, PairSteps.any_at, PairSteps.in_others, PairLists.nodes_in as pairs_in}
 
 -- the laws of a plain type
 pub record Laws {T : Type 0} (p : Plain T) : Type 0 where
@@ -75,19 +74,6 @@ other_block {c} {d} live h g {x} k f o =
     all_in (SameBlock (bytes_of c.bytes) (bytes_of d.bytes)) (others h live.extents) x k.blocks
     (in_others h x live.extents (found_in live.extents g x f) o)
 
--- ---- lists of pairs
-
--- all are pairs of a map, and the bytes of each are there
-abbrev pub AreIn : {K V : Type 0} → Plain K → Plain V → LiveSet → ℕ → List (Pair K V) → Type 0
-AreIn kp vp live h = AllByRecursion (IsPairIn kp vp live h)
-
-abbrev pub AreAt : {K V : Type 0} → Plain K → Plain V → Memory → List (Pair K V) → Type 0
-AreAt kp vp m = AllByRecursion (IsPairAt kp.SIZE kp.spelling vp.spelling m)
-
--- the keys are those of the pairs
-abbrev pub HaveKeys : {K V : Type 0} → (ℕ → Option K) → List (Pair K V) → Type 0
-HaveKeys {K} {V} keys ps = AllByRecursion (λ (p : Pair K V). keys (pair_node p) ≡ Some p.key) ps
-
 module _ {K V : Type 0} (less : K → K → Bool) where
   pub rising_nodes : Chains less → (keys : ℕ → Option K) (ps : List (Pair K V)) → HaveKeys keys ps
       → is_rising less ps ≡ true
@@ -131,17 +117,10 @@ pub pairs_all : {K V : Type 0} (P : ℕ → Bool) (Q : Pair K V → Type 0) (ps 
 pairs_all P Q [] f a = refl
 pairs_all P Q (p ∷ ps) f a = rw (f p a.0, pairs_all P Q ps f a.1) refl
 
-pub length-nodes : {K V : Type 0} (ps : List (Pair K V)) → length (nodes_of_pairs ps) ≡ length ps
-length-nodes [] = refl
-length-nodes (p ∷ ps) = ap suc (length-nodes ps)
-
 -- ---- the tree of a map
 
 module _ {K V : Type 0} {kp : Plain K} {vp : Plain V} (laws : Laws kp) (c : Cut) {h at : ℕ} {ps : List (Pair K V)}
     (s : HoldsMap kp vp c.bytes h at ps) where
-  pub listed : nodes_of s.map.tree.tree ≡ nodes_of_pairs ps
-  listed = s.map.tree.lists
-
   pub pair_block : (p : Pair K V) → IsPairIn kp vp (live_of c.bytes) h p
       → is_block_in (16 + kp.SIZE) (live_of c.bytes) (pair_node p) ≡ true
   pair_block p i =
@@ -156,7 +135,7 @@ module _ {K V : Type 0} {kp : Plain K} {vp : Plain V} (laws : Laws kp) (c : Cut)
       let ns = nodes_of s.map.tree.tree in
       record {
         proper = s.heap.proper;
-        blocks = rw listed (pairs_all (is_block_in (16 + kp.SIZE) (live_of c.bytes))
+        blocks = rw s.map.tree.lists (pairs_all (is_block_in (16 + kp.SIZE) (live_of c.bytes))
             (IsPairIn kp vp (live_of c.bytes) h) ps
             pair_block s.pairs);
         links = all_from (links_among (bytes_of c.bytes) ns) ns (λ m i.
@@ -170,6 +149,14 @@ pub with_bytes : {K V : Type 0} {kp : Plain K} {vp : Plain V} {b : List ℕ} {h 
     × IsPairAt kp.SIZE kp.spelling vp.spelling (bytes_of b) p) ps
 with_bytes {ps = ps} s = each_both ps s.pairs s.map.pairs (λ p i b. (i, b))
 
+-- the key of a pair's node is the pair's
+pub key_is : {K V : Type 0} {kp : Plain K} {vp : Plain V} → Laws kp → (own : List ℕ) (c : Cut) {h : ℕ} {p : Pair K V}
+    → is_pair_node (16 + kp.SIZE) own c (pair_node p) ≡ true → IsPairIn kp vp (live_of c.bytes) h p
+    → IsPairAt kp.SIZE kp.spelling vp.spelling (bytes_of c.bytes) p → keys_in kp own c (pair_node p) ≡ Some p.key
+unfolding key_of key_at
+key_is {kp = kp} l own c {p = p} e i b =
+    rw e (read_spelled kp l (bytes_of c.bytes) (handle p.node + 16) p.key (pair_parts i).key b.0)
+
 -- the nodes may be more than those of the tree
 module _ {K V : Type 0} {kp : Plain K} {vp : Plain V} (laws : Laws kp) {c : Cut} {h at : ℕ} {ps : List (Pair K V)}
     (s : HoldsMap kp vp c.bytes h at ps) {own : List ℕ} (g : Good (16 + kp.SIZE) own c)
@@ -177,21 +164,9 @@ module _ {K V : Type 0} {kp : Plain K} {vp : Plain V} (laws : Laws kp) {c : Cut}
   node_in : (n : ℕ) → is_in n (nodes_of s.map.tree.tree) ≡ true → is_pair_node (16 + kp.SIZE) own c n ≡ true
   node_in n i = PairNode-is_pair_node (16 + kp.SIZE) own c n (record { good = g; listed = among n i })
 
-  keys_from : (qs : List (Pair K V)) → list_all (λ n. is_in n (nodes_of s.map.tree.tree)) (nodes_of_pairs qs) ≡ true
-      → AreIn kp vp (live_of c.bytes) h qs → AreAt kp vp (bytes_of c.bytes) qs → HaveKeys (keys_in kp own c) qs
-  unfolding key_of key_at
-  keys_from [] i k b = tt
-  keys_from (q ∷ qs) i k b =
-      let two = and_parts _ _ i in (
-        rw (node_in (pair_node q) two.0)
-            (read_spelled kp laws (bytes_of c.bytes) (handle q.node + 16) q.key (pair_parts k.0).key b.0.0),
-        keys_from qs two.1 k.1 b.1,
-      )
-
   pub keys_among : HaveKeys (keys_in kp own c) ps
-  keys_among =
-      keys_from ps (all_from (λ n. is_in n (nodes_of s.map.tree.tree)) (nodes_of_pairs ps)
-      (λ m i. ap (λ ms. is_in m ms) (listed laws c s) ∙ i)) s.pairs s.map.pairs
+  keys_among = each_both ps (pairs_in (nodes_of s.map.tree.tree) ps (λ m i. ap (is_in m) s.map.tree.lists ∙ i))
+      (with_bytes s) (λ p i w. key_is laws own c (node_in (pair_node p) i) w.0 w.1)
 
   leads_among : (o : Option ℕ) → IsTree (cells_of (bytes_of c.bytes)) o s.map.tree.tree
       → leads (is_pair_node (16 + kp.SIZE) own c) o ≡ true
@@ -205,7 +180,7 @@ module _ {K V : Type 0} {kp : Plain K} {vp : Plain V} (laws : Laws kp) {c : Cut}
         tree = record {
           tree = tree_same (cells_of (bytes_of c.bytes)) (pair_cells (16 + kp.SIZE) own c) root s.map.tree.tree
               (λ m i. cells_at (16 + kp.SIZE) own c m (node_in m i)) s.map.tree.linked;
-          ordered = ap (rises (comes_before kp.order (keys_in kp own c))) (listed laws c s)
+          ordered = ap (rises (comes_before kp.order (keys_in kp own c))) s.map.tree.lists
               ∙ rising_nodes kp.order laws.transitive (keys_in kp own c) ps keys_among s.rising;
           red_black = s.map.tree.red_black;
         };
@@ -246,10 +221,7 @@ module _ {K V : Type 0} {kp : Plain K} {vp : Plain V} (laws : Laws kp) (c : Cut)
       ap nodes_in (reads_off.whole 82 (λ n. true) (cells_of (bytes_of c.bytes)) (link_at (bytes_of c.bytes) (h + at)) t
       s.map.tree.linked (all_from (λ n. true) ns (λ m i. refl)) (omega arith))
 
-  pub count_pairs : length ns ≡ length ps
-  count_pairs = ap length s.map.tree.lists ∙ length-nodes ps
-
 -- a map has few pairs
 pub few_in_map : {K V : Type 0} {kp : Plain K} {vp : Plain V} (kl : Laws kp) (c : Cut) {h at : ℕ} {ps : List (Pair K V)}
     (s : HoldsMap kp vp c.bytes h at ps) → length ps ≤ 1073741824
-few_in_map kl c s = let few = few_pairs kl c s in let same = count_pairs kl c s in omega (arith, few, same)
+few_in_map kl c {ps = ps} s = omega (arith, few_pairs kl c s, ap length s.map.tree.lists ∙ length-map ps pair_node)

@@ -4,22 +4,20 @@ use Rattle.seg_map.proofs.Common.{Option, Some, None, IfSome, both_ways, eq-eqb,
 use Rattle.seg_map.proofs.Common.{nodes_of, is_in, without, Extent, LiveSet, handle, released, LaysOut, is_live_in}
 use Rattle.seg_map.proofs.Common.{live_of, found-less, found-room, laid-heap, lay_out_one, roomy, Pair, pair_at}
 use Rattle.seg_map.proofs.Common.{remove_pair, HoldsMap, IsPairIn, nodes_of_pairs, pair_node, own_nodes, Relinked}
-use Rattle.seg_map.proofs.Common.{keys_in, IsErased, IsHeaded, exit_in, ◌⊎◌, ◌<◌, inl, inr, Bool, true, [], ◌∷◌, map}
+use Rattle.seg_map.proofs.Common.{keys_in, IsErased, IsHeaded, exit_in, ◌⊎◌, ◌<◌, inl, inr, Bool, true, ◌∷◌, map}
 use Rattle.seg_map.proofs.Common.{AllByRecursion, cases_Bool, cases_eq, ne_eqb, word_at, IsTree, Tree, fork, leaf}
 use Rattle.seg_map.proofs.Common.{root_of, root_in, SameBlockBut, is_proper, others, cells_of, extent_at, live-rises}
-use Rattle.seg_map.proofs.Common.{Chains, In, IsStrict, is_key, is_rising, IsBesideMap}
-use Rattle.seg_map.proofs.PairLists.{in_nodes, none_left, other_nodes, removed_all, removed_length, apart_all}
-use Rattle.seg_map.proofs.PairLists.{removed_rising, without_nodes, in_from, nodes_in, Below, rising_below}
-use Rattle.seg_map.proofs.PairLists.{either_right, rising_rest}
-use Rattle.seg_map.proofs.Entering.{Laws, found_in, good, keys, listed, other_block}
-use Rattle.best_fit.proofs.Laws.{released-live, keeps-refl, Rising, others-comm, rising-weak}
-use Rattle.seg_types.specs.declared.plain.Plain.{Ghosts as Plain}
-use Rattle.seg_map.proofs.Staying.{at_node, map_stays, AtNode}
-use Rattle.best_fit.specs.{Heap.IsReleased, Exchange.exchanged, Exchange.without_all}
-use Rattle.seg_map.specs.{Linking.CanUnlink, Changing.IsTaken, Changing.IsGivenUp}
-use Rattle.seg_map.proofs.{FoundLists.each_both, Frames.beside_then, Frames.keeps_beside, Rewriting.relaid}
-use Rattle.seg_map.proofs.{Searching.lent_own, Searching.lent_tree, PairSteps.any_at, Payloads.begins_behind}
-use Rattle.seg_map.proofs.{Payloads.own_handle}
+use Rattle.seg_map.proofs.Common.{Chains, In, IsStrict, is_key, is_rising, IsBesideMap, Rising, Plain, [], not}
+use Rattle.seg_map.proofs.{Common.or_right, Common.false_from_ne_true, PairLists.without_nodes, PairLists.in_from}
+use Rattle.seg_map.proofs.PairSteps.{any_at, begins_behind, own_handle}
+use Rattle.seg_map.proofs.Searching.{lent_own, lent_tree}
+use Rattle.seg_map.proofs.PairLists.{nodes_in, Below, rising_below, rising_rest, each_both, pair_of, in_nodes}
+use Rattle.seg_map.proofs.PairLists.{none_left, other_nodes, removed_all, removed_length, apart_all, removed_rising}
+use Rattle.seg_map.specs.{Changing.IsTaken, Changing.IsGivenUp, Linking.CanUnlink}
+use Rattle.seg_map.proofs.Entering.{Laws, found_in, good, keys, other_block}
+use Rattle.best_fit.proofs.Laws.{released-live, keeps-refl, others-comm, rising-weak}
+use Rattle.seg_map.proofs.Staying.{at_node, map_stays, AtNode, beside_then, keeps_beside, relaid}
+use Rattle.best_fit.specs.{Exchange.exchanged, Exchange.without_all, Heap.IsReleased}
 
 module _ {K V : Type 0} {kp : Plain K} {vp : Plain V} (kl : Laws kp) (c : Cut) {h at : ℕ} {root : Option ℕ}
     {ps : List (Pair K V)} (s : HoldsMap kp vp c.bytes h at ps) (is : root ≡ link_at (bytes_of c.bytes) (h + at))
@@ -35,7 +33,7 @@ module _ {K V : Type 0} {kp : Plain K} {vp : Plain V} (kl : Laws kp) (c : Cut) {
   can_unlink start begins = record {
     shape = s.map.tree.tree;
     tree = lent_tree kl c s is refl;
-    listed = (λ i. is_in (sym here i) (listed kl c s i)) ∙ in_nodes kp.order ps key p has;
+    listed = (λ i. is_in (sym here i) (s.map.tree.lists i)) ∙ in_nodes kp.order ps key p has;
     begins = rw ns_is begins;
   }
 
@@ -43,8 +41,8 @@ module _ {K V : Type 0} {kp : Plain K} {vp : Plain V} (kl : Laws kp) (c : Cut) {
   pub taken : {d e : Cut} {top : Option ℕ} {n steps : ℕ} → Relinked kp lent c d root top (without node) steps → Laws vp
       → n + 1 ≡ length ps → IsHeaded d e (h + at) top n → IsTaken kp vp c e h at ps key
   taken u vl count head =
-      relaid s (lent_tree kl c s is refl) u kl vl ps s.pairs s.map.pairs (ns_is ∙ listed kl c s)
-      (rw ns_is (good kl c s)) head ((λ i. without (sym here i) (listed kl c s i))
+      relaid s (lent_tree kl c s is refl) u kl vl ps s.pairs s.map.pairs (ns_is ∙ s.map.tree.lists)
+      (rw ns_is (good kl c s)) head ((λ i. without (sym here i) (s.map.tree.lists i))
       ∙ without_nodes kp.order kl.irreflexive kl.transitive (keys_in kp (nodes_of s.map.tree.tree) c) p key ps
       (keys kl c s) s.rising has)
       (λ P a. removed_all kp.order P ps key a) (removed_rising kp.order kl.transitive ps key s.rising)
@@ -58,24 +56,24 @@ module _ {K V : Type 0} {kp : Plain K} {vp : Plain V} (kl : Laws kp) (vl : Laws 
   live_is : live_of e.bytes ≡ live_of c.bytes
   live_is = lay_out_one _ _ _ t.live
 
-  other : h ≢ node
-  other e' = both_ways _ (apart_all kp vp (live_of c.bytes) h ps s.pairs)
+  other : (g : ℕ) → is_in g (nodes_of_pairs ps) ≡ false → g ≢ node
+  other g o e' = both_ways _ o
       (ap (λ n. is_in n (nodes_of_pairs ps)) (e' ∙ sym here) ∙ in_nodes kp.order ps key p has)
 
   pub erased : IsErased kp vp c f h at ps p key
   erased =
       let room = roomy e h (at + 24) t.map.heap t.map.room in
       let begins = room.at in let long = room.room in
-      let same = other_block (live_of e.bytes) node h r.keeps room.found (λ g. other (sym begins ∙ g)) in
+      let apart = other h (apart_all kp vp (live_of c.bytes) h ps s.pairs) in
+      let same = other_block (live_of e.bytes) node h r.keeps room.found (λ g. apart (sym begins ∙ g)) in
       record {
         live = subst (λ l. LaysOut current f.bytes l) (λ i. released (live_is i) (sym here i)) r.live;
         beside = beside_then t.beside (keeps_beside r.keeps (λ x found o.
-            other_block (live_of e.bytes) node (handle x) r.keeps found (λ g. both_ways _ o
-            (ap (λ n. is_in n (nodes_of_pairs ps)) (g ∙ sym here) ∙ in_nodes kp.order ps key p has))))
+            other_block (live_of e.bytes) node (handle x) r.keeps found (other (handle x) o)))
             (λ x found o. (rw live_is found, o));
         map = map_stays kl vl e f t.map (laid-heap _ _ r.live)
             (rw (released-live _ _ _ _ r) (found-room (released (live_of e.bytes) node) h (at + 24) room.extent
-            (found-less h node room.extent (live_of e.bytes).extents other room.found) room.room))
+            (found-less h node room.extent (live_of e.bytes).extents apart room.found) room.room))
             (record { at = λ n a b. same.payload.at n (omega arith) (omega arith) })
             (each_both (remove_pair kp.order ps key) t.map.pairs (other_nodes node (remove_pair kp.order ps key) gone)
             (λ q i o. record {
@@ -97,10 +95,9 @@ pub gone_live : {K V : Type 0} {kp : Plain K} {vp : Plain V} {b : List ℕ} {h a
     (s : HoldsMap kp vp b h at ps) (key : K) {p : Pair K V} → pair_at kp.order ps key ≡ Some p
     → {node : ℕ} → pair_node p ≡ node → {live : LiveSet} → live ≡ live_of b → IsTrue (is_live_in live node)
 gone_live {kp = kp} {vp = vp} {b = b} {h = h} {ps = ps} s key {p} has {node} here same =
-    let n = at_node (IsPairIn kp vp (live_of b) h) ps (pair_node p) (in_nodes kp.order ps key p has) s.pairs in
-    let x = n.pair.node in let xs = (live_of b).extents in
-    rw same (any_at (λ (x : Extent). handle x == node) xs x
-    (found_in xs (handle x) x n.holds.listed) (eq-eqb _ _ (n.at ∙ here)))
+    let i = (pair_of kp.order (IsPairIn kp vp (live_of b) h) ps key p has s.pairs).0 in let xs = (live_of b).extents in
+    rw same (any_at (λ (x : Extent). handle x == node) xs p.node
+    (found_in xs (handle p.node) p.node i.listed) (eq-eqb _ _ here))
 
 -- ---- extents taken out one after another
 
@@ -137,7 +134,7 @@ module _ {K V : Type 0} (less : K → K → Bool) where
           → AllByRecursion (λ (x : Pair K V). pair_at less qs x.key ≡ Some x) xs
           → AllByRecursion (λ (x : Pair K V). pair_at less (q ∷ qs) x.key ≡ Some x) xs
       behind [] b a = tt
-      behind (x ∷ xs) b a = (rw (either_right (less x.key q.key) (less q.key x.key) b.0) a.0, behind xs b.1 a.1)
+      behind (x ∷ xs) b a = (rw (ap not (or_right (less x.key q.key) (less q.key x.key) b.0)) a.0, behind xs b.1 a.1)
 
 -- ---- extents in order
 
@@ -227,8 +224,7 @@ module _ {K V : Type 0} {k : Plain K} {v : Plain V} (kl : Laws k) {old now : Cut
 
     off : (x : Extent) → is_in (handle x) (nodes_of_pairs ps) ≡ false
         → is_in (handle x) (nodes_of_pairs g.pairs) ≡ false
-    off x o = elim (cases_Bool (is_in (handle x) (nodes_of_pairs g.pairs)))
-        [ inl t ↦ absurd (both_ways _ o (g.among (handle x) t)) | inr f ↦ f ]
+    off x o = false_from_ne_true _ (λ t. both_ways _ o (g.among (handle x) t))
 
     apart : (x : Extent) → is_in (handle x) (nodes_of_pairs ps) ≡ false → handle x ≢ handle p.node
     apart x o f = both_ways _ (off x o) (ap (λ n. is_in n (nodes_of_pairs g.pairs)) f

@@ -1,18 +1,75 @@
--- Lists of pairs: the pair of a key, and pairs that are put and removed, and their nodes.
-use Rattle.seg_map.proofs.Common.{◌≡◌, refl, ap, inl, inr, Bool, true, false, ◌||◌, not, List, [], ◌∷◌, Option, Some}
-use Rattle.seg_map.proofs.Common.{None, if◌then◌else◌, and_parts, cases_Bool, Chains, Pair, is_rising, pair_at}
-use Rattle.seg_map.proofs.Common.{first_pair, sym, ◌∙◌, ℕ, suc, ◌≢◌, length, ◌==◌, AllByRecursion, both_ways, or_left}
-use Rattle.seg_map.proofs.Common.{or_right, eq-eqb, ne_eqb, is_in, without, IsStrict, is_key, remove_pair}
-use Rattle.seg_map.proofs.Common.{nodes_of_pairs, pair_node, LiveSet, eqb-true, false≢true, or_cases, subst, ◌⊎◌}
-use Rattle.seg_map.proofs.Common.{has_place, put, put_pair, before_key, comes_before}
-use Rattle.seg_types.specs.declared.plain.Plain.{Ghosts as Plain}
-use Rattle.std.proofs.{Common.nat_eq, lemmas.Bool.or_parts, lemmas.Bool.and_from}
-use Rattle.link_tree.proofs.{Laws.without_none}
-use Rattle.seg_map.proofs.{Entering.HaveKeys, Entering.AreIn, FoundLists.each}
+-- Lists of pairs: what is found, put and removed, their nodes and their keys.
+use Rattle.seg_map.proofs.Common.{◌≡◌, refl, sym, ap, subst, ◌∙◌, inl, inr, Bool, List, ◌∷◌, map, reverse, Option, Some}
+use Rattle.seg_map.proofs.Common.{find, option_map, AllByRecursion, last_or, cases_Bool, true, false, ◌||◌, not, None}
+use Rattle.seg_map.proofs.Common.{if◌then◌else◌, and_parts, Chains, Pair, is_rising, pair_at, first_pair, ℕ, suc, ◌≢◌}
+use Rattle.seg_map.proofs.Common.{length, ◌==◌, both_ways, or_left, or_right, eq-eqb, ne_eqb, is_in, without, IsStrict}
+use Rattle.seg_map.proofs.Common.{is_key, remove_pair, nodes_of_pairs, pair_node, LiveSet, eqb-true, false≢true}
+use Rattle.seg_map.proofs.Common.{or_cases, ◌⊎◌, has_place, put, put_pair, before_key, comes_before, Plain, Memory}
+use Rattle.seg_map.proofs.Common.{IsPairAt, IsPairIn, IfSome, stands, stands_before, [], or_parts, false_from_ne_true}
+use Rattle.std.proofs.lemmas.{Bool.and_from, Bool.true≢false, Bool.not-false, List.map-append}
+use Rattle.std.proofs.Common.{◌++◌, nat_eq}
+use mathlib.Core.List.{reverse-cons}
+use Rattle.link_tree.proofs.Laws.{without_none}
 
-pub either_right : (b c : Bool) → c ≡ true → not (b || c) ≡ false
-either_right true c e = refl
-either_right false c e = ap not e
+-- what follows of each from what holds of each
+pub each : {A : Type 0} {P Q : A → Type 0} (xs : List A) → AllByRecursion P xs → ((x : A) → P x → Q x)
+    → AllByRecursion Q xs
+each [] a f = tt
+each (x ∷ xs) a f = (f x a.0, each xs a.1 f)
+
+pub each_both : {A : Type 0} {P Q R : A → Type 0} (xs : List A) → AllByRecursion P xs → AllByRecursion Q xs
+    → ((x : A) → P x → Q x → R x) → AllByRecursion R xs
+each_both [] a b f = tt
+each_both (x ∷ xs) a b f = (f x a.0 b.0, each_both xs a.1 b.1 f)
+
+all_append : {A : Type 0} (P : A → Type 0) (xs ys : List A) → AllByRecursion P xs → AllByRecursion P ys
+    → AllByRecursion P (xs ++ ys)
+all_append P [] ys a b = b
+all_append P (x ∷ xs) ys a b = (a.0, all_append P xs ys a.1 b)
+
+-- what holds of each holds of each of them the other way round
+pub all_reversed : {A : Type 0} (P : A → Type 0) (xs : List A) → AllByRecursion P xs → AllByRecursion P (reverse xs)
+all_reversed P [] a = tt
+all_reversed P (x ∷ xs) a =
+    subst (AllByRecursion P) (sym (reverse-cons x xs)) (all_append P (reverse xs) (x ∷ []) (all_reversed P xs a.1)
+    (a.0, tt))
+
+pub map_reversed : {A B : Type 0} (f : A → B) (xs : List A) → reverse (map f xs) ≡ map f (reverse xs)
+map_reversed f [] = refl
+map_reversed f (x ∷ xs) =
+    reverse-cons (f x) (map f xs) ∙ ap (λ zs. zs ++ f x ∷ []) (map_reversed f xs)
+    ∙ sym (ap (map f) (reverse-cons x xs) ∙ map-append f (reverse xs) (x ∷ []))
+
+-- where a test says of what is made of each what another says of it, the first that passes is made of the first that
+-- passes
+pub find_mapped : {A B : Type 0} (f : A → B) (test : B → Bool) (test' : A → Bool) (xs : List A)
+    → AllByRecursion (λ x. test (f x) ≡ test' x) xs
+    → find test (map f xs) ≡ option_map f (find test' xs)
+find_mapped f test test' [] a = refl
+find_mapped f test test' (x ∷ xs) a =
+    let rest = find_mapped f test test' xs a.1 in
+    elim (cases_Bool (test' x)) [
+      | inl e ↦ rw (a.0 ∙ e, e) refl
+      | inr e ↦ rw (a.0 ∙ e, e) rest
+    ]
+
+pub last_mapped : {A B : Type 0} (f : A → B) (o : Option A) (xs : List A)
+    → last_or (option_map f o) (map f xs) ≡ option_map f (last_or o xs)
+last_mapped f o [] = refl
+last_mapped f o (x ∷ xs) = last_mapped f (Some x) xs
+
+-- ---- lists of pairs: the pair of a key, and pairs that are put and removed, and their nodes
+
+-- all are pairs of a map, and the bytes of each are there
+abbrev pub AreIn : {K V : Type 0} → Plain K → Plain V → LiveSet → ℕ → List (Pair K V) → Type 0
+AreIn kp vp live h = AllByRecursion (IsPairIn kp vp live h)
+
+abbrev pub AreAt : {K V : Type 0} → Plain K → Plain V → Memory → List (Pair K V) → Type 0
+AreAt kp vp m = AllByRecursion (IsPairAt kp.SIZE kp.spelling vp.spelling m)
+
+-- the keys are those of the pairs
+abbrev pub HaveKeys : {K V : Type 0} → (ℕ → Option K) → List (Pair K V) → Type 0
+HaveKeys {K} {V} keys ps = AllByRecursion (λ (p : Pair K V). keys (pair_node p) ≡ Some p.key) ps
 
 -- the first that is not below the key has it, or none has
 abbrev pub by_key : {K V : Type 0} → (K → K → Bool) → K → Option (Pair K V) → Option (Pair K V)
@@ -190,19 +247,7 @@ module _ {K V : Type 0} (less : K → K → Bool) (strict : IsStrict less) (on :
       ]
 
 pub either_one : (b c : Bool) → not (b || c) ≡ false → b ≡ false → c ≡ true
-either_one true c e f = absurd (false≢true (sym f))
-either_one false true e f = refl
-either_one false false e f = absurd (false≢true (sym e))
-
-either_two : (b c : Bool) → not (b || c) ≡ false → (b || c) ≡ true
-either_two true c e = refl
-either_two false true e = refl
-either_two false false e = absurd (false≢true (sym e))
-
-pub neither_parts : (b c : Bool) → not (b || c) ≡ true → (b ≡ false) × (c ≡ false)
-neither_parts true c e = absurd (false≢true e)
-neither_parts false true e = absurd (false≢true e)
-neither_parts false false e = (refl, refl)
+either_one b c e f = rw f at (not-false (b || c) e)
 
 module _ {K V : Type 0} (less : K → K → Bool) where
   -- a key that no pair has
@@ -271,7 +316,7 @@ module _ {K V : Type 0} (less : K → K → Bool) where
         and_from (comes_before less keys (pair_node p) (pair_node q) || comes_before less keys (pair_node q)
         (pair_node p)) (has_place (comes_before less keys) (pair_node p) (nodes_of_pairs qs))
         ((λ i. before_key less (own i) (k.0 i) || before_key less (k.0 i) (own i))
-        ∙ either_two (less p.key q.key) (less q.key p.key) two.0)
+        ∙ not-false (less p.key q.key || less q.key p.key) two.0)
         (place_of qs k.1 two.1)
 
     pub put_nodes : (ps : List (Pair K V)) → HaveKeys keys ps → pair_at less ps p.key ≡ None
@@ -346,3 +391,55 @@ module _ {K V : Type 0} (less : K → K → Bool) where
               let f = rw (n, z) at e in let is : q.key ≡ p'.key = cc in
               rw (n, z) (below_rising less p' qs (subst (λ k. Below less k qs) is (rising_below less on q qs r)) rest)
         ]
+
+-- ---- what is known of a beginning
+
+pub known : (start o : Option ℕ) → start ≡ o → IfSome start (λ n. o ≡ Some n)
+known None o e = tt
+known (Some n) o e = sym e
+
+-- what is said of the node that was found is said of what is left of it
+pub narrowed : (r f : Option ℕ) (P : ℕ → Type 0) → IfSome r (λ n. f ≡ Some n) → IfSome f P → IfSome r P
+narrowed None f P e h = tt
+narrowed (Some n) f P e h = let k = rw e at h in k
+
+pub begun : (r start : Option ℕ) (n : ℕ) (P : ℕ → Option ℕ) → r ≡ Some n → IfSome r (λ m. start ≡ P m)
+    → IfSome start (λ q. P n ≡ Some q)
+begun r start n P e h = let k = rw e at h in known start (P n) k
+
+-- ---- keys of nodes
+
+-- two ways to read keys that read those of the pairs read the same of their nodes
+pub keys_agree : {K V : Type 0} (f g : ℕ → Option K) (ps : List (Pair K V)) → HaveKeys f ps → HaveKeys g ps → (m : ℕ)
+    → is_in m (nodes_of_pairs ps) ≡ true → f m ≡ g m
+keys_agree f g [] k j m i = absurd (false≢true i)
+keys_agree f g (p ∷ ps) k j m i =
+    elim (or_cases _ _ i) [
+      | inl e ↦ let here = eqb-true m (pair_node p) e in ap f here ∙ k.0 ∙ sym (ap g here ∙ j.0)
+      | inr e ↦ keys_agree f g ps k.1 j.1 m e
+    ]
+
+module _ {K : Type 0} (less : K → K → Bool) (irreflexive : IsStrict less) (transitive : Chains less) where
+  -- of two keys of which one is below the other, one is not
+  one_side : (x y : K) → not (less x y || less y x) ≡ false → less y x ≡ not (less x y)
+  one_side x y e =
+      elim (cases_Bool (less x y)) [
+        | inl a ↦ rw a (false_from_ne_true (less y x) (λ b. true≢false (sym (transitive x y x a b) ∙ irreflexive x)))
+        | inr a ↦ rw a (either_one _ _ e a)
+      ]
+
+  -- the nodes that stand before a key are those that its node does not come before
+  pub beside : {V : Type 0} (keys : ℕ → Option K) (p : Pair K V) → keys (pair_node p) ≡ Some p.key
+      → (ps : List (Pair K V)) → HaveKeys keys ps → pair_at less ps p.key ≡ None
+      → (m : ℕ) → is_in m (nodes_of_pairs ps) ≡ true → stands_before less keys false p.key m ≡ not
+      (comes_before less keys (pair_node p) m)
+  beside keys p own [] k absent m i = absurd (false≢true i)
+  beside keys p own (q ∷ qs) k absent m i =
+      let two = absent_here less p.key q qs absent in
+      elim (or_cases _ _ i) [
+        | inl e ↦
+            let key : keys m ≡ Some q.key = ap keys (eqb-true m (pair_node q) e) ∙ k.0 in
+            ap (stands less false p.key) key ∙ one_side p.key q.key two.0
+            ∙ sym (λ j. not (before_key less (own j) (key j)))
+        | inr e ↦ beside keys p own qs k.1 two.1 m e
+      ]

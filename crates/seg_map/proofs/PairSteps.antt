@@ -1,26 +1,60 @@
--- One field of one node changes.
-use Rattle.seg_map.proofs.Common.{◌≡◌, refl, sym, ap, subst, ◌∙◌, ℕ, ◌+◌, ◌-◌, ◌%◌, ◌<◌, ◌≤◌, ◌⊎◌, inl, inr, Bool, true}
-use Rattle.seg_map.proofs.Common.{false, ◌&&◌, List, [], ◌∷◌, arith, nat_lt, nat_le, ◌==◌, IsTrue, Option, Some, None}
-use Rattle.seg_map.proofs.Common.{IfSome, if◌then◌else◌, AllByRecursion, list_any, false≢true, both_ways, cases_Bool}
-use Rattle.seg_map.proofs.Common.{cases_eq, and_parts, or_cases, or_left, or_right, eqb-true, eq-eqb, ne_eqb, leb-true}
-use Rattle.seg_map.proofs.Common.{le-leb, ltb-true, lt-ltb, Cut, Same, SamePlace, bytes_of, read, word_at, current}
-use Rattle.seg_map.proofs.Common.{SameBut-Same, SameBut-word, is_in, leads, all_from, link_at, Same-link, SameBut-link}
-use Rattle.seg_map.proofs.Common.{Extent, LiveSet, handle, end_of, others, cells_of, IsChanged, SameBlock}
-use Rattle.seg_map.proofs.Common.{is_live_in, has_room, live_of, beside_cell, cell_stays, is_proper-IsProper}
-use Rattle.seg_map.proofs.Common.{lay_out_one, is_kept, is_link_byte, is_other, is_pair_node, kept_of, key_at, key_of}
-use Rattle.seg_map.proofs.Common.{links_among, pair_cells, Good, In, PairNode, PairNode-is_pair_node, cells_at}
-use Rattle.seg_map.proofs.Common.{disjoint, is_pair_node-PairNode, lies, node_block, node_place, passing}
-use Rattle.std.proofs.{Common.◌/◌, Math.Nat.le_refl, Math.Nat.le_trans, Math.Nat.lt_of_lt_of_le}
-use Rattle.std.proofs.lemmas.Bool.{cases_lt, not-true}
+-- Blocks of nodes: what is read of them, and what stays where one field of one node changes.
+use Rattle.seg_map.proofs.Common.{Memory, refl, suc, ◌≡◌, ap, ℕ, ◌+◌, ◌-◌, ◌≤◌, inl, inr, ◌&&◌, List, ◌∷◌, length}
+use Rattle.seg_map.proofs.Common.{arith, ◌==◌, IsTrue, Some, find, and_parts, eqb-true, eq-eqb, leb-true, read, Extent}
+use Rattle.seg_map.proofs.Common.{handle, is_proper, has_room, live_of, changed-room, room-less, is_proper-IsProper, In}
+use Rattle.seg_map.proofs.Common.{lies, ne_eqb, passing, subst, allocated-room, Rising, [], sym, ◌∙◌, ◌%◌, ◌<◌, ◌⊎◌}
+use Rattle.seg_map.proofs.Common.{Bool, true, false, nat_lt, nat_le, Option, None, IfSome, if◌then◌else◌}
+use Rattle.seg_map.proofs.Common.{AllByRecursion, list_any, false≢true, both_ways, cases_Bool, cases_eq, or_cases}
+use Rattle.seg_map.proofs.Common.{or_left, or_right, le-leb, ltb-true, lt-ltb, Cut, Same, SamePlace, bytes_of, word_at}
+use Rattle.seg_map.proofs.Common.{current, SameBut-Same, SameBut-word, is_in, leads, all_from, link_at, Same-link}
+use Rattle.seg_map.proofs.Common.{SameBut-link, LiveSet, end_of, others, cells_of, IsChanged, SameBlock, is_live_in}
+use Rattle.seg_map.proofs.Common.{beside_cell, cell_stays, lay_out_one, is_kept, is_link_byte, is_other, is_pair_node}
+use Rattle.seg_map.proofs.Common.{kept_of, key_at, key_of, links_among, pair_cells, Good, PairNode}
+use Rattle.seg_map.proofs.Common.{PairNode-is_pair_node, cells_at, disjoint, is_pair_node-PairNode, node_block}
+use Rattle.seg_map.proofs.Common.{node_place, comes_before, keys_in, stands_before, value_in, Plain, not-true}
+use Rattle.best_fit.proofs.Laws.{legal_size, others-here, others-past}
+use Rattle.best_fit.specs.{Heap.IsRecoloured, Heap.is_node_in, Heap.is_node_role, FreeTree.is_red, Extents.holds}
+use Rattle.std.proofs.{Math.Nat.le_refl, Math.Nat.le_trans, Math.Nat.lt_of_lt_of_le, lemmas.Bool.cases_lt}
+use Rattle.std.proofs.Common.{zero, ◌/◌}
+use Rattle.seg_map.specs.{declared.reading.Sought.Sought, PairNodes.is_good}
 use Rattle.raw_region.proofs.Laws.{Same-read}
-use Rattle.link_tree.specs.{Tree.Cell, Nodes.with_left, Nodes.with_right, Nodes.with_red}
-use Rattle.best_fit.specs.{FreeTree.is_red, Heap.IsRecoloured, Heap.is_node_in, Heap.is_node_role}
-use Rattle.best_fit.proofs.Laws.{others-here, others-past}
-use Rattle.seg_map.specs.PairNodes.{is_good}
-use Rattle.seg_map.specs.PairLaws.{Good-is_good, Place, cells_off, link_parts, links_at}
-use Rattle.seg_types.specs.declared.plain.Plain.{Ghosts as Plain}
-use Rattle.seg_map.specs.declared.reading.Sought.{Sought}
-use Rattle.seg_map.proofs.Common.{comes_before, keys_in, stands_before, value_in}
+use Rattle.link_tree.specs.{Nodes.with_left, Nodes.with_right, Nodes.with_red, Tree.Cell}
+use Rattle.seg_map.specs.PairLaws.{Good-is_good, Place, cells_off, link_parts, links_at, Block}
+
+-- no extent begins before the first
+pub begins_behind : (n : ℕ) (zs : List Extent) (x : Extent) → Rising n zs → In x zs → n ≤ x.offset
+begins_behind n [] x r i = absurd i
+begins_behind n (z ∷ zs) x r (inl e) = subst (λ (w : Extent). n ≤ w.offset) e r.0
+begins_behind n (z ∷ zs) x r (inr i) = omega (arith, r.0, begins_behind (z.offset + 1) zs x r.1 i)
+
+-- each extent is the one of its handle
+pub own_handle : (n : ℕ) (zs : List Extent) (x : Extent) → Rising n zs → In x zs
+    → find (λ (w : Extent). handle w == handle x) zs ≡ Some x
+own_handle n [] x r i = absurd i
+own_handle n (z ∷ zs) x r (inl e) = rw (eq-eqb (handle z) (handle x) (ap handle e)) (ap Some e)
+own_handle n (z ∷ zs) x r (inr i) =
+    let l = begins_behind (z.offset + 1) zs x r.1 i in
+    rw (ne_eqb (handle z) (handle x) (λ f. omega (arith, l, f))) (own_handle (z.offset + 1) zs x r.1 i)
+
+-- a sum within a block is small
+pub small : (b : List ℕ) (h n : ℕ) → IsTrue (is_proper (live_of b)) → IsTrue (has_room (live_of b) h n)
+    → h + n ≤ 1073741824
+unfolding live_of
+small b h n proper room =
+    let r = passing (λ (x : Extent). (handle x == h) && holds x n) (live_of b).extents room in
+    let two = and_parts _ _ r.passes in let at = eqb-true (handle r.extent) h two.0 in
+    let long = leb-true (n + 16) r.extent.len two.1 in let p = is_proper-IsProper (live_of b) proper in
+    let high = (lies 128 (live_of b).extents ((live_of b).size - 16) r.extent p.list r.listed).high in
+    let size = (legal_size (live_of b).size p.size).high in omega arith
+
+pub length-read : (m : Memory) (at n : ℕ) → length (read m at n) ≡ n
+length-read m at zero = refl
+length-read m at (suc n) = ap suc (length-read m (at + 1) n)
+
+-- what shows that there is room, and that sums within a block fit
+pub ruleset rooms = (room-less, small, changed-room, allocated-room, length-read)
+
+-- ---- one field of one node changes
 
 -- what a setter does to the window
 pub record Changed (len : ℕ) (ns : List ℕ) (c d : Cut) (n : ℕ) : Type 0 where
@@ -32,9 +66,6 @@ pub record Changed (len : ℕ) (ns : List ℕ) (c d : Cut) (n : ℕ) : Type 0 wh
   pub links : links_among (bytes_of d.bytes) ns n ≡ true
   pub others : (m : ℕ) → is_in m ns ≡ true → (m ≡ n → ⊥) → cells_of (bytes_of d.bytes) m ≡ cells_of (bytes_of c.bytes) m
   pub keys : (m : ℕ) → is_in m ns ≡ true → Same (bytes_of c.bytes) (bytes_of d.bytes) (m + 16) (m + len)
-
-in_own : (n : ℕ) (ns : List ℕ) → is_in n ns ≡ true → (h : ℕ) → is_in h ns ≡ false → h ≡ n → ⊥
-in_own n ns i h o e = both_ways (is_in n ns) (subst (λ k. is_in k ns ≡ false) e o) i
 
 module _ {len : ℕ} {ns : List ℕ} {c d : Cut} {n : ℕ} (g : PairNode len ns c n) (h : Changed len ns c d n) where
   links_d : (m : ℕ) → is_in m ns ≡ true → links_among (bytes_of d.bytes) ns m ≡ true
@@ -71,7 +102,8 @@ module _ {len : ℕ} {ns : List ℕ} {c d : Cut} {n : ℕ} (g : PairNode len ns 
   other_colour k t =
       let two = and_parts _ _ t in
       let l = passing (λ (x : Extent). handle x == k) (live_of c.bytes).extents two.0 in
-      let far = in_own n ns g.listed k (not-true (is_in k ns) two.1) in
+      let far : k ≡ n → ⊥ = λ e. both_ways (is_in k ns) (not-true (is_in k ns) two.1)
+      (ap (λ j. is_in j ns) e ∙ g.listed) in
       let at = eqb-true (handle l.extent) k l.passes in
       let w : l.extent.offset + 8 ≡ k - 8 = omega arith in
       subst (λ a. word_at (bytes_of d.bytes) a % 16 ≡ word_at (bytes_of c.bytes) a % 16) w
@@ -101,14 +133,11 @@ module _ {len : ℕ} {ns : List ℕ} {c d : Cut} {n : ℕ} (g : PairNode len ns 
       → pair_cells len ns d ≡ (λ (m : ℕ). if m == n then f (pair_cells len ns c m) else pair_cells len ns c m)
   one_cell f own = λ i m. at m (cases_eq m n) i
     where
-      at_node : (m : ℕ) → is_pair_node len ns c m ≡ true → (m ≡ n → ⊥) → pair_cells len ns d m ≡ pair_cells len ns c m
-      at_node m e o =
-          cells_at len ns d m (ap (λ (p : ℕ → Bool). p m) nodes_stay ∙ e)
-          ∙ h.others m (is_pair_node-PairNode len ns c m e).listed o ∙ sym (cells_at len ns c m e)
-
       other : (m : ℕ) → (m ≡ n → ⊥) → (is_pair_node len ns c m ≡ true) ⊎ (is_pair_node len ns c m ≡ false)
           → pair_cells len ns d m ≡ pair_cells len ns c m
-      other m o (inl e) = at_node m e o
+      other m o (inl e) =
+          cells_at len ns d m (ap (λ (p : ℕ → Bool). p m) nodes_stay ∙ e)
+          ∙ h.others m (is_pair_node-PairNode len ns c m e).listed o ∙ sym (cells_at len ns c m e)
       other m o (inr e) = cells_off len ns d m (ap (λ (p : ℕ → Bool). p m) nodes_stay ∙ e)
           ∙ sym (cells_off len ns c m e)
 
@@ -145,22 +174,6 @@ pub any_at : (q : Extent → Bool) (xs : List Extent) (x : Extent) → In x xs �
 any_at q [] x i h = absurd i
 any_at q (y ∷ ys) x (inl e) h = or_left _ _ (ap q e ∙ h)
 any_at q (y ∷ ys) x (inr i) h = or_right _ _ (any_at q ys x i h)
-
-pub room_of : {len : ℕ} {c : Cut} {n : ℕ} (k : ℕ) → Place len c n → k ≤ len → IsTrue (has_room (live_of c.bytes) n k)
-room_of {len} {c} {n} k p l =
-    let b = p.block in let enough = b.holds in
-    any_at (λ (x : Extent). (handle x == n) && nat_le (k + 16) x.len) (live_of c.bytes).extents b.extent b.listed
-    (rw (eq-eqb _ _ b.at, le-leb (k + 16) b.extent.len (omega arith)) refl)
-
-pub live_node : {len : ℕ} {c : Cut} {n : ℕ} → Place len c n → IsTrue (is_live_in (live_of c.bytes) n)
-live_node {c = c} {n = n} p = let b = p.block in any_at (λ (x : Extent). handle x == n)
-    (live_of c.bytes).extents b.extent b.listed (eq-eqb _ _ b.at)
-
-pub node_live : {len : ℕ} {c : Cut} {n : ℕ} → Place len c n → IsTrue (is_node_in (live_of c.bytes) n)
-node_live {c = c} {n = n} p =
-    let b = p.block in
-    any_at (λ (x : Extent). (handle x == n) && is_node_role x.role) (live_of c.bytes).extents b.extent b.listed
-    (rw (eq-eqb _ _ b.at, ap is_node_role b.node) refl)
 
 pub target_whole : (len : ℕ) (ns : List ℕ) (c : Cut) (to : Option ℕ) → leads (is_pair_node len ns c) to ≡ true
     → IfSome to (λ t. t % 16 ≡ 0)
@@ -420,17 +433,23 @@ module _ {K : Type 0} (k : Plain K) {ns : List ℕ} {c : Cut} {n : ℕ} (g : Pai
 
 -- the heap may be reached by another name
 module _ (len : ℕ) (ns : List ℕ) (c w : Cut) (n : ℕ) (h : is_pair_node len ns c n ≡ true) (same : w ≡ c) where
-  g : PairNode len ns c n
-  g = is_pair_node-PairNode len ns c n h
+  b : Block len (live_of c.bytes).extents n
+  b = node_block len ns c n (is_pair_node-PairNode len ns c n h)
 
   pub node_room : (k : ℕ) → k ≤ len → IsTrue (has_room (live_of w.bytes) n k)
-  node_room k l = rw same (room_of k (node_place len ns c n g) l)
+  node_room k l =
+      let enough = b.holds in
+      rw same (any_at (λ (x : Extent). (handle x == n) && nat_le (k + 16) x.len) (live_of c.bytes).extents b.extent
+      b.listed (rw (eq-eqb _ _ b.at, le-leb (k + 16) b.extent.len (omega arith)) refl))
 
   pub node_used : IsTrue (is_live_in (live_of w.bytes) n)
-  node_used = rw same (live_node (node_place len ns c n g))
+  node_used = rw same (any_at (λ (x : Extent). handle x == n) (live_of c.bytes).extents b.extent b.listed
+      (eq-eqb _ _ b.at))
 
   pub node_marked : IsTrue (is_node_in (live_of w.bytes) n)
-  node_marked = rw same (node_live (node_place len ns c n g))
+  node_marked =
+      rw same (any_at (λ (x : Extent). (handle x == n) && is_node_role x.role) (live_of c.bytes).extents b.extent
+      b.listed (rw (eq-eqb _ _ b.at, ap is_node_role b.node) refl))
 
   cell_is : cells_of (bytes_of w.bytes) n ≡ pair_cells len ns c n
   cell_is = rw same (sym (cells_at len ns c n h))

@@ -1,22 +1,19 @@
 -- The pairs of a map that are lent to a call of the tree, and what a search among them finds.
-use Rattle.seg_map.proofs.Common.{◌≡◌, refl, sym, ap, subst, ◌∙◌, ℕ, ◌+◌, ◌*◌, ◌≤◌, Bool, List, [], ◌∷◌, length, true}
+use Rattle.seg_map.proofs.Common.{◌≡◌, refl, sym, ap, subst, ◌∙◌, ℕ, ◌+◌, ◌*◌, ◌≤◌, Bool, List, ◌∷◌, length, true}
 use Rattle.seg_map.proofs.Common.{false, arith, not, IsTrue, reverse, Option, Some, None, IfSome, find, option_map}
 use Rattle.seg_map.proofs.Common.{if◌then◌else◌, AllByRecursion, last_or, Cut, bytes_of, read, link_at, IsSearchTree}
 use Rattle.seg_map.proofs.Common.{Tree, bits, nodes_of, first_not, last_before, entry_of, has_room, live_of, found-room}
-use Rattle.seg_map.proofs.Common.{room-less, IsKeyTree, keys_in, Pair, IsPairAt, is_rising, pair_at, Chains}
-use Rattle.seg_map.proofs.Common.{comes_before, own_nodes, pair_cells, stands_before, HoldsMap, IsPairIn, final_pair}
-use Rattle.seg_map.proofs.Common.{first_pair, is_passed, last_pair, pair_node, entry_in, exit_in}
-use Rattle.seg_map.proofs.Entering.{Laws, first_node, key_tree, keys, last_node, length-nodes, with_bytes, own}
-use Rattle.seg_map.proofs.Entering.{pair_parts, read_spelled, value_of}
-use Rattle.seg_map.proofs.FoundLists.{each_both, all_reversed, each, last_mapped}
+use Rattle.seg_map.proofs.Common.{room-less, IsKeyTree, keys_in, Pair, IsPairAt, pair_at, Chains, comes_before}
+use Rattle.seg_map.proofs.Common.{own_nodes, pair_cells, stands_before, HoldsMap, IsPairIn, final_pair, first_pair}
+use Rattle.seg_map.proofs.Common.{is_passed, last_pair, pair_node, entry_in, exit_in, Plain, [], nodes_of_pairs}
+use Rattle.seg_map.proofs.{Entering.keys, Entering.last_node, PairLists.all_reversed, Common.length-map, Staying.AtNode}
+use Rattle.seg_map.proofs.Entering.{with_bytes, own, pair_parts, read_spelled, value_of, Laws, first_node, key_tree}
+use Rattle.seg_map.proofs.PairLists.{each, last_mapped, by_key, pair_by_key, HaveKeys, narrowed, each_both}
 use Rattle.std.specs.Prelude.{option_and_then}
 use Rattle.link_tree.specs.{Searching.path_length, Ways.exit_of}
-use Rattle.seg_types.specs.declared.plain.Plain.{Ghosts as Plain}
-use Rattle.seg_map.specs.declared.places.Place.{Place}
-use Rattle.seg_map.specs.Searches.{FindsExit, IsOpened, IsRead, LooksFor, LooksUp, item_at, last_path, node_with}
-use Rattle.seg_map.specs.{PairNodes.both, Places.IsSomeMap, Places.SearchSteps, Places.item_of, Places.value_of_pair}
-use Rattle.seg_map.specs.Searches.{path_in, reading_steps}
-use Rattle.seg_map.proofs.{Beginnings.narrowed, PairLists.by_key, PairLists.pair_by_key}
+use Rattle.seg_map.specs.Searches.{path_in, reading_steps, FindsExit, IsOpened, IsRead, LooksFor, LooksUp, item_at}
+use Rattle.seg_map.specs.{Searches.last_path, Searches.node_with, declared.places.Place.Place, PairNodes.both}
+use Rattle.seg_map.specs.Places.{IsSomeMap, SearchSteps, item_of, value_of_pair, FindsItem}
 
 module _ {K V : Type 0} {kp : Plain K} {vp : Plain V} (laws : Laws kp) (c : Cut) {h at : ℕ} {ps : List (Pair K V)}
     (s : HoldsMap kp vp c.bytes h at ps) {root : Option ℕ} {ms : List ℕ}
@@ -100,7 +97,24 @@ module _ {K V : Type 0} {k : Plain K} {v : Plain V} {now c : Cut} {at : Place} {
   few : {taken : ℕ} → Asked (λ t. taken ≤ 2 * bits (length (nodes_of t) + 1)) → SearchSteps k v c.bytes at 0 0 taken
   few {taken} most = λ ps s.
       let m = most s.map.tree.tree (o.tree ps s).tree in
-      let n = ap (λ n. bits (n + 1)) (ap length s.map.tree.lists ∙ length-nodes ps) in omega arith
+      let n = ap (λ n. bits (n + 1)) (ap length s.map.tree.lists ∙ length-map ps pair_node) in omega arith
+
+  -- what holds of each pair holds of the one whose node is found
+  finds : {found : Option ℕ} {taken : ℕ} (node : List ℕ → Option ℕ) (pair : List (Pair K V) → Option (Pair K V))
+      {path : Tree → ℕ} → ((P : Pair K V → Type 0) (ps : List (Pair K V)) → AllByRecursion P ps → IfSome (pair ps) P)
+      → ((ps : List (Pair K V)) → HaveKeys (keys_in k own now) ps
+      → node (nodes_of_pairs ps) ≡ option_map pair_node (pair ps)) → Asked (λ t. found ≡ node (nodes_of t))
+      → ((ps : List (Pair K V)) (s : HoldsMap k v c.bytes at.handle at.at ps) → taken ≡ path s.map.tree.tree)
+      → Asked (λ t. taken ≤ 2 * bits (length (nodes_of t) + 1)) → Finds k v c at pair path found taken
+  finds node pair good nodes is exact most =
+      record {
+        keys = keys_in k own now;
+        good = λ ps s. good (IsRead k v c (keys_in k own now)) ps (o.pairs ps s);
+        node = λ ps s. is s.map.tree.tree (o.tree ps s).tree ∙ ap node s.map.tree.lists
+            ∙ nodes ps (each ps (o.pairs ps s) (λ p r. r.key));
+        exact = exact;
+        most = few most;
+      }
 
   module _ (past : Bool) (key : K) {taken : ℕ} (exact : Asked (λ t. taken ≡ path_length (ahead past key) t))
       (most : Asked (λ t. taken ≤ 2 * bits (length (nodes_of t) + 1))) where
@@ -112,46 +126,23 @@ module _ {K V : Type 0} {k : Plain K} {v : Plain V} {now c : Cut} {at : Place} {
     pub finds_first : {found : Option ℕ} → Asked (λ t. found ≡ first_not (ahead past key) (nodes_of t))
         → Finds k v c at (first_pair k.order past key) (path_in k c past key) found taken
     finds_first first =
-        record {
-          keys = keys_in k own now;
-          good = λ ps s. find_good (IsRead k v c (keys_in k own now)) (λ p. not (is_passed k.order past key p)) ps
-              (o.pairs ps s);
-          node = λ ps s. first s.map.tree.tree (o.tree ps s).tree
-              ∙ ap (first_not (ahead past key)) s.map.tree.lists
-              ∙ first_node k.order (keys_in k own now) past key ps
-              (each ps (o.pairs ps s) (λ p r. r.key));
-          exact = path_is;
-          most = few most;
-        }
+        finds (first_not (ahead past key)) (first_pair k.order past key)
+        (λ P ps a. find_good P (λ p. not (is_passed k.order past key p)) ps a)
+        (first_node k.order (keys_in k own now) past key) first path_is most
 
     pub finds_before : {found : Option ℕ} → Asked (λ t. found ≡ last_before (ahead past key) (nodes_of t))
         → Finds k v c at (last_pair k.order past key) (path_in k c past key) found taken
     finds_before last =
-        record {
-          keys = keys_in k own now;
-          good = λ ps s. find_good (IsRead k v c (keys_in k own now)) (is_passed k.order past key) (reverse ps)
-              (all_reversed (IsRead k v c (keys_in k own now)) ps (o.pairs ps s));
-          node = λ ps s. last s.map.tree.tree (o.tree ps s).tree
-              ∙ ap (last_before (ahead past key)) s.map.tree.lists
-              ∙ last_node k.order (keys_in k own now) past key ps
-              (each ps (o.pairs ps s) (λ p r. r.key));
-          exact = path_is;
-          most = few most;
-        }
+        finds (last_before (ahead past key)) (last_pair k.order past key)
+        (λ P ps a. find_good P (is_passed k.order past key) (reverse ps) (all_reversed P ps a))
+        (last_node k.order (keys_in k own now) past key) last path_is most
 
   pub finds_last : {found : Option ℕ} {taken : ℕ} → Asked (λ t. found ≡ last_or None (nodes_of t))
       → Asked (λ t. taken ≡ path_length (λ n. true) t)
       → Asked (λ t. taken ≤ 2 * bits (length (nodes_of t) + 1)) → Finds k v c at final_pair last_path found taken
   finds_last last exact most =
-      record {
-        keys = keys_in k own now;
-        good = λ ps s. last_good (IsRead k v c (keys_in k own now)) None ps tt (o.pairs ps s);
-        node = λ ps s. let none : Option ℕ = None in
-            last s.map.tree.tree (o.tree ps s).tree ∙ ap (last_or none) s.map.tree.lists
-            ∙ last_mapped pair_node None ps;
-        exact = λ ps s. exact s.map.tree.tree (o.tree ps s).tree;
-        most = few most;
-      }
+      finds (last_or None) final_pair (λ P ps a. last_good P None ps tt a)
+      (λ ps keyed. last_mapped pair_node None ps) last (λ ps s. exact s.map.tree.tree (o.tree ps s).tree) most
 
   -- where a change begins, by the keys of the map
   pub entry_is : (key : K) {start : Option ℕ} → Asked (λ t. start ≡ entry_of (ahead false key) t)
@@ -168,6 +159,11 @@ module _ {K V : Type 0} {k : Plain K} {v : Plain V} {now c : Cut} {at : Place} {
       (keys_are ps s) (exit s.map.tree.tree (o.tree ps s).tree))
 
 -- ---- what is read of it
+
+if_mapped : {A B : Type 0} (f : A → B) (x : A) (b : Bool)
+    → (if b then None else Some (f x)) ≡ option_map f (if b then None else Some x)
+if_mapped f x true = refl
+if_mapped f x false = refl
 
 module _ {K V : Type 0} (k : Plain K) (v : Plain V) (c : Cut) (by : ℕ → Option K) where
   item_read : (o : Option (Pair K V)) → IfSome o (IsRead k v c by)
@@ -193,12 +189,7 @@ module _ {K V : Type 0} (k : Plain K) (v : Plain V) (c : Cut) (by : ℕ → Opti
       let e = both_first (value_of k (read (bytes_of c.bytes) (pair_node p + 16) k.SIZE))
       (value_of v (read (bytes_of c.bytes) (pair_node p + (16 + k.SIZE)) v.SIZE)) p.key p.value h.item in
       ap (option_and_then (λ (x : K). if k.order key x then None else Some (pair_node p))) e
-      ∙ by_test (k.order key p.key)
-    where
-      by_test : (b : Bool) → (if b then None else Some (pair_node p)) ≡ option_map pair_node
-          (if b then None else Some p)
-      by_test true = refl
-      by_test false = refl
+      ∙ if_mapped pair_node p (k.order key p.key)
 
 reads_same : {K V : Type 0} (o : Option (Pair K V)) → reading_steps (option_map pair_node o) ≡ reading_steps o
 reads_same None = refl
@@ -260,43 +251,32 @@ looked_for {k = k} {v = v} {c} key {before = before} {after = after} f on i e =
     }
 
 -- the value of a key, of the item that is not below it
-pub value_by_key : {K V : Type 0} (k : Plain K) (on : Chains k.order) (key : K) (ps : List (Pair K V))
-    (i : Option (K × V))
-    → is_rising k.order ps ≡ true → i ≡ option_map item_of (first_pair k.order false key ps)
+pub value_by_key : {K V : Type 0} {k : Plain K} {v : Plain V} {b : List ℕ} {h at : ℕ} {i : Option (K × V)}
+    → Chains k.order → (key : K) → FindsItem k v b h at false key i → (ps : List (Pair K V)) → HoldsMap k v b h at ps
     → option_and_then (λ (x : K × V). if k.order key x.0 then None else Some x.1) i
     ≡ option_map value_of_pair (pair_at k.order ps key)
-value_by_key {K} {V} k on key ps i r e =
-    ap (option_and_then (λ (x : K × V). if k.order key x.0 then None else Some x.1)) e
+value_by_key {K} {V} {k} on key item ps s =
+    ap (option_and_then (λ (x : K × V). if k.order key x.0 then None else Some x.1)) (item ps s)
     ∙ by_pair (first_pair k.order false key ps)
-    ∙ sym (ap (option_map value_of_pair) (pair_by_key k.order on key ps r))
+    ∙ sym (ap (option_map value_of_pair) (pair_by_key k.order on key ps s.rising))
   where
-    by_test : (p : Pair K V) (b : Bool) → (if b then None else Some p.value) ≡ option_map value_of_pair
-        (if b then None else Some p)
-    by_test p true = refl
-    by_test p false = refl
-
     by_pair : (o : Option (Pair K V)) → option_and_then (λ (x : K × V). if k.order key x.0 then None else Some x.1)
         (option_map item_of o)
         ≡ option_map value_of_pair (by_key k.order key o)
     by_pair None = refl
-    by_pair (Some p) = by_test p (k.order key p.key)
+    by_pair (Some p) = if_mapped value_of_pair p (k.order key p.key)
 
 -- ---- the pair of a node that was looked for by its key
-
-pub record KeyAt {K V : Type 0} (o : Option (Pair K V)) (node : ℕ) : Type 0 where
-  pub pair : Pair K V
-  pub is : o ≡ Some pair
-  pub at : pair_node pair ≡ node
 
 module _ {K V : Type 0} {k : Plain K} {v : Plain V} {c : Cut} {at : Place} {key : K} {found : Option ℕ}
     {before after : ℕ} (f : LooksFor k v c at key found before after) {ps : List (Pair K V)}
     (s : HoldsMap k v c.bytes at.handle at.at ps) where
-  pub key_at_node : {node : ℕ} → found ≡ Some node → KeyAt (pair_at k.order ps key) node
+  pub key_at_node : {node : ℕ} → found ≡ Some node → AtNode (λ p. pair_at k.order ps key ≡ Some p) node
   key_at_node {node} e = by_pair (pair_at k.order ps key) (sym e ∙ f.node ps s)
     where
-      by_pair : (o : Option (Pair K V)) → Some node ≡ option_map pair_node o → KeyAt o node
+      by_pair : (o : Option (Pair K V)) → Some node ≡ option_map pair_node o → AtNode (λ p. o ≡ Some p) node
       by_pair None n = absurd (cc)
-      by_pair (Some p) n = let is : node ≡ pair_node p = cc in record { pair = p; is = refl; at = sym is }
+      by_pair (Some p) n = let is : node ≡ pair_node p = cc in record { pair = p; holds = refl; at = sym is }
 
   pub key_absent : found ≡ None → pair_at k.order ps key ≡ None
   key_absent e = by_pair (pair_at k.order ps key) (sym e ∙ f.node ps s)

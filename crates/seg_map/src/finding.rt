@@ -1,18 +1,20 @@
 //! Pairs that are looked for.
-ghost use Rattle.std.specs.Prelude.{◌≡◌, ◌+◌, true, Option, Some, IfSome, IsTrue, option_and_then};
+ghost use Rattle.std.specs.Prelude.{◌≡◌, ◌+◌, ◌≤◌, true, false, Option, Some, IfSome, IsTrue, option_and_then};
 ghost use Rattle.raw_region.specs.Memory.{bytes_of};
 ghost use Rattle.link_tree.specs.Nodes.{leads};
 ghost use Rattle.best_fit.specs.Heap.{has_room, live_of};
-ghost use Rattle.seg_map.specs.Searches.{FindsEntry, FindsExit, IsOpened, LooksFor, LooksUp, item_at, node_with};
-ghost use Rattle.seg_map.specs.{Linking.HasTree, Searches.path_in, Searches.reading_steps};
-ghost use Rattle.seg_map.specs.{PairNodes.is_pair_node, Places.IsSomeMap, Places.first_pair, Places.last_pair};
+ghost use Rattle.seg_map.specs.Searches.{FindsEntry, FindsExit, IsOpened, LastTakes, LookBackTakes, LookUpTakes};
+ghost use Rattle.seg_map.specs.Searches.{LooksFor, LooksUp, item_at, node_with, path_in, reading_steps};
+ghost use Rattle.seg_map.specs.Places.{FindsItem, FindsItemBefore, FindsLastItem, FindsValue, IsSomeMap, SearchSteps};
+ghost use Rattle.seg_map.specs.{Linking.HasTree, PairNodes.is_pair_node, Places.first_pair, Places.last_pair};
 
 use crate::maps::SegMap;
-use crate::nodes::Pairs;
-use crate::owned::Own;
+use crate::nodes::{Own, Pairs};
 use crate::reading::{KEY, Sought, value_at};
 use best_fit::Heap;
-use link_tree::{Found, find_first_not_before, find_last_before, find_way_in, find_way_out};
+use link_tree::{
+    Found, find_first_not_before, find_last, find_last_before, find_way_in, find_way_out,
+};
 use raw_region::Steps;
 use seg_types::Plain;
 use std::marker::PhantomData;
@@ -27,8 +29,81 @@ pub struct Trace {
 }
 
 impl<K: Plain, V: Plain> SegMap<K, V> {
+    /// The value of a key.
+    pub fn get(self, heap: &Heap, key: K, steps: &mut Steps) -> Option<V>
+        requires { IsSomeMap K.Plain V.Plain heap.now.bytes self.place.handle self.place.at }
+        ensures value { FindsValue K.Plain V.Plain heap.now.bytes self.place.handle self.place.at key result }
+        ensures counted { steps.old ≤ steps.new }
+        ensures steps { SearchSteps K.Plain V.Plain heap.now.bytes self.place 1 steps.old steps.new }
+        ensures exact { LookUpTakes K.Plain V.Plain heap.now self.place false key steps.old steps.new }
+    {
+        let (found, value) = self.first_from(heap, key, steps)?;
+        if key.precedes(found) {
+            None
+        } else {
+            Some(value)
+        }
+    }
+
+    /// The key and the value of the pair with the least key that is not below `key`.
+    pub fn first_from(self, heap: &Heap, key: K, steps: &mut Steps) -> Option<(K, V)>
+        requires { IsSomeMap K.Plain V.Plain heap.now.bytes self.place.handle self.place.at }
+        ensures item { FindsItem K.Plain V.Plain heap.now.bytes self.place.handle self.place.at false key result }
+        ensures counted { steps.old ≤ steps.new }
+        ensures steps { SearchSteps K.Plain V.Plain heap.now.bytes self.place 1 steps.old steps.new }
+        ensures exact { LookUpTakes K.Plain V.Plain heap.now self.place false key steps.old steps.new }
+    {
+        self.find_from(heap, &Sought { key, past: false }, steps)
+    }
+
+    /// The key and the value of the pair with the least key above `key`.
+    pub fn next_after(self, heap: &Heap, key: K, steps: &mut Steps) -> Option<(K, V)>
+        requires { IsSomeMap K.Plain V.Plain heap.now.bytes self.place.handle self.place.at }
+        ensures item { FindsItem K.Plain V.Plain heap.now.bytes self.place.handle self.place.at true key result }
+        ensures counted { steps.old ≤ steps.new }
+        ensures steps { SearchSteps K.Plain V.Plain heap.now.bytes self.place 1 steps.old steps.new }
+        ensures exact { LookUpTakes K.Plain V.Plain heap.now self.place true key steps.old steps.new }
+    {
+        self.find_from(heap, &Sought { key, past: true }, steps)
+    }
+
+    /// The key and the value of the pair with the greatest key.
+    pub fn last(self, heap: &Heap, steps: &mut Steps) -> Option<(K, V)>
+        requires { IsSomeMap K.Plain V.Plain heap.now.bytes self.place.handle self.place.at }
+        ensures item { FindsLastItem K.Plain V.Plain heap.now.bytes self.place.handle self.place.at result }
+        ensures counted { steps.old ≤ steps.new }
+        ensures steps { SearchSteps K.Plain V.Plain heap.now.bytes self.place 1 steps.old steps.new }
+        ensures exact { LastTakes K.Plain V.Plain heap.now self.place steps.old steps.new }
+    {
+        let pairs = self.open(heap);
+        let found = find_last(&pairs, pairs.root);
+        read_found(heap, found, steps)
+    }
+
+    /// The key and the value of the pair with the greatest key that is not above `key`.
+    pub fn last_up_to(self, heap: &Heap, key: K, steps: &mut Steps) -> Option<(K, V)>
+        requires { IsSomeMap K.Plain V.Plain heap.now.bytes self.place.handle self.place.at }
+        ensures item { FindsItemBefore K.Plain V.Plain heap.now.bytes self.place.handle self.place.at true key result }
+        ensures counted { steps.old ≤ steps.new }
+        ensures steps { SearchSteps K.Plain V.Plain heap.now.bytes self.place 1 steps.old steps.new }
+        ensures exact { LookBackTakes K.Plain V.Plain heap.now self.place true key steps.old steps.new }
+    {
+        self.find_before(heap, &Sought { key, past: true }, steps)
+    }
+
+    /// The key and the value of the pair with the greatest key below `key`.
+    pub fn previous_before(self, heap: &Heap, key: K, steps: &mut Steps) -> Option<(K, V)>
+        requires { IsSomeMap K.Plain V.Plain heap.now.bytes self.place.handle self.place.at }
+        ensures item { FindsItemBefore K.Plain V.Plain heap.now.bytes self.place.handle self.place.at false key result }
+        ensures counted { steps.old ≤ steps.new }
+        ensures steps { SearchSteps K.Plain V.Plain heap.now.bytes self.place 1 steps.old steps.new }
+        ensures exact { LookBackTakes K.Plain V.Plain heap.now self.place false key steps.old steps.new }
+    {
+        self.find_before(heap, &Sought { key, past: false }, steps)
+    }
+
     /// The pairs of the map, for a search.
-    pub(crate) fn open(self, heap: &Heap) -> Pairs<&Heap, K>
+    fn open(self, heap: &Heap) -> Pairs<&Heap, K>
         requires { IsSomeMap K.Plain V.Plain heap.now.bytes self.place.handle self.place.at }
         ensures leads { leads (is_pair_node (16 + K.SIZE) result.own result.heap.now) result.root ≡ true }
         ensures tree { HasTree K.Plain result.own result.heap.now result.root }
@@ -44,12 +119,7 @@ impl<K: Plain, V: Plain> SegMap<K, V> {
     }
 
     /// The key and the value of the first pair that does not stand before what is looked for.
-    pub(crate) fn find_from(
-        self,
-        heap: &Heap,
-        sought: &Sought<K>,
-        steps: &mut Steps,
-    ) -> Option<(K, V)>
+    fn find_from(self, heap: &Heap, sought: &Sought<K>, steps: &mut Steps) -> Option<(K, V)>
         requires { IsSomeMap K.Plain V.Plain heap.now.bytes self.place.handle self.place.at }
         ensures { LooksUp K.Plain V.Plain heap.now self.place (first_pair K.order sought.now.past sought.now.key)
             (path_in K.Plain heap.now sought.now.past sought.now.key) result steps.old steps.new }
@@ -60,12 +130,7 @@ impl<K: Plain, V: Plain> SegMap<K, V> {
     }
 
     /// The key and the value of the last pair that stands before what is looked for.
-    pub(crate) fn find_before(
-        self,
-        heap: &Heap,
-        sought: &Sought<K>,
-        steps: &mut Steps,
-    ) -> Option<(K, V)>
+    fn find_before(self, heap: &Heap, sought: &Sought<K>, steps: &mut Steps) -> Option<(K, V)>
         requires { IsSomeMap K.Plain V.Plain heap.now.bytes self.place.handle self.place.at }
         ensures { LooksUp K.Plain V.Plain heap.now self.place (last_pair K.order sought.now.past sought.now.key)
             (path_in K.Plain heap.now sought.now.past sought.now.key) result steps.old steps.new }
@@ -119,11 +184,7 @@ fn item<K: Plain, V: Plain>(heap: &Heap, node: u64) -> Option<(K, V)>
 }
 
 /// The key and the value of what a search has found. What it took is counted here.
-pub fn read_found<K: Plain, V: Plain>(
-    heap: &Heap,
-    found: Found,
-    steps: &mut Steps,
-) -> Option<(K, V)>
+fn read_found<K: Plain, V: Plain>(heap: &Heap, found: Found, steps: &mut Steps) -> Option<(K, V)>
     requires { IfSome found.node (λ n. IsTrue (has_room (live_of heap.now.bytes) n (16 + K.SIZE + V.SIZE))) }
     ensures item { result ≡ option_and_then (item_at K.Plain V.Plain (bytes_of heap.now.bytes)) found.node }
     ensures steps { steps.new ≡ steps.old + found.steps + reading_steps found.node }

@@ -1,13 +1,10 @@
 //! Ordered maps at a place in a heap, with a block for each pair.
-#![tactic(auto, using(crate::proofs::Payloads::rooms))]
+#![tactic(auto, using(crate::proofs::PairSteps::rooms))]
 
-mod erasing;
 mod finding;
-mod heading;
 mod linking;
 mod maps;
 mod nodes;
-mod owned;
 mod places;
 mod putting;
 mod reading;

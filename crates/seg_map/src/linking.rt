@@ -1,16 +1,70 @@
-//! Nodes that enter and leave the tree of a map.
-ghost use Rattle.std.specs.Prelude.{◌≡◌, ◌-◌, ◌≤◌, Some, None};
+//! Nodes that enter and leave the tree of a map, and the three words that say so.
+ghost use Rattle.std.specs.Prelude.{◌≡◌, ◌+◌, ◌-◌, ◌%◌, ◌≤◌, Some, None, IfSome, IsTrue};
 ghost use Rattle.link_tree.specs.Nodes.{put, without};
+ghost use Rattle.best_fit.specs.{Extents.is_proper, Heap.has_room, Heap.heap_touches, Heap.live_of};
 ghost use Rattle.seg_map.specs.PairNodes.{comes_before, own_nodes};
 ghost use Rattle.seg_map.specs.Linking.{CanLink, CanUnlink, Relinked, keys_in};
+ghost use Rattle.seg_map.specs.Changing.{CanGiveUp, CanPutIn, Drops, IsHeaded, PutsIn, TreeSteps};
 
-use crate::nodes::Pairs;
-use crate::owned::Own;
+use crate::maps::SegMap;
+use crate::nodes::{Own, Pairs};
+use crate::places::Place;
 use best_fit::Heap;
 use link_tree::{insert_at, remove_at};
 use raw_region::Steps;
 use seg_types::Plain;
 use std::marker::PhantomData;
+
+/// Where the number of pairs stands behind the link, and the word that is 0.
+pub const COUNT: u64 = 8;
+
+const THIRD: u64 = 16;
+
+/// Writes the three words of a map: the link to the root, the number of pairs, and 0.
+pub fn write_head(heap: &mut Heap, place: Place, root: Option<u64>, count: u64)
+    requires aligned { place.at % 8 ≡ 0 }
+    requires proper { IsTrue (is_proper (live_of heap.old.bytes)) }
+    requires room { IsTrue (has_room (live_of heap.old.bytes) place.handle (place.at + 24)) }
+    requires root { IfSome root (λ node. node % 16 ≡ 0) }
+    ensures { IsHeaded heap.old heap.new (place.handle + place.at) root count }
+{
+    heap.set_link(place.handle, place.at, root);
+    heap.set_word(place.handle, place.at + COUNT, count);
+    heap.set_word(place.handle, place.at + THIRD, 0);
+}
+
+impl<K: Plain, V: Plain> SegMap<K, V> {
+    /// Takes a pair out of the map, from the root of the tree on or from where a search has found that it changes, and
+    /// gives its block back.
+    #[tactic(auto, using(crate::proofs::PairSteps::rooms, crate::proofs::Staying::trees))]
+    pub(crate) fn give_up(self, heap: &mut Heap, start: Option<u64>, node: u64, steps: &mut Steps)
+        requires { CanGiveUp K.Plain V.Plain heap.old self.place.handle self.place.at start node }
+        ensures dropped { Drops K.Plain V.Plain heap.old heap.new self.place.handle self.place.at node }
+        ensures counted { steps.old ≤ steps.new }
+        ensures steps { TreeSteps K.Plain V.Plain heap.old self.place.handle self.place.at
+            (heap_touches (live_of heap.old.bytes)) steps.old steps.new }
+    {
+        let root = heap.link(self.place.handle, self.place.at);
+        let count = self.len(&*heap);
+        let top = unlink::<K>(heap, root, start, node, steps);
+        write_head(heap, self.place, top, count - 1);
+        heap.deallocate(node, steps);
+    }
+
+    /// Puts a pair into the map, whose node is made, from where the search for its key has found that the tree changes.
+    #[tactic(auto, using(crate::proofs::PairSteps::rooms, crate::proofs::Staying::trees))]
+    pub(crate) fn put_in(self, heap: &mut Heap, start: Option<u64>, node: u64, steps: &mut Steps)
+        requires { CanPutIn K.Plain V.Plain heap.old self.place.handle self.place.at start node }
+        ensures planted { PutsIn K.Plain V.Plain heap.old heap.new self.place.handle self.place.at node }
+        ensures counted { steps.old ≤ steps.new }
+        ensures steps { TreeSteps K.Plain V.Plain heap.old self.place.handle self.place.at 0 steps.old steps.new }
+    {
+        let root = heap.link(self.place.handle, self.place.at);
+        let count = self.len(&*heap);
+        let top = link::<K>(heap, root, start, node, steps);
+        write_head(heap, self.place, top, count + 1);
+    }
+}
 
 /// The pairs that a link leads to, and one node more, lent to a call of the tree.
 fn lend<'a, K: Plain>(
@@ -33,7 +87,7 @@ fn lend<'a, K: Plain>(
 
 /// Takes a node out of the tree that a link leads to, from the root on or from where a search has found that its
 /// removal begins, and answers the new root.
-pub fn unlink<K: Plain>(
+fn unlink<K: Plain>(
     heap: &mut Heap,
     root: Option<u64>,
     start: Option<u64>,
@@ -53,7 +107,7 @@ pub fn unlink<K: Plain>(
 
 /// Puts a node into the tree that a link leads to, from the root on or from where a search has found that its
 /// insertion begins, and answers the new root.
-pub fn link<K: Plain>(
+fn link<K: Plain>(
     heap: &mut Heap,
     root: Option<u64>,
     start: Option<u64>,

@@ -1,17 +1,14 @@
 //! Maps from values of a fixed number of bytes to such values.
-ghost use Rattle.std.specs.Prelude.{◌≡◌, ◌+◌, ◌%◌, ◌≤◌, IsTrue, true, false};
+ghost use Rattle.std.specs.Prelude.{◌≡◌, ◌+◌, ◌%◌, ◌≤◌, IsTrue, false};
 ghost use Rattle.best_fit.specs.{Extents.is_proper, Heap.has_room, Heap.live_of};
 ghost use Rattle.seg_map.specs.Changing.{ChangeSteps, CountsPairs, Erases, IsNew, Puts, Releases};
-ghost use Rattle.seg_map.specs.Places.{FindsItem, FindsItemBefore, FindsLastItem, FindsValue, IsSomeMap, SearchSteps};
-ghost use Rattle.seg_map.specs.Searches.{LastTakes, LookBackTakes, LookUpTakes};
+ghost use Rattle.seg_map.specs.Places.{IsSomeMap};
 
-use crate::finding::read_found;
-use crate::heading::{COUNT, write_head};
+use crate::linking::{COUNT, write_head};
 use crate::places::Place;
 use crate::putting::{make_node, write_value};
-use crate::reading::{KEY, Sought};
+use crate::reading::KEY;
 use best_fit::{Heap, NoSpace};
-use link_tree::find_last;
 use raw_region::Steps;
 use seg_types::Plain;
 use std::marker::PhantomData;
@@ -58,83 +55,6 @@ impl<K: Plain, V: Plain> SegMap<K, V> {
         ensures { CountsPairs K.Plain V.Plain heap.now.bytes self.place.handle self.place.at result }
     {
         heap.word(self.place.handle, self.place.at + COUNT)
-    }
-
-    /// The value of a key.
-    pub fn get(self, heap: &Heap, key: K, steps: &mut Steps) -> Option<V>
-        requires { IsSomeMap K.Plain V.Plain heap.now.bytes self.place.handle self.place.at }
-        ensures value { FindsValue K.Plain V.Plain heap.now.bytes self.place.handle self.place.at key result }
-        ensures counted { steps.old ≤ steps.new }
-        ensures steps { SearchSteps K.Plain V.Plain heap.now.bytes self.place 1 steps.old steps.new }
-        ensures exact { LookUpTakes K.Plain V.Plain heap.now self.place false key steps.old steps.new }
-    {
-        let (found, value) = self.first_from(heap, key, steps)?;
-        if key.precedes(found) {
-            None
-        } else {
-            Some(value)
-        }
-    }
-
-    /// The key and the value of the pair with the least key that is not below `key`.
-    pub fn first_from(self, heap: &Heap, key: K, steps: &mut Steps) -> Option<(K, V)>
-        requires { IsSomeMap K.Plain V.Plain heap.now.bytes self.place.handle self.place.at }
-        ensures item { FindsItem K.Plain V.Plain heap.now.bytes self.place.handle self.place.at false key result }
-        ensures counted { steps.old ≤ steps.new }
-        ensures steps { SearchSteps K.Plain V.Plain heap.now.bytes self.place 1 steps.old steps.new }
-        ensures exact { LookUpTakes K.Plain V.Plain heap.now self.place false key steps.old steps.new }
-    {
-        let from = Sought { key, past: false };
-        self.find_from(heap, &from, steps)
-    }
-
-    /// The key and the value of the pair with the least key above `key`.
-    pub fn next_after(self, heap: &Heap, key: K, steps: &mut Steps) -> Option<(K, V)>
-        requires { IsSomeMap K.Plain V.Plain heap.now.bytes self.place.handle self.place.at }
-        ensures item { FindsItem K.Plain V.Plain heap.now.bytes self.place.handle self.place.at true key result }
-        ensures counted { steps.old ≤ steps.new }
-        ensures steps { SearchSteps K.Plain V.Plain heap.now.bytes self.place 1 steps.old steps.new }
-        ensures exact { LookUpTakes K.Plain V.Plain heap.now self.place true key steps.old steps.new }
-    {
-        let above = Sought { key, past: true };
-        self.find_from(heap, &above, steps)
-    }
-
-    /// The key and the value of the pair with the greatest key.
-    pub fn last(self, heap: &Heap, steps: &mut Steps) -> Option<(K, V)>
-        requires { IsSomeMap K.Plain V.Plain heap.now.bytes self.place.handle self.place.at }
-        ensures item { FindsLastItem K.Plain V.Plain heap.now.bytes self.place.handle self.place.at result }
-        ensures counted { steps.old ≤ steps.new }
-        ensures steps { SearchSteps K.Plain V.Plain heap.now.bytes self.place 1 steps.old steps.new }
-        ensures exact { LastTakes K.Plain V.Plain heap.now self.place steps.old steps.new }
-    {
-        let pairs = self.open(heap);
-        let found = find_last(&pairs, pairs.root);
-        read_found(heap, found, steps)
-    }
-
-    /// The key and the value of the pair with the greatest key that is not above `key`.
-    pub fn last_up_to(self, heap: &Heap, key: K, steps: &mut Steps) -> Option<(K, V)>
-        requires { IsSomeMap K.Plain V.Plain heap.now.bytes self.place.handle self.place.at }
-        ensures item { FindsItemBefore K.Plain V.Plain heap.now.bytes self.place.handle self.place.at true key result }
-        ensures counted { steps.old ≤ steps.new }
-        ensures steps { SearchSteps K.Plain V.Plain heap.now.bytes self.place 1 steps.old steps.new }
-        ensures exact { LookBackTakes K.Plain V.Plain heap.now self.place true key steps.old steps.new }
-    {
-        let up_to = Sought { key, past: true };
-        self.find_before(heap, &up_to, steps)
-    }
-
-    /// The key and the value of the pair with the greatest key below `key`.
-    pub fn previous_before(self, heap: &Heap, key: K, steps: &mut Steps) -> Option<(K, V)>
-        requires { IsSomeMap K.Plain V.Plain heap.now.bytes self.place.handle self.place.at }
-        ensures item { FindsItemBefore K.Plain V.Plain heap.now.bytes self.place.handle self.place.at false key result }
-        ensures counted { steps.old ≤ steps.new }
-        ensures steps { SearchSteps K.Plain V.Plain heap.now.bytes self.place 1 steps.old steps.new }
-        ensures exact { LookBackTakes K.Plain V.Plain heap.now self.place false key steps.old steps.new }
-    {
-        let below = Sought { key, past: false };
-        self.find_before(heap, &below, steps)
     }
 
     /// Puts the value of a key, and answers whether the key is new. All other pairs keep their blocks, and so does this

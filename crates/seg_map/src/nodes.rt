@@ -6,12 +6,12 @@ ghost use Rattle.seg_map.specs.PairNodes.{Kept as WhatStays, comes_before, is_pa
 ghost use Rattle.seg_map.specs.PairLaws.{comes_agrees, comes_irreflexive, comes_transitive, pairs_finite, pairs_left};
 ghost use Rattle.seg_map.specs.{Linking.keys_in, PairNodes.stands_before, PairLaws.pairs_right};
 
-use crate::owned::Own;
 use crate::reading::{KEY, Sought, is_before, is_below, value_at};
 use best_fit::{Heap, RIGHT};
 use link_tree::{Nodes, NodesMut};
+use raw_region::Snapshot;
 use seg_types::Plain;
-use std::marker::PhantomData;
+use std::marker::{Model, PhantomData};
 
 /// A heap that is lent to a call of the tree, to be read or to be changed.
 pub trait Lent {
@@ -43,6 +43,40 @@ impl Lent for &mut Heap {
     #[inline(always)]
     fn heap(&self) -> &Heap {
         self
+    }
+}
+
+/// The nodes of one map: those of the tree that led from a link when it was made, and one more. What is written since
+/// does not change which they are.
+#[derive(Drop)]
+pub struct Own {
+    then: Snapshot,
+    root: Option<u64>,
+    spare: Option<u64>,
+}
+
+impl Model for Own {
+    ghost use Rattle.std.specs.Prelude.{ℕ, List};
+    ghost use Rattle.seg_map.specs.PairNodes.{own_nodes};
+
+    ghost Value = { List ℕ };
+
+    ghost view = { λ o. own_nodes o.then o.root o.spare };
+}
+
+impl Own {
+    ghost use Rattle.std.specs.Prelude.{◌≡◌};
+    ghost use Rattle.seg_map.specs.PairNodes.{own_nodes};
+
+    /// The nodes that are reached from `root`, and the one that is to join them.
+    pub fn new(heap: &Heap, root: Option<u64>, spare: Option<u64>) -> Own
+        ensures { result ≡ own_nodes heap.now.bytes root spare }
+    {
+        Own {
+            then: Snapshot::take(heap.as_bytes()),
+            root,
+            spare,
+        }
     }
 }
 

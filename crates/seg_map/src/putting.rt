@@ -2,11 +2,8 @@
 ghost use Rattle.std.specs.Prelude.{◌≡◌, ◌+◌, ◌≤◌, IsTrue, true};
 ghost use Rattle.raw_region.specs.{Format.current, Memory.Has, Memory.bytes_of};
 ghost use Rattle.best_fit.specs.Heap.{IsChanged, has_room, heap_touches, live_of};
-ghost use Rattle.seg_map.specs.Changing.{CanPutIn, Makes, PutsIn, TreeSteps};
+ghost use Rattle.seg_map.specs.Changing.{Makes};
 
-use crate::heading::write_head;
-use crate::linking::link;
-use crate::maps::SegMap;
 use crate::reading::KEY;
 use best_fit::{Heap, NoSpace, RIGHT};
 use block_tags::Role;
@@ -68,20 +65,4 @@ pub fn make_node<K: Plain, V: Plain>(
     write_value::<K>(heap, node, KEY, key);
     write_value::<V>(heap, node, KEY + K::SIZE, value);
     Ok(node)
-}
-
-impl<K: Plain, V: Plain> SegMap<K, V> {
-    /// Puts a pair into the map, whose node is made, from where the search for its key has found that the tree changes.
-    #[tactic(auto, using(crate::proofs::Payloads::rooms, crate::proofs::Rewriting::trees))]
-    pub(crate) fn put_in(self, heap: &mut Heap, start: Option<u64>, node: u64, steps: &mut Steps)
-        requires { CanPutIn K.Plain V.Plain heap.old self.place.handle self.place.at start node }
-        ensures planted { PutsIn K.Plain V.Plain heap.old heap.new self.place.handle self.place.at node }
-        ensures counted { steps.old ≤ steps.new }
-        ensures steps { TreeSteps K.Plain V.Plain heap.old self.place.handle self.place.at 0 steps.old steps.new }
-    {
-        let root = heap.link(self.place.handle, self.place.at);
-        let count = self.len(&*heap);
-        let top = link::<K>(heap, root, start, node, steps);
-        write_head(heap, self.place, top, count + 1);
-    }
 }

@@ -42,12 +42,7 @@ pub fn is_before<K: Plain>(key: Option<K>, sought: &Sought<K>) -> bool
 {
     match key {
         None => false,
-        Some(key) => {
-            if sought.past {
-                !sought.key.precedes(key)
-            } else {
-                key.precedes(sought.key)
-            }
-        }
+        Some(key) if sought.past => !sought.key.precedes(key),
+        Some(key) => key.precedes(sought.key),
     }
 }

@@ -1,6 +1,5 @@
 -- What is known of the nodes is known of the heap.
-use Rattle.seg_map.proofs.{fewer, relinked}
-use Rattle.std.proofs.Common.{rules}
+use Rattle.seg_map.proofs.{fewer, relinked, rules}
 use Rattle.seg_map.proofs.linking.link.Goals as goal
 
 pub insert_at-changed-requires : goal.insert_at-changed-requires

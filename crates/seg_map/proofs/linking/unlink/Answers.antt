@@ -1,6 +1,5 @@
 -- What is known of the nodes is known of the heap.
-use Rattle.seg_map.proofs.{relinked}
-use Rattle.std.proofs.Common.{ℕ, ◌+◌, ◌*◌, ◌≤◌, arith, rules}
+use Rattle.seg_map.proofs.{relinked, ℕ, ◌+◌, ◌*◌, ◌≤◌, arith, rules}
 use Rattle.seg_map.proofs.linking.unlink.Goals as goal
 
 fewer : (n b : ℕ) → n ≤ 30 * b + 32 → n ≤ 32 * b + 32

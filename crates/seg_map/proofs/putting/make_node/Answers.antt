@@ -1,6 +1,6 @@
 -- The links, the key and the value are written one after another.
-use Rattle.seg_map.proofs.{current, Node, IsAllocated, node_len, laws, made}
-use Rattle.seg_map.proofs.{putting.make_node.Given.Over, putting.make_node.Goals.In_ok-node}
+use Rattle.seg_map.proofs.{current, Node, IsAllocated, node_len, laws, made, putting.make_node.Goals.In_ok-node}
+use Rattle.seg_map.proofs.putting.make_node.Given.{Over}
 use Rattle.seg_map.proofs.putting.make_node.Goals as goal
 
 -- the block is as long as a node

@@ -1,6 +1,6 @@
 -- What was taken goes back.
 use Rattle.seg_index.proofs.{ℕ, sym, subst, Option, IfSome, current, Cut, IsAllocated, Keeps, LaysOut, live_of}
-use Rattle.block_tags.specs.declared.tile.Role.TheVariants.{Index as IndexRole}
+use Rattle.seg_index.proofs.{IndexRole}
 use Rattle.best_fit.proofs.Laws.{taken-back}
 use Rattle.seg_index.proofs.index.Index.give_back.Goals as goal
 
@@ -10,5 +10,5 @@ returns-in-Some-clause-restored c =
     subst (λ (o : Option ℕ). IfSome o (λ h. (before : Cut) (n : ℕ) → IsAllocated current before A n IndexRole h
     → LaysOut current B.bytes (live_of before.bytes) × Keeps before B (live_of before.bytes).extents))
     (sym c.in-Some.is)
-    (λ before n a. let b = taken-back before A B n c.in-Some.block IndexRole a c.deallocate.ensures.released in
+    (λ before n a. let b = taken-back before A B n c.in-Some.taken IndexRole a c.deallocate.ensures.released in
     (b.laid, b.keeps))

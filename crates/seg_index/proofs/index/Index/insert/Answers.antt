@@ -1,6 +1,6 @@
 -- The links behind the place make way.
-use Rattle.seg_index.proofs.{◌-◌, ◌*◌, subst, arith, current, LiveSet, LaysOut, same_live}
-use Rattle.seg_index.proofs.{has_places, in_header, links_lead, block_and_count, inserted}
+use Rattle.seg_index.proofs.{◌-◌, ◌*◌, subst, arith, current, LiveSet, LaysOut, same_live, has_places, in_header}
+use Rattle.seg_index.proofs.{links_lead, block_and_count, inserted}
 use Rattle.seg_index.proofs.index.Index.insert.Goals as goal
 
 pub spread-requires-clause-links : goal.spread-requires-clause-links

@@ -1,8 +1,8 @@
 -- The links are put round the new one, and then the block is the index's.
 use Rattle.seg_index.proofs.{◌≡◌, ap, ap₂, refl, sym, subst, ◌∙◌, ◌+◌, ◌-◌, ◌*◌, ◌%◌, arith, insert, length-insert}
-use Rattle.seg_index.proofs.{current, LiveSet, LaysOut, IsBlockFor, without_link, grown_capacity}
-use Rattle.seg_index.proofs.{same_live, capacity_small, in_header, insert_all, links_lead, filled, index_in, offer}
-use Rattle.seg_index.proofs.{source, target, written, written_both, written_keeps}
+use Rattle.seg_index.proofs.{current, LiveSet, LaysOut, IsBlockFor, without_link, grown_capacity, same_live}
+use Rattle.seg_index.proofs.{capacity_small, in_header, insert_all, links_lead, filled, index_in, offer, source, target}
+use Rattle.seg_index.proofs.{written, written_both, written_keeps}
 use Rattle.seg_index.proofs.index.Index.insert_into.Goals as goal
 
 pub shift_non_null_links-requires : goal.shift_non_null_links-requires

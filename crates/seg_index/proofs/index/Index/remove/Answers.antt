@@ -1,6 +1,6 @@
 -- The links behind the place close up.
-use Rattle.seg_index.proofs.{◌≡◌, ◌+◌, ◌-◌, ◌*◌, subst, arith, current, bytes_of, AllLead, LiveSet, LaysOut}
-use Rattle.seg_index.proofs.{same_live, has_places, in_header, links_lead, block_and_count, removed}
+use Rattle.seg_index.proofs.{◌≡◌, ◌+◌, ◌-◌, ◌*◌, subst, arith, current, bytes_of, AllLead, LiveSet, LaysOut, same_live}
+use Rattle.seg_index.proofs.{has_places, in_header, links_lead, block_and_count, removed}
 use Rattle.seg_index.proofs.index.Index.remove.Goals as goal
 
 pub shift_non_null_links-requires-clause-links : goal.shift_non_null_links-requires-clause-links

@@ -3,11 +3,10 @@ use Rattle.seg_index.proofs.{◌≡◌, ap, ap₂, refl, sym, subst, ◌∙◌, 
 use Rattle.seg_index.proofs.{current, Extent, LiveSet, added, place, LaysOut, extent_at, heap_touches, live_of}
 use Rattle.seg_index.proofs.{allocated-live, without_link, IsIndexOf, capacity_at, place_of, same_live, in_header}
 use Rattle.seg_index.proofs.{links_lead, asked, is_found, meant, moved, source, taken_keeps, taken_offer, target}
-use Rattle.seg_index.proofs.{written, written_keeps}
-use Rattle.std.proofs.lemmas.Result.{MatchResult-from_err}
-use Rattle.block_tags.specs.declared.tile.Role.TheVariants.{Index as IndexRole}
-use Rattle.best_fit.specs.Heap.{IsRefused}
+use Rattle.seg_index.proofs.{written, written_keeps, IndexRole}
 use Rattle.seg_index.specs.Capacities.{IsRoomy}
+use Rattle.std.proofs.lemmas.Result.{MatchResult-from_err}
+use Rattle.best_fit.specs.Heap.{IsRefused}
 use Rattle.seg_index.proofs.index.Index.reserve.Goals as goal
 
 pub returns-in_err-block-clause-reserved : goal.returns-in_err-block-clause-reserved

@@ -1,8 +1,8 @@
 -- The words lead to the block, and the old one goes.
 use Rattle.seg_index.proofs.{◌≡◌, ap, sym, subst, ◌∙◌, ◌+◌, ◌≤◌, arith, current, LiveSet, released, LaysOut}
-use Rattle.seg_index.proofs.{heap_touches, live_of, KeepsRest, unlinked, without_link, place_of, same_live}
-use Rattle.seg_index.proofs.{in_header, leads_from, keeps_words, block_whole, gone, headed, headed_released_keeps}
-use Rattle.seg_index.proofs.{settled, settled_released}
+use Rattle.seg_index.proofs.{heap_touches, live_of, KeepsRest, unlinked, without_link, place_of, same_live, in_header}
+use Rattle.seg_index.proofs.{leads_from, keeps_words, block_whole, gone, headed, headed_released_keeps, settled}
+use Rattle.seg_index.proofs.{settled_released}
 use Rattle.seg_index.proofs.index.Index.settle.Goals as goal
 
 pub set_header_link-requires-clause-target : goal.set_header_link-requires-clause-target

@@ -11,7 +11,7 @@ give_up-requires g c =
       key = c.args.key;
       pair = k.pair;
       map = s;
-      found = k.is;
+      found = k.holds;
       is = k.at;
       begins = begun trace.result.node trace.result.start c.in-Some.node
           (λ n. exit_in g.K.Plain c.args.heap.now n s.map.tree.tree) c.in-Some.is (trace.ensures.exit ps s);
@@ -25,7 +25,7 @@ returns-in_default-clause-erased g c =
 pub returns-clause-erased : goal.returns-clause-erased
 returns-clause-erased g c = λ ps s.
     let k = key_at_node c.find_out-trace.ensures.found s c.in-Some.is in
-    rw k.is (refl, c.give_up.ensures.dropped ps c.args.key k.pair s k.is k.at)
+    rw k.holds (refl, c.give_up.ensures.dropped ps c.args.key k.pair s k.holds k.at)
 
 pub returns-clause-steps : goal.returns-clause-steps
 returns-clause-steps g c = λ ps s.

@@ -1,13 +1,13 @@
 -- The value of a key that is there is written over; else a node is made, and enters the map.
 use Rattle.seg_map.proofs.{◌≡◌, refl, sym, ◌+◌, arith, true, None, handle, laws, key_absent, key_at_node, is_put_again}
-use Rattle.seg_map.proofs.{value_room, entry_there, is_put, loose, map_there}
+use Rattle.seg_map.proofs.{value_room, is_put, map_there, can_put_in}
 use Rattle.seg_map.proofs.maps.SegMap.put.Goals as goal
 
 pub write_value-requires : goal.write_value-requires
 write_value-requires g c =
     let ps = c.requires.0 in let s = c.requires.1 in
     let k = key_at_node c.find_in-trace.ensures.found s c.in-Some.is in
-    rw (← k.at, c.SIZE.ensures) (value_room c.args.heap.now s c.args.key k.is)
+    rw (← k.at, c.SIZE.ensures) (value_room c.args.heap.now s c.args.key k.holds)
 
 pub returns-in-Some-clause-put : goal.returns-in-Some-clause-put
 returns-in-Some-clause-put g c = λ ps s.
@@ -16,9 +16,9 @@ returns-in-Some-clause-put g c = λ ps s.
     let place : c.in-Some.node + (16 + c.SIZE.result) ≡ handle k.pair.node + (16 + g.K.Plain.SIZE) =
     (λ i. sym k.at i + (16 + c.SIZE.ensures i)) in
     let one : g.K.Plain.is_value c.args.key ≡ true = rw c.in-Some.is at c.find_in-trace.ensures.value in
-    rw k.is (
+    rw k.holds (
       refl,
-      is_put_again w s c.args.key k.is (laws g.met.K.Plain) (laws g.met.V.Plain) g.met.K.Plain.total c.args.value one
+      is_put_again w s c.args.key k.holds (laws g.met.K.Plain) (laws g.met.V.Plain) g.met.K.Plain.total c.args.value one
           written.value
           (rw place at written.change)
           (rw place at written.content),
@@ -27,31 +27,18 @@ returns-in-Some-clause-put g c = λ ps s.
 pub put_in-requires : goal.put_in-requires
 put_in-requires g c =
     let none : c.find_in-trace.result.node ≡ None = cc in
-    let ps = c.requires.0 in let s = c.requires.1 in let m = c.in_ok-node.ensures.made in
-    let absent = key_absent c.find_in-trace.ensures.found s none in
-    record {
-      there = record {
-        pairs = ps;
-        pair = record { key = c.args.key; value = c.args.value; node = m.block.extent };
-        map = map_there (laws g.met.K.Plain) (laws g.met.V.Plain) s absent m;
-        loose = loose (laws g.met.K.Plain) (laws g.met.V.Plain) s absent m;
-        is = sym m.block.at;
-      };
-      begins = entry_there (laws g.met.K.Plain) (laws g.met.V.Plain) s absent m (c.find_in-trace.ensures.entry ps s);
-    }
+    let s = c.requires.1 in let absent = key_absent c.find_in-trace.ensures.found s none in
+    can_put_in (laws g.met.K.Plain) (laws g.met.V.Plain) s absent c.in_ok-node.ensures.made
+    (c.find_in-trace.ensures.entry c.requires.0 s)
 
 pub returns-clause-put : goal.returns-clause-put
 returns-clause-put g c =
     let none : c.find_in-trace.result.node ≡ None = cc in
     λ ps s.
-    let m = c.in_ok-node.ensures.made in
     let absent = key_absent c.find_in-trace.ensures.found s none in
     rw absent (
       refl,
-      is_put (laws g.met.K.Plain) (laws g.met.V.Plain) s absent m
-          (c.put_in.ensures.planted ps (record { key = c.args.key; value = c.args.value; node = m.block.extent })
-          (map_there (laws g.met.K.Plain) (laws g.met.V.Plain) s absent m)
-          (loose (laws g.met.K.Plain) (laws g.met.V.Plain) s absent m) (sym m.block.at)),
+      is_put (laws g.met.K.Plain) (laws g.met.V.Plain) s absent c.in_ok-node.ensures.made c.put_in.ensures.planted,
     )
 
 pub returns-clause-steps : goal.returns-clause-steps

@@ -1,0 +1,70 @@
+-- Each turn halves what is left, and compares one key.
+use Rattle.seg_index.proofs.{◌≡◌, ◌+◌, ap, refl, sym, subst, ◌∙◌, ◌≤◌, arith, bytes_of, bits, HasEntry, middle}
+use Rattle.seg_index.proofs.{order_at, IsLeft, entry_of, left_down, left_first, left_found, left_none, left_up}
+use Rattle.seg_index.proofs.{comparing.search.Goals.After-compare, bits_few}
+use Rattle.seg_index.specs.{declared.comparing.Comparisons.Comparisons, Beginnings.key_front}
+use Rattle.seg_index.proofs.comparing.search.Goals as goal
+
+pub halves-init : goal.halves-init
+halves-init c =
+    let a = c.args.comparisons.now in record {
+      same = refl;
+      left = subst (λ k. IsLeft a.heap.now a.key a.block c.args.count 0 c.args.count k) (sym c.requires.none)
+          (left_first a.heap.now a.key a.block c.args.count);
+    }
+
+pub compare-requires : goal.compare-requires
+compare-requires c =
+    let i = c.halves.invariant in let few = i.left.few in let most = bits_few c.args.count c.requires.few in
+    let within = i.left.within in
+    let entry = entry_of (middle c.halves.low c.halves.high) c.requires.keys (omega arith) in
+    record {
+      entry = subst (λ (s : Comparisons). HasEntry s.heap.now s.key s.block (middle c.halves.low c.halves.high))
+          (sym i.same) entry;
+      front = subst (λ (s : Comparisons). s.front ≡ key_front s.key) (sym i.same) c.requires.front;
+      room = omega arith;
+    }
+
+-- how the compared key stands, and what is known of the comparisons then
+stands : (c : After-compare) → order_at (bytes_of c.args.comparisons.now.heap.now.bytes) c.args.comparisons.now.key
+    c.args.comparisons.now.block (middle c.halves.low c.halves.high) ≡ c.compare.result
+stands c =
+    subst (λ (s : Comparisons). order_at (bytes_of s.heap.now.bytes) s.key s.block (middle c.halves.low c.halves.high)
+    ≡ c.compare.result) c.halves.invariant.same (sym c.compare.ensures.order)
+
+still : (c : After-compare) → c.compare.new.self ≡ record c.args.comparisons.now { count = c.compare.new.self.count }
+still c =
+    let counting = λ (s : Comparisons). record s { count = c.compare.new.self.count } in
+    ap counting c.compare.ensures.counted ∙ ap counting c.halves.invariant.same
+
+pub halves-preserved-in-Less : goal.halves-preserved-in-Less
+halves-preserved-in-Less c =
+    let a = c.args.comparisons.now in let after = (goal.at.halves-preserved-in-Less c).After-compare in
+    record {
+      same = still after;
+      left = subst (λ k. IsLeft a.heap.now a.key a.block c.args.count (middle c.halves.low c.halves.high + 1)
+          c.halves.high k) (sym (ap (λ (s : Comparisons). s.count) c.compare.ensures.counted))
+          (left_up c.requires.keys c.halves.invariant.left c.halves-test.true (stands after ∙ c.in-Less.is));
+    }
+
+pub halves-preserved : goal.halves-preserved
+halves-preserved c =
+    let a = c.args.comparisons.now in let after = (goal.at.halves-preserved c).After-compare in
+    record {
+      same = still after;
+      left = subst (λ k. IsLeft a.heap.now a.key a.block c.args.count c.halves.low (middle c.halves.low c.halves.high)
+          k) (sym (ap (λ (s : Comparisons). s.count) c.compare.ensures.counted))
+          (left_down c.requires.keys c.halves.invariant.left c.halves-test.true (stands after ∙ c.in-Greater.is));
+    }
+
+pub returns-in-Equal : goal.returns-in-Equal
+returns-in-Equal c =
+    let is = stands (goal.at.returns-in-Equal c).After-compare ∙ c.in-Equal.is in
+    let r = left_found c.halves.invariant.left c.halves-test.true is in
+    let e = ap (λ (s : Comparisons). s.count) c.compare.ensures.counted in
+    record { place = r.place; count = subst (λ k. k ≤ bits c.args.count) (sym e) r.few; exact = e ∙ r.exact }
+
+pub returns : goal.returns
+returns c =
+    let r = left_none c.halves.invariant.left c.halves-test.false in
+    record { place = r.place; count = r.few; exact = r.exact }

@@ -1,5 +1,5 @@
 //! Nodes that enter and leave the tree of a map, and the three words that say so.
-ghost use Rattle.std.specs.Prelude.{◌≡◌, ◌+◌, ◌-◌, ◌%◌, ◌≤◌, Some, None, IfSome, IsTrue};
+ghost use Rattle.std.specs.Prelude.{◌≡◌, ◌+◌, ◌-◌, ◌%◌, ◌<◌, ◌≤◌, Some, None, IfSome, IsTrue};
 ghost use Rattle.link_tree.specs.Nodes.{put, without};
 ghost use Rattle.best_fit.specs.{Extents.is_proper, Heap.has_room, Heap.heap_touches, Heap.live_of};
 ghost use Rattle.seg_map.specs.PairNodes.{comes_before, own_nodes};
@@ -40,7 +40,7 @@ impl<K: Plain, V: Plain> SegMap<K, V> {
     pub(crate) fn give_up(self, heap: &mut Heap, start: Option<u64>, node: u64, steps: &mut Steps)
         requires { CanGiveUp K.Plain V.Plain heap.old self.place.handle self.place.at start node }
         ensures dropped { Drops K.Plain V.Plain heap.old heap.new self.place.handle self.place.at node }
-        ensures counted { steps.old ≤ steps.new }
+        ensures counted { steps.old < steps.new }
         ensures steps { TreeSteps K.Plain V.Plain heap.old self.place.handle self.place.at
             (heap_touches (live_of heap.old.bytes)) steps.old steps.new }
     {
@@ -56,7 +56,7 @@ impl<K: Plain, V: Plain> SegMap<K, V> {
     pub(crate) fn put_in(self, heap: &mut Heap, start: Option<u64>, node: u64, steps: &mut Steps)
         requires { CanPutIn K.Plain V.Plain heap.old self.place.handle self.place.at start node }
         ensures planted { PutsIn K.Plain V.Plain heap.old heap.new self.place.handle self.place.at node }
-        ensures counted { steps.old ≤ steps.new }
+        ensures counted { steps.old < steps.new }
         ensures steps { TreeSteps K.Plain V.Plain heap.old self.place.handle self.place.at 0 steps.old steps.new }
     {
         let root = heap.link(self.place.handle, self.place.at);
@@ -95,7 +95,7 @@ fn unlink<K: Plain>(
     steps: &mut Steps,
 ) -> Option<u64>
     requires { CanUnlink K.Plain (own_nodes heap.old.bytes root None) heap.old root start node }
-    ensures counted { steps.old ≤ steps.new }
+    ensures counted { steps.old < steps.new }
     ensures change { Relinked K.Plain (own_nodes heap.old.bytes root None) heap.old heap.new root result
         (without node) (steps.new - steps.old) }
 {
@@ -115,7 +115,7 @@ fn link<K: Plain>(
     steps: &mut Steps,
 ) -> Option<u64>
     requires { CanLink K.Plain (own_nodes heap.old.bytes root (Some node)) heap.old root start node }
-    ensures counted { steps.old ≤ steps.new }
+    ensures counted { steps.old < steps.new }
     ensures change { Relinked K.Plain (own_nodes heap.old.bytes root (Some node)) heap.old heap.new root result
         (put (comes_before K.order (keys_in K.Plain (own_nodes heap.old.bytes root (Some node)) heap.old)) node)
         (steps.new - steps.old) }

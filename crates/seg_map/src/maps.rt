@@ -1,5 +1,5 @@
 //! Maps from values of a fixed number of bytes to such values.
-ghost use Rattle.std.specs.Prelude.{◌≡◌, ◌+◌, ◌%◌, ◌≤◌, IsTrue, false};
+ghost use Rattle.std.specs.Prelude.{◌≡◌, ◌+◌, ◌%◌, ◌<◌, ◌≤◌, IfOk, IsTrue, false, true};
 ghost use Rattle.best_fit.specs.{Extents.is_proper, Heap.has_room, Heap.live_of};
 ghost use Rattle.seg_map.specs.Changing.{ChangeSteps, CountsPairs, Erases, IsNew, Puts, Releases};
 ghost use Rattle.seg_map.specs.Places.{IsSomeMap};
@@ -68,6 +68,7 @@ impl<K: Plain, V: Plain> SegMap<K, V> {
         ensures put { Puts K.Plain V.Plain heap.old heap.new self.place.handle self.place.at key value result }
         ensures counted { steps.old ≤ steps.new }
         ensures steps { ChangeSteps K.Plain V.Plain heap.old self.place.handle self.place.at steps.old steps.new }
+        ensures went { IfOk result (λ new. new ≡ true → steps.old < steps.new) }
     {
         let trace = self.find_in(&*heap, key, steps);
         if let Some(node) = trace.node {
@@ -86,6 +87,7 @@ impl<K: Plain, V: Plain> SegMap<K, V> {
         ensures erased { Erases K.Plain V.Plain heap.old heap.new self.place.handle self.place.at key result }
         ensures counted { steps.old ≤ steps.new }
         ensures steps { ChangeSteps K.Plain V.Plain heap.old self.place.handle self.place.at steps.old steps.new }
+        ensures went { result ≡ true → steps.old < steps.new }
         ensures absent { result ≡ false → heap.new ≡ heap.old }
     {
         let trace = self.find_out(&*heap, key, steps);

@@ -8,13 +8,12 @@ use Rattle.segment_manager.proofs.Common.{elements_of, kind_at, Value, Numbers, 
 use Rattle.segment_manager.proofs.Common.{Directory, kind_of, live, object_at, IsMissing, IsLocated, Plan, Refuse}
 use Rattle.segment_manager.proofs.Common.{Reply, perform, with, Answers, IsReply, IsReplyOfKind, IsStep, State}
 use Rattle.segment_manager.proofs.Common.{StandsFor, changed, effect, element_at, get, is_read_only, set, step}
-use Rattle.segment_manager.proofs.Common.{with_items}
-use Rattle.seg_types.specs.Commands as asked
-use Rattle.segment_manager.specs.Calls.{scalar_reply}
-use Rattle.segment_manager.proofs.{AnyStorage.IsOfKindAt, AnyStorage.kind-told, Stored.literal-read}
 use Rattle.segment_manager.proofs.Locating.{kind-by_key, reply_of_kind-by_key}
 use Rattle.segment_manager.proofs.Refilled.{refused-steps, same_plan-steps}
 use Rattle.segment_manager.proofs.Steps.{open-reading, step-refuse, step_of_kind-step, with-found, with-not_found}
+use Rattle.segment_manager.proofs.{Common.with_items, AnyStorage.IsOfKindAt, AnyStorage.kind-told, Stored.literal-read}
+use Rattle.segment_manager.specs.Calls.{scalar_reply}
+use Rattle.seg_types.specs.Commands as asked
 
 -- ---- what an object says of its elements
 

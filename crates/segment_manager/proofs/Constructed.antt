@@ -9,7 +9,13 @@ use Rattle.segment_manager.proofs.Common.{Numbers, Object, Directory, count_of, 
 use Rattle.segment_manager.proofs.Common.{with_object, IsDenied, IsGiven, class_of_index, entries_of, objects_of}
 use Rattle.segment_manager.proofs.Common.{table_of, with_table_of, IsNewKeyOf, IsRequested, IsRestored, Plan, New}
 use Rattle.segment_manager.proofs.Common.{Request, bare, class_of, name_of, perform, with_entry, with_new_object}
-use Rattle.segment_manager.proofs.Common.{with_value, NoSpace}
+use Rattle.segment_manager.proofs.Requests.{entry-grows, entry-refused, entry-room}
+use Rattle.segment_manager.proofs.Added.{IsEntered, entered-denotes, entered-none, entered-some, grown_into}
+use Rattle.segment_manager.proofs.NewKeys.{key-class, key-has, key-name, key-own, key-seeks, object_of}
+use Rattle.segment_manager.proofs.{Common.with_value, Common.NoSpace, Bridge.entry-added, Bridge.lookup-absent}
+use Rattle.segment_manager.proofs.{Calling.denotes-live, Kept.denotes-kept, Made.IsMade, Made.taken-index}
+use Rattle.segment_manager.proofs.{Steps.perform-new, Steps.perform-no_space, Tables.same-table, Taking.growth-index}
+use Rattle.segment_manager.proofs.{HeldIndexes.denotes-index, Denoted.handles-length}
 use Rattle.best_fit.proofs.Laws.{AllByRecursion-insert}
 use Rattle.seg_index.specs.declared.keys.Key.{Key}
 use Rattle.seg_index.specs.Growth.{grown_live}
@@ -17,13 +23,6 @@ use Rattle.segment_manager.specs.NewObjects.{FindsNone}
 use Rattle.seg_index.proofs.Laws.{place_behind, place_small}
 use Rattle.seg_types.specs.Names as names
 use Rattle.seg_types.specs.Commands as asked
-use Rattle.segment_manager.proofs.{Bridge.entry-added, Bridge.lookup-absent, Calling.denotes-live, Kept.denotes-kept}
-use Rattle.segment_manager.proofs.{Made.IsMade, Made.taken-index, Steps.perform-new, Steps.perform-no_space}
-use Rattle.segment_manager.proofs.{Tables.same-table, Taking.growth-index, HeldIndexes.denotes-index}
-use Rattle.segment_manager.proofs.{Denoted.handles-length, Requests.entry-grows, Requests.entry-refused}
-use Rattle.segment_manager.proofs.{Requests.entry-room}
-use Rattle.segment_manager.proofs.Added.{IsEntered, entered-denotes, entered-none, entered-some, grown_into}
-use Rattle.segment_manager.proofs.NewKeys.{key-class, key-has, key-name, key-own, key-seeks, object_of}
 
 -- what is made is the object, in a directory that the new bytes denote; and so the machine goes on
 pub record IsNewObject (new : Cut) (d : Directory) (key : names.Key) (content : Content) (h : ℕ) : Type 0 where

@@ -9,22 +9,21 @@ use Rattle.segment_manager.proofs.Common.{emptied, Object, Directory, is_class, 
 use Rattle.segment_manager.proofs.Common.{Seeks, class_of_index, entries_of, objects_of, order_of, table_of, HasEntry}
 use Rattle.segment_manager.proofs.Common.{IsAnonymousAt, Plan, Reply, Answers, IsSegment, IsStep, StandsFor, State}
 use Rattle.segment_manager.proofs.Common.{changed, effect, is_read_only, step}
-use Rattle.seg_index.specs.declared.keys.Key.{Key}
-use Rattle.seg_index.specs.declared.keys.Lookup.{Lookup}
+use Rattle.segment_manager.proofs.Calling.{denotes-live, denotes-released, object-live}
+use Rattle.segment_manager.proofs.Emptied.{changed-entries, changed-in, changed-others, emptied-is}
+use Rattle.segment_manager.proofs.EntryPlaces.{all-at, at-handle, of-class}
+use Rattle.segment_manager.proofs.ObjectLists.{found-handle, key-found}
+use Rattle.segment_manager.proofs.Removed.{IsGone, IsLeft, removed-denotes}
+use Rattle.segment_manager.proofs.Bridge.{IsEntryFor, entry-removed, in-handles, lookup-absent, lookup-found}
+use Rattle.segment_manager.proofs.Steps.{by_no_change, by_step, lands, open-writing, step-refuse, step-reply}
+use Rattle.segment_manager.proofs.{Here.IsHere, HeldIndexes.denotes-index, Listed.object-here, Live.IsIn}
+use Rattle.segment_manager.proofs.{Ranks.all-ordered, Rewritten.with_value, Steps.with-found, Steps.with-not_found}
+use Rattle.seg_index.specs.declared.keys.{Key.Key, Lookup.Lookup}
 use Rattle.segment_manager.specs.Destroyed.{HoldsEntry, RemovesAnonymous, RemovesEntry}
 use Rattle.seg_types.specs.declared.kinds.Class.TheVariants as class
 use Rattle.seg_types.specs.Names as names
 use Rattle.seg_types.specs.Commands as asked
 use Rattle.seg_index.specs.declared.index.Index.TheVariants as index
-use Rattle.segment_manager.proofs.{Calling.denotes-live, Calling.denotes-released, Calling.object-live}
-use Rattle.segment_manager.proofs.{Emptied.changed-entries, Emptied.changed-in, Emptied.changed-others}
-use Rattle.segment_manager.proofs.{Emptied.emptied-is, EntryPlaces.all-at, EntryPlaces.at-handle, EntryPlaces.of-class}
-use Rattle.segment_manager.proofs.{Here.IsHere, HeldIndexes.denotes-index, Listed.object-here, Live.IsIn}
-use Rattle.segment_manager.proofs.{ObjectLists.found-handle, ObjectLists.key-found, Ranks.all-ordered, Removed.IsGone}
-use Rattle.segment_manager.proofs.{Removed.IsLeft, Removed.removed-denotes, Rewritten.with_value}
-use Rattle.segment_manager.proofs.Bridge.{IsEntryFor, entry-removed, in-handles, lookup-absent, lookup-found}
-use Rattle.segment_manager.proofs.Steps.{by_no_change, by_step, lands, open-writing, step-refuse, step-reply}
-use Rattle.segment_manager.proofs.Steps.{with-found, with-not_found}
 
 -- ---- an object with an entry
 

@@ -6,14 +6,13 @@ use Rattle.segment_manager.proofs.Common.{OutOfRange, WrongKind, same_kind, Key,
 use Rattle.segment_manager.proofs.Common.{Refused, TextElement, sizes_of, sizes_of_kind, Value, Object, Directory}
 use Rattle.segment_manager.proofs.Common.{count_of, kind_of, live, object_at, first_size, length_at_kind}
 use Rattle.segment_manager.proofs.Common.{number_or_none, Reply, perform, with, answer_of, get, step_of_kind}
+use Rattle.segment_manager.proofs.Steps.{open-reading, step_of_kind-found, step_of_kind-not_found, step_of_kind-other}
+use Rattle.segment_manager.proofs.{Codes.numbers-only, TextsHeld.texts-only, ItemSteps.vector-only}
+use Rattle.segment_manager.proofs.{ContentPlans.of_slice, TextPlans.text_in, Steps.with-found}
 use Rattle.seg_types.specs.declared.kinds.Kind.TheVariants.{Vector as VectorOf}
 use Rattle.segment_manager.specs.ElementLists.{array_at, array_length_at, list_at, numbers_in, texts_at, texts_in}
 use Rattle.segment_manager.specs.ElementLists.{vector_at}
 use Rattle.seg_types.specs.Commands as asked
-use Rattle.segment_manager.proofs.{Codes.numbers-only, TextsHeld.texts-only, ItemSteps.vector-only}
-use Rattle.segment_manager.proofs.{ContentPlans.of_slice, TextPlans.text_in}
-use Rattle.segment_manager.proofs.Steps.{open-reading, step_of_kind-found, step_of_kind-not_found, step_of_kind-other}
-use Rattle.segment_manager.proofs.Steps.{with-found}
 
 -- what was read, if it was
 abbrev pub got : {A : Type 0} → Result A Refusal → Option A

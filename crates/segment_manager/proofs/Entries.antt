@@ -1,14 +1,12 @@
 -- Each index follows its objects.
 use Rattle.segment_manager.proofs.Common.{◌≡◌, ◌∙◌, sym, ℕ, Some, handle, ByHandle, Object, Directory, IsDirectory}
-use Rattle.segment_manager.proofs.Common.{object_at, by_name, by_kind}
+use Rattle.segment_manager.proofs.{Common.object_at, Common.by_name, Common.by_kind, Faces.IsLike, Faces.ordered-with}
+use Rattle.segment_manager.proofs.{Faces.ordered-without, Faces.ordered-changed, Faces.by_name-face, Faces.by_kind-face}
+use Rattle.segment_manager.proofs.{Indexes.named-more, Indexes.one-less, Indexes.unique-more, Indexes.one-removed}
+use Rattle.segment_manager.proofs.{Indexes.by_name-strict, Indexes.by_kind-strict, Live.IsFound, Live.IsIn}
 use Rattle.segment_manager.specs.Entries.{DiffersInValue, IndexesFollowObjects, KeepsEntries, PutsOneEntry}
 use Rattle.segment_manager.specs.Entries.{RemovesOneEntry}
 use Rattle.seg_types.specs.declared.kinds.Class.TheVariants.{Named, Unique}
-use Rattle.segment_manager.proofs.Live.{IsFound, IsIn}
-use Rattle.segment_manager.proofs.Faces.{IsLike, ordered-with, ordered-without, ordered-changed, by_name-face}
-use Rattle.segment_manager.proofs.Faces.{by_kind-face}
-use Rattle.segment_manager.proofs.Indexes.{named-more, one-less, unique-more, one-removed, by_name-strict}
-use Rattle.segment_manager.proofs.Indexes.{by_kind-strict}
 
 puts-entry : (d : Directory) (o : Object) → PutsOneEntry d o
 puts-entry d o = record { named = named-more d o; not_named = ordered-with Named by_name d o; unique = unique-more d o; not_unique = ordered-with Unique by_kind d o }

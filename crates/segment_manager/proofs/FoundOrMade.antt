@@ -1,16 +1,15 @@
 -- An object found under a key, or constructed where there is none, as a step of the machine.
-use Rattle.segment_manager.proofs.Common.{◌≡◌, refl, sym, ap, ◌∙◌, ℕ, false, Some, None, Option, Result}
-use Rattle.segment_manager.proofs.Common.{if◌then◌else◌, Cut, SamePlace, handle, Refusal, NoSpace, WrongKind}
-use Rattle.segment_manager.proofs.Common.{Exists, same_kind, Key, Content, Answer, Refused, Made, Object, Directory}
-use Rattle.segment_manager.proofs.Common.{count_of, kind_of, object_at, handle_at, pair_answer, Plan, Refuse, Reply}
-use Rattle.segment_manager.proofs.Common.{bare, with_new_object, StandsAt, pair_of_kind, Answers, IsStep, StandsFor}
-use Rattle.segment_manager.proofs.Common.{State, found, is_read_only, step}
+use Rattle.segment_manager.proofs.Common.{◌≡◌, refl, sym, ap, ◌∙◌, ℕ, false, Some, None, Option, Result, if◌then◌else◌}
+use Rattle.segment_manager.proofs.Common.{Cut, SamePlace, handle, Refusal, NoSpace, WrongKind, Exists, same_kind, Key}
+use Rattle.segment_manager.proofs.Common.{Content, Answer, Refused, Made, Object, Directory, count_of, kind_of}
+use Rattle.segment_manager.proofs.Common.{object_at, handle_at, pair_answer, Plan, Refuse, Reply, bare, with_new_object}
+use Rattle.segment_manager.proofs.Common.{StandsAt, pair_of_kind, Answers, IsStep, StandsFor, State, found}
+use Rattle.segment_manager.proofs.Constructed.{IsNewObject, IsNoObject}
+use Rattle.segment_manager.proofs.Here.{IsHere, here}
+use Rattle.segment_manager.proofs.Steps.{by_no_change, by_step, lands, open-writing, step-plan, step-refuse}
+use Rattle.segment_manager.proofs.{Common.is_read_only, Common.step, Common.Command, Common.effect, FindCalls.kind-step}
 use Rattle.segment_manager.specs.Answers.{Found}
 use Rattle.seg_types.specs.Commands as asked
-use Rattle.segment_manager.proofs.{Constructed.IsNewObject, Constructed.IsNoObject, Here.IsHere, Here.here}
-use Rattle.segment_manager.proofs.Steps.{by_no_change, by_step, lands, open-writing, step-plan, step-refuse}
-use Rattle.segment_manager.proofs.FindCalls.{kind-step}
-use Rattle.segment_manager.proofs.Common.{Command, effect}
 
 -- ---- an object that is constructed
 

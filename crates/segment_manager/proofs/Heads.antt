@@ -7,13 +7,12 @@ use Rattle.segment_manager.proofs.Common.{ScalarKind, BoolKind, Kind, Scalar, Te
 use Rattle.segment_manager.proofs.Common.{class_code, is_kind_of, is_name, is_printable_name, is_text_name, is_control}
 use Rattle.segment_manager.proofs.Common.{name_len_at, Object, kind_of, count_of, padded, is_class, has_good_name}
 use Rattle.segment_manager.proofs.Common.{is_good_value, is_object, object_len, IsObjectAt, IsEntry, subst}
-use Rattle.segment_manager.proofs.Common.{length-append}
+use Rattle.segment_manager.proofs.{Common.length-append, Words.first, Words.second}
 use Rattle.seg_types.specs.declared.kinds.Kind.TheVariants.{Texts}
 use Rattle.seg_types.specs.declared.kinds.Class.TheVariants.{Named}
 use Rattle.segment_manager.specs.Heads.{EntriesSayObjects}
 use Rattle.std.proofs.Math.Seq.{take-append_seam}
 use Rattle.seg_vector.proofs.Bytes.{Has-take}
-use Rattle.segment_manager.proofs.Words.{first, second}
 
 -- ---- the codes are below 2 ^ 32
 

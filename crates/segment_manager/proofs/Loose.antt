@@ -5,10 +5,9 @@ use Rattle.segment_manager.proofs.Common.{is_live_in, live_of, allocated-is_live
 use Rattle.segment_manager.proofs.Common.{lay_out_one, Kind, Class, Anonymous, Key, GivesBack, place_of, NewEntry}
 use Rattle.segment_manager.proofs.Common.{IsBegun, IsHeaded, IsLoose, IsLooseAlone, IsLooseEntry, IsReadyFor, IsWanted}
 use Rattle.segment_manager.proofs.Common.{class_of_index, IsRestored, room_for, Role, IndexRole, IsGrowth, grown_bytes}
+use Rattle.segment_manager.proofs.{Payloads.changed-heap, Taking.growth-held, Taking.ready, Taking.ready-count}
+use Rattle.segment_manager.proofs.{Taking.requested-aligned, Taking.restored-taken, Taking.written-taken}
 use Rattle.best_fit.proofs.Laws.{taken-back}
-use Rattle.segment_manager.proofs.Payloads.{changed-heap}
-use Rattle.segment_manager.proofs.Taking.{growth-held, ready, ready-count, requested-aligned, restored-taken}
-use Rattle.segment_manager.proofs.Taking.{written-taken}
 
 -- ---- begun: the value has room behind the head
 

@@ -8,17 +8,16 @@ use Rattle.segment_manager.proofs.Common.{pair_at, put_pair, remove_pair, Number
 use Rattle.segment_manager.proofs.Common.{IsPairIn, nodes_of_pairs, Value, Pairs, Object, Directory, count_of}
 use Rattle.segment_manager.proofs.Common.{is_good_value, is_object, kind_of, live, padded, value_extents, value_len}
 use Rattle.segment_manager.proofs.Common.{Denotes, IsValueAt, head_len, numbers_of, StandsAt, changed, exchanged}
-use Rattle.segment_manager.proofs.Common.{SameSpread}
+use Rattle.segment_manager.proofs.MapBlocks.{BlocksInUse, PartedNodes, no-node, nodes, one-by_handle, put-parted}
+use Rattle.segment_manager.proofs.{Common.SameSpread, Calling.denotes-heap, Calling.denotes-live, Calling.object-at}
+use Rattle.segment_manager.proofs.{Contained.good-with, Denoted.denotes-replaced, Faces.IsLike, Frame.IsRoomy}
+use Rattle.segment_manager.proofs.{Frame.object-roomy, Live.IsIn, Order.Apart, Order.Differs, Order.IsFoundIn}
+use Rattle.segment_manager.proofs.{Regrown.InPlace, Regrown.rest, Rewritten.object-held, Rewritten.value_start}
+use Rattle.segment_manager.proofs.{Rewritten.with_value, Standings.standing-room, ItemSteps.one-kind, Words.first}
+use Rattle.segment_manager.proofs.{Words.second, Exchanged.all-but-beside, Exchanged.Exchange, Exchanged.between}
+use Rattle.segment_manager.proofs.{Exchanged.live-exchanged, Exchanged.others-beside, MapBlocks.removed-parted}
 use Rattle.seg_map.specs.declared.places.Place.{Place}
 use Rattle.best_fit.proofs.Laws.{spread-refl}
-use Rattle.segment_manager.proofs.{Calling.denotes-heap, Calling.denotes-live, Calling.object-at, Contained.good-with}
-use Rattle.segment_manager.proofs.{Denoted.denotes-replaced, Faces.IsLike, Frame.IsRoomy, Frame.object-roomy, Live.IsIn}
-use Rattle.segment_manager.proofs.{Order.Apart, Order.Differs, Order.IsFoundIn, Regrown.InPlace, Regrown.rest}
-use Rattle.segment_manager.proofs.{Rewritten.object-held, Rewritten.value_start, Rewritten.with_value}
-use Rattle.segment_manager.proofs.{Standings.standing-room, ItemSteps.one-kind, Words.first, Words.second}
-use Rattle.segment_manager.proofs.Exchanged.{all-but-beside, Exchange, between, live-exchanged, others-beside}
-use Rattle.segment_manager.proofs.MapBlocks.{BlocksInUse, PartedNodes, no-node, nodes, one-by_handle, put-parted}
-use Rattle.segment_manager.proofs.MapBlocks.{removed-parted}
 
 -- ---- what is of the kind of a map
 

@@ -8,15 +8,14 @@ use Rattle.segment_manager.proofs.Common.{IsUnchangeable, IsValueOf, Value, Numb
 use Rattle.segment_manager.proofs.Common.{Object, Directory, kind_of, live, object_at, IsMissing, IsLocated, Plan}
 use Rattle.segment_manager.proofs.Common.{Refuse, Reply, perform, with, Answers, IsReply, IsReplyOfKind, IsStep}
 use Rattle.segment_manager.proofs.Common.{IsStepOfKind, State, StandsFor, and_then, changed, effect, map_of, pair_of}
-use Rattle.segment_manager.specs.Answers.{Absent}
-use Rattle.segment_manager.specs.Changeable.{IsPairOf}
+use Rattle.segment_manager.proofs.AnyStorage.{IsOfKindAt, kind-told, of_kind-steps}
+use Rattle.segment_manager.proofs.Changeable.{answered-reads, refuses, refuses-read, says-kind}
+use Rattle.segment_manager.proofs.Locating.{kind-by_key, reply_of_kind-by_key, step_of_kind-by_key}
+use Rattle.segment_manager.proofs.Steps.{step_of_kind-step, with-found, with-not_found}
+use Rattle.segment_manager.proofs.{Stored.literal-read, ElementLaws.same_plan-steps}
+use Rattle.segment_manager.specs.{Answers.Absent, Changeable.IsPairOf}
 use Rattle.seg_types.specs.Commands as asked
 use Rattle.segment_manager.specs.Step as step
-use Rattle.segment_manager.proofs.{AnyStorage.IsOfKindAt, AnyStorage.kind-told, AnyStorage.of_kind-steps}
-use Rattle.segment_manager.proofs.{Changeable.answered-reads, Changeable.refuses, Changeable.refuses-read}
-use Rattle.segment_manager.proofs.{Changeable.says-kind, Locating.kind-by_key, Locating.reply_of_kind-by_key}
-use Rattle.segment_manager.proofs.{Locating.step_of_kind-by_key, Steps.step_of_kind-step, Steps.with-found}
-use Rattle.segment_manager.proofs.{Steps.with-not_found, Stored.literal-read, ElementLaws.same_plan-steps}
 
 -- ---- the plans
 

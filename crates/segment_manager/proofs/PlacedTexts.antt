@@ -3,10 +3,9 @@ use Rattle.segment_manager.proofs.Common.{◌≡◌, refl, sym, ap, ◌∙◌, �
 use Rattle.segment_manager.proofs.Common.{None, length, ◌==◌, IsTrue, option_map, cond-true, cond-false, Role, Storage}
 use Rattle.segment_manager.proofs.Common.{Extent, LiveSet, is_proper, added, place, resized, placed_is_proper}
 use Rattle.segment_manager.proofs.Common.{OwnedText, Directory, Answer, Refused, NoSpace, Plan, New, Request, perform}
-use Rattle.segment_manager.proofs.Common.{with_owned_texts}
+use Rattle.segment_manager.proofs.{Common.with_owned_texts, Order.live-rises, Order.rising-insert, Order.resized-fresh}
 use Rattle.best_fit.specs.Requests.{place_all, all_added}
 use Rattle.segment_manager.specs.OwnedTexts.{text_needs, owned_texts, with_blocks, TextsArePlaced}
-use Rattle.segment_manager.proofs.Order.{live-rises, rising-insert, resized-fresh}
 
 -- a placed extent is new in the live set
 placed-fresh : (l : LiveSet) (x : Extent) → IsTrue (is_proper (added l x)) → resized l x ≡ added l x

@@ -7,12 +7,11 @@ use Rattle.segment_manager.proofs.Common.{bytes_of, read, handle, has_room, live
 use Rattle.segment_manager.proofs.Common.{NotFound, WrongKind, OutOfRange, is_value, same_kind, size_of, spelling, Key}
 use Rattle.segment_manager.proofs.Common.{spelled, Numbers, Object, Directory, count_of, is_good_value, is_object}
 use Rattle.segment_manager.proofs.Common.{kind_of, object_at, padded, value_len, Denotes, IsValueAt, handle_at}
-use Rattle.segment_manager.proofs.Common.{StandsAt, Answers, State}
+use Rattle.segment_manager.proofs.{Common.StandsAt, Common.Answers, Common.State, Blocks.spelling-length}
+use Rattle.segment_manager.proofs.{Codes.numbers-only, Frame.object-roomy, Rows.Has-element, Standings.standing-room}
+use Rattle.segment_manager.proofs.{Words.first, Words.second, Here.IsHere, Here.here, Here.standing}
 use Rattle.seg_vector.specs.declared.places.Place.{Place}
 use Rattle.segment_manager.specs.Standing.{element_at, place_at, place_in}
-use Rattle.segment_manager.proofs.{Blocks.spelling-length, Codes.numbers-only, Frame.object-roomy, Rows.Has-element}
-use Rattle.segment_manager.proofs.{Standings.standing-room, Words.first, Words.second, Here.IsHere, Here.here}
-use Rattle.segment_manager.proofs.{Here.standing}
 
 -- ---- an element
 

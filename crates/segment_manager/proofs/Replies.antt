@@ -8,19 +8,17 @@ use Rattle.segment_manager.proofs.Common.{value_of_scalar, Literal, value_of_lit
 use Rattle.segment_manager.proofs.Common.{Done, Object, Directory, Numbers, count_of, kind_of, live, object_at, perform}
 use Rattle.segment_manager.proofs.Common.{Refuse, Reply, with, Answers, IsReplyOfKind, IsSegment, State, answer_of}
 use Rattle.segment_manager.proofs.Common.{scalar_answer, step_of_kind, effect, get, set, changed, Command}
+use Rattle.segment_manager.proofs.Steps.{open-reading, step_of_kind-found, step_of_kind-not_found, step_of_kind-other}
+use Rattle.segment_manager.proofs.Places.{ElementAt, Lacks, Other, Past, Missing, Nowhere, Within, element-found}
+use Rattle.segment_manager.proofs.Places.{element-missing, element-read, element-room}
+use Rattle.segment_manager.proofs.{Codes.numbers-only, ContentPlans.of_slice, Steps.with-found, Steps.IsOpenFor}
 use Rattle.std.specs.Option.{ok_or}
 use Rattle.byteorder.specs.Endian.{little_number}
-use Rattle.seg_types.specs.Kinds.{is_spelling, value_of}
-use Rattle.seg_types.specs.Values.{SpelledBy}
+use Rattle.seg_types.specs.{Kinds.is_spelling, Kinds.value_of, Values.SpelledBy}
 use Rattle.seg_types.proofs.Laws.{all_spell_one}
 use Rattle.seg_vector.specs.declared.places.Place.{Place}
 use Rattle.segment_manager.specs.Standing.{place_at}
 use Rattle.seg_types.specs.Commands as asked
-use Rattle.segment_manager.proofs.{Codes.numbers-only, ContentPlans.of_slice}
-use Rattle.segment_manager.proofs.Steps.{open-reading, step_of_kind-found, step_of_kind-not_found, step_of_kind-other}
-use Rattle.segment_manager.proofs.Steps.{with-found, IsOpenFor}
-use Rattle.segment_manager.proofs.Places.{ElementAt, Lacks, Other, Past, Missing, Nowhere, Within, element-found}
-use Rattle.segment_manager.proofs.Places.{element-missing, element-read, element-room}
 
 -- ---- the elements of numbers
 

@@ -6,13 +6,12 @@ use Rattle.segment_manager.proofs.Common.{NoSpace, is_changing, Index, IsReserve
 use Rattle.segment_manager.proofs.Common.{IsIndexOf, capacity_at, place_of, Done, Refused, Denotes, Directory, live}
 use Rattle.segment_manager.proofs.Common.{entries_of, objects_of, reserve_of, table_of, with_table_of, Plan, New, Reply}
 use Rattle.segment_manager.proofs.Common.{Request, IsSegment, IsStep, State, effect, is_read_only, step, Bool}
+use Rattle.segment_manager.proofs.Tabled.{places_in, reserved-tabled, shrunk-tabled, tabled-denotes}
+use Rattle.segment_manager.proofs.Steps.{by_no_change, by_step, lands, open-writing, perform-new, perform-no_space}
+use Rattle.segment_manager.proofs.{Calling.denotes-live, HeldIndexes.denotes-index, Steps.step-plan, Steps.step-reply}
 use Rattle.segment_manager.specs.Step.{shrunk_indexes}
 use Rattle.seg_types.specs.Commands as asked
 use Rattle.seg_index.specs.declared.index.Index.TheVariants as index
-use Rattle.segment_manager.proofs.{Calling.denotes-live, HeldIndexes.denotes-index, Tabled.places_in}
-use Rattle.segment_manager.proofs.{Tabled.reserved-tabled, Tabled.shrunk-tabled, Tabled.tabled-denotes}
-use Rattle.segment_manager.proofs.Steps.{by_no_change, by_step, lands, open-writing, perform-new, perform-no_space}
-use Rattle.segment_manager.proofs.Steps.{step-plan, step-reply}
 
 pub reserve-changes : (i : Index) (n : ℕ) → is_changing (reserve_of i n) ≡ true
 reserve-changes index.Named n = refl

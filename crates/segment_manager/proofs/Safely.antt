@@ -28,16 +28,19 @@ pub seen-refused : {R : Type 0} (s t : State) (view : s ≡ t) (new : Cut) (r : 
 seen-refused s t view new (Ok u) e = tt
 seen-refused s t view new (Err w) e = (λ i. record s { cut = e i }) ∙ view
 
-module _ {R : Type 0} {says : Result R Refusal → Answer} (s t : State) (view : s ≡ t) (new : Cut) (key : Key)
-    (kind : Kind) (c : Command) (r : Result R Refusal) (done : AnswersSafely says s new key kind c r) where
-  pub answer-step : IsStepOfKind t (record s { cut = new }) key kind c (says r)
-  answer-step = subst (λ (u : State). IsStepOfKind u (record s { cut = new }) key kind c (says r)) view done.step
+-- a call came to its step, changed nothing where it was refused, and left a segment
+pub record Answered {R : Type 0} (says : Result R Refusal → Answer) (s t : State) (new : Cut) (key : Key) (kind : Kind) (c : Command) (r : Result R Refusal) : Type 0 where
+  pub step : IsStepOfKind t (record s { cut = new }) key kind c (says r)
+  pub refused : OnErr r ((record s { cut = new }) ≡ t)
+  pub segment : IsSegment new.bytes
 
-  pub answer-refused : OnErr r ((record s { cut = new }) ≡ t)
-  answer-refused = seen-refused s t view new r done.refused
-
-  pub answer-segment : IsSegment s.cut.bytes → IsSegment new.bytes
-  answer-segment b = step_of_kind-segment s (record s { cut = new }) key kind c (says r) done.step b
+pub answered : {R : Type 0} {says : Result R Refusal → Answer} (s t : State) (view : s ≡ t) (b : IsSegment s.cut.bytes) (new : Cut) (key : Key) (kind : Kind) (c : Command) (r : Result R Refusal)
+    → AnswersSafely says s new key kind c r → Answered says s t new key kind c r
+answered {says = says} s t view b new key kind c r done = record {
+  step = subst (λ (u : State). IsStepOfKind u (record s { cut = new }) key kind c (says r)) view done.step;
+  refused = seen-refused s t view new r done.refused;
+  segment = step_of_kind-segment s (record s { cut = new }) key kind c (says r) done.step b;
+}
 
 -- ---- the search
 

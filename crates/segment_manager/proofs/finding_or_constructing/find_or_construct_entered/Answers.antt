@@ -1,5 +1,5 @@
 -- An object is found under the entry, or made with one, or a block is refused.
-use Rattle.segment_manager.proofs.Common.{err_from_is_err_and, ◌≡◌, sym, subst, Ok, Err, Key, Content, Write, Object}
+use Rattle.segment_manager.proofs.Common.{exit-is, ◌≡◌, sym, subst, Ok, Err, Key, Content, Write, Object}
 use Rattle.segment_manager.proofs.Common.{kind_of, Constructs, FindsOrConstructs, IsBegunFor, with_count, pair_answer}
 use Rattle.segment_manager.proofs.Common.{IsNewKeyOf, bare, StandsAt, pair_of_kind, State}
 use Rattle.seg_types.specs.Commands as asked
@@ -59,8 +59,7 @@ build-requires-clause-begun g c =
 
 pub returns-in_err-begun : goal.returns-in_err-begun
 returns-in_err-begun g c =
-    let p = err_from_is_err_and c.from_residual.result c.from_residual.ensures.1 in
-    rw (p.1, p.2) (λ key n.
+    rw (exit-is c.from_residual.result _ c.from_residual.ensures.1) (λ key n.
     let content : Content = g.F.Filling.content c.args.filling.now in
     let is = c.shape-shape.ensures in
     let away = c.in-Absent.ensures.place in

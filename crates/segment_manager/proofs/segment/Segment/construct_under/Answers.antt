@@ -1,11 +1,10 @@
 -- The object is begun, with the shape that its filling has, and then it is filled.
-use Rattle.segment_manager.proofs.Common.{err_from_is_err_and, refl, sym, ap, subst, ◌∙◌, Err, Ok, Key, Constructs, bare}
-use Rattle.segment_manager.proofs.Common.{handle_answer, kind_of, new_key_seen}
-use Rattle.seg_types.specs.Commands.{Construct}
+use Rattle.segment_manager.proofs.Common.{exit-is, refl, sym, ap, subst, ◌∙◌, Err, Ok, Key, Constructs, bare}
 use Rattle.segment_manager.proofs.FilledCalls.{begun-for, construct-built, construct-not_begun, made-segment, made-step}
-use Rattle.segment_manager.proofs.Steps.{refuses-read_only}
-use Rattle.segment_manager.proofs.segment.Segment.construct_under.Goals as goal
+use Rattle.segment_manager.proofs.{Common.handle_answer, Common.kind_of, Common.new_key_seen, Steps.refuses-read_only}
+use Rattle.seg_types.specs.Commands.{Construct}
 use Rattle.segment_manager.proofs.segment.Segment.construct_under.{Goals.After-build, Goals.In_err-begun, Given.Over}
+use Rattle.segment_manager.proofs.segment.Segment.construct_under.Goals as goal
 
 -- what the call does, under the key of the object's kind
 done : (g : Over) (c : After-build g) → Constructs c.self.inside.heap c.build.new.heap (Construct (g.D.Destination.key
@@ -41,8 +40,7 @@ invariant_of-self g c =
 
 pub returns-in_err-begun-clause-step : goal.returns-in_err-begun-clause-step
 returns-in_err-begun-clause-step g c =
-    let p = err_from_is_err_and c.from_residual.result c.from_residual.ensures.1 in
-    rw (p.1, p.2) (made-step _ _ c.self.view_is _ _ _ _ (none g (goal.at.returns-in_err-begun-clause-step g c).In_err-begun) (sym c.is_read_only.ensures ∙ c.if-is_read_only.false))
+    rw (exit-is c.from_residual.result _ c.from_residual.ensures.1) (made-step _ _ c.self.view_is _ _ _ _ (none g (goal.at.returns-in_err-begun-clause-step g c).In_err-begun) (sym c.is_read_only.ensures ∙ c.if-is_read_only.false))
 
 pub build-requires-clause-begun : goal.build-requires-clause-begun
 build-requires-clause-begun g c = (

@@ -1,5 +1,5 @@
 -- The place in the object at the handle.
-use Rattle.segment_manager.proofs.Common.{err_from_is_err_and, subst, Ok, Err, Answers}
+use Rattle.segment_manager.proofs.Common.{exit-is, subst, Ok, Err, Answers}
 use Rattle.segment_manager.specs.Standing.{place_at}
 use Rattle.seg_vector.specs.declared.places.Place.{Place}
 use Rattle.segment_manager.proofs.{Here.seen-handle, Here.seen-object, Places.places, Places.places-missing}
@@ -10,8 +10,7 @@ place_of-requires g c = seen-object _ _ c.self.view_is (g.O.Target.key c.args.ke
 
 pub returns-in_err-at : goal.returns-in_err-at
 returns-in_err-at g c =
-    let p = err_from_is_err_and c.from_residual.result c.from_residual.ensures.1 in
-    rw (p.1, p.2) (subst (λ t. Answers t (λ d. place_at d (g.O.Target.key c.args.key.now) c.args.kind c.args.index) (Err c.in_err-at.field-0.0)) c.self.view_is
+    rw (exit-is c.from_residual.result _ c.from_residual.ensures.1) (subst (λ t. Answers t (λ d. place_at d (g.O.Target.key c.args.key.now) c.args.kind c.args.index) (Err c.in_err-at.field-0.0)) c.self.view_is
     (places-missing _ (g.O.Target.key c.args.key.now) c.in-Some.handle c.args.kind c.args.index c.in_err-at.field-0.0
     (seen-handle _ _ c.self.view_is (g.O.Target.key c.args.key.now) _ c.in-Some.ensures) c.in_err-at.ensures))
 

@@ -1,10 +1,9 @@
 -- The bytes at the place are read.
-use Rattle.segment_manager.proofs.Common.{err_from_is_err_and, ◌≡◌, sym, ap, subst, ◌+◌, ◌∙◌, Ok, IsTrue, current}
-use Rattle.segment_manager.proofs.Common.{bytes_of, read, has_room, live_of, ScalarKind, size_of, Scalar, Get, Answers}
-use Rattle.segment_manager.proofs.Common.{IsReplyOfKind, State, scalar_answer}
-use Rattle.segment_manager.specs.Standing.{place_at}
-use Rattle.segment_manager.proofs.Calling.{denotes-heap}
+use Rattle.segment_manager.proofs.Common.{exit-is, ◌≡◌, sym, ap, subst, ◌+◌, ◌∙◌, Ok, IsTrue, current, bytes_of, read}
+use Rattle.segment_manager.proofs.Common.{has_room, live_of, ScalarKind, size_of, Scalar, Get, Answers, IsReplyOfKind}
 use Rattle.segment_manager.proofs.Replies.{place-room, replies-found, replies-missing, scalar-answer}
+use Rattle.segment_manager.proofs.{Common.State, Common.scalar_answer, Calling.denotes-heap}
+use Rattle.segment_manager.specs.Standing.{place_at}
 use Rattle.segment_manager.proofs.segment.Segment.get_value.Goals as goal
 
 pub element-requires-clause-heap : goal.element-requires-clause-heap
@@ -18,8 +17,7 @@ element-requires-clause-room g c =
 
 pub returns-in_err-place : goal.returns-in_err-place
 returns-in_err-place g c =
-    let p = err_from_is_err_and c.from_residual.result c.from_residual.ensures.1 in
-    rw (p.1, p.2) (replies-missing c.args.self.now (g.O.Target.key c.args.key.now) c.args.kind c.args.index c.in_err-place.field-0.0 c.in_err-place.ensures)
+    rw (exit-is c.from_residual.result _ c.from_residual.ensures.1) (replies-missing c.args.self.now (g.O.Target.key c.args.key.now) c.args.kind c.args.index c.in_err-place.field-0.0 c.in_err-place.ensures)
 
 pub returns : goal.returns
 returns g c =

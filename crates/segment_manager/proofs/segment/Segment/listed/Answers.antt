@@ -1,11 +1,10 @@
 -- The head says the class, and with it the key.
 use Rattle.segment_manager.proofs.Common.{sym, subst, true, None, current, is_object_at, HasEntries, IsListed, Answers}
-use Rattle.segment_manager.proofs.Common.{State}
+use Rattle.segment_manager.proofs.Listed.{has-own_object, listed-kind, listed-name, listed-none}
+use Rattle.segment_manager.proofs.{Common.State, Calling.denotes-heap}
 use Rattle.seg_index.specs.declared.keys.Key.{Key}
 use Rattle.seg_index.specs.declared.index.Index.TheVariants as index
 use Rattle.seg_index.specs.declared.keys.Key.TheVariants as entry
-use Rattle.segment_manager.proofs.Calling.{denotes-heap}
-use Rattle.segment_manager.proofs.Listed.{has-own_object, listed-kind, listed-name, listed-none}
 use Rattle.segment_manager.proofs.segment.Segment.listed.Goals as goal
 
 pub read_head-head-requires : goal.read_head-head-requires

@@ -1,9 +1,8 @@
 -- One index is shrunk, and then the other.
 use Rattle.segment_manager.proofs.Common.{◌≡◌, refl, sym, ap, subst, ◌∙◌, false, Named, Done, IsStep, State}
-use Rattle.segment_manager.proofs.Common.{is_read_only}
-use Rattle.seg_types.specs.Commands.{ShrinkIndexes}
-use Rattle.segment_manager.proofs.{KeyCalls.segment-index, Reserves.shrinks, Reserves.shrunk-index}
 use Rattle.segment_manager.proofs.Steps.{refuses-read_only, step-segment}
+use Rattle.segment_manager.proofs.{Common.is_read_only, KeyCalls.segment-index, Reserves.shrinks, Reserves.shrunk-index}
+use Rattle.seg_types.specs.Commands.{ShrinkIndexes}
 use Rattle.segment_manager.proofs.segment.Segment.shrink_indexes.Goals as goal
 
 pub returns-then-is_read_only-clause-step : goal.returns-then-is_read_only-clause-step

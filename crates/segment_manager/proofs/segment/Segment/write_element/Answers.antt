@@ -1,5 +1,5 @@
 -- The bytes are written at the place that is found.
-use Rattle.segment_manager.proofs.Common.{err_from_is_err_and, ◌≡◌, refl, sym, ap, subst, ◌∙◌, ◌+◌, true, false, Ok}
+use Rattle.segment_manager.proofs.Common.{exit-is, ◌≡◌, refl, sym, ap, subst, ◌∙◌, ◌+◌, true, false, Ok}
 use Rattle.segment_manager.proofs.Common.{length, List, ℕ, IsTrue, has_room, live_of, Scalar, size_of, Key, Set}
 use Rattle.segment_manager.proofs.Common.{literal_of, Done, Answers, IsStepOfKind, State, is_read_only}
 use Rattle.segment_manager.specs.Standing.{place_at}
@@ -32,8 +32,7 @@ invariant_of-self g c =
 
 pub returns-in_err-place-clause-step : goal.returns-in_err-place-clause-step
 returns-in_err-place-clause-step g c =
-    let p = err_from_is_err_and c.from_residual.result c.from_residual.ensures.1 in
-    rw (p.1, p.2) (λ z v e.
+    rw (exit-is c.from_residual.result _ c.from_residual.ensures.1) (λ z v e.
     let writing : is_read_only c.args.self.now.mode ≡ false = sym c.is_read_only.ensures ∙ c.if-is_read_only.false in
     stores-nothing c.args.self.now (g.O.Target.key c.args.key.now) c.args.kind c.args.index z c.in_err-place.field-0.0 writing v c.in_err-place.ensures)
 

@@ -45,7 +45,7 @@ frame-stays format old new d xs h k n u =
     let m : Memory = bytes_of old.bytes in
     let m' : Memory = bytes_of new.bytes in
     record {
-      header = header-same format m m' d.size k.front k.behind h.header;
+      header = header-same format m m' d.size k.front (Same-part m m' 32 128 80 128 k.behind (omega arith) (omega arith)) h.header;
       named = index-stays m m' 32 d.named (named_objects d) by_name h.directory.named (Same-part m m' 32 128 32 56 k.behind (omega arith) (omega arith)) n h.named;
       unique = index-stays m m' 56 d.unique (unique_objects d) by_kind h.directory.unique (Same-part m m' 32 128 56 80 k.behind (omega arith) (omega arith)) u h.unique;
     }

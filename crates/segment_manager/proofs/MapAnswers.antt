@@ -41,9 +41,11 @@ module _ {K V : Type 0} {k v : ScalarKind} {kp : Plain K} {vp : Plain V} {kw : K
   told-there say answer F finds each =
       subst (λ (u : State). Answers u (λ d. told_of_map d key k v say) (Ok answer)) view (map-told s key k v p b found-there say answer (finds (subst F same each)))
 
-  pub past-there : (above : Bool) (x : K) (r : Option (K × V)) → FindsItem kp vp s.cut.bytes q.handle q.at above x r → Answers t (λ d. told_of_map d key k v (pair_past above (kw x))) (Ok (numbers_in kw vw r))
-  past-there above x r each =
-      told-there (pair_past above (kw x)) (numbers_in kw vw r) (λ (c : Place). FindsItem kp vp s.cut.bytes c.handle c.at above x r) (finds-item k v kp vp kw vw kl vl s.cut.bytes p.handle p.at above x r) each
+  pub past-there : (above said : Bool) → said ≡ above → (x : K) (r : Option (K × V)) → FindsItem kp vp s.cut.bytes q.handle q.at above x r
+      → Answers t (λ d. told_of_map d key k v (pair_past said (kw x))) (Ok (numbers_in kw vw r))
+  past-there above said is x r each =
+      subst (λ (b : Bool). Answers t (λ d. told_of_map d key k v (pair_past b (kw x))) (Ok (numbers_in kw vw r))) (sym is)
+      (told-there (pair_past above (kw x)) (numbers_in kw vw r) (λ (c : Place). FindsItem kp vp s.cut.bytes c.handle c.at above x r) (finds-item k v kp vp kw vw kl vl s.cut.bytes p.handle p.at above x r) each)
 
   pub back-there : (reached : Bool) (x : K) (r : Option (K × V)) → FindsItemBefore kp vp s.cut.bytes q.handle q.at reached x r
       → Answers t (λ d. told_of_map d key k v (λ ps. option_map item_of (last_pair int_lt reached (kw x) ps))) (Ok (numbers_in kw vw r))

@@ -21,7 +21,7 @@ use Rattle.segment_manager.proofs.TextPlans.{all-met, all-unmet, all_plan, assig
 use Rattle.segment_manager.proofs.TextPlans.{clear-texts, erase-text, got-text, insert-text, insert_in, insert_plan}
 use Rattle.segment_manager.proofs.TextPlans.{one-more-met, one-more-unmet, pop-text, push-text, reserve-texts}
 use Rattle.segment_manager.proofs.TextPlans.{room-grown, set-text, set_in, shrink-texts, text-placed, then_room}
-use Rattle.segment_manager.proofs.Safely.{Answered, answered, done-so, stays}
+use Rattle.segment_manager.proofs.Safely.{pick-outside, pick-space, Answered, answered, done-so, stays}
 use Rattle.segment_manager.proofs.{TextPlans.then_text, Calling.denotes-live, ToChange.seen-found, Steps.open-reading}
 use Rattle.segment_manager.proofs.{Steps.open-writing, Words.first, Words.second}
 use Rattle.segment_manager.specs.Stored.{ChangesTexts}
@@ -78,17 +78,6 @@ one-block : (xs : List Extent) (r : Option Extent) → xs ++ option_to_list r �
 one-block xs r = ap (λ (ys : List Extent). xs ++ ys) (sym (append-nil (option_to_list r)))
 
 -- one of two refusals
-range-not_space : OutOfRange ≡ NoSpace → ⊥
-range-not_space e = cc
-
-pick-outside : {X Y : Type 0} (e : Refusal) → (Y → e ≡ NoSpace) → e ≡ OutOfRange → X ⊎ Y → X
-pick-outside e g h (inl x) = x
-pick-outside e g h (inr y) = absurd (range-not_space (sym h ∙ g y))
-
-pick-space : {X Y : Type 0} (e : Refusal) → (X → e ≡ OutOfRange) → e ≡ NoSpace → X ⊎ Y → Y
-pick-space e f h (inl x) = absurd (range-not_space (sym (f x) ∙ h))
-pick-space e f h (inr y) = y
-
 -- ---- the calls
 
 -- as the view before the call names the segment

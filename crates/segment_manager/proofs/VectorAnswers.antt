@@ -1,4 +1,5 @@
 -- What the calls of seg_vector ensure of the vector at the place that was found, as the steps of the calls on the object's vector.
+use Rattle.segment_manager.proofs.Safely.{pick-outside, pick-space}
 use Rattle.segment_manager.proofs.Common.{◌++◌, ◌+◌, ◌-◌, ◌<◌, Bool, Err, IsTrue, List, None, Ok, Result, Some, [], ap}
 use Rattle.segment_manager.proofs.Common.{arith, false, get_or, inl, inr, length, map, pos, refl, slice_get, subst, sym}
 use Rattle.segment_manager.proofs.Common.{take, true, ℕ, ℤ, ◌∙◌, ◌∷◌, ◌≡◌, ◌≤◌, ◌⊎◌, le-ltb, lt-ltb, length-map}
@@ -21,19 +22,6 @@ use Rattle.segment_manager.proofs.{Contained.contents-fit, ToChange.seen-found, 
 use Rattle.segment_manager.proofs.{Stored.literal-read, Stored.literals-read, ContentPlans.set-plan, Whole.whole-values}
 use Rattle.seg_vector.specs.VectorCalls.{ErasesFrom, Gets, InsertsInto, IsVector, Pops, Pushes, Sets}
 use Rattle.seg_types.specs.Commands as asked
-
-range-not_space : OutOfRange ≡ NoSpace → ⊥
-range-not_space e = cc
-
--- why nothing was put in
-module _ {old new : Cut} {size : ℕ} where
-  inserted-past : (i : ℕ) (e : Refusal) (n m : ℕ) (t : Table) → e ≡ OutOfRange → IsOutside old new (n + 1) i e ⊎ ((i ≤ n) × IsWithoutSpace old new size m t e) → n < i
-  inserted-past i e n m t f (inl o) = let l = o.outside in omega arith
-  inserted-past i e n m t f (inr o) = absurd (range-not_space (sym f ∙ o.1.refusal))
-
-  inserted-full : (i : ℕ) (e : Refusal) (n m : ℕ) (t : Table) → e ≡ NoSpace → IsOutside old new (n + 1) i e ⊎ ((i ≤ n) × IsWithoutSpace old new size m t e) → (i ≤ n) × IsWithoutSpace old new size m t e
-  inserted-full i e n m t f (inl o) = absurd (range-not_space (sym o.refusal ∙ f))
-  inserted-full i e n m t f (inr o) = o
 
 module _ {T : Type 0} {k : ScalarKind} {w : T → ℤ} {size : ℕ} {test : T → Bool} {sp : T → List ℕ} (law : IsOfKind k w size test sp) where
   -- ---- vectors of the values
@@ -171,14 +159,15 @@ module _ {T : Type 0} {k : ScalarKind} {w : T → ℤ} {size : ℕ} {test : T �
           not-inserted i x e v a (inl o) =
               items-refused typed s key p b found new writing (asked.Insert key i (literal_of k (w x))) e OutOfRange o.refusal o.same
               (λ d den h.
-              let past : length h.items < i = inserted-past i e (length h.items) (capacity_for_one (length h.items) h.table.capacity) h.table o.refusal (a h.items h.table (vector d h)) in
+              let out : IsOutside s.cut new (length h.items + 1) i e = pick-outside e (λ w. w.1.refusal) o.refusal (a h.items h.table (vector d h)) in
+              let past : length h.items < i = let f = out.outside in omega arith in
               ap (perform d (live d)) (insert-plan d key h.object k (map w h.items) h.table h.is h.value i (literal_of k (w x)) (Ok (w x)) true (as-literal x v)
               (lt-ltb (length (map w h.items)) i (subst (λ (n : ℕ). n < i) (sym (length-map h.items w)) past))))
           not-inserted i x e v a (inr o) =
               items-refused typed s key p b found new writing (asked.Insert key i (literal_of k (w x))) e NoSpace o.1.refusal o.1.same
               (λ d den h.
               let n : ℕ = capacity_for_one (length h.items) h.table.capacity in
-              let q = inserted-full i e (length h.items) n h.table o.1.refusal (a h.items h.table (vector d h)) in
+              let q : (i ≤ length h.items) × IsWithoutSpace s.cut new size n h.table e = pick-space e (λ w. w.refusal) o.1.refusal (a h.items h.table (vector d h)) in
               items-full typed s key p b found new writing (asked.Insert key i (literal_of k (w x))) n (insert h.items i x) d den h (insert-so i x v d h q.0) q.1.none)
 
       -- ---- one less

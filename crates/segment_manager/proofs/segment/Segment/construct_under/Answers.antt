@@ -31,8 +31,7 @@ none g c =
 
 pub returns-then-is_read_only-clause-step : goal.returns-then-is_read_only-clause-step
 returns-then-is_read_only-clause-step g c =
-    let content = g.F.Filling.content c.args.filling.now in
-    refuses-read_only _ (Construct (g.D.Destination.key c.args.key.now (kind_of (bare content))) content) (sym c.is_read_only.ensures ∙ c.if-is_read_only.true) refl
+    refuses-read_only _ _ (sym c.is_read_only.ensures ∙ c.if-is_read_only.true) refl
 
 pub invariant_of-self : goal.invariant_of-self
 invariant_of-self g c =

@@ -7,8 +7,7 @@ use Rattle.segment_manager.proofs.segment.Segment.map_erase.Goals as goal
 
 pub returns-then-is_read_only-clause-step : goal.returns-then-is_read_only-clause-step
 returns-then-is_read_only-clause-step g c =
-    refuses_of_kind-read_only _ _ _ (Remove (g.O.Target.key c.args.key.now) (literal_of g.K.Scalar.kind (g.K.Scalar.whole
-    c.args.at))) (sym c.is_read_only.ensures ∙ c.if-is_read_only.true) refl
+    refuses_of_kind-read_only _ _ _ _ (sym c.is_read_only.ensures ∙ c.if-is_read_only.true) refl
 
 pub erase-requires : goal.erase-requires
 erase-requires g c =

@@ -23,9 +23,7 @@ done g c =
 
 pub returns-then-is_read_only-clause-step : goal.returns-then-is_read_only-clause-step
 returns-then-is_read_only-clause-step g c =
-    refuses_of_kind-read_only _ _ _ (Put (g.O.Target.key c.args.key.now) (literal_of g.K.Scalar.kind (g.K.Scalar.whole
-    c.args.at)) (literal_of g.V.Scalar.kind (g.V.Scalar.whole c.args.value))) (sym c.is_read_only.ensures ∙
-    c.if-is_read_only.true) refl
+    refuses_of_kind-read_only _ _ _ _ (sym c.is_read_only.ensures ∙ c.if-is_read_only.true) refl
 
 pub put-requires : goal.put-requires
 put-requires g c =

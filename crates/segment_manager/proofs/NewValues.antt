@@ -97,15 +97,11 @@ module _ (content : Content) where
           at = made-object a t m r.empty w class name long h at r.value (value_extents r.value) block headed' r.change r.storage r.said;
         }
 
-    -- the live set once its own block is taken
-    next-live : resized (live_of a.bytes) block.extent ≡ live_of r.empty.bytes
-    next-live = placed-next a r.empty (room_for name long) h block
-
     placed-at : place (live_of a.bytes) (object_len name (bare content)) ObjectRole ≡ Some block.extent
     placed-at = block.placed
 
     given-in : (d : Directory) → IsGiven d (resized (live_of a.bytes) block.extent) content r.value r.left
-    given-in d = subst (λ l. IsGiven d l content r.value r.left) (sym next-live) (r.given d)
+    given-in d = subst (λ l. IsGiven d l content r.value r.left) (sym (placed-next a r.empty (room_for name long) h block)) (r.given d)
 
   -- ---- the directory, under a key with an entry
 

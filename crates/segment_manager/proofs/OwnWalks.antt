@@ -243,11 +243,9 @@ counts-own b d k =
 -- ---- a call of the iterator
 
 module _ (s : State) (old new : TileWalk) (at : ℕ) (r : Option Span) (h : HasPassed s old at) (g : GoesOnOwn old r new) where
-  the-bytes : (d : Directory) → StandsFor s.cut.bytes d → StandsFor old.segment.cut.bytes d
-  the-bytes d k = subst (λ (t : State). StandsFor t.cut.bytes d) (sym h.segment) k
 
   at-own : (d : Directory) → StandsFor s.cut.bytes d → option_map as_span r ≡ slice_get (own_spans d) at
-  at-own d k = g.says d (the-bytes d k) ∙ ap (slice_get (own_spans d)) (sym (h.count.answers d k))
+  at-own d k = g.says d (subst (λ (t : State). StandsFor t.cut.bytes d) (sym h.segment) k) ∙ ap (slice_get (own_spans d)) (sym (h.count.answers d k))
 
   -- a block came
   pub block-at : (span : Span) → r ≡ Some span → IsOwnBlock s at span

@@ -66,9 +66,6 @@ module _ {K V : Type 0} (k v : ScalarKind) (kp : Plain K) (vp : Plain V) (kw : K
       ∙ find-made number_pair (is_passed kp.order past x) (is_passed int_lt past (kw x))
       (λ p i. if past then not (sym (kl.ordered x p.key) i) else sym (kl.ordered p.key x) i) (reverse ps)
 
-  numbers-final : (ps : List (Pair K V)) → final_pair (number_pairs ps) ≡ option_map number_pair (final_pair ps)
-  numbers-final ps = last_mapped number_pair None ps
-
   numbers-rising : (ps : List (Pair K V)) → is_rising int_lt (number_pairs ps) ≡ is_rising kp.order ps
   numbers-rising [] = refl
   numbers-rising (p ∷ []) = refl
@@ -219,7 +216,7 @@ module _ {K V : Type 0} (k v : ScalarKind) (kp : Plain K) (vp : Plain V) (kw : K
   pub finds-last : (b : List ℕ) (h at : ℕ) (r : Option (K × V)) → FindsLastItem kp vp b h at r → FindsLastItem (numbers_of k) (numbers_of v) b h at (numbers_in kw vw r)
   finds-last b h at r each =
       of-values b h at (λ qs. numbers_in kw vw r ≡ option_map item_of (final_pair qs))
-      (λ ps s. ap (numbers_in kw vw) (each ps s) ∙ found-item (final_pair ps) ∙ ap (option_map item_of) (sym (numbers-final ps)))
+      (λ ps s. ap (numbers_in kw vw) (each ps s) ∙ found-item (final_pair ps) ∙ ap (option_map item_of) (sym (last_mapped number_pair None ps)))
 
   -- ---- what becomes of them
 

@@ -38,13 +38,9 @@ set-effect d key o k zs i l z r e f g h =
 
 -- ---- what the step is
 
--- a kind is the same as itself
-pub same_scalar-refl : (k : ScalarKind) → same_kind (Scalar k) (Scalar k) ≡ true
-same_scalar-refl k = eq-eqb (code_of (Scalar k)) (code_of (Scalar k)) refl
-
 -- the object of an element is of its kind
 pub element-kind : (b : List ℕ) (d : Directory) (key : Key) (k : ScalarKind) (i : ℕ) (p : Place) → (e : ElementAt b d key k i p) → same_kind (Scalar k) (kind_of e.object.value) ≡ true
-element-kind b d key k i p e = ap (λ v. same_kind (Scalar k) (kind_of v)) e.value ∙ same_scalar-refl k
+element-kind b d key k i p e = ap (λ v. same_kind (Scalar k) (kind_of v)) e.value ∙ eq-eqb (code_of (Scalar k)) (code_of (Scalar k)) refl
 
 -- an element is answered
 got : (mode : Mode) (b : List ℕ) (d : Directory) (key : Key) (k : ScalarKind) (i : ℕ) (p : Place) → (e : ElementAt b d key k i p)

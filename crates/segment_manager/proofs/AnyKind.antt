@@ -1,8 +1,8 @@
 -- Calls on elements whose kind is what the object says: then the step of the kind is the command's own.
 use Rattle.segment_manager.proofs.Common.{◌≡◌, refl, sym, ap, subst, ◌∙◌, ℕ, ℤ, pos, true, false, Option, Some, None}
 use Rattle.segment_manager.proofs.Common.{Result, Ok, Err, List, map, slice_set, eq-eqb, same_Some, Kind, ScalarOf}
-use Rattle.segment_manager.proofs.Common.{TextKind, VectorKind, MapKind, TextsKind, ScalarKind, U8, Refusal, NotFound}
-use Rattle.segment_manager.proofs.Common.{WrongKind, code_of, is_value, Key, ByHandle, Command, Literal, literal_of}
+use Rattle.segment_manager.proofs.Common.{TextKind, VectorKind, TextsKind, ScalarKind, U8, Refusal, NotFound, WrongKind}
+use Rattle.segment_manager.proofs.Common.{code_of, is_value, Key, ByHandle, Command, Literal, literal_of}
 use Rattle.segment_manager.proofs.Common.{value_of_literal, Mode, Located, Answer, Done, Refused, elements_at}
 use Rattle.segment_manager.proofs.Common.{elements_of, kind_at, Value, Numbers, Elements, Bytes, Pairs, Texts, Object}
 use Rattle.segment_manager.proofs.Common.{Directory, kind_of, live, object_at, IsMissing, IsLocated, Plan, Refuse}
@@ -135,8 +135,7 @@ left-kind : (kind : Kind) (k : ScalarKind) → Ok k ≡ elements_of kind → (ki
 left-kind (ScalarOf j) k e t v = let same : k ≡ j = cc in ap ScalarOf same
 left-kind TextKind k e t v = absurd (t refl)
 left-kind (VectorKind j) k e t v = absurd (v j refl)
-left-kind (MapKind j m) k e t v = absurd (cc)
-left-kind TextsKind k e t v = absurd (cc)
+left-kind kind k e t v = absurd (cc)
 
 -- neither a text nor a vector: scalars
 pub scalar-kind : (s : State) (key : Key) (kind : Kind) (k : ScalarKind) → Answers s (λ d. kind_at d key) (Ok kind) → Answers s (λ d. elements_at d key) (Ok k) → (kind ≡ TextKind → ⊥)
@@ -155,8 +154,7 @@ set-plan : (d : Directory) (o : Object) (v : Value) (i : ℕ) (k : ScalarKind) �
 set-plan d o (Numbers j zs) i k e = let same : j ≡ k = cc in (zs, λ l. ap (λ n. set_with d o (Numbers j zs) i zs (value_of_literal n l)) same)
 set-plan d o (Elements j zs t) i k e = let same : j ≡ k = cc in (zs, λ l. ap (λ n. set_with d o (Elements j zs t) i zs (value_of_literal n l)) same)
 set-plan d o (Bytes bs t) i k e = let same : U8 ≡ k = cc in (map pos bs, λ l. ap (λ n. set_with d o (Bytes bs t) i (map pos bs) (value_of_literal n l)) same)
-set-plan d o (Pairs j m ps) i k e = absurd (cc)
-set-plan d o (Texts ps t) i k e = absurd (cc)
+set-plan d o v i k e = absurd (cc)
 
 set-effect : (d : Directory) (key : Key) (k : ScalarKind) (i : ℕ) (l : Literal) (r : Result ℤ Refusal) (e : HasElements d key k) → value_of_literal k l ≡ r
     → effect d (asked.Set key i l) ≡ set_with d e.object e.object.value i (set-plan d e.object e.object.value i k e.elements).0 r

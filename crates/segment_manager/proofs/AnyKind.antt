@@ -42,9 +42,6 @@ none-if : (d : Directory) (key : Key) (r : Refusal) (p : Option Object) → obje
 none-if d key r None e f = let same : NotFound ≡ r = cc in Nowhere e same
 none-if d key r (Some o) e f = Other o e (sym f)
 
-has-none : (d : Directory) (key : Key) (r : Refusal) → Err r ≡ elements_at d key → HasNone d key r
-has-none d key r e = none-if d key r (object_at d key) refl e
-
 -- the object is of a kind
 elements-told : (d : Directory) (key : Key) (kind : Kind) → IsOfKindAt d key kind → elements_at d key ≡ elements_of kind
 elements-told d key kind e = ap elements_in e.is ∙ ap elements_of e.kind_is
@@ -70,7 +67,7 @@ reply_of mode d c q = elim q as (λ _. Answer) [ Err r ↦ Refused r | Ok k ↦ 
 machine-if : (mode : Mode) (d : Directory) (key : Key) (i : ℕ) (q : Result ScalarKind Refusal) → ((o : Object) → object_at d key ≡ Some o → kind_of o.value ≡ TextsKind → ⊥) → elements_at d key ≡ q
     → reply_of mode d (asked.Get key i) q ≡ (step mode d (asked.Get key i)).0
 machine-if mode d key i (Ok k) n e = refl
-machine-if mode d key i (Err r) n e = sym (ap (λ (x : Answer × Directory). x.0) (step-not_read mode d key i r n (has-none d key r (sym e))))
+machine-if mode d key i (Err r) n e = sym (ap (λ (x : Answer × Directory). x.0) (step-not_read mode d key i r n (none-if d key r (object_at d key) refl (sym e))))
 
 -- the object of a key is no vector of texts
 abbrev pub HasNoTexts : State → Key → Type 0

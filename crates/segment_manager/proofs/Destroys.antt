@@ -3,23 +3,23 @@ use Rattle.segment_manager.specs.Listed.{IsEntryAt}
 use Rattle.segment_manager.specs.Destroyed.{HoldsEntry, RemovesAnonymous, RemovesEntry}
 use Rattle.segment_manager.proofs.Common.{◌≡◌, refl, sym, ap, subst, ◌∙◌, ℕ, ◌<◌, true, false, ◌==◌, Some, None, Option}
 use Rattle.segment_manager.proofs.Common.{List, [], ◌∷◌, arith, remove, slice_get, same_Some, slice_get_within, Cut}
-use Rattle.segment_manager.proofs.Common.{SamePlace, bytes_of, current, SamePlace-trans, handle, IsReleased, LaysOut}
-use Rattle.segment_manager.proofs.Common.{is_live_in, live_of, Table, lay_out_one, Class, NotFound, class_code, Index}
-use Rattle.segment_manager.proofs.Common.{Absent, Found, KeepsRest, beside_table, HasIndex, IsIndexOf, entry_count}
-use Rattle.segment_manager.proofs.Common.{place_of, IsPlace, Refused, Truth, Denotes, Becomes, Empties, HoldsObject}
-use Rattle.segment_manager.proofs.Common.{emptied, Object, Directory, is_class, object_at, without_object, is_object_at}
-use Rattle.segment_manager.proofs.Common.{Seeks, class_of_index, entries_of, objects_of, order_of, table_of, HasEntry}
+use Rattle.segment_manager.proofs.Common.{bytes_of, current, SamePlace-trans, handle, IsReleased, LaysOut, is_live_in}
+use Rattle.segment_manager.proofs.Common.{live_of, Table, lay_out_one, Class, NotFound, class_code, Index, Absent}
+use Rattle.segment_manager.proofs.Common.{Found, KeepsRest, beside_table, HasIndex, IsIndexOf, entry_count, place_of}
+use Rattle.segment_manager.proofs.Common.{IsPlace, Refused, Truth, Denotes, Becomes, Empties, HoldsObject, emptied}
+use Rattle.segment_manager.proofs.Common.{Object, Directory, is_class, object_at, without_object, is_object_at, Seeks}
+use Rattle.segment_manager.proofs.Common.{class_of_index, entries_of, objects_of, order_of, table_of, HasEntry}
 use Rattle.segment_manager.proofs.Common.{IsAnonymousAt, Plan, Reply, Answers, IsSegment, IsStep, StandsFor, State}
-use Rattle.segment_manager.proofs.Common.{changed, effect, is_read_only, step}
+use Rattle.segment_manager.proofs.Common.{changed, is_read_only, step}
 use Rattle.segment_manager.proofs.Emptied.{changed-entries, changed-in, changed-others, emptied-is}
 use Rattle.segment_manager.proofs.Bridge.{IsEntryFor, entry-removed, in-handles, lookup-absent, lookup-found}
 use Rattle.segment_manager.proofs.Steps.{by_no_change, by_step, lands, open-writing, step-refuse, step-reply}
-use Rattle.segment_manager.proofs.{Listed.seen-there, Listed.object-here, Safely.Stepped, Safely.stepped}
-use Rattle.segment_manager.proofs.{Calling.denotes-live, Calling.denotes-released, Calling.object-live}
-use Rattle.segment_manager.proofs.{EntryPlaces.all-at, EntryPlaces.at-handle, EntryPlaces.of-class}
+use Rattle.segment_manager.proofs.{Steps.with-found, Steps.with-not_found, Listed.seen-there, Listed.object-here}
+use Rattle.segment_manager.proofs.{Safely.Stepped, Safely.stepped, Calling.denotes-live, Calling.denotes-released}
+use Rattle.segment_manager.proofs.{Calling.object-live, EntryPlaces.all-at, EntryPlaces.at-handle, EntryPlaces.of-class}
 use Rattle.segment_manager.proofs.{ObjectLists.found-handle, ObjectLists.key-found, Removed.IsGone, Removed.IsLeft}
-use Rattle.segment_manager.proofs.{Removed.removed-denotes, Steps.with-found, Steps.with-not_found, Here.IsHere}
-use Rattle.segment_manager.proofs.{HeldIndexes.denotes-index, Live.IsIn, Ranks.all-ordered, Rewritten.with_value}
+use Rattle.segment_manager.proofs.{Removed.removed-denotes, Here.IsHere, HeldIndexes.denotes-index, Live.IsIn}
+use Rattle.segment_manager.proofs.{Ranks.all-ordered, Rewritten.with_value}
 use Rattle.seg_index.specs.declared.keys.{Key.Key, Lookup.Lookup}
 use Rattle.seg_types.specs.declared.kinds.Class.TheVariants as class
 use Rattle.seg_types.specs.Names as names
@@ -183,16 +183,13 @@ pub found-entry : (c : Cut) (b : IsSegment c.bytes) (i : Index) (e : Key) (key :
 found-entry c b i e key at q p =
     let there : IsEntryFor i b.0 key at = found-for c i e key at b.0 b.1.denotes q p in record { directory = b.0; stands = b.1; object = there.object; is = there.stands }
 
-removed-place : (s : State) (c : Cut) (i : Index) (at : ℕ) → HoldsEntry s.cut.bytes i at → RemovesEntry s.cut c i at → SamePlace s.cut c
-removed-place s c i at x r = (r x.directory x.object x.stands x.is).place
-
 -- the look-up found its entry
 pub destroys-entered : (s t : State) (view : s ≡ t) (b : IsSegment s.cut.bytes) (c : Cut) (i : Index) (e : Key) (key : names.Key) (at : ℕ) → is_read_only t.mode ≡ false → Seeks i e key
     → Ends s.cut i e (Found at) → RemovesEntry s.cut c i at → Stepped s t c (asked.Destroy key) (Truth true)
 destroys-entered s t view b c i e key at may q p r =
     stepped s t view b c (asked.Destroy key) (Truth true) may (λ writing.
     by_step s (record s { cut = c }) (asked.Destroy key) (Truth true)
-    (record { mode = refl; place = removed-place s c i at (found-entry s.cut b i e key at q p) r }) (λ d k.
+    (record { mode = refl; place = let x = found-entry s.cut b i e key at q p in (r x.directory x.object x.stands x.is).place }) (λ d k.
     let there : IsEntryFor i d key at = found-for s.cut i e key at d k.denotes q p in
     lands (record s { cut = c }) (step s.mode d (asked.Destroy key)) (Truth true) (without_object d there.object) (record {
       is = step-reply s.mode d (asked.Destroy key) (Truth true) (without_object d there.object) (open-writing s.mode (asked.Destroy key) writing)
@@ -213,9 +210,6 @@ destroys-none s t view i e key at may q p =
 
 -- ---- destroying by a handle
 
-ptr-plan : (d : Directory) (h : ℕ) (o : Object) → object_at d (names.ByHandle h) ≡ Some o → effect d (asked.DestroyPtr h) ≡ Reply (Truth true) (without_object d o)
-ptr-plan d h o e = with-found d (names.ByHandle h) o (λ o. Reply (Truth true) (without_object d o)) e
-
 -- the object of the handle is gone from each directory
 destroys-object : (s : State) (c : Cut) (h : ℕ) → is_read_only s.mode ≡ false → IsSegment s.cut.bytes
     → ((d : Directory) → StandsFor s.cut.bytes d → (o : Object) × ((object_at d (names.ByHandle h) ≡ Some o) × Becomes s.cut c (without_object d o)))
@@ -224,7 +218,7 @@ destroys-object s c h writing b each =
     by_step s (record s { cut = c }) (asked.DestroyPtr h) (Truth true) (record { mode = refl; place = (each b.0 b.1).1.1.place }) (λ d k.
     let x = each d k in
     lands (record s { cut = c }) (step s.mode d (asked.DestroyPtr h)) (Truth true) (without_object d x.0) (record {
-      is = step-reply s.mode d (asked.DestroyPtr h) (Truth true) (without_object d x.0) (open-writing s.mode (asked.DestroyPtr h) writing) (ptr-plan d h x.0 x.1.0);
+      is = step-reply s.mode d (asked.DestroyPtr h) (Truth true) (without_object d x.0) (open-writing s.mode (asked.DestroyPtr h) writing) (with-found d (names.ByHandle h) x.0 (λ o. Reply (Truth true) (without_object d o)) x.1.0);
       denotes = x.1.1.denotes;
     }))
 

@@ -87,11 +87,7 @@ entered-other i m d t o c h =
     let e = sym (other-with i d o (other_class i o c)) in
     other-one i m d t o
     (subst (λ os. IsTrue (is_index (table_of (other i) d) os (order_of (other i)))) e h.is)
-    (ap-at e h.at)
-  where
-    ap-at : objects_of (other i) d ≡ objects_of (other i) (with_object d o) → IsIndexAt m (place_of (other i)) (table_of (other i) d) (entries_of (other i) d)
-        → IsIndexAt m (place_of (other i)) (table_of (other i) d) (entries_of (other i) (with_object d o))
-    ap-at e h = subst (λ os. IsIndexAt m (place_of (other i)) (table_of (other i) d) (handles os)) e h
+    (subst (λ os. IsIndexAt m (place_of (other i)) (table_of (other i) d) (handles os)) e h.at)
 
 -- ---- what stays beside an index
 

@@ -1,4 +1,5 @@
 -- The calls that construct, or find or construct, as the code makes them: whatever fills the object.
+use Rattle.segment_manager.specs.Filled.{HasBegun}
 use Rattle.segment_manager.proofs.Common.{◌≡◌, refl, sym, ap, subst, ◌∙◌, ℕ, true, false, Some, None, Option, Ok, Err}
 use Rattle.segment_manager.proofs.Common.{Result, List, IfErr, none-some, Cut, Kind, Refusal, Exists, NoSpace, Command}
 use Rattle.segment_manager.proofs.Common.{Content, Index, NewEntry, Mode, Answer, Made, Refused, is_untouched, Begins}
@@ -25,6 +26,10 @@ pub begun-for : (old new : Cut) (key : names.Key) (content : Content) (s : Shape
     → Begins old new key (kind_of (bare content)) (count_of (bare content)) (value_len (bare content)) r
 begun-for old new key content s r is g = subst (λ (k : Kind). Begins old new key k (count_of (bare content)) (value_len (bare content)) r) is.kind
     (subst (λ n. Begins old new key s.kind n (value_len (bare content)) r) is.count (subst (λ n. Begins old new key s.kind s.count n r) is.len g))
+
+pub has-begun : (old new : Cut) (key : names.Key) (content : Content) (s : Shape) (r : Begun) → IsSegment old.bytes → IsShapeOf content s → Begins old new key s.kind s.count s.len (Ok r)
+    → HasBegun new content r.handle r.at r.entry
+has-begun old new key content s r b is g = (old, (b, (key, begun-for old new key content s (Ok r) is g)))
 
 -- ---- filled
 

@@ -20,8 +20,6 @@ use Rattle.seg_vector.specs.declared.places.Place.{Place}
 use Rattle.segment_manager.specs.Standing.{place_at}
 use Rattle.seg_types.specs.Commands as asked
 
--- ---- the elements of numbers
-
 -- ---- what the plans are
 
 -- reading in an object of numbers, and writing

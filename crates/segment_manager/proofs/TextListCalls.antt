@@ -66,13 +66,10 @@ texts-bytes l [] qs h e = subst (AllByRecursion HasBytes) (same_Some [] qs e) tt
 texts-bytes l (bs ∷ bss) qs h e =
     texts_bytes-if l bs bss qs (placed_text l bs) refl (first (are_bytes bs) (list_all are_bytes bss) h) (λ m ps g. texts-bytes m bss ps (second (are_bytes bs) (list_all are_bytes bss) h) g) e
 
-quoted-if : (bs : List ℕ) (bss : List (List ℕ)) (r : Result (List (List ℕ)) Refusal) → r ≡ Ok bss → (elim r as (λ _. Result (List (List ℕ)) Refusal) [ Ok css ↦ Ok (bs ∷ css) | Err e ↦ Err e ]) ≡ Ok (bs ∷ bss)
-quoted-if bs bss r e = ap (λ (q : Result (List (List ℕ)) Refusal). elim q as (λ _. Result (List (List ℕ)) Refusal) [ Ok css ↦ Ok (bs ∷ css) | Err e ↦ Err e ]) e
-
 -- texts as literals are read as them
 pub texts-read : (bss : List (List ℕ)) → texts_of (map asked.Quoted bss) ≡ Ok bss
 texts-read [] = refl
-texts-read (bs ∷ bss) = quoted-if bs bss (texts_of (map asked.Quoted bss)) (texts-read bss)
+texts-read (bs ∷ bss) = ap (λ (q : Result (List (List ℕ)) Refusal). elim q as (λ _. Result (List (List ℕ)) Refusal) [ Ok css ↦ Ok (bs ∷ css) | Err e ↦ Err e ]) (texts-read bss)
 
 one-block : (xs : List Extent) (r : Option Extent) → xs ++ option_to_list r ≡ xs ++ (option_to_list r ++ [])
 one-block xs r = ap (λ (ys : List Extent). xs ++ ys) (sym (append-nil (option_to_list r)))

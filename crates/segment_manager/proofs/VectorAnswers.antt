@@ -1,10 +1,10 @@
 -- What the calls of seg_vector ensure of the vector at the place that was found, as the steps of the calls on the object's vector.
-use Rattle.segment_manager.proofs.Safely.{pick-outside, pick-space}
+use Rattle.segment_manager.proofs.Safely.{pick-outside, pick-space, Answered, answered, done-so}
 use Rattle.segment_manager.proofs.Common.{◌++◌, ◌+◌, ◌-◌, ◌<◌, Bool, Err, IsTrue, List, None, Ok, Result, Some, [], ap}
 use Rattle.segment_manager.proofs.Common.{arith, false, get_or, inl, inr, length, map, pos, refl, slice_get, subst, sym}
 use Rattle.segment_manager.proofs.Common.{take, true, ℕ, ℤ, ◌∙◌, ◌∷◌, ◌≡◌, ◌≤◌, ◌⊎◌, le-ltb, lt-ltb, length-map}
 use Rattle.segment_manager.proofs.Common.{map-append, take-map, slice_get-get_or, slice_get-map, slice_get_past}
-use Rattle.segment_manager.proofs.Common.{list_all, flat_map, insert, option_map, remove, slice_set, Cut, Table, Pop}
+use Rattle.segment_manager.proofs.Common.{list_all, flat_map, insert, option_map, remove, slice_set, Cut, Table}
 use Rattle.segment_manager.proofs.Common.{literal_of, value_of_literal, same_kind, size_of, Key, Vector, ScalarKind}
 use Rattle.segment_manager.proofs.Common.{Refusal, NoSpace, OutOfRange, capacity_for_one, Assigns, IsOutside}
 use Rattle.segment_manager.proofs.Common.{IsSomeVector, IsVectorGrown, IsVectorNow, IsWithoutSpace, Place, Done}
@@ -12,14 +12,14 @@ use Rattle.segment_manager.proofs.Common.{Element, Refused, container_at, Direct
 use Rattle.segment_manager.proofs.Common.{kind_of, live, Reply, perform, with_capacity, Answers, IsSegment}
 use Rattle.segment_manager.proofs.Common.{IsStepOfKind, State, answer_of, changed, effect, is_read_only, AnswersSafely}
 use Rattle.segment_manager.proofs.Common.{Answer, Command, StepsSafely, done_answer}
-use Rattle.segment_manager.proofs.Safely.{Answered, answered, done-so}
 use Rattle.segment_manager.proofs.ContentPlans.{assign-plan, erase-plan, get-plan, insert-plan, pop-plan, push-plan}
 use Rattle.segment_manager.proofs.ItemSteps.{HoldsItems, ListedGrown, ListedNow, Listing, changes-safely, grows-safely}
 use Rattle.segment_manager.proofs.ItemSteps.{items-full, items-grown, items-now, items-refused, items-stay, items-steps}
 use Rattle.segment_manager.proofs.ItemSteps.{so-too, some-items, vector-only}
 use Rattle.segment_manager.proofs.Whole.{IsOfKind, whole-insert, whole-reached, whole-remove, whole-set, whole-spelled}
-use Rattle.segment_manager.proofs.{Contained.contents-fit, ToChange.seen-found, Steps.open-reading, Steps.open-writing}
-use Rattle.segment_manager.proofs.{Stored.literal-read, Stored.literals-read, ContentPlans.set-plan, Whole.whole-values}
+use Rattle.segment_manager.proofs.Whole.{whole-values}
+use Rattle.segment_manager.proofs.{ContentPlans.set-plan, Contained.contents-fit, ToChange.seen-found}
+use Rattle.segment_manager.proofs.{Steps.open-reading, Steps.open-writing, Stored.literal-read, Stored.literals-read}
 use Rattle.seg_vector.specs.VectorCalls.{ErasesFrom, Gets, InsertsInto, IsVector, Pops, Pushes, Sets}
 use Rattle.seg_types.specs.Commands as asked
 

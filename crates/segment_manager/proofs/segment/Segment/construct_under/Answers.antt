@@ -1,6 +1,6 @@
 -- The object is begun, with the shape that its filling has, and then it is filled.
 use Rattle.segment_manager.proofs.Common.{exit-is, refl, sym, ap, subst, ◌∙◌, Err, Ok, Key, Constructs, bare}
-use Rattle.segment_manager.proofs.FilledCalls.{begun-for, construct-built, construct-not_begun, made-segment, made-step}
+use Rattle.segment_manager.proofs.FilledCalls.{begun-for, has-begun, construct-built, construct-not_begun, made-segment, made-step}
 use Rattle.segment_manager.proofs.{Common.handle_answer, Common.kind_of, Common.new_key_seen, Steps.refuses-read_only}
 use Rattle.seg_types.specs.Commands.{Construct}
 use Rattle.segment_manager.proofs.segment.Segment.construct_under.{Goals.After-build, Goals.In_err-begun, Given.Over}
@@ -42,16 +42,9 @@ returns-in_err-begun-clause-step g c =
     rw (exit-is c.from_residual.result _ c.from_residual.ensures.1) (made-step _ _ c.self.view_is _ _ _ _ (none g (goal.at.returns-in_err-begun-clause-step g c).In_err-begun) (sym c.is_read_only.ensures ∙ c.if-is_read_only.false))
 
 pub build-requires-clause-begun : goal.build-requires-clause-begun
-build-requires-clause-begun g c = (
-  c.self.inside.heap,
-  (
-    c.self.invariant,
-    (
-      new_key_seen c.key_for-key.result,
-      begun-for c.self.inside.heap c.begin.new.heap _ (g.F.Filling.content c.args.filling.now) c.shape-shape.result (Ok c.in_ok-begun.begun) c.shape-shape.ensures c.in_ok-begun.ensures,
-    ),
-  ),
-)
+build-requires-clause-begun g c =
+    has-begun c.self.inside.heap c.begin.new.heap (new_key_seen c.key_for-key.result) (g.F.Filling.content c.args.filling.now)
+    c.shape-shape.result c.in_ok-begun.begun c.self.invariant c.shape-shape.ensures c.in_ok-begun.ensures
 
 pub invariant_of-self-2 : goal.invariant_of-self-2
 invariant_of-self-2 g c =

@@ -1,6 +1,6 @@
 -- The bytes at the place are read.
 use Rattle.segment_manager.proofs.Replies.{place-room, replies-found, replies-missing, scalar-answer}
-use Rattle.segment_manager.proofs.{Common.refl, Common.exit-is, Common.current, Common.read, Calling.denotes-heap}
+use Rattle.segment_manager.proofs.{Common.refl, Common.exit-is, Common.current, Calling.denotes-heap}
 use Rattle.segment_manager.proofs.segment.Segment.get_value.Goals as goal
 
 pub element-requires-clause-heap : goal.element-requires-clause-heap

@@ -1,7 +1,6 @@
 -- One index is shrunk, and then the other.
-use Rattle.segment_manager.proofs.Common.{refl, sym, ◌∙◌, false, Named, is_read_only}
-use Rattle.segment_manager.proofs.Reserves.{shrinks, shrunk-index}
-use Rattle.segment_manager.proofs.{Steps.refuses-read_only, KeyCalls.segment-index}
+use Rattle.segment_manager.proofs.{Common.refl, Common.sym, Common.◌∙◌, Common.Named, Reserves.shrinks}
+use Rattle.segment_manager.proofs.{Reserves.shrunk-index, Steps.refuses-read_only, KeyCalls.segment-index}
 use Rattle.seg_types.specs.Commands.{ShrinkIndexes}
 use Rattle.segment_manager.proofs.segment.Segment.shrink_indexes.Goals as goal
 

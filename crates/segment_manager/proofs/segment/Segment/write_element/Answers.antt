@@ -1,5 +1,5 @@
 -- The bytes are written at the place that is found.
-use Rattle.segment_manager.proofs.Common.{exit-is, ◌≡◌, refl, sym, ap, ◌∙◌, true, false, length, List, ℕ, size_of}
+use Rattle.segment_manager.proofs.Common.{exit-is, ◌≡◌, refl, sym, ap, ◌∙◌, false, length, List, ℕ, size_of}
 use Rattle.segment_manager.proofs.{Common.is_read_only, Blocks.spelling-length, Replies.place-room}
 use Rattle.segment_manager.proofs.{Steps.refuses_of_kind-read_only, Stored.stores-nothing, Stored.stores-number}
 use Rattle.segment_manager.proofs.segment.Segment.write_element.Goals as goal

@@ -110,10 +110,6 @@ entered i a b c e d o at (Some g) k h made x same adds laid keeps = entered-some
 
 -- ---- what the machine does
 
--- numbers ask for nothing more
-pub numbers-given : (d : Directory) (l : LiveSet) (k : ScalarKind) (zs : List ℤ) → IsGiven d l (asked.Numbers k zs) (Numbers k zs) l
-numbers-given d l k zs = record { met = λ next. refl }
-
 -- the value, and then the object in its block
 abbrev value_plan : Index → List ℕ → Content → (Object → Directory → Plan) → Directory → Extent → Plan
 value_plan i name content next e x = with_value content (λ v. next (object_of i name v x) (with_object e (object_of i name v x)))
@@ -215,5 +211,5 @@ module _ (i : Index) (a : Cut) (d : Directory) (e : Key) (key : names.Key) (name
         after = with_object (grown i d a r.between g r.grows) (object_of i name (Numbers k zs) x);
         left = resized (live_of r.between.bytes) x;
         met = content-met i a d e key name (Scalar k) (asked.Numbers k zs) said new r.between x (Numbers k zs) (resized (live_of r.between.bytes) x) g r.grows
-            (ap (λ j. place (live_of r.between.bytes) j ObjectRole) (sym len) ∙ r.takes.placed) (numbers-given d (resized (live_of r.between.bytes) x) k zs);
+            (ap (λ j. place (live_of r.between.bytes) j ObjectRole) (sym len) ∙ r.takes.placed) (record { met = λ next. refl });
       }

@@ -11,7 +11,7 @@ use Rattle.segment_manager.proofs.Common.{Elements, Object, Value, is_good_value
 use Rattle.segment_manager.proofs.Common.{Reply, met, perform, with_capacity, StandsAt, Answers, IsSegment}
 use Rattle.segment_manager.proofs.Common.{IsStepOfKind, StandsFor, State, changed, effect, is_read_only, plan}
 use Rattle.segment_manager.proofs.Steps.{by_no_change_of_kind, open-writing, step_of_kind-found}
-use Rattle.segment_manager.proofs.Refilled.{HoldsAt, Refill, holds-at, room-asked, refill-steps_of_kind, replied}
+use Rattle.segment_manager.proofs.Refilled.{HoldsAt, Refill, holds-at, room-asked, refill-steps_of_kind}
 use Rattle.segment_manager.proofs.{Common.StepsSafely, Contained.contents-fit, Contained.contents-stand, Safely.done-so}
 use Rattle.segment_manager.proofs.{Safely.stays, Codes.code-read, Frame.object-roomy, Here.standing}
 
@@ -118,7 +118,7 @@ module _ {A : Type 0} (L : Listing A) (old new : Cut) (d : Directory) (key : Key
 
   -- in the places that there were, or fewer
   pub items-now : (xs : List A) (u : Table) (c : Command) (answer : Answer) → effect d c ≡ Reply answer (with_elements xs u) → ListedNow L old new p h.table xs u → Refill old new d key c answer
-  items-now xs u c answer e now = items-refill xs u c answer (replied d c answer (with_elements xs u) e) now
+  items-now xs u c answer e now = items-refill xs u c answer (ap (perform d (live d)) e) now
 
   -- in n places, or more
   pub items-grown : (xs : List A) (n : ℕ) (c : Command) (answer : Answer) → effect d c ≡ with_capacity L.each n h.table (λ u. Reply answer (with_elements xs u))

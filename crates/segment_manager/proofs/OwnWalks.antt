@@ -243,7 +243,6 @@ counts-own b d k =
 -- ---- a call of the iterator
 
 module _ (s : State) (old new : TileWalk) (at : ℕ) (r : Option Span) (h : HasPassed s old at) (g : GoesOnOwn old r new) where
-
   at-own : (d : Directory) → StandsFor s.cut.bytes d → option_map as_span r ≡ slice_get (own_spans d) at
   at-own d k = g.says d (subst (λ (t : State). StandsFor t.cut.bytes d) (sym h.segment) k) ∙ ap (slice_get (own_spans d)) (sym (h.count.answers d k))
 

@@ -40,9 +40,13 @@ returns-in_err-place-clause-step g c =
     (finds-no_container _ _ _ (command_of c.args.change _) _ (open-writing _ (command_of c.args.change _) (sym c.is_read_only.ensures ∙ c.if-is_read_only.false)) c.in_err-place.ensures))
 
 pub change_there-requires-clause-there : goal.change_there-requires-clause-there
-change_there-requires-clause-there g c =
-    (c.self.invariant, (ByHandle c.in_ok-object.object.handle, stands-there _ _ c.self.view_is
-    (ByHandle c.in_ok-object.object.handle) c.in_ok-object.object.kind _ _ refl c.in_ok-place.ensures))
+change_there-requires-clause-there g c = (
+  c.self.invariant,
+  (
+    ByHandle c.in_ok-object.object.handle,
+    stands-there _ _ c.self.view_is (ByHandle c.in_ok-object.object.handle) c.in_ok-object.object.kind _ _ refl c.in_ok-place.ensures,
+  ),
+)
 
 pub invariant_of-self : goal.invariant_of-self
 invariant_of-self g c = (done g (goal.at.invariant_of-self g c).After-change_there).segment

@@ -54,13 +54,10 @@ abbrev pub LeadsTo : Cut → Index → ℕ → ℕ → Type 0
 LeadsTo c i at h = (t : Table) (hs : List ℕ) → IsIndexOf c (place_of i) t hs → slice_get hs at ≡ Some h
 
 module _ (a : Cut) (i : Index) (at h : ℕ) (leads : LeadsTo a i at h) where
-  -- is its object's
-  entry-handle : (d : Directory) (o : Object) → Denotes current a.bytes d → slice_get (objects_of i d) at ≡ Some o → h ≡ handle o.extent
-  entry-handle d o k e = same_Some h (handle o.extent) (sym (leads (table_of i d) (entries_of i d) (denotes-index i a d k)) ∙ at-handle (objects_of i d) at o e)
-
   entry-found : (d : Directory) (o : Object) → Denotes current a.bytes d → slice_get (objects_of i d) at ≡ Some o → object_at d (names.ByHandle h) ≡ Some o
   entry-found d o k e =
-      subst (λ g. object_at d (names.ByHandle g) ≡ Some o) (sym (entry-handle d o k e))
+      subst (λ g. object_at d (names.ByHandle g) ≡ Some o)
+      (sym (same_Some h (handle o.extent) (sym (leads (table_of i d) (entries_of i d) (denotes-index i a d k)) ∙ at-handle (objects_of i d) at o e)))
       (all-at (λ (p : Object). object_at d (names.ByHandle (handle p.extent)) ≡ Some p) (objects_of i d) at o (in-handles current i d k.directory) e)
 
   pub entry-object : HoldsEntry a.bytes i at → HoldsObject a.bytes h

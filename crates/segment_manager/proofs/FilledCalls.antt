@@ -1,14 +1,14 @@
 -- The calls that construct, or find or construct, as the code makes them: whatever fills the object.
-use Rattle.segment_manager.specs.Filled.{HasBegun, Builds, IsShapeOf}
-use Rattle.segment_manager.specs.{Begun.Ends, Begun.IsEnding, Found.pair_found, Answers.Found}
-use Rattle.segment_manager.proofs.Common.{◌≡◌, refl, sym, ap, subst, ◌∙◌, ℕ, true, false, Some, None, Option, Ok, Err}
-use Rattle.segment_manager.proofs.Common.{Result, List, IfErr, none-some, Cut, Kind, Refusal, Exists, NoSpace, Command}
-use Rattle.segment_manager.proofs.Common.{Content, Index, NewEntry, Mode, Answer, Made, Refused, is_untouched, Begins}
-use Rattle.segment_manager.proofs.Common.{IsAbsentAt, IsNotBegun, Object, Directory, count_of, kind_of, object_at}
-use Rattle.segment_manager.proofs.Common.{value_len, Constructs, FindsOrConstructs, IsBegunFor, MakesValue, with_count}
-use Rattle.segment_manager.proofs.Common.{handle_at, pair_answer, IsNewKeyOf, bare, StandsAt, pair_of_kind, Answers}
-use Rattle.segment_manager.proofs.Common.{IsSegment, IsStep, KeepsRefused, State, answer_of, handle_answer}
-use Rattle.segment_manager.proofs.Common.{is_read_only, Reply, effect, found, with_new_object}
+use Rattle.segment_manager.specs.Begun.{Ends, IsEnding}
+use Rattle.segment_manager.specs.{Filled.HasBegun, Filled.Builds, Filled.IsShapeOf, Found.pair_found, Answers.Found}
+use Rattle.segment_manager.proofs.Common.{false≢true, ◌≡◌, refl, sym, ap, subst, ◌∙◌, ℕ, true, false, Some, None}
+use Rattle.segment_manager.proofs.Common.{Option, Ok, Err, Result, List, IfErr, none-some, Cut, Kind, Refusal, Exists}
+use Rattle.segment_manager.proofs.Common.{NoSpace, Command, Content, Index, NewEntry, Mode, Answer, Made, Refused}
+use Rattle.segment_manager.proofs.Common.{is_untouched, Begins, IsAbsentAt, IsNotBegun, Object, Directory, count_of}
+use Rattle.segment_manager.proofs.Common.{kind_of, object_at, value_len, Constructs, FindsOrConstructs, IsBegunFor}
+use Rattle.segment_manager.proofs.Common.{MakesValue, with_count, handle_at, pair_answer, IsNewKeyOf, bare, StandsAt}
+use Rattle.segment_manager.proofs.Common.{pair_of_kind, Answers, IsSegment, IsStep, KeepsRefused, State, answer_of}
+use Rattle.segment_manager.proofs.Common.{handle_answer, is_read_only, Reply, effect, found, with_new_object}
 use Rattle.segment_manager.proofs.FoundOrMade.{constructs-exists, finds, found-there, made_for, made_handle, makes}
 use Rattle.segment_manager.proofs.NewValues.{IsMadeNever, IsMadeNow, away-in, key-taken, value-built, value-loose}
 use Rattle.segment_manager.proofs.{FoundOrMade.makes-nothing, NewValues.value-not_begun, NewValues.value-not_built}
@@ -48,9 +48,6 @@ module _ (content : Content) where
 
 -- ---- the steps
 
-not-untouched : false ≡ true → ⊥
-not-untouched e = cc
-
 module _ (a : Cut) (b : IsSegment a.bytes) (key : names.Key) (content : Content) where
   no-space : {A : Type 0} (f : A → Answer) (command : Command) (say : Object → Answer) → ((d : Directory) → object_at d key ≡ None → effect d command ≡ with_new_object d key content (λ o e. Reply (say o) e))
       → (c : Cut) (why : Refusal) → why ≡ NoSpace → IsMadeNever a c key content → Constructs a c command (answer_of f) (Err why)
@@ -58,7 +55,7 @@ module _ (a : Cut) (b : IsSegment a.bytes) (key : names.Key) (content : Content)
     step = λ mode writing.
         subst (λ (r : Refusal). IsStep (record { cut = a; mode = mode }) (record { cut = c; mode = mode }) command (Refused r)) (sym e)
         (makes-nothing (record { cut = a; mode = mode }) c key content command say writing d.place asks d.each);
-    refused = λ t. absurd (not-untouched (sym (ap (λ (r : Refusal). is_untouched (Refused r)) e) ∙ t));
+    refused = λ t. absurd (false≢true (sym (ap (λ (r : Refusal). is_untouched (Refused r)) e) ∙ t));
   }
 
   none-constructed : (c : Cut) (why : Refusal) → why ≡ NoSpace → IsMadeNever a c key content → Constructs a c (asked.Construct key content) handle_answer (Err why)
@@ -113,10 +110,7 @@ module _ (a : Cut) (b : IsSegment a.bytes) (key : names.Key) (content : Content)
   -- where no object has the key
   pub found-not_begun : (why : Refusal) (c : Cut) → object_at b.0 key ≡ None → IsNotBegun a c key (kind_of (bare content)) (value_len (bare content)) why
       → Constructs a c (asked.FindOrConstruct key content) pair_answer (Err why)
-  found-not_begun Exists c none t = absurd (let o = key-taken a key content c t b.0 b.1 in not-both b.0 o.0 none o.1)
-    where
-      not-both : (d : Directory) (o : Object) → object_at d key ≡ None → object_at d key ≡ Some o → ⊥
-      not-both d o e f = cc
+  found-not_begun Exists c none t = absurd (let o = key-taken a key content c t b.0 b.1 in none-some o.0 (sym none ∙ o.1))
   found-not_begun NoSpace c none t = none-found c NoSpace refl (value-not_begun a key content c t)
   found-not_begun why c none t = absurd t
 

@@ -215,7 +215,8 @@ destroys-object s c h writing b each =
     by_step s (record s { cut = c }) (asked.DestroyPtr h) (Truth true) (record { mode = refl; place = (each b.0 b.1).1.1.place }) (λ d k.
     let x = each d k in
     lands (record s { cut = c }) (step s.mode d (asked.DestroyPtr h)) (Truth true) (without_object d x.0) (record {
-      is = step-reply s.mode d (asked.DestroyPtr h) (Truth true) (without_object d x.0) (open-writing s.mode (asked.DestroyPtr h) writing) (with-found d (names.ByHandle h) x.0 (λ o. Reply (Truth true) (without_object d o)) x.1.0);
+      is = step-reply s.mode d (asked.DestroyPtr h) (Truth true) (without_object d x.0) (open-writing s.mode (asked.DestroyPtr h) writing)
+          (with-found d (names.ByHandle h) x.0 (λ o. Reply (Truth true) (without_object d o)) x.1.0);
       denotes = x.1.1.denotes;
     }))
 

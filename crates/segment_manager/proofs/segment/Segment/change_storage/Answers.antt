@@ -36,7 +36,8 @@ returns-then-not-is_stored-clause-step g c =
 
 pub returns-in_err-place-clause-step : goal.returns-in_err-place-clause-step
 returns-in_err-place-clause-step g c =
-    rw (exit-is c.from_residual-in_err-place.result _ c.from_residual-in_err-place.ensures.1) (located-changes _ _ _ c.in_ok-object.ensures c.args.change _ c.in_ok-object.object.kind _ refl
+    rw (exit-is c.from_residual-in_err-place.result _ c.from_residual-in_err-place.ensures.1)
+    (located-changes _ _ _ c.in_ok-object.ensures c.args.change _ c.in_ok-object.object.kind _ refl
     (finds-no_container _ _ _ (command_of c.args.change _) _ (open-writing _ (command_of c.args.change _) (sym c.is_read_only.ensures ∙ c.if-is_read_only.false)) c.in_err-place.ensures))
 
 pub change_there-requires-clause-there : goal.change_there-requires-clause-there

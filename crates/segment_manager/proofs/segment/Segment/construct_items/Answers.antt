@@ -16,7 +16,8 @@ invariant_of-self g c =
 pub returns-in_err-begun : goal.returns-in_err-begun
 returns-in_err-begun g c =
     refused-items _ _ g.I.Iterator.next_gives g.T.Scalar.whole _ _ c.self.view_is c.self.invariant (new_key_seen c.args.key.now) c.kind.result g.T.Scalar.kind c.kind.ensures c.args.count
-    (sym c.is_read_only.ensures ∙ c.if-is_read_only.false) c.requires.some c.args.items.now c.in_err-begun.field-0.0 c.begin_numbers.new.heap _ (exit-is c.from_residual.result _ c.from_residual.ensures.1) c.in_err-begun.ensures
+    (sym c.is_read_only.ensures ∙ c.if-is_read_only.false) c.requires.some c.args.items.now c.in_err-begun.field-0.0 c.begin_numbers.new.heap _
+    (exit-is c.from_residual.result _ c.from_residual.ensures.1) c.in_err-begun.ensures
 
 pub fill_items-enough-requires-clause-heap : goal.fill_items-enough-requires-clause-heap
 fill_items-enough-requires-clause-heap g c =

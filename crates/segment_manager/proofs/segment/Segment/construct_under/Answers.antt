@@ -39,7 +39,8 @@ invariant_of-self g c =
 
 pub returns-in_err-begun-clause-step : goal.returns-in_err-begun-clause-step
 returns-in_err-begun-clause-step g c =
-    rw (exit-is c.from_residual.result _ c.from_residual.ensures.1) (made-step _ _ c.self.view_is _ _ _ _ (none g (goal.at.returns-in_err-begun-clause-step g c).In_err-begun) (sym c.is_read_only.ensures ∙ c.if-is_read_only.false))
+    rw (exit-is c.from_residual.result _ c.from_residual.ensures.1)
+    (made-step _ _ c.self.view_is _ _ _ _ (none g (goal.at.returns-in_err-begun-clause-step g c).In_err-begun) (sym c.is_read_only.ensures ∙ c.if-is_read_only.false))
 
 pub build-requires-clause-begun : goal.build-requires-clause-begun
 build-requires-clause-begun g c =

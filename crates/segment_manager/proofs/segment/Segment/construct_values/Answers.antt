@@ -20,7 +20,8 @@ returns-in_err-begun g c =
     subst (λ (key : Key). TakesItems g.I.Iterator.next_gives value_of_scalar c.args.self.now (record { cut = c.begin_numbers.new.heap; mode = c.self.inside.mode }) key c.args.kind c.args.count c.args.items.now c.args.items.now c.from_residual.result)
     c.key_for-key.ensures.key
     (refused-items _ _ g.I.Iterator.next_gives value_of_scalar _ _ c.self.view_is c.self.invariant (new_key_seen c.key_for-key.result) c.args.kind c.args.kind refl c.args.count
-    (sym c.is_read_only.ensures ∙ c.if-is_read_only.false) c.requires.some c.args.items.now c.in_err-begun.field-0.0 c.begin_numbers.new.heap _ (exit-is c.from_residual.result _ c.from_residual.ensures.1) c.in_err-begun.ensures)
+    (sym c.is_read_only.ensures ∙ c.if-is_read_only.false) c.requires.some c.args.items.now c.in_err-begun.field-0.0 c.begin_numbers.new.heap _
+    (exit-is c.from_residual.result _ c.from_residual.ensures.1) c.in_err-begun.ensures)
 
 pub fill_values-enough-requires-clause-heap : goal.fill_values-enough-requires-clause-heap
 fill_values-enough-requires-clause-heap g c =

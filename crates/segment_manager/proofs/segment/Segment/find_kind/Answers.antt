@@ -11,7 +11,8 @@ found_of-requires c = seen-object _ _ c.self.view_is (key_seen c.args.key.now) _
 
 pub returns-in_err-found : goal.returns-in_err-found
 returns-in_err-found c =
-    rw (exit-is c.from_residual.result _ c.from_residual.ensures.1) (find-there _ _ c.self.view_is (key_seen c.args.key.now) c.args.kind _ _ c.in-Some.ensures c.in_err-found.ensures)
+    rw (exit-is c.from_residual.result _ c.from_residual.ensures.1)
+    (find-there _ _ c.self.view_is (key_seen c.args.key.now) c.args.kind _ _ c.in-Some.ensures c.in_err-found.ensures)
 
 pub returns : goal.returns
 returns c = find-there _ _ c.self.view_is (key_seen c.args.key.now) c.args.kind _ _ c.in-Some.ensures c.in_ok-found.ensures

@@ -6,7 +6,8 @@ use Rattle.segment_manager.proofs.segment.Segment.get_any.Goals as goal
 
 pub returns-in_err-object : goal.returns-in_err-object
 returns-in_err-object g c =
-    rw (exit-is c.from_residual.result _ c.from_residual.ensures.1) (let key : Key = g.O.Target.key c.args.key.now in any-missing c.args.self.now key (Get key c.args.index) c.in_err-object.field-0.0 c.in_err-object.ensures)
+    rw (exit-is c.from_residual.result _ c.from_residual.ensures.1)
+    (let key : Key = g.O.Target.key c.args.key.now in any-missing c.args.self.now key (Get key c.args.index) c.in_err-object.field-0.0 c.in_err-object.ensures)
 
 pub returns-in-Scalar : goal.returns-in-Scalar
 returns-in-Scalar g c =

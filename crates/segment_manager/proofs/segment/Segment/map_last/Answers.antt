@@ -10,7 +10,8 @@ last-requires g c =
 
 pub returns-in_err-place : goal.returns-in_err-place
 returns-in_err-place g c =
-    rw (exit-is c.from_residual.result _ c.from_residual.ensures.1) (tells-nothing _ _ _ _ pair_at_end _ c.in_err-place.ensures)
+    rw (exit-is c.from_residual.result _ c.from_residual.ensures.1)
+    (tells-nothing _ _ _ _ pair_at_end _ c.in_err-place.ensures)
 
 pub returns : goal.returns
 returns g c =

@@ -6,7 +6,8 @@ use Rattle.segment_manager.proofs.segment.Segment.measure.Goals as goal
 
 pub returns-in_err-object : goal.returns-in_err-object
 returns-in_err-object g c =
-    rw (exit-is c.from_residual.result _ c.from_residual.ensures.1) (measures-nowhere c.args.self.now (g.O.Target.key c.args.key.now) c.in_err-object.field-0.0 c.in_err-object.ensures)
+    rw (exit-is c.from_residual.result _ c.from_residual.ensures.1)
+    (measures-nowhere c.args.self.now (g.O.Target.key c.args.key.now) c.in_err-object.field-0.0 c.in_err-object.ensures)
 
 pub measure_kind-requires-clause-container : goal.measure_kind-requires-clause-container
 measure_kind-requires-clause-container g c = sized _ c.in_default.not-Scalar

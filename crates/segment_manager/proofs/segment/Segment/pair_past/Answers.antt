@@ -16,7 +16,8 @@ first_from-requires g c =
 
 pub returns-in_err-place : goal.returns-in_err-place
 returns-in_err-place g c =
-    rw (exit-is c.from_residual.result _ c.from_residual.ensures.1) (tells-nothing _ _ _ _ (pair_past c.args.above (g.K.Scalar.whole c.args.bound)) _ c.in_err-place.ensures)
+    rw (exit-is c.from_residual.result _ c.from_residual.ensures.1)
+    (tells-nothing _ _ _ _ (pair_past c.args.above (g.K.Scalar.whole c.args.bound)) _ c.in_err-place.ensures)
 
 pub returns-then-above : goal.returns-then-above
 returns-then-above g c =

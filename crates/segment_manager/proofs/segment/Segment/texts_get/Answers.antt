@@ -8,7 +8,8 @@ get-requires g c = texts-standing c.self.view_is _ _ c.self.invariant c.in_ok-pl
 
 pub returns-in_err-place : goal.returns-in_err-place
 returns-in_err-place g c =
-    rw (exit-is c.from_residual.result _ c.from_residual.ensures.1) (no_container-reply _ _ _ (Get (g.O.Target.key c.args.key.now) c.args.index) _ refl c.in_err-place.ensures)
+    rw (exit-is c.from_residual.result _ c.from_residual.ensures.1)
+    (no_container-reply _ _ _ (Get (g.O.Target.key c.args.key.now) c.args.index) _ refl c.in_err-place.ensures)
 
 pub returns : goal.returns
 returns g c =

@@ -10,7 +10,8 @@ get-requires g c =
 
 pub returns-in_err-place : goal.returns-in_err-place
 returns-in_err-place g c =
-    rw (exit-is c.from_residual.result _ c.from_residual.ensures.1) (no_container-reply _ _ _ (Get (g.O.Target.key c.args.key.now) c.args.index) _ refl
+    rw (exit-is c.from_residual.result _ c.from_residual.ensures.1)
+    (no_container-reply _ _ _ (Get (g.O.Target.key c.args.key.now) c.args.index) _ refl
     (subst (λ l. Answers c.args.self.now (λ d. container_at d (g.O.Target.key c.args.key.now) (Vector l)) (Err c.in_err-place.field-0.0))
     c.kind.ensures c.in_err-place.ensures))
 

@@ -15,7 +15,8 @@ invariant_of-self g c =
 
 pub returns-in_err-place-clause-step : goal.returns-in_err-place-clause-step
 returns-in_err-place-clause-step g c =
-    rw (exit-is c.from_residual.result _ c.from_residual.ensures.1) ((subst (λ l. IsNotToChange c.args.self.now (g.O.Target.key c.args.key.now) (Vector l) c.in_err-place.field-0.0) c.kind.ensures
+    rw (exit-is c.from_residual.result _ c.from_residual.ensures.1)
+    ((subst (λ l. IsNotToChange c.args.self.now (g.O.Target.key c.args.key.now) (Vector l) c.in_err-place.field-0.0) c.kind.ensures
     c.in_err-place.ensures).refused (Pop (g.O.Target.key c.args.key.now)) refl)
 
 pub returns : goal.returns

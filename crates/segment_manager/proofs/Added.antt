@@ -7,16 +7,15 @@ use Rattle.segment_manager.proofs.Common.{live_of, Table, no_table, allocated-li
 use Rattle.segment_manager.proofs.Common.{beside_table, unlinked, without_link, IsIndexOf, capacity_at, place_of}
 use Rattle.segment_manager.proofs.Common.{grown_capacity, Object, Directory, extents_of, is_object, live, object_at}
 use Rattle.segment_manager.proofs.Common.{with_object, Denotes, IsObjectAt, class_of_index, entries_of, table_of}
-use Rattle.segment_manager.proofs.Common.{with_table_of}
-use Rattle.seg_index.proofs.Laws.{place_behind}
-use Rattle.seg_index.specs.declared.index.Index.TheVariants as index
-use Rattle.segment_manager.proofs.{AnyClass.KeepsFront, AnyClass.denotes-put, Calling.denotes-live}
-use Rattle.segment_manager.proofs.{Frame.any_object-same, Live.adding, Made.IsMade, Made.allocated-found}
-use Rattle.segment_manager.proofs.{Made.taken-found, Made.taken-live, Order.all_of-inserted, Order.inserted}
-use Rattle.segment_manager.proofs.{Order.live-rises}
+use Rattle.segment_manager.proofs.AnyClass.{KeepsFront, denotes-put}
+use Rattle.segment_manager.proofs.Made.{IsMade, allocated-found, taken-found, taken-live}
+use Rattle.segment_manager.proofs.Order.{all_of-inserted, inserted, live-rises}
 use Rattle.segment_manager.proofs.Entered.{HasOne, OfRest, entered-other, entered-own, has_both, key_in, of_all}
 use Rattle.segment_manager.proofs.Entered.{of_rest, other, other-stays, other-words}
 use Rattle.segment_manager.proofs.Tables.{index-left_out, last-table, left_out, live-moved_index, same-table, table-of}
+use Rattle.segment_manager.proofs.{Common.with_table_of, Calling.denotes-live, Frame.any_object-same, Live.adding}
+use Rattle.seg_index.proofs.Laws.{place_behind}
+use Rattle.seg_index.specs.declared.index.Index.TheVariants as index
 
 -- ---- the bytes once the entry is there
 

@@ -1,20 +1,19 @@
 -- Calls on elements whose kind is what the object says: then the step of the kind is the command's own.
 use Rattle.segment_manager.proofs.Common.{◌≡◌, refl, sym, ap, subst, ◌∙◌, ℕ, ℤ, pos, true, false, Option, Some, None}
 use Rattle.segment_manager.proofs.Common.{Result, Ok, Err, List, map, slice_set, eq-eqb, same_Some, Kind, ScalarOf}
-use Rattle.segment_manager.proofs.Common.{TextKind, VectorKind, MapKind, TextsKind, ScalarKind, U8, Refusal, NotFound}
-use Rattle.segment_manager.proofs.Common.{WrongKind, code_of, is_value, Key, ByHandle, Command, Literal, literal_of}
+use Rattle.segment_manager.proofs.Common.{TextKind, VectorKind, TextsKind, ScalarKind, U8, Refusal, NotFound, WrongKind}
+use Rattle.segment_manager.proofs.Common.{code_of, is_value, Key, ByHandle, Command, Literal, literal_of}
 use Rattle.segment_manager.proofs.Common.{value_of_literal, Mode, Located, Answer, Done, Refused, elements_at}
 use Rattle.segment_manager.proofs.Common.{elements_of, kind_at, Value, Numbers, Elements, Bytes, Pairs, Texts, Object}
 use Rattle.segment_manager.proofs.Common.{Directory, kind_of, live, object_at, IsMissing, IsLocated, Plan, Refuse}
 use Rattle.segment_manager.proofs.Common.{Reply, perform, with, Answers, IsReply, IsReplyOfKind, IsStep, State}
 use Rattle.segment_manager.proofs.Common.{StandsFor, changed, effect, element_at, get, is_read_only, set, step}
-use Rattle.segment_manager.proofs.Common.{with_items}
-use Rattle.seg_types.specs.Commands as asked
-use Rattle.segment_manager.specs.Calls.{scalar_reply}
-use Rattle.segment_manager.proofs.{AnyStorage.IsOfKindAt, AnyStorage.kind-told, Stored.literal-read}
 use Rattle.segment_manager.proofs.Locating.{kind-by_key, reply_of_kind-by_key}
 use Rattle.segment_manager.proofs.Refilled.{refused-steps, same_plan-steps}
 use Rattle.segment_manager.proofs.Steps.{open-reading, step-refuse, step_of_kind-step, with-found, with-not_found}
+use Rattle.segment_manager.proofs.{Common.with_items, AnyStorage.IsOfKindAt, AnyStorage.kind-told, Stored.literal-read}
+use Rattle.segment_manager.specs.Calls.{scalar_reply}
+use Rattle.seg_types.specs.Commands as asked
 
 -- ---- what an object says of its elements
 
@@ -43,9 +42,6 @@ none-if : (d : Directory) (key : Key) (r : Refusal) (p : Option Object) → obje
 none-if d key r None e f = let same : NotFound ≡ r = cc in Nowhere e same
 none-if d key r (Some o) e f = Other o e (sym f)
 
-has-none : (d : Directory) (key : Key) (r : Refusal) → Err r ≡ elements_at d key → HasNone d key r
-has-none d key r e = none-if d key r (object_at d key) refl e
-
 -- the object is of a kind
 elements-told : (d : Directory) (key : Key) (kind : Kind) → IsOfKindAt d key kind → elements_at d key ≡ elements_of kind
 elements-told d key kind e = ap elements_in e.is ∙ ap elements_of e.kind_is
@@ -71,7 +67,7 @@ reply_of mode d c q = elim q as (λ _. Answer) [ Err r ↦ Refused r | Ok k ↦ 
 machine-if : (mode : Mode) (d : Directory) (key : Key) (i : ℕ) (q : Result ScalarKind Refusal) → ((o : Object) → object_at d key ≡ Some o → kind_of o.value ≡ TextsKind → ⊥) → elements_at d key ≡ q
     → reply_of mode d (asked.Get key i) q ≡ (step mode d (asked.Get key i)).0
 machine-if mode d key i (Ok k) n e = refl
-machine-if mode d key i (Err r) n e = sym (ap (λ (x : Answer × Directory). x.0) (step-not_read mode d key i r n (has-none d key r (sym e))))
+machine-if mode d key i (Err r) n e = sym (ap (λ (x : Answer × Directory). x.0) (step-not_read mode d key i r n (none-if d key r (object_at d key) refl (sym e))))
 
 -- the object of a key is no vector of texts
 abbrev pub HasNoTexts : State → Key → Type 0
@@ -136,8 +132,7 @@ left-kind : (kind : Kind) (k : ScalarKind) → Ok k ≡ elements_of kind → (ki
 left-kind (ScalarOf j) k e t v = let same : k ≡ j = cc in ap ScalarOf same
 left-kind TextKind k e t v = absurd (t refl)
 left-kind (VectorKind j) k e t v = absurd (v j refl)
-left-kind (MapKind j m) k e t v = absurd (cc)
-left-kind TextsKind k e t v = absurd (cc)
+left-kind kind k e t v = absurd (cc)
 
 -- neither a text nor a vector: scalars
 pub scalar-kind : (s : State) (key : Key) (kind : Kind) (k : ScalarKind) → Answers s (λ d. kind_at d key) (Ok kind) → Answers s (λ d. elements_at d key) (Ok k) → (kind ≡ TextKind → ⊥)
@@ -156,8 +151,7 @@ set-plan : (d : Directory) (o : Object) (v : Value) (i : ℕ) (k : ScalarKind) �
 set-plan d o (Numbers j zs) i k e = let same : j ≡ k = cc in (zs, λ l. ap (λ n. set_with d o (Numbers j zs) i zs (value_of_literal n l)) same)
 set-plan d o (Elements j zs t) i k e = let same : j ≡ k = cc in (zs, λ l. ap (λ n. set_with d o (Elements j zs t) i zs (value_of_literal n l)) same)
 set-plan d o (Bytes bs t) i k e = let same : U8 ≡ k = cc in (map pos bs, λ l. ap (λ n. set_with d o (Bytes bs t) i (map pos bs) (value_of_literal n l)) same)
-set-plan d o (Pairs j m ps) i k e = absurd (cc)
-set-plan d o (Texts ps t) i k e = absurd (cc)
+set-plan d o v i k e = absurd (cc)
 
 set-effect : (d : Directory) (key : Key) (k : ScalarKind) (i : ℕ) (l : Literal) (r : Result ℤ Refusal) (e : HasElements d key k) → value_of_literal k l ≡ r
     → effect d (asked.Set key i l) ≡ set_with d e.object e.object.value i (set-plan d e.object e.object.value i k e.elements).0 r

@@ -1,15 +1,13 @@
 -- A call on whatever has storage: the kind of the object of the key says which call it is.
 use Rattle.segment_manager.proofs.Common.{◌≡◌, refl, sym, ap, ◌∙◌, ℕ, Bool, true, false, Option, Some, None, Result, Ok}
-use Rattle.segment_manager.proofs.Common.{Err, if◌then◌else◌, eq-eqb, Kind, ScalarOf}
-use Rattle.segment_manager.proofs.Common.{ScalarKind, Refusal, NotFound, WrongKind, code_of, same_kind, Key}
-use Rattle.segment_manager.proofs.Common.{Command, Place, Answer, Refused, kind_at, container_at, container_place}
-use Rattle.segment_manager.proofs.Common.{place_of_kind, sizes_at, sizes_at_kind, sizes_of, sizes_of_kind, Value}
-use Rattle.segment_manager.proofs.Common.{Numbers, Directory, Object, kind_of, live, object_at, IsMissing, Refuse}
-use Rattle.segment_manager.proofs.Common.{perform, Answers, IsStep, IsStepOfKind, State, effect}
-use Rattle.segment_manager.proofs.Common.{has_sizes, has_storage, is_read_only, step, step_of_kind, Mode}
-use Rattle.segment_manager.proofs.{Refilled.refused-steps, Steps.step_of_kind-step, Steps.moves-same}
-use Rattle.segment_manager.proofs.StorageSteps.{change-refused, no-storage}
-use Rattle.segment_manager.proofs.Common.{Change, command_of}
+use Rattle.segment_manager.proofs.Common.{Err, if◌then◌else◌, eq-eqb, Kind, ScalarOf, ScalarKind, Refusal, NotFound}
+use Rattle.segment_manager.proofs.Common.{WrongKind, code_of, same_kind, Key, Command, Place, Answer, Refused, kind_at}
+use Rattle.segment_manager.proofs.Common.{container_at, container_place, place_of_kind, sizes_at, sizes_at_kind}
+use Rattle.segment_manager.proofs.Common.{sizes_of, sizes_of_kind, Value, Numbers, Directory, Object, kind_of, live}
+use Rattle.segment_manager.proofs.Common.{object_at, IsMissing, Refuse, perform, Answers, IsStep, IsStepOfKind, State}
+use Rattle.segment_manager.proofs.Common.{effect, has_sizes, has_storage, is_read_only, step, step_of_kind, Mode}
+use Rattle.segment_manager.proofs.{Common.Change, Common.command_of, Refilled.refused-steps, Steps.step_of_kind-step}
+use Rattle.segment_manager.proofs.{Steps.moves-same, StorageSteps.change-refused, StorageSteps.no-storage}
 
 -- the object of the key, which is of the kind
 pub record IsOfKindAt (d : Directory) (key : Key) (kind : Kind) : Type 0 where

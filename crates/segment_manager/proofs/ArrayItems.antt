@@ -138,20 +138,13 @@ module _ {S A : Type 0} (items : S → List A) {whole : A → ℤ} {old new : St
     (takes : TakesItems (YieldsFirst items) whole old new key k n w t result) (long : length (items w) ≡ n) where
   -- it is refused before an item is taken
   early : (xs : List A) (r : Refusal) → (r ≡ OutOfRange → ⊥) → TakesUntil (YieldsFirst items) n w xs t r → xs ≡ []
-  early xs refusal.ReadOnly other h = h.0
-  early xs Exists other h = h.0
-  early xs refusal.NotFound other h = h.0
-  early xs refusal.WrongKind other h = h.0
   early xs OutOfRange other h = absurd (other refl)
-  early xs NoSpace other h = h.0
+  early xs r other h = h.0
 
   kept : (r : Refusal) → (r ≡ OutOfRange → ⊥) → KeepsUnasked old new r → is_untouched (Refused r) ≡ true → new ≡ old
-  kept refusal.ReadOnly other h e = h
-  kept Exists other h e = h
-  kept refusal.NotFound other h e = h
-  kept refusal.WrongKind other h e = h
   kept OutOfRange other h e = absurd (other refl)
   kept NoSpace other h e = absurd (cc)
+  kept r other h e = h
 
   -- there are as many as are wanted
   enough : (xs : List A) (r : Refusal) → TakesUntil (YieldsFirst items) n w xs t r → r ≡ OutOfRange → ⊥

@@ -10,21 +10,20 @@ use Rattle.segment_manager.proofs.Common.{Object, Directory, IsDirectory, has_ke
 use Rattle.segment_manager.proofs.Common.{object_at, remove_object, rises_from, same_bytes, with_object, without_object}
 use Rattle.segment_manager.proofs.Common.{Denotes, handles, IsEntry, Seeks, class_of_index, entries_of, objects_of}
 use Rattle.segment_manager.proofs.Common.{order_of, table_of, by_name, by_kind}
-use Rattle.seg_index.specs.declared.keys.Key.{Key}
-use Rattle.seg_index.specs.Lookups.{order}
-use Rattle.seg_types.specs.Names as names
+use Rattle.segment_manager.proofs.HeldIndexes.{IsSort, all-in, denotes-rises, directory-index, entries-in}
+use Rattle.segment_manager.proofs.HeldIndexes.{objects-ascend, order-strict}
+use Rattle.segment_manager.proofs.KeyOrder.{Says, code-of, kinds-apart, kinds-class, kinds-say, name-of, same-itself}
+use Rattle.segment_manager.proofs.EntryPlaces.{IsPlaceOf, all-at, all_of-ordered, ascends-at, at-all, at-handle}
+use Rattle.segment_manager.proofs.EntryPlaces.{insert-at, none-found, of-class, own-found, remove-at, stands-at}
 use Rattle.segment_manager.proofs.{Denoted.handles-length, Words.first, InUse.all-both, Live.IsIn}
 use Rattle.segment_manager.proofs.{ObjectLists.all-found, ObjectLists.rises-rest, Ranks.IsRanked, Ranks.all-ordered}
 use Rattle.segment_manager.proofs.{Ranks.found-filter, Ranks.ordered-pairwise, Faces.ordered-without}
-use Rattle.segment_manager.proofs.HeldIndexes.{IsSort, all-in, denotes-rises, directory-index, entries-in}
-use Rattle.segment_manager.proofs.HeldIndexes.{objects-ascend, order-strict}
-use Rattle.segment_manager.proofs.Indexes.{index-parts, named-more, rises-above, unique-more, one-removed}
-use Rattle.segment_manager.proofs.Indexes.{by_name-strict, by_kind-strict}
-use Rattle.segment_manager.proofs.KeyOrder.{Says, code-of, kinds-apart, kinds-class, kinds-say, name-of, same-itself}
-use Rattle.segment_manager.proofs.KeyOrder.{names-apart, names-class, names-say}
-use Rattle.segment_manager.proofs.EntryPlaces.{IsPlaceOf, all-at, all_of-ordered, ascends-at, at-all, at-handle}
-use Rattle.segment_manager.proofs.EntryPlaces.{insert-at, none-found, of-class, own-found, remove-at, stands-at}
-use Rattle.segment_manager.proofs.EntryPlaces.{StandsAt}
+use Rattle.segment_manager.proofs.{Indexes.index-parts, Indexes.named-more, Indexes.rises-above, Indexes.unique-more}
+use Rattle.segment_manager.proofs.{Indexes.one-removed, Indexes.by_name-strict, Indexes.by_kind-strict}
+use Rattle.segment_manager.proofs.{KeyOrder.names-apart, KeyOrder.names-class, KeyOrder.names-say, EntryPlaces.StandsAt}
+use Rattle.seg_index.specs.declared.keys.Key.{Key}
+use Rattle.seg_index.specs.Lookups.{order}
+use Rattle.seg_types.specs.Names as names
 
 -- what a place among the entries means: the object of the key, which that entry leads to
 pub record IsEntryFor (i : Index) (d : Directory) (key : names.Key) (at : ℕ) : Type 0 where

@@ -4,9 +4,8 @@ use Rattle.segment_manager.proofs.Common.{list_any, eq-eqb, and_from, Cut, bytes
 use Rattle.segment_manager.proofs.Common.{is_proper, released, LaysOut, live_of, is_live_in, has_room, Keeps}
 use Rattle.segment_manager.proofs.Common.{IsReleased, ByHandle, Object, Directory, live, value_extents, has_key}
 use Rattle.segment_manager.proofs.Common.{without_object, Denotes, IsObjectAt, lay_out_one, list_any-insert, Anonymous}
-use Rattle.segment_manager.proofs.Common.{extents_of, [], ◌∷◌}
-use Rattle.segment_manager.proofs.{Order.inserted, Live.IsFound, Live.IsIn, Live.live-split, Live.removing}
-use Rattle.segment_manager.proofs.{ObjectLists.all-found, Denoted.denotes-without}
+use Rattle.segment_manager.proofs.{Common.extents_of, Common.[], Common.◌∷◌, Order.inserted, Live.IsFound, Live.IsIn}
+use Rattle.segment_manager.proofs.{Live.live-split, Live.removing, ObjectLists.all-found, Denoted.denotes-without}
 
 -- ---- objects are live blocks
 

@@ -1,14 +1,14 @@
 -- Objects that a command changes: what a crate that calls by kinds learns of them.
 use Rattle.segment_manager.proofs.Common.{◌≡◌, refl, sym, ap, subst, ◌∙◌, false, Result, Ok, Err, MatchResult, Kind}
-use Rattle.segment_manager.proofs.Common.{Refusal, Key, ByHandle, Command, is_changing, Mode, Write, CopyOnWrite}
-use Rattle.segment_manager.proofs.Common.{Answer, Refused, kind_at, IsChangeable, IsToChange, IsUnchangeable, Directory}
-use Rattle.segment_manager.proofs.Common.{live, IsMissing, IsLocated, Plan, Refuse, perform, Answers, IsReply, IsStep}
-use Rattle.segment_manager.proofs.Common.{State, StandsFor, effect, is_read_only, step}
-use Rattle.seg_types.specs.declared.refusals.Refusal.TheVariants as refusal
-use Rattle.segment_manager.specs.{declared.modes.Mode.TheVariants.ReadOnly, declared.targets.Object.Object}
-use Rattle.segment_manager.proofs.{AnyStorage.nowhere-steps, Refilled.refused-steps}
-use Rattle.segment_manager.proofs.Locating.{kind-by_key, located-here}
+use Rattle.segment_manager.proofs.Common.{Refusal, Key, ByHandle, Command, is_changing, Mode, Answer, Refused, kind_at}
+use Rattle.segment_manager.proofs.Common.{IsChangeable, IsToChange, IsUnchangeable, Directory, live, IsMissing}
+use Rattle.segment_manager.proofs.Common.{IsLocated, Plan, Refuse, perform, Answers, IsReply, IsStep, State, StandsFor}
 use Rattle.segment_manager.proofs.Steps.{open-reading, refuses-read_only, step-effect}
+use Rattle.segment_manager.proofs.{Common.effect, Common.is_read_only, Common.step, AnyStorage.nowhere-steps}
+use Rattle.segment_manager.proofs.{Refilled.refused-steps, Locating.kind-by_key, Locating.located-here}
+use Rattle.segment_manager.specs.declared.modes.Mode.TheVariants.{ReadOnly}
+use Rattle.segment_manager.specs.declared.targets.Object.{Object}
+use Rattle.seg_types.specs.declared.refusals.Refusal.TheVariants as refusal
 
 -- ---- an object that was located
 
@@ -27,9 +27,8 @@ module _ {s : State} {key : Key} {o : Object} (h : IsToChange s key o) {kind : K
 -- ---- whether there is one to change
 
 not-reading : (mode : Mode) → (mode ≡ ReadOnly → ⊥) → is_read_only mode ≡ false
-not-reading Write h = refl
 not-reading ReadOnly h = absurd (h refl)
-not-reading CopyOnWrite h = refl
+not-reading mode h = refl
 
 -- the segment is open for reading
 pub reading-unchangeable : (s : State) (key : Key) → s.mode ≡ ReadOnly → IsUnchangeable s key refusal.ReadOnly

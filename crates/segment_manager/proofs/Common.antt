@@ -13,11 +13,11 @@ pub use Rattle.std.proofs.lemmas.Cmp.{nat_list_cmp_total}
 pub use Rattle.std.proofs.lemmas.List.{flat_map_more, length-map, length-replicate, map-append, take-map, take_all}
 pub use Rattle.std.proofs.lemmas.Option.{none-some, same_Some, slice_get-get_or, slice_get-map, slice_get_past}
 pub use Rattle.std.proofs.lemmas.Option.{slice_get_within}
-pub use Rattle.std.proofs.lemmas.Result.{err_from_is_err_and}
 pub use Rattle.std.specs.Cmp.Lexicographic.{slice_cmp, texts_ties}
 pub use Rattle.std.specs.Iterator.{Yields}
 pub use Rattle.std.specs.List.{AllByRecursion, list_all, list_any}
 pub use Rattle.std.specs.Ordering.{is_eq, is_lt, nat_cmp, ordering_reverse}
+use Rattle.std.specs.Prelude.{IsErrAnd}
 pub use Rattle.std.specs.Prelude.{IfErr, IfSome, MatchOption, MatchResult, OnErr, filter, find, flat_map, fold, insert}
 pub use Rattle.std.specs.Prelude.{int_lt, is_some, option_map, option_to_list, remove, slice_set}
 pub use Rattle.std.specs.Str.{chars, is_utf8}
@@ -149,7 +149,7 @@ pub use Rattle.segment_manager.specs.Standing.{HasObject, IsHeadAt, IsHeadOf, St
 pub use Rattle.segment_manager.specs.Standing.{room_for}
 pub use Rattle.segment_manager.specs.State.{Answers, IsReply, IsReplyOfKind, IsSegment, IsStep, IsStepOfKind}
 pub use Rattle.segment_manager.specs.State.{KeepsRefused, LeadsOn, Moves, StandsFor, State, Stays, answer_of}
-pub use Rattle.segment_manager.specs.State.{done_answer, handle_answer, refusal_in, scalar_answer}
+pub use Rattle.segment_manager.specs.State.{done_answer, handle_answer, refusal_in, scalar_answer, truth_answer}
 pub use Rattle.segment_manager.specs.Staying.{is_elementwise}
 pub use Rattle.segment_manager.specs.Step.{and_then, changed, effect, element_at, found, found_at, get, is_read_only}
 pub use Rattle.segment_manager.specs.Step.{map_of, pair_of, plan, set, storage_of, texts_of, values_of, with_items}
@@ -167,3 +167,8 @@ pub use Rattle.segment_manager.specs.declared.storages.Change.{Change}
 pub use Rattle.segment_manager.specs.declared.storages.Change.TheVariants.{Clear, Reserve, Shrink}
 pub use Rattle.segment_manager.specs.declared.targets.Object.{Object as Located}
 pub use Rattle.segment_manager.specs.declared.telling.Instance.{Instance}
+
+-- what the exit of a `?` returns is the error that it met
+pub exit-is : {T E : Type 0} (r : Result T E) (why : E) → IsErrAnd r (λ e. e ≡ why) → r ≡ Err why
+exit-is (Ok x) why h = absurd h
+exit-is (Err e) why h = ap Err h

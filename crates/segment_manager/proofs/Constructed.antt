@@ -9,7 +9,13 @@ use Rattle.segment_manager.proofs.Common.{Numbers, Object, Directory, count_of, 
 use Rattle.segment_manager.proofs.Common.{with_object, IsDenied, IsGiven, class_of_index, entries_of, objects_of}
 use Rattle.segment_manager.proofs.Common.{table_of, with_table_of, IsNewKeyOf, IsRequested, IsRestored, Plan, New}
 use Rattle.segment_manager.proofs.Common.{Request, bare, class_of, name_of, perform, with_entry, with_new_object}
-use Rattle.segment_manager.proofs.Common.{with_value, NoSpace}
+use Rattle.segment_manager.proofs.Requests.{entry-grows, entry-refused, entry-room}
+use Rattle.segment_manager.proofs.Added.{IsEntered, entered-denotes, entered-none, entered-some, grown_into}
+use Rattle.segment_manager.proofs.NewKeys.{key-class, key-has, key-name, key-own, key-seeks, object_of}
+use Rattle.segment_manager.proofs.{Common.with_value, Common.NoSpace, Bridge.entry-added, Bridge.lookup-absent}
+use Rattle.segment_manager.proofs.{Calling.denotes-live, Kept.denotes-kept, Made.IsMade, Made.taken-index}
+use Rattle.segment_manager.proofs.{Steps.perform-new, Steps.perform-no_space, Tables.same-table, Taking.growth-index}
+use Rattle.segment_manager.proofs.{HeldIndexes.denotes-index, Denoted.handles-length}
 use Rattle.best_fit.proofs.Laws.{AllByRecursion-insert}
 use Rattle.seg_index.specs.declared.keys.Key.{Key}
 use Rattle.seg_index.specs.Growth.{grown_live}
@@ -17,13 +23,6 @@ use Rattle.segment_manager.specs.NewObjects.{FindsNone}
 use Rattle.seg_index.proofs.Laws.{place_behind, place_small}
 use Rattle.seg_types.specs.Names as names
 use Rattle.seg_types.specs.Commands as asked
-use Rattle.segment_manager.proofs.{Bridge.entry-added, Bridge.lookup-absent, Calling.denotes-live, Kept.denotes-kept}
-use Rattle.segment_manager.proofs.{Made.IsMade, Made.taken-index, Steps.perform-new, Steps.perform-no_space}
-use Rattle.segment_manager.proofs.{Tables.same-table, Taking.growth-index, HeldIndexes.denotes-index}
-use Rattle.segment_manager.proofs.{Denoted.handles-length, Requests.entry-grows, Requests.entry-refused}
-use Rattle.segment_manager.proofs.{Requests.entry-room}
-use Rattle.segment_manager.proofs.Added.{IsEntered, entered-denotes, entered-none, entered-some, grown_into}
-use Rattle.segment_manager.proofs.NewKeys.{key-class, key-has, key-name, key-own, key-seeks, object_of}
 
 -- what is made is the object, in a directory that the new bytes denote; and so the machine goes on
 pub record IsNewObject (new : Cut) (d : Directory) (key : names.Key) (content : Content) (h : ℕ) : Type 0 where
@@ -110,10 +109,6 @@ entered i a b c e d o at None k h made x same adds laid keeps =
 entered i a b c e d o at (Some g) k h made x same adds laid keeps = entered-some i a b c e d o at (grown_bytes a (place_of i)) g k h.1 made x same adds laid keeps
 
 -- ---- what the machine does
-
--- numbers ask for nothing more
-pub numbers-given : (d : Directory) (l : LiveSet) (k : ScalarKind) (zs : List ℤ) → IsGiven d l (asked.Numbers k zs) (Numbers k zs) l
-numbers-given d l k zs = record { met = λ next. refl }
 
 -- the value, and then the object in its block
 abbrev value_plan : Index → List ℕ → Content → (Object → Directory → Plan) → Directory → Extent → Plan
@@ -216,5 +211,5 @@ module _ (i : Index) (a : Cut) (d : Directory) (e : Key) (key : names.Key) (name
         after = with_object (grown i d a r.between g r.grows) (object_of i name (Numbers k zs) x);
         left = resized (live_of r.between.bytes) x;
         met = content-met i a d e key name (Scalar k) (asked.Numbers k zs) said new r.between x (Numbers k zs) (resized (live_of r.between.bytes) x) g r.grows
-            (ap (λ j. place (live_of r.between.bytes) j ObjectRole) (sym len) ∙ r.takes.placed) (numbers-given d (resized (live_of r.between.bytes) x) k zs);
+            (ap (λ j. place (live_of r.between.bytes) j ObjectRole) (sym len) ∙ r.takes.placed) (record { met = λ next. refl });
       }

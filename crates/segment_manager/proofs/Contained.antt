@@ -9,11 +9,10 @@ use Rattle.segment_manager.proofs.Common.{size_of, Key, IsOwnBlock, Stands, plac
 use Rattle.segment_manager.proofs.Common.{IsRefilled, container_place, contents_of, has_values, Value, Elements, Bytes}
 use Rattle.segment_manager.proofs.Common.{Object, Directory, count_of, has_good_name, is_good_value, is_object, kind_of}
 use Rattle.segment_manager.proofs.Common.{object_at, padded, value_extents, value_len, Denotes, IsValueAt, StandsAt}
-use Rattle.segment_manager.proofs.Common.{changed, AllByRecursion, live}
-use Rattle.segment_manager.proofs.{Blocks.spelled-length, Calling.denotes-heap, Calling.denotes-live}
-use Rattle.segment_manager.proofs.{Frame.object-roomy, Here.standing, Live.IsIn, ObjectLists.key-found}
-use Rattle.segment_manager.proofs.{Standings.standing-room, Words.first, Words.second, Words.no_more}
-use Rattle.segment_manager.proofs.{Exchanged.Exchange, Exchanged.between, Exchanged.denotes-container}
+use Rattle.segment_manager.proofs.{Common.changed, Common.AllByRecursion, Common.live, Blocks.spelled-length}
+use Rattle.segment_manager.proofs.{Calling.denotes-heap, Calling.denotes-live, Frame.object-roomy, Here.standing}
+use Rattle.segment_manager.proofs.{Live.IsIn, ObjectLists.key-found, Standings.standing-room, Words.first, Words.second}
+use Rattle.segment_manager.proofs.{Words.no_more, Exchanged.Exchange, Exchanged.between, Exchanged.denotes-container}
 use Rattle.segment_manager.proofs.{MapBlocks.BlocksInUse, MapBlocks.blocks-in_use, Order.Differs, Order.IsFoundIn}
 use Rattle.segment_manager.proofs.{Rewritten.value_start, Rewritten.with_value}
 

@@ -6,17 +6,16 @@ use Rattle.segment_manager.proofs.Common.{Table, is_table, Anonymous, IsIndexAt,
 use Rattle.segment_manager.proofs.Common.{extents_of, value_extents, table_extents, is_object, is_index, rises}
 use Rattle.segment_manager.proofs.Common.{remove_object, with_object, with_changed, without_object, named_objects}
 use Rattle.segment_manager.proofs.Common.{unique_objects, by_name, by_kind, Denotes, IsObjectAt, IsHeader, handles}
-use Rattle.segment_manager.proofs.Common.{Same-part}
-use Rattle.block_tags.specs.declared.tile.Role.TheVariants.{Index}
-use Rattle.seg_types.specs.declared.kinds.Class.TheVariants.{Named, Unique}
-use Rattle.segment_manager.proofs.Words.{first, second, no_more}
-use Rattle.segment_manager.proofs.Frame.{any_objects-same, any_index-same, header-same}
 use Rattle.segment_manager.proofs.Order.{Differs, IsFresh, inserted, live-rises, rising-insert, all_of-inserted}
 use Rattle.segment_manager.proofs.Live.{adding, removing, OfEach, of_each, IsFound, IsIn, live-put, live-without}
 use Rattle.segment_manager.proofs.Faces.{IsLike, SameIndex, replace-rises, anonymous-named, anonymous-unique}
 use Rattle.segment_manager.proofs.Faces.{ordered-with, ordered-without, ordered-changed, by_name-face, by_kind-face}
 use Rattle.segment_manager.proofs.ObjectLists.{all-put, all-remove, all-replace, list_all-put, list_all-remove}
 use Rattle.segment_manager.proofs.ObjectLists.{list_all-replace, stands_apart, put-rises, remove-rises}
+use Rattle.segment_manager.proofs.{Common.Same-part, Words.first, Words.second, Words.no_more, Frame.any_objects-same}
+use Rattle.segment_manager.proofs.{Frame.any_index-same, Frame.header-same}
+use Rattle.block_tags.specs.declared.tile.Role.TheVariants.{Index}
+use Rattle.seg_types.specs.declared.kinds.Class.TheVariants.{Named, Unique}
 
 -- ---- what stays
 
@@ -46,7 +45,7 @@ frame-stays format old new d xs h k n u =
     let m : Memory = bytes_of old.bytes in
     let m' : Memory = bytes_of new.bytes in
     record {
-      header = header-same format m m' d.size k.front k.behind h.header;
+      header = header-same format m m' d.size k.front (Same-part m m' 32 128 80 128 k.behind (omega arith) (omega arith)) h.header;
       named = index-stays m m' 32 d.named (named_objects d) by_name h.directory.named (Same-part m m' 32 128 32 56 k.behind (omega arith) (omega arith)) n h.named;
       unique = index-stays m m' 56 d.unique (unique_objects d) by_kind h.directory.unique (Same-part m m' 32 128 56 80 k.behind (omega arith) (omega arith)) u h.unique;
     }

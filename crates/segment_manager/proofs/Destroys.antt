@@ -1,30 +1,30 @@
 -- The calls that destroy objects, as the code makes them.
+use Rattle.segment_manager.specs.Listed.{IsEntryAt}
+use Rattle.segment_manager.specs.Destroyed.{HoldsEntry, RemovesAnonymous, RemovesEntry}
 use Rattle.segment_manager.proofs.Common.{◌≡◌, refl, sym, ap, subst, ◌∙◌, ℕ, ◌<◌, true, false, ◌==◌, Some, None, Option}
 use Rattle.segment_manager.proofs.Common.{List, [], ◌∷◌, arith, remove, slice_get, same_Some, slice_get_within, Cut}
-use Rattle.segment_manager.proofs.Common.{SamePlace, bytes_of, current, SamePlace-trans, handle, IsReleased, LaysOut}
-use Rattle.segment_manager.proofs.Common.{is_live_in, live_of, Table, lay_out_one, Class, NotFound, class_code, Index}
-use Rattle.segment_manager.proofs.Common.{Absent, Found, KeepsRest, beside_table, HasIndex, IsIndexOf, entry_count}
-use Rattle.segment_manager.proofs.Common.{place_of, IsPlace, Refused, Truth, Denotes, Becomes, Empties, HoldsObject}
-use Rattle.segment_manager.proofs.Common.{emptied, Object, Directory, is_class, object_at, without_object, is_object_at}
-use Rattle.segment_manager.proofs.Common.{Seeks, class_of_index, entries_of, objects_of, order_of, table_of, HasEntry}
+use Rattle.segment_manager.proofs.Common.{bytes_of, current, SamePlace-trans, handle, IsReleased, LaysOut, is_live_in}
+use Rattle.segment_manager.proofs.Common.{live_of, Table, lay_out_one, Class, NotFound, class_code, Index, Absent}
+use Rattle.segment_manager.proofs.Common.{Found, KeepsRest, beside_table, HasIndex, IsIndexOf, entry_count, place_of}
+use Rattle.segment_manager.proofs.Common.{IsPlace, Refused, Truth, Denotes, Becomes, Empties, HoldsObject, emptied}
+use Rattle.segment_manager.proofs.Common.{Object, Directory, is_class, object_at, without_object, is_object_at, Seeks}
+use Rattle.segment_manager.proofs.Common.{class_of_index, entries_of, objects_of, order_of, table_of, HasEntry}
 use Rattle.segment_manager.proofs.Common.{IsAnonymousAt, Plan, Reply, Answers, IsSegment, IsStep, StandsFor, State}
-use Rattle.segment_manager.proofs.Common.{changed, effect, is_read_only, step}
-use Rattle.seg_index.specs.declared.keys.Key.{Key}
-use Rattle.seg_index.specs.declared.keys.Lookup.{Lookup}
-use Rattle.segment_manager.specs.Destroyed.{HoldsEntry, RemovesAnonymous, RemovesEntry}
+use Rattle.segment_manager.proofs.Common.{changed, is_read_only, step}
+use Rattle.segment_manager.proofs.Emptied.{changed-entries, changed-in, changed-others, emptied-is}
+use Rattle.segment_manager.proofs.Bridge.{IsEntryFor, entry-removed, in-handles, lookup-absent, lookup-found}
+use Rattle.segment_manager.proofs.Steps.{by_no_change, by_step, lands, open-writing, step-refuse, step-reply}
+use Rattle.segment_manager.proofs.{Steps.with-found, Steps.with-not_found, Listed.seen-there, Listed.object-here}
+use Rattle.segment_manager.proofs.{Safely.Stepped, Safely.stepped, Calling.denotes-live, Calling.denotes-released}
+use Rattle.segment_manager.proofs.{Calling.object-live, EntryPlaces.all-at, EntryPlaces.at-handle, EntryPlaces.of-class}
+use Rattle.segment_manager.proofs.{ObjectLists.found-handle, ObjectLists.key-found, Removed.IsGone, Removed.IsLeft}
+use Rattle.segment_manager.proofs.{Removed.removed-denotes, Here.IsHere, HeldIndexes.denotes-index, Live.IsIn}
+use Rattle.segment_manager.proofs.{Ranks.all-ordered, Rewritten.with_value}
+use Rattle.seg_index.specs.declared.keys.{Key.Key, Lookup.Lookup}
 use Rattle.seg_types.specs.declared.kinds.Class.TheVariants as class
 use Rattle.seg_types.specs.Names as names
 use Rattle.seg_types.specs.Commands as asked
 use Rattle.seg_index.specs.declared.index.Index.TheVariants as index
-use Rattle.segment_manager.proofs.{Calling.denotes-live, Calling.denotes-released, Calling.object-live}
-use Rattle.segment_manager.proofs.{Emptied.changed-entries, Emptied.changed-in, Emptied.changed-others}
-use Rattle.segment_manager.proofs.{Emptied.emptied-is, EntryPlaces.all-at, EntryPlaces.at-handle, EntryPlaces.of-class}
-use Rattle.segment_manager.proofs.{Here.IsHere, HeldIndexes.denotes-index, Listed.object-here, Live.IsIn}
-use Rattle.segment_manager.proofs.{ObjectLists.found-handle, ObjectLists.key-found, Ranks.all-ordered, Removed.IsGone}
-use Rattle.segment_manager.proofs.{Removed.IsLeft, Removed.removed-denotes, Rewritten.with_value}
-use Rattle.segment_manager.proofs.Bridge.{IsEntryFor, entry-removed, in-handles, lookup-absent, lookup-found}
-use Rattle.segment_manager.proofs.Steps.{by_no_change, by_step, lands, open-writing, step-refuse, step-reply}
-use Rattle.segment_manager.proofs.Steps.{with-found, with-not_found}
 
 -- ---- an object with an entry
 
@@ -54,13 +54,10 @@ abbrev pub LeadsTo : Cut → Index → ℕ → ℕ → Type 0
 LeadsTo c i at h = (t : Table) (hs : List ℕ) → IsIndexOf c (place_of i) t hs → slice_get hs at ≡ Some h
 
 module _ (a : Cut) (i : Index) (at h : ℕ) (leads : LeadsTo a i at h) where
-  -- is its object's
-  entry-handle : (d : Directory) (o : Object) → Denotes current a.bytes d → slice_get (objects_of i d) at ≡ Some o → h ≡ handle o.extent
-  entry-handle d o k e = same_Some h (handle o.extent) (sym (leads (table_of i d) (entries_of i d) (denotes-index i a d k)) ∙ at-handle (objects_of i d) at o e)
-
   entry-found : (d : Directory) (o : Object) → Denotes current a.bytes d → slice_get (objects_of i d) at ≡ Some o → object_at d (names.ByHandle h) ≡ Some o
   entry-found d o k e =
-      subst (λ g. object_at d (names.ByHandle g) ≡ Some o) (sym (entry-handle d o k e))
+      subst (λ g. object_at d (names.ByHandle g) ≡ Some o)
+      (sym (same_Some h (handle o.extent) (sym (leads (table_of i d) (entries_of i d) (denotes-index i a d k)) ∙ at-handle (objects_of i d) at o e)))
       (all-at (λ (p : Object). object_at d (names.ByHandle (handle p.extent)) ≡ Some p) (objects_of i d) at o (in-handles current i d k.directory) e)
 
   pub entry-object : HoldsEntry a.bytes i at → HoldsObject a.bytes h
@@ -183,35 +180,32 @@ pub found-entry : (c : Cut) (b : IsSegment c.bytes) (i : Index) (e : Key) (key :
 found-entry c b i e key at q p =
     let there : IsEntryFor i b.0 key at = found-for c i e key at b.0 b.1.denotes q p in record { directory = b.0; stands = b.1; object = there.object; is = there.stands }
 
-removed-place : (s : State) (c : Cut) (i : Index) (at : ℕ) → HoldsEntry s.cut.bytes i at → RemovesEntry s.cut c i at → SamePlace s.cut c
-removed-place s c i at x r = (r x.directory x.object x.stands x.is).place
-
 -- the look-up found its entry
-pub destroys-entered : (s : State) (c : Cut) (i : Index) (e : Key) (key : names.Key) (at : ℕ) → is_read_only s.mode ≡ false → IsSegment s.cut.bytes → Seeks i e key
-    → Ends s.cut i e (Found at) → RemovesEntry s.cut c i at → IsStep s (record s { cut = c }) (asked.Destroy key) (Truth true)
-destroys-entered s c i e key at writing b q p r =
+pub destroys-entered : (s t : State) (view : s ≡ t) (b : IsSegment s.cut.bytes) (c : Cut) (i : Index) (e : Key) (key : names.Key) (at : ℕ) → is_read_only t.mode ≡ false → Seeks i e key
+    → Ends s.cut i e (Found at) → RemovesEntry s.cut c i at → Stepped s t c (asked.Destroy key) (Truth true)
+destroys-entered s t view b c i e key at may q p r =
+    stepped s t view b c (asked.Destroy key) (Truth true) may (λ writing.
     by_step s (record s { cut = c }) (asked.Destroy key) (Truth true)
-    (record { mode = refl; place = removed-place s c i at (found-entry s.cut b i e key at q p) r }) (λ d k.
+    (record { mode = refl; place = let x = found-entry s.cut b i e key at q p in (r x.directory x.object x.stands x.is).place }) (λ d k.
     let there : IsEntryFor i d key at = found-for s.cut i e key at d k.denotes q p in
     lands (record s { cut = c }) (step s.mode d (asked.Destroy key)) (Truth true) (without_object d there.object) (record {
       is = step-reply s.mode d (asked.Destroy key) (Truth true) (without_object d there.object) (open-writing s.mode (asked.Destroy key) writing)
           (ap (λ (r : Option Object). elim r as (λ _. Plan) [ None ↦ Reply (Truth false) d | Some o ↦ Reply (Truth true) (without_object d o) ]) there.is);
       denotes = (r d there.object k there.stands).denotes;
-    }))
+    })))
 
 -- or there is none
-pub destroys-none : (s : State) (i : Index) (e : Key) (key : names.Key) (at : ℕ) → is_read_only s.mode ≡ false → Seeks i e key → Ends s.cut i e (Absent at)
-    → IsStep s s (asked.Destroy key) (Truth false)
-destroys-none s i e key at writing q p =
-    by_no_change s (asked.Destroy key) (Truth false) (λ d k.
+pub destroys-none : (s t : State) (view : s ≡ t) (i : Index) (e : Key) (key : names.Key) (at : ℕ) → is_read_only t.mode ≡ false → Seeks i e key → Ends s.cut i e (Absent at)
+    → IsStep t t (asked.Destroy key) (Truth false)
+destroys-none s t view i e key at may q p =
+    let writing : is_read_only s.mode ≡ false = subst (λ (u : State). is_read_only u.mode ≡ false) (sym view) may in
+    subst (λ (u : State). IsStep u u (asked.Destroy key) (Truth false)) view
+    (by_no_change s (asked.Destroy key) (Truth false) (λ d k.
     step-reply s.mode d (asked.Destroy key) (Truth false) d (open-writing s.mode (asked.Destroy key) writing)
     (ap (λ (r : Option Object). elim r as (λ _. Plan) [ None ↦ Reply (Truth false) d | Some o ↦ Reply (Truth true) (without_object d o) ])
-    (lookup-absent i s.cut d e key k.denotes q at (p (table_of i d) (entries_of i d) (denotes-index i s.cut d k.denotes))).none))
+    (lookup-absent i s.cut d e key k.denotes q at (p (table_of i d) (entries_of i d) (denotes-index i s.cut d k.denotes))).none)))
 
 -- ---- destroying by a handle
-
-ptr-plan : (d : Directory) (h : ℕ) (o : Object) → object_at d (names.ByHandle h) ≡ Some o → effect d (asked.DestroyPtr h) ≡ Reply (Truth true) (without_object d o)
-ptr-plan d h o e = with-found d (names.ByHandle h) o (λ o. Reply (Truth true) (without_object d o)) e
 
 -- the object of the handle is gone from each directory
 destroys-object : (s : State) (c : Cut) (h : ℕ) → is_read_only s.mode ≡ false → IsSegment s.cut.bytes
@@ -221,36 +215,45 @@ destroys-object s c h writing b each =
     by_step s (record s { cut = c }) (asked.DestroyPtr h) (Truth true) (record { mode = refl; place = (each b.0 b.1).1.1.place }) (λ d k.
     let x = each d k in
     lands (record s { cut = c }) (step s.mode d (asked.DestroyPtr h)) (Truth true) (without_object d x.0) (record {
-      is = step-reply s.mode d (asked.DestroyPtr h) (Truth true) (without_object d x.0) (open-writing s.mode (asked.DestroyPtr h) writing) (ptr-plan d h x.0 x.1.0);
+      is = step-reply s.mode d (asked.DestroyPtr h) (Truth true) (without_object d x.0) (open-writing s.mode (asked.DestroyPtr h) writing)
+          (with-found d (names.ByHandle h) x.0 (λ o. Reply (Truth true) (without_object d o)) x.1.0);
       denotes = x.1.1.denotes;
     }))
 
 -- the entry of the object is found
-abbrev pub HasEntryIn : State → Index → Key → ℕ → Type 0
-HasEntryIn s i e h = (d : Directory) → StandsFor s.cut.bytes d → HasEntry i e d h
+seen-entry : (s t : State) (view : s ≡ t) (h : ℕ) (i : Index) (at : ℕ) → IsEntryAt t h i at → IsEntryAt s h i at
+seen-entry s t view h i at = subst (λ (u : State). IsEntryAt u h i at) (sym view)
 
-pub own-entry : (s : State) (b : IsSegment s.cut.bytes) (i : Index) (e : Key) (h at : ℕ) → HasEntryIn s i e h → Ends s.cut i e (Found at) → HoldsEntry s.cut.bytes i at
-own-entry s b i e h at each p = let x : HasEntry i e b.0 h = each b.0 b.1 in found-entry s.cut b i e x.key at x.seeks p
+pub own-entry : (s t : State) (view : s ≡ t) (b : IsSegment s.cut.bytes) (h : ℕ) (i : Index) (at : ℕ) → IsEntryAt t h i at → HoldsEntry s.cut.bytes i at
+own-entry s t view b h i at listed =
+    let l : IsEntryAt s h i at = seen-entry s t view h i at listed in
+    let x : HasEntry i l.entry b.0 h = l.leads b.0 b.1 in found-entry s.cut b i l.entry x.key at x.seeks l.found
 
 -- it went with its entry
-pub destroys-ptr : (s : State) (c : Cut) (i : Index) (e : Key) (h at : ℕ) → is_read_only s.mode ≡ false → IsSegment s.cut.bytes → HasEntryIn s i e h → Ends s.cut i e (Found at)
-    → RemovesEntry s.cut c i at → IsStep s (record s { cut = c }) (asked.DestroyPtr h) (Truth true)
-destroys-ptr s c i e h at writing b each p r =
+pub destroys-ptr : (s t : State) (view : s ≡ t) (b : IsSegment s.cut.bytes) (c : Cut) (h : ℕ) (i : Index) (at : ℕ) → is_read_only t.mode ≡ false → IsEntryAt t h i at
+    → RemovesEntry s.cut c i at → Stepped s t c (asked.DestroyPtr h) (Truth true)
+destroys-ptr s t view b c h i at may listed r =
+    let l : IsEntryAt s h i at = seen-entry s t view h i at listed in
+    stepped s t view b c (asked.DestroyPtr h) (Truth true) may (λ writing.
     destroys-object s c h writing b (λ d k.
-    let x : HasEntry i e d h = each d k in
-    let there : IsEntryFor i d x.key at = found-for s.cut i e x.key at d k.denotes x.seeks p in
+    let x : HasEntry i l.entry d h = l.leads d k in
+    let there : IsEntryFor i d x.key at = found-for s.cut i l.entry x.key at d k.denotes x.seeks l.found in
     let same : there.object ≡ x.object = same_Some there.object x.object (sym there.is ∙ x.found) in
-    (x.object, (x.is, subst (λ o. Becomes s.cut c (without_object d o)) same (r d there.object k there.stands))))
+    (x.object, (x.is, subst (λ o. Becomes s.cut c (without_object d o)) same (r d there.object k there.stands)))))
 
 -- or it had no key
-pub destroys-anonymous : (s : State) (c : Cut) (h : ℕ) → is_read_only s.mode ≡ false → IsSegment s.cut.bytes → IsAnonymousAt s h → RemovesAnonymous s.cut c h
-    → IsStep s (record s { cut = c }) (asked.DestroyPtr h) (Truth true)
-destroys-anonymous s c h writing b each r =
-    destroys-object s c h writing b (λ d k. let x = each d k in (x.0, (x.1, r d x.0 k x.1 x.2)))
+pub destroys-anonymous : (s t : State) (view : s ≡ t) (b : IsSegment s.cut.bytes) (c : Cut) (h : ℕ) → is_read_only t.mode ≡ false → IsAnonymousAt t h → RemovesAnonymous s.cut c h
+    → Stepped s t c (asked.DestroyPtr h) (Truth true)
+destroys-anonymous s t view b c h may listed r =
+    let each : IsAnonymousAt s h = subst (λ (u : State). IsAnonymousAt u h) (sym view) listed in
+    stepped s t view b c (asked.DestroyPtr h) (Truth true) may (λ writing.
+    destroys-object s c h writing b (λ d k. let x = each d k in (x.0, (x.1, r d x.0 k x.1 x.2))))
 
 -- an object has the handle
-pub own-object : (s : State) (h : ℕ) → IsSegment s.cut.bytes → Answers s (λ d. is_object_at d h) true → HoldsObject s.cut.bytes h
-own-object s h b a = let x : IsHere s.cut.bytes b.0 (names.ByHandle h) h = object-here s h a b.0 b.1 in record { directory = b.0; stands = b.1; object = x.object; is = x.is }
+pub own-object : (s t : State) (view : s ≡ t) (b : IsSegment s.cut.bytes) (h : ℕ) → Answers t (λ d. is_object_at d h) true → HoldsObject s.cut.bytes h
+own-object s t view b h a =
+    let x : IsHere s.cut.bytes b.0 (names.ByHandle h) h = object-here s h (seen-there s t view h a) b.0 b.1 in
+    record { directory = b.0; stands = b.1; object = x.object; is = x.is }
 
 -- no object has the handle
 pub destroys-no_ptr : (s : State) (h : ℕ) → is_read_only s.mode ≡ false → ((d : Directory) → StandsFor s.cut.bytes d → object_at d (names.ByHandle h) ≡ None)

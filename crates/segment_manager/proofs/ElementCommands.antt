@@ -5,19 +5,17 @@ use Rattle.segment_manager.proofs.Common.{MapKind, Scalar, TextsKind, Vector, Sc
 use Rattle.segment_manager.proofs.Common.{ScalarValue, is_value, Key, ByHandle, Literal, Quoted, literal_of}
 use Rattle.segment_manager.proofs.Common.{value_of_literal, kind_of_scalar, value_of_scalar, OwnedText, Located, Answer}
 use Rattle.segment_manager.proofs.Common.{Refused, elements_at, elements_of, kind_at, IsChangeable, IsToChange}
-use Rattle.segment_manager.proofs.Common.{IsUnchangeable, IsValueOf, Value, Numbers, Elements, Bytes, Pairs, Texts}
-use Rattle.segment_manager.proofs.Common.{Object, Directory, kind_of, IsLocated, Refuse, Answers, IsStep, IsStepOfKind}
-use Rattle.segment_manager.proofs.Common.{State, StandsFor, is_read_only}
-use Rattle.seg_types.specs.Commands.{Truth, Whole}
+use Rattle.segment_manager.proofs.Common.{IsUnchangeable, IsValueOf, Value, Elements, Pairs, Texts, Object, Directory}
+use Rattle.segment_manager.proofs.Common.{kind_of, IsLocated, Refuse, Answers, IsStep, IsStepOfKind, State, StandsFor}
+use Rattle.segment_manager.proofs.AnyStorage.{IsOfKindAt, kind-told, of_kind-steps}
+use Rattle.segment_manager.proofs.ContentPlans.{erase-other, insert-other, insert-plan, is_no_vector, pop-other}
+use Rattle.segment_manager.proofs.ContentPlans.{push-other, push-plan}
+use Rattle.segment_manager.proofs.{Common.is_read_only, AnyKind.any-literal, Locating.step_of_kind-by_key}
+use Rattle.segment_manager.proofs.{Steps.with-found, Steps.with-not_found, Stored.literal-read}
+use Rattle.segment_manager.proofs.{ElementLaws.same_plan-steps, Changeable.refuses, Changeable.says-kind}
 use Rattle.segment_manager.specs.Changeable.{IsElement, IsNoElement}
 use Rattle.seg_types.specs.Commands as asked
 use Rattle.segment_manager.specs.Step as step
-use Rattle.segment_manager.proofs.{AnyKind.any-literal, Locating.step_of_kind-by_key, Steps.with-found}
-use Rattle.segment_manager.proofs.{Steps.with-not_found, Stored.literal-read, ElementLaws.same_plan-steps}
-use Rattle.segment_manager.proofs.{AnyStorage.IsOfKindAt, AnyStorage.kind-told, AnyStorage.of_kind-steps}
-use Rattle.segment_manager.proofs.{Changeable.refuses, Changeable.says-kind}
-use Rattle.segment_manager.proofs.ContentPlans.{erase-other, insert-other, insert-plan, is_no_vector, pop-other}
-use Rattle.segment_manager.proofs.ContentPlans.{push-other, push-plan}
 
 -- ---- values by their kinds
 
@@ -28,11 +26,8 @@ pub record IsElements (k : ScalarKind) (v : Value) : Type 0 where
   pub is : v ≡ Elements k numbers table
 
 pub vector-if : (k : ScalarKind) (v : Value) → kind_of v ≡ Vector k → IsElements k v
-vector-if k (Numbers l zs) e = absurd (cc)
 vector-if k (Elements l zs t) e = let same : l ≡ k = cc in record { numbers = zs; table = t; is = λ i. Elements (same i) zs t }
-vector-if k (Bytes bs t) e = absurd (cc)
-vector-if k (Pairs l m ps) e = absurd (cc)
-vector-if k (Texts ps t) e = absurd (cc)
+vector-if k v e = absurd (cc)
 
 -- or of texts
 pub record IsTexts (v : Value) : Type 0 where
@@ -41,19 +36,14 @@ pub record IsTexts (v : Value) : Type 0 where
   pub is : v ≡ Texts texts table
 
 pub texts-if : (v : Value) → kind_of v ≡ TextsKind → IsTexts v
-texts-if (Numbers l zs) e = absurd (cc)
-texts-if (Elements l zs t) e = absurd (cc)
-texts-if (Bytes bs t) e = absurd (cc)
-texts-if (Pairs l m ps) e = absurd (cc)
 texts-if (Texts ps t) e = record { texts = ps; table = t; is = refl }
+texts-if v e = absurd (cc)
 
 -- or of neither
 no_vector-if : (v : Value) → ((k : ScalarKind) → kind_of v ≡ Vector k → ⊥) → (kind_of v ≡ TextsKind → ⊥) → is_no_vector v ≡ true
-no_vector-if (Numbers k zs) n m = refl
 no_vector-if (Elements k zs t) n m = absurd (n k refl)
-no_vector-if (Bytes bs t) n m = refl
-no_vector-if (Pairs k v ps) n m = refl
 no_vector-if (Texts ps t) n m = absurd (m refl)
+no_vector-if v n m = refl
 
 -- ---- no object that may be changed has the key
 
@@ -171,19 +161,16 @@ abbrev pub NoText : Literal → Type 0
 NoText l = (bs : List ℕ) → l ≡ Quoted bs → ⊥
 
 not_pushed : (d : Directory) (o : Object) (ps : List OwnedText) (t : Table) (l : Literal) → NoText l → step.push d o (Texts ps t) l ≡ Refuse WrongKind
-not_pushed d o ps t (Whole z) n = refl
-not_pushed d o ps t (Truth b) n = refl
 not_pushed d o ps t (Quoted bs) n = absurd (n bs refl)
+not_pushed d o ps t l n = refl
 
 not_inserted : (d : Directory) (o : Object) (ps : List OwnedText) (t : Table) (i : ℕ) (l : Literal) → NoText l → step.insert_at d o (Texts ps t) i l ≡ Refuse WrongKind
-not_inserted d o ps t i (Whole z) n = refl
-not_inserted d o ps t i (Truth b) n = refl
 not_inserted d o ps t i (Quoted bs) n = absurd (n bs refl)
+not_inserted d o ps t i l n = refl
 
 not_set : (d : Directory) (o : Object) (ps : List OwnedText) (t : Table) (i : ℕ) (l : Literal) → NoText l → step.set d o (Texts ps t) i l ≡ Refuse WrongKind
-not_set d o ps t i (Whole z) n = refl
-not_set d o ps t i (Truth b) n = refl
 not_set d o ps t i (Quoted bs) n = absurd (n bs refl)
+not_set d o ps t i l n = refl
 
 module _ {s : State} {key : Key} (h : IsChangeable s key TextsKind) {l : Literal} (n : NoText l) where
   found : (d : Directory) → StandsFor s.cut.bytes d → IsOfKindAt d key TextsKind
@@ -234,11 +221,8 @@ set-step {old} {new} key {k} i l v {answer} a (same, value, range) h =
 
 -- a map has none
 no_map_set : (d : Directory) (o : Object) (v : Value) (i : ℕ) (l : Literal) (k m : ScalarKind) → kind_of v ≡ MapKind k m → step.set d o v i l ≡ Refuse WrongKind
-no_map_set d o (Numbers j zs) i l k m e = absurd (cc)
-no_map_set d o (Elements j zs t) i l k m e = absurd (cc)
-no_map_set d o (Bytes bs t) i l k m e = absurd (cc)
 no_map_set d o (Pairs j n ps) i l k m e = refl
-no_map_set d o (Texts ps t) i l k m e = absurd (cc)
+no_map_set d o v i l k m e = absurd (cc)
 
 pub set-map : {s : State} {key : Key} {k m : ScalarKind} (i : ℕ) (l : Literal) → IsChangeable s key (MapKind k m) → IsStep s s (asked.Set key i l) (Refused WrongKind)
 set-map {s} {key} {k} {m} i l h =

@@ -6,14 +6,13 @@ use Rattle.segment_manager.proofs.Common.{OutOfRange, WrongKind, same_kind, Key,
 use Rattle.segment_manager.proofs.Common.{Refused, TextElement, sizes_of, sizes_of_kind, Value, Object, Directory}
 use Rattle.segment_manager.proofs.Common.{count_of, kind_of, live, object_at, first_size, length_at_kind}
 use Rattle.segment_manager.proofs.Common.{number_or_none, Reply, perform, with, answer_of, get, step_of_kind}
+use Rattle.segment_manager.proofs.Steps.{open-reading, step_of_kind-found, step_of_kind-not_found, step_of_kind-other}
+use Rattle.segment_manager.proofs.{Codes.numbers-only, TextsHeld.texts-only, ItemSteps.vector-only}
+use Rattle.segment_manager.proofs.{ContentPlans.of_slice, TextPlans.text_in, Steps.with-found}
 use Rattle.seg_types.specs.declared.kinds.Kind.TheVariants.{Vector as VectorOf}
 use Rattle.segment_manager.specs.ElementLists.{array_at, array_length_at, list_at, numbers_in, texts_at, texts_in}
 use Rattle.segment_manager.specs.ElementLists.{vector_at}
 use Rattle.seg_types.specs.Commands as asked
-use Rattle.segment_manager.proofs.{Codes.numbers-only, TextsHeld.texts-only, ItemSteps.vector-only}
-use Rattle.segment_manager.proofs.{ContentPlans.of_slice, TextPlans.text_in}
-use Rattle.segment_manager.proofs.Steps.{open-reading, step_of_kind-found, step_of_kind-not_found, step_of_kind-other}
-use Rattle.segment_manager.proofs.Steps.{with-found}
 
 -- what was read, if it was
 abbrev pub got : {A : Type 0} → Result A Refusal → Option A
@@ -26,15 +25,9 @@ pub none-listed : {A : Type 0} (items : Value → List A) (d : Directory) (key :
 none-listed {A} items d key kind e =
     ap (λ (r : Option Object). elim r as (λ _. List A) [ None ↦ [] | Some o ↦ if same_kind kind (kind_of o.value) then items o.value else [] ]) e
 
-pub other-listed : {A : Type 0} (items : Value → List A) (d : Directory) (key : Key) (kind : Kind) (o : Object) → object_at d key ≡ Some o → same_kind kind (kind_of o.value) ≡ false
-    → list_at items d key kind ≡ []
-other-listed {A} items d key kind o e f =
-    ap (λ (r : Option Object). elim r as (λ _. List A) [ None ↦ [] | Some o ↦ if same_kind kind (kind_of o.value) then items o.value else [] ]) e
-    ∙ ap (λ b. if b then items o.value else []) f
-
-pub its-list : {A : Type 0} (items : Value → List A) (d : Directory) (key : Key) (kind : Kind) (o : Object) → object_at d key ≡ Some o → same_kind kind (kind_of o.value) ≡ true
-    → list_at items d key kind ≡ items o.value
-its-list {A} items d key kind o e f =
+pub list-of : {A : Type 0} (items : Value → List A) (d : Directory) (key : Key) (kind : Kind) (o : Object) (b : Bool) → object_at d key ≡ Some o → same_kind kind (kind_of o.value) ≡ b
+    → list_at items d key kind ≡ (if b then items o.value else [])
+list-of {A} items d key kind o b e f =
     ap (λ (r : Option Object). elim r as (λ _. List A) [ None ↦ [] | Some o ↦ if same_kind kind (kind_of o.value) then items o.value else [] ]) e
     ∙ ap (λ b. if b then items o.value else []) f
 
@@ -60,12 +53,12 @@ module _ {A : Type 0} (says : A → Answer) (one : (a b : A) → says a ≡ says
         → answer_of says r ≡ (step_of_kind mode d key kind (asked.Get key i)).0 → got r ≡ slice_get (list_at items d key kind) i
     item-of o false e g f =
         not-got r WrongKind (f ∙ ap (λ (n : Answer × Directory). n.0) (step_of_kind-other mode d key kind (asked.Get key i) o (open-reading mode (asked.Get key i) refl) e g))
-        ∙ sym (ap (λ zs. slice_get zs i) (other-listed items d key kind o e g))
+        ∙ sym (ap (λ zs. slice_get zs i) (list-of items d key kind o false e g))
     item-of o true e g f =
         got-as r (slice_get (items o.value) i)
         (f ∙ ap (λ (n : Answer × Directory). n.0) (step_of_kind-found mode d key kind (asked.Get key i) o (open-reading mode (asked.Get key i) refl) e g)
         ∙ ap (λ p. (perform d (live d) p).0) (with-found d key o (λ o. get d o.value i) e) ∙ gets o.value g)
-        ∙ sym (ap (λ zs. slice_get zs i) (its-list items d key kind o e g))
+        ∙ sym (ap (λ zs. slice_get zs i) (list-of items d key kind o true e g))
 
     item-at : (p : Option Object) → object_at d key ≡ p → answer_of says r ≡ (step_of_kind mode d key kind (asked.Get key i)).0
         → got r ≡ slice_get (list_at items d key kind) i

@@ -4,10 +4,9 @@ use Rattle.segment_manager.proofs.Common.{eq-eqb, ne_eqb, handle, Scalar, Scalar
 use Rattle.segment_manager.proofs.Common.{emptied, Value, Numbers, Object, Directory, count_of, has_key, is_good_value}
 use Rattle.segment_manager.proofs.Common.{kind_of, remove_object, replace_object, value_extents, value_len}
 use Rattle.segment_manager.proofs.Common.{without_object, entries_of, changed, by_name, by_kind, NamedClass}
-use Rattle.segment_manager.proofs.Common.{UniqueClass}
-use Rattle.segment_manager.proofs.{Rewritten.with_value, Faces.ordered-changed, Faces.by_name-face, Faces.by_kind-face}
 use Rattle.segment_manager.proofs.Live.{IsFound, IsIn, Place, behind, found-nothing, found-place, here, remove-behind}
-use Rattle.segment_manager.proofs.Live.{remove-here, replace-behind, replace-here}
+use Rattle.segment_manager.proofs.{Common.UniqueClass, Rewritten.with_value, Faces.ordered-changed, Faces.by_name-face}
+use Rattle.segment_manager.proofs.{Faces.by_kind-face, Live.remove-here, Live.replace-behind, Live.replace-here}
 
 -- ---- the value
 

@@ -6,11 +6,10 @@ use Rattle.segment_manager.proofs.Common.{ByKind, ByName, Index, place_of, IsInd
 use Rattle.segment_manager.proofs.Common.{is_class, is_index, kind_of, live, object_at, table_extents, with_object}
 use Rattle.segment_manager.proofs.Common.{handles, class_of_index, entries_of, objects_of, order_of, table_of}
 use Rattle.segment_manager.proofs.Common.{with_table_of, by_name, by_kind, NamedClass, UniqueClass}
-use Rattle.seg_index.specs.declared.index.Index.TheVariants as index
-use Rattle.segment_manager.proofs.{AnyClass.HasIndexes, Denoted.handles-length, Denoted.index-stays, Live.OfEach}
-use Rattle.segment_manager.proofs.{Live.of_each, Ranks.insert_by-length, Faces.ordered-with}
 use Rattle.segment_manager.proofs.Indexes.{named-more, unique-more, ordered-more, new-name, new-kind, by_name-strict}
-use Rattle.segment_manager.proofs.Indexes.{by_kind-strict}
+use Rattle.segment_manager.proofs.{AnyClass.HasIndexes, Denoted.handles-length, Denoted.index-stays, Live.OfEach}
+use Rattle.segment_manager.proofs.{Live.of_each, Ranks.insert_by-length, Faces.ordered-with, Indexes.by_kind-strict}
+use Rattle.seg_index.specs.declared.index.Index.TheVariants as index
 
 -- ---- one of the two, and the other
 
@@ -88,11 +87,7 @@ entered-other i m d t o c h =
     let e = sym (other-with i d o (other_class i o c)) in
     other-one i m d t o
     (subst (λ os. IsTrue (is_index (table_of (other i) d) os (order_of (other i)))) e h.is)
-    (ap-at e h.at)
-  where
-    ap-at : objects_of (other i) d ≡ objects_of (other i) (with_object d o) → IsIndexAt m (place_of (other i)) (table_of (other i) d) (entries_of (other i) d)
-        → IsIndexAt m (place_of (other i)) (table_of (other i) d) (entries_of (other i) (with_object d o))
-    ap-at e h = subst (λ os. IsIndexAt m (place_of (other i)) (table_of (other i) d) (handles os)) e h
+    (subst (λ os. IsIndexAt m (place_of (other i)) (table_of (other i) d) (handles os)) e h.at)
 
 -- ---- what stays beside an index
 

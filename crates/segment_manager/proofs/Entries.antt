@@ -1,14 +1,11 @@
 -- Each index follows its objects.
-use Rattle.segment_manager.proofs.Common.{◌≡◌, ◌∙◌, sym, ℕ, Some, handle, ByHandle, Object, Directory, IsDirectory}
-use Rattle.segment_manager.proofs.Common.{object_at, by_name, by_kind}
-use Rattle.segment_manager.specs.Entries.{DiffersInValue, IndexesFollowObjects, KeepsEntries, PutsOneEntry}
-use Rattle.segment_manager.specs.Entries.{RemovesOneEntry}
-use Rattle.seg_types.specs.declared.kinds.Class.TheVariants.{Named, Unique}
-use Rattle.segment_manager.proofs.Live.{IsFound, IsIn}
+use Rattle.segment_manager.proofs.Common.{◌∙◌, sym, ℕ, handle, ByHandle, Object, Directory, IsDirectory, object_at}
 use Rattle.segment_manager.proofs.Faces.{IsLike, ordered-with, ordered-without, ordered-changed, by_name-face}
-use Rattle.segment_manager.proofs.Faces.{by_kind-face}
 use Rattle.segment_manager.proofs.Indexes.{named-more, one-less, unique-more, one-removed, by_name-strict}
 use Rattle.segment_manager.proofs.Indexes.{by_kind-strict}
+use Rattle.segment_manager.proofs.{Common.by_name, Common.by_kind, Faces.by_kind-face, Live.IsFound, Live.IsIn}
+use Rattle.segment_manager.specs.Entries.{IndexesFollowObjects, KeepsEntries, PutsOneEntry, RemovesOneEntry}
+use Rattle.seg_types.specs.declared.kinds.Class.TheVariants.{Named, Unique}
 
 puts-entry : (d : Directory) (o : Object) → PutsOneEntry d o
 puts-entry d o = record { named = named-more d o; not_named = ordered-with Named by_name d o; unique = unique-more d o; not_unique = ordered-with Unique by_kind d o }
@@ -26,13 +23,9 @@ removes-entry format d o is f = record {
 keeps-entries : (d : Directory) (o p : Object) → IsFound (handle p.extent) d.objects o → IsLike o p → KeepsEntries d p
 keeps-entries d o p f like = record { named = (ordered-changed Named by_name by_name-face d o p f like).entries; unique = (ordered-changed Unique by_kind by_kind-face d o p f like).entries }
 
--- the object of a handle is the one of the handle of another in its place
-same-place : (d : Directory) (o p : Object) → object_at d (ByHandle (handle o.extent)) ≡ Some o → DiffersInValue o p → IsFound (handle p.extent) d.objects o
-same-place d o p e h = record { is = (λ i. object_at d (ByHandle (handle (h.extent i)))) ∙ e }
-
 pub follows : IndexesFollowObjects
 follows = record {
   puts = puts-entry;
   removes = λ format d o is e. removes-entry format d o is (record { is = e });
-  changes = λ d o p e h. keeps-entries d o p (same-place d o p e h) (record { extent = h.extent; name = h.name; class = h.class; kind = h.kind });
+  changes = λ d o p e h. keeps-entries d o p (record { is = (λ i. object_at d (ByHandle (handle (h.extent i)))) ∙ e }) (record { extent = h.extent; name = h.name; class = h.class; kind = h.kind });
 }

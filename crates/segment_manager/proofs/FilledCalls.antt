@@ -1,22 +1,23 @@
 -- The calls that construct, or find or construct, as the code makes them: whatever fills the object.
-use Rattle.segment_manager.proofs.Common.{◌≡◌, refl, sym, ap, subst, ◌∙◌, ℕ, true, false, Some, None, Option, Ok, Err}
-use Rattle.segment_manager.proofs.Common.{Result, List, IfErr, none-some, Cut, Kind, Refusal, Exists, NoSpace, Command}
-use Rattle.segment_manager.proofs.Common.{Content, Index, NewEntry, Mode, Answer, Made, Refused, is_untouched, Begins}
-use Rattle.segment_manager.proofs.Common.{IsAbsentAt, IsNotBegun, Object, Directory, count_of, kind_of, object_at}
-use Rattle.segment_manager.proofs.Common.{value_len, Constructs, FindsOrConstructs, IsBegunFor, MakesValue, with_count}
-use Rattle.segment_manager.proofs.Common.{handle_at, pair_answer, IsNewKeyOf, bare, StandsAt, pair_of_kind, Answers}
-use Rattle.segment_manager.proofs.Common.{IsSegment, IsStep, KeepsRefused, State, answer_of, handle_answer}
-use Rattle.segment_manager.proofs.Common.{is_read_only}
+use Rattle.segment_manager.specs.Begun.{Ends, IsEnding}
+use Rattle.segment_manager.specs.{Filled.HasBegun, Filled.Builds, Filled.IsShapeOf, Found.pair_found, Answers.Found}
+use Rattle.segment_manager.proofs.Common.{false≢true, ◌≡◌, refl, sym, ap, subst, ◌∙◌, ℕ, true, false, Some, None}
+use Rattle.segment_manager.proofs.Common.{Option, Ok, Err, Result, List, IfErr, none-some, Cut, Kind, Refusal, Exists}
+use Rattle.segment_manager.proofs.Common.{NoSpace, Command, Content, Index, NewEntry, Mode, Answer, Made, Refused}
+use Rattle.segment_manager.proofs.Common.{is_untouched, Begins, IsAbsentAt, IsNotBegun, Object, Directory, count_of}
+use Rattle.segment_manager.proofs.Common.{kind_of, object_at, value_len, Constructs, FindsOrConstructs, IsBegunFor}
+use Rattle.segment_manager.proofs.Common.{MakesValue, with_count, handle_at, pair_answer, IsNewKeyOf, bare, StandsAt}
+use Rattle.segment_manager.proofs.Common.{pair_of_kind, Answers, IsSegment, IsStep, KeepsRefused, State, answer_of}
+use Rattle.segment_manager.proofs.Common.{handle_answer, is_read_only, Reply, effect, found, with_new_object}
+use Rattle.segment_manager.proofs.FoundOrMade.{constructs-exists, finds, found-there, made_for, made_handle, makes}
+use Rattle.segment_manager.proofs.NewValues.{IsMadeNever, IsMadeNow, away-in, key-taken, value-built, value-loose}
+use Rattle.segment_manager.proofs.{FoundOrMade.makes-nothing, NewValues.value-not_begun, NewValues.value-not_built}
+use Rattle.segment_manager.proofs.{NewValues.value-ready, Bridge.lookup-absent, NewKeys.key-seeks, Steps.step-segment}
+use Rattle.seg_index.specs.declared.keys.Key.{Key}
+use Rattle.segment_manager.specs.declared.beginning.Begun.{Begun}
+use Rattle.segment_manager.specs.declared.fillings.Shape.{Shape}
 use Rattle.seg_types.specs.Names as names
 use Rattle.seg_types.specs.Commands as asked
-use Rattle.seg_index.specs.declared.keys.Key.{Key}
-use Rattle.segment_manager.specs.{declared.beginning.Begun.Begun, declared.fillings.Shape.Shape, Begun.Ends}
-use Rattle.segment_manager.specs.{Begun.IsEnding, Filled.Builds, Filled.IsShapeOf, Found.pair_found}
-use Rattle.segment_manager.proofs.{Bridge.lookup-absent, NewKeys.key-seeks, Steps.step-segment}
-use Rattle.segment_manager.proofs.FoundOrMade.{constructs, constructs-exists, constructs-none, found-there, makes-found}
-use Rattle.segment_manager.proofs.FoundOrMade.{makes-none}
-use Rattle.segment_manager.proofs.NewValues.{IsMadeNever, IsMadeNow, away-in, key-taken, value-built, value-loose}
-use Rattle.segment_manager.proofs.NewValues.{value-not_begun, value-not_built, value-ready}
 
 -- ---- begun
 
@@ -25,6 +26,10 @@ pub begun-for : (old new : Cut) (key : names.Key) (content : Content) (s : Shape
     → Begins old new key (kind_of (bare content)) (count_of (bare content)) (value_len (bare content)) r
 begun-for old new key content s r is g = subst (λ (k : Kind). Begins old new key k (count_of (bare content)) (value_len (bare content)) r) is.kind
     (subst (λ n. Begins old new key s.kind n (value_len (bare content)) r) is.count (subst (λ n. Begins old new key s.kind s.count n r) is.len g))
+
+pub has-begun : (old new : Cut) (key : names.Key) (content : Content) (s : Shape) (r : Begun) → IsSegment old.bytes → IsShapeOf content s → Begins old new key s.kind s.count s.len (Ok r)
+    → HasBegun new content r.handle r.at r.entry
+has-begun old new key content s r b is g = (old, (b, (key, begun-for old new key content s (Ok r) is g)))
 
 -- ---- filled
 
@@ -43,16 +48,21 @@ module _ (content : Content) where
 
 -- ---- the steps
 
-not-untouched : false ≡ true → ⊥
-not-untouched e = cc
-
 module _ (a : Cut) (b : IsSegment a.bytes) (key : names.Key) (content : Content) where
-  no-space : (c : Cut) {A : Type 0} (f : A → Answer) (command : Command) (why : Refusal) → why ≡ NoSpace
-      → ((mode : Mode) → is_read_only mode ≡ false → IsStep (record { cut = a; mode = mode }) (record { cut = c; mode = mode }) command (Refused NoSpace)) → Constructs a c command (answer_of f) (Err why)
-  no-space c f command why e step = record {
-    step = λ mode writing. subst (λ (r : Refusal). IsStep (record { cut = a; mode = mode }) (record { cut = c; mode = mode }) command (Refused r)) (sym e) (step mode writing);
-    refused = λ t. absurd (not-untouched (sym (ap (λ (r : Refusal). is_untouched (Refused r)) e) ∙ t));
+  no-space : {A : Type 0} (f : A → Answer) (command : Command) (say : Object → Answer) → ((d : Directory) → object_at d key ≡ None → effect d command ≡ with_new_object d key content (λ o e. Reply (say o) e))
+      → (c : Cut) (why : Refusal) → why ≡ NoSpace → IsMadeNever a c key content → Constructs a c command (answer_of f) (Err why)
+  no-space f command say asks c why e d = record {
+    step = λ mode writing.
+        subst (λ (r : Refusal). IsStep (record { cut = a; mode = mode }) (record { cut = c; mode = mode }) command (Refused r)) (sym e)
+        (makes-nothing (record { cut = a; mode = mode }) c key content command say writing d.place asks d.each);
+    refused = λ t. absurd (false≢true (sym (ap (λ (r : Refusal). is_untouched (Refused r)) e) ∙ t));
   }
+
+  none-constructed : (c : Cut) (why : Refusal) → why ≡ NoSpace → IsMadeNever a c key content → Constructs a c (asked.Construct key content) handle_answer (Err why)
+  none-constructed = no-space Made (asked.Construct key content) made_handle (λ d e. ap (made_for d key content) e)
+
+  none-found : (c : Cut) (why : Refusal) → why ≡ NoSpace → IsMadeNever a c key content → Constructs a c (asked.FindOrConstruct key content) pair_answer (Err why)
+  none-found = no-space pair_found (asked.FindOrConstruct key content) found (λ d e. ap (finds d key content) e)
 
   made-now : (entry : Option NewEntry) (m c : Cut) (h at n : ℕ) → IsBegunFor a m key content h at entry → Builds m c h at entry content (let r : Result ℕ Refusal = Ok n in r) → IsMadeNow a c key content n
   made-now entry m c h at n g r = subst (λ (n : ℕ). IsMadeNow a c key content n) (sym r.is) (value-built content a m b key h at entry r.made c g r.value r.entered)
@@ -66,19 +76,25 @@ module _ (a : Cut) (b : IsSegment a.bytes) (key : names.Key) (content : Content)
       → Constructs a c (asked.Construct key content) handle_answer r
   construct-built entry m c h at (Ok n) g r =
       let d : IsMadeNow a c key content n = made-now entry m c h at n g r in
-      record { step = λ mode writing. constructs (record { cut = a; mode = mode }) c key content n writing d.place d.each; refused = tt }
-  construct-built entry m c h at (Err why) g r =
-      let d : IsMadeNever a c key content = made-never entry m c h at why g r in
-      no-space c Made (asked.Construct key content) why r.none.refusal (λ mode writing. constructs-none (record { cut = a; mode = mode }) c key content writing d.place d.each)
+      record {
+        step = λ mode writing.
+            makes (record { cut = a; mode = mode }) c key content n (asked.Construct key content) made_handle (Made n) writing d.place
+            (λ d e. ap (made_for d key content) e) (λ d n. ap Made (sym n.at)) d.each;
+        refused = tt;
+      }
+  construct-built entry m c h at (Err why) g r = none-constructed c why r.none.refusal (made-never entry m c h at why g r)
 
   pub found-built : (entry : Option NewEntry) (m c : Cut) (h at : ℕ) (r : Result ℕ Refusal) → IsBegunFor a m key content h at entry → Builds m c h at entry content r
       → Constructs a c (asked.FindOrConstruct key content) pair_answer (with_count (count_of (bare content)) r)
   found-built entry m c h at (Ok n) g r =
       let d : IsMadeNow a c key content n = made-now entry m c h at n g r in
-      record { step = λ mode writing. makes-found (record { cut = a; mode = mode }) c key content n (count_of (bare content)) writing d.place refl d.each; refused = tt }
-  found-built entry m c h at (Err why) g r =
-      let d : IsMadeNever a c key content = made-never entry m c h at why g r in
-      no-space c pair_found (asked.FindOrConstruct key content) why r.none.refusal (λ mode writing. makes-none (record { cut = a; mode = mode }) c key content writing d.place d.each)
+      record {
+        step = λ mode writing.
+            makes (record { cut = a; mode = mode }) c key content n (asked.FindOrConstruct key content) found (Found n (count_of (bare content))) writing d.place
+            (λ d e. ap (finds d key content) e) (λ d n. λ j. Found (sym n.at j) (n.count j)) d.each;
+        refused = tt;
+      }
+  found-built entry m c h at (Err why) g r = none-found c why r.none.refusal (made-never entry m c h at why g r)
 
   -- it is not begun
   pub construct-not_begun : (why : Refusal) (c : Cut) → IsNotBegun a c key (kind_of (bare content)) (value_len (bare content)) why → Constructs a c (asked.Construct key content) handle_answer (Err why)
@@ -88,21 +104,14 @@ module _ (a : Cut) (b : IsSegment a.bytes) (key : names.Key) (content : Content)
         (constructs-exists (record { cut = a; mode = mode }) key content writing (key-taken a key content c t));
     refused = λ e. t.same;
   }
-  construct-not_begun NoSpace c t =
-      let d : IsMadeNever a c key content = value-not_begun a key content c t in
-      no-space c Made (asked.Construct key content) NoSpace refl (λ mode writing. constructs-none (record { cut = a; mode = mode }) c key content writing d.place d.each)
+  construct-not_begun NoSpace c t = none-constructed c NoSpace refl (value-not_begun a key content c t)
   construct-not_begun why c t = absurd t
 
   -- where no object has the key
   pub found-not_begun : (why : Refusal) (c : Cut) → object_at b.0 key ≡ None → IsNotBegun a c key (kind_of (bare content)) (value_len (bare content)) why
       → Constructs a c (asked.FindOrConstruct key content) pair_answer (Err why)
-  found-not_begun Exists c none t = absurd (let o = key-taken a key content c t b.0 b.1 in not-both b.0 o.0 none o.1)
-    where
-      not-both : (d : Directory) (o : Object) → object_at d key ≡ None → object_at d key ≡ Some o → ⊥
-      not-both d o e f = cc
-  found-not_begun NoSpace c none t =
-      let d : IsMadeNever a c key content = value-not_begun a key content c t in
-      no-space c pair_found (asked.FindOrConstruct key content) NoSpace refl (λ mode writing. makes-none (record { cut = a; mode = mode }) c key content writing d.place d.each)
+  found-not_begun Exists c none t = absurd (let o = key-taken a key content c t b.0 b.1 in none-some o.0 (sym none ∙ o.1))
+  found-not_begun NoSpace c none t = none-found c NoSpace refl (value-not_begun a key content c t)
   found-not_begun why c none t = absurd t
 
   -- an object has the key, and stays as it is

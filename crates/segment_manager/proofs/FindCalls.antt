@@ -1,18 +1,16 @@
 -- The calls that find an object of a kind and that walk the indexes, for each directory that the bytes stand for.
 use Rattle.segment_manager.proofs.Common.{◌≡◌, refl, sym, ap, subst, ◌∙◌, ℕ, ◌<◌, true, false, Option, Some, None}
-use Rattle.segment_manager.proofs.Common.{length, arith, if◌then◌else◌, slice_get, Kind, WrongKind}
-use Rattle.segment_manager.proofs.Common.{same_kind, Key, Index, Named, Unique, IsIndexOf, entry_count}
-use Rattle.segment_manager.proofs.Common.{place_of, Answer, Number, Object, Directory, kind_of}
-use Rattle.segment_manager.proofs.Common.{named_objects, unique_objects, IsBelow, handle_at, entries_of, objects_of}
-use Rattle.segment_manager.proofs.Common.{table_of, Plan, Refuse, Reply, StandsAt, Answers, IsReply}
-use Rattle.segment_manager.proofs.Common.{IsSegment, State, StandsFor, found, Mode, Command, step}
-use Rattle.segment_manager.specs.Answers.{Absent}
-use Rattle.segment_manager.proofs.Common.{Bool, Err, Ok, Refusal, Result, count_of, handle, pair_answer, pair_of_kind}
-use Rattle.seg_types.specs.Commands as asked
+use Rattle.segment_manager.proofs.Common.{length, arith, if◌then◌else◌, slice_get, Kind, WrongKind, same_kind, Key}
+use Rattle.segment_manager.proofs.Common.{Index, Named, Unique, IsIndexOf, entry_count, place_of, Answer, Number}
+use Rattle.segment_manager.proofs.Common.{Object, Directory, kind_of, named_objects, unique_objects, IsBelow, handle_at}
+use Rattle.segment_manager.proofs.Common.{entries_of, objects_of, table_of, Plan, Refuse, Reply, StandsAt, Answers}
+use Rattle.segment_manager.proofs.Common.{IsReply, IsSegment, State, StandsFor, found, Mode, Command, step, Bool, Err}
+use Rattle.segment_manager.proofs.Common.{Ok, Refusal, Result, count_of, handle, pair_answer, pair_of_kind, effect}
+use Rattle.segment_manager.proofs.Steps.{open-reading, IsOpenFor, step-refuse, step-reply}
 use Rattle.segment_manager.proofs.{Denoted.handles-length, Here.IsHere, Here.here, Here.nothing-here, KeyCalls.ForIndex}
-use Rattle.segment_manager.proofs.{KeyCalls.of-directory, HeldIndexes.denotes-index, Steps.open-reading}
-use Rattle.segment_manager.proofs.{Steps.IsOpenFor, Steps.step-refuse, Steps.step-reply}
-use Rattle.segment_manager.proofs.Common.{effect}
+use Rattle.segment_manager.proofs.{KeyCalls.of-directory, HeldIndexes.denotes-index}
+use Rattle.segment_manager.specs.Answers.{Absent}
+use Rattle.seg_types.specs.Commands as asked
 
 -- ---- an object of a kind
 

@@ -1,21 +1,18 @@
 -- An object found under a key, or constructed where there is none, as a step of the machine.
-use Rattle.segment_manager.proofs.Common.{◌≡◌, refl, sym, ap, ◌∙◌, ℕ, false, Some, None, Option, Result}
-use Rattle.segment_manager.proofs.Common.{if◌then◌else◌, Cut, SamePlace, handle, Refusal, NoSpace, WrongKind}
-use Rattle.segment_manager.proofs.Common.{Exists, same_kind, Key, Content, Answer, Refused, Made, Object, Directory}
-use Rattle.segment_manager.proofs.Common.{count_of, kind_of, object_at, handle_at, pair_answer, Plan, Refuse, Reply}
-use Rattle.segment_manager.proofs.Common.{bare, with_new_object, StandsAt, pair_of_kind, Answers, IsStep, StandsFor}
-use Rattle.segment_manager.proofs.Common.{State, found, is_read_only, step}
-use Rattle.segment_manager.specs.Answers.{Found}
-use Rattle.seg_types.specs.Commands as asked
-use Rattle.segment_manager.proofs.{Constructed.IsNewObject, Constructed.IsNoObject, Here.IsHere, Here.here}
+use Rattle.segment_manager.proofs.Common.{◌≡◌, refl, sym, ap, ◌∙◌, ℕ, false, Some, None, Option, Result, if◌then◌else◌}
+use Rattle.segment_manager.proofs.Common.{Cut, SamePlace, handle, Refusal, NoSpace, WrongKind, Exists, same_kind, Key}
+use Rattle.segment_manager.proofs.Common.{Content, Answer, Refused, Made, Object, Directory, kind_of, object_at}
+use Rattle.segment_manager.proofs.Common.{handle_at, pair_answer, Plan, Refuse, Reply, bare, with_new_object, StandsAt}
+use Rattle.segment_manager.proofs.Common.{pair_of_kind, Answers, IsStep, StandsFor, State, found, is_read_only, step}
+use Rattle.segment_manager.proofs.Constructed.{IsNewObject, IsNoObject}
 use Rattle.segment_manager.proofs.Steps.{by_no_change, by_step, lands, open-writing, step-plan, step-refuse}
-use Rattle.segment_manager.proofs.FindCalls.{kind-step}
-use Rattle.segment_manager.proofs.Common.{Command, effect}
+use Rattle.segment_manager.proofs.{Common.Command, Common.effect, Here.IsHere, Here.here, FindCalls.kind-step}
+use Rattle.seg_types.specs.Commands as asked
 
 -- ---- an object that is constructed
 
 -- what the plan is for what is found: that of a new object, or that there is one
-abbrev made_for : Directory → Key → Content → Option Object → Plan
+abbrev pub made_for : Directory → Key → Content → Option Object → Plan
 made_for d key content r = elim r as (λ _. Plan) [ Some o ↦ Refuse Exists | None ↦ with_new_object d key content (λ o e. Reply (Made (handle o.extent)) e) ]
 
 -- A command asks for a new object where no object has the key, and says this of it: it is made.
@@ -33,7 +30,7 @@ makes old new key content h c say answer writing place asks said each =
     }))
 
 -- or a request is refused
-makes-nothing : (old : State) (new : Cut) (key : Key) (content : Content) (c : Command) (say : Object → Answer) → is_read_only old.mode ≡ false → SamePlace old.cut new
+pub makes-nothing : (old : State) (new : Cut) (key : Key) (content : Content) (c : Command) (say : Object → Answer) → is_read_only old.mode ≡ false → SamePlace old.cut new
     → ((d : Directory) → object_at d key ≡ None → effect d c ≡ with_new_object d key content (λ o e. Reply (say o) e))
     → ((d : Directory) → StandsFor old.cut.bytes d → (object_at d key ≡ None) × IsNoObject new d key content) → IsStep old (record old { cut = new }) c (Refused NoSpace)
 makes-nothing old new key content c say writing place asks each =
@@ -47,18 +44,6 @@ makes-nothing old new key content c say writing place asks each =
 abbrev pub made_handle : Object → Answer
 made_handle o = Made (handle o.extent)
 
-pub constructs : (old : State) (new : Cut) (key : Key) (content : Content) (h : ℕ) → is_read_only old.mode ≡ false → SamePlace old.cut new
-    → ((d : Directory) → StandsFor old.cut.bytes d → (object_at d key ≡ None) × IsNewObject new d key content h)
-    → IsStep old (record old { cut = new }) (asked.Construct key content) (Made h)
-constructs old new key content h writing place each =
-    makes old new key content h (asked.Construct key content) made_handle (Made h) writing place (λ d e. ap (made_for d key content) e) (λ d n. ap Made (sym n.at)) each
-
-pub constructs-none : (old : State) (new : Cut) (key : Key) (content : Content) → is_read_only old.mode ≡ false → SamePlace old.cut new
-    → ((d : Directory) → StandsFor old.cut.bytes d → (object_at d key ≡ None) × IsNoObject new d key content)
-    → IsStep old (record old { cut = new }) (asked.Construct key content) (Refused NoSpace)
-constructs-none old new key content writing place each =
-    makes-nothing old new key content (asked.Construct key content) made_handle writing place (λ d e. ap (made_for d key content) e) each
-
 -- an object has the key
 pub constructs-exists : (s : State) (key : Key) (content : Content) → is_read_only s.mode ≡ false → ((d : Directory) → StandsFor s.cut.bytes d → (o : Object) × (object_at d key ≡ Some o))
     → IsStep s s (asked.Construct key content) (Refused Exists)
@@ -67,28 +52,11 @@ constructs-exists s key content writing each =
     step-refuse s.mode d (asked.Construct key content) Exists (open-writing s.mode (asked.Construct key content) writing) (ap (made_for d key content) (each d k).1))
 
 -- what the plan is for what is found
-abbrev finds : Directory → Key → Content → Option Object → Plan
+abbrev pub finds : Directory → Key → Content → Option Object → Plan
 finds d key content r = elim r as (λ _. Plan) [
   | None ↦ with_new_object d key content (λ o e. Reply (found o) e)
   | Some o ↦ if same_kind (kind_of (bare content)) (kind_of o.value) then Reply (found o) d else Refuse WrongKind
 ]
-
--- ---- no object has the key
-
--- one is made
-pub makes-found : (old : State) (new : Cut) (key : Key) (content : Content) (h count : ℕ) → is_read_only old.mode ≡ false → SamePlace old.cut new → count_of (bare content) ≡ count
-    → ((d : Directory) → StandsFor old.cut.bytes d → (object_at d key ≡ None) × IsNewObject new d key content h)
-    → IsStep old (record old { cut = new }) (asked.FindOrConstruct key content) (Found h count)
-makes-found old new key content h count writing place many each =
-    makes old new key content h (asked.FindOrConstruct key content) found (Found h count) writing place (λ d e. ap (finds d key content) e)
-    (λ d n. (λ j. Found (sym n.at j) (n.count j)) ∙ ap (Found h) many) each
-
--- a request is refused
-pub makes-none : (old : State) (new : Cut) (key : Key) (content : Content) → is_read_only old.mode ≡ false → SamePlace old.cut new
-    → ((d : Directory) → StandsFor old.cut.bytes d → (object_at d key ≡ None) × IsNoObject new d key content)
-    → IsStep old (record old { cut = new }) (asked.FindOrConstruct key content) (Refused NoSpace)
-makes-none old new key content writing place each =
-    makes-nothing old new key content (asked.FindOrConstruct key content) found writing place (λ d e. ap (finds d key content) e) each
 
 -- ---- an object has the key
 

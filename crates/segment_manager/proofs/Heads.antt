@@ -3,17 +3,15 @@ use Rattle.segment_manager.proofs.Common.{◌≡◌, ap, ◌∙◌, ℕ, zero, s
 use Rattle.segment_manager.proofs.Common.{not, List, [], ◌∷◌, ◌++◌, length, replicate, ◌==◌, if◌then◌else◌, arith}
 use Rattle.segment_manager.proofs.Common.{IsTrue, nat_le, AllByRecursion, list_all, is_utf8, chars, and_parts, eqb-true}
 use Rattle.segment_manager.proofs.Common.{leb-true, Memory, bytes_of, read, Has, word_at, handle, serves, ObjectRole}
-use Rattle.segment_manager.proofs.Common.{ScalarKind, BoolKind, Kind, Scalar, Text, Vector, Map, scalar_code, code_of}
+use Rattle.segment_manager.proofs.Common.{ScalarKind, BoolKind, Kind, Scalar, Vector, Map, scalar_code, code_of}
 use Rattle.segment_manager.proofs.Common.{class_code, is_kind_of, is_name, is_printable_name, is_text_name, is_control}
 use Rattle.segment_manager.proofs.Common.{name_len_at, Object, kind_of, count_of, padded, is_class, has_good_name}
 use Rattle.segment_manager.proofs.Common.{is_good_value, is_object, object_len, IsObjectAt, IsEntry, subst}
-use Rattle.segment_manager.proofs.Common.{length-append}
-use Rattle.seg_types.specs.declared.kinds.Kind.TheVariants.{Texts}
+use Rattle.segment_manager.proofs.{Common.length-append, Words.first, Words.second}
 use Rattle.seg_types.specs.declared.kinds.Class.TheVariants.{Named}
 use Rattle.segment_manager.specs.Heads.{EntriesSayObjects}
 use Rattle.std.proofs.Math.Seq.{take-append_seam}
 use Rattle.seg_vector.proofs.Bytes.{Has-take}
-use Rattle.segment_manager.proofs.Words.{first, second}
 
 -- ---- the codes are below 2 ^ 32
 
@@ -23,10 +21,9 @@ scalar-small k = omega arith
 
 pub code-small : (k : Kind) → code_of k < 4294967296
 code-small (Scalar k) = let l = scalar-small k in omega arith
-code-small Text = omega arith
 code-small (Vector k) = let l = scalar-small k in omega arith
 code-small (Map k v) = let l = scalar-small k in let r = scalar-small v in omega arith
-code-small Texts = omega arith
+code-small k = omega arith
 
 -- ---- names are short
 

@@ -2,12 +2,11 @@
 use Rattle.segment_manager.proofs.Common.{◌≡◌, refl, sym, ap, subst, ◌∙◌, ℕ, ◌+◌, Option, Some, None, Result, Ok, Err}
 use Rattle.segment_manager.proofs.Common.{List, IsTrue, option_map, le-leb, current, handle, has_room, Refusal}
 use Rattle.segment_manager.proofs.Common.{NotFound, Key, Object, Directory, has_key, is_object, object_at, object_len}
-use Rattle.segment_manager.proofs.Common.{Denotes, handle_at, HasObject, StandsAt, Answers, IsSegment, State}
-use Rattle.segment_manager.proofs.Common.{Head, IsHeadOf}
-use Rattle.segment_manager.specs.Calls.{told_at}
+use Rattle.segment_manager.proofs.Common.{Denotes, handle_at, HasObject, StandsAt, Answers, IsSegment, State, Head}
 use Rattle.segment_manager.proofs.Calling.{denotes-live, object-at, object-room}
-use Rattle.segment_manager.proofs.{Frame.IsRoomy, Frame.object-roomy, Live.IsIn}
 use Rattle.segment_manager.proofs.ObjectLists.{all-found, each-true, key-found}
+use Rattle.segment_manager.proofs.{Common.IsHeadOf, Frame.IsRoomy, Frame.object-roomy, Live.IsIn}
+use Rattle.segment_manager.specs.Calls.{told_at}
 
 -- ---- the object of a key
 

@@ -3,10 +3,9 @@
 use Rattle.segment_manager.proofs.Common.{◌≡◌, ℕ, ◌+◌, ◌%◌, Option, Some, None, List, [], ◌∷◌, arith, IsTrue, IfSome}
 use Rattle.segment_manager.proofs.Common.{flat_map, option_to_list, AllByRecursion, Extent, LiveSet, handle, holds}
 use Rattle.segment_manager.proofs.Common.{is_proper, extent_at, has_room, Object, Directory, extents_of, live}
-use Rattle.segment_manager.proofs.Common.{value_extents}
+use Rattle.segment_manager.proofs.Order.{IsFoundIn, found-each, live-rises}
+use Rattle.segment_manager.proofs.{Common.value_extents, Words.no_more, Words.AllByRecursion-behind, Live.of_each}
 use Rattle.best_fit.proofs.Laws.{IsSound, found-room, live-sound}
-use Rattle.segment_manager.proofs.{Order.IsFoundIn, Order.found-each, Order.live-rises, Words.no_more}
-use Rattle.segment_manager.proofs.{Words.AllByRecursion-behind, Live.of_each}
 
 -- ---- what holds of each extent of a list that rises
 

@@ -85,11 +85,8 @@ equal-len : (k : ScalarKind) (name : List ℕ) (count : ℕ) (z : ℤ) → room_
 equal-len k name count z = ap (λ m. head_len + padded (length name) + size_of k * m) (sym (length-replicate count z))
 
 -- where no item was taken, zeros are asked for
-none-asked : (count : ℕ) → 1 ≤ count → asked_for count [] ≡ replicate count (pos 0)
-none-asked count low = ap (λ b. if b then replicate count (pos 0) else take count []) (lt-ltb 0 count low)
-
 asked-long : (count : ℕ) → 1 ≤ count → length (asked_for count []) ≡ count
-asked-long count low = ap (λ (zs : List ℤ). length zs) (none-asked count low) ∙ length-replicate count (pos 0)
+asked-long count low = ap (λ (b : Bool). length (if b then replicate count (pos 0) else take count [])) (lt-ltb 0 count low) ∙ length-replicate count (pos 0)
 
 -- ---- without a key
 

@@ -1,23 +1,19 @@
 -- A call on a vector of numbers or on a text is one step: what the calls of seg_vector ensure of the elements at its place comes to the
 -- directory.
-use Rattle.segment_manager.proofs.Common.{◌&&◌, ◌<◌, Bool, Err, IsTrue, List, None, Ok, Result, Some, ap, false}
-use Rattle.segment_manager.proofs.Common.{length, subst, sym, true, ℕ, ℤ, ◌∙◌, ◌≡◌, ◌≤◌, eqb-true, same_Some}
-use Rattle.segment_manager.proofs.Common.{MatchResult, option_to_list, current, Cut, IsExchanged}
-use Rattle.segment_manager.proofs.Common.{live_of, Table, Command, is_changing, code_of}
-use Rattle.segment_manager.proofs.Common.{kind_of_code, same_kind, Key, Kind, Vector, ScalarKind, Refusal}
-use Rattle.segment_manager.proofs.Common.{NoSpace, OutOfRange, Stands, place_at, grown_table, IsOutside}
+use Rattle.segment_manager.proofs.Common.{◌&&◌, ◌<◌, Bool, Err, IsTrue, List, None, Ok, Result, Some, ap, false, length}
+use Rattle.segment_manager.proofs.Common.{subst, sym, true, ℕ, ℤ, ◌∙◌, ◌≡◌, ◌≤◌, eqb-true, same_Some, MatchResult}
+use Rattle.segment_manager.proofs.Common.{option_to_list, current, Cut, IsExchanged, live_of, Table, Command}
+use Rattle.segment_manager.proofs.Common.{is_changing, code_of, kind_of_code, same_kind, Key, Kind, Vector, ScalarKind}
+use Rattle.segment_manager.proofs.Common.{Refusal, NoSpace, OutOfRange, Stands, place_at, grown_table, IsOutside}
 use Rattle.segment_manager.proofs.Common.{IsWithoutSpace, Place, Answer, Done, Refused, Contents, IsRefilled}
-use Rattle.segment_manager.proofs.Common.{container_at, container_place, contents_of, has_values}
-use Rattle.segment_manager.proofs.Common.{Denotes, Directory, Elements, Object, Value, is_good_value, kind_of}
-use Rattle.segment_manager.proofs.Common.{object_at, live, Refuse, Reply, met, perform, with_capacity, StandsAt}
-use Rattle.segment_manager.proofs.Common.{Answers, IsSegment, IsStepOfKind, StandsFor, State, changed, effect}
-use Rattle.segment_manager.proofs.Common.{is_read_only, plan, StepsSafely}
-use Rattle.segment_manager.proofs.{Codes.code-read}
-use Rattle.segment_manager.proofs.{Contained.contents-fit, Contained.contents-stand}
-use Rattle.segment_manager.proofs.{Frame.object-roomy}
-use Rattle.segment_manager.proofs.{Here.standing, Safely.done-so, Safely.stays, Steps.by_no_change_of_kind}
-use Rattle.segment_manager.proofs.{Steps.open-writing, Steps.step_of_kind-found}
-use Rattle.segment_manager.proofs.Refilled.{HoldsAt, Refill, holds-at, room-asked, refill-steps_of_kind, replied}
+use Rattle.segment_manager.proofs.Common.{container_at, container_place, contents_of, has_values, Denotes, Directory}
+use Rattle.segment_manager.proofs.Common.{Elements, Object, Value, is_good_value, kind_of, object_at, live, Refuse}
+use Rattle.segment_manager.proofs.Common.{Reply, met, perform, with_capacity, StandsAt, Answers, IsSegment}
+use Rattle.segment_manager.proofs.Common.{IsStepOfKind, StandsFor, State, changed, effect, is_read_only, plan}
+use Rattle.segment_manager.proofs.Steps.{by_no_change_of_kind, open-writing, step_of_kind-found}
+use Rattle.segment_manager.proofs.Refilled.{HoldsAt, Refill, holds-at, room-asked, refill-steps_of_kind}
+use Rattle.segment_manager.proofs.{Common.StepsSafely, Contained.contents-fit, Contained.contents-stand, Safely.done-so}
+use Rattle.segment_manager.proofs.{Safely.stays, Codes.code-read, Frame.object-roomy, Here.standing}
 
 -- ---- what is of the kind of a vector
 
@@ -122,7 +118,7 @@ module _ {A : Type 0} (L : Listing A) (old new : Cut) (d : Directory) (key : Key
 
   -- in the places that there were, or fewer
   pub items-now : (xs : List A) (u : Table) (c : Command) (answer : Answer) → effect d c ≡ Reply answer (with_elements xs u) → ListedNow L old new p h.table xs u → Refill old new d key c answer
-  items-now xs u c answer e now = items-refill xs u c answer (replied d c answer (with_elements xs u) e) now
+  items-now xs u c answer e now = items-refill xs u c answer (ap (perform d (live d)) e) now
 
   -- in n places, or more
   pub items-grown : (xs : List A) (n : ℕ) (c : Command) (answer : Answer) → effect d c ≡ with_capacity L.each n h.table (λ u. Reply answer (with_elements xs u))

@@ -2,8 +2,7 @@
 use Rattle.segment_manager.proofs.Common.{◌≡◌, sym, ap, subst, ◌∙◌, ℕ, ◌<◌, ◌≤◌, true, false, arith, is_some, none-some}
 use Rattle.segment_manager.proofs.Common.{Cut, Key, ByHandle, Index, Entry, Found, IsRoomy, capacity_at, place_of}
 use Rattle.segment_manager.proofs.Common.{is_object_at, Seeks, entries_of, table_of, KeepsWhere, LacksKey, Answers}
-use Rattle.segment_manager.proofs.Common.{State}
-use Rattle.segment_manager.proofs.{Bridge.lookup-found, Destroys.Ends, HeldIndexes.denotes-index}
+use Rattle.segment_manager.proofs.{Common.State, Bridge.lookup-found, Destroys.Ends, HeldIndexes.denotes-index}
 
 -- a look-up that found an entry: an object has the key
 pub keeps-found : (s t : State) (view : s ≡ t) (new : State) (i : Index) (e : Entry) (at : ℕ) → Ends s.cut i e (Found at) → (key : Key) → Seeks i e key → KeepsWhere t new (LacksKey key)

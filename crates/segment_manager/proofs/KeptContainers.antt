@@ -1,16 +1,13 @@
 -- What calls on vectors, strings and maps leave to the last byte.
 use Rattle.segment_manager.proofs.Common.{◌≡◌, sym, ap, subst, ◌∙◌, ℕ, ◌≤◌, ℤ, Bool, true, false, Option, Some, None}
 use Rattle.segment_manager.proofs.Common.{Result, Ok, Err, List, [], MatchOption, int_lt, none-some, Cut, ScalarKind}
-use Rattle.segment_manager.proofs.Common.{TextsKind, Plain, Refusal, NotFound, Key, MapPlace, Erases}
-use Rattle.segment_manager.proofs.Common.{IsErased, pair_at, NumberPair, Place, container_at, sizes_of, Object}
-use Rattle.segment_manager.proofs.Common.{Directory, object_at, HasPlaces, KeepsWhere, map_at, numbers_of, Answers}
-use Rattle.segment_manager.proofs.Common.{State, StandsFor, pairs_of}
-use Rattle.segment_manager.proofs.Common.{Change, HasEnough, Reserve}
-use Rattle.segment_manager.specs.Stored.{ChangesTexts}
-use Rattle.segment_manager.specs.Keeping.{LacksPair}
+use Rattle.segment_manager.proofs.Common.{TextsKind, Plain, Refusal, NotFound, Key, MapPlace, Erases, IsErased, pair_at}
+use Rattle.segment_manager.proofs.Common.{NumberPair, Place, container_at, sizes_of, Object, Directory, object_at}
+use Rattle.segment_manager.proofs.Common.{HasPlaces, KeepsWhere, map_at, numbers_of, Answers, State, StandsFor}
+use Rattle.segment_manager.proofs.Common.{pairs_of, Change, HasEnough, Reserve}
 use Rattle.segment_manager.proofs.{MapCalls.HoldsPairs, MapCalls.holds-pairs, TextsHeld.HoldsTexts}
-use Rattle.segment_manager.proofs.{TextsHeld.holds-texts}
-use Rattle.segment_manager.proofs.PairNumbers.{IsScalarOf, erases-numbers}
+use Rattle.segment_manager.proofs.{TextsHeld.holds-texts, PairNumbers.IsScalarOf, PairNumbers.erases-numbers}
+use Rattle.segment_manager.specs.{Stored.ChangesTexts, Keeping.LacksPair}
 
 -- the window is as it was, and so is the segment
 pub keeps-cut : (s t : State) (view : s ≡ t) (new : Cut) (P : Directory → Type 0) → ((d : Directory) → StandsFor s.cut.bytes d → P d → new ≡ s.cut) → KeepsWhere t (record s { cut = new }) P

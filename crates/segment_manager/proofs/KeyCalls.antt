@@ -1,21 +1,20 @@
 -- The calls that find objects by their keys: what a look-up in an index, and a handle from outside, come to for each directory that the
 -- bytes stand for.
-use Rattle.segment_manager.proofs.Common.{◌≡◌, refl, sym, ap, subst, ◌∙◌, ℕ, ◌+◌, ◌<◌, Bool, true, false, ◌&&◌, ◌||◌}
-use Rattle.segment_manager.proofs.Common.{◌==◌, Option, Some, None, List, [], ◌∷◌, arith, cond, find, is_some}
-use Rattle.segment_manager.proofs.Common.{option_map, slice_get, list_any, eqb-true, ne_eqb, none-some, same_Some}
-use Rattle.segment_manager.proofs.Common.{slice_get_within, current, Cut, bytes_of, Role, ObjectRole, Extent, handle}
-use Rattle.segment_manager.proofs.Common.{extent_at, is_live_in, live_of, Table, same_role, Key, ByHandle, Index, Entry}
-use Rattle.segment_manager.proofs.Common.{Found, Absent, HasIndex, IsIndexOf, entry_count, place_of, HasKeys, IsPlace}
-use Rattle.segment_manager.proofs.Common.{Object, Directory, has_key, live, object_at, Denotes, handle_at, is_object_at}
-use Rattle.segment_manager.proofs.Common.{Seeks, entries_of, table_of, Answers, IsSegment, State, StandsFor}
+use Rattle.segment_manager.proofs.Common.{◌≡◌, refl, sym, ap, ◌∙◌, ℕ, ◌+◌, ◌<◌, Bool, true, false, ◌&&◌, ◌||◌, ◌==◌}
+use Rattle.segment_manager.proofs.Common.{Option, Some, None, List, [], ◌∷◌, arith, cond, find, is_some, option_map}
+use Rattle.segment_manager.proofs.Common.{slice_get, list_any, eqb-true, ne_eqb, none-some, same_Some, slice_get_within}
+use Rattle.segment_manager.proofs.Common.{current, Cut, bytes_of, Role, ObjectRole, Extent, handle, extent_at}
+use Rattle.segment_manager.proofs.Common.{is_live_in, live_of, Table, same_role, Key, ByHandle, Index, Entry, Found}
+use Rattle.segment_manager.proofs.Common.{Absent, HasIndex, IsIndexOf, entry_count, place_of, IsPlace, Object}
+use Rattle.segment_manager.proofs.Common.{Directory, has_key, live, object_at, Denotes, handle_at, is_object_at, Seeks}
+use Rattle.segment_manager.proofs.Common.{entries_of, table_of, Answers, IsSegment, State, StandsFor}
+use Rattle.segment_manager.proofs.Bridge.{IsEntryFor, IsNoEntryFor, lookup-absent, lookup-found}
+use Rattle.segment_manager.proofs.{Calling.denotes-live, Handles.handle-is-object, Handles.or-none}
+use Rattle.segment_manager.proofs.{HeldIndexes.denotes-index, ObjectLists.found-handle, Order.Rising, Order.live-rises}
 use Rattle.std.specs.Bool.{then_some}
 use Rattle.block_tags.specs.contracts.tile.Role.{the_type}
 use denote.Enum.Bare.{sameb}
 use Rattle.seg_types.specs.Names.{NoKey}
-use Rattle.segment_manager.proofs.{Bridge.IsEntryFor, Bridge.IsNoEntryFor, Bridge.lookup-absent, Bridge.lookup-found}
-use Rattle.segment_manager.proofs.{Calling.denotes-live, Handles.handle-is-object, Handles.or-none}
-use Rattle.segment_manager.proofs.{HeldIndexes.denotes-index, HeldIndexes.denotes-keys, ObjectLists.found-handle}
-use Rattle.segment_manager.proofs.{Order.Rising, Order.live-rises}
 
 -- ---- a handle from outside
 
@@ -86,9 +85,6 @@ dead-answers s h b e f = record {
 }
 
 -- ---- an entry of an index
-
-pub segment-keys : (b : List ℕ) (c : Cut) (i : Index) (e : Entry) → c.bytes ≡ b → IsSegment b → HasKeys c (place_of i) e
-segment-keys b c i e same s = denotes-keys i c s.0 e (subst (λ bs. Denotes current bs s.0) (sym same) s.1.denotes)
 
 pub segment-index : (c : Cut) (i : Index) → IsSegment c.bytes → HasIndex c (place_of i)
 segment-index c i s = record { table = table_of i s.0; handles = entries_of i s.0; index = denotes-index i c s.0 s.1.denotes }

@@ -23,10 +23,6 @@ pub record Says (lt : Object → Object → Bool) (t : Object → Bool) (o : Obj
 
 -- ---- names
 
--- two names that a test holds for the same are the same
-same-names : (a b : List ℕ) → same_bytes a b ≡ true → a ≡ b
-same-names a b e = exact_bytes a b ((Equal-is (slice_cmp nat_cmp a b)).0 (sym (texts_ties a b) ∙ e))
-
 swapped : (a b : List ℕ) → slice_cmp nat_cmp a b ≡ ordering_reverse (slice_cmp nat_cmp b a)
 swapped a b = nat_list_cmp_total.antisymm a b
 
@@ -39,7 +35,7 @@ same-itself a = nat_list_eq_equiv.refl a
 
 -- an object of the name
 pub name-of : (name : List ℕ) (q : Object) → has_key (names.ByName name) q ≡ true → name ≡ q.name
-name-of name q e = same-names name q.name (second (is_class NamedClass q) (same_bytes name q.name) e)
+name-of name q e = exact_bytes name q.name ((Equal-is (slice_cmp nat_cmp name q.name)).0 (sym (texts_ties name q.name) ∙ second (is_class NamedClass q) (same_bytes name q.name) e))
 
 names-other : (name : List ℕ) (o : Object) (r : Ordering) → slice_cmp nat_cmp o.name name ≡ r → is_eq (ordering_reverse r) ≡ false → has_key (names.ByName name) o ≡ false
 names-other name o r e f = and_right (is_class NamedClass o) (same_bytes name o.name) (test-of name o.name r e ∙ f)

@@ -22,8 +22,12 @@ itself s h a = handle-answers s h true a
 pub object-here : (s : State) (h : ℕ) → Answers s (λ d. is_object_at d h) true → (d : Directory) → StandsFor s.cut.bytes d → IsHere s.cut.bytes d (names.ByHandle h) h
 object-here s h a d k = here s.cut.bytes d (names.ByHandle h) h k.denotes ((itself s h a).answers d k)
 
-pub has-own_object : (s : State) (h : ℕ) → IsSegment s.cut.bytes → Answers s (λ d. is_object_at d h) true → HasObject s.cut.bytes h
-has-own_object s h i a = has-object s (names.ByHandle h) h i (itself s h a)
+-- as the view before the call names the segment
+pub seen-there : (s t : State) (view : s ≡ t) (h : ℕ) → Answers t (λ d. is_object_at d h) true → Answers s (λ d. is_object_at d h) true
+seen-there s t view h = subst (λ (u : State). Answers u (λ d. is_object_at d h) true) (sym view)
+
+pub has-own_object : (s t : State) (view : s ≡ t) (h : ℕ) → IsSegment s.cut.bytes → Answers t (λ d. is_object_at d h) true → HasObject s.cut.bytes h
+has-own_object s t view h i a = has-object s (names.ByHandle h) h i (itself s h (seen-there s t view h a))
 
 none-if : (r : Option Object) → false ≡ is_some r → r ≡ None
 none-if None e = refl
@@ -46,30 +50,37 @@ abbrev pub IsNamed : Key → List ℕ → Type 0
 IsNamed (entry.Name bytes) name = bytes.now ≡ name
 IsNamed (entry.Code n) name = ⊥
 
-module _ (s : State) (h : ℕ) (head : Head) (a : Answers s (λ d. is_object_at d h) true) (r : IsReadAt s.cut.bytes h head) where
+module _ (s t : State) (view : s ≡ t) (h : ℕ) (head : Head) (a : Answers t (λ d. is_object_at d h) true) (r : IsReadAt s.cut.bytes h head) where
+  here-in : (d : Directory) → StandsFor s.cut.bytes d → IsHere s.cut.bytes d (names.ByHandle h) h
+  here-in = object-here s h (seen-there s t view h a)
+
   -- it has no key
-  pub listed-none : head.class ≡ class.Anonymous → IsAnonymousAt s h
-  listed-none e d k =
-      let o : IsHere s.cut.bytes d (names.ByHandle h) h = object-here s h a d k in
-      (o.object, o.is, sym (r o.object o.stands).class ∙ e)
+  pub listed-none : head.class ≡ class.Anonymous → IsAnonymousAt t h
+  listed-none e =
+      subst (λ (u : State). IsAnonymousAt u h) view (λ d k.
+      let o : IsHere s.cut.bytes d (names.ByHandle h) h = here-in d k in
+      (o.object, o.is, sym (r o.object o.stands).class ∙ e))
 
   -- it has a name
-  pub listed-name : (e : Key) → head.class ≡ class.Named → ((o : Object) → StandsAt s.cut.bytes h o → IsNamed e o.name) → HasEntries s index.Named e h
-  listed-name (entry.Name bytes) e n d k =
-      let o : IsHere s.cut.bytes d (names.ByHandle h) h = object-here s h a d k in
+  pub listed-name : (e : Key) → head.class ≡ class.Named → ((o : Object) → StandsAt s.cut.bytes h o → IsNamed e o.name) → HasEntries t index.Named e h
+  listed-name (entry.Name bytes) e n =
+      subst (λ (u : State). HasEntries u index.Named (entry.Name bytes) h) view (λ d k.
+      let o : IsHere s.cut.bytes d (names.ByHandle h) h = here-in d k in
       record {
         object = o.object;
         is = o.is;
         key = names.ByName o.object.name;
         seeks = n o.object o.stands;
         found = own-name current d o.object k.denotes.directory (by-own_handle d h o.object o.stands.at o.is) (own-class class.Named o.object (sym (r o.object o.stands).class ∙ e) refl);
-      }
-  listed-name (entry.Code n) e m d k = absurd (m (object-here s h a d k).object (object-here s h a d k).stands)
+      })
+  listed-name (entry.Code n) e m =
+      subst (λ (u : State). HasEntries u index.Named (entry.Code n) h) view (λ d k. absurd (m (here-in d k).object (here-in d k).stands))
 
   -- it is the only one of its kind
-  pub listed-kind : (n : ℕ) → head.class ≡ class.Unique → n ≡ code_of head.kind → HasEntries s index.Unique (entry.Code n) h
-  listed-kind n e f d k =
-      let o : IsHere s.cut.bytes d (names.ByHandle h) h = object-here s h a d k in
+  pub listed-kind : (n : ℕ) → head.class ≡ class.Unique → n ≡ code_of head.kind → HasEntries t index.Unique (entry.Code n) h
+  listed-kind n e f =
+      subst (λ (u : State). HasEntries u index.Unique (entry.Code n) h) view (λ d k.
+      let o : IsHere s.cut.bytes d (names.ByHandle h) h = here-in d k in
       let said : IsHeadOf o.object head = r o.object o.stands in
       record {
         object = o.object;
@@ -77,10 +88,11 @@ module _ (s : State) (h : ℕ) (head : Head) (a : Answers s (λ d. is_object_at 
         key = names.ByKind (kind_of o.object.value);
         seeks = f ∙ ap code_of said.kind;
         found = own-kind current d o.object k.denotes.directory (by-own_handle d h o.object o.stands.at o.is) (own-class class.Unique o.object (sym said.class ∙ e) refl);
-      }
+      })
 
 -- an entry that an object has is found
-pub listed-found : (s : State) (i : Index) (e : Key) (h at : ℕ) → ForIndex s.cut i (λ hs. IsPlace (bytes_of s.cut.bytes) e hs (Absent at)) → HasEntries s i e h → IsAnonymousAt s h
-listed-found s i e h at f each d k =
-    let x : HasEntry i e d h = each d k in
-    absurd (none-some x.object (sym (lookup-absent i s.cut d e x.key k.denotes x.seeks at (of-directory s i (λ hs. IsPlace (bytes_of s.cut.bytes) e hs (Absent at)) d k f)).none ∙ x.found))
+pub listed-found : (s t : State) (view : s ≡ t) (i : Index) (e : Key) (h at : ℕ) → ForIndex s.cut i (λ hs. IsPlace (bytes_of s.cut.bytes) e hs (Absent at)) → HasEntries t i e h → IsAnonymousAt t h
+listed-found s t view i e h at f each =
+    subst (λ (u : State). IsAnonymousAt u h) view (λ d k.
+    let x : HasEntry i e d h = subst (λ (u : State). HasEntries u i e h) (sym view) each d k in
+    absurd (none-some x.object (sym (lookup-absent i s.cut d e x.key k.denotes x.seeks at (of-directory s i (λ hs. IsPlace (bytes_of s.cut.bytes) e hs (Absent at)) d k f)).none ∙ x.found)))

@@ -1,14 +1,13 @@
 -- The blocks of an object that no entry leads to yet: what an index wants to lead there, and how they are given back.
-use Rattle.segment_manager.proofs.Common.{sym, subst, ℕ, ◌+◌, ◌≤◌, Some, None, Option, List, [], arith, IfSome, IsTrue}
-use Rattle.segment_manager.proofs.Common.{Cut, current, ObjectRole, LiveSet, IsAllocated, IsHeap, IsReleased, has_room}
-use Rattle.segment_manager.proofs.Common.{is_live_in, live_of, allocated-is_live, allocated-room, changed-room}
-use Rattle.segment_manager.proofs.Common.{lay_out_one, Kind, Class, Anonymous, Key, GivesBack, place_of, NewEntry}
-use Rattle.segment_manager.proofs.Common.{IsBegun, IsHeaded, IsLoose, IsLooseAlone, IsLooseEntry, IsReadyFor, IsWanted}
-use Rattle.segment_manager.proofs.Common.{class_of_index, IsRestored, room_for, Role, IndexRole, IsGrowth, grown_bytes}
+use Rattle.segment_manager.proofs.Common.{◌∙◌, sym, subst, ℕ, ◌+◌, ◌≤◌, Some, None, Option, List, [], arith, IfSome}
+use Rattle.segment_manager.proofs.Common.{IsTrue, Cut, current, ObjectRole, LiveSet, IsAllocated, IsHeap, IsReleased}
+use Rattle.segment_manager.proofs.Common.{has_room, is_live_in, live_of, allocated-is_live, allocated-room}
+use Rattle.segment_manager.proofs.Common.{changed-room, lay_out_one, Kind, Class, Anonymous, Key, GivesBack, place_of}
+use Rattle.segment_manager.proofs.Common.{NewEntry, IsBegun, IsHeaded, IsLoose, IsLooseAlone, IsLooseEntry, IsReadyFor}
+use Rattle.segment_manager.proofs.Common.{IsWanted, class_of_index, IsRestored, room_for, Role, IndexRole, IsGrowth}
+use Rattle.segment_manager.proofs.Taking.{growth-held, ready, requested-aligned, restored-taken, written-taken}
+use Rattle.segment_manager.proofs.{Common.grown_bytes, Payloads.changed-heap}
 use Rattle.best_fit.proofs.Laws.{taken-back}
-use Rattle.segment_manager.proofs.Payloads.{changed-heap}
-use Rattle.segment_manager.proofs.Taking.{growth-held, ready, ready-count, requested-aligned, restored-taken}
-use Rattle.segment_manager.proofs.Taking.{written-taken}
 
 -- ---- begun: the value has room behind the head
 
@@ -37,7 +36,7 @@ loose-wanted old now h e l =
     record {
       index = record { table = q.table; handles = q.handles; index = ok.index };
       growth = ok.growth;
-      within = subst (λ n. e.place ≤ n) (sym (ready-count e.index old now q.table q.handles q.index ok.index)) l.within;
+      within = subst (λ n. e.place ≤ n) (q.index.stands.count ∙ sym ok.index.stands.count) l.within;
       aligned = requested-aligned l.requested.between l.taken l.len h l.requested.takes;
     }
 

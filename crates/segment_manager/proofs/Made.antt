@@ -51,10 +51,9 @@ taken-index old new xs at t hs m low high i =
     stays old new at t hs i
     (Around-kept old new at t (live_of old.bytes).extents (laid-heap new.bytes (adding (live_of old.bytes) xs) m.live)
     (Same-part (bytes_of old.bytes) (bytes_of new.bytes) 32 128 at (at + 24) m.keeps.behind low high) m.keeps.blocks
-    (λ x e. let f = block_found x e in (f, taken-found old new xs (handle x) x m f)))
-  where
-    block_found : (x : Extent) → t.extent ≡ Some x → extent_at (live_of old.bytes) (handle x) ≡ Some x
-    block_found x e = subst (λ (s : Option Extent). IfSome s (λ y. extent_at (live_of old.bytes) (handle y) ≡ Some y)) e i.held
+    (λ x e.
+    let f : extent_at (live_of old.bytes) (handle x) ≡ Some x = subst (λ (s : Option Extent). IfSome s (λ y. extent_at (live_of old.bytes) (handle y) ≡ Some y)) e i.held in
+    (f, taken-found old new xs (handle x) x m f)))
 
 -- so does what it grows into
 pub taken-growth : (old new : Cut) (xs : List Extent) (at : ℕ) (g : Option ℕ) → IsTaken old new xs → 32 ≤ at → at + 24 ≤ 128 → CanGrow old at g → CanGrow new at g

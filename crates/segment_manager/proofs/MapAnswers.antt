@@ -1,25 +1,19 @@
 -- What the calls of seg_map ensure of the map at the place that was found, as the steps of the calls on the object's map.
-use Rattle.segment_manager.proofs.Common.{◌≡◌, sym, subst, ◌∙◌, ℤ, Bool, true, false, Option, Result}
-use Rattle.segment_manager.proofs.Common.{Ok, option_map, Cut}
-use Rattle.segment_manager.proofs.Common.{Map, ScalarKind, Plain, Refusal, is_value, Key, Lookup}
-use Rattle.segment_manager.proofs.Common.{Put, Remove, literal_of, Erases, Puts, FindsItem, FindsItemBefore}
-use Rattle.segment_manager.proofs.Common.{FindsLastItem, FindsValue, IsSomeMap}
-use Rattle.segment_manager.proofs.Common.{map_at}
-use Rattle.segment_manager.proofs.Common.{numbers_in, pair_at_end}
-use Rattle.segment_manager.proofs.Common.{told_of_map, value_or_absent, Answers, IsReplyOfKind, IsSegment, State}
-use Rattle.segment_manager.proofs.Common.{is_read_only, List, NumberPair}
-use Rattle.seg_map.specs.declared.places.Place.{Place}
-use Rattle.segment_manager.specs.Maps.{IsPairs}
-use Rattle.segment_manager.proofs.Common.{int_lt, item_of}
-use Rattle.seg_map.specs.Places.{last_pair}
-use Rattle.segment_manager.specs.Walks.{pair_past}
-use Rattle.segment_manager.proofs.MapCalls.{TellsSafely, map-erased, map-got, map-put}
-use Rattle.segment_manager.proofs.MapCalls.{map-told, put_result, stands-map}
+use Rattle.segment_manager.proofs.Common.{◌≡◌, sym, subst, ◌∙◌, ℤ, Bool, true, false, Option, Result, Ok, option_map}
+use Rattle.segment_manager.proofs.Common.{Cut, Map, ScalarKind, Plain, Refusal, is_value, Key, Lookup, Put, Remove}
+use Rattle.segment_manager.proofs.Common.{literal_of, Erases, Puts, FindsItem, FindsItemBefore, FindsLastItem}
+use Rattle.segment_manager.proofs.Common.{FindsValue, IsSomeMap, map_at, numbers_in, pair_at_end, told_of_map}
+use Rattle.segment_manager.proofs.Common.{value_or_absent, Answers, IsReplyOfKind, IsSegment, State, is_read_only, List}
+use Rattle.segment_manager.proofs.Common.{NumberPair, int_lt, item_of, truth_answer}
+use Rattle.seg_map.specs.{declared.places.Place.Place, Places.last_pair}
+use Rattle.segment_manager.specs.{Maps.IsPairs, Walks.pair_past}
+use Rattle.segment_manager.proofs.MapCalls.{TellsSafely, map-erased, map-got, map-put, map-told, put_result, stands-map}
 use Rattle.segment_manager.proofs.PairNumbers.{IsScalarOf, erases-numbers, finds-back, finds-item, finds-last}
 use Rattle.segment_manager.proofs.PairNumbers.{finds-value, puts-numbers, some-map}
+use Rattle.segment_manager.proofs.Safely.{Answered, answered}
 
-module _ {K V : Type 0} (k v : ScalarKind) (kp : Plain K) (vp : Plain V) (kw : K → ℤ) (vw : V → ℤ) (kl : IsScalarOf k kp kw) (vl : IsScalarOf v vp vw)
-    (s t : State) (view : s ≡ t) (key : Key) (p q : Place) (same : q ≡ p) (b : IsSegment s.cut.bytes) (found : Answers t (λ d. map_at d key k v) (Ok p)) where
+module _ {K V : Type 0} {k v : ScalarKind} {kp : Plain K} {vp : Plain V} {kw : K → ℤ} {vw : V → ℤ} (kl : IsScalarOf k kp kw) (vl : IsScalarOf v vp vw)
+    {s t : State} (view : s ≡ t) (key : Key) {p q : Place} (same : q ≡ p) (b : IsSegment s.cut.bytes) (found : Answers t (λ d. map_at d key k v) (Ok p)) where
   found-there : Answers s (λ d. map_at d key k v) (Ok p)
   found-there = subst (λ (u : State). Answers u (λ d. map_at d key k v) (Ok p)) (sym view) found
 
@@ -47,9 +41,11 @@ module _ {K V : Type 0} (k v : ScalarKind) (kp : Plain K) (vp : Plain V) (kw : K
   told-there say answer F finds each =
       subst (λ (u : State). Answers u (λ d. told_of_map d key k v say) (Ok answer)) view (map-told s key k v p b found-there say answer (finds (subst F same each)))
 
-  pub past-there : (above : Bool) (x : K) (r : Option (K × V)) → FindsItem kp vp s.cut.bytes q.handle q.at above x r → Answers t (λ d. told_of_map d key k v (pair_past above (kw x))) (Ok (numbers_in kw vw r))
-  past-there above x r each =
-      told-there (pair_past above (kw x)) (numbers_in kw vw r) (λ (c : Place). FindsItem kp vp s.cut.bytes c.handle c.at above x r) (finds-item k v kp vp kw vw kl vl s.cut.bytes p.handle p.at above x r) each
+  pub past-there : (above said : Bool) → said ≡ above → (x : K) (r : Option (K × V)) → FindsItem kp vp s.cut.bytes q.handle q.at above x r
+      → Answers t (λ d. told_of_map d key k v (pair_past said (kw x))) (Ok (numbers_in kw vw r))
+  past-there above said is x r each =
+      subst (λ (b : Bool). Answers t (λ d. told_of_map d key k v (pair_past b (kw x))) (Ok (numbers_in kw vw r))) (sym is)
+      (told-there (pair_past above (kw x)) (numbers_in kw vw r) (λ (c : Place). FindsItem kp vp s.cut.bytes c.handle c.at above x r) (finds-item k v kp vp kw vw kl vl s.cut.bytes p.handle p.at above x r) each)
 
   pub back-there : (reached : Bool) (x : K) (r : Option (K × V)) → FindsItemBefore kp vp s.cut.bytes q.handle q.at reached x r
       → Answers t (λ d. told_of_map d key k v (λ ps. option_map item_of (last_pair int_lt reached (kw x) ps))) (Ok (numbers_in kw vw r))
@@ -69,13 +65,13 @@ module _ {K V : Type 0} (k v : ScalarKind) (kp : Plain K) (vp : Plain V) (kw : K
 
     -- as the call answers it
     pub put-there : {E : Type 0} (x : K) (y : V) (r : Result Bool E) (out : Result Bool Refusal) → out ≡ put_result r → kp.is_value x ≡ true → vp.is_value y ≡ true
-        → Puts kp vp s.cut new q.handle q.at x y r → TellsSafely s new key (Map k v) (Put key (literal_of k (kw x)) (literal_of v (vw y))) out
+        → Puts kp vp s.cut new q.handle q.at x y r → Answered truth_answer s t new key (Map k v) (Put key (literal_of k (kw x)) (literal_of v (vw y))) out
     put-there x y r out told good fair each =
-        subst (TellsSafely s new key (Map k v) (Put key (literal_of k (kw x)) (literal_of v (vw y)))) (sym told)
+        answered s t view b new key (Map k v) _ out (subst (TellsSafely s new key (Map k v) (Put key (literal_of k (kw x)) (literal_of v (vw y)))) (sym told)
         (map-put s key k v p b found-there new writing-there (kw x) (vw y) r (as-value k kp kw kl x good) (as-value v vp vw vl y fair)
-        (puts-numbers k v kp vp kw vw kl vl s.cut new p.handle p.at x y r (subst (λ (r' : Place). Puts kp vp s.cut new r'.handle r'.at x y r) same each)))
+        (puts-numbers k v kp vp kw vw kl vl s.cut new p.handle p.at x y r (subst (λ (r' : Place). Puts kp vp s.cut new r'.handle r'.at x y r) same each))))
 
-    pub erased-there : (x : K) (r : Bool) → kp.is_value x ≡ true → Erases kp vp s.cut new q.handle q.at x r → TellsSafely s new key (Map k v) (Remove key (literal_of k (kw x))) (Ok r)
+    pub erased-there : (x : K) (r : Bool) → kp.is_value x ≡ true → Erases kp vp s.cut new q.handle q.at x r → Answered truth_answer s t new key (Map k v) (Remove key (literal_of k (kw x))) (Ok r)
     erased-there x r good each =
-        map-erased s key k v p b found-there new writing-there (kw x) r (as-value k kp kw kl x good)
-        (erases-numbers k v kp vp kw vw kl vl s.cut new p.handle p.at x r (subst (λ (r' : Place). Erases kp vp s.cut new r'.handle r'.at x r) same each))
+        answered s t view b new key (Map k v) _ (Ok r) (map-erased s key k v p b found-there new writing-there (kw x) r (as-value k kp kw kl x good)
+        (erases-numbers k v kp vp kw vw kl vl s.cut new p.handle p.at x r (subst (λ (r' : Place). Erases kp vp s.cut new r'.handle r'.at x r) same each)))

@@ -1,33 +1,29 @@
 -- The calls on maps of numbers, each as one step: what the calls of seg_map ensure of the map at its place comes to the directory.
 use Rattle.segment_manager.proofs.Common.{◌≡◌, refl, sym, ap, subst, ◌∙◌, ℕ, ℤ, Bool, true, false, Option, Some, None}
 use Rattle.segment_manager.proofs.Common.{Result, Ok, Err, List, [], if◌then◌else◌, MatchOption, MatchResult, int_lt}
-use Rattle.segment_manager.proofs.Common.{option_map, eq-eqb, current, Cut, SamePlace, Node, Kind, Map}
-use Rattle.segment_manager.proofs.Common.{ScalarKind, Refusal, NoSpace, NotFound, WrongKind, code_of, is_value}
-use Rattle.segment_manager.proofs.Common.{same_kind, size_of, Key, Command, Literal, literal_of, value_of_literal}
-use Rattle.segment_manager.proofs.Common.{transitive, Erases, IsErased, IsFull, IsPut, IsPutAgain, Puts, node_len}
-use Rattle.segment_manager.proofs.Common.{pair_at, put_pair, remove_pair, NumberPair, FindsValue, nodes_of_pairs}
-use Rattle.segment_manager.proofs.Common.{value_of_pair, ContainerPlace, Element, Refused, Truth, container_at, Denotes}
-use Rattle.segment_manager.proofs.Common.{Pairs, Object, Directory, kind_of, object_at, AnswersSafely, HasPairs, map_at}
-use Rattle.segment_manager.proofs.Common.{numbers_of, told_of, told_of_map, value_or_absent, New, Plan, Reply, Request}
-use Rattle.segment_manager.proofs.Common.{perform, with, Answers, IsReplyOfKind, IsSegment, IsStepOfKind, State}
-use Rattle.segment_manager.proofs.Common.{StandsFor, and_then, changed, effect, is_read_only, map_of, step_of_kind}
-use Rattle.segment_manager.proofs.Common.{LiveSet, live_of}
+use Rattle.segment_manager.proofs.Common.{option_map, eq-eqb, current, Cut, SamePlace, Node, Kind, Map, ScalarKind}
+use Rattle.segment_manager.proofs.Common.{Refusal, NoSpace, NotFound, WrongKind, code_of, is_value, same_kind, size_of}
+use Rattle.segment_manager.proofs.Common.{Key, Command, Literal, literal_of, value_of_literal, transitive, Erases}
+use Rattle.segment_manager.proofs.Common.{IsErased, IsFull, IsPut, IsPutAgain, Puts, node_len, pair_at, put_pair}
+use Rattle.segment_manager.proofs.Common.{remove_pair, NumberPair, FindsValue, nodes_of_pairs, value_of_pair}
+use Rattle.segment_manager.proofs.Common.{ContainerPlace, Element, Refused, Truth, container_at, Denotes, Pairs, Object}
+use Rattle.segment_manager.proofs.Common.{Directory, kind_of, object_at, AnswersSafely, HasPairs, map_at, numbers_of}
+use Rattle.segment_manager.proofs.Common.{told_of, told_of_map, value_or_absent, New, Plan, Reply, Request, perform}
+use Rattle.segment_manager.proofs.Common.{with, Answers, IsReplyOfKind, IsSegment, IsStepOfKind, State, StandsFor}
+use Rattle.segment_manager.proofs.Common.{and_then, changed, effect, is_read_only, map_of, step_of_kind, LiveSet}
+use Rattle.segment_manager.proofs.MapSteps.{IsMapObject, again-denotes, erased-denotes, map-only, map_place, object-map}
+use Rattle.segment_manager.proofs.Steps.{IsMove, IsOpenFor, by_no_change_of_kind, by_step_of_kind, open-reading}
+use Rattle.segment_manager.proofs.Steps.{open-writing, perform-new, perform-no_space, step_of_kind-found}
+use Rattle.segment_manager.proofs.{Common.live_of, Common.truth_answer, Refilled.HoldsAt, Refilled.finds-no_container}
+use Rattle.segment_manager.proofs.{Refilled.holds-at, MapSteps.put-denotes, Calling.denotes-live, Here.standing}
+use Rattle.segment_manager.proofs.{ObjectLists.key-found, StorageSteps.step_of_kind-reply, Stored.literal-read}
+use Rattle.segment_manager.proofs.{MapBlocks.blocks-in_use, MapBlocks.found-key, AnyStorage.said-missing}
 use Rattle.seg_map.specs.declared.places.Place.{Place}
 use Rattle.seg_map.proofs.Laws.{replaced_nodes}
-use Rattle.segment_manager.specs.Answers.{Absent}
-use Rattle.segment_manager.specs.Maps.{IsPairs}
-use Rattle.segment_manager.specs.State.{truth_answer}
+use Rattle.segment_manager.specs.{Answers.Absent, Maps.IsPairs}
 use Rattle.seg_types.specs.Commands as asked
 use Rattle.segment_manager.specs.Step as step
 use Rattle.segment_manager.proofs.PairCommands as plan
-use Rattle.segment_manager.proofs.{Calling.denotes-live, Here.standing, ObjectLists.key-found}
-use Rattle.segment_manager.proofs.{StorageSteps.step_of_kind-reply, Stored.literal-read, MapBlocks.blocks-in_use}
-use Rattle.segment_manager.proofs.{MapBlocks.found-key, Refilled.HoldsAt, Refilled.finds-no_container}
-use Rattle.segment_manager.proofs.{Refilled.holds-at, AnyStorage.said-missing}
-use Rattle.segment_manager.proofs.MapSteps.{IsMapObject, again-denotes, erased-denotes, map-only, map_place, object-map}
-use Rattle.segment_manager.proofs.MapSteps.{put-denotes}
-use Rattle.segment_manager.proofs.Steps.{IsMove, IsOpenFor, by_no_change_of_kind, by_step_of_kind, open-reading}
-use Rattle.segment_manager.proofs.Steps.{open-writing, perform-new, perform-no_space, step_of_kind-found}
 
 -- ---- the search
 

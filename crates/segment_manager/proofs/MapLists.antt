@@ -7,7 +7,7 @@ use Rattle.segment_manager.proofs.Common.{Object, Directory, kind_of, object_at,
 use Rattle.segment_manager.proofs.Common.{number_or_none, pair_from, told_of, told_of_map, first_of, pairs_of}
 use Rattle.segment_manager.specs.Walks.{pairs_at_kinds}
 use Rattle.segment_manager.proofs.{AnyStorage.IsOfKindAt, Here.standing, MapSteps.map-only}
-use Rattle.segment_manager.proofs.ElementLists.{its-list, listed-length, none-listed, other-listed}
+use Rattle.segment_manager.proofs.ElementLists.{list-of, listed-length, none-listed}
 use Rattle.segment_manager.proofs.PairWalks.{good-value, rising-if, starts, told-of-them}
 
 refused-told : {A : Type 0} (P : A → Type 0) (Q : Type 0) (r : Result A Refusal) (why : Refusal) → r ≡ Err why → Q → MatchResult r P (λ _. Q)
@@ -35,11 +35,11 @@ module _ (d : Directory) (key : Key) (k v : ScalarKind) where
   told-of : {A : Type 0} (say : List NumberPair → A) (r : Result A Refusal) (o : Object) (b : Bool) → object_at d key ≡ Some o → same_kind (Map k v) (kind_of o.value) ≡ b → r ≡ told_of_map d key k v say
       → MatchResult r (λ a. a ≡ say (pairs_at_kinds d key k v)) (λ why. pairs_at_kinds d key k v ≡ [])
   told-of {A} say r o false e g f =
-      refused-told (λ a. a ≡ say (pairs_at_kinds d key k v)) (pairs_at_kinds d key k v ≡ []) r WrongKind (f ∙ told-found say o false e g) (other-listed pairs_of d key (Map k v) o e g)
+      refused-told (λ a. a ≡ say (pairs_at_kinds d key k v)) (pairs_at_kinds d key k v ≡ []) r WrongKind (f ∙ told-found say o false e g) (list-of pairs_of d key (Map k v) o false e g)
   told-of {A} say r o true e g f =
       let is = map-only k v o.value g in
       answered-told (λ a. a ≡ say (pairs_at_kinds d key k v)) (pairs_at_kinds d key k v ≡ []) r (say is.0) (f ∙ told-found say o true e g ∙ ap (told_of say) is.1)
-      (ap say (sym (its-list pairs_of d key (Map k v) o e g ∙ ap pairs_of is.1)))
+      (ap say (sym (list-of pairs_of d key (Map k v) o true e g ∙ ap pairs_of is.1)))
 
   told-at : {A : Type 0} (say : List NumberPair → A) (r : Result A Refusal) (p : Option Object) → object_at d key ≡ p → r ≡ told_of_map d key k v say
       → MatchResult r (λ a. a ≡ say (pairs_at_kinds d key k v)) (λ why. pairs_at_kinds d key k v ≡ [])
@@ -63,8 +63,8 @@ module _ (d : Directory) (key : Key) (k v : ScalarKind) where
 
   module _ (b : List ℕ) (den : Denotes current b d) where
     rises-of : (o : Object) (t : Bool) → object_at d key ≡ Some o → same_kind (Map k v) (kind_of o.value) ≡ t → is_rising int_lt (pairs_at_kinds d key k v) ≡ true
-    rises-of o false e g = ap (is_rising int_lt) (other-listed pairs_of d key (Map k v) o e g)
-    rises-of o true e g = ap (is_rising int_lt) (its-list pairs_of d key (Map k v) o e g) ∙ rising-if o.value (good-value o (standing b d key o den e).good)
+    rises-of o false e g = ap (is_rising int_lt) (list-of pairs_of d key (Map k v) o false e g)
+    rises-of o true e g = ap (is_rising int_lt) (list-of pairs_of d key (Map k v) o true e g) ∙ rising-if o.value (good-value o (standing b d key o den e).good)
 
     rises-at : (p : Option Object) → object_at d key ≡ p → is_rising int_lt (pairs_at_kinds d key k v) ≡ true
     rises-at None e = ap (is_rising int_lt) (none-listed pairs_of d key (Map k v) e)

@@ -8,17 +8,16 @@ use Rattle.segment_manager.proofs.Common.{pair_at, put_pair, remove_pair, Number
 use Rattle.segment_manager.proofs.Common.{IsPairIn, nodes_of_pairs, Value, Pairs, Object, Directory, count_of}
 use Rattle.segment_manager.proofs.Common.{is_good_value, is_object, kind_of, live, padded, value_extents, value_len}
 use Rattle.segment_manager.proofs.Common.{Denotes, IsValueAt, head_len, numbers_of, StandsAt, changed, exchanged}
-use Rattle.segment_manager.proofs.Common.{SameSpread}
+use Rattle.segment_manager.proofs.MapBlocks.{BlocksInUse, PartedNodes, no-node, nodes, one-by_handle, put-parted}
+use Rattle.segment_manager.proofs.{Common.SameSpread, Calling.denotes-heap, Calling.denotes-live, Calling.object-at}
+use Rattle.segment_manager.proofs.{Contained.start-place, Contained.good-with, Denoted.denotes-replaced, Faces.IsLike, Frame.IsRoomy}
+use Rattle.segment_manager.proofs.{Frame.object-roomy, Live.IsIn, Order.Apart, Order.Differs, Order.IsFoundIn}
+use Rattle.segment_manager.proofs.{Regrown.InPlace, Regrown.rest, Rewritten.object-held, Rewritten.value_start}
+use Rattle.segment_manager.proofs.{Rewritten.with_value, Standings.standing-room, ItemSteps.one-kind, Words.first}
+use Rattle.segment_manager.proofs.{Words.second, Exchanged.all-but-beside, Exchanged.Exchange, Exchanged.between}
+use Rattle.segment_manager.proofs.{Exchanged.live-exchanged, Exchanged.others-beside, MapBlocks.removed-parted}
 use Rattle.seg_map.specs.declared.places.Place.{Place}
 use Rattle.best_fit.proofs.Laws.{spread-refl}
-use Rattle.segment_manager.proofs.{Calling.denotes-heap, Calling.denotes-live, Calling.object-at, Contained.good-with}
-use Rattle.segment_manager.proofs.{Denoted.denotes-replaced, Faces.IsLike, Frame.IsRoomy, Frame.object-roomy, Live.IsIn}
-use Rattle.segment_manager.proofs.{Order.Apart, Order.Differs, Order.IsFoundIn, Regrown.InPlace, Regrown.rest}
-use Rattle.segment_manager.proofs.{Rewritten.object-held, Rewritten.value_start, Rewritten.with_value}
-use Rattle.segment_manager.proofs.{Standings.standing-room, ItemSteps.one-kind, Words.first, Words.second}
-use Rattle.segment_manager.proofs.Exchanged.{all-but-beside, Exchange, between, live-exchanged, others-beside}
-use Rattle.segment_manager.proofs.MapBlocks.{BlocksInUse, PartedNodes, no-node, nodes, one-by_handle, put-parted}
-use Rattle.segment_manager.proofs.MapBlocks.{removed-parted}
 
 -- ---- what is of the kind of a map
 
@@ -32,9 +31,6 @@ map-only k v w e = map-if k v w (one-kind (Map k v) (kind_of w) e)
 -- where the map of an object stands
 abbrev pub map_place : Object → Place
 map_place o = record { handle = handle o.extent; at = head_len + padded (length o.name) }
-
-start-there : (o : Object) → value_start o ≡ handle o.extent + (head_len + padded (length o.name))
-start-there o = omega arith
 
 each-good : (k v : ScalarKind) (l : LiveSet) (h : ℕ) (ps : List NumberPair) → IsTrue (list_all (is_number_pair k v) ps) → AllByRecursion (λ x. extent_at l (handle x) ≡ Some x) (nodes ps)
     → AllByRecursion (λ (p : NumberPair). handle p.node ≢ h) ps → AllByRecursion (IsPairIn (numbers_of k) (numbers_of v) l h) ps
@@ -78,7 +74,7 @@ module _ (b : List ℕ) (d : Directory) (o : Object) (k v : ScalarKind) (ps : Li
       let l : live d ≡ live_of b = sym (denotes-live current b d den) in
       record {
         heap = denotes-heap current b d den;
-        map = subst (λ at. IsValueAt (bytes_of b) at (Pairs k v ps)) (start-there o) (subst (λ w. IsValueAt (bytes_of b) (value_start o) w) x.value x.stands.said.value);
+        map = subst (λ at. IsValueAt (bytes_of b) at (Pairs k v ps)) (start-place o) (subst (λ w. IsValueAt (bytes_of b) (value_start o) w) x.value x.stands.said.value);
         aligned = omega arith;
         room = standing-room b (handle o.extent) (16 + padded (length o.name) + 24) o x.stands (omega (arith, len));
         rising = first (is_rising int_lt ps) (list_all (is_number_pair k v) ps) good;
@@ -105,7 +101,7 @@ module _ (old new : Cut) (d : Directory) (o : Object) (k v : ScalarKind) (ps qs 
   module _ (b : IsBesideMap old new (handle o.extent + (head_len + padded (length o.name))) (nodes_of_pairs ps)) where
     stays-beside : (y : Extent) → IsFoundIn (live d).extents y → Differs y (value_extents o.value) → SameBlockBut (bytes_of old.bytes) (bytes_of new.bytes) (value_start o) 24 y
     stays-beside y f n =
-        subst (λ at. SameBlockBut (bytes_of old.bytes) (bytes_of new.bytes) at 24 y) (sym (start-there o))
+        subst (λ at. SameBlockBut (bytes_of old.bytes) (bytes_of new.bytes) at 24 y) (sym (start-place o))
         (b.blocks y (ap (λ (l : LiveSet). extent_at l (handle y)) (denotes-live current old.bytes d den) ∙ f) (no-node y ps (subst (λ w. Differs y (value_extents w)) x.value n)))
 
     all-beside : (ys : List Extent) → AllByRecursion (IsFoundIn (live d).extents) ys → Apart ys (value_extents o.value) → AllByRecursion (SameBlockBut (bytes_of old.bytes) (bytes_of new.bytes) (value_start o) 24) ys
@@ -136,7 +132,7 @@ module _ (old new : Cut) (d : Directory) (o : Object) (k v : ScalarKind) (ps qs 
         denotes-replaced current old new d o (with_value o next) den x.found like (next-good s)
         (subst (LaysOut current new.bytes) (sym (live-exchanged d o (with_value o next) gone come in_place e l.proper)) l) keeps
         (object-held m m' o next (object-at current old.bytes d (handle o.extent) o den x.found) (sym (ap kind_of x.value)) (sym (ap count_of x.value)) front
-        (subst (λ at. IsValueAt m' at next) (sym (start-there o)) s.map))
+        (subst (λ at. IsValueAt m' at next) (sym (start-place o)) s.map))
 
   -- the nodes of one are those of the other but one, which came or is gone
   pub came : (n : Extent) → PartedNodes (nodes ps) (nodes qs) n → Exchange o (with_value o (Pairs k v qs)) [] (n ∷ [])

@@ -2,11 +2,10 @@
 use Rattle.segment_manager.proofs.Common.{◌≡◌, refl, ap, ◌∙◌, ℤ, Bool, true, false, not, Some, List, [], ◌∷◌, ◌++◌}
 use Rattle.segment_manager.proofs.Common.{arith, if◌then◌else◌, IsTrue, int_lt, option_map, list_all, ScalarKind}
 use Rattle.segment_manager.proofs.Common.{is_value, lowest, transitive, is_rising, NumberPair, first_pair, item_of}
-use Rattle.segment_manager.proofs.Common.{pair_above, pair_from, first_of}
+use Rattle.segment_manager.proofs.{Common.pair_above, Common.pair_from, Common.first_of, Words.first, Words.second}
 use Rattle.std.specs.Prelude.{int_le}
 use Rattle.std.proofs.lemmas.Bool.{both_ways}
 use Rattle.seg_types.specs.{Kinds.highest, ScalarLaws.irreflexive}
-use Rattle.segment_manager.proofs.Words.{first, second}
 
 -- no key is below the least value of its kind
 not-below : (k : ScalarKind) (z : ℤ) → is_value k z ≡ true → int_lt z (lowest k) ≡ false

@@ -3,17 +3,16 @@
 use Rattle.segment_manager.proofs.Common.{◌≡◌, refl, sym, ap, subst, ◌∙◌, ℕ, ℤ, Bool, Some, None, Ok, Err, Result, List}
 use Rattle.segment_manager.proofs.Common.{[], length, map, IsTrue, MatchResult, option_to_list, length-map, current}
 use Rattle.segment_manager.proofs.Common.{Cut, bytes_of, IsExchanged, IsChanged, live_of, Table, no_table, keeps-refl}
-use Rattle.segment_manager.proofs.Common.{laid-heap, ScalarKind, Refusal, NoSpace, Content, Place, Stands}
-use Rattle.segment_manager.proofs.Common.{place_at, AssignsText, IsTextGrown, grown_table, Assigns}
-use Rattle.segment_manager.proofs.Common.{IsSomeVector, IsVectorGrown, IsWithoutSpace, Contents, flat_map}
-use Rattle.segment_manager.proofs.Common.{are_bytes, contents_of, has_values, Value, Elements, Bytes, count_of, kind_of}
-use Rattle.segment_manager.proofs.Common.{value_extents, value_len, IsMadeValue, IsNoValue, MakesValue, Plan, bare}
-use Rattle.segment_manager.proofs.Common.{perform, with_storage, with_value}
-use Rattle.seg_types.specs.Commands as asked
-use Rattle.seg_vector.specs.{TextCalls.StartsText, VectorCalls.Starts}
+use Rattle.segment_manager.proofs.Common.{laid-heap, ScalarKind, Refusal, NoSpace, Content, Place, Stands, place_at}
+use Rattle.segment_manager.proofs.Common.{AssignsText, IsTextGrown, grown_table, Assigns, IsSomeVector, IsVectorGrown}
+use Rattle.segment_manager.proofs.Common.{IsWithoutSpace, Contents, flat_map, are_bytes, contents_of, has_values, Value}
+use Rattle.segment_manager.proofs.Common.{Elements, Bytes, count_of, kind_of, value_extents, value_len, IsMadeValue}
+use Rattle.segment_manager.proofs.Common.{IsNoValue, MakesValue, Plan, bare, perform, with_storage, with_value}
 use Rattle.segment_manager.proofs.Contained.{contents-good, value-said}
 use Rattle.segment_manager.proofs.MadeValues.{storage-met, storage-none, stored}
 use Rattle.segment_manager.proofs.Whole.{IsOfKind, whole-spelled, whole-values}
+use Rattle.seg_vector.specs.{TextCalls.StartsText, VectorCalls.Starts}
+use Rattle.seg_types.specs.Commands as asked
 
 abbrev contents : ℕ → ℕ → List ℕ → Table → Contents
 contents each len bytes t = record { each = each; len = len; table = t; bytes = bytes }

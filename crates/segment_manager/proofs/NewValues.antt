@@ -13,19 +13,18 @@ use Rattle.segment_manager.proofs.Common.{is_good_value, is_object, kind_of, liv
 use Rattle.segment_manager.proofs.Common.{value_extents, value_len, with_object, IsDenied, IsGiven, IsMadeValue}
 use Rattle.segment_manager.proofs.Common.{IsNoValue, class_of_index, entries_of, table_of, head_len, IsNewKeyOf}
 use Rattle.segment_manager.proofs.Common.{IsRestored, Plan, bare, with_value, room_for, IsSegment, StandsFor}
+use Rattle.segment_manager.proofs.Made.{IsMade, IsTaken, taken-growth, taken-index}
+use Rattle.segment_manager.proofs.MadeValues.{empty-taken, made-object, made-taken, placed-next}
+use Rattle.segment_manager.proofs.Taking.{growth-index, requested-aligned, restored-taken}
+use Rattle.segment_manager.proofs.Constructed.{IsNewObject, IsNoObject, content-denied, content-entered, content-none}
+use Rattle.segment_manager.proofs.{Codes.known-kind, Bridge.lookup-absent, Bridge.lookup-found, Calling.denotes-live}
+use Rattle.segment_manager.proofs.{Denoted.denotes-with, HeldIndexes.denotes-index, KeyCalls.segment-index, Live.adding}
+use Rattle.segment_manager.proofs.{NewBlocks.allocated-serves, NewKeys.key-object, NewKeys.key-seeks, Steps.perform-new}
+use Rattle.segment_manager.proofs.{Steps.perform-no_space, Constructed.restored-denotes}
 use Rattle.seg_index.specs.declared.keys.Key.{Key}
 use Rattle.segment_manager.specs.Begun.{GivesAllBack, IsEntryAdded, IsUnmetEntry}
 use Rattle.seg_index.proofs.Laws.{place_behind, place_small}
 use Rattle.seg_types.specs.Names as names
-use Rattle.segment_manager.proofs.{Codes.known-kind, Bridge.lookup-absent, Bridge.lookup-found, Calling.denotes-live}
-use Rattle.segment_manager.proofs.{Denoted.denotes-with, HeldIndexes.denotes-index, KeyCalls.segment-index, Live.adding}
-use Rattle.segment_manager.proofs.{NewBlocks.allocated-serves, NewKeys.key-object, NewKeys.key-seeks, Steps.perform-new}
-use Rattle.segment_manager.proofs.{Steps.perform-no_space, Made.IsMade, Made.IsTaken, Made.taken-growth}
-use Rattle.segment_manager.proofs.{Made.taken-index, MadeValues.empty-taken, MadeValues.made-object}
-use Rattle.segment_manager.proofs.{MadeValues.made-taken, MadeValues.placed-next, Taking.growth-index}
-use Rattle.segment_manager.proofs.{Taking.requested-aligned, Taking.restored-taken}
-use Rattle.segment_manager.proofs.Constructed.{IsNewObject, IsNoObject, content-denied, content-entered, content-none}
-use Rattle.segment_manager.proofs.Constructed.{restored-denotes}
 
 -- ---- places
 
@@ -98,15 +97,11 @@ module _ (content : Content) where
           at = made-object a t m r.empty w class name long h at r.value (value_extents r.value) block headed' r.change r.storage r.said;
         }
 
-    -- the live set once its own block is taken
-    next-live : resized (live_of a.bytes) block.extent ≡ live_of r.empty.bytes
-    next-live = placed-next a r.empty (room_for name long) h block
-
     placed-at : place (live_of a.bytes) (object_len name (bare content)) ObjectRole ≡ Some block.extent
     placed-at = block.placed
 
     given-in : (d : Directory) → IsGiven d (resized (live_of a.bytes) block.extent) content r.value r.left
-    given-in d = subst (λ l. IsGiven d l content r.value r.left) (sym next-live) (r.given d)
+    given-in d = subst (λ l. IsGiven d l content r.value r.left) (sym (placed-next a r.empty (room_for name long) h block)) (r.given d)
 
   -- ---- the directory, under a key with an entry
 

@@ -1,29 +1,27 @@
 -- The words of containers, and what the calls of seg_vector leave of storage whose elements have one length: as the steps of the calls
 -- on the object, a vector of numbers or a text.
-use Rattle.segment_manager.proofs.Common.{◌≡◌, ap, arith, ℕ, ◌+◌, ◌*◌, ◌∙◌, ◌≤◌, Err, IsTrue, List, None, Ok}
-use Rattle.segment_manager.proofs.Common.{Result, Some, [], false, length, refl, same_Some, subst, sym, take}
-use Rattle.segment_manager.proofs.Common.{true, Cut, Memory, current, bytes_of, word_at, handle, has_room, live_of}
-use Rattle.segment_manager.proofs.Common.{LiveSet, Table, cut_table, no_table, Kind}
-use Rattle.segment_manager.proofs.Common.{MapKind, ScalarKind, TextsKind, Refusal, NoSpace, Key, Command, Stands, place_at, Place}
-use Rattle.segment_manager.proofs.Common.{Change, Clear, Reserve, Shrink, Done, Refused, Contents, IsRefilled}
-use Rattle.segment_manager.proofs.Common.{container_at, contents_of, has_values, sizes_at_kind}
-use Rattle.segment_manager.proofs.Common.{sizes_of, Denotes, IsValueAt, Value, Numbers, Elements, Bytes, Pairs, Texts}
-use Rattle.segment_manager.proofs.Common.{Object, Directory, kind_of, live, padded, value_len, emptied, Reply}
-use Rattle.segment_manager.proofs.Common.{perform, with_capacity, StandsAt, Answers, IsSegment, StandsFor, State}
-use Rattle.segment_manager.proofs.Common.{changed, effect, is_read_only, storage_of, with_items, with_table}
-use Rattle.segment_manager.proofs.Common.{HasEnough, StepsSafely, command_of, has_sizes, has_storage}
-use Rattle.seg_types.specs.Commands as asked
+use Rattle.segment_manager.proofs.Common.{◌≡◌, ap, arith, ℕ, ◌+◌, ◌*◌, ◌∙◌, ◌≤◌, Err, IsTrue, List, None, Ok, Result}
+use Rattle.segment_manager.proofs.Common.{Some, [], false, length, refl, same_Some, subst, sym, take, true, Cut, Memory}
+use Rattle.segment_manager.proofs.Common.{current, bytes_of, word_at, handle, has_room, live_of, LiveSet, Table}
+use Rattle.segment_manager.proofs.Common.{cut_table, no_table, Kind, MapKind, ScalarKind, TextsKind, Refusal, NoSpace}
+use Rattle.segment_manager.proofs.Common.{Key, Command, Stands, place_at, Place, Change, Clear, Reserve, Shrink, Done}
+use Rattle.segment_manager.proofs.Common.{Refused, Contents, IsRefilled, container_at, contents_of, has_values}
+use Rattle.segment_manager.proofs.Common.{sizes_at_kind, sizes_of, Denotes, IsValueAt, Value, Numbers, Elements, Bytes}
+use Rattle.segment_manager.proofs.Common.{Pairs, Texts, Object, Directory, kind_of, live, padded, value_len, emptied}
+use Rattle.segment_manager.proofs.Common.{Reply, perform, with_capacity, StandsAt, Answers, IsSegment, StandsFor, State}
+use Rattle.segment_manager.proofs.Common.{changed, effect, is_read_only, storage_of, with_items, with_table, HasEnough}
+use Rattle.segment_manager.proofs.Common.{StepsSafely, command_of, has_sizes, has_storage}
+use Rattle.segment_manager.proofs.Contained.{contents-fit, contents-stand, start-place}
+use Rattle.segment_manager.proofs.Steps.{by_no_change_of_kind, open-writing, step_of_kind-found}
+use Rattle.segment_manager.proofs.Refilled.{HoldsAt, holds-at, refill-steps_of_kind, room-asked}
+use Rattle.segment_manager.proofs.ContentPlans.{clear-plan, reserve-plan, shrink-plan}
+use Rattle.segment_manager.proofs.{AnyStorage.sizes-found, Calling.denotes-live, Frame.object-roomy, Here.standing}
+use Rattle.segment_manager.proofs.{ItemSteps.one-kind, KeptContainers.enough-places, Rewritten.value_start}
+use Rattle.segment_manager.proofs.{Safely.done-so, Safely.stays, Standings.standing-room, Standings.standing-short}
 use Rattle.seg_vector.specs.Elements.{Fits, IsFitted, IsRewritten, Truncates}
 use Rattle.seg_vector.specs.Standing.{Grows, IsGrown}
 use Rattle.segment_manager.specs.Stored.{ChangesElements, HasContainer, IsElements, StandsThere, each_of}
-use Rattle.segment_manager.proofs.{AnyStorage.sizes-found, Calling.denotes-live, Contained.contents-fit}
-use Rattle.segment_manager.proofs.{Contained.contents-stand, Contained.start-place, Frame.object-roomy}
-use Rattle.segment_manager.proofs.{Here.standing, ItemSteps.one-kind, KeptContainers.enough-places}
-use Rattle.segment_manager.proofs.{Rewritten.value_start, Safely.done-so, Safely.stays, Standings.standing-room}
-use Rattle.segment_manager.proofs.{Standings.standing-short, Steps.by_no_change_of_kind, Steps.open-writing}
-use Rattle.segment_manager.proofs.{Steps.step_of_kind-found, Refilled.HoldsAt, Refilled.holds-at}
-use Rattle.segment_manager.proofs.ContentPlans.{clear-plan, reserve-plan, shrink-plan}
-use Rattle.segment_manager.proofs.Refilled.{refill-steps_of_kind, room-asked}
+use Rattle.seg_types.specs.Commands as asked
 
 -- ---- the words of a container
 

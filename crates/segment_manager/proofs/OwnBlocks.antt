@@ -96,11 +96,8 @@ own-spread p n (o ∷ os) t r a h =
 
 -- ---- by the roles
 
-own-of : (b : Bool) → (true && b) ≡ false → b ≡ false
-own-of b e = e
-
 not-own : (x : Extent) → is_object_block (handle x) x ≡ false → is_own x ≡ false
-not-own x e = own-of (is_own x) (sym (ap (λ b. b && is_own x) (eq-eqb (handle x) (handle x) refl)) ∙ e)
+not-own x e = sym (ap (λ b. b && is_own x) (eq-eqb (handle x) (handle x) refl)) ∙ e
 
 none-own : (xs : List Extent) → ((h : ℕ) → NonePasses (is_object_block h) xs) → NonePasses is_own xs
 none-own [] h = tt

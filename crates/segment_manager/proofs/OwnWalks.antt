@@ -7,18 +7,17 @@ use Rattle.segment_manager.proofs.Common.{is_legal_size, Tile, tiles_of, Extent,
 use Rattle.segment_manager.proofs.Common.{proper_from, spans, legal_size, ByHandle, Instance, Object, Directory, live}
 use Rattle.segment_manager.proofs.Common.{object_at, rises_from, IsBelow, is_object_at, IsInstance, SaysAt, SaysOf}
 use Rattle.segment_manager.proofs.Common.{is_own, is_own_span, own_spans, Answers, IsSegment, State, StandsFor}
+use Rattle.segment_manager.proofs.ObjectLists.{rises-front, rises-rest}
+use Rattle.segment_manager.proofs.Words.{second, first, AllByRecursion-filter, none_more}
+use Rattle.segment_manager.proofs.OwnBlocks.{all-own_spans, as_used, blocks, own-blocks}
+use Rattle.segment_manager.proofs.{Bridge.each-by_handle, Calling.denotes-live, EntryPlaces.all-at}
 use Rattle.std.proofs.Common.{add-one}
 use Rattle.block_tags.specs.Tiles.{tile_at, tiles_from}
 use Rattle.best_fit.specs.Extents.{Span as LiveSpan}
 use Rattle.best_fit.proofs.Laws.{IsFirst, proper_from-IsFirst, proper_from-reaches}
 use Rattle.segment_manager.specs.declared.tiles.Span.{Span}
-use Rattle.segment_manager.specs.Calls.{as_span}
-use Rattle.segment_manager.specs.Iterating.{GoesOnOwn, GoesOnTiles, HasPassed, IsOwnBlock, TileWalk, own_before}
-use Rattle.segment_manager.specs.Iterating.{own_count}
-use Rattle.segment_manager.proofs.{Bridge.each-by_handle, Calling.denotes-live, EntryPlaces.all-at}
-use Rattle.segment_manager.proofs.{ObjectLists.rises-front, ObjectLists.rises-rest, Words.second, Words.first}
-use Rattle.segment_manager.proofs.{Words.AllByRecursion-filter, Words.none_more, OwnBlocks.all-own_spans}
-use Rattle.segment_manager.proofs.{OwnBlocks.as_used, OwnBlocks.blocks, OwnBlocks.own-blocks}
+use Rattle.segment_manager.specs.{Calls.as_span, Iterating.GoesOnOwn, Iterating.GoesOnTiles, Iterating.HasPassed}
+use Rattle.segment_manager.specs.{Iterating.IsOwnBlock, Iterating.TileWalk, Iterating.own_before, Iterating.own_count}
 
 -- ---- places among those that pass
 
@@ -244,11 +243,8 @@ counts-own b d k =
 -- ---- a call of the iterator
 
 module _ (s : State) (old new : TileWalk) (at : ℕ) (r : Option Span) (h : HasPassed s old at) (g : GoesOnOwn old r new) where
-  the-bytes : (d : Directory) → StandsFor s.cut.bytes d → StandsFor old.segment.cut.bytes d
-  the-bytes d k = subst (λ (t : State). StandsFor t.cut.bytes d) (sym h.segment) k
-
   at-own : (d : Directory) → StandsFor s.cut.bytes d → option_map as_span r ≡ slice_get (own_spans d) at
-  at-own d k = g.says d (the-bytes d k) ∙ ap (slice_get (own_spans d)) (sym (h.count.answers d k))
+  at-own d k = g.says d (subst (λ (t : State). StandsFor t.cut.bytes d) (sym h.segment) k) ∙ ap (slice_get (own_spans d)) (sym (h.count.answers d k))
 
   -- a block came
   pub block-at : (span : Span) → r ≡ Some span → IsOwnBlock s at span

@@ -4,19 +4,18 @@ use Rattle.segment_manager.proofs.Common.{Ok, Err, List, ◌∷◌, [], int_lt, 
 use Rattle.segment_manager.proofs.Common.{ScalarValue, code_of, is_value, Key, ByHandle, Literal, literal_of}
 use Rattle.segment_manager.proofs.Common.{value_of_literal, kind_of_scalar, value_of_scalar, pair_at, remove_pair}
 use Rattle.segment_manager.proofs.Common.{NumberPair, Located, Answer, Element, Refused, Truth, kind_at, IsToChange}
-use Rattle.segment_manager.proofs.Common.{IsUnchangeable, IsValueOf, Value, Numbers, Elements, Bytes, Pairs, Texts}
-use Rattle.segment_manager.proofs.Common.{Object, Directory, kind_of, live, object_at, IsMissing, IsLocated, Plan}
-use Rattle.segment_manager.proofs.Common.{Refuse, Reply, perform, with, Answers, IsReply, IsReplyOfKind, IsStep}
-use Rattle.segment_manager.proofs.Common.{IsStepOfKind, State, StandsFor, and_then, changed, effect, map_of, pair_of}
-use Rattle.segment_manager.specs.Answers.{Absent}
-use Rattle.segment_manager.specs.Changeable.{IsPairOf}
+use Rattle.segment_manager.proofs.Common.{IsUnchangeable, IsValueOf, Value, Pairs, Object, Directory, kind_of, live}
+use Rattle.segment_manager.proofs.Common.{object_at, IsMissing, IsLocated, Plan, Refuse, Reply, perform, with, Answers}
+use Rattle.segment_manager.proofs.Common.{IsReply, IsReplyOfKind, IsStep, IsStepOfKind, State, StandsFor, and_then}
+use Rattle.segment_manager.proofs.Common.{changed, effect, map_of, pair_of}
+use Rattle.segment_manager.proofs.AnyStorage.{IsOfKindAt, kind-told, of_kind-steps}
+use Rattle.segment_manager.proofs.Changeable.{answered-reads, refuses, refuses-read, says-kind}
+use Rattle.segment_manager.proofs.Locating.{kind-by_key, reply_of_kind-by_key, step_of_kind-by_key}
+use Rattle.segment_manager.proofs.Steps.{step_of_kind-step, with-found, with-not_found}
+use Rattle.segment_manager.proofs.{Stored.literal-read, ElementLaws.same_plan-steps}
+use Rattle.segment_manager.specs.{Answers.Absent, Changeable.IsPairOf}
 use Rattle.seg_types.specs.Commands as asked
 use Rattle.segment_manager.specs.Step as step
-use Rattle.segment_manager.proofs.{AnyStorage.IsOfKindAt, AnyStorage.kind-told, AnyStorage.of_kind-steps}
-use Rattle.segment_manager.proofs.{Changeable.answered-reads, Changeable.refuses, Changeable.refuses-read}
-use Rattle.segment_manager.proofs.{Changeable.says-kind, Locating.kind-by_key, Locating.reply_of_kind-by_key}
-use Rattle.segment_manager.proofs.{Locating.step_of_kind-by_key, Steps.step_of_kind-step, Steps.with-found}
-use Rattle.segment_manager.proofs.{Steps.with-not_found, Stored.literal-read, ElementLaws.same_plan-steps}
 
 -- ---- the plans
 
@@ -53,18 +52,12 @@ record IsMap (k v : ScalarKind) (w : Value) : Type 0 where
   is : map_of w ≡ Ok (k, v, pairs)
 
 map-if : (k v : ScalarKind) (w : Value) → kind_of w ≡ Map k v → IsMap k v w
-map-if k v (Numbers l zs) e = absurd (cc)
-map-if k v (Elements l zs t) e = absurd (cc)
-map-if k v (Bytes bs t) e = absurd (cc)
 map-if k v (Pairs l m ps) e = let keys : l ≡ k = cc in let values : m ≡ v = cc in record { pairs = ps; is = λ i. Ok (keys i, values i, ps) }
-map-if k v (Texts ps t) e = absurd (cc)
+map-if k v w e = absurd (cc)
 
 no_map-if : (w : Value) → ((k v : ScalarKind) → kind_of w ≡ Map k v → ⊥) → map_of w ≡ Err WrongKind
-no_map-if (Numbers k zs) n = refl
-no_map-if (Elements k zs t) n = refl
-no_map-if (Bytes bs t) n = refl
 no_map-if (Pairs k v ps) n = absurd (n k v refl)
-no_map-if (Texts ps t) n = refl
+no_map-if w n = refl
 
 -- ---- it is no map
 

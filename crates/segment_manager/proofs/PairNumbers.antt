@@ -66,9 +66,6 @@ module _ {K V : Type 0} (k v : ScalarKind) (kp : Plain K) (vp : Plain V) (kw : K
       ∙ find-made number_pair (is_passed kp.order past x) (is_passed int_lt past (kw x))
       (λ p i. if past then not (sym (kl.ordered x p.key) i) else sym (kl.ordered p.key x) i) (reverse ps)
 
-  numbers-final : (ps : List (Pair K V)) → final_pair (number_pairs ps) ≡ option_map number_pair (final_pair ps)
-  numbers-final ps = last_mapped number_pair None ps
-
   numbers-rising : (ps : List (Pair K V)) → is_rising int_lt (number_pairs ps) ≡ is_rising kp.order ps
   numbers-rising [] = refl
   numbers-rising (p ∷ []) = refl
@@ -101,25 +98,12 @@ module _ {K V : Type 0} (k v : ScalarKind) (kp : Plain K) (vp : Plain V) (kw : K
   pair-good : (p : Pair K V) → is_number_pair k v (number_pair p) ≡ is_pair kp.SIZE vp.SIZE kp.is_value vp.is_value p
   pair-good p = λ i. sym (kl.values p.key) i && sym (vl.values p.value) i && serves p.node Node (node_len (sym kl.long i) (sym vl.long i))
 
-  pair-said : (m : Memory) (p : Pair K V) → IsPairAt kp.SIZE kp.spelling vp.spelling m p → IsNumberPairAt k v m (number_pair p)
-  pair-said m p h = (
-    subst (Has m (handle p.node + 16)) (kl.spelled p.key) h.0,
-    subst (λ n. Has m (handle p.node + 16 + n) (spelling v (vw p.value))) kl.long (subst (Has m (handle p.node + 16 + kp.SIZE)) (vl.spelled p.value) h.1),
-  )
+  pair-same : (m : Memory) (p : Pair K V) → IsPairAt kp.SIZE kp.spelling vp.spelling m p ≡ IsNumberPairAt k v m (number_pair p)
+  pair-same m p = λ i. Has m (handle p.node + 16) (kl.spelled p.key i) × Has m (handle p.node + 16 + kl.long i) (vl.spelled p.value i)
 
-  said-pair : (m : Memory) (p : Pair K V) → IsNumberPairAt k v m (number_pair p) → IsPairAt kp.SIZE kp.spelling vp.spelling m p
-  said-pair m p h = (
-    subst (Has m (handle p.node + 16)) (sym (kl.spelled p.key)) h.0,
-    subst (Has m (handle p.node + 16 + kp.SIZE)) (sym (vl.spelled p.value)) (subst (λ n. Has m (handle p.node + 16 + n) (spelling v (vw p.value))) (sym kl.long) h.1),
-  )
-
-  pairs-said : (m : Memory) (ps : List (Pair K V)) → AllByRecursion (IsPairAt kp.SIZE kp.spelling vp.spelling m) ps → AllByRecursion (IsNumberPairAt k v m) (number_pairs ps)
-  pairs-said m [] h = tt
-  pairs-said m (p ∷ ps) h = (pair-said m p h.0, pairs-said m ps h.1)
-
-  said-pairs : (m : Memory) (ps : List (Pair K V)) → AllByRecursion (IsNumberPairAt k v m) (number_pairs ps) → AllByRecursion (IsPairAt kp.SIZE kp.spelling vp.spelling m) ps
-  said-pairs m [] h = tt
-  said-pairs m (p ∷ ps) h = (said-pair m p h.0, said-pairs m ps h.1)
+  pairs-same : (m : Memory) (ps : List (Pair K V)) → AllByRecursion (IsPairAt kp.SIZE kp.spelling vp.spelling m) ps ≡ AllByRecursion (IsNumberPairAt k v m) (number_pairs ps)
+  pairs-same m [] = refl
+  pairs-same m (p ∷ ps) = λ i. pair-same m p i × pairs-same m ps i
 
   pairs-in : (l : LiveSet) (h : ℕ) (ps : List (Pair K V)) → AllByRecursion (IsPairIn kp vp l h) ps → AllByRecursion (IsPairIn (numbers_of k) (numbers_of v) l h) (number_pairs ps)
   pairs-in l h [] a = tt
@@ -139,7 +123,7 @@ module _ {K V : Type 0} (k v : ScalarKind) (kp : Plain K) (vp : Plain V) (kw : K
       count = s.map.count ∙ sym (length-map ps number_pair);
       third = s.map.third;
       tree = subst (IsTreeOf (bytes_of b) (h + at)) (sym (numbers-nodes ps)) s.map.tree;
-      pairs = pairs-said (bytes_of b) ps s.map.pairs;
+      pairs = subst (λ (said : Type 0). said) (pairs-same (bytes_of b) ps) s.map.pairs;
     };
     aligned = s.aligned;
     room = s.room;
@@ -155,7 +139,7 @@ module _ {K V : Type 0} (k v : ScalarKind) (kp : Plain K) (vp : Plain V) (kw : K
       count = s.map.count ∙ length-map ps number_pair;
       third = s.map.third;
       tree = subst (IsTreeOf (bytes_of b) (h + at)) (numbers-nodes ps) s.map.tree;
-      pairs = said-pairs (bytes_of b) ps s.map.pairs;
+      pairs = subst (λ (said : Type 0). said) (sym (pairs-same (bytes_of b) ps)) s.map.pairs;
     };
     aligned = s.aligned;
     room = s.room;
@@ -219,7 +203,7 @@ module _ {K V : Type 0} (k v : ScalarKind) (kp : Plain K) (vp : Plain V) (kw : K
   pub finds-last : (b : List ℕ) (h at : ℕ) (r : Option (K × V)) → FindsLastItem kp vp b h at r → FindsLastItem (numbers_of k) (numbers_of v) b h at (numbers_in kw vw r)
   finds-last b h at r each =
       of-values b h at (λ qs. numbers_in kw vw r ≡ option_map item_of (final_pair qs))
-      (λ ps s. ap (numbers_in kw vw) (each ps s) ∙ found-item (final_pair ps) ∙ ap (option_map item_of) (sym (numbers-final ps)))
+      (λ ps s. ap (numbers_in kw vw) (each ps s) ∙ found-item (final_pair ps) ∙ ap (option_map item_of) (sym (last_mapped number_pair None ps)))
 
   -- ---- what becomes of them
 

@@ -43,10 +43,6 @@ rises-if : (b : List ℕ) (d : Directory) (key : Key) (r : Option Object) → De
 rises-if b d key None k e = refl
 rises-if b d key (Some o) k e = rising-if o.value (good-value o (standing b d key o k e).good)
 
--- they stand by rising keys
-pub pairs-rise : (b : List ℕ) (d : Directory) (key : Key) → Denotes current b d → is_rising int_lt (pairs_at d key) ≡ true
-pairs-rise b d key k = rises-if b d key (object_at d key) k refl
-
 module _ (d : Directory) (key : Key) (k v : ScalarKind) (e : IsOfKindAt d key (Map k v)) where
   same : same_kind (Map k v) (kind_of e.object.value) ≡ true
   same = eq-eqb (code_of (Map k v)) (code_of (kind_of e.object.value)) (ap code_of (sym e.kind_is))
@@ -146,7 +142,7 @@ pub walk-next : (b : List ℕ) (d : Directory) (key : Key) (i : ℕ) (p : Number
     → pair_above p.key (pairs_at d key) ≡ option_map item_of (slice_get (pairs_at d key) (i + 1))
 walk-next b d key i p k e =
     let s = split-at (pairs_at d key) i p e in
-    let rises : is_rising int_lt (s.front ++ p ∷ s.back) ≡ true = subst (λ (ps : List NumberPair). is_rising int_lt ps ≡ true) s.is (pairs-rise b d key k) in
+    let rises : is_rising int_lt (s.front ++ p ∷ s.back) ≡ true = subst (λ (ps : List NumberPair). is_rising int_lt ps ≡ true) s.is (rises-if b d key (object_at d key) k refl) in
     let more : suc i ≡ i + 1 = omega arith in
     ap (pair_above p.key) s.is ∙ walk-goes_on s.front p s.back rises ∙ ap (option_map item_of) (sym s.next)
     ∙ ap (λ (m : ℕ). option_map item_of (slice_get (pairs_at d key) m)) more

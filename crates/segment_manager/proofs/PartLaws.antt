@@ -1,12 +1,10 @@
 -- Texts of numbered parts, for the crates that write what a segment holds: the text of so many parts, and what has gone out of it.
-use Rattle.segment_manager.proofs.Common.{◌≡◌, ℕ, zero, suc, ◌+◌, ◌<◌, Bool, true, false, List, [], ◌∷◌, ◌++◌}
-use Rattle.segment_manager.proofs.Common.{length, take, nat_lt, Option, Some, None, Result, Ok, Err, slice_get, refl}
-use Rattle.segment_manager.proofs.Common.{sym, ap, subst, ◌∙◌, append_assoc, arith, flat_map, ltb-true, ltb-false}
-use Rattle.segment_manager.proofs.Common.{take_all, slice_get_within}
-use Rattle.segment_manager.proofs.Words.{none_more}
+use Rattle.segment_manager.proofs.Common.{◌≡◌, ℕ, zero, suc, ◌+◌, ◌<◌, Bool, true, false, List, [], ◌∷◌, ◌++◌, length}
+use Rattle.segment_manager.proofs.Common.{take, nat_lt, Option, Some, None, Result, Ok, Err, slice_get, refl, sym, ap}
+use Rattle.segment_manager.proofs.Common.{subst, ◌∙◌, append_assoc, arith, flat_map, ltb-true, ltb-false, take_all}
+use Rattle.segment_manager.proofs.{Common.slice_get_within, Words.none_more}
 use Rattle.std.specs.Result.{IsErr}
-use Rattle.std.proofs.{lemmas.Grind.flat_map-append, lemmas.Option.get_or_from_slice_get}
-use Rattle.std.proofs.lemmas.List.{append-nil, take_more}
+use Rattle.std.proofs.lemmas.{Grind.flat_map-append, Option.get_or_from_slice_get, List.append-nil, List.take_more}
 use Rattle.raw_region.specs.Device.{Took, Writes}
 use Rattle.raw_region.proofs.Laws.{writes-cut, writes-then}
 pub use Rattle.segment_manager.specs.Parts.{part_of, parts_until}

@@ -3,12 +3,11 @@ use Rattle.segment_manager.proofs.Common.{◌≡◌, sym, ap, subst, ◌∙◌, 
 use Rattle.segment_manager.proofs.Common.{replicate, take, arith, IsTrue, mul-le-mul_left, length-replicate, Cut, Has}
 use Rattle.segment_manager.proofs.Common.{bytes_of, word_at, current, IsChanged, IsHeap, has_room, live_of, Kind, Class}
 use Rattle.segment_manager.proofs.Common.{class_code, code_of, padded, padded_name, two_halves, IsHeadAt, repeated}
-use Rattle.segment_manager.proofs.Common.{changed-room}
+use Rattle.segment_manager.proofs.{Common.changed-room, NewBlocks.changed-trans, Payloads.bytes-stay}
+use Rattle.segment_manager.proofs.{Payloads.room-small, Payloads.word-stays, Rows.repeated-length, Rows.repeated-more}
 use Rattle.std.proofs.lemmas.List.{take-replicate}
 use Rattle.best_fit.proofs.Laws.{room-less}
 use Rattle.seg_vector.proofs.Bytes.{Has-append}
-use Rattle.segment_manager.proofs.{NewBlocks.changed-trans, Payloads.bytes-stay, Payloads.room-small}
-use Rattle.segment_manager.proofs.{Payloads.word-stays, Rows.repeated-length, Rows.repeated-more}
 
 -- ---- the same bytes several times
 

@@ -3,14 +3,9 @@ use Rattle.segment_manager.proofs.Common.{◌≡◌, refl, sym, ap, ◌∙◌, �
 use Rattle.segment_manager.proofs.Common.{None, length, ◌==◌, IsTrue, option_map, cond-true, cond-false, Role, Storage}
 use Rattle.segment_manager.proofs.Common.{Extent, LiveSet, is_proper, added, place, resized, placed_is_proper}
 use Rattle.segment_manager.proofs.Common.{OwnedText, Directory, Answer, Refused, NoSpace, Plan, New, Request, perform}
-use Rattle.segment_manager.proofs.Common.{with_owned_texts}
+use Rattle.segment_manager.proofs.{Common.with_owned_texts, Order.live-rises, Order.rising-insert, Order.resized-fresh}
 use Rattle.best_fit.specs.Requests.{place_all, all_added}
 use Rattle.segment_manager.specs.OwnedTexts.{text_needs, owned_texts, with_blocks, TextsArePlaced}
-use Rattle.segment_manager.proofs.Order.{live-rises, rising-insert, resized-fresh}
-
--- a placed extent is new in the live set
-placed-fresh : (l : LiveSet) (x : Extent) → IsTrue (is_proper (added l x)) → resized l x ≡ added l x
-placed-fresh l x p = resized-fresh l x (rising-insert 128 x l.extents (live-rises (added l x) p)).differs
 
 -- an empty text takes no block
 owned-empty : (bs : List ℕ) (bss : List (List ℕ)) (xs : List Extent) → (length bs == 0) ≡ true → owned_texts (bs ∷ bss) xs ≡ record { bytes = bs; extent = None } ∷ owned_texts bss xs
@@ -46,7 +41,7 @@ request-placed : (d : Directory) (l : LiveSet) (bs : List ℕ) (bss : List (List
 request-placed d l bs bss next None more p e f = refl
 request-placed d l bs bss next (Some x) more p e f =
     let q = placed_is_proper l (length bs) Storage x p f in
-    ap (λ k. perform d k (with_owned_texts bss (λ ps. next (record { bytes = bs; extent = Some x } ∷ ps)))) (placed-fresh l x q)
+    ap (λ k. perform d k (with_owned_texts bss (λ ps. next (record { bytes = bs; extent = Some x } ∷ ps)))) (resized-fresh l x (rising-insert 128 x l.extents (live-rises (added l x) q)).differs)
     ∙ more (added l x) (λ ps. next (record { bytes = bs; extent = Some x } ∷ ps)) q
     ∙ first-block d l x bs bss next (place_all (added l x) (text_needs bss)) e
 

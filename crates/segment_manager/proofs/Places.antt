@@ -7,18 +7,20 @@ use Rattle.segment_manager.proofs.Common.{bytes_of, read, handle, has_room, live
 use Rattle.segment_manager.proofs.Common.{NotFound, WrongKind, OutOfRange, is_value, same_kind, size_of, spelling, Key}
 use Rattle.segment_manager.proofs.Common.{spelled, Numbers, Object, Directory, count_of, is_good_value, is_object}
 use Rattle.segment_manager.proofs.Common.{kind_of, object_at, padded, value_len, Denotes, IsValueAt, handle_at}
-use Rattle.segment_manager.proofs.Common.{StandsAt, Answers, State}
+use Rattle.segment_manager.proofs.{Common.StandsAt, Common.Answers, Common.State, Blocks.spelling-length}
+use Rattle.segment_manager.proofs.{Codes.numbers-only, Frame.object-roomy, Rows.Has-element, Standings.standing-room}
+use Rattle.segment_manager.proofs.{Words.first, Words.second, Here.IsHere, Here.here, Here.standing}
 use Rattle.seg_vector.specs.declared.places.Place.{Place}
 use Rattle.segment_manager.specs.Standing.{element_at, place_at, place_in}
-use Rattle.segment_manager.proofs.{Blocks.spelling-length, Codes.numbers-only, Frame.object-roomy, Rows.Has-element}
-use Rattle.segment_manager.proofs.{Standings.standing-room, Words.first, Words.second, Here.IsHere, Here.here}
-use Rattle.segment_manager.proofs.{Here.standing}
 
 -- ---- an element
 
 -- where a place in an object is, and in the object of a key
+abbrev pub placed : ℕ → Result ℕ Refusal → Result Place Refusal
+placed h q = elim q as (λ _. Result Place Refusal) [ Ok at ↦ Ok (record { handle = h; at = at }) | Err r ↦ Err r ]
+
 abbrev in_object : Object → Result ℕ Refusal → Result Place Refusal
-in_object o q = elim q as (λ _. Result Place Refusal) [ Ok at ↦ Ok (record { handle = handle o.extent; at = at }) | Err r ↦ Err r ]
+in_object o q = placed (handle o.extent) q
 
 abbrev in_any : ScalarKind → ℕ → Option Object → Result Place Refusal
 in_any k i r = elim r as (λ _. Result Place Refusal) [ None ↦ Err NotFound | Some o ↦ in_object o (place_in o k i) ]
@@ -149,24 +151,11 @@ module _ (b : List ℕ) (d : Directory) (key : Key) (k : ScalarKind) (i : ℕ) (
 
 -- ---- the search
 
--- the place in each object that stands at the handle is the place of the key
-pub places : (s : State) (key : Key) (h : ℕ) (k : ScalarKind) (i at : ℕ) → Answers s (λ d. handle_at d key) (Some h) → ((o : Object) → StandsAt s.cut.bytes h o → Ok at ≡ place_in o k i)
-    → Answers s (λ d. place_at d key k i) (Ok (record { handle = h; at = at }))
-places s key h k i at a each = record {
+-- the place in each object that stands at the handle is the place of the key, and why there is none in each is why the key has none
+pub places : (s : State) (key : Key) (h : ℕ) (k : ScalarKind) (i : ℕ) (r : Result ℕ Refusal) → Answers s (λ d. handle_at d key) (Some h) → ((o : Object) → StandsAt s.cut.bytes h o → r ≡ place_in o k i)
+    → Answers s (λ d. place_at d key k i) (placed h r)
+places s key h k i r a each = record {
   answers = λ d l.
       let o : IsHere s.cut.bytes d key h = here s.cut.bytes d key h l.denotes (a.answers d l) in
-      let start : h ≡ handle o.object.extent = o.stands.at in
-      (λ j. Ok (record { handle = start j; at = at }))
-      ∙ ap (in_object o.object) (each o.object o.stands)
-      ∙ sym (ap (in_any k i) o.is);
-}
-
--- why there is none in each such object is why the key has none
-pub places-missing : (s : State) (key : Key) (h : ℕ) (k : ScalarKind) (i : ℕ) (r : Refusal) → Answers s (λ d. handle_at d key) (Some h) → ((o : Object) → StandsAt s.cut.bytes h o → Err r ≡ place_in o k i)
-    → Answers s (λ d. place_at d key k i) (Err r)
-places-missing s key h k i r a each = record {
-  answers = λ d l.
-      let o : IsHere s.cut.bytes d key h = here s.cut.bytes d key h l.denotes (a.answers d l) in
-      ap (in_object o.object) (each o.object o.stands)
-      ∙ sym (ap (in_any k i) o.is);
+      ap (λ (n : ℕ). placed n r) o.stands.at ∙ ap (in_object o.object) (each o.object o.stands) ∙ sym (ap (in_any k i) o.is);
 }

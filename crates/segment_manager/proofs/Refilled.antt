@@ -57,10 +57,6 @@ pub record Refill (old new : Cut) (d : Directory) (key : Key) (c : Command) (ans
   pub change : IsRefilled old new (container_place object) was next
   pub outcome : perform d (live d) (effect d c) ≡ (answer, changed d object value)
 
--- the plan answers at once
-pub replied : (d : Directory) (c : Command) (answer : Answer) (after : Directory) → effect d c ≡ Reply answer after → perform d (live d) (effect d c) ≡ (answer, after)
-replied d c answer after e = ap (perform d (live d)) e
-
 -- the plan asks for room, where there is some or none
 pub room-asked : (format : ℕ) (b : List ℕ) (d : Directory) (c : Command) (each n : ℕ) (t : Table) (r : Option Table) (answer : Answer) (next : Table → Directory) → Denotes format b d
     → effect d c ≡ with_capacity each n t (λ u. Reply answer (next u)) → grown_table (live_of b) each n t ≡ r → perform d (live d) (effect d c) ≡ answered d answer next r

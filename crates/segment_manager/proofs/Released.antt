@@ -1,31 +1,25 @@
 -- What becomes of an object whose contents are released, for each kind of value.
-use Rattle.segment_manager.proofs.Common.{◌≡◌, refl, sym, ap, subst, ◌∙◌, append-nil, ℕ, ◌+◌, Bool, Option, Some}
-use Rattle.segment_manager.proofs.Common.{None, Result, Ok, Err, List, [], length, if◌then◌else◌, IsTrue, eq-eqb}
-use Rattle.segment_manager.proofs.Common.{same_Some, current, Cut, bytes_of, IsExchanged, Extent, handle, no_table}
-use Rattle.segment_manager.proofs.Common.{Kind, Scalar, Map, TextsKind, ScalarKind, Refusal, NotFound}
-use Rattle.segment_manager.proofs.Common.{WrongKind, code_of, ByHandle, Key, MapPlace, Place, place_at}
-use Rattle.segment_manager.proofs.Common.{IsSomeTexts, IsTextsNow, Head}
-use Rattle.segment_manager.proofs.Common.{container_at, container_place, place_of_kind}
-use Rattle.segment_manager.proofs.Common.{Denotes, IsValueAt, Becomes, Empties, HoldsObject, emptied}
-use Rattle.segment_manager.proofs.Common.{Value, Pairs, Texts, Object, Directory, has_key, is_object}
-use Rattle.segment_manager.proofs.Common.{kind_of, object_at, padded, value_extents, value_len, head_len, HasPairs}
-use Rattle.segment_manager.proofs.Common.{ReleasesPairs, numbers_of, HasObject, IsHeadOf, StandsAt, StandsFor, changed}
-use Rattle.seg_map.specs.Changing.{IsGivenUp}
-use Rattle.seg_vector.specs.Elements.{GivesBack, IsGivenBack}
-use Rattle.seg_vector.specs.Standing.{IsStanding}
-use Rattle.seg_vector.specs.TextsCalls.{ReleasesTexts}
-use Rattle.segment_manager.specs.Contents.{has_storage}
-use Rattle.segment_manager.specs.Stored.{each_of}
-use Rattle.segment_manager.proofs.{Contained.good-with, Contained.start-place, Frame.object-roomy, Here.IsReadAt, Here.standing}
-use Rattle.segment_manager.proofs.{Live.IsIn, Rewritten.value_start, Rewritten.with_value, TextsHeld.HoldsTexts}
-use Rattle.segment_manager.proofs.{TextsHeld.holds-texts, Emptied.changed-itself, Emptied.emptied-is}
-use Rattle.segment_manager.proofs.{Emptied.emptied-numbers, Exchanged.Exchange, Exchanged.between}
-use Rattle.segment_manager.proofs.{Exchanged.denotes-container, MapCalls.HoldsPairs, MapCalls.as_map}
-use Rattle.segment_manager.proofs.{MapCalls.holds-pairs, ObjectLists.all-found, ObjectLists.each-true}
-use Rattle.segment_manager.proofs.{ObjectLists.found-handle, ObjectLists.key-found}
-use Rattle.segment_manager.proofs.Contained.{Shape, contents-shape, value-said}
+use Rattle.segment_manager.proofs.Common.{◌≡◌, refl, sym, ap, subst, ◌∙◌, append-nil, ℕ, ◌+◌, Bool, Option, Some, None}
+use Rattle.segment_manager.proofs.Common.{Result, Ok, Err, List, [], length, if◌then◌else◌, IsTrue, eq-eqb, same_Some}
+use Rattle.segment_manager.proofs.Common.{current, Cut, bytes_of, IsExchanged, Extent, handle, no_table, Kind, Scalar}
+use Rattle.segment_manager.proofs.Common.{Map, TextsKind, ScalarKind, Refusal, NotFound, WrongKind, code_of, ByHandle}
+use Rattle.segment_manager.proofs.Common.{Key, MapPlace, Place, place_at, IsSomeTexts, IsTextsNow, Head, container_at}
+use Rattle.segment_manager.proofs.Common.{container_place, place_of_kind, Denotes, IsValueAt, Becomes, Empties}
+use Rattle.segment_manager.proofs.Common.{HoldsObject, emptied, Value, Pairs, Texts, Object, Directory, has_key}
+use Rattle.segment_manager.proofs.Common.{is_object, kind_of, object_at, padded, value_extents, value_len, head_len}
+use Rattle.segment_manager.proofs.Common.{HasPairs, ReleasesPairs, numbers_of, HasObject, IsHeadOf, StandsAt, StandsFor}
+use Rattle.segment_manager.proofs.Common.{changed, true}
+use Rattle.segment_manager.proofs.Contained.{good-with, start-place, Shape, contents-shape, value-said}
+use Rattle.segment_manager.proofs.Emptied.{changed-itself, emptied-is, emptied-numbers}
+use Rattle.segment_manager.proofs.Exchanged.{Exchange, between, denotes-container}
+use Rattle.segment_manager.proofs.MapCalls.{HoldsPairs, as_map, holds-pairs}
+use Rattle.segment_manager.proofs.ObjectLists.{all-found, each-true, found-handle, key-found}
 use Rattle.segment_manager.proofs.OneLength.{HoldsElements, holds-elements, nothing-left}
-use Rattle.segment_manager.proofs.Common.{true}
+use Rattle.segment_manager.proofs.{Frame.object-roomy, Here.IsReadAt, Here.standing, Live.IsIn, Rewritten.value_start}
+use Rattle.segment_manager.proofs.{Rewritten.with_value, TextsHeld.HoldsTexts, TextsHeld.holds-texts}
+use Rattle.seg_map.specs.Changing.{IsGivenUp}
+use Rattle.seg_vector.specs.{Elements.GivesBack, Elements.IsGivenBack, Standing.IsStanding, TextsCalls.ReleasesTexts}
+use Rattle.segment_manager.specs.{Contents.has_storage, Stored.each_of}
 
 -- ---- the object of a handle
 

@@ -6,15 +6,14 @@ use Rattle.segment_manager.proofs.Common.{SameBlock, live_of, Table, no_table, b
 use Rattle.segment_manager.proofs.Common.{KeepsRest, beside_table, IsIndexOf, place_of, IsIndexAt, Denotes, handles}
 use Rattle.segment_manager.proofs.Common.{Object, Directory, extents_of, live, remove_object, table_extents}
 use Rattle.segment_manager.proofs.Common.{without_object, class_of_index, entries_of, objects_of, table_of}
-use Rattle.segment_manager.proofs.Common.{with_table_of}
-use Rattle.seg_index.proofs.Laws.{place_behind}
-use Rattle.seg_index.specs.declared.index.Index.TheVariants as index
-use Rattle.segment_manager.proofs.{Added.has-one, Added.place-high, AnyClass.KeepsFront, AnyClass.denotes-taken}
-use Rattle.segment_manager.proofs.{Bridge.no-entry-removed, Calling.denotes-live, Frame.any_index-same}
-use Rattle.segment_manager.proofs.{Order.live-rises, Tables.index-left_out, Live.IsIn, Live.OfEach, Live.live-without}
-use Rattle.segment_manager.proofs.{Live.of_each, Live.removing}
+use Rattle.segment_manager.proofs.AnyClass.{KeepsFront, denotes-taken}
+use Rattle.segment_manager.proofs.Live.{IsIn, OfEach, live-without, of_each, removing}
 use Rattle.segment_manager.proofs.Entered.{HasOne, OfRest, of_rest, other, other-stays, other-words, other_class}
 use Rattle.segment_manager.proofs.Words.{AllByRecursion-append, AllByRecursion-behind, AllByRecursion-front}
+use Rattle.segment_manager.proofs.{Common.with_table_of, Added.has-one, Added.place-high, Bridge.no-entry-removed}
+use Rattle.segment_manager.proofs.{Calling.denotes-live, Frame.any_index-same, Order.live-rises, Tables.index-left_out}
+use Rattle.seg_index.proofs.Laws.{place_behind}
+use Rattle.seg_index.specs.declared.index.Index.TheVariants as index
 
 -- ---- one object's blocks less
 

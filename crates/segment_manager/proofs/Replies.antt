@@ -1,6 +1,6 @@
 -- Reading an element of the object of a key: what the step answers, for each directory that the bytes denote.
-use Rattle.segment_manager.proofs.Common.{◌≡◌, refl, sym, ap, ◌∙◌, ℕ, ◌+◌, ◌≤◌, ℤ, true, false, Option, Some, None}
-use Rattle.segment_manager.proofs.Common.{Result, Ok, Err, List, length, arith, IsTrue, MatchOption, slice_get}
+use Rattle.segment_manager.proofs.Common.{subst, ◌≡◌, refl, sym, ap, ◌∙◌, ℕ, ◌+◌, ◌≤◌, ℤ, true, false, Option, Some}
+use Rattle.segment_manager.proofs.Common.{None, Result, Ok, Err, List, length, arith, IsTrue, MatchOption, slice_get}
 use Rattle.segment_manager.proofs.Common.{slice_set, eq-eqb, false≢true, ltb-false, slice_get_past, bytes_of, read}
 use Rattle.segment_manager.proofs.Common.{has_room, live_of, ScalarKind, Scalar, Refusal, WrongKind, OutOfRange}
 use Rattle.segment_manager.proofs.Common.{ScalarValue, code_of, is_value, same_kind, size_of, spelling, Key}
@@ -8,21 +8,17 @@ use Rattle.segment_manager.proofs.Common.{value_of_scalar, Literal, value_of_lit
 use Rattle.segment_manager.proofs.Common.{Done, Object, Directory, Numbers, count_of, kind_of, live, object_at, perform}
 use Rattle.segment_manager.proofs.Common.{Refuse, Reply, with, Answers, IsReplyOfKind, IsSegment, State, answer_of}
 use Rattle.segment_manager.proofs.Common.{scalar_answer, step_of_kind, effect, get, set, changed, Command}
+use Rattle.segment_manager.proofs.Steps.{open-reading, step_of_kind-found, step_of_kind-not_found, step_of_kind-other}
+use Rattle.segment_manager.proofs.Places.{ElementAt, Lacks, Other, Past, Missing, Nowhere, Within, element-found}
+use Rattle.segment_manager.proofs.Places.{element-missing, element-read, element-room}
+use Rattle.segment_manager.proofs.{Steps.with-found, Steps.IsOpenFor, Codes.numbers-only, ContentPlans.of_slice}
 use Rattle.std.specs.Option.{ok_or}
 use Rattle.byteorder.specs.Endian.{little_number}
-use Rattle.seg_types.specs.Kinds.{is_spelling, value_of}
-use Rattle.seg_types.specs.Values.{SpelledBy}
+use Rattle.seg_types.specs.{Kinds.is_spelling, Kinds.value_of, Values.SpelledBy}
 use Rattle.seg_types.proofs.Laws.{all_spell_one}
 use Rattle.seg_vector.specs.declared.places.Place.{Place}
 use Rattle.segment_manager.specs.Standing.{place_at}
 use Rattle.seg_types.specs.Commands as asked
-use Rattle.segment_manager.proofs.{Codes.numbers-only, ContentPlans.of_slice}
-use Rattle.segment_manager.proofs.Steps.{open-reading, step_of_kind-found, step_of_kind-not_found, step_of_kind-other}
-use Rattle.segment_manager.proofs.Steps.{with-found, IsOpenFor}
-use Rattle.segment_manager.proofs.Places.{ElementAt, Lacks, Other, Past, Missing, Nowhere, Within, element-found}
-use Rattle.segment_manager.proofs.Places.{element-missing, element-read, element-room}
-
--- ---- the elements of numbers
 
 -- ---- what the plans are
 
@@ -40,13 +36,9 @@ set-effect d key o k zs i l z r e f g h =
 
 -- ---- what the step is
 
--- a kind is the same as itself
-pub same_scalar-refl : (k : ScalarKind) → same_kind (Scalar k) (Scalar k) ≡ true
-same_scalar-refl k = eq-eqb (code_of (Scalar k)) (code_of (Scalar k)) refl
-
 -- the object of an element is of its kind
 pub element-kind : (b : List ℕ) (d : Directory) (key : Key) (k : ScalarKind) (i : ℕ) (p : Place) → (e : ElementAt b d key k i p) → same_kind (Scalar k) (kind_of e.object.value) ≡ true
-element-kind b d key k i p e = ap (λ v. same_kind (Scalar k) (kind_of v)) e.value ∙ same_scalar-refl k
+element-kind b d key k i p e = ap (λ v. same_kind (Scalar k) (kind_of v)) e.value ∙ eq-eqb (code_of (Scalar k)) (code_of (Scalar k)) refl
 
 -- an element is answered
 got : (mode : Mode) (b : List ℕ) (d : Directory) (key : Key) (k : ScalarKind) (i : ℕ) (p : Place) → (e : ElementAt b d key k i p)
@@ -74,27 +66,39 @@ missing-steps mode d key k i r c may past (Within o e l) = lacking mode d key k 
 
 -- ---- the call
 
--- where no element is found, the step says why
-pub replies-missing : (s : State) (key : Key) (k : ScalarKind) (i : ℕ) (r : Refusal) → Answers s (λ d. place_at d key k i) (Err r) → IsReplyOfKind s key (Scalar k) (asked.Get key i) (Refused r)
-replies-missing s key k i r a = record {
-  answers = λ d l.
-      sym (ap (λ (n : Answer × Directory). n.0)
-      (missing-steps s.mode d key k i r (asked.Get key i) (open-reading s.mode (asked.Get key i) refl) (λ o zs e f. get-effect d key o k zs i None e f) (element-missing d key k i r (a.answers d l))));
-}
+module _ (t : State) (key : Key) {l k : ScalarKind} (kinds : l ≡ k) (i : ℕ) where
+  -- where no element is found, the step says why
+  pub replies-missing : (r : Refusal) → Answers t (λ d. place_at d key l i) (Err r) → IsReplyOfKind t key (Scalar k) (asked.Get key i) (Refused r)
+  replies-missing r a = record {
+    answers = λ d l.
+        sym (ap (λ (n : Answer × Directory). n.0)
+        (missing-steps t.mode d key k i r (asked.Get key i) (open-reading t.mode (asked.Get key i) refl) (λ o zs e f. get-effect d key o k zs i None e f)
+        (element-missing d key k i r ((subst (λ (m : ScalarKind). Answers t (λ d. place_at d key m i) (Err r)) kinds a).answers d l))));
+  }
 
--- what the bytes of the element are read as is the step's answer
-pub replies-found : (s : State) (key : Key) (k : ScalarKind) (i : ℕ) (p : Place) (answer : Answer) → Answers s (λ d. place_at d key k i) (Ok p)
-    → ((z : ℤ) → IsTrue (is_value k z) → read (bytes_of s.cut.bytes) (p.handle + p.at) (size_of k) ≡ spelling k z → answer ≡ Element k z) → IsReplyOfKind s key (Scalar k) (asked.Get key i) answer
-replies-found s key k i p answer a reads = record {
-  answers = λ d l.
-      let e : ElementAt s.cut.bytes d key k i p = element-found s.cut.bytes d key k i p l.denotes (a.answers d l) in
-      reads e.number e.in_range (element-read s.cut.bytes d key k i p e) ∙ sym (ap (λ (n : Answer × Directory). n.0) (got s.mode s.cut.bytes d key k i p e));
-}
+  -- one is found, as the view before the call names the segment
+  module _ (s : State) (view : s ≡ t) (p : Place) (n : ℕ) (long : n ≡ size_of k) (there : Answers t (λ d. place_at d key l i) (Ok p)) where
+    pub seen-place : Answers s (λ d. place_at d key k i) (Ok p)
+    seen-place =
+        subst (λ (m : ScalarKind). Answers s (λ d. place_at d key m i) (Ok p)) kinds
+        (subst (λ (u : State). Answers u (λ d. place_at d key l i) (Ok p)) (sym view) there)
 
--- the block has the room of the element
-pub place-room : (s : State) (key : Key) (k : ScalarKind) (i : ℕ) (p : Place) → IsSegment s.cut.bytes → Answers s (λ d. place_at d key k i) (Ok p) → IsTrue (has_room (live_of s.cut.bytes) p.handle (p.at + size_of k))
-place-room s key k i p t a =
-    element-room s.cut.bytes t.0 key k i p (element-found s.cut.bytes t.0 key k i p t.1.denotes (a.answers t.0 t.1))
+    -- the block has the room of the element
+    pub place-room : IsSegment s.cut.bytes → IsTrue (has_room (live_of s.cut.bytes) p.handle (p.at + n))
+    place-room b =
+        subst (λ m. IsTrue (has_room (live_of s.cut.bytes) p.handle (p.at + m))) (sym long)
+        (element-room s.cut.bytes b.0 key k i p (element-found s.cut.bytes b.0 key k i p b.1.denotes (seen-place.answers b.0 b.1)))
+
+    -- what its bytes are read as is the step's answer
+    pub replies-found : (answer : Answer) (bytes : List ℕ) → bytes ≡ read (bytes_of s.cut.bytes) (p.handle + p.at) n → ((z : ℤ) → IsTrue (is_value k z) → bytes ≡ spelling k z → answer ≡ Element k z)
+        → IsReplyOfKind t key (Scalar k) (asked.Get key i) answer
+    replies-found answer bytes are reads =
+        subst (λ (u : State). IsReplyOfKind u key (Scalar k) (asked.Get key i) answer) view (record {
+          answers = λ d l.
+              let e : ElementAt s.cut.bytes d key k i p = element-found s.cut.bytes d key k i p l.denotes (seen-place.answers d l) in
+              reads e.number e.in_range (are ∙ ap (read (bytes_of s.cut.bytes) (p.handle + p.at)) long ∙ element-read s.cut.bytes d key k i p e)
+              ∙ sym (ap (λ (n : Answer × Directory). n.0) (got s.mode s.cut.bytes d key k i p e));
+        })
 
 -- ---- what is read
 

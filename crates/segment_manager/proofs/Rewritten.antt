@@ -1,8 +1,7 @@
 -- An object with another value: where the value stands, and that its head and name stay.
 use Rattle.segment_manager.proofs.Common.{◌≡◌, sym, ◌∙◌, ℕ, ◌+◌, length, arith, Memory, Same, handle, code_of, Value}
 use Rattle.segment_manager.proofs.Common.{Object, count_of, kind_of, padded, IsObjectAt, IsValueAt, padded_name}
-use Rattle.segment_manager.proofs.Common.{two_halves, Has-same, Same-word}
-use Rattle.segment_manager.proofs.Frame.{padded_name-length}
+use Rattle.segment_manager.proofs.{Common.two_halves, Common.Has-same, Common.Same-word, Frame.padded_name-length}
 
 -- where the value of an object stands
 abbrev pub value_start : Object → ℕ

@@ -3,11 +3,10 @@ use Rattle.segment_manager.proofs.Common.{◌≡◌, refl, sym, ap, subst, ◌�
 use Rattle.segment_manager.proofs.Common.{[], ◌∷◌, ◌++◌, length, replicate, arith, length-append, slice_get, slice_set}
 use Rattle.segment_manager.proofs.Common.{flat_map, flat_map_more, Memory, Has, SameBut, ScalarKind, spelling, spelled}
 use Rattle.segment_manager.proofs.Common.{repeated, ◌≤◌, true, IsTrue, list_all, mul-le-mul_left}
-use Rattle.std.proofs.lemmas.List.{replicate_more}
-use Rattle.seg_vector.proofs.Bytes.{Has-patched, Has-drop}
-use Rattle.seg_vector.proofs.Typed.{flat-set}
-use Rattle.std.proofs.Math.Seq.{drop-append_seam}
 use Rattle.segment_manager.proofs.Heads.{Has-front}
+use Rattle.std.proofs.lemmas.List.{replicate_more}
+use Rattle.seg_vector.proofs.{Bytes.Has-patched, Bytes.Has-drop, Typed.flat-set}
+use Rattle.std.proofs.Math.Seq.{drop-append_seam}
 
 -- ---- two rows
 

@@ -1,11 +1,12 @@
 -- A call on the container of an object that answers nothing: its step, and that it changes nothing where it is refused.
-use Rattle.segment_manager.proofs.Common.{◌≡◌, ℕ, ◌+◌, sym, ap, subst, ◌∙◌, Bool, true, false, Option, Some, None}
-use Rattle.segment_manager.proofs.Common.{Result, Ok, Err, length, if◌then◌else◌, OnErr, eq-eqb, ne_eqb, Cut, handle}
-use Rattle.segment_manager.proofs.Common.{Kind, Refusal, NotFound, WrongKind, code_of, same_kind, Key, Command, Place}
-use Rattle.segment_manager.proofs.Common.{Head, Answer, Done, Refused, container_at, container_place, place_of_kind}
-use Rattle.segment_manager.proofs.Common.{Object, kind_of, padded, handle_at, head_len, IsHeadOf, StandsAt, Answers}
-use Rattle.segment_manager.proofs.Common.{IsSegment, IsStepOfKind, State, AnswersSafely, StepsSafely}
-use Rattle.segment_manager.proofs.{Here.IsHere, Here.here, Steps.step_of_kind-segment}
+use Rattle.segment_manager.proofs.Common.{NoSpace, OutOfRange, ◌⊎◌, inl, inr, IsStep, is_read_only, ◌≡◌, ℕ, ◌+◌, sym}
+use Rattle.segment_manager.proofs.Common.{ap, subst, ◌∙◌, Bool, true, false, Option, Some, None, Result, Ok, Err}
+use Rattle.segment_manager.proofs.Common.{length, if◌then◌else◌, OnErr, eq-eqb, ne_eqb, Cut, handle, Kind, Refusal}
+use Rattle.segment_manager.proofs.Common.{NotFound, WrongKind, code_of, same_kind, Key, Command, Place, Head, Answer}
+use Rattle.segment_manager.proofs.Common.{Done, Refused, container_at, container_place, place_of_kind, Object, kind_of}
+use Rattle.segment_manager.proofs.Common.{padded, handle_at, head_len, IsHeadOf, StandsAt, Answers, IsSegment}
+use Rattle.segment_manager.proofs.Common.{IsStepOfKind, State, AnswersSafely, StepsSafely}
+use Rattle.segment_manager.proofs.{Steps.step-segment, Steps.step_of_kind-segment, Here.IsHere, Here.here}
 
 -- it is refused, and nothing has changed
 pub stays : (s : State) (new : Cut) (key : Key) (kind : Kind) (c : Command) (e why : Refusal) → e ≡ why → new ≡ s.cut → IsStepOfKind s s key kind c (Refused why) → StepsSafely s new key kind c (Err e)
@@ -20,6 +21,18 @@ pub done-so : {s : State} {new : Cut} {key : Key} {kind : Kind} {c : Command} {u
     → IsStepOfKind s (record s { cut = new }) key kind c Done → StepsSafely s new key kind c (Ok u)
 done-so step = record { step = step; refused = tt }
 
+-- which of two refusals it is
+range-not_space : OutOfRange ≡ NoSpace → ⊥
+range-not_space e = cc
+
+pub pick-outside : {X Y : Type 0} (e : Refusal) → (Y → e ≡ NoSpace) → e ≡ OutOfRange → X ⊎ Y → X
+pick-outside e g h (inl x) = x
+pick-outside e g h (inr y) = absurd (range-not_space (sym h ∙ g y))
+
+pub pick-space : {X Y : Type 0} (e : Refusal) → (X → e ≡ OutOfRange) → e ≡ NoSpace → X ⊎ Y → Y
+pick-space e f h (inl x) = absurd (range-not_space (sym (f x) ∙ h))
+pick-space e f h (inr y) = y
+
 -- ---- the segment afterwards, as its view before the call is named
 
 -- nothing has changed where it was refused
@@ -28,16 +41,33 @@ pub seen-refused : {R : Type 0} (s t : State) (view : s ≡ t) (new : Cut) (r : 
 seen-refused s t view new (Ok u) e = tt
 seen-refused s t view new (Err w) e = (λ i. record s { cut = e i }) ∙ view
 
-module _ {R : Type 0} {says : Result R Refusal → Answer} (s t : State) (view : s ≡ t) (new : Cut) (key : Key)
-    (kind : Kind) (c : Command) (r : Result R Refusal) (done : AnswersSafely says s new key kind c r) where
-  pub answer-step : IsStepOfKind t (record s { cut = new }) key kind c (says r)
-  answer-step = subst (λ (u : State). IsStepOfKind u (record s { cut = new }) key kind c (says r)) view done.step
+-- a call came to its step, changed nothing where it was refused, and left a segment
+pub record Answered {R : Type 0} (says : Result R Refusal → Answer) (s t : State) (new : Cut) (key : Key) (kind : Kind) (c : Command) (r : Result R Refusal) : Type 0 where
+  pub step : IsStepOfKind t (record s { cut = new }) key kind c (says r)
+  pub refused : OnErr r ((record s { cut = new }) ≡ t)
+  pub segment : IsSegment new.bytes
 
-  pub answer-refused : OnErr r ((record s { cut = new }) ≡ t)
-  answer-refused = seen-refused s t view new r done.refused
+pub answered : {R : Type 0} {says : Result R Refusal → Answer} (s t : State) (view : s ≡ t) (b : IsSegment s.cut.bytes) (new : Cut) (key : Key) (kind : Kind) (c : Command) (r : Result R Refusal)
+    → AnswersSafely says s new key kind c r → Answered says s t new key kind c r
+answered {says = says} s t view b new key kind c r done = record {
+  step = subst (λ (u : State). IsStepOfKind u (record s { cut = new }) key kind c (says r)) view done.step;
+  refused = seen-refused s t view new r done.refused;
+  segment = step_of_kind-segment s (record s { cut = new }) key kind c (says r) done.step b;
+}
 
-  pub answer-segment : IsSegment s.cut.bytes → IsSegment new.bytes
-  answer-segment b = step_of_kind-segment s (record s { cut = new }) key kind c (says r) done.step b
+-- the same of a call on whatever object
+pub record Stepped (s t : State) (new : Cut) (c : Command) (answer : Answer) : Type 0 where
+  pub step : IsStep t (record s { cut = new }) c answer
+  pub segment : IsSegment new.bytes
+
+pub stepped : (s t : State) (view : s ≡ t) (b : IsSegment s.cut.bytes) (new : Cut) (c : Command) (answer : Answer) → is_read_only t.mode ≡ false
+    → (is_read_only s.mode ≡ false → IsStep s (record s { cut = new }) c answer) → Stepped s t new c answer
+stepped s t view b new c answer may each =
+    let done : IsStep s (record s { cut = new }) c answer = each (subst (λ (u : State). is_read_only u.mode ≡ false) (sym view) may) in
+    record {
+      step = subst (λ (u : State). IsStep u (record s { cut = new }) c answer) view done;
+      segment = step-segment s (record s { cut = new }) c answer done b;
+    }
 
 -- ---- the search
 

@@ -5,10 +5,9 @@ use Rattle.segment_manager.proofs.Common.{Extent, LiveSet, handle, resized, Refu
 use Rattle.segment_manager.proofs.Common.{Command, Mode, Object, Directory, has_key, live, replace_object, Answer}
 use Rattle.segment_manager.proofs.Common.{Refused, refusal_of, is_object_at, Plan, met, perform, is_elementwise}
 use Rattle.segment_manager.proofs.Common.{IsSegment, Moves, State, plan, step, step_of_kind, LeadsOnOfKind}
-use Rattle.segment_manager.specs.Staying.{KeepsObjects, ObjectsStay}
-use Rattle.segment_manager.proofs.KeyCalls.{object-passes}
 use Rattle.segment_manager.proofs.Refusals.{Leaves, by_change, by_other, by_refusal, by_request, by_same, plan-leaves}
-use Rattle.segment_manager.proofs.Refusals.{plan_of_kind-leaves}
+use Rattle.segment_manager.proofs.{KeyCalls.object-passes, Refusals.plan_of_kind-leaves}
+use Rattle.segment_manager.specs.Staying.{KeepsObjects, ObjectsStay}
 
 -- ---- an object of another value
 

@@ -1,13 +1,11 @@
 -- The calls on whatever has storage where they are refused, reserve, shrink and clear; and calls that read.
-use Rattle.segment_manager.proofs.Common.{Err, None, Some, false, refl, subst, true, ◌≡◌, Command}
-use Rattle.segment_manager.proofs.Common.{is_changing, Key, Kind, Refusal}
-use Rattle.segment_manager.proofs.Common.{NotFound, WrongKind, Answer, Refused, container_at, Directory, Numbers}
-use Rattle.segment_manager.proofs.Common.{Object, Pairs, Value, kind_of, object_at, Refuse, Answers}
-use Rattle.segment_manager.proofs.Common.{IsReplyOfKind, IsStepOfKind, State, effect}
-use Rattle.segment_manager.proofs.Common.{storage_of, command_of, has_storage, Change, Clear, Reserve, Shrink}
+use Rattle.segment_manager.proofs.Common.{Err, None, Some, false, refl, subst, true, ◌≡◌, Command, is_changing, Key}
+use Rattle.segment_manager.proofs.Common.{Kind, Refusal, NotFound, WrongKind, Answer, Refused, container_at, Directory}
+use Rattle.segment_manager.proofs.Common.{Numbers, Object, Pairs, Value, kind_of, object_at, Refuse, Answers}
+use Rattle.segment_manager.proofs.Common.{IsReplyOfKind, IsStepOfKind, State, effect, storage_of, command_of}
+use Rattle.segment_manager.proofs.Common.{has_storage, Change, Clear, Reserve, Shrink}
 use Rattle.segment_manager.proofs.ContentPlans.{clear-plan, reserve-plan, shrink-plan}
-use Rattle.segment_manager.proofs.Refilled.{finds-no_container}
-use Rattle.segment_manager.proofs.Steps.{open-reading, with-not_found}
+use Rattle.segment_manager.proofs.{Refilled.finds-no_container, Steps.open-reading, Steps.with-not_found}
 
 -- ---- refusals
 

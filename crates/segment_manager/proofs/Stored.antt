@@ -1,25 +1,26 @@
 -- Writing an element of the object of a key: what the step is, and what the bytes denote then.
-use Rattle.segment_manager.proofs.Common.{◌≡◌, refl, sym, ap, subst, ◌∙◌, ℕ, zero, suc, ◌+◌, ◌*◌, ◌<◌, ◌≤◌, ℤ, pos}
-use Rattle.segment_manager.proofs.Common.{Bool, true, false, ◌&&◌, Some, Ok, Err, Result, List, [], ◌∷◌, length}
-use Rattle.segment_manager.proofs.Common.{if◌then◌else◌, arith, IsTrue, nat_le, list_all, mul-le-mul_left, and_from}
-use Rattle.segment_manager.proofs.Common.{slice_get_within, current, Cut, Memory, Has, SameBut, bytes_of, ObjectRole}
-use Rattle.segment_manager.proofs.Common.{IsChanged, serves, ScalarKind, BoolKind, Scalar, Refusal, OutOfRange}
-use Rattle.segment_manager.proofs.Common.{is_value, size_of, spelling, Key, Literal, literal_of, value_of_literal}
-use Rattle.segment_manager.proofs.Common.{spelled, Mode, Done, Refused, Denotes, IsValueAt, Numbers, Object, Directory}
-use Rattle.segment_manager.proofs.Common.{count_of, has_good_name, is_object, kind_of, live, padded, value_extents}
-use Rattle.segment_manager.proofs.Common.{value_len, with_changed, perform, Answers, IsStepOfKind, State, is_read_only}
-use Rattle.segment_manager.proofs.Common.{step_of_kind, and_then, map, values_of, None}
+use Rattle.segment_manager.proofs.Common.{Ok, IsSegment, done_answer, ◌≡◌, refl, sym, ap, subst, ◌∙◌, ℕ, zero, suc, ◌+◌}
+use Rattle.segment_manager.proofs.Common.{◌*◌, ◌<◌, ◌≤◌, ℤ, pos, Bool, true, false, ◌&&◌, Some, Err, Result, List, []}
+use Rattle.segment_manager.proofs.Common.{◌∷◌, length, if◌then◌else◌, arith, IsTrue, nat_le, list_all, mul-le-mul_left}
+use Rattle.segment_manager.proofs.Common.{and_from, slice_get_within, current, Cut, Memory, Has, SameBut, bytes_of}
+use Rattle.segment_manager.proofs.Common.{ObjectRole, IsChanged, serves, ScalarKind, BoolKind, Scalar, Refusal}
+use Rattle.segment_manager.proofs.Common.{OutOfRange, is_value, size_of, spelling, Key, Literal, literal_of}
+use Rattle.segment_manager.proofs.Common.{value_of_literal, spelled, Mode, Done, Refused, Denotes, IsValueAt, Numbers}
+use Rattle.segment_manager.proofs.Common.{Object, Directory, count_of, has_good_name, is_object, kind_of, live, padded}
+use Rattle.segment_manager.proofs.Common.{value_extents, value_len, with_changed, perform, Answers, IsStepOfKind, State}
+use Rattle.segment_manager.proofs.Common.{is_read_only, step_of_kind, and_then, map, values_of, None}
+use Rattle.segment_manager.proofs.Safely.{Answered, answered, done-so}
+use Rattle.segment_manager.proofs.Replies.{element-kind, set-effect, missing-steps}
+use Rattle.segment_manager.proofs.Places.{ElementAt, element-found, element-missing, numbers-good, numbers-stand}
+use Rattle.segment_manager.proofs.Steps.{by_no_change_of_kind, by_step_of_kind, lands, open-writing, step_of_kind-found}
+use Rattle.segment_manager.proofs.{Blocks.spelling-length, Frame.IsRoomy, Frame.object-roomy, Live.IsIn}
+use Rattle.segment_manager.proofs.{ObjectLists.key-found, Rows.Has-set, Words.first, Words.second}
+use Rattle.segment_manager.proofs.{Exchanged.denotes-rewritten, Rewritten.value_start, Rewritten.with_value}
 use Rattle.std.proofs.Common.{negsuc, set}
 use Rattle.std.proofs.lemmas.List.{length-set}
 use Rattle.seg_vector.specs.declared.places.Place.{Place}
 use Rattle.segment_manager.specs.Standing.{place_at}
 use Rattle.seg_types.specs.Commands as asked
-use Rattle.segment_manager.proofs.{Blocks.spelling-length, Frame.IsRoomy, Frame.object-roomy, Live.IsIn}
-use Rattle.segment_manager.proofs.{ObjectLists.key-found, Rows.Has-set, Words.first, Words.second, Replies.element-kind}
-use Rattle.segment_manager.proofs.{Replies.set-effect, Replies.missing-steps, Exchanged.denotes-rewritten}
-use Rattle.segment_manager.proofs.{Rewritten.value_start, Rewritten.with_value}
-use Rattle.segment_manager.proofs.Places.{ElementAt, element-found, element-missing, numbers-good, numbers-stand}
-use Rattle.segment_manager.proofs.Steps.{by_no_change_of_kind, by_step_of_kind, lands, open-writing, step_of_kind-found}
 
 -- ---- the literal of a value
 
@@ -130,17 +131,20 @@ stores-nothing s key k i z r writing v a =
     (λ o zs e f. set-effect d key o k zs i (literal_of k z) z None e f (literal-read k z v)) (element-missing d key k i r (a.answers d l)))
 
 -- a spelling was written at the place: the call is the step
-pub stores-number : (old : State) (new : Cut) (key : Key) (k : ScalarKind) (i : ℕ) (p : Place) (z : ℤ) (bytes : List ℕ) → is_read_only old.mode ≡ false → is_value k z ≡ true → bytes ≡ spelling k z
-    → Answers old (λ d. place_at d key k i) (Ok p) → IsChanged current old.cut new (p.handle + p.at) (length bytes) → Has (bytes_of new.bytes) (p.handle + p.at) bytes
-    → IsStepOfKind old (record old { cut = new }) key (Scalar k) (asked.Set key i (literal_of k z)) Done
-stores-number old new key k i p z bytes writing v f a c w =
-    let c' : IsChanged current old.cut new (p.handle + p.at) (size_of k) = subst (λ n. IsChanged current old.cut new (p.handle + p.at) n) (ap (λ (bs : List ℕ). length bs) f ∙ spelling-length k z) c in
-    by_step_of_kind old (record old { cut = new }) key (Scalar k) (asked.Set key i (literal_of k z)) Done (record { mode = refl; place = c.place })
+pub stores-number : (s t : State) (view : s ≡ t) (b : IsSegment s.cut.bytes) (new : Cut) (key : Key) (k : ScalarKind) (i : ℕ) (p : Place) (z : ℤ) (bytes : List ℕ) → is_read_only t.mode ≡ false → is_value k z ≡ true
+    → bytes ≡ spelling k z → Answers t (λ d. place_at d key k i) (Ok p) → IsChanged current s.cut new (p.handle + p.at) (length bytes) → Has (bytes_of new.bytes) (p.handle + p.at) bytes
+    → Answered done_answer s t new key (Scalar k) (asked.Set key i (literal_of k z)) (Ok tt)
+stores-number s t view b new key k i p z bytes may v f there c w =
+    let writing : is_read_only s.mode ≡ false = subst (λ (u : State). is_read_only u.mode ≡ false) (sym view) may in
+    let a : Answers s (λ d. place_at d key k i) (Ok p) = subst (λ (u : State). Answers u (λ d. place_at d key k i) (Ok p)) (sym view) there in
+    let c' : IsChanged current s.cut new (p.handle + p.at) (size_of k) = subst (λ n. IsChanged current s.cut new (p.handle + p.at) n) (ap (λ (bs : List ℕ). length bs) f ∙ spelling-length k z) c in
+    answered s t view b new key (Scalar k) (asked.Set key i (literal_of k z)) (Ok tt)
+    (done-so (by_step_of_kind s (record s { cut = new }) key (Scalar k) (asked.Set key i (literal_of k z)) Done (record { mode = refl; place = c.place })
     (λ d l.
-    let e : ElementAt old.cut.bytes d key k i p = element-found old.cut.bytes d key k i p l.denotes (a.answers d l) in
+    let e : ElementAt s.cut.bytes d key k i p = element-found s.cut.bytes d key k i p l.denotes (a.answers d l) in
     let o' : Object = with_value e.object (Numbers k (set e.numbers i z)) in
-    lands (record old { cut = new }) (step_of_kind old.mode d key (Scalar k) (asked.Set key i (literal_of k z))) Done (with_changed d o')
+    lands (record s { cut = new }) (step_of_kind s.mode d key (Scalar k) (asked.Set key i (literal_of k z))) Done (with_changed d o')
     (record {
-      is = stored old.mode old.cut.bytes d key k i p (literal_of k z) z e writing (literal-read k z v);
-      denotes = denotes-number old.cut new d key k i p e z l.denotes v c' (subst (Has (bytes_of new.bytes) (p.handle + p.at)) f w);
-    }))
+      is = stored s.mode s.cut.bytes d key k i p (literal_of k z) z e writing (literal-read k z v);
+      denotes = denotes-number s.cut new d key k i p e z l.denotes v c' (subst (Has (bytes_of new.bytes) (p.handle + p.at)) f w);
+    }))))

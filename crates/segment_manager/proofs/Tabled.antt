@@ -9,16 +9,15 @@ use Rattle.segment_manager.proofs.Common.{IsReserved, IsShrunk, KeepsRest, besid
 use Rattle.segment_manager.proofs.Common.{IsIndexOf, place_of, IsIndexAt, link_at, Denotes, IsHeader, IsObjectAt}
 use Rattle.segment_manager.proofs.Common.{Directory, is_index, is_object, live, rises_from, entries_of, objects_of}
 use Rattle.segment_manager.proofs.Common.{order_of, table_of, with_table_of}
+use Rattle.segment_manager.proofs.Added.{has-one, place-high, same-objects, same-size}
+use Rattle.segment_manager.proofs.Entered.{HasOne, OfRest, has_both, of_rest, other, other-stays, other-words}
+use Rattle.segment_manager.proofs.Tables.{index-left_out, left_out, live-moved_index, live-no_index, live-resized_index}
+use Rattle.segment_manager.proofs.{AnyClass.HasIndexes, AnyClass.KeepsFront, Frame.header-same, Calling.denotes-live}
+use Rattle.segment_manager.proofs.{Frame.any_objects-same, HeldIndexes.denotes-index, Denoted.handles-length}
+use Rattle.segment_manager.proofs.{Indexes.index-from, Indexes.index-parts, Order.live-rises, Tables.live-same_index}
 use Rattle.best_fit.specs.Fit.{gap_after, room, shorter}
 use Rattle.seg_index.specs.Capacities.{with_cut}
 use Rattle.seg_index.specs.declared.index.Index.TheVariants as index
-use Rattle.segment_manager.proofs.{Added.has-one, Added.place-high, Added.same-objects, Added.same-size}
-use Rattle.segment_manager.proofs.{AnyClass.HasIndexes, AnyClass.KeepsFront, AnyClass.front-same, Calling.denotes-live}
-use Rattle.segment_manager.proofs.{Frame.any_objects-same, HeldIndexes.denotes-index, Denoted.handles-length}
-use Rattle.segment_manager.proofs.{Indexes.index-from, Indexes.index-parts, Order.live-rises}
-use Rattle.segment_manager.proofs.Entered.{HasOne, OfRest, has_both, of_rest, other, other-stays, other-words}
-use Rattle.segment_manager.proofs.Tables.{index-left_out, left_out, live-moved_index, live-no_index, live-resized_index}
-use Rattle.segment_manager.proofs.Tables.{live-same_index}
 
 -- ---- an index has another table
 
@@ -57,7 +56,7 @@ tabled-denotes i a c d t k e =
         named = both.named;
         unique = both.unique;
       };
-      header = subst (IsHeader current C) (sym (same-size i d t)) (front-same current A C d.size front k.header);
+      header = subst (IsHeader current C) (sym (same-size i d t)) (header-same current A C d.size front.front front.zeros k.header);
       heap = e.laid;
       named = both.named_at;
       unique = both.unique_at;

@@ -5,10 +5,10 @@ use Rattle.segment_manager.proofs.Common.{keeps-trans, word_at, IfSome, IsTrue, 
 use Rattle.segment_manager.proofs.Common.{IsAllocated, IsChanged, IsHeap, IsRefused, Keeps, LaysOut, is_live_in}
 use Rattle.segment_manager.proofs.Common.{live_of, Table, added, allocated-is_live, allocated-room, keeps-refl}
 use Rattle.segment_manager.proofs.Common.{laid-heap, room_block, Index, CanGrow, GivesBack, IsGrowth, grown_bytes}
-use Rattle.segment_manager.proofs.Common.{IsIndexOf, entry_count, place_of, prepared, IsRequested, IsRestored, IsUnmet}
+use Rattle.segment_manager.proofs.Common.{IsIndexOf, place_of, prepared, IsRequested, IsRestored, IsUnmet}
+use Rattle.segment_manager.proofs.{Made.requested-taken, Made.taken-growth, Made.taken-index, Order.all_of-insert}
 use Rattle.best_fit.proofs.Laws.{block_aligned, still_allocated-block}
 use Rattle.seg_index.proofs.Laws.{place_behind, place_small}
-use Rattle.segment_manager.proofs.{Made.requested-taken, Made.taken-growth, Made.taken-index, Order.all_of-insert}
 
 -- ---- a request
 
@@ -62,10 +62,6 @@ ready i a m b n h g t hs x r change =
       index = taken-index r.between b _ (place_of i) t hs (requested-taken r.between b n ObjectRole h took) (place_behind i) (place_small i) mid;
       growth = taken-growth r.between b _ (place_of i) g (requested-taken r.between b n ObjectRole h took) (place_behind i) (place_small i) can;
     }
-
--- and it has as many entries as before
-pub ready-count : (i : Index) (a b : Cut) (t : Table) (hs : List ℕ) → IsIndexOf a (place_of i) t hs → IsIndexOf b (place_of i) t hs → entry_count b (place_of i) ≡ entry_count a (place_of i)
-ready-count i a b t hs x y = y.stands.count ∙ sym x.stands.count
 
 -- the block of a request begins at a multiple of 16
 pub requested-aligned : (a b : Cut) (n h : ℕ) → IsAllocated current a b n ObjectRole h → h % 16 ≡ 0

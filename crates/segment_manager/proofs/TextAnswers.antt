@@ -7,18 +7,15 @@ use Rattle.segment_manager.proofs.Common.{slice_set, Cut, Table, Append, Assign,
 use Rattle.segment_manager.proofs.Common.{same_kind, Key, Text, U8, Refusal, NotFound, OutOfRange, WrongKind}
 use Rattle.segment_manager.proofs.Common.{AssignsText, IsSomeText, IsTextGrown, IsTextNow, capacity_for_text, Place}
 use Rattle.segment_manager.proofs.Common.{Done, Element, Refused, are_bytes, bytes_at, container_at, container_place}
-use Rattle.segment_manager.proofs.Common.{place_of_kind, Bytes, Object, Value, kind_of}
-use Rattle.segment_manager.proofs.Common.{object_at, live, Reply, perform, Answers, IsSegment, IsStepOfKind, State}
-use Rattle.segment_manager.proofs.Common.{changed, is_read_only, StepsSafely}
-use Rattle.seg_vector.specs.TextCalls.{AppendsText, GetsByte, ReadsText}
-use Rattle.seg_vector.specs.TextCalls.{SetsByte}
+use Rattle.segment_manager.proofs.Common.{place_of_kind, Bytes, Object, Value, kind_of, object_at, live, Reply, perform}
+use Rattle.segment_manager.proofs.Common.{Answers, IsSegment, IsStepOfKind, State, changed, is_read_only, Command}
+use Rattle.segment_manager.proofs.ContentPlans.{append-plan, byte-plan, set_byte-plan, text-plan}
+use Rattle.segment_manager.proofs.ItemSteps.{HoldsItems, ListedGrown, ListedNow, Listing, changes-safely, grows-safely}
+use Rattle.segment_manager.proofs.ItemSteps.{holds-items, items-stay, one-kind, so-too, some-items}
+use Rattle.segment_manager.proofs.{Common.StepsSafely, Common.done_answer, Steps.open-reading, Safely.Answered}
+use Rattle.segment_manager.proofs.{Safely.answered, Stored.literal-read, ToChange.seen-found, Words.first, Words.second}
+use Rattle.seg_vector.specs.TextCalls.{AppendsText, GetsByte, ReadsText, SetsByte}
 use Rattle.segment_manager.specs.Contents.{text_bytes}
-use Rattle.segment_manager.proofs.{ContentPlans.append-plan, ContentPlans.byte-plan}
-use Rattle.segment_manager.proofs.{ContentPlans.set_byte-plan, ContentPlans.text-plan, Steps.open-reading}
-use Rattle.segment_manager.proofs.{Stored.literal-read, Words.first, Words.second}
-use Rattle.segment_manager.proofs.ItemSteps.{HoldsItems, ListedGrown, ListedNow, Listing, changes-safely}
-use Rattle.segment_manager.proofs.ItemSteps.{grows-safely, holds-items, items-stay, one-kind}
-use Rattle.segment_manager.proofs.ItemSteps.{so-too, some-items}
 
 -- ---- bytes
 
@@ -109,7 +106,11 @@ no-bytes-if why (Some o) e = no-text-if o why (same_kind Text (kind_of o.value))
 pub reads-nothing : (s : State) (key : Key) (why : Refusal) → Answers s (λ d. container_at d key Text) (Err why) → Answers s (λ d. bytes_at d key) (Err why)
 reads-nothing s key why a = record { answers = λ d l. no-bytes-if why (object_at d key) (a.answers d l) }
 
-module _ (s : State) (key : Key) (p : Place) (b : IsSegment s.cut.bytes) (found : Answers s (λ d. container_at d key Text) (Ok p)) where
+-- as the view before the call names the segment
+module _ {s t : State} (view : s ≡ t) (key : Key) (p : Place) (b : IsSegment s.cut.bytes) (there : Answers t (λ d. container_at d key Text) (Ok p)) where
+  found : Answers s (λ d. container_at d key Text) (Ok p)
+  found = seen-found s t view key Text p there
+
   abbrev some : HoldsItems texts s.cut.bytes b.0 key p
   some = some-items texts s key p b found
 
@@ -130,26 +131,32 @@ module _ (s : State) (key : Key) (p : Place) (b : IsSegment s.cut.bytes) (found 
       (λ d den h.
       ap (perform d (live d)) (byte-plan d key h.object h.items h.table h.is h.value i None (byte-got h.items i None (slice_get_past h.items i (a h.items h.table h.stands).outside)))))
 
-  module _ (new : Cut) (writing : is_read_only s.mode ≡ false) where
-    pub text-appended : (more : List ℕ) (r : Result (Unit {0}) Refusal) → IsTrue (are_bytes more) → AppendsText s.cut new p more r → StepsSafely s new key Text (Append key more) r
+  module _ (new : Cut) (may : is_read_only t.mode ≡ false) where
+    writing : is_read_only s.mode ≡ false
+    writing = subst (λ (u : State). is_read_only u.mode ≡ false) (sym view) may
+
+    seen : (c : Command) (r : Result (Unit {0}) Refusal) → StepsSafely s new key Text c r → Answered done_answer s t new key Text c r
+    seen c r done = answered s t view b new key Text c r done
+
+    pub text-appended : (more : List ℕ) (r : Result (Unit {0}) Refusal) → IsTrue (are_bytes more) → AppendsText s.cut new p more r → Answered done_answer s t new key Text (Append key more) r
     text-appended more r small a =
-        grows-safely texts s key p b found new writing (Append key more) (λ bs t. capacity_for_text (length (bs ++ more)) t.capacity) (λ bs. bs ++ more) r
+        seen _ r (grows-safely texts s key p b found new writing (Append key more) (λ bs t. capacity_for_text (length (bs ++ more)) t.capacity) (λ bs. bs ++ more) r
         (λ d h. append-plan d key h.object h.items h.table h.is h.value more)
-        (λ d h. so-too _ _ _ r (a h.items h.table h.stands) (λ g. bytes-grown (are_bytes-append h.items more h.values small) g))
+        (λ d h. so-too _ _ _ r (a h.items h.table h.stands) (λ g. bytes-grown (are_bytes-append h.items more h.values small) g)))
 
-    pub text-assigned : (bytes : List ℕ) (r : Result (Unit {0}) Refusal) → IsTrue (are_bytes bytes) → AssignsText s.cut new p bytes r → StepsSafely s new key Text (Assign key (Quoted bytes ∷ [])) r
+    pub text-assigned : (bytes : List ℕ) (r : Result (Unit {0}) Refusal) → IsTrue (are_bytes bytes) → AssignsText s.cut new p bytes r → Answered done_answer s t new key Text (Assign key (Quoted bytes ∷ [])) r
     text-assigned bytes r small a =
-        grows-safely texts s key p b found new writing (Assign key (Quoted bytes ∷ [])) (λ bs t. length bytes) (λ bs. bytes) r
+        seen _ r (grows-safely texts s key p b found new writing (Assign key (Quoted bytes ∷ [])) (λ bs t. length bytes) (λ bs. bytes) r
         (λ d h. text-plan d key h.object h.items h.table h.is h.value (Quoted bytes ∷ []) bytes refl)
-        (λ d h. so-too _ _ _ r (a h.items h.table h.stands) (λ g. bytes-grown small g))
+        (λ d h. so-too _ _ _ r (a h.items h.table h.stands) (λ g. bytes-grown small g)))
 
-    pub text-set : (i x : ℕ) (r : Result (Unit {0}) Refusal) → IsTrue (nat_lt x 256) → is_value U8 (pos x) ≡ true → SetsByte s.cut new p i x r → StepsSafely s new key Text (Set key i (literal_of U8 (pos x))) r
+    pub text-set : (i x : ℕ) (r : Result (Unit {0}) Refusal) → IsTrue (nat_lt x 256) → is_value U8 (pos x) ≡ true → SetsByte s.cut new p i x r → Answered done_answer s t new key Text (Set key i (literal_of U8 (pos x))) r
     text-set i x r small v a =
-        changes-safely texts s key p b found new writing (Set key i (literal_of U8 (pos x))) i (λ bs. slice_set bs i x) r
+        seen _ r (changes-safely texts s key p b found new writing (Set key i (literal_of U8 (pos x))) i (λ bs. slice_set bs i x) r
         (λ d h within.
         set_byte-plan d key h.object h.items h.table h.is h.value i (literal_of U8 (pos x)) (pos x) (Some (pos (get_or h.items i 0))) (literal-read U8 (pos x) v)
         (byte-got h.items i (Some (get_or h.items i 0)) (slice_get-get_or h.items i 0 within))
         ∙ ap (λ bs. Reply Done (changed d h.object (Bytes bs h.table))) (bytes-set h.items i x))
         (λ d h past.
         set_byte-plan d key h.object h.items h.table h.is h.value i (literal_of U8 (pos x)) (pos x) None (literal-read U8 (pos x) v) (byte-got h.items i None (slice_get_past h.items i past)))
-        (λ d h. so-too _ _ _ r (a h.items h.table h.stands) (λ q. (q.0, bytes-now (are_bytes-set h.items i x h.values small) q.1)))
+        (λ d h. so-too _ _ _ r (a h.items h.table h.stands) (λ q. (q.0, bytes-now (are_bytes-set h.items i x h.values small) q.1))))

@@ -1,36 +1,35 @@
 -- What the calls of seg_vector ensure of the texts at the place that was found, as the steps of the calls on the object's vector of texts.
-use Rattle.segment_manager.proofs.Common.{◌≡◌, refl, sym, ap, subst, ◌∙◌, ℕ, ◌+◌, ◌-◌, ◌<◌, ◌≤◌, ◌⊎◌, inl, inr, Bool}
-use Rattle.segment_manager.proofs.Common.{true, false, ◌==◌, Option, Some, None, Result, Ok, Err, List, [], ◌∷◌, ◌++◌}
-use Rattle.segment_manager.proofs.Common.{length, map, append-nil, get_or, arith, if◌then◌else◌, IsTrue, insert}
-use Rattle.segment_manager.proofs.Common.{option_map, option_to_list, remove, slice_get, slice_set, AllByRecursion}
-use Rattle.segment_manager.proofs.Common.{list_all, false≢true, le-ltb, lt-ltb, same_Some, slice_get-get_or}
-use Rattle.segment_manager.proofs.Common.{slice_get_past, Bor, current, Cut, Storage, Extent, LiveSet, place, live_of}
-use Rattle.segment_manager.proofs.Common.{Table, cut_table, TextsKind, Refusal, NoSpace, OutOfRange, Key, Command}
-use Rattle.segment_manager.proofs.Common.{Place, AreTextsAssigned, AssignsTexts, IsGivenUp, IsTextsNow, all_texts}
-use Rattle.segment_manager.proofs.Common.{one_more, placed_text, placed_texts, text_blocks, with_array, with_text}
-use Rattle.segment_manager.proofs.Common.{OwnedText, grown_table, IsOutside, Answer, Done, Refused, TextElement}
-use Rattle.segment_manager.proofs.Common.{is_untouched, are_bytes, container_at, Change, Clear, Reserve, Shrink, Directory}
-use Rattle.segment_manager.proofs.Common.{command_of}
-use Rattle.segment_manager.specs.Stored.{ChangesTexts}
-use Rattle.segment_manager.proofs.Common.{Texts, Plan, Reply, perform, Answers, IsSegment, IsStepOfKind, State}
-use Rattle.segment_manager.proofs.Common.{StandsFor, answer_of, refusal_in, changed, effect, is_read_only, texts_of}
-use Rattle.segment_manager.proofs.Common.{StepsSafely}
-use Rattle.best_fit.specs.Exchange.{IsRestored}
-use Rattle.seg_vector.specs.TextsCalls.{ClearsTexts, ErasesText, GetsText, InsertsText}
-use Rattle.seg_vector.specs.TextsCalls.{IsTextLeftOut, IsTextPutIn, IsTextSet, IsWithoutFit, PopsText, PushesText}
-use Rattle.seg_vector.specs.TextsCalls.{ReservesTexts, SetsText, ShrinksTexts}
-use Rattle.seg_types.specs.Commands as asked
-use Rattle.segment_manager.proofs.{Calling.denotes-live, Safely.done-so, Safely.stays}
-use Rattle.segment_manager.proofs.{Steps.open-reading, Steps.open-writing, TextsHeld.HasBytes, TextsHeld.HoldsTexts}
-use Rattle.segment_manager.proofs.{Words.first, Words.second}
+use Rattle.segment_manager.proofs.TextsHeld.{some-texts, HasBytes, HoldsTexts}
+use Rattle.segment_manager.proofs.Common.{IsSomeTexts, ◌≡◌, refl, sym, ap, subst, ◌∙◌, ℕ, ◌+◌, ◌-◌, ◌<◌, ◌≤◌, ◌⊎◌, inl}
+use Rattle.segment_manager.proofs.Common.{inr, Bool, true, false, ◌==◌, Option, Some, None, Result, Ok, Err, List, []}
+use Rattle.segment_manager.proofs.Common.{◌∷◌, ◌++◌, length, map, append-nil, get_or, arith, if◌then◌else◌, IsTrue}
+use Rattle.segment_manager.proofs.Common.{insert, option_map, option_to_list, remove, slice_get, slice_set}
+use Rattle.segment_manager.proofs.Common.{AllByRecursion, list_all, false≢true, le-ltb, lt-ltb, same_Some}
+use Rattle.segment_manager.proofs.Common.{slice_get-get_or, slice_get_past, Bor, current, Cut, Storage, Extent, LiveSet}
+use Rattle.segment_manager.proofs.Common.{place, live_of, Table, cut_table, TextsKind, Refusal, NoSpace, OutOfRange}
+use Rattle.segment_manager.proofs.Common.{Key, Command, Place, AreTextsAssigned, AssignsTexts, IsGivenUp, IsTextsNow}
+use Rattle.segment_manager.proofs.Common.{all_texts, one_more, placed_text, placed_texts, text_blocks, with_array}
+use Rattle.segment_manager.proofs.Common.{with_text, OwnedText, grown_table, IsOutside, Answer, Done, Refused}
+use Rattle.segment_manager.proofs.Common.{TextElement, is_untouched, are_bytes, container_at, Change, Clear, Reserve}
+use Rattle.segment_manager.proofs.Common.{Shrink, Directory, command_of, Texts, Plan, Reply, perform, Answers}
+use Rattle.segment_manager.proofs.Common.{IsSegment, IsStepOfKind, State, StandsFor, answer_of, refusal_in, changed}
+use Rattle.segment_manager.proofs.Common.{effect, is_read_only, texts_of, StepsSafely, done_answer}
 use Rattle.segment_manager.proofs.TextLists.{part-all, part-inserted, part-none, part-removed, part-set, removed-last}
-use Rattle.segment_manager.proofs.TextMoves.{IsTextsMove, LeadsSafely, StepsKeeping, step-leads-on, texts-lead-on}
-use Rattle.segment_manager.proofs.TextMoves.{texts-restored, texts-stay, texts-steps, texts_in}
+use Rattle.segment_manager.proofs.TextMoves.{IsTextsMove, Kept, Led, StepsKeeping, kept, led, step-leads-on}
+use Rattle.segment_manager.proofs.TextMoves.{texts-lead-on, texts-restored, texts-stay, texts-steps, texts_in}
 use Rattle.segment_manager.proofs.TextPlans.{all-met, all-unmet, all_plan, assign-none, assign-some, beside_array}
 use Rattle.segment_manager.proofs.TextPlans.{clear-texts, erase-text, got-text, insert-text, insert_in, insert_plan}
 use Rattle.segment_manager.proofs.TextPlans.{one-more-met, one-more-unmet, pop-text, push-text, reserve-texts}
 use Rattle.segment_manager.proofs.TextPlans.{room-grown, set-text, set_in, shrink-texts, text-placed, then_room}
-use Rattle.segment_manager.proofs.TextPlans.{then_text}
+use Rattle.segment_manager.proofs.Safely.{pick-outside, pick-space, Answered, answered, done-so, stays}
+use Rattle.segment_manager.proofs.{TextPlans.then_text, Calling.denotes-live, ToChange.seen-found, Steps.open-reading}
+use Rattle.segment_manager.proofs.{Steps.open-writing, Words.first, Words.second}
+use Rattle.segment_manager.specs.Stored.{ChangesTexts}
+use Rattle.best_fit.specs.Exchange.{IsRestored}
+use Rattle.seg_vector.specs.TextsCalls.{ClearsTexts, ErasesText, GetsText, InsertsText, IsTextLeftOut, IsTextPutIn}
+use Rattle.seg_vector.specs.TextsCalls.{IsTextSet, IsWithoutFit, PopsText, PushesText, ReservesTexts, SetsText}
+use Rattle.seg_vector.specs.TextsCalls.{ShrinksTexts}
+use Rattle.seg_types.specs.Commands as asked
 
 -- ---- the bytes of placed texts
 
@@ -67,37 +66,31 @@ texts-bytes l [] qs h e = subst (AllByRecursion HasBytes) (same_Some [] qs e) tt
 texts-bytes l (bs ∷ bss) qs h e =
     texts_bytes-if l bs bss qs (placed_text l bs) refl (first (are_bytes bs) (list_all are_bytes bss) h) (λ m ps g. texts-bytes m bss ps (second (are_bytes bs) (list_all are_bytes bss) h) g) e
 
-quoted-if : (bs : List ℕ) (bss : List (List ℕ)) (r : Result (List (List ℕ)) Refusal) → r ≡ Ok bss → (elim r as (λ _. Result (List (List ℕ)) Refusal) [ Ok css ↦ Ok (bs ∷ css) | Err e ↦ Err e ]) ≡ Ok (bs ∷ bss)
-quoted-if bs bss r e = ap (λ (q : Result (List (List ℕ)) Refusal). elim q as (λ _. Result (List (List ℕ)) Refusal) [ Ok css ↦ Ok (bs ∷ css) | Err e ↦ Err e ]) e
-
 -- texts as literals are read as them
 pub texts-read : (bss : List (List ℕ)) → texts_of (map asked.Quoted bss) ≡ Ok bss
 texts-read [] = refl
-texts-read (bs ∷ bss) = quoted-if bs bss (texts_of (map asked.Quoted bss)) (texts-read bss)
+texts-read (bs ∷ bss) = ap (λ (q : Result (List (List ℕ)) Refusal). elim q as (λ _. Result (List (List ℕ)) Refusal) [ Ok css ↦ Ok (bs ∷ css) | Err e ↦ Err e ]) (texts-read bss)
 
 one-block : (xs : List Extent) (r : Option Extent) → xs ++ option_to_list r ≡ xs ++ (option_to_list r ++ [])
 one-block xs r = ap (λ (ys : List Extent). xs ++ ys) (sym (append-nil (option_to_list r)))
 
 -- one of two refusals
-range-not_space : OutOfRange ≡ NoSpace → ⊥
-range-not_space e = cc
-
-pick-outside : {X Y : Type 0} (e : Refusal) → (Y → e ≡ NoSpace) → e ≡ OutOfRange → X ⊎ Y → X
-pick-outside e g h (inl x) = x
-pick-outside e g h (inr y) = absurd (range-not_space (sym h ∙ g y))
-
-pick-space : {X Y : Type 0} (e : Refusal) → (X → e ≡ OutOfRange) → e ≡ NoSpace → X ⊎ Y → Y
-pick-space e f h (inl x) = absurd (range-not_space (sym (f x) ∙ h))
-pick-space e f h (inr y) = y
-
 -- ---- the calls
 
-module _ (s : State) (key : Key) (p : Place) (b : IsSegment s.cut.bytes) (found : Answers s (λ d. container_at d key TextsKind) (Ok p)) where
+-- as the view before the call names the segment
+module _ {s t : State} (view : s ≡ t) (key : Key) (p : Place) (b : IsSegment s.cut.bytes) (there : Answers t (λ d. container_at d key TextsKind) (Ok p)) where
+  found : Answers s (λ d. container_at d key TextsKind) (Ok p)
+  found = seen-found s t view key TextsKind p there
+
   abbrev holds : (d : Directory) → StandsFor s.cut.bytes d → HoldsTexts s.cut.bytes d key p
   holds d l = texts_in s key p b found d l
 
   some : HoldsTexts s.cut.bytes b.0 key p
   some = holds b.0 b.1
+
+  -- some texts stand there
+  pub texts-standing : IsSomeTexts s.cut.bytes p
+  texts-standing = some-texts s key p b found
 
   abbrev heap : LiveSet
   heap = live_of s.cut.bytes
@@ -121,7 +114,16 @@ module _ (s : State) (key : Key) (p : Place) (b : IsSegment s.cut.bytes) (found 
       (λ d l h.
       ap (perform d heap) (got-text d key h.object h.texts h.table h.is h.value i None (slice_get_past h.texts i (a h.texts h.table h.stand).outside))))
 
-  module _ (new : Cut) (writing : is_read_only s.mode ≡ false) where
+  module _ (new : Cut) (may : is_read_only t.mode ≡ false) where
+    writing : is_read_only s.mode ≡ false
+    writing = subst (λ (u : State). is_read_only u.mode ≡ false) (sym view) may
+
+    seen : (c : Command) (r : Result (Unit {0}) Refusal) → StepsSafely s new key TextsKind c r → Answered done_answer s t new key TextsKind c r
+    seen c r done = answered s t view b new key TextsKind c r done
+
+    seen-kept : (c : Command) (r : Result (Unit {0}) Refusal) → StepsKeeping s new key c r → Kept s t new key c r
+    seen-kept c r done = kept s t view b new key c r done
+
     -- ---- what becomes of the texts
 
     abbrev after : (d : Directory) → HoldsTexts s.cut.bytes d key p → List OwnedText → Table → Answer × Directory
@@ -218,13 +220,13 @@ module _ (s : State) (key : Key) (p : Place) (b : IsSegment s.cut.bytes) (found 
         ap (perform d heap) (set-text d key h.object h.texts h.table h.is h.value i bs (Some was) found)
         ∙ text-placed d heap bs (set_next d h i) ∙ ap (then_text d heap (set_next d h i)) e
 
-    pub text-set : (i : ℕ) (bs : List ℕ) (r : Result (Unit {0}) Refusal) → IsTrue (are_bytes bs) → SetsText s.cut new p i bs r → StepsSafely s new key TextsKind (asked.Set key i (asked.Quoted bs)) r
+    pub text-set : (i : ℕ) (bs : List ℕ) (r : Result (Unit {0}) Refusal) → IsTrue (are_bytes bs) → SetsText s.cut new p i bs r → Answered done_answer s t new key TextsKind (asked.Set key i (asked.Quoted bs)) r
     text-set i bs (Ok u) small a =
-        done-so (texts-steps s key p b found new (asked.Set key i (asked.Quoted bs)) Done writing
+        seen _ (Ok u) (done-so (texts-steps s key p b found new (asked.Set key i (asked.Quoted bs)) Done writing
         (λ d l h.
         let r : IsTextSet s.cut new p h.texts h.table i bs = a h.texts h.table h.stand in
-        record { texts = slice_set h.texts i r.text; table = h.table; move = other-set i bs h.texts h.table small r; outcome = set-comes d h i bs r.before (Some r.text) r.found r.placed }))
-    text-set i bs (Err e) small a = not_set i bs e a (a some.texts some.table some.stand)
+        record { texts = slice_set h.texts i r.text; table = h.table; move = other-set i bs h.texts h.table small r; outcome = set-comes d h i bs r.before (Some r.text) r.found r.placed })))
+    text-set i bs (Err e) small a = seen _ (Err e) (not_set i bs e a (a some.texts some.table some.stand))
       where
         not_set : (i : ℕ) (bs : List ℕ) (e : Refusal) → SetsText s.cut new p i bs (Err e)
             → IsOutside s.cut new (length some.texts) i e ⊎ ((i < length some.texts) × IsWithoutFit s.cut new (placed_text heap bs) e)
@@ -268,26 +270,26 @@ module _ (s : State) (key : Key) (p : Place) (b : IsSegment s.cut.bytes) (found 
       put-unmet : (d : Directory) (h : HoldsTexts s.cut.bytes d key p) → one_more heap h.texts h.table bs ≡ None → IsPutting d h → perform d heap (effect d c) ≡ (Refused NoSpace, d)
       put-unmet d h none e = ap (perform d heap) e ∙ one-more-unmet d heap h.texts h.table bs (put_next d h) none
 
-    pub text-pushed : (bs : List ℕ) (r : Result (Unit {0}) Refusal) → IsTrue (are_bytes bs) → PushesText s.cut new p bs r → StepsKeeping s new key (asked.Push key (asked.Quoted bs)) r
+    pub text-pushed : (bs : List ℕ) (r : Result (Unit {0}) Refusal) → IsTrue (are_bytes bs) → PushesText s.cut new p bs r → Kept s t new key (asked.Push key (asked.Quoted bs)) r
     text-pushed bs (Ok u) small a =
-        put-steps (asked.Push key (asked.Quoted bs)) length bs small
-        (λ d h. (a h.texts h.table h.stand, push-text d key h.object h.texts h.table h.is h.value bs))
+        seen-kept _ (Ok u) (put-steps (asked.Push key (asked.Quoted bs)) length bs small
+        (λ d h. (a h.texts h.table h.stand, push-text d key h.object h.texts h.table h.is h.value bs)))
     text-pushed bs (Err e) small a =
         let o : IsGivenUp s.cut new (one_more heap some.texts some.table bs) e = a some.texts some.table some.stand in
-        given-up (asked.Push key (asked.Quoted bs)) e o.refusal o.restored
+        seen-kept _ (Err e) (given-up (asked.Push key (asked.Quoted bs)) e o.refusal o.restored
         (λ d l h.
-        put-unmet (asked.Push key (asked.Quoted bs)) length bs d h (a h.texts h.table h.stand).none (push-text d key h.object h.texts h.table h.is h.value bs))
+        put-unmet (asked.Push key (asked.Quoted bs)) length bs d h (a h.texts h.table h.stand).none (push-text d key h.object h.texts h.table h.is h.value bs)))
 
     insert-put : (d : Directory) (h : HoldsTexts s.cut.bytes d key p) (i : ℕ) (bs : List ℕ) → i ≤ length h.texts → IsPutting (asked.Insert key i (asked.Quoted bs)) (λ ps. i) bs d h
     insert-put d h i bs within = insert-text d key h.object h.texts h.table h.is h.value i bs false (le-ltb (length h.texts) i within)
 
-    pub text-inserted : (i : ℕ) (bs : List ℕ) (r : Result (Unit {0}) Refusal) → IsTrue (are_bytes bs) → InsertsText s.cut new p i bs r → StepsKeeping s new key (asked.Insert key i (asked.Quoted bs)) r
+    pub text-inserted : (i : ℕ) (bs : List ℕ) (r : Result (Unit {0}) Refusal) → IsTrue (are_bytes bs) → InsertsText s.cut new p i bs r → Kept s t new key (asked.Insert key i (asked.Quoted bs)) r
     text-inserted i bs (Ok u) small a =
-        put-steps (asked.Insert key i (asked.Quoted bs)) (λ ps. i) bs small
+        seen-kept _ (Ok u) (put-steps (asked.Insert key i (asked.Quoted bs)) (λ ps. i) bs small
         (λ d h.
         let r : (i ≤ length h.texts) × IsTextPutIn s.cut new p h.texts h.table i bs = a h.texts h.table h.stand in
-        (r.1, insert-put d h i bs r.0))
-    text-inserted i bs (Err e) small a = not_inserted i bs e a (a some.texts some.table some.stand)
+        (r.1, insert-put d h i bs r.0)))
+    text-inserted i bs (Err e) small a = seen-kept _ (Err e) (not_inserted i bs e a (a some.texts some.table some.stand))
       where
         not_inserted : (i : ℕ) (bs : List ℕ) (e : Refusal) → InsertsText s.cut new p i bs (Err e)
             → IsOutside s.cut new (length some.texts + 1) i e ⊎ ((i ≤ length some.texts) × IsGivenUp s.cut new (one_more heap some.texts some.table bs) e)
@@ -308,9 +310,9 @@ module _ (s : State) (key : Key) (p : Place) (b : IsSegment s.cut.bytes) (found 
 
     -- ---- one less
 
-    pub text-erased : (i : ℕ) (r : Result (Unit {0}) Refusal) → ErasesText s.cut new p i r → StepsSafely s new key TextsKind (asked.Erase key i) r
+    pub text-erased : (i : ℕ) (r : Result (Unit {0}) Refusal) → ErasesText s.cut new p i r → Answered done_answer s t new key TextsKind (asked.Erase key i) r
     text-erased i (Ok u) a =
-        done-so (texts-steps s key p b found new (asked.Erase key i) Done writing
+        seen _ (Ok u) (done-so (texts-steps s key p b found new (asked.Erase key i) Done writing
         (λ d l h.
         let r : IsTextLeftOut s.cut new p h.texts h.table i = a h.texts h.table h.stand in
         record {
@@ -318,12 +320,12 @@ module _ (s : State) (key : Key) (p : Place) (b : IsSegment s.cut.bytes) (found 
           table = h.table;
           move = left-out i h.texts h.table r;
           outcome = ap (perform d heap) (erase-text d key h.object h.texts h.table h.is h.value i (Some r.before) r.found);
-        }))
+        })))
     text-erased i (Err e) a =
         let o : IsOutside s.cut new (length some.texts) i e = a some.texts some.table some.stand in
-        turned-down (asked.Erase key i) e OutOfRange o.refusal o.same
+        seen _ (Err e) (turned-down (asked.Erase key i) e OutOfRange o.refusal o.same
         (λ d l h.
-        ap (perform d heap) (erase-text d key h.object h.texts h.table h.is h.value i None (slice_get_past h.texts i (a h.texts h.table h.stand).outside)))
+        ap (perform d heap) (erase-text d key h.object h.texts h.table h.is h.value i None (slice_get_past h.texts i (a h.texts h.table h.stand).outside))))
 
     pop-outcome : (d : Directory) (l : StandsFor s.cut.bytes d) → (r : IsTextLeftOut s.cut new p (holds d l).texts (holds d l).table (length (holds d l).texts - 1))
         → perform d heap (effect d (asked.Pop key))
@@ -333,22 +335,20 @@ module _ (s : State) (key : Key) (p : Place) (b : IsSegment s.cut.bytes) (found 
         ap (perform d heap) (pop-text d key h.object h.texts h.table h.is h.value (Some r.before) r.found)
         ∙ ap (λ (qs : List OwnedText). (TextElement r.before.bytes, changed d h.object (Texts qs h.table))) (sym (removed-last h.texts))
 
-    pub text-popped : (r : Result (Unit {0}) Refusal) → PopsText s.cut new p r → LeadsSafely s new key (asked.Pop key) r (refusal_in r)
+    pub text-popped : (r : Result (Unit {0}) Refusal) → PopsText s.cut new p r → Led s t new key (asked.Pop key) r (refusal_in r)
     text-popped (Ok u) a =
         let out : (d : Directory) → (l : StandsFor s.cut.bytes d) → IsTextLeftOut s.cut new p (holds d l).texts (holds d l).table (length (holds d l).texts - 1) =
         λ d l. a (holds d l).texts (holds d l).table (holds d l).stand in
+        led s t view b new key (asked.Pop key) (Ok u) None
+        (texts-lead-on s key p b found new (asked.Pop key) (λ d l. TextElement (out d l).before.bytes) writing (λ d l. refl)
+        (λ d l.
+        let h : HoldsTexts s.cut.bytes d key p = holds d l in
         record {
-          step = texts-lead-on s key p b found new (asked.Pop key) (λ d l. TextElement (out d l).before.bytes) writing (λ d l. refl)
-              (λ d l.
-              let h : HoldsTexts s.cut.bytes d key p = holds d l in
-              record {
-                texts = remove h.texts (length h.texts - 1);
-                table = h.table;
-                move = left-out (length h.texts - 1) h.texts h.table (out d l);
-                outcome = pop-outcome d l (out d l);
-              });
-          refused = tt;
-        }
+          texts = remove h.texts (length h.texts - 1);
+          table = h.table;
+          move = left-out (length h.texts - 1) h.texts h.table (out d l);
+          outcome = pop-outcome d l (out d l);
+        })) tt
     text-popped (Err e) a =
         let o : IsOutside s.cut new (length some.texts) 0 e = a some.texts some.table some.stand in
         let safe : StepsSafely s new key TextsKind (asked.Pop key) (Err e) =
@@ -356,7 +356,7 @@ module _ (s : State) (key : Key) (p : Place) (b : IsSegment s.cut.bytes) (found 
         (λ d l h.
         let none : length h.texts ≤ length h.texts - 1 = let f = (a h.texts h.table h.stand).outside in omega arith in
         ap (perform d heap) (pop-text d key h.object h.texts h.table h.is h.value None (slice_get_past h.texts (length h.texts - 1) none))) in
-        record { step = step-leads-on s (record s { cut = new }) key (asked.Pop key) (Refused e) safe.step; refused = o.same }
+        led s t view b new key (asked.Pop key) (Err e) (Some e) (step-leads-on s (record s { cut = new }) key (asked.Pop key) (Refused e) safe.step) o.same
 
     -- ---- none, and others in the place of all
 
@@ -383,14 +383,14 @@ module _ (s : State) (key : Key) (p : Place) (b : IsSegment s.cut.bytes) (found 
         → effect d (asked.Assign key (map asked.Quoted (bs ∷ bss))) ≡ all_plan d heap (bs ∷ bss) (assign_next d h)
     assign-plan d h bs bss = assign-some d key h.object h.texts h.table h.is h.value (asked.Quoted bs) (map asked.Quoted bss) (bs ∷ bss) (texts-read (bs ∷ bss))
 
-    pub texts-assigned : (bss : List (List ℕ)) (r : Result (Unit {0}) Refusal) → IsTrue (list_all are_bytes bss) → AssignsTexts s.cut new p bss r → StepsKeeping s new key (asked.Assign key (map asked.Quoted bss)) r
+    pub texts-assigned : (bss : List (List ℕ)) (r : Result (Unit {0}) Refusal) → IsTrue (list_all are_bytes bss) → AssignsTexts s.cut new p bss r → Kept s t new key (asked.Assign key (map asked.Quoted bss)) r
     texts-assigned [] r small a =
         let done : StepsKeeping s new key (asked.Assign key []) (Ok tt) = record {
           step = cleared (asked.Assign key []) a.1 (λ d h. assign-none d key h.object h.texts h.table h.is h.value);
           refused = tt;
         } in
-        subst (StepsKeeping s new key (asked.Assign key [])) (sym a.0) done
-    texts-assigned (bs ∷ bss) (Ok u) small a = record {
+        seen-kept _ r (subst (StepsKeeping s new key (asked.Assign key [])) (sym a.0) done)
+    texts-assigned (bs ∷ bss) (Ok u) small a = seen-kept _ (Ok u) (record {
       step = texts-steps s key p b found new (asked.Assign key (map asked.Quoted (bs ∷ bss))) Done writing
           (λ d l h.
           let r : AreTextsAssigned s.cut new p h.texts h.table (bs ∷ bss) = a h.texts h.table h.stand in
@@ -402,12 +402,12 @@ module _ (s : State) (key : Key) (p : Place) (b : IsSegment s.cut.bytes) (found 
             outcome = ap (perform d heap) (assign-plan d h bs bss) ∙ all-met d heap (bs ∷ bss) (assign_next d h) r.table r.texts r.array r.placed;
           });
       refused = tt;
-    }
+    })
     texts-assigned (bs ∷ bss) (Err e) small a =
         let o : IsGivenUp s.cut new (all_texts heap (bs ∷ bss)) e = a some.texts some.table some.stand in
-        given-up (asked.Assign key (map asked.Quoted (bs ∷ bss))) e o.refusal o.restored
+        seen-kept _ (Err e) (given-up (asked.Assign key (map asked.Quoted (bs ∷ bss))) e o.refusal o.restored
         (λ d l h.
-        ap (perform d heap) (assign-plan d h bs bss) ∙ all-unmet d heap (bs ∷ bss) (assign_next d h) (a h.texts h.table h.stand).none)
+        ap (perform d heap) (assign-plan d h bs bss) ∙ all-unmet d heap (bs ∷ bss) (assign_next d h) (a h.texts h.table h.stand).none))
 
     -- ---- places
 

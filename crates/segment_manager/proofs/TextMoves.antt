@@ -1,18 +1,18 @@
 -- A call on a vector of texts is one step: what the calls of seg_vector ensure of the texts at its place comes to the directory.
-use Rattle.segment_manager.proofs.Common.{◌≡◌, refl, sym, ap, subst, ◌∙◌, true, false, Option, None, Result, Ok, Err}
-use Rattle.segment_manager.proofs.Common.{List, ◌++◌, IfErr, OnErr, option_to_list, AllByRecursion, current, Cut}
-use Rattle.segment_manager.proofs.Common.{Extent, Table, Kind, TextsKind, Refusal, same_kind, Key, Command, Place}
-use Rattle.segment_manager.proofs.Common.{IsTextsNow, text_blocks, OwnedText, Answer, Refused, is_untouched, refusal_of}
-use Rattle.segment_manager.proofs.Common.{kind_at, container_at, Value, Texts, Directory, kind_of, perform, Answers}
-use Rattle.segment_manager.proofs.Common.{IsSegment, IsStepOfKind, LeadsOn, State, StandsFor, done_answer, changed}
-use Rattle.segment_manager.proofs.Common.{effect, is_read_only, step_of_kind, LeadsOnOfKind, LiveSet, live_of}
-use Rattle.best_fit.specs.Exchange.{IsRestored}
-use Rattle.segment_manager.proofs.{Calling.denotes-live, AnyStorage.kind-told, AnyStorage.of_kind-same}
-use Rattle.segment_manager.proofs.{Constructed.restored-denotes, Safely.seen-refused, TextBlocks.IsPartOther}
-use Rattle.segment_manager.proofs.{TextsHeld.HasBytes, TextsHeld.HoldsTexts, TextsHeld.holds-texts}
-use Rattle.segment_manager.proofs.{TextsHeld.texts-changed}
+use Rattle.segment_manager.proofs.Common.{◌≡◌, refl, sym, ap, subst, ◌∙◌, true, false, Option, None, Result, Ok, List}
+use Rattle.segment_manager.proofs.Common.{◌++◌, IfErr, OnErr, option_to_list, AllByRecursion, current, Cut, Extent}
+use Rattle.segment_manager.proofs.Common.{Table, Kind, TextsKind, Refusal, same_kind, Key, Command, Place, IsTextsNow}
+use Rattle.segment_manager.proofs.Common.{text_blocks, OwnedText, Answer, Refused, is_untouched, refusal_of, kind_at}
+use Rattle.segment_manager.proofs.Common.{container_at, Value, Texts, Directory, kind_of, perform, Answers, IsSegment}
+use Rattle.segment_manager.proofs.Common.{IsStepOfKind, LeadsOn, State, StandsFor, done_answer, changed, effect}
+use Rattle.segment_manager.proofs.Common.{is_read_only, step_of_kind, LeadsOnOfKind, LiveSet, live_of}
+use Rattle.segment_manager.proofs.TextsHeld.{HasBytes, HoldsTexts, holds-texts, texts-changed}
 use Rattle.segment_manager.proofs.Steps.{IsMove, IsOpenFor, by_no_change_of_kind, by_step_of_kind, open-writing}
 use Rattle.segment_manager.proofs.Steps.{step_of_kind-found, step_of_kind-segment}
+use Rattle.segment_manager.proofs.{Calling.denotes-live, AnyStorage.kind-told, AnyStorage.of_kind-same}
+use Rattle.segment_manager.proofs.{Constructed.restored-denotes, Safely.seen-refused, TextBlocks.IsPartOther}
+use Rattle.std.proofs.lemmas.Result.{IfErr-weaker}
+use Rattle.best_fit.specs.Exchange.{IsRestored}
 
 -- ---- one directory
 
@@ -107,36 +107,35 @@ pub record StepsKeeping (s : State) (new : Cut) (key : Key) (c : Command) (r : R
   pub step : IsStepOfKind s (record s { cut = new }) key TextsKind c (done_answer r)
   pub refused : IfErr r (λ why. is_untouched (Refused why) ≡ true → new ≡ s.cut)
 
-module _ (s t : State) (view : s ≡ t) (new : Cut) (key : Key) (c : Command) (r : Result (Unit {0}) Refusal) (done : StepsKeeping s new key c r) where
-  pub kept-step : IsStepOfKind t (record s { cut = new }) key TextsKind c (done_answer r)
-  kept-step = subst (λ (u : State). IsStepOfKind u (record s { cut = new }) key TextsKind c (done_answer r)) view done.step
+-- as the view before the call names the segment
+pub record Kept (s t : State) (new : Cut) (key : Key) (c : Command) (r : Result (Unit {0}) Refusal) : Type 0 where
+  pub step : IsStepOfKind t (record s { cut = new }) key TextsKind c (done_answer r)
+  pub refused : IfErr r (λ why. is_untouched (Refused why) ≡ true → (record s { cut = new }) ≡ t)
+  pub segment : IsSegment new.bytes
 
-  pub kept-refused : IfErr r (λ why. is_untouched (Refused why) ≡ true → (record s { cut = new }) ≡ t)
-  kept-refused = kept r done.refused
-    where
-      kept : (q : Result (Unit {0}) Refusal) → IfErr q (λ why. is_untouched (Refused why) ≡ true → new ≡ s.cut) → IfErr q (λ why. is_untouched (Refused why) ≡ true → (record s { cut = new }) ≡ t)
-      kept (Ok u) e = tt
-      kept (Err w) e = λ h. (λ i. record s { cut = e h i }) ∙ view
-
-  pub kept-segment : IsSegment s.cut.bytes → IsSegment new.bytes
-  kept-segment b = step_of_kind-segment s (record s { cut = new }) key TextsKind c (done_answer r) done.step b
+pub kept : (s t : State) (view : s ≡ t) (b : IsSegment s.cut.bytes) (new : Cut) (key : Key) (c : Command) (r : Result (Unit {0}) Refusal) → StepsKeeping s new key c r → Kept s t new key c r
+kept s t view b new key c r done = record {
+  step = subst (λ (u : State). IsStepOfKind u (record s { cut = new }) key TextsKind c (done_answer r)) view done.step;
+  refused = IfErr-weaker r (λ why. is_untouched (Refused why) ≡ true → new ≡ s.cut) (λ why. is_untouched (Refused why) ≡ true → (record s { cut = new }) ≡ t)
+      (λ why same h. (λ i. record s { cut = same h i }) ∙ view) done.refused;
+  segment = step_of_kind-segment s (record s { cut = new }) key TextsKind c (done_answer r) done.step b;
+}
 
 -- ---- a call that answers nothing
 
--- it leads on, and changes nothing where it is refused
-pub record LeadsSafely (s : State) (new : Cut) (key : Key) (c : Command) (r : Result (Unit {0}) Refusal) (why : Option Refusal) : Type 0 where
-  pub step : LeadsOnOfKind s (record s { cut = new }) key TextsKind c why
-  pub refused : OnErr r (new ≡ s.cut)
+-- it leads on, changes nothing where it is refused, and leaves a segment
+pub record Led (s t : State) (new : Cut) (key : Key) (c : Command) (r : Result (Unit {0}) Refusal) (why : Option Refusal) : Type 0 where
+  pub step : LeadsOnOfKind t (record s { cut = new }) key TextsKind c why
+  pub refused : OnErr r ((record s { cut = new }) ≡ t)
+  pub segment : IsSegment new.bytes
 
-module _ (s t : State) (view : s ≡ t) (new : Cut) (key : Key) (c : Command) (r : Result (Unit {0}) Refusal) (why : Option Refusal) (done : LeadsSafely s new key c r why) where
-  pub led-step : LeadsOnOfKind t (record s { cut = new }) key TextsKind c why
-  led-step = subst (λ (u : State). LeadsOnOfKind u (record s { cut = new }) key TextsKind c why) view done.step
-
-  pub led-refused : OnErr r ((record s { cut = new }) ≡ t)
-  led-refused = seen-refused s t view new r done.refused
-
-  pub led-segment : IsSegment s.cut.bytes → IsSegment new.bytes
-  led-segment b = ((step_of_kind s.mode b.0 key TextsKind c).1, done.step.denotes b.0 b.1)
+pub led : (s t : State) (view : s ≡ t) (b : IsSegment s.cut.bytes) (new : Cut) (key : Key) (c : Command) (r : Result (Unit {0}) Refusal) (why : Option Refusal)
+    → LeadsOnOfKind s (record s { cut = new }) key TextsKind c why → OnErr r (new ≡ s.cut) → Led s t new key c r why
+led s t view b new key c r why step same = record {
+  step = subst (λ (u : State). LeadsOnOfKind u (record s { cut = new }) key TextsKind c why) view step;
+  refused = seen-refused s t view new r same;
+  segment = ((step_of_kind s.mode b.0 key TextsKind c).1, step.denotes b.0 b.1);
+}
 
 -- what is a step leads on, refused for the reason that it answers
 pub step-leads-on : (old new : State) (key : Key) (c : Command) (answer : Answer) → IsStepOfKind old new key TextsKind c answer → LeadsOnOfKind old new key TextsKind c (refusal_of answer)

@@ -10,20 +10,18 @@ use Rattle.segment_manager.proofs.Common.{IsSomeTexts, IsTextsNow, text_blocks, 
 use Rattle.segment_manager.proofs.Common.{container_place, Denotes, IsValueAt, Value, Texts, Object, Directory}
 use Rattle.segment_manager.proofs.Common.{count_of, extents_of, has_own_block, is_good_value, is_object, is_owned_text}
 use Rattle.segment_manager.proofs.Common.{kind_of, live, object_at, padded, value_len, StandsAt, Answers, IsSegment}
-use Rattle.segment_manager.proofs.Common.{State, changed}
-use Rattle.best_fit.proofs.Laws.{all-found-in}
-use Rattle.std.proofs.lemmas.List.{nil_from_length}
-use Rattle.seg_vector.specs.TextsCalls.{IsHeldText, IsTexts}
-use Rattle.seg_vector.specs.Vector.{IsTextsAt}
-use Rattle.segment_manager.proofs.{Calling.denotes-heap, Calling.denotes-live, Contained.good-with}
-use Rattle.segment_manager.proofs.{Contained.start-place, Exchanged.denotes-container, Frame.object-roomy}
-use Rattle.segment_manager.proofs.{Here.standing, Live.IsIn, Live.live-split, ObjectLists.key-found, Refilled.HoldsAt}
-use Rattle.segment_manager.proofs.{Refilled.holds-at, Regrown.rest, Regrown.with_extents, Rewritten.value_start}
-use Rattle.segment_manager.proofs.{Rewritten.with_value, Standings.standing-room, ItemSteps.one-kind, Order.Rising}
-use Rattle.segment_manager.proofs.{Order.inserted, Order.live-rises, TextBlocks.IsPartOther, TextBlocks.others-apart}
-use Rattle.segment_manager.proofs.{TextBlocks.part-exchange}
 use Rattle.segment_manager.proofs.Words.{AllByRecursion-append, AllByRecursion-behind, AllByRecursion-front, first}
 use Rattle.segment_manager.proofs.Words.{no_more, second}
+use Rattle.segment_manager.proofs.{Common.State, Common.changed, Calling.denotes-heap, Calling.denotes-live}
+use Rattle.segment_manager.proofs.{Contained.good-with, Contained.start-place, Exchanged.denotes-container}
+use Rattle.segment_manager.proofs.{Frame.object-roomy, Here.standing, Live.IsIn, Live.live-split, ObjectLists.key-found}
+use Rattle.segment_manager.proofs.{Refilled.HoldsAt, Refilled.holds-at, Regrown.rest, Regrown.with_extents}
+use Rattle.segment_manager.proofs.{Rewritten.value_start, Rewritten.with_value, Standings.standing-room}
+use Rattle.segment_manager.proofs.{ItemSteps.one-kind, Order.Rising, Order.inserted, Order.live-rises}
+use Rattle.segment_manager.proofs.{TextBlocks.IsPartOther, TextBlocks.others-apart, TextBlocks.part-exchange}
+use Rattle.best_fit.proofs.Laws.{all-found-in}
+use Rattle.std.proofs.lemmas.List.{nil_from_length}
+use Rattle.seg_vector.specs.{TextsCalls.IsHeldText, TextsCalls.IsTexts, Vector.IsTextsAt}
 
 -- ---- texts
 

@@ -1,58 +1,29 @@
 -- What the calls of seg_vector ensure of the vector at the place that was found, as the steps of the calls on the object's vector.
+use Rattle.segment_manager.proofs.Safely.{pick-outside, pick-space, Answered, answered, done-so}
 use Rattle.segment_manager.proofs.Common.{◌++◌, ◌+◌, ◌-◌, ◌<◌, Bool, Err, IsTrue, List, None, Ok, Result, Some, [], ap}
 use Rattle.segment_manager.proofs.Common.{arith, false, get_or, inl, inr, length, map, pos, refl, slice_get, subst, sym}
 use Rattle.segment_manager.proofs.Common.{take, true, ℕ, ℤ, ◌∙◌, ◌∷◌, ◌≡◌, ◌≤◌, ◌⊎◌, le-ltb, lt-ltb, length-map}
 use Rattle.segment_manager.proofs.Common.{map-append, take-map, slice_get-get_or, slice_get-map, slice_get_past}
-use Rattle.segment_manager.proofs.Common.{list_all, flat_map, insert, option_map, remove, slice_set, Cut, Table, Pop}
+use Rattle.segment_manager.proofs.Common.{list_all, flat_map, insert, option_map, remove, slice_set, Cut, Table}
 use Rattle.segment_manager.proofs.Common.{literal_of, value_of_literal, same_kind, size_of, Key, Vector, ScalarKind}
 use Rattle.segment_manager.proofs.Common.{Refusal, NoSpace, OutOfRange, capacity_for_one, Assigns, IsOutside}
 use Rattle.segment_manager.proofs.Common.{IsSomeVector, IsVectorGrown, IsVectorNow, IsWithoutSpace, Place, Done}
-use Rattle.segment_manager.proofs.Common.{Element, Refused, container_at, Directory, Elements, Value}
-use Rattle.segment_manager.proofs.Common.{is_good_value, kind_of, live, Reply, perform, with_capacity, Answers}
-use Rattle.segment_manager.proofs.Common.{IsSegment, IsStepOfKind, State, answer_of, changed, effect, is_read_only}
-use Rattle.segment_manager.proofs.Common.{AnswersSafely, StepsSafely}
-use Rattle.seg_vector.specs.VectorCalls.{ErasesFrom, Gets, InsertsInto, IsVector, Pops}
-use Rattle.seg_vector.specs.VectorCalls.{Pushes, Sets}
-use Rattle.seg_types.specs.Commands as asked
-use Rattle.segment_manager.proofs.{Contained.contents-fit, Safely.done-so, Steps.open-reading, Steps.open-writing}
-use Rattle.segment_manager.proofs.{Stored.literal-read, Stored.literals-read}
+use Rattle.segment_manager.proofs.Common.{Element, Refused, container_at, Directory, Elements, Value, is_good_value}
+use Rattle.segment_manager.proofs.Common.{kind_of, live, Reply, perform, with_capacity, Answers, IsSegment}
+use Rattle.segment_manager.proofs.Common.{IsStepOfKind, State, answer_of, changed, effect, is_read_only, AnswersSafely}
+use Rattle.segment_manager.proofs.Common.{Answer, Command, StepsSafely, done_answer}
 use Rattle.segment_manager.proofs.ContentPlans.{assign-plan, erase-plan, get-plan, insert-plan, pop-plan, push-plan}
-use Rattle.segment_manager.proofs.ContentPlans.{set-plan}
-use Rattle.segment_manager.proofs.ItemSteps.{HoldsItems, ListedGrown, ListedNow, Listing, changes-safely}
-use Rattle.segment_manager.proofs.ItemSteps.{grows-safely, items-full, items-grown, items-now}
-use Rattle.segment_manager.proofs.ItemSteps.{items-refused, items-stay, items-steps}
+use Rattle.segment_manager.proofs.ItemSteps.{HoldsItems, ListedGrown, ListedNow, Listing, changes-safely, grows-safely}
+use Rattle.segment_manager.proofs.ItemSteps.{items-full, items-grown, items-now, items-refused, items-stay, items-steps}
 use Rattle.segment_manager.proofs.ItemSteps.{so-too, some-items, vector-only}
 use Rattle.segment_manager.proofs.Whole.{IsOfKind, whole-insert, whole-reached, whole-remove, whole-set, whole-spelled}
 use Rattle.segment_manager.proofs.Whole.{whole-values}
+use Rattle.segment_manager.proofs.{ContentPlans.set-plan, Contained.contents-fit, ToChange.seen-found}
+use Rattle.segment_manager.proofs.{Steps.open-reading, Steps.open-writing, Stored.literal-read, Stored.literals-read}
+use Rattle.seg_vector.specs.VectorCalls.{ErasesFrom, Gets, InsertsInto, IsVector, Pops, Pushes, Sets}
+use Rattle.seg_types.specs.Commands as asked
 
-range-not_space : OutOfRange ≡ NoSpace → ⊥
-range-not_space e = cc
-
--- the step of a call that takes an element out, and that it changes nothing where it is refused
-abbrev pub PopsSafely : {T : Type 0} → State → Cut → Key → ScalarKind → (T → ℤ) → Result T Refusal → Type 0
-PopsSafely s new key k w = AnswersSafely (answer_of (λ x. Element k (w x))) s new key (Vector k) (Pop key)
-
--- the place that was found, as the type and the vector name it
-pub found-at : (s : State) (key : Key) (l k : ScalarKind) (q p : Place) → l ≡ k → p ≡ q → Answers s (λ d. container_at d key (Vector l)) (Ok q) → Answers s (λ d. container_at d key (Vector k)) (Ok p)
-found-at s key l k q p e f a =
-    subst (λ (r : Place). Answers s (λ d. container_at d key (Vector k)) (Ok r)) (sym f) (subst (λ (m : ScalarKind). Answers s (λ d. container_at d key (Vector m)) (Ok q)) e a)
-
--- in the segment, as its view is named
-pub seen-at : (s t : State) (view : s ≡ t) (key : Key) (l k : ScalarKind) (q p : Place) → l ≡ k → p ≡ q → Answers t (λ d. container_at d key (Vector l)) (Ok q)
-    → Answers s (λ d. container_at d key (Vector k)) (Ok p)
-seen-at s t view key l k q p e f a = found-at s key l k q p e f (subst (λ (u : State). Answers u (λ d. container_at d key (Vector l)) (Ok q)) (sym view) a)
-
--- why nothing was put in
-module _ {old new : Cut} {size : ℕ} where
-  inserted-past : (i : ℕ) (e : Refusal) (n m : ℕ) (t : Table) → e ≡ OutOfRange → IsOutside old new (n + 1) i e ⊎ ((i ≤ n) × IsWithoutSpace old new size m t e) → n < i
-  inserted-past i e n m t f (inl o) = let l = o.outside in omega arith
-  inserted-past i e n m t f (inr o) = absurd (range-not_space (sym f ∙ o.1.refusal))
-
-  inserted-full : (i : ℕ) (e : Refusal) (n m : ℕ) (t : Table) → e ≡ NoSpace → IsOutside old new (n + 1) i e ⊎ ((i ≤ n) × IsWithoutSpace old new size m t e) → (i ≤ n) × IsWithoutSpace old new size m t e
-  inserted-full i e n m t f (inl o) = absurd (range-not_space (sym o.refusal ∙ f))
-  inserted-full i e n m t f (inr o) = o
-
-module _ {T : Type 0} (k : ScalarKind) (w : T → ℤ) (size : ℕ) (test : T → Bool) (sp : T → List ℕ) (law : IsOfKind k w size test sp) where
+module _ {T : Type 0} {k : ScalarKind} {w : T → ℤ} {size : ℕ} {test : T → Bool} {sp : T → List ℕ} (law : IsOfKind k w size test sp) where
   -- ---- vectors of the values
 
   pub typed-only : (v : Value) → same_kind (Vector k) (kind_of v) ≡ true → IsTrue (is_good_value v) → (xs : List T) × ((t : Table) × (v ≡ Elements k (map w xs) t))
@@ -81,7 +52,14 @@ module _ {T : Type 0} (k : ScalarKind) (w : T → ℤ) (size : ℕ) (test : T �
   grown-so : {old new : Cut} {p : Place} {t : Table} {n : ℕ} {ys : List T} → IsVectorGrown size test sp old new p t n ys → ListedGrown typed old new p t n ys
   grown-so r = record { table = r.table; grown = r.grown; now = now-so r.now }
 
-  module _ (s : State) (key : Key) (p : Place) (b : IsSegment s.cut.bytes) (found : Answers s (λ d. container_at d key (Vector k)) (Ok p)) where
+  -- the place that was found, as the view before the call, the type and the vector name it
+  module _ {s t : State} (view : s ≡ t) (key : Key) {l : ScalarKind} {q p : Place} (kinds : l ≡ k) (places : p ≡ q) (b : IsSegment s.cut.bytes)
+      (there : Answers t (λ d. container_at d key (Vector l)) (Ok q)) where
+    found : Answers s (λ d. container_at d key (Vector k)) (Ok p)
+    found =
+        subst (λ (r : Place). Answers s (λ d. container_at d key (Vector k)) (Ok r)) (sym places)
+        (subst (λ (m : ScalarKind). Answers s (λ d. container_at d key (Vector m)) (Ok q)) kinds (seen-found s t view key (Vector l) q there))
+
     abbrev Holds : Directory → Type 0
     Holds d = HoldsItems typed s.cut.bytes d key p
 
@@ -113,27 +91,34 @@ module _ {T : Type 0} (k : ScalarKind) (w : T → ℤ) (size : ℕ) (test : T �
         (items-stay typed s key p b found (asked.Get key i) (Refused OutOfRange) (open-reading s.mode (asked.Get key i) refl)
         (λ d den h. ap (perform d (live d)) (get-plan d key h.object k (map w h.items) h.table h.is h.value i None (behind h.items i (a h.items h.table (vector d h)).outside))))
 
-    module _ (new : Cut) (writing : is_read_only s.mode ≡ false) where
+    module _ (new : Cut) (may : is_read_only t.mode ≡ false) where
+      writing : is_read_only s.mode ≡ false
+      writing = subst (λ (u : State). is_read_only u.mode ≡ false) (sym view) may
+
+      -- a call, as that view has it
+      seen : {R : Type 0} {says : Result R Refusal → Answer} (c : Command) (r : Result R Refusal) → AnswersSafely says s new key (Vector k) c r → Answered says s t new key (Vector k) c r
+      seen c r done = answered s t view b new key (Vector k) c r done
+
       as-literal : (x : T) → test x ≡ true → value_of_literal k (literal_of k (w x)) ≡ Ok (w x)
       as-literal x v = literal-read k (w x) (sym (law.values x) ∙ v)
 
-      pub vector-set : (i : ℕ) (x : T) (r : Result (Unit {0}) Refusal) → test x ≡ true → Sets size test sp s.cut new p i x r → StepsSafely s new key (Vector k) (asked.Set key i (literal_of k (w x))) r
+      pub vector-set : (i : ℕ) (x : T) (r : Result (Unit {0}) Refusal) → test x ≡ true → Sets size test sp s.cut new p i x r → Answered done_answer s t new key (Vector k) (asked.Set key i (literal_of k (w x))) r
       vector-set i x r v a =
-          changes-safely typed s key p b found new writing (asked.Set key i (literal_of k (w x))) i (λ xs. slice_set xs i x) r
+          seen _ r (changes-safely typed s key p b found new writing (asked.Set key i (literal_of k (w x))) i (λ xs. slice_set xs i x) r
           (λ d h in_range.
           set-plan d key h.object k (map w h.items) h.table h.is h.value i (literal_of k (w x)) (w x) (Some (get_or (map w h.items) i (pos 0))) (as-literal x v) (within h.items i in_range)
           ∙ ap (λ zs. Reply Done (changed d h.object (Elements k zs h.table))) (sym (whole-set w h.items i x)))
           (λ d h past. set-plan d key h.object k (map w h.items) h.table h.is h.value i (literal_of k (w x)) (w x) None (as-literal x v) (behind h.items i past))
-          (λ d h. so-too _ _ _ r (a h.items h.table (vector d h)) (λ q. (q.0, now-so q.1)))
+          (λ d h. so-too _ _ _ r (a h.items h.table (vector d h)) (λ q. (q.0, now-so q.1))))
 
-      pub vector-erased : (i : ℕ) (r : Result (Unit {0}) Refusal) → ErasesFrom size test sp s.cut new p i r → StepsSafely s new key (Vector k) (asked.Erase key i) r
+      pub vector-erased : (i : ℕ) (r : Result (Unit {0}) Refusal) → ErasesFrom size test sp s.cut new p i r → Answered done_answer s t new key (Vector k) (asked.Erase key i) r
       vector-erased i r a =
-          changes-safely typed s key p b found new writing (asked.Erase key i) i (λ xs. remove xs i) r
+          seen _ r (changes-safely typed s key p b found new writing (asked.Erase key i) i (λ xs. remove xs i) r
           (λ d h in_range.
           erase-plan d key h.object k (map w h.items) h.table h.is h.value i (Some (get_or (map w h.items) i (pos 0))) (within h.items i in_range)
           ∙ ap (λ zs. Reply Done (changed d h.object (Elements k zs h.table))) (sym (whole-remove w h.items i)))
           (λ d h past. erase-plan d key h.object k (map w h.items) h.table h.is h.value i None (behind h.items i past))
-          (λ d h. so-too _ _ _ r (a h.items h.table (vector d h)) (λ q. (q.0, now-so q.1)))
+          (λ d h. so-too _ _ _ r (a h.items h.table (vector d h)) (λ q. (q.0, now-so q.1))))
 
       -- ---- one more
 
@@ -143,13 +128,13 @@ module _ {T : Type 0} (k : ScalarKind) (w : T → ℤ) (size : ℕ) (test : T �
           ≡ with_capacity size (capacity_for_one (length h.items) h.table.capacity) h.table (λ u. Reply Done (changed d h.object (Elements k (map w ys) u)))
       one-more d h zs ys e = λ i. with_capacity (sym law.long i) (capacity_for_one (length-map h.items w i) h.table.capacity) h.table (λ u. Reply Done (changed d h.object (Elements k (sym e i) u)))
 
-      pub vector-pushed : (x : T) (r : Result (Unit {0}) Refusal) → test x ≡ true → Pushes size test sp s.cut new p x r → StepsSafely s new key (Vector k) (asked.Push key (literal_of k (w x))) r
+      pub vector-pushed : (x : T) (r : Result (Unit {0}) Refusal) → test x ≡ true → Pushes size test sp s.cut new p x r → Answered done_answer s t new key (Vector k) (asked.Push key (literal_of k (w x))) r
       vector-pushed x r v a =
-          grows-safely typed s key p b found new writing (asked.Push key (literal_of k (w x))) (λ xs t. capacity_for_one (length xs) t.capacity) (λ xs. xs ++ x ∷ []) r
+          seen _ r (grows-safely typed s key p b found new writing (asked.Push key (literal_of k (w x))) (λ xs t. capacity_for_one (length xs) t.capacity) (λ xs. xs ++ x ∷ []) r
           (λ d h.
           push-plan d key h.object k (map w h.items) h.table h.is h.value (literal_of k (w x)) (Ok (w x)) (as-literal x v)
           ∙ one-more d h (map w h.items ++ w x ∷ []) (h.items ++ x ∷ []) (map-append w h.items (x ∷ [])))
-          (λ d h. so-too _ _ _ r (a h.items h.table (vector d h)) (λ q. grown-so q))
+          (λ d h. so-too _ _ _ r (a h.items h.table (vector d h)) (λ q. grown-so q)))
 
       insert-so : (i : ℕ) (x : T) → test x ≡ true → (d : Directory) (h : Holds d) → i ≤ length h.items
           → effect d (asked.Insert key i (literal_of k (w x)))
@@ -159,14 +144,14 @@ module _ {T : Type 0} (k : ScalarKind) (w : T → ℤ) (size : ℕ) (test : T �
           (le-ltb (length (map w h.items)) i (subst (λ (n : ℕ). i ≤ n) (sym (length-map h.items w)) in_range))
           ∙ one-more d h (insert (map w h.items) i (w x)) (insert h.items i x) (whole-insert w h.items i x)
 
-      pub vector-inserted : (i : ℕ) (x : T) (r : Result (Unit {0}) Refusal) → test x ≡ true → InsertsInto size test sp s.cut new p i x r → StepsSafely s new key (Vector k) (asked.Insert key i (literal_of k (w x))) r
+      pub vector-inserted : (i : ℕ) (x : T) (r : Result (Unit {0}) Refusal) → test x ≡ true → InsertsInto size test sp s.cut new p i x r → Answered done_answer s t new key (Vector k) (asked.Insert key i (literal_of k (w x))) r
       vector-inserted i x (Ok u) v a =
-          done-so (items-steps typed s key p b found new (asked.Insert key i (literal_of k (w x))) Done writing
+          seen _ (Ok u) (done-so (items-steps typed s key p b found new (asked.Insert key i (literal_of k (w x))) Done writing
           (λ d den h.
           let r = a h.items h.table (vector d h) in
           items-grown typed s.cut new d key p den h (insert h.items i x) (capacity_for_one (length h.items) h.table.capacity) (asked.Insert key i (literal_of k (w x))) Done
-          (insert-so i x v d h r.0) (grown-so r.1)))
-      vector-inserted i x (Err e) v a = not-inserted i x e v a (a some.items some.table (vector b.0 some))
+          (insert-so i x v d h r.0) (grown-so r.1))))
+      vector-inserted i x (Err e) v a = seen _ (Err e) (not-inserted i x e v a (a some.items some.table (vector b.0 some)))
         where
           not-inserted : (i : ℕ) (x : T) (e : Refusal) → test x ≡ true → InsertsInto size test sp s.cut new p i x (Err e)
               → IsOutside s.cut new (length some.items + 1) i e ⊎ ((i ≤ length some.items) × IsWithoutSpace s.cut new size (capacity_for_one (length some.items) some.table.capacity) some.table e)
@@ -174,20 +159,21 @@ module _ {T : Type 0} (k : ScalarKind) (w : T → ℤ) (size : ℕ) (test : T �
           not-inserted i x e v a (inl o) =
               items-refused typed s key p b found new writing (asked.Insert key i (literal_of k (w x))) e OutOfRange o.refusal o.same
               (λ d den h.
-              let past : length h.items < i = inserted-past i e (length h.items) (capacity_for_one (length h.items) h.table.capacity) h.table o.refusal (a h.items h.table (vector d h)) in
+              let out : IsOutside s.cut new (length h.items + 1) i e = pick-outside e (λ w. w.1.refusal) o.refusal (a h.items h.table (vector d h)) in
+              let past : length h.items < i = let f = out.outside in omega arith in
               ap (perform d (live d)) (insert-plan d key h.object k (map w h.items) h.table h.is h.value i (literal_of k (w x)) (Ok (w x)) true (as-literal x v)
               (lt-ltb (length (map w h.items)) i (subst (λ (n : ℕ). n < i) (sym (length-map h.items w)) past))))
           not-inserted i x e v a (inr o) =
               items-refused typed s key p b found new writing (asked.Insert key i (literal_of k (w x))) e NoSpace o.1.refusal o.1.same
               (λ d den h.
               let n : ℕ = capacity_for_one (length h.items) h.table.capacity in
-              let q = inserted-full i e (length h.items) n h.table o.1.refusal (a h.items h.table (vector d h)) in
+              let q : (i ≤ length h.items) × IsWithoutSpace s.cut new size n h.table e = pick-space e (λ w. w.refusal) o.1.refusal (a h.items h.table (vector d h)) in
               items-full typed s key p b found new writing (asked.Insert key i (literal_of k (w x))) n (insert h.items i x) d den h (insert-so i x v d h q.0) q.1.none)
 
       -- ---- one less
 
-      pub vector-popped : (r : Result T Refusal) → Pops size test sp s.cut new p r → PopsSafely s new key k w r
-      vector-popped (Ok x) a = record {
+      pub vector-popped : (r : Result T Refusal) → Pops size test sp s.cut new p r → Answered (answer_of (λ x. Element k (w x))) s t new key (Vector k) (asked.Pop key) r
+      vector-popped (Ok x) a = seen _ (Ok x) (record {
         step = items-steps typed s key p b found new (asked.Pop key) (Element k (w x)) writing
             (λ d den h.
             let r = a h.items h.table (vector d h) in
@@ -198,10 +184,10 @@ module _ {T : Type 0} (k : ScalarKind) (w : T → ℤ) (size : ℕ) (test : T �
             ∙ ap (λ zs. Reply (Element k (w x)) (changed d h.object (Elements k zs h.table)))
             (ap (λ (m : ℕ). take m (map w h.items)) n ∙ take-map w (length h.items - 1) h.items)) (now-so r.1));
         refused = tt;
-      }
+      })
       vector-popped (Err e) a =
           let r = a some.items some.table (vector b.0 some) in
-          record {
+          seen _ (Err e) (record {
             step = subst (λ (q : Refusal). IsStepOfKind s (record s { cut = new }) key (Vector k) (asked.Pop key) (Refused q)) (sym r.refusal)
                 (subst (λ (c : Cut). IsStepOfKind s (record s { cut = c }) key (Vector k) (asked.Pop key) (Refused OutOfRange)) (sym r.same)
                 (items-stay typed s key p b found (asked.Pop key) (Refused OutOfRange) (open-writing s.mode (asked.Pop key) writing)
@@ -211,15 +197,15 @@ module _ {T : Type 0} (k : ScalarKind) (w : T → ℤ) (size : ℕ) (test : T �
                 ap (perform d (live d)) (pop-plan d key h.object k (map w h.items) h.table h.is h.value None
                 (ap (λ (m : ℕ). slice_get (map w h.items) m) n ∙ behind h.items (length h.items - 1) (omega arith))))));
             refused = r.same;
-          }
+          })
 
       -- ---- others in the place of all
 
       pub vector-assigned : (ys : List T) (r : Result (Unit {0}) Refusal) → IsTrue (list_all test ys) → Assigns size test sp s.cut new p ys r
-          → StepsSafely s new key (Vector k) (asked.Assign key (map (literal_of k) (map w ys))) r
+          → Answered done_answer s t new key (Vector k) (asked.Assign key (map (literal_of k) (map w ys))) r
       vector-assigned ys r v a =
-          grows-safely typed s key p b found new writing (asked.Assign key (map (literal_of k) (map w ys))) (λ xs t. length ys) (λ xs. ys) r
+          seen _ r (grows-safely typed s key p b found new writing (asked.Assign key (map (literal_of k) (map w ys))) (λ xs t. length ys) (λ xs. ys) r
           (λ d h.
           assign-plan d key h.object k (map w h.items) h.table h.is h.value (map (literal_of k) (map w ys)) (map w ys) (literals-read k (map w ys) (sym (whole-values k w size test sp law ys) ∙ v))
           ∙ (λ i. with_capacity (sym law.long i) (length-map ys w i) h.table (λ u. Reply Done (changed d h.object (Elements k (map w ys) u)))))
-          (λ d h. so-too _ _ _ r (a h.items h.table (vector d h)) (λ q. grown-so q))
+          (λ d h. so-too _ _ _ r (a h.items h.table (vector d h)) (λ q. grown-so q)))

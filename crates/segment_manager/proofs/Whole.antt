@@ -1,11 +1,9 @@
 -- The values of a type as the whole numbers of its kind, and lists of them.
-use Rattle.segment_manager.proofs.Common.{◌≡◌, refl, sym, ap, ◌∙◌, ℕ, zero, suc, ℤ, Bool, true, ◌&&◌, List}
-use Rattle.segment_manager.proofs.Common.{[], ◌∷◌, ◌++◌, map, take, drop, IsTrue, flat_map, insert}
-use Rattle.segment_manager.proofs.Common.{remove, slice_set, list_all, map-append, take-map}
-use Rattle.segment_manager.proofs.Common.{ScalarKind, is_value, size_of}
-use Rattle.segment_manager.proofs.Common.{spelling, spelled}
-use Rattle.std.proofs.lemmas.List.{drop-map}
+use Rattle.segment_manager.proofs.Common.{◌≡◌, refl, sym, ap, ◌∙◌, ℕ, zero, suc, ℤ, Bool, true, ◌&&◌, List, [], ◌∷◌}
+use Rattle.segment_manager.proofs.Common.{◌++◌, map, take, drop, IsTrue, flat_map, insert, remove, slice_set, list_all}
+use Rattle.segment_manager.proofs.Common.{map-append, take-map, ScalarKind, is_value, size_of, spelling, spelled}
 use Rattle.segment_manager.proofs.Words.{first, second}
+use Rattle.std.proofs.lemmas.List.{drop-map}
 
 -- ---- lists
 

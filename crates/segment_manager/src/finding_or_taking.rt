@@ -1,8 +1,7 @@
 //! Objects found, or constructed from the items of an iterator where there are none.
 ghost use Rattle.std.specs.Prelude.{◌≡◌, true, false};
 ghost use Rattle.seg_types.specs.declared.kinds.Kind.TheVariants.{Scalar as ScalarOf};
-ghost use Rattle.segment_manager.specs.Counted.{RefusesCount, is_count};
-ghost use Rattle.segment_manager.specs.Items.{FindsOrTakes, found_as};
+ghost use Rattle.segment_manager.specs.{Counted.RefusesCount, Counted.is_count, Items.FindsOrTakes, Items.found_as};
 
 use crate::destinations::IndexDestination;
 use crate::fillings::MOST;

@@ -1,6 +1,5 @@
 //! What the values of objects have blocks for, given back.
-ghost use Rattle.segment_manager.specs.Destroyed.{Empties, HoldsObject};
-ghost use Rattle.segment_manager.specs.Maps.{HasPairs, ReleasesPairs};
+ghost use Rattle.segment_manager.specs.{Destroyed.Empties, Destroyed.HoldsObject, Maps.HasPairs, Maps.ReleasesPairs};
 
 use crate::head::read_head;
 use crate::layout::value_at;

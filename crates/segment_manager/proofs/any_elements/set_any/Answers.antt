@@ -1,9 +1,8 @@
 -- The kind of the object that was located says which call it is.
 use Rattle.segment_manager.proofs.Common.{sym, subst, Ok, ScalarKind, Kind, Scalar, Text, Vector, Set, literal_of, Key}
 use Rattle.segment_manager.proofs.Common.{ScalarValue, kind_of_scalar, value_of_scalar, kind_at, Answers, IsStepOfKind}
-use Rattle.segment_manager.proofs.Common.{done_answer}
-use Rattle.segment_manager.proofs.{AnyKind.scalar-kind, AnyKind.vector-kind, AnyStorage.of_kind-steps}
-use Rattle.segment_manager.proofs.Locating.{kind-by_key, step_of_kind-by_key}
+use Rattle.segment_manager.proofs.{Common.done_answer, AnyKind.scalar-kind, AnyKind.vector-kind}
+use Rattle.segment_manager.proofs.{AnyStorage.of_kind-steps, Locating.kind-by_key, Locating.step_of_kind-by_key}
 use Rattle.segment_manager.proofs.any_elements.set_any.Goals as goal
 
 pub returns-in-U8-clause-step : goal.returns-in-U8-clause-step

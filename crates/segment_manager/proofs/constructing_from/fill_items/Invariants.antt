@@ -1,6 +1,5 @@
 -- So many items were written, and no others were taken.
-use Rattle.segment_manager.proofs.Common.{◌+◌}
-use Rattle.segment_manager.proofs.Filling.{IsFilling}
+use Rattle.segment_manager.proofs.{Common.◌+◌, Filling.IsFilling}
 use Rattle.segment_manager.proofs.constructing_from.fill_items.Given as goal
 
 abbrev pub invariant-loop-i : goal.invariant-loop-i

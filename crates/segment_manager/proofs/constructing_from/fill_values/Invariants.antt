@@ -1,6 +1,5 @@
 -- So many values were written, and no others were taken.
-use Rattle.segment_manager.proofs.Common.{◌+◌, value_of_scalar}
-use Rattle.segment_manager.proofs.Filling.{IsFilling}
+use Rattle.segment_manager.proofs.{Common.◌+◌, Common.value_of_scalar, Filling.IsFilling}
 use Rattle.segment_manager.proofs.constructing_from.fill_values.Given as goal
 
 abbrev pub invariant-loop-i : goal.invariant-loop-i

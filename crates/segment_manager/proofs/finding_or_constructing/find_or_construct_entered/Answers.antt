@@ -1,10 +1,10 @@
 -- An object is found under the entry, or made with one, or a block is refused.
-use Rattle.segment_manager.proofs.Common.{err_from_is_err_and, ◌≡◌, sym, subst, Ok, Err, Key, Content, Write, Object}
+use Rattle.segment_manager.proofs.Common.{exit-is, ◌≡◌, sym, subst, Ok, Err, Key, Content, Write, Object}
 use Rattle.segment_manager.proofs.Common.{kind_of, Constructs, FindsOrConstructs, IsBegunFor, with_count, pair_answer}
 use Rattle.segment_manager.proofs.Common.{IsNewKeyOf, bare, StandsAt, pair_of_kind, State}
 use Rattle.seg_types.specs.Commands as asked
 use Rattle.segment_manager.proofs.FilledCalls.{begun-for, found-absent, found-all, found-built, found-not_begun}
-use Rattle.segment_manager.proofs.FilledCalls.{no-object}
+use Rattle.segment_manager.proofs.FilledCalls.{has-begun, no-object}
 use Rattle.segment_manager.proofs.{Here.has-object, HeldIndexes.denotes-keys, NewKeys.key-seeks, NewKeys.key-short}
 use Rattle.segment_manager.proofs.KeyCalls.{found-answers, place-below, segment-index}
 use Rattle.segment_manager.proofs.finding_or_constructing.find_or_construct_entered.Goals as goal
@@ -45,22 +45,13 @@ begin_at-requires-clause-short g c = key-short c.args.index c.args.entry c.requi
 pub build-requires-clause-begun : goal.build-requires-clause-begun
 build-requires-clause-begun g c =
     let key : Key = c.requires.key.0 in
-    let is = c.shape-shape.ensures in (
-      c.args.heap.now,
-      (
-        c.requires.segment,
-        (
-          key,
-          begun-for c.args.heap.now c.begin_at.new.heap key (g.F.Filling.content c.args.filling.now) c.shape-shape.result (Ok c.in_ok-begun.begun) is
-              (c.in_ok-begun.ensures key c.args.entry (subst (IsNewKeyOf c.args.index c.args.entry key c.args.name.now) (sym is.kind) c.requires.key.1) c.in-Absent.ensures.place),
-        ),
-      ),
-    )
+    has-begun c.args.heap.now c.begin_at.new.heap key (g.F.Filling.content c.args.filling.now) c.shape-shape.result c.in_ok-begun.begun
+    c.requires.segment c.shape-shape.ensures (c.in_ok-begun.ensures key c.args.entry (subst (IsNewKeyOf c.args.index c.args.entry key
+    c.args.name.now) (sym c.shape-shape.ensures.kind) c.requires.key.1) c.in-Absent.ensures.place)
 
 pub returns-in_err-begun : goal.returns-in_err-begun
 returns-in_err-begun g c =
-    let p = err_from_is_err_and c.from_residual.result c.from_residual.ensures.1 in
-    rw (p.1, p.2) (λ key n.
+    rw (exit-is c.from_residual.result _ c.from_residual.ensures.1) (λ key n.
     let content : Content = g.F.Filling.content c.args.filling.now in
     let is = c.shape-shape.ensures in
     let away = c.in-Absent.ensures.place in

@@ -1,8 +1,7 @@
 -- The key says which index has the entry.
 use Rattle.segment_manager.proofs.Common.{◌≡◌, refl, sym, subst, true, IndexKey, index_key_seen, is_text_name, kind_of}
-use Rattle.segment_manager.proofs.Common.{FindsOrConstructs, IsOfKind, bare}
+use Rattle.segment_manager.proofs.{Common.FindsOrConstructs, Common.IsOfKind, Common.bare, NewKeys.text-is_name}
 use Rattle.seg_types.specs.Names as names
-use Rattle.segment_manager.proofs.NewKeys.{text-is_name}
 use Rattle.segment_manager.proofs.finding_or_constructing.find_or_construct_in.Goals as goal
 
 pub find_or_construct_entered-requires-clause-key : goal.find_or_construct_entered-requires-clause-key

@@ -1,5 +1,5 @@
 -- The call is the step of each key that has the object.
-use Rattle.segment_manager.proofs.Common.{sym, subst, Kind, Write, HasEnough, StepsThere, command_of}
+use Rattle.segment_manager.proofs.Common.{refl, sym, subst, Kind, Write, HasEnough, StepsThere, command_of}
 use Rattle.segment_manager.proofs.{KeptContainers.texts-kept, TextListCalls.texts-changed, TextsHeld.some-texts}
 use Rattle.segment_manager.specs.Stored.{ChangesElements, HasContainer, IsElements, KeepsThere}
 use Rattle.segment_manager.proofs.OneLength.{elements-changed, elements-kept, some-elements}
@@ -22,7 +22,7 @@ returns-in-Texts-clause-change c =
     subst (λ (k : Kind). StepsThere c.args.heap.now c.change_texts.new.heap k c.args.place (command_of c.args.change) c.change_texts.result)
     (sym c.in-Texts.is)
     (λ mode key writing there.
-    texts-changed (record { cut = c.args.heap.now; mode = mode }) key _ c.requires.there.0 (record { answers = there })
+    texts-changed {s = record { cut = c.args.heap.now; mode = mode }} refl key _ c.requires.there.0 (record { answers = there })
     c.change_texts.new.heap writing c.args.change c.change_texts.result c.change_texts.ensures)
 
 pub returns-in-Texts-clause-enough : goal.returns-in-Texts-clause-enough

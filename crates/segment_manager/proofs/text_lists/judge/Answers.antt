@@ -1,6 +1,5 @@
 -- Each element of a slice of bytes is one.
-use Rattle.segment_manager.proofs.Common.{arith}
-use Rattle.segment_manager.proofs.TextAnswers.{fits-bytes}
+use Rattle.segment_manager.proofs.{Common.arith, TextAnswers.fits-bytes}
 use Rattle.segment_manager.proofs.text_lists.judge.Goals as goal
 
 pub returns : goal.returns

@@ -1,6 +1,5 @@
 -- Each turn passes a block or gap.
-use Rattle.segment_manager.proofs.Common.{sym, ◌∙◌}
-use Rattle.segment_manager.proofs.OwnWalks.{own-end, own-found, own-past}
+use Rattle.segment_manager.proofs.{Common.sym, Common.◌∙◌, OwnWalks.own-end, OwnWalks.own-found, OwnWalks.own-past}
 use Rattle.segment_manager.proofs.walking_objects.next_own.Goals as goal
 
 pub returns-then-is_object : goal.returns-then-is_object

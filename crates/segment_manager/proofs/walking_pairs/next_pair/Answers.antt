@@ -1,7 +1,6 @@
 -- The object is a map of the kinds.
 use Rattle.segment_manager.proofs.Common.{None, option_map, kind_of_scalar, value_of_scalar, pair_above, item_of_kinds}
-use Rattle.segment_manager.proofs.Common.{pairs_at}
-use Rattle.segment_manager.proofs.PairWalks.{next-seen, not-refused}
+use Rattle.segment_manager.proofs.{Common.pairs_at, PairWalks.next-seen, PairWalks.not-refused}
 use Rattle.segment_manager.proofs.walking_pairs.next_pair.Goals as goal
 
 pub returns-in-Ok : goal.returns-in-Ok

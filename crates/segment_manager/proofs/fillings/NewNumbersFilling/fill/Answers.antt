@@ -1,6 +1,5 @@
 -- The bytes that are written spell the value.
-use Rattle.segment_manager.proofs.Common.{sym, ◌∙◌}
-use Rattle.segment_manager.proofs.NewNumbers.{equal-made}
+use Rattle.segment_manager.proofs.{Common.sym, Common.◌∙◌, NewNumbers.equal-made}
 use Rattle.segment_manager.proofs.fillings.NewNumbersFilling.fill.Goals as goal
 
 pub returns : goal.returns

@@ -1,6 +1,5 @@
 -- The bytes that are written spell the value.
-use Rattle.segment_manager.proofs.Common.{kind_of_scalar, value_of_scalar}
-use Rattle.segment_manager.proofs.NewNumbers.{equal-made}
+use Rattle.segment_manager.proofs.{Common.kind_of_scalar, Common.value_of_scalar, NewNumbers.equal-made}
 use Rattle.segment_manager.proofs.fillings.NewScalarsFilling.fill.Goals as goal
 
 pub returns : goal.returns

@@ -1,8 +1,7 @@
 -- The object is begun, filled and finished, or refused before.
-use Rattle.segment_manager.proofs.Common.{sym, ap, ◌∙◌, ◌*◌, Err, Scalar, new_key_seen, size_of, err_from_is_err_and}
+use Rattle.segment_manager.proofs.Common.{sym, ◌∙◌, ◌*◌, Scalar, new_key_seen, size_of, exit-is}
 use Rattle.segment_manager.proofs.ItemCalls.{items-loose, items-room, items-segment, items-taken, refused-items}
-use Rattle.segment_manager.proofs.ItemCalls.{refused-segment, takes-nothing}
-use Rattle.segment_manager.proofs.Loose.{begun-heap}
+use Rattle.segment_manager.proofs.{ItemCalls.refused-segment, ItemCalls.takes-nothing, Loose.begun-heap}
 use Rattle.segment_manager.proofs.segment.Segment.construct_items.Goals as goal
 
 pub returns-then-is_read_only : goal.returns-then-is_read_only
@@ -16,9 +15,9 @@ invariant_of-self g c =
 
 pub returns-in_err-begun : goal.returns-in_err-begun
 returns-in_err-begun g c =
-    let p = err_from_is_err_and c.from_residual.result c.from_residual.ensures.1 in
     refused-items _ _ g.I.Iterator.next_gives g.T.Scalar.whole _ _ c.self.view_is c.self.invariant (new_key_seen c.args.key.now) c.kind.result g.T.Scalar.kind c.kind.ensures c.args.count
-    (sym c.is_read_only.ensures ∙ c.if-is_read_only.false) c.requires.some c.args.items.now c.in_err-begun.field-0.0 c.begin_numbers.new.heap _ (p.1 ∙ ap Err p.2) c.in_err-begun.ensures
+    (sym c.is_read_only.ensures ∙ c.if-is_read_only.false) c.requires.some c.args.items.now c.in_err-begun.field-0.0 c.begin_numbers.new.heap _
+    (exit-is c.from_residual.result _ c.from_residual.ensures.1) c.in_err-begun.ensures
 
 pub fill_items-enough-requires-clause-heap : goal.fill_items-enough-requires-clause-heap
 fill_items-enough-requires-clause-heap g c =

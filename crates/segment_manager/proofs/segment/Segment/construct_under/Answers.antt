@@ -1,11 +1,10 @@
 -- The object is begun, with the shape that its filling has, and then it is filled.
-use Rattle.segment_manager.proofs.Common.{err_from_is_err_and, refl, sym, ap, subst, ◌∙◌, Err, Ok, Key, Constructs, bare}
-use Rattle.segment_manager.proofs.Common.{handle_answer, kind_of, new_key_seen}
+use Rattle.segment_manager.proofs.Common.{exit-is, refl, sym, ap, subst, ◌∙◌, Err, Ok, Key, Constructs, bare}
+use Rattle.segment_manager.proofs.FilledCalls.{begun-for, has-begun, construct-built, construct-not_begun, made-segment, made-step}
+use Rattle.segment_manager.proofs.{Common.handle_answer, Common.kind_of, Common.new_key_seen, Steps.refuses-read_only}
 use Rattle.seg_types.specs.Commands.{Construct}
-use Rattle.segment_manager.proofs.FilledCalls.{begun-for, construct-built, construct-not_begun, made-segment, made-step}
-use Rattle.segment_manager.proofs.Steps.{refuses-read_only}
-use Rattle.segment_manager.proofs.segment.Segment.construct_under.Goals as goal
 use Rattle.segment_manager.proofs.segment.Segment.construct_under.{Goals.After-build, Goals.In_err-begun, Given.Over}
+use Rattle.segment_manager.proofs.segment.Segment.construct_under.Goals as goal
 
 -- what the call does, under the key of the object's kind
 done : (g : Over) (c : After-build g) → Constructs c.self.inside.heap c.build.new.heap (Construct (g.D.Destination.key
@@ -32,8 +31,7 @@ none g c =
 
 pub returns-then-is_read_only-clause-step : goal.returns-then-is_read_only-clause-step
 returns-then-is_read_only-clause-step g c =
-    let content = g.F.Filling.content c.args.filling.now in
-    refuses-read_only _ (Construct (g.D.Destination.key c.args.key.now (kind_of (bare content))) content) (sym c.is_read_only.ensures ∙ c.if-is_read_only.true) refl
+    refuses-read_only _ _ (sym c.is_read_only.ensures ∙ c.if-is_read_only.true) refl
 
 pub invariant_of-self : goal.invariant_of-self
 invariant_of-self g c =
@@ -41,20 +39,13 @@ invariant_of-self g c =
 
 pub returns-in_err-begun-clause-step : goal.returns-in_err-begun-clause-step
 returns-in_err-begun-clause-step g c =
-    let p = err_from_is_err_and c.from_residual.result c.from_residual.ensures.1 in
-    rw (p.1, p.2) (made-step _ _ c.self.view_is _ _ _ _ (none g (goal.at.returns-in_err-begun-clause-step g c).In_err-begun) (sym c.is_read_only.ensures ∙ c.if-is_read_only.false))
+    rw (exit-is c.from_residual.result _ c.from_residual.ensures.1)
+    (made-step _ _ c.self.view_is _ _ _ _ (none g (goal.at.returns-in_err-begun-clause-step g c).In_err-begun) (sym c.is_read_only.ensures ∙ c.if-is_read_only.false))
 
 pub build-requires-clause-begun : goal.build-requires-clause-begun
-build-requires-clause-begun g c = (
-  c.self.inside.heap,
-  (
-    c.self.invariant,
-    (
-      new_key_seen c.key_for-key.result,
-      begun-for c.self.inside.heap c.begin.new.heap _ (g.F.Filling.content c.args.filling.now) c.shape-shape.result (Ok c.in_ok-begun.begun) c.shape-shape.ensures c.in_ok-begun.ensures,
-    ),
-  ),
-)
+build-requires-clause-begun g c =
+    has-begun c.self.inside.heap c.begin.new.heap (new_key_seen c.key_for-key.result) (g.F.Filling.content c.args.filling.now)
+    c.shape-shape.result c.in_ok-begun.begun c.self.invariant c.shape-shape.ensures c.in_ok-begun.ensures
 
 pub invariant_of-self-2 : goal.invariant_of-self-2
 invariant_of-self-2 g c =

@@ -1,10 +1,9 @@
 -- The object is begun, filled and finished, or refused before.
-use Rattle.segment_manager.proofs.Common.{sym, ap, ◌∙◌, ◌*◌, Err, Scalar, new_key_seen, size_of, value_of_scalar, refl}
-use Rattle.segment_manager.proofs.Common.{err_from_is_err_and, subst, Key}
-use Rattle.segment_manager.specs.Items.{TakesItems}
+use Rattle.segment_manager.proofs.Common.{sym, ◌∙◌, ◌*◌, Scalar, new_key_seen, size_of, value_of_scalar, refl, exit-is}
 use Rattle.segment_manager.proofs.ItemCalls.{items-loose, items-room, items-segment, items-taken, refused-items}
 use Rattle.segment_manager.proofs.ItemCalls.{refused-segment, takes-nothing}
-use Rattle.segment_manager.proofs.Loose.{begun-heap}
+use Rattle.segment_manager.proofs.{Common.subst, Common.Key, Loose.begun-heap}
+use Rattle.segment_manager.specs.Items.{TakesItems}
 use Rattle.segment_manager.proofs.segment.Segment.construct_values.Goals as goal
 
 pub returns-then-is_read_only : goal.returns-then-is_read_only
@@ -18,11 +17,11 @@ invariant_of-self g c =
 
 pub returns-in_err-begun : goal.returns-in_err-begun
 returns-in_err-begun g c =
-    let p = err_from_is_err_and c.from_residual.result c.from_residual.ensures.1 in
     subst (λ (key : Key). TakesItems g.I.Iterator.next_gives value_of_scalar c.args.self.now (record { cut = c.begin_numbers.new.heap; mode = c.self.inside.mode }) key c.args.kind c.args.count c.args.items.now c.args.items.now c.from_residual.result)
     c.key_for-key.ensures.key
     (refused-items _ _ g.I.Iterator.next_gives value_of_scalar _ _ c.self.view_is c.self.invariant (new_key_seen c.key_for-key.result) c.args.kind c.args.kind refl c.args.count
-    (sym c.is_read_only.ensures ∙ c.if-is_read_only.false) c.requires.some c.args.items.now c.in_err-begun.field-0.0 c.begin_numbers.new.heap _ (p.1 ∙ ap Err p.2) c.in_err-begun.ensures)
+    (sym c.is_read_only.ensures ∙ c.if-is_read_only.false) c.requires.some c.args.items.now c.in_err-begun.field-0.0 c.begin_numbers.new.heap _
+    (exit-is c.from_residual.result _ c.from_residual.ensures.1) c.in_err-begun.ensures)
 
 pub fill_values-enough-requires-clause-heap : goal.fill_values-enough-requires-clause-heap
 fill_values-enough-requires-clause-heap g c =

@@ -1,8 +1,7 @@
 -- The key says which index has the entry.
 use Rattle.segment_manager.proofs.Common.{refl, sym, subst, ◌∙◌, IndexKey, Destroy, index_key_seen, Truth, KeepsWhere}
-use Rattle.segment_manager.proofs.Common.{LacksKey, IsStep}
+use Rattle.segment_manager.proofs.{Common.LacksKey, Common.IsStep, Steps.refuses-read_only}
 use Rattle.seg_types.specs.Names as names
-use Rattle.segment_manager.proofs.Steps.{refuses-read_only}
 use Rattle.segment_manager.proofs.segment.Segment.destroy.Goals as goal
 
 pub returns-then-is_read_only-clause-step : goal.returns-then-is_read_only-clause-step

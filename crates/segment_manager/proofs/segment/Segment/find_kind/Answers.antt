@@ -1,7 +1,6 @@
 -- The object that was found says its kind and its count.
-use Rattle.segment_manager.proofs.Common.{err_from_is_err_and, key_seen}
 use Rattle.segment_manager.proofs.FindCalls.{find-absent, find-there}
-use Rattle.segment_manager.proofs.Here.{seen-object}
+use Rattle.segment_manager.proofs.{Common.exit-is, Common.key_seen, Here.seen-object}
 use Rattle.segment_manager.proofs.segment.Segment.find_kind.Goals as goal
 
 pub returns-in_default : goal.returns-in_default
@@ -12,8 +11,8 @@ found_of-requires c = seen-object _ _ c.self.view_is (key_seen c.args.key.now) _
 
 pub returns-in_err-found : goal.returns-in_err-found
 returns-in_err-found c =
-    let p = err_from_is_err_and c.from_residual.result c.from_residual.ensures.1 in
-    rw (p.1, p.2) (find-there _ _ c.self.view_is (key_seen c.args.key.now) c.args.kind _ _ c.in-Some.ensures c.in_err-found.ensures)
+    rw (exit-is c.from_residual.result _ c.from_residual.ensures.1)
+    (find-there _ _ c.self.view_is (key_seen c.args.key.now) c.args.kind _ _ c.in-Some.ensures c.in_err-found.ensures)
 
 pub returns : goal.returns
 returns c = find-there _ _ c.self.view_is (key_seen c.args.key.now) c.args.kind _ _ c.in-Some.ensures c.in_ok-found.ensures

@@ -1,11 +1,10 @@
 -- The call on the heap, under the key that the object gets, as one on the segment.
 use Rattle.segment_manager.proofs.Common.{refl, sym, ap, subst, ◌∙◌, Key, FindsOrConstructs, bare, kind_of}
-use Rattle.seg_types.specs.Commands.{FindOrConstruct}
-use Rattle.segment_manager.specs.Keeping.{HasKey}
 use Rattle.segment_manager.proofs.FilledCalls.{made-refused, made-segment, made-step}
 use Rattle.segment_manager.proofs.{KeptContainers.keeps-cut, Steps.refuses-read_only}
-use Rattle.segment_manager.proofs.segment.Segment.find_or_construct_under.Goals as goal
+use Rattle.segment_manager.specs.Keeping.{HasKey}
 use Rattle.segment_manager.proofs.segment.Segment.find_or_construct_under.{Goals.After-find_or_construct_in, Given.Over}
+use Rattle.segment_manager.proofs.segment.Segment.find_or_construct_under.Goals as goal
 
 -- what the call does, under the key of the object's kind
 done : (g : Over) (c : After-find_or_construct_in g) → FindsOrConstructs c.self.inside.heap c.find_or_construct_in.new.heap
@@ -17,8 +16,7 @@ done g c =
 
 pub returns-then-is_read_only-clause-step : goal.returns-then-is_read_only-clause-step
 returns-then-is_read_only-clause-step g c =
-    let content = g.F.Filling.content c.args.filling.now in
-    refuses-read_only _ (FindOrConstruct (g.D.Destination.key c.args.key.now (kind_of (bare content))) content) (sym c.is_read_only.ensures ∙ c.if-is_read_only.true) refl
+    refuses-read_only _ _ (sym c.is_read_only.ensures ∙ c.if-is_read_only.true) refl
 
 pub invariant_of-self : goal.invariant_of-self
 invariant_of-self g c =

@@ -1,14 +1,13 @@
 -- The kind of the object that was located says which call it is.
-use Rattle.segment_manager.proofs.Common.{err_from_is_err_and, refl, U8, Scalar, Text, Vector, WrongKind, Get, Key}
-use Rattle.segment_manager.proofs.Common.{scalar_answer}
+use Rattle.segment_manager.proofs.Common.{exit-is, refl, U8, Scalar, Text, Vector, WrongKind, Get, Key, scalar_answer}
 use Rattle.segment_manager.proofs.AnyKind.{any-missing, located-replies, of_kind-none, other-elements}
 use Rattle.segment_manager.proofs.Locating.{kind-by_key}
 use Rattle.segment_manager.proofs.segment.Segment.get_any.Goals as goal
 
 pub returns-in_err-object : goal.returns-in_err-object
 returns-in_err-object g c =
-    let p = err_from_is_err_and c.from_residual.result c.from_residual.ensures.1 in
-    rw (p.1, p.2) (let key : Key = g.O.Target.key c.args.key.now in any-missing c.args.self.now key (Get key c.args.index) c.in_err-object.field-0.0 c.in_err-object.ensures)
+    rw (exit-is c.from_residual.result _ c.from_residual.ensures.1)
+    (let key : Key = g.O.Target.key c.args.key.now in any-missing c.args.self.now key (Get key c.args.index) c.in_err-object.field-0.0 c.in_err-object.ensures)
 
 pub returns-in-Scalar : goal.returns-in-Scalar
 returns-in-Scalar g c =

@@ -1,10 +1,6 @@
 -- The bytes at the place are read.
-use Rattle.segment_manager.proofs.Common.{err_from_is_err_and, ◌≡◌, sym, ap, subst, ◌+◌, ◌∙◌, Ok, IsTrue, current}
-use Rattle.segment_manager.proofs.Common.{bytes_of, read, has_room, live_of, ScalarKind, size_of, Scalar, Get, Answers}
-use Rattle.segment_manager.proofs.Common.{IsReplyOfKind, State, scalar_answer}
-use Rattle.segment_manager.specs.Standing.{place_at}
-use Rattle.segment_manager.proofs.Calling.{denotes-heap}
 use Rattle.segment_manager.proofs.Replies.{place-room, replies-found, replies-missing, scalar-answer}
+use Rattle.segment_manager.proofs.{Common.refl, Common.exit-is, Common.current, Calling.denotes-heap}
 use Rattle.segment_manager.proofs.segment.Segment.get_value.Goals as goal
 
 pub element-requires-clause-heap : goal.element-requires-clause-heap
@@ -12,23 +8,16 @@ element-requires-clause-heap g c = denotes-heap current c.self.inside.heap.bytes
 
 pub element-requires-clause-room : goal.element-requires-clause-room
 element-requires-clause-room g c =
-    subst (λ n. IsTrue (has_room (live_of c.self.inside.heap.bytes) c.in_ok-place.place.handle (c.in_ok-place.place.at + n))) (sym c.size.ensures)
-    (place-room _ (g.O.Target.key c.args.key.now) c.args.kind c.args.index c.in_ok-place.place c.self.invariant
-    (subst (λ t. Answers t (λ d. place_at d (g.O.Target.key c.args.key.now) c.args.kind c.args.index) (Ok c.in_ok-place.place)) (sym c.self.view_is) c.in_ok-place.ensures))
+    place-room _ (g.O.Target.key c.args.key.now) refl c.args.index _ c.self.view_is c.in_ok-place.place _ c.size.ensures
+    c.in_ok-place.ensures c.self.invariant
 
 pub returns-in_err-place : goal.returns-in_err-place
 returns-in_err-place g c =
-    let p = err_from_is_err_and c.from_residual.result c.from_residual.ensures.1 in
-    rw (p.1, p.2) (replies-missing c.args.self.now (g.O.Target.key c.args.key.now) c.args.kind c.args.index c.in_err-place.field-0.0 c.in_err-place.ensures)
+    rw (exit-is c.from_residual.result _ c.from_residual.ensures.1)
+    (replies-missing _ (g.O.Target.key c.args.key.now) refl c.args.index _ c.in_err-place.ensures)
 
 pub returns : goal.returns
 returns g c =
-    let s : State = record { cut = c.self.inside.heap; mode = c.self.inside.mode } in
-    let k : ScalarKind = c.args.kind in
-    let found : Answers s (λ d. place_at d (g.O.Target.key c.args.key.now) k c.args.index) (Ok c.in_ok-place.place) =
-    subst (λ t. Answers t (λ d. place_at d (g.O.Target.key c.args.key.now) k c.args.index) (Ok c.in_ok-place.place)) (sym c.self.view_is) c.in_ok-place.ensures in
-    let bytes : c.element.result.now ≡ read (bytes_of c.self.inside.heap.bytes) (c.in_ok-place.place.handle + c.in_ok-place.place.at) (size_of k) =
-    c.element.ensures.bytes ∙ ap (λ n. read (bytes_of c.self.inside.heap.bytes) (c.in_ok-place.place.handle + c.in_ok-place.place.at) n) c.size.ensures in
-    subst (λ t. IsReplyOfKind t (g.O.Target.key c.args.key.now) (Scalar k) (Get (g.O.Target.key c.args.key.now) c.args.index) (scalar_answer c.ok_or.result)) c.self.view_is
-    (replies-found s (g.O.Target.key c.args.key.now) k c.args.index c.in_ok-place.place (scalar_answer c.ok_or.result) found
-    (λ z v e. scalar-answer k z c.element.result.now c.read.result c.ok_or.result c.ok_or.ensures.value v (bytes ∙ e) c.read.ensures))
+    replies-found _ (g.O.Target.key c.args.key.now) refl c.args.index _ c.self.view_is c.in_ok-place.place _ c.size.ensures
+    c.in_ok-place.ensures _ c.element.result.now c.element.ensures.bytes
+    (λ z v e. scalar-answer c.args.kind z c.element.result.now c.read.result c.ok_or.result c.ok_or.ensures.value v e c.read.ensures)

@@ -1,6 +1,5 @@
 -- The head says the class.
-use Rattle.segment_manager.proofs.Common.{key_seen}
-use Rattle.segment_manager.proofs.Here.{seen-object, seen-tells}
+use Rattle.segment_manager.proofs.{Common.key_seen, Here.seen-object, Here.seen-tells}
 use Rattle.segment_manager.proofs.segment.Segment.instance_class.Goals as goal
 
 pub read_head-requires : goal.read_head-requires

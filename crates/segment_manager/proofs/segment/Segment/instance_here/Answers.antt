@@ -9,7 +9,7 @@ read_instance-requires-clause-heap c = denotes-heap current c.self.inside.heap.b
 
 pub read_instance-requires-clause-object : goal.read_instance-requires-clause-object
 read_instance-requires-clause-object c =
-    has-own_object _ c.args.handle c.self.invariant (subst (λ t. Answers t (λ d. is_object_at d c.args.handle) true) (sym c.self.view_is) c.requires)
+    has-own_object _ _ c.self.view_is c.args.handle c.self.invariant c.requires
 
 pub returns : goal.returns
 returns c =

@@ -1,6 +1,5 @@
 -- The head says the count.
-use Rattle.segment_manager.proofs.Common.{◌∙◌, key_seen, count_of}
-use Rattle.segment_manager.proofs.Here.{seen-object, seen-tells}
+use Rattle.segment_manager.proofs.{Common.◌∙◌, Common.key_seen, Common.count_of, Here.seen-object, Here.seen-tells}
 use Rattle.segment_manager.proofs.segment.Segment.instance_length.Goals as goal
 
 pub read_head-requires : goal.read_head-requires

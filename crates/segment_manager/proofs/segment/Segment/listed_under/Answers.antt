@@ -1,5 +1,5 @@
 -- An entry that an object has is found.
-use Rattle.segment_manager.proofs.Common.{sym, subst, Some, None, HasEntries, IsListed, State}
+use Rattle.segment_manager.proofs.Common.{sym, subst, Some, HasEntries, IsListed}
 use Rattle.segment_manager.proofs.{HeldIndexes.denotes-keys, Listed.listed-found}
 use Rattle.segment_manager.proofs.segment.Segment.listed_under.Goals as goal
 
@@ -13,6 +13,4 @@ returns-in-Found c = λ h each.
 
 pub returns-in-Absent : goal.returns-in-Absent
 returns-in-Absent c = λ h each.
-    let s : State = record { cut = c.self.inside.heap; mode = c.self.inside.mode } in
-    subst (λ t. IsListed t h None) c.self.view_is
-    (listed-found s c.args.index c.args.entry h c.in-Absent.field-0 c.in-Absent.ensures.place (subst (λ t. HasEntries t c.args.index c.args.entry h) (sym c.self.view_is) each))
+    listed-found _ _ c.self.view_is c.args.index c.args.entry h c.in-Absent.field-0 c.in-Absent.ensures.place each

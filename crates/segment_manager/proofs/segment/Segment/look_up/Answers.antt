@@ -1,10 +1,11 @@
 -- The index stands in the heap of the segment, and what is found there is the object of the key.
-use Rattle.segment_manager.proofs.Common.{refl, subst, Some, None, handle_at, Answers}
-use Rattle.segment_manager.proofs.KeyCalls.{absent-answers, found-answers, place-below, segment-index, segment-keys}
+use Rattle.segment_manager.proofs.Common.{subst, Some, None, handle_at, Answers}
+use Rattle.segment_manager.proofs.HeldIndexes.{denotes-keys}
+use Rattle.segment_manager.proofs.KeyCalls.{absent-answers, found-answers, place-below, segment-index}
 use Rattle.segment_manager.proofs.segment.Segment.look_up.Goals as goal
 
 pub lookup-requires : goal.lookup-requires
-lookup-requires c = record { keys = segment-keys c.self.inside.heap.bytes c.self.inside.heap c.args.index c.args.entry refl c.self.invariant }
+lookup-requires c = record { keys = denotes-keys c.args.index c.self.inside.heap c.self.invariant.0 c.args.entry c.self.invariant.1.denotes }
 
 pub at-requires-clause-index : goal.at-requires-clause-index
 at-requires-clause-index c = segment-index c.self.inside.heap c.args.index c.self.invariant

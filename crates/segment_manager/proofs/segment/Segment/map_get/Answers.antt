@@ -1,21 +1,21 @@
 -- The value is read from the map that is found.
-use Rattle.segment_manager.proofs.Common.{err_from_is_err_and, refl, Command, Lookup, literal_of}
+use Rattle.segment_manager.proofs.Common.{exit-is, refl, Command, Lookup, literal_of}
 use Rattle.segment_manager.proofs.{MapAnswers.got-there, MapAnswers.some-there, MapCalls.finds-no_map}
 use Rattle.segment_manager.proofs.{ScalarTypes.of-map, Steps.open-reading, StorageSteps.step_of_kind-reply}
 use Rattle.segment_manager.proofs.segment.Segment.map_get.Goals as goal
 
 pub get-requires : goal.get-requires
 get-requires g c =
-    some-there _ _ _ _ _ _ (of-map g.met.K.Scalar) (of-map g.met.V.Scalar) _ _ c.self.view_is _ _ _ c.at.ensures
+    some-there (of-map g.met.K.Scalar) (of-map g.met.V.Scalar) c.self.view_is _ c.at.ensures
     c.self.invariant c.in_ok-place.ensures
 
 pub returns-in_err-place : goal.returns-in_err-place
 returns-in_err-place g c =
-    let p = err_from_is_err_and c.from_residual.result c.from_residual.ensures.1 in
-    rw (p.1, p.2) (let asked : Command = Lookup (g.O.Target.key c.args.key.now) (literal_of g.K.Scalar.kind (g.K.Scalar.whole c.args.at)) in
+    rw (exit-is c.from_residual.result _ c.from_residual.ensures.1)
+    (let asked : Command = Lookup (g.O.Target.key c.args.key.now) (literal_of g.K.Scalar.kind (g.K.Scalar.whole c.args.at)) in
     step_of_kind-reply _ _ _ _ _ (finds-no_map _ _ _ _ _ _ (open-reading _ asked refl) c.in_err-place.ensures))
 
 pub returns : goal.returns
 returns g c =
-    got-there _ _ _ _ _ _ (of-map g.met.K.Scalar) (of-map g.met.V.Scalar) _ _ c.self.view_is _ _ _ c.at.ensures
+    got-there (of-map g.met.K.Scalar) (of-map g.met.V.Scalar) c.self.view_is _ c.at.ensures
     c.self.invariant c.in_ok-place.ensures c.args.at c.get.result c.judge.ensures c.get.ensures.value

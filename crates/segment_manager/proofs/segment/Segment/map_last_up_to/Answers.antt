@@ -1,20 +1,19 @@
 -- The pair is looked for in the map that is found.
-use Rattle.segment_manager.proofs.Common.{err_from_is_err_and, true, pair_up_to}
-use Rattle.segment_manager.proofs.MapAnswers.{back-there, some-there}
-use Rattle.segment_manager.proofs.{MapCalls.tells-nothing, ScalarTypes.of-map}
+use Rattle.segment_manager.proofs.{Common.exit-is, Common.true, Common.pair_up_to, MapAnswers.back-there}
+use Rattle.segment_manager.proofs.{MapAnswers.some-there, MapCalls.tells-nothing, ScalarTypes.of-map}
 use Rattle.segment_manager.proofs.segment.Segment.map_last_up_to.Goals as goal
 
 pub last_up_to-requires : goal.last_up_to-requires
 last_up_to-requires g c =
-    some-there _ _ _ _ _ _ (of-map g.met.K.Scalar) (of-map g.met.V.Scalar) _ _ c.self.view_is _ _ _ c.at.ensures
+    some-there (of-map g.met.K.Scalar) (of-map g.met.V.Scalar) c.self.view_is _ c.at.ensures
     c.self.invariant c.in_ok-place.ensures
 
 pub returns-in_err-place : goal.returns-in_err-place
 returns-in_err-place g c =
-    let p = err_from_is_err_and c.from_residual.result c.from_residual.ensures.1 in
-    rw (p.1, p.2) (tells-nothing _ _ _ _ (pair_up_to (g.K.Scalar.whole c.args.to)) _ c.in_err-place.ensures)
+    rw (exit-is c.from_residual.result _ c.from_residual.ensures.1)
+    (tells-nothing _ _ _ _ (pair_up_to (g.K.Scalar.whole c.args.to)) _ c.in_err-place.ensures)
 
 pub returns : goal.returns
 returns g c =
-    back-there _ _ _ _ _ _ (of-map g.met.K.Scalar) (of-map g.met.V.Scalar) _ _ c.self.view_is _ _ _ c.at.ensures
+    back-there (of-map g.met.K.Scalar) (of-map g.met.V.Scalar) c.self.view_is _ c.at.ensures
     c.self.invariant c.in_ok-place.ensures true c.args.to c.last_up_to.result c.last_up_to.ensures.item

@@ -1,8 +1,7 @@
 -- The pair is put into the map that is found.
-use Rattle.segment_manager.proofs.Common.{err_from_is_err_and, ◌≡◌, refl, sym, ap, ◌∙◌, Command, Map, Put, literal_of}
-use Rattle.segment_manager.proofs.{MapAnswers.put-there, MapAnswers.some-there, MapCalls.TellsSafely}
-use Rattle.segment_manager.proofs.{MapCalls.finds-no_map, MapCalls.put_result, ScalarTypes.of-map}
-use Rattle.segment_manager.proofs.{Safely.answer-refused, Safely.answer-segment, Safely.answer-step, Steps.open-writing}
+use Rattle.segment_manager.proofs.Common.{exit-is, ◌≡◌, refl, sym, ap, ◌∙◌, Command, Map, Put, literal_of, truth_answer}
+use Rattle.segment_manager.proofs.{MapAnswers.put-there, MapAnswers.some-there, MapCalls.finds-no_map}
+use Rattle.segment_manager.proofs.{MapCalls.put_result, Safely.Answered, ScalarTypes.of-map, Steps.open-writing}
 use Rattle.segment_manager.proofs.{Steps.refuses_of_kind-read_only}
 use Rattle.segment_manager.proofs.segment.Segment.map_put.Goals as goal
 use Rattle.segment_manager.proofs.segment.Segment.map_put.{Goals.Joined-put, Goals.in-Err, Goals.in-Ok, Given.Over}
@@ -13,37 +12,32 @@ told g c =
     elim c.match-put.branch [ in-Err w ↦ w.result-is ∙ sym (ap put_result w.in-Err.is) | in-Ok w ↦ w.result-is ∙ sym (ap put_result w.in-Ok.is) ]
 
 -- what the call does, in each goal behind it
-done : (g : Over) (c : Joined-put g) → TellsSafely (record { cut = c.self.inside.heap; mode = c.self.inside.mode })
-    c.put.new.heap (g.O.Target.key c.args.key.now) (Map g.K.Scalar.kind g.V.Scalar.kind) (Put (g.O.Target.key
-    c.args.key.now) (literal_of g.K.Scalar.kind (g.K.Scalar.whole c.args.at)) (literal_of g.V.Scalar.kind (g.V.Scalar.whole
-    c.args.value))) c.match-put.result
+done : (g : Over) (c : Joined-put g) → Answered truth_answer (record { cut = c.self.inside.heap; mode = c.self.inside.mode })
+    c.args.self.now c.put.new.heap (g.O.Target.key c.args.key.now) (Map g.K.Scalar.kind g.V.Scalar.kind) (Put
+    (g.O.Target.key c.args.key.now) (literal_of g.K.Scalar.kind (g.K.Scalar.whole c.args.at)) (literal_of g.V.Scalar.kind
+    (g.V.Scalar.whole c.args.value))) c.match-put.result
 done g c =
-    put-there _ _ _ _ _ _ (of-map g.met.K.Scalar) (of-map g.met.V.Scalar) _ _ c.self.view_is _ _ _ c.at.ensures
+    put-there (of-map g.met.K.Scalar) (of-map g.met.V.Scalar) c.self.view_is _ c.at.ensures
     c.self.invariant c.in_ok-place.ensures c.put.new.heap (sym c.is_read_only.ensures ∙ c.if-is_read_only.false) c.args.at c.args.value
     c.put.result c.match-put.result (told g c) c.judge.ensures c.judge-2.ensures c.put.ensures.put
 
 pub returns-then-is_read_only-clause-step : goal.returns-then-is_read_only-clause-step
 returns-then-is_read_only-clause-step g c =
-    refuses_of_kind-read_only _ _ _ (Put (g.O.Target.key c.args.key.now) (literal_of g.K.Scalar.kind (g.K.Scalar.whole
-    c.args.at)) (literal_of g.V.Scalar.kind (g.V.Scalar.whole c.args.value))) (sym c.is_read_only.ensures ∙
-    c.if-is_read_only.true) refl
+    refuses_of_kind-read_only _ _ _ _ (sym c.is_read_only.ensures ∙ c.if-is_read_only.true) refl
 
 pub put-requires : goal.put-requires
 put-requires g c =
-    some-there _ _ _ _ _ _ (of-map g.met.K.Scalar) (of-map g.met.V.Scalar) _ _ c.self.view_is _ _ _ c.at.ensures
+    some-there (of-map g.met.K.Scalar) (of-map g.met.V.Scalar) c.self.view_is _ c.at.ensures
     c.self.invariant c.in_ok-place.ensures
 
 pub returns-in_err-place-clause-step : goal.returns-in_err-place-clause-step
 returns-in_err-place-clause-step g c =
-    let p = err_from_is_err_and c.from_residual.result c.from_residual.ensures.1 in
-    rw (p.1, p.2) (let asked : Command = Put (g.O.Target.key c.args.key.now) (literal_of g.K.Scalar.kind (g.K.Scalar.whole c.args.at)) (literal_of g.V.Scalar.kind (g.V.Scalar.whole c.args.value)) in
+    rw (exit-is c.from_residual.result _ c.from_residual.ensures.1)
+    (let asked : Command = Put (g.O.Target.key c.args.key.now) (literal_of g.K.Scalar.kind (g.K.Scalar.whole c.args.at)) (literal_of g.V.Scalar.kind (g.V.Scalar.whole c.args.value)) in
     finds-no_map _ _ _ _ _ _ (open-writing _ asked (sym c.is_read_only.ensures ∙ c.if-is_read_only.false)) c.in_err-place.ensures)
 
 pub invariant_of-self : goal.invariant_of-self
-invariant_of-self g c =
-    answer-segment _ _ c.self.view_is _ _ _ _ _ (done g (goal.at.invariant_of-self g c).Joined-put) c.self.invariant
+invariant_of-self g c = (done g (goal.at.invariant_of-self g c).Joined-put).segment
 
 pub returns : goal.returns
-returns g c =
-    let d = done g (goal.at.returns g c).Joined-put in
-    record { step = answer-step _ _ c.self.view_is _ _ _ _ _ d; refused = answer-refused _ _ c.self.view_is _ _ _ _ _ d }
+returns g c = let d = done g (goal.at.returns g c).Joined-put in record { step = d.step; refused = d.refused }

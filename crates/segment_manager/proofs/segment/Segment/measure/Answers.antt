@@ -1,13 +1,13 @@
 -- The kind of the object of the key says which call it is.
-use Rattle.segment_manager.proofs.Common.{err_from_is_err_and, ap, refl, Key, has_sizes}
+use Rattle.segment_manager.proofs.Common.{exit-is, ap, refl, Key, has_sizes}
 use Rattle.segment_manager.proofs.AnyStorage.{measures-nowhere, measures-other, sized}
 use Rattle.segment_manager.proofs.Locating.{kind-by_key, located-measures}
 use Rattle.segment_manager.proofs.segment.Segment.measure.Goals as goal
 
 pub returns-in_err-object : goal.returns-in_err-object
 returns-in_err-object g c =
-    let p = err_from_is_err_and c.from_residual.result c.from_residual.ensures.1 in
-    rw (p.1, p.2) (measures-nowhere c.args.self.now (g.O.Target.key c.args.key.now) c.in_err-object.field-0.0 c.in_err-object.ensures)
+    rw (exit-is c.from_residual.result _ c.from_residual.ensures.1)
+    (measures-nowhere c.args.self.now (g.O.Target.key c.args.key.now) c.in_err-object.field-0.0 c.in_err-object.ensures)
 
 pub measure_kind-requires-clause-container : goal.measure_kind-requires-clause-container
 measure_kind-requires-clause-container g c = sized _ c.in_default.not-Scalar

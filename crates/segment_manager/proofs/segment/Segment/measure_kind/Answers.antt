@@ -1,5 +1,5 @@
 -- The sizes are those of the container that is found.
-use Rattle.segment_manager.proofs.Common.{err_from_is_err_and, refl, subst, Ok, sizes_at_kind, Answers, State}
+use Rattle.segment_manager.proofs.Common.{exit-is, refl, subst, Ok, sizes_at_kind, Answers, State}
 use Rattle.segment_manager.proofs.{AnyStorage.measures-nothing, StoredCalls.stands-there}
 use Rattle.segment_manager.proofs.segment.Segment.measure_kind.Goals as goal
 
@@ -9,8 +9,7 @@ sizes-requires-clause-there g c =
 
 pub returns-in_err-place : goal.returns-in_err-place
 returns-in_err-place g c =
-    let p = err_from_is_err_and c.from_residual.result c.from_residual.ensures.1 in
-    rw (p.1, p.2) (measures-nothing _ _ _ _ c.in_err-place.ensures)
+    rw (exit-is c.from_residual.result _ c.from_residual.ensures.1) (measures-nothing _ _ _ _ c.in_err-place.ensures)
 
 pub returns : goal.returns
 returns g c =

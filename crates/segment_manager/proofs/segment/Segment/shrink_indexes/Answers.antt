@@ -1,9 +1,7 @@
 -- One index is shrunk, and then the other.
-use Rattle.segment_manager.proofs.Common.{◌≡◌, refl, sym, ap, subst, ◌∙◌, false, Named, Done, IsStep, State}
-use Rattle.segment_manager.proofs.Common.{is_read_only}
+use Rattle.segment_manager.proofs.{Common.refl, Common.sym, Common.◌∙◌, Common.Named, Reserves.shrinks}
+use Rattle.segment_manager.proofs.{Reserves.shrunk-index, Steps.refuses-read_only, KeyCalls.segment-index}
 use Rattle.seg_types.specs.Commands.{ShrinkIndexes}
-use Rattle.segment_manager.proofs.{KeyCalls.segment-index, Reserves.shrinks, Reserves.shrunk-index}
-use Rattle.segment_manager.proofs.Steps.{refuses-read_only, step-segment}
 use Rattle.segment_manager.proofs.segment.Segment.shrink_indexes.Goals as goal
 
 pub returns-then-is_read_only-clause-step : goal.returns-then-is_read_only-clause-step
@@ -17,14 +15,10 @@ shrink-requires-2 c = record { index = shrunk-index c.self.inside.heap c.shrink.
 
 pub invariant_of-self : goal.invariant_of-self
 invariant_of-self c =
-    let s : State = record { cut = c.self.inside.heap; mode = c.self.inside.mode } in
-    let writing : is_read_only s.mode ≡ false = ap (λ (t : State). is_read_only t.mode) c.self.view_is ∙ sym c.is_read_only.ensures ∙ c.if-is_read_only.false in
-    step-segment s (record s { cut = c.shrink-2.new.heap }) ShrinkIndexes Done
-    (shrinks s c.shrink.new.heap c.shrink-2.new.heap writing c.self.invariant c.shrink.ensures.shrunk c.shrink-2.ensures.shrunk) c.self.invariant
+    (shrinks _ _ c.self.view_is c.self.invariant c.shrink.new.heap c.shrink-2.new.heap
+    (sym c.is_read_only.ensures ∙ c.if-is_read_only.false) c.shrink.ensures.shrunk c.shrink-2.ensures.shrunk).segment
 
 pub returns-clause-step : goal.returns-clause-step
 returns-clause-step c =
-    let s : State = record { cut = c.self.inside.heap; mode = c.self.inside.mode } in
-    let writing : is_read_only s.mode ≡ false = ap (λ (t : State). is_read_only t.mode) c.self.view_is ∙ sym c.is_read_only.ensures ∙ c.if-is_read_only.false in
-    subst (λ t. IsStep t (record s { cut = c.shrink-2.new.heap }) ShrinkIndexes Done) c.self.view_is
-    (shrinks s c.shrink.new.heap c.shrink-2.new.heap writing c.self.invariant c.shrink.ensures.shrunk c.shrink-2.ensures.shrunk)
+    (shrinks _ _ c.self.view_is c.self.invariant c.shrink.new.heap c.shrink-2.new.heap
+    (sym c.is_read_only.ensures ∙ c.if-is_read_only.false) c.shrink.ensures.shrunk c.shrink-2.ensures.shrunk).step

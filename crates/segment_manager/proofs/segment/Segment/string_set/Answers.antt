@@ -1,27 +1,16 @@
 -- The byte is written in the string that is found.
-use Rattle.segment_manager.proofs.Common.{refl, pos, Text, lt-ltb, U8, Set, literal_of, StepsSafely}
-use Rattle.segment_manager.proofs.Safely.{answer-refused, answer-segment, answer-step}
-use Rattle.segment_manager.proofs.TextAnswers.{byte-value, text-set, text-standing}
-use Rattle.segment_manager.proofs.ToChange.{not-changed, seen-to_change}
+use Rattle.segment_manager.proofs.{Common.lt-ltb, Common.refl, TextAnswers.byte-value, TextAnswers.text-set}
+use Rattle.segment_manager.proofs.{TextAnswers.text-standing, ToChange.not-changed}
 use Rattle.segment_manager.proofs.segment.Segment.string_set.Goals as goal
-use Rattle.segment_manager.proofs.segment.Segment.string_set.{Goals.After-set, Given.Over}
-
--- what the call does, in each goal behind it
-done : (g : Over) (c : After-set g) → StepsSafely (record { cut = c.self.inside.heap; mode = c.self.inside.mode })
-    c.set.new.heap (g.O.Target.key c.args.key.now) Text (Set (g.O.Target.key c.args.key.now) c.args.index (literal_of
-    U8 (pos c.args.byte))) c.set.result
-done g c =
-    let place = seen-to_change _ _ c.self.view_is _ _ _ c.in_ok-place.ensures in
-    text-set _ _ _ c.self.invariant place.at c.set.new.heap place.writing c.args.index c.args.byte c.set.result
-    (lt-ltb c.args.byte 256 c.ranges.byte.fits) (byte-value c.args.byte c.ranges.byte.fits) c.set.ensures
 
 pub set-requires : goal.set-requires
-set-requires g c =
-    text-standing _ _ _ c.self.invariant (seen-to_change _ _ c.self.view_is _ _ _ c.in_ok-place.ensures).at
+set-requires g c = text-standing c.self.view_is _ _ c.self.invariant c.in_ok-place.ensures.at
 
 pub invariant_of-self : goal.invariant_of-self
 invariant_of-self g c =
-    answer-segment _ _ c.self.view_is _ _ _ _ _ (done g (goal.at.invariant_of-self g c).After-set) c.self.invariant
+    (text-set c.self.view_is _ _ c.self.invariant c.in_ok-place.ensures.at c.set.new.heap
+    c.in_ok-place.ensures.writing c.args.index c.args.byte c.set.result (lt-ltb c.args.byte 256 c.ranges.byte.fits)
+    (byte-value c.args.byte c.ranges.byte.fits) c.set.ensures).segment
 
 pub returns-in_err-place-clause-step : goal.returns-in_err-place-clause-step
 returns-in_err-place-clause-step g c =
@@ -29,5 +18,7 @@ returns-in_err-place-clause-step g c =
 
 pub returns : goal.returns
 returns g c =
-    let d = done g (goal.at.returns g c).After-set in
-    record { step = answer-step _ _ c.self.view_is _ _ _ _ _ d; refused = answer-refused _ _ c.self.view_is _ _ _ _ _ d }
+    let d = text-set c.self.view_is _ _ c.self.invariant c.in_ok-place.ensures.at c.set.new.heap
+    c.in_ok-place.ensures.writing c.args.index c.args.byte c.set.result (lt-ltb c.args.byte 256 c.ranges.byte.fits)
+    (byte-value c.args.byte c.ranges.byte.fits) c.set.ensures in
+    record { step = d.step; refused = d.refused }

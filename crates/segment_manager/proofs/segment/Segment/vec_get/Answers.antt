@@ -1,23 +1,22 @@
 -- The value is read from the vector that is found.
-use Rattle.segment_manager.proofs.Common.{err_from_is_err_and, refl, subst, Err, Vector, Get, container_at, Answers}
+use Rattle.segment_manager.proofs.Common.{exit-is, refl, subst, Err, Vector, Get, container_at, Answers}
 use Rattle.segment_manager.proofs.{ScalarTypes.of-vector, StorageSteps.no_container-reply, StorageSteps.seen-reply}
-use Rattle.segment_manager.proofs.VectorAnswers.{seen-at, some-vector, vector-got}
+use Rattle.segment_manager.proofs.VectorAnswers.{some-vector, vector-got}
 use Rattle.segment_manager.proofs.segment.Segment.vec_get.Goals as goal
 
 pub get-requires : goal.get-requires
 get-requires g c =
-    some-vector _ _ _ _ _ (of-vector g.met.T.Scalar) _ _ _ c.self.invariant
-    (seen-at _ _ c.self.view_is _ _ _ _ _ c.kind.ensures c.at.ensures c.in_ok-place.ensures)
+    some-vector (of-vector g.met.T.Scalar) c.self.view_is _ c.kind.ensures c.at.ensures c.self.invariant c.in_ok-place.ensures
 
 pub returns-in_err-place : goal.returns-in_err-place
 returns-in_err-place g c =
-    let p = err_from_is_err_and c.from_residual.result c.from_residual.ensures.1 in
-    rw (p.1, p.2) (no_container-reply _ _ _ (Get (g.O.Target.key c.args.key.now) c.args.index) _ refl
+    rw (exit-is c.from_residual.result _ c.from_residual.ensures.1)
+    (no_container-reply _ _ _ (Get (g.O.Target.key c.args.key.now) c.args.index) _ refl
     (subst (λ l. Answers c.args.self.now (λ d. container_at d (g.O.Target.key c.args.key.now) (Vector l)) (Err c.in_err-place.field-0.0))
     c.kind.ensures c.in_err-place.ensures))
 
 pub returns : goal.returns
 returns g c =
     seen-reply _ _ c.self.view_is _ _ _ _
-    (vector-got _ _ _ _ _ (of-vector g.met.T.Scalar) _ _ _ c.self.invariant
-    (seen-at _ _ c.self.view_is _ _ _ _ _ c.kind.ensures c.at.ensures c.in_ok-place.ensures) c.args.index c.get.result c.get.ensures)
+    (vector-got (of-vector g.met.T.Scalar) c.self.view_is _ c.kind.ensures c.at.ensures c.self.invariant
+    c.in_ok-place.ensures c.args.index c.get.result c.get.ensures)

@@ -6,8 +6,8 @@ use Rattle.seg_vector.proofs.Words.{bytes_of, word_at, Has, current, SameBut-wor
 use Rattle.seg_vector.proofs.Words.{Extent, LiveSet, handle, holds, shorter, IsChanged, IsReleased, extent_at, has_room}
 use Rattle.seg_vector.proofs.Words.{live_of, IsResized, IsShortened, Table, no_table, same_role, serves, changed-live}
 use Rattle.seg_vector.proofs.Words.{laid-heap, read-same, shorter-IsShorter, spread-refl, exchange-released}
-use Rattle.seg_vector.proofs.Runs.{AreHeadWords, IsRun, beside-head, head-wider, none-some, room-head, run-headed}
 use Rattle.seg_vector.proofs.Words.{exchange-resized, Role, Storage, Place, IsGivenBack, IsFitted, Stands, place_at, []}
+use Rattle.seg_vector.proofs.Runs.{AreHeadWords, IsRun, beside-head, head-wider, none-some, room-head, run-headed}
 use Rattle.seg_vector.proofs.Runs.{run-stands, run-swapped, same-some, stands-run, table, table-full}
 use Rattle.seg_vector.proofs.{Storage.storage-role, Bytes.more-times, Bytes.no-bytes}
 use Rattle.best_fit.specs.Table.{cut_table}

@@ -1,18 +1,18 @@
 -- The storage of a container that stands at a place: regrown, written in, and read.
 use Rattle.seg_vector.proofs.Words as W
 use W.{◌≡◌, refl, sym, ap, subst, ◌∙◌, inl, inr, ℕ, ◌+◌, ◌*◌, ◌%◌, ◌<◌, ◌≤◌, Bool, true, false, Option, Some, None}
-use W.{List, ◌∷◌, length, arith, if◌then◌else◌, cond, ◌⊎◌, ◌==◌, ◌++◌, length-append, max, ◌-◌, take, drop, ◌&&◌}
-use W.{append-nil, IsTrue, IfSome, nat_lt, option_map, option_to_list, find, nat_le, AllByRecursion, list_any, eqb-true}
-use W.{and_from, and_parts, leb-true, le-leb, lt-leb, lt-ltb, ltb-true, or_cases, or_left, or_right, eq-eqb}
-use W.{length-take, length-drop, take-take, Memory, Cut, SameBut, Has, bytes_of, read, word_at, patched, read-part}
-use W.{SameBut-word, link_at, Storage, current, CarriesOver, IsGivenRoom, IsNotGivenRoom, block_of, exchanged}
-use W.{without_all, IsExchanged, IsRegrown, Extent, LiveSet, handle, holds, end_of, is_block, is_hole, proper_from}
-use W.{others, resized, longer, place, is_extent, shorter, IsChanged, IsHeap, LaysOut, extent_at, has_room, live_of}
-use W.{is_live_in, payload_at, Table, is_table, serves, same_role, table_link, IsSound, all_of-insert, found-room}
-use W.{live-sound, read-same, room_block, laid-heap, all-same-but, changed-live, regrow-serves, in_use-all}
-use W.{block_payload, room-less, IfSome_is, all_keep_proper, legal_size, too_long, spread-refl, exchange-next}
-use W.{is_legal_size, Place, IsGrown, IsOwnBlock, Stands, place_at, IsWithoutSpace, IsStorage}
-use W.{capacity_for_one, IsRewritten, IsSwapped, SameBut-link, Refusal, NoSpace, []}
+use W.{List, ◌∷◌, length, arith, if◌then◌else◌, ◌⊎◌, ◌==◌, ◌++◌, length-append, max, ◌-◌, take, drop, ◌&&◌, append-nil}
+use W.{IsTrue, IfSome, nat_lt, option_map, option_to_list, nat_le, AllByRecursion, list_any, eqb-true, and_from}
+use W.{and_parts, leb-true, le-leb, lt-leb, lt-ltb, ltb-true, or_cases, or_left, or_right, eq-eqb, length-take}
+use W.{length-drop, take-take, Memory, Cut, SameBut, Has, bytes_of, read, word_at, patched, read-part, SameBut-word}
+use W.{link_at, Storage, current, CarriesOver, IsGivenRoom, IsNotGivenRoom, block_of, exchanged, without_all}
+use W.{IsExchanged, IsRegrown, Extent, LiveSet, handle, holds, end_of, is_block, is_hole, proper_from, others, resized}
+use W.{longer, place, is_extent, shorter, IsChanged, IsHeap, LaysOut, extent_at, has_room, live_of, is_live_in}
+use W.{payload_at, Table, is_table, serves, same_role, table_link, IsSound, all_of-insert, found-room, live-sound}
+use W.{read-same, room_block, laid-heap, all-same-but, changed-live, regrow-serves, in_use-all, block_payload}
+use W.{room-less, IfSome_is, all_keep_proper, legal_size, too_long, spread-refl, exchange-next, is_legal_size, Place}
+use W.{IsGrown, IsOwnBlock, Stands, place_at, IsWithoutSpace, IsStorage, capacity_for_one, IsRewritten, IsSwapped}
+use W.{SameBut-link, Refusal, NoSpace, []}
 use Rattle.seg_vector.proofs.Runs.{IsRun, beside-head, block-written, changed-both, head-room, head-wider, len-written}
 use Rattle.seg_vector.proofs.Runs.{none-some, room-head, run-found, run-headed, run-stands, run-swapped, same-some}
 use Rattle.seg_vector.proofs.Runs.{serves-full, spread-nil, stands-none-of, stands-run, table, table-full}

@@ -17,8 +17,8 @@ use Rattle.seg_vector.proofs.Runs.{head-room, head-wider, len-written, none-some
 use Rattle.seg_vector.proofs.Runs.{run-swapped, same-some, serves-full, table, table-full, words-kept}
 use Rattle.seg_vector.proofs.TextBlocks.{none-stands, IsArrayLeft, all-split, array-left, drop-at, element-beside}
 use Rattle.seg_vector.proofs.TextBlocks.{element-in, element-trans, even-block, found-texts, held-element, links-edited}
-use Rattle.seg_vector.proofs.TextBlocks.{links-moved, links-split, no-array, none-of, of-none, one-of, own-head}
-use Rattle.seg_vector.proofs.TextBlocks.{own_blocks, run-begin, swapped-none, texts-between, texts-own}
+use Rattle.seg_vector.proofs.TextBlocks.{links-moved, no-array, none-of, of-none, one-of, own-head, own_blocks}
+use Rattle.seg_vector.proofs.TextBlocks.{run-begin, swapped-none, texts-between, texts-own}
 use Rattle.seg_vector.proofs.{Fewer.cut-some, Typed.set-pieces, Bytes.length-read, Bytes.no-bytes}
 use Rattle.best_fit.specs.Table.{cut_table}
 
@@ -123,10 +123,10 @@ elements-through a b n k1 s k2 f1 f2 g1 g2 j h = element-trans
     (element-in (b + 16 * j) k2 (omega (arith, g1)) (omega (arith, g2, h)))
 
 -- elements beside those that are written
-pub elements-beside : (m m' : Memory) {old new : Cut} {from k : ℕ} (a n : ℕ) → IsChanged current old new from k
+pub elements-beside : {old new : Cut} {from k : ℕ} (a n : ℕ) → IsChanged current old new from k
     → (a + 16 * n ≤ from) ⊎ (from + k ≤ a) → AreSameElements (bytes_of old.bytes) (bytes_of new.bytes) a a n
-elements-beside m m' a n c (inl f) j h = element-beside (a + 16 * j) c.rest (inl (omega (arith, f, h)))
-elements-beside m m' a n c (inr f) j h = element-beside (a + 16 * j) c.rest (inr (omega (arith, f)))
+elements-beside a n c (inl f) j h = element-beside (a + 16 * j) c.rest (inl (omega (arith, f, h)))
+elements-beside a n c (inr f) j h = element-beside (a + 16 * j) c.rest (inr (omega (arith, f)))
 
 -- ---- the vector afterwards
 
@@ -135,18 +135,16 @@ pub removed-length : (ps : List OwnedText) (i : ℕ) {q : OwnedText} → slice_g
 removed-length ps i {q} e = let below : i < length ps = slice_get_within ps i q e in omega
     (arith, length-append (take i ps) (drop (suc i) ps), length-take i ps, length-drop (suc i) ps, below)
 
-pub text-erased : {s0 s1 s2 s3 : Cut} {p : Place} {ps : List OwnedText} {c g : ℕ} (i : ℕ) {o : Option Extent}
+pub erased-by : {s0 s1 s2 s3 : Cut} {p : Place} {ps : List OwnedText} {c g : ℕ} (i n : ℕ) {o : Option Extent}
     {q : OwnedText} → IsTexts s0.bytes p ps (table c o) → slice_get ps i ≡ Some q
-    → link_at (bytes_of s0.bytes) (place_at p) ≡ Some g
-    → IsSwapped s0 s1 (option_to_list q.extent) [] → IsChanged current s1 s2 (g + 16 * i) (16 * (length ps - i - 1))
-    → AreSameElements (bytes_of s1.bytes) (bytes_of s2.bytes) (g + 16 * i + 16) (g + 16 * i) (length ps - i - 1)
-    → IsChanged current s2 s3 (place_at p + 8) 8 → word_at (bytes_of s3.bytes) (place_at p + 8) ≡ length ps - 1
+    → link_at (bytes_of s0.bytes) (place_at p) ≡ Some g → n ≡ length ps
+    → IsSwapped s0 s1 (option_to_list q.extent) [] → IsChanged current s1 s2 (g + 16 * i) (16 * (n - i - 1))
+    → AreSameElements (bytes_of s1.bytes) (bytes_of s2.bytes) (g + (16 * i + 16)) (g + 16 * i) (n - i - 1)
+    → IsChanged current s2 s3 (p.handle + (p.at + 8)) 8 → word_at (bytes_of s3.bytes) (p.handle + (p.at + 8)) ≡ n - 1
     → IsTextsNow s0 s3 p (option_to_list o ++ option_to_list q.extent) (option_to_list o) (remove ps i) (table c o)
-text-erased i {o = None} s e link x1 c2 m2 c3 word = none-some s.words.link link
-text-erased {s0} {s1} {s2} {s3} {p} {ps} {c} i {o = Some x} {q} s e link x1 c2 m2 c3 word =
-    let t = table c (Some x) in let at = place_at p in
-    let n : ℕ = length ps - i - 1 in
-    let eq = option_to_list q.extent in
+erased-by i n {o = None} s e link n_is x1 c2 m2 c3 word = none-some s.words.link link
+erased-by {s0} {s1} {s2} {s3} {p} {ps} {c} {g} i n {o = Some x} {q} s e link n_is x1 c2 m2 c3 word =
+    let t = table c (Some x) in let eq = option_to_list q.extent in
     let gone : List Extent = x ∷ eq in
     let g_is = same-some (sym link ∙ s.words.link) in let below = slice_get_within ps i q e in
     let fits = s.fits in let full = table-full 16 c x s.table in let apart = text-apart i s e in
@@ -155,33 +153,27 @@ text-erased {s0} {s1} {s2} {s3} {p} {ps} {c} i {o = Some x} {q} s e link x1 c2 m
     subst (λ (xs : List Extent). IsRun s0 s0 p (x ∷ xs) (x ∷ xs) (length ps) t) one
     (run-begin s0 (take i ps) (q ∷ []) (drop (suc i) ps) (around ps i e) s) in
     let r1 = run-swapped (x ∷ []) (last-first (x ∷ []) eq) r0 x1 apart.head in
-    let found1 = (run-found r1).0 in
-    let c2' : IsChanged current s1 s2 (handle x + 16 * i) (16 * n) =
-    subst (λ k. IsChanged current s1 s2 (k + 16 * i) (16 * n)) g_is c2 in
-    let x2 = block-written (16 * c) r1.heap found1 c2' (omega arith) (omega (arith, below, fits)) full in
+    let x2 = block-written (16 * c) r1.heap (run-found r1).0 c2 (omega (arith, g_is))
+    (omega (arith, g_is, n_is, below, fits)) full in
     let other : p.handle ≢ handle x = λ f. s.own.1 (sym f) in
     let r2 = run-swapped [] (spread-refl (x ∷ [])) r1 x2 (other, tt) in
-    let found2 = (run-found r2).0 in
     let c3' = head-wider p c3 (omega arith) (omega arith) in
-    let r3 = run-headed r2 c3' (len-written (length ps - 1) refl c3.rest word r2.words) in
+    let r3 = run-headed r2 c3' (len-written (n - 1) (omega arith) c3.rest word r2.words) in
     let k1 = kept s0 s1 (handle x) x eq [] _ s.heap x1 s.own.0 apart.array in
-    let k3 = beside-head (handle x) r2.heap r2.head c3' found2 other in
-    let front : AreSameElements (bytes_of s0.bytes) (bytes_of s3.bytes) (handle x) (handle x) i =
-    elements-through (handle x) (handle x) i k1
-    (elements-beside (bytes_of s1.bytes) (bytes_of s2.bytes) (handle x) i c2' (inl (omega arith))) k3 (omega arith)
-    (omega (arith, full, fits, below)) (omega arith) (omega (arith, full, fits, below)) in
-    let moved : AreSameElements (bytes_of s1.bytes) (bytes_of s2.bytes) (handle x + 16 * i + 16) (handle x + 16 * i)
-    n = subst (λ k. AreSameElements (bytes_of s1.bytes) (bytes_of s2.bytes) (k + 16 * i + 16) (k + 16 * i) n) g_is
-    m2 in
-    let back : AreSameElements (bytes_of s0.bytes) (bytes_of s3.bytes) (handle x + 16 * i + 16) (handle x + 16 * i) n =
-    elements-through (handle x + 16 * i + 16) (handle x + 16 * i) n k1 moved k3
-    (omega arith) (omega (arith, full, fits, below)) (omega arith) (omega (arith, full, fits, below)) in
-    let links = links-edited (handle x) ps i (suc i) [] (omega arith) (omega (arith, below)) (omega arith)
-    (omega arith) (omega arith) s.words.array front tt back in
-    let len = removed-length ps i e in
+    let k3 = beside-head (handle x) r2.heap r2.head c3' (run-found r2).0 other in
+    let front = elements-through g g i k1 (elements-beside g i c2 (inl (omega arith))) k3 (omega (arith, g_is))
+    (omega (arith, g_is, full, fits, below)) (omega (arith, g_is)) (omega (arith, g_is, full, fits, below)) in
+    let back = elements-through (g + (16 * i + 16)) (g + 16 * i) (n - i - 1) k1 m2 k3 (omega (arith, g_is))
+    (omega (arith, g_is, n_is, full, fits, below)) (omega (arith, g_is))
+    (omega (arith, g_is, n_is, full, fits, below)) in
+    let links = links-edited g ps i (suc i) [] (omega (arith, below)) (omega (arith, below)) (omega arith)
+    (omega arith) (omega (arith, n_is)) (subst (λ h. AreTextLinks (bytes_of s0.bytes) h ps) (sym g_is) s.words.array)
+    front tt back in
+    let len : n - 1 ≡ length (remove ps i) = omega (arith, n_is, removed-length ps i e) in
     texts-between (remove ps i) (take i ps) (q ∷ []) [] (drop (suc i) ps) {u = t} (around ps i e) refl
-    (ap (λ (xs : List Extent). x ∷ xs) (sym one)) refl s r3.change s.table (omega (arith, len, fits))
-    (subst (λ k. AreHeadWords (bytes_of s3.bytes) at k t) (sym len) r3.words) links tt tt
+    (ap (λ (xs : List Extent). x ∷ xs) (sym one)) refl s r3.change s.table (omega (arith, len, n_is, fits))
+    (subst (λ k. AreHeadWords (bytes_of s3.bytes) (place_at p) k t) len r3.words)
+    (subst (λ h. AreTextLinks (bytes_of s3.bytes) h (remove ps i)) g_is links) tt tt
 
 -- ---- once the block of the text is released
 
@@ -206,23 +198,6 @@ left s0 s1 {p} {ps} {g} i {o = Some x} {q} s e link =
             (room-head s0 p s.heap s.room) y apart.head,
       );
     }
-
--- as the calls say it
-pub erased-by : {s0 s1 s2 s3 : Cut} {p : Place} {ps : List OwnedText} {g : ℕ} (i n : ℕ) {t : Table} {q : OwnedText}
-    → IsTexts s0.bytes p ps t → slice_get ps i ≡ Some q → link_at (bytes_of s0.bytes) (place_at p) ≡ Some g
-    → n ≡ length ps
-    → IsSwapped s0 s1 (option_to_list q.extent) [] → IsChanged current s1 s2 (g + 16 * i) (16 * (n - i - 1))
-    → AreSameElements (bytes_of s1.bytes) (bytes_of s2.bytes) (g + (16 * i + 16)) (g + 16 * i) (n - i - 1)
-    → IsChanged current s2 s3 (p.handle + (p.at + 8)) 8 → word_at (bytes_of s3.bytes) (p.handle + (p.at + 8)) ≡ n - 1
-    → IsTextsNow s0 s3 p (option_to_list t.extent ++ option_to_list q.extent) (option_to_list t.extent) (remove ps i) t
-erased-by {s1} {s2} {s3} {p} {ps} {g} i n s e link is x1 c2 m2 c3 word =
-    let up : g + (16 * i + 16) ≡ g + 16 * i + 16 = omega arith in
-    let at : p.handle + (p.at + 8) ≡ p.handle + p.at + 8 = omega arith in
-    text-erased {s2 = s2} {s3 = s3} i s e link x1
-    (subst (λ k. IsChanged current s1 s2 (g + 16 * i) (16 * (k - i - 1))) is c2) (subst (λ k. AreSameElements (bytes_of s1.bytes) (bytes_of s2.bytes) k (g + 16 * i) (length ps - i - 1)) up
-    (subst (λ k. AreSameElements (bytes_of s1.bytes) (bytes_of s2.bytes) (g + (16 * i + 16)) (g + 16 * i)
-    (k - i - 1)) is m2)) (subst (λ k. IsChanged current s2 s3 k 8) at c3)
-    (subst (λ k. word_at (bytes_of s3.bytes) k ≡ length ps - 1) at (word ∙ ap (λ k. k - 1) is))
 
 -- ---- the array as bytes
 

@@ -14,8 +14,7 @@ use W.{IsTextPutIn, placed_text, with_array, AreTextLinks, OwnedText, IsOwnedTex
 use Rattle.seg_vector.proofs.Runs.{AreHeadWords, IsHead, IsRun, beside-head, block-written, head-kept, head-wider}
 use Rattle.seg_vector.proofs.Runs.{len-written, none-some, own-facts, run-found, run-headed, run-none, run-swapped}
 use Rattle.seg_vector.proofs.TextBlocks.{element-beside, element-in, element-trans, even-block, found-live, found-texts}
-use Rattle.seg_vector.proofs.TextBlocks.{links-at, links-edited, links-moved, links-split, one-of, own-head, run-begin}
-use Rattle.seg_vector.proofs.TextBlocks.{texts-between, texts-own}
+use Rattle.seg_vector.proofs.TextBlocks.{links-at, links-edited, one-of, own-head, run-begin, texts-between, texts-own}
 use Rattle.seg_vector.proofs.TextGrowth.{grown-to, not-grown, all-beside-head, new-other, IsReadyRun, ready-in, ready}
 use Rattle.seg_vector.proofs.TextCalls.{loose-kept, run-others, texts-stand, texts-still}
 use Rattle.seg_vector.proofs.{Runs.same-some, Runs.serves-full, Runs.table, Runs.table-full, Typed.has-element}
@@ -62,57 +61,6 @@ flip-each y (x ∷ xs) d = (((λ f. d.0 (sym f)), tt), flip-each y xs d.1)
 
 -- ---- the vector afterwards
 
-put_in : {first now b1 b2 new : Cut} {p : Place} {ps : List OwnedText} {t : Table} {y : Extent} {m : ℕ} {z : OwnedText}
-    (i : ℕ) → IsPutReady first now p ps t y m z → i ≤ length ps
-    → IsChanged current now b1 (handle y + 16 * i + 16) (16 * (length ps - i))
-    → AreSameElements (bytes_of now.bytes) (bytes_of b1.bytes) (handle y + 16 * i) (handle y + 16 * i + 16)
-    (length ps - i)
-    → IsChanged current b1 b2 (handle y + 16 * i) 16 → link_at (bytes_of b2.bytes) (handle y + 16 * i) ≡ option_map
-    handle z.extent → word_at (bytes_of b2.bytes) (handle y + 16 * i + 8) ≡ length z.bytes
-    → IsChanged current b2 new (place_at p + 8) 8 → word_at (bytes_of new.bytes) (place_at p + 8) ≡ length ps + 1
-    → IsTextsNow first new p (option_to_list t.extent) (y ∷ option_to_list z.extent) (insert ps i z) (table m (Some y))
-put_in {first} {now} {b1} {b2} {new} {p} {ps} {t} {y} {m} {z} i r inside c1 m1 c2 link len c3 word =
-    let k = length ps in let u = table m (Some y) in let gone = option_to_list t.extent in
-    let ez = option_to_list z.extent in
-    let come : List Extent = y ∷ ez in
-    let at = place_at p in let space = r.space in let big = put-big r in
-    let first_head = own-head (texts-own first r.texts) in let r0 = put-run r in
-    let none = run-none first_head (none-array first r.texts) r0 in
-    let found0 = run-found r0 in
-    let x1 = block-written (16 * m) r0.heap found0.0 c1 (omega arith) (omega (arith, inside, space)) big in
-    let r1 = run-swapped ez (spread-refl come) r0 x1 (none.0, tt) in
-    let found1 = run-found r1 in
-    let x2 = block-written (16 * m) r1.heap found1.0 c2 (omega arith) (omega (arith, inside, space)) big in
-    let r2 = run-swapped ez (spread-refl come) r1 x2 (none.0, tt) in
-    let found2 = run-found r2 in
-    let c3' = head-wider p c3 (omega arith) (omega arith) in
-    let r3 = run-headed r2 c3' (len-written (k + 1) refl c3.rest word r2.words) in
-    let y3 = beside-head (handle y) r2.heap r2.head c3' found2.0 none.0 in
-    let front : AreSameElements (bytes_of now.bytes) (bytes_of new.bytes) (handle y) (handle y) i = λ j f.
-    element-trans (element-trans (element-beside (handle y + 16 * j) c1.rest (inl (omega (arith, f))))
-    (element-beside (handle y + 16 * j) c2.rest (inl (omega (arith, f)))))
-    (element-in (handle y + 16 * j) y3 (omega arith) (omega (arith, f, inside, space, big))) in
-    let back : AreSameElements (bytes_of now.bytes) (bytes_of new.bytes) (handle y + 16 * i) (handle y + 16 * i + 16)
-    (k - i) = λ j f.
-    element-trans (element-trans (m1 j f)
-    (element-beside (handle y + 16 * i + 16 + 16 * j) c2.rest (inr (omega arith))))
-    (element-in (handle y + 16 * i + 16 + 16 * j) y3 (omega arith) (omega (arith, f, inside, space, big))) in
-    let own = element-in (handle y + 16 * i) y3 (omega arith) (omega (arith, inside, space, big)) in
-    let links = links-edited (handle y) ps i i (z ∷ []) inside inside refl (omega arith) refl r.links front
-    (own.link ∙ link, own.len_word ∙ len, tt) back in
-    let apart = flip-each y ez (run-others r0).0 in
-    let t1 = loose-kept z.bytes z.extent r0.heap x1 found0.1 apart r.served r.owned in
-    let t2 = loose-kept z.bytes z.extent r1.heap x2 t1.1 apart r.served t1.0 in
-    let t3 = same-loose (bytes_of b2.bytes) (bytes_of new.bytes) z.bytes z.extent
-    (all-beside-head ez r2.heap r2.head c3' found2.1 none.1) r.served t2.0 in
-    let long : length (insert ps i z) ≡ k + 1 =
-    omega (arith, length-append (take i ps) (z ∷ drop i ps), length-take i ps, length-drop i ps, inside) in
-    texts-between (insert ps i z) (take i ps) [] (z ∷ []) (drop i ps) {u = u} (sym (take-append-drop i ps)) refl
-    (sym (append-nil gone)) (ap (λ (xs : List Extent). y ∷ xs) (sym (append-nil ez)))
-    r.texts r3.change r.table (omega (arith, long, space))
-    (subst (λ w. AreHeadWords (bytes_of new.bytes) at w u) (sym long) r3.words) links (t3, tt) (r.served, tt)
-
--- as the calls say it
 pub put-by : {first now b1 b2 new : Cut} {p : Place} {ps : List OwnedText} {t : Table} {y : Extent} {m : ℕ}
     {z : OwnedText} (i : ℕ) {g : ℕ} (n len : ℕ) (block : Option ℕ) → IsPutReady first now p ps t y m z → i ≤ length ps
     → block ≡ option_map handle z.extent → len ≡ length z.bytes → link_at (bytes_of now.bytes) (place_at p) ≡ Some g
@@ -123,21 +71,48 @@ pub put-by : {first now b1 b2 new : Cut} {p : Place} {ps : List OwnedText} {t : 
     → word_at (bytes_of b2.bytes) (g + 16 * i + 8) ≡ len
     → IsChanged current b2 new (p.handle + (p.at + 8)) 8 → word_at (bytes_of new.bytes) (p.handle + (p.at + 8)) ≡ n + 1
     → IsTextsNow first new p (option_to_list t.extent) (y ∷ option_to_list z.extent) (insert ps i z) (table m (Some y))
-put-by {now} {b1} {b2} {new} {p} {ps} {y} i n len block r inside at_is len_is leads n_is c1 m1 c2 link word c3 last =
-    let at : p.handle + (p.at + 8) ≡ p.handle + p.at + 8 = omega arith in
-    let g_is = same-some (sym leads ∙ r.link) in
-    let k_is : n ≡ length ps = n_is ∙ r.len_word in
-    put_in {b1 = b1} {b2 = b2} {new = new} i r inside
-    (subst (λ k. IsChanged current now b1 (handle y + 16 * i + 16) (16 * (k - i))) k_is
-    (subst (λ h. IsChanged current now b1 (h + 16 * i + 16) (16 * (n - i))) g_is c1))
-    (subst (λ k. AreSameElements (bytes_of now.bytes) (bytes_of b1.bytes) (handle y + 16 * i) (handle y + 16 * i + 16)
-    (k - i)) k_is
-    (subst (λ h. AreSameElements (bytes_of now.bytes) (bytes_of b1.bytes) (h + 16 * i) (h + 16 * i + 16) (n - i))
-    g_is m1)) (subst (λ h. IsChanged current b1 b2 (h + 16 * i) 16) g_is c2)
-    (subst (λ h. link_at (bytes_of b2.bytes) (h + 16 * i) ≡ block) g_is link ∙ at_is)
-    (subst (λ h. word_at (bytes_of b2.bytes) (h + 16 * i + 8) ≡ len) g_is word ∙ len_is)
-    (subst (λ k. IsChanged current b2 new k 8) at c3) (subst (λ k. word_at (bytes_of new.bytes) k ≡ length ps + 1) at
-    (last ∙ ap (λ k. k + 1) k_is))
+put-by {first} {now} {b1} {b2} {new} {p} {ps} {t} {y} {m} {z} i {g} n len block r inside at_is len_is leads n_is c1 m1 c2
+    link word c3 last =
+    let u = table m (Some y) in let gone = option_to_list t.extent in let ez = option_to_list z.extent in
+    let come : List Extent = y ∷ ez in
+    let g_is = same-some (sym leads ∙ r.link) in let k_is : n ≡ length ps = n_is ∙ r.len_word in
+    let space = r.space in let big = put-big r in
+    let r0 = put-run r in
+    let none = run-none (own-head (texts-own first r.texts)) (none-array first r.texts) r0 in
+    let found0 = run-found r0 in
+    let x1 = block-written (16 * m) r0.heap found0.0 c1 (omega (arith, g_is)) (omega (arith, g_is, k_is, inside, space))
+    big in
+    let r1 = run-swapped ez (spread-refl come) r0 x1 (none.0, tt) in
+    let x2 = block-written (16 * m) r1.heap (run-found r1).0 c2 (omega (arith, g_is)) (omega (arith, g_is, inside, space))
+    big in
+    let r2 = run-swapped ez (spread-refl come) r1 x2 (none.0, tt) in
+    let found2 = run-found r2 in
+    let c3' = head-wider p c3 (omega arith) (omega arith) in
+    let r3 = run-headed r2 c3' (len-written (n + 1) (omega arith) c3.rest last r2.words) in
+    let y3 = beside-head (handle y) r2.heap r2.head c3' found2.0 none.0 in
+    let front : AreSameElements (bytes_of now.bytes) (bytes_of new.bytes) g g i = λ j f.
+    element-trans (element-trans (element-beside (g + 16 * j) c1.rest (inl (omega (arith, f))))
+    (element-beside (g + 16 * j) c2.rest (inl (omega (arith, f)))))
+    (element-in (g + 16 * j) y3 (omega (arith, g_is)) (omega (arith, g_is, f, inside, space, big))) in
+    let back : AreSameElements (bytes_of now.bytes) (bytes_of new.bytes) (g + 16 * i) (g + 16 * i + 16) (n - i) = λ j f.
+    element-trans (element-trans (m1 j f) (element-beside (g + 16 * i + 16 + 16 * j) c2.rest (inr (omega arith))))
+    (element-in (g + 16 * i + 16 + 16 * j) y3 (omega (arith, g_is)) (omega (arith, g_is, k_is, f, inside, space, big))) in
+    let own = element-in (g + 16 * i) y3 (omega (arith, g_is)) (omega (arith, g_is, inside, space, big)) in
+    let links = links-edited g ps i i (z ∷ []) inside inside refl (omega arith) (omega (arith, k_is))
+    (subst (λ h. AreTextLinks (bytes_of now.bytes) h ps) (sym g_is) r.links) front
+    (own.link ∙ link ∙ at_is, own.len_word ∙ word ∙ len_is, tt) back in
+    let apart = flip-each y ez (run-others r0).0 in
+    let t1 = loose-kept z.bytes z.extent r0.heap x1 found0.1 apart r.served r.owned in
+    let t2 = loose-kept z.bytes z.extent r1.heap x2 t1.1 apart r.served t1.0 in
+    let t3 = same-loose (bytes_of b2.bytes) (bytes_of new.bytes) z.bytes z.extent
+    (all-beside-head ez r2.heap r2.head c3' found2.1 none.1) r.served t2.0 in
+    let long : length (insert ps i z) ≡ n + 1 =
+    omega (arith, length-append (take i ps) (z ∷ drop i ps), length-take i ps, length-drop i ps, inside, k_is) in
+    texts-between (insert ps i z) (take i ps) [] (z ∷ []) (drop i ps) {u = u} (sym (take-append-drop i ps)) refl
+    (sym (append-nil gone)) (ap (λ (xs : List Extent). y ∷ xs) (sym (append-nil ez)))
+    r.texts r3.change r.table (omega (arith, long, k_is, space))
+    (subst (λ w. AreHeadWords (bytes_of new.bytes) (place_at p) w u) (sym long) r3.words)
+    (subst (λ h. AreTextLinks (bytes_of new.bytes) h (insert ps i z)) g_is links) (t3, tt) (r.served, tt)
 
 -- ---- what the calls of a put need
 

@@ -116,29 +116,30 @@ beside-text : {old now mid : Cut} {y : Extent} {tb oq : List Extent} → IsSwapp
 beside-text {old} {now} {mid} {y} {tb} {oq} p q = exchange-order _ old mid 0 0 _ _ _ (last-first oq (y ∷ tb))
     (exchange-next _ old now mid 0 0 _ _ [] (y ∷ tb) oq (spread-refl (y ∷ tb)) p q)
 
-laid-links : (now : Cut) {mid new : Cut} {y : Extent} (i n : ℕ) (ps : List OwnedText) (q : OwnedText) → length ps ≡ i
-    → i < n → 16 * n + 16 ≤ y.len → SameBlock (bytes_of now.bytes) (bytes_of mid.bytes) y
-    → IsChanged current mid new (handle y + 16 * i) 16 → link_at (bytes_of new.bytes) (handle y + 16 * i) ≡ option_map
-    handle q.extent → word_at (bytes_of new.bytes) (handle y + 16 * i + 8) ≡ length q.bytes
+laid-links : (now : Cut) {mid new : Cut} {y : Extent} {g : ℕ} (i n : ℕ) (ps : List OwnedText) (q : OwnedText)
+    → handle y ≡ g → length ps ≡ i → i < n → 16 * n + 16 ≤ y.len → SameBlock (bytes_of now.bytes) (bytes_of mid.bytes) y
+    → IsChanged current mid new (g + 16 * i) 16 → link_at (bytes_of new.bytes) (g + 16 * i) ≡ option_map handle q.extent
+    → word_at (bytes_of new.bytes) (g + 16 * i + 8) ≡ length q.bytes
     → AreTextLinks (bytes_of now.bytes) (handle y) ps → AreTextLinks (bytes_of new.bytes) (handle y) (ps ++ (q ∷ []))
-laid-links now {new} {y} i n ps q long below big stays c link len l =
+laid-links now {new} {y} {g} i n ps q at long below big stays c link len l =
     let same : AreSameElements (bytes_of now.bytes) (bytes_of new.bytes) (handle y) (handle y) (length ps) = λ j f.
     element-trans (element-in (handle y + 16 * j) stays (omega arith) (omega (arith, f, long, below, big)))
-    (element-beside (handle y + 16 * j) c.rest (inl (omega (arith, f, long)))) in
+    (element-beside (handle y + 16 * j) c.rest (inl (omega (arith, at, f, long)))) in
+    let behind : g + 16 * i ≡ handle y + 16 * length ps = omega (arith, at, long) in
     links-join (bytes_of new.bytes) (handle y) ps (q ∷ [])
     (links-moved (bytes_of now.bytes) (bytes_of new.bytes) (handle y) (handle y) ps l same)
-    (subst (λ k. AreTextLinks (bytes_of new.bytes) (handle y + 16 * k) (q ∷ [])) (sym long) (link, len, tt))
+    (subst (λ k. AreTextLinks (bytes_of new.bytes) k (q ∷ [])) behind (link, len, tt))
 
-pub laid-next : {old now mid new : Cut} {y : Extent} {i : ℕ} (n : ℕ) {bytes : List ℕ} {more : List (List ℕ)}
-    {block : Option ℕ} → AreLaid old now y i more → drop i more ≡ bytes ∷ drop (i + 1) more → i < n
-    → 16 * n + 16 ≤ y.len → IsTextPlaced now mid bytes block → IsChanged current mid new (handle y + 16 * i) 16
-    → link_at (bytes_of new.bytes) (handle y + 16 * i) ≡ block → word_at (bytes_of new.bytes) (handle y + 16 * i + 8)
+pub laid-put : {old now mid new : Cut} {y : Extent} {i : ℕ} (n array : ℕ) {bytes : List ℕ} {more : List (List ℕ)}
+    {block : Option ℕ} → handle y ≡ array → AreLaid old now y i more → drop i more ≡ bytes ∷ drop (i + 1) more → i < n
+    → 16 * n + 16 ≤ y.len → IsTextPlaced now mid bytes block → IsChanged current mid new (array + 16 * i) 16
+    → link_at (bytes_of new.bytes) (array + 16 * i) ≡ block → word_at (bytes_of new.bytes) (array + 16 * i + 8)
     ≡ length bytes → AreLaid old new y (i + 1) more
-laid-next {old} {now} {mid} {new} {y} {i} n {bytes} {more} a split below big pl c link len =
+laid-put {old} {now} {mid} {new} {y} {i} n array {bytes} {more} at a split below big pl c link len =
     let q = pl.text in let oq = option_to_list q.extent in let tb = text_blocks a.texts in
     let rest = drop (i + 1) more in let here = are-come a.change in let x1 = beside-text a.change pl.change in
     let there = are-come x1 in
-    let x2 = block-written (16 * n) there.heap there.found.0 c (omega arith) (omega (arith, below)) big in
+    let x2 = block-written (16 * n) there.heap there.found.0 c (omega (arith, at)) (omega (arith, at, below)) big in
     let x3 = exchange-next _ old mid new 0 0 _ _ _ (tb ++ oq) _ (spread-refl (y ∷ (tb ++ oq))) x1 x2 in
     let blocks = blocks-more a.texts q in
     let served = all-join IsServed a.texts (q ∷ []) a.served (pl.served, tt) in
@@ -159,7 +160,7 @@ laid-next {old} {now} {mid} {new} {y} {i} n {bytes} {more} a split below big pl 
           (placed-one (live_of now.bytes) (live_of new.bytes) bytes rest pl.placed live)
           ∙ one-before a.texts q (placed_texts (live_of new.bytes) rest);
       change = subst (λ (xs : List Extent). IsSwapped old new (y ∷ []) (y ∷ xs)) (sym blocks) x3;
-      links = laid-links now i n a.texts q a.long below big
+      links = laid-links now i n a.texts q at a.long below big
           (kept now mid (handle y) y [] oq _ here.heap pl.change here.found.0 tt) c (link ∙ pl.at)
           (len ∙ ap length (sym pl.same)) a.links;
       owned = owned-same (bytes_of mid.bytes) (bytes_of new.bytes) (a.texts ++ (q ∷ [])) stay served
@@ -227,16 +228,6 @@ pub found-big : (c : Cut) (array n : ℕ) {y : Extent} → IsHeap current c.byte
 found-big c array n {y} heap room found =
     let r = roomy c array n heap room in
     subst (λ (x : Extent). n + 16 ≤ x.len) (same-some (sym r.found ∙ found)) r.room
-
-pub laid-put : {old now mid new : Cut} {y : Extent} {i : ℕ} (n array : ℕ) {bytes : List ℕ} {more : List (List ℕ)}
-    {block : Option ℕ} → handle y ≡ array → AreLaid old now y i more → drop i more ≡ bytes ∷ drop (i + 1) more → i < n
-    → 16 * n + 16 ≤ y.len → IsTextPlaced now mid bytes block → IsChanged current mid new (array + 16 * i) 16
-    → link_at (bytes_of new.bytes) (array + 16 * i) ≡ block → word_at (bytes_of new.bytes) (array + 16 * i + 8)
-    ≡ length bytes → AreLaid old new y (i + 1) more
-laid-put {mid} {new} {i} n array {bytes} {block} at a split below big pl c link len =
-    laid-next {new = new} n a split below big pl (subst (λ k. IsChanged current mid new (k + 16 * i) 16) (sym at) c)
-    (subst (λ k. link_at (bytes_of new.bytes) (k + 16 * i) ≡ block) (sym at) link)
-    (subst (λ k. word_at (bytes_of new.bytes) (k + 16 * i + 8) ≡ length bytes) (sym at) len)
 
 -- ---- an array that was taken into use, and the texts that are laid out in it: all of them, or none once it is given
 -- up
@@ -478,14 +469,21 @@ beside-own {old} {now} {p} {ps} {t} {come} s x =
 
 -- ---- the vector afterwards
 
-assigned-at : {old now rel new : Cut} {p : Place} {ps : List OwnedText} {t : Table} {g n : ℕ} {more : List (List ℕ)}
-    → IsTexts old.bytes p ps t → (w : AreLaidOut old now more g) → n ≡ length more → 0 < n
-    → IsTextsNow now rel p (own_blocks ps t) [] [] no_table → IsChanged current rel new (place_at p) 24
-    → AreHeadWords (bytes_of new.bytes) (place_at p) n (table n (Some w.block)) → AreTextsAssigned old new p ps t more
-assigned-at {old} {now} {rel} {new} {p} {ps} {t} {n} {more} s w e some x c words =
+pub laid-still : {old now : Cut} {p : Place} {ps : List OwnedText} {t : Table} {g : ℕ} {more : List (List ℕ)}
+    → IsTexts old.bytes p ps t → AreLaidOut old now more g → IsTexts now.bytes p ps t
+laid-still s w = texts-still s w.change
+
+pub assigned : {old now rel led new : Cut} {p : Place} {ps : List OwnedText} {t : Table} {g : ℕ} (n : ℕ)
+    {more : List (List ℕ)} → IsTexts old.bytes p ps t → (w : AreLaidOut old now more g) → n ≡ length more → 0 < n
+    → ReleasesTexts now rel p
+    → IsPointed rel led p g n → IsChanged current led new (p.handle + (p.at + 8)) 8
+    → word_at (bytes_of new.bytes) (p.handle + (p.at + 8)) ≡ n
+    → AreTextsAssigned old new p ps t more
+assigned {old} {now} {rel} {led} {new} {p} {ps} {t} n {more} s w e some released q d word =
     let at = place_at p in let own = own_blocks ps t in let y = w.block in let qs = w.texts in
     let come : List Extent = y ∷ text_blocks qs in
-    let u = table n (Some y) in let b = beside-own s w.change in
+    let u = table n (Some y) in let x = released ps t (laid-still s w) in let b = beside-own s w.change in
+    let c = changed-both at 24 q.change d (omega arith) (omega arith) (omega arith) (omega arith) in
     let e2 = head-exchanged p x.texts.heap x.texts.room c in
     let e12 = exchange-next _ now rel new at 24 own [] [] [] [] (spread-refl []) x.change e2 in
     let all = exchange-next _ old now new at 24 own _ own come [] (last-first come own) b.change e12 in
@@ -493,10 +491,11 @@ assigned-at {old} {now} {rel} {new} {p} {ps} {t} {n} {more} s w e some x c words
     let serves_all = place-serves (live_of old.bytes) (16 * n) Storage y
     (subst (λ k. place (live_of old.bytes) (16 * k) Storage ≡ Some y) (sym e) w.fit) in
     let big = serves-full y (16 * n) serves_all in
-    let long : length qs ≡ n = w.long ∙ sym e in
-    let same : AreSameElements (bytes_of now.bytes) (bytes_of new.bytes) (handle y) (handle y) (length qs) = λ j f.
-    element-in (handle y + 16 * j) stay.0 (omega arith) (omega (arith, f, long, big)) in
-    let links = links-moved (bytes_of now.bytes) (bytes_of new.bytes) (handle y) (handle y) qs w.links same in
+    let long : n ≡ length qs = e ∙ sym w.long in
+    let words : AreHeadWords (bytes_of new.bytes) at n u = len-written n (omega arith) d.rest word
+    (record { link = q.link ∙ ap (λ k. Some k) w.at; len_word = refl; capacity = q.capacity }) in
+    let links = links-moved (bytes_of now.bytes) (bytes_of new.bytes) (handle y) (handle y) qs w.links
+    (λ j f. element-in (handle y + 16 * j) stay.0 (omega arith) (omega (arith, f, long, big))) in
     let owned = owned-same (bytes_of now.bytes) (bytes_of new.bytes) qs stay.1 w.served w.owned in
     record {
       table = table (length more) (Some y);
@@ -507,29 +506,8 @@ assigned-at {old} {now} {rel} {new} {p} {ps} {t} {n} {more} s w e some x c words
       now = subst (λ k. IsTextsNow old new p own come qs (table k (Some y))) e
           (texts-between qs [] ps qs [] {u = u} (sym (append-nil ps)) (sym (append-nil qs)) refl refl s all
           (new-table n y some serves_all) (omega (arith, long))
-          (subst (λ k. AreHeadWords (bytes_of new.bytes) at k u) (sym long) words) links owned w.served);
+          (subst (λ k. AreHeadWords (bytes_of new.bytes) at k u) long words) links owned w.served);
     }
-
-pub laid-still : {old now : Cut} {p : Place} {ps : List OwnedText} {t : Table} {g : ℕ} {more : List (List ℕ)}
-    → IsTexts old.bytes p ps t → AreLaidOut old now more g → IsTexts now.bytes p ps t
-laid-still s w = texts-still s w.change
-
--- as the calls say it
-pub assigned : {old now rel led new : Cut} {p : Place} {ps : List OwnedText} {t : Table} {g : ℕ} (n : ℕ)
-    {more : List (List ℕ)} → IsTexts old.bytes p ps t → (w : AreLaidOut old now more g) → n ≡ length more → 0 < n
-    → ReleasesTexts now rel p
-    → IsPointed rel led p g n → IsChanged current led new (p.handle + (p.at + 8)) 8
-    → word_at (bytes_of new.bytes) (p.handle + (p.at + 8)) ≡ n
-    → AreTextsAssigned old new p ps t more
-assigned {rel} {led} {new} {p} {ps} {t} n s w e some r q d word =
-    let at : p.handle + (p.at + 8) ≡ place_at p + 8 = omega arith in
-    let u = table n (Some w.block) in
-    let d' : IsChanged current led new (place_at p + 8) 8 = subst (λ k. IsChanged current led new k 8) at d in
-    let both = changed-both (place_at p) 24 q.change d' (omega arith) (omega arith) (omega arith) (omega arith) in
-    let before : AreHeadWords (bytes_of led.bytes) (place_at p) (word_at (bytes_of led.bytes) (place_at p + 8)) u =
-    record { link = q.link ∙ ap (λ k. Some k) w.at; len_word = refl; capacity = q.capacity } in
-    let words = len-written n refl d'.rest (subst (λ k. word_at (bytes_of new.bytes) k ≡ n) at word) before in
-    assigned-at s w e some (r ps t (laid-still s w)) both words
 
 pub laid-even : {old now : Cut} {g : ℕ} {more : List (List ℕ)} → AreLaidOut old now more g → g % 16 ≡ 0
 laid-even {now} w =

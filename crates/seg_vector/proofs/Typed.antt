@@ -6,9 +6,9 @@ use W.{insert, remove, slice_get, slice_set, nat_le, option_to_list, list_all, a
 use W.{list_all-append, take-append-drop, length-set, length-take, flat_map-append, take-append-add, drop-append-add}
 use W.{take-append_seam, length-insert, length-remove, part, patched, Cut, bytes_of, word_at, current, IsExchanged}
 use W.{IsChanged, IsHeap, has_room, live_of, Table, no_table, Refusal, Place, Erases, Result, Ok, Err, MatchResult}
-use W.{Extends, Fits, GivesBack, Inserts, IsFitted, IsGivenBack, IsRewritten, Overwrites, ReadsOne, Truncates}
-use W.{IsGrown, Grows, IsStanding, Stands, place_at, IsText, IsTextGrown, IsTextNow, capacity_for_one}
-use W.{capacity_for_text, IsVector, IsVectorGrown, IsVectorNow, IsWithoutSpace, Starts, []}
+use W.{Extends, Fits, GivesBack, Inserts, IsFitted, IsGivenBack, IsRewritten, Overwrites, ReadsOne, Truncates, IsGrown}
+use W.{Grows, IsStanding, Stands, place_at, IsText, IsTextGrown, IsTextNow, capacity_for_one, capacity_for_text}
+use W.{IsVector, IsVectorGrown, IsVectorNow, IsWithoutSpace, Starts, []}
 use Rattle.seg_vector.proofs.Storage.{capacity-bytes, exchange-then, has-place, not-refused, unchanged-rewritten}
 use Rattle.seg_vector.proofs.{Runs.head-exchanged, Runs.same-some, Runs.table, Storage.wanted-places}
 use Rattle.best_fit.specs.Table.{cut_table}

@@ -1,7 +1,7 @@
 -- The vector's words are those that they were, until they are written.
-use Rattle.seg_vector.proofs.{refl, sym, ap, subst, ◌∙◌, ◌+◌, ◌*◌, Some, length, current, bytes_of, IsChanged}
-use Rattle.seg_vector.proofs.{live_of, changed-room, laid-heap, AreSameElements, head-room, live-if, adopt-none}
-use Rattle.seg_vector.proofs.{adopt-other, adopt-same, ready, ready-even, ready-new, since-len, ready-link}
+use Rattle.seg_vector.proofs.{refl, sym, ap, subst, ◌∙◌, ◌+◌, ◌*◌, Some, length, current, bytes_of, IsChanged, live_of}
+use Rattle.seg_vector.proofs.{changed-room, laid-heap, AreSameElements, head-room, live-if, adopt-none, adopt-other}
+use Rattle.seg_vector.proofs.{adopt-same, ready, ready-even, ready-new, since-len, ready-link}
 use Rattle.seg_vector.proofs.text_arrays.adopt.Goals as goal
 
 pub len_of-len-requires : goal.len_of-len-requires

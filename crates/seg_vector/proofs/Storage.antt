@@ -487,16 +487,10 @@ short-extents l p =
     let low = (legal_size l.size two.0).low in
     (ends 128 l.extents (l.size - 16) (omega (arith, high, low)) two.1).1
 
-regrow-longer : (l : LiveSet) (x : Extent) {y : Extent} (n : ℕ) → holds x n ≡ false → longer l x n ≡ Some y
-    → regrow l (Some x) n ≡ Some y
+regrow-moved : (l : LiveSet) (x : Extent) (n : ℕ) (o : Option Extent) → holds x n ≡ false → longer l x n ≡ o
+    → regrow l (Some x) n ≡ (elim o as (λ _. Option Extent) [ Some y ↦ Some y | None ↦ place l n Storage ])
 unfolding regrow
-regrow-longer l x {y} n e f = λ i. if e i then Some x else elim (f i) as (λ _. Option Extent)
-    [ Some y ↦ Some y | None ↦ place l n Storage ]
-
-regrow-placed : (l : LiveSet) (x : Extent) (n : ℕ) → holds x n ≡ false → longer l x n ≡ None
-    → regrow l (Some x) n ≡ place l n Storage
-unfolding regrow
-regrow-placed l x n e f = λ i. if e i then Some x else elim (f i) as (λ _. Option Extent)
+regrow-moved l x n o e f = λ i. if e i then Some x else elim (f i) as (λ _. Option Extent)
     [ Some y ↦ Some y | None ↦ place l n Storage ]
 
 pub regrow-new : (l : LiveSet) (n : ℕ) → regrow l None n ≡ place l n Storage
@@ -506,7 +500,7 @@ regrow-new l n = refl
 none-by : (l : LiveSet) {x : Extent} (n : ℕ) (o : Option Extent) → IsTrue (is_proper l)
     → extent_at l (handle x) ≡ Some x → IsTrue (same_role x.role Storage) → 1073741824 < n → holds x n ≡ false
     → longer l x n ≡ o → place l n Storage ≡ None → regrow l (Some x) n ≡ None
-none-by l {x} n None p found role f e is none = regrow-placed l x n e is ∙ none
+none-by l {x} n None p found role f e is none = regrow-moved l x n None e is ∙ none
 none-by l {x} n (Some y) p found role f e is none =
     let here : IsTrue (is_extent l x) =
     subst (λ (o : Option Extent). IsTrue (elim o as (λ _. Bool) [ None ↦ false | Some z ↦ z.len == x.len ]))
@@ -515,7 +509,7 @@ none-by l {x} n (Some y) p found role f e is none =
     ((all_keep_proper l p).longer x n here) in
     let less = (all_of-insert (λ (z : Extent). z.len < 1073741824) y (others (handle y) l.extents)
     (short-extents (resized l y) proper)).0 in
-    let serving = regrow-serves l (Some x) y n role (regrow-longer l x n e is) in
+    let serving = regrow-serves l (Some x) y n role (regrow-moved l x n (Some y) e is) in
     let long = serves-full y n serving in
     absurd (omega (arith, less, long, f))
 

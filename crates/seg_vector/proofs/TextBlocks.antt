@@ -6,16 +6,16 @@ use W.{Some, None, List, ◌∷◌, ◌++◌, ◌==◌, append_assoc, length, ar
 use W.{drop, Bool, true, false, cond, ◌⊎◌, IsTrue, find, option_to_list, option_map, slice_get, IfSome, AllByRecursion}
 use W.{list_any, flat_map-append, take-take, drop_all, slice_get_within, or_left, or_right, Memory, Cut, bytes_of}
 use W.{word_at, SameBut, Has, current, Storage, link_at, target_of, inserted, without_all, IsExchanged, SameBlockBut}
-use W.{exchanged, Extent, LiveSet, handle, end_of, IsHeap, extent_at, live_of, SameBlock, IsChanged, has_room}
-use W.{is_live_in, payload_at, IsReleased, Table, is_table, no_table, IsFound, IsNone, Rising, SameSpread, all-found-in}
-use W.{all-in-use, found-inserted, found-none, found-room, live-rises, middle-first, rising-others, roomy}
-use W.{spread-behind, all_of-inserted, but-apart, exchanged-live, found-without, inserted-append, laid-heap}
-use W.{without-inserted, kept, kept-found, word-same, block_payload, room_block, exchange-next, exchange-released}
-use W.{exchange-same, spread-refl, IsSound, live-sound, Has-same, SameBut-word, read-part, SameBut-link, Place}
-use W.{IsOwnBlock, place_at, Stands, IsServed, IsSwapped, AreHeldElements, IsHeldElement, AreSameElements}
-use W.{IsSameElement, AreEvenLinks, IsHeldText, IsTexts, text_blocks, IsTextsNow, IsTextElement, AreInArray}
-use W.{IsOwnedText, OwnedText, AreTextLinks, []}
+use W.{Extent, LiveSet, handle, end_of, IsHeap, extent_at, live_of, SameBlock, IsChanged, has_room, is_live_in}
+use W.{payload_at, IsReleased, Table, is_table, no_table, IsFound, IsNone, Rising, SameSpread, all-found-in, all-in-use}
+use W.{found-inserted, found-none, found-room, live-rises, middle-first, rising-others, roomy, spread-behind}
+use W.{all_of-inserted, but-apart, exchanged-live, found-without, inserted-append, laid-heap, without-inserted, kept}
+use W.{kept-found, word-same, block_payload, room_block, exchange-next, exchange-released, exchange-same, spread-refl}
+use W.{IsSound, live-sound, Has-same, SameBut-word, read-part, SameBut-link, Place, IsOwnBlock, place_at, Stands}
+use W.{IsServed, IsSwapped, AreHeldElements, IsHeldElement, AreSameElements, IsSameElement, AreEvenLinks, IsHeldText}
+use W.{IsTexts, text_blocks, IsTextsNow, IsTextElement, AreInArray, IsOwnedText, OwnedText, AreTextLinks, []}
 use Rattle.seg_vector.proofs.Runs.{AreHeadWords, IsHead, IsRun, changed-both, head-exchanged, none-some, same-some}
+use Rattle.seg_vector.proofs.Runs.{came-found}
 use Rattle.seg_vector.proofs.Typed.{has-element}
 use Rattle.seg_vector.proofs.{Runs.serves-full, Runs.table, Runs.table-full, Storage.live-if}
 use Rattle.best_fit.specs.Extents.{is_proper}
@@ -84,7 +84,7 @@ held-head : (l : LiveSet) (bytes : List ℕ) (o : Option Extent) (xs : List Exte
 held-head l bytes None xs s f = (s, f)
 held-head l bytes (Some x) xs s f = ((f.0, s.0, s.1), f.1)
 
-held-texts : (l : LiveSet) (ps : List OwnedText) → AllByRecursion IsServed ps
+pub held-texts : (l : LiveSet) (ps : List OwnedText) → AllByRecursion IsServed ps
     → AllByRecursion (IsFound l.extents) (text_blocks ps) → AllByRecursion (IsHeldText l) ps
 held-texts l [] s f = tt
 held-texts l (q ∷ qs) s f = let both = held-head l q.bytes q.extent (text_blocks qs) s.0 f in
@@ -172,47 +172,6 @@ all-join P (x ∷ xs) ys a b = (a.0, all-join P xs ys a.1 b)
 
 -- ---- the texts that stay
 
-pub record IsStaying (l : LiveSet) (m m' : Memory) (h from : ℕ) (x : Extent) : Type 0 where
-  pub found : extent_at l (handle x) ≡ Some x
-  pub other : h ≢ handle x
-  pub but : SameBlockBut m m' from 24 x
-
-staying : (l : LiveSet) (m m' : Memory) (h from : ℕ) (xs : List Extent) → AllByRecursion (IsFound l.extents) xs
-    → AllByRecursion (λ (x : Extent). handle x ≢ h) xs → AllByRecursion (SameBlockBut m m' from 24) xs
-    → AllByRecursion (IsStaying l m m' h from) xs
-staying l m m' h from [] f n s = tt
-staying l m m' h from (x ∷ xs) f n s =
-    (record { found = f.0; other = λ e. n.0 (sym e); but = s.0 }, staying l m m' h from xs f.1 n.1 s.1)
-
-same-staying : {old : Cut} (new : Cut) {p : Place} {own : List Extent} {x : Extent} → IsHeap current old.bytes
-    → AreOwn old p own → IsStaying (live_of old.bytes) (bytes_of old.bytes) (bytes_of new.bytes) p.handle (place_at p) x
-    → SameBlock (bytes_of old.bytes) (bytes_of new.bytes) x
-same-staying {old} new {p} {x} heap o s =
-    but-apart (live_of old.bytes) _ _ _ 24 p.handle (handle x) _ x heap.proper o.found (omega (arith, o.here))
-    (omega (arith, o.here, o.big)) s.other s.found s.but
-
-kept-head : {old : Cut} (new : Cut) {p : Place} {own : List Extent} (bytes : List ℕ) (o : Option Extent)
-    (xs : List Extent) → IsHeap current old.bytes → AreOwn old p own
-    → IsOwnedText (bytes_of old.bytes) (record { bytes = bytes; extent = o })
-    → IsHeldText (live_of old.bytes) (record { bytes = bytes; extent = o })
-    → AllByRecursion (IsStaying (live_of old.bytes) (bytes_of old.bytes) (bytes_of new.bytes) p.handle (place_at p))
-    (option_to_list o ++ xs) → IsOwnedText (bytes_of new.bytes) (record { bytes = bytes; extent = o }) × AllByRecursion
-    (IsStaying (live_of old.bytes) (bytes_of old.bytes) (bytes_of new.bytes) p.handle (place_at p)) xs
-kept-head new bytes None xs heap w t h s = (t, s)
-kept-head {old} new bytes (Some x) xs heap w t h s =
-    let b = same-staying new heap w s.0 in let full = serves-full x (length bytes) h.2 in
-    (Has-same _ _ _ _ (handle x) bytes b.payload (omega arith) (omega (arith, full)) t, s.1)
-
-kept-texts : {old : Cut} (new : Cut) {p : Place} {own : List Extent} (qs : List OwnedText) → IsHeap current old.bytes
-    → AreOwn old p own → AllByRecursion (IsOwnedText (bytes_of old.bytes)) qs
-    → AllByRecursion (IsHeldText (live_of old.bytes)) qs
-    → AllByRecursion (IsStaying (live_of old.bytes) (bytes_of old.bytes) (bytes_of new.bytes) p.handle (place_at p))
-    (text_blocks qs) → AllByRecursion (IsOwnedText (bytes_of new.bytes)) qs
-kept-texts new [] heap w t h s = tt
-kept-texts new (q ∷ qs) heap w t h s =
-    let both = kept-head new q.bytes q.extent (text_blocks qs) heap w t.0 h.0 s in
-    (both.0, kept-texts new qs heap w t.1 h.1 both.1)
-
 served-head : (l : LiveSet) (bytes : List ℕ) (o : Option Extent) → IsHeldText l (record { bytes = bytes; extent = o })
     → IsServed (record { bytes = bytes; extent = o })
 served-head l bytes None h = h
@@ -221,6 +180,35 @@ served-head l bytes (Some x) h = (h.1, h.2)
 pub served-texts : (l : LiveSet) (qs : List OwnedText) → AllByRecursion (IsHeldText l) qs → AllByRecursion IsServed qs
 served-texts l [] h = tt
 served-texts l (q ∷ qs) h = (served-head l q.bytes q.extent h.0, served-texts l qs h.1)
+
+-- a text stays where its block does
+pub same-loose : (m m' : Memory) (bytes : List ℕ) (o : Option Extent)
+    → AllByRecursion (SameBlock m m') (option_to_list o) → IsServed (record { bytes = bytes; extent = o })
+    → IsOwnedText m (record { bytes = bytes; extent = o }) → IsOwnedText m' (record { bytes = bytes; extent = o })
+same-loose m m' bytes None k s w = w
+same-loose m m' bytes (Some x) k s w =
+    let full = serves-full x (length bytes) s.1 in
+    Has-same m m' _ _ (handle x) bytes k.0.payload (omega arith) (omega (arith, full)) w
+
+pub owned-same : (m m' : Memory) (qs : List OwnedText) → AllByRecursion (SameBlock m m') (text_blocks qs)
+    → AllByRecursion IsServed qs → AllByRecursion (IsOwnedText m) qs → AllByRecursion (IsOwnedText m') qs
+owned-same m m' [] k s w = tt
+owned-same m m' (q ∷ qs) k s w =
+    let both = all-split (SameBlock m m') (option_to_list q.extent) (text_blocks qs) k in
+    (same-loose m m' q.bytes q.extent both.0 s.0 w.0, owned-same m m' qs both.1 s.1 w.1)
+
+-- blocks stay where the words of the vector are written
+all-apart : {old : Cut} (new : Cut) {p : Place} {own : List Extent} (xs : List Extent) → IsHeap current old.bytes
+    → AreOwn old p own → AllByRecursion (IsFound (live_of old.bytes).extents) xs
+    → AllByRecursion (λ (x : Extent). handle x ≢ p.handle) xs
+    → AllByRecursion (SameBlockBut (bytes_of old.bytes) (bytes_of new.bytes) (place_at p) 24) xs
+    → AllByRecursion (SameBlock (bytes_of old.bytes) (bytes_of new.bytes)) xs
+all-apart new [] heap o f n s = tt
+all-apart {old} new {p} (x ∷ xs) heap o f n s = (
+  but-apart (live_of old.bytes) _ _ _ 24 p.handle (handle x) _ x heap.proper o.found (omega (arith, o.here))
+      (omega (arith, o.here, o.big)) (λ e. n.0 (sym e)) f.0 s.0,
+  all-apart new xs heap o f.1 n.1 s.1,
+)
 
 -- ---- the vector afterwards
 
@@ -260,13 +248,13 @@ texts-changed {old} {new} {p} a m m' b {t} {u} s x table fits words array texts 
     let apart = all-split (λ (z : Extent). handle z ≢ p.handle) (text_blocks a) (text_blocks m ++ text_blocks b)
     (subst (AllByRecursion (λ (z : Extent). handle z ≢ p.handle)) (blocks-three a m b) s.apart) in
     let apart_b = (all-split (λ (z : Extent). handle z ≢ p.handle) (text_blocks m) (text_blocks b) apart.1).1 in
-    let ta = kept-texts new a s.heap w owned.0 held.0
-    (staying l M M' p.handle (place_at p) (text_blocks a) (found-texts l a held.0) apart.0 blocks.0) in
-    let tb = kept-texts new b s.heap w owned_b held_b
-    (staying l M M' p.handle (place_at p) (text_blocks b) (found-texts l b held_b) apart_b blocks.1) in
+    let sa = served-texts l a held.0 in let sb = served-texts l b held_b in
+    let ta = owned-same M M' a (all-apart new (text_blocks a) s.heap w (found-texts l a held.0) apart.0 blocks.0) sa
+    owned.0 in
+    let tb = owned-same M M' b (all-apart new (text_blocks b) s.heap w (found-texts l b held_b) apart_b blocks.1) sb
+    owned_b in
     let all = all-join (IsOwnedText M') a (m' ++ b) ta (all-join (IsOwnedText M') m' b texts tb) in
-    let good = all-join IsServed a (m' ++ b) (served-texts l a held.0)
-    (all-join IsServed m' b served (served-texts l b held_b)) in
+    let good = all-join IsServed a (m' ++ b) sa (all-join IsServed m' b served sb) in
     record {
       change = x;
       texts = texts-made new.bytes p (a ++ (m' ++ b)) rest heap is
@@ -476,21 +464,15 @@ pub element-left : {old now : Cut} {array n : ℕ} (i : ℕ) {ps : List OwnedTex
     → AreHeldElements old.bytes array n ps → slice_get ps i ≡ Some q
     → IsSwapped old now (text_blocks ps) (text_blocks (drop i ps)) → IsHeldElement now.bytes array (16 * i) q
 element-left {old} {now} {array} {n} i {ps} {q} s e x =
-    let l = live_of old.bytes in let gone = text_blocks ps in let come = text_blocks (drop i ps) in
-    let rest = without_all gone l.extents in let none = none-of array gone s.apart in
+    let gone = text_blocks ps in let come = text_blocks (drop i ps) in let none = none-of array gone s.apart in
     let r = roomy old array (16 * n) s.heap s.room in let at = r.at in let big = r.room in
     let below = slice_get_within ps i q e in
     let within : i < n = omega (arith, below, s.long) in
     let stays = kept old now array _ gone come _ s.heap x r.found none in
-    let now_is : (live_of now.bytes).extents ≡ inserted come rest = ap (λ (k : LiveSet). k.extents)
-    (exchanged-live old now 0 0 gone come _ x) in
-    let all : AllByRecursion (IsFound (live_of now.bytes).extents) come =
-    subst (λ (zs : List Extent). AllByRecursion (IsFound zs) come) (sym now_is)
-    (all-found-in come rest (live-rises (exchanged l gone come) x.live.proper)) in
     let first : AllByRecursion (IsFound (live_of now.bytes).extents)
     (option_to_list q.extent ++ text_blocks (drop (suc i) ps)) =
     subst (λ (xs : List OwnedText). AllByRecursion (IsFound (live_of now.bytes).extents) (text_blocks xs))
-    (drop-at ps i e) all in
+    (drop-at ps i e) (came-found x) in
     record {
       heap = laid-heap _ _ x.live;
       aligned = omega arith;

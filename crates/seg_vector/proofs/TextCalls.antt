@@ -4,21 +4,22 @@ use W.{◌≡◌, ◌≢◌, refl, sym, ap, subst, ◌∙◌, ℕ, ◌+◌, ◌*
 use W.{inl, inr, ◌⊎◌, suc, ◌-◌, ◌<◌, ◌≤◌, length-append, take, drop, zero, ◌%◌, if◌then◌else◌, append_assoc}
 use W.{option_to_list, IsTrue, remove, slice_get, IfSome, ⊤, option_map, slice_set, AllByRecursion, eq-eqb, ne_eqb}
 use W.{length-drop, length-take, take-append-drop, slice_get_within, Memory, Cut, bytes_of, word_at, Has, Same, read}
-use W.{current, link_at, target_of, without_all, exchanged, inserted, Extent, handle, end_of, LiveSet, IsChanged}
-use W.{live_of, SameBlock, IsAllocated, IsHeap, Table, no_table, is_table, SameSpread, exchange-next, exchange-same}
-use W.{exchange-wide, found-room, laid-heap, last-first, spread-refl, IsNone, kept, shorter-IsShorter, word-same}
-use W.{IsFound, all-found-in, allocated-room, exchange-taken, exchanged-live, kept-found, live-rises, place-serves}
-use W.{still_allocated, SameBlock-trans, rising-others, Storage, shorter, place, Has-same, Place, IsGivenBack, IsFitted}
-use W.{Stands, place_at, IsOwnBlock, AreHeldElements, IsSwapped, AreSameElements, IsHeldElement, IsTextPlaced, IsServed}
-use W.{IsTextReplaced, IsTexts, IsTextsNow, text_blocks, IsHeldText, placed_text, AreOthers, AreInArray, IsStorage}
-use W.{OwnedText, AreTextLinks, IsOwnedText, Refusal, IsWithoutFit, []}
+use W.{current, link_at, target_of, without_all, Extent, handle, end_of, LiveSet, IsChanged, live_of, SameBlock}
+use W.{IsAllocated, IsHeap, Table, no_table, is_table, SameSpread, exchange-next, exchange-same, exchange-wide}
+use W.{found-room, laid-heap, last-first, spread-refl, IsNone, kept, shorter-IsShorter, word-same, IsFound}
+use W.{allocated-room, exchange-taken, kept-found, place-serves, still_allocated, SameBlock-trans, Storage, shorter}
+use W.{place, Place, IsGivenBack, IsFitted, Stands, place_at, IsOwnBlock, AreHeldElements, IsSwapped, AreSameElements}
+use W.{IsHeldElement, IsTextPlaced, IsServed, IsTextReplaced, IsTexts, IsTextsNow, text_blocks, placed_text, AreOthers}
+use W.{AreInArray, IsStorage, OwnedText, AreTextLinks, IsOwnedText, Refusal, IsWithoutFit, []}
 use Rattle.seg_vector.proofs.Runs.{AreHeadWords, IsHead, IsRun, beside-head, block-written, head-exchanged, head-kept}
 use Rattle.seg_vector.proofs.Runs.{head-room, head-wider, len-written, none-some, room-head, run-found, run-headed}
-use Rattle.seg_vector.proofs.Runs.{run-swapped, same-some, serves-full, table, table-full, words-kept}
+use Rattle.seg_vector.proofs.Runs.{run-swapped, same-some, table, table-full, words-kept, all-as, came-found}
+use Rattle.seg_vector.proofs.Runs.{came-others, all-kept, all-found-kept, none-of-none}
 use Rattle.seg_vector.proofs.TextBlocks.{none-stands, IsArrayLeft, all-split, array-left, drop-at, element-beside}
 use Rattle.seg_vector.proofs.TextBlocks.{element-in, element-trans, even-block, found-texts, held-element, links-edited}
 use Rattle.seg_vector.proofs.TextBlocks.{links-moved, no-array, none-of, of-none, one-of, own-head, own_blocks}
-use Rattle.seg_vector.proofs.TextBlocks.{run-begin, swapped-none, texts-between, texts-own}
+use Rattle.seg_vector.proofs.TextBlocks.{run-begin, swapped-none, texts-between, texts-own, held-texts, served-texts}
+use Rattle.seg_vector.proofs.TextBlocks.{owned-same, same-loose}
 use Rattle.seg_vector.proofs.{Fewer.cut-some, Typed.set-pieces, Bytes.length-read, Bytes.no-bytes}
 use Rattle.best_fit.specs.Table.{cut_table}
 
@@ -363,27 +364,6 @@ not-placed {old} bytes f r = record {
 
 -- ---- the vector beside it
 
-still-head : {a b : Cut} (bytes : List ℕ) (o : Option Extent) {come : List Extent} → IsHeap current a.bytes
-    → IsSwapped a b [] come → IsOwnedText (bytes_of a.bytes) (record { bytes = bytes; extent = o })
-    → IsHeldText (live_of a.bytes) (record { bytes = bytes; extent = o })
-    → IsOwnedText (bytes_of b.bytes) (record { bytes = bytes; extent = o }) × IsHeldText (live_of b.bytes)
-    (record { bytes = bytes; extent = o })
-still-head bytes None heap x w h = (w, h)
-still-head {a} {b} bytes (Some y) {come} heap x w h =
-    let s = kept a b (handle y) y [] come _ heap x h.0 tt in
-    let full = serves-full y (length bytes) h.2 in (
-      Has-same _ _ _ _ (handle y) bytes s.payload (omega arith) (omega (arith, full)) w,
-      (kept-found a b 0 0 (handle y) y [] come _ x h.0 tt, h.1, h.2),
-    )
-
-still-texts : {a b : Cut} (qs : List OwnedText) {come : List Extent} → IsHeap current a.bytes → IsSwapped a b [] come
-    → AllByRecursion (IsOwnedText (bytes_of a.bytes)) qs → AllByRecursion (IsHeldText (live_of a.bytes)) qs
-    → AllByRecursion (IsOwnedText (bytes_of b.bytes)) qs × AllByRecursion (IsHeldText (live_of b.bytes)) qs
-still-texts [] heap x w h = (tt, tt)
-still-texts (q ∷ qs) heap x w h =
-    let one = still-head q.bytes q.extent heap x w.0 h.0 in let more = still-texts qs heap x w.1 h.1 in
-    ((one.0, more.0), (one.1, more.1))
-
 -- an array has room for its places
 abbrev IfFull : ℕ → Option Extent → Type 0
 IfFull c None = ⊤
@@ -414,17 +394,24 @@ texts-still {a} {b} {p} {ps} {t} s x =
     (record { link = s.words.link; len_word = s.words.len_word; capacity = s.words.capacity }) in
     let arr = still-array p.handle t.capacity t.extent ps s.heap x s.own (full-table t.capacity t.extent s.table)
     s.fits s.words.array in
-    let more = still-texts ps s.heap x s.words.texts s.held in
+    let tb = text_blocks ps in let found = found-texts (live_of a.bytes) ps s.held in
+    let served = served-texts (live_of a.bytes) ps s.held in
     record {
       heap = laid-heap _ _ x.live;
-      words = record
-          { link = words.link; len_word = words.len_word; capacity = words.capacity; array = arr.0; texts = more.0 };
+      words = record {
+        link = words.link;
+        len_word = words.len_word;
+        capacity = words.capacity;
+        array = arr.0;
+        texts = owned-same (bytes_of a.bytes) (bytes_of b.bytes) ps
+            (all-kept tb s.heap x found (none-of-none tb)) served s.words.texts;
+      };
       aligned = s.aligned;
       room = head-room (head-kept w x tt);
       table = s.table;
       fits = s.fits;
       own = arr.1;
-      held = more.1;
+      held = held-texts (live_of b.bytes) ps served (all-found-kept tb x found (none-of-none tb));
       apart = s.apart;
       others = s.others;
     }
@@ -433,20 +420,14 @@ texts-still {a} {b} {p} {ps} {t} s x =
 pub come-even : {a b : Cut} (o : Option Extent) → IsSwapped a b [] (option_to_list o)
     → IfSome (option_map handle o) (λ target. target % 16 ≡ 0)
 come-even {a} {b} o x =
-    let come = option_to_list o in let l = live_of a.bytes in
-    let is : (live_of b.bytes).extents ≡ inserted come l.extents = ap (λ (k : LiveSet). k.extents)
-    (exchanged-live a b 0 0 [] come _ x) in
-    let heap = laid-heap _ _ x.live in
-    even-block (live_of b.bytes) o heap.proper (subst (λ (zs : List Extent). AllByRecursion (IsFound zs) come) (sym is)
-    (all-found-in come l.extents (live-rises (exchanged l [] come) x.live.proper)))
+    let heap = laid-heap _ _ x.live in even-block (live_of b.bytes) o heap.proper (came-found x)
 
 -- ---- a text in the place of another one: its block was taken into use before the other is given back
 
 -- no two of the blocks that came are one
 pub run-others : {old now : Cut} {p : Place} {gone come : List Extent} {n : ℕ} {t : Table}
     → IsRun old now p gone come n t → AreOthers come
-run-others {old} {gone} {come} r = rising-others come (without_all gone (live_of old.bytes).extents)
-    (live-rises (exchanged (live_of old.bytes) gone come) r.change.live.proper)
+run-others r = came-others r.change
 
 -- ---- the text that was placed
 
@@ -457,12 +438,10 @@ pub loose-kept : {a b : Cut} (bytes : List ℕ) (o : Option Extent) {gone come :
     → IsOwnedText (bytes_of a.bytes) (record { bytes = bytes; extent = o })
     → IsOwnedText (bytes_of b.bytes) (record { bytes = bytes; extent = o }) × AllByRecursion
     (IsFound (live_of b.bytes).extents) (option_to_list o)
-loose-kept bytes None heap x f n s w = (w, tt)
-loose-kept {a} {b} bytes (Some y) {gone} {come} heap x f n s w =
-    let k = kept a b (handle y) y gone come _ heap x f.0 n.0 in let full = serves-full y (length bytes) s.1 in (
-      Has-same _ _ _ _ (handle y) bytes k.payload (omega arith) (omega (arith, full)) w,
-      (kept-found a b 0 0 (handle y) y gone come _ x f.0 n.0, tt),
-    )
+loose-kept {a} {b} bytes o heap x f n s w = (
+  same-loose (bytes_of a.bytes) (bytes_of b.bytes) bytes o (all-kept (option_to_list o) heap x f n) s w,
+  all-found-kept (option_to_list o) x f n,
+)
 
 -- its block is none of those behind it
 pub others-front : (o : Option Extent) (xs : List Extent) → AreOthers (option_to_list o ++ xs)
@@ -527,29 +506,16 @@ set_in {s0} {s1} {s3} {p} {ps} {c} {i} {len} {x} {q} {block} s e pl rep len_is a
     ) in
     let len_set : length (slice_set ps i z) ≡ n = ap (λ (xs : List OwnedText). length xs) qs_is ∙ len_qs in
     let apart1 = others-front z.extent gone (run-others r1) in
-    let t2 = loose-kept z.bytes z.extent r1.heap rep.released found1.0 (only-back z.extent x eb apart1) pl.served
-    pl.owned in
-    let t3 = loose-kept z.bytes z.extent r2.heap w3 found2.0 (only-front z.extent x eb apart1) pl.served t2.0 in
+    let from_gone = λ (y : Extent). IsNone (handle y) gone in
+    let from_text = all-as from_gone (λ (y : Extent). IsNone (handle y) eb) (λ y d. d.1) ez apart1 in
+    let from_array = all-as from_gone (λ (y : Extent). IsNone (handle y) (x ∷ [])) (λ y d. (d.0, tt)) ez apart1 in
+    let t2 = loose-kept z.bytes z.extent r1.heap rep.released found1.0 from_text pl.served pl.owned in
+    let t3 = loose-kept z.bytes z.extent r2.heap w3 found2.0 from_array pl.served t2.0 in
     texts-between (slice_set ps i z) (take i ps) (q ∷ []) (z ∷ []) (drop (suc i) ps) {u = t} (around ps i e) qs_is
     (ap (λ (xs : List Extent). x ∷ xs) (sym one))
     (ap (λ (xs : List Extent). x ∷ xs) (sym (append-nil ez))) s r3.change s.table (omega (arith, len_set, fits))
     (subst (λ w. AreHeadWords (bytes_of s3.bytes) (place_at p) w t) (sym len_set) r3.words)
     (subst (AreTextLinks (bytes_of s3.bytes) (handle x)) (sym qs_is) links) (t3.0, tt) (pl.served, tt)
-  where
-    only-back : (o : Option Extent) (x : Extent) (xs : List Extent)
-        → AllByRecursion (λ (y : Extent). AllByRecursion (λ (z : Extent). handle y ≢ handle z) (x ∷ xs))
-        (option_to_list o)
-        → AllByRecursion (λ (y : Extent). AllByRecursion (λ (z : Extent). handle y ≢ handle z) xs) (option_to_list o)
-    only-back None x xs d = tt
-    only-back (Some y) x xs d = (d.0.1, tt)
-
-    only-front : (o : Option Extent) (x : Extent) (xs : List Extent)
-        → AllByRecursion (λ (y : Extent). AllByRecursion (λ (z : Extent). handle y ≢ handle z) (x ∷ xs))
-        (option_to_list o)
-        → AllByRecursion (λ (y : Extent). AllByRecursion (λ (z : Extent). handle y ≢ handle z) (x ∷ []))
-        (option_to_list o)
-    only-front None x xs d = tt
-    only-front (Some y) x xs d = ((d.0.0, tt), tt)
 
 pub text-set : {s0 s1 s3 : Cut} {p : Place} {ps : List OwnedText} {c i len : ℕ} {o : Option Extent} {q : OwnedText}
     {bytes : List ℕ} {block : Option ℕ} → IsTexts s0.bytes p ps (table c o) → slice_get ps i ≡ Some q

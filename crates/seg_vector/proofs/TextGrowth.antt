@@ -12,6 +12,7 @@ use W.{taken, widened, AreEvenLinks, IsReady, TakesStorage, AreOthers, IsTexts, 
 use W.{IsPointed}
 use Rattle.seg_vector.proofs.Runs.{AreHeadWords, IsHead, IsRun, beside-head, block-written, none-some, own-facts}
 use Rattle.seg_vector.proofs.Runs.{run-found, run-headed, run-none, run-swapped, same-some, serves-full, table}
+use Rattle.seg_vector.proofs.Runs.{all-kept}
 use Rattle.seg_vector.proofs.TextBlocks.{all-split, element-in, element-trans, even-block, even-held, links-moved}
 use Rattle.seg_vector.proofs.TextBlocks.{own-head, run-begin, swapped-none, texts-between, texts-own}
 use Rattle.seg_vector.proofs.Storage.{grown-more, grown-same, regrow-new, storage-role, too-many}
@@ -72,14 +73,6 @@ pub all-beside-head : {a b : Cut} {p : Place} (xs : List Extent) → IsHeap curr
     → AllByRecursion (SameBlock (bytes_of a.bytes) (bytes_of b.bytes)) xs
 all-beside-head [] heap w c f n = tt
 all-beside-head (x ∷ xs) heap w c f n = (beside-head (handle x) heap w c f.0 n.0, all-beside-head xs heap w c f.1 n.1)
-
-pub all-kept : {a b : Cut} {gone come : List Extent} (xs : List Extent) → IsHeap current a.bytes
-    → IsSwapped a b gone come → AllByRecursion (IsFound (live_of a.bytes).extents) xs
-    → AllByRecursion (λ (y : Extent). IsNone (handle y) gone) xs
-    → AllByRecursion (SameBlock (bytes_of a.bytes) (bytes_of b.bytes)) xs
-all-kept [] heap x f n = tt
-all-kept {a} {b} {gone} {come} (y ∷ ys) heap x f n =
-    (kept a b (handle y) y gone come _ heap x f.0 n.0, all-kept ys heap x f.1 n.1)
 
 pub all-trans : (a b c : Memory) (xs : List Extent) → AllByRecursion (SameBlock a b) xs
     → AllByRecursion (SameBlock b c) xs → AllByRecursion (SameBlock a c) xs
@@ -212,13 +205,6 @@ others-of-loose (z ∷ zs) y x d =
     let here = (all-split (λ (w : Extent). handle z ≢ handle w) zs (y ∷ x ∷ []) d.0).1 in
     let rest = others-of-loose zs y x d.1 in
     (((here.0, tt), rest.0), ((here.1.0, tt), rest.1))
-
-all-found-kept : {a b : Cut} {gone come : List Extent} (xs : List Extent) → IsSwapped a b gone come
-    → AllByRecursion (IsFound (live_of a.bytes).extents) xs → AllByRecursion (λ (y : Extent). IsNone (handle y) gone)
-    xs → AllByRecursion (IsFound (live_of b.bytes).extents) xs
-all-found-kept [] x f n = tt
-all-found-kept {a} {b} {gone} {come} (y ∷ ys) x f n =
-    (kept-found a b 0 0 (handle y) y gone come _ x f.0 n.0, all-found-kept ys x f.1 n.1)
 
 -- so far: the new array stands beside the old one
 pub record IsBeside (first old : Cut) (p : Place) (ps : List OwnedText) (t : Table) (x y : Extent)

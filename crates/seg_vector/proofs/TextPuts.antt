@@ -3,22 +3,23 @@ use Rattle.seg_vector.proofs.Words as W
 use W.{◌≡◌, ◌≢◌, refl, sym, ap, subst, ◌∙◌, ℕ, ◌+◌, ◌*◌, ◌<◌, ◌≤◌, Option, Some, None, List, ◌∷◌, arith, length}
 use W.{if◌then◌else◌, inl, inr, ◌⊎◌, ◌%◌, append-nil, ◌-◌, length-append, take, drop, Bool, true, false, max, IsTrue}
 use W.{Result, Ok, Err, MatchResult, option_map, option_to_list, IfSome, nat_lt, insert, AllByRecursion, lt-ltb}
-use W.{eqb-true, le-ltb, length-drop, length-take, take-append-drop, Memory, Cut, bytes_of, word_at, current, link_at}
+use W.{eqb-true, le-ltb, length-drop, length-take, take-append-drop, Cut, bytes_of, word_at, current, link_at}
 use W.{exchanged, IsRestored, Extent, LiveSet, handle, others, resized, Refusal, IsChanged, IsHeap, IsReleased}
-use W.{SameBlock, extent_at, live_of, has_room, IsShortened, is_live_in, Table, IsFound, IsNone, exchange-order}
-use W.{exchange-taken, last-first, live-rises, spread-refl, found-room, laid-heap, taken-back, widened-back, Differs}
-use W.{keeps-refl, lay_out_one, others-past, rising-insert, Has-same, Place, place_at, AreSameElements, IsAdopted}
-use W.{IsAsked, IsWithoutFit, IsSwapped, taken, widened, AreEvenLinks, IsPutAsked, IsPutReady, IsServed, room_of}
-use W.{IsRefusedPut, IsTextPlaced, IsGivenUp, IsOutside, PutsInto, one_more, IsTexts, IsTextsNow, IsStillAtFirst}
-use W.{IsTextPutIn, placed_text, with_array, AreTextLinks, OwnedText, IsOwnedText, capacity_for_one, exchanged-live, []}
+use W.{extent_at, live_of, has_room, IsShortened, is_live_in, Table, IsFound, IsNone, exchange-order, exchange-taken}
+use W.{last-first, live-rises, spread-refl, found-room, laid-heap, taken-back, widened-back, Differs, keeps-refl}
+use W.{lay_out_one, others-past, rising-insert, Place, place_at, AreSameElements, IsAdopted, IsAsked, IsWithoutFit}
+use W.{IsSwapped, taken, widened, AreEvenLinks, IsPutAsked, IsPutReady, room_of, IsRefusedPut, IsTextPlaced, IsGivenUp}
+use W.{IsOutside, PutsInto, one_more, IsTexts, IsTextsNow, IsStillAtFirst, IsTextPutIn, placed_text, with_array}
+use W.{AreTextLinks, OwnedText, capacity_for_one, exchanged-live, []}
 use Rattle.seg_vector.proofs.Runs.{AreHeadWords, IsHead, IsRun, beside-head, block-written, head-kept, head-wider}
 use Rattle.seg_vector.proofs.Runs.{len-written, none-some, own-facts, run-found, run-headed, run-none, run-swapped}
 use Rattle.seg_vector.proofs.TextBlocks.{element-beside, element-in, element-trans, even-block, found-live, found-texts}
 use Rattle.seg_vector.proofs.TextBlocks.{links-at, links-edited, one-of, own-head, run-begin, texts-between, texts-own}
+use Rattle.seg_vector.proofs.TextBlocks.{same-loose}
 use Rattle.seg_vector.proofs.TextGrowth.{grown-to, not-grown, all-beside-head, new-other, IsReadyRun, ready-in, ready}
 use Rattle.seg_vector.proofs.TextCalls.{loose-kept, run-others, texts-stand, texts-still}
-use Rattle.seg_vector.proofs.{Runs.same-some, Runs.serves-full, Runs.table, Runs.table-full, Typed.has-element}
-use Rattle.seg_vector.proofs.{Storage.capacity-bytes, Storage.grown-same, TextGrowth.asked-alone, TextGrowth.new-table}
+use Rattle.seg_vector.proofs.{Runs.same-some, Runs.table, Runs.table-full, Typed.has-element, Storage.capacity-bytes}
+use Rattle.seg_vector.proofs.{Storage.grown-same, TextGrowth.asked-alone, TextGrowth.new-table}
 use Rattle.best_fit.specs.Fit.{regrow}
 use Rattle.seg_vector.specs.Vector.{grown_table}
 use Rattle.best_fit.specs.Fit as fit
@@ -45,14 +46,6 @@ pub put-big : {first now : Cut} {p : Place} {ps : List OwnedText} {t : Table} {y
 put-big {y} {m} r = table-full 16 m y r.table
 
 -- ---- the text
-
-pub same-loose : (m m' : Memory) (bytes : List ℕ) (o : Option Extent)
-    → AllByRecursion (SameBlock m m') (option_to_list o) → IsServed (record { bytes = bytes; extent = o })
-    → IsOwnedText m (record { bytes = bytes; extent = o }) → IsOwnedText m' (record { bytes = bytes; extent = o })
-same-loose m m' bytes None k s w = w
-same-loose m m' bytes (Some x) k s w =
-    let full = serves-full x (length bytes) s.1 in
-    Has-same m m' _ _ (handle x) bytes k.0.payload (omega arith) (omega (arith, full)) w
 
 pub flip-each : (y : Extent) (xs : List Extent) → AllByRecursion (λ (w : Extent). handle y ≢ handle w) xs
     → AllByRecursion (λ (w : Extent). AllByRecursion (λ (v : Extent). handle w ≢ handle v) (y ∷ [])) xs

@@ -3,22 +3,24 @@ use Rattle.seg_vector.proofs.Words as W
 use W.{◌≡◌, ◌≢◌, refl, sym, ap, subst, ◌∙◌, inl, ℕ, zero, suc, ◌+◌, ◌*◌, ◌<◌, ◌≤◌, Option, Some, None, List, ◌∷◌, ◌++◌}
 use W.{append-nil, append_assoc, arith, length, length-append, drop, map, slice_index_or, Bor, ◌%◌, inr, if◌then◌else◌}
 use W.{false, ◌==◌, Ok, IfSome, IsTrue, option_map, option_to_list, AllByRecursion, flat_map-append, ne_eqb, drop_all}
-use W.{Memory, Cut, bytes_of, word_at, current, link_at, exchanged, inserted, without_all, IsRestored, SameBlockBut}
-use W.{IsExchanged, Extent, LiveSet, handle, others, resized, place, IsChanged, IsHeap, SameBlock, extent_at, has_room}
-use W.{live_of, IsAllocated, NoSpace, Refusal, IsReleased, is_live_in, IsFound, IsNone, all-found-in, all-in-use}
-use W.{changed-live, exchange-next, exchange-order, exchange-same, exchanged-live, found-room, kept, laid-heap}
-use W.{last-first, live-rises, rising-others, roomy, spread-refl, exchange-released, exchange-taken, keeps-refl}
-use W.{place-serves, too_long, kept-beside, Storage, Table, no_table, AreLaid, AreLaidUpTo, AreLaidOut, AreNotLaidOut}
-use W.{AreSameElements, IsServed, IsSwapped, IsWithoutFit, IsTextPlaced, AreHeldElements, AreOthers, placed_text}
-use W.{placed_texts, text_blocks, with_text, all_texts, new_array, AreTextsAssigned, AssignsTexts, IsTexts, IsTextsNow}
-use W.{ReleasesTexts, AreTextLinks, IsOwnedText, OwnedText, Place, place_at, [], IsPointed}
+use W.{Cut, bytes_of, word_at, current, link_at, without_all, IsRestored, SameBlockBut, IsExchanged, Extent, LiveSet}
+use W.{handle, others, resized, place, IsChanged, IsHeap, SameBlock, extent_at, has_room, live_of, IsAllocated, NoSpace}
+use W.{Refusal, IsReleased, is_live_in, IsFound, IsNone, all-in-use, changed-live, exchange-next, exchange-order}
+use W.{exchange-same, exchanged-live, found-room, kept, laid-heap, last-first, live-rises, roomy, spread-refl}
+use W.{exchange-released, exchange-taken, keeps-refl, place-serves, too_long, kept-beside, Storage, Table, no_table}
+use W.{AreLaid, AreLaidUpTo, AreLaidOut, AreNotLaidOut, AreSameElements, IsServed, IsSwapped, IsWithoutFit}
+use W.{IsTextPlaced, AreHeldElements, AreOthers, placed_text, placed_texts, text_blocks, with_text, all_texts}
+use W.{new_array, AreTextsAssigned, AssignsTexts, IsTexts, IsTextsNow, ReleasesTexts, AreTextLinks, IsOwnedText}
+use W.{OwnedText, Place, place_at, [], IsPointed}
 use Rattle.seg_vector.proofs.Runs.{AreHeadWords, IsHead, block-written, changed-both, head-exchanged, len-written}
-use Rattle.seg_vector.proofs.Runs.{run-none, run-swapped, same-some, serves-full, table}
+use Rattle.seg_vector.proofs.Runs.{run-none, run-swapped, same-some, serves-full, table, all-as, came-found}
+use Rattle.seg_vector.proofs.Runs.{came-others, all-kept, none-of-none}
 use Rattle.seg_vector.proofs.TextBlocks.{all-join, all-split, element-beside, element-in, element-trans, even-block}
 use Rattle.seg_vector.proofs.TextBlocks.{found-live, links-join, links-moved, of-none, own-head, own_blocks, run-begin}
+use Rattle.seg_vector.proofs.TextBlocks.{owned-same}
 use Rattle.seg_vector.proofs.TextCalls.{come-even, run-others, texts-still}
-use Rattle.seg_vector.proofs.TextPuts.{came-alone, flip-each, same-loose}
-use Rattle.seg_vector.proofs.{TextBlocks.texts-between, TextBlocks.texts-own, TextGrowth.all-kept, TextGrowth.new-table}
+use Rattle.seg_vector.proofs.TextPuts.{came-alone, flip-each}
+use Rattle.seg_vector.proofs.{TextBlocks.texts-between, TextBlocks.texts-own, TextGrowth.new-table}
 
 -- ---- blocks that came
 
@@ -28,28 +30,7 @@ pub record AreCome (b : Cut) (come : List Extent) : Type 0 where
   pub others : AreOthers come
 
 pub are-come : {a b : Cut} {gone come : List Extent} → IsSwapped a b gone come → AreCome b come
-are-come {a} {b} {gone} {come} x =
-    let l = live_of a.bytes in let rest = without_all gone l.extents in
-    let is : (live_of b.bytes).extents ≡ inserted come rest = ap (λ (k : LiveSet). k.extents)
-    (exchanged-live a b 0 0 gone come _ x) in
-    record {
-      heap = laid-heap _ _ x.live;
-      found = subst (λ (zs : List Extent). AllByRecursion (IsFound zs) come) (sym is)
-          (all-found-in come rest (live-rises (exchanged l gone come) x.live.proper));
-      others = rising-others come rest (live-rises (exchanged l gone come) x.live.proper);
-    }
-
-none-of-none : (xs : List Extent) → AllByRecursion (λ (w : Extent). IsNone (handle w) []) xs
-none-of-none [] = tt
-none-of-none (x ∷ xs) = (tt, none-of-none xs)
-
--- texts stay where their blocks do
-pub owned-same : (m m' : Memory) (qs : List OwnedText) → AllByRecursion (SameBlock m m') (text_blocks qs)
-    → AllByRecursion IsServed qs → AllByRecursion (IsOwnedText m) qs → AllByRecursion (IsOwnedText m') qs
-owned-same m m' [] k s w = tt
-owned-same m m' (q ∷ qs) k s w =
-    let both = all-split (SameBlock m m') (option_to_list q.extent) (text_blocks qs) k in
-    (same-loose m m' q.bytes q.extent both.0 s.0 w.0, owned-same m m' qs both.1 s.1 w.1)
+are-come x = record { heap = laid-heap _ _ x.live; found = came-found x; others = came-others x }
 
 pub blocks-more : (qs : List OwnedText) (q : OwnedText)
     → text_blocks (qs ++ (q ∷ [])) ≡ text_blocks qs ++ option_to_list q.extent
@@ -246,14 +227,10 @@ texts_after l more o = elim o [
       more
 ]
 
-no-array : (l : LiveSet) (more : List (List ℕ)) → 0 < length more → place l (16 * length more) Storage ≡ None
-    → all_texts l more ≡ None
-no-array l more f e = ap (texts_after l more)
-    (new-array l (length more) f ∙ ap (option_map (λ (x : Extent). table (length more) (Some x))) e)
-
-in-array : (l : LiveSet) (more : List (List ℕ)) {y : Extent} → 0 < length more
-    → place l (16 * length more) Storage ≡ Some y → all_texts l more ≡ placed_texts (resized l y) more
-in-array l more f e = ap (texts_after l more)
+in-array : (l : LiveSet) (more : List (List ℕ)) (o : Option Extent) → 0 < length more
+    → place l (16 * length more) Storage ≡ o
+    → all_texts l more ≡ texts_after l more (option_map (λ (x : Extent). table (length more) (Some x)) o)
+in-array l more o f e = ap (texts_after l more)
     (new-array l (length more) f ∙ ap (option_map (λ (x : Extent). table (length more) (Some x))) e)
 
 -- an array that fits has space
@@ -278,7 +255,7 @@ unchanged c more heap e =
 
 pub out-of-reach : (c : Cut) (n : ℕ) (more : List (List ℕ)) → IsHeap current c.bytes → n ≡ length more → 1073741824 < n
     → AreNotLaidOut c c more NoSpace
-out-of-reach c n more heap e f = unchanged c more heap (no-array (live_of c.bytes) more (omega (arith, e, f))
+out-of-reach c n more heap e f = unchanged c more heap (in-array (live_of c.bytes) more None (omega (arith, e, f))
     (too_long c (16 * length more) Storage heap (omega (arith, e, f))))
 
 pub no-space : {old new : Cut} (n : ℕ) (more : List (List ℕ)) {f : Refusal} → IsHeap current old.bytes → 0 < n
@@ -286,7 +263,7 @@ pub no-space : {old new : Cut} (n : ℕ) (more : List (List ℕ)) {f : Refusal} 
     → AreNotLaidOut old new more f
 no-space {old} {new} n more heap some e r = subst (AreNotLaidOut old new more) (sym r.refusal)
     (subst (λ (c : Cut). AreNotLaidOut old c more NoSpace) (sym r.same)
-    (unchanged old more heap (no-array (live_of old.bytes) more (omega (arith, e, some))
+    (unchanged old more heap (in-array (live_of old.bytes) more None (omega (arith, e, some))
     (subst (λ k. place (live_of old.bytes) (16 * k) Storage ≡ None) e r.none))))
 
 -- ---- the array
@@ -380,15 +357,6 @@ array-live {left} t w x =
     subst (λ h. IsTrue (is_live_in (live_of left.bytes) h)) t.at
     (found-live (handle t.block) (live_of left.bytes).extents come.found.0)
 
-same-of : (m m' : Memory) (xs : List Extent) → AllByRecursion (SameBlockBut m m' 0 0) xs
-    → AllByRecursion (SameBlock m m') xs
-same-of m m' [] s = tt
-same-of m m' (x ∷ xs) s = (
-  record { payload = record { at = λ k f g. s.0.payload k f g (inr (omega arith)) }; colour = s.0.colour },
-  same-of
-      m m' xs s.1,
-)
-
 -- nothing is exchanged
 swapped-back : {old new : Cut} → IsSwapped old new [] [] → IsRestored current old new
 swapped-back {old} {new} x = record {
@@ -397,7 +365,9 @@ swapped-back {old} {new} x = record {
     place = x.place;
     front = x.front;
     behind = x.behind;
-    blocks = same-of (bytes_of old.bytes) (bytes_of new.bytes)
+    blocks = all-as (SameBlockBut (bytes_of old.bytes) (bytes_of new.bytes) 0 0)
+        (SameBlock (bytes_of old.bytes) (bytes_of new.bytes))
+        (λ z s. record { payload = record { at = λ k f g. s.payload k f g (inr (omega arith)) }; colour = s.colour })
         (live_of old.bytes).extents x.blocks;
   };
 }
@@ -413,7 +383,7 @@ taken-off {old} {mid} {new} {left} {last} {n} {k} {more} t e some w short x r =
     subst (λ i. place (live_of old.bytes) (16 * i) Storage ≡ Some y) e t.placed in
     record {
       refusal = refl;
-      none = in-array (live_of old.bytes) more (omega (arith, e, some)) fit
+      none = in-array (live_of old.bytes) more (Some y) (omega (arith, e, some)) fit
           ∙ ap (λ (l : LiveSet). placed_texts l more) (sym (came-alone t.change)) ∙ a.placed
           ∙ ap (option_map (λ (qs : List OwnedText). a.texts ++ qs))
           (w.stopped (below k n (length more) short e w.within));
@@ -529,19 +499,16 @@ some-texts (suc n) e = omega arith
 
 -- ---- a vector of texts stands where the same blocks are in use as before, with the same bytes
 
-still-of : (m m' : Memory) (xs : List Extent) → AllByRecursion (SameBlock m m') xs
-    → AllByRecursion (SameBlockBut m m' 0 0) xs
-still-of m m' [] s = tt
-still-of m m' (x ∷ xs) s =
-    (record { payload = λ k f g h. s.0.payload.at k f g; colour = s.0.colour }, still-of m m' xs s.1)
-
 nothing-swapped : {a b : Cut} → IsRestored current a b → IsSwapped a b [] []
 nothing-swapped {a} {b} r = record {
   live = r.laid;
   place = r.keeps.place;
   front = r.keeps.front;
   behind = r.keeps.behind;
-  blocks = still-of (bytes_of a.bytes) (bytes_of b.bytes) (live_of a.bytes).extents r.keeps.blocks;
+  blocks = all-as (SameBlock (bytes_of a.bytes) (bytes_of b.bytes))
+      (SameBlockBut (bytes_of a.bytes) (bytes_of b.bytes) 0 0)
+      (λ z s. record { payload = λ k f g h. s.payload.at k f g; colour = s.colour })
+      (live_of a.bytes).extents r.keeps.blocks;
 }
 
 pub texts-restored : {a b : Cut} {p : Place} {ps : List OwnedText} {t : Table} → IsTexts a.bytes p ps t

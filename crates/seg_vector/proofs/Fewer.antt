@@ -14,36 +14,33 @@ use Rattle.best_fit.specs.Table.{cut_table}
 
 -- ---- a container without a place
 
-pub empty-stands : {old new : Cut} (p : Place) (each : ℕ) → p.at % 8 ≡ 0
-    → IsTrue (has_room (live_of old.bytes) p.handle (p.at + 24)) → IsChanged current old new (place_at p) 24
-    → link_at (bytes_of new.bytes) (place_at p) ≡ None → word_at (bytes_of new.bytes) (place_at p + 8) ≡ 0
-    → word_at (bytes_of new.bytes) (place_at p + 16) ≡ 0 → Stands new.bytes p each 0 no_table []
-empty-stands {old} {new} p each a r c link len cap = record {
-  heap = laid-heap _ _ c.live;
-  words = record { link = link; len_word = len; capacity = cap; storage = refl };
-  aligned = a;
-  room = subst (λ l. IsTrue (has_room l p.handle (p.at + 24))) (sym (changed-live _ old new _ 24 c)) r;
-  table = refl;
-  fits = omega arith;
-  long = omega arith;
-  own = tt;
-}
-
 pub started : {old s1 s2 new : Cut} (p : Place) (each : ℕ) → p.at % 8 ≡ 0
     → IsTrue (has_room (live_of old.bytes) p.handle (p.at + 24)) → IsChanged current old new (place_at p) 24
     → link_at (bytes_of s1.bytes) (p.handle + p.at) ≡ None → IsChanged current s1 s2 (p.handle + (p.at + 8)) 8
     → word_at (bytes_of s2.bytes) (p.handle + (p.at + 8)) ≡ 0
     → IsChanged current s2 new (p.handle + (p.at + 16)) 8 → word_at (bytes_of new.bytes) (p.handle + (p.at + 16)) ≡ 0
     → Stands new.bytes p each 0 no_table []
-started {s1} {s2} {new} p each a r c link c2 len c3 cap =
+started {old} {s1} {s2} {new} p each a r c link c2 len c3 cap =
     let m1 = bytes_of s1.bytes in let m2 = bytes_of s2.bytes in let m3 = bytes_of new.bytes in
     let at = place_at p in
     let one : p.handle + (p.at + 8) ≡ at + 8 = omega arith in
     let two : p.handle + (p.at + 16) ≡ at + 16 = omega arith in
-    empty-stands p each a r c
-    (SameBut-link m2 m3 _ 8 at c3.rest (inl (omega arith)) ∙ SameBut-link m1 m2 _ 8 at c2.rest (inl (omega arith))
-    ∙ link) (SameBut-word m2 m3 _ 8 (at + 8) c3.rest (inl (omega arith)) ∙ subst (λ k. word_at m2 k ≡ 0) one len)
-    (subst (λ k. word_at m3 k ≡ 0) two cap)
+    record {
+      heap = laid-heap _ _ c.live;
+      words = record {
+        link = SameBut-link m2 m3 _ 8 at c3.rest (inl (omega arith))
+            ∙ SameBut-link m1 m2 _ 8 at c2.rest (inl (omega arith)) ∙ link;
+        len_word = SameBut-word m2 m3 _ 8 (at + 8) c3.rest (inl (omega arith)) ∙ subst (λ k. word_at m2 k ≡ 0) one len;
+        capacity = subst (λ k. word_at m3 k ≡ 0) two cap;
+        storage = refl;
+      };
+      aligned = a;
+      room = subst (λ l. IsTrue (has_room l p.handle (p.at + 24))) (sym (changed-live _ old new _ 24 c)) r;
+      table = refl;
+      fits = omega arith;
+      long = omega arith;
+      own = tt;
+    }
 
 -- ---- the storage is given back
 

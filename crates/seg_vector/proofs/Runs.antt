@@ -240,7 +240,7 @@ pub own-facts : (l : LiveSet) (h : ℕ) (o : Option Extent) → IsOwnBlock l h o
 own-facts l h None own = (tt, tt, tt)
 own-facts l h (Some x) own = ((tt, tt), (own.0, tt), ((λ e. own.1 (sym e)), tt))
 
-facts-own : (l : LiveSet) (h : ℕ) (o : Option Extent) → AllByRecursion (IsFound l.extents) (option_to_list o)
+pub facts-own : (l : LiveSet) (h : ℕ) (o : Option Extent) → AllByRecursion (IsFound l.extents) (option_to_list o)
     → IsNone h (option_to_list o) → IsOwnBlock l h o
 facts-own l h None f n = tt
 facts-own l h (Some x) f n = (f.0, λ e. n.0 (sym e))

@@ -11,11 +11,11 @@ use W.{payload_at, IsReleased, Table, is_table, no_table, IsFound, IsNone, Risin
 use W.{found-inserted, found-none, found-room, live-rises, middle-first, rising-others, roomy, spread-behind}
 use W.{all_of-inserted, but-apart, exchanged-live, found-without, inserted-append, laid-heap, without-inserted, kept}
 use W.{kept-found, word-same, block_payload, room_block, exchange-next, exchange-released, exchange-same, spread-refl}
-use W.{IsSound, live-sound, Has-same, SameBut-word, read-part, SameBut-link, Place, IsOwnBlock, place_at, Stands}
-use W.{IsServed, IsSwapped, AreHeldElements, IsHeldElement, AreSameElements, IsSameElement, AreEvenLinks, IsHeldText}
-use W.{IsTexts, text_blocks, IsTextsNow, IsTextElement, AreInArray, IsOwnedText, OwnedText, AreTextLinks, []}
+use W.{IsSound, live-sound, Has-same, SameBut-word, read-part, SameBut-link, Place, place_at, Stands, IsServed}
+use W.{IsSwapped, AreHeldElements, IsHeldElement, AreSameElements, IsSameElement, AreEvenLinks, IsHeldText, IsTexts}
+use W.{text_blocks, IsTextsNow, IsTextElement, AreInArray, IsOwnedText, OwnedText, AreTextLinks, []}
 use Rattle.seg_vector.proofs.Runs.{AreHeadWords, IsHead, IsRun, changed-both, head-exchanged, none-some, same-some}
-use Rattle.seg_vector.proofs.Runs.{came-found}
+use Rattle.seg_vector.proofs.Runs.{came-found, room-head, own-facts, facts-own}
 use Rattle.seg_vector.proofs.Typed.{has-element}
 use Rattle.seg_vector.proofs.{Runs.serves-full, Runs.table, Runs.table-full, Storage.live-if}
 use Rattle.best_fit.specs.Extents.{is_proper}
@@ -24,6 +24,18 @@ use Rattle.best_fit.specs.Extents.{is_proper}
 
 abbrev pub own_blocks : List OwnedText → Table → List Extent
 own_blocks ps t = option_to_list t.extent ++ text_blocks ps
+
+-- ---- lists in parts
+
+pub all-split : {A : Type 0} → (P : A → Type 0) (xs ys : List A) → AllByRecursion P (xs ++ ys)
+    → AllByRecursion P xs × AllByRecursion P ys
+all-split P [] ys a = (tt, a)
+all-split P (x ∷ xs) ys a = let both = all-split P xs ys a.1 in ((a.0, both.0), both.1)
+
+pub all-join : {A : Type 0} → (P : A → Type 0) (xs ys : List A) → AllByRecursion P xs → AllByRecursion P ys
+    → AllByRecursion P (xs ++ ys)
+all-join P [] ys a b = b
+all-join P (x ∷ xs) ys a b = (a.0, all-join P xs ys a.1 b)
 
 -- ---- all of them are in use
 
@@ -38,42 +50,26 @@ pub found-texts : (l : LiveSet) (ps : List OwnedText) → AllByRecursion (IsHeld
 found-texts l [] h = tt
 found-texts l (q ∷ qs) h = found-head l q.bytes q.extent (text_blocks qs) h.0 (found-texts l qs h.1)
 
-found-array : (l : LiveSet) (h : ℕ) (o : Option Extent) (xs : List Extent) → IsOwnBlock l h o
-    → AllByRecursion (IsFound l.extents) xs → AllByRecursion (IsFound l.extents) (option_to_list o ++ xs)
-found-array l h None xs own f = f
-found-array l h (Some x) xs own f = (own.0, f)
-
 pub none-of : (h : ℕ) (xs : List Extent) → AllByRecursion (λ (x : Extent). handle x ≢ h) xs → IsNone h xs
 none-of h [] n = tt
 none-of h (x ∷ xs) n = ((λ e. n.0 (sym e)), none-of h xs n.1)
 
-none-array : (l : LiveSet) (h : ℕ) (o : Option Extent) (xs : List Extent) → IsOwnBlock l h o → IsNone h xs
-    → IsNone h (option_to_list o ++ xs)
-none-array l h None xs own n = n
-none-array l h (Some x) xs own n = ((λ e. own.1 (sym e)), n)
-
 -- The block in which the vector stands, which is none of these; and these are put in among the others.
 pub record AreOwn (c : Cut) (p : Place) (own : List Extent) : Type 0 where
-  pub head : Extent
-  pub found : extent_at (live_of c.bytes) p.handle ≡ Some head
-  pub here : handle head ≡ p.handle
-  pub big : p.at + 24 + 16 ≤ head.len
+  pub head : IsHead c p
   pub none : IsNone p.handle own
   pub is : (live_of c.bytes).extents ≡ inserted own (without_all own (live_of c.bytes).extents)
 
 pub texts-own : (c : Cut) {p : Place} {ps : List OwnedText} {t : Table} → IsTexts c.bytes p ps t
     → AreOwn c p (own_blocks ps t)
 texts-own c {p} {ps} {t} s =
-    let l = live_of c.bytes in let q = roomy c p.handle (p.at + 24) s.heap s.room in
-    let found = found-array l p.handle t.extent (text_blocks ps) s.own (found-texts l ps s.held) in
-    let i = all-in-use (own_blocks ps t) l.extents (live-rises l s.heap.proper) s.others found in
+    let l = live_of c.bytes in let arr = option_to_list t.extent in let tb = text_blocks ps in
+    let facts = own-facts l p.handle t.extent s.own in
+    let found = all-join (IsFound l.extents) arr tb facts.1 (found-texts l ps s.held) in
     record {
-      head = q.extent;
-      found = q.found;
-      here = q.at;
-      big = q.room;
-      none = none-array l p.handle t.extent (text_blocks ps) s.own (none-of p.handle (text_blocks ps) s.apart);
-      is = i.is;
+      head = room-head c p s.heap s.room;
+      none = all-join (λ (z : Extent). p.handle ≢ handle z) arr tb facts.2 (none-of p.handle tb s.apart);
+      is = (all-in-use (own_blocks ps t) l.extents (live-rises l s.heap.proper) s.others found).is;
     }
 
 -- ---- a vector of texts out of its parts
@@ -90,12 +86,6 @@ held-texts l [] s f = tt
 held-texts l (q ∷ qs) s f = let both = held-head l q.bytes q.extent (text_blocks qs) s.0 f in
     (both.0, held-texts l qs s.1 both.1)
 
-own-array : (l : LiveSet) (h : ℕ) (o : Option Extent) (xs : List Extent)
-    → AllByRecursion (IsFound l.extents) (option_to_list o ++ xs) → IsNone h (option_to_list o ++ xs)
-    → IsOwnBlock l h o × (AllByRecursion (IsFound l.extents) xs × IsNone h xs)
-own-array l h None xs f n = (tt, (f, n))
-own-array l h (Some x) xs f n = ((f.0, (λ e. n.0 (sym e))), (f.1, n.1))
-
 pub of-none : (h : ℕ) (xs : List Extent) → IsNone h xs → AllByRecursion (λ (x : Extent). handle x ≢ h) xs
 of-none h [] n = tt
 of-none h (x ∷ xs) n = ((λ e. n.0 (sym e)), of-none h xs n.1)
@@ -111,8 +101,9 @@ texts-made b p ps {t} {head} rest heap is found big even table fits words array 
     let up : Rising 128 (inserted own rest) = subst (Rising 128) is (live-rises l heap.proper) in
     let all : AllByRecursion (IsFound l.extents) own = subst (λ (zs : List Extent). AllByRecursion (IsFound zs) own)
     (sym is) (all-found-in own rest up) in
-    let none = found-none p.handle head own rest up found in
-    let parts = own-array l p.handle t.extent (text_blocks ps) all none in
+    let arr = option_to_list t.extent in let tb = text_blocks ps in
+    let founds = all-split (IsFound l.extents) arr tb all in let none = found-none p.handle head own rest up found in
+    let nones = all-split (λ (z : Extent). p.handle ≢ handle z) arr tb none in
     let there : extent_at l p.handle ≡ Some head =
     ap (λ (zs : List Extent). find (λ (w : Extent). handle w == p.handle) zs) is ∙ found-inserted p.handle head own
     rest none found in
@@ -124,9 +115,9 @@ texts-made b p ps {t} {head} rest heap is found big even table fits words array 
       room = found-room l p.handle (p.at + 24) head there big;
       table = table;
       fits = fits;
-      own = parts.0;
-      held = held-texts l ps served parts.1.0;
-      apart = of-none p.handle (text_blocks ps) parts.1.1;
+      own = facts-own l p.handle t.extent founds.0 nones.0;
+      held = held-texts l ps served founds.1;
+      apart = of-none p.handle tb nones.1;
       others = rising-others own rest up;
     }
 
@@ -158,18 +149,6 @@ between-own a m b t =
     subst (λ (xs : List Extent). SameSpread xs (own_blocks (a ++ (m ++ b)) t)) (sym (append_assoc arr tm (ta ++ tb)))
     (subst (λ (xs : List Extent). SameSpread (arr ++ (tm ++ (ta ++ tb))) (arr ++ xs)) (sym (blocks-three a m b)) p)
 
--- ---- lists in parts
-
-pub all-split : {A : Type 0} → (P : A → Type 0) (xs ys : List A) → AllByRecursion P (xs ++ ys)
-    → AllByRecursion P xs × AllByRecursion P ys
-all-split P [] ys a = (tt, a)
-all-split P (x ∷ xs) ys a = let both = all-split P xs ys a.1 in ((a.0, both.0), both.1)
-
-pub all-join : {A : Type 0} → (P : A → Type 0) (xs ys : List A) → AllByRecursion P xs → AllByRecursion P ys
-    → AllByRecursion P (xs ++ ys)
-all-join P [] ys a b = b
-all-join P (x ∷ xs) ys a b = (a.0, all-join P xs ys a.1 b)
-
 -- ---- the texts that stay
 
 served-head : (l : LiveSet) (bytes : List ℕ) (o : Option Extent) → IsHeldText l (record { bytes = bytes; extent = o })
@@ -198,8 +177,8 @@ owned-same m m' (q ∷ qs) k s w =
     (same-loose m m' q.bytes q.extent both.0 s.0 w.0, owned-same m m' qs both.1 s.1 w.1)
 
 -- blocks stay where the words of the vector are written
-all-apart : {old : Cut} (new : Cut) {p : Place} {own : List Extent} (xs : List Extent) → IsHeap current old.bytes
-    → AreOwn old p own → AllByRecursion (IsFound (live_of old.bytes).extents) xs
+all-apart : {old : Cut} (new : Cut) {p : Place} (xs : List Extent) → IsHeap current old.bytes → IsHead old p
+    → AllByRecursion (IsFound (live_of old.bytes).extents) xs
     → AllByRecursion (λ (x : Extent). handle x ≢ p.handle) xs
     → AllByRecursion (SameBlockBut (bytes_of old.bytes) (bytes_of new.bytes) (place_at p) 24) xs
     → AllByRecursion (SameBlock (bytes_of old.bytes) (bytes_of new.bytes)) xs
@@ -249,26 +228,17 @@ texts-changed {old} {new} {p} a m m' b {t} {u} s x table fits words array texts 
     (subst (AllByRecursion (λ (z : Extent). handle z ≢ p.handle)) (blocks-three a m b) s.apart) in
     let apart_b = (all-split (λ (z : Extent). handle z ≢ p.handle) (text_blocks m) (text_blocks b) apart.1).1 in
     let sa = served-texts l a held.0 in let sb = served-texts l b held_b in
-    let ta = owned-same M M' a (all-apart new (text_blocks a) s.heap w (found-texts l a held.0) apart.0 blocks.0) sa
+    let ta = owned-same M M' a (all-apart new (text_blocks a) s.heap w.head (found-texts l a held.0) apart.0 blocks.0) sa
     owned.0 in
-    let tb = owned-same M M' b (all-apart new (text_blocks b) s.heap w (found-texts l b held_b) apart_b blocks.1) sb
+    let tb = owned-same M M' b (all-apart new (text_blocks b) s.heap w.head (found-texts l b held_b) apart_b blocks.1) sb
     owned_b in
     let all = all-join (IsOwnedText M') a (m' ++ b) ta (all-join (IsOwnedText M') m' b texts tb) in
     let good = all-join IsServed a (m' ++ b) sa (all-join IsServed m' b served sb) in
     record {
       change = x;
       texts = texts-made new.bytes p (a ++ (m' ++ b)) rest heap is
-          (found-without p.handle _ own l.extents w.none w.found) w.big s.aligned table fits words array all good;
+          (found-without p.handle _ own l.extents w.none w.head.found) w.head.big s.aligned table fits words array all good;
     }
-
--- ---- the head of a vector of texts, its three words and the block that they stand in, through the steps of a call;
--- and the change
--- that all of them come to.
-
--- ---- the head
-
-pub own-head : {c : Cut} {p : Place} {own : List Extent} → AreOwn c p own → IsHead c p
-own-head w = record { block = w.head; found = w.found; here = w.here; big = w.big }
 
 -- ---- the change that all steps come to
 
@@ -510,22 +480,19 @@ element-in {m} {m'} at s f g = record {
   len_word = word-same m m' _ _ (at + 8) s.payload (omega (arith, f)) (omega (arith, g));
 }
 
+same-at : {m m' : Memory} {a b at to : ℕ} → a ≡ at → b ≡ to → IsSameElement m m' a b → IsSameElement m m' at to
+same-at {m} {m'} {a} {b} {at} {to} e f s =
+    subst (λ k. IsSameElement m m' k to) e (subst (IsSameElement m m' a) f s)
+
 later : (m m' : Memory) (a b n : ℕ) → AreSameElements m m' a b (suc n) → AreSameElements m m' (a + 16) (b + 16) n
-later m m' a b n s j f =
-    let p : a + 16 * suc j ≡ a + 16 + 16 * j = omega arith in
-    let q : b + 16 * suc j ≡ b + 16 + 16 * j = omega arith in
-    subst (λ k. IsSameElement m m' k (b + 16 + 16 * j)) p
-    (subst (IsSameElement m m' (a + 16 * suc j)) q (s (suc j) (omega arith)))
+later m m' a b n s j f = same-at (omega arith) (omega arith) (s (suc j) (omega arith))
 
 -- elements that are put elsewhere
 pub links-moved : (m m' : Memory) (a b : ℕ) (ps : List OwnedText) → AreTextLinks m a ps
     → AreSameElements m m' a b (length ps) → AreTextLinks m' b ps
 links-moved m m' a b [] l s = tt
 links-moved m m' a b (q ∷ qs) l s =
-    let p : a + 16 * 0 ≡ a = omega arith in
-    let r : b + 16 * 0 ≡ b = omega arith in
-    let e : IsSameElement m m' a b = subst (λ k. IsSameElement m m' k b) p
-    (subst (IsSameElement m m' (a + 16 * 0)) r (s 0 (omega arith))) in
+    let e : IsSameElement m m' a b = same-at (omega arith) (omega arith) (s 0 (omega arith)) in
     (e.link ∙ l.0, e.len_word ∙ l.1, links-moved m m' (a + 16) (b + 16) qs l.2 (later m m' a b (length qs) s))
 
 pub links-split : (m : Memory) (at : ℕ) (xs ys : List OwnedText) → AreTextLinks m at (xs ++ ys)
@@ -583,7 +550,7 @@ run-begin c {p} a m b {t} e s =
           (inserted (text_blocks a ++ text_blocks b)
           (without_all (own_blocks (a ++ (m ++ b)) t) (live_of c.bytes).extents)) s.heap (own-parts c a m b v);
       heap = s.heap;
-      head = own-head (texts-own c s);
+      head = room-head c p s.heap s.room;
       words = record { link = s.words.link; len_word = s.words.len_word; capacity = s.words.capacity };
     }
 
@@ -678,34 +645,37 @@ element-trans p q = record { link = q.link ∙ p.link; len_word = q.len_word ∙
 
 -- ---- the first one first
 
-below-or : (j i : ℕ) → j < i + 1 → (j < i) ⊎ (j ≡ i)
-below-or j i f = grind arith
-
 pub source-stays : {old now : Cut} (a : ℕ) {b : ℕ} (i n : ℕ) → IsChanged current old now b (16 * i)
     → (b ≤ a) ⊎ (a + 16 * n ≤ b) → i < n → IsSameElement (bytes_of old.bytes) (bytes_of now.bytes) (a + 16 * i)
     (a + 16 * i)
 source-stays a i n c (inl f) below = element-beside (a + 16 * i) c.rest (inr (omega arith))
 source-stays a i n c (inr f) below = element-beside (a + 16 * i) c.rest (inl (omega arith))
 
-pub carried-changed : {old now new : Cut} {b : ℕ} (i : ℕ) → IsChanged current old now b (16 * i)
-    → IsChanged current now new (b + 16 * i) 16 → IsChanged current old new b (16 * (i + 1))
-carried-changed {b} i c d = changed-both b (16 * (i + 1)) c d (omega arith) (omega arith) (omega arith) (omega arith)
+pub carried-changed : {old now new : Cut} {b to : ℕ} (i : ℕ) → IsChanged current old now b (16 * i)
+    → to ≡ b + 16 * i → IsChanged current now new to 16 → IsChanged current old new b (16 * (i + 1))
+carried-changed {b} i c e d =
+    changed-both b (16 * (i + 1)) c d (omega arith) (omega arith) (omega (arith, e)) (omega (arith, e))
 
-carried-at : (old : Cut) {now new : Cut} (a b i n j : ℕ) → AreSameElements (bytes_of old.bytes) (bytes_of now.bytes) a
-    b i → IsChanged current now new (b + 16 * i) 16
-    → IsSameElement (bytes_of old.bytes) (bytes_of new.bytes) (a + 16 * i) (b + 16 * i) → (j < i) ⊎ (j ≡ i)
-    → IsSameElement (bytes_of old.bytes) (bytes_of new.bytes) (a + 16 * j) (b + 16 * j)
-carried-at old a b i n j s d e (inl f) = element-trans (s j f) (element-beside (b + 16 * j) d.rest (inl (omega arith)))
-carried-at old {new} a b i n j s d e (inr f) =
-    subst (λ k. IsSameElement (bytes_of old.bytes) (bytes_of new.bytes) (a + 16 * k) (b + 16 * k)) (sym f) e
+-- one more is put in its place
+one-more : {m m' m'' : Memory} {at to : ℕ} (a b k j : ℕ)
+    → (j ≢ k → IsSameElement m m' (a + 16 * j) (b + 16 * j)) → SameBut m' m'' to 16 → IsSameElement m m'' at to
+    → at ≡ a + 16 * k → to ≡ b + 16 * k → (j < k) ⊎ ((k < j) ⊎ (j ≡ k)) → IsSameElement m m'' (a + 16 * j) (b + 16 * j)
+one-more a b k j s d e from is (inl f) = element-trans (s (λ g. omega (arith, f, g)))
+    (element-beside (b + 16 * j) d (inl (omega (arith, f, is))))
+one-more a b k j s d e from is (inr (inl f)) = element-trans (s (λ g. omega (arith, f, g)))
+    (element-beside (b + 16 * j) d (inr (omega (arith, f, is))))
+one-more a b k j s d e from is (inr (inr f)) = same-at (omega (arith, f, from)) (omega (arith, f, is)) e
 
-pub carried-next : {old now new : Cut} (a : ℕ) {b : ℕ} (i n : ℕ)
+sides : (j k : ℕ) → (j < k) ⊎ ((k < j) ⊎ (j ≡ k))
+sides j k = grind arith
+
+pub carried-next : {old now new : Cut} {at to : ℕ} (a : ℕ) {b : ℕ} (i n : ℕ)
     → AreSameElements (bytes_of old.bytes) (bytes_of now.bytes) a b i → IsChanged current old now b (16 * i)
-    → (b ≤ a) ⊎ (a + 16 * n ≤ b) → i < n
-    → IsChanged current now new (b + 16 * i) 16 → IsSameElement (bytes_of now.bytes) (bytes_of new.bytes) (a + 16 * i)
-    (b + 16 * i) → AreSameElements (bytes_of old.bytes) (bytes_of new.bytes) a b (i + 1)
-carried-next {old} a {b} i n s c apart below d e j under = carried-at old a b i n j s d
-    (element-trans (source-stays a i n c apart below) e) (below-or j i under)
+    → (b ≤ a) ⊎ (a + 16 * n ≤ b) → i < n → at ≡ a + 16 * i → to ≡ b + 16 * i
+    → IsChanged current now new to 16 → IsSameElement (bytes_of now.bytes) (bytes_of new.bytes) at to
+    → AreSameElements (bytes_of old.bytes) (bytes_of new.bytes) a b (i + 1)
+carried-next a {b} i n s c apart below from is d e j under = one-more a b i j (λ g. s j (omega (arith, g, under))) d.rest
+    (element-trans (same-at (sym from) (sym from) (source-stays a i n c apart below)) e) from is (sides j i)
 
 pub even-now : {m m' : Memory} (a n i : ℕ) → AreEvenLinks m a n → i < n → IsSameElement m m' (a + 16 * i) (a + 16 * i)
     → IfSome (link_at m' (a + 16 * i)) (λ target. target % 16 ≡ 0)
@@ -721,28 +691,16 @@ pub up-source : {old now : Cut} (a k i n : ℕ) → k + (i + 1) ≡ n → IsChan
     (16 * i) → IsSameElement (bytes_of old.bytes) (bytes_of now.bytes) (a + 16 * k) (a + 16 * k)
 up-source a k i n e c = element-beside (a + 16 * k) c.rest (inl (omega arith))
 
-pub up-changed : {old now new : Cut} (a k i n : ℕ) → k + (i + 1) ≡ n
-    → IsChanged current old now (a + 16 + 16 * (n - i)) (16 * i) → IsChanged current now new (a + 16 + 16 * k) 16
+pub up-changed : {old now new : Cut} {to : ℕ} (a k i n : ℕ) → k + (i + 1) ≡ n
+    → IsChanged current old now (a + 16 + 16 * (n - i)) (16 * i) → to ≡ a + 16 + 16 * k → IsChanged current now new to 16
     → IsChanged current old new (a + 16 + 16 * (n - (i + 1))) (16 * (i + 1))
-up-changed a k i n e c d =
-    changed-both (a + 16 + 16 * (n - (i + 1))) (16 * (i + 1)) c d (omega arith) (omega arith) (omega arith)
-    (omega arith)
+up-changed a k i n e c is d = changed-both (a + 16 + 16 * (n - (i + 1))) (16 * (i + 1)) c d (omega arith) (omega arith)
+    (omega (arith, e, is)) (omega (arith, e, is))
 
-from-or : (k j : ℕ) → k ≤ j → (k + 1 ≤ j) ⊎ (j ≡ k)
-from-or k j f = grind arith
-
-up-at : (old : Cut) {now new : Cut} (a k i n j : ℕ) → k + (i + 1) ≡ n → AreUp (bytes_of old.bytes) (bytes_of now.bytes)
-    a (n - i) n → IsChanged current now new (a + 16 + 16 * k) 16
-    → IsSameElement (bytes_of old.bytes) (bytes_of new.bytes) (a + 16 * k) (a + 16 + 16 * k) → j < n
-    → (k + 1 ≤ j) ⊎ (j ≡ k) → IsSameElement (bytes_of old.bytes) (bytes_of new.bytes) (a + 16 * j) (a + 16 + 16 * j)
-up-at old a k i n j is s d e below (inl f) = element-trans (s j (omega arith) below)
-    (element-beside (a + 16 + 16 * j) d.rest (inr (omega arith)))
-up-at old {new} a k i n j is s d e below (inr f) =
-    subst (λ w. IsSameElement (bytes_of old.bytes) (bytes_of new.bytes) (a + 16 * w) (a + 16 + 16 * w)) (sym f) e
-
-pub up-next : {old now new : Cut} (a k i n : ℕ) → k + (i + 1) ≡ n → AreUp (bytes_of old.bytes) (bytes_of now.bytes) a
+pub up-next : {old now new : Cut} {at to : ℕ} (a k i n : ℕ) → k + (i + 1) ≡ n → AreUp (bytes_of old.bytes) (bytes_of now.bytes) a
     (n - i) n → IsChanged current old now (a + 16 + 16 * (n - i)) (16 * i)
-    → IsChanged current now new (a + 16 + 16 * k) 16 → IsSameElement (bytes_of now.bytes) (bytes_of new.bytes)
-    (a + 16 * k) (a + 16 + 16 * k) → AreUp (bytes_of old.bytes) (bytes_of new.bytes) a (n - (i + 1)) n
-up-next {old} a k i n is s c d e j low below = up-at old a k i n j is s d
-    (element-trans (up-source a k i n is c) e) below (from-or k j (omega (arith, is, low)))
+    → at ≡ a + 16 * k → to ≡ a + 16 + 16 * k → IsChanged current now new to 16
+    → IsSameElement (bytes_of now.bytes) (bytes_of new.bytes) at to → AreUp (bytes_of old.bytes) (bytes_of new.bytes) a (n - (i + 1)) n
+up-next a k i n is s c from to d e j low below =
+    one-more a (a + 16) k j (λ g. s j (omega (arith, g, is, low)) below) d.rest
+    (element-trans (same-at (sym from) (sym from) (up-source a k i n is c)) e) from to (sides j k)

@@ -17,9 +17,9 @@ use Rattle.seg_vector.proofs.Runs.{run-swapped, same-some, table, table-full, wo
 use Rattle.seg_vector.proofs.Runs.{came-others, all-kept, all-found-kept, none-of-none}
 use Rattle.seg_vector.proofs.TextBlocks.{none-stands, IsArrayLeft, all-split, array-left, drop-at, element-beside}
 use Rattle.seg_vector.proofs.TextBlocks.{element-in, element-trans, even-block, found-texts, held-element, links-edited}
-use Rattle.seg_vector.proofs.TextBlocks.{links-moved, no-array, none-of, of-none, one-of, own-head, own_blocks}
-use Rattle.seg_vector.proofs.TextBlocks.{run-begin, swapped-none, texts-between, texts-own, held-texts, served-texts}
-use Rattle.seg_vector.proofs.TextBlocks.{owned-same, same-loose}
+use Rattle.seg_vector.proofs.TextBlocks.{links-moved, no-array, none-of, of-none, one-of, own_blocks, run-begin}
+use Rattle.seg_vector.proofs.TextBlocks.{swapped-none, texts-between, texts-own, held-texts, served-texts, owned-same}
+use Rattle.seg_vector.proofs.TextBlocks.{same-loose}
 use Rattle.seg_vector.proofs.{Fewer.cut-some, Typed.set-pieces, Bytes.length-read, Bytes.no-bytes}
 use Rattle.best_fit.specs.Table.{cut_table}
 
@@ -58,8 +58,8 @@ pub cleared : {old mid new : Cut} {p : Place} {ps : List OwnedText} {t : Table} 
     → IsTextsNow old new p (option_to_list t.extent ++ text_blocks ps) (option_to_list t.extent) [] t
 cleared {old} {mid} {new} {p} {ps} {t} s x c word =
     let l = live_of old.bytes in let at = place_at p in let arr = option_to_list t.extent in
-    let tb = text_blocks ps in let own = own_blocks ps t in let w = texts-own old s in let h = own-head w in
-    let none = (all-split (λ (z : Extent). p.handle ≢ handle z) arr tb w.none).1 in
+    let tb = text_blocks ps in let own = own_blocks ps t in let w = texts-own old s in let h = w.head in
+    let none = none-of p.handle tb s.apart in
     let e0 = exchange-same _ old at 24 own (without_all own l.extents) s.heap w.is in
     let e1 = exchange-next _ old old mid at 24 own own tb arr [] (last-first arr tb) e0
     (exchange-wide _ old mid at 24 tb [] x) in
@@ -91,9 +91,7 @@ given-up-all {old} {mid} {new} {t} {gone} x g =
 pub head-after : {old mid : Cut} {p : Place} {ps : List OwnedText} {t : Table} → IsTexts old.bytes p ps t
     → IsSwapped old mid (text_blocks ps) [] → IsHead mid p
 head-after {old} {p} {ps} {t} s x =
-    let w = texts-own old s in
-    head-kept (own-head w) x (all-split (λ (z : Extent). p.handle ≢ handle z) (option_to_list t.extent)
-    (text_blocks ps) w.none).1
+    head-kept (room-head old p s.heap s.room) x (none-of p.handle (text_blocks ps) s.apart)
 
 -- ---- the list around one text
 

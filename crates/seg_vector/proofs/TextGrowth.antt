@@ -10,11 +10,10 @@ use W.{found-none, kept, kept-found, last-first, live-rises, middle-first, place
 use W.{found-room, two-apart, laid-heap, Place, place_at, AreSameElements, IsAdopted, IsAsked, IsWithoutFit, IsSwapped}
 use W.{taken, widened, AreEvenLinks, IsReady, TakesStorage, AreOthers, IsTexts, IsTextsNow, AreTextLinks, OwnedText, []}
 use W.{IsPointed}
-use Rattle.seg_vector.proofs.Runs.{AreHeadWords, IsHead, IsRun, beside-head, block-written, none-some, own-facts}
-use Rattle.seg_vector.proofs.Runs.{run-found, run-headed, run-none, run-swapped, same-some, serves-full, table}
-use Rattle.seg_vector.proofs.Runs.{all-kept}
+use Rattle.seg_vector.proofs.Runs.{AreHeadWords, IsHead, IsRun, beside-head, block-written, none-some, run-found}
+use Rattle.seg_vector.proofs.Runs.{run-headed, run-swapped, same-some, serves-full, table, all-kept, stands-none-of}
 use Rattle.seg_vector.proofs.TextBlocks.{all-split, element-in, element-trans, even-block, even-held, links-moved}
-use Rattle.seg_vector.proofs.TextBlocks.{own-head, run-begin, swapped-none, texts-between, texts-own}
+use Rattle.seg_vector.proofs.TextBlocks.{run-begin, swapped-none, texts-between}
 use Rattle.seg_vector.proofs.Storage.{grown-more, grown-same, regrow-new, storage-role, too-many}
 use Rattle.seg_vector.proofs.{Runs.table-full, TextCalls.held-elements, TextCalls.run-others, TextCalls.texts-stand}
 use Rattle.best_fit.specs.Fit.{regrow}
@@ -151,10 +150,9 @@ adopt-place {first} {old} {new} {p} {ps} {t} {g} {n} {loose} s more q d =
     let y = q.array in let r = q.run in let fits = s.fits in let c = d.change in
     let words : AreHeadWords (bytes_of new.bytes) (place_at p) (length ps) (table n (Some y)) =
     record { link = d.link ∙ ap (λ k. Some k) q.at; len_word = d.len_word ∙ r.words.len_word; capacity = d.capacity } in
-    let apart = (own-facts (live_of first.bytes) p.handle t.extent s.own).2 in
     let found = all-split (IsFound (live_of old.bytes).extents) loose (y ∷ []) (run-found r) in
     let none = all-split (λ (z : Extent). p.handle ≢ handle z) loose (y ∷ [])
-    (run-none (own-head (texts-own first s)) apart r) in
+    (stands-none-of (texts-stand s) r) in
     let k = beside-head (handle y) r.heap r.head c found.1.0 none.1.0 in
     let full = serves-full y (16 * n) q.serving in
     let links = links-moved (bytes_of old.bytes) (bytes_of new.bytes) (handle y) (handle y) ps q.links
@@ -210,7 +208,6 @@ others-of-loose (z ∷ zs) y x d =
 pub record IsBeside (first old : Cut) (p : Place) (ps : List OwnedText) (t : Table) (x y : Extent)
     (loose : List Extent) : Type 0 where
   pub run : IsRun first old p (x ∷ []) (loose ++ (y ∷ x ∷ [])) (length ps) t
-  pub head : IsHead first p
   pub other : p.handle ≢ handle x
   pub apart : handle x ≢ handle y
   pub old_found : extent_at (live_of old.bytes) (handle x) ≡ Some x
@@ -227,7 +224,6 @@ beside {first} {mid} {old} {p} {ps} {c} {g} {n} {x} s a since =
     let found1 = run-found r1 in
     record {
       run = run-swapped (a.extent ∷ x ∷ []) (spread-refl (a.extent ∷ x ∷ [])) r1 since tt;
-      head = own-head (texts-own first s);
       other = λ f. s.own.1 (sym f);
       apart = new-other (handle x) a s.own.0;
       old_found = kept-found mid old 0 0 (handle x) x [] _ _ since found1.1.0 tt;
@@ -251,8 +247,8 @@ adopt-beside {first} {old} {a1} {a2} {new} {p} {ps} {c} {g} n {x} {loose} s more
     let g_is = a.at in let b = beside s a since in let fits = s.fits in let full = table-full 16 c x s.table in
     let serving = place-serves (live_of first.bytes) (16 * n) Storage y a.placed in
     let big = serves-full y (16 * n) serving in
-    let none0 = run-none b.head (b.other, tt) b.run in
-    let none = all-split (λ (z : Extent). p.handle ≢ handle z) loose (y ∷ x ∷ []) none0 in
+    let none = all-split (λ (z : Extent). p.handle ≢ handle z) loose (y ∷ x ∷ [])
+    (stands-none-of (texts-stand s) b.run) in
     let found0 = all-split (IsFound (live_of old.bytes).extents) loose (y ∷ x ∷ []) (run-found b.run) in
     let apart = others-of-loose loose y x (run-others b.run) in
     let x1 = block-written (16 * n) b.run.heap b.new_found c1 (omega (arith, g_is)) (omega (arith, g_is, fits, more))

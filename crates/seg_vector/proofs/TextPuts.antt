@@ -10,12 +10,12 @@ use W.{last-first, live-rises, spread-refl, found-room, laid-heap, taken-back, w
 use W.{lay_out_one, others-past, rising-insert, Place, place_at, AreSameElements, IsAdopted, IsAsked, IsWithoutFit}
 use W.{IsSwapped, taken, widened, AreEvenLinks, IsPutAsked, IsPutReady, room_of, IsRefusedPut, IsTextPlaced, IsGivenUp}
 use W.{IsOutside, PutsInto, one_more, IsTexts, IsTextsNow, IsStillAtFirst, IsTextPutIn, placed_text, with_array}
-use W.{AreTextLinks, OwnedText, capacity_for_one, exchanged-live, []}
+use W.{AreTextLinks, OwnedText, capacity_for_one, exchanged-live, [], NoSpace}
 use Rattle.seg_vector.proofs.Runs.{AreHeadWords, IsHead, IsRun, beside-head, block-written, head-kept, head-wider}
-use Rattle.seg_vector.proofs.Runs.{len-written, none-some, own-facts, run-found, run-headed, run-none, run-swapped}
+use Rattle.seg_vector.proofs.Runs.{len-written, none-some, own-facts, run-found, run-headed, run-swapped, room-head}
+use Rattle.seg_vector.proofs.Runs.{stands-none-of}
 use Rattle.seg_vector.proofs.TextBlocks.{element-beside, element-in, element-trans, even-block, found-live, found-texts}
-use Rattle.seg_vector.proofs.TextBlocks.{links-at, links-edited, one-of, own-head, run-begin, texts-between, texts-own}
-use Rattle.seg_vector.proofs.TextBlocks.{same-loose}
+use Rattle.seg_vector.proofs.TextBlocks.{links-at, links-edited, one-of, run-begin, texts-between, same-loose}
 use Rattle.seg_vector.proofs.TextGrowth.{grown-to, not-grown, all-beside-head, new-other, IsReadyRun, ready-in, ready}
 use Rattle.seg_vector.proofs.TextCalls.{loose-kept, run-others, texts-stand, texts-still}
 use Rattle.seg_vector.proofs.{Runs.same-some, Runs.table, Runs.table-full, Typed.has-element, Storage.capacity-bytes}
@@ -37,7 +37,7 @@ put-run {first} {t} {y} {z} r =
     record {
       change = r.change;
       heap = laid-heap _ _ r.change.live;
-      head = head-kept (own-head (texts-own first r.texts)) r.change (none-array first r.texts);
+      head = head-kept (room-head first _ r.texts.heap r.texts.room) r.change (none-array first r.texts);
       words = record { link = r.link; len_word = r.len_word; capacity = r.capacity };
     }
 
@@ -71,7 +71,7 @@ put-by {first} {now} {b1} {b2} {new} {p} {ps} {t} {y} {m} {z} i {g} n len block 
     let g_is = same-some (sym leads ∙ r.link) in let k_is : n ≡ length ps = n_is ∙ r.len_word in
     let space = r.space in let big = put-big r in
     let r0 = put-run r in
-    let none = run-none (own-head (texts-own first r.texts)) (none-array first r.texts) r0 in
+    let none = stands-none-of (texts-stand r.texts) r0 in
     let found0 = run-found r0 in
     let x1 = block-written (16 * m) r0.heap found0.0 c1 (omega (arith, g_is)) (omega (arith, g_is, k_is, inside, space))
     big in
@@ -274,25 +274,23 @@ within-ok {s0} {new} {p} ps {c} i (Some x) {bytes} space pl {y} e now =
 abbrev after : LiveSet → Table → List ℕ → Option Table → Option OwnedText
 after l t bytes o = elim o [ None ↦ None | Some u ↦ placed_text (with_array l t u) bytes ]
 
-pub restored-same : (a b : Cut) → IsHeap current a.bytes → b ≡ a → IsRestored current a b
-restored-same a b heap e = subst (IsRestored current a) (sym e)
-    (record { laid = heap; keeps = keeps-refl a (live_of a.bytes).extents })
-
 -- where nothing changes, nothing does at first
-same-first : (old new : Cut) (ps : List OwnedText) (t : Table) (bytes : List ℕ) → new ≡ old
-    → IsStillAtFirst old new ps t bytes
-same-first old new ps t bytes e = record { text = λ f none. e; array = λ none. e }
+refused-same : {s0 s1 : Cut} {ps : List OwnedText} {t : Table} {bytes : List ℕ} {e : Refusal} → IsHeap current s0.bytes
+    → e ≡ NoSpace → one_more (live_of s0.bytes) ps t bytes ≡ None → s1 ≡ s0 → IsRefusedPut s0 s1 ps t bytes e
+refused-same {s0} heap refusal none same = record {
+  refusal = refusal;
+  none = none;
+  restored = subst (IsRestored current s0) (sym same)
+      (record { laid = heap; keeps = keeps-refl s0 (live_of s0.bytes).extents });
+  first = record { text = λ f g. same; array = λ g. same };
+}
 
 pub within-err : {s0 s1 : Cut} {p : Place} {ps : List OwnedText} {t : Table} {bytes : List ℕ} {e : Refusal}
     → IsTexts s0.bytes p ps t → length ps < t.capacity
     → IsWithoutFit s0 s1 (placed_text (live_of s0.bytes) bytes) e → IsRefusedPut s0 s1 ps t bytes e
-within-err {s0} {s1} {ps} {t} {bytes} s space r = record {
-  refusal = r.refusal;
-  none = ap (after (live_of s0.bytes) t bytes) (same-grown-one (live_of s0.bytes) ps t space)
-      ∙ ap (λ l. placed_text l bytes) (array-is (live_of s0.bytes) t) ∙ r.none;
-  restored = restored-same s0 s1 s.heap r.same;
-  first = same-first s0 s1 ps t bytes r.same;
-}
+within-err {s0} {ps = ps} {t} {bytes} s space r = refused-same s.heap r.refusal
+    (ap (after (live_of s0.bytes) t bytes) (same-grown-one (live_of s0.bytes) ps t space)
+    ∙ ap (λ l. placed_text l bytes) (array-is (live_of s0.bytes) t) ∙ r.none) r.same
 
 -- ---- the first block that is asked for
 
@@ -403,13 +401,9 @@ growing-ok {s0} {s1} {t} {n} i {bytes} more wanted a pl ad now =
 pub growing-none : {s0 s1 : Cut} {p : Place} {ps : List OwnedText} {t : Table} (n : ℕ) (bytes : List ℕ) {e : Refusal}
     → IsTexts s0.bytes p ps t → t.capacity < n → n ≡ capacity_for_one (length ps) t.capacity
     → IsWithoutFit s0 s1 (regrow (live_of s0.bytes) t.extent (16 * n)) e → IsRefusedPut s0 s1 ps t bytes e
-growing-none {s0} {s1} {ps} {t} n bytes s more wanted r = record {
-  refusal = r.refusal;
-  none = ap (after (live_of s0.bytes) t bytes) (ap (λ k. grown_table (live_of s0.bytes) 16 k t) (sym wanted)
-      ∙ not-grown (live_of s0.bytes) n t more r.none);
-  restored = restored-same s0 s1 s.heap r.same;
-  first = same-first s0 s1 ps t bytes r.same;
-}
+growing-none {s0} {t = t} n bytes s more wanted r = refused-same s.heap r.refusal
+    (ap (after (live_of s0.bytes) t bytes) (ap (λ k. grown_table (live_of s0.bytes) 16 k t) (sym wanted)
+    ∙ not-grown (live_of s0.bytes) n t more r.none)) r.same
 
 pub growing-err : {s0 s1 s2 new : Cut} (ps : List OwnedText) (t : Table) {g : ℕ} (n : ℕ) {bytes : List ℕ} {e : Refusal}
     → t.capacity < n → n ≡ capacity_for_one (length ps) t.capacity → t.capacity ≤ length ps

@@ -16,7 +16,7 @@ use Rattle.seg_vector.proofs.Runs.{AreHeadWords, IsHead, block-written, changed-
 use Rattle.seg_vector.proofs.Runs.{run-none, run-swapped, same-some, serves-full, table, all-as, came-found}
 use Rattle.seg_vector.proofs.Runs.{came-others, all-kept, none-of-none}
 use Rattle.seg_vector.proofs.TextBlocks.{all-join, all-split, element-beside, element-in, element-trans, even-block}
-use Rattle.seg_vector.proofs.TextBlocks.{found-live, links-join, links-moved, of-none, own-head, own_blocks, run-begin}
+use Rattle.seg_vector.proofs.TextBlocks.{found-live, links-join, links-moved, of-none, own_blocks, run-begin}
 use Rattle.seg_vector.proofs.TextBlocks.{owned-same}
 use Rattle.seg_vector.proofs.TextCalls.{come-even, run-others, texts-still}
 use Rattle.seg_vector.proofs.TextPuts.{came-alone, flip-each}
@@ -433,7 +433,7 @@ beside-own {old} {now} {p} {ps} {t} {come} s x =
       head = r1.head;
       change = r1.change;
       found = (are-come x).found;
-      none = (all-split (λ (z : Extent). p.handle ≢ handle z) come own (run-none (own-head w) w.none r1)).0;
+      none = (all-split (λ (z : Extent). p.handle ≢ handle z) come own (run-none w.head w.none r1)).0;
       others = across come own (run-others r1);
     }
 

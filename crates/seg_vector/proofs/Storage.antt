@@ -12,7 +12,7 @@ use W.{payload_at, Table, is_table, serves, same_role, table_link, IsSound, all_
 use W.{read-same, room_block, laid-heap, all-same-but, changed-live, regrow-serves, in_use-all, block_payload}
 use W.{room-less, IfSome_is, all_keep_proper, legal_size, too_long, spread-refl, exchange-next, is_legal_size, Place}
 use W.{IsGrown, IsOwnBlock, Stands, place_at, IsWithoutSpace, IsStorage, capacity_for_one, IsRewritten, IsSwapped}
-use W.{SameBut-link, Refusal, NoSpace, []}
+use W.{SameBut-link, Refusal, NoSpace, [], changed-room}
 use Rattle.seg_vector.proofs.Runs.{IsRun, beside-head, block-written, changed-both, head-room, head-wider, len-written}
 use Rattle.seg_vector.proofs.Runs.{none-some, room-head, run-found, run-headed, run-stands, run-swapped, same-some}
 use Rattle.seg_vector.proofs.Runs.{serves-full, spread-nil, stands-none-of, stands-run, table, table-full}
@@ -208,8 +208,24 @@ pub capacity-room : (b : List ℕ) (p : Place) → IsTrue (has_room (live_of b) 
     → IsTrue (has_room (live_of b) p.handle (p.at + 16 + 8))
 capacity-room b p room = room-less (live_of b) p.handle (p.at + 24) (p.at + 16 + 8) (omega arith) room
 
+-- and so is each of the two of an element
+pub front-room : (l : LiveSet) (h at : ℕ) → IsTrue (has_room l h (at + 16)) → IsTrue (has_room l h (at + 8))
+front-room l h at room = room-less l h (at + 16) (at + 8) (omega arith) room
+
+pub back-room : (l : LiveSet) (h at : ℕ) → IsTrue (has_room l h (at + 16)) → IsTrue (has_room l h (at + 8 + 8))
+back-room l h at room = room-less l h (at + 16) (at + 8 + 8) (omega arith) room
+
+-- where bytes are written, there is a heap still, and a block has the room that it had
+pub kept-heap : {old new : Cut} {from n : ℕ} → IsChanged current old new from n → IsHeap current new.bytes
+kept-heap c = laid-heap _ _ c.live
+
+pub kept-room : {old new : Cut} {from n : ℕ} (h k : ℕ) → IsChanged current old new from n
+    → IsTrue (has_room (live_of old.bytes) h k) → IsTrue (has_room (live_of new.bytes) h k)
+kept-room {old} {new} {from} {n} h k c r = changed-room current old new from n h k c r
+
 -- what shows that a sum within a block fits, and that a word has room
-pub ruleset sizes = (room-small, place-small, stands-small, link-room, len-room, capacity-room)
+pub ruleset sizes =
+    (room-small, place-small, stands-small, link-room, len-room, capacity-room, front-room, back-room, kept-heap, kept-room)
 
 pub len-read : {b : List ℕ} {p : Place} {each len : ℕ} (k : ℕ) {t : Table} {bytes : List ℕ}
     → Stands b p each len t bytes → k ≡ word_at (bytes_of b) (place_at p + 8) → k ≡ len

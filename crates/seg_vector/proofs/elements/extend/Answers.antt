@@ -1,7 +1,7 @@
 -- The elements lie in the storage, and the length in the container's own block.
 use Rattle.seg_vector.proofs.{◌≡◌, sym, ap, subst, ◌∙◌, ◌+◌, ◌*◌, ◌≤◌, ℕ, arith, length, current, Has, bytes_of}
-use Rattle.seg_vector.proofs.{IsChanged, at-least, none-left, capacity-bytes, changed-room, extended, extended-not}
-use Rattle.seg_vector.proofs.{len-read, len-room, more-times, some-room}
+use Rattle.seg_vector.proofs.{IsChanged, at-least, none-left, capacity-bytes, extended, extended-not, len-read}
+use Rattle.seg_vector.proofs.{more-times, some-room}
 use Rattle.seg_vector.proofs.elements.extend.Goals as goal
 
 pub overflow_mul-each : goal.overflow_mul-each
@@ -28,10 +28,6 @@ overflow_add-len c =
     let small = capacity-bytes c.args.heap.now s.heap s in
     let least = at-least c.args.each c.requires.stands.1.0.capacity c.requires.some in
     omega (arith, is, small, least, c.requires.space, s.words.len_word, s.words.capacity)
-
-pub set_word-requires : goal.set_word-requires
-set_word-requires c = changed-room _ _ _ _ _ c.args.place.handle (c.args.place.at + 8 + 8) c.write.ensures.change
-    (len-room c.args.heap.now.bytes c.args.place c.requires.stands.1.1.1.room)
 
 pub returns-in-Some : goal.returns-in-Some
 returns-in-Some c len t bytes s =

@@ -1,7 +1,7 @@
 -- The next element is put in its place, and it is the one that it was.
 use Rattle.seg_vector.proofs.{◌≡◌, subst, ◌+◌, ◌*◌, ◌%◌, arith, IfSome, current, bytes_of, link_at, IsChanged, live_of}
-use Rattle.seg_vector.proofs.{changed-room, laid-heap, room-less, AreSameElements, unchanged, carried-changed}
-use Rattle.seg_vector.proofs.{carried-next, even-now, source-stays}
+use Rattle.seg_vector.proofs.{changed-room, room-less, AreSameElements, unchanged, carried-changed, carried-next}
+use Rattle.seg_vector.proofs.{even-now, source-stays}
 use Rattle.seg_vector.proofs.text_arrays.carry_down.Goals as goal
 
 pub loop-i-init : goal.loop-i-init
@@ -11,9 +11,6 @@ loop-i-init c =
       carried = λ j
           f. absurd (omega arith);
     }
-
-pub carry_element-requires-clause-heap : goal.carry_element-requires-clause-heap
-carry_element-requires-clause-heap c = laid-heap _ _ c.loop-i.invariant.change.live
 
 pub carry_element-requires-clause-source : goal.carry_element-requires-clause-source
 carry_element-requires-clause-source c =

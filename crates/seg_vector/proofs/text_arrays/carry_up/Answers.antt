@@ -1,7 +1,6 @@
 -- The last element that has not moved moves up, and it is the one that it was.
 use Rattle.seg_vector.proofs.{◌≡◌, subst, ◌+◌, ◌-◌, ◌*◌, ◌%◌, arith, IfSome, current, bytes_of, link_at, IsChanged}
-use Rattle.seg_vector.proofs.{live_of, changed-room, laid-heap, room-less, unchanged, even-now, up-changed, up-next}
-use Rattle.seg_vector.proofs.{up-source}
+use Rattle.seg_vector.proofs.{live_of, changed-room, room-less, unchanged, even-now, up-changed, up-next, up-source}
 use Rattle.seg_vector.proofs.text_arrays.carry_up.Goals as goal
 
 pub loop-i-init : goal.loop-i-init
@@ -11,9 +10,6 @@ loop-i-init c =
           c.requires.heap;
       carried = λ j f g. absurd (omega arith);
     }
-
-pub carry_element-requires-clause-heap : goal.carry_element-requires-clause-heap
-carry_element-requires-clause-heap c = laid-heap _ _ c.loop-i.invariant.change.live
 
 pub carry_element-requires-clause-source : goal.carry_element-requires-clause-source
 carry_element-requires-clause-source c =

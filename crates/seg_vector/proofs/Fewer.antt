@@ -7,9 +7,10 @@ use Rattle.seg_vector.proofs.Words.{Extent, LiveSet, handle, holds, shorter, IsC
 use Rattle.seg_vector.proofs.Words.{live_of, IsResized, IsShortened, Table, no_table, same_role, serves, changed-live}
 use Rattle.seg_vector.proofs.Words.{laid-heap, read-same, shorter-IsShorter, spread-refl, exchange-released}
 use Rattle.seg_vector.proofs.Words.{exchange-resized, Role, Storage, Place, IsGivenBack, IsFitted, Stands, place_at, []}
+use Rattle.seg_vector.proofs.Words.{nil_from_length}
 use Rattle.seg_vector.proofs.Runs.{AreHeadWords, IsRun, beside-head, head-wider, none-some, room-head, run-headed}
 use Rattle.seg_vector.proofs.Runs.{run-stands, run-swapped, same-some, stands-run, table, table-full}
-use Rattle.seg_vector.proofs.{Storage.storage-role, Bytes.more-times, Bytes.no-bytes}
+use Rattle.seg_vector.proofs.{Storage.storage-role, Bytes.more-times}
 use Rattle.best_fit.specs.Table.{cut_table}
 
 -- ---- a container without a place
@@ -94,7 +95,7 @@ pub fits-nothing : {old new : Cut} {p : Place} {each len : ℕ} {t : Table} {byt
 fits-nothing {old} {new} {p} {each} {len} {t} {bytes} s e r =
     let cut = cut-none (live_of old.bytes) each len t e in
     let none : each * len ≡ 0 = ap (λ k. each * k) e ∙ (let z : each * 0 ≡ 0 = omega arith in z) in
-    let empty = no-bytes bytes (s.long ∙ none) in
+    let empty = nil_from_length bytes (s.long ∙ none) in
     subst (λ (bs : List ℕ). IsFitted old new p each len t bs) (sym empty) (record {
       change = subst (λ (u : Table). IsExchanged current old new (place_at p) 24 (option_to_list t.extent)
           (option_to_list u.extent)) (sym cut) r.change;

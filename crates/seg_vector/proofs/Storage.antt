@@ -12,12 +12,11 @@ use W.{payload_at, Table, is_table, serves, same_role, table_link, IsSound, all_
 use W.{read-same, room_block, laid-heap, all-same-but, changed-live, regrow-serves, in_use-all, block_payload}
 use W.{room-less, IfSome_is, all_keep_proper, legal_size, too_long, spread-refl, exchange-next, is_legal_size, Place}
 use W.{IsGrown, IsOwnBlock, Stands, place_at, IsWithoutSpace, IsStorage, capacity_for_one, IsRewritten, IsSwapped}
-use W.{SameBut-link, Refusal, NoSpace, [], changed-room}
+use W.{SameBut-link, Refusal, NoSpace, [], changed-room, nil_from_length, take-nil, hole-order}
 use Rattle.seg_vector.proofs.Runs.{IsRun, beside-head, block-written, changed-both, head-room, head-wider, len-written}
 use Rattle.seg_vector.proofs.Runs.{none-some, room-head, run-found, run-headed, run-stands, run-swapped, same-some}
 use Rattle.seg_vector.proofs.Runs.{serves-full, spread-nil, stands-none-of, stands-run, table, table-full}
-use Rattle.seg_vector.proofs.Bytes.{more-times, no-bytes, Has-append, Has-take, Has-drop, Has-beside, Has-patched}
-use Rattle.seg_vector.proofs.Bytes.{length-patch, take-none}
+use Rattle.seg_vector.proofs.Bytes.{more-times, Has-append, Has-take, Has-drop, Has-beside, Has-patched, length-patch}
 use Rattle.best_fit.specs.{Extents.is_proper, Fit.regrow}
 use Rattle.seg_vector.specs.Vector.{grown_table}
 
@@ -109,7 +108,7 @@ carried-storage m m' each len c None y bytes t f e h k =
     let short : len ≡ 0 = omega (arith, f, none) in
     let a : each * len ≡ each * 0 = ap (λ n. each * n) short in
     let b : each * 0 ≡ 0 = omega arith in
-    let empty = no-bytes bytes (e ∙ a ∙ b) in
+    let empty = nil_from_length bytes (e ∙ a ∙ b) in
     subst (λ (bs : List ℕ). Has m' (handle y) bs) (sym empty) refl
 carried-storage m m' each len c (Some x) y bytes t f e h k = ap (read m' (handle y)) e ∙ k ∙ ap (read m (handle x))
     (sym e) ∙ h
@@ -397,7 +396,7 @@ overwritten {new} {p} {each} {len} {g} i {t} {bytes} more s f e link c1 content 
 cut-storage : {old new : Cut} {p : Place} {each len c : ℕ} (k : ℕ) {o : Option Extent} {bytes : List ℕ}
     → Stands old.bytes p each len (table c o) bytes → k ≤ length bytes → IsChanged current old new (place_at p) 24
     → IsStorage (bytes_of new.bytes) (table c o) (take k bytes)
-cut-storage k {o = None} {bytes} s f c2 = take-none k bytes s.words.storage
+cut-storage k {o = None} {bytes} s f c2 = ap (take k) s.words.storage ∙ take-nil k
 cut-storage {old} {new} {p} {each} {len} {c} k {o = Some x} {bytes} s f c2 =
     let full = table-full each c x s.table in let less = more-times each len c s.fits in let total = s.long in
     let stays = beside-head (handle x) s.heap (room-head old p s.heap s.room) c2 s.own.0 (λ e. s.own.1 (sym e)) in
@@ -482,18 +481,12 @@ read-all c {each} {len} k {g} out s is link e =
 ends : (from : ℕ) (xs : List Extent) (to : ℕ) → to < 1073741824 → IsTrue (proper_from from xs to)
     → (from ≤ to) × AllByRecursion (λ (x : Extent). x.len < 1073741824) xs
 ends from [] to f h = (hole-order from to h, tt)
-  where
-    hole-order : (a b : ℕ) → IsTrue (is_hole a b) → a ≤ b
-    hole-order a b h = grind arith
 ends from (x ∷ xs) to f h =
     let two = and_parts (is_hole from x.offset && is_block x) (proper_from (end_of x) xs to) h in
     let front = and_parts (is_hole from x.offset) (is_block x) two.0 in
     let rest = ends (end_of x) xs to f two.1 in let above = hole-order from x.offset front.0 in
     let below = rest.0 in
     (omega (arith, above, below), (omega (arith, below, f), rest.1))
-  where
-    hole-order : (a b : ℕ) → IsTrue (is_hole a b) → a ≤ b
-    hole-order a b h = grind arith
 
 short-extents : (l : LiveSet) → IsTrue (is_proper l) → AllByRecursion (λ (x : Extent). x.len < 1073741824) l.extents
 unfolding is_proper
@@ -580,7 +573,7 @@ extended-not c {p} {each} {len} {k} n {o = None} {bytes} more s f long link =
     let none = eqb-true k 0 s.table in
     let no : n ≡ 0 = omega (arith, f, none) in
     let nothing : each * 0 ≡ 0 = omega arith in
-    let empty = no-bytes more (long ∙ ap (λ j. each * j) no ∙ nothing) in
+    let empty = nil_from_length more (long ∙ ap (λ j. each * j) no ∙ nothing) in
     subst (λ (ws : List ℕ). IsRewritten c c p each (len + n) (table k None) (bytes ++ ws)) (sym empty)
     (subst (λ j. IsRewritten c c p each j (table k None) (bytes ++ [])) (let e : len ≡ len + n = omega (arith, no) in e)
     (subst (λ (ws : List ℕ). IsRewritten c c p each len (table k None) ws) (sym (append-nil bytes))

@@ -331,15 +331,11 @@ element-of c {ps} {k} i {o = Some x} {q} s link e =
     }
 
 -- texts have an array
-no-array-in : (c : Cut) {p : Place} {ps : List OwnedText} {k : ℕ} {o : Option Extent}
+pub no-array : (c : Cut) {p : Place} {ps : List OwnedText} {k : ℕ} {o : Option Extent}
     → IsTexts c.bytes p ps (record { capacity = k; extent = o }) → link_at (bytes_of c.bytes) (place_at p) ≡ None
-    → ps ≡ []
-no-array-in c {o = None} s link = s.words.array
-no-array-in c {o = Some x} s link = none-some link s.words.link
-
-pub no-array : (c : Cut) {p : Place} {ps : List OwnedText} {t : Table} → IsTexts c.bytes p ps t
-    → link_at (bytes_of c.bytes) (place_at p) ≡ None → length ps ≡ 0
-no-array c s link = ap length (no-array-in c s link)
+    → length ps ≡ 0
+no-array c {o = None} s link = ap length s.words.array
+no-array c {o = Some x} s link = none-some link s.words.link
 
 -- ---- its bytes
 

@@ -10,7 +10,7 @@ use W.{found-room, laid-heap, last-first, spread-refl, IsNone, kept, shorter-IsS
 use W.{allocated-room, exchange-taken, kept-found, place-serves, still_allocated, SameBlock-trans, Storage, shorter}
 use W.{place, Place, IsGivenBack, IsFitted, Stands, place_at, IsOwnBlock, AreHeldElements, IsSwapped, AreSameElements}
 use W.{IsHeldElement, IsTextPlaced, IsServed, IsTextReplaced, IsTexts, IsTextsNow, text_blocks, placed_text, AreOthers}
-use W.{AreInArray, IsStorage, OwnedText, AreTextLinks, IsOwnedText, Refusal, IsWithoutFit, []}
+use W.{AreInArray, IsStorage, OwnedText, AreTextLinks, IsOwnedText, Refusal, IsWithoutFit, [], nil_from_length}
 use Rattle.seg_vector.proofs.Runs.{AreHeadWords, IsHead, IsRun, beside-head, block-written, head-exchanged, head-kept}
 use Rattle.seg_vector.proofs.Runs.{head-room, head-wider, len-written, none-some, room-head, run-found, run-headed}
 use Rattle.seg_vector.proofs.Runs.{run-swapped, same-some, table, table-full, words-kept, all-as, came-found}
@@ -20,7 +20,7 @@ use Rattle.seg_vector.proofs.TextBlocks.{element-in, element-trans, even-block, 
 use Rattle.seg_vector.proofs.TextBlocks.{links-moved, no-array, none-of, of-none, one-of, own_blocks, run-begin}
 use Rattle.seg_vector.proofs.TextBlocks.{swapped-none, texts-between, texts-own, held-texts, served-texts, owned-same}
 use Rattle.seg_vector.proofs.TextBlocks.{same-loose}
-use Rattle.seg_vector.proofs.{Fewer.cut-some, Typed.set-pieces, Bytes.length-read, Bytes.no-bytes}
+use Rattle.seg_vector.proofs.{Fewer.cut-some, Typed.set-pieces, Bytes.length-read}
 use Rattle.best_fit.specs.Table.{cut_table}
 
 -- ---- the elements of the array
@@ -43,7 +43,7 @@ held-elements {b} {ps} {c} n {o = Some x} s link e =
 pub released-nothing : (c : Cut) {p : Place} {ps : List OwnedText} {t : Table} → IsTexts c.bytes p ps t
     → link_at (bytes_of c.bytes) (place_at p) ≡ None → IsSwapped c c (text_blocks ps) []
 released-nothing c {ps} s link =
-    let none = no-bytes ps (no-array c s link) in
+    let none = nil_from_length ps (no-array c s link) in
     subst (λ (qs : List OwnedText). IsSwapped c c (text_blocks qs) []) (sym none) (swapped-none c s.heap)
 
 -- ---- no text
@@ -326,8 +326,8 @@ placed-empty c bytes heap e = record {
   same = refl;
   at = refl;
   change = swapped-none c heap;
-  owned = no-bytes bytes e;
-  served = no-bytes bytes e;
+  owned = nil_from_length bytes e;
+  served = nil_from_length bytes e;
 }
 
 pub placed-some : {old mid new : Cut} (bytes : List ℕ) {h : ℕ} → 0 < length bytes
@@ -449,14 +449,14 @@ others-front (Some y) xs d = (d.0, tt)
 
 -- ---- the vector afterwards
 
-set_in : {s0 s1 s3 : Cut} {p : Place} {ps : List OwnedText} {c i len : ℕ} {x : Extent} {q : OwnedText} {bytes : List ℕ}
-    {block : Option ℕ} → IsTexts s0.bytes p ps (table c (Some x)) → slice_get ps i ≡ Some q
-    → (pl : IsTextPlaced s0 s1 bytes block) → (rep : IsTextReplaced s1 s3 p (table c (Some x)) i q block len)
-    → len ≡ length bytes → rep.array ≡ x
-    → IsTextsNow s0 s3 p (x ∷ option_to_list q.extent) (x ∷ option_to_list pl.text.extent) (slice_set ps i pl.text)
-    (table c (Some x))
-set_in {s0} {s1} {s3} {p} {ps} {c} {i} {len} {x} {q} {block} s e pl rep len_is array_is =
-    let t = table c (Some x) in let z = pl.text in let n = length ps in let mid = rep.mid in
+pub text-set : {s0 s1 s3 : Cut} {p : Place} {ps : List OwnedText} {c i len : ℕ} {o : Option Extent} {q : OwnedText}
+    {bytes : List ℕ} {block : Option ℕ} → IsTexts s0.bytes p ps (table c o) → slice_get ps i ≡ Some q
+    → (pl : IsTextPlaced s0 s1 bytes block) → (rep : IsTextReplaced s1 s3 p (table c o) i q block len)
+    → len ≡ length bytes → IsTextsNow s0 s3 p (option_to_list o ++ option_to_list q.extent)
+    (option_to_list o ++ option_to_list pl.text.extent) (slice_set ps i pl.text) (table c o)
+text-set {o = None} s e pl rep len_is = none-some refl rep.extent
+text-set {s0} {s1} {s3} {p} {ps} {c} {i} {len} {o = Some x} {q} {block = block} s e pl rep len_is =
+    let array_is : rep.array ≡ x = same-some (sym rep.extent) in let t = table c (Some x) in let z = pl.text in let n = length ps in let mid = rep.mid in
     let eb = option_to_list q.extent in let ez = option_to_list z.extent in
     let gone : List Extent = x ∷ eb in
     let below = slice_get_within ps i q e in let fits = s.fits in let full = table-full 16 c x s.table in
@@ -514,14 +514,6 @@ set_in {s0} {s1} {s3} {p} {ps} {c} {i} {len} {x} {q} {block} s e pl rep len_is a
     (ap (λ (xs : List Extent). x ∷ xs) (sym (append-nil ez))) s r3.change s.table (omega (arith, len_set, fits))
     (subst (λ w. AreHeadWords (bytes_of s3.bytes) (place_at p) w t) (sym len_set) r3.words)
     (subst (AreTextLinks (bytes_of s3.bytes) (handle x)) (sym qs_is) links) (t3.0, tt) (pl.served, tt)
-
-pub text-set : {s0 s1 s3 : Cut} {p : Place} {ps : List OwnedText} {c i len : ℕ} {o : Option Extent} {q : OwnedText}
-    {bytes : List ℕ} {block : Option ℕ} → IsTexts s0.bytes p ps (table c o) → slice_get ps i ≡ Some q
-    → (pl : IsTextPlaced s0 s1 bytes block) → (rep : IsTextReplaced s1 s3 p (table c o) i q block len)
-    → len ≡ length bytes → IsTextsNow s0 s3 p (option_to_list o ++ option_to_list q.extent)
-    (option_to_list o ++ option_to_list pl.text.extent) (slice_set ps i pl.text) (table c o)
-text-set {o = None} s e pl rep len_is = none-some refl rep.extent
-text-set {o = Some x} s e pl rep len_is = set_in s e pl rep len_is (same-some (sym rep.extent))
 
 -- ---- the element is written once the old text is released
 

@@ -2,14 +2,14 @@
 use Rattle.seg_vector.proofs.Words as W
 use W.{◌≡◌, ◌≢◌, refl, sym, ap, subst, ◌∙◌, ℕ, ◌+◌, ◌*◌, ◌<◌, ◌≤◌, Option, Some, None, List, ◌∷◌, ◌++◌, arith, length}
 use W.{inl, inr, ◌⊎◌, ◌%◌, append-nil, ◌-◌, IsTrue, Result, Ok, Err, MatchResult, option_map, option_to_list, IfSome}
-use W.{nat_lt, AllByRecursion, and_from, lt-ltb, Memory, Cut, bytes_of, word_at, current, Storage, link_at}
-use W.{IsNotWidened, IsWidened, exchanged, IsExchanged, Extent, LiveSet, handle, end_of, place, Refusal, IsAllocated}
-use W.{IsChanged, IsHeap, IsReleased, IsResized, SameBlock, extent_at, live_of, has_room, Table, serves, is_table}
-use W.{IsFound, IsNone, SameBlock-trans, exchange-order, exchange-released, exchange-resized, exchange-taken}
-use W.{found-none, kept, kept-found, last-first, live-rises, middle-first, place-serves, regrow-serves, spread-refl}
-use W.{found-room, two-apart, laid-heap, Place, place_at, AreSameElements, IsAdopted, IsAsked, IsWithoutFit, IsSwapped}
-use W.{taken, widened, AreEvenLinks, IsReady, TakesStorage, AreOthers, IsTexts, IsTextsNow, AreTextLinks, OwnedText, []}
-use W.{IsPointed}
+use W.{nat_lt, AllByRecursion, and_from, lt-ltb, Cut, bytes_of, word_at, current, Storage, link_at, IsNotWidened}
+use W.{IsWidened, exchanged, IsExchanged, Extent, LiveSet, handle, end_of, place, Refusal, IsAllocated, IsChanged}
+use W.{IsHeap, IsReleased, IsResized, SameBlock, extent_at, live_of, has_room, Table, serves, is_table, IsFound, IsNone}
+use W.{SameBlock-trans, exchange-order, exchange-released, exchange-resized, exchange-taken, found-none, kept}
+use W.{kept-found, last-first, live-rises, middle-first, place-serves, regrow-serves, spread-refl, found-room}
+use W.{two-apart, laid-heap, Place, place_at, AreSameElements, IsAdopted, IsAsked, IsWithoutFit, IsSwapped, taken}
+use W.{widened, AreEvenLinks, IsReady, TakesStorage, AreOthers, IsTexts, IsTextsNow, AreTextLinks, OwnedText, []}
+use W.{IsPointed, blocks-trans}
 use Rattle.seg_vector.proofs.Runs.{AreHeadWords, IsHead, IsRun, beside-head, block-written, none-some, run-found}
 use Rattle.seg_vector.proofs.Runs.{run-headed, run-swapped, same-some, serves-full, table, all-kept, stands-none-of}
 use Rattle.seg_vector.proofs.TextBlocks.{all-split, element-in, element-trans, even-block, even-held, links-moved}
@@ -72,11 +72,6 @@ pub all-beside-head : {a b : Cut} {p : Place} (xs : List Extent) → IsHeap curr
     → AllByRecursion (SameBlock (bytes_of a.bytes) (bytes_of b.bytes)) xs
 all-beside-head [] heap w c f n = tt
 all-beside-head (x ∷ xs) heap w c f n = (beside-head (handle x) heap w c f.0 n.0, all-beside-head xs heap w c f.1 n.1)
-
-pub all-trans : (a b c : Memory) (xs : List Extent) → AllByRecursion (SameBlock a b) xs
-    → AllByRecursion (SameBlock b c) xs → AllByRecursion (SameBlock a c) xs
-all-trans a b c [] p q = tt
-all-trans a b c (x ∷ xs) p q = (SameBlock-trans a b c x p.0 q.0, all-trans a b c xs p.1 q.1)
 
 pub new-other : {first mid : Cut} {n g : ℕ} (h : ℕ) {x : Extent} → (a : IsAllocated current first mid n Storage g)
     → extent_at (live_of first.bytes) h ≡ Some x → h ≢ handle a.extent
@@ -289,9 +284,9 @@ adopt-beside {first} {old} {a1} {a2} {new} {p} {ps} {c} {g} n {x} {loose} s more
       len_word = r3.words.len_word;
       capacity = r3.words.capacity;
       links = subst (λ w. AreTextLinks (bytes_of new.bytes) w ps) (sym g_is) links;
-      stay = all-trans (bytes_of old.bytes) (bytes_of a1.bytes) (bytes_of new.bytes) loose
+      stay = blocks-trans (bytes_of old.bytes) (bytes_of a1.bytes) (bytes_of new.bytes) loose
           (all-kept loose b.run.heap x1 found0.0 apart.0)
-          (all-trans (bytes_of a1.bytes) (bytes_of a2.bytes) (bytes_of new.bytes) loose
+          (blocks-trans (bytes_of a1.bytes) (bytes_of a2.bytes) (bytes_of new.bytes) loose
           (all-beside-head loose r1.heap r1.head c2 loose1 none.0) (all-kept loose r2.heap x3 loose2 apart.1));
     }
 

@@ -437,12 +437,10 @@ pub few-places : (c : Cut) {p : Place} {ps : List OwnedText} {t : Table} → IsT
     → 16 * t.capacity < 1073741824
 few-places c s = capacity-bytes c s.heap (texts-stand s)
 
-more-if : (n k c : ℕ) → c ≤ k → n ≡ max 4 (2 * c) → k ≤ c → (c < n) × (k < n)
-more-if n k c f e g = (omega (arith, e), omega (arith, e, g))
-
 pub more-places : (c : Cut) {p : Place} {ps : List OwnedText} {t : Table} (n : ℕ) → IsTexts c.bytes p ps t
     → t.capacity ≤ length ps → n ≡ capacity_for_one (length ps) t.capacity → (t.capacity < n) × (length ps < n)
-more-places c {ps} {t} n s f e = more-if n (length ps) t.capacity f (wanted-more n (length ps) t.capacity f e) s.fits
+more-places c {ps} {t} n s f e =
+    let is = wanted-more n (length ps) t.capacity f e in (omega (arith, f, is), omega (arith, f, is, s.fits))
 
 pub small-wanted : (c : Cut) {p : Place} {ps : List OwnedText} {t : Table} (n : ℕ) → IsTexts c.bytes p ps t
     → t.capacity ≤ length ps → n ≡ capacity_for_one (length ps) t.capacity → 16 * n < 18446744073709551616

@@ -11,7 +11,7 @@ use W.{exchange-released, exchange-taken, keeps-refl, place-serves, too_long, ke
 use W.{AreLaid, AreLaidUpTo, AreLaidOut, AreNotLaidOut, AreSameElements, IsServed, IsSwapped, IsWithoutFit}
 use W.{IsTextPlaced, AreHeldElements, AreOthers, placed_text, placed_texts, text_blocks, with_text, all_texts}
 use W.{new_array, AreTextsAssigned, AssignsTexts, IsTexts, IsTextsNow, ReleasesTexts, AreTextLinks, IsOwnedText}
-use W.{OwnedText, Place, place_at, [], IsPointed}
+use W.{OwnedText, Place, place_at, [], IsPointed, all-same-but}
 use Rattle.seg_vector.proofs.Runs.{AreHeadWords, IsHead, block-written, changed-both, head-exchanged, len-written}
 use Rattle.seg_vector.proofs.Runs.{run-none, run-swapped, same-some, serves-full, table, all-as, came-found}
 use Rattle.seg_vector.proofs.Runs.{came-others, all-kept, none-of-none}
@@ -43,10 +43,6 @@ with-text_in : {a b : Cut} (bytes : List ℕ) (o : Option Extent) → IsSwapped 
     → live_of b.bytes ≡ with_text (live_of a.bytes) (record { bytes = bytes; extent = o })
 with-text_in {a} {b} bytes None s = exchanged-live a b 0 0 [] [] _ s
 with-text_in bytes (Some x) s = came-alone s
-
-with-text-live : {a b : Cut} (q : OwnedText) → IsSwapped a b [] (option_to_list q.extent)
-    → live_of b.bytes ≡ with_text (live_of a.bytes) q
-with-text-live q s = with-text_in q.bytes q.extent s
 
 -- ---- what is asked for
 
@@ -130,8 +126,8 @@ laid-put {old} {now} {mid} {new} {y} {i} n array {bytes} {more} at a split below
     (text_blocks (a.texts ++ (q ∷ []))) =
     subst (AllByRecursion (SameBlock (bytes_of mid.bytes) (bytes_of new.bytes))) (sym blocks)
     (all-kept (tb ++ oq) there.heap x2 there.found.1 (flip-each y (tb ++ oq) there.others.0)) in
-    let live : live_of new.bytes ≡ with_text (live_of now.bytes) q = changed-live _ mid new _ 16 c ∙ with-text-live q
-    pl.change in
+    let live : live_of new.bytes ≡ with_text (live_of now.bytes) q = changed-live _ mid new _ 16 c
+    ∙ with-text_in q.bytes q.extent pl.change in
     record {
       texts = a.texts ++ (q ∷ []);
       long = omega (arith, length-append a.texts (q ∷ []), a.long);
@@ -184,13 +180,6 @@ drop-next xs i d f = let count : suc i ≡ i + 1 = omega arith in at xs i d f
     at (y ∷ ys) (suc i) d f = at ys i d (omega (arith, f))
 
 -- ---- what the calls of a step need
-
-pub laid-heap-of : {old now : Cut} {y : Extent} {i : ℕ} {more : List (List ℕ)} → AreLaid old now y i more
-    → IsHeap current now.bytes
-laid-heap-of a = (are-come a.change).heap
-
-pub text-heap : {a b : Cut} {bytes : List ℕ} {block : Option ℕ} → IsTextPlaced a b bytes block → IsHeap current b.bytes
-text-heap pl = (are-come pl.change).heap
 
 pub text-even : {a b : Cut} {bytes : List ℕ} {block : Option ℕ} → IsTextPlaced a b bytes block
     → IfSome block (λ target. target % 16 ≡ 0)
@@ -439,10 +428,6 @@ beside-own {old} {now} {p} {ps} {t} {come} s x =
 
 -- ---- the vector afterwards
 
-pub laid-still : {old now : Cut} {p : Place} {ps : List OwnedText} {t : Table} {g : ℕ} {more : List (List ℕ)}
-    → IsTexts old.bytes p ps t → AreLaidOut old now more g → IsTexts now.bytes p ps t
-laid-still s w = texts-still s w.change
-
 pub assigned : {old now rel led new : Cut} {p : Place} {ps : List OwnedText} {t : Table} {g : ℕ} (n : ℕ)
     {more : List (List ℕ)} → IsTexts old.bytes p ps t → (w : AreLaidOut old now more g) → n ≡ length more → 0 < n
     → ReleasesTexts now rel p
@@ -452,7 +437,7 @@ pub assigned : {old now rel led new : Cut} {p : Place} {ps : List OwnedText} {t 
 assigned {old} {now} {rel} {led} {new} {p} {ps} {t} n {more} s w e some released q d word =
     let at = place_at p in let own = own_blocks ps t in let y = w.block in let qs = w.texts in
     let come : List Extent = y ∷ text_blocks qs in
-    let u = table n (Some y) in let x = released ps t (laid-still s w) in let b = beside-own s w.change in
+    let u = table n (Some y) in let x = released ps t (texts-still s w.change) in let b = beside-own s w.change in
     let c = changed-both at 24 q.change d (omega arith) (omega arith) (omega arith) (omega arith) in
     let e2 = head-exchanged p x.texts.heap x.texts.room c in
     let e12 = exchange-next _ now rel new at 24 own [] [] [] [] (spread-refl []) x.change e2 in
@@ -505,10 +490,7 @@ nothing-swapped {a} {b} r = record {
   place = r.keeps.place;
   front = r.keeps.front;
   behind = r.keeps.behind;
-  blocks = all-as (SameBlock (bytes_of a.bytes) (bytes_of b.bytes))
-      (SameBlockBut (bytes_of a.bytes) (bytes_of b.bytes) 0 0)
-      (λ z s. record { payload = λ k f g h. s.payload.at k f g; colour = s.colour })
-      (live_of a.bytes).extents r.keeps.blocks;
+  blocks = all-same-but (bytes_of a.bytes) (bytes_of b.bytes) 0 0 (live_of a.bytes).extents r.keeps.blocks;
 }
 
 pub texts-restored : {a b : Cut} {p : Place} {ps : List OwnedText} {t : Table} → IsTexts a.bytes p ps t

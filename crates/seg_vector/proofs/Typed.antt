@@ -8,7 +8,7 @@ use W.{take-append_seam, length-insert, length-remove, part, patched, Cut, bytes
 use W.{IsChanged, IsHeap, has_room, live_of, Table, no_table, Refusal, Place, Erases, Result, Ok, Err, MatchResult}
 use W.{Extends, Fits, GivesBack, Inserts, IsFitted, IsGivenBack, IsRewritten, Overwrites, ReadsOne, Truncates, IsGrown}
 use W.{Grows, IsStanding, Stands, place_at, IsText, IsTextGrown, IsTextNow, capacity_for_one, capacity_for_text}
-use W.{IsVector, IsVectorGrown, IsVectorNow, IsWithoutSpace, Starts, []}
+use W.{IsVector, IsVectorGrown, IsVectorNow, IsWithoutSpace, Starts, [], take-nil, drop-nil}
 use Rattle.seg_vector.proofs.Storage.{capacity-bytes, exchange-then, has-place, not-refused, unchanged-rewritten}
 use Rattle.seg_vector.proofs.{Runs.head-exchanged, Runs.same-some, Runs.table, Storage.wanted-places}
 use Rattle.best_fit.specs.Table.{cut_table}
@@ -53,14 +53,6 @@ set-pieces (x ∷ xs) zero y f = refl
 set-pieces (x ∷ xs) (suc i) y f = ap (λ l. x ∷ l) (set-pieces xs i y (omega arith))
 
 -- ---- their bytes
-
-take-nil : (k : ℕ) → take k (let none : List ℕ = [] in none) ≡ []
-take-nil zero = refl
-take-nil (suc k) = refl
-
-drop-nil : (k : ℕ) → drop k (let none : List ℕ = [] in none) ≡ []
-drop-nil zero = refl
-drop-nil (suc k) = refl
 
 module _ {T : Type 0} (size : ℕ) (test : T → Bool) (sp : T → List ℕ)
     (spells : (x : T) → test x ≡ true → length (sp x) ≡ size) where
@@ -197,10 +189,6 @@ pub text-then : {old mid new : Cut} {p : Place} (t : Table) {u : Table} {ys : Li
     → IsTextNow mid new p u ys u → IsTextNow old new p t ys u
 text-then t c w = record { change = exchange-then c w.change; text = w.text }
 
-pub text-grown : {old new : Cut} {p : Place} {n : ℕ} {t : Table} {bytes : List ℕ}
-    → IsGrown old new p 1 n (length bytes) t bytes → IsTextGrown old new p t n bytes
-text-grown g = record { table = g.table; grown = g.grown; now = record { change = g.change; text = g.stands } }
-
 pub text-grown-then : {old mid new : Cut} {p : Place} {n : ℕ} {t : Table} {bytes ys : List ℕ}
     → (g : IsGrown old mid p 1 n (length bytes) t bytes) → IsTextNow mid new p g.table ys g.table
     → IsTextGrown old new p t n ys
@@ -213,12 +201,6 @@ pub vector-started : {T : Type 0} → {size : ℕ} (test : T → Bool) (sp : T �
     → IsChanged current old new (place_at p) 24 → Stands new.bytes p size 0 no_table [] → Starts size test sp old new p
 vector-started test sp {p} heap r c s =
     record { change = head-exchanged p heap r c; vector = record { stands = s; values = refl } }
-
-pub text-started : {old new : Cut} {p : Place} → IsHeap current old.bytes
-    → IsTrue (has_room (live_of old.bytes) p.handle (p.at + 24))
-    → IsChanged current old new (place_at p) 24 → Stands new.bytes p 1 0 no_table []
-    → IsTextNow old new p no_table [] no_table
-text-started {p} heap r c s = record { change = head-exchanged p heap r c; text = s }
 
 -- ---- what the calls on bytes do, for vectors. Their element size is the type's.
 
@@ -377,16 +359,14 @@ module _ (old mid : Cut) {p : Place} {bytes : List ℕ} {t : Table} (v : IsText 
 
   pub text-reserved : (n : ℕ) (r : Result (Unit {0}) Refusal) → Grows old mid p 1 n r
       → MatchResult r (λ u. IsTextGrown old mid p t n bytes) (IsWithoutSpace old mid 1 n t)
-  text-reserved n (Ok u) h = text-grown (h (length bytes) t bytes v)
+  text-reserved n (Ok u) h = let g = h (length bytes) t bytes v in
+      record { table = g.table; grown = g.grown; now = record { change = g.change; text = g.stands } }
   text-reserved n (Err f) h = h (length bytes) t bytes v
 
   pub text-enough : (n : ℕ) (r : Result (Unit {0}) Refusal) → Grows old mid p 1 n r → n ≤ t.capacity
       → (r ≡ Ok tt) × (mid ≡ old)
   text-enough n (Ok tt) h less = (refl, (h (length bytes) t bytes v).enough less)
   text-enough n (Err f) h less = absurd (not-refused less (h (length bytes) t bytes v))
-
-  pub text-cleared : Truncates old mid p 1 0 → IsTextNow old mid p t [] t
-  text-cleared h = text-now [] (h (length bytes) t bytes v) refl refl
 
   pub byte-set : (i x : ℕ) → i < length bytes → Overwrites old mid p 1 i (x ∷ [])
       → IsTextNow old mid p t (slice_set bytes i x) t
@@ -402,14 +382,6 @@ module _ (old mid : Cut) {p : Place} {bytes : List ℕ} {t : Table} (v : IsText 
 
   pub text-extended : (more : List ℕ) → Extends old mid p 1 (length more) more → IsTextNow old mid p t (bytes ++ more) t
   text-extended more h = text-now (bytes ++ more) (h (length bytes) t bytes v) (sym (length-append bytes more)) refl
-
-  pub text-fitted : Fits old mid p 1 → IsTextNow old mid p t bytes (cut_table (live_of old.bytes) 1 (length bytes) t)
-  text-fitted h = let r : IsFitted old mid p 1 (length bytes) t bytes = h (length bytes) t bytes v in record
-      { change = r.change; text = r.stands }
-
-  pub text-released : GivesBack old mid p 1 → IsTextNow old mid p t [] no_table
-  text-released h = let r : IsGivenBack old mid p 1 t = h (length bytes) t bytes v in record
-      { change = r.change; text = r.stands }
 
   -- places for bytes behind the last one
   pub text-space : (more : List ℕ) → length bytes + length more ≤ t.capacity

@@ -5,10 +5,10 @@ pub use Rattle.std.proofs.Common.{append_assoc, length-append, drop, map, slice_
 pub use Rattle.std.proofs.lemmas.Bool.{and_parts, leb-true, and_from, cond-false, cond-true, eq-eqb, le-leb, lt-ltb}
 pub use Rattle.std.proofs.lemmas.List.{drop_all, take-append-drop, length-set, length-take, take-take, length-drop}
 pub use Rattle.std.proofs.Common.{Bool, true, take, ◌-◌, max, cond, ◌&&◌}
-pub use Rattle.std.proofs.Math.Seq.{take-append-add, drop-append-add, take-append_seam, take-suc}
+pub use Rattle.std.proofs.Math.Seq.{take-append-add, drop-append-add, take-append_seam, take-suc, take-nil, drop-nil}
 pub use Rattle.std.proofs.lemmas.Bool.{ne_eqb, or_left, or_right, eqb-true, le-ltb, lt-leb, ltb-true, or_cases}
 pub use Rattle.std.proofs.{lemmas.Grind.flat_map-append, lemmas.Option.slice_get_within}
-pub use Rattle.std.proofs.lemmas.List.{drop_at, take_all, length-map}
+pub use Rattle.std.proofs.lemmas.List.{drop_at, take_all, length-map, nil_from_length}
 pub use Rattle.std.proofs.lemmas.List.Edits.{length-insert, length-remove}
 pub use Rattle.std.proofs.{lemmas.List.Folds.list_all-append, lemmas.Result.err_from_is_err_and}
 pub use Rattle.std.specs.List.{AllByRecursion, list_all, list_any}
@@ -26,6 +26,7 @@ pub use Rattle.best_fit.proofs.Laws.{without-inserted, block_payload, room_block
 pub use Rattle.best_fit.proofs.Laws.{regrow-serves, two-apart, taken-back, widened-back, lay_out_one, allocated-room}
 pub use Rattle.best_fit.proofs.Laws.{still_allocated, all_of-insert, all-same-but, in_use-all, room-less, IfSome_is}
 pub use Rattle.best_fit.proofs.Laws.{all_keep_proper, legal_size, not-wide, wide-longer, wide-same, changed-room}
+pub use Rattle.best_fit.proofs.Laws.{blocks-trans, hole-order}
 pub use Rattle.best_fit.specs.Exchange.{exchanged, without_all, IsExchanged, inserted, IsRestored, SameBlockBut}
 pub use Rattle.best_fit.specs.Exchange.{IsNotWidened, IsWidened, CarriesOver, IsGivenRoom, IsNotGivenRoom, block_of}
 pub use Rattle.best_fit.specs.Exchange.{IsRegrown}

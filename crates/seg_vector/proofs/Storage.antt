@@ -511,8 +511,7 @@ none-by : (l : LiveSet) {x : Extent} (n : ℕ) (o : Option Extent) → IsTrue (i
     → longer l x n ≡ o → place l n Storage ≡ None → regrow l (Some x) n ≡ None
 none-by l {x} n None p found role f e is none = regrow-moved l x n None e is ∙ none
 none-by l {x} n (Some y) p found role f e is none =
-    let here : IsTrue (is_extent l x) =
-    subst (λ (o : Option Extent). IsTrue (elim o as (λ _. Bool) [ None ↦ false | Some z ↦ z.len == x.len ]))
+    let here = subst (λ (o : Option Extent). IsTrue (elim o as (λ _. Bool) [ None ↦ false | Some z ↦ z.len == x.len ]))
     (sym found) (eq-eqb x.len x.len refl) in
     let proper = IfSome_is (λ z. IsTrue (is_proper (resized l z))) (longer l x n) y is
     ((all_keep_proper l p).longer x n here) in

@@ -435,9 +435,7 @@ element-left {old} {now} {array} {n} i {ps} {q} s e x =
     let below = slice_get_within ps i q e in
     let within : i < n = omega (arith, below, s.long) in
     let stays = kept old now array _ gone come _ s.heap x r.found none in
-    let first : AllByRecursion (IsFound (live_of now.bytes).extents)
-    (option_to_list q.extent ++ text_blocks (drop (suc i) ps)) =
-    subst (λ (xs : List OwnedText). AllByRecursion (IsFound (live_of now.bytes).extents) (text_blocks xs))
+    let first = subst (λ (xs : List OwnedText). AllByRecursion (IsFound (live_of now.bytes).extents) (text_blocks xs))
     (drop-at ps i e) (came-found x) in
     record {
       heap = laid-heap _ _ x.live;
@@ -456,8 +454,7 @@ pub releases-next : {old now new : Cut} (i : ℕ) (ps : List OwnedText) {q : Own
 releases-next {old} {now} {new} i ps {q} e x y =
     let count : suc i ≡ i + 1 = omega arith in
     let left = text_blocks (drop (suc i) ps) in
-    let spread : SameSpread (text_blocks (drop i ps)) (option_to_list q.extent ++ left) =
-    subst (λ (xs : List OwnedText). SameSpread (text_blocks xs) (option_to_list q.extent ++ left))
+    let spread = subst (λ (xs : List OwnedText). SameSpread (text_blocks xs) (option_to_list q.extent ++ left))
     (sym (drop-at ps i e)) (spread-refl (option_to_list q.extent ++ left)) in
     subst (λ k. IsSwapped old new (text_blocks ps) (text_blocks (drop k ps))) count
     (exchange-next _ old now new 0 0 _ _ _ left [] spread x y)

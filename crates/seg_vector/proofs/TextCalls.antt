@@ -148,8 +148,7 @@ erased-by {s0} {s1} {s2} {s3} {p} {ps} {c} {g} i n {o = Some x} {q} s e link n_i
     let g_is = same-some (sym link ∙ s.words.link) in let below = slice_get_within ps i q e in
     let fits = s.fits in let full = table-full 16 c x s.table in let apart = text-apart i s e in
     let one = append-nil eq in
-    let r0 : IsRun s0 s0 p gone gone (length ps) t =
-    subst (λ (xs : List Extent). IsRun s0 s0 p (x ∷ xs) (x ∷ xs) (length ps) t) one
+    let r0 = subst (λ (xs : List Extent). IsRun s0 s0 p (x ∷ xs) (x ∷ xs) (length ps) t) one
     (run-begin s0 (take i ps) (q ∷ []) (drop (suc i) ps) (around ps i e) s) in
     let r1 = run-swapped (x ∷ []) (last-first (x ∷ []) eq) r0 x1 apart.head in
     let x2 = block-written (16 * c) r1.heap (run-found r1).0 c2 (omega (arith, g_is))
@@ -278,8 +277,7 @@ cut-links l m m' (q ∷ qs) c (Some x) a h =
     let y = shorter l x (16 * n) in
     let cut = cut-some l 16 n c x (omega arith) in
     let begins : handle y ≡ handle x = ap (λ (z : Extent). handle z) (shorter-IsShorter l x (16 * n)).same in
-    let has : Has m' (handle y) (read m (handle x) (16 * n)) =
-    subst (λ (u : Table). IsStorage m' u (read m (handle x) (16 * n))) cut h in
+    let has = subst (λ (u : Table). IsStorage m' u (read m (handle x) (16 * n))) cut h in
     let is : read m' (handle x) (16 * n) ≡ read m (handle x) (16 * n) =
     ap (read m' (handle x)) (sym (length-read m (handle x) (16 * n)))
     ∙ subst (λ k. Has m' k (read m (handle x) (16 * n))) begins has in
@@ -466,14 +464,12 @@ text-set {s0} {s1} {s3} {p} {ps} {c} {i} {len} {o = Some x} {q} {block = block} 
     let r0 : IsRun s0 s0 p gone gone n t = subst (λ (xs : List Extent). IsRun s0 s0 p (x ∷ xs) (x ∷ xs) n t) one
     (run-begin s0 (take i ps) (q ∷ []) (drop (suc i) ps) (around ps i e) s) in
     let r1 = run-swapped gone (spread-refl gone) r0 pl.change tt in
-    let spread : SameSpread (ez ++ gone) (eb ++ (ez ++ (x ∷ []))) =
-    subst (λ (xs : List Extent). SameSpread xs (eb ++ (ez ++ (x ∷ [])))) (append_assoc ez (x ∷ []) eb)
+    let spread = subst (λ (xs : List Extent). SameSpread xs (eb ++ (ez ++ (x ∷ [])))) (append_assoc ez (x ∷ []) eb)
     (last-first (ez ++ (x ∷ [])) eb) in
     let r2 = run-swapped (ez ++ (x ∷ [])) spread r1 rep.released apart.head in
     let found1 = (all-split (IsFound (live_of s1.bytes).extents) ez gone (run-found r1)) in
     let found2 = (all-split (IsFound (live_of mid.bytes).extents) ez (x ∷ []) (run-found r2)) in
-    let c3 : IsChanged current mid s3 (handle x + 16 * i) 16 =
-    subst (λ (y : Extent). IsChanged current mid s3 (handle y + 16 * i) 16) array_is rep.written in
+    let c3 = subst (λ (y : Extent). IsChanged current mid s3 (handle y + 16 * i) 16) array_is rep.written in
     let w3 = block-written (16 * c) r2.heap found2.1.0 c3 (omega arith) (omega (arith, below, fits)) full in
     let r3 = run-swapped ez (last-first ez (x ∷ [])) r2 w3 (other, tt) in
     let k1 = kept s0 s1 (handle x) x [] ez _ s.heap pl.change s.own.0 tt in
@@ -486,10 +482,9 @@ text-set {s0} {s1} {s3} {p} {ps} {c} {i} {len} {o = Some x} {q} {block = block} 
     (handle x + 16 * i + 16) (n - i - 1) = λ j f.
     element-trans (element-in (handle x + 16 * i + 16 + 16 * j) k (omega arith) (omega (arith, f, below, fits, full)))
     (element-beside (handle x + 16 * i + 16 + 16 * j) c3.rest (inr (omega arith))) in
-    let link : link_at (bytes_of s3.bytes) (handle x + 16 * i) ≡ option_map handle z.extent =
+    let link =
     subst (λ (y : Extent). link_at (bytes_of s3.bytes) (handle y + 16 * i) ≡ block) array_is rep.link ∙ pl.at in
-    let word : word_at (bytes_of s3.bytes) (handle x + 16 * i + 8) ≡ length z.bytes =
-    subst (λ (y : Extent). word_at (bytes_of s3.bytes) (handle y + 16 * i + 8) ≡ len) array_is rep.len_word
+    let word = subst (λ (y : Extent). word_at (bytes_of s3.bytes) (handle y + 16 * i + 8) ≡ len) array_is rep.len_word
     ∙ len_is ∙ ap (λ (bs : List ℕ). length bs) (sym pl.same) in
     let qs_is = set-pieces ps i z below in
     let links = links-edited (handle x) ps i (suc i) (z ∷ []) (omega (arith, below)) (omega (arith, below))

@@ -265,8 +265,7 @@ adopt-beside {first} {old} {a1} {a2} {new} {p} {ps} {c} {g} n {x} {loose} s more
     let y13 = SameBlock-trans _ _ _ y y12 y23 in
     let from : handle x + 0 ≡ handle x = omega arith in
     let to : g + 0 ≡ handle y = omega (arith, g_is) in
-    let moved : AreSameElements (bytes_of old.bytes) (bytes_of a1.bytes) (handle x) (handle y) k =
-    subst (λ w. AreSameElements (bytes_of old.bytes) (bytes_of a1.bytes) w (handle y) k) from
+    let moved = subst (λ w. AreSameElements (bytes_of old.bytes) (bytes_of a1.bytes) w (handle y) k) from
     (subst (λ w. AreSameElements (bytes_of old.bytes) (bytes_of a1.bytes) (handle x + 0) w k) to carried) in
     let elements : AreSameElements (bytes_of first.bytes) (bytes_of new.bytes) (handle x) (handle y) k = λ j f.
     element-trans (element-trans
@@ -458,8 +457,7 @@ pub reserved-same : (c : Cut) {p : Place} {ps : List OwnedText} {t : Table} (n :
 reserved-same c {p} {ps} {t} n s f =
     let arr = option_to_list t.extent in
     let r = run-begin c [] [] ps refl s in
-    let x : IsExchanged current c c (place_at p) 24 arr arr =
-    subst (λ (xs : List Extent). IsExchanged current c c (place_at p) 24 xs xs) (append-nil arr) r.change in
+    let x = subst (λ (xs : List Extent). IsExchanged current c c (place_at p) 24 xs xs) (append-nil arr) r.change in
     (t, grown-same (live_of c.bytes) 16 n t f, record { change = x; texts = s })
 
 pub too-many-texts : (c : Cut) {p : Place} {ps : List OwnedText} {t : Table} (n : ℕ) → IsTexts c.bytes p ps t

@@ -122,9 +122,7 @@ laid-put {old} {now} {mid} {new} {y} {i} n array {bytes} {more} at a split below
     let served = all-join IsServed a.texts (q ∷ []) a.served (pl.served, tt) in
     let first = owned-same (bytes_of now.bytes) (bytes_of mid.bytes) a.texts
     (all-kept tb here.heap pl.change here.found.1 (none-of-none tb)) a.served a.owned in
-    let stay : AllByRecursion (SameBlock (bytes_of mid.bytes) (bytes_of new.bytes))
-    (text_blocks (a.texts ++ (q ∷ []))) =
-    subst (AllByRecursion (SameBlock (bytes_of mid.bytes) (bytes_of new.bytes))) (sym blocks)
+    let stay = subst (AllByRecursion (SameBlock (bytes_of mid.bytes) (bytes_of new.bytes))) (sym blocks)
     (all-kept (tb ++ oq) there.heap x2 there.found.1 (flip-each y (tb ++ oq) there.others.0)) in
     let live : live_of new.bytes ≡ with_text (live_of now.bytes) q = changed-live _ mid new _ 16 c
     ∙ with-text_in q.bytes q.extent pl.change in
@@ -368,8 +366,7 @@ pub taken-off : {old mid new left last : Cut} {n k g : ℕ} {more : List (List �
 taken-off {old} {mid} {new} {left} {last} {n} {k} {more} t e some w short x r =
     let y = t.block in let a = w.laid in let alone = array-alone t w x in
     let gone = exchange-released current left last y 0 0 (subst (IsReleased current left last) (sym t.at) r) in
-    let fit : place (live_of old.bytes) (16 * length more) Storage ≡ Some y =
-    subst (λ i. place (live_of old.bytes) (16 * i) Storage ≡ Some y) e t.placed in
+    let fit = subst (λ i. place (live_of old.bytes) (16 * i) Storage ≡ Some y) e t.placed in
     record {
       refusal = refl;
       none = in-array (live_of old.bytes) more (Some y) (omega (arith, e, some)) fit

@@ -251,8 +251,7 @@ module _ {T : Type 0} {size : ℕ} {test : T → Bool} {sp : T → List ℕ} (ol
   pub cut-now : (n : ℕ) → ((x : T) → test x ≡ true → length (sp x) ≡ size) → n ≤ length xs → Truncates old mid p k n
       → IsVectorNow size test sp old mid p t (take n xs) t
   cut-now n spells f h =
-      let r : IsRewritten old mid p size n t (take (size * n) (flat_map sp xs)) =
-      subst (λ j. IsRewritten old mid p j n t (take (j * n) (flat_map sp xs))) e
+      let r = subst (λ j. IsRewritten old mid p j n t (take (j * n) (flat_map sp xs))) e
       (h (length xs) t (flat_map sp xs) stands-at) in
       vector-now test sp (take n xs) r (omega (arith, length-take n xs, f))
       (flat-take size test sp spells n xs v.values) (all-parts test n xs v.values).0
@@ -260,8 +259,7 @@ module _ {T : Type 0} {size : ℕ} {test : T → Bool} {sp : T → List ℕ} (ol
   pub set-now : (i : ℕ) (y : T) → ((x : T) → test x ≡ true → length (sp x) ≡ size) → i < length xs → test y ≡ true
       → Overwrites old mid p k i (sp y) → IsVectorNow size test sp old mid p t (slice_set xs i y) t
   set-now i y spells f good h =
-      let r : IsRewritten old mid p size (length xs) t (patched (flat_map sp xs) (size * i) (sp y)) =
-      subst (λ j. IsRewritten old mid p j (length xs) t (patched (flat_map sp xs) (j * i) (sp y))) e
+      let r = subst (λ j. IsRewritten old mid p j (length xs) t (patched (flat_map sp xs) (j * i) (sp y))) e
       (h (length xs) t (flat_map sp xs) stands-at) in
       vector-now test sp (slice_set xs i y) r (sym (length-set xs i y))
       (flat-set size test sp spells xs i y v.values f good)
@@ -271,8 +269,7 @@ module _ {T : Type 0} {size : ℕ} {test : T → Bool} {sp : T → List ℕ} (ol
   pub appended-now : (y : T) → test y ≡ true → Extends old mid p k 1 (sp y)
       → IsVectorNow size test sp old mid p t (xs ++ y ∷ []) t
   appended-now y good h =
-      let r : IsRewritten old mid p size (length xs + 1) t (flat_map sp xs ++ sp y) =
-      subst (λ j. IsRewritten old mid p j (length xs + 1) t (flat_map sp xs ++ sp y)) e
+      let r = subst (λ j. IsRewritten old mid p j (length xs + 1) t (flat_map sp xs ++ sp y)) e
       (h (length xs) t (flat_map sp xs) stands-at) in
       vector-now test sp (xs ++ y ∷ []) r (sym (length-append xs (y ∷ [])))
       (ap (λ bs. flat_map sp xs ++ bs) (sym (append-nil (sp y))) ∙ sym (flat_map-append sp xs (y ∷ [])))
@@ -281,8 +278,7 @@ module _ {T : Type 0} {size : ℕ} {test : T → Bool} {sp : T → List ℕ} (ol
   pub inserted-now : (i : ℕ) (y : T) → ((x : T) → test x ≡ true → length (sp x) ≡ size) → i ≤ length xs → test y ≡ true
       → Inserts old mid p k i (sp y) → IsVectorNow size test sp old mid p t (insert xs i y) t
   inserted-now i y spells f good h =
-      let bytes : List ℕ = take (size * i) (flat_map sp xs) ++ (sp y ++ drop (size * i) (flat_map sp xs)) in
-      let r : IsRewritten old mid p size (length xs + 1) t bytes = subst (λ j. IsRewritten old mid p j (length xs + 1) t
+      let r = subst (λ j. IsRewritten old mid p j (length xs + 1) t
       (take (j * i) (flat_map sp xs) ++ (sp y ++ drop (j * i) (flat_map sp xs)))) e
       (h (length xs) t (flat_map sp xs) stands-at) in
       vector-now test sp (insert xs i y) r (sym (length-insert xs i y f))
@@ -292,8 +288,7 @@ module _ {T : Type 0} {size : ℕ} {test : T → Bool} {sp : T → List ℕ} (ol
   pub erased-now : (i : ℕ) → ((x : T) → test x ≡ true → length (sp x) ≡ size) → i < length xs → Erases old mid p k i
       → IsVectorNow size test sp old mid p t (remove xs i) t
   erased-now i spells f h =
-      let bytes : List ℕ = take (size * i) (flat_map sp xs) ++ drop (size * i + size) (flat_map sp xs) in
-      let r : IsRewritten old mid p size (length xs - 1) t bytes = subst (λ j. IsRewritten old mid p j (length xs - 1) t
+      let r = subst (λ j. IsRewritten old mid p j (length xs - 1) t
       (take (j * i) (flat_map sp xs) ++ drop (j * i + j) (flat_map sp xs))) e
       (h (length xs) t (flat_map sp xs) stands-at) in
       vector-now test sp (remove xs i) r (omega (arith, length-remove xs i f))
@@ -302,15 +297,14 @@ module _ {T : Type 0} {size : ℕ} {test : T → Bool} {sp : T → List ℕ} (ol
   pub fitted-now : Fits old mid p k
       → IsVectorNow size test sp old mid p t xs (cut_table (live_of old.bytes) size (length xs) t)
   fitted-now h =
-      let r : IsFitted old mid p size (length xs) t (flat_map sp xs) =
-      subst (λ j. IsFitted old mid p j (length xs) t (flat_map sp xs)) e
+      let r = subst (λ j. IsFitted old mid p j (length xs) t (flat_map sp xs)) e
       (h (length xs) t (flat_map sp xs) stands-at) in
       record { change = r.change; vector = record { stands = r.stands; values = v.values } }
 
   pub released-now : GivesBack old mid p k → let none : List T = [] in IsVectorNow size test sp old mid p t none
       no_table
   released-now h =
-      let r : IsGivenBack old mid p size t = subst (λ j. IsGivenBack old mid p j t) e
+      let r = subst (λ j. IsGivenBack old mid p j t) e
       (h (length xs) t (flat_map sp xs) stands-at) in
       record { change = r.change; vector = record { stands = r.stands; values = refl } }
 
@@ -373,8 +367,7 @@ module _ (old mid : Cut) {p : Place} {bytes : List ℕ} {t : Table} (v : IsText 
   byte-set i x f h =
       let at : 1 * i ≡ i = omega arith in
       let next : i + 1 ≡ suc i = omega arith in
-      let r : IsRewritten old mid p 1 (length bytes) t (patched bytes i (x ∷ [])) =
-      subst (λ j. IsRewritten old mid p 1 (length bytes) t (patched bytes j (x ∷ []))) at
+      let r = subst (λ j. IsRewritten old mid p 1 (length bytes) t (patched bytes j (x ∷ []))) at
       (h (length bytes) t bytes v) in
       let is : patched bytes i (x ∷ []) ≡ slice_set bytes i x = append_assoc (take i bytes) (x ∷ [])
       (drop (i + 1) bytes) ∙ ap (λ k. take i bytes ++ (x ∷ drop k bytes)) next ∙ sym (set-pieces bytes i x f) in

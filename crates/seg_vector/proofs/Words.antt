@@ -31,9 +31,9 @@ pub use Rattle.best_fit.specs.Exchange.{exchanged, without_all, IsExchanged, ins
 pub use Rattle.best_fit.specs.Exchange.{IsNotWidened, IsWidened, CarriesOver, IsGivenRoom, IsNotGivenRoom, block_of}
 pub use Rattle.best_fit.specs.Exchange.{IsRegrown}
 pub use Rattle.best_fit.specs.Extents.{Extent, LiveSet, handle, holds, end_of, is_block, is_hole, proper_from}
-pub use Rattle.best_fit.specs.Fit.{place, shorter, others, resized, added, longer, is_extent}
+pub use Rattle.best_fit.specs.Fit.{place, shorter, others, resized, longer, is_extent}
 pub use Rattle.best_fit.specs.Heap.{IsChanged, IsHeap, LaysOut, SameBlock, extent_at, has_room, live_of, IsReleased}
-pub use Rattle.best_fit.specs.Heap.{IsResized, IsShortened, IsAllocated, IsRefused, is_live_in, payload_at, Allocates}
+pub use Rattle.best_fit.specs.Heap.{IsResized, IsShortened, IsAllocated, is_live_in, payload_at}
 pub use Rattle.best_fit.specs.Table.{Table, is_table, serves, same_role, table_link, no_table}
 pub use Rattle.block_tags.specs.{Format.is_legal_size, declared.tile.Role.Role, declared.tile.Role.TheVariants.Storage}
 pub use Rattle.offset_link.proofs.Laws.{SameBut-link}

@@ -189,6 +189,17 @@ all-apart {old} new {p} (x ∷ xs) heap o f n s = (
   all-apart new xs heap o f.1 n.1 s.1,
 )
 
+-- the array and some texts among the others
+pub own-parts : (c : Cut) {p : Place} (a m b : List OwnedText) {t : Table} → IsTexts c.bytes p (a ++ (m ++ b)) t
+    → (live_of c.bytes).extents ≡ inserted (option_to_list t.extent ++ text_blocks m)
+    (inserted (text_blocks a ++ text_blocks b) (without_all (own_blocks (a ++ (m ++ b)) t) (live_of c.bytes).extents))
+own-parts c {p} a m b {t} s =
+    let own = own_blocks (a ++ (m ++ b)) t in
+    let w = texts-own c s in
+    let rest = without_all own (live_of c.bytes).extents in
+    w.is ∙ (own-between a m b t).same rest (subst (Rising 128) w.is (live-rises (live_of c.bytes) s.heap.proper))
+    ∙ inserted-append (option_to_list t.extent ++ text_blocks m) (text_blocks a ++ text_blocks b) rest
+
 -- ---- the vector afterwards
 
 pub texts-changed : {old new : Cut} {p : Place} (a m m' b : List OwnedText) {t u : Table}
@@ -207,9 +218,7 @@ texts-changed {old} {new} {p} a m m' b {t} {u} s x table fits words array texts 
     let gone : List Extent = option_to_list t.extent ++ text_blocks m in
     let come : List Extent = option_to_list u.extent ++ text_blocks m' in
     let same : List Extent = text_blocks a ++ text_blocks b in
-    let up : Rising 128 (inserted own rest) = subst (Rising 128) w.is (live-rises l s.heap.proper) in
-    let parts : l.extents ≡ inserted gone (inserted same rest) = w.is ∙ (own-between a m b t).same rest up
-    ∙ inserted-append gone same rest in
+    let parts = own-parts old a m b s in
     let stay : without_all gone l.extents ≡ inserted same rest = ap (without_all gone) parts ∙ without-inserted 128
     gone (inserted same rest) (subst (Rising 128) parts (live-rises l s.heap.proper)) in
     let heap = laid-heap _ _ x.live in
@@ -289,25 +298,28 @@ each-at P [] i a e = absurd (cc)
 each-at P (x ∷ xs) zero {q} a e = let same : x ≡ q = cc in subst P same a.0
 each-at P (x ∷ xs) (suc i) a e = each-at P xs i a.1 e
 
+pub drop-at : (ps : List OwnedText) (i : ℕ) {q : OwnedText} → slice_get ps i ≡ Some q → drop i ps ≡ q ∷ drop (suc i) ps
+drop-at [] i e = absurd (cc)
+drop-at (x ∷ xs) zero {q} e = let same : x ≡ q = cc in ap (λ (y : OwnedText). y ∷ xs) same
+drop-at (x ∷ xs) (suc i) e = drop-at xs i e
+
+pub links-split : (m : Memory) (at : ℕ) (xs ys : List OwnedText) → AreTextLinks m at (xs ++ ys)
+    → AreTextLinks m at xs × AreTextLinks m (at + 16 * length xs) ys
+links-split m at [] ys l = let e : at ≡ at + 16 * 0 = omega arith in (tt, subst (λ k. AreTextLinks m k ys) e l)
+links-split m at (x ∷ xs) ys l =
+    let r = links-split m (at + 16) xs ys l.2 in
+    let e : at + 16 + 16 * length xs ≡ at + 16 * suc (length xs) = omega arith in
+    ((l.0, l.1, r.0), subst (λ k. AreTextLinks m k ys) e r.1)
+
 pub links-at : (m : Memory) (at : ℕ) (ps : List OwnedText) (i : ℕ) {q : OwnedText} → AreTextLinks m at ps
     → slice_get ps i ≡ Some q
     → (link_at m (at + 16 * i) ≡ option_map handle q.extent) × (word_at m (at + 16 * i + 8) ≡ length q.bytes)
-links-at m at [] i a e = absurd (cc)
-links-at m at (x ∷ xs) zero {q} a e =
-    let same : x ≡ q = cc in
-    let here : at ≡ at + 16 * 0 = omega arith in (
-      subst (λ k. link_at m k ≡ option_map handle q.extent) here
-          (subst (λ (y : OwnedText). link_at m at ≡ option_map handle y.extent) same a.0),
-      subst (λ k. word_at m (k + 8) ≡ length q.bytes) here
-          (subst (λ (y : OwnedText). word_at m (at + 8) ≡ length y.bytes) same a.1),
-    )
-links-at m at (x ∷ xs) (suc i) {q} a e =
-    let r = links-at m (at + 16) xs i a.2 e in
-    let here : at + 16 + 16 * i ≡ at + 16 * suc i = omega arith in (
-      subst (λ k. link_at m k ≡ option_map handle q.extent) here r.0,
-      subst (λ k. word_at m (k + 8) ≡ length q.bytes)
-          here r.1,
-    )
+links-at m at ps i {q} a e =
+    let below = slice_get_within ps i q e in
+    let here : at + 16 * length (take i ps) ≡ at + 16 * i = omega (arith, length-take i ps, below) in
+    let parts = links-split m at (take i ps) (drop i ps) (subst (AreTextLinks m at) (sym (take-append-drop i ps)) a) in
+    let first = subst (AreTextLinks m (at + 16 * i)) (drop-at ps i e)
+    (subst (λ k. AreTextLinks m k (drop i ps)) here parts.1) in (first.0, first.1)
 
 -- ---- the element of a text
 
@@ -414,11 +426,6 @@ released-none old {o = Some x} s link = none-some link s.link
 
 -- ---- one after another
 
-pub drop-at : (ps : List OwnedText) (i : ℕ) {q : OwnedText} → slice_get ps i ≡ Some q → drop i ps ≡ q ∷ drop (suc i) ps
-drop-at [] i e = absurd (cc)
-drop-at (x ∷ xs) zero {q} e = let same : x ≡ q = cc in ap (λ (y : OwnedText). y ∷ xs) same
-drop-at (x ∷ xs) (suc i) e = drop-at xs i e
-
 pub releases-begin : (c : Cut) {array n : ℕ} {ps : List OwnedText} → AreHeldElements c.bytes array n ps
     → IsSwapped c c (text_blocks ps) (text_blocks ps)
 releases-begin c {ps} s =
@@ -488,14 +495,6 @@ links-moved m m' a b (q ∷ qs) l s =
     let e : IsSameElement m m' a b = same-at (omega arith) (omega arith) (s 0 (omega arith)) in
     (e.link ∙ l.0, e.len_word ∙ l.1, links-moved m m' (a + 16) (b + 16) qs l.2 (later m m' a b (length qs) s))
 
-pub links-split : (m : Memory) (at : ℕ) (xs ys : List OwnedText) → AreTextLinks m at (xs ++ ys)
-    → AreTextLinks m at xs × AreTextLinks m (at + 16 * length xs) ys
-links-split m at [] ys l = let e : at ≡ at + 16 * 0 = omega arith in (tt, subst (λ k. AreTextLinks m k ys) e l)
-links-split m at (x ∷ xs) ys l =
-    let r = links-split m (at + 16) xs ys l.2 in
-    let e : at + 16 + 16 * length xs ≡ at + 16 * suc (length xs) = omega arith in
-    ((l.0, l.1, r.0), subst (λ k. AreTextLinks m k ys) e r.1)
-
 pub links-join : (m : Memory) (at : ℕ) (xs ys : List OwnedText) → AreTextLinks m at xs
     → AreTextLinks m (at + 16 * length xs) ys → AreTextLinks m at (xs ++ ys)
 links-join m at [] ys l r = let e : at + 16 * 0 ≡ at = omega arith in subst (λ k. AreTextLinks m k ys) e r
@@ -521,17 +520,6 @@ links-edited {m} {m'} g {at} {to} {n} ps i j zs f h a b c l front mid back =
     (sym fl) (links-join m' (g + 16 * i) zs (drop j ps) mid (subst (λ k. AreTextLinks m' k (drop j ps)) b last)))
 
 -- ---- it begins
-
--- the array and some texts among the others
-pub own-parts : (c : Cut) {p : Place} (a m b : List OwnedText) {t : Table} → IsTexts c.bytes p (a ++ (m ++ b)) t
-    → (live_of c.bytes).extents ≡ inserted (option_to_list t.extent ++ text_blocks m)
-    (inserted (text_blocks a ++ text_blocks b) (without_all (own_blocks (a ++ (m ++ b)) t) (live_of c.bytes).extents))
-own-parts c {p} a m b {t} s =
-    let own = own_blocks (a ++ (m ++ b)) t in
-    let w = texts-own c s in
-    let rest = without_all own (live_of c.bytes).extents in
-    w.is ∙ (own-between a m b t).same rest (subst (Rising 128) w.is (live-rises (live_of c.bytes) s.heap.proper))
-    ∙ inserted-append (option_to_list t.extent ++ text_blocks m) (text_blocks a ++ text_blocks b) rest
 
 pub run-begin : (c : Cut) {p : Place} {ps : List OwnedText} (a m b : List OwnedText) {t : Table} → ps ≡ a ++ (m ++ b)
     → IsTexts c.bytes p ps t

@@ -4,22 +4,21 @@ use W.{◌≡◌, ◌≢◌, refl, sym, ap, subst, ◌∙◌, ℕ, ◌+◌, ◌*
 use W.{inl, inr, ◌⊎◌, suc, ◌-◌, ◌<◌, ◌≤◌, length-append, take, drop, zero, ◌%◌, if◌then◌else◌, append_assoc}
 use W.{option_to_list, IsTrue, remove, slice_get, IfSome, ⊤, option_map, slice_set, AllByRecursion, eq-eqb, ne_eqb}
 use W.{length-drop, length-take, take-append-drop, slice_get_within, Memory, Cut, bytes_of, word_at, Has, Same, read}
-use W.{current, link_at, target_of, without_all, Extent, handle, end_of, LiveSet, IsChanged, live_of, SameBlock}
-use W.{IsAllocated, IsHeap, Table, no_table, is_table, SameSpread, exchange-next, exchange-same, exchange-wide}
-use W.{found-room, laid-heap, last-first, spread-refl, IsNone, kept, shorter-IsShorter, word-same, IsFound}
-use W.{allocated-room, exchange-taken, kept-found, place-serves, still_allocated, SameBlock-trans, Storage, shorter}
-use W.{place, Place, IsGivenBack, IsFitted, Stands, place_at, IsOwnBlock, AreHeldElements, IsSwapped, AreSameElements}
-use W.{IsHeldElement, IsTextPlaced, IsServed, IsTextReplaced, IsTexts, IsTextsNow, text_blocks, placed_text, AreOthers}
-use W.{AreInArray, IsStorage, OwnedText, AreTextLinks, IsOwnedText, Refusal, IsWithoutFit, [], nil_from_length}
-use Rattle.seg_vector.proofs.Runs.{AreHeadWords, IsHead, IsRun, beside-head, block-written, head-exchanged, head-kept}
-use Rattle.seg_vector.proofs.Runs.{head-room, head-wider, len-written, none-some, room-head, run-found, run-headed}
-use Rattle.seg_vector.proofs.Runs.{run-swapped, same-some, table, table-full, words-kept, all-as, came-found}
-use Rattle.seg_vector.proofs.Runs.{came-others, all-kept, all-found-kept, none-of-none}
+use W.{current, link_at, target_of, Extent, handle, end_of, LiveSet, IsChanged, live_of, SameBlock, IsAllocated, IsHeap}
+use W.{Table, no_table, is_table, SameSpread, exchange-next, found-room, laid-heap, last-first, spread-refl, IsNone}
+use W.{kept, shorter-IsShorter, word-same, IsFound, allocated-room, exchange-taken, kept-found, place-serves}
+use W.{still_allocated, SameBlock-trans, Storage, shorter, place, Place, IsGivenBack, IsFitted, Stands, place_at}
+use W.{IsOwnBlock, AreHeldElements, IsSwapped, AreSameElements, IsHeldElement, IsTextPlaced, IsServed, IsTextReplaced}
+use W.{IsTexts, IsTextsNow, text_blocks, placed_text, AreOthers, AreInArray, IsStorage, OwnedText, AreTextLinks}
+use W.{IsOwnedText, Refusal, IsWithoutFit, [], nil_from_length}
+use Rattle.seg_vector.proofs.Runs.{AreHeadWords, IsHead, IsRun, beside-head, block-written, head-kept, head-room}
+use Rattle.seg_vector.proofs.Runs.{head-wider, len-written, none-some, room-head, run-found, run-headed, run-swapped}
+use Rattle.seg_vector.proofs.Runs.{same-some, table, table-full, words-kept, all-as, came-found, came-others, all-kept}
+use Rattle.seg_vector.proofs.Runs.{all-found-kept, none-of-none, spread-nil}
 use Rattle.seg_vector.proofs.TextBlocks.{none-stands, IsArrayLeft, all-split, array-left, drop-at, element-beside}
 use Rattle.seg_vector.proofs.TextBlocks.{element-in, element-trans, even-block, found-texts, held-element, links-edited}
-use Rattle.seg_vector.proofs.TextBlocks.{links-moved, no-array, none-of, of-none, one-of, own_blocks, run-begin}
-use Rattle.seg_vector.proofs.TextBlocks.{swapped-none, texts-between, texts-own, held-texts, served-texts, owned-same}
-use Rattle.seg_vector.proofs.TextBlocks.{same-loose}
+use Rattle.seg_vector.proofs.TextBlocks.{links-moved, no-array, none-of, of-none, one-of, run-begin, swapped-none}
+use Rattle.seg_vector.proofs.TextBlocks.{texts-between, held-texts, served-texts, owned-same, same-loose}
 use Rattle.seg_vector.proofs.{Fewer.cut-some, Typed.set-pieces, Bytes.length-read}
 use Rattle.best_fit.specs.Table.{cut_table}
 
@@ -53,37 +52,27 @@ no-links m c None = refl
 no-links m c (Some x) = tt
 
 pub cleared : {old mid new : Cut} {p : Place} {ps : List OwnedText} {t : Table} → IsTexts old.bytes p ps t
-    → IsSwapped old mid (text_blocks ps) [] → IsChanged current mid new (place_at p + 8) 8
-    → word_at (bytes_of new.bytes) (place_at p + 8) ≡ 0
+    → IsSwapped old mid (text_blocks ps) [] → IsChanged current mid new (p.handle + (p.at + 8)) 8
+    → word_at (bytes_of new.bytes) (p.handle + (p.at + 8)) ≡ 0
     → IsTextsNow old new p (option_to_list t.extent ++ text_blocks ps) (option_to_list t.extent) [] t
-cleared {old} {mid} {new} {p} {ps} {t} s x c word =
-    let l = live_of old.bytes in let at = place_at p in let arr = option_to_list t.extent in
-    let tb = text_blocks ps in let own = own_blocks ps t in let w = texts-own old s in let h = w.head in
-    let none = none-of p.handle tb s.apart in
-    let e0 = exchange-same _ old at 24 own (without_all own l.extents) s.heap w.is in
-    let e1 = exchange-next _ old old mid at 24 own own tb arr [] (last-first arr tb) e0
-    (exchange-wide _ old mid at 24 tb [] x) in
-    let heap = laid-heap _ _ x.live in let hm = head-kept h x none in
-    let e2 = head-exchanged p heap (head-room hm) (head-wider p c (omega arith) (omega arith)) in
-    let e3 = exchange-next _ old mid new at 24 own arr [] arr [] (spread-refl arr) e1 e2 in
-    let was : AreHeadWords (bytes_of old.bytes) at (length ps) t =
-    record { link = s.words.link; len_word = s.words.len_word; capacity = s.words.capacity } in
-    let words = len-written 0 refl c.rest word (words-kept s.heap h x none was) in
-    texts-between [] [] ps [] [] (sym (append-nil ps)) refl refl (sym (append-nil arr)) s e3 s.table (omega arith)
-    words (no-links (bytes_of new.bytes) t.capacity t.extent) tt tt
+cleared {old} {new = new} {p} {ps} {t} s x c word =
+    let arr = option_to_list t.extent in let tb = text_blocks ps in
+    let r0 = run-begin old [] ps [] (sym (append-nil ps)) s in
+    let r1 = run-swapped arr (last-first arr tb) r0 x (none-of p.handle tb s.apart) in
+    let r2 = run-headed r1 (head-wider p c (omega arith) (omega arith)) (len-written 0 (omega arith) c.rest word r1.words) in
+    texts-between [] [] ps [] [] (sym (append-nil ps)) refl refl (sym (append-nil arr)) s r2.change s.table (omega arith)
+    r2.words (no-links (bytes_of new.bytes) t.capacity t.extent) tt tt
 
 -- ---- no array
 
 pub given-up-all : {old mid new : Cut} {p : Place} {t : Table} {gone : List Extent}
     → IsTextsNow old mid p gone (option_to_list t.extent) [] t → IsGivenBack mid new p 16 t
     → IsTextsNow old new p gone [] [] no_table
-given-up-all {old} {mid} {new} {t} {gone} x g =
+given-up-all {old} {mid} {new} {t = t} {gone} x g =
     let arr = option_to_list t.extent in
-    let spread : SameSpread arr (arr ++ []) = subst (SameSpread arr) (sym (append-nil arr)) (spread-refl arr) in
     record {
-      change = exchange-next _ old mid new _ 24 gone arr arr [] [] spread x.change g.change;
-      texts = none-stands
-          g.stands;
+      change = exchange-next _ old mid new _ 24 gone arr arr [] [] (spread-nil arr) x.change g.change;
+      texts = none-stands g.stands;
     }
 
 -- ---- the word

@@ -3,8 +3,8 @@ use Rattle.seg_vector.proofs.Words as W
 use W.{◌≡◌, ◌≢◌, refl, sym, ap, subst, ◌∙◌, ℕ, ◌+◌, ◌*◌, ◌<◌, ◌≤◌, Option, Some, None, List, ◌∷◌, ◌++◌, arith, length}
 use W.{inl, inr, ◌⊎◌, ◌%◌, append-nil, ◌-◌, IsTrue, Result, Ok, Err, MatchResult, option_map, option_to_list, IfSome}
 use W.{nat_lt, AllByRecursion, and_from, lt-ltb, Cut, bytes_of, word_at, current, Storage, link_at, IsNotWidened}
-use W.{IsWidened, exchanged, IsExchanged, Extent, LiveSet, handle, end_of, place, Refusal, IsAllocated, IsChanged}
-use W.{IsHeap, IsReleased, IsResized, SameBlock, extent_at, live_of, has_room, Table, serves, is_table, IsFound, IsNone}
+use W.{IsWidened, exchanged, Extent, LiveSet, handle, end_of, place, Refusal, IsAllocated, IsChanged, IsHeap}
+use W.{IsReleased, IsResized, SameBlock, extent_at, live_of, has_room, Table, serves, is_table, IsFound, IsNone}
 use W.{SameBlock-trans, exchange-order, exchange-released, exchange-resized, exchange-taken, found-none, kept}
 use W.{kept-found, last-first, live-rises, middle-first, place-serves, regrow-serves, spread-refl, found-room}
 use W.{two-apart, laid-heap, Place, place_at, AreSameElements, IsAdopted, IsAsked, IsWithoutFit, IsSwapped, taken}
@@ -12,6 +12,7 @@ use W.{widened, AreEvenLinks, IsReady, TakesStorage, AreOthers, IsTexts, IsTexts
 use W.{IsPointed, blocks-trans}
 use Rattle.seg_vector.proofs.Runs.{AreHeadWords, IsHead, IsRun, beside-head, block-written, none-some, run-found}
 use Rattle.seg_vector.proofs.Runs.{run-headed, run-swapped, same-some, serves-full, table, all-kept, stands-none-of}
+use Rattle.seg_vector.proofs.Runs.{stands-run}
 use Rattle.seg_vector.proofs.TextBlocks.{all-split, element-in, element-trans, even-block, even-held, links-moved}
 use Rattle.seg_vector.proofs.TextBlocks.{run-begin, swapped-none, texts-between}
 use Rattle.seg_vector.proofs.Storage.{grown-more, grown-same, regrow-new, storage-role, too-many}
@@ -454,11 +455,8 @@ pub reserved-same : (c : Cut) {p : Place} {ps : List OwnedText} {t : Table} (n :
     → n ≤ t.capacity
     → (w : Table) × (grown_table (live_of c.bytes) 16 n t ≡ Some w) × IsTextsNow c c p (option_to_list t.extent)
     (option_to_list w.extent) ps w
-reserved-same c {p} {ps} {t} n s f =
-    let arr = option_to_list t.extent in
-    let r = run-begin c [] [] ps refl s in
-    let x = subst (λ (xs : List Extent). IsExchanged current c c (place_at p) 24 xs xs) (append-nil arr) r.change in
-    (t, grown-same (live_of c.bytes) 16 n t f, record { change = x; texts = s })
+reserved-same c {t = t} n s f =
+    (t, grown-same (live_of c.bytes) 16 n t f, record { change = (stands-run c (texts-stand s)).change; texts = s })
 
 pub too-many-texts : (c : Cut) {p : Place} {ps : List OwnedText} {t : Table} (n : ℕ) → IsTexts c.bytes p ps t
     → 1073741824 < n → grown_table (live_of c.bytes) 16 n t ≡ None

@@ -11,7 +11,7 @@ use W.{exchange-released, exchange-taken, keeps-refl, place-serves, too_long, ke
 use W.{AreLaid, AreLaidUpTo, AreLaidOut, AreNotLaidOut, AreSameElements, IsServed, IsSwapped, IsWithoutFit}
 use W.{IsTextPlaced, AreHeldElements, AreOthers, placed_text, placed_texts, text_blocks, with_text, all_texts}
 use W.{new_array, AreTextsAssigned, AssignsTexts, IsTexts, IsTextsNow, ReleasesTexts, AreTextLinks, IsOwnedText}
-use W.{OwnedText, Place, place_at, [], IsPointed, all-same-but}
+use W.{OwnedText, Place, place_at, [], IsPointed, all-same-but, drop-map, drop-cons}
 use Rattle.seg_vector.proofs.Runs.{AreHeadWords, IsHead, block-written, changed-both, head-exchanged, len-written}
 use Rattle.seg_vector.proofs.Runs.{run-none, run-swapped, same-some, serves-full, table, all-as, came-found}
 use Rattle.seg_vector.proofs.Runs.{came-others, all-kept, none-of-none}
@@ -168,14 +168,11 @@ laid-all {old} {now} {y} n {more} a e f =
 
 pub drop-next : (xs : List (Bor (List ℕ))) (i : ℕ) (d : Bor (List ℕ)) → i < length xs
     → drop i (map (λ t. t.now) xs) ≡ (slice_index_or xs i d).now ∷ drop (i + 1) (map (λ t. t.now) xs)
-drop-next xs i d f = let count : suc i ≡ i + 1 = omega arith in at xs i d f
-    ∙ ap (λ k. (slice_index_or xs i d).now ∷ drop k (map (λ t. t.now) xs)) count
-  where
-    at : (xs : List (Bor (List ℕ))) (i : ℕ) (d : Bor (List ℕ)) → i < length xs
-        → drop i (map (λ t. t.now) xs) ≡ (slice_index_or xs i d).now ∷ drop (suc i) (map (λ t. t.now) xs)
-    at [] i d f = absurd (omega (arith, f))
-    at (y ∷ ys) zero d f = refl
-    at (y ∷ ys) (suc i) d f = at ys i d (omega (arith, f))
+drop-next xs i d f =
+    let now : Bor (List ℕ) → List ℕ = λ t. t.now in
+    let count : suc i ≡ i + 1 = omega arith in
+    drop-map now i xs ∙ ap (map now) (drop-cons xs i d f) ∙ ap (λ zs. (slice_index_or xs i d).now ∷ zs)
+    (sym (drop-map now (suc i) xs) ∙ ap (λ k. drop k (map now xs)) count)
 
 -- ---- what the calls of a step need
 

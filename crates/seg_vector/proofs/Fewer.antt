@@ -135,7 +135,7 @@ short l x n role big =
 
 pub fitted : {old mid new : Cut} {p : Place} {each len c g : ℕ} {o : Option Extent} {bytes : List ℕ} → 1 ≤ len
     → Stands old.bytes p each len (table c o) bytes → link_at (bytes_of old.bytes) (place_at p) ≡ Some g
-    → IsChanged current old mid (place_at p + 16) 8 → word_at (bytes_of mid.bytes) (place_at p + 16) ≡ len
+    → IsChanged current old mid (p.handle + (p.at + 16)) 8 → word_at (bytes_of mid.bytes) (p.handle + (p.at + 16)) ≡ len
     → IsShortened current mid new g (each * len) → IsFitted old new p each len (table c o) bytes
 fitted {o = None} some s link c1 word sh = none-some s.words.link link
 fitted {old} {mid} {new} {p} {each} {len} {c} {o = Some x} {bytes} some s link c1 word sh =
@@ -148,9 +148,9 @@ fitted {old} {mid} {new} {p} {each} {len} {c} {o = Some x} {bytes} some s link c
     let q = short l x n (storage-role each c (Some x) s.table) (omega (arith, full, less)) in
     let wide = head-wider p c1 (omega arith) (omega arith) in
     let one = run-headed {k = len} {u = table len (Some x)} (stands-run old s) wide (record {
-      link = SameBut-link m mi (at + 16) 8 at c1.rest (inl (omega arith)) ∙ s.words.link;
-      len_word = SameBut-word m mi (at + 16) 8 (at + 8) c1.rest (inl (omega arith)) ∙ s.words.len_word;
-      capacity = word;
+      link = SameBut-link m mi _ 8 at c1.rest (inl (omega arith)) ∙ s.words.link;
+      len_word = SameBut-word m mi _ 8 (at + 8) c1.rest (inl (omega arith)) ∙ s.words.len_word;
+      capacity = ap (word_at mi) (omega arith) ∙ word;
     }) in
     let r = resized-here {b = mid} {e = new} l {g = handle x} {n = n} (changed-live current old mid at 24 wide) s.own.0
     (subst (λ k. IsShortened current mid new k n) g_is sh) in

@@ -7,12 +7,12 @@ use W.{and_parts, leb-true, le-leb, lt-leb, lt-ltb, ltb-true, or_cases, or_left,
 use W.{length-drop, take-take, Memory, Cut, SameBut, Has, bytes_of, read, word_at, patched, read-part, SameBut-word}
 use W.{link_at, Storage, current, CarriesOver, IsGivenRoom, IsNotGivenRoom, block_of, exchanged, without_all}
 use W.{IsExchanged, IsRegrown, Extent, LiveSet, handle, holds, end_of, is_block, is_hole, proper_from, others, resized}
-use W.{longer, place, is_extent, shorter, IsChanged, IsHeap, LaysOut, extent_at, has_room, live_of, is_live_in}
-use W.{payload_at, Table, is_table, serves, same_role, table_link, IsSound, all_of-insert, found-room, live-sound}
-use W.{read-same, room_block, laid-heap, all-same-but, changed-live, regrow-serves, in_use-all, block_payload}
-use W.{room-less, IfSome_is, all_keep_proper, legal_size, too_long, spread-refl, exchange-next, is_legal_size, Place}
-use W.{IsGrown, IsOwnBlock, Stands, place_at, IsWithoutSpace, IsStorage, capacity_for_one, IsRewritten, IsSwapped}
-use W.{SameBut-link, Refusal, NoSpace, [], changed-room, nil_from_length, take-nil, hole-order}
+use W.{longer, place, shorter, IsChanged, IsHeap, LaysOut, extent_at, has_room, live_of, is_live_in, payload_at, Table}
+use W.{is_table, serves, same_role, table_link, IsSound, all_of-insert, found-room, live-sound, read-same, room_block}
+use W.{laid-heap, all-same-but, changed-live, regrow-serves, in_use-all, block_payload, room-less, IfSome_is}
+use W.{all_keep_proper, legal_size, too_long, spread-refl, exchange-next, is_legal_size, Place, IsGrown, IsOwnBlock}
+use W.{Stands, place_at, IsWithoutSpace, IsStorage, capacity_for_one, IsRewritten, IsSwapped, SameBut-link, Refusal}
+use W.{NoSpace, [], changed-room, nil_from_length, take-nil, hole-order}
 use Rattle.seg_vector.proofs.Runs.{IsRun, beside-head, block-written, changed-both, head-room, head-wider, len-written}
 use Rattle.seg_vector.proofs.Runs.{none-some, room-head, run-found, run-headed, run-stands, run-swapped, same-some}
 use Rattle.seg_vector.proofs.Runs.{serves-full, spread-nil, stands-none-of, stands-run, table, table-full}
@@ -147,17 +147,17 @@ pub grows-more : {old mid s1 new : Cut} {p : Place} {each : ℕ} (n : ℕ) {len 
     → t.capacity < n → Stands old.bytes p each len t bytes
     → IsGivenRoom current old mid t.extent (each * n) (each * len) g → IsChanged current mid s1 (place_at p) 8
     → link_at (bytes_of s1.bytes) (place_at p) ≡ Some g
-    → IsChanged current s1 new (place_at p + 16) 8 → word_at (bytes_of new.bytes) (place_at p + 16) ≡ n
+    → IsChanged current s1 new (p.handle + (p.at + 16)) 8 → word_at (bytes_of new.bytes) (p.handle + (p.at + 16)) ≡ n
     → IsGrown old new p each n len t bytes
 grows-more {old} {mid} {s1} {new} {p} {each} n {len} {t} {bytes} more s r c1 link c2 word =
     let l = live_of old.bytes in let ms = bytes_of s1.bytes in let m' = bytes_of new.bytes in
     let at = place_at p in let y = r.extent in let run = grown-run s r in
     let c = changed-both at 24 c1 c2 (omega arith) (omega arith) (omega arith) (omega arith) in
     let done = run-headed {k = len} {u = table n (Some y)} run c (record {
-      link = SameBut-link ms m' (at + 16) 8 at c2.rest (inl (omega arith)) ∙ link ∙ ap (λ k. Some k) r.at;
-      len_word = SameBut-word ms m' (at + 16) 8 (at + 8) c2.rest (inl (omega arith)) ∙ SameBut-word
+      link = SameBut-link ms m' _ 8 at c2.rest (inl (omega arith)) ∙ link ∙ ap (λ k. Some k) r.at;
+      len_word = SameBut-word ms m' _ 8 (at + 8) c2.rest (inl (omega arith)) ∙ SameBut-word
           (bytes_of mid.bytes) ms at 8 (at + 8) c1.rest (inr (omega arith)) ∙ run.words.len_word;
-      capacity = word;
+      capacity = ap (word_at m') (omega arith) ∙ word;
     }) in
     let serving = regrow-serves l t.extent y (each * n) (storage-role each t.capacity t.extent s.table) r.regrown in
     let long = serves-full y (each * n) serving in

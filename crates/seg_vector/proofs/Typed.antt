@@ -135,43 +135,51 @@ module _ {T : Type 0} (size : ℕ) (test : T → Bool) (sp : T → List ℕ)
 -- ---- vectors of values, from what is known of their bytes
 
 -- what stands has so many elements, and they are these values
-pub vector-of : {T : Type 0} → {size : ℕ} (test : T → Bool) (sp : T → List ℕ) {b : List ℕ} {p : Place} {n : ℕ}
-    {t : Table} {bytes : List ℕ} (ys : List T) → Stands b p size n t bytes
-    → n ≡ length ys → bytes ≡ flat_map sp ys → IsTrue (list_all test ys) → IsVector size test sp b p ys t
-vector-of {size} test sp {b} {p} {n} {t} ys s e f v =
-    record {
-      stands = subst (λ k. Stands b p size k t (flat_map sp ys)) e (subst (λ bs. Stands b p size n t bs) f s);
-      values = v;
-    }
-
 pub vector-now : {T : Type 0} → {size : ℕ} (test : T → Bool) (sp : T → List ℕ) {old new : Cut} {p : Place} {n : ℕ}
     {t : Table} {bytes : List ℕ} (ys : List T) → IsRewritten old new p size n t bytes
     → n ≡ length ys → bytes ≡ flat_map sp ys → IsTrue (list_all test ys) → IsVectorNow size test sp old new p t ys t
-vector-now test sp ys r e f v = record { change = r.change; vector = vector-of test sp ys r.stands e f v }
+vector-now {size = size} test sp {new = new} {p} {n} {t} ys r e f v = record {
+  change = r.change;
+  vector = record {
+    stands = subst (λ k. Stands new.bytes p size k t (flat_map sp ys)) e
+        (subst (λ bs. Stands new.bytes p size n t bs) f r.stands);
+    values = v;
+  };
+}
 
--- one change after another, in the storage that came
-pub now-then : {T : Type 0} → {size : ℕ} {test : T → Bool} {sp : T → List ℕ} {old mid new : Cut} {p : Place}
-    (t : Table) {u : Table} {ys : List T} → IsExchanged current old mid (place_at p) 24 (option_to_list t.extent)
-    (option_to_list u.extent) → IsVectorNow size test sp mid new p u ys u → IsVectorNow size test sp old new p t ys u
-now-then t c w = record { change = exchange-then c w.change; vector = w.vector }
+module _ {T : Type 0} {size : ℕ} {test : T → Bool} {sp : T → List ℕ} where
+  -- one change after another, in the storage that came
+  pub now-then : {old mid new : Cut} {p : Place} (t : Table) {u : Table} {ys : List T}
+      → IsExchanged current old mid (place_at p) 24 (option_to_list t.extent) (option_to_list u.extent)
+      → IsVectorNow size test sp mid new p u ys u → IsVectorNow size test sp old new p t ys u
+  now-then t c w = record { change = exchange-then c w.change; vector = w.vector }
 
--- the storage is grown, and the values stay
-pub vector-grown : {T : Type 0} → {size : ℕ} {test : T → Bool} {sp : T → List ℕ} {old new : Cut} {p : Place} {n : ℕ}
-    {t : Table} {xs : List T} → IsVector size test sp old.bytes p xs t
-    → IsGrown old new p size n (length xs) t (flat_map sp xs) → IsVectorGrown size test sp old new p t n xs
-vector-grown v g =
-    record {
-      table = g.table;
-      grown = g.grown;
-      now = record
-          { change = g.change; vector = record { stands = g.stands; values = v.values } };
-    }
+  -- the storage is grown, and the values stay
+  pub vector-grown : {old new : Cut} {p : Place} {n : ℕ} {t : Table} {xs : List T} → IsVector size test sp old.bytes p xs t
+      → IsGrown old new p size n (length xs) t (flat_map sp xs) → IsVectorGrown size test sp old new p t n xs
+  vector-grown v g = record {
+    table = g.table;
+    grown = g.grown;
+    now = record { change = g.change; vector = record { stands = g.stands; values = v.values } };
+  }
 
--- the storage is grown, and then there are other values in it
-pub grown-then : {T : Type 0} → {size : ℕ} {test : T → Bool} {sp : T → List ℕ} {old mid new : Cut} {p : Place} {n : ℕ}
-    {t : Table} (xs : List T) {ys : List T} → (g : IsGrown old mid p size n (length xs) t (flat_map sp xs))
-    → IsVectorNow size test sp mid new p g.table ys g.table → IsVectorGrown size test sp old new p t n ys
-grown-then {t} xs g w = record { table = g.table; grown = g.grown; now = now-then t g.change w }
+  -- the storage is grown, and then there are other values in it
+  pub grown-then : {old mid new : Cut} {p : Place} {n : ℕ} {t : Table} (xs : List T) {ys : List T}
+      → (g : IsGrown old mid p size n (length xs) t (flat_map sp xs))
+      → IsVectorNow size test sp mid new p g.table ys g.table → IsVectorGrown size test sp old new p t n ys
+  grown-then {t = t} xs g w = record { table = g.table; grown = g.grown; now = now-then t g.change w }
+
+  -- nothing is done
+  pub unchanged-now : (c : Cut) {p : Place} {xs : List T} (ys : List T) {t : Table} → IsVector size test sp c.bytes p xs t
+      → xs ≡ ys → IsVectorNow size test sp c c p t ys t
+  unchanged-now c {p} ys {t} v e = subst (λ (zs : List T). IsVectorNow size test sp c c p t zs t) e
+      (record { change = (unchanged-rewritten c v.stands).change; vector = v })
+
+  -- a place that is free
+  pub has-space : {b : List ℕ} {p : Place} {xs : List T} {t : Table} → IsVector size test sp b p xs t
+      → length xs < t.capacity
+      → word_at (bytes_of b) (p.handle + p.at + 8) < word_at (bytes_of b) (p.handle + p.at + 16)
+  has-space v f = omega (arith, f, v.stands.words.len_word, v.stands.words.capacity)
 
 -- ---- the same of texts
 
@@ -227,6 +235,12 @@ module _ {T : Type 0} {size : ℕ} {test : T → Bool} {sp : T → List ℕ} (ol
       → IsWithoutSpace old mid size (n (length xs) t.capacity) t f
   without-space n {f = f} h = subst (λ j. IsWithoutSpace old mid j (n (length xs) t.capacity) t f) e
       (h (length xs) t (flat_map sp xs) stands-at)
+
+  -- the bytes of an element are those of its value
+  pub element-spells : (i : ℕ) {x : T} (out : List ℕ) → ((x : T) → test x ≡ true → length (sp x) ≡ size)
+      → slice_get xs i ≡ Some x → ReadsOne old.bytes p k i out → out ≡ sp x
+  element-spells i out spells f h = h (length xs) t (flat_map sp xs) stands-at
+      ∙ ap (λ j. part (flat_map sp xs) (j * i) j) e ∙ flat-element size test sp spells xs i v.values f
 
   -- so many places as are asked for
   pub reserved-of : (n : ℕ) (r : Result (Unit {0}) Refusal) → Grows old mid p k n r
@@ -307,29 +321,6 @@ module _ {T : Type 0} {size : ℕ} {test : T → Bool} {sp : T → List ℕ} (ol
       let r = subst (λ j. IsGivenBack old mid p j t) e
       (h (length xs) t (flat_map sp xs) stands-at) in
       record { change = r.change; vector = record { stands = r.stands; values = refl } }
-
--- nothing is done
-pub unchanged-now : {T : Type 0} → {size : ℕ} {test : T → Bool} {sp : T → List ℕ} (c : Cut) {p : Place} {xs : List T}
-    (ys : List T) {t : Table} → IsVector size test sp c.bytes p xs t → xs ≡ ys → IsVectorNow size test sp c c p t ys t
-unchanged-now {T} {size} {test} {sp} c {p} {xs} ys {t} v e =
-    subst (λ (zs : List T). IsVectorNow size test sp c c p t zs t) e
-    (let r : IsRewritten c c p size (length xs) t (flat_map sp xs) = unchanged-rewritten c v.stands in record
-    { change = r.change; vector = v })
-
--- a place that is free
-pub has-space : {T : Type 0} → {size : ℕ} {test : T → Bool} {sp : T → List ℕ} {b : List ℕ} {p : Place} {xs : List T}
-    {t : Table} → IsVector size test sp b p xs t → length xs < t.capacity
-    → word_at (bytes_of b) (p.handle + p.at + 8) < word_at (bytes_of b) (p.handle + p.at + 16)
-has-space v f = omega (arith, f, v.stands.words.len_word, v.stands.words.capacity)
-
--- the bytes of an element are those of its value
-pub element-spells : {T : Type 0} → {size : ℕ} {test : T → Bool} {sp : T → List ℕ} (old : Cut) {p : Place} {k : ℕ}
-    {xs : List T} {t : Table} → k ≡ size → IsVector size test sp old.bytes p xs t
-    → (i : ℕ) {x : T} (out : List ℕ) → ((x : T) → test x ≡ true → length (sp x) ≡ size) → slice_get xs i ≡ Some x
-    → ReadsOne old.bytes p k i out → out ≡ sp x
-element-spells {size = size} {test} {sp} old {p} {k} {xs} {t} e v i out spells f h =
-    h (length xs) t (flat_map sp xs) (subst (λ j. Stands old.bytes p j (length xs) t (flat_map sp xs)) (sym e)
-    v.stands) ∙ ap (λ j. part (flat_map sp xs) (j * i) j) e ∙ flat-element size test sp spells xs i v.values f
 
 -- ---- what the calls on bytes do, for texts
 

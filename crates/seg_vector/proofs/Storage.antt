@@ -226,21 +226,13 @@ kept-room {old} {new} {from} {n} h k c r = changed-room current old new from n h
 pub ruleset sizes =
     (room-small, place-small, stands-small, link-room, len-room, capacity-room, front-room, back-room, kept-heap, kept-room)
 
-pub len-read : {b : List ℕ} {p : Place} {each len : ℕ} (k : ℕ) {t : Table} {bytes : List ℕ}
-    → Stands b p each len t bytes → k ≡ word_at (bytes_of b) (place_at p + 8) → k ≡ len
-len-read k s e = e ∙ s.words.len_word
-
-pub capacity-read : {b : List ℕ} {p : Place} {each len : ℕ} (k : ℕ) {t : Table} {bytes : List ℕ}
-    → Stands b p each len t bytes → k ≡ word_at (bytes_of b) (place_at p + 16) → k ≡ t.capacity
-capacity-read k s e = e ∙ s.words.capacity
-
 pub storage-read : {b : List ℕ} {p : Place} {each len : ℕ} (k : ℕ) {t : Table} {bytes : List ℕ} (storage : Option ℕ)
     → Stands b p each len t bytes → storage ≡ link_at (bytes_of b) (p.handle + p.at)
     → k ≡ word_at (bytes_of b) (place_at p + 8)
     → IfSome storage (λ g. IsTrue (has_room (live_of b) g (each * k)))
 storage-read {b} {each} k {t} storage s e f =
     subst (λ o. IfSome o (λ g. IsTrue (has_room (live_of b) g (each * k)))) (sym (e ∙ s.words.link))
-    (subst (λ k. IfSome (table_link t) (λ g. IsTrue (has_room (live_of b) g (each * k)))) (sym (len-read k s f))
+    (subst (λ k. IfSome (table_link t) (λ g. IsTrue (has_room (live_of b) g (each * k)))) (sym (f ∙ s.words.len_word))
     (stands-room s))
 
 pub given-of : {old mid : Cut} {p : Place} {each : ℕ} (n : ℕ) {len : ℕ} (k : ℕ) {g : ℕ} {t : Table} {bytes : List ℕ}
@@ -253,7 +245,7 @@ given-of {old} {mid} {each} n {len} k {g} storage s e f r =
     subst (λ o. IsGivenRoom current old mid o (each * n) (each * len) g)
     (ap (block_of (live_of old.bytes)) (e ∙ s.words.link) ∙ stands-block s)
     (subst (λ k. IsGivenRoom current old mid (block_of (live_of old.bytes) storage) (each * n) (each * k) g)
-    (len-read k s f) r)
+    (f ∙ s.words.len_word) r)
 
 pub not_given-of : {old mid : Cut} {p : Place} {each : ℕ} (n : ℕ) {len : ℕ} {t : Table} {bytes : List ℕ}
     (storage : Option ℕ) → Stands old.bytes p each len t bytes
@@ -704,7 +696,7 @@ pub erase-fits : (c : Cut) {p : Place} {each len : ℕ} (k : ℕ) {g : ℕ} (i :
     → i < word_at (bytes_of c.bytes) (p.handle + p.at + 8) → link_at (bytes_of c.bytes) (place_at p) ≡ Some g
     → Fitting (live_of c.bytes) each i (each * (k - i - 1)) g
 erase-fits c {each} {len} k i s e inside link =
-    let is = len-read k s e in
+    let is = e ∙ s.words.len_word in
     let below : i < len = omega (arith, inside, s.words.len_word) in
     let whole : (i + 1) + (k - i - 1) ≡ len = omega (arith, below, is) in
     let split : each * ((i + 1) + (k - i - 1)) ≡ each * i + each + each * (k - i - 1) = omega arith in
@@ -716,7 +708,7 @@ pub insert-fits : (c : Cut) {p : Place} {each len : ℕ} (k : ℕ) {g : ℕ} (i 
     (bytes_of c.bytes) (p.handle + p.at + 16)
     → link_at (bytes_of c.bytes) (place_at p) ≡ Some g → Fitting (live_of c.bytes) each i (each * (k - i)) g
 insert-fits c {each} {len} k i {t} s e inside space link =
-    let is = len-read k s e in
+    let is = e ∙ s.words.len_word in
     let below : i ≤ len = omega (arith, inside, s.words.len_word) in
     let room : len < t.capacity = omega (arith, space, s.words.len_word, s.words.capacity) in
     let whole : (i + 1) + (k - i) ≡ len + 1 = omega (arith, below, is) in

@@ -14,8 +14,8 @@ use W.{kept-found, word-same, block_payload, room_block, exchange-next, exchange
 use W.{IsSound, live-sound, Has-same, SameBut-word, read-part, SameBut-link, Place, place_at, Stands, IsServed}
 use W.{IsSwapped, AreHeldElements, IsHeldElement, AreSameElements, IsSameElement, AreEvenLinks, IsHeldText, IsTexts}
 use W.{text_blocks, IsTextsNow, IsTextElement, AreInArray, IsOwnedText, OwnedText, AreTextLinks, []}
-use Rattle.seg_vector.proofs.Runs.{AreHeadWords, IsHead, IsRun, changed-both, head-exchanged, none-some, same-some}
-use Rattle.seg_vector.proofs.Runs.{came-found, room-head, own-facts, facts-own}
+use Rattle.seg_vector.proofs.Runs.{AreHeadWords, IsHead, IsRun, changed-both, none-some, same-some, came-found}
+use Rattle.seg_vector.proofs.Runs.{room-head, own-facts, facts-own}
 use Rattle.seg_vector.proofs.Typed.{has-element}
 use Rattle.seg_vector.proofs.{Runs.serves-full, Runs.table, Runs.table-full, Storage.live-if}
 use Rattle.best_fit.specs.Extents.{is_proper}
@@ -284,11 +284,6 @@ none-stands s = record {
   apart = tt;
   others = tt;
 }
-
-pub texts-started : {old new : Cut} {p : Place} → IsHeap current old.bytes
-    → IsTrue (has_room (live_of old.bytes) p.handle (p.at + 24)) → IsChanged current old new (place_at p) 24
-    → Stands new.bytes p 16 0 no_table [] → IsTextsNow old new p [] [] [] no_table
-texts-started {p} heap r c s = record { change = head-exchanged p heap r c; texts = none-stands s }
 
 -- ---- one of many
 

@@ -419,10 +419,6 @@ pub ready-new : {now : Cut} {p : Place} {g h n : ℕ} → (r : IsReady now p g n
     → link_at (bytes_of now.bytes) (place_at p) ≡ Some h → h ≢ g → IsReadyNew now g h n (length r.ps)
 ready-new {n} r was differ = ready-new_in n r.texts r.more r.asked r.since (sym (ready-link r) ∙ was) differ
 
-pub since-len : {now : Cut} {p : Place} {g n : ℕ} (k : ℕ) → (r : IsReady now p g n)
-    → k ≡ word_at (bytes_of now.bytes) (place_at p + 8) → k ≡ length r.ps
-since-len k r e = e ∙ (ready r).run.words.len_word
-
 -- ---- more places, and the same texts
 
 pub asked-heap : {first mid : Cut} {o : Option Extent} {n g : ℕ} → IsAsked first mid o n g → IsHeap current mid.bytes

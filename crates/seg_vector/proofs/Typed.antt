@@ -5,12 +5,12 @@ use W.{append_assoc, arith, ◌-◌, ◌≤◌, max, false, if◌then◌else◌,
 use W.{insert, remove, slice_get, slice_set, nat_le, option_to_list, list_all, and_from, and_parts, leb-true}
 use W.{list_all-append, take-append-drop, length-set, length-take, flat_map-append, take-append-add, drop-append-add}
 use W.{take-append_seam, length-insert, length-remove, part, patched, Cut, bytes_of, word_at, current, IsExchanged}
-use W.{IsChanged, IsHeap, has_room, live_of, Table, no_table, Refusal, Place, Erases, Result, Ok, Err, MatchResult}
-use W.{Extends, Fits, GivesBack, Inserts, IsFitted, IsGivenBack, IsRewritten, Overwrites, ReadsOne, Truncates, IsGrown}
-use W.{Grows, IsStanding, Stands, place_at, IsText, IsTextGrown, IsTextNow, capacity_for_one, capacity_for_text}
-use W.{IsVector, IsVectorGrown, IsVectorNow, IsWithoutSpace, Starts, [], take-nil, drop-nil}
+use W.{live_of, Table, no_table, Refusal, Place, Erases, Result, Ok, Err, MatchResult, Extends, Fits, GivesBack}
+use W.{Inserts, IsFitted, IsGivenBack, IsRewritten, Overwrites, ReadsOne, Truncates, IsGrown, Grows, IsStanding, Stands}
+use W.{place_at, IsText, IsTextGrown, IsTextNow, capacity_for_one, capacity_for_text, IsVector, IsVectorGrown}
+use W.{IsVectorNow, IsWithoutSpace, [], take-nil, drop-nil}
 use Rattle.seg_vector.proofs.Storage.{capacity-bytes, exchange-then, has-place, not-refused, unchanged-rewritten}
-use Rattle.seg_vector.proofs.{Runs.head-exchanged, Runs.same-some, Runs.table, Storage.wanted-places}
+use Rattle.seg_vector.proofs.{Runs.same-some, Runs.table, Storage.wanted-places}
 use Rattle.best_fit.specs.Table.{cut_table}
 
 -- ---- what holds of each
@@ -201,14 +201,6 @@ pub text-grown-then : {old mid new : Cut} {p : Place} {n : ℕ} {t : Table} {byt
     → (g : IsGrown old mid p 1 n (length bytes) t bytes) → IsTextNow mid new p g.table ys g.table
     → IsTextGrown old new p t n ys
 text-grown-then {t} g w = record { table = g.table; grown = g.grown; now = text-then t g.change w }
-
--- ---- a vector without a place
-
-pub vector-started : {T : Type 0} → {size : ℕ} (test : T → Bool) (sp : T → List ℕ) {old new : Cut} {p : Place}
-    → IsHeap current old.bytes → IsTrue (has_room (live_of old.bytes) p.handle (p.at + 24))
-    → IsChanged current old new (place_at p) 24 → Stands new.bytes p size 0 no_table [] → Starts size test sp old new p
-vector-started test sp {p} heap r c s =
-    record { change = head-exchanged p heap r c; vector = record { stands = s; values = refl } }
 
 -- ---- what the calls on bytes do, for vectors. Their element size is the type's.
 

@@ -1,6 +1,6 @@
 -- Those behind the element move down, and the length is written.
 use Rattle.seg_vector.proofs.{take, drop, ◌++◌, ℕ, ◌*◌, ◌+◌, ◌-◌, sym, subst, ◌∙◌, arith, Stands, IsRewritten, live_of}
-use Rattle.seg_vector.proofs.{Fitting, erase-fits, erased, len-read, part-room}
+use Rattle.seg_vector.proofs.{Fitting, erase-fits, erased, part-room}
 use Rattle.seg_vector.proofs.elements.erase_element.Goals.{In-Some}
 use Rattle.seg_vector.proofs.elements.erase_element.Goals as goal
 
@@ -28,7 +28,7 @@ copy-requires-clause-target c =
 
 pub returns-in-Some : goal.returns-in-Some
 returns-in-Some c len t bytes s =
-    let is = len-read c.len_of-len.result s c.len_of-len.ensures in
+    let is = c.len_of-len.ensures ∙ s.words.len_word in
     let at : ℕ = c.args.each * c.args.index in
     let now = subst (λ n. Stands c.args.heap.now.bytes c.args.place c.args.each n t bytes) (sym is) s in
     subst (λ n. IsRewritten c.args.heap.now c.set_word.new.self c.args.place c.args.each (n - 1) t

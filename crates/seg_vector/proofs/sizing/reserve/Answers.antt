@@ -1,7 +1,6 @@
 -- The storage is regrown, and then the link and the capacity are written.
-use Rattle.seg_vector.proofs.{◌+◌, arith, changed-room, capacity-read, capacity-room, come-aligned, given-of}
-use Rattle.seg_vector.proofs.{grows-more, grows-not, grows-nothing, link-room, mid-room, not_given-of, storage-read}
-use Rattle.seg_vector.proofs.{too-many}
+use Rattle.seg_vector.proofs.{◌+◌, arith, changed-room, capacity-room, come-aligned, given-of, grows-more, grows-not}
+use Rattle.seg_vector.proofs.{grows-nothing, link-room, mid-room, not_given-of, storage-read, too-many, ◌∙◌}
 use Rattle.seg_vector.proofs.sizing.reserve.Goals as goal
 
 pub regrow-requires-clause-room : goal.regrow-requires-clause-room
@@ -28,18 +27,18 @@ set_word-requires c = changed-room _ _ _ _ 8 c.args.place.handle (c.args.place.a
 
 pub returns-then-n-capacity_of : goal.returns-then-n-capacity_of
 returns-then-n-capacity_of c len t bytes s =
-    let capacity = capacity-read c.capacity_of.result s c.capacity_of.ensures in
+    let capacity = c.capacity_of.ensures ∙ s.words.capacity in
     grows-not c.args.heap.now c.args.n (omega (arith, capacity, c.if-n-capacity_of.true)) s
 
 pub returns-in-Err : goal.returns-in-Err
 returns-in-Err c len t bytes s =
-    let capacity = capacity-read c.capacity_of.result s c.capacity_of.ensures in
+    let capacity = c.capacity_of.ensures ∙ s.words.capacity in
     grows-nothing c.args.each c.args.n t (omega (arith, capacity, c.if-n-capacity_of.false))
     (not_given-of c.args.n c.link_of-storage.result s c.link_of-storage.ensures c.in-Err.ensures)
 
 pub returns-in-Ok : goal.returns-in-Ok
 returns-in-Ok c len t bytes s =
-    let capacity = capacity-read c.capacity_of.result s c.capacity_of.ensures in
+    let capacity = c.capacity_of.ensures ∙ s.words.capacity in
     grows-more {new = c.set_word.new.self} c.args.n (omega (arith, capacity, c.if-n-capacity_of.false)) s
     (given-of c.args.n c.len_of.result c.link_of-storage.result s c.link_of-storage.ensures
     c.len_of.ensures c.in-Ok.ensures)

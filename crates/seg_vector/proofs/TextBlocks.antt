@@ -237,16 +237,17 @@ texts-changed {old} {new} {p} a m m' b {t} {u} s x table fits words array texts 
     (subst (AllByRecursion (λ (z : Extent). handle z ≢ p.handle)) (blocks-three a m b) s.apart) in
     let apart_b = (all-split (λ (z : Extent). handle z ≢ p.handle) (text_blocks m) (text_blocks b) apart.1).1 in
     let sa = served-texts l a held.0 in let sb = served-texts l b held_b in
-    let ta = owned-same M M' a (all-apart new (text_blocks a) s.heap w.head (found-texts l a held.0) apart.0 blocks.0) sa
-    owned.0 in
-    let tb = owned-same M M' b (all-apart new (text_blocks b) s.heap w.head (found-texts l b held_b) apart_b blocks.1) sb
-    owned_b in
+    let ta = owned-same M M' a (all-apart new (text_blocks a) s.heap w.head (found-texts l a held.0) apart.0 blocks.0)
+    sa owned.0 in
+    let tb = owned-same M M' b (all-apart new (text_blocks b) s.heap w.head (found-texts l b held_b) apart_b blocks.1)
+    sb owned_b in
     let all = all-join (IsOwnedText M') a (m' ++ b) ta (all-join (IsOwnedText M') m' b texts tb) in
     let good = all-join IsServed a (m' ++ b) sa (all-join IsServed m' b served sb) in
     record {
       change = x;
       texts = texts-made new.bytes p (a ++ (m' ++ b)) rest heap is
-          (found-without p.handle _ own l.extents w.none w.head.found) w.head.big s.aligned table fits words array all good;
+          (found-without p.handle _ own l.extents w.none w.head.found) w.head.big s.aligned table fits words array all
+          good;
     }
 
 -- ---- the change that all steps come to
@@ -650,8 +651,8 @@ pub carried-next : {old now new : Cut} {at to : ℕ} (a : ℕ) {b : ℕ} (i n : 
     → (b ≤ a) ⊎ (a + 16 * n ≤ b) → i < n → at ≡ a + 16 * i → to ≡ b + 16 * i
     → IsChanged current now new to 16 → IsSameElement (bytes_of now.bytes) (bytes_of new.bytes) at to
     → AreSameElements (bytes_of old.bytes) (bytes_of new.bytes) a b (i + 1)
-carried-next a {b} i n s c apart below from is d e j under = one-more a b i j (λ g. s j (omega (arith, g, under))) d.rest
-    (element-trans (same-at (sym from) (sym from) (source-stays a i n c apart below)) e) from is (sides j i)
+carried-next a {b} i n s c apart below from is d e j under = one-more a b i j (λ g. s j (omega (arith, g, under)))
+    d.rest (element-trans (same-at (sym from) (sym from) (source-stays a i n c apart below)) e) from is (sides j i)
 
 pub even-now : {m m' : Memory} (a n i : ℕ) → AreEvenLinks m a n → i < n → IsSameElement m m' (a + 16 * i) (a + 16 * i)
     → IfSome (link_at m' (a + 16 * i)) (λ target. target % 16 ≡ 0)
@@ -668,15 +669,16 @@ pub up-source : {old now : Cut} (a k i n : ℕ) → k + (i + 1) ≡ n → IsChan
 up-source a k i n e c = element-beside (a + 16 * k) c.rest (inl (omega arith))
 
 pub up-changed : {old now new : Cut} {to : ℕ} (a k i n : ℕ) → k + (i + 1) ≡ n
-    → IsChanged current old now (a + 16 + 16 * (n - i)) (16 * i) → to ≡ a + 16 + 16 * k → IsChanged current now new to 16
-    → IsChanged current old new (a + 16 + 16 * (n - (i + 1))) (16 * (i + 1))
+    → IsChanged current old now (a + 16 + 16 * (n - i)) (16 * i) → to ≡ a + 16 + 16 * k
+    → IsChanged current now new to 16 → IsChanged current old new (a + 16 + 16 * (n - (i + 1))) (16 * (i + 1))
 up-changed a k i n e c is d = changed-both (a + 16 + 16 * (n - (i + 1))) (16 * (i + 1)) c d (omega arith) (omega arith)
     (omega (arith, e, is)) (omega (arith, e, is))
 
-pub up-next : {old now new : Cut} {at to : ℕ} (a k i n : ℕ) → k + (i + 1) ≡ n → AreUp (bytes_of old.bytes) (bytes_of now.bytes) a
-    (n - i) n → IsChanged current old now (a + 16 + 16 * (n - i)) (16 * i)
-    → at ≡ a + 16 * k → to ≡ a + 16 + 16 * k → IsChanged current now new to 16
-    → IsSameElement (bytes_of now.bytes) (bytes_of new.bytes) at to → AreUp (bytes_of old.bytes) (bytes_of new.bytes) a (n - (i + 1)) n
+pub up-next : {old now new : Cut} {at to : ℕ} (a k i n : ℕ) → k + (i + 1) ≡ n
+    → AreUp (bytes_of old.bytes) (bytes_of now.bytes) a (n - i) n
+    → IsChanged current old now (a + 16 + 16 * (n - i)) (16 * i) → at ≡ a + 16 * k → to ≡ a + 16 + 16 * k
+    → IsChanged current now new to 16 → IsSameElement (bytes_of now.bytes) (bytes_of new.bytes) at to
+    → AreUp (bytes_of old.bytes) (bytes_of new.bytes) a (n - (i + 1)) n
 up-next a k i n is s c from to d e j low below =
     one-more a (a + 16) k j (λ g. s j (omega (arith, g, is, low)) below) d.rest
     (element-trans (same-at (sym from) (sym from) (up-source a k i n is c)) e) from to (sides j k)

@@ -59,9 +59,10 @@ cleared {old} {new = new} {p} {ps} {t} s x c word =
     let arr = option_to_list t.extent in let tb = text_blocks ps in
     let r0 = run-begin old [] ps [] (sym (append-nil ps)) s in
     let r1 = run-swapped arr (last-first arr tb) r0 x (none-of p.handle tb s.apart) in
-    let r2 = run-headed r1 (head-wider p c (omega arith) (omega arith)) (len-written 0 (omega arith) c.rest word r1.words) in
-    texts-between [] [] ps [] [] (sym (append-nil ps)) refl refl (sym (append-nil arr)) s r2.change s.table (omega arith)
-    r2.words (no-links (bytes_of new.bytes) t.capacity t.extent) tt tt
+    let r2 = run-headed r1 (head-wider p c (omega arith) (omega arith))
+    (len-written 0 (omega arith) c.rest word r1.words) in
+    texts-between [] [] ps [] [] (sym (append-nil ps)) refl refl (sym (append-nil arr)) s r2.change s.table
+    (omega arith) r2.words (no-links (bytes_of new.bytes) t.capacity t.extent) tt tt
 
 -- ---- no array
 
@@ -443,7 +444,8 @@ pub text-set : {s0 s1 s3 : Cut} {p : Place} {ps : List OwnedText} {c i len : ℕ
     (option_to_list o ++ option_to_list pl.text.extent) (slice_set ps i pl.text) (table c o)
 text-set {o = None} s e pl rep len_is = none-some refl rep.extent
 text-set {s0} {s1} {s3} {p} {ps} {c} {i} {len} {o = Some x} {q} {block = block} s e pl rep len_is =
-    let array_is : rep.array ≡ x = same-some (sym rep.extent) in let t = table c (Some x) in let z = pl.text in let n = length ps in let mid = rep.mid in
+    let array_is : rep.array ≡ x = same-some (sym rep.extent) in let t = table c (Some x) in let z = pl.text in
+    let n = length ps in let mid = rep.mid in
     let eb = option_to_list q.extent in let ez = option_to_list z.extent in
     let gone : List Extent = x ∷ eb in
     let below = slice_get_within ps i q e in let fits = s.fits in let full = table-full 16 c x s.table in

@@ -64,8 +64,8 @@ pub put-by : {first now b1 b2 new : Cut} {p : Place} {ps : List OwnedText} {t : 
     → word_at (bytes_of b2.bytes) (g + 16 * i + 8) ≡ len
     → IsChanged current b2 new (p.handle + (p.at + 8)) 8 → word_at (bytes_of new.bytes) (p.handle + (p.at + 8)) ≡ n + 1
     → IsTextsNow first new p (option_to_list t.extent) (y ∷ option_to_list z.extent) (insert ps i z) (table m (Some y))
-put-by {first} {now} {b1} {b2} {new} {p} {ps} {t} {y} {m} {z} i {g} n len block r inside at_is len_is leads n_is c1 m1 c2
-    link word c3 last =
+put-by {first} {now} {b1} {b2} {new} {p} {ps} {t} {y} {m} {z} i {g} n len block r inside at_is len_is leads n_is c1 m1
+    c2 link word c3 last =
     let u = table m (Some y) in let gone = option_to_list t.extent in let ez = option_to_list z.extent in
     let come : List Extent = y ∷ ez in
     let g_is = same-some (sym leads ∙ r.link) in let k_is : n ≡ length ps = n_is ∙ r.len_word in
@@ -76,8 +76,8 @@ put-by {first} {now} {b1} {b2} {new} {p} {ps} {t} {y} {m} {z} i {g} n len block 
     let x1 = block-written (16 * m) r0.heap found0.0 c1 (omega (arith, g_is)) (omega (arith, g_is, k_is, inside, space))
     big in
     let r1 = run-swapped ez (spread-refl come) r0 x1 (none.0, tt) in
-    let x2 = block-written (16 * m) r1.heap (run-found r1).0 c2 (omega (arith, g_is)) (omega (arith, g_is, inside, space))
-    big in
+    let x2 = block-written (16 * m) r1.heap (run-found r1).0 c2 (omega (arith, g_is))
+    (omega (arith, g_is, inside, space)) big in
     let r2 = run-swapped ez (spread-refl come) r1 x2 (none.0, tt) in
     let found2 = run-found r2 in
     let c3' = head-wider p c3 (omega arith) (omega arith) in
@@ -89,7 +89,8 @@ put-by {first} {now} {b1} {b2} {new} {p} {ps} {t} {y} {m} {z} i {g} n len block 
     (element-in (g + 16 * j) y3 (omega (arith, g_is)) (omega (arith, g_is, f, inside, space, big))) in
     let back : AreSameElements (bytes_of now.bytes) (bytes_of new.bytes) (g + 16 * i) (g + 16 * i + 16) (n - i) = λ j f.
     element-trans (element-trans (m1 j f) (element-beside (g + 16 * i + 16 + 16 * j) c2.rest (inr (omega arith))))
-    (element-in (g + 16 * i + 16 + 16 * j) y3 (omega (arith, g_is)) (omega (arith, g_is, k_is, f, inside, space, big))) in
+    (element-in (g + 16 * i + 16 + 16 * j) y3 (omega (arith, g_is))
+    (omega (arith, g_is, k_is, f, inside, space, big))) in
     let own = element-in (g + 16 * i) y3 (omega (arith, g_is)) (omega (arith, g_is, inside, space, big)) in
     let links = links-edited g ps i i (z ∷ []) inside inside refl (omega arith) (omega (arith, k_is))
     (subst (λ h. AreTextLinks (bytes_of now.bytes) h ps) (sym g_is) r.links) front
@@ -148,21 +149,17 @@ put-even {now} {p} r =
 
 -- ---- an array that was asked for is given up
 
-pub asked-run : {first mid : Cut} {p : Place} {ps : List OwnedText} {t : Table} {g : ℕ} (n : ℕ)
-    → IsTexts first.bytes p ps t → IsAsked first mid t.extent (16 * n) g → IsReadyRun first mid p ps t g n
-asked-run n s a = ready-in n s a (asked-alone a)
+module _ {first mid : Cut} {p : Place} {ps : List OwnedText} {t : Table} {g : ℕ} (n : ℕ)
+    (s : IsTexts first.bytes p ps t) (a : IsAsked first mid t.extent (16 * n) g) where
+  pub asked-run : IsReadyRun first mid p ps t g n
+  asked-run = ready-in n s a (asked-alone a)
 
-pub asked-link : {first mid : Cut} {p : Place} {ps : List OwnedText} {t : Table} {g : ℕ} (n : ℕ)
-    → IsTexts first.bytes p ps t → IsAsked first mid t.extent (16 * n) g
-    → link_at (bytes_of first.bytes) (place_at p) ≡ link_at (bytes_of mid.bytes) (place_at p)
-asked-link n s a = s.words.link ∙ sym (asked-run n s a).run.words.link
+  pub asked-link : link_at (bytes_of first.bytes) (place_at p) ≡ link_at (bytes_of mid.bytes) (place_at p)
+  asked-link = s.words.link ∙ sym asked-run.run.words.link
 
-pub asked-live : {first mid : Cut} {p : Place} {ps : List OwnedText} {t : Table} {g : ℕ} (n : ℕ)
-    → IsTexts first.bytes p ps t → IsAsked first mid t.extent (16 * n) g → IsTrue (is_live_in (live_of mid.bytes) g)
-asked-live {first} {mid} {p} {ps} {t} {g} n s a =
-    let q = asked-run n s a in
-    subst (λ k. IsTrue (is_live_in (live_of mid.bytes) k)) (sym q.at)
-    (found-live (handle q.array) (live_of mid.bytes).extents q.found)
+  pub asked-live : IsTrue (is_live_in (live_of mid.bytes) g)
+  asked-live = subst (λ k. IsTrue (is_live_in (live_of mid.bytes) k)) (sym asked-run.at)
+      (found-live (handle asked-run.array) (live_of mid.bytes).extents asked-run.found)
 
 pub undone-none : {first mid new : Cut} {p : Place} {ps : List OwnedText} {c g n : ℕ} {o : Option Extent}
     → IsTexts first.bytes p ps (table c o) → IsAsked first mid o n g

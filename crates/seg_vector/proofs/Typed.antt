@@ -155,8 +155,9 @@ module _ {T : Type 0} {size : ℕ} {test : T → Bool} {sp : T → List ℕ} whe
   now-then t c w = record { change = exchange-then c w.change; vector = w.vector }
 
   -- the storage is grown, and the values stay
-  pub vector-grown : {old new : Cut} {p : Place} {n : ℕ} {t : Table} {xs : List T} → IsVector size test sp old.bytes p xs t
-      → IsGrown old new p size n (length xs) t (flat_map sp xs) → IsVectorGrown size test sp old new p t n xs
+  pub vector-grown : {old new : Cut} {p : Place} {n : ℕ} {t : Table} {xs : List T}
+      → IsVector size test sp old.bytes p xs t → IsGrown old new p size n (length xs) t (flat_map sp xs)
+      → IsVectorGrown size test sp old new p t n xs
   vector-grown v g = record {
     table = g.table;
     grown = g.grown;
@@ -170,8 +171,8 @@ module _ {T : Type 0} {size : ℕ} {test : T → Bool} {sp : T → List ℕ} whe
   grown-then {t = t} xs g w = record { table = g.table; grown = g.grown; now = now-then t g.change w }
 
   -- nothing is done
-  pub unchanged-now : (c : Cut) {p : Place} {xs : List T} (ys : List T) {t : Table} → IsVector size test sp c.bytes p xs t
-      → xs ≡ ys → IsVectorNow size test sp c c p t ys t
+  pub unchanged-now : (c : Cut) {p : Place} {xs : List T} (ys : List T) {t : Table}
+      → IsVector size test sp c.bytes p xs t → xs ≡ ys → IsVectorNow size test sp c c p t ys t
   unchanged-now c {p} ys {t} v e = subst (λ (zs : List T). IsVectorNow size test sp c c p t zs t) e
       (record { change = (unchanged-rewritten c v.stands).change; vector = v })
 

@@ -222,19 +222,10 @@ pub kept-room : {old new : Cut} {from n : ℕ} (h k : ℕ) → IsChanged current
     → IsTrue (has_room (live_of old.bytes) h k) → IsTrue (has_room (live_of new.bytes) h k)
 kept-room {old} {new} {from} {n} h k c r = changed-room current old new from n h k c r
 
--- what shows that a sum within a block fits, and that a word has room
-pub ruleset sizes = (
-  room-small,
-  place-small,
-  stands-small,
-  link-room,
-  len-room,
-  capacity-room,
-  front-room,
-  back-room,
-  kept-heap,
-  kept-room,
-)
+-- what shows that a word has room, and that a sum within a block fits
+pub ruleset rooms = (link-room, len-room, capacity-room, front-room, back-room, kept-room)
+
+pub ruleset sizes = (room-small, place-small, stands-small, kept-heap, rooms)
 
 pub storage-read : {b : List ℕ} {p : Place} {each len : ℕ} (k : ℕ) {t : Table} {bytes : List ℕ} (storage : Option ℕ)
     → Stands b p each len t bytes → storage ≡ link_at (bytes_of b) (p.handle + p.at)

@@ -200,30 +200,32 @@ own-parts c {p} a m b {t} s =
     w.is ∙ (own-between a m b t).same rest (subst (Rising 128) w.is (live-rises (live_of c.bytes) s.heap.proper))
     ∙ inserted-append (option_to_list t.extent ++ text_blocks m) (text_blocks a ++ text_blocks b) rest
 
--- ---- the vector afterwards
+-- ---- the vector afterwards: the change that all steps come to
 
-pub texts-changed : {old new : Cut} {p : Place} (a m m' b : List OwnedText) {t u : Table}
-    → IsTexts old.bytes p (a ++ (m ++ b)) t
-    → IsExchanged current old new (place_at p) 24 (option_to_list t.extent ++ text_blocks m)
-    (option_to_list u.extent ++ text_blocks m') → IsTrue (is_table Storage 16 u) → length (a ++ (m' ++ b)) ≤ u.capacity
-    → AreHeadWords (bytes_of new.bytes) (place_at p) (length (a ++ (m' ++ b))) u
-    → AreInArray (bytes_of new.bytes) u (a ++ (m' ++ b)) → AllByRecursion (IsOwnedText (bytes_of new.bytes)) m'
-    → AllByRecursion IsServed m'
-    → IsTextsNow old new p (option_to_list t.extent ++ text_blocks m) (option_to_list u.extent ++ text_blocks m')
-    (a ++ (m' ++ b)) u
-texts-changed {old} {new} {p} a m m' b {t} {u} s x table fits words array texts served =
+pub texts-between : {old new : Cut} {p : Place} {ps : List OwnedText} (qs a m m' b : List OwnedText) {t u : Table}
+    {gone come : List Extent} → ps ≡ a ++ (m ++ b) → qs ≡ a ++ (m' ++ b)
+    → gone ≡ option_to_list t.extent ++ text_blocks m → come ≡ option_to_list u.extent ++ text_blocks m'
+    → IsTexts old.bytes p ps t → IsExchanged current old new (place_at p) 24 gone come
+    → IsTrue (is_table Storage 16 u) → length qs ≤ u.capacity → AreHeadWords (bytes_of new.bytes) (place_at p)
+    (length qs) u → AreInArray (bytes_of new.bytes) u qs → AllByRecursion (IsOwnedText (bytes_of new.bytes)) m'
+    → AllByRecursion IsServed m' → IsTextsNow old new p gone come qs u
+texts-between {old} {new} {p} qs a m m' b {t} {u} {gone} e f g h before change table fits words array texts served =
     let l = live_of old.bytes in let M = bytes_of old.bytes in let M' = bytes_of new.bytes in
+    let out : List Extent = option_to_list t.extent ++ text_blocks m in
+    let into : List Extent = option_to_list u.extent ++ text_blocks m' in
+    let same : List Extent = text_blocks a ++ text_blocks b in
+    let s = subst (λ (xs : List OwnedText). IsTexts old.bytes p xs t) e before in
+    let x : IsExchanged current old new (place_at p) 24 out into =
+    subst (λ (xs : List Extent). IsExchanged current old new (place_at p) 24 xs into) g
+    (subst (IsExchanged current old new (place_at p) 24 gone) h change) in
     let own = own_blocks (a ++ (m ++ b)) t in
     let w = texts-own old s in let rest = without_all own l.extents in
-    let gone : List Extent = option_to_list t.extent ++ text_blocks m in
-    let come : List Extent = option_to_list u.extent ++ text_blocks m' in
-    let same : List Extent = text_blocks a ++ text_blocks b in
     let parts = own-parts old a m b s in
-    let stay : without_all gone l.extents ≡ inserted same rest = ap (without_all gone) parts ∙ without-inserted 128
-    gone (inserted same rest) (subst (Rising 128) parts (live-rises l s.heap.proper)) in
+    let stay : without_all out l.extents ≡ inserted same rest = ap (without_all out) parts ∙ without-inserted 128
+    out (inserted same rest) (subst (Rising 128) parts (live-rises l s.heap.proper)) in
     let heap = laid-heap _ _ x.live in
-    let now : (live_of new.bytes).extents ≡ inserted (come ++ same) rest = ap (λ (k : LiveSet). k.extents)
-    (exchanged-live old new _ 24 gone come _ x) ∙ ap (inserted come) stay ∙ sym (inserted-append come same rest) in
+    let now : (live_of new.bytes).extents ≡ inserted (into ++ same) rest = ap (λ (k : LiveSet). k.extents)
+    (exchanged-live old new _ 24 out into _ x) ∙ ap (inserted into) stay ∙ sym (inserted-append into same rest) in
     let is : (live_of new.bytes).extents ≡ inserted (own_blocks (a ++ (m' ++ b)) u) rest =
     now ∙ (between-own a m' b u).same rest (subst (Rising 128) now (live-rises (live_of new.bytes) heap.proper)) in
     let blocks = all-split (SameBlockBut M M' (place_at p) 24) (text_blocks a) (text_blocks b)
@@ -244,30 +246,12 @@ texts-changed {old} {new} {p} a m m' b {t} {u} s x table fits words array texts 
     let all = all-join (IsOwnedText M') a (m' ++ b) ta (all-join (IsOwnedText M') m' b texts tb) in
     let good = all-join IsServed a (m' ++ b) sa (all-join IsServed m' b served sb) in
     record {
-      change = x;
-      texts = texts-made new.bytes p (a ++ (m' ++ b)) rest heap is
-          (found-without p.handle _ own l.extents w.none w.head.found) w.head.big s.aligned table fits words array all
-          good;
+      change = change;
+      texts = texts-made new.bytes p qs rest heap
+          (is ∙ ap (λ (xs : List OwnedText). inserted (own_blocks xs u) rest) (sym f))
+          (found-without p.handle _ own l.extents w.none w.head.found) w.head.big s.aligned table fits words array
+          (subst (AllByRecursion (IsOwnedText M')) (sym f) all) (subst (AllByRecursion IsServed) (sym f) good);
     }
-
--- ---- the change that all steps come to
-
-pub texts-between : {old new : Cut} {p : Place} {ps : List OwnedText} (qs a m m' b : List OwnedText) {t u : Table}
-    {gone come : List Extent} → ps ≡ a ++ (m ++ b) → qs ≡ a ++ (m' ++ b)
-    → gone ≡ option_to_list t.extent ++ text_blocks m → come ≡ option_to_list u.extent ++ text_blocks m'
-    → IsTexts old.bytes p ps t → IsExchanged current old new (place_at p) 24 gone come
-    → IsTrue (is_table Storage 16 u) → length qs ≤ u.capacity → AreHeadWords (bytes_of new.bytes) (place_at p)
-    (length qs) u → AreInArray (bytes_of new.bytes) u qs → AllByRecursion (IsOwnedText (bytes_of new.bytes)) m'
-    → AllByRecursion IsServed m' → IsTextsNow old new p gone come qs u
-texts-between {old} {new} {p} qs a m m' b {t} {u} {gone} e f g h s x table fits words array texts served =
-    let r = texts-changed {old = old} {new = new} {p = p} a m m' b {t = t} {u = u}
-    (subst (λ (xs : List OwnedText). IsTexts old.bytes p xs t) e s)
-    (subst (λ (xs : List Extent). IsExchanged current old new (place_at p) 24 xs
-    (option_to_list u.extent ++ text_blocks m')) g (subst (IsExchanged current old new (place_at p) 24 gone) h x))
-    table (subst (λ (xs : List OwnedText). length xs ≤ u.capacity) f fits)
-    (subst (λ (xs : List OwnedText). AreHeadWords (bytes_of new.bytes) (place_at p) (length xs) u) f words)
-    (subst (AreInArray (bytes_of new.bytes) u) f array) texts served in
-    record { change = x; texts = subst (λ (xs : List OwnedText). IsTexts new.bytes p xs u) (sym f) r.texts }
 
 -- ---- without a place
 

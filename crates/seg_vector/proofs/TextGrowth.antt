@@ -2,14 +2,13 @@
 use Rattle.seg_vector.proofs.Words as W
 use W.{◌≡◌, ◌≢◌, refl, sym, ap, subst, ◌∙◌, ℕ, ◌+◌, ◌*◌, ◌<◌, ◌≤◌, Option, Some, None, List, ◌∷◌, ◌++◌, arith, length}
 use W.{inl, inr, ◌⊎◌, ◌%◌, append-nil, ◌-◌, IsTrue, Result, Ok, Err, MatchResult, option_map, option_to_list, IfSome}
-use W.{nat_lt, AllByRecursion, and_from, lt-ltb, Cut, bytes_of, word_at, current, Storage, link_at, IsNotWidened}
-use W.{IsWidened, exchanged, Extent, LiveSet, handle, end_of, place, Refusal, IsAllocated, IsChanged, IsHeap}
-use W.{IsReleased, IsResized, SameBlock, extent_at, live_of, has_room, Table, serves, is_table, IsFound, IsNone}
-use W.{SameBlock-trans, exchange-order, exchange-released, exchange-resized, exchange-taken, found-none, kept}
-use W.{kept-found, last-first, live-rises, middle-first, place-serves, regrow-serves, spread-refl, found-room}
-use W.{two-apart, laid-heap, Place, place_at, AreSameElements, IsAdopted, IsAsked, IsWithoutFit, IsSwapped, taken}
-use W.{widened, AreEvenLinks, IsReady, TakesStorage, AreOthers, IsTexts, IsTextsNow, AreTextLinks, OwnedText, []}
-use W.{IsPointed, blocks-trans}
+use W.{nat_lt, AllByRecursion, and_from, lt-ltb, Cut, bytes_of, current, Storage, link_at, IsNotWidened, IsWidened}
+use W.{exchanged, Extent, LiveSet, handle, end_of, place, Refusal, IsAllocated, IsChanged, IsHeap, IsReleased}
+use W.{IsResized, SameBlock, extent_at, live_of, has_room, Table, serves, is_table, IsFound, IsNone, SameBlock-trans}
+use W.{exchange-order, exchange-released, exchange-resized, exchange-taken, found-none, kept, kept-found, last-first}
+use W.{live-rises, middle-first, place-serves, regrow-serves, spread-refl, found-room, two-apart, laid-heap, Place}
+use W.{place_at, AreSameElements, IsAdopted, IsAsked, IsWithoutFit, IsSwapped, taken, widened, AreEvenLinks, IsReady}
+use W.{TakesStorage, AreOthers, IsTexts, IsTextsNow, AreTextLinks, OwnedText, [], IsPointed, blocks-trans}
 use Rattle.seg_vector.proofs.Runs.{AreHeadWords, IsHead, IsRun, beside-head, block-written, none-some, run-found}
 use Rattle.seg_vector.proofs.Runs.{run-headed, run-swapped, same-some, serves-full, table, all-kept, stands-none-of}
 use Rattle.seg_vector.proofs.Runs.{stands-run}

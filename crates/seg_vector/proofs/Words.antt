@@ -15,7 +15,7 @@ pub use Rattle.best_fit.proofs.{Laws.blocks-trans, Laws.hole-order}
 pub use Rattle.best_fit.specs.Exchange.{IsNotWidened, IsWidened, CarriesOver, IsGivenRoom, IsNotGivenRoom, block_of}
 pub use Rattle.best_fit.specs.Exchange.{exchanged, without_all, IsExchanged, inserted, IsRestored, SameBlockBut}
 pub use Rattle.best_fit.specs.Extents.{Extent, LiveSet, handle, holds, end_of, is_block, is_hole, proper_from}
-pub use Rattle.best_fit.specs.Fit.{place, shorter, others, resized, longer, is_extent}
+pub use Rattle.best_fit.specs.Fit.{place, shorter, others, resized, longer}
 pub use Rattle.best_fit.specs.Heap.{IsChanged, IsHeap, LaysOut, SameBlock, extent_at, has_room, live_of, IsReleased}
 pub use Rattle.best_fit.specs.Heap.{IsResized, IsShortened, IsAllocated, is_live_in, payload_at}
 pub use Rattle.best_fit.specs.Table.{Table, is_table, serves, same_role, table_link, no_table}
@@ -40,7 +40,7 @@ pub use Rattle.seg_vector.specs.TextsCalls.{ReleasesTexts, IsHeldText, IsTextEle
 pub use Rattle.seg_vector.specs.TextsCalls.{new_array, AreTextsAssigned, AssignsTexts, IsTexts, IsTextsNow}
 pub use Rattle.seg_vector.specs.TextsCalls.{with_array, one_more, IsGivenUp, IsWithoutFit}
 pub use Rattle.seg_vector.specs.Vector.{IsStorage, AreTextLinks, IsOwnedText, OwnedText, capacity_for_one}
-pub use Rattle.seg_vector.specs.VectorCalls.{IsVector, IsVectorGrown, IsVectorNow, IsWithoutSpace, Starts, IsOutside}
+pub use Rattle.seg_vector.specs.VectorCalls.{IsVector, IsVectorGrown, IsVectorNow, IsWithoutSpace, IsOutside}
 pub use Rattle.seg_vector.specs.{TextCalls.IsTextNow, declared.places.Place.Place}
 pub use Rattle.seg_vector.specs.{Vector.capacity_for_text, Vector.AreInArray, TextCalls.IsText, TextCalls.IsTextGrown}
 pub use Rattle.std.proofs.Common.{None, List, [], ◌∷◌, length, arith, ◌⊎◌, ◌++◌, append-nil, ◌%◌, min, ◌==◌, zero, suc}

@@ -1,15 +1,11 @@
 -- Bytes that memory has: one list behind another, their fronts and ends, and some of them written over.
 use Rattle.seg_vector.proofs.Words.{◌≡◌, refl, sym, ap, subst, ◌∙◌, inl, inr, ℕ, ◌+◌, ◌*◌, ◌≤◌, List, ◌∷◌, length}
 use Rattle.seg_vector.proofs.Words.{arith, ◌⊎◌, zero, suc, ◌++◌, length-append, ◌-◌, take, drop, length-take}
-use Rattle.seg_vector.proofs.Words.{length-drop, drop_at, Memory, SameBut, Has, read, patched, read-same, []}
+use Rattle.seg_vector.proofs.Words.{length-drop, drop_at, Memory, SameBut, Has, read, patched, read-same}
 
 -- products
 pub more-times : (each m n : ℕ) → m ≤ n → each * m ≤ each * n
 more-times each m n f = grind arith
-
-pub no-bytes : {A : Type 0} → (xs : List A) → length xs ≡ 0 → xs ≡ []
-no-bytes [] e = refl
-no-bytes (x ∷ xs) e = absurd (omega (arith, e))
 
 pub read-append : (m : Memory) (at a b : ℕ) → read m at (a + b) ≡ read m at a ++ read m (at + a) b
 read-append m at zero b = let e1 : 0 + b ≡ b = omega arith in let e2 : at ≡ at + 0 = omega arith in ap (read m at) e1
@@ -82,8 +78,3 @@ length-patch bytes from more f =
       length-drop (from + length more) bytes,
       f,
     )
-
-pub take-none : (k : ℕ) (bytes : List ℕ) → bytes ≡ [] → take k bytes ≡ []
-take-none zero bytes e = refl
-take-none (suc k) [] e = refl
-take-none (suc k) (b ∷ bs) e = absurd (cc)

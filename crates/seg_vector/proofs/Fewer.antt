@@ -6,28 +6,14 @@ use Rattle.seg_vector.proofs.Words.{bytes_of, word_at, Has, current, SameBut-wor
 use Rattle.seg_vector.proofs.Words.{Extent, LiveSet, handle, holds, shorter, IsChanged, IsReleased, extent_at, has_room}
 use Rattle.seg_vector.proofs.Words.{live_of, IsResized, IsShortened, Table, no_table, same_role, serves, changed-live}
 use Rattle.seg_vector.proofs.Words.{laid-heap, read-same, shorter-IsShorter, spread-refl, exchange-released}
-use Rattle.seg_vector.proofs.Runs.{AreHeadWords, IsRun, beside-head, head-wider, none-some, room-head, run-headed}
 use Rattle.seg_vector.proofs.Words.{exchange-resized, Role, Storage, Place, IsGivenBack, IsFitted, Stands, place_at, []}
+use Rattle.seg_vector.proofs.Words.{nil_from_length}
+use Rattle.seg_vector.proofs.Runs.{AreHeadWords, IsRun, beside-head, head-wider, none-some, room-head, run-headed}
 use Rattle.seg_vector.proofs.Runs.{run-stands, run-swapped, same-some, stands-run, table, table-full}
-use Rattle.seg_vector.proofs.{Storage.storage-role, Bytes.more-times, Bytes.no-bytes}
+use Rattle.seg_vector.proofs.{Storage.storage-role, Bytes.more-times}
 use Rattle.best_fit.specs.Table.{cut_table}
 
 -- ---- a container without a place
-
-pub empty-stands : {old new : Cut} (p : Place) (each : ℕ) → p.at % 8 ≡ 0
-    → IsTrue (has_room (live_of old.bytes) p.handle (p.at + 24)) → IsChanged current old new (place_at p) 24
-    → link_at (bytes_of new.bytes) (place_at p) ≡ None → word_at (bytes_of new.bytes) (place_at p + 8) ≡ 0
-    → word_at (bytes_of new.bytes) (place_at p + 16) ≡ 0 → Stands new.bytes p each 0 no_table []
-empty-stands {old} {new} p each a r c link len cap = record {
-  heap = laid-heap _ _ c.live;
-  words = record { link = link; len_word = len; capacity = cap; storage = refl };
-  aligned = a;
-  room = subst (λ l. IsTrue (has_room l p.handle (p.at + 24))) (sym (changed-live _ old new _ 24 c)) r;
-  table = refl;
-  fits = omega arith;
-  long = omega arith;
-  own = tt;
-}
 
 pub started : {old s1 s2 new : Cut} (p : Place) (each : ℕ) → p.at % 8 ≡ 0
     → IsTrue (has_room (live_of old.bytes) p.handle (p.at + 24)) → IsChanged current old new (place_at p) 24
@@ -35,15 +21,27 @@ pub started : {old s1 s2 new : Cut} (p : Place) (each : ℕ) → p.at % 8 ≡ 0
     → word_at (bytes_of s2.bytes) (p.handle + (p.at + 8)) ≡ 0
     → IsChanged current s2 new (p.handle + (p.at + 16)) 8 → word_at (bytes_of new.bytes) (p.handle + (p.at + 16)) ≡ 0
     → Stands new.bytes p each 0 no_table []
-started {s1} {s2} {new} p each a r c link c2 len c3 cap =
+started {old} {s1} {s2} {new} p each a r c link c2 len c3 cap =
     let m1 = bytes_of s1.bytes in let m2 = bytes_of s2.bytes in let m3 = bytes_of new.bytes in
     let at = place_at p in
     let one : p.handle + (p.at + 8) ≡ at + 8 = omega arith in
     let two : p.handle + (p.at + 16) ≡ at + 16 = omega arith in
-    empty-stands p each a r c
-    (SameBut-link m2 m3 _ 8 at c3.rest (inl (omega arith)) ∙ SameBut-link m1 m2 _ 8 at c2.rest (inl (omega arith))
-    ∙ link) (SameBut-word m2 m3 _ 8 (at + 8) c3.rest (inl (omega arith)) ∙ subst (λ k. word_at m2 k ≡ 0) one len)
-    (subst (λ k. word_at m3 k ≡ 0) two cap)
+    record {
+      heap = laid-heap _ _ c.live;
+      words = record {
+        link = SameBut-link m2 m3 _ 8 at c3.rest (inl (omega arith))
+            ∙ SameBut-link m1 m2 _ 8 at c2.rest (inl (omega arith)) ∙ link;
+        len_word = SameBut-word m2 m3 _ 8 (at + 8) c3.rest (inl (omega arith)) ∙ subst (λ k. word_at m2 k ≡ 0) one len;
+        capacity = subst (λ k. word_at m3 k ≡ 0) two cap;
+        storage = refl;
+      };
+      aligned = a;
+      room = subst (λ l. IsTrue (has_room l p.handle (p.at + 24))) (sym (changed-live _ old new _ 24 c)) r;
+      table = refl;
+      fits = omega arith;
+      long = omega arith;
+      own = tt;
+    }
 
 -- ---- the storage is given back
 
@@ -97,7 +95,7 @@ pub fits-nothing : {old new : Cut} {p : Place} {each len : ℕ} {t : Table} {byt
 fits-nothing {old} {new} {p} {each} {len} {t} {bytes} s e r =
     let cut = cut-none (live_of old.bytes) each len t e in
     let none : each * len ≡ 0 = ap (λ k. each * k) e ∙ (let z : each * 0 ≡ 0 = omega arith in z) in
-    let empty = no-bytes bytes (s.long ∙ none) in
+    let empty = nil_from_length bytes (s.long ∙ none) in
     subst (λ (bs : List ℕ). IsFitted old new p each len t bs) (sym empty) (record {
       change = subst (λ (u : Table). IsExchanged current old new (place_at p) 24 (option_to_list t.extent)
           (option_to_list u.extent)) (sym cut) r.change;
@@ -137,7 +135,7 @@ short l x n role big =
 
 pub fitted : {old mid new : Cut} {p : Place} {each len c g : ℕ} {o : Option Extent} {bytes : List ℕ} → 1 ≤ len
     → Stands old.bytes p each len (table c o) bytes → link_at (bytes_of old.bytes) (place_at p) ≡ Some g
-    → IsChanged current old mid (place_at p + 16) 8 → word_at (bytes_of mid.bytes) (place_at p + 16) ≡ len
+    → IsChanged current old mid (p.handle + (p.at + 16)) 8 → word_at (bytes_of mid.bytes) (p.handle + (p.at + 16)) ≡ len
     → IsShortened current mid new g (each * len) → IsFitted old new p each len (table c o) bytes
 fitted {o = None} some s link c1 word sh = none-some s.words.link link
 fitted {old} {mid} {new} {p} {each} {len} {c} {o = Some x} {bytes} some s link c1 word sh =
@@ -150,9 +148,9 @@ fitted {old} {mid} {new} {p} {each} {len} {c} {o = Some x} {bytes} some s link c
     let q = short l x n (storage-role each c (Some x) s.table) (omega (arith, full, less)) in
     let wide = head-wider p c1 (omega arith) (omega arith) in
     let one = run-headed {k = len} {u = table len (Some x)} (stands-run old s) wide (record {
-      link = SameBut-link m mi (at + 16) 8 at c1.rest (inl (omega arith)) ∙ s.words.link;
-      len_word = SameBut-word m mi (at + 16) 8 (at + 8) c1.rest (inl (omega arith)) ∙ s.words.len_word;
-      capacity = word;
+      link = SameBut-link m mi _ 8 at c1.rest (inl (omega arith)) ∙ s.words.link;
+      len_word = SameBut-word m mi _ 8 (at + 8) c1.rest (inl (omega arith)) ∙ s.words.len_word;
+      capacity = ap (word_at mi) (omega arith) ∙ word;
     }) in
     let r = resized-here {b = mid} {e = new} l {g = handle x} {n = n} (changed-live current old mid at 24 wide) s.own.0
     (subst (λ k. IsShortened current mid new k n) g_is sh) in

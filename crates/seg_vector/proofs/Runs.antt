@@ -8,7 +8,7 @@ use W.{extent_at, has_room, live_of, Table, is_table, serves, same_role, table_l
 use W.{live-rises, written-keeps, word-same, laid-heap, roomy, changed-live, written-but, IsFound, IsNone, SameSpread}
 use W.{all-found-in, all-in-use, found-none, exchanged-live, found-without, IsRoomy, kept, kept-found, exchange-next}
 use W.{exchange-same, spread-refl, exchange-wide, exchange-written, kept-beside, Place, IsOwnBlock, Stands, place_at}
-use W.{IsStorage, SameBut-link, IsSwapped, AreOthers, []}
+use W.{IsStorage, SameBut-link, IsSwapped, AreOthers, [], rising-others}
 
 abbrev pub table : ℕ → Option Extent → Table
 table c o = record { capacity = c; extent = o }
@@ -169,15 +169,51 @@ run-headed {old} {a} {b} {p} {gone} {come} r c w = record {
   words = w;
 }
 
+-- what holds of each of some holds of each of them in other words
+pub all-as : {A : Type 0} → (P Q : A → Type 0) → ((x : A) → P x → Q x) → (xs : List A) → AllByRecursion P xs
+    → AllByRecursion Q xs
+all-as P Q f [] a = tt
+all-as P Q f (x ∷ xs) a = (f x a.0, all-as P Q f xs a.1)
+
 -- the blocks that came are in use
+pub came-found : {a b : Cut} {from n : ℕ} {gone come : List Extent} → IsExchanged current a b from n gone come
+    → AllByRecursion (IsFound (live_of b.bytes).extents) come
+came-found {a} {b} {from} {n} {gone} {come} x =
+    let l = live_of a.bytes in let rest = without_all gone l.extents in
+    let is : (live_of b.bytes).extents ≡ inserted come rest = ap (λ (k : LiveSet). k.extents)
+    (exchanged-live a b from n gone come _ x) in
+    subst (λ (zs : List Extent). AllByRecursion (IsFound zs) come) (sym is)
+    (all-found-in come rest (live-rises (exchanged l gone come) x.live.proper))
+
+-- no two of them are one
+pub came-others : {a b : Cut} {from n : ℕ} {gone come : List Extent} → IsExchanged current a b from n gone come
+    → AreOthers come
+came-others {a} {gone = gone} {come} x = rising-others come (without_all gone (live_of a.bytes).extents)
+    (live-rises (exchanged (live_of a.bytes) gone come) x.live.proper)
+
+-- those that are not gone stay, and are in use still
+pub all-kept : {a b : Cut} {gone come : List Extent} (xs : List Extent) → IsHeap current a.bytes
+    → IsSwapped a b gone come → AllByRecursion (IsFound (live_of a.bytes).extents) xs
+    → AllByRecursion (λ (y : Extent). IsNone (handle y) gone) xs
+    → AllByRecursion (SameBlock (bytes_of a.bytes) (bytes_of b.bytes)) xs
+all-kept [] heap x f n = tt
+all-kept {a} {b} {gone} {come} (y ∷ ys) heap x f n =
+    (kept a b (handle y) y gone come _ heap x f.0 n.0, all-kept ys heap x f.1 n.1)
+
+pub all-found-kept : {a b : Cut} {gone come : List Extent} (xs : List Extent) → IsSwapped a b gone come
+    → AllByRecursion (IsFound (live_of a.bytes).extents) xs → AllByRecursion (λ (y : Extent). IsNone (handle y) gone)
+    xs → AllByRecursion (IsFound (live_of b.bytes).extents) xs
+all-found-kept [] x f n = tt
+all-found-kept {a} {b} {gone} {come} (y ∷ ys) x f n =
+    (kept-found a b 0 0 (handle y) y gone come _ x f.0 n.0, all-found-kept ys x f.1 n.1)
+
+pub none-of-none : (xs : List Extent) → AllByRecursion (λ (w : Extent). IsNone (handle w) []) xs
+none-of-none [] = tt
+none-of-none (x ∷ xs) = (tt, none-of-none xs)
+
 pub run-found : {old now : Cut} {p : Place} {gone come : List Extent} {n : ℕ} {t : Table}
     → IsRun old now p gone come n t → AllByRecursion (IsFound (live_of now.bytes).extents) come
-run-found {old} {now} {gone} {come} r =
-    let l = live_of old.bytes in let rest = without_all gone l.extents in
-    let is : (live_of now.bytes).extents ≡ inserted come rest = ap (λ (k : LiveSet). k.extents)
-    (exchanged-live old now _ 24 gone come _ r.change) in
-    subst (λ (zs : List Extent). AllByRecursion (IsFound zs) come) (sym is)
-    (all-found-in come rest (live-rises (exchanged l gone come) r.change.live.proper))
+run-found r = came-found r.change
 
 -- none of the blocks that came is the head's
 pub run-none : {first now : Cut} {p : Place} {gone come : List Extent} {n : ℕ} {t : Table} → IsHead first p
@@ -204,7 +240,7 @@ pub own-facts : (l : LiveSet) (h : ℕ) (o : Option Extent) → IsOwnBlock l h o
 own-facts l h None own = (tt, tt, tt)
 own-facts l h (Some x) own = ((tt, tt), (own.0, tt), ((λ e. own.1 (sym e)), tt))
 
-facts-own : (l : LiveSet) (h : ℕ) (o : Option Extent) → AllByRecursion (IsFound l.extents) (option_to_list o)
+pub facts-own : (l : LiveSet) (h : ℕ) (o : Option Extent) → AllByRecursion (IsFound l.extents) (option_to_list o)
     → IsNone h (option_to_list o) → IsOwnBlock l h o
 facts-own l h None f n = tt
 facts-own l h (Some x) f n = (f.0, λ e. n.0 (sym e))

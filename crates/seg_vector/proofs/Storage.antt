@@ -1,23 +1,22 @@
 -- The storage of a container that stands at a place: regrown, written in, and read.
 use Rattle.seg_vector.proofs.Words as W
 use W.{◌≡◌, refl, sym, ap, subst, ◌∙◌, inl, inr, ℕ, ◌+◌, ◌*◌, ◌%◌, ◌<◌, ◌≤◌, Bool, true, false, Option, Some, None}
-use W.{List, ◌∷◌, length, arith, if◌then◌else◌, cond, ◌⊎◌, ◌==◌, ◌++◌, length-append, max, ◌-◌, take, drop, ◌&&◌}
-use W.{append-nil, IsTrue, IfSome, nat_lt, option_map, option_to_list, find, nat_le, AllByRecursion, list_any, eqb-true}
-use W.{and_from, and_parts, leb-true, le-leb, lt-leb, lt-ltb, ltb-true, or_cases, or_left, or_right, eq-eqb}
-use W.{length-take, length-drop, take-take, Memory, Cut, SameBut, Has, bytes_of, read, word_at, patched, read-part}
-use W.{SameBut-word, link_at, Storage, current, CarriesOver, IsGivenRoom, IsNotGivenRoom, block_of, exchanged}
-use W.{without_all, IsExchanged, IsRegrown, Extent, LiveSet, handle, holds, end_of, is_block, is_hole, proper_from}
-use W.{others, resized, longer, place, is_extent, shorter, IsChanged, IsHeap, LaysOut, extent_at, has_room, live_of}
-use W.{is_live_in, payload_at, Table, is_table, serves, same_role, table_link, IsSound, all_of-insert, found-room}
-use W.{live-sound, read-same, room_block, laid-heap, all-same-but, changed-live, regrow-serves, in_use-all}
-use W.{block_payload, room-less, IfSome_is, all_keep_proper, legal_size, too_long, spread-refl, exchange-next}
-use W.{is_legal_size, Place, IsGrown, IsOwnBlock, Stands, place_at, IsWithoutSpace, IsStorage}
-use W.{capacity_for_one, IsRewritten, IsSwapped, SameBut-link, Refusal, NoSpace, []}
+use W.{List, ◌∷◌, length, arith, if◌then◌else◌, ◌⊎◌, ◌==◌, ◌++◌, length-append, max, ◌-◌, take, drop, ◌&&◌, append-nil}
+use W.{IsTrue, IfSome, nat_lt, option_map, option_to_list, nat_le, AllByRecursion, list_any, eqb-true, and_from}
+use W.{and_parts, leb-true, le-leb, lt-leb, lt-ltb, ltb-true, or_cases, or_left, or_right, eq-eqb, length-take}
+use W.{length-drop, take-take, Memory, Cut, SameBut, Has, bytes_of, read, word_at, patched, read-part, SameBut-word}
+use W.{link_at, Storage, current, CarriesOver, IsGivenRoom, IsNotGivenRoom, block_of, exchanged, without_all}
+use W.{IsExchanged, IsRegrown, Extent, LiveSet, handle, holds, end_of, is_block, is_hole, proper_from, others, resized}
+use W.{longer, place, shorter, IsChanged, IsHeap, LaysOut, extent_at, has_room, live_of, is_live_in, payload_at, Table}
+use W.{is_table, serves, same_role, table_link, IsSound, all_of-insert, found-room, live-sound, read-same, room_block}
+use W.{laid-heap, all-same-but, changed-live, regrow-serves, in_use-all, block_payload, room-less, IfSome_is}
+use W.{all_keep_proper, legal_size, too_long, spread-refl, exchange-next, is_legal_size, Place, IsGrown, IsOwnBlock}
+use W.{Stands, place_at, IsWithoutSpace, IsStorage, capacity_for_one, IsRewritten, IsSwapped, SameBut-link, Refusal}
+use W.{NoSpace, [], changed-room, nil_from_length, take-nil, hole-order}
 use Rattle.seg_vector.proofs.Runs.{IsRun, beside-head, block-written, changed-both, head-room, head-wider, len-written}
 use Rattle.seg_vector.proofs.Runs.{none-some, room-head, run-found, run-headed, run-stands, run-swapped, same-some}
 use Rattle.seg_vector.proofs.Runs.{serves-full, spread-nil, stands-none-of, stands-run, table, table-full}
-use Rattle.seg_vector.proofs.Bytes.{more-times, no-bytes, Has-append, Has-take, Has-drop, Has-beside, Has-patched}
-use Rattle.seg_vector.proofs.Bytes.{length-patch, take-none}
+use Rattle.seg_vector.proofs.Bytes.{more-times, Has-append, Has-take, Has-drop, Has-beside, Has-patched, length-patch}
 use Rattle.best_fit.specs.{Extents.is_proper, Fit.regrow}
 use Rattle.seg_vector.specs.Vector.{grown_table}
 
@@ -109,7 +108,7 @@ carried-storage m m' each len c None y bytes t f e h k =
     let short : len ≡ 0 = omega (arith, f, none) in
     let a : each * len ≡ each * 0 = ap (λ n. each * n) short in
     let b : each * 0 ≡ 0 = omega arith in
-    let empty = no-bytes bytes (e ∙ a ∙ b) in
+    let empty = nil_from_length bytes (e ∙ a ∙ b) in
     subst (λ (bs : List ℕ). Has m' (handle y) bs) (sym empty) refl
 carried-storage m m' each len c (Some x) y bytes t f e h k = ap (read m' (handle y)) e ∙ k ∙ ap (read m (handle x))
     (sym e) ∙ h
@@ -148,17 +147,17 @@ pub grows-more : {old mid s1 new : Cut} {p : Place} {each : ℕ} (n : ℕ) {len 
     → t.capacity < n → Stands old.bytes p each len t bytes
     → IsGivenRoom current old mid t.extent (each * n) (each * len) g → IsChanged current mid s1 (place_at p) 8
     → link_at (bytes_of s1.bytes) (place_at p) ≡ Some g
-    → IsChanged current s1 new (place_at p + 16) 8 → word_at (bytes_of new.bytes) (place_at p + 16) ≡ n
+    → IsChanged current s1 new (p.handle + (p.at + 16)) 8 → word_at (bytes_of new.bytes) (p.handle + (p.at + 16)) ≡ n
     → IsGrown old new p each n len t bytes
 grows-more {old} {mid} {s1} {new} {p} {each} n {len} {t} {bytes} more s r c1 link c2 word =
     let l = live_of old.bytes in let ms = bytes_of s1.bytes in let m' = bytes_of new.bytes in
     let at = place_at p in let y = r.extent in let run = grown-run s r in
     let c = changed-both at 24 c1 c2 (omega arith) (omega arith) (omega arith) (omega arith) in
     let done = run-headed {k = len} {u = table n (Some y)} run c (record {
-      link = SameBut-link ms m' (at + 16) 8 at c2.rest (inl (omega arith)) ∙ link ∙ ap (λ k. Some k) r.at;
-      len_word = SameBut-word ms m' (at + 16) 8 (at + 8) c2.rest (inl (omega arith)) ∙ SameBut-word
+      link = SameBut-link ms m' _ 8 at c2.rest (inl (omega arith)) ∙ link ∙ ap (λ k. Some k) r.at;
+      len_word = SameBut-word ms m' _ 8 (at + 8) c2.rest (inl (omega arith)) ∙ SameBut-word
           (bytes_of mid.bytes) ms at 8 (at + 8) c1.rest (inr (omega arith)) ∙ run.words.len_word;
-      capacity = word;
+      capacity = ap (word_at m') (omega arith) ∙ word;
     }) in
     let serving = regrow-serves l t.extent y (each * n) (storage-role each t.capacity t.extent s.table) r.regrown in
     let long = serves-full y (each * n) serving in
@@ -208,16 +207,25 @@ pub capacity-room : (b : List ℕ) (p : Place) → IsTrue (has_room (live_of b) 
     → IsTrue (has_room (live_of b) p.handle (p.at + 16 + 8))
 capacity-room b p room = room-less (live_of b) p.handle (p.at + 24) (p.at + 16 + 8) (omega arith) room
 
--- what shows that a sum within a block fits, and that a word has room
-pub ruleset sizes = (room-small, place-small, stands-small, link-room, len-room, capacity-room)
+-- and so is each of the two of an element
+pub front-room : (l : LiveSet) (h at : ℕ) → IsTrue (has_room l h (at + 16)) → IsTrue (has_room l h (at + 8))
+front-room l h at room = room-less l h (at + 16) (at + 8) (omega arith) room
 
-pub len-read : {b : List ℕ} {p : Place} {each len : ℕ} (k : ℕ) {t : Table} {bytes : List ℕ}
-    → Stands b p each len t bytes → k ≡ word_at (bytes_of b) (place_at p + 8) → k ≡ len
-len-read k s e = e ∙ s.words.len_word
+pub back-room : (l : LiveSet) (h at : ℕ) → IsTrue (has_room l h (at + 16)) → IsTrue (has_room l h (at + 8 + 8))
+back-room l h at room = room-less l h (at + 16) (at + 8 + 8) (omega arith) room
 
-pub capacity-read : {b : List ℕ} {p : Place} {each len : ℕ} (k : ℕ) {t : Table} {bytes : List ℕ}
-    → Stands b p each len t bytes → k ≡ word_at (bytes_of b) (place_at p + 16) → k ≡ t.capacity
-capacity-read k s e = e ∙ s.words.capacity
+-- where bytes are written, there is a heap still, and a block has the room that it had
+pub kept-heap : {old new : Cut} {from n : ℕ} → IsChanged current old new from n → IsHeap current new.bytes
+kept-heap c = laid-heap _ _ c.live
+
+pub kept-room : {old new : Cut} {from n : ℕ} (h k : ℕ) → IsChanged current old new from n
+    → IsTrue (has_room (live_of old.bytes) h k) → IsTrue (has_room (live_of new.bytes) h k)
+kept-room {old} {new} {from} {n} h k c r = changed-room current old new from n h k c r
+
+-- what shows that a word has room, and that a sum within a block fits
+pub ruleset rooms = (link-room, len-room, capacity-room, front-room, back-room, kept-room)
+
+pub ruleset sizes = (room-small, place-small, stands-small, kept-heap, rooms)
 
 pub storage-read : {b : List ℕ} {p : Place} {each len : ℕ} (k : ℕ) {t : Table} {bytes : List ℕ} (storage : Option ℕ)
     → Stands b p each len t bytes → storage ≡ link_at (bytes_of b) (p.handle + p.at)
@@ -225,7 +233,7 @@ pub storage-read : {b : List ℕ} {p : Place} {each len : ℕ} (k : ℕ) {t : Ta
     → IfSome storage (λ g. IsTrue (has_room (live_of b) g (each * k)))
 storage-read {b} {each} k {t} storage s e f =
     subst (λ o. IfSome o (λ g. IsTrue (has_room (live_of b) g (each * k)))) (sym (e ∙ s.words.link))
-    (subst (λ k. IfSome (table_link t) (λ g. IsTrue (has_room (live_of b) g (each * k)))) (sym (len-read k s f))
+    (subst (λ k. IfSome (table_link t) (λ g. IsTrue (has_room (live_of b) g (each * k)))) (sym (f ∙ s.words.len_word))
     (stands-room s))
 
 pub given-of : {old mid : Cut} {p : Place} {each : ℕ} (n : ℕ) {len : ℕ} (k : ℕ) {g : ℕ} {t : Table} {bytes : List ℕ}
@@ -238,7 +246,7 @@ given-of {old} {mid} {each} n {len} k {g} storage s e f r =
     subst (λ o. IsGivenRoom current old mid o (each * n) (each * len) g)
     (ap (block_of (live_of old.bytes)) (e ∙ s.words.link) ∙ stands-block s)
     (subst (λ k. IsGivenRoom current old mid (block_of (live_of old.bytes) storage) (each * n) (each * k) g)
-    (len-read k s f) r)
+    (f ∙ s.words.len_word) r)
 
 pub not_given-of : {old mid : Cut} {p : Place} {each : ℕ} (n : ℕ) {len : ℕ} {t : Table} {bytes : List ℕ}
     (storage : Option ℕ) → Stands old.bytes p each len t bytes
@@ -381,7 +389,7 @@ overwritten {new} {p} {each} {len} {g} i {t} {bytes} more s f e link c1 content 
 cut-storage : {old new : Cut} {p : Place} {each len c : ℕ} (k : ℕ) {o : Option Extent} {bytes : List ℕ}
     → Stands old.bytes p each len (table c o) bytes → k ≤ length bytes → IsChanged current old new (place_at p) 24
     → IsStorage (bytes_of new.bytes) (table c o) (take k bytes)
-cut-storage k {o = None} {bytes} s f c2 = take-none k bytes s.words.storage
+cut-storage k {o = None} {bytes} s f c2 = ap (take k) s.words.storage ∙ take-nil k
 cut-storage {old} {new} {p} {each} {len} {c} k {o = Some x} {bytes} s f c2 =
     let full = table-full each c x s.table in let less = more-times each len c s.fits in let total = s.long in
     let stays = beside-head (handle x) s.heap (room-head old p s.heap s.room) c2 s.own.0 (λ e. s.own.1 (sym e)) in
@@ -466,18 +474,12 @@ read-all c {each} {len} k {g} out s is link e =
 ends : (from : ℕ) (xs : List Extent) (to : ℕ) → to < 1073741824 → IsTrue (proper_from from xs to)
     → (from ≤ to) × AllByRecursion (λ (x : Extent). x.len < 1073741824) xs
 ends from [] to f h = (hole-order from to h, tt)
-  where
-    hole-order : (a b : ℕ) → IsTrue (is_hole a b) → a ≤ b
-    hole-order a b h = grind arith
 ends from (x ∷ xs) to f h =
     let two = and_parts (is_hole from x.offset && is_block x) (proper_from (end_of x) xs to) h in
     let front = and_parts (is_hole from x.offset) (is_block x) two.0 in
     let rest = ends (end_of x) xs to f two.1 in let above = hole-order from x.offset front.0 in
     let below = rest.0 in
     (omega (arith, above, below), (omega (arith, below, f), rest.1))
-  where
-    hole-order : (a b : ℕ) → IsTrue (is_hole a b) → a ≤ b
-    hole-order a b h = grind arith
 
 short-extents : (l : LiveSet) → IsTrue (is_proper l) → AllByRecursion (λ (x : Extent). x.len < 1073741824) l.extents
 unfolding is_proper
@@ -487,16 +489,10 @@ short-extents l p =
     let low = (legal_size l.size two.0).low in
     (ends 128 l.extents (l.size - 16) (omega (arith, high, low)) two.1).1
 
-regrow-longer : (l : LiveSet) (x : Extent) {y : Extent} (n : ℕ) → holds x n ≡ false → longer l x n ≡ Some y
-    → regrow l (Some x) n ≡ Some y
+regrow-moved : (l : LiveSet) (x : Extent) (n : ℕ) (o : Option Extent) → holds x n ≡ false → longer l x n ≡ o
+    → regrow l (Some x) n ≡ (elim o as (λ _. Option Extent) [ Some y ↦ Some y | None ↦ place l n Storage ])
 unfolding regrow
-regrow-longer l x {y} n e f = λ i. if e i then Some x else elim (f i) as (λ _. Option Extent)
-    [ Some y ↦ Some y | None ↦ place l n Storage ]
-
-regrow-placed : (l : LiveSet) (x : Extent) (n : ℕ) → holds x n ≡ false → longer l x n ≡ None
-    → regrow l (Some x) n ≡ place l n Storage
-unfolding regrow
-regrow-placed l x n e f = λ i. if e i then Some x else elim (f i) as (λ _. Option Extent)
+regrow-moved l x n o e f = λ i. if e i then Some x else elim (f i) as (λ _. Option Extent)
     [ Some y ↦ Some y | None ↦ place l n Storage ]
 
 pub regrow-new : (l : LiveSet) (n : ℕ) → regrow l None n ≡ place l n Storage
@@ -506,16 +502,15 @@ regrow-new l n = refl
 none-by : (l : LiveSet) {x : Extent} (n : ℕ) (o : Option Extent) → IsTrue (is_proper l)
     → extent_at l (handle x) ≡ Some x → IsTrue (same_role x.role Storage) → 1073741824 < n → holds x n ≡ false
     → longer l x n ≡ o → place l n Storage ≡ None → regrow l (Some x) n ≡ None
-none-by l {x} n None p found role f e is none = regrow-placed l x n e is ∙ none
+none-by l {x} n None p found role f e is none = regrow-moved l x n None e is ∙ none
 none-by l {x} n (Some y) p found role f e is none =
-    let here : IsTrue (is_extent l x) =
-    subst (λ (o : Option Extent). IsTrue (elim o as (λ _. Bool) [ None ↦ false | Some z ↦ z.len == x.len ]))
+    let here = subst (λ (o : Option Extent). IsTrue (elim o as (λ _. Bool) [ None ↦ false | Some z ↦ z.len == x.len ]))
     (sym found) (eq-eqb x.len x.len refl) in
     let proper = IfSome_is (λ z. IsTrue (is_proper (resized l z))) (longer l x n) y is
     ((all_keep_proper l p).longer x n here) in
     let less = (all_of-insert (λ (z : Extent). z.len < 1073741824) y (others (handle y) l.extents)
     (short-extents (resized l y) proper)).0 in
-    let serving = regrow-serves l (Some x) y n role (regrow-longer l x n e is) in
+    let serving = regrow-serves l (Some x) y n role (regrow-moved l x n (Some y) e is) in
     let long = serves-full y n serving in
     absurd (omega (arith, less, long, f))
 
@@ -570,7 +565,7 @@ extended-not c {p} {each} {len} {k} n {o = None} {bytes} more s f long link =
     let none = eqb-true k 0 s.table in
     let no : n ≡ 0 = omega (arith, f, none) in
     let nothing : each * 0 ≡ 0 = omega arith in
-    let empty = no-bytes more (long ∙ ap (λ j. each * j) no ∙ nothing) in
+    let empty = nil_from_length more (long ∙ ap (λ j. each * j) no ∙ nothing) in
     subst (λ (ws : List ℕ). IsRewritten c c p each (len + n) (table k None) (bytes ++ ws)) (sym empty)
     (subst (λ j. IsRewritten c c p each j (table k None) (bytes ++ [])) (let e : len ≡ len + n = omega (arith, no) in e)
     (subst (λ (ws : List ℕ). IsRewritten c c p each len (table k None) ws) (sym (append-nil bytes))
@@ -702,7 +697,7 @@ pub erase-fits : (c : Cut) {p : Place} {each len : ℕ} (k : ℕ) {g : ℕ} (i :
     → i < word_at (bytes_of c.bytes) (p.handle + p.at + 8) → link_at (bytes_of c.bytes) (place_at p) ≡ Some g
     → Fitting (live_of c.bytes) each i (each * (k - i - 1)) g
 erase-fits c {each} {len} k i s e inside link =
-    let is = len-read k s e in
+    let is = e ∙ s.words.len_word in
     let below : i < len = omega (arith, inside, s.words.len_word) in
     let whole : (i + 1) + (k - i - 1) ≡ len = omega (arith, below, is) in
     let split : each * ((i + 1) + (k - i - 1)) ≡ each * i + each + each * (k - i - 1) = omega arith in
@@ -714,7 +709,7 @@ pub insert-fits : (c : Cut) {p : Place} {each len : ℕ} (k : ℕ) {g : ℕ} (i 
     (bytes_of c.bytes) (p.handle + p.at + 16)
     → link_at (bytes_of c.bytes) (place_at p) ≡ Some g → Fitting (live_of c.bytes) each i (each * (k - i)) g
 insert-fits c {each} {len} k i {t} s e inside space link =
-    let is = len-read k s e in
+    let is = e ∙ s.words.len_word in
     let below : i ≤ len = omega (arith, inside, s.words.len_word) in
     let room : len < t.capacity = omega (arith, space, s.words.len_word, s.words.capacity) in
     let whole : (i + 1) + (k - i) ≡ len + 1 = omega (arith, below, is) in

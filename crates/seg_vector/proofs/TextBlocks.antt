@@ -6,16 +6,16 @@ use W.{Some, None, List, ◌∷◌, ◌++◌, ◌==◌, append_assoc, length, ar
 use W.{drop, Bool, true, false, cond, ◌⊎◌, IsTrue, find, option_to_list, option_map, slice_get, IfSome, AllByRecursion}
 use W.{list_any, flat_map-append, take-take, drop_all, slice_get_within, or_left, or_right, Memory, Cut, bytes_of}
 use W.{word_at, SameBut, Has, current, Storage, link_at, target_of, inserted, without_all, IsExchanged, SameBlockBut}
-use W.{exchanged, Extent, LiveSet, handle, end_of, IsHeap, extent_at, live_of, SameBlock, IsChanged, has_room}
-use W.{is_live_in, payload_at, IsReleased, Table, is_table, no_table, IsFound, IsNone, Rising, SameSpread, all-found-in}
-use W.{all-in-use, found-inserted, found-none, found-room, live-rises, middle-first, rising-others, roomy}
-use W.{spread-behind, all_of-inserted, but-apart, exchanged-live, found-without, inserted-append, laid-heap}
-use W.{without-inserted, kept, kept-found, word-same, block_payload, room_block, exchange-next, exchange-released}
-use W.{exchange-same, spread-refl, IsSound, live-sound, Has-same, SameBut-word, read-part, SameBut-link, Place}
-use W.{IsOwnBlock, place_at, Stands, IsServed, IsSwapped, AreHeldElements, IsHeldElement, AreSameElements}
-use W.{IsSameElement, AreEvenLinks, IsHeldText, IsTexts, text_blocks, IsTextsNow, IsTextElement, AreInArray}
-use W.{IsOwnedText, OwnedText, AreTextLinks, []}
-use Rattle.seg_vector.proofs.Runs.{AreHeadWords, IsHead, IsRun, changed-both, head-exchanged, none-some, same-some}
+use W.{Extent, LiveSet, handle, end_of, IsHeap, extent_at, live_of, SameBlock, IsChanged, has_room, is_live_in}
+use W.{payload_at, IsReleased, Table, is_table, no_table, IsFound, IsNone, Rising, SameSpread, all-found-in, all-in-use}
+use W.{found-inserted, found-none, found-room, live-rises, middle-first, rising-others, roomy, spread-behind}
+use W.{all_of-inserted, but-apart, exchanged-live, found-without, inserted-append, laid-heap, without-inserted, kept}
+use W.{kept-found, word-same, block_payload, room_block, exchange-next, exchange-released, exchange-same, spread-refl}
+use W.{IsSound, live-sound, Has-same, SameBut-word, read-part, SameBut-link, Place, place_at, Stands, IsServed}
+use W.{IsSwapped, AreHeldElements, IsHeldElement, AreSameElements, IsSameElement, AreEvenLinks, IsHeldText, IsTexts}
+use W.{text_blocks, IsTextsNow, IsTextElement, AreInArray, IsOwnedText, OwnedText, AreTextLinks, []}
+use Rattle.seg_vector.proofs.Runs.{AreHeadWords, IsHead, IsRun, changed-both, none-some, same-some, came-found}
+use Rattle.seg_vector.proofs.Runs.{room-head, own-facts, facts-own}
 use Rattle.seg_vector.proofs.Typed.{has-element}
 use Rattle.seg_vector.proofs.{Runs.serves-full, Runs.table, Runs.table-full, Storage.live-if}
 use Rattle.best_fit.specs.Extents.{is_proper}
@@ -24,6 +24,18 @@ use Rattle.best_fit.specs.Extents.{is_proper}
 
 abbrev pub own_blocks : List OwnedText → Table → List Extent
 own_blocks ps t = option_to_list t.extent ++ text_blocks ps
+
+-- ---- lists in parts
+
+pub all-split : {A : Type 0} → (P : A → Type 0) (xs ys : List A) → AllByRecursion P (xs ++ ys)
+    → AllByRecursion P xs × AllByRecursion P ys
+all-split P [] ys a = (tt, a)
+all-split P (x ∷ xs) ys a = let both = all-split P xs ys a.1 in ((a.0, both.0), both.1)
+
+pub all-join : {A : Type 0} → (P : A → Type 0) (xs ys : List A) → AllByRecursion P xs → AllByRecursion P ys
+    → AllByRecursion P (xs ++ ys)
+all-join P [] ys a b = b
+all-join P (x ∷ xs) ys a b = (a.0, all-join P xs ys a.1 b)
 
 -- ---- all of them are in use
 
@@ -38,42 +50,26 @@ pub found-texts : (l : LiveSet) (ps : List OwnedText) → AllByRecursion (IsHeld
 found-texts l [] h = tt
 found-texts l (q ∷ qs) h = found-head l q.bytes q.extent (text_blocks qs) h.0 (found-texts l qs h.1)
 
-found-array : (l : LiveSet) (h : ℕ) (o : Option Extent) (xs : List Extent) → IsOwnBlock l h o
-    → AllByRecursion (IsFound l.extents) xs → AllByRecursion (IsFound l.extents) (option_to_list o ++ xs)
-found-array l h None xs own f = f
-found-array l h (Some x) xs own f = (own.0, f)
-
 pub none-of : (h : ℕ) (xs : List Extent) → AllByRecursion (λ (x : Extent). handle x ≢ h) xs → IsNone h xs
 none-of h [] n = tt
 none-of h (x ∷ xs) n = ((λ e. n.0 (sym e)), none-of h xs n.1)
 
-none-array : (l : LiveSet) (h : ℕ) (o : Option Extent) (xs : List Extent) → IsOwnBlock l h o → IsNone h xs
-    → IsNone h (option_to_list o ++ xs)
-none-array l h None xs own n = n
-none-array l h (Some x) xs own n = ((λ e. own.1 (sym e)), n)
-
 -- The block in which the vector stands, which is none of these; and these are put in among the others.
 pub record AreOwn (c : Cut) (p : Place) (own : List Extent) : Type 0 where
-  pub head : Extent
-  pub found : extent_at (live_of c.bytes) p.handle ≡ Some head
-  pub here : handle head ≡ p.handle
-  pub big : p.at + 24 + 16 ≤ head.len
+  pub head : IsHead c p
   pub none : IsNone p.handle own
   pub is : (live_of c.bytes).extents ≡ inserted own (without_all own (live_of c.bytes).extents)
 
 pub texts-own : (c : Cut) {p : Place} {ps : List OwnedText} {t : Table} → IsTexts c.bytes p ps t
     → AreOwn c p (own_blocks ps t)
 texts-own c {p} {ps} {t} s =
-    let l = live_of c.bytes in let q = roomy c p.handle (p.at + 24) s.heap s.room in
-    let found = found-array l p.handle t.extent (text_blocks ps) s.own (found-texts l ps s.held) in
-    let i = all-in-use (own_blocks ps t) l.extents (live-rises l s.heap.proper) s.others found in
+    let l = live_of c.bytes in let arr = option_to_list t.extent in let tb = text_blocks ps in
+    let facts = own-facts l p.handle t.extent s.own in
+    let found = all-join (IsFound l.extents) arr tb facts.1 (found-texts l ps s.held) in
     record {
-      head = q.extent;
-      found = q.found;
-      here = q.at;
-      big = q.room;
-      none = none-array l p.handle t.extent (text_blocks ps) s.own (none-of p.handle (text_blocks ps) s.apart);
-      is = i.is;
+      head = room-head c p s.heap s.room;
+      none = all-join (λ (z : Extent). p.handle ≢ handle z) arr tb facts.2 (none-of p.handle tb s.apart);
+      is = (all-in-use (own_blocks ps t) l.extents (live-rises l s.heap.proper) s.others found).is;
     }
 
 -- ---- a vector of texts out of its parts
@@ -84,17 +80,11 @@ held-head : (l : LiveSet) (bytes : List ℕ) (o : Option Extent) (xs : List Exte
 held-head l bytes None xs s f = (s, f)
 held-head l bytes (Some x) xs s f = ((f.0, s.0, s.1), f.1)
 
-held-texts : (l : LiveSet) (ps : List OwnedText) → AllByRecursion IsServed ps
+pub held-texts : (l : LiveSet) (ps : List OwnedText) → AllByRecursion IsServed ps
     → AllByRecursion (IsFound l.extents) (text_blocks ps) → AllByRecursion (IsHeldText l) ps
 held-texts l [] s f = tt
 held-texts l (q ∷ qs) s f = let both = held-head l q.bytes q.extent (text_blocks qs) s.0 f in
     (both.0, held-texts l qs s.1 both.1)
-
-own-array : (l : LiveSet) (h : ℕ) (o : Option Extent) (xs : List Extent)
-    → AllByRecursion (IsFound l.extents) (option_to_list o ++ xs) → IsNone h (option_to_list o ++ xs)
-    → IsOwnBlock l h o × (AllByRecursion (IsFound l.extents) xs × IsNone h xs)
-own-array l h None xs f n = (tt, (f, n))
-own-array l h (Some x) xs f n = ((f.0, (λ e. n.0 (sym e))), (f.1, n.1))
 
 pub of-none : (h : ℕ) (xs : List Extent) → IsNone h xs → AllByRecursion (λ (x : Extent). handle x ≢ h) xs
 of-none h [] n = tt
@@ -111,8 +101,9 @@ texts-made b p ps {t} {head} rest heap is found big even table fits words array 
     let up : Rising 128 (inserted own rest) = subst (Rising 128) is (live-rises l heap.proper) in
     let all : AllByRecursion (IsFound l.extents) own = subst (λ (zs : List Extent). AllByRecursion (IsFound zs) own)
     (sym is) (all-found-in own rest up) in
-    let none = found-none p.handle head own rest up found in
-    let parts = own-array l p.handle t.extent (text_blocks ps) all none in
+    let arr = option_to_list t.extent in let tb = text_blocks ps in
+    let founds = all-split (IsFound l.extents) arr tb all in let none = found-none p.handle head own rest up found in
+    let nones = all-split (λ (z : Extent). p.handle ≢ handle z) arr tb none in
     let there : extent_at l p.handle ≡ Some head =
     ap (λ (zs : List Extent). find (λ (w : Extent). handle w == p.handle) zs) is ∙ found-inserted p.handle head own
     rest none found in
@@ -124,9 +115,9 @@ texts-made b p ps {t} {head} rest heap is found big even table fits words array 
       room = found-room l p.handle (p.at + 24) head there big;
       table = table;
       fits = fits;
-      own = parts.0;
-      held = held-texts l ps served parts.1.0;
-      apart = of-none p.handle (text_blocks ps) parts.1.1;
+      own = facts-own l p.handle t.extent founds.0 nones.0;
+      held = held-texts l ps served founds.1;
+      apart = of-none p.handle tb nones.1;
       others = rising-others own rest up;
     }
 
@@ -158,60 +149,7 @@ between-own a m b t =
     subst (λ (xs : List Extent). SameSpread xs (own_blocks (a ++ (m ++ b)) t)) (sym (append_assoc arr tm (ta ++ tb)))
     (subst (λ (xs : List Extent). SameSpread (arr ++ (tm ++ (ta ++ tb))) (arr ++ xs)) (sym (blocks-three a m b)) p)
 
--- ---- lists in parts
-
-pub all-split : {A : Type 0} → (P : A → Type 0) (xs ys : List A) → AllByRecursion P (xs ++ ys)
-    → AllByRecursion P xs × AllByRecursion P ys
-all-split P [] ys a = (tt, a)
-all-split P (x ∷ xs) ys a = let both = all-split P xs ys a.1 in ((a.0, both.0), both.1)
-
-pub all-join : {A : Type 0} → (P : A → Type 0) (xs ys : List A) → AllByRecursion P xs → AllByRecursion P ys
-    → AllByRecursion P (xs ++ ys)
-all-join P [] ys a b = b
-all-join P (x ∷ xs) ys a b = (a.0, all-join P xs ys a.1 b)
-
 -- ---- the texts that stay
-
-pub record IsStaying (l : LiveSet) (m m' : Memory) (h from : ℕ) (x : Extent) : Type 0 where
-  pub found : extent_at l (handle x) ≡ Some x
-  pub other : h ≢ handle x
-  pub but : SameBlockBut m m' from 24 x
-
-staying : (l : LiveSet) (m m' : Memory) (h from : ℕ) (xs : List Extent) → AllByRecursion (IsFound l.extents) xs
-    → AllByRecursion (λ (x : Extent). handle x ≢ h) xs → AllByRecursion (SameBlockBut m m' from 24) xs
-    → AllByRecursion (IsStaying l m m' h from) xs
-staying l m m' h from [] f n s = tt
-staying l m m' h from (x ∷ xs) f n s =
-    (record { found = f.0; other = λ e. n.0 (sym e); but = s.0 }, staying l m m' h from xs f.1 n.1 s.1)
-
-same-staying : {old : Cut} (new : Cut) {p : Place} {own : List Extent} {x : Extent} → IsHeap current old.bytes
-    → AreOwn old p own → IsStaying (live_of old.bytes) (bytes_of old.bytes) (bytes_of new.bytes) p.handle (place_at p) x
-    → SameBlock (bytes_of old.bytes) (bytes_of new.bytes) x
-same-staying {old} new {p} {x} heap o s =
-    but-apart (live_of old.bytes) _ _ _ 24 p.handle (handle x) _ x heap.proper o.found (omega (arith, o.here))
-    (omega (arith, o.here, o.big)) s.other s.found s.but
-
-kept-head : {old : Cut} (new : Cut) {p : Place} {own : List Extent} (bytes : List ℕ) (o : Option Extent)
-    (xs : List Extent) → IsHeap current old.bytes → AreOwn old p own
-    → IsOwnedText (bytes_of old.bytes) (record { bytes = bytes; extent = o })
-    → IsHeldText (live_of old.bytes) (record { bytes = bytes; extent = o })
-    → AllByRecursion (IsStaying (live_of old.bytes) (bytes_of old.bytes) (bytes_of new.bytes) p.handle (place_at p))
-    (option_to_list o ++ xs) → IsOwnedText (bytes_of new.bytes) (record { bytes = bytes; extent = o }) × AllByRecursion
-    (IsStaying (live_of old.bytes) (bytes_of old.bytes) (bytes_of new.bytes) p.handle (place_at p)) xs
-kept-head new bytes None xs heap w t h s = (t, s)
-kept-head {old} new bytes (Some x) xs heap w t h s =
-    let b = same-staying new heap w s.0 in let full = serves-full x (length bytes) h.2 in
-    (Has-same _ _ _ _ (handle x) bytes b.payload (omega arith) (omega (arith, full)) t, s.1)
-
-kept-texts : {old : Cut} (new : Cut) {p : Place} {own : List Extent} (qs : List OwnedText) → IsHeap current old.bytes
-    → AreOwn old p own → AllByRecursion (IsOwnedText (bytes_of old.bytes)) qs
-    → AllByRecursion (IsHeldText (live_of old.bytes)) qs
-    → AllByRecursion (IsStaying (live_of old.bytes) (bytes_of old.bytes) (bytes_of new.bytes) p.handle (place_at p))
-    (text_blocks qs) → AllByRecursion (IsOwnedText (bytes_of new.bytes)) qs
-kept-texts new [] heap w t h s = tt
-kept-texts new (q ∷ qs) heap w t h s =
-    let both = kept-head new q.bytes q.extent (text_blocks qs) heap w t.0 h.0 s in
-    (both.0, kept-texts new qs heap w t.1 h.1 both.1)
 
 served-head : (l : LiveSet) (bytes : List ℕ) (o : Option Extent) → IsHeldText l (record { bytes = bytes; extent = o })
     → IsServed (record { bytes = bytes; extent = o })
@@ -222,32 +160,72 @@ pub served-texts : (l : LiveSet) (qs : List OwnedText) → AllByRecursion (IsHel
 served-texts l [] h = tt
 served-texts l (q ∷ qs) h = (served-head l q.bytes q.extent h.0, served-texts l qs h.1)
 
--- ---- the vector afterwards
+-- a text stays where its block does
+pub same-loose : (m m' : Memory) (bytes : List ℕ) (o : Option Extent)
+    → AllByRecursion (SameBlock m m') (option_to_list o) → IsServed (record { bytes = bytes; extent = o })
+    → IsOwnedText m (record { bytes = bytes; extent = o }) → IsOwnedText m' (record { bytes = bytes; extent = o })
+same-loose m m' bytes None k s w = w
+same-loose m m' bytes (Some x) k s w =
+    let full = serves-full x (length bytes) s.1 in
+    Has-same m m' _ _ (handle x) bytes k.0.payload (omega arith) (omega (arith, full)) w
 
-pub texts-changed : {old new : Cut} {p : Place} (a m m' b : List OwnedText) {t u : Table}
-    → IsTexts old.bytes p (a ++ (m ++ b)) t
-    → IsExchanged current old new (place_at p) 24 (option_to_list t.extent ++ text_blocks m)
-    (option_to_list u.extent ++ text_blocks m') → IsTrue (is_table Storage 16 u) → length (a ++ (m' ++ b)) ≤ u.capacity
-    → AreHeadWords (bytes_of new.bytes) (place_at p) (length (a ++ (m' ++ b))) u
-    → AreInArray (bytes_of new.bytes) u (a ++ (m' ++ b)) → AllByRecursion (IsOwnedText (bytes_of new.bytes)) m'
-    → AllByRecursion IsServed m'
-    → IsTextsNow old new p (option_to_list t.extent ++ text_blocks m) (option_to_list u.extent ++ text_blocks m')
-    (a ++ (m' ++ b)) u
-texts-changed {old} {new} {p} a m m' b {t} {u} s x table fits words array texts served =
+pub owned-same : (m m' : Memory) (qs : List OwnedText) → AllByRecursion (SameBlock m m') (text_blocks qs)
+    → AllByRecursion IsServed qs → AllByRecursion (IsOwnedText m) qs → AllByRecursion (IsOwnedText m') qs
+owned-same m m' [] k s w = tt
+owned-same m m' (q ∷ qs) k s w =
+    let both = all-split (SameBlock m m') (option_to_list q.extent) (text_blocks qs) k in
+    (same-loose m m' q.bytes q.extent both.0 s.0 w.0, owned-same m m' qs both.1 s.1 w.1)
+
+-- blocks stay where the words of the vector are written
+all-apart : {old : Cut} (new : Cut) {p : Place} (xs : List Extent) → IsHeap current old.bytes → IsHead old p
+    → AllByRecursion (IsFound (live_of old.bytes).extents) xs
+    → AllByRecursion (λ (x : Extent). handle x ≢ p.handle) xs
+    → AllByRecursion (SameBlockBut (bytes_of old.bytes) (bytes_of new.bytes) (place_at p) 24) xs
+    → AllByRecursion (SameBlock (bytes_of old.bytes) (bytes_of new.bytes)) xs
+all-apart new [] heap o f n s = tt
+all-apart {old} new {p} (x ∷ xs) heap o f n s = (
+  but-apart (live_of old.bytes) _ _ _ 24 p.handle (handle x) _ x heap.proper o.found (omega (arith, o.here))
+      (omega (arith, o.here, o.big)) (λ e. n.0 (sym e)) f.0 s.0,
+  all-apart new xs heap o f.1 n.1 s.1,
+)
+
+-- the array and some texts among the others
+pub own-parts : (c : Cut) {p : Place} (a m b : List OwnedText) {t : Table} → IsTexts c.bytes p (a ++ (m ++ b)) t
+    → (live_of c.bytes).extents ≡ inserted (option_to_list t.extent ++ text_blocks m)
+    (inserted (text_blocks a ++ text_blocks b) (without_all (own_blocks (a ++ (m ++ b)) t) (live_of c.bytes).extents))
+own-parts c {p} a m b {t} s =
+    let own = own_blocks (a ++ (m ++ b)) t in
+    let w = texts-own c s in
+    let rest = without_all own (live_of c.bytes).extents in
+    w.is ∙ (own-between a m b t).same rest (subst (Rising 128) w.is (live-rises (live_of c.bytes) s.heap.proper))
+    ∙ inserted-append (option_to_list t.extent ++ text_blocks m) (text_blocks a ++ text_blocks b) rest
+
+-- ---- the vector afterwards: the change that all steps come to
+
+pub texts-between : {old new : Cut} {p : Place} {ps : List OwnedText} (qs a m m' b : List OwnedText) {t u : Table}
+    {gone come : List Extent} → ps ≡ a ++ (m ++ b) → qs ≡ a ++ (m' ++ b)
+    → gone ≡ option_to_list t.extent ++ text_blocks m → come ≡ option_to_list u.extent ++ text_blocks m'
+    → IsTexts old.bytes p ps t → IsExchanged current old new (place_at p) 24 gone come
+    → IsTrue (is_table Storage 16 u) → length qs ≤ u.capacity → AreHeadWords (bytes_of new.bytes) (place_at p)
+    (length qs) u → AreInArray (bytes_of new.bytes) u qs → AllByRecursion (IsOwnedText (bytes_of new.bytes)) m'
+    → AllByRecursion IsServed m' → IsTextsNow old new p gone come qs u
+texts-between {old} {new} {p} qs a m m' b {t} {u} {gone} e f g h before change table fits words array texts served =
     let l = live_of old.bytes in let M = bytes_of old.bytes in let M' = bytes_of new.bytes in
+    let out : List Extent = option_to_list t.extent ++ text_blocks m in
+    let into : List Extent = option_to_list u.extent ++ text_blocks m' in
+    let same : List Extent = text_blocks a ++ text_blocks b in
+    let s = subst (λ (xs : List OwnedText). IsTexts old.bytes p xs t) e before in
+    let x : IsExchanged current old new (place_at p) 24 out into =
+    subst (λ (xs : List Extent). IsExchanged current old new (place_at p) 24 xs into) g
+    (subst (IsExchanged current old new (place_at p) 24 gone) h change) in
     let own = own_blocks (a ++ (m ++ b)) t in
     let w = texts-own old s in let rest = without_all own l.extents in
-    let gone : List Extent = option_to_list t.extent ++ text_blocks m in
-    let come : List Extent = option_to_list u.extent ++ text_blocks m' in
-    let same : List Extent = text_blocks a ++ text_blocks b in
-    let up : Rising 128 (inserted own rest) = subst (Rising 128) w.is (live-rises l s.heap.proper) in
-    let parts : l.extents ≡ inserted gone (inserted same rest) = w.is ∙ (own-between a m b t).same rest up
-    ∙ inserted-append gone same rest in
-    let stay : without_all gone l.extents ≡ inserted same rest = ap (without_all gone) parts ∙ without-inserted 128
-    gone (inserted same rest) (subst (Rising 128) parts (live-rises l s.heap.proper)) in
+    let parts = own-parts old a m b s in
+    let stay : without_all out l.extents ≡ inserted same rest = ap (without_all out) parts ∙ without-inserted 128
+    out (inserted same rest) (subst (Rising 128) parts (live-rises l s.heap.proper)) in
     let heap = laid-heap _ _ x.live in
-    let now : (live_of new.bytes).extents ≡ inserted (come ++ same) rest = ap (λ (k : LiveSet). k.extents)
-    (exchanged-live old new _ 24 gone come _ x) ∙ ap (inserted come) stay ∙ sym (inserted-append come same rest) in
+    let now : (live_of new.bytes).extents ≡ inserted (into ++ same) rest = ap (λ (k : LiveSet). k.extents)
+    (exchanged-live old new _ 24 out into _ x) ∙ ap (inserted into) stay ∙ sym (inserted-append into same rest) in
     let is : (live_of new.bytes).extents ≡ inserted (own_blocks (a ++ (m' ++ b)) u) rest =
     now ∙ (between-own a m' b u).same rest (subst (Rising 128) now (live-rises (live_of new.bytes) heap.proper)) in
     let blocks = all-split (SameBlockBut M M' (place_at p) 24) (text_blocks a) (text_blocks b)
@@ -260,46 +238,20 @@ texts-changed {old} {new} {p} a m m' b {t} {u} s x table fits words array texts 
     let apart = all-split (λ (z : Extent). handle z ≢ p.handle) (text_blocks a) (text_blocks m ++ text_blocks b)
     (subst (AllByRecursion (λ (z : Extent). handle z ≢ p.handle)) (blocks-three a m b) s.apart) in
     let apart_b = (all-split (λ (z : Extent). handle z ≢ p.handle) (text_blocks m) (text_blocks b) apart.1).1 in
-    let ta = kept-texts new a s.heap w owned.0 held.0
-    (staying l M M' p.handle (place_at p) (text_blocks a) (found-texts l a held.0) apart.0 blocks.0) in
-    let tb = kept-texts new b s.heap w owned_b held_b
-    (staying l M M' p.handle (place_at p) (text_blocks b) (found-texts l b held_b) apart_b blocks.1) in
+    let sa = served-texts l a held.0 in let sb = served-texts l b held_b in
+    let ta = owned-same M M' a (all-apart new (text_blocks a) s.heap w.head (found-texts l a held.0) apart.0 blocks.0)
+    sa owned.0 in
+    let tb = owned-same M M' b (all-apart new (text_blocks b) s.heap w.head (found-texts l b held_b) apart_b blocks.1)
+    sb owned_b in
     let all = all-join (IsOwnedText M') a (m' ++ b) ta (all-join (IsOwnedText M') m' b texts tb) in
-    let good = all-join IsServed a (m' ++ b) (served-texts l a held.0)
-    (all-join IsServed m' b served (served-texts l b held_b)) in
+    let good = all-join IsServed a (m' ++ b) sa (all-join IsServed m' b served sb) in
     record {
-      change = x;
-      texts = texts-made new.bytes p (a ++ (m' ++ b)) rest heap is
-          (found-without p.handle _ own l.extents w.none w.found) w.big s.aligned table fits words array all good;
+      change = change;
+      texts = texts-made new.bytes p qs rest heap
+          (is ∙ ap (λ (xs : List OwnedText). inserted (own_blocks xs u) rest) (sym f))
+          (found-without p.handle _ own l.extents w.none w.head.found) w.head.big s.aligned table fits words array
+          (subst (AllByRecursion (IsOwnedText M')) (sym f) all) (subst (AllByRecursion IsServed) (sym f) good);
     }
-
--- ---- the head of a vector of texts, its three words and the block that they stand in, through the steps of a call;
--- and the change
--- that all of them come to.
-
--- ---- the head
-
-pub own-head : {c : Cut} {p : Place} {own : List Extent} → AreOwn c p own → IsHead c p
-own-head w = record { block = w.head; found = w.found; here = w.here; big = w.big }
-
--- ---- the change that all steps come to
-
-pub texts-between : {old new : Cut} {p : Place} {ps : List OwnedText} (qs a m m' b : List OwnedText) {t u : Table}
-    {gone come : List Extent} → ps ≡ a ++ (m ++ b) → qs ≡ a ++ (m' ++ b)
-    → gone ≡ option_to_list t.extent ++ text_blocks m → come ≡ option_to_list u.extent ++ text_blocks m'
-    → IsTexts old.bytes p ps t → IsExchanged current old new (place_at p) 24 gone come
-    → IsTrue (is_table Storage 16 u) → length qs ≤ u.capacity → AreHeadWords (bytes_of new.bytes) (place_at p)
-    (length qs) u → AreInArray (bytes_of new.bytes) u qs → AllByRecursion (IsOwnedText (bytes_of new.bytes)) m'
-    → AllByRecursion IsServed m' → IsTextsNow old new p gone come qs u
-texts-between {old} {new} {p} qs a m m' b {t} {u} {gone} e f g h s x table fits words array texts served =
-    let r = texts-changed {old = old} {new = new} {p = p} a m m' b {t = t} {u = u}
-    (subst (λ (xs : List OwnedText). IsTexts old.bytes p xs t) e s)
-    (subst (λ (xs : List Extent). IsExchanged current old new (place_at p) 24 xs
-    (option_to_list u.extent ++ text_blocks m')) g (subst (IsExchanged current old new (place_at p) 24 gone) h x))
-    table (subst (λ (xs : List OwnedText). length xs ≤ u.capacity) f fits)
-    (subst (λ (xs : List OwnedText). AreHeadWords (bytes_of new.bytes) (place_at p) (length xs) u) f words)
-    (subst (AreInArray (bytes_of new.bytes) u) f array) texts served in
-    record { change = x; texts = subst (λ (xs : List OwnedText). IsTexts new.bytes p xs u) (sym f) r.texts }
 
 -- ---- without a place
 
@@ -318,11 +270,6 @@ none-stands s = record {
   others = tt;
 }
 
-pub texts-started : {old new : Cut} {p : Place} → IsHeap current old.bytes
-    → IsTrue (has_room (live_of old.bytes) p.handle (p.at + 24)) → IsChanged current old new (place_at p) 24
-    → Stands new.bytes p 16 0 no_table [] → IsTextsNow old new p [] [] [] no_table
-texts-started {p} heap r c s = record { change = head-exchanged p heap r c; texts = none-stands s }
-
 -- ---- one of many
 
 pub each-at : (P : OwnedText → Type 0) (ps : List OwnedText) (i : ℕ) {q : OwnedText} → AllByRecursion P ps
@@ -331,25 +278,28 @@ each-at P [] i a e = absurd (cc)
 each-at P (x ∷ xs) zero {q} a e = let same : x ≡ q = cc in subst P same a.0
 each-at P (x ∷ xs) (suc i) a e = each-at P xs i a.1 e
 
+pub drop-at : (ps : List OwnedText) (i : ℕ) {q : OwnedText} → slice_get ps i ≡ Some q → drop i ps ≡ q ∷ drop (suc i) ps
+drop-at [] i e = absurd (cc)
+drop-at (x ∷ xs) zero {q} e = let same : x ≡ q = cc in ap (λ (y : OwnedText). y ∷ xs) same
+drop-at (x ∷ xs) (suc i) e = drop-at xs i e
+
+pub links-split : (m : Memory) (at : ℕ) (xs ys : List OwnedText) → AreTextLinks m at (xs ++ ys)
+    → AreTextLinks m at xs × AreTextLinks m (at + 16 * length xs) ys
+links-split m at [] ys l = let e : at ≡ at + 16 * 0 = omega arith in (tt, subst (λ k. AreTextLinks m k ys) e l)
+links-split m at (x ∷ xs) ys l =
+    let r = links-split m (at + 16) xs ys l.2 in
+    let e : at + 16 + 16 * length xs ≡ at + 16 * suc (length xs) = omega arith in
+    ((l.0, l.1, r.0), subst (λ k. AreTextLinks m k ys) e r.1)
+
 pub links-at : (m : Memory) (at : ℕ) (ps : List OwnedText) (i : ℕ) {q : OwnedText} → AreTextLinks m at ps
     → slice_get ps i ≡ Some q
     → (link_at m (at + 16 * i) ≡ option_map handle q.extent) × (word_at m (at + 16 * i + 8) ≡ length q.bytes)
-links-at m at [] i a e = absurd (cc)
-links-at m at (x ∷ xs) zero {q} a e =
-    let same : x ≡ q = cc in
-    let here : at ≡ at + 16 * 0 = omega arith in (
-      subst (λ k. link_at m k ≡ option_map handle q.extent) here
-          (subst (λ (y : OwnedText). link_at m at ≡ option_map handle y.extent) same a.0),
-      subst (λ k. word_at m (k + 8) ≡ length q.bytes) here
-          (subst (λ (y : OwnedText). word_at m (at + 8) ≡ length y.bytes) same a.1),
-    )
-links-at m at (x ∷ xs) (suc i) {q} a e =
-    let r = links-at m (at + 16) xs i a.2 e in
-    let here : at + 16 + 16 * i ≡ at + 16 * suc i = omega arith in (
-      subst (λ k. link_at m k ≡ option_map handle q.extent) here r.0,
-      subst (λ k. word_at m (k + 8) ≡ length q.bytes)
-          here r.1,
-    )
+links-at m at ps i {q} a e =
+    let below = slice_get_within ps i q e in
+    let here : at + 16 * length (take i ps) ≡ at + 16 * i = omega (arith, length-take i ps, below) in
+    let parts = links-split m at (take i ps) (drop i ps) (subst (AreTextLinks m at) (sym (take-append-drop i ps)) a) in
+    let first = subst (AreTextLinks m (at + 16 * i)) (drop-at ps i e)
+    (subst (λ k. AreTextLinks m k (drop i ps)) here parts.1) in (first.0, first.1)
 
 -- ---- the element of a text
 
@@ -373,15 +323,11 @@ element-of c {ps} {k} i {o = Some x} {q} s link e =
     }
 
 -- texts have an array
-no-array-in : (c : Cut) {p : Place} {ps : List OwnedText} {k : ℕ} {o : Option Extent}
+pub no-array : (c : Cut) {p : Place} {ps : List OwnedText} {k : ℕ} {o : Option Extent}
     → IsTexts c.bytes p ps (record { capacity = k; extent = o }) → link_at (bytes_of c.bytes) (place_at p) ≡ None
-    → ps ≡ []
-no-array-in c {o = None} s link = s.words.array
-no-array-in c {o = Some x} s link = none-some link s.words.link
-
-pub no-array : (c : Cut) {p : Place} {ps : List OwnedText} {t : Table} → IsTexts c.bytes p ps t
-    → link_at (bytes_of c.bytes) (place_at p) ≡ None → length ps ≡ 0
-no-array c s link = ap length (no-array-in c s link)
+    → length ps ≡ 0
+no-array c {o = None} s link = ap length s.words.array
+no-array c {o = Some x} s link = none-some link s.words.link
 
 -- ---- its bytes
 
@@ -460,11 +406,6 @@ released-none old {o = Some x} s link = none-some link s.link
 
 -- ---- one after another
 
-pub drop-at : (ps : List OwnedText) (i : ℕ) {q : OwnedText} → slice_get ps i ≡ Some q → drop i ps ≡ q ∷ drop (suc i) ps
-drop-at [] i e = absurd (cc)
-drop-at (x ∷ xs) zero {q} e = let same : x ≡ q = cc in ap (λ (y : OwnedText). y ∷ xs) same
-drop-at (x ∷ xs) (suc i) e = drop-at xs i e
-
 pub releases-begin : (c : Cut) {array n : ℕ} {ps : List OwnedText} → AreHeldElements c.bytes array n ps
     → IsSwapped c c (text_blocks ps) (text_blocks ps)
 releases-begin c {ps} s =
@@ -476,21 +417,13 @@ pub element-left : {old now : Cut} {array n : ℕ} (i : ℕ) {ps : List OwnedTex
     → AreHeldElements old.bytes array n ps → slice_get ps i ≡ Some q
     → IsSwapped old now (text_blocks ps) (text_blocks (drop i ps)) → IsHeldElement now.bytes array (16 * i) q
 element-left {old} {now} {array} {n} i {ps} {q} s e x =
-    let l = live_of old.bytes in let gone = text_blocks ps in let come = text_blocks (drop i ps) in
-    let rest = without_all gone l.extents in let none = none-of array gone s.apart in
+    let gone = text_blocks ps in let come = text_blocks (drop i ps) in let none = none-of array gone s.apart in
     let r = roomy old array (16 * n) s.heap s.room in let at = r.at in let big = r.room in
     let below = slice_get_within ps i q e in
     let within : i < n = omega (arith, below, s.long) in
     let stays = kept old now array _ gone come _ s.heap x r.found none in
-    let now_is : (live_of now.bytes).extents ≡ inserted come rest = ap (λ (k : LiveSet). k.extents)
-    (exchanged-live old now 0 0 gone come _ x) in
-    let all : AllByRecursion (IsFound (live_of now.bytes).extents) come =
-    subst (λ (zs : List Extent). AllByRecursion (IsFound zs) come) (sym now_is)
-    (all-found-in come rest (live-rises (exchanged l gone come) x.live.proper)) in
-    let first : AllByRecursion (IsFound (live_of now.bytes).extents)
-    (option_to_list q.extent ++ text_blocks (drop (suc i) ps)) =
-    subst (λ (xs : List OwnedText). AllByRecursion (IsFound (live_of now.bytes).extents) (text_blocks xs))
-    (drop-at ps i e) all in
+    let first = subst (λ (xs : List OwnedText). AllByRecursion (IsFound (live_of now.bytes).extents) (text_blocks xs))
+    (drop-at ps i e) (came-found x) in
     record {
       heap = laid-heap _ _ x.live;
       aligned = omega arith;
@@ -508,8 +441,7 @@ pub releases-next : {old now new : Cut} (i : ℕ) (ps : List OwnedText) {q : Own
 releases-next {old} {now} {new} i ps {q} e x y =
     let count : suc i ≡ i + 1 = omega arith in
     let left = text_blocks (drop (suc i) ps) in
-    let spread : SameSpread (text_blocks (drop i ps)) (option_to_list q.extent ++ left) =
-    subst (λ (xs : List OwnedText). SameSpread (text_blocks xs) (option_to_list q.extent ++ left))
+    let spread = subst (λ (xs : List OwnedText). SameSpread (text_blocks xs) (option_to_list q.extent ++ left))
     (sym (drop-at ps i e)) (spread-refl (option_to_list q.extent ++ left)) in
     subst (λ k. IsSwapped old new (text_blocks ps) (text_blocks (drop k ps))) count
     (exchange-next _ old now new 0 0 _ _ _ left [] spread x y)
@@ -528,31 +460,20 @@ element-in {m} {m'} at s f g = record {
   len_word = word-same m m' _ _ (at + 8) s.payload (omega (arith, f)) (omega (arith, g));
 }
 
+same-at : {m m' : Memory} {a b at to : ℕ} → a ≡ at → b ≡ to → IsSameElement m m' a b → IsSameElement m m' at to
+same-at {m} {m'} {a} {b} {at} {to} e f s =
+    subst (λ k. IsSameElement m m' k to) e (subst (IsSameElement m m' a) f s)
+
 later : (m m' : Memory) (a b n : ℕ) → AreSameElements m m' a b (suc n) → AreSameElements m m' (a + 16) (b + 16) n
-later m m' a b n s j f =
-    let p : a + 16 * suc j ≡ a + 16 + 16 * j = omega arith in
-    let q : b + 16 * suc j ≡ b + 16 + 16 * j = omega arith in
-    subst (λ k. IsSameElement m m' k (b + 16 + 16 * j)) p
-    (subst (IsSameElement m m' (a + 16 * suc j)) q (s (suc j) (omega arith)))
+later m m' a b n s j f = same-at (omega arith) (omega arith) (s (suc j) (omega arith))
 
 -- elements that are put elsewhere
 pub links-moved : (m m' : Memory) (a b : ℕ) (ps : List OwnedText) → AreTextLinks m a ps
     → AreSameElements m m' a b (length ps) → AreTextLinks m' b ps
 links-moved m m' a b [] l s = tt
 links-moved m m' a b (q ∷ qs) l s =
-    let p : a + 16 * 0 ≡ a = omega arith in
-    let r : b + 16 * 0 ≡ b = omega arith in
-    let e : IsSameElement m m' a b = subst (λ k. IsSameElement m m' k b) p
-    (subst (IsSameElement m m' (a + 16 * 0)) r (s 0 (omega arith))) in
+    let e : IsSameElement m m' a b = same-at (omega arith) (omega arith) (s 0 (omega arith)) in
     (e.link ∙ l.0, e.len_word ∙ l.1, links-moved m m' (a + 16) (b + 16) qs l.2 (later m m' a b (length qs) s))
-
-pub links-split : (m : Memory) (at : ℕ) (xs ys : List OwnedText) → AreTextLinks m at (xs ++ ys)
-    → AreTextLinks m at xs × AreTextLinks m (at + 16 * length xs) ys
-links-split m at [] ys l = let e : at ≡ at + 16 * 0 = omega arith in (tt, subst (λ k. AreTextLinks m k ys) e l)
-links-split m at (x ∷ xs) ys l =
-    let r = links-split m (at + 16) xs ys l.2 in
-    let e : at + 16 + 16 * length xs ≡ at + 16 * suc (length xs) = omega arith in
-    ((l.0, l.1, r.0), subst (λ k. AreTextLinks m k ys) e r.1)
 
 pub links-join : (m : Memory) (at : ℕ) (xs ys : List OwnedText) → AreTextLinks m at xs
     → AreTextLinks m (at + 16 * length xs) ys → AreTextLinks m at (xs ++ ys)
@@ -580,17 +501,6 @@ links-edited {m} {m'} g {at} {to} {n} ps i j zs f h a b c l front mid back =
 
 -- ---- it begins
 
--- the array and some texts among the others
-pub own-parts : (c : Cut) {p : Place} (a m b : List OwnedText) {t : Table} → IsTexts c.bytes p (a ++ (m ++ b)) t
-    → (live_of c.bytes).extents ≡ inserted (option_to_list t.extent ++ text_blocks m)
-    (inserted (text_blocks a ++ text_blocks b) (without_all (own_blocks (a ++ (m ++ b)) t) (live_of c.bytes).extents))
-own-parts c {p} a m b {t} s =
-    let own = own_blocks (a ++ (m ++ b)) t in
-    let w = texts-own c s in
-    let rest = without_all own (live_of c.bytes).extents in
-    w.is ∙ (own-between a m b t).same rest (subst (Rising 128) w.is (live-rises (live_of c.bytes) s.heap.proper))
-    ∙ inserted-append (option_to_list t.extent ++ text_blocks m) (text_blocks a ++ text_blocks b) rest
-
 pub run-begin : (c : Cut) {p : Place} {ps : List OwnedText} (a m b : List OwnedText) {t : Table} → ps ≡ a ++ (m ++ b)
     → IsTexts c.bytes p ps t
     → IsRun c c p (option_to_list t.extent ++ text_blocks m) (option_to_list t.extent ++ text_blocks m) (length ps) t
@@ -601,7 +511,7 @@ run-begin c {p} a m b {t} e s =
           (inserted (text_blocks a ++ text_blocks b)
           (without_all (own_blocks (a ++ (m ++ b)) t) (live_of c.bytes).extents)) s.heap (own-parts c a m b v);
       heap = s.heap;
-      head = own-head (texts-own c s);
+      head = room-head c p s.heap s.room;
       words = record { link = s.words.link; len_word = s.words.len_word; capacity = s.words.capacity };
     }
 
@@ -696,34 +606,37 @@ element-trans p q = record { link = q.link ∙ p.link; len_word = q.len_word ∙
 
 -- ---- the first one first
 
-below-or : (j i : ℕ) → j < i + 1 → (j < i) ⊎ (j ≡ i)
-below-or j i f = grind arith
-
 pub source-stays : {old now : Cut} (a : ℕ) {b : ℕ} (i n : ℕ) → IsChanged current old now b (16 * i)
     → (b ≤ a) ⊎ (a + 16 * n ≤ b) → i < n → IsSameElement (bytes_of old.bytes) (bytes_of now.bytes) (a + 16 * i)
     (a + 16 * i)
 source-stays a i n c (inl f) below = element-beside (a + 16 * i) c.rest (inr (omega arith))
 source-stays a i n c (inr f) below = element-beside (a + 16 * i) c.rest (inl (omega arith))
 
-pub carried-changed : {old now new : Cut} {b : ℕ} (i : ℕ) → IsChanged current old now b (16 * i)
-    → IsChanged current now new (b + 16 * i) 16 → IsChanged current old new b (16 * (i + 1))
-carried-changed {b} i c d = changed-both b (16 * (i + 1)) c d (omega arith) (omega arith) (omega arith) (omega arith)
+pub carried-changed : {old now new : Cut} {b to : ℕ} (i : ℕ) → IsChanged current old now b (16 * i)
+    → to ≡ b + 16 * i → IsChanged current now new to 16 → IsChanged current old new b (16 * (i + 1))
+carried-changed {b} i c e d =
+    changed-both b (16 * (i + 1)) c d (omega arith) (omega arith) (omega (arith, e)) (omega (arith, e))
 
-carried-at : (old : Cut) {now new : Cut} (a b i n j : ℕ) → AreSameElements (bytes_of old.bytes) (bytes_of now.bytes) a
-    b i → IsChanged current now new (b + 16 * i) 16
-    → IsSameElement (bytes_of old.bytes) (bytes_of new.bytes) (a + 16 * i) (b + 16 * i) → (j < i) ⊎ (j ≡ i)
-    → IsSameElement (bytes_of old.bytes) (bytes_of new.bytes) (a + 16 * j) (b + 16 * j)
-carried-at old a b i n j s d e (inl f) = element-trans (s j f) (element-beside (b + 16 * j) d.rest (inl (omega arith)))
-carried-at old {new} a b i n j s d e (inr f) =
-    subst (λ k. IsSameElement (bytes_of old.bytes) (bytes_of new.bytes) (a + 16 * k) (b + 16 * k)) (sym f) e
+-- one more is put in its place
+one-more : {m m' m'' : Memory} {at to : ℕ} (a b k j : ℕ)
+    → (j ≢ k → IsSameElement m m' (a + 16 * j) (b + 16 * j)) → SameBut m' m'' to 16 → IsSameElement m m'' at to
+    → at ≡ a + 16 * k → to ≡ b + 16 * k → (j < k) ⊎ ((k < j) ⊎ (j ≡ k)) → IsSameElement m m'' (a + 16 * j) (b + 16 * j)
+one-more a b k j s d e from is (inl f) = element-trans (s (λ g. omega (arith, f, g)))
+    (element-beside (b + 16 * j) d (inl (omega (arith, f, is))))
+one-more a b k j s d e from is (inr (inl f)) = element-trans (s (λ g. omega (arith, f, g)))
+    (element-beside (b + 16 * j) d (inr (omega (arith, f, is))))
+one-more a b k j s d e from is (inr (inr f)) = same-at (omega (arith, f, from)) (omega (arith, f, is)) e
 
-pub carried-next : {old now new : Cut} (a : ℕ) {b : ℕ} (i n : ℕ)
+sides : (j k : ℕ) → (j < k) ⊎ ((k < j) ⊎ (j ≡ k))
+sides j k = grind arith
+
+pub carried-next : {old now new : Cut} {at to : ℕ} (a : ℕ) {b : ℕ} (i n : ℕ)
     → AreSameElements (bytes_of old.bytes) (bytes_of now.bytes) a b i → IsChanged current old now b (16 * i)
-    → (b ≤ a) ⊎ (a + 16 * n ≤ b) → i < n
-    → IsChanged current now new (b + 16 * i) 16 → IsSameElement (bytes_of now.bytes) (bytes_of new.bytes) (a + 16 * i)
-    (b + 16 * i) → AreSameElements (bytes_of old.bytes) (bytes_of new.bytes) a b (i + 1)
-carried-next {old} a {b} i n s c apart below d e j under = carried-at old a b i n j s d
-    (element-trans (source-stays a i n c apart below) e) (below-or j i under)
+    → (b ≤ a) ⊎ (a + 16 * n ≤ b) → i < n → at ≡ a + 16 * i → to ≡ b + 16 * i
+    → IsChanged current now new to 16 → IsSameElement (bytes_of now.bytes) (bytes_of new.bytes) at to
+    → AreSameElements (bytes_of old.bytes) (bytes_of new.bytes) a b (i + 1)
+carried-next a {b} i n s c apart below from is d e j under = one-more a b i j (λ g. s j (omega (arith, g, under)))
+    d.rest (element-trans (same-at (sym from) (sym from) (source-stays a i n c apart below)) e) from is (sides j i)
 
 pub even-now : {m m' : Memory} (a n i : ℕ) → AreEvenLinks m a n → i < n → IsSameElement m m' (a + 16 * i) (a + 16 * i)
     → IfSome (link_at m' (a + 16 * i)) (λ target. target % 16 ≡ 0)
@@ -739,28 +652,17 @@ pub up-source : {old now : Cut} (a k i n : ℕ) → k + (i + 1) ≡ n → IsChan
     (16 * i) → IsSameElement (bytes_of old.bytes) (bytes_of now.bytes) (a + 16 * k) (a + 16 * k)
 up-source a k i n e c = element-beside (a + 16 * k) c.rest (inl (omega arith))
 
-pub up-changed : {old now new : Cut} (a k i n : ℕ) → k + (i + 1) ≡ n
-    → IsChanged current old now (a + 16 + 16 * (n - i)) (16 * i) → IsChanged current now new (a + 16 + 16 * k) 16
-    → IsChanged current old new (a + 16 + 16 * (n - (i + 1))) (16 * (i + 1))
-up-changed a k i n e c d =
-    changed-both (a + 16 + 16 * (n - (i + 1))) (16 * (i + 1)) c d (omega arith) (omega arith) (omega arith)
-    (omega arith)
+pub up-changed : {old now new : Cut} {to : ℕ} (a k i n : ℕ) → k + (i + 1) ≡ n
+    → IsChanged current old now (a + 16 + 16 * (n - i)) (16 * i) → to ≡ a + 16 + 16 * k
+    → IsChanged current now new to 16 → IsChanged current old new (a + 16 + 16 * (n - (i + 1))) (16 * (i + 1))
+up-changed a k i n e c is d = changed-both (a + 16 + 16 * (n - (i + 1))) (16 * (i + 1)) c d (omega arith) (omega arith)
+    (omega (arith, e, is)) (omega (arith, e, is))
 
-from-or : (k j : ℕ) → k ≤ j → (k + 1 ≤ j) ⊎ (j ≡ k)
-from-or k j f = grind arith
-
-up-at : (old : Cut) {now new : Cut} (a k i n j : ℕ) → k + (i + 1) ≡ n → AreUp (bytes_of old.bytes) (bytes_of now.bytes)
-    a (n - i) n → IsChanged current now new (a + 16 + 16 * k) 16
-    → IsSameElement (bytes_of old.bytes) (bytes_of new.bytes) (a + 16 * k) (a + 16 + 16 * k) → j < n
-    → (k + 1 ≤ j) ⊎ (j ≡ k) → IsSameElement (bytes_of old.bytes) (bytes_of new.bytes) (a + 16 * j) (a + 16 + 16 * j)
-up-at old a k i n j is s d e below (inl f) = element-trans (s j (omega arith) below)
-    (element-beside (a + 16 + 16 * j) d.rest (inr (omega arith)))
-up-at old {new} a k i n j is s d e below (inr f) =
-    subst (λ w. IsSameElement (bytes_of old.bytes) (bytes_of new.bytes) (a + 16 * w) (a + 16 + 16 * w)) (sym f) e
-
-pub up-next : {old now new : Cut} (a k i n : ℕ) → k + (i + 1) ≡ n → AreUp (bytes_of old.bytes) (bytes_of now.bytes) a
-    (n - i) n → IsChanged current old now (a + 16 + 16 * (n - i)) (16 * i)
-    → IsChanged current now new (a + 16 + 16 * k) 16 → IsSameElement (bytes_of now.bytes) (bytes_of new.bytes)
-    (a + 16 * k) (a + 16 + 16 * k) → AreUp (bytes_of old.bytes) (bytes_of new.bytes) a (n - (i + 1)) n
-up-next {old} a k i n is s c d e j low below = up-at old a k i n j is s d
-    (element-trans (up-source a k i n is c) e) below (from-or k j (omega (arith, is, low)))
+pub up-next : {old now new : Cut} {at to : ℕ} (a k i n : ℕ) → k + (i + 1) ≡ n
+    → AreUp (bytes_of old.bytes) (bytes_of now.bytes) a (n - i) n
+    → IsChanged current old now (a + 16 + 16 * (n - i)) (16 * i) → at ≡ a + 16 * k → to ≡ a + 16 + 16 * k
+    → IsChanged current now new to 16 → IsSameElement (bytes_of now.bytes) (bytes_of new.bytes) at to
+    → AreUp (bytes_of old.bytes) (bytes_of new.bytes) a (n - (i + 1)) n
+up-next a k i n is s c from to d e j low below =
+    one-more a (a + 16) k j (λ g. s j (omega (arith, g, is, low)) below) d.rest
+    (element-trans (same-at (sym from) (sym from) (up-source a k i n is c)) e) from to (sides j k)

@@ -4,22 +4,22 @@ use W.{◌≡◌, ◌≢◌, refl, sym, ap, subst, ◌∙◌, ℕ, ◌+◌, ◌*
 use W.{inl, inr, ◌⊎◌, suc, ◌-◌, ◌<◌, ◌≤◌, length-append, take, drop, zero, ◌%◌, if◌then◌else◌, append_assoc}
 use W.{option_to_list, IsTrue, remove, slice_get, IfSome, ⊤, option_map, slice_set, AllByRecursion, eq-eqb, ne_eqb}
 use W.{length-drop, length-take, take-append-drop, slice_get_within, Memory, Cut, bytes_of, word_at, Has, Same, read}
-use W.{current, link_at, target_of, without_all, exchanged, inserted, Extent, handle, end_of, LiveSet, IsChanged}
-use W.{live_of, SameBlock, IsAllocated, IsHeap, Table, no_table, is_table, SameSpread, exchange-next, exchange-same}
-use W.{exchange-wide, found-room, laid-heap, last-first, spread-refl, IsNone, kept, shorter-IsShorter, word-same}
-use W.{IsFound, all-found-in, allocated-room, exchange-taken, exchanged-live, kept-found, live-rises, place-serves}
-use W.{still_allocated, SameBlock-trans, rising-others, Storage, shorter, place, Has-same, Place, IsGivenBack, IsFitted}
-use W.{Stands, place_at, IsOwnBlock, AreHeldElements, IsSwapped, AreSameElements, IsHeldElement, IsTextPlaced, IsServed}
-use W.{IsTextReplaced, IsTexts, IsTextsNow, text_blocks, IsHeldText, placed_text, AreOthers, AreInArray, IsStorage}
-use W.{OwnedText, AreTextLinks, IsOwnedText, Refusal, IsWithoutFit, []}
-use Rattle.seg_vector.proofs.Runs.{AreHeadWords, IsHead, IsRun, beside-head, block-written, head-exchanged, head-kept}
-use Rattle.seg_vector.proofs.Runs.{head-room, head-wider, len-written, none-some, room-head, run-found, run-headed}
-use Rattle.seg_vector.proofs.Runs.{run-swapped, same-some, serves-full, table, table-full, words-kept}
+use W.{current, link_at, target_of, Extent, handle, end_of, LiveSet, IsChanged, live_of, SameBlock, IsAllocated, IsHeap}
+use W.{Table, no_table, is_table, SameSpread, exchange-next, found-room, laid-heap, last-first, spread-refl, IsNone}
+use W.{kept, shorter-IsShorter, word-same, IsFound, allocated-room, exchange-taken, kept-found, place-serves}
+use W.{still_allocated, SameBlock-trans, Storage, shorter, place, Place, IsGivenBack, IsFitted, Stands, place_at}
+use W.{IsOwnBlock, AreHeldElements, IsSwapped, AreSameElements, IsHeldElement, IsTextPlaced, IsServed, IsTextReplaced}
+use W.{IsTexts, IsTextsNow, text_blocks, placed_text, AreOthers, AreInArray, IsStorage, OwnedText, AreTextLinks}
+use W.{IsOwnedText, Refusal, IsWithoutFit, [], nil_from_length}
+use Rattle.seg_vector.proofs.Runs.{AreHeadWords, IsHead, IsRun, beside-head, block-written, head-kept, head-room}
+use Rattle.seg_vector.proofs.Runs.{head-wider, len-written, none-some, room-head, run-found, run-headed, run-swapped}
+use Rattle.seg_vector.proofs.Runs.{same-some, table, table-full, words-kept, all-as, came-found, came-others, all-kept}
+use Rattle.seg_vector.proofs.Runs.{all-found-kept, none-of-none, spread-nil}
 use Rattle.seg_vector.proofs.TextBlocks.{none-stands, IsArrayLeft, all-split, array-left, drop-at, element-beside}
 use Rattle.seg_vector.proofs.TextBlocks.{element-in, element-trans, even-block, found-texts, held-element, links-edited}
-use Rattle.seg_vector.proofs.TextBlocks.{links-moved, links-split, no-array, none-of, of-none, one-of, own-head}
-use Rattle.seg_vector.proofs.TextBlocks.{own_blocks, run-begin, swapped-none, texts-between, texts-own}
-use Rattle.seg_vector.proofs.{Fewer.cut-some, Typed.set-pieces, Bytes.length-read, Bytes.no-bytes}
+use Rattle.seg_vector.proofs.TextBlocks.{links-moved, no-array, none-of, of-none, one-of, run-begin, swapped-none}
+use Rattle.seg_vector.proofs.TextBlocks.{texts-between, held-texts, served-texts, owned-same, same-loose}
+use Rattle.seg_vector.proofs.{Fewer.cut-some, Typed.set-pieces, Bytes.length-read}
 use Rattle.best_fit.specs.Table.{cut_table}
 
 -- ---- the elements of the array
@@ -42,7 +42,7 @@ held-elements {b} {ps} {c} n {o = Some x} s link e =
 pub released-nothing : (c : Cut) {p : Place} {ps : List OwnedText} {t : Table} → IsTexts c.bytes p ps t
     → link_at (bytes_of c.bytes) (place_at p) ≡ None → IsSwapped c c (text_blocks ps) []
 released-nothing c {ps} s link =
-    let none = no-bytes ps (no-array c s link) in
+    let none = nil_from_length ps (no-array c s link) in
     subst (λ (qs : List OwnedText). IsSwapped c c (text_blocks qs) []) (sym none) (swapped-none c s.heap)
 
 -- ---- no text
@@ -52,37 +52,28 @@ no-links m c None = refl
 no-links m c (Some x) = tt
 
 pub cleared : {old mid new : Cut} {p : Place} {ps : List OwnedText} {t : Table} → IsTexts old.bytes p ps t
-    → IsSwapped old mid (text_blocks ps) [] → IsChanged current mid new (place_at p + 8) 8
-    → word_at (bytes_of new.bytes) (place_at p + 8) ≡ 0
+    → IsSwapped old mid (text_blocks ps) [] → IsChanged current mid new (p.handle + (p.at + 8)) 8
+    → word_at (bytes_of new.bytes) (p.handle + (p.at + 8)) ≡ 0
     → IsTextsNow old new p (option_to_list t.extent ++ text_blocks ps) (option_to_list t.extent) [] t
-cleared {old} {mid} {new} {p} {ps} {t} s x c word =
-    let l = live_of old.bytes in let at = place_at p in let arr = option_to_list t.extent in
-    let tb = text_blocks ps in let own = own_blocks ps t in let w = texts-own old s in let h = own-head w in
-    let none = (all-split (λ (z : Extent). p.handle ≢ handle z) arr tb w.none).1 in
-    let e0 = exchange-same _ old at 24 own (without_all own l.extents) s.heap w.is in
-    let e1 = exchange-next _ old old mid at 24 own own tb arr [] (last-first arr tb) e0
-    (exchange-wide _ old mid at 24 tb [] x) in
-    let heap = laid-heap _ _ x.live in let hm = head-kept h x none in
-    let e2 = head-exchanged p heap (head-room hm) (head-wider p c (omega arith) (omega arith)) in
-    let e3 = exchange-next _ old mid new at 24 own arr [] arr [] (spread-refl arr) e1 e2 in
-    let was : AreHeadWords (bytes_of old.bytes) at (length ps) t =
-    record { link = s.words.link; len_word = s.words.len_word; capacity = s.words.capacity } in
-    let words = len-written 0 refl c.rest word (words-kept s.heap h x none was) in
-    texts-between [] [] ps [] [] (sym (append-nil ps)) refl refl (sym (append-nil arr)) s e3 s.table (omega arith)
-    words (no-links (bytes_of new.bytes) t.capacity t.extent) tt tt
+cleared {old} {new = new} {p} {ps} {t} s x c word =
+    let arr = option_to_list t.extent in let tb = text_blocks ps in
+    let r0 = run-begin old [] ps [] (sym (append-nil ps)) s in
+    let r1 = run-swapped arr (last-first arr tb) r0 x (none-of p.handle tb s.apart) in
+    let r2 = run-headed r1 (head-wider p c (omega arith) (omega arith))
+    (len-written 0 (omega arith) c.rest word r1.words) in
+    texts-between [] [] ps [] [] (sym (append-nil ps)) refl refl (sym (append-nil arr)) s r2.change s.table
+    (omega arith) r2.words (no-links (bytes_of new.bytes) t.capacity t.extent) tt tt
 
 -- ---- no array
 
 pub given-up-all : {old mid new : Cut} {p : Place} {t : Table} {gone : List Extent}
     → IsTextsNow old mid p gone (option_to_list t.extent) [] t → IsGivenBack mid new p 16 t
     → IsTextsNow old new p gone [] [] no_table
-given-up-all {old} {mid} {new} {t} {gone} x g =
+given-up-all {old} {mid} {new} {t = t} {gone} x g =
     let arr = option_to_list t.extent in
-    let spread : SameSpread arr (arr ++ []) = subst (SameSpread arr) (sym (append-nil arr)) (spread-refl arr) in
     record {
-      change = exchange-next _ old mid new _ 24 gone arr arr [] [] spread x.change g.change;
-      texts = none-stands
-          g.stands;
+      change = exchange-next _ old mid new _ 24 gone arr arr [] [] (spread-nil arr) x.change g.change;
+      texts = none-stands g.stands;
     }
 
 -- ---- the word
@@ -90,9 +81,7 @@ given-up-all {old} {mid} {new} {t} {gone} x g =
 pub head-after : {old mid : Cut} {p : Place} {ps : List OwnedText} {t : Table} → IsTexts old.bytes p ps t
     → IsSwapped old mid (text_blocks ps) [] → IsHead mid p
 head-after {old} {p} {ps} {t} s x =
-    let w = texts-own old s in
-    head-kept (own-head w) x (all-split (λ (z : Extent). p.handle ≢ handle z) (option_to_list t.extent)
-    (text_blocks ps) w.none).1
+    head-kept (room-head old p s.heap s.room) x (none-of p.handle (text_blocks ps) s.apart)
 
 -- ---- the list around one text
 
@@ -123,10 +112,10 @@ elements-through a b n k1 s k2 f1 f2 g1 g2 j h = element-trans
     (element-in (b + 16 * j) k2 (omega (arith, g1)) (omega (arith, g2, h)))
 
 -- elements beside those that are written
-pub elements-beside : (m m' : Memory) {old new : Cut} {from k : ℕ} (a n : ℕ) → IsChanged current old new from k
+pub elements-beside : {old new : Cut} {from k : ℕ} (a n : ℕ) → IsChanged current old new from k
     → (a + 16 * n ≤ from) ⊎ (from + k ≤ a) → AreSameElements (bytes_of old.bytes) (bytes_of new.bytes) a a n
-elements-beside m m' a n c (inl f) j h = element-beside (a + 16 * j) c.rest (inl (omega (arith, f, h)))
-elements-beside m m' a n c (inr f) j h = element-beside (a + 16 * j) c.rest (inr (omega (arith, f)))
+elements-beside a n c (inl f) j h = element-beside (a + 16 * j) c.rest (inl (omega (arith, f, h)))
+elements-beside a n c (inr f) j h = element-beside (a + 16 * j) c.rest (inr (omega (arith, f)))
 
 -- ---- the vector afterwards
 
@@ -135,53 +124,44 @@ pub removed-length : (ps : List OwnedText) (i : ℕ) {q : OwnedText} → slice_g
 removed-length ps i {q} e = let below : i < length ps = slice_get_within ps i q e in omega
     (arith, length-append (take i ps) (drop (suc i) ps), length-take i ps, length-drop (suc i) ps, below)
 
-pub text-erased : {s0 s1 s2 s3 : Cut} {p : Place} {ps : List OwnedText} {c g : ℕ} (i : ℕ) {o : Option Extent}
+pub erased-by : {s0 s1 s2 s3 : Cut} {p : Place} {ps : List OwnedText} {c g : ℕ} (i n : ℕ) {o : Option Extent}
     {q : OwnedText} → IsTexts s0.bytes p ps (table c o) → slice_get ps i ≡ Some q
-    → link_at (bytes_of s0.bytes) (place_at p) ≡ Some g
-    → IsSwapped s0 s1 (option_to_list q.extent) [] → IsChanged current s1 s2 (g + 16 * i) (16 * (length ps - i - 1))
-    → AreSameElements (bytes_of s1.bytes) (bytes_of s2.bytes) (g + 16 * i + 16) (g + 16 * i) (length ps - i - 1)
-    → IsChanged current s2 s3 (place_at p + 8) 8 → word_at (bytes_of s3.bytes) (place_at p + 8) ≡ length ps - 1
+    → link_at (bytes_of s0.bytes) (place_at p) ≡ Some g → n ≡ length ps
+    → IsSwapped s0 s1 (option_to_list q.extent) [] → IsChanged current s1 s2 (g + 16 * i) (16 * (n - i - 1))
+    → AreSameElements (bytes_of s1.bytes) (bytes_of s2.bytes) (g + (16 * i + 16)) (g + 16 * i) (n - i - 1)
+    → IsChanged current s2 s3 (p.handle + (p.at + 8)) 8 → word_at (bytes_of s3.bytes) (p.handle + (p.at + 8)) ≡ n - 1
     → IsTextsNow s0 s3 p (option_to_list o ++ option_to_list q.extent) (option_to_list o) (remove ps i) (table c o)
-text-erased i {o = None} s e link x1 c2 m2 c3 word = none-some s.words.link link
-text-erased {s0} {s1} {s2} {s3} {p} {ps} {c} i {o = Some x} {q} s e link x1 c2 m2 c3 word =
-    let t = table c (Some x) in let at = place_at p in
-    let n : ℕ = length ps - i - 1 in
-    let eq = option_to_list q.extent in
+erased-by i n {o = None} s e link n_is x1 c2 m2 c3 word = none-some s.words.link link
+erased-by {s0} {s1} {s2} {s3} {p} {ps} {c} {g} i n {o = Some x} {q} s e link n_is x1 c2 m2 c3 word =
+    let t = table c (Some x) in let eq = option_to_list q.extent in
     let gone : List Extent = x ∷ eq in
     let g_is = same-some (sym link ∙ s.words.link) in let below = slice_get_within ps i q e in
     let fits = s.fits in let full = table-full 16 c x s.table in let apart = text-apart i s e in
     let one = append-nil eq in
-    let r0 : IsRun s0 s0 p gone gone (length ps) t =
-    subst (λ (xs : List Extent). IsRun s0 s0 p (x ∷ xs) (x ∷ xs) (length ps) t) one
+    let r0 = subst (λ (xs : List Extent). IsRun s0 s0 p (x ∷ xs) (x ∷ xs) (length ps) t) one
     (run-begin s0 (take i ps) (q ∷ []) (drop (suc i) ps) (around ps i e) s) in
     let r1 = run-swapped (x ∷ []) (last-first (x ∷ []) eq) r0 x1 apart.head in
-    let found1 = (run-found r1).0 in
-    let c2' : IsChanged current s1 s2 (handle x + 16 * i) (16 * n) =
-    subst (λ k. IsChanged current s1 s2 (k + 16 * i) (16 * n)) g_is c2 in
-    let x2 = block-written (16 * c) r1.heap found1 c2' (omega arith) (omega (arith, below, fits)) full in
+    let x2 = block-written (16 * c) r1.heap (run-found r1).0 c2 (omega (arith, g_is))
+    (omega (arith, g_is, n_is, below, fits)) full in
     let other : p.handle ≢ handle x = λ f. s.own.1 (sym f) in
     let r2 = run-swapped [] (spread-refl (x ∷ [])) r1 x2 (other, tt) in
-    let found2 = (run-found r2).0 in
     let c3' = head-wider p c3 (omega arith) (omega arith) in
-    let r3 = run-headed r2 c3' (len-written (length ps - 1) refl c3.rest word r2.words) in
+    let r3 = run-headed r2 c3' (len-written (n - 1) (omega arith) c3.rest word r2.words) in
     let k1 = kept s0 s1 (handle x) x eq [] _ s.heap x1 s.own.0 apart.array in
-    let k3 = beside-head (handle x) r2.heap r2.head c3' found2 other in
-    let front : AreSameElements (bytes_of s0.bytes) (bytes_of s3.bytes) (handle x) (handle x) i =
-    elements-through (handle x) (handle x) i k1
-    (elements-beside (bytes_of s1.bytes) (bytes_of s2.bytes) (handle x) i c2' (inl (omega arith))) k3 (omega arith)
-    (omega (arith, full, fits, below)) (omega arith) (omega (arith, full, fits, below)) in
-    let moved : AreSameElements (bytes_of s1.bytes) (bytes_of s2.bytes) (handle x + 16 * i + 16) (handle x + 16 * i)
-    n = subst (λ k. AreSameElements (bytes_of s1.bytes) (bytes_of s2.bytes) (k + 16 * i + 16) (k + 16 * i) n) g_is
-    m2 in
-    let back : AreSameElements (bytes_of s0.bytes) (bytes_of s3.bytes) (handle x + 16 * i + 16) (handle x + 16 * i) n =
-    elements-through (handle x + 16 * i + 16) (handle x + 16 * i) n k1 moved k3
-    (omega arith) (omega (arith, full, fits, below)) (omega arith) (omega (arith, full, fits, below)) in
-    let links = links-edited (handle x) ps i (suc i) [] (omega arith) (omega (arith, below)) (omega arith)
-    (omega arith) (omega arith) s.words.array front tt back in
-    let len = removed-length ps i e in
+    let k3 = beside-head (handle x) r2.heap r2.head c3' (run-found r2).0 other in
+    let front = elements-through g g i k1 (elements-beside g i c2 (inl (omega arith))) k3 (omega (arith, g_is))
+    (omega (arith, g_is, full, fits, below)) (omega (arith, g_is)) (omega (arith, g_is, full, fits, below)) in
+    let back = elements-through (g + (16 * i + 16)) (g + 16 * i) (n - i - 1) k1 m2 k3 (omega (arith, g_is))
+    (omega (arith, g_is, n_is, full, fits, below)) (omega (arith, g_is))
+    (omega (arith, g_is, n_is, full, fits, below)) in
+    let links = links-edited g ps i (suc i) [] (omega (arith, below)) (omega (arith, below)) (omega arith)
+    (omega arith) (omega (arith, n_is)) (subst (λ h. AreTextLinks (bytes_of s0.bytes) h ps) (sym g_is) s.words.array)
+    front tt back in
+    let len : n - 1 ≡ length (remove ps i) = omega (arith, n_is, removed-length ps i e) in
     texts-between (remove ps i) (take i ps) (q ∷ []) [] (drop (suc i) ps) {u = t} (around ps i e) refl
-    (ap (λ (xs : List Extent). x ∷ xs) (sym one)) refl s r3.change s.table (omega (arith, len, fits))
-    (subst (λ k. AreHeadWords (bytes_of s3.bytes) at k t) (sym len) r3.words) links tt tt
+    (ap (λ (xs : List Extent). x ∷ xs) (sym one)) refl s r3.change s.table (omega (arith, len, n_is, fits))
+    (subst (λ k. AreHeadWords (bytes_of s3.bytes) (place_at p) k t) len r3.words)
+    (subst (λ h. AreTextLinks (bytes_of s3.bytes) h (remove ps i)) g_is links) tt tt
 
 -- ---- once the block of the text is released
 
@@ -206,23 +186,6 @@ left s0 s1 {p} {ps} {g} i {o = Some x} {q} s e link =
             (room-head s0 p s.heap s.room) y apart.head,
       );
     }
-
--- as the calls say it
-pub erased-by : {s0 s1 s2 s3 : Cut} {p : Place} {ps : List OwnedText} {g : ℕ} (i n : ℕ) {t : Table} {q : OwnedText}
-    → IsTexts s0.bytes p ps t → slice_get ps i ≡ Some q → link_at (bytes_of s0.bytes) (place_at p) ≡ Some g
-    → n ≡ length ps
-    → IsSwapped s0 s1 (option_to_list q.extent) [] → IsChanged current s1 s2 (g + 16 * i) (16 * (n - i - 1))
-    → AreSameElements (bytes_of s1.bytes) (bytes_of s2.bytes) (g + (16 * i + 16)) (g + 16 * i) (n - i - 1)
-    → IsChanged current s2 s3 (p.handle + (p.at + 8)) 8 → word_at (bytes_of s3.bytes) (p.handle + (p.at + 8)) ≡ n - 1
-    → IsTextsNow s0 s3 p (option_to_list t.extent ++ option_to_list q.extent) (option_to_list t.extent) (remove ps i) t
-erased-by {s1} {s2} {s3} {p} {ps} {g} i n s e link is x1 c2 m2 c3 word =
-    let up : g + (16 * i + 16) ≡ g + 16 * i + 16 = omega arith in
-    let at : p.handle + (p.at + 8) ≡ p.handle + p.at + 8 = omega arith in
-    text-erased {s2 = s2} {s3 = s3} i s e link x1
-    (subst (λ k. IsChanged current s1 s2 (g + 16 * i) (16 * (k - i - 1))) is c2) (subst (λ k. AreSameElements (bytes_of s1.bytes) (bytes_of s2.bytes) k (g + 16 * i) (length ps - i - 1)) up
-    (subst (λ k. AreSameElements (bytes_of s1.bytes) (bytes_of s2.bytes) (g + (16 * i + 16)) (g + 16 * i)
-    (k - i - 1)) is m2)) (subst (λ k. IsChanged current s2 s3 k 8) at c3)
-    (subst (λ k. word_at (bytes_of s3.bytes) k ≡ length ps - 1) at (word ∙ ap (λ k. k - 1) is))
 
 -- ---- the array as bytes
 
@@ -304,8 +267,7 @@ cut-links l m m' (q ∷ qs) c (Some x) a h =
     let y = shorter l x (16 * n) in
     let cut = cut-some l 16 n c x (omega arith) in
     let begins : handle y ≡ handle x = ap (λ (z : Extent). handle z) (shorter-IsShorter l x (16 * n)).same in
-    let has : Has m' (handle y) (read m (handle x) (16 * n)) =
-    subst (λ (u : Table). IsStorage m' u (read m (handle x) (16 * n))) cut h in
+    let has = subst (λ (u : Table). IsStorage m' u (read m (handle x) (16 * n))) cut h in
     let is : read m' (handle x) (16 * n) ≡ read m (handle x) (16 * n) =
     ap (read m' (handle x)) (sym (length-read m (handle x) (16 * n)))
     ∙ subst (λ k. Has m' k (read m (handle x) (16 * n))) begins has in
@@ -352,8 +314,8 @@ placed-empty c bytes heap e = record {
   same = refl;
   at = refl;
   change = swapped-none c heap;
-  owned = no-bytes bytes e;
-  served = no-bytes bytes e;
+  owned = nil_from_length bytes e;
+  served = nil_from_length bytes e;
 }
 
 pub placed-some : {old mid new : Cut} (bytes : List ℕ) {h : ℕ} → 0 < length bytes
@@ -388,27 +350,6 @@ not-placed {old} bytes f r = record {
 
 -- ---- the vector beside it
 
-still-head : {a b : Cut} (bytes : List ℕ) (o : Option Extent) {come : List Extent} → IsHeap current a.bytes
-    → IsSwapped a b [] come → IsOwnedText (bytes_of a.bytes) (record { bytes = bytes; extent = o })
-    → IsHeldText (live_of a.bytes) (record { bytes = bytes; extent = o })
-    → IsOwnedText (bytes_of b.bytes) (record { bytes = bytes; extent = o }) × IsHeldText (live_of b.bytes)
-    (record { bytes = bytes; extent = o })
-still-head bytes None heap x w h = (w, h)
-still-head {a} {b} bytes (Some y) {come} heap x w h =
-    let s = kept a b (handle y) y [] come _ heap x h.0 tt in
-    let full = serves-full y (length bytes) h.2 in (
-      Has-same _ _ _ _ (handle y) bytes s.payload (omega arith) (omega (arith, full)) w,
-      (kept-found a b 0 0 (handle y) y [] come _ x h.0 tt, h.1, h.2),
-    )
-
-still-texts : {a b : Cut} (qs : List OwnedText) {come : List Extent} → IsHeap current a.bytes → IsSwapped a b [] come
-    → AllByRecursion (IsOwnedText (bytes_of a.bytes)) qs → AllByRecursion (IsHeldText (live_of a.bytes)) qs
-    → AllByRecursion (IsOwnedText (bytes_of b.bytes)) qs × AllByRecursion (IsHeldText (live_of b.bytes)) qs
-still-texts [] heap x w h = (tt, tt)
-still-texts (q ∷ qs) heap x w h =
-    let one = still-head q.bytes q.extent heap x w.0 h.0 in let more = still-texts qs heap x w.1 h.1 in
-    ((one.0, more.0), (one.1, more.1))
-
 -- an array has room for its places
 abbrev IfFull : ℕ → Option Extent → Type 0
 IfFull c None = ⊤
@@ -439,17 +380,24 @@ texts-still {a} {b} {p} {ps} {t} s x =
     (record { link = s.words.link; len_word = s.words.len_word; capacity = s.words.capacity }) in
     let arr = still-array p.handle t.capacity t.extent ps s.heap x s.own (full-table t.capacity t.extent s.table)
     s.fits s.words.array in
-    let more = still-texts ps s.heap x s.words.texts s.held in
+    let tb = text_blocks ps in let found = found-texts (live_of a.bytes) ps s.held in
+    let served = served-texts (live_of a.bytes) ps s.held in
     record {
       heap = laid-heap _ _ x.live;
-      words = record
-          { link = words.link; len_word = words.len_word; capacity = words.capacity; array = arr.0; texts = more.0 };
+      words = record {
+        link = words.link;
+        len_word = words.len_word;
+        capacity = words.capacity;
+        array = arr.0;
+        texts = owned-same (bytes_of a.bytes) (bytes_of b.bytes) ps
+            (all-kept tb s.heap x found (none-of-none tb)) served s.words.texts;
+      };
       aligned = s.aligned;
       room = head-room (head-kept w x tt);
       table = s.table;
       fits = s.fits;
       own = arr.1;
-      held = more.1;
+      held = held-texts (live_of b.bytes) ps served (all-found-kept tb x found (none-of-none tb));
       apart = s.apart;
       others = s.others;
     }
@@ -458,20 +406,14 @@ texts-still {a} {b} {p} {ps} {t} s x =
 pub come-even : {a b : Cut} (o : Option Extent) → IsSwapped a b [] (option_to_list o)
     → IfSome (option_map handle o) (λ target. target % 16 ≡ 0)
 come-even {a} {b} o x =
-    let come = option_to_list o in let l = live_of a.bytes in
-    let is : (live_of b.bytes).extents ≡ inserted come l.extents = ap (λ (k : LiveSet). k.extents)
-    (exchanged-live a b 0 0 [] come _ x) in
-    let heap = laid-heap _ _ x.live in
-    even-block (live_of b.bytes) o heap.proper (subst (λ (zs : List Extent). AllByRecursion (IsFound zs) come) (sym is)
-    (all-found-in come l.extents (live-rises (exchanged l [] come) x.live.proper)))
+    let heap = laid-heap _ _ x.live in even-block (live_of b.bytes) o heap.proper (came-found x)
 
 -- ---- a text in the place of another one: its block was taken into use before the other is given back
 
 -- no two of the blocks that came are one
 pub run-others : {old now : Cut} {p : Place} {gone come : List Extent} {n : ℕ} {t : Table}
     → IsRun old now p gone come n t → AreOthers come
-run-others {old} {gone} {come} r = rising-others come (without_all gone (live_of old.bytes).extents)
-    (live-rises (exchanged (live_of old.bytes) gone come) r.change.live.proper)
+run-others r = came-others r.change
 
 -- ---- the text that was placed
 
@@ -482,12 +424,10 @@ pub loose-kept : {a b : Cut} (bytes : List ℕ) (o : Option Extent) {gone come :
     → IsOwnedText (bytes_of a.bytes) (record { bytes = bytes; extent = o })
     → IsOwnedText (bytes_of b.bytes) (record { bytes = bytes; extent = o }) × AllByRecursion
     (IsFound (live_of b.bytes).extents) (option_to_list o)
-loose-kept bytes None heap x f n s w = (w, tt)
-loose-kept {a} {b} bytes (Some y) {gone} {come} heap x f n s w =
-    let k = kept a b (handle y) y gone come _ heap x f.0 n.0 in let full = serves-full y (length bytes) s.1 in (
-      Has-same _ _ _ _ (handle y) bytes k.payload (omega arith) (omega (arith, full)) w,
-      (kept-found a b 0 0 (handle y) y gone come _ x f.0 n.0, tt),
-    )
+loose-kept {a} {b} bytes o heap x f n s w = (
+  same-loose (bytes_of a.bytes) (bytes_of b.bytes) bytes o (all-kept (option_to_list o) heap x f n) s w,
+  all-found-kept (option_to_list o) x f n,
+)
 
 -- its block is none of those behind it
 pub others-front : (o : Option Extent) (xs : List Extent) → AreOthers (option_to_list o ++ xs)
@@ -497,14 +437,15 @@ others-front (Some y) xs d = (d.0, tt)
 
 -- ---- the vector afterwards
 
-set_in : {s0 s1 s3 : Cut} {p : Place} {ps : List OwnedText} {c i len : ℕ} {x : Extent} {q : OwnedText} {bytes : List ℕ}
-    {block : Option ℕ} → IsTexts s0.bytes p ps (table c (Some x)) → slice_get ps i ≡ Some q
-    → (pl : IsTextPlaced s0 s1 bytes block) → (rep : IsTextReplaced s1 s3 p (table c (Some x)) i q block len)
-    → len ≡ length bytes → rep.array ≡ x
-    → IsTextsNow s0 s3 p (x ∷ option_to_list q.extent) (x ∷ option_to_list pl.text.extent) (slice_set ps i pl.text)
-    (table c (Some x))
-set_in {s0} {s1} {s3} {p} {ps} {c} {i} {len} {x} {q} {block} s e pl rep len_is array_is =
-    let t = table c (Some x) in let z = pl.text in let n = length ps in let mid = rep.mid in
+pub text-set : {s0 s1 s3 : Cut} {p : Place} {ps : List OwnedText} {c i len : ℕ} {o : Option Extent} {q : OwnedText}
+    {bytes : List ℕ} {block : Option ℕ} → IsTexts s0.bytes p ps (table c o) → slice_get ps i ≡ Some q
+    → (pl : IsTextPlaced s0 s1 bytes block) → (rep : IsTextReplaced s1 s3 p (table c o) i q block len)
+    → len ≡ length bytes → IsTextsNow s0 s3 p (option_to_list o ++ option_to_list q.extent)
+    (option_to_list o ++ option_to_list pl.text.extent) (slice_set ps i pl.text) (table c o)
+text-set {o = None} s e pl rep len_is = none-some refl rep.extent
+text-set {s0} {s1} {s3} {p} {ps} {c} {i} {len} {o = Some x} {q} {block = block} s e pl rep len_is =
+    let array_is : rep.array ≡ x = same-some (sym rep.extent) in let t = table c (Some x) in let z = pl.text in
+    let n = length ps in let mid = rep.mid in
     let eb = option_to_list q.extent in let ez = option_to_list z.extent in
     let gone : List Extent = x ∷ eb in
     let below = slice_get_within ps i q e in let fits = s.fits in let full = table-full 16 c x s.table in
@@ -514,14 +455,12 @@ set_in {s0} {s1} {s3} {p} {ps} {c} {i} {len} {x} {q} {block} s e pl rep len_is a
     let r0 : IsRun s0 s0 p gone gone n t = subst (λ (xs : List Extent). IsRun s0 s0 p (x ∷ xs) (x ∷ xs) n t) one
     (run-begin s0 (take i ps) (q ∷ []) (drop (suc i) ps) (around ps i e) s) in
     let r1 = run-swapped gone (spread-refl gone) r0 pl.change tt in
-    let spread : SameSpread (ez ++ gone) (eb ++ (ez ++ (x ∷ []))) =
-    subst (λ (xs : List Extent). SameSpread xs (eb ++ (ez ++ (x ∷ [])))) (append_assoc ez (x ∷ []) eb)
+    let spread = subst (λ (xs : List Extent). SameSpread xs (eb ++ (ez ++ (x ∷ [])))) (append_assoc ez (x ∷ []) eb)
     (last-first (ez ++ (x ∷ [])) eb) in
     let r2 = run-swapped (ez ++ (x ∷ [])) spread r1 rep.released apart.head in
     let found1 = (all-split (IsFound (live_of s1.bytes).extents) ez gone (run-found r1)) in
     let found2 = (all-split (IsFound (live_of mid.bytes).extents) ez (x ∷ []) (run-found r2)) in
-    let c3 : IsChanged current mid s3 (handle x + 16 * i) 16 =
-    subst (λ (y : Extent). IsChanged current mid s3 (handle y + 16 * i) 16) array_is rep.written in
+    let c3 = subst (λ (y : Extent). IsChanged current mid s3 (handle y + 16 * i) 16) array_is rep.written in
     let w3 = block-written (16 * c) r2.heap found2.1.0 c3 (omega arith) (omega (arith, below, fits)) full in
     let r3 = run-swapped ez (last-first ez (x ∷ [])) r2 w3 (other, tt) in
     let k1 = kept s0 s1 (handle x) x [] ez _ s.heap pl.change s.own.0 tt in
@@ -534,10 +473,9 @@ set_in {s0} {s1} {s3} {p} {ps} {c} {i} {len} {x} {q} {block} s e pl rep len_is a
     (handle x + 16 * i + 16) (n - i - 1) = λ j f.
     element-trans (element-in (handle x + 16 * i + 16 + 16 * j) k (omega arith) (omega (arith, f, below, fits, full)))
     (element-beside (handle x + 16 * i + 16 + 16 * j) c3.rest (inr (omega arith))) in
-    let link : link_at (bytes_of s3.bytes) (handle x + 16 * i) ≡ option_map handle z.extent =
+    let link =
     subst (λ (y : Extent). link_at (bytes_of s3.bytes) (handle y + 16 * i) ≡ block) array_is rep.link ∙ pl.at in
-    let word : word_at (bytes_of s3.bytes) (handle x + 16 * i + 8) ≡ length z.bytes =
-    subst (λ (y : Extent). word_at (bytes_of s3.bytes) (handle y + 16 * i + 8) ≡ len) array_is rep.len_word
+    let word = subst (λ (y : Extent). word_at (bytes_of s3.bytes) (handle y + 16 * i + 8) ≡ len) array_is rep.len_word
     ∙ len_is ∙ ap (λ (bs : List ℕ). length bs) (sym pl.same) in
     let qs_is = set-pieces ps i z below in
     let links = links-edited (handle x) ps i (suc i) (z ∷ []) (omega (arith, below)) (omega (arith, below))
@@ -552,37 +490,16 @@ set_in {s0} {s1} {s3} {p} {ps} {c} {i} {len} {x} {q} {block} s e pl rep len_is a
     ) in
     let len_set : length (slice_set ps i z) ≡ n = ap (λ (xs : List OwnedText). length xs) qs_is ∙ len_qs in
     let apart1 = others-front z.extent gone (run-others r1) in
-    let t2 = loose-kept z.bytes z.extent r1.heap rep.released found1.0 (only-back z.extent x eb apart1) pl.served
-    pl.owned in
-    let t3 = loose-kept z.bytes z.extent r2.heap w3 found2.0 (only-front z.extent x eb apart1) pl.served t2.0 in
+    let from_gone = λ (y : Extent). IsNone (handle y) gone in
+    let from_text = all-as from_gone (λ (y : Extent). IsNone (handle y) eb) (λ y d. d.1) ez apart1 in
+    let from_array = all-as from_gone (λ (y : Extent). IsNone (handle y) (x ∷ [])) (λ y d. (d.0, tt)) ez apart1 in
+    let t2 = loose-kept z.bytes z.extent r1.heap rep.released found1.0 from_text pl.served pl.owned in
+    let t3 = loose-kept z.bytes z.extent r2.heap w3 found2.0 from_array pl.served t2.0 in
     texts-between (slice_set ps i z) (take i ps) (q ∷ []) (z ∷ []) (drop (suc i) ps) {u = t} (around ps i e) qs_is
     (ap (λ (xs : List Extent). x ∷ xs) (sym one))
     (ap (λ (xs : List Extent). x ∷ xs) (sym (append-nil ez))) s r3.change s.table (omega (arith, len_set, fits))
     (subst (λ w. AreHeadWords (bytes_of s3.bytes) (place_at p) w t) (sym len_set) r3.words)
     (subst (AreTextLinks (bytes_of s3.bytes) (handle x)) (sym qs_is) links) (t3.0, tt) (pl.served, tt)
-  where
-    only-back : (o : Option Extent) (x : Extent) (xs : List Extent)
-        → AllByRecursion (λ (y : Extent). AllByRecursion (λ (z : Extent). handle y ≢ handle z) (x ∷ xs))
-        (option_to_list o)
-        → AllByRecursion (λ (y : Extent). AllByRecursion (λ (z : Extent). handle y ≢ handle z) xs) (option_to_list o)
-    only-back None x xs d = tt
-    only-back (Some y) x xs d = (d.0.1, tt)
-
-    only-front : (o : Option Extent) (x : Extent) (xs : List Extent)
-        → AllByRecursion (λ (y : Extent). AllByRecursion (λ (z : Extent). handle y ≢ handle z) (x ∷ xs))
-        (option_to_list o)
-        → AllByRecursion (λ (y : Extent). AllByRecursion (λ (z : Extent). handle y ≢ handle z) (x ∷ []))
-        (option_to_list o)
-    only-front None x xs d = tt
-    only-front (Some y) x xs d = ((d.0.0, tt), tt)
-
-pub text-set : {s0 s1 s3 : Cut} {p : Place} {ps : List OwnedText} {c i len : ℕ} {o : Option Extent} {q : OwnedText}
-    {bytes : List ℕ} {block : Option ℕ} → IsTexts s0.bytes p ps (table c o) → slice_get ps i ≡ Some q
-    → (pl : IsTextPlaced s0 s1 bytes block) → (rep : IsTextReplaced s1 s3 p (table c o) i q block len)
-    → len ≡ length bytes → IsTextsNow s0 s3 p (option_to_list o ++ option_to_list q.extent)
-    (option_to_list o ++ option_to_list pl.text.extent) (slice_set ps i pl.text) (table c o)
-text-set {o = None} s e pl rep len_is = none-some refl rep.extent
-text-set {o = Some x} s e pl rep len_is = set_in s e pl rep len_is (same-some (sym rep.extent))
 
 -- ---- the element is written once the old text is released
 

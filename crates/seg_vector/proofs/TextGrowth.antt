@@ -2,18 +2,18 @@
 use Rattle.seg_vector.proofs.Words as W
 use W.{◌≡◌, ◌≢◌, refl, sym, ap, subst, ◌∙◌, ℕ, ◌+◌, ◌*◌, ◌<◌, ◌≤◌, Option, Some, None, List, ◌∷◌, ◌++◌, arith, length}
 use W.{inl, inr, ◌⊎◌, ◌%◌, append-nil, ◌-◌, IsTrue, Result, Ok, Err, MatchResult, option_map, option_to_list, IfSome}
-use W.{nat_lt, AllByRecursion, and_from, lt-ltb, Memory, Cut, bytes_of, word_at, current, Storage, link_at}
-use W.{IsNotWidened, IsWidened, exchanged, IsExchanged, Extent, LiveSet, handle, end_of, place, Refusal, IsAllocated}
-use W.{IsChanged, IsHeap, IsReleased, IsResized, SameBlock, extent_at, live_of, has_room, Table, serves, is_table}
-use W.{IsFound, IsNone, SameBlock-trans, exchange-order, exchange-released, exchange-resized, exchange-taken}
-use W.{found-none, kept, kept-found, last-first, live-rises, middle-first, place-serves, regrow-serves, spread-refl}
-use W.{found-room, two-apart, laid-heap, Place, place_at, AreSameElements, IsAdopted, IsAsked, IsWithoutFit, IsSwapped}
-use W.{taken, widened, AreEvenLinks, IsReady, TakesStorage, AreOthers, IsTexts, IsTextsNow, AreTextLinks, OwnedText, []}
-use W.{IsPointed}
-use Rattle.seg_vector.proofs.Runs.{AreHeadWords, IsHead, IsRun, beside-head, block-written, none-some, own-facts}
-use Rattle.seg_vector.proofs.Runs.{run-found, run-headed, run-none, run-swapped, same-some, serves-full, table}
+use W.{nat_lt, AllByRecursion, and_from, lt-ltb, Cut, bytes_of, current, Storage, link_at, IsNotWidened, IsWidened}
+use W.{exchanged, Extent, LiveSet, handle, end_of, place, Refusal, IsAllocated, IsChanged, IsHeap, IsReleased}
+use W.{IsResized, SameBlock, extent_at, live_of, has_room, Table, serves, is_table, IsFound, IsNone, SameBlock-trans}
+use W.{exchange-order, exchange-released, exchange-resized, exchange-taken, found-none, kept, kept-found, last-first}
+use W.{live-rises, middle-first, place-serves, regrow-serves, spread-refl, found-room, two-apart, laid-heap, Place}
+use W.{place_at, AreSameElements, IsAdopted, IsAsked, IsWithoutFit, IsSwapped, taken, widened, AreEvenLinks, IsReady}
+use W.{TakesStorage, AreOthers, IsTexts, IsTextsNow, AreTextLinks, OwnedText, [], IsPointed, blocks-trans}
+use Rattle.seg_vector.proofs.Runs.{AreHeadWords, IsHead, IsRun, beside-head, block-written, none-some, run-found}
+use Rattle.seg_vector.proofs.Runs.{run-headed, run-swapped, same-some, serves-full, table, all-kept, stands-none-of}
+use Rattle.seg_vector.proofs.Runs.{stands-run}
 use Rattle.seg_vector.proofs.TextBlocks.{all-split, element-in, element-trans, even-block, even-held, links-moved}
-use Rattle.seg_vector.proofs.TextBlocks.{own-head, run-begin, swapped-none, texts-between, texts-own}
+use Rattle.seg_vector.proofs.TextBlocks.{run-begin, swapped-none, texts-between}
 use Rattle.seg_vector.proofs.Storage.{grown-more, grown-same, regrow-new, storage-role, too-many}
 use Rattle.seg_vector.proofs.{Runs.table-full, TextCalls.held-elements, TextCalls.run-others, TextCalls.texts-stand}
 use Rattle.best_fit.specs.Fit.{regrow}
@@ -72,19 +72,6 @@ pub all-beside-head : {a b : Cut} {p : Place} (xs : List Extent) → IsHeap curr
     → AllByRecursion (SameBlock (bytes_of a.bytes) (bytes_of b.bytes)) xs
 all-beside-head [] heap w c f n = tt
 all-beside-head (x ∷ xs) heap w c f n = (beside-head (handle x) heap w c f.0 n.0, all-beside-head xs heap w c f.1 n.1)
-
-pub all-kept : {a b : Cut} {gone come : List Extent} (xs : List Extent) → IsHeap current a.bytes
-    → IsSwapped a b gone come → AllByRecursion (IsFound (live_of a.bytes).extents) xs
-    → AllByRecursion (λ (y : Extent). IsNone (handle y) gone) xs
-    → AllByRecursion (SameBlock (bytes_of a.bytes) (bytes_of b.bytes)) xs
-all-kept [] heap x f n = tt
-all-kept {a} {b} {gone} {come} (y ∷ ys) heap x f n =
-    (kept a b (handle y) y gone come _ heap x f.0 n.0, all-kept ys heap x f.1 n.1)
-
-pub all-trans : (a b c : Memory) (xs : List Extent) → AllByRecursion (SameBlock a b) xs
-    → AllByRecursion (SameBlock b c) xs → AllByRecursion (SameBlock a c) xs
-all-trans a b c [] p q = tt
-all-trans a b c (x ∷ xs) p q = (SameBlock-trans a b c x p.0 q.0, all-trans a b c xs p.1 q.1)
 
 pub new-other : {first mid : Cut} {n g : ℕ} (h : ℕ) {x : Extent} → (a : IsAllocated current first mid n Storage g)
     → extent_at (live_of first.bytes) h ≡ Some x → h ≢ handle a.extent
@@ -158,10 +145,9 @@ adopt-place {first} {old} {new} {p} {ps} {t} {g} {n} {loose} s more q d =
     let y = q.array in let r = q.run in let fits = s.fits in let c = d.change in
     let words : AreHeadWords (bytes_of new.bytes) (place_at p) (length ps) (table n (Some y)) =
     record { link = d.link ∙ ap (λ k. Some k) q.at; len_word = d.len_word ∙ r.words.len_word; capacity = d.capacity } in
-    let apart = (own-facts (live_of first.bytes) p.handle t.extent s.own).2 in
     let found = all-split (IsFound (live_of old.bytes).extents) loose (y ∷ []) (run-found r) in
     let none = all-split (λ (z : Extent). p.handle ≢ handle z) loose (y ∷ [])
-    (run-none (own-head (texts-own first s)) apart r) in
+    (stands-none-of (texts-stand s) r) in
     let k = beside-head (handle y) r.heap r.head c found.1.0 none.1.0 in
     let full = serves-full y (16 * n) q.serving in
     let links = links-moved (bytes_of old.bytes) (bytes_of new.bytes) (handle y) (handle y) ps q.links
@@ -213,18 +199,10 @@ others-of-loose (z ∷ zs) y x d =
     let rest = others-of-loose zs y x d.1 in
     (((here.0, tt), rest.0), ((here.1.0, tt), rest.1))
 
-all-found-kept : {a b : Cut} {gone come : List Extent} (xs : List Extent) → IsSwapped a b gone come
-    → AllByRecursion (IsFound (live_of a.bytes).extents) xs → AllByRecursion (λ (y : Extent). IsNone (handle y) gone)
-    xs → AllByRecursion (IsFound (live_of b.bytes).extents) xs
-all-found-kept [] x f n = tt
-all-found-kept {a} {b} {gone} {come} (y ∷ ys) x f n =
-    (kept-found a b 0 0 (handle y) y gone come _ x f.0 n.0, all-found-kept ys x f.1 n.1)
-
 -- so far: the new array stands beside the old one
 pub record IsBeside (first old : Cut) (p : Place) (ps : List OwnedText) (t : Table) (x y : Extent)
     (loose : List Extent) : Type 0 where
   pub run : IsRun first old p (x ∷ []) (loose ++ (y ∷ x ∷ [])) (length ps) t
-  pub head : IsHead first p
   pub other : p.handle ≢ handle x
   pub apart : handle x ≢ handle y
   pub old_found : extent_at (live_of old.bytes) (handle x) ≡ Some x
@@ -241,7 +219,6 @@ beside {first} {mid} {old} {p} {ps} {c} {g} {n} {x} s a since =
     let found1 = run-found r1 in
     record {
       run = run-swapped (a.extent ∷ x ∷ []) (spread-refl (a.extent ∷ x ∷ [])) r1 since tt;
-      head = own-head (texts-own first s);
       other = λ f. s.own.1 (sym f);
       apart = new-other (handle x) a s.own.0;
       old_found = kept-found mid old 0 0 (handle x) x [] _ _ since found1.1.0 tt;
@@ -265,8 +242,8 @@ adopt-beside {first} {old} {a1} {a2} {new} {p} {ps} {c} {g} n {x} {loose} s more
     let g_is = a.at in let b = beside s a since in let fits = s.fits in let full = table-full 16 c x s.table in
     let serving = place-serves (live_of first.bytes) (16 * n) Storage y a.placed in
     let big = serves-full y (16 * n) serving in
-    let none0 = run-none b.head (b.other, tt) b.run in
-    let none = all-split (λ (z : Extent). p.handle ≢ handle z) loose (y ∷ x ∷ []) none0 in
+    let none = all-split (λ (z : Extent). p.handle ≢ handle z) loose (y ∷ x ∷ [])
+    (stands-none-of (texts-stand s) b.run) in
     let found0 = all-split (IsFound (live_of old.bytes).extents) loose (y ∷ x ∷ []) (run-found b.run) in
     let apart = others-of-loose loose y x (run-others b.run) in
     let x1 = block-written (16 * n) b.run.heap b.new_found c1 (omega (arith, g_is)) (omega (arith, g_is, fits, more))
@@ -288,8 +265,7 @@ adopt-beside {first} {old} {a1} {a2} {new} {p} {ps} {c} {g} n {x} {loose} s more
     let y13 = SameBlock-trans _ _ _ y y12 y23 in
     let from : handle x + 0 ≡ handle x = omega arith in
     let to : g + 0 ≡ handle y = omega (arith, g_is) in
-    let moved : AreSameElements (bytes_of old.bytes) (bytes_of a1.bytes) (handle x) (handle y) k =
-    subst (λ w. AreSameElements (bytes_of old.bytes) (bytes_of a1.bytes) w (handle y) k) from
+    let moved = subst (λ w. AreSameElements (bytes_of old.bytes) (bytes_of a1.bytes) w (handle y) k) from
     (subst (λ w. AreSameElements (bytes_of old.bytes) (bytes_of a1.bytes) (handle x + 0) w k) to carried) in
     let elements : AreSameElements (bytes_of first.bytes) (bytes_of new.bytes) (handle x) (handle y) k = λ j f.
     element-trans (element-trans
@@ -307,9 +283,9 @@ adopt-beside {first} {old} {a1} {a2} {new} {p} {ps} {c} {g} n {x} {loose} s more
       len_word = r3.words.len_word;
       capacity = r3.words.capacity;
       links = subst (λ w. AreTextLinks (bytes_of new.bytes) w ps) (sym g_is) links;
-      stay = all-trans (bytes_of old.bytes) (bytes_of a1.bytes) (bytes_of new.bytes) loose
+      stay = blocks-trans (bytes_of old.bytes) (bytes_of a1.bytes) (bytes_of new.bytes) loose
           (all-kept loose b.run.heap x1 found0.0 apart.0)
-          (all-trans (bytes_of a1.bytes) (bytes_of a2.bytes) (bytes_of new.bytes) loose
+          (blocks-trans (bytes_of a1.bytes) (bytes_of a2.bytes) (bytes_of new.bytes) loose
           (all-beside-head loose r1.heap r1.head c2 loose1 none.0) (all-kept loose r2.heap x3 loose2 apart.1));
     }
 
@@ -442,10 +418,6 @@ pub ready-new : {now : Cut} {p : Place} {g h n : ℕ} → (r : IsReady now p g n
     → link_at (bytes_of now.bytes) (place_at p) ≡ Some h → h ≢ g → IsReadyNew now g h n (length r.ps)
 ready-new {n} r was differ = ready-new_in n r.texts r.more r.asked r.since (sym (ready-link r) ∙ was) differ
 
-pub since-len : {now : Cut} {p : Place} {g n : ℕ} (k : ℕ) → (r : IsReady now p g n)
-    → k ≡ word_at (bytes_of now.bytes) (place_at p + 8) → k ≡ length r.ps
-since-len k r e = e ∙ (ready r).run.words.len_word
-
 -- ---- more places, and the same texts
 
 pub asked-heap : {first mid : Cut} {o : Option Extent} {n g : ℕ} → IsAsked first mid o n g → IsHeap current mid.bytes
@@ -478,12 +450,8 @@ pub reserved-same : (c : Cut) {p : Place} {ps : List OwnedText} {t : Table} (n :
     → n ≤ t.capacity
     → (w : Table) × (grown_table (live_of c.bytes) 16 n t ≡ Some w) × IsTextsNow c c p (option_to_list t.extent)
     (option_to_list w.extent) ps w
-reserved-same c {p} {ps} {t} n s f =
-    let arr = option_to_list t.extent in
-    let r = run-begin c [] [] ps refl s in
-    let x : IsExchanged current c c (place_at p) 24 arr arr =
-    subst (λ (xs : List Extent). IsExchanged current c c (place_at p) 24 xs xs) (append-nil arr) r.change in
-    (t, grown-same (live_of c.bytes) 16 n t f, record { change = x; texts = s })
+reserved-same c {t = t} n s f =
+    (t, grown-same (live_of c.bytes) 16 n t f, record { change = (stands-run c (texts-stand s)).change; texts = s })
 
 pub too-many-texts : (c : Cut) {p : Place} {ps : List OwnedText} {t : Table} (n : ℕ) → IsTexts c.bytes p ps t
     → 1073741824 < n → grown_table (live_of c.bytes) 16 n t ≡ None

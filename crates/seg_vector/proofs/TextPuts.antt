@@ -3,23 +3,23 @@ use Rattle.seg_vector.proofs.Words as W
 use W.{◌≡◌, ◌≢◌, refl, sym, ap, subst, ◌∙◌, ℕ, ◌+◌, ◌*◌, ◌<◌, ◌≤◌, Option, Some, None, List, ◌∷◌, arith, length}
 use W.{if◌then◌else◌, inl, inr, ◌⊎◌, ◌%◌, append-nil, ◌-◌, length-append, take, drop, Bool, true, false, max, IsTrue}
 use W.{Result, Ok, Err, MatchResult, option_map, option_to_list, IfSome, nat_lt, insert, AllByRecursion, lt-ltb}
-use W.{eqb-true, le-ltb, length-drop, length-take, take-append-drop, Memory, Cut, bytes_of, word_at, current, link_at}
+use W.{eqb-true, le-ltb, length-drop, length-take, take-append-drop, Cut, bytes_of, word_at, current, link_at}
 use W.{exchanged, IsRestored, Extent, LiveSet, handle, others, resized, Refusal, IsChanged, IsHeap, IsReleased}
-use W.{SameBlock, extent_at, live_of, has_room, IsShortened, is_live_in, Table, IsFound, IsNone, exchange-order}
-use W.{exchange-taken, last-first, live-rises, spread-refl, found-room, laid-heap, taken-back, widened-back, Differs}
-use W.{keeps-refl, lay_out_one, others-past, rising-insert, Has-same, Place, place_at, AreSameElements, IsAdopted}
-use W.{IsAsked, IsWithoutFit, IsSwapped, taken, widened, AreEvenLinks, IsPutAsked, IsPutReady, IsServed, room_of}
-use W.{IsRefusedPut, IsTextPlaced, IsGivenUp, IsOutside, PutsInto, one_more, IsTexts, IsTextsNow, IsStillAtFirst}
-use W.{IsTextPutIn, placed_text, with_array, AreTextLinks, OwnedText, IsOwnedText, capacity_for_one, exchanged-live, []}
+use W.{extent_at, live_of, has_room, IsShortened, is_live_in, Table, IsFound, IsNone, exchange-order, exchange-taken}
+use W.{last-first, live-rises, spread-refl, found-room, laid-heap, taken-back, widened-back, Differs, keeps-refl}
+use W.{lay_out_one, others-past, rising-insert, Place, place_at, AreSameElements, IsAdopted, IsAsked, IsWithoutFit}
+use W.{IsSwapped, taken, widened, AreEvenLinks, IsPutAsked, IsPutReady, room_of, IsRefusedPut, IsTextPlaced, IsGivenUp}
+use W.{IsOutside, PutsInto, one_more, IsTexts, IsTextsNow, IsStillAtFirst, IsTextPutIn, placed_text, with_array}
+use W.{AreTextLinks, OwnedText, capacity_for_one, exchanged-live, [], NoSpace}
 use Rattle.seg_vector.proofs.Runs.{AreHeadWords, IsHead, IsRun, beside-head, block-written, head-kept, head-wider}
-use Rattle.seg_vector.proofs.Runs.{len-written, none-some, own-facts, run-found, run-headed, run-none, run-swapped}
+use Rattle.seg_vector.proofs.Runs.{len-written, none-some, own-facts, run-found, run-headed, run-swapped, room-head}
+use Rattle.seg_vector.proofs.Runs.{stands-none-of}
 use Rattle.seg_vector.proofs.TextBlocks.{element-beside, element-in, element-trans, even-block, found-live, found-texts}
-use Rattle.seg_vector.proofs.TextBlocks.{links-at, links-edited, links-moved, links-split, one-of, own-head, run-begin}
-use Rattle.seg_vector.proofs.TextBlocks.{texts-between, texts-own}
+use Rattle.seg_vector.proofs.TextBlocks.{links-at, links-edited, one-of, run-begin, texts-between, same-loose}
 use Rattle.seg_vector.proofs.TextGrowth.{grown-to, not-grown, all-beside-head, new-other, IsReadyRun, ready-in, ready}
 use Rattle.seg_vector.proofs.TextCalls.{loose-kept, run-others, texts-stand, texts-still}
-use Rattle.seg_vector.proofs.{Runs.same-some, Runs.serves-full, Runs.table, Runs.table-full, Typed.has-element}
-use Rattle.seg_vector.proofs.{Storage.capacity-bytes, Storage.grown-same, TextGrowth.asked-alone, TextGrowth.new-table}
+use Rattle.seg_vector.proofs.{Runs.same-some, Runs.table, Runs.table-full, Typed.has-element, Storage.capacity-bytes}
+use Rattle.seg_vector.proofs.{Storage.grown-same, TextGrowth.asked-alone, TextGrowth.new-table}
 use Rattle.best_fit.specs.Fit.{regrow}
 use Rattle.seg_vector.specs.Vector.{grown_table}
 use Rattle.best_fit.specs.Fit as fit
@@ -37,7 +37,7 @@ put-run {first} {t} {y} {z} r =
     record {
       change = r.change;
       heap = laid-heap _ _ r.change.live;
-      head = head-kept (own-head (texts-own first r.texts)) r.change (none-array first r.texts);
+      head = head-kept (room-head first _ r.texts.heap r.texts.room) r.change (none-array first r.texts);
       words = record { link = r.link; len_word = r.len_word; capacity = r.capacity };
     }
 
@@ -47,14 +47,6 @@ put-big {y} {m} r = table-full 16 m y r.table
 
 -- ---- the text
 
-pub same-loose : (m m' : Memory) (bytes : List ℕ) (o : Option Extent)
-    → AllByRecursion (SameBlock m m') (option_to_list o) → IsServed (record { bytes = bytes; extent = o })
-    → IsOwnedText m (record { bytes = bytes; extent = o }) → IsOwnedText m' (record { bytes = bytes; extent = o })
-same-loose m m' bytes None k s w = w
-same-loose m m' bytes (Some x) k s w =
-    let full = serves-full x (length bytes) s.1 in
-    Has-same m m' _ _ (handle x) bytes k.0.payload (omega arith) (omega (arith, full)) w
-
 pub flip-each : (y : Extent) (xs : List Extent) → AllByRecursion (λ (w : Extent). handle y ≢ handle w) xs
     → AllByRecursion (λ (w : Extent). AllByRecursion (λ (v : Extent). handle w ≢ handle v) (y ∷ [])) xs
 flip-each y [] d = tt
@@ -62,57 +54,6 @@ flip-each y (x ∷ xs) d = (((λ f. d.0 (sym f)), tt), flip-each y xs d.1)
 
 -- ---- the vector afterwards
 
-put_in : {first now b1 b2 new : Cut} {p : Place} {ps : List OwnedText} {t : Table} {y : Extent} {m : ℕ} {z : OwnedText}
-    (i : ℕ) → IsPutReady first now p ps t y m z → i ≤ length ps
-    → IsChanged current now b1 (handle y + 16 * i + 16) (16 * (length ps - i))
-    → AreSameElements (bytes_of now.bytes) (bytes_of b1.bytes) (handle y + 16 * i) (handle y + 16 * i + 16)
-    (length ps - i)
-    → IsChanged current b1 b2 (handle y + 16 * i) 16 → link_at (bytes_of b2.bytes) (handle y + 16 * i) ≡ option_map
-    handle z.extent → word_at (bytes_of b2.bytes) (handle y + 16 * i + 8) ≡ length z.bytes
-    → IsChanged current b2 new (place_at p + 8) 8 → word_at (bytes_of new.bytes) (place_at p + 8) ≡ length ps + 1
-    → IsTextsNow first new p (option_to_list t.extent) (y ∷ option_to_list z.extent) (insert ps i z) (table m (Some y))
-put_in {first} {now} {b1} {b2} {new} {p} {ps} {t} {y} {m} {z} i r inside c1 m1 c2 link len c3 word =
-    let k = length ps in let u = table m (Some y) in let gone = option_to_list t.extent in
-    let ez = option_to_list z.extent in
-    let come : List Extent = y ∷ ez in
-    let at = place_at p in let space = r.space in let big = put-big r in
-    let first_head = own-head (texts-own first r.texts) in let r0 = put-run r in
-    let none = run-none first_head (none-array first r.texts) r0 in
-    let found0 = run-found r0 in
-    let x1 = block-written (16 * m) r0.heap found0.0 c1 (omega arith) (omega (arith, inside, space)) big in
-    let r1 = run-swapped ez (spread-refl come) r0 x1 (none.0, tt) in
-    let found1 = run-found r1 in
-    let x2 = block-written (16 * m) r1.heap found1.0 c2 (omega arith) (omega (arith, inside, space)) big in
-    let r2 = run-swapped ez (spread-refl come) r1 x2 (none.0, tt) in
-    let found2 = run-found r2 in
-    let c3' = head-wider p c3 (omega arith) (omega arith) in
-    let r3 = run-headed r2 c3' (len-written (k + 1) refl c3.rest word r2.words) in
-    let y3 = beside-head (handle y) r2.heap r2.head c3' found2.0 none.0 in
-    let front : AreSameElements (bytes_of now.bytes) (bytes_of new.bytes) (handle y) (handle y) i = λ j f.
-    element-trans (element-trans (element-beside (handle y + 16 * j) c1.rest (inl (omega (arith, f))))
-    (element-beside (handle y + 16 * j) c2.rest (inl (omega (arith, f)))))
-    (element-in (handle y + 16 * j) y3 (omega arith) (omega (arith, f, inside, space, big))) in
-    let back : AreSameElements (bytes_of now.bytes) (bytes_of new.bytes) (handle y + 16 * i) (handle y + 16 * i + 16)
-    (k - i) = λ j f.
-    element-trans (element-trans (m1 j f)
-    (element-beside (handle y + 16 * i + 16 + 16 * j) c2.rest (inr (omega arith))))
-    (element-in (handle y + 16 * i + 16 + 16 * j) y3 (omega arith) (omega (arith, f, inside, space, big))) in
-    let own = element-in (handle y + 16 * i) y3 (omega arith) (omega (arith, inside, space, big)) in
-    let links = links-edited (handle y) ps i i (z ∷ []) inside inside refl (omega arith) refl r.links front
-    (own.link ∙ link, own.len_word ∙ len, tt) back in
-    let apart = flip-each y ez (run-others r0).0 in
-    let t1 = loose-kept z.bytes z.extent r0.heap x1 found0.1 apart r.served r.owned in
-    let t2 = loose-kept z.bytes z.extent r1.heap x2 t1.1 apart r.served t1.0 in
-    let t3 = same-loose (bytes_of b2.bytes) (bytes_of new.bytes) z.bytes z.extent
-    (all-beside-head ez r2.heap r2.head c3' found2.1 none.1) r.served t2.0 in
-    let long : length (insert ps i z) ≡ k + 1 =
-    omega (arith, length-append (take i ps) (z ∷ drop i ps), length-take i ps, length-drop i ps, inside) in
-    texts-between (insert ps i z) (take i ps) [] (z ∷ []) (drop i ps) {u = u} (sym (take-append-drop i ps)) refl
-    (sym (append-nil gone)) (ap (λ (xs : List Extent). y ∷ xs) (sym (append-nil ez)))
-    r.texts r3.change r.table (omega (arith, long, space))
-    (subst (λ w. AreHeadWords (bytes_of new.bytes) at w u) (sym long) r3.words) links (t3, tt) (r.served, tt)
-
--- as the calls say it
 pub put-by : {first now b1 b2 new : Cut} {p : Place} {ps : List OwnedText} {t : Table} {y : Extent} {m : ℕ}
     {z : OwnedText} (i : ℕ) {g : ℕ} (n len : ℕ) (block : Option ℕ) → IsPutReady first now p ps t y m z → i ≤ length ps
     → block ≡ option_map handle z.extent → len ≡ length z.bytes → link_at (bytes_of now.bytes) (place_at p) ≡ Some g
@@ -123,21 +64,49 @@ pub put-by : {first now b1 b2 new : Cut} {p : Place} {ps : List OwnedText} {t : 
     → word_at (bytes_of b2.bytes) (g + 16 * i + 8) ≡ len
     → IsChanged current b2 new (p.handle + (p.at + 8)) 8 → word_at (bytes_of new.bytes) (p.handle + (p.at + 8)) ≡ n + 1
     → IsTextsNow first new p (option_to_list t.extent) (y ∷ option_to_list z.extent) (insert ps i z) (table m (Some y))
-put-by {now} {b1} {b2} {new} {p} {ps} {y} i n len block r inside at_is len_is leads n_is c1 m1 c2 link word c3 last =
-    let at : p.handle + (p.at + 8) ≡ p.handle + p.at + 8 = omega arith in
-    let g_is = same-some (sym leads ∙ r.link) in
-    let k_is : n ≡ length ps = n_is ∙ r.len_word in
-    put_in {b1 = b1} {b2 = b2} {new = new} i r inside
-    (subst (λ k. IsChanged current now b1 (handle y + 16 * i + 16) (16 * (k - i))) k_is
-    (subst (λ h. IsChanged current now b1 (h + 16 * i + 16) (16 * (n - i))) g_is c1))
-    (subst (λ k. AreSameElements (bytes_of now.bytes) (bytes_of b1.bytes) (handle y + 16 * i) (handle y + 16 * i + 16)
-    (k - i)) k_is
-    (subst (λ h. AreSameElements (bytes_of now.bytes) (bytes_of b1.bytes) (h + 16 * i) (h + 16 * i + 16) (n - i))
-    g_is m1)) (subst (λ h. IsChanged current b1 b2 (h + 16 * i) 16) g_is c2)
-    (subst (λ h. link_at (bytes_of b2.bytes) (h + 16 * i) ≡ block) g_is link ∙ at_is)
-    (subst (λ h. word_at (bytes_of b2.bytes) (h + 16 * i + 8) ≡ len) g_is word ∙ len_is)
-    (subst (λ k. IsChanged current b2 new k 8) at c3) (subst (λ k. word_at (bytes_of new.bytes) k ≡ length ps + 1) at
-    (last ∙ ap (λ k. k + 1) k_is))
+put-by {first} {now} {b1} {b2} {new} {p} {ps} {t} {y} {m} {z} i {g} n len block r inside at_is len_is leads n_is c1 m1
+    c2 link word c3 last =
+    let u = table m (Some y) in let gone = option_to_list t.extent in let ez = option_to_list z.extent in
+    let come : List Extent = y ∷ ez in
+    let g_is = same-some (sym leads ∙ r.link) in let k_is : n ≡ length ps = n_is ∙ r.len_word in
+    let space = r.space in let big = put-big r in
+    let r0 = put-run r in
+    let none = stands-none-of (texts-stand r.texts) r0 in
+    let found0 = run-found r0 in
+    let x1 = block-written (16 * m) r0.heap found0.0 c1 (omega (arith, g_is)) (omega (arith, g_is, k_is, inside, space))
+    big in
+    let r1 = run-swapped ez (spread-refl come) r0 x1 (none.0, tt) in
+    let x2 = block-written (16 * m) r1.heap (run-found r1).0 c2 (omega (arith, g_is))
+    (omega (arith, g_is, inside, space)) big in
+    let r2 = run-swapped ez (spread-refl come) r1 x2 (none.0, tt) in
+    let found2 = run-found r2 in
+    let c3' = head-wider p c3 (omega arith) (omega arith) in
+    let r3 = run-headed r2 c3' (len-written (n + 1) (omega arith) c3.rest last r2.words) in
+    let y3 = beside-head (handle y) r2.heap r2.head c3' found2.0 none.0 in
+    let front : AreSameElements (bytes_of now.bytes) (bytes_of new.bytes) g g i = λ j f.
+    element-trans (element-trans (element-beside (g + 16 * j) c1.rest (inl (omega (arith, f))))
+    (element-beside (g + 16 * j) c2.rest (inl (omega (arith, f)))))
+    (element-in (g + 16 * j) y3 (omega (arith, g_is)) (omega (arith, g_is, f, inside, space, big))) in
+    let back : AreSameElements (bytes_of now.bytes) (bytes_of new.bytes) (g + 16 * i) (g + 16 * i + 16) (n - i) = λ j f.
+    element-trans (element-trans (m1 j f) (element-beside (g + 16 * i + 16 + 16 * j) c2.rest (inr (omega arith))))
+    (element-in (g + 16 * i + 16 + 16 * j) y3 (omega (arith, g_is))
+    (omega (arith, g_is, k_is, f, inside, space, big))) in
+    let own = element-in (g + 16 * i) y3 (omega (arith, g_is)) (omega (arith, g_is, inside, space, big)) in
+    let links = links-edited g ps i i (z ∷ []) inside inside refl (omega arith) (omega (arith, k_is))
+    (subst (λ h. AreTextLinks (bytes_of now.bytes) h ps) (sym g_is) r.links) front
+    (own.link ∙ link ∙ at_is, own.len_word ∙ word ∙ len_is, tt) back in
+    let apart = flip-each y ez (run-others r0).0 in
+    let t1 = loose-kept z.bytes z.extent r0.heap x1 found0.1 apart r.served r.owned in
+    let t2 = loose-kept z.bytes z.extent r1.heap x2 t1.1 apart r.served t1.0 in
+    let t3 = same-loose (bytes_of b2.bytes) (bytes_of new.bytes) z.bytes z.extent
+    (all-beside-head ez r2.heap r2.head c3' found2.1 none.1) r.served t2.0 in
+    let long : length (insert ps i z) ≡ n + 1 =
+    omega (arith, length-append (take i ps) (z ∷ drop i ps), length-take i ps, length-drop i ps, inside, k_is) in
+    texts-between (insert ps i z) (take i ps) [] (z ∷ []) (drop i ps) {u = u} (sym (take-append-drop i ps)) refl
+    (sym (append-nil gone)) (ap (λ (xs : List Extent). y ∷ xs) (sym (append-nil ez)))
+    r.texts r3.change r.table (omega (arith, long, k_is, space))
+    (subst (λ w. AreHeadWords (bytes_of new.bytes) (place_at p) w u) (sym long) r3.words)
+    (subst (λ h. AreTextLinks (bytes_of new.bytes) h (insert ps i z)) g_is links) (t3, tt) (r.served, tt)
 
 -- ---- what the calls of a put need
 
@@ -180,21 +149,17 @@ put-even {now} {p} r =
 
 -- ---- an array that was asked for is given up
 
-pub asked-run : {first mid : Cut} {p : Place} {ps : List OwnedText} {t : Table} {g : ℕ} (n : ℕ)
-    → IsTexts first.bytes p ps t → IsAsked first mid t.extent (16 * n) g → IsReadyRun first mid p ps t g n
-asked-run n s a = ready-in n s a (asked-alone a)
+module _ {first mid : Cut} {p : Place} {ps : List OwnedText} {t : Table} {g : ℕ} (n : ℕ)
+    (s : IsTexts first.bytes p ps t) (a : IsAsked first mid t.extent (16 * n) g) where
+  pub asked-run : IsReadyRun first mid p ps t g n
+  asked-run = ready-in n s a (asked-alone a)
 
-pub asked-link : {first mid : Cut} {p : Place} {ps : List OwnedText} {t : Table} {g : ℕ} (n : ℕ)
-    → IsTexts first.bytes p ps t → IsAsked first mid t.extent (16 * n) g
-    → link_at (bytes_of first.bytes) (place_at p) ≡ link_at (bytes_of mid.bytes) (place_at p)
-asked-link n s a = s.words.link ∙ sym (asked-run n s a).run.words.link
+  pub asked-link : link_at (bytes_of first.bytes) (place_at p) ≡ link_at (bytes_of mid.bytes) (place_at p)
+  asked-link = s.words.link ∙ sym asked-run.run.words.link
 
-pub asked-live : {first mid : Cut} {p : Place} {ps : List OwnedText} {t : Table} {g : ℕ} (n : ℕ)
-    → IsTexts first.bytes p ps t → IsAsked first mid t.extent (16 * n) g → IsTrue (is_live_in (live_of mid.bytes) g)
-asked-live {first} {mid} {p} {ps} {t} {g} n s a =
-    let q = asked-run n s a in
-    subst (λ k. IsTrue (is_live_in (live_of mid.bytes) k)) (sym q.at)
-    (found-live (handle q.array) (live_of mid.bytes).extents q.found)
+  pub asked-live : IsTrue (is_live_in (live_of mid.bytes) g)
+  asked-live = subst (λ k. IsTrue (is_live_in (live_of mid.bytes) k)) (sym asked-run.at)
+      (found-live (handle asked-run.array) (live_of mid.bytes).extents asked-run.found)
 
 pub undone-none : {first mid new : Cut} {p : Place} {ps : List OwnedText} {c g n : ℕ} {o : Option Extent}
     → IsTexts first.bytes p ps (table c o) → IsAsked first mid o n g
@@ -306,25 +271,23 @@ within-ok {s0} {new} {p} ps {c} i (Some x) {bytes} space pl {y} e now =
 abbrev after : LiveSet → Table → List ℕ → Option Table → Option OwnedText
 after l t bytes o = elim o [ None ↦ None | Some u ↦ placed_text (with_array l t u) bytes ]
 
-pub restored-same : (a b : Cut) → IsHeap current a.bytes → b ≡ a → IsRestored current a b
-restored-same a b heap e = subst (IsRestored current a) (sym e)
-    (record { laid = heap; keeps = keeps-refl a (live_of a.bytes).extents })
-
 -- where nothing changes, nothing does at first
-same-first : (old new : Cut) (ps : List OwnedText) (t : Table) (bytes : List ℕ) → new ≡ old
-    → IsStillAtFirst old new ps t bytes
-same-first old new ps t bytes e = record { text = λ f none. e; array = λ none. e }
+refused-same : {s0 s1 : Cut} {ps : List OwnedText} {t : Table} {bytes : List ℕ} {e : Refusal} → IsHeap current s0.bytes
+    → e ≡ NoSpace → one_more (live_of s0.bytes) ps t bytes ≡ None → s1 ≡ s0 → IsRefusedPut s0 s1 ps t bytes e
+refused-same {s0} heap refusal none same = record {
+  refusal = refusal;
+  none = none;
+  restored = subst (IsRestored current s0) (sym same)
+      (record { laid = heap; keeps = keeps-refl s0 (live_of s0.bytes).extents });
+  first = record { text = λ f g. same; array = λ g. same };
+}
 
 pub within-err : {s0 s1 : Cut} {p : Place} {ps : List OwnedText} {t : Table} {bytes : List ℕ} {e : Refusal}
     → IsTexts s0.bytes p ps t → length ps < t.capacity
     → IsWithoutFit s0 s1 (placed_text (live_of s0.bytes) bytes) e → IsRefusedPut s0 s1 ps t bytes e
-within-err {s0} {s1} {ps} {t} {bytes} s space r = record {
-  refusal = r.refusal;
-  none = ap (after (live_of s0.bytes) t bytes) (same-grown-one (live_of s0.bytes) ps t space)
-      ∙ ap (λ l. placed_text l bytes) (array-is (live_of s0.bytes) t) ∙ r.none;
-  restored = restored-same s0 s1 s.heap r.same;
-  first = same-first s0 s1 ps t bytes r.same;
-}
+within-err {s0} {ps = ps} {t} {bytes} s space r = refused-same s.heap r.refusal
+    (ap (after (live_of s0.bytes) t bytes) (same-grown-one (live_of s0.bytes) ps t space)
+    ∙ ap (λ l. placed_text l bytes) (array-is (live_of s0.bytes) t) ∙ r.none) r.same
 
 -- ---- the first block that is asked for
 
@@ -435,13 +398,9 @@ growing-ok {s0} {s1} {t} {n} i {bytes} more wanted a pl ad now =
 pub growing-none : {s0 s1 : Cut} {p : Place} {ps : List OwnedText} {t : Table} (n : ℕ) (bytes : List ℕ) {e : Refusal}
     → IsTexts s0.bytes p ps t → t.capacity < n → n ≡ capacity_for_one (length ps) t.capacity
     → IsWithoutFit s0 s1 (regrow (live_of s0.bytes) t.extent (16 * n)) e → IsRefusedPut s0 s1 ps t bytes e
-growing-none {s0} {s1} {ps} {t} n bytes s more wanted r = record {
-  refusal = r.refusal;
-  none = ap (after (live_of s0.bytes) t bytes) (ap (λ k. grown_table (live_of s0.bytes) 16 k t) (sym wanted)
-      ∙ not-grown (live_of s0.bytes) n t more r.none);
-  restored = restored-same s0 s1 s.heap r.same;
-  first = same-first s0 s1 ps t bytes r.same;
-}
+growing-none {s0} {t = t} n bytes s more wanted r = refused-same s.heap r.refusal
+    (ap (after (live_of s0.bytes) t bytes) (ap (λ k. grown_table (live_of s0.bytes) 16 k t) (sym wanted)
+    ∙ not-grown (live_of s0.bytes) n t more r.none)) r.same
 
 pub growing-err : {s0 s1 s2 new : Cut} (ps : List OwnedText) (t : Table) {g : ℕ} (n : ℕ) {bytes : List ℕ} {e : Refusal}
     → t.capacity < n → n ≡ capacity_for_one (length ps) t.capacity → t.capacity ≤ length ps
@@ -475,12 +434,10 @@ pub few-places : (c : Cut) {p : Place} {ps : List OwnedText} {t : Table} → IsT
     → 16 * t.capacity < 1073741824
 few-places c s = capacity-bytes c s.heap (texts-stand s)
 
-more-if : (n k c : ℕ) → c ≤ k → n ≡ max 4 (2 * c) → k ≤ c → (c < n) × (k < n)
-more-if n k c f e g = (omega (arith, e), omega (arith, e, g))
-
 pub more-places : (c : Cut) {p : Place} {ps : List OwnedText} {t : Table} (n : ℕ) → IsTexts c.bytes p ps t
     → t.capacity ≤ length ps → n ≡ capacity_for_one (length ps) t.capacity → (t.capacity < n) × (length ps < n)
-more-places c {ps} {t} n s f e = more-if n (length ps) t.capacity f (wanted-more n (length ps) t.capacity f e) s.fits
+more-places c {ps} {t} n s f e =
+    let is = wanted-more n (length ps) t.capacity f e in (omega (arith, f, is), omega (arith, f, is, s.fits))
 
 pub small-wanted : (c : Cut) {p : Place} {ps : List OwnedText} {t : Table} (n : ℕ) → IsTexts c.bytes p ps t
     → t.capacity ≤ length ps → n ≡ capacity_for_one (length ps) t.capacity → 16 * n < 18446744073709551616

@@ -3,22 +3,24 @@ use Rattle.seg_vector.proofs.Words as W
 use W.{◌≡◌, ◌≢◌, refl, sym, ap, subst, ◌∙◌, inl, ℕ, zero, suc, ◌+◌, ◌*◌, ◌<◌, ◌≤◌, Option, Some, None, List, ◌∷◌, ◌++◌}
 use W.{append-nil, append_assoc, arith, length, length-append, drop, map, slice_index_or, Bor, ◌%◌, inr, if◌then◌else◌}
 use W.{false, ◌==◌, Ok, IfSome, IsTrue, option_map, option_to_list, AllByRecursion, flat_map-append, ne_eqb, drop_all}
-use W.{Memory, Cut, bytes_of, word_at, current, link_at, exchanged, inserted, without_all, IsRestored, SameBlockBut}
-use W.{IsExchanged, Extent, LiveSet, handle, others, resized, place, IsChanged, IsHeap, SameBlock, extent_at, has_room}
-use W.{live_of, IsAllocated, NoSpace, Refusal, IsReleased, is_live_in, IsFound, IsNone, all-found-in, all-in-use}
-use W.{changed-live, exchange-next, exchange-order, exchange-same, exchanged-live, found-room, kept, laid-heap}
-use W.{last-first, live-rises, rising-others, roomy, spread-refl, exchange-released, exchange-taken, keeps-refl}
-use W.{place-serves, too_long, kept-beside, Storage, Table, no_table, AreLaid, AreLaidUpTo, AreLaidOut, AreNotLaidOut}
-use W.{AreSameElements, IsServed, IsSwapped, IsWithoutFit, IsTextPlaced, AreHeldElements, AreOthers, placed_text}
-use W.{placed_texts, text_blocks, with_text, all_texts, new_array, AreTextsAssigned, AssignsTexts, IsTexts, IsTextsNow}
-use W.{ReleasesTexts, AreTextLinks, IsOwnedText, OwnedText, Place, place_at, [], IsPointed}
+use W.{Cut, bytes_of, word_at, current, link_at, without_all, IsRestored, SameBlockBut, IsExchanged, Extent, LiveSet}
+use W.{handle, others, resized, place, IsChanged, IsHeap, SameBlock, extent_at, has_room, live_of, IsAllocated, NoSpace}
+use W.{Refusal, IsReleased, is_live_in, IsFound, IsNone, all-in-use, changed-live, exchange-next, exchange-order}
+use W.{exchange-same, exchanged-live, found-room, kept, laid-heap, last-first, live-rises, roomy, spread-refl}
+use W.{exchange-released, exchange-taken, keeps-refl, place-serves, too_long, kept-beside, Storage, Table, no_table}
+use W.{AreLaid, AreLaidUpTo, AreLaidOut, AreNotLaidOut, AreSameElements, IsServed, IsSwapped, IsWithoutFit}
+use W.{IsTextPlaced, AreHeldElements, AreOthers, placed_text, placed_texts, text_blocks, with_text, all_texts}
+use W.{new_array, AreTextsAssigned, AssignsTexts, IsTexts, IsTextsNow, ReleasesTexts, AreTextLinks, IsOwnedText}
+use W.{OwnedText, Place, place_at, [], IsPointed, all-same-but, drop-map, drop-cons}
 use Rattle.seg_vector.proofs.Runs.{AreHeadWords, IsHead, block-written, changed-both, head-exchanged, len-written}
-use Rattle.seg_vector.proofs.Runs.{run-none, run-swapped, same-some, serves-full, table}
+use Rattle.seg_vector.proofs.Runs.{run-none, run-swapped, same-some, serves-full, table, all-as, came-found}
+use Rattle.seg_vector.proofs.Runs.{came-others, all-kept, none-of-none}
 use Rattle.seg_vector.proofs.TextBlocks.{all-join, all-split, element-beside, element-in, element-trans, even-block}
-use Rattle.seg_vector.proofs.TextBlocks.{found-live, links-join, links-moved, of-none, own-head, own_blocks, run-begin}
+use Rattle.seg_vector.proofs.TextBlocks.{found-live, links-join, links-moved, of-none, own_blocks, run-begin}
+use Rattle.seg_vector.proofs.TextBlocks.{owned-same}
 use Rattle.seg_vector.proofs.TextCalls.{come-even, run-others, texts-still}
-use Rattle.seg_vector.proofs.TextPuts.{came-alone, flip-each, same-loose}
-use Rattle.seg_vector.proofs.{TextBlocks.texts-between, TextBlocks.texts-own, TextGrowth.all-kept, TextGrowth.new-table}
+use Rattle.seg_vector.proofs.TextPuts.{came-alone, flip-each}
+use Rattle.seg_vector.proofs.{TextBlocks.texts-between, TextBlocks.texts-own, TextGrowth.new-table}
 
 -- ---- blocks that came
 
@@ -28,28 +30,7 @@ pub record AreCome (b : Cut) (come : List Extent) : Type 0 where
   pub others : AreOthers come
 
 pub are-come : {a b : Cut} {gone come : List Extent} → IsSwapped a b gone come → AreCome b come
-are-come {a} {b} {gone} {come} x =
-    let l = live_of a.bytes in let rest = without_all gone l.extents in
-    let is : (live_of b.bytes).extents ≡ inserted come rest = ap (λ (k : LiveSet). k.extents)
-    (exchanged-live a b 0 0 gone come _ x) in
-    record {
-      heap = laid-heap _ _ x.live;
-      found = subst (λ (zs : List Extent). AllByRecursion (IsFound zs) come) (sym is)
-          (all-found-in come rest (live-rises (exchanged l gone come) x.live.proper));
-      others = rising-others come rest (live-rises (exchanged l gone come) x.live.proper);
-    }
-
-none-of-none : (xs : List Extent) → AllByRecursion (λ (w : Extent). IsNone (handle w) []) xs
-none-of-none [] = tt
-none-of-none (x ∷ xs) = (tt, none-of-none xs)
-
--- texts stay where their blocks do
-pub owned-same : (m m' : Memory) (qs : List OwnedText) → AllByRecursion (SameBlock m m') (text_blocks qs)
-    → AllByRecursion IsServed qs → AllByRecursion (IsOwnedText m) qs → AllByRecursion (IsOwnedText m') qs
-owned-same m m' [] k s w = tt
-owned-same m m' (q ∷ qs) k s w =
-    let both = all-split (SameBlock m m') (option_to_list q.extent) (text_blocks qs) k in
-    (same-loose m m' q.bytes q.extent both.0 s.0 w.0, owned-same m m' qs both.1 s.1 w.1)
+are-come x = record { heap = laid-heap _ _ x.live; found = came-found x; others = came-others x }
 
 pub blocks-more : (qs : List OwnedText) (q : OwnedText)
     → text_blocks (qs ++ (q ∷ [])) ≡ text_blocks qs ++ option_to_list q.extent
@@ -62,10 +43,6 @@ with-text_in : {a b : Cut} (bytes : List ℕ) (o : Option Extent) → IsSwapped 
     → live_of b.bytes ≡ with_text (live_of a.bytes) (record { bytes = bytes; extent = o })
 with-text_in {a} {b} bytes None s = exchanged-live a b 0 0 [] [] _ s
 with-text_in bytes (Some x) s = came-alone s
-
-with-text-live : {a b : Cut} (q : OwnedText) → IsSwapped a b [] (option_to_list q.extent)
-    → live_of b.bytes ≡ with_text (live_of a.bytes) q
-with-text-live q s = with-text_in q.bytes q.extent s
 
 -- ---- what is asked for
 
@@ -116,40 +93,39 @@ beside-text : {old now mid : Cut} {y : Extent} {tb oq : List Extent} → IsSwapp
 beside-text {old} {now} {mid} {y} {tb} {oq} p q = exchange-order _ old mid 0 0 _ _ _ (last-first oq (y ∷ tb))
     (exchange-next _ old now mid 0 0 _ _ [] (y ∷ tb) oq (spread-refl (y ∷ tb)) p q)
 
-laid-links : (now : Cut) {mid new : Cut} {y : Extent} (i n : ℕ) (ps : List OwnedText) (q : OwnedText) → length ps ≡ i
-    → i < n → 16 * n + 16 ≤ y.len → SameBlock (bytes_of now.bytes) (bytes_of mid.bytes) y
-    → IsChanged current mid new (handle y + 16 * i) 16 → link_at (bytes_of new.bytes) (handle y + 16 * i) ≡ option_map
-    handle q.extent → word_at (bytes_of new.bytes) (handle y + 16 * i + 8) ≡ length q.bytes
+laid-links : (now : Cut) {mid new : Cut} {y : Extent} {g : ℕ} (i n : ℕ) (ps : List OwnedText) (q : OwnedText)
+    → handle y ≡ g → length ps ≡ i → i < n → 16 * n + 16 ≤ y.len → SameBlock (bytes_of now.bytes) (bytes_of mid.bytes) y
+    → IsChanged current mid new (g + 16 * i) 16 → link_at (bytes_of new.bytes) (g + 16 * i) ≡ option_map handle q.extent
+    → word_at (bytes_of new.bytes) (g + 16 * i + 8) ≡ length q.bytes
     → AreTextLinks (bytes_of now.bytes) (handle y) ps → AreTextLinks (bytes_of new.bytes) (handle y) (ps ++ (q ∷ []))
-laid-links now {new} {y} i n ps q long below big stays c link len l =
+laid-links now {new} {y} {g} i n ps q at long below big stays c link len l =
     let same : AreSameElements (bytes_of now.bytes) (bytes_of new.bytes) (handle y) (handle y) (length ps) = λ j f.
     element-trans (element-in (handle y + 16 * j) stays (omega arith) (omega (arith, f, long, below, big)))
-    (element-beside (handle y + 16 * j) c.rest (inl (omega (arith, f, long)))) in
+    (element-beside (handle y + 16 * j) c.rest (inl (omega (arith, at, f, long)))) in
+    let behind : g + 16 * i ≡ handle y + 16 * length ps = omega (arith, at, long) in
     links-join (bytes_of new.bytes) (handle y) ps (q ∷ [])
     (links-moved (bytes_of now.bytes) (bytes_of new.bytes) (handle y) (handle y) ps l same)
-    (subst (λ k. AreTextLinks (bytes_of new.bytes) (handle y + 16 * k) (q ∷ [])) (sym long) (link, len, tt))
+    (subst (λ k. AreTextLinks (bytes_of new.bytes) k (q ∷ [])) behind (link, len, tt))
 
-pub laid-next : {old now mid new : Cut} {y : Extent} {i : ℕ} (n : ℕ) {bytes : List ℕ} {more : List (List ℕ)}
-    {block : Option ℕ} → AreLaid old now y i more → drop i more ≡ bytes ∷ drop (i + 1) more → i < n
-    → 16 * n + 16 ≤ y.len → IsTextPlaced now mid bytes block → IsChanged current mid new (handle y + 16 * i) 16
-    → link_at (bytes_of new.bytes) (handle y + 16 * i) ≡ block → word_at (bytes_of new.bytes) (handle y + 16 * i + 8)
+pub laid-put : {old now mid new : Cut} {y : Extent} {i : ℕ} (n array : ℕ) {bytes : List ℕ} {more : List (List ℕ)}
+    {block : Option ℕ} → handle y ≡ array → AreLaid old now y i more → drop i more ≡ bytes ∷ drop (i + 1) more → i < n
+    → 16 * n + 16 ≤ y.len → IsTextPlaced now mid bytes block → IsChanged current mid new (array + 16 * i) 16
+    → link_at (bytes_of new.bytes) (array + 16 * i) ≡ block → word_at (bytes_of new.bytes) (array + 16 * i + 8)
     ≡ length bytes → AreLaid old new y (i + 1) more
-laid-next {old} {now} {mid} {new} {y} {i} n {bytes} {more} a split below big pl c link len =
+laid-put {old} {now} {mid} {new} {y} {i} n array {bytes} {more} at a split below big pl c link len =
     let q = pl.text in let oq = option_to_list q.extent in let tb = text_blocks a.texts in
     let rest = drop (i + 1) more in let here = are-come a.change in let x1 = beside-text a.change pl.change in
     let there = are-come x1 in
-    let x2 = block-written (16 * n) there.heap there.found.0 c (omega arith) (omega (arith, below)) big in
+    let x2 = block-written (16 * n) there.heap there.found.0 c (omega (arith, at)) (omega (arith, at, below)) big in
     let x3 = exchange-next _ old mid new 0 0 _ _ _ (tb ++ oq) _ (spread-refl (y ∷ (tb ++ oq))) x1 x2 in
     let blocks = blocks-more a.texts q in
     let served = all-join IsServed a.texts (q ∷ []) a.served (pl.served, tt) in
     let first = owned-same (bytes_of now.bytes) (bytes_of mid.bytes) a.texts
     (all-kept tb here.heap pl.change here.found.1 (none-of-none tb)) a.served a.owned in
-    let stay : AllByRecursion (SameBlock (bytes_of mid.bytes) (bytes_of new.bytes))
-    (text_blocks (a.texts ++ (q ∷ []))) =
-    subst (AllByRecursion (SameBlock (bytes_of mid.bytes) (bytes_of new.bytes))) (sym blocks)
+    let stay = subst (AllByRecursion (SameBlock (bytes_of mid.bytes) (bytes_of new.bytes))) (sym blocks)
     (all-kept (tb ++ oq) there.heap x2 there.found.1 (flip-each y (tb ++ oq) there.others.0)) in
-    let live : live_of new.bytes ≡ with_text (live_of now.bytes) q = changed-live _ mid new _ 16 c ∙ with-text-live q
-    pl.change in
+    let live : live_of new.bytes ≡ with_text (live_of now.bytes) q = changed-live _ mid new _ 16 c
+    ∙ with-text_in q.bytes q.extent pl.change in
     record {
       texts = a.texts ++ (q ∷ []);
       long = omega (arith, length-append a.texts (q ∷ []), a.long);
@@ -159,7 +135,7 @@ laid-next {old} {now} {mid} {new} {y} {i} n {bytes} {more} a split below big pl 
           (placed-one (live_of now.bytes) (live_of new.bytes) bytes rest pl.placed live)
           ∙ one-before a.texts q (placed_texts (live_of new.bytes) rest);
       change = subst (λ (xs : List Extent). IsSwapped old new (y ∷ []) (y ∷ xs)) (sym blocks) x3;
-      links = laid-links now i n a.texts q a.long below big
+      links = laid-links now i n a.texts q at a.long below big
           (kept now mid (handle y) y [] oq _ here.heap pl.change here.found.0 tt) c (link ∙ pl.at)
           (len ∙ ap length (sym pl.same)) a.links;
       owned = owned-same (bytes_of mid.bytes) (bytes_of new.bytes) (a.texts ++ (q ∷ [])) stay served
@@ -192,23 +168,13 @@ laid-all {old} {now} {y} n {more} a e f =
 
 pub drop-next : (xs : List (Bor (List ℕ))) (i : ℕ) (d : Bor (List ℕ)) → i < length xs
     → drop i (map (λ t. t.now) xs) ≡ (slice_index_or xs i d).now ∷ drop (i + 1) (map (λ t. t.now) xs)
-drop-next xs i d f = let count : suc i ≡ i + 1 = omega arith in at xs i d f
-    ∙ ap (λ k. (slice_index_or xs i d).now ∷ drop k (map (λ t. t.now) xs)) count
-  where
-    at : (xs : List (Bor (List ℕ))) (i : ℕ) (d : Bor (List ℕ)) → i < length xs
-        → drop i (map (λ t. t.now) xs) ≡ (slice_index_or xs i d).now ∷ drop (suc i) (map (λ t. t.now) xs)
-    at [] i d f = absurd (omega (arith, f))
-    at (y ∷ ys) zero d f = refl
-    at (y ∷ ys) (suc i) d f = at ys i d (omega (arith, f))
+drop-next xs i d f =
+    let now : Bor (List ℕ) → List ℕ = λ t. t.now in
+    let count : suc i ≡ i + 1 = omega arith in
+    drop-map now i xs ∙ ap (map now) (drop-cons xs i d f) ∙ ap (λ zs. (slice_index_or xs i d).now ∷ zs)
+    (sym (drop-map now (suc i) xs) ∙ ap (λ k. drop k (map now xs)) count)
 
 -- ---- what the calls of a step need
-
-pub laid-heap-of : {old now : Cut} {y : Extent} {i : ℕ} {more : List (List ℕ)} → AreLaid old now y i more
-    → IsHeap current now.bytes
-laid-heap-of a = (are-come a.change).heap
-
-pub text-heap : {a b : Cut} {bytes : List ℕ} {block : Option ℕ} → IsTextPlaced a b bytes block → IsHeap current b.bytes
-text-heap pl = (are-come pl.change).heap
 
 pub text-even : {a b : Cut} {bytes : List ℕ} {block : Option ℕ} → IsTextPlaced a b bytes block
     → IfSome block (λ target. target % 16 ≡ 0)
@@ -228,16 +194,6 @@ found-big c array n {y} heap room found =
     let r = roomy c array n heap room in
     subst (λ (x : Extent). n + 16 ≤ x.len) (same-some (sym r.found ∙ found)) r.room
 
-pub laid-put : {old now mid new : Cut} {y : Extent} {i : ℕ} (n array : ℕ) {bytes : List ℕ} {more : List (List ℕ)}
-    {block : Option ℕ} → handle y ≡ array → AreLaid old now y i more → drop i more ≡ bytes ∷ drop (i + 1) more → i < n
-    → 16 * n + 16 ≤ y.len → IsTextPlaced now mid bytes block → IsChanged current mid new (array + 16 * i) 16
-    → link_at (bytes_of new.bytes) (array + 16 * i) ≡ block → word_at (bytes_of new.bytes) (array + 16 * i + 8)
-    ≡ length bytes → AreLaid old new y (i + 1) more
-laid-put {mid} {new} {i} n array {bytes} {block} at a split below big pl c link len =
-    laid-next {new = new} n a split below big pl (subst (λ k. IsChanged current mid new (k + 16 * i) 16) (sym at) c)
-    (subst (λ k. link_at (bytes_of new.bytes) (k + 16 * i) ≡ block) (sym at) link)
-    (subst (λ k. word_at (bytes_of new.bytes) (k + 16 * i + 8) ≡ length bytes) (sym at) len)
-
 -- ---- an array that was taken into use, and the texts that are laid out in it: all of them, or none once it is given
 -- up
 
@@ -255,14 +211,10 @@ texts_after l more o = elim o [
       more
 ]
 
-no-array : (l : LiveSet) (more : List (List ℕ)) → 0 < length more → place l (16 * length more) Storage ≡ None
-    → all_texts l more ≡ None
-no-array l more f e = ap (texts_after l more)
-    (new-array l (length more) f ∙ ap (option_map (λ (x : Extent). table (length more) (Some x))) e)
-
-in-array : (l : LiveSet) (more : List (List ℕ)) {y : Extent} → 0 < length more
-    → place l (16 * length more) Storage ≡ Some y → all_texts l more ≡ placed_texts (resized l y) more
-in-array l more f e = ap (texts_after l more)
+in-array : (l : LiveSet) (more : List (List ℕ)) (o : Option Extent) → 0 < length more
+    → place l (16 * length more) Storage ≡ o
+    → all_texts l more ≡ texts_after l more (option_map (λ (x : Extent). table (length more) (Some x)) o)
+in-array l more o f e = ap (texts_after l more)
     (new-array l (length more) f ∙ ap (option_map (λ (x : Extent). table (length more) (Some x))) e)
 
 -- an array that fits has space
@@ -287,7 +239,7 @@ unchanged c more heap e =
 
 pub out-of-reach : (c : Cut) (n : ℕ) (more : List (List ℕ)) → IsHeap current c.bytes → n ≡ length more → 1073741824 < n
     → AreNotLaidOut c c more NoSpace
-out-of-reach c n more heap e f = unchanged c more heap (no-array (live_of c.bytes) more (omega (arith, e, f))
+out-of-reach c n more heap e f = unchanged c more heap (in-array (live_of c.bytes) more None (omega (arith, e, f))
     (too_long c (16 * length more) Storage heap (omega (arith, e, f))))
 
 pub no-space : {old new : Cut} (n : ℕ) (more : List (List ℕ)) {f : Refusal} → IsHeap current old.bytes → 0 < n
@@ -295,7 +247,7 @@ pub no-space : {old new : Cut} (n : ℕ) (more : List (List ℕ)) {f : Refusal} 
     → AreNotLaidOut old new more f
 no-space {old} {new} n more heap some e r = subst (AreNotLaidOut old new more) (sym r.refusal)
     (subst (λ (c : Cut). AreNotLaidOut old c more NoSpace) (sym r.same)
-    (unchanged old more heap (no-array (live_of old.bytes) more (omega (arith, e, some))
+    (unchanged old more heap (in-array (live_of old.bytes) more None (omega (arith, e, some))
     (subst (λ k. place (live_of old.bytes) (16 * k) Storage ≡ None) e r.none))))
 
 -- ---- the array
@@ -389,15 +341,6 @@ array-live {left} t w x =
     subst (λ h. IsTrue (is_live_in (live_of left.bytes) h)) t.at
     (found-live (handle t.block) (live_of left.bytes).extents come.found.0)
 
-same-of : (m m' : Memory) (xs : List Extent) → AllByRecursion (SameBlockBut m m' 0 0) xs
-    → AllByRecursion (SameBlock m m') xs
-same-of m m' [] s = tt
-same-of m m' (x ∷ xs) s = (
-  record { payload = record { at = λ k f g. s.0.payload k f g (inr (omega arith)) }; colour = s.0.colour },
-  same-of
-      m m' xs s.1,
-)
-
 -- nothing is exchanged
 swapped-back : {old new : Cut} → IsSwapped old new [] [] → IsRestored current old new
 swapped-back {old} {new} x = record {
@@ -406,7 +349,9 @@ swapped-back {old} {new} x = record {
     place = x.place;
     front = x.front;
     behind = x.behind;
-    blocks = same-of (bytes_of old.bytes) (bytes_of new.bytes)
+    blocks = all-as (SameBlockBut (bytes_of old.bytes) (bytes_of new.bytes) 0 0)
+        (SameBlock (bytes_of old.bytes) (bytes_of new.bytes))
+        (λ z s. record { payload = record { at = λ k f g. s.payload k f g (inr (omega arith)) }; colour = s.colour })
         (live_of old.bytes).extents x.blocks;
   };
 }
@@ -418,11 +363,10 @@ pub taken-off : {old mid new left last : Cut} {n k g : ℕ} {more : List (List �
 taken-off {old} {mid} {new} {left} {last} {n} {k} {more} t e some w short x r =
     let y = t.block in let a = w.laid in let alone = array-alone t w x in
     let gone = exchange-released current left last y 0 0 (subst (IsReleased current left last) (sym t.at) r) in
-    let fit : place (live_of old.bytes) (16 * length more) Storage ≡ Some y =
-    subst (λ i. place (live_of old.bytes) (16 * i) Storage ≡ Some y) e t.placed in
+    let fit = subst (λ i. place (live_of old.bytes) (16 * i) Storage ≡ Some y) e t.placed in
     record {
       refusal = refl;
-      none = in-array (live_of old.bytes) more (omega (arith, e, some)) fit
+      none = in-array (live_of old.bytes) more (Some y) (omega (arith, e, some)) fit
           ∙ ap (λ (l : LiveSet). placed_texts l more) (sym (came-alone t.change)) ∙ a.placed
           ∙ ap (option_map (λ (qs : List OwnedText). a.texts ++ qs))
           (w.stopped (below k n (length more) short e w.within));
@@ -472,20 +416,23 @@ beside-own {old} {now} {p} {ps} {t} {come} s x =
       head = r1.head;
       change = r1.change;
       found = (are-come x).found;
-      none = (all-split (λ (z : Extent). p.handle ≢ handle z) come own (run-none (own-head w) w.none r1)).0;
+      none = (all-split (λ (z : Extent). p.handle ≢ handle z) come own (run-none w.head w.none r1)).0;
       others = across come own (run-others r1);
     }
 
 -- ---- the vector afterwards
 
-assigned-at : {old now rel new : Cut} {p : Place} {ps : List OwnedText} {t : Table} {g n : ℕ} {more : List (List ℕ)}
-    → IsTexts old.bytes p ps t → (w : AreLaidOut old now more g) → n ≡ length more → 0 < n
-    → IsTextsNow now rel p (own_blocks ps t) [] [] no_table → IsChanged current rel new (place_at p) 24
-    → AreHeadWords (bytes_of new.bytes) (place_at p) n (table n (Some w.block)) → AreTextsAssigned old new p ps t more
-assigned-at {old} {now} {rel} {new} {p} {ps} {t} {n} {more} s w e some x c words =
+pub assigned : {old now rel led new : Cut} {p : Place} {ps : List OwnedText} {t : Table} {g : ℕ} (n : ℕ)
+    {more : List (List ℕ)} → IsTexts old.bytes p ps t → (w : AreLaidOut old now more g) → n ≡ length more → 0 < n
+    → ReleasesTexts now rel p
+    → IsPointed rel led p g n → IsChanged current led new (p.handle + (p.at + 8)) 8
+    → word_at (bytes_of new.bytes) (p.handle + (p.at + 8)) ≡ n
+    → AreTextsAssigned old new p ps t more
+assigned {old} {now} {rel} {led} {new} {p} {ps} {t} n {more} s w e some released q d word =
     let at = place_at p in let own = own_blocks ps t in let y = w.block in let qs = w.texts in
     let come : List Extent = y ∷ text_blocks qs in
-    let u = table n (Some y) in let b = beside-own s w.change in
+    let u = table n (Some y) in let x = released ps t (texts-still s w.change) in let b = beside-own s w.change in
+    let c = changed-both at 24 q.change d (omega arith) (omega arith) (omega arith) (omega arith) in
     let e2 = head-exchanged p x.texts.heap x.texts.room c in
     let e12 = exchange-next _ now rel new at 24 own [] [] [] [] (spread-refl []) x.change e2 in
     let all = exchange-next _ old now new at 24 own _ own come [] (last-first come own) b.change e12 in
@@ -493,10 +440,11 @@ assigned-at {old} {now} {rel} {new} {p} {ps} {t} {n} {more} s w e some x c words
     let serves_all = place-serves (live_of old.bytes) (16 * n) Storage y
     (subst (λ k. place (live_of old.bytes) (16 * k) Storage ≡ Some y) (sym e) w.fit) in
     let big = serves-full y (16 * n) serves_all in
-    let long : length qs ≡ n = w.long ∙ sym e in
-    let same : AreSameElements (bytes_of now.bytes) (bytes_of new.bytes) (handle y) (handle y) (length qs) = λ j f.
-    element-in (handle y + 16 * j) stay.0 (omega arith) (omega (arith, f, long, big)) in
-    let links = links-moved (bytes_of now.bytes) (bytes_of new.bytes) (handle y) (handle y) qs w.links same in
+    let long : n ≡ length qs = e ∙ sym w.long in
+    let words : AreHeadWords (bytes_of new.bytes) at n u = len-written n (omega arith) d.rest word
+    (record { link = q.link ∙ ap (λ k. Some k) w.at; len_word = refl; capacity = q.capacity }) in
+    let links = links-moved (bytes_of now.bytes) (bytes_of new.bytes) (handle y) (handle y) qs w.links
+    (λ j f. element-in (handle y + 16 * j) stay.0 (omega arith) (omega (arith, f, long, big))) in
     let owned = owned-same (bytes_of now.bytes) (bytes_of new.bytes) qs stay.1 w.served w.owned in
     record {
       table = table (length more) (Some y);
@@ -507,29 +455,8 @@ assigned-at {old} {now} {rel} {new} {p} {ps} {t} {n} {more} s w e some x c words
       now = subst (λ k. IsTextsNow old new p own come qs (table k (Some y))) e
           (texts-between qs [] ps qs [] {u = u} (sym (append-nil ps)) (sym (append-nil qs)) refl refl s all
           (new-table n y some serves_all) (omega (arith, long))
-          (subst (λ k. AreHeadWords (bytes_of new.bytes) at k u) (sym long) words) links owned w.served);
+          (subst (λ k. AreHeadWords (bytes_of new.bytes) at k u) long words) links owned w.served);
     }
-
-pub laid-still : {old now : Cut} {p : Place} {ps : List OwnedText} {t : Table} {g : ℕ} {more : List (List ℕ)}
-    → IsTexts old.bytes p ps t → AreLaidOut old now more g → IsTexts now.bytes p ps t
-laid-still s w = texts-still s w.change
-
--- as the calls say it
-pub assigned : {old now rel led new : Cut} {p : Place} {ps : List OwnedText} {t : Table} {g : ℕ} (n : ℕ)
-    {more : List (List ℕ)} → IsTexts old.bytes p ps t → (w : AreLaidOut old now more g) → n ≡ length more → 0 < n
-    → ReleasesTexts now rel p
-    → IsPointed rel led p g n → IsChanged current led new (p.handle + (p.at + 8)) 8
-    → word_at (bytes_of new.bytes) (p.handle + (p.at + 8)) ≡ n
-    → AreTextsAssigned old new p ps t more
-assigned {rel} {led} {new} {p} {ps} {t} n s w e some r q d word =
-    let at : p.handle + (p.at + 8) ≡ place_at p + 8 = omega arith in
-    let u = table n (Some w.block) in
-    let d' : IsChanged current led new (place_at p + 8) 8 = subst (λ k. IsChanged current led new k 8) at d in
-    let both = changed-both (place_at p) 24 q.change d' (omega arith) (omega arith) (omega arith) (omega arith) in
-    let before : AreHeadWords (bytes_of led.bytes) (place_at p) (word_at (bytes_of led.bytes) (place_at p + 8)) u =
-    record { link = q.link ∙ ap (λ k. Some k) w.at; len_word = refl; capacity = q.capacity } in
-    let words = len-written n refl d'.rest (subst (λ k. word_at (bytes_of new.bytes) k ≡ n) at word) before in
-    assigned-at s w e some (r ps t (laid-still s w)) both words
 
 pub laid-even : {old now : Cut} {g : ℕ} {more : List (List ℕ)} → AreLaidOut old now more g → g % 16 ≡ 0
 laid-even {now} w =
@@ -551,19 +478,13 @@ some-texts (suc n) e = omega arith
 
 -- ---- a vector of texts stands where the same blocks are in use as before, with the same bytes
 
-still-of : (m m' : Memory) (xs : List Extent) → AllByRecursion (SameBlock m m') xs
-    → AllByRecursion (SameBlockBut m m' 0 0) xs
-still-of m m' [] s = tt
-still-of m m' (x ∷ xs) s =
-    (record { payload = λ k f g h. s.0.payload.at k f g; colour = s.0.colour }, still-of m m' xs s.1)
-
 nothing-swapped : {a b : Cut} → IsRestored current a b → IsSwapped a b [] []
 nothing-swapped {a} {b} r = record {
   live = r.laid;
   place = r.keeps.place;
   front = r.keeps.front;
   behind = r.keeps.behind;
-  blocks = still-of (bytes_of a.bytes) (bytes_of b.bytes) (live_of a.bytes).extents r.keeps.blocks;
+  blocks = all-same-but (bytes_of a.bytes) (bytes_of b.bytes) 0 0 (live_of a.bytes).extents r.keeps.blocks;
 }
 
 pub texts-restored : {a b : Cut} {p : Place} {ps : List OwnedText} {t : Table} → IsTexts a.bytes p ps t

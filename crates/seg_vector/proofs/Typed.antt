@@ -5,12 +5,12 @@ use W.{append_assoc, arith, ◌-◌, ◌≤◌, max, false, if◌then◌else◌,
 use W.{insert, remove, slice_get, slice_set, nat_le, option_to_list, list_all, and_from, and_parts, leb-true}
 use W.{list_all-append, take-append-drop, length-set, length-take, flat_map-append, take-append-add, drop-append-add}
 use W.{take-append_seam, length-insert, length-remove, part, patched, Cut, bytes_of, word_at, current, IsExchanged}
-use W.{IsChanged, IsHeap, has_room, live_of, Table, no_table, Refusal, Place, Erases, Result, Ok, Err, MatchResult}
-use W.{Extends, Fits, GivesBack, Inserts, IsFitted, IsGivenBack, IsRewritten, Overwrites, ReadsOne, Truncates}
-use W.{IsGrown, Grows, IsStanding, Stands, place_at, IsText, IsTextGrown, IsTextNow, capacity_for_one}
-use W.{capacity_for_text, IsVector, IsVectorGrown, IsVectorNow, IsWithoutSpace, Starts, []}
+use W.{live_of, Table, no_table, Refusal, Place, Erases, Result, Ok, Err, MatchResult, Extends, Fits, GivesBack}
+use W.{Inserts, IsFitted, IsGivenBack, IsRewritten, Overwrites, ReadsOne, Truncates, IsGrown, Grows, IsStanding, Stands}
+use W.{place_at, IsText, IsTextGrown, IsTextNow, capacity_for_one, capacity_for_text, IsVector, IsVectorGrown}
+use W.{IsVectorNow, IsWithoutSpace, [], take-nil, drop-nil}
 use Rattle.seg_vector.proofs.Storage.{capacity-bytes, exchange-then, has-place, not-refused, unchanged-rewritten}
-use Rattle.seg_vector.proofs.{Runs.head-exchanged, Runs.same-some, Runs.table, Storage.wanted-places}
+use Rattle.seg_vector.proofs.{Runs.same-some, Runs.table, Storage.wanted-places}
 use Rattle.best_fit.specs.Table.{cut_table}
 
 -- ---- what holds of each
@@ -53,14 +53,6 @@ set-pieces (x ∷ xs) zero y f = refl
 set-pieces (x ∷ xs) (suc i) y f = ap (λ l. x ∷ l) (set-pieces xs i y (omega arith))
 
 -- ---- their bytes
-
-take-nil : (k : ℕ) → take k (let none : List ℕ = [] in none) ≡ []
-take-nil zero = refl
-take-nil (suc k) = refl
-
-drop-nil : (k : ℕ) → drop k (let none : List ℕ = [] in none) ≡ []
-drop-nil zero = refl
-drop-nil (suc k) = refl
 
 module _ {T : Type 0} (size : ℕ) (test : T → Bool) (sp : T → List ℕ)
     (spells : (x : T) → test x ≡ true → length (sp x) ≡ size) where
@@ -143,43 +135,52 @@ module _ {T : Type 0} (size : ℕ) (test : T → Bool) (sp : T → List ℕ)
 -- ---- vectors of values, from what is known of their bytes
 
 -- what stands has so many elements, and they are these values
-pub vector-of : {T : Type 0} → {size : ℕ} (test : T → Bool) (sp : T → List ℕ) {b : List ℕ} {p : Place} {n : ℕ}
-    {t : Table} {bytes : List ℕ} (ys : List T) → Stands b p size n t bytes
-    → n ≡ length ys → bytes ≡ flat_map sp ys → IsTrue (list_all test ys) → IsVector size test sp b p ys t
-vector-of {size} test sp {b} {p} {n} {t} ys s e f v =
-    record {
-      stands = subst (λ k. Stands b p size k t (flat_map sp ys)) e (subst (λ bs. Stands b p size n t bs) f s);
-      values = v;
-    }
-
 pub vector-now : {T : Type 0} → {size : ℕ} (test : T → Bool) (sp : T → List ℕ) {old new : Cut} {p : Place} {n : ℕ}
     {t : Table} {bytes : List ℕ} (ys : List T) → IsRewritten old new p size n t bytes
     → n ≡ length ys → bytes ≡ flat_map sp ys → IsTrue (list_all test ys) → IsVectorNow size test sp old new p t ys t
-vector-now test sp ys r e f v = record { change = r.change; vector = vector-of test sp ys r.stands e f v }
+vector-now {size = size} test sp {new = new} {p} {n} {t} ys r e f v = record {
+  change = r.change;
+  vector = record {
+    stands = subst (λ k. Stands new.bytes p size k t (flat_map sp ys)) e
+        (subst (λ bs. Stands new.bytes p size n t bs) f r.stands);
+    values = v;
+  };
+}
 
--- one change after another, in the storage that came
-pub now-then : {T : Type 0} → {size : ℕ} {test : T → Bool} {sp : T → List ℕ} {old mid new : Cut} {p : Place}
-    (t : Table) {u : Table} {ys : List T} → IsExchanged current old mid (place_at p) 24 (option_to_list t.extent)
-    (option_to_list u.extent) → IsVectorNow size test sp mid new p u ys u → IsVectorNow size test sp old new p t ys u
-now-then t c w = record { change = exchange-then c w.change; vector = w.vector }
+module _ {T : Type 0} {size : ℕ} {test : T → Bool} {sp : T → List ℕ} where
+  -- one change after another, in the storage that came
+  pub now-then : {old mid new : Cut} {p : Place} (t : Table) {u : Table} {ys : List T}
+      → IsExchanged current old mid (place_at p) 24 (option_to_list t.extent) (option_to_list u.extent)
+      → IsVectorNow size test sp mid new p u ys u → IsVectorNow size test sp old new p t ys u
+  now-then t c w = record { change = exchange-then c w.change; vector = w.vector }
 
--- the storage is grown, and the values stay
-pub vector-grown : {T : Type 0} → {size : ℕ} {test : T → Bool} {sp : T → List ℕ} {old new : Cut} {p : Place} {n : ℕ}
-    {t : Table} {xs : List T} → IsVector size test sp old.bytes p xs t
-    → IsGrown old new p size n (length xs) t (flat_map sp xs) → IsVectorGrown size test sp old new p t n xs
-vector-grown v g =
-    record {
-      table = g.table;
-      grown = g.grown;
-      now = record
-          { change = g.change; vector = record { stands = g.stands; values = v.values } };
-    }
+  -- the storage is grown, and the values stay
+  pub vector-grown : {old new : Cut} {p : Place} {n : ℕ} {t : Table} {xs : List T}
+      → IsVector size test sp old.bytes p xs t → IsGrown old new p size n (length xs) t (flat_map sp xs)
+      → IsVectorGrown size test sp old new p t n xs
+  vector-grown v g = record {
+    table = g.table;
+    grown = g.grown;
+    now = record { change = g.change; vector = record { stands = g.stands; values = v.values } };
+  }
 
--- the storage is grown, and then there are other values in it
-pub grown-then : {T : Type 0} → {size : ℕ} {test : T → Bool} {sp : T → List ℕ} {old mid new : Cut} {p : Place} {n : ℕ}
-    {t : Table} (xs : List T) {ys : List T} → (g : IsGrown old mid p size n (length xs) t (flat_map sp xs))
-    → IsVectorNow size test sp mid new p g.table ys g.table → IsVectorGrown size test sp old new p t n ys
-grown-then {t} xs g w = record { table = g.table; grown = g.grown; now = now-then t g.change w }
+  -- the storage is grown, and then there are other values in it
+  pub grown-then : {old mid new : Cut} {p : Place} {n : ℕ} {t : Table} (xs : List T) {ys : List T}
+      → (g : IsGrown old mid p size n (length xs) t (flat_map sp xs))
+      → IsVectorNow size test sp mid new p g.table ys g.table → IsVectorGrown size test sp old new p t n ys
+  grown-then {t = t} xs g w = record { table = g.table; grown = g.grown; now = now-then t g.change w }
+
+  -- nothing is done
+  pub unchanged-now : (c : Cut) {p : Place} {xs : List T} (ys : List T) {t : Table}
+      → IsVector size test sp c.bytes p xs t → xs ≡ ys → IsVectorNow size test sp c c p t ys t
+  unchanged-now c {p} ys {t} v e = subst (λ (zs : List T). IsVectorNow size test sp c c p t zs t) e
+      (record { change = (unchanged-rewritten c v.stands).change; vector = v })
+
+  -- a place that is free
+  pub has-space : {b : List ℕ} {p : Place} {xs : List T} {t : Table} → IsVector size test sp b p xs t
+      → length xs < t.capacity
+      → word_at (bytes_of b) (p.handle + p.at + 8) < word_at (bytes_of b) (p.handle + p.at + 16)
+  has-space v f = omega (arith, f, v.stands.words.len_word, v.stands.words.capacity)
 
 -- ---- the same of texts
 
@@ -197,28 +198,10 @@ pub text-then : {old mid new : Cut} {p : Place} (t : Table) {u : Table} {ys : Li
     → IsTextNow mid new p u ys u → IsTextNow old new p t ys u
 text-then t c w = record { change = exchange-then c w.change; text = w.text }
 
-pub text-grown : {old new : Cut} {p : Place} {n : ℕ} {t : Table} {bytes : List ℕ}
-    → IsGrown old new p 1 n (length bytes) t bytes → IsTextGrown old new p t n bytes
-text-grown g = record { table = g.table; grown = g.grown; now = record { change = g.change; text = g.stands } }
-
 pub text-grown-then : {old mid new : Cut} {p : Place} {n : ℕ} {t : Table} {bytes ys : List ℕ}
     → (g : IsGrown old mid p 1 n (length bytes) t bytes) → IsTextNow mid new p g.table ys g.table
     → IsTextGrown old new p t n ys
 text-grown-then {t} g w = record { table = g.table; grown = g.grown; now = text-then t g.change w }
-
--- ---- a vector without a place
-
-pub vector-started : {T : Type 0} → {size : ℕ} (test : T → Bool) (sp : T → List ℕ) {old new : Cut} {p : Place}
-    → IsHeap current old.bytes → IsTrue (has_room (live_of old.bytes) p.handle (p.at + 24))
-    → IsChanged current old new (place_at p) 24 → Stands new.bytes p size 0 no_table [] → Starts size test sp old new p
-vector-started test sp {p} heap r c s =
-    record { change = head-exchanged p heap r c; vector = record { stands = s; values = refl } }
-
-pub text-started : {old new : Cut} {p : Place} → IsHeap current old.bytes
-    → IsTrue (has_room (live_of old.bytes) p.handle (p.at + 24))
-    → IsChanged current old new (place_at p) 24 → Stands new.bytes p 1 0 no_table []
-    → IsTextNow old new p no_table [] no_table
-text-started {p} heap r c s = record { change = head-exchanged p heap r c; text = s }
 
 -- ---- what the calls on bytes do, for vectors. Their element size is the type's.
 
@@ -246,6 +229,12 @@ module _ {T : Type 0} {size : ℕ} {test : T → Bool} {sp : T → List ℕ} (ol
   without-space n {f = f} h = subst (λ j. IsWithoutSpace old mid j (n (length xs) t.capacity) t f) e
       (h (length xs) t (flat_map sp xs) stands-at)
 
+  -- the bytes of an element are those of its value
+  pub element-spells : (i : ℕ) {x : T} (out : List ℕ) → ((x : T) → test x ≡ true → length (sp x) ≡ size)
+      → slice_get xs i ≡ Some x → ReadsOne old.bytes p k i out → out ≡ sp x
+  element-spells i out spells f h = h (length xs) t (flat_map sp xs) stands-at
+      ∙ ap (λ j. part (flat_map sp xs) (j * i) j) e ∙ flat-element size test sp spells xs i v.values f
+
   -- so many places as are asked for
   pub reserved-of : (n : ℕ) (r : Result (Unit {0}) Refusal) → Grows old mid p k n r
       → MatchResult r (λ u. IsVectorGrown size test sp old mid p t n xs) (IsWithoutSpace old mid size n t)
@@ -269,8 +258,7 @@ module _ {T : Type 0} {size : ℕ} {test : T → Bool} {sp : T → List ℕ} (ol
   pub cut-now : (n : ℕ) → ((x : T) → test x ≡ true → length (sp x) ≡ size) → n ≤ length xs → Truncates old mid p k n
       → IsVectorNow size test sp old mid p t (take n xs) t
   cut-now n spells f h =
-      let r : IsRewritten old mid p size n t (take (size * n) (flat_map sp xs)) =
-      subst (λ j. IsRewritten old mid p j n t (take (j * n) (flat_map sp xs))) e
+      let r = subst (λ j. IsRewritten old mid p j n t (take (j * n) (flat_map sp xs))) e
       (h (length xs) t (flat_map sp xs) stands-at) in
       vector-now test sp (take n xs) r (omega (arith, length-take n xs, f))
       (flat-take size test sp spells n xs v.values) (all-parts test n xs v.values).0
@@ -278,8 +266,7 @@ module _ {T : Type 0} {size : ℕ} {test : T → Bool} {sp : T → List ℕ} (ol
   pub set-now : (i : ℕ) (y : T) → ((x : T) → test x ≡ true → length (sp x) ≡ size) → i < length xs → test y ≡ true
       → Overwrites old mid p k i (sp y) → IsVectorNow size test sp old mid p t (slice_set xs i y) t
   set-now i y spells f good h =
-      let r : IsRewritten old mid p size (length xs) t (patched (flat_map sp xs) (size * i) (sp y)) =
-      subst (λ j. IsRewritten old mid p j (length xs) t (patched (flat_map sp xs) (j * i) (sp y))) e
+      let r = subst (λ j. IsRewritten old mid p j (length xs) t (patched (flat_map sp xs) (j * i) (sp y))) e
       (h (length xs) t (flat_map sp xs) stands-at) in
       vector-now test sp (slice_set xs i y) r (sym (length-set xs i y))
       (flat-set size test sp spells xs i y v.values f good)
@@ -289,8 +276,7 @@ module _ {T : Type 0} {size : ℕ} {test : T → Bool} {sp : T → List ℕ} (ol
   pub appended-now : (y : T) → test y ≡ true → Extends old mid p k 1 (sp y)
       → IsVectorNow size test sp old mid p t (xs ++ y ∷ []) t
   appended-now y good h =
-      let r : IsRewritten old mid p size (length xs + 1) t (flat_map sp xs ++ sp y) =
-      subst (λ j. IsRewritten old mid p j (length xs + 1) t (flat_map sp xs ++ sp y)) e
+      let r = subst (λ j. IsRewritten old mid p j (length xs + 1) t (flat_map sp xs ++ sp y)) e
       (h (length xs) t (flat_map sp xs) stands-at) in
       vector-now test sp (xs ++ y ∷ []) r (sym (length-append xs (y ∷ [])))
       (ap (λ bs. flat_map sp xs ++ bs) (sym (append-nil (sp y))) ∙ sym (flat_map-append sp xs (y ∷ [])))
@@ -299,8 +285,7 @@ module _ {T : Type 0} {size : ℕ} {test : T → Bool} {sp : T → List ℕ} (ol
   pub inserted-now : (i : ℕ) (y : T) → ((x : T) → test x ≡ true → length (sp x) ≡ size) → i ≤ length xs → test y ≡ true
       → Inserts old mid p k i (sp y) → IsVectorNow size test sp old mid p t (insert xs i y) t
   inserted-now i y spells f good h =
-      let bytes : List ℕ = take (size * i) (flat_map sp xs) ++ (sp y ++ drop (size * i) (flat_map sp xs)) in
-      let r : IsRewritten old mid p size (length xs + 1) t bytes = subst (λ j. IsRewritten old mid p j (length xs + 1) t
+      let r = subst (λ j. IsRewritten old mid p j (length xs + 1) t
       (take (j * i) (flat_map sp xs) ++ (sp y ++ drop (j * i) (flat_map sp xs)))) e
       (h (length xs) t (flat_map sp xs) stands-at) in
       vector-now test sp (insert xs i y) r (sym (length-insert xs i y f))
@@ -310,8 +295,7 @@ module _ {T : Type 0} {size : ℕ} {test : T → Bool} {sp : T → List ℕ} (ol
   pub erased-now : (i : ℕ) → ((x : T) → test x ≡ true → length (sp x) ≡ size) → i < length xs → Erases old mid p k i
       → IsVectorNow size test sp old mid p t (remove xs i) t
   erased-now i spells f h =
-      let bytes : List ℕ = take (size * i) (flat_map sp xs) ++ drop (size * i + size) (flat_map sp xs) in
-      let r : IsRewritten old mid p size (length xs - 1) t bytes = subst (λ j. IsRewritten old mid p j (length xs - 1) t
+      let r = subst (λ j. IsRewritten old mid p j (length xs - 1) t
       (take (j * i) (flat_map sp xs) ++ drop (j * i + j) (flat_map sp xs))) e
       (h (length xs) t (flat_map sp xs) stands-at) in
       vector-now test sp (remove xs i) r (omega (arith, length-remove xs i f))
@@ -320,40 +304,16 @@ module _ {T : Type 0} {size : ℕ} {test : T → Bool} {sp : T → List ℕ} (ol
   pub fitted-now : Fits old mid p k
       → IsVectorNow size test sp old mid p t xs (cut_table (live_of old.bytes) size (length xs) t)
   fitted-now h =
-      let r : IsFitted old mid p size (length xs) t (flat_map sp xs) =
-      subst (λ j. IsFitted old mid p j (length xs) t (flat_map sp xs)) e
+      let r = subst (λ j. IsFitted old mid p j (length xs) t (flat_map sp xs)) e
       (h (length xs) t (flat_map sp xs) stands-at) in
       record { change = r.change; vector = record { stands = r.stands; values = v.values } }
 
   pub released-now : GivesBack old mid p k → let none : List T = [] in IsVectorNow size test sp old mid p t none
       no_table
   released-now h =
-      let r : IsGivenBack old mid p size t = subst (λ j. IsGivenBack old mid p j t) e
+      let r = subst (λ j. IsGivenBack old mid p j t) e
       (h (length xs) t (flat_map sp xs) stands-at) in
       record { change = r.change; vector = record { stands = r.stands; values = refl } }
-
--- nothing is done
-pub unchanged-now : {T : Type 0} → {size : ℕ} {test : T → Bool} {sp : T → List ℕ} (c : Cut) {p : Place} {xs : List T}
-    (ys : List T) {t : Table} → IsVector size test sp c.bytes p xs t → xs ≡ ys → IsVectorNow size test sp c c p t ys t
-unchanged-now {T} {size} {test} {sp} c {p} {xs} ys {t} v e =
-    subst (λ (zs : List T). IsVectorNow size test sp c c p t zs t) e
-    (let r : IsRewritten c c p size (length xs) t (flat_map sp xs) = unchanged-rewritten c v.stands in record
-    { change = r.change; vector = v })
-
--- a place that is free
-pub has-space : {T : Type 0} → {size : ℕ} {test : T → Bool} {sp : T → List ℕ} {b : List ℕ} {p : Place} {xs : List T}
-    {t : Table} → IsVector size test sp b p xs t → length xs < t.capacity
-    → word_at (bytes_of b) (p.handle + p.at + 8) < word_at (bytes_of b) (p.handle + p.at + 16)
-has-space v f = omega (arith, f, v.stands.words.len_word, v.stands.words.capacity)
-
--- the bytes of an element are those of its value
-pub element-spells : {T : Type 0} → {size : ℕ} {test : T → Bool} {sp : T → List ℕ} (old : Cut) {p : Place} {k : ℕ}
-    {xs : List T} {t : Table} → k ≡ size → IsVector size test sp old.bytes p xs t
-    → (i : ℕ) {x : T} (out : List ℕ) → ((x : T) → test x ≡ true → length (sp x) ≡ size) → slice_get xs i ≡ Some x
-    → ReadsOne old.bytes p k i out → out ≡ sp x
-element-spells {size = size} {test} {sp} old {p} {k} {xs} {t} e v i out spells f h =
-    h (length xs) t (flat_map sp xs) (subst (λ j. Stands old.bytes p j (length xs) t (flat_map sp xs)) (sym e)
-    v.stands) ∙ ap (λ j. part (flat_map sp xs) (j * i) j) e ∙ flat-element size test sp spells xs i v.values f
 
 -- ---- what the calls on bytes do, for texts
 
@@ -377,7 +337,8 @@ module _ (old mid : Cut) {p : Place} {bytes : List ℕ} {t : Table} (v : IsText 
 
   pub text-reserved : (n : ℕ) (r : Result (Unit {0}) Refusal) → Grows old mid p 1 n r
       → MatchResult r (λ u. IsTextGrown old mid p t n bytes) (IsWithoutSpace old mid 1 n t)
-  text-reserved n (Ok u) h = text-grown (h (length bytes) t bytes v)
+  text-reserved n (Ok u) h = let g = h (length bytes) t bytes v in
+      record { table = g.table; grown = g.grown; now = record { change = g.change; text = g.stands } }
   text-reserved n (Err f) h = h (length bytes) t bytes v
 
   pub text-enough : (n : ℕ) (r : Result (Unit {0}) Refusal) → Grows old mid p 1 n r → n ≤ t.capacity
@@ -385,16 +346,12 @@ module _ (old mid : Cut) {p : Place} {bytes : List ℕ} {t : Table} (v : IsText 
   text-enough n (Ok tt) h less = (refl, (h (length bytes) t bytes v).enough less)
   text-enough n (Err f) h less = absurd (not-refused less (h (length bytes) t bytes v))
 
-  pub text-cleared : Truncates old mid p 1 0 → IsTextNow old mid p t [] t
-  text-cleared h = text-now [] (h (length bytes) t bytes v) refl refl
-
   pub byte-set : (i x : ℕ) → i < length bytes → Overwrites old mid p 1 i (x ∷ [])
       → IsTextNow old mid p t (slice_set bytes i x) t
   byte-set i x f h =
       let at : 1 * i ≡ i = omega arith in
       let next : i + 1 ≡ suc i = omega arith in
-      let r : IsRewritten old mid p 1 (length bytes) t (patched bytes i (x ∷ [])) =
-      subst (λ j. IsRewritten old mid p 1 (length bytes) t (patched bytes j (x ∷ []))) at
+      let r = subst (λ j. IsRewritten old mid p 1 (length bytes) t (patched bytes j (x ∷ []))) at
       (h (length bytes) t bytes v) in
       let is : patched bytes i (x ∷ []) ≡ slice_set bytes i x = append_assoc (take i bytes) (x ∷ [])
       (drop (i + 1) bytes) ∙ ap (λ k. take i bytes ++ (x ∷ drop k bytes)) next ∙ sym (set-pieces bytes i x f) in
@@ -402,14 +359,6 @@ module _ (old mid : Cut) {p : Place} {bytes : List ℕ} {t : Table} (v : IsText 
 
   pub text-extended : (more : List ℕ) → Extends old mid p 1 (length more) more → IsTextNow old mid p t (bytes ++ more) t
   text-extended more h = text-now (bytes ++ more) (h (length bytes) t bytes v) (sym (length-append bytes more)) refl
-
-  pub text-fitted : Fits old mid p 1 → IsTextNow old mid p t bytes (cut_table (live_of old.bytes) 1 (length bytes) t)
-  text-fitted h = let r : IsFitted old mid p 1 (length bytes) t bytes = h (length bytes) t bytes v in record
-      { change = r.change; text = r.stands }
-
-  pub text-released : GivesBack old mid p 1 → IsTextNow old mid p t [] no_table
-  text-released h = let r : IsGivenBack old mid p 1 t = h (length bytes) t bytes v in record
-      { change = r.change; text = r.stands }
 
   -- places for bytes behind the last one
   pub text-space : (more : List ℕ) → length bytes + length more ≤ t.capacity

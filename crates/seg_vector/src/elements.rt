@@ -1,11 +1,12 @@
 //! The elements of a container at a place: read, written over, left out, and put in where there is a place.
-ghost use Rattle.std.specs.Prelude.{◌≡◌, ◌+◌, ◌*◌, ◌<◌, ◌≤◌, length};
+ghost use Rattle.std.specs.Prelude.{◌≡◌, ◌+◌, ◌*◌, ◌<◌, ◌≤◌, length, true};
 ghost use Rattle.raw_region.specs.Memory.{bytes_of, word_at};
 ghost use Rattle.seg_vector.specs.Elements.{Erases, Extends, HasSpot, Inserts, Overwrites, PutsAt, ReadsAll};
 ghost use Rattle.seg_vector.specs.{Elements.ReadsOne, Elements.Truncates, Standing.IsStanding};
 
 use crate::places::{LEN, Place, len_of, link_of};
 use best_fit::Heap;
+use seg_types::Plain;
 
 /// The bytes of all elements, of `each` bytes each.
 pub fn elements(heap: &Heap, place: Place, each: u64) -> &[u8]
@@ -113,7 +114,7 @@ pub enum Spot {
 }
 
 /// Puts an element of `each` bytes at a spot.
-pub fn put_at(heap: &mut Heap, place: Place, each: u64, spot: Spot, bytes: &[u8])
+fn put_at(heap: &mut Heap, place: Place, each: u64, spot: Spot, bytes: &[u8])
     requires stands { IsStanding heap.old.bytes place each }
     requires spot { HasSpot heap.old.bytes place spot }
     requires some { 1 ≤ each }
@@ -125,4 +126,38 @@ pub fn put_at(heap: &mut Heap, place: Place, each: u64, spot: Spot, bytes: &[u8]
         Spot::Over(index) => set_element(heap, place, each, index, bytes),
         Spot::Before(index) => insert_element(heap, place, each, index, bytes),
     }
+}
+
+/// Spellings of so many bytes go by way of a short buffer, and others by way of one for the longest.
+const SHORT: usize = 16;
+
+const LONGEST: usize = 4096;
+
+/// Puts a value at a spot.
+pub fn put_value<T: Plain>(heap: &mut Heap, place: Place, spot: Spot, value: T)
+    requires stands { IsStanding heap.old.bytes place T.SIZE }
+    requires spot { HasSpot heap.old.bytes place spot }
+    ensures value { T.is_value value ≡ true }
+    ensures put { PutsAt heap.old heap.new place T.SIZE spot (T.spelling value) }
+{
+    if T::SIZE as usize <= SHORT {
+        put_by::<T, SHORT>(heap, place, spot, value);
+    } else {
+        put_by::<T, LONGEST>(heap, place, spot, value);
+    }
+}
+
+/// The same by way of a buffer of `N` bytes.
+fn put_by<T: Plain, const N: usize>(heap: &mut Heap, place: Place, spot: Spot, value: T)
+    requires buffer { T.SIZE ≤ N }
+    requires short { N ≤ 4096 }
+    requires stands { IsStanding heap.old.bytes place T.SIZE }
+    requires spot { HasSpot heap.old.bytes place spot }
+    ensures value { T.is_value value ≡ true }
+    ensures put { PutsAt heap.old heap.new place T.SIZE spot (T.spelling value) }
+{
+    let mut buffer = [0u8; N];
+    let bytes = &mut buffer[..T::SIZE as usize];
+    value.write(bytes);
+    put_at(heap, place, T::SIZE, spot, bytes);
 }

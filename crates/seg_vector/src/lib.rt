@@ -8,7 +8,6 @@ mod sizing;
 mod strings;
 mod text_arrays;
 mod texts;
-mod values;
 mod vectors;
 
 pub use elements::truncate;

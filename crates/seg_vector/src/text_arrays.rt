@@ -131,18 +131,15 @@ pub fn adopt(heap: &mut Heap, place: Place, array: u64, n: u64)
     ensures { Adopts heap.old heap.new place array n }
 {
     let len = len_of(heap, place);
-    match link_of(heap, place) {
-        None => point_to(heap, place, array, n),
-        Some(old) => {
-            if old == array {
-                point_to(heap, place, array, n);
-            } else {
-                carry_down(heap, old, 0, array, 0, len);
-                point_to(heap, place, array, n);
-                heap.deallocate(old, &mut Steps::new());
-            }
+    if let Some(old) = link_of(heap, place) {
+        if old != array {
+            carry_down(heap, old, 0, array, 0, len);
+            point_to(heap, place, array, n);
+            heap.deallocate(old, &mut Steps::new());
+            return;
         }
     }
+    point_to(heap, place, array, n);
 }
 
 /// Writes the element of a text, whose block is in use already, where `index` others stand before it: those from there on move up.
@@ -175,16 +172,13 @@ pub fn give_up(heap: &mut Heap, place: Place, array: u64, room: u64)
     requires { IsToBeGivenUp heap.old place array room }
     ensures { GivesUp heap.old heap.new place array room }
 {
-    match link_of(heap, place) {
-        None => heap.deallocate(array, &mut Steps::new()),
-        Some(old) => {
-            if old == array {
-                heap.shrink_in_place(array, room, &mut Steps::new());
-            } else {
-                heap.deallocate(array, &mut Steps::new());
-            }
+    if let Some(old) = link_of(heap, place) {
+        if old == array {
+            heap.shrink_in_place(array, room, &mut Steps::new());
+            return;
         }
     }
+    heap.deallocate(array, &mut Steps::new());
 }
 
 /// Puts a text where `index` others stand before it. There is a place for it.

@@ -5,10 +5,9 @@ ghost use Rattle.best_fit.specs.{Heap.IsChanged, Heap.IsHeap, Heap.has_room, Hea
 ghost use Rattle.seg_vector.specs.Standing.{place_at};
 ghost use Rattle.seg_vector.specs.VectorCalls.{Assigns, Clears, Counts, CountsPlaces, ErasesFrom, Gets, InsertsInto, IsSomeVector, IsVector, Pops, Pushes, PutsAll, Releases, Reserves, ReservesNothing, Sets, Shrinks, Starts};
 
-use crate::elements::{Spot, element, erase_element, truncate};
+use crate::elements::{Spot, element, erase_element, put_value, truncate};
 use crate::places::{Place, capacity_of, len_of};
 use crate::sizing::{self, fit, give_back, grow_for_one, start};
-use crate::values::put_value;
 use best_fit::Heap;
 use seg_types::{Plain, Refusal};
 use std::marker::PhantomData;

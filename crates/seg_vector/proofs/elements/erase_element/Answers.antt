@@ -1,6 +1,6 @@
 -- Those behind the element move down, and the length is written.
 use Rattle.seg_vector.proofs.{take, drop, ◌++◌, ℕ, ◌*◌, ◌+◌, ◌-◌, sym, subst, ◌∙◌, arith, Stands, IsRewritten, live_of}
-use Rattle.seg_vector.proofs.{changed-room, Fitting, erase-fits, erased, len-read, len-room, part-room}
+use Rattle.seg_vector.proofs.{Fitting, erase-fits, erased, part-room}
 use Rattle.seg_vector.proofs.elements.erase_element.Goals.{In-Some}
 use Rattle.seg_vector.proofs.elements.erase_element.Goals as goal
 
@@ -26,13 +26,9 @@ copy-requires-clause-target c =
     part-room (c.args.each * c.args.index + c.args.each * (c.len_of-len.result - c.args.index - 1)) (omega arith)
     (fits (goal.at.copy-requires-clause-target c).In-Some)
 
-pub set_word-requires : goal.set_word-requires
-set_word-requires c = changed-room _ _ _ _ _ c.args.place.handle (c.args.place.at + 8 + 8) c.copy.ensures.change
-    (len-room c.args.heap.now.bytes c.args.place c.requires.stands.1.1.1.room)
-
 pub returns-in-Some : goal.returns-in-Some
 returns-in-Some c len t bytes s =
-    let is = len-read c.len_of-len.result s c.len_of-len.ensures in
+    let is = c.len_of-len.ensures ∙ s.words.len_word in
     let at : ℕ = c.args.each * c.args.index in
     let now = subst (λ n. Stands c.args.heap.now.bytes c.args.place c.args.each n t bytes) (sym is) s in
     subst (λ n. IsRewritten c.args.heap.now c.set_word.new.self c.args.place c.args.each (n - 1) t

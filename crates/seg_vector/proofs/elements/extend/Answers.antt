@@ -1,19 +1,19 @@
 -- The elements lie in the storage, and the length in the container's own block.
 use Rattle.seg_vector.proofs.{◌≡◌, sym, ap, subst, ◌∙◌, ◌+◌, ◌*◌, ◌≤◌, ℕ, arith, length, current, Has, bytes_of}
-use Rattle.seg_vector.proofs.{IsChanged, at-least, none-left, capacity-bytes, changed-room, extended, extended-not}
-use Rattle.seg_vector.proofs.{len-read, len-room, more-times, some-room}
+use Rattle.seg_vector.proofs.{IsChanged, at-least, none-left, capacity-bytes, extended, extended-not, more-times}
+use Rattle.seg_vector.proofs.{some-room}
 use Rattle.seg_vector.proofs.elements.extend.Goals as goal
 
 pub overflow_mul-each : goal.overflow_mul-each
 overflow_mul-each c =
-    let s = c.requires.stands.1.1.1 in let is = len-read c.len_of-len.result s c.len_of-len.ensures in
+    let s = c.requires.stands.1.1.1 in let is = c.len_of-len.ensures ∙ s.words.len_word in
     let small = capacity-bytes c.args.heap.now s.heap s in
     let less = more-times c.args.each c.len_of-len.result c.requires.stands.1.0.capacity (omega (arith, is, s.fits)) in
     omega (arith, small, less)
 
 pub write-requires : goal.write-requires
 write-requires c =
-    let s = c.requires.stands.1.1.1 in let is = len-read c.len_of-len.result s c.len_of-len.ensures in
+    let s = c.requires.stands.1.1.1 in let is = c.len_of-len.ensures ∙ s.words.len_word in
     let n : ℕ = c.len_of-len.result + c.args.n in
     let within : n ≤ c.requires.stands.1.0.capacity =
     omega (arith, is, c.requires.space, s.words.len_word, s.words.capacity) in
@@ -24,18 +24,14 @@ write-requires c =
 
 pub overflow_add-len : goal.overflow_add-len
 overflow_add-len c =
-    let s = c.requires.stands.1.1.1 in let is = len-read c.len_of-len.result s c.len_of-len.ensures in
+    let s = c.requires.stands.1.1.1 in let is = c.len_of-len.ensures ∙ s.words.len_word in
     let small = capacity-bytes c.args.heap.now s.heap s in
     let least = at-least c.args.each c.requires.stands.1.0.capacity c.requires.some in
     omega (arith, is, small, least, c.requires.space, s.words.len_word, s.words.capacity)
 
-pub set_word-requires : goal.set_word-requires
-set_word-requires c = changed-room _ _ _ _ _ c.args.place.handle (c.args.place.at + 8 + 8) c.write.ensures.change
-    (len-room c.args.heap.now.bytes c.args.place c.requires.stands.1.1.1.room)
-
 pub returns-in-Some : goal.returns-in-Some
 returns-in-Some c len t bytes s =
-    let is = len-read c.len_of-len.result s c.len_of-len.ensures in
+    let is = c.len_of-len.ensures ∙ s.words.len_word in
     extended {old = c.args.heap.now} {s1 = c.write.new.self} {new = c.set_word.new.self} c.args.n c.args.bytes.now s
     (omega (arith, c.requires.space, s.words.len_word, s.words.capacity)) c.requires.long
     (sym c.link_of.ensures ∙ c.in-Some.is)

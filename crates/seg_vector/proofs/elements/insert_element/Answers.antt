@@ -1,7 +1,7 @@
 -- Those from the place on move up, the element is written, and then the length.
 use Rattle.seg_vector.proofs.{take, drop, ◌++◌, ℕ, ◌*◌, ◌+◌, ◌-◌, sym, subst, ◌∙◌, arith, IsTrue, Stands, IsRewritten}
 use Rattle.seg_vector.proofs.{IsChanged, live_of, has_room, current, changed-room, Fitting, at-least, capacity-bytes}
-use Rattle.seg_vector.proofs.{insert-fits, len-read, len-room, part-room, put_in}
+use Rattle.seg_vector.proofs.{insert-fits, part-room, put_in}
 use Rattle.seg_vector.proofs.elements.insert_element.Goals.{In-Some}
 use Rattle.seg_vector.proofs.elements.insert_element.Goals as goal
 
@@ -36,19 +36,14 @@ write-requires c =
 
 pub overflow_add-len : goal.overflow_add-len
 overflow_add-len c =
-    let s = c.requires.stands.1.1.1 in let is = len-read c.len_of-len.result s c.len_of-len.ensures in
+    let s = c.requires.stands.1.1.1 in let is = c.len_of-len.ensures ∙ s.words.len_word in
     let few = capacity-bytes c.args.heap.now s.heap s in
     let least = at-least c.args.each c.requires.stands.1.0.capacity c.requires.some in
     omega (arith, is, few, least, s.fits)
 
-pub set_word-requires : goal.set_word-requires
-set_word-requires c = changed-room _ _ _ _ _ c.args.place.handle (c.args.place.at + 8 + 8) c.write.ensures.change
-    (changed-room _ _ _ _ _ c.args.place.handle (c.args.place.at + 8 + 8) c.copy.ensures.change
-    (len-room c.args.heap.now.bytes c.args.place c.requires.stands.1.1.1.room))
-
 pub returns-in-Some : goal.returns-in-Some
 returns-in-Some c len t bytes s =
-    let is = len-read c.len_of-len.result s c.len_of-len.ensures in
+    let is = c.len_of-len.ensures ∙ s.words.len_word in
     let at : ℕ = c.args.each * c.args.index in
     let now = subst (λ n. Stands c.args.heap.now.bytes c.args.place c.args.each n t bytes) (sym is) s in
     subst (λ n. IsRewritten c.args.heap.now c.set_word.new.self c.args.place c.args.each (n + 1) t

@@ -1,7 +1,7 @@
 -- The next text is placed, and its element is written.
 use Rattle.seg_vector.proofs.{◌≡◌, sym, ap, ◌∙◌, ◌*◌, arith, length, map, length-map, extent_at, live_of, roomy}
-use Rattle.seg_vector.proofs.{drop-next, found-big, laid-all, laid-begin, laid-heap-of, laid-put, laid-room, laid-stops}
-use Rattle.seg_vector.proofs.{text-even, text-heap}
+use Rattle.seg_vector.proofs.{drop-next, found-big, laid-all, laid-begin, laid-put, laid-room, laid-stops, text-even}
+use Rattle.seg_vector.proofs.{laid-heap}
 use Rattle.seg_vector.proofs.owning.place_texts.Goals as goal
 
 pub loop-i-init : goal.loop-i-init
@@ -11,7 +11,7 @@ loop-i-init c y at found = laid-begin c.args.heap.now (map (λ text. text.now) c
 pub place_text-requires : goal.place_text-requires
 place_text-requires c =
     let r = roomy c.args.heap.now c.args.array (16 * length c.args.texts.now) c.requires.heap c.requires.room in
-    laid-heap-of (c.loop-i.invariant r.extent r.at r.found)
+    laid-heap _ _ (c.loop-i.invariant r.extent r.at r.found).change.live
 
 pub returns-in-Err : goal.returns-in-Err
 returns-in-Err c y at found =
@@ -19,7 +19,7 @@ returns-in-Err c y at found =
     (omega (arith, c.loop-i-test.true, length-map c.args.texts.now (λ text. text.now))) c.in-Err.ensures
 
 pub put_element-requires-clause-heap : goal.put_element-requires-clause-heap
-put_element-requires-clause-heap c = text-heap c.in-Ok.ensures
+put_element-requires-clause-heap c = laid-heap _ _ c.in-Ok.ensures.change.live
 
 pub put_element-requires-clause-room : goal.put_element-requires-clause-room
 put_element-requires-clause-room c =

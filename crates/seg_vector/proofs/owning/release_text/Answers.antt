@@ -1,11 +1,6 @@
 -- The block is one that is in use.
-use Rattle.seg_vector.proofs.{◌+◌, ◌∙◌, sym, arith, live_of, room-less, none-left, element-live, released-none}
-use Rattle.seg_vector.proofs.{released-some}
+use Rattle.seg_vector.proofs.{◌∙◌, sym, none-left, element-live, released-none, released-some}
 use Rattle.seg_vector.proofs.owning.release_text.Goals as goal
-
-pub link-requires-clause-room : goal.link-requires-clause-room
-link-requires-clause-room c = room-less (live_of c.args.heap.now.bytes) c.args.array (c.args.at + 16) (c.args.at + 8)
-    (omega arith) c.requires.1.room
 
 pub deallocate-requires : goal.deallocate-requires
 deallocate-requires c = element-live c.requires.1 (sym c.link.ensures ∙ c.in-Some.is)

@@ -1,17 +1,16 @@
 -- The capacity is written, and the storage shortened.
-use Rattle.seg_vector.proofs.{◌≡◌, sym, subst, ◌∙◌, ◌+◌, ◌*◌, arith, IsTrue, current, bytes_of, word_at, IsChanged}
-use Rattle.seg_vector.proofs.{IsShortened, is_live_in, changed-live, fits-nothing, fitted, capacity-bytes, len-read}
-use Rattle.seg_vector.proofs.{storage-live, more-times}
+use Rattle.seg_vector.proofs.{sym, subst, ◌∙◌, ◌*◌, arith, IsTrue, current, IsShortened, is_live_in, changed-live}
+use Rattle.seg_vector.proofs.{fits-nothing, fitted, capacity-bytes, storage-live, more-times}
 use Rattle.seg_vector.proofs.sizing.fit.Goals as goal
 
 pub returns-then-len-eq0 : goal.returns-then-len-eq0
 returns-then-len-eq0 c len t bytes s =
-    let is = len-read c.len_of-len.result s c.len_of-len.ensures in
+    let is = c.len_of-len.ensures ∙ s.words.len_word in
     fits-nothing s (sym is ∙ c.if-len-eq0.true) (c.give_back.ensures len t bytes s)
 
 pub overflow_mul-each : goal.overflow_mul-each
 overflow_mul-each c =
-    let s = c.requires.stands.1.1.1 in let is = len-read c.len_of-len.result s c.len_of-len.ensures in
+    let s = c.requires.stands.1.1.1 in let is = c.len_of-len.ensures ∙ s.words.len_word in
     let few = more-times c.args.each c.len_of-len.result c.requires.stands.1.0.capacity (omega (arith, is, s.fits)) in
     let small = capacity-bytes c.args.heap.now s.heap s in
     omega (arith, few, small)
@@ -23,11 +22,9 @@ shrink_in_place-requires c =
 
 pub returns-in-Some : goal.returns-in-Some
 returns-in-Some c len t bytes s =
-    let is = len-read c.len_of-len.result s c.len_of-len.ensures in
-    let at : c.args.place.handle + (c.args.place.at + 16) ≡ c.args.place.handle + c.args.place.at + 16 = omega arith in
+    let is = c.len_of-len.ensures ∙ s.words.len_word in
     fitted {old = c.args.heap.now} {mid = c.set_word.new.self} {new = c.shrink_in_place.new.self}
     (omega (arith, is, c.if-len-eq0.false)) s (sym c.link_of.ensures ∙ c.in-Some.is)
-    (subst (λ k. IsChanged current c.args.heap.now c.set_word.new.self k 8) at c.set_word.ensures.change)
-    (subst (λ k. word_at (bytes_of c.set_word.new.self.bytes) k ≡ len) at (c.set_word.ensures.word ∙ is))
+    c.set_word.ensures.change (c.set_word.ensures.word ∙ is)
     (subst (λ k. IsShortened current c.set_word.new.self c.shrink_in_place.new.self c.in-Some.storage
     (c.args.each * k)) is c.shrink_in_place.ensures.shortened)

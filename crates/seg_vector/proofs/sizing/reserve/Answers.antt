@@ -1,7 +1,6 @@
 -- The storage is regrown, and then the link and the capacity are written.
-use Rattle.seg_vector.proofs.{◌≡◌, subst, ◌+◌, arith, current, IsChanged, bytes_of, word_at, changed-room}
-use Rattle.seg_vector.proofs.{capacity-read, capacity-room, come-aligned, given-of, grows-more, grows-not}
-use Rattle.seg_vector.proofs.{grows-nothing, link-room, mid-room, not_given-of, storage-read, too-many}
+use Rattle.seg_vector.proofs.{◌+◌, arith, changed-room, capacity-room, come-aligned, given-of, grows-more, grows-not}
+use Rattle.seg_vector.proofs.{grows-nothing, link-room, mid-room, not_given-of, storage-read, too-many, ◌∙◌}
 use Rattle.seg_vector.proofs.sizing.reserve.Goals as goal
 
 pub regrow-requires-clause-room : goal.regrow-requires-clause-room
@@ -28,25 +27,23 @@ set_word-requires c = changed-room _ _ _ _ 8 c.args.place.handle (c.args.place.a
 
 pub returns-then-n-capacity_of : goal.returns-then-n-capacity_of
 returns-then-n-capacity_of c len t bytes s =
-    let capacity = capacity-read c.capacity_of.result s c.capacity_of.ensures in
+    let capacity = c.capacity_of.ensures ∙ s.words.capacity in
     grows-not c.args.heap.now c.args.n (omega (arith, capacity, c.if-n-capacity_of.true)) s
 
 pub returns-in-Err : goal.returns-in-Err
 returns-in-Err c len t bytes s =
-    let capacity = capacity-read c.capacity_of.result s c.capacity_of.ensures in
+    let capacity = c.capacity_of.ensures ∙ s.words.capacity in
     grows-nothing c.args.each c.args.n t (omega (arith, capacity, c.if-n-capacity_of.false))
     (not_given-of c.args.n c.link_of-storage.result s c.link_of-storage.ensures c.in-Err.ensures)
 
 pub returns-in-Ok : goal.returns-in-Ok
 returns-in-Ok c len t bytes s =
-    let capacity = capacity-read c.capacity_of.result s c.capacity_of.ensures in
-    let at : c.args.place.handle + (c.args.place.at + 16) ≡ c.args.place.handle + c.args.place.at + 16 = omega arith in
+    let capacity = c.capacity_of.ensures ∙ s.words.capacity in
     grows-more {new = c.set_word.new.self} c.args.n (omega (arith, capacity, c.if-n-capacity_of.false)) s
     (given-of c.args.n c.len_of.result c.link_of-storage.result s c.link_of-storage.ensures
     c.len_of.ensures c.in-Ok.ensures)
     c.set_link.ensures.change c.set_link.ensures.leads
-    (subst (λ k. IsChanged current c.set_link.new.self c.set_word.new.self k 8) at c.set_word.ensures.change)
-    (subst (λ k. word_at (bytes_of c.set_word.new.self.bytes) k ≡ c.args.n) at c.set_word.ensures.word)
+    c.set_word.ensures.change c.set_word.ensures.word
 
 pub returns-then-n-gt-LIMIT : goal.returns-then-n-gt-LIMIT
 returns-then-n-gt-LIMIT c len t bytes s = too-many c.args.heap.now c.args.n s c.requires.some c.if-n-gt-LIMIT.true

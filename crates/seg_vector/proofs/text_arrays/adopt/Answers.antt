@@ -1,7 +1,8 @@
 -- The vector's words are those that they were, until they are written.
-use Rattle.seg_vector.proofs.{refl, sym, ap, subst, ◌∙◌, ◌+◌, ◌*◌, Some, length, current, bytes_of, IsChanged}
-use Rattle.seg_vector.proofs.{live_of, changed-room, laid-heap, AreSameElements, head-room, live-if, adopt-none}
-use Rattle.seg_vector.proofs.{adopt-other, adopt-same, ready, ready-even, ready-new, since-len, ready-link}
+use Rattle.seg_vector.proofs.{refl, sym, ap, subst, ◌∙◌, ◌+◌, ◌*◌, Some, length, current, bytes_of, IsChanged, live_of}
+use Rattle.seg_vector.proofs.{changed-room, laid-heap, AreSameElements, head-room, live-if, adopt-none, adopt-other}
+use Rattle.seg_vector.proofs.{adopt-same, ready, ready-even, ready-new, ready-link, none-left}
+use Rattle.seg_vector.proofs.text_arrays.adopt.Goals.{in-Some+else-old-array, in_default}
 use Rattle.seg_vector.proofs.text_arrays.adopt.Goals as goal
 
 pub len_of-len-requires : goal.len_of-len-requires
@@ -10,20 +11,15 @@ len_of-len-requires c = let r = (ready c.requires).run in record { heap = r.heap
 pub link_of-requires-clause-room : goal.link_of-requires-clause-room
 link_of-requires-clause-room c = head-room (ready c.requires).run.head
 
-pub point_to-requires : goal.point_to-requires
-point_to-requires c =
-    let r = c.requires in let q = (ready r).run in
-    record { heap = q.heap; aligned = r.texts.aligned; room = head-room q.head; even = ready-even r }
-
-pub point_to-requires-then-old-array : goal.point_to-requires-then-old-array
-point_to-requires-then-old-array c =
+pub point_to-requires-2 : goal.point_to-requires-2
+point_to-requires-2 c =
     let r = c.requires in let q = (ready r).run in
     record { heap = q.heap; aligned = r.texts.aligned; room = head-room q.head; even = ready-even r }
 
 pub carry_down-requires : goal.carry_down-requires
 carry_down-requires c =
-    let w = ready-new c.requires (sym c.link_of.ensures ∙ c.in-Some.is) c.if-old-array.false in
-    rw (since-len c.len_of-len.result c.requires c.len_of-len.ensures)
+    let w = ready-new c.requires (sym c.link_of.ensures ∙ c.in-Some.is) c.if-old-array.true in
+    rw (c.len_of-len.ensures ∙ (ready c.requires).run.words.len_word)
     (record {
       heap = (ready c.requires).run.heap;
       from_whole = refl;
@@ -34,8 +30,8 @@ carry_down-requires c =
       apart = w.apart;
     })
 
-pub point_to-requires-else-old-array : goal.point_to-requires-else-old-array
-point_to-requires-else-old-array c =
+pub point_to-requires : goal.point_to-requires
+point_to-requires c =
     let r = c.requires in let d = c.carry_down.ensures.change in
     record {
       heap = laid-heap _ _ d.live;
@@ -46,27 +42,28 @@ point_to-requires-else-old-array c =
 
 pub deallocate-requires : goal.deallocate-requires
 deallocate-requires c =
-    let w = ready-new c.requires (sym c.link_of.ensures ∙ c.in-Some.is) c.if-old-array.false in
-    live-if c.in-Some.old (0 + 16 * length c.requires.ps) (live_of c.point_to-else-old-array.new.heap.bytes).extents
-    (changed-room _ _ _ _ 24 c.in-Some.old (0 + 16 * length c.requires.ps) c.point_to-else-old-array.ensures.change
+    let w = ready-new c.requires (sym c.link_of.ensures ∙ c.in-Some.is) c.if-old-array.true in
+    live-if c.in-Some.old (0 + 16 * length c.requires.ps) (live_of c.point_to.new.heap.bytes).extents
+    (changed-room _ _ _ _ 24 c.in-Some.old (0 + 16 * length c.requires.ps) c.point_to.ensures.change
     (changed-room _ _ _ _ _ c.in-Some.old (0 + 16 * length c.requires.ps) c.carry_down.ensures.change w.source))
 
-pub returns-in-None : goal.returns-in-None
-returns-in-None c r = adopt-none c.args.n r.texts r.more r.asked r.since
-    (sym (ready-link r) ∙ sym c.link_of.ensures ∙ c.in-None.is) c.point_to.ensures
-
 pub returns-then-old-array : goal.returns-then-old-array
-returns-then-old-array c r = adopt-same c.args.n r.texts r.more r.asked r.since
-    (sym (ready-link r) ∙ sym c.link_of.ensures ∙ c.in-Some.is ∙ ap (λ k. Some k) c.if-old-array.true)
-    c.point_to-then-old-array.ensures
-
-pub returns-else-old-array : goal.returns-else-old-array
-returns-else-old-array c r =
-    let n = since-len c.len_of-len.result r c.len_of-len.ensures in
+returns-then-old-array c r =
+    let n = c.len_of-len.ensures ∙ (ready r).run.words.len_word in
     adopt-other c.args.n r.texts r.more r.asked r.since
-    (sym (ready-link r) ∙ sym c.link_of.ensures ∙ c.in-Some.is) c.if-old-array.false
+    (sym (ready-link r) ∙ sym c.link_of.ensures ∙ c.in-Some.is) c.if-old-array.true
     (subst (λ k. IsChanged current c.args.heap.now c.carry_down.new.heap (c.args.array + 0) (16 * k)) n
     c.carry_down.ensures.change)
     (subst (AreSameElements (bytes_of c.args.heap.now.bytes) (bytes_of c.carry_down.new.heap.bytes)
     (c.in-Some.old + 0) (c.args.array + 0)) n c.carry_down.ensures.carried)
-    c.point_to-else-old-array.ensures c.deallocate.ensures.released
+    c.point_to.ensures c.deallocate.ensures.released
+
+pub returns : goal.returns
+returns c r = elim c.match-link_of.branch [
+  | in-Some+else-old-array w ↦ adopt-same c.args.n r.texts r.more r.asked r.since
+      (sym (ready-link r) ∙ sym c.link_of.ensures ∙ w.in-Some.is ∙ ap (λ k. Some k) w.if-old-array.false)
+      c.point_to-2.ensures
+  | in_default w ↦ adopt-none c.args.n r.texts r.more r.asked r.since
+      (sym (ready-link r) ∙ sym c.link_of.ensures ∙ none-left c.link_of.result w.in_default.not-Some)
+      c.point_to-2.ensures
+]

@@ -1,13 +1,12 @@
 -- The old array has the room, or a new block is asked for.
-use Rattle.seg_vector.proofs.{sym, subst, ◌∙◌, ◌*◌, refl, length, Cut, current, IsHeap, TakesStorage, live_of}
-use Rattle.seg_vector.proofs.{none-left, live-if, held-elements, asked-beside, asked-none, asked-wide}
+use Rattle.seg_vector.proofs.{sym, subst, ◌∙◌, ◌*◌, Cut, current, IsHeap, TakesStorage, none-left, asked-beside}
+use Rattle.seg_vector.proofs.{asked-none, asked-wide, storage-live, texts-stand}
 use Rattle.seg_vector.proofs.text_arrays.ask_array.Goals.{in-Some+else-widen, in_default}
 use Rattle.seg_vector.proofs.text_arrays.ask_array.Goals as goal
 
 pub widen-requires-clause-live : goal.widen-requires-clause-live
 widen-requires-clause-live c =
-    live-if c.in-Some.array (16 * length c.requires.texts.0) (live_of c.args.heap.now.bytes).extents
-    (held-elements (length c.requires.texts.0) c.requires.texts.1.1 (sym c.link_of.ensures ∙ c.in-Some.is) refl).room
+    storage-live (texts-stand c.requires.texts.1.1) (sym c.link_of.ensures ∙ c.in-Some.is)
 
 pub returns-then-widen : goal.returns-then-widen
 returns-then-widen c ps t s = asked-wide s (sym c.link_of.ensures ∙ c.in-Some.is) (c.widen.ensures.wide c.if-widen.true)

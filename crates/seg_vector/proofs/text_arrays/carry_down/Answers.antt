@@ -1,7 +1,7 @@
 -- The next element is put in its place, and it is the one that it was.
 use Rattle.seg_vector.proofs.{◌≡◌, subst, ◌+◌, ◌*◌, ◌%◌, arith, IfSome, current, bytes_of, link_at, IsChanged, live_of}
-use Rattle.seg_vector.proofs.{changed-room, laid-heap, room-less, AreSameElements, IsSameElement, unchanged}
-use Rattle.seg_vector.proofs.{carried-changed, carried-next, even-now, source-stays}
+use Rattle.seg_vector.proofs.{changed-room, room-less, AreSameElements, unchanged, carried-changed, carried-next}
+use Rattle.seg_vector.proofs.{even-now, source-stays}
 use Rattle.seg_vector.proofs.text_arrays.carry_down.Goals as goal
 
 pub loop-i-init : goal.loop-i-init
@@ -11,9 +11,6 @@ loop-i-init c =
       carried = λ j
           f. absurd (omega arith);
     }
-
-pub carry_element-requires-clause-heap : goal.carry_element-requires-clause-heap
-carry_element-requires-clause-heap c = laid-heap _ _ c.loop-i.invariant.change.live
 
 pub carry_element-requires-clause-source : goal.carry_element-requires-clause-source
 carry_element-requires-clause-source c =
@@ -36,24 +33,12 @@ carry_element-requires-clause-even c =
     (source-stays a c.loop-i.i c.args.n c.loop-i.invariant.change c.requires.apart c.loop-i-test.true))
 
 pub loop-i-preserved : goal.loop-i-preserved
-loop-i-preserved c =
-    let a = c.args.from + c.args.from_at in
-    let b = c.args.to + c.args.to_at in
-    let from : c.args.from + (c.args.from_at + 16 * c.loop-i.i) ≡ a + 16 * c.loop-i.i = omega arith in
-    let to : c.args.to + (c.args.to_at + 16 * c.loop-i.i) ≡ b + 16 * c.loop-i.i = omega arith in
-    let d : IsChanged current c.loop-i.heap c.carry_element.new.heap (b + 16 * c.loop-i.i) 16 =
-    subst (λ k. IsChanged current c.loop-i.heap c.carry_element.new.heap k 16) to c.carry_element.ensures.change in
-    let e : IsSameElement (bytes_of c.loop-i.heap.bytes) (bytes_of c.carry_element.new.heap.bytes)
-    (a + 16 * c.loop-i.i) (b + 16 * c.loop-i.i) =
-    subst (λ k. IsSameElement (bytes_of c.loop-i.heap.bytes) (bytes_of c.carry_element.new.heap.bytes) k
-    (b + 16 * c.loop-i.i)) from
-    (subst (IsSameElement (bytes_of c.loop-i.heap.bytes) (bytes_of c.carry_element.new.heap.bytes)
-    (c.args.from + (c.args.from_at + 16 * c.loop-i.i))) to c.carry_element.ensures.carried) in
-    record {
-      change = carried-changed c.loop-i.i c.loop-i.invariant.change d;
-      carried = carried-next a c.loop-i.i c.args.n c.loop-i.invariant.carried c.loop-i.invariant.change
-          c.requires.apart c.loop-i-test.true d e;
-    }
+loop-i-preserved c = record {
+  change = carried-changed c.loop-i.i c.loop-i.invariant.change (omega arith) c.carry_element.ensures.change;
+  carried = carried-next (c.args.from + c.args.from_at) c.loop-i.i c.args.n c.loop-i.invariant.carried
+      c.loop-i.invariant.change c.requires.apart c.loop-i-test.true (omega arith) (omega arith)
+      c.carry_element.ensures.change c.carry_element.ensures.carried;
+}
 
 pub returns-clause-change : goal.returns-clause-change
 returns-clause-change c =

@@ -1,14 +1,6 @@
 -- What is read is what is written.
-use Rattle.seg_vector.proofs.{◌≡◌, ap, sym, subst, ◌∙◌, ◌+◌, ◌%◌, arith, IfSome, bytes_of, word_at, live_of, room-less}
+use Rattle.seg_vector.proofs.{◌≡◌, ap, sym, subst, ◌∙◌, ◌+◌, ◌%◌, arith, IfSome, bytes_of, word_at}
 use Rattle.seg_vector.proofs.text_arrays.carry_element.Goals as goal
-
-pub link-text-requires-clause-room : goal.link-text-requires-clause-room
-link-text-requires-clause-room c = room-less (live_of c.args.heap.now.bytes) c.args.from (c.args.from_at + 16)
-    (c.args.from_at + 8) (omega arith) c.requires.source
-
-pub word-len-requires : goal.word-len-requires
-word-len-requires c = room-less (live_of c.args.heap.now.bytes) c.args.from (c.args.from_at + 16)
-    (c.args.from_at + 8 + 8) (omega arith) c.requires.source
 
 pub put_element-requires-clause-target : goal.put_element-requires-clause-target
 put_element-requires-clause-target c = subst (λ o. IfSome o (λ target. target % 16 ≡ 0)) (sym c.link-text.ensures)

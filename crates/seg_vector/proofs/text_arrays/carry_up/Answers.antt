@@ -1,7 +1,6 @@
 -- The last element that has not moved moves up, and it is the one that it was.
 use Rattle.seg_vector.proofs.{◌≡◌, subst, ◌+◌, ◌-◌, ◌*◌, ◌%◌, arith, IfSome, current, bytes_of, link_at, IsChanged}
-use Rattle.seg_vector.proofs.{live_of, changed-room, laid-heap, room-less, IsSameElement, unchanged, even-now}
-use Rattle.seg_vector.proofs.{up-changed, up-next, up-source}
+use Rattle.seg_vector.proofs.{live_of, changed-room, room-less, unchanged, even-now, up-changed, up-next, up-source}
 use Rattle.seg_vector.proofs.text_arrays.carry_up.Goals as goal
 
 pub loop-i-init : goal.loop-i-init
@@ -11,9 +10,6 @@ loop-i-init c =
           c.requires.heap;
       carried = λ j f g. absurd (omega arith);
     }
-
-pub carry_element-requires-clause-heap : goal.carry_element-requires-clause-heap
-carry_element-requires-clause-heap c = laid-heap _ _ c.loop-i.invariant.change.live
 
 pub carry_element-requires-clause-source : goal.carry_element-requires-clause-source
 carry_element-requires-clause-source c =
@@ -43,19 +39,11 @@ loop-i-preserved c =
     let a = c.args.array + c.args.at in
     let k = c.args.n - 1 - c.loop-i.i in
     let is : k + (c.loop-i.i + 1) ≡ c.args.n = omega (arith, c.loop-i-test.true) in
-    let from : c.args.array + (c.args.at + 16 * k) ≡ a + 16 * k = omega arith in
-    let to : c.args.array + (c.args.at + 16 * k + 16) ≡ a + 16 + 16 * k = omega arith in
-    let d : IsChanged current c.loop-i.heap c.carry_element.new.heap (a + 16 + 16 * k) 16 =
-    subst (λ w. IsChanged current c.loop-i.heap c.carry_element.new.heap w 16) to c.carry_element.ensures.change in
-    let e : IsSameElement (bytes_of c.loop-i.heap.bytes) (bytes_of c.carry_element.new.heap.bytes) (a + 16 * k)
-    (a + 16 + 16 * k) =
-    subst (λ w. IsSameElement (bytes_of c.loop-i.heap.bytes) (bytes_of c.carry_element.new.heap.bytes) w
-    (a + 16 + 16 * k)) from
-    (subst (IsSameElement (bytes_of c.loop-i.heap.bytes) (bytes_of c.carry_element.new.heap.bytes)
-    (c.args.array + (c.args.at + 16 * k))) to c.carry_element.ensures.carried) in
     record {
-      change = up-changed a k c.loop-i.i c.args.n is c.loop-i.invariant.change d;
-      carried = up-next a k c.loop-i.i c.args.n is c.loop-i.invariant.carried c.loop-i.invariant.change d e;
+      change = up-changed a k c.loop-i.i c.args.n is c.loop-i.invariant.change (omega arith)
+          c.carry_element.ensures.change;
+      carried = up-next a k c.loop-i.i c.args.n is c.loop-i.invariant.carried c.loop-i.invariant.change (omega arith)
+          (omega arith) c.carry_element.ensures.change c.carry_element.ensures.carried;
     }
 
 pub returns-clause-change : goal.returns-clause-change

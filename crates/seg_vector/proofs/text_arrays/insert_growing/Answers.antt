@@ -58,8 +58,7 @@ returns-in_err-array c ps t s inside full wanted =
 pub returns-in-Err : goal.returns-in-Err
 returns-in-Err c ps t s inside full wanted =
     let a = c.in_ok-array.ensures ps t s in
-    let asked : IsAsked c.args.heap.now c.place_text.new.heap t.extent (16 * c.args.n) c.in_ok-array.array =
-    subst (λ (k : Cut). IsAsked c.args.heap.now k t.extent (16 * c.args.n) c.in_ok-array.array)
+    let asked = subst (λ (k : Cut). IsAsked c.args.heap.now k t.extent (16 * c.args.n) c.in_ok-array.array)
     (sym c.in-Err.ensures.same) a in
     growing-err ps t c.args.n (more-places c.args.heap.now c.args.n s full wanted).0 wanted full a
     c.in-Err.ensures

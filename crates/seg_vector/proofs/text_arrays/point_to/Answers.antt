@@ -1,11 +1,7 @@
 -- A link, and the word of the capacity.
 use Rattle.seg_vector.proofs.{◌≡◌, subst, ◌∙◌, inl, inr, ◌+◌, arith, bytes_of, word_at, SameBut-word, SameBut-link}
-use Rattle.seg_vector.proofs.{changed-room, changed-both, capacity-room}
+use Rattle.seg_vector.proofs.{changed-both}
 use Rattle.seg_vector.proofs.text_arrays.point_to.Goals as goal
-
-pub set_word-requires : goal.set_word-requires
-set_word-requires c = changed-room _ _ _ _ 8 c.args.place.handle (c.args.place.at + 16 + 8) c.set_link.ensures.change
-    (capacity-room c.args.heap.now.bytes c.args.place c.requires.room)
 
 pub returns : goal.returns
 returns c =

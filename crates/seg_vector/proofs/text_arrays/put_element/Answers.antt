@@ -1,15 +1,6 @@
 -- A link, and a word behind it.
-use Rattle.seg_vector.proofs.{◌∙◌, inl, ◌+◌, arith, SameBut-link, live_of, changed-room, room-less, changed-both}
+use Rattle.seg_vector.proofs.{◌∙◌, inl, ◌+◌, arith, SameBut-link, changed-both}
 use Rattle.seg_vector.proofs.text_arrays.put_element.Goals as goal
-
-pub set_link-requires-clause-room : goal.set_link-requires-clause-room
-set_link-requires-clause-room c = room-less (live_of c.args.heap.now.bytes) c.args.array (c.args.at + 16)
-    (c.args.at + 8) (omega arith) c.requires.room
-
-pub set_word-requires : goal.set_word-requires
-set_word-requires c = changed-room _ _ _ _ 8 c.args.array (c.args.at + 8 + 8) c.set_link.ensures.change
-    (room-less (live_of c.args.heap.now.bytes) c.args.array (c.args.at + 16) (c.args.at + 8 + 8) (omega arith)
-    c.requires.room)
 
 pub returns-clause-change : goal.returns-clause-change
 returns-clause-change c = changed-both (c.args.array + c.args.at) 16

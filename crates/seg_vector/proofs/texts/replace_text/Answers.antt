@@ -1,21 +1,17 @@
 -- The text before is released, and then the element is written.
-use Rattle.seg_vector.proofs.{refl, sym, ◌∙◌, ◌+◌, ◌*◌, arith, length, live_of, room-less, none-left, room-small}
-use Rattle.seg_vector.proofs.{no-array, held-elements, left, text-replaced, has-element}
+use Rattle.seg_vector.proofs.{sym, ◌∙◌, ◌+◌, ◌*◌, arith, length, live_of, room-less, none-left, no-array, left}
+use Rattle.seg_vector.proofs.{text-replaced, has-element, few-places}
 use Rattle.seg_vector.proofs.texts.replace_text.Goals as goal
 
 pub overflow_mul-index : goal.overflow_mul-index
 overflow_mul-index c =
-    let h = held-elements (length c.requires.texts.0) c.requires.texts.1.1.0
-    (sym c.link_of.ensures ∙ c.in-Some.is) refl in
-    let small = room-small c.args.heap.now c.in-Some.array (16 * length c.requires.texts.0) h.heap h.room in
-    omega (arith, small, c.requires.texts.1.1.1)
+    let few = few-places c.args.heap.now c.requires.texts.1.1.0 in
+    omega (arith, few, c.requires.texts.1.1.0.fits, c.requires.texts.1.1.1)
 
 pub overflow_mul-index-in-Some : goal.overflow_mul-index-in-Some
 overflow_mul-index-in-Some c =
-    let h = held-elements (length c.requires.texts.0) c.requires.texts.1.1.0
-    (sym c.link_of.ensures ∙ c.in-Some.is) refl in
-    let small = room-small c.args.heap.now c.in-Some.array (16 * length c.requires.texts.0) h.heap h.room in
-    omega (arith, small, c.requires.texts.1.1.1)
+    let few = few-places c.args.heap.now c.requires.texts.1.1.0 in
+    omega (arith, few, c.requires.texts.1.1.0.fits, c.requires.texts.1.1.1)
 
 pub release_text-requires : goal.release_text-requires
 release_text-requires c =

@@ -1,19 +1,7 @@
 -- The text is the front of its block.
-use Rattle.seg_vector.proofs.{◌≡◌, sym, ap, ◌∙◌, ◌+◌, arith, length, take, bytes_of, word_at, live_of, room-less}
-use Rattle.seg_vector.proofs.{block-front, block-live, empty-text, text-block}
+use Rattle.seg_vector.proofs.{◌≡◌, sym, ap, ◌∙◌, ◌+◌, arith, length, take, bytes_of, word_at, block-front, block-live}
+use Rattle.seg_vector.proofs.{empty-text, text-block}
 use Rattle.seg_vector.proofs.texts.text_at.Goals as goal
-
-pub link-requires : goal.link-requires
-link-requires c =
-    record {
-      whole = c.requires.1.aligned;
-      room = room-less (live_of c.args.heap.now.bytes) c.args.array
-          (c.args.at + 16) (c.args.at + 8) (omega arith) c.requires.1.room;
-    }
-
-pub word-len-requires : goal.word-len-requires
-word-len-requires c = room-less (live_of c.args.heap.now.bytes) c.args.array (c.args.at + 16) (c.args.at + 8 + 8)
-    (omega arith) c.requires.1.room
 
 pub block-requires : goal.block-requires
 block-requires c = block-live (text-block c.requires.1 (sym c.link.ensures ∙ c.in-Some.is))

@@ -1,6 +1,7 @@
 -- No byte is left.
-use Rattle.seg_vector.proofs.{text-cleared}
+use Rattle.seg_vector.proofs.{length}
 use Rattle.seg_vector.proofs.strings.SegString.clear.Goals as goal
 
 pub returns : goal.returns
-returns c bytes t v = text-cleared c.args.heap.now c.truncate.new.heap v c.truncate.ensures
+returns c bytes t v =
+    let r = c.truncate.ensures (length bytes) t bytes v in record { change = r.change; text = r.stands }

@@ -1,6 +1,7 @@
 -- No byte is left, and no place.
-use Rattle.seg_vector.proofs.{text-released}
+use Rattle.seg_vector.proofs.{length}
 use Rattle.seg_vector.proofs.strings.SegString.release.Goals as goal
 
 pub returns : goal.returns
-returns c bytes t v = text-released c.args.heap.now c.give_back.new.heap v c.give_back.ensures
+returns c bytes t v =
+    let r = c.give_back.ensures (length bytes) t bytes v in record { change = r.change; text = r.stands }

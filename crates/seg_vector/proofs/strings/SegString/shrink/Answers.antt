@@ -1,6 +1,6 @@
 -- The bytes stay.
-use Rattle.seg_vector.proofs.{text-fitted}
+use Rattle.seg_vector.proofs.{length}
 use Rattle.seg_vector.proofs.strings.SegString.shrink.Goals as goal
 
 pub returns : goal.returns
-returns c bytes t v = text-fitted c.args.heap.now c.fit.new.heap v c.fit.ensures
+returns c bytes t v = let r = c.fit.ensures (length bytes) t bytes v in record { change = r.change; text = r.stands }

@@ -1,20 +1,20 @@
 -- Other texts are laid out, then those before are released, and then the words are written.
 use Rattle.seg_vector.proofs.{sym, ap, ◌∙◌, ◌+◌, arith, length, map, length-map, live_of, changed-room, new_array}
-use Rattle.seg_vector.proofs.{len-room, assigned, assigns-some, laid-fitted, laid-even, laid-still, some-texts}
+use Rattle.seg_vector.proofs.{len-room, assigned, assigns-some, laid-fitted, laid-even, texts-still, some-texts}
 use Rattle.seg_vector.proofs.texts.SegTexts.assign.Goals as goal
 
 pub release-requires : goal.release-requires
-release-requires c = (c.requires.0, (c.requires.1.0, laid-still c.requires.1.1 c.in_ok-array.ensures))
+release-requires c = (c.requires.0, (c.requires.1.0, texts-still c.requires.1.1 c.in_ok-array.ensures.change))
 
 pub point_to-requires : goal.point_to-requires
 point_to-requires c =
-    let still = laid-still c.requires.1.1 c.in_ok-array.ensures in
+    let still = texts-still c.requires.1.1 c.in_ok-array.ensures.change in
     let x = (c.release.ensures c.requires.0 c.requires.1.0 still).texts in
     record { heap = x.heap; aligned = x.aligned; room = x.room; even = laid-even c.in_ok-array.ensures }
 
 pub set_word-requires : goal.set_word-requires
 set_word-requires c =
-    let still = laid-still c.requires.1.1 c.in_ok-array.ensures in
+    let still = texts-still c.requires.1.1 c.in_ok-array.ensures.change in
     changed-room _ _ _ _ 24 c.args.self.place.handle (c.args.self.place.at + 8 + 8) c.point_to.ensures.change
     (len-room c.release.new.heap.bytes c.args.self.place
     (c.release.ensures c.requires.0 c.requires.1.0 still).texts.room)

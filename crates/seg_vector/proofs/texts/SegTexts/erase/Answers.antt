@@ -1,7 +1,7 @@
 -- The block of the text is released, those behind it move down, and then the length is written.
-use Rattle.seg_vector.proofs.{ℕ, inl, refl, sym, ◌∙◌, ◌+◌, ◌-◌, ◌*◌, arith, length, bytes_of, live_of, changed-room}
-use Rattle.seg_vector.proofs.{room-less, IsHead, head-room, len-room, room-small, IsArrayLeft, even-from, no-array}
-use Rattle.seg_vector.proofs.{erased-by, held-elements, left, has-element}
+use Rattle.seg_vector.proofs.{ℕ, inl, sym, ◌∙◌, ◌+◌, ◌-◌, ◌*◌, arith, length, bytes_of, live_of, changed-room}
+use Rattle.seg_vector.proofs.{room-less, IsHead, head-room, len-room, IsArrayLeft, even-from, no-array, erased-by, left}
+use Rattle.seg_vector.proofs.{has-element, few-places}
 use Rattle.seg_vector.proofs.texts.SegTexts.erase.Goals.{After-release_text}
 use Rattle.seg_vector.proofs.texts.SegTexts.erase.Goals as goal
 
@@ -12,15 +12,13 @@ unreachable-requires c =
 
 pub overflow_mul-at : goal.overflow_mul-at
 overflow_mul-at c =
-    let h = held-elements (length c.requires.0) c.requires.1.1 (sym c.link_of.ensures ∙ c.in-Some.is) refl in
-    let small = room-small c.args.heap.now c.in-Some.array (16 * length c.requires.0) h.heap h.room in
-    omega (arith, small, c.if-index-len.false, c.len-len.ensures c.requires.0 c.requires.1.0 c.requires.1.1)
+    let s = c.requires.1.1 in let few = few-places c.args.heap.now s in
+    omega (arith, few, s.fits, c.if-index-len.false, c.len-len.ensures c.requires.0 c.requires.1.0 s)
 
 pub overflow_add-at : goal.overflow_add-at
 overflow_add-at c =
-    let h = held-elements (length c.requires.0) c.requires.1.1 (sym c.link_of.ensures ∙ c.in-Some.is) refl in
-    let small = room-small c.args.heap.now c.in-Some.array (16 * length c.requires.0) h.heap h.room in
-    omega (arith, small, c.if-index-len.false, c.len-len.ensures c.requires.0 c.requires.1.0 c.requires.1.1)
+    let s = c.requires.1.1 in let few = few-places c.args.heap.now s in
+    omega (arith, few, s.fits, c.if-index-len.false, c.len-len.ensures c.requires.0 c.requires.1.0 s)
 
 pub release_text-requires : goal.release_text-requires
 release_text-requires c =

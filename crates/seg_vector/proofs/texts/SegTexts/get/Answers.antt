@@ -1,6 +1,6 @@
 -- The element is in the array.
-use Rattle.seg_vector.proofs.{sym, ap, ◌∙◌, ◌+◌, ◌*◌, ◌<◌, arith, length, Some, option_map, OwnedText, room-small}
-use Rattle.seg_vector.proofs.{element-of, no-array, has-element}
+use Rattle.seg_vector.proofs.{sym, ap, ◌∙◌, ◌<◌, arith, length, Some, option_map, OwnedText, element-of, no-array}
+use Rattle.seg_vector.proofs.{has-element, few-places}
 use Rattle.seg_vector.proofs.texts.SegTexts.get.Goals as goal
 
 pub unreachable-requires : goal.unreachable-requires
@@ -10,12 +10,8 @@ unreachable-requires c =
 
 pub overflow_mul-index : goal.overflow_mul-index
 overflow_mul-index c =
-    let inside : c.args.index < length c.requires.0 =
-    omega (arith, c.if-index-len.false, c.len.ensures c.requires.0 c.requires.1.0 c.requires.1.1) in
-    let q = has-element c.requires.0 c.args.index inside in
-    let e = element-of c.args.heap.now c.args.index c.requires.1.1 (sym c.link_of.ensures ∙ c.in-Some.is) q.1 in
-    let small = room-small c.args.heap.now c.in-Some.array (16 * c.args.index + 16) e.heap e.room in
-    omega (arith, small)
+    let s = c.requires.1.1 in let few = few-places c.args.heap.now s in
+    omega (arith, few, s.fits, c.if-index-len.false, c.len.ensures c.requires.0 c.requires.1.0 s)
 
 pub text_at-requires : goal.text_at-requires
 text_at-requires c =

@@ -1,5 +1,5 @@
 -- The text is placed, and then its element is written.
-use Rattle.seg_vector.proofs.{◌≡◌, refl, sym, subst, ◌%◌, arith, IfSome, come-even, text-set, texts-still, has-element}
+use Rattle.seg_vector.proofs.{refl, arith, text-set, texts-still, has-element, text-even}
 use Rattle.seg_vector.proofs.texts.SegTexts.set.Goals as goal
 
 pub replace_text-requires-clause-texts : goal.replace_text-requires-clause-texts
@@ -16,8 +16,7 @@ replace_text-requires-clause-texts c = (
 )
 
 pub replace_text-requires-clause-target : goal.replace_text-requires-clause-target
-replace_text-requires-clause-target c = subst (λ o. IfSome o (λ target. target % 16 ≡ 0)) (sym c.in_ok-block.ensures.at)
-    (come-even c.in_ok-block.ensures.text.extent c.in_ok-block.ensures.change)
+replace_text-requires-clause-target c = text-even c.in_ok-block.ensures
 
 pub returns : goal.returns
 returns c ps t s =

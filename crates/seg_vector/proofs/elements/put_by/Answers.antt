@@ -1,6 +1,6 @@
 -- The bytes that are put in are the value's.
 use Rattle.seg_vector.proofs.{subst, List, ℕ, arith, PutsAt}
-use Rattle.seg_vector.proofs.values.put_by.Goals as goal
+use Rattle.seg_vector.proofs.elements.put_by.Goals as goal
 
 pub returns-clause-put : goal.returns-clause-put
 returns-clause-put g c =

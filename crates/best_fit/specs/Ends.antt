@@ -19,7 +19,8 @@ least_size live = last_end 128 live.extents + 16
 abbrev pub of_size : LiveSet → ℕ → LiveSet
 of_size live size = record live { size = size }
 
--- the window begins where it began and has so many bytes; the region is as long as before, and what lies behind both ends stays
+-- the window begins where it began and has so many bytes; the region is as long as before, and what lies behind both
+-- ends stays
 pub record EndsAt (old new : Cut) (size : ℕ) : Type 0 where
   pub before : new.before ≡ old.before
   pub bytes : length new.bytes ≡ size

@@ -1,4 +1,5 @@
--- The gaps of a window as the nodes of a tree: each is named by its payload, where its two links stand, and its colour is in its tag.
+-- The gaps of a window as the nodes of a tree: each is named by its payload, where its two links stand, and its colour
+-- is in its tag.
 use Rattle.std.specs.Prelude.{ℕ, ◌+◌, Bool, false, ◌&&◌, ◌||◌, not, Option, Some, None, List, length, map, filter_map, find, ◌==◌, nat_le, nat_lt, if◌then◌else◌}
 use Rattle.std.specs.List.{list_all, list_any}
 use Rattle.raw_region.specs.Memory.{Memory, Cut, bytes_of}

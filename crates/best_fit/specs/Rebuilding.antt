@@ -21,8 +21,8 @@ AreBytes b = (k : ℕ) → bytes_of b k < 256
 abbrev pub IsBesideGap : ℕ → Gap → Type 0
 IsBesideGap k g = (k < g.offset) ⊎ (g.offset + g.len ≤ k)
 
--- The same blocks are in use, with the same bytes and colours, and there is a tree of the gaps. Nothing changes but word 24 and
--- the bytes of gaps.
+-- The same blocks are in use, with the same bytes and colours, and there is a tree of the gaps. Nothing changes but
+-- word 24 and the bytes of gaps.
 pub record IsRebuilt (format : ℕ) (old new : Cut) : Type 0 where
   pub live : LaysOut format new.bytes (live_of old.bytes)
   pub keeps : Keeps old new (live_of old.bytes).extents

@@ -1,5 +1,5 @@
-//! The calls of a heap that take blocks, give them back and change their sizes. What they do, they do through `Touches`, which
-//! counts it.
+//! The calls of a heap that take blocks, give them back and change their sizes. What they do, they do through
+//! `Touches`, which counts it.
 ghost use Rattle.std.specs.Prelude.{◌≡◌, ◌≢◌, true, is_ok, ◌<◌, ◌+◌, ◌≤◌, IsTrue};
 ghost use Rattle.raw_region.specs.Format.{current};
 ghost use Rattle.best_fit.specs.Heap.{Allocates, IsExtended, IsReleased, IsShortened, heap_touches, is_live_in, live_of};
@@ -62,8 +62,8 @@ impl Heap {
         longer
     }
 
-    /// Shortens the block of a handle where it stands, to hold `n` bytes, where it is longer and a gap stands behind it or
-    /// at least 32 bytes are cut off. Else nothing changes.
+    /// Shortens the block of a handle where it stands, to hold `n` bytes, where it is longer and a gap stands behind it
+    /// or at least 32 bytes are cut off. Else nothing changes.
     pub fn shrink_in_place(&mut self, handle: u64, n: u64, steps: &mut Steps)
         requires { IsTrue (is_live_in (live_of self.old.bytes) handle) }
         ensures shortened { IsShortened current self.old self.new handle n }

@@ -17,8 +17,8 @@ use block_tags::{Role, TAG};
 use raw_region::Steps;
 
 impl Heap {
-    /// Lengthens the window by `extra` bytes of the region behind it: a multiple of 16, at least 32. They are a gap, or part of
-    /// the gap that stood at the end. All blocks stay.
+    /// Lengthens the window by `extra` bytes of the region behind it: a multiple of 16, at least 32. They are a gap, or
+    /// part of the gap that stood at the end. All blocks stay.
     pub fn extend_end(&mut self, extra: u64, steps: &mut Steps)
         requires long { 32 ≤ extra }
         requires multiple { extra % 16 ≡ 0 }

@@ -27,8 +27,8 @@ use std::marker::Model;
 /// A window that blocks and gaps fill from byte 128 to its end tag of 16 bytes. The header before them is the caller's,
 /// but for its word at 24, the link to the tree of the gaps.
 ///
-/// A block in use has a role, and is named by its handle: the offset in bytes of its payload from the window's start. An
-/// offset in a block counts from its handle. The live set, as contracts have it, are the blocks in use by offset.
+/// A block in use has a role, and is named by its handle: the offset in bytes of its payload from the window's start.
+/// An offset in a block counts from its handle. The live set, as contracts have it, are the blocks in use by offset.
 #[derive(Drop)]
 pub struct Heap {
     pub(crate) gaps: Gaps,
@@ -66,8 +66,8 @@ impl Heap {
         }
     }
 
-    /// The heap that the bytes of a window already are: good tags, and at the word at 24 a good tree of the gaps. No byte
-    /// changes.
+    /// The heap that the bytes of a window already are: good tags, and at the word at 24 a good tree of the gaps. No
+    /// byte changes.
     pub fn adopt(window: Window) -> Heap
         requires { IsHeap current window.bytes }
         ensures { result ≡ window }
@@ -192,8 +192,8 @@ impl Heap {
         self.gaps.window.write(handle + at, bytes);
     }
 
-    /// Copies the `n` bytes from `from_at` on in the block `from` to `to_at` in the block `to`. It may be one block, and the
-    /// two ranges may overlap.
+    /// Copies the `n` bytes from `from_at` on in the block `from` to `to_at` in the block `to`. It may be one block,
+    /// and the two ranges may overlap.
     pub fn copy(&mut self, from: u64, from_at: u64, to: u64, to_at: u64, n: u64)
         requires source { IsTrue (has_room (live_of self.old.bytes) from (from_at + n)) }
         requires target { IsTrue (has_room (live_of self.old.bytes) to (to_at + n)) }

@@ -10,9 +10,9 @@ use block_tags::Role;
 use raw_region::Steps;
 
 impl Heap {
-    /// A block for `n` bytes in the place of the one of a handle, of which the first `used` bytes are kept: the same block
-    /// where it has the room, else the block lengthened where it stands, and else a new one of role storage, which is taken
-    /// before the old one is given back. Without a handle a new one. It answers the block's handle.
+    /// A block for `n` bytes in the place of the one of a handle, of which the first `used` bytes are kept: the same
+    /// block where it has the room, else the block lengthened where it stands, and else a new one of role storage,
+    /// which is taken before the old one is given back. Without a handle a new one. It answers the block's handle.
     ///
     /// # Errors
     ///

@@ -1,4 +1,5 @@
--- A tile in the list that the tags say: what its tags are, what stands round it, and what the list becomes where it changes.
+-- A tile in the list that the tags say: what its tags are, what stands round it, and what the list becomes where it
+-- changes.
 use Rattle.std.proofs.Common.{◌≡◌, refl, sym, ap, subst, ◌∙◌, ℕ, ◌+◌, ◌%◌, ◌<◌, ◌≤◌, ◌⊎◌, inl, inr, Some, None, Bool, true, false, List, [], ◌∷◌, arith, nat_le, cond, ◌&&◌, ◌||◌, not, IsTrue, ◌==◌}
 use Rattle.std.specs.Prelude.{Option}
 use Rattle.std.proofs.lemmas.Bool.{eq-eqb, eqb-true}

@@ -8,7 +8,8 @@ use Rattle.block_tags.specs.Tiles.{is_tile, is_free, tag_word, tile_at}
 abbrev pub is_tagged : ℕ → Tile → ℕ → Bool
 is_tagged format t word = is_tile format t && (word == tag_word t)
 
--- a tile with a whole tag stands at an offset and ends by another one, behind a tile of length before, which is free or not
+-- a tile with a whole tag stands at an offset and ends by another one, behind a tile of length before, which is free or
+-- not
 unfoldable pub is_good_tile : ℕ → Memory → ℕ → ℕ → Bool → ℕ → Bool
 is_good_tile format m at before behind_free end =
     let t : Tile = tile_at m at in

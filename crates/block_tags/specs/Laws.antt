@@ -33,7 +33,8 @@ abbrev pub PayloadIsBesideTags : Type 0
 PayloadIsBesideTags = (c : Cut) (ts : List Tile) (at : ℕ) (t : Tile) → SaysTiles c ts → tile_in ts at ≡ Some t
     → (k : ℕ) → at + 16 ≤ k → k < at + t.len → IsBesideTags ts k × (k < length c.bytes - 16)
 
--- where the tile at an offset stands in a list: what is before it, what is behind, and what becomes of the list where it changes
+-- where the tile at an offset stands in a list: what is before it, what is behind, and what becomes of the list where
+-- it changes
 pub record StandsAt (ts : List Tile) (at : ℕ) (t : Tile) : Type 0 where
   pub front : List Tile
   pub back : List Tile

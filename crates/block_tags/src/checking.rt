@@ -37,8 +37,8 @@ pub fn check(window: &Window) -> Result<(), BadTag>
     }
 }
 
-/// Reads all tags of such a window up to the first wrong one, and counts them: there is at most one for each 32 bytes behind the
-/// header.
+/// Reads all tags of such a window up to the first wrong one, and counts them: there is at most one for each 32 bytes
+/// behind the header.
 pub fn check_counted(window: &Window) -> Checked
     requires { IsTrue (is_legal_size (length window.now.bytes)) }
     ensures good { result.are_good ≡ has_tags current (bytes_of window.now.bytes) (length window.now.bytes) }

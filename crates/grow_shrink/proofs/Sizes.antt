@@ -1,4 +1,5 @@
--- The extents of a directory, which are proper at its size, are so at larger sizes, and at the least one that is not before their end.
+-- The extents of a directory, which are proper at its size, are so at larger sizes, and at the least one that is not
+-- before their end.
 use Rattle.std.proofs.Common.{◌≡◌, subst, ℕ, ◌+◌, ◌-◌, ◌%◌, ◌≤◌, ◌⊎◌, inl, inr, ◌&&◌, List, [], ◌∷◌, arith, nat_le, ◌==◌, IsTrue}
 use Rattle.std.proofs.lemmas.Bool.{and_parts, and_from, or_left, or_right, eq-eqb, le-leb}
 use Rattle.block_tags.specs.Format.{is_legal_size}

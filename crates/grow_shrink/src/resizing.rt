@@ -14,14 +14,14 @@ const LEAST: u64 = 32;
 /// No segment has more bytes.
 const LIMIT: u64 = 1_073_741_824;
 
-/// Lengthens a segment by `extra` bytes of its region, which are free: a multiple of 16, at least 32. Every object keeps
-/// its handle and its value.
+/// Lengthens a segment by `extra` bytes of its region, which are free: a multiple of 16, at least 32. Every object
+/// keeps its handle and its value.
 ///
 /// # Errors
 ///
-/// The first of these that applies: `ReadOnly` where the segment is open for reading, `BadGrow` where `extra` is below 32 or
-/// no multiple of 16, `TooLarge` where the size would be above 1073741824, and `RegionTooSmall` where the region ends before
-/// it. Nothing changes.
+/// The first of these that applies: `ReadOnly` where the segment is open for reading, `BadGrow` where `extra` is below
+/// 32 or no multiple of 16, `TooLarge` where the size would be above 1073741824, and `RegionTooSmall` where the region
+/// ends before it. Nothing changes.
 pub fn grow(segment: &mut Segment, extra: u64) -> Result<(), GrowError>
     ensures refused { IsRefusedBy segment.old result (λ d. growth_refusal segment.old.mode d.size extra (room_of segment.old.cut)) }
     ensures grown { OnOk result (Resizes segment.old segment.new (λ d. grown d extra)) }
@@ -43,8 +43,8 @@ pub fn grow(segment: &mut Segment, extra: u64) -> Result<(), GrowError>
     Ok(())
 }
 
-/// Shortens a segment by what is free at its end: it ends behind its last block, and one without blocks has 144 bytes. Every
-/// object keeps its handle and its value.
+/// Shortens a segment by what is free at its end: it ends behind its last block, and one without blocks has 144 bytes.
+/// Every object keeps its handle and its value.
 ///
 /// # Errors
 ///

@@ -1,4 +1,5 @@
--- Counts of visits: what tiles weigh, and that all passes together stay within 64 for each 16 bytes of the size, and 64.
+-- Counts of visits: what tiles weigh, and that all passes together stay within 64 for each 16 bytes of the size, and
+-- 64.
 use Rattle.std.proofs.Common.{true, ◌≡◌, refl, ap, ◌∙◌, ℕ, ◌+◌, ◌-◌, ◌*◌, ◌/◌, ◌%◌, ◌^◌, ◌<◌, ◌≤◌, List, [], ◌∷◌, ◌++◌, length, arith}
 use Rattle.std.proofs.Math.Nat.{add-mul, mul-le-mul_right}
 use Rattle.std.specs.Prelude.{IsTrue, Option, Some, None}

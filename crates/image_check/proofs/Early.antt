@@ -1,4 +1,5 @@
--- The classes before the eighth: none of them holds of an image whose frame is right, and each wrong part of a frame has its own.
+-- The classes before the eighth: none of them holds of an image whose frame is right, and each wrong part of a frame
+-- has its own.
 use Rattle.std.proofs.Common.{◌≡◌, refl, ℕ, ◌<◌, Bool, false, not, ◌&&◌, ◌||◌, List, length}
 use Rattle.std.specs.Prelude.{IsTrue, nat_lt}
 use Rattle.std.proofs.lemmas.Bool.{and_from, or_from, or_left, or_right, lt-ltb, not_from_false}

@@ -1,4 +1,5 @@
--- Where the fields of a value stand: in its own place, in its array, or in a node of its tree; and which tiles these lie in.
+-- Where the fields of a value stand: in its own place, in its array, or in a node of its tree; and which tiles these
+-- lie in.
 use Rattle.std.proofs.Common.{◌≡◌, refl, sym, ap, subst, ◌∙◌, ℕ, ◌+◌, ◌*◌, ◌%◌, ◌≤◌, ◌<◌, false, ◌&&◌, List, [], ◌∷◌, ◌++◌, length, map, arith}
 use Rattle.std.specs.Prelude.{IsTrue, Option, Some, None, nat_le, nat_lt, flat_map, option_to_list, int_lt}
 use Rattle.std.specs.List.{AllByRecursion, list_all}

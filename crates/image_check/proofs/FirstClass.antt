@@ -1,4 +1,5 @@
--- The first class that holds of an image whose first words are right: the parts of its frame in turn, and then the tests of blocks.
+-- The first class that holds of an image whose first words are right: the parts of its frame in turn, and then the
+-- tests of blocks.
 use Rattle.std.proofs.Common.{◌≡◌, refl, ap, ◌∙◌, ℕ, Bool, true, false, not, ◌&&◌, List, [], ◌∷◌, length, arith, cond}
 use Rattle.std.specs.Prelude.{IsTrue, Some, None, find, nat_lt, nat_le}
 use Rattle.std.proofs.lemmas.Bool.{and_from, and_right, or_from, le-leb, le-ltb, not_from_true, not_from_false}

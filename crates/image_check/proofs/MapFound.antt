@@ -1,4 +1,5 @@
--- The test of a map is passed where its pairs are an ordered red-black tree of as many nodes as it counts, and only there.
+-- The test of a map is passed where its pairs are an ordered red-black tree of as many nodes as it counts, and only
+-- there.
 use Rattle.std.proofs.Common.{◌≡◌, refl, sym, ap, subst, ℕ, ◌+◌, inl, inr, Bool, true, false, ◌&&◌, ◌==◌, List, length}
 use Rattle.std.specs.Prelude.{Option, Some, None, int_lt}
 use Rattle.std.specs.List.{list_all}

@@ -1,4 +1,5 @@
--- The objects and indexes that are read off clean bytes pass their tests, their fields are those that count, and no block is named twice.
+-- The objects and indexes that are read off clean bytes pass their tests, their fields are those that count, and no
+-- block is named twice.
 use Rattle.std.proofs.Common.{◌≡◌, refl, sym, ap, subst, ◌∙◌, ℕ, ◌-◌, Bool, true, false, ◌&&◌, ◌==◌, List, [], ◌∷◌, ◌++◌, length, map}
 use Rattle.std.specs.Prelude.{IsTrue, Option, Some, None, nat_lt, flat_map, filter, option_map, is_some, if◌then◌else◌}
 use Rattle.std.specs.List.{list_all}

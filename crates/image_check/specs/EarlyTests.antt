@@ -54,7 +54,8 @@ free_payloads ts = payloads (sorted_gaps (free_gaps ts))
 abbrev pub is_among : List ℕ → ℕ → Bool
 is_among xs x = list_any (λ y. x == y) xs
 
--- the nodes that are reached from word 24 are the free tiles in order, each once, in a red-black tree; format 0 has none
+-- the nodes that are reached from word 24 are the free tiles in order, each once, in a red-black tree; format 0 has
+-- none
 abbrev pub has_free_tree : ℕ → Memory → List Tile → Bool
 has_free_tree zero m ts = word_at m 24 == 1
 has_free_tree (suc format) m ts = elim (tree_from (length ts) (is_among (free_payloads ts)) (cells_of m) (link_at m 24)) [

@@ -66,8 +66,8 @@ abbrev pub root_link : Kind × ℕ → List ℕ
 root_link (Map k v, at) = at ∷ []
 root_link (k, at) = []
 
--- The good ones of these links to nodes, and of the links of the nodes that are reached by them. The links of a node are
--- gone through where it is first met, and these have been met. At most so many links are gone through.
+-- The good ones of these links to nodes, and of the links of the nodes that are reached by them. The links of a node
+-- are gone through where it is first met, and these have been met. At most so many links are gone through.
 abbrev pub node_fields : ℕ → Memory → List Tile → List ℕ → List ℕ → List Field
 node_fields zero m ts met links = []
 node_fields (suc more) m ts met [] = []

@@ -34,7 +34,8 @@ is_pair c es root k v n =
     is_place c n && is_node_block root (pair_len k v) (block_at es n)
     && is_spelling k (read (bytes_of c.bytes) (n + 16) (size_of k)) && is_spelling v (read (bytes_of c.bytes) (n + 16 + size_of k) (size_of v))
 
--- where a link of a node leads: to the node itself, where it leads to no good one, since no ordered tree has a node below itself
+-- where a link of a node leads: to the node itself, where it leads to no good one, since no ordered tree has a node
+-- below itself
 abbrev pub kept_link : (ℕ → Bool) → ℕ → Option ℕ → Option ℕ
 kept_link good n None = None
 kept_link good n (Some target) = Some (if good target then target else n)

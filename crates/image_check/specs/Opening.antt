@@ -39,7 +39,8 @@ pub record IsReadToEnd (image : Given) : Type 0 where
   pub ended : image.ended ≡ true
   pub failed : image.failed ≡ false
 
--- no read failed, and the image was read to its end and the class is the first that holds of it, or what was read decides the class
+-- no read failed, and the image was read to its end and the class is the first that holds of it, or what was read
+-- decides the class
 pub record IsRefusedAs (format : ℕ) (image : Given) (c : ImageClass) : Type 0 where
   pub sound : image.failed ≡ false
   pub right : ((image.ended ≡ true) × (class_of format image.bytes ≡ Some c)) ⊎ DecidesClass format image.bytes c
@@ -61,8 +62,8 @@ pub record IsUndecided (format : ℕ) (image : Given) : Type 0 where
   pub failed : image.failed ≡ true
   pub open_class : (c : ImageClass) → DecidesClass format image.bytes c → ⊥
 
--- There was no memory for the check of the blocks: the image was read to its end, none of the classes before the eighth holds,
--- and a tile is in use.
+-- There was no memory for the check of the blocks: the image was read to its end, none of the classes before the eighth
+-- holds, and a tile is in use.
 pub record IsOutOfMemory (format : ℕ) (image : Given) : Type 0 where
   pub read : IsReadToEnd image
   pub early : has_early_class format image.bytes ≡ false

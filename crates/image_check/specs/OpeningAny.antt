@@ -30,8 +30,8 @@ pub record IsBesideHead (k : ℕ) : Type 0 where
   pub version : (k < 8) ⊎ (12 ≤ k)
   pub root : (k < 24) ⊎ (32 ≤ k)
 
--- There is a tree of the gaps, and the version is the current one. The blocks in use stay with their bytes and colours, and
--- nothing changes but the version, word 24 and the bytes of gaps.
+-- There is a tree of the gaps, and the version is the current one. The blocks in use stay with their bytes and colours,
+-- and nothing changes but the version, word 24 and the bytes of gaps.
 pub record IsReplanted (old new : List ℕ) : Type 0 where
   pub heap : LaysOut current new (live_of old)
   pub version : half_word_at (bytes_of new) 8 ≡ current
@@ -66,7 +66,8 @@ ReplantedStand = (b b' : List ℕ) (d : Directory) → Denotes 0 b d → IsRepla
 
 -- ---- the answers
 
--- the image was read to its end and denotes a directory by its format, and the segment has it, in its place in the region
+-- the image was read to its end and denotes a directory by its format, and the segment has it, in its place in the
+-- region
 pub record IsOpenedAny (image : Given) (region : List ℕ) (base : ℕ) (how : Mode) (s : State) : Type 0 where
   pub read : IsReadToEnd image
   pub mode : s.mode ≡ how
@@ -74,7 +75,8 @@ pub record IsOpenedAny (image : Given) (region : List ℕ) (base : ℕ) (how : M
   pub denotes : IsImage (format_of image.bytes) image.bytes
   pub renewed : IsRenewed (format_of image.bytes) image.bytes s.cut.bytes
 
--- no read failed, and the image was read to its end and the class is the first that holds of it, or what was read decides the class
+-- no read failed, and the image was read to its end and the class is the first that holds of it, or what was read
+-- decides the class
 pub record IsRefusedAsAny (image : Given) (c : ImageClass) : Type 0 where
   pub sound : image.failed ≡ false
   pub right : ((image.ended ≡ true) × (class_of_any image.bytes ≡ Some c)) ⊎ DecidesAny image.bytes c

@@ -65,8 +65,8 @@ pub record AreBlocks (ts : List Tile) (es : Blocks) : Type 0 where
   pub tiles : (n : ℕ) (b : Block) → block_at es n ≡ Some b → IsTileAt ts n b
   pub blocks : (n : ℕ) (role : Role) (t : Tile) → tile_of ts role n ≡ Some t → IsBlockAt es n role t
 
--- The visits that the links behind a block may take once a link is met to lead to it: six for a node, and three for each 16 bytes of
--- storage.
+-- The visits that the links behind a block may take once a link is met to lead to it: six for a node, and three for
+-- each 16 bytes of storage.
 abbrev pub due : Role → ℕ → ℕ
 due Object len = 0
 due Index len = 0
@@ -169,7 +169,8 @@ IsRooted ts es o = (IsStart ts o.at × (o.root ≡ o.at)) ⊎ ((w : IsBehind ts 
 abbrev pub AreAligned : List Tile → Type 0
 AreAligned ts = (n : ℕ) (t : Tile) → tile_of ts Node n ≡ Some t → n % 16 ≡ 0
 
--- What is noted counts. The links of each node that is owned are noted, but of those that wait and of the one whose turn it is.
+-- What is noted counts. The links of each node that is owned are noted, but of those that wait and of the one whose
+-- turn it is.
 pub record IsMarking (format : ℕ) (m : Memory) (ts : List Tile) (now : Option ℕ) (es : Blocks) (pending : Option ℕ) (waiting : ℕ) : Type 0 where
   pub blocks : AreBlocks ts es
   pub frame : frames es ≡ frames (entries_of ts)

@@ -34,7 +34,8 @@ use std::alloc::Global;
 use std::mem;
 pub(crate) use visits::Visits;
 
-/// Whether a window whose first words are right by a format, from 0 to 2, is the image of a directory by it. A visit is a step.
+/// Whether a window whose first words are right by a format, from 0 to 2, is the image of a directory by it. A visit is
+/// a step.
 ///
 /// # Errors
 ///
@@ -86,8 +87,8 @@ fn check_counted(
     Ok(())
 }
 
-/// The count of the tiles of a window whose first words are right, where its reserved bytes, tags and free tree are right
-/// too.
+/// The count of the tiles of a window whose first words are right, where its reserved bytes, tags and free tree are
+/// right too.
 ///
 /// # Errors
 ///
@@ -151,8 +152,8 @@ fn check_blocks(
     check_orphans(owners, visits)
 }
 
-/// Whether all bytes of the header that are kept for later are zero: the upper half of the word of the format, and those
-/// behind the indexes.
+/// Whether all bytes of the header that are kept for later are zero: the upper half of the word of the format, and
+/// those behind the indexes.
 fn has_reserved(window: &ImageWindow) -> bool
     requires { 128 ≤ length window.now.bytes }
     ensures { result ≡ is_reserved window.now.bytes }

@@ -97,8 +97,8 @@ fn are_right(format: u64, window: &ImageWindow, blocks: &Blocks, visits: &mut Vi
     true
 }
 
-/// Checks that each container of the image is what its words say: its storage has room for its capacity, its used elements are
-/// spelled, its map is an ordered red-black tree of as many pairs as it counts.
+/// Checks that each container of the image is what its words say: its storage has room for its capacity, its used
+/// elements are spelled, its map is an ordered red-black tree of as many pairs as it counts.
 ///
 /// # Errors
 ///

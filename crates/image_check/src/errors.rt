@@ -25,8 +25,8 @@ pub enum OpenError {
     ReadFault,
 }
 
-/// No segment is opened. The region comes back. Its bytes are as they were but for those of the window from the base on that the
-/// first words of the image say, where they say one for which there is room. As text it is its cause.
+/// No segment is opened. The region comes back. Its bytes are as they were but for those of the window from the base on
+/// that the first words of the image say, where they say one for which there is room. As text it is its cause.
 #[derive(Drop, Error)]
 #[error("{cause}")]
 pub struct OpenRefused {

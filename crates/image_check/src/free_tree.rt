@@ -25,8 +25,8 @@ use block_tags::{TAG, Tile};
 /// The count of the tiles, where the tree at word 24 has the free ones as its nodes, each once, ordered by length and
 /// then by offset, and is red-black. The links may be any words.
 ///
-/// A tree of as many nodes as there are free tiles, in which each of them is found, has no other node. Each is searched for
-/// to the depth of a red-black tree of that size.
+/// A tree of as many nodes as there are free tiles, in which each of them is found, has no other node. Each is searched
+/// for to the depth of a red-black tree of that size.
 pub(crate) fn check_free_tree(window: &ImageWindow, visits: &mut Visits) -> Option<Counts>
     requires size { IsTrue (is_legal_size (length window.now.bytes)) }
     requires tags { IsTrue (has_tags current (bytes_of window.now.bytes) (length window.now.bytes)) }

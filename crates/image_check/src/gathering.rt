@@ -14,8 +14,8 @@ use crate::room::{NoMemory, room_for};
 use block_tags::Tile;
 use std::alloc::Global;
 
-/// The blocks in use by payload, to none of which a link was met, where the tiles were counted. Memory is asked for once,
-/// and not where no block is in use.
+/// The blocks in use by payload, to none of which a link was met, where the tiles were counted. Memory is asked for
+/// once, and not where no block is in use.
 ///
 /// # Errors
 ///

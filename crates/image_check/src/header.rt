@@ -16,13 +16,14 @@ pub const FRONT: usize = SIZE_AT as usize + 8;
 /// The fewest bytes that an image has.
 pub const LEAST: usize = (FIRST + TAG) as usize;
 
-/// The size in bytes of an image that begins with these bytes, of which there are at least [`FRONT`] and the first `FRONT` are
-/// looked at: 144, or a multiple of 16 from 176 to 2^30. It is what the front says, and no promise that the rest is an image.
+/// The size in bytes of an image that begins with these bytes, of which there are at least [`FRONT`] and the first
+/// `FRONT` are looked at: 144, or a multiple of 16 from 176 to 2^30. It is what the front says, and no promise that the
+/// rest is an image.
 ///
 /// # Errors
 ///
-/// `BadMagic` where the bytes do not begin with the magic, then `UnsupportedVersion` for any other version than the one that is
-/// read, then `BadSize` for a size that no segment has.
+/// `BadMagic` where the bytes do not begin with the magic, then `UnsupportedVersion` for any other version than the one
+/// that is read, then `BadSize` for a size that no segment has.
 pub fn size_in(front: &[u8]) -> Result<u64, ImageClass>
     requires { 24 ≤ length front.now }
     ensures { result ≡ front_of current front.now }

@@ -43,8 +43,8 @@ pub(crate) fn kind_of(format: u64, window: &ImageWindow, object: Object) -> Opti
     }
 }
 
-/// The kind of this code, or `None` where no kind has it. The code of an object is looked for among all only where the kind that
-/// its parts name has another.
+/// The kind of this code, or `None` where no kind has it. The code of an object is looked for among all only where the
+/// kind that its parts name has another.
 fn kind_of_code(code: u32) -> Option<Kind>
     ensures { result ≡ code_kind code }
 {
@@ -157,7 +157,8 @@ fn index_of(blocks: &Blocks, guess: usize, at: u64, visits: &mut Visits) -> Opti
     }
 }
 
-/// Whether the object, whose block may be that of number `guess`, has an entry in the index of its class, if there is one.
+/// Whether the object, whose block may be that of number `guess`, has an entry in the index of its class, if there is
+/// one.
 pub(crate) fn is_indexed(
     window: &ImageWindow,
     blocks: &Blocks,

@@ -1,5 +1,5 @@
-//! The one way to the bytes of an image that is checked, and to its blocks in use: calls that count what they reach. Bytes that
-//! nobody counts are seen by this module and those in it alone.
+//! The one way to the bytes of an image that is checked, and to its blocks in use: calls that count what they reach.
+//! Bytes that nobody counts are seen by this module and those in it alone.
 ghost use Rattle.std.specs.Prelude.{◌≡◌, ◌+◌, ◌*◌, ◌%◌, ◌≤◌, ◌↔◌, IfOk, IsTrue, List, is_err, length};
 ghost use Rattle.raw_region.specs.Format.{current};
 ghost use Rattle.raw_region.specs.Memory.{bytes_of, part, whole, word_at};

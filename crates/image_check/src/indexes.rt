@@ -23,8 +23,8 @@ use segment_manager::layout::{NAMED_AT, UNIQUE_AT};
 ///
 /// # Errors
 ///
-/// `BadIndex` where one has more entries than places, a block that is none or too short, a block but no place, or an entry
-/// that leads to no object or to one that has an entry already.
+/// `BadIndex` where one has more entries than places, a block that is none or too short, a block but no place, or an
+/// entry that leads to no object or to one that has an entry already.
 pub(crate) fn check_indexes(
     window: &ImageWindow,
     owners: &mut Owners,
@@ -51,8 +51,8 @@ pub(crate) fn check_indexes(
     Ok(())
 }
 
-/// Notes the entries of the index whose words stand at `at`; whether all is right with it, and its entries lead to objects
-/// that had none.
+/// Notes the entries of the index whose words stand at `at`; whether all is right with it, and its entries lead to
+/// objects that had none.
 fn enter_index(window: &ImageWindow, owners: &mut Owners, visits: &mut Visits, at: u64) -> bool
     requires tiles { HasTiles window.now.bytes }
     requires place { IsIndexPlace at }

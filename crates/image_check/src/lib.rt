@@ -1,5 +1,5 @@
-//! Images in and out. An image that nobody vouches for is read: exactly those that denote a directory are accepted, and the
-//! others are refused by a named class. The image of a segment is written, and accepted again.
+//! Images in and out. An image that nobody vouches for is read: exactly those that denote a directory are accepted, and
+//! the others are refused by a named class. The image of a segment is written, and accepted again.
 #![tactic(auto)]
 
 mod arrays;

@@ -123,7 +123,8 @@ fn follow_next(
     }
 }
 
-/// Notes the links of all nodes that wait, and of the nodes that are met by them. At most six visits for each node that is met.
+/// Notes the links of all nodes that wait, and of the nodes that are met by them. At most six visits for each node that
+/// is met.
 ///
 /// # Errors
 ///

@@ -21,13 +21,13 @@ use crate::ranks::has_order;
 use block_tags::{Role, TAG, Tile};
 use segment_manager::layout::{NAMED_AT, UNIQUE_AT};
 
-/// Checks each object by itself, then the order of the entries of each index. The indexes are those of class 8, and their
-/// entries are noted.
+/// Checks each object by itself, then the order of the entries of each index. The indexes are those of class 8, and
+/// their entries are noted.
 ///
 /// # Errors
 ///
-/// `BadObject` where an object has a kind, class, count, name, padding or value that is wrong, or no entry in the index of
-/// its class; or where an index names an object of another class or its keys do not rise.
+/// `BadObject` where an object has a kind, class, count, name, padding or value that is wrong, or no entry in the index
+/// of its class; or where an index names an object of another class or its keys do not rise.
 pub(crate) fn check_objects(
     format: u64,
     window: &ImageWindow,
@@ -100,8 +100,8 @@ fn is_right(
     }
 }
 
-/// Whether the object, whose payload ends at `end` and whose block may be that of number `guess`, is right. One visit, and one for
-/// each scalar of its value.
+/// Whether the object, whose payload ends at `end` and whose block may be that of number `guess`, is right. One visit,
+/// and one for each scalar of its value.
 fn is_object(
     format: u64,
     window: &ImageWindow,

@@ -14,14 +14,15 @@ use segment_manager::layout::FORMAT;
 use segment_manager::{Mode, Segment};
 use std::alloc::Global;
 
-/// Copies an image into the region, from `base` on, which is a multiple of 16, and opens it. The bytes are all of the image.
+/// Copies an image into the region, from `base` on, which is a multiple of 16, and opens it. The bytes are all of the
+/// image.
 ///
 /// # Errors
 ///
-/// `RegionTooSmall` where the first 24 bytes are the magic, the version and a legal size, and the region ends before base plus
-/// size. Else a class of the image where it denotes no directory, the first that holds. `OutOfMemory` where memory for the check
-/// of the blocks was refused: only where no class before `BadIndex` holds and a tile is in use. `ReadFault` never. The region
-/// comes back, as it was where the bytes are not as many as they say.
+/// `RegionTooSmall` where the first 24 bytes are the magic, the version and a legal size, and the region ends before
+/// base plus size. Else a class of the image where it denotes no directory, the first that holds. `OutOfMemory` where
+/// memory for the check of the blocks was refused: only where no class before `BadIndex` holds and a tile is in use.
+/// `ReadFault` never. The region comes back, as it was where the bytes are not as many as they say.
 ///
 /// `steps` is raised by each visit of the check: by no more than 64 for each 16 bytes of the size, and 64.
 pub fn open_bytes(

@@ -1,4 +1,5 @@
-//! The owners of the blocks in use: by the payload of each its role, its length, and the link that was met to lead to it.
+//! The owners of the blocks in use: by the payload of each its role, its length, and the link that was met to lead to
+//! it.
 ghost use Rattle.std.specs.Prelude.{◌≡◌, ◌+◌, ◌≤◌, List, Some, option_map};
 ghost use Rattle.block_tags.specs.declared.tile.Tile.{Tile};
 ghost use Rattle.best_fit.specs.Table.{same_role};
@@ -11,14 +12,14 @@ use crate::checking::Visits;
 use crate::image_window::Blocks;
 use block_tags::{Role, TAG, Tile};
 
-/// A link that leads to a block. Places are numbers of four bytes, since no image is longer than 2^30 bytes: there is a row for
-/// each block, and they are gone through many times.
+/// A link that leads to a block. Places are numbers of four bytes, since no image is longer than 2^30 bytes: there is a
+/// row for each block, and they are gone through many times.
 #[derive(Clone, Copy, Debug, PartialEq, Eq)]
 pub(crate) struct Owner {
     /// Where it stands.
     pub(crate) at: u32,
-    /// Where the first link stands of those that lead there: itself, or for a link of a node the root link of its map. Of an entry
-    /// of an index it is the index's own link.
+    /// Where the first link stands of those that lead there: itself, or for a link of a node the root link of its map.
+    /// Of an entry of an index it is the index's own link.
     pub(crate) root: u32,
 }
 

@@ -37,12 +37,13 @@ pub fn place_image(
     }
 }
 
-/// The size of an image, which its first words say and its bytes have, and for which there is room in the region from `base` on.
+/// The size of an image, which its first words say and its bytes have, and for which there is room in the region from
+/// `base` on.
 ///
 /// # Errors
 ///
-/// `RegionTooSmall` where the first words say a size for which there is no room. `Truncated`, or what is wrong with the first
-/// words, or `BadSize` where there are more bytes than they say.
+/// `RegionTooSmall` where the first words say a size for which there is no room. `Truncated`, or what is wrong with the
+/// first words, or `BadSize` where there are more bytes than they say.
 fn size_for(
     versions: Versions,
     image: &[u8],

@@ -55,7 +55,8 @@ fn rise(window: &ImageWindow, visits: &mut Visits, block: u64, count: u64, class
     true
 }
 
-/// Whether an object is of the class, and its key stands behind that of the last one, if there was one. At most two visits.
+/// Whether an object is of the class, and its key stands behind that of the last one, if there was one. At most two
+/// visits.
 fn follows(
     window: &ImageWindow,
     visits: &mut Visits,

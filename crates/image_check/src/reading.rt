@@ -19,8 +19,8 @@ use raw_region::{RawRegion, Source, Window, fill};
 ///
 /// # Errors
 ///
-/// `RegionTooSmall` as soon as the first words say a size for which there is no room. `Truncated`, or what is wrong with the
-/// first words, or `BadSize` where more bytes follow. `ReadFault` where the reader failed before that.
+/// `RegionTooSmall` as soon as the first words say a size for which there is no room. `Truncated`, or what is wrong
+/// with the first words, or `BadSize` where more bytes follow. `ReadFault` where the reader failed before that.
 pub fn read_image<S: Source>(
     versions: Versions,
     reader: &mut S,
@@ -55,7 +55,8 @@ pub fn read_image<S: Source>(
 ///
 /// # Errors
 ///
-/// As `read_image`. Where the bytes begin no image, more are read, since fewer than 144 are too short whatever they are.
+/// As `read_image`. Where the bytes begin no image, more are read, since fewer than 144 are too short whatever they
+/// are.
 fn read_front<S: Source>(
     versions: Versions,
     reader: &mut S,
@@ -81,7 +82,8 @@ fn read_front<S: Source>(
     }
 }
 
-/// Reads the bytes behind the first 24, which stand in the window and say its size, and finds that the image ends there.
+/// Reads the bytes behind the first 24, which stand in the window and say its size, and finds that the image ends
+/// there.
 ///
 /// # Errors
 ///

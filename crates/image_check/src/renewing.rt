@@ -11,8 +11,9 @@ use best_fit::Heap;
 use raw_region::Window;
 use segment_manager::layout::{FORMAT, FORMAT_AT};
 
-/// The window of the image of a directory by a format, from 0 to 2, as that of the same directory by the current format: with
-/// the current version and, from format 0, with a free tree. The window of an image of the current format stays as it is.
+/// The window of the image of a directory by a format, from 0 to 2, as that of the same directory by the current
+/// format: with the current version and, from format 0, with a free tree. The window of an image of the current format
+/// stays as it is.
 pub(crate) fn renew(format: u64, window: Window) -> Window
     requires format { format ≤ 2 }
     requires image { IsImage format window.bytes }

@@ -21,7 +21,8 @@ IsWrongHead m ts at place =
 abbrev pub first_targets : Memory → ℕ → ℕ → List ℕ
 first_targets m block n = flat_map option_to_list (links_in m block n)
 
--- where the entries lead that come before one of an index: those of the named index, at 32, come before those of the unique one
+-- where the entries lead that come before one of an index: those of the named index, at 32, come before those of the
+-- unique one
 abbrev pub earlier_targets : Memory → ℕ → ℕ → ℕ → List ℕ
 earlier_targets m at block number = (if at == 56 then targets m 32 else []) ++ first_targets m block number
 

@@ -17,8 +17,8 @@ abbrev pub link_before : Memory → ℕ → ℕ → Option ℕ
 link_before m block zero = None
 link_before m block (suc number) = link_at m (block + 8 * number)
 
--- the entry at a place of the index at an offset leads to an object of another class than the index has, or of one whose key does not stand
--- behind that of the object to which the entry before it leads
+-- the entry at a place of the index at an offset leads to an object of another class than the index has, or of one
+-- whose key does not stand behind that of the object to which the entry before it leads
 pub record IsMisplaced (class : ℕ) (m : Memory) (at place : ℕ) : Type 0 where
   pub block : ℕ
   pub number : ℕ

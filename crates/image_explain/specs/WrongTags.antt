@@ -4,8 +4,9 @@ use Rattle.raw_region.specs.Memory.{Memory, word_at}
 use Rattle.block_tags.specs.declared.tile.Tile.{Tile}
 use Rattle.block_tags.specs.Tiles.{has_tags, is_free, is_tile, tag_word, tile_at}
 
--- The tag at an offset is that of a tile, behind one of length before, which is free or not: the tile is long enough, of a colour that
--- it may have, ends no further than at the end tag, and is not free where the one before is. Its words say so, and nothing else.
+-- The tag at an offset is that of a tile, behind one of length before, which is free or not: the tile is long enough,
+-- of a colour that it may have, ends no further than at the end tag, and is not free where the one before is. Its words
+-- say so, and nothing else.
 abbrev pub is_right : ℕ → Memory → ℕ → ℕ → ℕ → Bool → Bool
 is_right format m end at before free =
     let t : Tile = tile_at m at in

@@ -34,8 +34,8 @@ const LEAST: usize = 144;
 /// The most bytes that a segment has.
 const MOST: usize = 1_073_741_824;
 
-/// The most bytes of an image in which a place is looked for through all links: the time for that grows as the square of
-/// the number of blocks.
+/// The most bytes of an image in which a place is looked for through all links: the time for that grows as the square
+/// of the number of blocks.
 const MOST_SEARCHED: usize = 1_048_576;
 
 /// Where the version of an image stands.

@@ -153,7 +153,8 @@ fn leads(rt: &impl Abort, window: &Window, at: u64, target: Option<u64>) {
     same(rt, load(window, at), target);
 }
 
-/// Blocks for 64, 16, 32 and 16 bytes, of which the first and the third are given back: the third is the least gap for 32.
+/// Blocks for 64, 16, 32 and 16 bytes, of which the first and the third are given back: the third is the least gap for
+/// 32.
 const LEAST_GAP: [Step; 10] = [
     Step::Takes(64, 144),
     Step::Takes(16, 224),

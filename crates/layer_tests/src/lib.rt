@@ -1,5 +1,5 @@
-//! Tests of the layers below a segment, over their public calls: from raw memory to vectors and maps in a heap; and of the words
-//! of the command language.
+//! Tests of the layers below a segment, over their public calls: from raw memory to vectors and maps in a heap; and of
+//! the words of the command language.
 #![tactic(auto)]
 
 #[cfg(test)]

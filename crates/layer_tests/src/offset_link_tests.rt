@@ -1,4 +1,5 @@
-//! Links in a window of 400 bytes. What a call asks for is asked of the window before, so a test is a line of calls without facts.
+//! Links in a window of 400 bytes. What a call asks for is asked of the window before, so a test is a line of calls
+//! without facts.
 use crate::checks::{done, holds, same};
 use offset_link::{
     Places, all_lead, are_links, checked, copy, load, shift, shift_non_null, store, store_null,

@@ -116,8 +116,8 @@ fn laws_are_called(rt: HostRuntime) {
     holds(&rt, bool::read(&[255]).is_none());
 }
 
-/// Bytes, and whether they are a name in the formats 0 and 1, and from 2 on. Names may have blanks and quotes, and from 2 on
-/// characters of two, three and four bytes; none is empty, has a control character or is no UTF-8.
+/// Bytes, and whether they are a name in the formats 0 and 1, and from 2 on. Names may have blanks and quotes, and from
+/// 2 on characters of two, three and four bytes; none is empty, has a control character or is no UTF-8.
 const NAMES: [(&[u8], bool, bool); 13] = [
     (b"a ~", true, true),
     (b" with blanks, and \"quotes\"", true, true),

@@ -35,7 +35,8 @@ impl Bench {
         }
     }
 
-    /// Fails where something was not as is wanted. It takes the segment, since to let go of one in each test is dear to prove.
+    /// Fails where something was not as is wanted. It takes the segment, since to let go of one in each test is dear to
+    /// prove.
     pub fn ends(self, rt: &impl Abort) {
         holds(rt, self.is_right);
     }

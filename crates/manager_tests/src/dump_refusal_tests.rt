@@ -4,8 +4,8 @@ use crate::dumps::{is_refused, loaded, refused_in};
 use segment_dump::{BadDump, Count, DumpFault, LoadError, Needs, count_dump};
 use std::process::Abort;
 
-/// Texts that are no dumps: in which line and column, and why. Counts that no lines stand behind are no reason to say that there
-/// is too little space.
+/// Texts that are no dumps: in which line and column, and why. Counts that no lines stand behind are no reason to say
+/// that there is too little space.
 const DAMAGED: [(&[u8], u64, u64, DumpFault); 11] = [
     (b"", 1, 1, DumpFault::Cut),
     (b"segment dump 2\n", 1, 14, DumpFault::BadSyntax),
@@ -92,8 +92,9 @@ fn too_small(rt: HostRuntime) {
     }
 }
 
-/// A map of two pairs and a vector of strings with two texts, which need 144 bytes for the ends, 32 and 32 for the indexes, 64
-/// for each object's own block, 48 for each pair, 48 for the array of the texts, and 32 and 48 for the texts.
+/// A map of two pairs and a vector of strings with two texts, which need 144 bytes for the ends, 32 and 32 for the
+/// indexes, 64 for each object's own block, 48 for each pair, 48 for the array of the texts, and 32 and 48 for the
+/// texts.
 const NEEDS_560: &[u8] =
     b"segment dump 1\nsize 4096\nindexes 1 1\nnamed \"b \\xc3\\xa4\" vec<string> 2\n  5 \"hello\"\n  20 \"12345678901234567890\"\nunique map<i32,bool> 2\n  -7 false\n  7 true\nend\n";
 

@@ -1,5 +1,5 @@
-//! Tests of objects in segments and of their views, of regions, of the check of images and of dumps, by public calls that no
-//! script makes. What scripts and images say is in the row files of `rows`.
+//! Tests of objects in segments and of their views, of regions, of the check of images and of dumps, by public calls
+//! that no script makes. What scripts and images say is in the row files of `rows`.
 #![tactic(auto)]
 
 #[cfg(test)]

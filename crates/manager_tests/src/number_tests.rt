@@ -65,7 +65,8 @@ fn an_object_is_the_only_one_of_its_kind(rt: HostRuntime) {
     bench.ends(&rt);
 }
 
-/// What the objects below tell of themselves: one under a name, one that is the only one of its kind, and one that has neither.
+/// What the objects below tell of themselves: one under a name, one that is the only one of its kind, and one that has
+/// neither.
 const NAMED: Told = Told {
     kind: Kind::Scalar(ScalarKind::Bool),
     name: Some(b"a"),

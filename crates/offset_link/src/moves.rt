@@ -55,8 +55,8 @@ pub fn all_lead(w: &Window, at: u64, n: u64) -> bool
     true
 }
 
-/// Moves the `n` links from `at` on, eight at a time where none of the eight is null. Each leads where it led, to a multiple of
-/// 16 or nowhere, and the places that they leave may be among those that they take.
+/// Moves the `n` links from `at` on, eight at a time where none of the eight is null. Each leads where it led, to a
+/// multiple of 16 or nowhere, and the places that they leave may be among those that they take.
 pub fn shift(w: &mut Window, at: u64, n: u64, by: Places)
     requires aligned { at % 8 ≡ 0 }
     requires source { at + 8 * n ≤ length w.old.bytes }
@@ -81,7 +81,8 @@ pub fn shift(w: &mut Window, at: u64, n: u64, by: Places)
     }
 }
 
-/// The same for links none of which is null, which need not be asked for it: the words of all of them change by the distance.
+/// The same for links none of which is null, which need not be asked for it: the words of all of them change by the
+/// distance.
 pub fn shift_non_null(w: &mut Window, at: u64, n: u64, by: Places)
     requires aligned { at % 8 ≡ 0 }
     requires source { at + 8 * n ≤ length w.old.bytes }
@@ -118,8 +119,8 @@ const NEAR: usize = 512;
 /// How many runs before their turn words are looked at.
 const AHEAD: usize = 8;
 
-/// From the last run on, and then from the last link of the rest on, so that none is overwritten before it has moved. That none
-/// is null may be known.
+/// From the last run on, and then from the last link of the rest on, so that none is overwritten before it has moved.
+/// That none is null may be known.
 fn move_up(bytes: &mut [u8], at: usize, n: usize, by: usize, non_null: bool)
     requires inside { at + by + 8 * n ≤ length bytes.old }
     requires non_null { IsTrue non_null → NoneIsNull (bytes_of bytes.old) at n }
@@ -164,8 +165,9 @@ fn runs_up(bytes: &mut [u8], at: usize, n: usize, by: usize, non_null: bool)
     turns_up(bytes, at, AHEAD, by, 0, still_known(non_null, seen));
 }
 
-/// The runs, the last of them first, two in a turn. Where they are far, words are looked at so many bytes `ahead`, so that a
-/// processor has them near in time. What was seen is answered and then asked, so that no compiler leaves the look out.
+/// The runs, the last of them first, two in a turn. Where they are far, words are looked at so many bytes `ahead`, so
+/// that a processor has them near in time. What was seen is answered and then asked, so that no compiler leaves the
+/// look out.
 #[inline(always)]
 fn turns_up(bytes: &mut [u8], at: usize, n: usize, by: usize, ahead: usize, non_null: bool) -> u64
     requires ahead { ahead ≤ at }
@@ -240,7 +242,8 @@ fn move_down(bytes: &mut [u8], at: usize, n: usize, by: usize, non_null: bool)
     requires non_null { IsTrue non_null → NoneIsNull (bytes_of bytes.old) at n }
     ensures { bytes.new ≡ patched bytes.old (at - by) (relinked (bytes_of bytes.old) at (at - by) n) }
 {
-    // The first one moves alone where the runs behind it then begin at a multiple of 16, as those of `move_up` end at one.
+    // The first one moves alone where the runs behind it then begin at a multiple of 16, as those of `move_up` end at
+    // one.
     let first = n.min((at - by) / 8 % 2);
     let others = n - first;
     let runs = others / RUN;
@@ -336,8 +339,8 @@ fn links_down(bytes: &mut [u8], at: usize, n: usize, by: usize)
     }
 }
 
-/// Whether it is seen at once that none of the eight links from `at` on is null: their words are even, as those are that lead
-/// to a multiple of 16 from a multiple of 8.
+/// Whether it is seen at once that none of the eight links from `at` on is null: their words are even, as those are
+/// that lead to a multiple of 16 from a multiple of 8.
 #[inline(always)]
 fn none_is_null(bytes: &[u8], at: usize) -> bool
     requires { at + 64 ≤ length bytes.now }
@@ -354,8 +357,8 @@ fn none_is_null(bytes: &[u8], at: usize) -> bool
     (front | back) % 2 == 0
 }
 
-/// Makes the eight words from `to` on links that lead where those from `from` on lead, none of which is null. All are read
-/// before one is written.
+/// Makes the eight words from `to` on links that lead where those from `from` on lead, none of which is null. All are
+/// read before one is written.
 fn move_run(bytes: &mut [u8], from: usize, to: usize)
     requires from_inside { from + 64 ≤ length bytes.old }
     requires to_inside { to + 64 ≤ length bytes.old }

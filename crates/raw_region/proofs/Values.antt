@@ -1,4 +1,5 @@
--- The machine values of structs whose fields take no bytes: what is owned tells them, and they are made of nothing. Assumes `Logic`.
+-- The machine values of structs whose fields take no bytes: what is owned tells them, and they are made of nothing.
+-- Assumes `Logic`.
 use Rattle.std.proofs.Common.{◌≡◌, List, [], ◌∷◌, ◌++◌, refl, ap, ◌∙◌}
 use seplogic.Ra.Ura.{Ura}
 use mir.Val.{Val, vstruct, vcons, vnil, of_list}

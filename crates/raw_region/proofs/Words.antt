@@ -1,4 +1,5 @@
--- What the crates above rest on: a word that was written is read back, words and parts elsewhere stay, and moved bytes arrive.
+-- What the crates above rest on: a word that was written is read back, words and parts elsewhere stay, and moved bytes
+-- arrive.
 use Rattle.std.proofs.Common.{◌≡◌, ℕ, zero, suc, ◌+◌, ◌-◌, ◌^◌, ◌<◌, ◌≤◌, ◌⊎◌, inl, inr, List, [], ◌∷◌, ◌++◌, length, take, drop, slice_index, replicate, refl, sym, ap, ap₂, ◌∙◌, arith, length-append}
 use Rattle.std.proofs.lemmas.List.{append-nil, append_assoc, drop_at, length-take, length-replicate, get_or-replicate, get_or-append_right}
 use Rattle.std.proofs.lemmas.List.{take_at as take_front}

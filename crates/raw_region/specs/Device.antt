@@ -38,8 +38,8 @@ given_since old new =
 abbrev pub taken_since : Took → Took → Taken
 taken_since old new = record { bytes = drop (length old.bytes) new.bytes; failed = nat_lt old.failures new.failures }
 
--- A call writes a text: all of it where it answers Ok; where it answers an error, not all of it, from the first byte on, and one
--- more failure.
+-- A call writes a text: all of it where it answers Ok; where it answers an error, not all of it, from the first byte
+-- on, and one more failure.
 pub record Writes {A E : Type 0} (old new : Took) (result : Result A E) (text : List ℕ) : Type 0 where
   pub ok : OnOk result (new.bytes ≡ old.bytes ++ text)
   pub err : OnErr result (AddsFront old.bytes new.bytes text)

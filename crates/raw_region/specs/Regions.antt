@@ -21,7 +21,8 @@ pub record Holds (start place owned : Ptr) (items : List ℕ) (owned_len capacit
 pub record IsCleanIf (clean : Bool) (items : List ℕ) : Type 0 where
   pub zeros : IsTrue clean → items ≡ zeros (length items)
 
--- two ranges, each by its first offset and its length, have no byte in common: one of them is empty, or one ends before the other begins
+-- two ranges, each by its first offset and its length, have no byte in common: one of them is empty, or one ends before
+-- the other begins
 abbrev pub IsApart : ℕ → ℕ → ℕ → ℕ → Type 0
 IsApart from len from' len' = (len ≡ 0) ⊎ ((len' ≡ 0) ⊎ ((from + len ≤ from') ⊎ (from' + len' ≤ from)))
 

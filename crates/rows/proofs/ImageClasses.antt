@@ -87,8 +87,8 @@ maps : AreOf 2 (
 unfolding word_at half_word_at word_bytes half_word_bytes zeros is_text_name
 maps = refl
 
--- two changes, of which the class that is looked at first is the answer: magic before tags, length before reserved bytes,
--- index before object, object before a block of nothing, object before a cycle
+-- two changes, of which the class that is looked at first is the answer: magic before tags, length before reserved
+-- bytes, index before object, object before a block of nothing, object before a cycle
 two_changes : AreOf 2 (
     (patched (patched fresh_image 0 (0 ∷ [])) 168 (word_bytes 0), Some BadMagic)
     ∷ (take 1000 (patched named_image 80 (1 ∷ [])), Some Truncated)
@@ -120,7 +120,8 @@ plain : AreOf 0 (
 unfolding word_at half_word_at word_bytes half_word_bytes zeros is_text_name
 plain = refl
 
--- the length, a wrong magic, another version, a byte more, an illegal size, a reserved byte, no end tag, another link at word 24
+-- the length, a wrong magic, another version, a byte more, an illegal size, a reserved byte, no end tag, another link
+-- at word 24
 plain_damaged : AreOf 0 (
     (take 143 plain_image, Some Truncated)
     ∷ (patched plain_image 0 (0 ∷ []), Some BadMagic)

@@ -22,7 +22,8 @@ one_node m at n root cell = record {
   lists = refl;
 }
 
--- what such images have in common: the tests of a directory, the zeros and the tags; the words and the links of the header; and the gap
+-- what such images have in common: the tests of a directory, the zeros and the tags; the words and the links of the
+-- header; and the gap
 pub record IsFramed (image : List ℕ) (d : Directory) (gap : ℕ) : Type 0 where
   pub size : length image ≡ (live d).size
   pub tests : is_proper (live d) ∷ list_all (is_object 2) d.objects ∷ rises_from 0 d.objects ∷ is_index d.named (named_objects d) by_name

@@ -11,7 +11,8 @@ use Rattle.segment_lang.specs.Reading.{reading}
 abbrev AreRead : List (List ℕ × Reading) → Type 0
 AreRead rows = map (λ row. reading (whole 2) row.0) rows ≡ map (λ row. row.1) rows
 
--- blanks at both ends, a carriage return, a word more, blanks alone, a remark, a remark that is not in front, a command in quotes
+-- blanks at both ends, a carriage return, a word more, blanks alone, a remark, a remark that is not in front, a command
+-- in quotes
 lines : AreRead (
     (codes "\t size \t", Asked Size)
     ∷ (codes "size\r", Asked Size)

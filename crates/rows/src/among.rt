@@ -13,8 +13,8 @@ use std::alloc::Global;
 /// The byte round the segment.
 const MARK: u8 = 7;
 
-/// Makes the session of a call in a segment among other bytes, and moves the segment into another region: whether it prints and
-/// leaves what is wanted, and the other bytes as they were. It is not so where there is no memory.
+/// Makes the session of a call in a segment among other bytes, and moves the segment into another region: whether it
+/// prints and leaves what is wanted, and the other bytes as they were. It is not so where there is no memory.
 pub fn runs_among(alloc: Global, case: &Case<'_>) -> bool {
     let saved = case.saved.unwrap_or(&[]);
     let [_, place] = Place::usual(saved.len() as u64);
@@ -62,8 +62,8 @@ fn answers(alloc: Global, segment: &mut Segment, case: &Case<'_>) -> bool {
     is_run && case.answers == Some(answers.taken())
 }
 
-/// Moves a segment into another region: whether it has these bytes there, and the one that it leaves has them in a place among others
-/// that are as they were.
+/// Moves a segment into another region: whether it has these bytes there, and the one that it leaves has them in a
+/// place among others that are as they were.
 fn moves_alike(alloc: Global, segment: Segment, wanted: &[u8], place: Place) -> bool {
     match region_of(alloc, place) {
         Ok(room) => relocates_alike(segment, room, wanted, place),

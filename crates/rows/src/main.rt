@@ -1,5 +1,5 @@
-//! The program `rows`: runs the rows of the files that its arguments name, and prints for each file how many there are; and a few
-//! runs of its own, of what no row reaches.
+//! The program `rows`: runs the rows of the files that its arguments name, and prints for each file how many there are;
+//! and a few runs of its own, of what no row reaches.
 #![tactic(auto)]
 
 mod among;
@@ -54,7 +54,8 @@ fn run_lines<R: Print + AllocGlobal>(rt: &R, name: &str, lines: &[Line<'_>]) -> 
     is_sound
 }
 
-/// Runs the items of a file, and prints what differs from what they say, and what they come to: whether all is as they say.
+/// Runs the items of a file, and prints what differs from what they say, and what they come to: whether all is as they
+/// say.
 fn run_items<'a, R: Print>(
     rt: &R,
     name: &str,

@@ -63,7 +63,8 @@ impl Tally {
         }
     }
 
-    /// Runs a script on the machine, read in pieces of so many bytes: what comes of it, how many lines are executed, and the answers.
+    /// Runs a script on the machine, read in pieces of so many bytes: what comes of it, how many lines are executed,
+    /// and the answers.
     fn reads(
         &mut self,
         alloc: Global,
@@ -101,8 +102,8 @@ impl Tally {
         Ok(())
     }
 
-    /// Runs a script on a segment with a writer that takes so many bytes: these go out, and the line whose answer is cut is executed,
-    /// so that so many bytes are free.
+    /// Runs a script on a segment with a writer that takes so many bytes: these go out, and the line whose answer is
+    /// cut is executed, so that so many bytes are free.
     fn stops(&mut self, alloc: Global, room: usize, free: u64) -> Result<(), AllocError> {
         let mut out = MemorySink::new(alloc, room, 3, Last::Fails)?;
         let mut segment = empty_segment(alloc)?;

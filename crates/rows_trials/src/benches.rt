@@ -12,13 +12,13 @@ pub trait Runner: Drop {
     /// Makes a call, and gives what comes of it.
     fn run(&self, case: &Case<'_>) -> Outcome;
 
-    /// Makes the session of a call in a segment among other bytes, and moves the segment into another region: whether it prints and
-    /// leaves what is wanted, and the other bytes as they were.
+    /// Makes the session of a call in a segment among other bytes, and moves the segment into another region: whether
+    /// it prints and leaves what is wanted, and the other bytes as they were.
     fn runs_among(&self, case: &Case<'_>) -> bool;
 }
 
-/// What runs rows; how many there were so far, how many lines of scripts were in them, and how often a device failed; and what went
-/// wrong first.
+/// What runs rows; how many there were so far, how many lines of scripts were in them, and how often a device failed;
+/// and what went wrong first.
 #[derive(Drop)]
 pub struct Bench<R> {
     pub notes: Notes,

@@ -74,7 +74,8 @@ pub struct Case<'a> {
 }
 
 impl<'a> Case<'a> {
-    /// A session in mode `Write` that prints and saves nothing, by devices that do not fail, with room for what it begins with.
+    /// A session in mode `Write` that prints and saves nothing, by devices that do not fail, with room for what it
+    /// begins with.
     pub fn new(line: usize, fresh: Option<u64>, image: &'a [u8], places: &'a [Place]) -> Case<'a> {
         let size = fresh.unwrap_or(image.len() as u64);
         Case {
@@ -175,8 +176,8 @@ fn alike(one: &[u8], other: &[u8]) -> usize {
     count
 }
 
-/// What a call answered, printed and saved. Its fault has the name that row files have for it: that of a class of images, or
-/// `fault` and a name, or nothing where all is well.
+/// What a call answered, printed and saved. Its fault has the name that row files have for it: that of a class of
+/// images, or `fault` and a name, or nothing where all is well.
 #[derive(Drop)]
 pub struct Outcome {
     pub fault: &'static str,

@@ -7,8 +7,9 @@ use crate::scripts::{Script, front_of};
 use memory_devices::Last;
 
 impl<R: Runner> Bench<R> {
-    /// The reader of the script fails behind each byte: the lines that ended before are answered, and nothing is saved. Then the
-    /// writer of the answers has room for each number of bytes, and one less than all: these go out, and nothing is saved.
+    /// The reader of the script fails behind each byte: the lines that ended before are answered, and nothing is saved.
+    /// Then the writer of the answers has room for each number of bytes, and one less than all: these go out, and
+    /// nothing is saved.
     pub fn cut_session<'x>(&self, case: &Case<'x>, script: &'x Script) {
         let mut case = case.with_script(script);
         case.saved = Some(&[]);
@@ -34,7 +35,8 @@ impl<R: Runner> Bench<R> {
         }
     }
 
-    /// The writer of the image has room for each number of bytes, and one less than all: all answers and these bytes go out.
+    /// The writer of the image has room for each number of bytes, and one less than all: all answers and these bytes go
+    /// out.
     fn cut_saving(&self, case: &Case<'_>) {
         let saved = case.saved.unwrap_or(&[]);
         let mut case = *case;
@@ -48,7 +50,8 @@ impl<R: Runner> Bench<R> {
         }
     }
 
-    /// A good image that is cut where it is saved, and where it is read: with a byte behind it, and for too small a region.
+    /// A good image that is cut where it is saved, and where it is read: with a byte behind it, and for too small a
+    /// region.
     pub fn cut_image(&self, case: &Case<'_>) {
         self.cut_saving(case);
         let mut longer = self.notes.copy(case.image);
@@ -59,8 +62,8 @@ impl<R: Runner> Bench<R> {
         self.cut_reading(&case, "fault RegionTooSmall");
     }
 
-    /// The reader of the image fails or ends behind each byte, though there may be a fault of the image that comes first. Nothing is
-    /// printed or saved.
+    /// The reader of the image fails or ends behind each byte, though there may be a fault of the image that comes
+    /// first. Nothing is printed or saved.
     pub fn cut_reading<'x>(&self, case: &Case<'x>, fault: &'x str) {
         let image = case.image;
         let size = size_said(image);
@@ -92,8 +95,8 @@ fn last_of(step: usize) -> Last {
     }
 }
 
-/// How many bytes decide that an image which says that it has so many is refused, whatever the reader does then. Most classes need
-/// all bytes, and that no more follow.
+/// How many bytes decide that an image which says that it has so many is refused, whatever the reader does then. Most
+/// classes need all bytes, and that no more follow.
 fn bytes_of(size: u64, fault: &str) -> u64 {
     match fault {
         "fault RegionTooSmall" => 24,

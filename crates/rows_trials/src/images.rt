@@ -42,7 +42,8 @@ impl<'a> Images<'a> {
         notes.has_memory(self.named.push(Named { name, image }).is_ok());
     }
 
-    /// Sees that a part of a row saves the image that it names, and keeps what it saves under the name that it gives it.
+    /// Sees that a part of a row saves the image that it names, and keeps what it saves under the name that it gives
+    /// it.
     pub fn keep_saved(&mut self, notes: &Notes, row: &Line<'_>, part: &Part<'a>, saved: &[u8]) {
         if !part.saves.is_empty() {
             let what = "another image is saved than the one that it names";

@@ -2,7 +2,8 @@
 
 use std::alloc::{AllocError, Global};
 
-/// A line that is neither empty nor a remark: where it stands in the file, its first word, and what stands behind the blank.
+/// A line that is neither empty nor a remark: where it stands in the file, its first word, and what stands behind the
+/// blank.
 #[derive(Clone, Copy)]
 pub struct Line<'a> {
     pub number: usize,

@@ -88,7 +88,8 @@ impl Notes {
         self.put(out, b"\n");
     }
 
-    /// Adds what stands in braces: a text in single quotes, or bytes by their digits behind an `x`, and perhaps how often.
+    /// Adds what stands in braces: a text in single quotes, or bytes by their digits behind an `x`, and perhaps how
+    /// often.
     fn spell_braced(&self, line: &Line<'_>, braced: &str, out: &mut Vec<u8>) {
         let (unit, times) = braced.rsplit_once('*').unwrap_or((braced, "1"));
         let bytes = self.unit(line, unit);

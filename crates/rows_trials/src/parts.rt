@@ -19,8 +19,8 @@ pub enum Deed {
     Migrate,
 }
 
-/// What a part of a row says: its script, the name of its fault, the image that it saves, and the name that this gets, each nothing
-/// where it says none.
+/// What a part of a row says: its script, the name of its fault, the image that it saves, and the name that this gets,
+/// each nothing where it says none.
 #[derive(Drop)]
 pub struct Part<'a> {
     pub deed: Deed,

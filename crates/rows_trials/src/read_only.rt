@@ -70,8 +70,8 @@ fn is_misspelled(answer: &[u8]) -> bool {
 }
 
 impl<R: Runner> Bench<R> {
-    /// Runs each line in mode `ReadOnly` on the image that the lines leave, if it is known what it prints there: one that may change
-    /// it is refused; one behind the last of these, and one that is misspelled, answers as it did.
+    /// Runs each line in mode `ReadOnly` on the image that the lines leave, if it is known what it prints there: one
+    /// that may change it is refused; one behind the last of these, and one that is misspelled, answers as it did.
     pub fn check_read_only<'x>(&self, left: &Case<'x>, script: &'x Script) {
         let behind = script.changing();
         let mut case = left.saving(&[]);

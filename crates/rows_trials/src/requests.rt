@@ -15,8 +15,8 @@ const LOOK: &[u8] = b"free\nblocks\nlist\nunique\nnum_named\nnum_unique\nsanity\
 const ROOM: usize = 4112;
 
 impl<R: Runner> Bench<R> {
-    /// Makes the requests that the lines say in each of the sizes: the lines before the command as a script, and the command with
-    /// what it answers where each request has a fit.
+    /// Makes the requests that the lines say in each of the sizes: the lines before the command as a script, and the
+    /// command with what it answers where each request has a fit.
     pub fn check_requests(&self, lines: &[Line<'_>]) {
         let notes = &self.notes;
         let mut before = Script::new(notes.alloc);

@@ -1,4 +1,5 @@
--- The elements of a container that stands at a place: read, written over, and fewer or more of them in the places that there are.
+-- The elements of a container that stands at a place: read, written over, and fewer or more of them in the places that
+-- there are.
 use Rattle.std.specs.Prelude.{◌≡◌, ℕ, ◌+◌, ◌-◌, ◌*◌, ◌<◌, ◌≤◌, List, [], ◌++◌, length, take, drop, option_to_list}
 use Rattle.raw_region.specs.{Memory.Cut, Memory.bytes_of, Memory.part, Memory.patched, Memory.word_at, Format.current}
 use Rattle.best_fit.specs.{Exchange.IsExchanged, Heap.live_of, Table.Table, Table.cut_table, Table.no_table}
@@ -47,7 +48,8 @@ Extends old new p each n more =
     (len : ℕ) (t : Table) (bytes : List ℕ) → Stands old.bytes p each len t bytes
     → IsRewritten old new p each (len + n) t (bytes ++ more)
 
--- where an element is put: behind the last one and before another one where there is a place more, and over one that is there
+-- where an element is put: behind the last one and before another one where there is a place more, and over one that is
+-- there
 abbrev pub HasSpot : List ℕ → Place → Spot → Type 0
 HasSpot b p End = word_at (bytes_of b) (place_at p + 8) < word_at (bytes_of b) (place_at p + 16)
 HasSpot b p (Over i) = i < word_at (bytes_of b) (place_at p + 8)

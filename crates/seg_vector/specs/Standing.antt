@@ -31,7 +31,8 @@ pub record Stands (b : List ℕ) (p : Place) (each len : ℕ) (t : Table) (bytes
 abbrev pub IsStanding : List ℕ → Place → ℕ → Type 0
 IsStanding b p each = (len : ℕ) × ((t : Table) × ((bytes : List ℕ) × Stands b p each len t bytes))
 
--- the same container with n places, or more; of all blocks that stay no byte changes but its own 24, and nothing does where it had them
+-- the same container with n places, or more; of all blocks that stay no byte changes but its own 24, and nothing does
+-- where it had them
 pub record IsGrown (old new : Cut) (p : Place) (each n len : ℕ) (t : Table) (bytes : List ℕ) : Type 0 where
   pub table : Table
   pub grown : grown_table (live_of old.bytes) each n t ≡ Some table

@@ -13,8 +13,8 @@ IsText b p bytes t = Stands b p 1 (length bytes) t bytes
 abbrev pub IsSomeText : List ℕ → Place → Type 0
 IsSomeText b p = (bytes : List ℕ) × ((t : Table) × IsText b p bytes t)
 
--- The text with these bytes and this storage is in the place of the one with that storage. Of all blocks that stay no byte
--- changes but its own 24.
+-- The text with these bytes and this storage is in the place of the one with that storage. Of all blocks that stay no
+-- byte changes but its own 24.
 pub record IsTextNow (old new : Cut) (p : Place) (t : Table) (bytes : List ℕ) (u : Table) : Type 0 where
   pub change : IsExchanged current old new (place_at p) 24 (option_to_list t.extent) (option_to_list u.extent)
   pub text : IsText new.bytes p bytes u

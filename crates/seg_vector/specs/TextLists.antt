@@ -10,7 +10,8 @@ use Rattle.seg_vector.specs.TextParts.{IsServed, IsSwapped}
 use Rattle.seg_vector.specs.TextsCalls.{all_texts, new_array, placed_texts, text_blocks}
 use Rattle.seg_vector.specs.Vector.{AreTextLinks, IsOwnedText, OwnedText}
 
--- The first n texts are laid out: each has its element in the block of an array, and a block of its own, where it is not empty.
+-- The first n texts are laid out: each has its element in the block of an array, and a block of its own, where it is
+-- not empty.
 pub record AreLaid (old now : Cut) (y : Extent) (n : ℕ) (more : List (List ℕ)) : Type 0 where
   pub texts : List OwnedText
   pub long : length texts ≡ n

@@ -121,7 +121,8 @@ pub record IsReady (now : Cut) (p : Place) (g n : ℕ) : Type 0 where
   pub asked : IsAsked first mid t.extent (16 * n) g
   pub since : IsSwapped mid now [] loose
 
--- The vector has the array that was asked for, with n places. Its elements are the same, and the blocks taken since stay.
+-- The vector has the array that was asked for, with n places. Its elements are the same, and the blocks taken since
+-- stay.
 pub record IsAdopted (first old new : Cut) (p : Place) (ps : List OwnedText) (t : Table) (g n : ℕ) (loose : List Extent) : Type 0 where
   pub array : Extent
   pub at : g ≡ handle array
@@ -139,7 +140,8 @@ Adopts old new p g n = (r : IsReady old p g n) → IsAdopted r.first old new p r
 
 -- ---- one text more
 
--- Since the first call blocks were exchanged: the array y, with m places, came, and the block of a text that is not in the vector yet.
+-- Since the first call blocks were exchanged: the array y, with m places, came, and the block of a text that is not in
+-- the vector yet.
 pub record IsPutReady (first now : Cut) (p : Place) (ps : List OwnedText) (t : Table) (y : Extent) (m : ℕ) (z : OwnedText) : Type 0 where
   pub texts : IsTexts first.bytes p ps t
   pub table : IsTrue (is_table Storage 16 (record { capacity = m; extent = Some y }))

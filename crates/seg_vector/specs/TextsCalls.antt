@@ -1,5 +1,5 @@
--- A vector of texts at a place: an array of links and lengths, and a block for each text that is not empty. Every block is asked for
--- while those that it replaces are in use.
+-- A vector of texts at a place: an array of links and lengths, and a block for each text that is not empty. Every block
+-- is asked for while those that it replaces are in use.
 use Rattle.std.specs.Prelude.{◌≡◌, ◌≢◌, ℕ, ◌+◌, ◌-◌, ◌*◌, ◌%◌, ◌<◌, ◌≤◌, ◌⊎◌, ⊤, ◌==◌, nat_lt, if◌then◌else◌, IsTrue, Option, Some, None, Result, Ok, MatchResult, List, [], ◌∷◌, ◌++◌, length, insert, remove, flat_map, slice_get, slice_set, option_map, option_to_list}
 use Rattle.std.specs.List.{AllByRecursion}
 use denote.Ref.{Bor}
@@ -42,8 +42,8 @@ pub record IsTexts (b : List ℕ) (p : Place) (ps : List OwnedText) (t : Table) 
 abbrev pub IsSomeTexts : List ℕ → Place → Type 0
 IsSomeTexts b p = (ps : List OwnedText) × ((t : Table) × IsTexts b p ps t)
 
--- The vector has these texts and this array. Some blocks are gone and others came; of all blocks that stay, those of the other
--- texts among them, no byte changes but its own 24.
+-- The vector has these texts and this array. Some blocks are gone and others came; of all blocks that stay, those of
+-- the other texts among them, no byte changes but its own 24.
 pub record IsTextsNow (old new : Cut) (p : Place) (gone come : List Extent) (ps : List OwnedText) (t : Table) : Type 0 where
   pub change : IsExchanged current old new (place_at p) 24 gone come
   pub texts : IsTexts new.bytes p ps t
@@ -106,8 +106,8 @@ pub record IsWithoutFit {A : Type 0} (old new : Cut) (met : Option A) (e : Refus
   pub none : met ≡ None
   pub same : new ≡ old
 
--- One of several blocks has no space. Those before it are given back, and an array that was lengthened is shortened: the same blocks
--- are in use as before, and nothing in them changed.
+-- One of several blocks has no space. Those before it are given back, and an array that was lengthened is shortened:
+-- the same blocks are in use as before, and nothing in them changed.
 pub record IsGivenUp {A : Type 0} (old new : Cut) (met : Option A) (e : Refusal) : Type 0 where
   pub refusal : e ≡ NoSpace
   pub none : met ≡ None
@@ -124,7 +124,8 @@ pub record IsTextPutIn (old new : Cut) (p : Place) (ps : List OwnedText) (t : Ta
 abbrev pub one_more : LiveSet → List OwnedText → Table → List ℕ → Option OwnedText
 one_more live ps t bytes = elim (grown_table live 16 (capacity_for_one (length ps) t.capacity) t) [ None ↦ None | Some u ↦ placed_text (with_array live t u) bytes ]
 
--- Where the block that is asked for first has no space, nothing changes: it is the text's where there is a place, and else the array's.
+-- Where the block that is asked for first has no space, nothing changes: it is the text's where there is a place, and
+-- else the array's.
 pub record IsStillAtFirst (old new : Cut) (ps : List OwnedText) (t : Table) (bytes : List ℕ) : Type 0 where
   pub text : length ps < t.capacity → placed_text (live_of old.bytes) bytes ≡ None → new ≡ old
   pub array : grown_table (live_of old.bytes) 16 (capacity_for_one (length ps) t.capacity) t ≡ None → new ≡ old

@@ -26,8 +26,8 @@ grown_table live each n t =
 abbrev pub spelled : ScalarKind → List ℤ → List ℕ
 spelled k = flat_map (spelling k)
 
--- The block begins with these bytes; without a block there are none. So a null link, the length 1 and the capacity 0 are no
--- vector of one number.
+-- The block begins with these bytes; without a block there are none. So a null link, the length 1 and the capacity 0
+-- are no vector of one number.
 abbrev pub IsStorage : Memory → Table → List ℕ → Type 0
 IsStorage m t bytes = elim t.extent [ None ↦ bytes ≡ [] | Some x ↦ Has m (handle x) bytes ]
 

@@ -16,8 +16,8 @@ pub record IsVector {T : Type 0} (size : ℕ) (is_value : T → Bool) (spelling 
 abbrev pub IsSomeVector : {T : Type 0} → ℕ → (T → Bool) → (T → List ℕ) → List ℕ → Place → Type 0
 IsSomeVector {T} size is_value spelling b p = (xs : List T) × ((t : Table) × IsVector size is_value spelling b p xs t)
 
--- The vector with these elements and this storage is in the place of the one with that storage. Of all blocks that stay no
--- byte changes but its own 24.
+-- The vector with these elements and this storage is in the place of the one with that storage. Of all blocks that stay
+-- no byte changes but its own 24.
 pub record IsVectorNow {T : Type 0} (size : ℕ) (is_value : T → Bool) (spelling : T → List ℕ) (old new : Cut) (p : Place) (t : Table) (ys : List T) (u : Table) : Type 0 where
   pub change : IsExchanged current old new (place_at p) 24 (option_to_list t.extent) (option_to_list u.extent)
   pub vector : IsVector size is_value spelling new.bytes p ys u

@@ -1,4 +1,5 @@
-//! The blocks of the texts of a vector, and those of other texts: these are laid out while those that they replace are in use.
+//! The blocks of the texts of a vector, and those of other texts: these are laid out while those that they replace are
+//! in use.
 ghost use Rattle.std.specs.Prelude.{ℕ, ◌*◌, ◌<◌, IsTrue, List, [], length, map, option_to_list};
 ghost use Rattle.raw_region.specs.Format.{current};
 ghost use Rattle.best_fit.specs.{Heap.IsHeap, Heap.has_room, Heap.live_of, Table.Table as ATable};
@@ -29,7 +30,8 @@ pub fn take(heap: &mut Heap, n: u64) -> Result<u64, Refusal>
     }
 }
 
-/// Takes a block for the bytes of a text into use, and writes them in it. It answers the block's handle. An empty text needs none.
+/// Takes a block for the bytes of a text into use, and writes them in it. It answers the block's handle. An empty text
+/// needs none.
 ///
 /// # Errors
 ///
@@ -78,8 +80,9 @@ pub fn release_all(heap: &mut Heap, place: Place)
     }
 }
 
-/// Takes a block into use for each text that is not empty, one after another, and writes their elements from the beginning of an
-/// array on. It stops at the first text for which no gap is long enough, and answers how many there are before it.
+/// Takes a block into use for each text that is not empty, one after another, and writes their elements from the
+/// beginning of an array on. It stops at the first text for which no gap is long enough, and answers how many there are
+/// before it.
 pub fn place_texts(heap: &mut Heap, array: u64, texts: &[&[u8]]) -> u64
     requires heap { IsHeap current heap.old.bytes }
     requires room { IsTrue (has_room (live_of heap.old.bytes) array (16 * length texts.now)) }
@@ -96,12 +99,13 @@ pub fn place_texts(heap: &mut Heap, array: u64, texts: &[&[u8]]) -> u64
     n
 }
 
-/// Takes an array of as many places as there are texts into use, and then a block for each text that is not empty, and writes the
-/// elements and the texts. It answers the array's handle.
+/// Takes an array of as many places as there are texts into use, and then a block for each text that is not empty, and
+/// writes the elements and the texts. It answers the array's handle.
 ///
 /// # Errors
 ///
-/// `NoSpace` where one of them has no gap that is long enough. The same blocks are in use as before, with the same bytes.
+/// `NoSpace` where one of them has no gap that is long enough. The same blocks are in use as before, with the same
+/// bytes.
 pub fn lay_out(heap: &mut Heap, texts: &[&[u8]]) -> Result<u64, Refusal>
     requires heap { IsHeap current heap.old.bytes }
     requires some { 0 < length texts.now }

@@ -13,8 +13,8 @@ use seg_types::Refusal;
 /// No heap is longer.
 pub const LIMIT: u64 = 1073741824;
 
-/// Makes the three words at a place those of a container without a place, whatever they were. Storage that they led to is
-/// not given back.
+/// Makes the three words at a place those of a container without a place, whatever they were. Storage that they led to
+/// is not given back.
 pub fn start(heap: &mut Heap, place: Place)
     requires heap { IsHeap current heap.old.bytes }
     requires aligned { place.at % 8 ≡ 0 }
@@ -39,8 +39,8 @@ pub fn give_back(heap: &mut Heap, place: Place, each: u64)
     }
 }
 
-/// Makes the capacity of the container at a place its length. The storage is shortened to it, as far as a block can be, and
-/// given back where there is no element.
+/// Makes the capacity of the container at a place its length. The storage is shortened to it, as far as a block can be,
+/// and given back where there is no element.
 pub fn fit(heap: &mut Heap, place: Place, each: u64)
     requires stands { IsStanding heap.old.bytes place each }
     requires some { 1 ≤ each }
@@ -57,8 +57,8 @@ pub fn fit(heap: &mut Heap, place: Place, each: u64)
     }
 }
 
-/// Makes room for `n` elements of `each` bytes, 1 to 4096, in the container at a place: nothing is done where its capacity
-/// is `n` or more, and else its storage is regrown to hold just so many.
+/// Makes room for `n` elements of `each` bytes, 1 to 4096, in the container at a place: nothing is done where its
+/// capacity is `n` or more, and else its storage is regrown to hold just so many.
 ///
 /// # Errors
 ///
@@ -99,8 +99,8 @@ pub fn capacity_for_one(len: u64, capacity: u64) -> u64
     }
 }
 
-/// Makes room for one element more, of 1 to 4096 bytes, behind the `len` that there are. A full container gets twice its
-/// places, and at least 4.
+/// Makes room for one element more, of 1 to 4096 bytes, behind the `len` that there are. A full container gets twice
+/// its places, and at least 4.
 ///
 /// # Errors
 ///

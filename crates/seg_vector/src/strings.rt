@@ -11,8 +11,8 @@ use crate::sizing::{self, LIMIT, fit, give_back, start};
 use best_fit::Heap;
 use seg_types::Refusal;
 
-/// A text at a place in a heap: three words there (the link to its storage, its length and its capacity), and a block of
-/// storage for as many bytes as its capacity says. Without a place for a byte it has no block.
+/// A text at a place in a heap: three words there (the link to its storage, its length and its capacity), and a block
+/// of storage for as many bytes as its capacity says. Without a place for a byte it has no block.
 ///
 /// It is the place alone. Each call takes the heap anew, so that nothing is borrowed between two calls.
 #[derive(Clone, Copy, Debug)]
@@ -131,8 +131,8 @@ impl SegString {
         Ok(())
     }
 
-    /// Puts bytes behind the last one. Where there are not places for all of them, there are twice as many as before, and at
-    /// least 16, and as many as are needed.
+    /// Puts bytes behind the last one. Where there are not places for all of them, there are twice as many as before,
+    /// and at least 16, and as many as are needed.
     ///
     /// # Errors
     ///
@@ -152,8 +152,8 @@ impl SegString {
         Ok(())
     }
 
-    /// Makes the capacity the number of bytes. The storage is shortened to it, as far as a block can be, and given back where
-    /// there is no byte.
+    /// Makes the capacity the number of bytes. The storage is shortened to it, as far as a block can be, and given back
+    /// where there is no byte.
     pub fn shrink(self, heap: &mut Heap)
         requires { IsSomeText heap.old.bytes self.place }
         ensures { ShrinksText heap.old heap.new self.place }

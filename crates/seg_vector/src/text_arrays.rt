@@ -1,5 +1,5 @@
-//! The array of a vector of texts: elements of a link, which is a distance, and a length. They are moved as a link and a word,
-//! within it and to one with more places.
+//! The array of a vector of texts: elements of a link, which is a distance, and a length. They are moved as a link and
+//! a word, within it and to one with more places.
 ghost use Rattle.std.specs.Prelude.{◌≡◌, ◌+◌, ◌*◌, ◌%◌, ◌^◌, ◌<◌, ◌≤◌, ◌⊎◌, IfSome, IsTrue, true, false};
 ghost use Rattle.raw_region.specs.{Format.current, Memory.bytes_of, Memory.word_at};
 ghost use Rattle.offset_link.specs.Link.{link_at};
@@ -28,8 +28,8 @@ pub fn put_element(heap: &mut Heap, array: u64, at: u64, text: Option<u64>, len:
     heap.set_word(array, at + LEN, len);
 }
 
-/// Makes the element at an offset in one block that at an offset in another, or in the same one: a link that leads where its
-/// link leads, and its length.
+/// Makes the element at an offset in one block that at an offset in another, or in the same one: a link that leads
+/// where its link leads, and its length.
 pub fn carry_element(heap: &mut Heap, from: u64, from_at: u64, to: u64, to_at: u64)
     requires heap { IsHeap current heap.old.bytes }
     requires from_whole { from_at % 8 ≡ 0 }
@@ -45,8 +45,8 @@ pub fn carry_element(heap: &mut Heap, from: u64, from_at: u64, to: u64, to_at: u
     put_element(heap, to, to_at, text, len);
 }
 
-/// Makes the `n` elements from `to_at` on in the block `to` those from `from_at` on in the block `from`, the first one first.
-/// It may be one block, where they move down.
+/// Makes the `n` elements from `to_at` on in the block `to` those from `from_at` on in the block `from`, the first one
+/// first. It may be one block, where they move down.
 pub fn carry_down(heap: &mut Heap, from: u64, from_at: u64, to: u64, to_at: u64, n: u64)
     requires heap { IsHeap current heap.old.bytes }
     requires from_whole { from_at % 8 ≡ 0 }
@@ -78,8 +78,8 @@ pub fn carry_up(heap: &mut Heap, array: u64, at: u64, n: u64)
     }
 }
 
-/// Makes the block of a handle have room for `n` bytes where it stands, and answers whether it has: it is long enough, or it is
-/// lengthened. Else nothing changes.
+/// Makes the block of a handle have room for `n` bytes where it stands, and answers whether it has: it is long enough,
+/// or it is lengthened. Else nothing changes.
 pub fn widen(heap: &mut Heap, handle: u64, n: u64) -> bool
     requires heap { IsHeap current heap.old.bytes }
     requires live { IsTrue (is_live_in (live_of heap.old.bytes) handle) }
@@ -92,9 +92,9 @@ pub fn widen(heap: &mut Heap, handle: u64, n: u64) -> bool
     heap.try_extend(handle, n, &mut Steps::new())
 }
 
-/// Asks for an array of `n` places for the vector of texts at a place, which has fewer, and answers the array's handle: that of
-/// the old one where it is long enough or can be lengthened where it stands, and else that of a new block, beside the old one.
-/// The vector's words stay.
+/// Asks for an array of `n` places for the vector of texts at a place, which has fewer, and answers the array's handle:
+/// that of the old one where it is long enough or can be lengthened where it stands, and else that of a new block,
+/// beside the old one. The vector's words stay.
 ///
 /// # Errors
 ///
@@ -124,8 +124,8 @@ pub fn point_to(heap: &mut Heap, place: Place, array: u64, n: u64)
     heap.set_word(place.handle, place.at + CAPACITY, n);
 }
 
-/// Makes the block that was asked for the array of the vector of texts at a place, with `n` places. Where it is a new one, the
-/// elements are carried over, and the old block is given back.
+/// Makes the block that was asked for the array of the vector of texts at a place, with `n` places. Where it is a new
+/// one, the elements are carried over, and the old block is given back.
 pub fn adopt(heap: &mut Heap, place: Place, array: u64, n: u64)
     requires { IsReady heap.old place array n }
     ensures { Adopts heap.old heap.new place array n }
@@ -142,8 +142,8 @@ pub fn adopt(heap: &mut Heap, place: Place, array: u64, n: u64)
     point_to(heap, place, array, n);
 }
 
-/// Writes the element of a text, whose block is in use already, where `index` others stand before it: those from there on move up.
-/// The array has a place for it.
+/// Writes the element of a text, whose block is in use already, where `index` others stand before it: those from there
+/// on move up. The array has a place for it.
 pub fn put_in(heap: &mut Heap, place: Place, index: u64, text: Option<u64>, text_len: u64)
     requires { IsPutAsked heap.old place index text text_len }
     ensures { PutsIn heap.old heap.new place index text text_len }
@@ -167,7 +167,8 @@ pub fn array_room(heap: &Heap, place: Place) -> u64
     }
 }
 
-/// Undoes what was asked for an array: the old array is shortened again to the room that it had, or the new one is given back.
+/// Undoes what was asked for an array: the old array is shortened again to the room that it had, or the new one is
+/// given back.
 pub fn give_up(heap: &mut Heap, place: Place, array: u64, room: u64)
     requires { IsToBeGivenUp heap.old place array room }
     ensures { GivesUp heap.old heap.new place array room }
@@ -195,8 +196,8 @@ pub fn insert_within(heap: &mut Heap, place: Place, index: u64, text: &[u8]) -> 
     Ok(())
 }
 
-/// Puts a text where `index` others stand before it, in an array of `n` places, since there is no place for it. The array is
-/// asked for first, and then the text's block, while the old array is in use.
+/// Puts a text where `index` others stand before it, in an array of `n` places, since there is no place for it. The
+/// array is asked for first, and then the text's block, while the old array is in use.
 ///
 /// # Errors
 ///

@@ -14,8 +14,8 @@ use crate::text_arrays::{
 use best_fit::Heap;
 use seg_types::Refusal;
 
-/// A vector of texts at a place in a heap: three words there (the link to its array, its length and its capacity), an array
-/// with as many places as its capacity says, and a block for each text that is not empty.
+/// A vector of texts at a place in a heap: three words there (the link to its array, its length and its capacity), an
+/// array with as many places as its capacity says, and a block for each text that is not empty.
 ///
 /// It is the place alone. Each call takes the heap anew, so that nothing is borrowed between two calls.
 #[derive(Clone, Copy, Debug)]
@@ -72,11 +72,13 @@ impl SegTexts {
         }
     }
 
-    /// Puts another text in the place of the one with `index` others before it, whose block is given back once there is the new one.
+    /// Puts another text in the place of the one with `index` others before it, whose block is given back once there is
+    /// the new one.
     ///
     /// # Errors
     ///
-    /// `OutOfRange` where there are not so many, and else `NoSpace` where no gap is long enough for the text. Nothing changes.
+    /// `OutOfRange` where there are not so many, and else `NoSpace` where no gap is long enough for the text. Nothing
+    /// changes.
     pub fn set(self, heap: &mut Heap, index: u64, text: &[u8]) -> Result<(), Refusal>
         requires { IsSomeTexts heap.old.bytes self.place }
         ensures { SetsText heap.old heap.new self.place index text.now result }
@@ -89,14 +91,14 @@ impl SegTexts {
         Ok(())
     }
 
-    /// Puts a text where `index` others stand before it. Those from there on move up. A full vector gets twice its places first,
-    /// and at least 4.
+    /// Puts a text where `index` others stand before it. Those from there on move up. A full vector gets twice its
+    /// places first, and at least 4.
     ///
     /// # Errors
     ///
-    /// `OutOfRange` where there are not so many others: nothing changes. Else `NoSpace` where the array or the text has no gap that
-    /// is long enough: the same blocks are in use as before, with the same bytes. Nothing changes where it is the block that is
-    /// asked for first: the text's, or the array's where the vector is full.
+    /// `OutOfRange` where there are not so many others: nothing changes. Else `NoSpace` where the array or the text has
+    /// no gap that is long enough: the same blocks are in use as before, with the same bytes. Nothing changes where it
+    /// is the block that is asked for first: the text's, or the array's where the vector is full.
     pub fn insert(self, heap: &mut Heap, index: u64, text: &[u8]) -> Result<(), Refusal>
         requires { IsSomeTexts heap.old.bytes self.place }
         ensures inserted { InsertsText heap.old heap.new self.place index text.now result }
@@ -119,8 +121,9 @@ impl SegTexts {
     ///
     /// # Errors
     ///
-    /// `NoSpace` where the array or the text has no gap that is long enough: the same blocks are in use as before, with the same
-    /// bytes. Nothing changes where it is the block that is asked for first: the text's, or the array's where the vector is full.
+    /// `NoSpace` where the array or the text has no gap that is long enough: the same blocks are in use as before, with
+    /// the same bytes. Nothing changes where it is the block that is asked for first: the text's, or the array's where
+    /// the vector is full.
     pub fn push(self, heap: &mut Heap, text: &[u8]) -> Result<(), Refusal>
         requires { IsSomeTexts heap.old.bytes self.place }
         ensures pushed { PushesText heap.old heap.new self.place text.now result }
@@ -130,7 +133,8 @@ impl SegTexts {
         self.insert(heap, len, text)
     }
 
-    /// Leaves out the text with `index` others before it, and gives back its block. Those behind it move down, and the array stays.
+    /// Leaves out the text with `index` others before it, and gives back its block. Those behind it move down, and the
+    /// array stays.
     ///
     /// # Errors
     ///
@@ -175,7 +179,8 @@ impl SegTexts {
     ///
     /// # Errors
     ///
-    /// `NoSpace` where there are fewer and the array cannot be lengthened and has no gap that is long enough. Nothing changes.
+    /// `NoSpace` where there are fewer and the array cannot be lengthened and has no gap that is long enough. Nothing
+    /// changes.
     pub fn reserve(self, heap: &mut Heap, n: u64) -> Result<(), Refusal>
         requires { IsSomeTexts heap.old.bytes self.place }
         ensures reserved { ReservesTexts heap.old heap.new self.place n result }
@@ -192,13 +197,14 @@ impl SegTexts {
         Ok(())
     }
 
-    /// Leaves these texts in place of those that there are. One or more get a new array of just so many places, and then their
-    /// blocks, all while the old ones are in use, which are given back then. Where there are none, the array stays.
+    /// Leaves these texts in place of those that there are. One or more get a new array of just so many places, and
+    /// then their blocks, all while the old ones are in use, which are given back then. Where there are none, the array
+    /// stays.
     ///
     /// # Errors
     ///
-    /// `NoSpace` where the array or a text has no gap that is long enough: the same blocks are in use as before, with the same
-    /// bytes. Nothing changes where it is the array.
+    /// `NoSpace` where the array or a text has no gap that is long enough: the same blocks are in use as before, with
+    /// the same bytes. Nothing changes where it is the array.
     pub fn assign(self, heap: &mut Heap, texts: &[&[u8]]) -> Result<(), Refusal>
         requires { IsSomeTexts heap.old.bytes self.place }
         ensures assigned { AssignsTexts heap.old heap.new self.place (map (λ text. text.now) texts.now) result }
@@ -216,8 +222,8 @@ impl SegTexts {
         Ok(())
     }
 
-    /// Makes the capacity the number of texts. The array is shortened to it, as far as a block can be, and given back where
-    /// there is no text.
+    /// Makes the capacity the number of texts. The array is shortened to it, as far as a block can be, and given back
+    /// where there is no text.
     pub fn shrink(self, heap: &mut Heap)
         requires { IsSomeTexts heap.old.bytes self.place }
         ensures { ShrinksTexts heap.old heap.new self.place }

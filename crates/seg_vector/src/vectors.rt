@@ -12,8 +12,8 @@ use best_fit::Heap;
 use seg_types::{Plain, Refusal};
 use std::marker::PhantomData;
 
-/// A vector at a place in a heap: three words there (the link to its storage, its length and its capacity), and a block of
-/// storage, in which it has as many places as its capacity says. Without a place it has no block.
+/// A vector at a place in a heap: three words there (the link to its storage, its length and its capacity), and a block
+/// of storage, in which it has as many places as its capacity says. Without a place it has no block.
 ///
 /// It is the place alone. Each call takes the heap anew, so that nothing is borrowed between two calls.
 #[derive(Clone, Copy)]
@@ -34,7 +34,8 @@ impl<T: Plain> SegVec<T> {
         }
     }
 
-    /// Makes a vector without a value and without a place of the 24 bytes at a place: a multiple of 8 in a block in use.
+    /// Makes a vector without a value and without a place of the 24 bytes at a place: a multiple of 8 in a block in
+    /// use.
     pub fn new(heap: &mut Heap, place: Place) -> SegVec<T>
         requires heap { IsHeap current heap.old.bytes }
         requires aligned { place.at % 8 ≡ 0 }
@@ -146,13 +147,13 @@ impl<T: Plain> SegVec<T> {
         Ok(())
     }
 
-    /// Puts a value where `index` others stand before it. Those from there on move up. A full vector gets twice its places
-    /// first, and at least 4.
+    /// Puts a value where `index` others stand before it. Those from there on move up. A full vector gets twice its
+    /// places first, and at least 4.
     ///
     /// # Errors
     ///
-    /// `OutOfRange` where there are not so many others, and else `NoSpace` where the vector is full and its storage cannot be
-    /// regrown. Nothing changes.
+    /// `OutOfRange` where there are not so many others, and else `NoSpace` where the vector is full and its storage
+    /// cannot be regrown. Nothing changes.
     pub fn insert(self, heap: &mut Heap, index: u64, value: T) -> Result<(), Refusal>
         requires { IsSomeVector T.SIZE T.is_value T.spelling heap.old.bytes self.place }
         ensures { InsertsInto T.SIZE T.is_value T.spelling heap.old heap.new self.place index value result }
@@ -194,8 +195,8 @@ impl<T: Plain> SegVec<T> {
         Ok(())
     }
 
-    /// Makes the capacity the number of values. The storage is shortened to it, as far as a block can be, and given back
-    /// where there is no value.
+    /// Makes the capacity the number of values. The storage is shortened to it, as far as a block can be, and given
+    /// back where there is no value.
     pub fn shrink(self, heap: &mut Heap)
         requires { IsSomeVector T.SIZE T.is_value T.spelling heap.old.bytes self.place }
         ensures { Shrinks T.SIZE T.is_value T.spelling heap.old heap.new self.place }

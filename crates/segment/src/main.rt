@@ -53,8 +53,8 @@ fn obey(rt: &HostRuntime) -> Result<u8, ProgramFault> {
     }
 }
 
-/// Does what the command line asks for, with the files of the system, standard input and standard output, and answers the
-/// status. Behind the line of a fault stands why the system did not open or make the file, where it said so.
+/// Does what the command line asks for, with the files of the system, standard input and standard output, and answers
+/// the status. Behind the line of a fault stands why the system did not open or make the file, where it said so.
 fn perform(rt: &HostRuntime, asked: Invocation<'_>) -> Result<u8, ProgramFault> {
     let Ok(buffer) = BufWriter::with_capacity(rt.alloc(), PIECE, io::writer(rt)) else {
         return Err(OUT_OF_MEMORY);

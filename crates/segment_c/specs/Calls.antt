@@ -33,11 +33,13 @@ pub record Reads (wrong code : ℕ) (old new : Option State) (P : State → Type
   pub told : (s : State) → wrong ≡ 0 → old ≡ Some s → P s
   pub same : new ≡ old
 
--- a call that makes an object leaves bytes of gaps where there was no space, and else changes nothing where it is refused
+-- a call that makes an object leaves bytes of gaps where there was no space, and else changes nothing where it is
+-- refused
 abbrev pub KeepsRefused : ℕ → Option State → Option State → Type 0
 KeepsRefused code old new = 1 ≤ code → code ≢ 9 → new ≡ old
 
--- a call is refused before it reaches the segment, by the code of an argument or since the handle is closed, and changes nothing
+-- a call is refused before it reaches the segment, by the code of an argument or since the handle is closed, and
+-- changes nothing
 pub record IsRefused (wrong code : ℕ) (old new : Option State) : Type 0 where
   pub refused : 1 ≤ code
   pub stopped : IsStopped wrong code old new

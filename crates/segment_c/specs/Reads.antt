@@ -50,8 +50,9 @@ CopiesAnswer old new len code (TextElement bytes) = IsCopied bytes old new len c
 CopiesAnswer old new len code (Refused why) = code ≡ refusal_number why
 CopiesAnswer old new len code answer = ⊥
 
--- a call reads elements of the array or vector of a key from a place on, as many as a row has: a key that is wrong and a closed handle are
--- codes; the row has the numbers of those elements then, as they are seen, or the call is refused; and no more changes
+-- a call reads elements of the array or vector of a key from a place on, as many as a row has: a key that is wrong and
+-- a closed handle are codes; the row has the numbers of those elements then, as they are seen, or the call is refused;
+-- and no more changes
 pub record ReadsRange {X : Type 0} (seen : X → ℤ) (kind : ScalarKind) (key : ObjectKey) (first : ℕ) (old new : List X) (code : ℕ) (before after : Option State) : Type 0 where
   pub stopped : IsStopped (key_wrong key) code before after
   pub closed : IsClosed (key_wrong key) code before after

@@ -9,7 +9,8 @@ use Rattle.image_check.specs.OpeningAny.{IsRefusedAsAny, IsRenewed, IsUndecidedA
 use Rattle.segment_cli.specs.declared.faults.SessionFault.{SessionFault}
 use Rattle.segment_cli.specs.declared.faults.SessionFault.TheVariants.{Image as Refused, BadSize, RegionTooSmall, OutOfMemory, ReadFault, WriteFault, ScriptTooLong}
 
--- the image was read to its end and denotes a directory by its format, and the new image is that of this directory by the current one
+-- the image was read to its end and denotes a directory by its format, and the new image is that of this directory by
+-- the current one
 pub record IsNewImage (image : Given) (new : List ℕ) : Type 0 where
   pub read : IsReadToEnd image
   pub denotes : IsImage (format_of image.bytes) image.bytes

@@ -65,8 +65,8 @@ Saves Write saved d = IsSaved saved d
 Saves ReadOnlyMode saved d = saved ≡ []
 Saves CopyOnWrite saved d = saved ≡ []
 
--- Behind a script that began at the directory the gaps of an image are zero, if the script leaves them so: where it made them
--- zero, or they were zero before it, and nothing may have undone it since.
+-- Behind a script that began at the directory the gaps of an image are zero, if the script leaves them so: where it
+-- made them zero, or they were zero before it, and nothing may have undone it since.
 abbrev pub KeepsZeros : Start → Mode → Given → Directory → List ℕ → List ℕ → Type 0
 KeepsZeros start mode began from script image =
     (known : Bool) → (known ≡ true → BeginsWithZeros start began) → zeros_after_run (whole_language current) mode from script known ≡ true → HasZeroGapsIn image

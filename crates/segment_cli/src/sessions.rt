@@ -16,8 +16,8 @@ use segment_manager::{Mode, Segment};
 use segment_scripts::run;
 use std::alloc::Global;
 
-/// The segment that a session runs its script on: an empty one of the fresh size, or the one of the image, whose reader is
-/// asked only then. It lies in the region from `base` on, which is a multiple of 16.
+/// The segment that a session runs its script on: an empty one of the fresh size, or the one of the image, whose reader
+/// is asked only then. It lies in the region from `base` on, which is a multiple of 16.
 ///
 /// # Errors
 ///

@@ -1,4 +1,5 @@
--- What the commands of the program do to a file: what the disk is asked, in order, what is said, and with which answer each ends.
+-- What the commands of the program do to a file: what the disk is asked, in order, what is said, and with which answer
+-- each ends.
 use Rattle.std.specs.Prelude.{◌≡◌, ◌≢◌, ◌⊎◌, ℕ, Bool, false, List, [], ◌∷◌, Result, Ok, Err, IsTrue, codes}
 use Rattle.block_tags.specs.Format.{is_legal_size}
 use Rattle.raw_region.specs.Device.{Given, Took}

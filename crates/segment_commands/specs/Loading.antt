@@ -161,7 +161,7 @@ module _ {D : Type 0} (step : D → Event → D → Type 0) (old new : D) (path 
   abbrev pub IsLoad : Type 0
   IsLoad = IsTakenLoad ⊎ (IsNotLoadedTo ⊎ IsLoadedTo)
 
-  -- Where a dump was read that fits, of whatever segment, and with whatever notes, its segment is in the file, but for something that
-  -- is there, memory that is not given, or a file that cannot be written.
+  -- Where a dump was read that fits, of whatever segment, and with whatever notes, its segment is in the file, but for
+  -- something that is there, memory that is not given, or a file that cannot be written.
   pub record LoadsWhatFits : Type 0 where
     pub loads : (text : List ℕ) → IsReadWhole (given_since script script') text → IsFitting text size → IsTakenLoad ⊎ ((result ≡ Err (Session OutOfMemory)) ⊎ IsLoadedTo)

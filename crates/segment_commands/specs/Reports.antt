@@ -127,7 +127,8 @@ status_of (Session f) = session_status f
 
 -- ---- what goes out
 
--- all of the text went out and no write failed, or one failed and some of the text went out, from the first byte on, but not all
+-- all of the text went out and no write failed, or one failed and some of the text went out, from the first byte on,
+-- but not all
 abbrev pub Puts : Took → Took → List ℕ → Type 0
 Puts old new text = ((new.failures ≡ old.failures) × (new.bytes ≡ old.bytes ++ text))
     ⊎ ((new.failures ≡ old.failures + 1) × AddsFront old.bytes new.bytes text)

@@ -64,7 +64,8 @@ pub record Act : Type 0 where
 abbrev pub Ran : Act → Taken → Result (Unit {0}) SessionFault → Type 0
 Ran act saved result = IsSession act.start act.mode 0 act.capacity (record { image = act.image; script = act.script; out = act.out; saved = saved }) result
 
--- what a run asks of the disk that saved this: in mode Write its file is made, emptied or replaced and takes it, and else nothing
+-- what a run asks of the disk that saved this: in mode Write its file is made, emptied or replaced and takes it, and
+-- else nothing
 abbrev pub saving : Mode → Making → List ℕ → List ℕ → List Event
 saving Write how path image = writes how path (whole how image)
 saving ReadOnly how path image = []
@@ -93,8 +94,8 @@ module _ {D : Type 0} (step : D → Event → D → Type 0) (old new : D) (how :
     pub read : act.script.failed ≡ false
     pub flushed : Flushed false
 
-  -- why the image is not in the file or need not last: it could not be made or emptied, writing it failed, or all of it was
-  -- written and need not last, or did not take the place of the old one
+  -- why the image is not in the file or need not last: it could not be made or emptied, writing it failed, or all of it
+  -- was written and need not last, or did not take the place of the old one
   abbrev pub IsUnsavedFor : Written → Type 0
   IsUnsavedFor NotMade = act.script.ended ≡ true
   IsUnsavedFor (Closed taken lasts) = Ran act taken (Err WriteFault) ⊎ ((lasts ≡ false) × Ran act taken (Ok tt))
@@ -159,8 +160,8 @@ module _ {D O : Type 0} (step : D → Event → D → Type 0) (old new : D) (pat
   abbrev pub RunsFree : Mode → Type 0
   RunsFree mode = IsAnswerOf (RunsOpened step old new path mode how script script' history flushes out out') result
 
-  -- a run that saves has the right to write the file from before it is read until it is written; where another has it, nothing
-  -- was read or said
+  -- a run that saves has the right to write the file from before it is read until it is written; where another has it,
+  -- nothing was read or said
   abbrev pub RunsHeld : Type 0
   RunsHeld = Holds step old new path ((script' ≡ script) × (out' ≡ out))
       (λ held done. IsAnswerOf (RunsOpened step held done path Write how script script' history flushes out out') result) result

@@ -15,8 +15,8 @@ abbrev pub strictly : Bool → Result (Unit {0}) ProgramFault → Result (Unit {
 strictly true answer = Err Stopped
 strictly false answer = answer
 
--- The run is one over an output that ends with the line of an error, and fails behind it: a write there is refused, and so is the
--- flush without which nothing is saved.
+-- The run is one over an output that ends with the line of an error, and fails behind it: a write there is refused, and
+-- so is the flush without which nothing is saved.
 pub record RunsStrictly {D O : Type 0} (step : D → Event → D → Type 0) (old new : D) (path : List ℕ) (script script' : Gave) (history : O → Took) (flushes : Bool → Type 0)
     (out out' : O) (result : Result (Unit {0}) ProgramFault) (mode : ModeName) (size : Option ℕ) (saving : Saving) : Type 0 where
   pub answer : Result (Unit {0}) ProgramFault

@@ -14,8 +14,8 @@ use segment_file::write_image;
 use segment_manager::{Mode, Segment};
 use segment_scripts::{Follower, run_followed};
 
-/// Lets answers go out before more of a script is read, and tells the output where an answer begins. An output that fails then
-/// fails again at the end.
+/// Lets answers go out before more of a script is read, and tells the output where an answer begins. An output that
+/// fails then fails again at the end.
 #[derive(Drop)]
 pub(crate) struct Flushing;
 
@@ -29,8 +29,8 @@ impl<O: Output> Follower<O> for Flushing {
     }
 }
 
-/// Runs a script on a segment, and gives out all answers, also those before a fault. What was answered goes out before each read
-/// of the script.
+/// Runs a script on a segment, and gives out all answers, also those before a fault. What was answered goes out before
+/// each read of the script.
 pub(crate) fn run_script<S: Source, O: Output>(
     segment: &mut Segment,
     script: &mut S,
@@ -52,7 +52,8 @@ pub(crate) fn run_script<S: Source, O: Output>(
     }
 }
 
-/// Runs a script on a segment that is open, gives out all answers, and then, in mode `Write`, writes the image to a file.
+/// Runs a script on a segment that is open, gives out all answers, and then, in mode `Write`, writes the image to a
+/// file.
 pub(crate) fn answer_and_save<D: Disk, S: Source, O: Output>(
     disk: &mut D,
     path: &str,

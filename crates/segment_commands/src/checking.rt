@@ -13,7 +13,8 @@ use std::alloc::Global;
 ///
 /// # Errors
 ///
-/// Why the image is refused, `ReadFault` where the file can't be read, `OutOfMemory`, and `WriteFault` where the output fails.
+/// Why the image is refused, `ReadFault` where the file can't be read, `OutOfMemory`, and `WriteFault` where the output
+/// fails.
 pub fn check<D: Disk, O: Output>(
     alloc: Global,
     disk: &mut D,

@@ -27,8 +27,9 @@ pub(crate) fn new_segment(alloc: Global, size: u64) -> Result<Segment, SessionFa
 ///
 /// # Errors
 ///
-/// `Exists` where something is there under the path, whatever the size. `BadSize` where no segment has it, and `OutOfMemory`; no
-/// file is made then. `WriteFault` where the file can't be made, takes not the whole image, or need not last.
+/// `Exists` where something is there under the path, whatever the size. `BadSize` where no segment has it, and
+/// `OutOfMemory`; no file is made then. `WriteFault` where the file can't be made, takes not the whole image, or need
+/// not last.
 pub fn create<D: Disk>(
     alloc: Global,
     disk: &mut D,

@@ -50,8 +50,8 @@ fn told_by_length<S: Source>(reader: &mut Counted<S>, room: u64) -> SessionFault
     }
 }
 
-/// The segment of the image of a reader, at the front of a region with room for so many bytes. Where the image ends within that
-/// room and before the size that it says, its class is told, whatever its size.
+/// The segment of the image of a reader, at the front of a region with room for so many bytes. Where the image ends
+/// within that room and before the size that it says, its class is told, whatever its size.
 fn begin_counted<S: Source>(
     alloc: Global,
     mode: Mode,
@@ -149,7 +149,8 @@ pub(crate) fn begin_any_from<S: Source>(
     (begun, counted.into_inner())
 }
 
-/// Whether the image of a reader has a segment, read to the front of a region with room for so many bytes, and the reader.
+/// Whether the image of a reader has a segment, read to the front of a region with room for so many bytes, and the
+/// reader.
 pub(crate) fn verify_from<S: Source>(
     alloc: Global,
     reader: S,

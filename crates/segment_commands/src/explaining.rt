@@ -89,12 +89,13 @@ fn tell_explanation<O: Output>(out: &mut O, explanation: &Explanation) -> Result
     Output::flush(out)
 }
 
-/// Opens the segment in a file for reading, and says `ok`, or, where the image is refused, why, and the place that shows it.
+/// Opens the segment in a file for reading, and says `ok`, or, where the image is refused, why, and the place that
+/// shows it.
 ///
 /// # Errors
 ///
-/// Those of [`check`](crate::check); `OutOfMemory` also where the image is refused and there was no memory to keep what was
-/// read of it, and `WriteFault` also where the explanation does not go out.
+/// Those of [`check`](crate::check); `OutOfMemory` also where the image is refused and there was no memory to keep what
+/// was read of it, and `WriteFault` also where the explanation does not go out.
 pub fn explain<D: Disk, O: Output>(
     alloc: Global,
     disk: &mut D,

@@ -10,13 +10,13 @@ use segment_cli::SessionFault;
 use segment_disk::Output;
 use segment_scripts::{CommandRow, Lint, RunFault, run_followed};
 
-/// Tells which lines of a script are no commands, where, and what is expected there; the rows say what is expected behind each
-/// command word. Nothing is executed.
+/// Tells which lines of a script are no commands, where, and what is expected there; the rows say what is expected
+/// behind each command word. Nothing is executed.
 ///
 /// # Errors
 ///
-/// `Misspelled` where a line is no command, `ReadFault` and `ScriptTooLong` of the script, and `WriteFault` where the output
-/// fails.
+/// `Misspelled` where a line is no command, `ReadFault` and `ScriptTooLong` of the script, and `WriteFault` where the
+/// output fails.
 pub fn lint<S: Source, O: Output>(
     rows: &[CommandRow],
     script: &mut S,

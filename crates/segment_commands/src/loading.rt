@@ -90,16 +90,16 @@ fn load_dump<S: Source>(
     }
 }
 
-/// Makes a segment of the dump that a reader gives, in a file that is not there: of `size` bytes, or without a size with nothing
-/// free. Notes behind the dump are left out, as those of its capacities. Whatever segment the dump is of, it is loaded where a
-/// segment of the size can have its objects and memory is given.
+/// Makes a segment of the dump that a reader gives, in a file that is not there: of `size` bytes, or without a size
+/// with nothing free. Notes behind the dump are left out, as those of its capacities. Whatever segment the dump is of,
+/// it is loaded where a segment of the size can have its objects and memory is given.
 ///
 /// # Errors
 ///
-/// `Exists` where something is there under the path. `BadSize` where no segment has the size. `ReadFault` where the dump can't be
-/// read, and `ScriptTooLong` where it has more than 17179869184 bytes. `BadDump` where it is no dump, with the place, and
-/// `NoSpace` where its objects do not fit the size. `OutOfMemory`. No file is made then. `WriteFault` where the file can't be
-/// made, takes not the whole image, or need not last.
+/// `Exists` where something is there under the path. `BadSize` where no segment has the size. `ReadFault` where the
+/// dump can't be read, and `ScriptTooLong` where it has more than 17179869184 bytes. `BadDump` where it is no dump,
+/// with the place, and `NoSpace` where its objects do not fit the size. `OutOfMemory`. No file is made then.
+/// `WriteFault` where the file can't be made, takes not the whole image, or need not last.
 pub fn load<D: Disk, S: Source>(
     alloc: Global,
     disk: &mut D,

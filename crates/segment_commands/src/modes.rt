@@ -21,8 +21,9 @@ fn making_for(saving: Saving) -> Making
     }
 }
 
-/// Runs a script on the segment in a file, which is opened or made as the mode says. `create_only` and `open_or_create` want a
-/// size for a segment that is made; in the other modes it is not looked at. A file that is there is saved as `saving` says.
+/// Runs a script on the segment in a file, which is opened or made as the mode says. `create_only` and `open_or_create`
+/// want a size for a segment that is made; in the other modes it is not looked at. A file that is there is saved as
+/// `saving` says.
 ///
 /// # Errors
 ///

@@ -124,8 +124,8 @@ pub fn dump<D: Disk, O: Output>(
     tell_of_file(alloc, disk, path, out, Report::Dump)
 }
 
-/// Says all that the segment in a file holds as text, line by line, and behind it the capacities of what has one. The file is
-/// opened for reading.
+/// Says all that the segment in a file holds as text, line by line, and behind it the capacities of what has one. The
+/// file is opened for reading.
 ///
 /// # Errors
 ///

@@ -134,8 +134,8 @@ fn session_status(fault: SessionFault) -> u8
     }
 }
 
-/// The status that the program ends with: 1 where an image, a size, a growth, a script or a dump is refused, 2 for a wrong
-/// command line, 3 for a file that exists or is in use and for faults, 4 for want of memory.
+/// The status that the program ends with: 1 where an image, a size, a growth, a script or a dump is refused, 2 for a
+/// wrong command line, 3 for a file that exists or is in use and for faults, 4 for want of memory.
 fn status_of(fault: ProgramFault) -> u8
     ensures { result ≡ status_of fault }
 {
@@ -148,8 +148,8 @@ fn status_of(fault: ProgramFault) -> u8
     }
 }
 
-/// Writes the line of a fault, none for a wrong command line, and answers the status that the program ends with, which is the
-/// same where the writer fails.
+/// Writes the line of a fault, none for a wrong command line, and answers the status that the program ends with, which
+/// is the same where the writer fails.
 pub fn report<S: Sink>(fault: ProgramFault, err: &mut S) -> u8
     requires { (S.history err.old).failures < 2 ^ 64 - 1 }
     ensures status { result ≡ status_of fault }

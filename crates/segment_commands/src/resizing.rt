@@ -116,13 +116,13 @@ fn resize_file<D: Disk, O: Output>(
     answer
 }
 
-/// Makes the segment in a file larger by `extra` bytes, says its size, and then writes its image to the file, which is emptied
-/// for it when the size went out.
+/// Makes the segment in a file larger by `extra` bytes, says its size, and then writes its image to the file, which is
+/// emptied for it when the size went out.
 ///
 /// # Errors
 ///
-/// Those of opening it; `Growth` where it does not grow; `WriteFault` where the size does not go out, or the file can't be
-/// emptied, takes not the whole image, or need not last. `InUse` where another has the right to write the file.
+/// Those of opening it; `Growth` where it does not grow; `WriteFault` where the size does not go out, or the file can't
+/// be emptied, takes not the whole image, or need not last. `InUse` where another has the right to write the file.
 pub fn grow<D: Disk, O: Output>(
     alloc: Global,
     disk: &mut D,
@@ -138,8 +138,8 @@ pub fn grow<D: Disk, O: Output>(
     resize_file(alloc, disk, path, Resize::Grow(extra), extra, out)
 }
 
-/// Makes the segment in a file as small as its last block lets it be, says its size, and then writes its image to the file,
-/// which is emptied for it when the size went out.
+/// Makes the segment in a file as small as its last block lets it be, says its size, and then writes its image to the
+/// file, which is emptied for it when the size went out.
 ///
 /// # Errors
 ///

@@ -13,7 +13,8 @@ use segment_disk::{Disk, Making, Output, Presence};
 use segment_manager::Mode;
 use std::alloc::Global;
 
-/// Whether a script can be read at all. A closed standard input can't, and a file that is opened then would take its place.
+/// Whether a script can be read at all. A closed standard input can't, and a file that is opened then would take its
+/// place.
 fn can_be_read<S: Source>(script: &mut S) -> bool
     requires { (S.history script.old).failures < 2 ^ 64 - 1 }
     ensures can { result ≡ true → S.history script.new ≡ S.history script.old }
@@ -22,7 +23,8 @@ fn can_be_read<S: Source>(script: &mut S) -> bool
     script.read(&mut []).is_ok()
 }
 
-/// Runs a script on the segment in a file, which is opened in a mode, gives out its answers, and saves it in mode `Write`.
+/// Runs a script on the segment in a file, which is opened in a mode, gives out its answers, and saves it in mode
+/// `Write`.
 fn run_opened<D: Disk, S: Source, O: Output>(
     alloc: Global,
     disk: &mut D,
@@ -65,15 +67,15 @@ fn run_held<D: Disk, S: Source, O: Output>(
     answered(answer)
 }
 
-/// Runs a script on the segment in a file, which is opened in a mode, and gives out its answers. In mode `Write` the file is
-/// then emptied, or replaced, and takes the image; in the other modes nothing is opened for writing.
+/// Runs a script on the segment in a file, which is opened in a mode, and gives out its answers. In mode `Write` the
+/// file is then emptied, or replaced, and takes the image; in the other modes nothing is opened for writing.
 ///
 /// # Errors
 ///
-/// Those of a session. `ReadFault` where the script or the file can't be read, `OutOfMemory`, and `WriteFault` where answers don't
-/// go out, or the file can't be emptied or replaced, takes not the whole image, or need not last. It is neither emptied nor changed
-/// before all answers went out. `InUse` where another has the right to write the file, in mode `Write` alone; the script is not
-/// read then.
+/// Those of a session. `ReadFault` where the script or the file can't be read, `OutOfMemory`, and `WriteFault` where
+/// answers don't go out, or the file can't be emptied or replaced, takes not the whole image, or need not last. It is
+/// neither emptied nor changed before all answers went out. `InUse` where another has the right to write the file, in
+/// mode `Write` alone; the script is not read then.
 pub fn run_on_file<D: Disk, S: Source, O: Output>(
     alloc: Global,
     disk: &mut D,
@@ -118,12 +120,13 @@ fn run_made<D: Disk, S: Source, O: Output>(
     }
 }
 
-/// Runs a script on a segment that is made, in a file that is not there: an empty one of `size` bytes. The file is made when
-/// all answers went out.
+/// Runs a script on a segment that is made, in a file that is not there: an empty one of `size` bytes. The file is made
+/// when all answers went out.
 ///
 /// # Errors
 ///
-/// `Exists` where something is there, whatever the size. `BadSize` where no segment has it, and else those of [`run_on_file`].
+/// `Exists` where something is there, whatever the size. `BadSize` where no segment has it, and else those of
+/// [`run_on_file`].
 pub fn run_in_new_file<D: Disk, S: Source, O: Output>(
     alloc: Global,
     disk: &mut D,
@@ -143,7 +146,8 @@ pub fn run_in_new_file<D: Disk, S: Source, O: Output>(
     answered(run_made(alloc, disk, path, size, script, out))
 }
 
-/// Runs a script on the segment in a file, as [`run_on_file`] in mode `Write`, and where nothing is there as [`run_in_new_file`].
+/// Runs a script on the segment in a file, as [`run_on_file`] in mode `Write`, and where nothing is there as
+/// [`run_in_new_file`].
 ///
 /// # Errors
 ///

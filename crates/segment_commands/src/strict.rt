@@ -10,8 +10,8 @@ use segment_disk::{Disk, Stopping};
 use segment_invocation::{ModeName, Saving};
 use std::alloc::Global;
 
-/// Runs a script as [`run`] does, up to the first answer that is an error: its line is the last that goes out, and nothing is
-/// saved. The line behind it may be executed, and has no answer.
+/// Runs a script as [`run`] does, up to the first answer that is an error: its line is the last that goes out, and
+/// nothing is saved. The line behind it may be executed, and has no answer.
 ///
 /// # Errors
 ///

@@ -25,8 +25,8 @@ fn may_be_written<R: Files<File = File>>(files: &R, path: &str) -> io::Result<()
 }
 
 impl Beside {
-    /// Makes an empty file beside the one of a path, with its rights. What an earlier run left there is removed before, if the
-    /// file is held; else nothing may be there.
+    /// Makes an empty file beside the one of a path, with its rights. What an earlier run left there is removed before,
+    /// if the file is held; else nothing may be there.
     pub(crate) fn make<R: Files<File = File> + AllocGlobal>(
         rt: &R,
         path: &str,

@@ -1,4 +1,5 @@
-//! Disks and outputs as the crates above are given them: contracts see what a disk was asked, in order, and what it answered.
+//! Disks and outputs as the crates above are given them: contracts see what a disk was asked, in order, and what it
+//! answered.
 ghost use Rattle.std.specs.Prelude.{◌≡◌, Bool, IfOk, is_ok};
 ghost use Rattle.raw_region.specs.Device.{given_since, taken_since};
 ghost use Rattle.segment_disk.specs.Events.{Event, Looked, Held, Released, Opened as WasOpened, Read, Made, Wrote, Placed, Discarded, nothing_given, nothing_taken};
@@ -32,8 +33,8 @@ pub trait Disk {
     fn look(&mut self, path: &str) -> Presence
         ensures { step self.old (Looked path.now result) self.new };
 
-    /// Takes the right to write a file, which no other has until it is given back. Does not wait: where another has it, the answer
-    /// is `InUse`. A file that can't be held, or is not there, is nobody's, and the answer is Ok.
+    /// Takes the right to write a file, which no other has until it is given back. Does not wait: where another has it,
+    /// the answer is `InUse`. A file that can't be held, or is not there, is nobody's, and the answer is Ok.
     fn hold(&mut self, path: &str) -> Result<Self::Hold, InUse>
         ensures { step self.old (Held path.now (is_ok result)) self.new };
 
@@ -50,8 +51,8 @@ pub trait Disk {
     fn close(&mut self, reader: Self::Reader)
         ensures { step self.old (Read (given_since nothing_given (Self.Reader.history reader))) self.new };
 
-    /// Makes a file, or empties it, and opens it for writing. One that is made beside another is put in its place or discarded
-    /// when it is closed.
+    /// Makes a file, or empties it, and opens it for writing. One that is made beside another is put in its place or
+    /// discarded when it is closed.
     fn make(&mut self, path: &str, how: Making) -> Result<Self::Writer, DeviceFault>
         ensures asked { step self.old (Made how path.now (is_ok result)) self.new }
         ensures fresh { IfOk result (λ writer. Self.Writer.history writer ≡ nothing_taken) };
@@ -61,8 +62,8 @@ pub trait Disk {
         ensures { step self.old
             (Wrote (taken_since nothing_taken (Self.Writer.history writer)) (is_ok result)) self.new };
 
-    /// Puts the file that was made beside this one, and is closed, in its place. At each moment the name leads to one of the two.
-    /// Ok says that it leads to the new one, and that this lasts.
+    /// Puts the file that was made beside this one, and is closed, in its place. At each moment the name leads to one
+    /// of the two. Ok says that it leads to the new one, and that this lasts.
     fn place(&mut self, path: &str) -> Result<(), DeviceFault>
         ensures { step self.old (Placed path.now (is_ok result)) self.new };
 
@@ -81,8 +82,8 @@ pub trait Output: Sink {
         ensures same { Self.history self.new ≡ Self.history self.old }
         ensures flushes { flushes self.old (is_ok result) self.new };
 
-    /// The next line of a script is answered from here on, if it has an answer. Nothing is written; an output that tells lines
-    /// apart takes note of it.
+    /// The next line of a script is answered from here on, if it has an answer. Nothing is written; an output that
+    /// tells lines apart takes note of it.
     fn next_line(&mut self)
         ensures { Self.history self.new ≡ Self.history self.old };
 }

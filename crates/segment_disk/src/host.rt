@@ -43,7 +43,8 @@ impl<'a, R: Files> HostDisk<'a, R> {
         }
     }
 
-    /// What the system said last of a file that was to be opened or made, where that says why it can't be read or written.
+    /// What the system said last of a file that was to be opened or made, where that says why it can't be read or
+    /// written.
     pub fn trouble(&self) -> Option<Trouble> {
         self.trouble
     }
@@ -74,7 +75,8 @@ impl<'a, R: Files<File = File> + AllocGlobal> HostDisk<'a, R> {
     }
 }
 
-/// A file that was opened for reading, how many bytes it has, and whether it is a folder, which can be opened and not read.
+/// A file that was opened for reading, how many bytes it has, and whether it is a folder, which can be opened and not
+/// read.
 struct Found<F> {
     file: F,
     len: u64,

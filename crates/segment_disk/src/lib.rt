@@ -1,4 +1,5 @@
-//! Where the files of segments are kept, and where answers go: as the crates above are given them, and those of the system.
+//! Where the files of segments are kept, and where answers go: as the crates above are given them, and those of the
+//! system.
 #![tactic(auto)]
 
 mod beside;

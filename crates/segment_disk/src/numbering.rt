@@ -50,7 +50,8 @@ fn spot_behind(byte: u8) -> Spot
     }
 }
 
-/// An output that writes `N: ` before each line that it takes, where N is how often it was told of a next line of the script.
+/// An output that writes `N: ` before each line that it takes, where N is how often it was told of a next line of the
+/// script.
 #[derive(Drop)]
 pub struct Numbered<O: Output> {
     inner: O,

@@ -8,8 +8,8 @@ use std::io::{self, Seek, SeekFrom, Write};
 /// The most bytes that are passed over or written together as one piece.
 const PIECE: usize = 65_536;
 
-/// A file that is written from its first byte on. Where it is a file of a disk that was empty, pieces of zeros are passed
-/// over: what was never written reads as zeros, and takes no place.
+/// A file that is written from its first byte on. Where it is a file of a disk that was empty, pieces of zeros are
+/// passed over: what was never written reads as zeros, and takes no place.
 #[derive(Drop)]
 pub struct SparseFile {
     file: File,

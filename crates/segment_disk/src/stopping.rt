@@ -84,8 +84,8 @@ fn passable(watch: Watch, bytes: &[u8]) -> usize
     count
 }
 
-/// An output that takes nothing behind the first line of an error: one that begins with `error ` and a digit. A flush fails
-/// then.
+/// An output that takes nothing behind the first line of an error: one that begins with `error ` and a digit. A flush
+/// fails then.
 #[derive(Drop)]
 pub struct StopsAtError<O: Output> {
     inner: O,

@@ -1,4 +1,5 @@
--- What the steps lead to by which an object comes to be, and how the objects of a segment are those of a dump in the end.
+-- What the steps lead to by which an object comes to be, and how the objects of a segment are those of a dump in the
+-- end.
 use Rattle.segment_dump.proofs.Common.{◌≡◌, ℕ, ◌+◌, ◌*◌, ◌<◌, ◌≤◌, ◌==◌, ℤ, Bool, true, false, nat_lt, List, [], ◌∷◌}
 use Rattle.segment_dump.proofs.Common.{◌++◌, length, map, Option, Some, None, if◌then◌else◌, refl, sym, ap, subst, ◌∙◌}
 use Rattle.segment_dump.proofs.Common.{arith, append_assoc, flat_map, ⊤, AllByRecursion, nat_tests, flat_map-append}

@@ -13,7 +13,8 @@ tails e = ap (drop 1) e
 
 -- ---- codes
 
--- of two texts, each of a thing that may be said and of what may follow it, both are of one thing, and what follows is the same
+-- of two texts, each of a thing that may be said and of what may follow it, both are of one thing, and what follows is
+-- the same
 pub record IsCode {X : Type 0} (say : X → List ℕ) (IsSaid : X → Type 0) (Follows : List ℕ → Type 0) : Type 0 where
   pub reads : (x y : X) (a b : List ℕ) → IsSaid x → IsSaid y → Follows a → Follows b → say x ++ a ≡ say y ++ b → (x ≡ y) × (a ≡ b)
 

@@ -38,8 +38,8 @@ blocks : map block_room (0 ∷ 1 ∷ 16 ∷ 17 ∷ 32 ∷ 33 ∷ []) ≡ 0 ∷ 3
 unfolding block_room
 blocks = refl
 
--- a vector of strings of three elements, and a map of two pairs: 144 bytes for the ends, 64 for the indexes, 64 for each object's own
--- block, 64 for the array, 32 and 48 for the texts that are not empty, and 48 for each pair
+-- a vector of strings of three elements, and a map of two pairs: 144 bytes for the ends, 64 for the indexes, 64 for
+-- each object's own block, 64 for the array, 32 and 48 for the texts that are not empty, and 48 for each pair
 abbrev some_items : Items
 some_items = record {
   named = record { class = Named; name = codes "b"; content = Strings (codes "hello" ∷ [] ∷ replicate 20 0x61 ∷ []) } ∷ [];

@@ -24,8 +24,8 @@ total (x ∷ xs) = x.len + total xs
 abbrev pub EndBy : ℕ → List Extent → Type 0
 EndBy e = AllByRecursion (λ (x : Extent). end_of x ≤ e)
 
--- Extents fill all from 128 on up to where the last one ends, since they have as many bytes as there are; and behind it, up to the
--- end tag, is room for the rest.
+-- Extents fill all from 128 on up to where the last one ends, since they have as many bytes as there are; and behind
+-- it, up to the end tag, is room for the rest.
 pub record HasRoom (xs : List Extent) (size rest : ℕ) : Type 0 where
   pub end : ℕ
   pub start : 128 ≤ end

@@ -1,4 +1,5 @@
--- What a dump says of a segment's objects: class, name, kind and value of each, and nothing of blocks, handles and capacities.
+-- What a dump says of a segment's objects: class, name, kind and value of each, and nothing of blocks, handles and
+-- capacities.
 use Rattle.std.specs.Prelude.{ℕ, ℤ, List, map, length, filter}
 use Rattle.seg_types.specs.declared.kinds.Class.{Class}
 use Rattle.seg_types.specs.declared.kinds.Class.TheVariants.{Anonymous}

@@ -10,8 +10,8 @@ use Rattle.segment_dump.specs.Notes.{are_notes, without_notes}
 use Rattle.segment_dump.specs.Reads.{HasNoEnd, lines_text}
 use Rattle.segment_dump.specs.Texts.{dump_text}
 
--- Two segments that have one dump have the same objects, whatever sizes are said in it: the same names, classes, kinds and values,
--- and the anonymous objects in the same order.
+-- Two segments that have one dump have the same objects, whatever sizes are said in it: the same names, classes, kinds
+-- and values, and the anonymous objects in the same order.
 abbrev pub DumpsTellObjects : Type 0
 DumpsTellObjects = (b c : List ℕ) (d e : Directory) (m n : ℕ) → StandsFor b d → StandsFor c e → dump_text m (portable d) ≡ dump_text n (portable e) → portable d ≡ portable e
 

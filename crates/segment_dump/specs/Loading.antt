@@ -30,7 +30,8 @@ pub record IsJudged (text : List ℕ) (size : Option ℕ) (s : State) : Type 0 w
   pub mode : s.mode ≡ Write
   pub size_is : HasSize s size
 
--- whatever directory the text is the dump of, that of the segment has the same objects: names, classes, kinds and values
+-- whatever directory the text is the dump of, that of the segment has the same objects: names, classes, kinds and
+-- values
 pub record HasObjectsOf (text : List ℕ) (s : State) : Type 0 where
   pub same : (b : List ℕ) (d : Directory) (n : ℕ) → StandsFor b d → text ≡ dump_text n (portable d) → (e : Directory) → StandsFor s.cut.bytes e → portable e ≡ portable d
 
@@ -56,8 +57,8 @@ abbrev pub asked_of : Option ℕ → ℕ → ℕ
 asked_of None said = said
 asked_of (Some size) said = size
 
--- Whatever segment the text is the dump of, its objects need more bytes than the size, and it has more itself. So there is none
--- of at most this size.
+-- Whatever segment the text is the dump of, its objects need more bytes than the size, and it has more itself. So there
+-- is none of at most this size.
 pub record HasNoSpace (text : List ℕ) (size : Option ℕ) : Type 0 where
   pub needed : (b : List ℕ) (d : Directory) (n : ℕ) → StandsFor b d → n < 2 ^ 64 → text ≡ dump_text n (portable d) → asked_of size n < (items_needs (portable d)).room
   pub longer : (b : List ℕ) (d : Directory) (n : ℕ) → StandsFor b d → n < 2 ^ 64 → text ≡ dump_text n (portable d) → asked_of size n < d.size
@@ -109,8 +110,8 @@ abbrev pub cause_in : Result State LoadRefused → Option LoadError
 cause_in (Ok s) = None
 cause_in (Err refused) = cause_but_bad refused.cause
 
--- Whatever segment the text is the dump of, but for a place of the text a load is refused exactly where something is lacking for
--- its objects, and for that.
+-- Whatever segment the text is the dump of, but for a place of the text a load is refused exactly where something is
+-- lacking for its objects, and for that.
 pub record IsExact (text : List ℕ) (capacity base : ℕ) (size : Option ℕ) (room : ℕ) (cause : Option LoadError) : Type 0 where
   pub exact : (b : List ℕ) (d : Directory) (n : ℕ) → StandsFor b d → n < 2 ^ 64 → text ≡ dump_text n (portable d) → cause ≡ refusal_for capacity base size room (record { size = n; needs = items_needs (portable d) })
 

@@ -1,4 +1,5 @@
-//! Objects made of the lines of a dump. Nothing here is believed: the segment that comes out is compared with the whole text.
+//! Objects made of the lines of a dump. Nothing here is believed: the segment that comes out is compared with the whole
+//! text.
 ghost use Rattle.std.specs.Prelude.{◌≡◌, ◌≤◌, ◌↔◌, ⊤, length, option_map, IsTrue, Some, None, if◌then◌else◌};
 ghost use Rattle.raw_region.specs.Format.{current};
 ghost use Rattle.seg_types.specs.Commands.{Construct};

@@ -152,8 +152,8 @@ fn read_front(text: &[u8]) -> Option<(Front, &[u8])>
     ))
 }
 
-/// What the objects of a dump need, and the size that it says: in a segment of fewer bytes than `needs.room`, or with less room
-/// than `needs.longest`, [`load`](crate::load) makes none of it.
+/// What the objects of a dump need, and the size that it says: in a segment of fewer bytes than `needs.room`, or with
+/// less room than `needs.longest`, [`load`](crate::load) makes none of it.
 ///
 /// # Errors
 ///

@@ -12,9 +12,9 @@ use raw_region::{DeviceFault, Sink};
 use segment_lang::{Piece, put_pieces};
 use segment_manager::Segment;
 
-/// Writes all that a segment holds as text: its size in bytes, and class, name, kind and value of each object. It needs no
-/// memory, and no line has more than 4096 bytes. Two segments with the same names, classes, kinds and values, and with their
-/// anonymous objects in the same order, have the same lines but for the size, wherever their blocks lie.
+/// Writes all that a segment holds as text: its size in bytes, and class, name, kind and value of each object. It needs
+/// no memory, and no line has more than 4096 bytes. Two segments with the same names, classes, kinds and values, and
+/// with their anonymous objects in the same order, have the same lines but for the size, wherever their blocks lie.
 ///
 /// # Errors
 ///

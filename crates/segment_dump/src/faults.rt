@@ -34,8 +34,8 @@ pub enum DumpFault {
     /// There is an object of this name or of this unique kind already.
     #[error("already exists")]
     Exists,
-    /// From here on the segment that was made has another dump: names, kinds or keys do not rise, or a line is not spelled as
-    /// it is in a dump.
+    /// From here on the segment that was made has another dump: names, kinds or keys do not rise, or a line is not
+    /// spelled as it is in a dump.
     #[error("not as a dump has it")]
     Unlike,
 }

@@ -1,5 +1,5 @@
-//! What stands in front of a text: lines, words, numbers, kinds and names, as a dump spells them. What is spelled in another way
-//! need not be found.
+//! What stands in front of a text: lines, words, numbers, kinds and names, as a dump spells them. What is spelled in
+//! another way need not be found.
 ghost use Rattle.std.specs.Prelude.{◌≡◌, ◌≢◌, ◌<◌, ◌≤◌, ◌^◌, ◌++◌, ℕ, List, length, IfSome, MatchOption};
 ghost use Rattle.seg_types.specs.Texts.{item_text, kind_text, name_text};
 ghost use Rattle.segment_lang.specs.Texts.{number_text};

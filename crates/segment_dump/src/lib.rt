@@ -1,4 +1,5 @@
-//! Segments as text: all objects of a segment, line by line, for a person to read and to compare. `docs/DUMP.md` has the form.
+//! Segments as text: all objects of a segment, line by line, for a person to read and to compare. `docs/DUMP.md` has
+//! the form.
 #![tactic(auto)]
 
 mod against;

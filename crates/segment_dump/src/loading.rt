@@ -1,5 +1,5 @@
-//! A segment made of a dump. What the lines ask for is done, and then the segment is compared with the whole text, so that no
-//! line needs to be believed.
+//! A segment made of a dump. What the lines ask for is done, and then the segment is compared with the whole text, so
+//! that no line needs to be believed.
 ghost use Rattle.std.specs.Prelude.{◌≡◌, ◌↔◌, ◌%◌, length, IfOk, IsTrue, MatchResult, Some, None};
 ghost use Rattle.std.specs.Bool.{OnTrue};
 ghost use Rattle.segment_manager.specs.declared.modes.Mode.TheVariants.{Write};
@@ -22,18 +22,18 @@ use segment_lang::numbers_are_decimals;
 use segment_manager::conditioned::cut_end;
 use segment_manager::{CreateError, CreateRefused, Mode, Segment};
 
-/// Makes a segment of a dump, in the `size` bytes of the region from `base` on, which is a multiple of 16; without a size in as
-/// many as the dump says, of which it keeps those up to its last block: nothing in it is free then. Whatever segment the dump is
-/// of, this one has the same objects: the same names, classes, kinds and values, and anonymous objects in the same order. The
-/// room is for the longest text of a vector of strings: as many bytes as the dump has are enough. Notes behind the dump are left
-/// out ([`without_notes`]), so that capacities are not kept.
+/// Makes a segment of a dump, in the `size` bytes of the region from `base` on, which is a multiple of 16; without a
+/// size in as many as the dump says, of which it keeps those up to its last block: nothing in it is free then. Whatever
+/// segment the dump is of, this one has the same objects: the same names, classes, kinds and values, and anonymous
+/// objects in the same order. The room is for the longest text of a vector of strings: as many bytes as the dump has
+/// are enough. Notes behind the dump are left out ([`without_notes`]), so that capacities are not kept.
 ///
 /// # Errors
 ///
-/// `BadDump` says where the text is no dump, and why. `BadSize` and `RegionTooSmall` are as they are called. `NoSpace`: whatever
-/// segment the text is the dump of, its objects need more bytes than the size, and so it was longer itself. `LongText`: it has a
-/// vector of strings with a text that is longer than the room. The region comes back as it was where no segment was begun, as
-/// for these two, and else is let go.
+/// `BadDump` says where the text is no dump, and why. `BadSize` and `RegionTooSmall` are as they are called. `NoSpace`:
+/// whatever segment the text is the dump of, its objects need more bytes than the size, and so it was longer itself.
+/// `LongText`: it has a vector of strings with a text that is longer than the room. The region comes back as it was
+/// where no segment was begun, as for these two, and else is let go.
 pub fn load(
     text: &[u8],
     room: &mut [u8],
@@ -184,8 +184,8 @@ fn asked_size(size: Option<u64>, said: u64) -> u64
     }
 }
 
-/// Why no segment is begun for the objects of a dump, if anything is lacking: a size that segments have, a region that is long
-/// enough, a size that is, or the room for a text.
+/// Why no segment is begun for the objects of a dump, if anything is lacking: a size that segments have, a region that
+/// is long enough, a size that is, or the room for a text.
 fn refusal_for(
     count: Count,
     region: &RawRegion,
@@ -267,8 +267,8 @@ fn bad_dump(text: &[u8], misfit: Misfit) -> LoadError
     })
 }
 
-/// Why building stopped. Where objects or a text ask for more than was counted, lines are wrong: those that could not be counted,
-/// or else those that were built.
+/// Why building stopped. Where objects or a text ask for more than was counted, lines are wrong: those that could not
+/// be counted, or else those that were built.
 fn cause_of(text: &[u8], stop: Stop, counted: Result<Count, usize>) -> LoadError
     ensures { IsWrong text.now result }
 {

@@ -2,7 +2,8 @@
 ghost use Rattle.std.specs.Prelude.{◌≡◌, ◌<◌, true, false, length};
 ghost use Rattle.segment_dump.specs.Notes.{IsLastLine, are_notes, is_line, without_notes};
 
-/// What is left of a text when the lines at its end are gone that begin with `#`. A line that has no end is none of these.
+/// What is left of a text when the lines at its end are gone that begin with `#`. A line that has no end is none of
+/// these.
 pub fn without_notes(text: &[u8]) -> &[u8]
     ensures { result.now ≡ without_notes text.now }
 {

@@ -24,8 +24,9 @@ does_not_open path = Opened path false ∷ []
 abbrev pub all_of : List ℕ → Taken
 all_of image = record { bytes = image; failed = false }
 
--- What became of it: it could not be made or emptied; it took something and was closed, and all that it took lasts or need not;
--- or, made beside the old one, it took all of an image, which lasts, and was put in the place of the old one, or need not have been.
+-- What became of it: it could not be made or emptied; it took something and was closed, and all that it took lasts or
+-- need not; or, made beside the old one, it took all of an image, which lasts, and was put in the place of the old one,
+-- or need not have been.
 pub data Written : Type 0 where
   NotMade : Written
   Closed : Taken → Bool → Written
@@ -69,8 +70,8 @@ pub record IsUnplaced (how : Making) (image : List ℕ) (written : Written) : Ty
   pub beside : how ≡ Beside
   pub offered : written ≡ Offered image false
 
--- why a file has not an image that lasts: it was not made or emptied, it took not all of it, all of it need not last, or did not
--- take the place of the old file
+-- why a file has not an image that lasts: it was not made or emptied, it took not all of it, all of it need not last,
+-- or did not take the place of the old file
 abbrev pub IsUnwritten : Making → List ℕ → Written → Type 0
 IsUnwritten how image written = (written ≡ NotMade) ⊎ (IsCut image written ⊎ ((written ≡ Closed (all_of image) false) ⊎ IsUnplaced how image written))
 
@@ -82,8 +83,8 @@ pub record FillsFile {D E : Type 0} (step : D → Event → D → Type 0) (old n
   pub fate : MatchResult result (λ u. (taken ≡ all_of image) × (lasts ≡ true)) (λ e. IsPart image taken ⊎ ((taken ≡ all_of image) × (lasts ≡ false)))
   pub accepted : (d : Directory) → StandsFor image d → IsSaved image d
 
--- An image was written to a file, and nothing else was asked of the disk. It is whole there and lasts where the answer is Ok. A
--- file that was made or emptied was so for an image that a check accepts.
+-- An image was written to a file, and nothing else was asked of the disk. It is whole there and lasts where the answer
+-- is Ok. A file that was made or emptied was so for an image that a check accepts.
 pub record WritesImage {D E : Type 0} (step : D → Event → D → Type 0) (old new : D) (how : Making) (path image : List ℕ) (result : Result (Unit {0}) E) : Type 0 where
   pub written : Written
   pub asked : After step old (writes how path written) new

@@ -7,7 +7,8 @@ use Rattle.segment_disk.specs.declared.presence.Making.TheVariants.{New, Emptied
 use Rattle.segment_disk.specs.Events.{Event, Looked, Held, Released, Opened, Read, Made, Wrote, Placed, Discarded}
 use Rattle.segment_file.specs.Files.{Written, Closed, IsUnwritten, whole, writes}
 
--- these bytes, whole; or one of two, each whole, whichever it is; or a file that was made or emptied and need not be whole
+-- these bytes, whole; or one of two, each whole, whichever it is; or a file that was made or emptied and need not be
+-- whole
 pub data Standing : Type 0 where
   Whole : List ℕ → Standing
   EitherOf : List ℕ → List ℕ → Standing

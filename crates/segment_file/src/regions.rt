@@ -27,8 +27,8 @@ pub fn region_for(alloc: Global, bytes: u64) -> Result<RawRegion, OutOfMemory>
     RawRegion::new(alloc, capacity_for(bytes))
 }
 
-/// The room for the segment of a file, with so many bytes more: as many bytes as the file has, or as its first bytes say where
-/// that is not known, and at most those of the largest segment.
+/// The room for the segment of a file, with so many bytes more: as many bytes as the file has, or as its first bytes
+/// say where that is not known, and at most those of the largest segment.
 pub fn room_needed(len: u64, front: &[u8; FRONT], more: u64) -> u64
     ensures { result ≤ 1073741824 }
 {

@@ -30,8 +30,9 @@ impl SegmentFile {
     ///
     /// # Errors
     ///
-    /// `Exists` where something is there under the path, whatever the size. `BadSize` where no segment has it; `OutOfMemory`; no
-    /// file is made then. `WriteFault` where the file can't be made, takes not the whole image, or need not last.
+    /// `Exists` where something is there under the path, whatever the size. `BadSize` where no segment has it;
+    /// `OutOfMemory`; no file is made then. `WriteFault` where the file can't be made, takes not the whole image, or
+    /// need not last.
     pub fn create<D: Disk>(
         alloc: Global,
         disk: &mut D,
@@ -51,14 +52,15 @@ impl SegmentFile {
         })
     }
 
-    /// The segment in a file, open in a mode. The file is read and closed, and no other call but `save` asks for it again.
+    /// The segment in a file, open in a mode. The file is read and closed, and no other call but `save` asks for it
+    /// again.
     ///
     /// `crates/examples/src/prices.rt` has an example.
     ///
     /// # Errors
     ///
-    /// `Image` with the class where the bytes of the file denote no directory. `ReadFault` where the file can't be opened or
-    /// read, `OutOfMemory`, and `RegionTooSmall` where it has fewer bytes than it says.
+    /// `Image` with the class where the bytes of the file denote no directory. `ReadFault` where the file can't be
+    /// opened or read, `OutOfMemory`, and `RegionTooSmall` where it has fewer bytes than it says.
     pub fn open<D: Disk>(
         alloc: Global,
         disk: &mut D,
@@ -75,14 +77,15 @@ impl SegmentFile {
         })
     }
 
-    /// The segment in a file, open for writing; where nothing is there, an empty one of `size` bytes in a file that is made for
-    /// it. The size is not looked at where something is there.
+    /// The segment in a file, open for writing; where nothing is there, an empty one of `size` bytes in a file that is
+    /// made for it. The size is not looked at where something is there.
     ///
     /// `crates/examples/src/shop.rt` has an example.
     ///
     /// # Errors
     ///
-    /// Those of [`open`](SegmentFile::open) where something is there, and else those of [`create`](SegmentFile::create).
+    /// Those of [`open`](SegmentFile::open) where something is there, and else those of
+    /// [`create`](SegmentFile::create).
     pub fn open_or_create<D: Disk>(
         alloc: Global,
         disk: &mut D,
@@ -103,30 +106,31 @@ impl SegmentFile {
         })
     }
 
-    /// Writes the image of the segment to its file, which is emptied for it, or made where it is gone. Where that fails, the old
-    /// image is lost; see [`replace`](SegmentFile::replace).
+    /// Writes the image of the segment to its file, which is emptied for it, or made where it is gone. Where that
+    /// fails, the old image is lost; see [`replace`](SegmentFile::replace).
     ///
     /// `crates/examples/src/shop.rt` has an example.
     ///
     /// # Errors
     ///
-    /// `WrongMode` where the segment is not open for writing: the disk is not asked for anything. `InUse` where another has the
-    /// right to write the file. `WriteFault` where it can't be emptied, takes not the whole image, or need not last.
+    /// `WrongMode` where the segment is not open for writing: the disk is not asked for anything. `InUse` where another
+    /// has the right to write the file. `WriteFault` where it can't be emptied, takes not the whole image, or need not
+    /// last.
     pub fn save<D: Disk>(&self, disk: &mut D) -> Result<(), FileError>
         ensures { Saves D.step disk.old disk.new (string_bytes self.now.path) self.now.segment result Emptied }
     {
         self.save_by(disk, Making::Emptied)
     }
 
-    /// The same to a new file beside its file, which takes the place of the old one when it has the whole image: at each moment
-    /// one of the two is there whole.
+    /// The same to a new file beside its file, which takes the place of the old one when it has the whole image: at
+    /// each moment one of the two is there whole.
     ///
     /// `crates/examples/src/handles.rt` has an example.
     ///
     /// # Errors
     ///
-    /// As of [`save`](SegmentFile::save). The old file is as it was then, but where it is not known whether the new one has
-    /// its place for good.
+    /// As of [`save`](SegmentFile::save). The old file is as it was then, but where it is not known whether the new one
+    /// has its place for good.
     pub fn replace<D: Disk>(&self, disk: &mut D) -> Result<(), FileError>
         ensures { Saves D.step disk.old disk.new (string_bytes self.now.path) self.now.segment result Beside }
     {
@@ -143,14 +147,15 @@ impl SegmentFile {
         write_held(disk, self.path.as_str(), how, &self.segment)
     }
 
-    /// Writes the image of the segment to another file, which is made for it, whatever the mode. The segment keeps its path.
+    /// Writes the image of the segment to another file, which is made for it, whatever the mode. The segment keeps its
+    /// path.
     ///
     /// `crates/examples/src/growing.rt` has an example.
     ///
     /// # Errors
     ///
-    /// `Exists` where something is there under the path. `WriteFault` where the file can't be made, takes not the whole image,
-    /// or need not last.
+    /// `Exists` where something is there under the path. `WriteFault` where the file can't be made, takes not the whole
+    /// image, or need not last.
     pub fn save_as<D: Disk>(&self, disk: &mut D, path: &str) -> Result<(), FileError>
         ensures { SavesAs D.step disk.old disk.new path.now self.now.segment result }
     {
@@ -163,16 +168,17 @@ impl SegmentFile {
         }
     }
 
-    /// Makes the segment longer by `extra` bytes, which are free: a multiple of 16, at least 32. Where its region has no room, it
-    /// moves into a larger one. Every object keeps its handle and its value. The file is as it was until `save`.
+    /// Makes the segment longer by `extra` bytes, which are free: a multiple of 16, at least 32. Where its region has
+    /// no room, it moves into a larger one. Every object keeps its handle and its value. The file is as it was until
+    /// `save`.
     ///
     /// `crates/examples/src/growing.rt` has an example.
     ///
     /// # Errors
     ///
-    /// `Growth` with `ReadOnly` where the segment is open for reading, with `BadGrow` where `extra` is below 32 or no multiple of
-    /// 16, and with `TooLarge` where the size would be above 1073741824; else `OutOfMemory` where there is none for a larger
-    /// region. The segment is as it was.
+    /// `Growth` with `ReadOnly` where the segment is open for reading, with `BadGrow` where `extra` is below 32 or no
+    /// multiple of 16, and with `TooLarge` where the size would be above 1073741824; else `OutOfMemory` where there is
+    /// none for a larger region. The segment is as it was.
     pub fn grow(&mut self, alloc: Global, extra: u64) -> Result<(), FileError>
         ensures grows { Grows self.old.segment self.new.segment extra result }
         ensures path { self.new.path ≡ self.old.path }
@@ -180,8 +186,8 @@ impl SegmentFile {
         grow_segment(alloc, &mut self.segment, extra)
     }
 
-    /// Makes the segment as short as its last block lets it be. Every object keeps its handle and its value. The file is as it
-    /// was until `save`.
+    /// Makes the segment as short as its last block lets it be. Every object keeps its handle and its value. The file
+    /// is as it was until `save`.
     ///
     /// `crates/examples/src/growing.rt` has an example.
     ///
@@ -217,8 +223,8 @@ impl SegmentFile {
     ///
     /// # Errors
     ///
-    /// Those of [`open`](SegmentFile::open), and `InUse` where another has the right to write the file: it is as it was.
-    /// `WriteFault` where it can't be emptied, takes not the whole image, or need not last.
+    /// Those of [`open`](SegmentFile::open), and `InUse` where another has the right to write the file: it is as it
+    /// was. `WriteFault` where it can't be emptied, takes not the whole image, or need not last.
     pub fn migrate<D: Disk>(alloc: Global, disk: &mut D, path: &str) -> Result<(), FileError>
         ensures { HoldsFile D.step disk.old disk.new path.now (λ held done. Migrates D.step held done path.now result) result }
     {

@@ -51,8 +51,8 @@ fn put_in_place<D: Disk>(disk: &mut D, path: &str) -> Result<(), DeviceFault>
     }
 }
 
-/// Writes the image of a segment to a file that is made beside the old one, closes it, and puts it in the place of the old one.
-/// Where that fails, the new file is removed, if it can be.
+/// Writes the image of a segment to a file that is made beside the old one, closes it, and puts it in the place of the
+/// old one. Where that fails, the new file is removed, if it can be.
 fn replace_image<D: Disk>(disk: &mut D, path: &str, segment: &Segment) -> Result<(), DeviceFault>
     ensures { ReplacesImage D.step disk.old disk.new path.now segment.now.cut.bytes result }
 {

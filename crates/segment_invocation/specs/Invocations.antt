@@ -70,7 +70,8 @@ command_line = fold with_subcommand program subcommands
 
 -- ---- what the matches ask for
 
--- a file goes by its path; a run says whether it is strict, and whether its answers are numbered; a load has a size or takes the least
+-- a file goes by its path; a run says whether it is strict, and whether its answers are numbered; a load has a size or
+-- takes the least
 pub data Asked : Type 0 where
   create : Text → ℕ → Asked
   run : Text → ModeName → Option ℕ → Saving → Bool → Bool → Asked

@@ -187,8 +187,8 @@ fn read_other<'a>(other: Misread) -> Result<Invocation<'a>, InvocationFault>
 ///
 /// # Errors
 ///
-/// `Usage` where it is wrong or asks for help; it says what is wrong, or has the help. `OutOfMemory` where memory for reading
-/// it was refused.
+/// `Usage` where it is wrong or asks for help; it says what is wrong, or has the help. `OutOfMemory` where memory for
+/// reading it was refused.
 pub fn invocation<'a>(
     alloc: Global,
     words: &'a [&'a str],

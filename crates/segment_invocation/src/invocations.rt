@@ -63,8 +63,8 @@ pub struct Answering {
 pub enum Invocation<'a> {
     /// To make an empty segment of this size in a file that is not there.
     Create(&'a str, u64),
-    /// To run a script on the segment in a file, in a mode, with the size of a segment that is made. The modes `create_only`
-    /// and `open_or_create` have a size.
+    /// To run a script on the segment in a file, in a mode, with the size of a segment that is made. The modes
+    /// `create_only` and `open_or_create` have a size.
     Run(&'a str, ModeName, Option<u64>, Saving, Answering),
     /// To check that a file holds a segment.
     Check(&'a str),
@@ -84,7 +84,8 @@ pub enum Invocation<'a> {
     Dump(&'a str),
     /// To write the same, and behind it the capacities of what has one.
     DumpCapacities(&'a str),
-    /// To make a segment of such a text in a file that is not there, of this size, or of the least that holds the objects.
+    /// To make a segment of such a text in a file that is not there, of this size, or of the least that holds the
+    /// objects.
     Load(&'a str, Option<u64>),
     /// To tell which lines of a script are no commands.
     Lint,

@@ -19,8 +19,8 @@ use Rattle.seg_index.specs.declared.index.Index.TheVariants as index
 
 -- ---- the bytes once the entry is there
 
--- An index has another table, and the entries with the object's. Its old block is no longer in use. Of an object that was made
--- before, and of all that the directory had, nothing changed.
+-- An index has another table, and the entries with the object's. Its old block is no longer in use. Of an object that
+-- was made before, and of all that the directory had, nothing changed.
 pub record IsEntered (i : Index) (old new : Cut) (d : Directory) (t : Table) (o : Object) : Type 0 where
   pub laid : LaysOut current new.bytes (adding (live (with_table_of i d t)) (extents_of o))
   pub blocks : AllByRecursion (SameBlock (bytes_of old.bytes) (bytes_of new.bytes)) (inserted (extents_of o) (live (with_table_of i d no_table)).extents)

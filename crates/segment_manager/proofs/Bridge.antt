@@ -1,5 +1,5 @@
--- The bridge from a directory to the two indexes of its heap: what a look-up in them means for the directory, and which entry an object
--- is when it comes or goes. What the bytes hold stands in HeldIndexes.
+-- The bridge from a directory to the two indexes of its heap: what a look-up in them means for the directory, and which
+-- entry an object is when it comes or goes. What the bytes hold stands in HeldIndexes.
 use Rattle.segment_manager.proofs.Common.{◌≡◌, refl, sym, ap, subst, ◌∙◌, ℕ, ◌+◌, ◌<◌, ◌≤◌, ◌≢◌, ◌⊎◌, inl, inr, true}
 use Rattle.segment_manager.proofs.Common.{false, ◌&&◌, ◌==◌, Some, None, List, [], ◌∷◌, length, arith, IsTrue, filter}
 use Rattle.segment_manager.proofs.Common.{find, insert, remove, slice_get, AllByRecursion, nat_cmp, slice_cmp, and_from}

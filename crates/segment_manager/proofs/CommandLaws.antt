@@ -1,5 +1,5 @@
--- The laws of commands by literals, for the crates that learn the kind of an object when they run: which call is the step of a command,
--- by the kind of the object and by what the literals are for it.
+-- The laws of commands by literals, for the crates that learn the kind of an object when they run: which call is the
+-- step of a command, by the kind of the object and by what the literals are for it.
 
 -- what is known of the object that is to be changed, and of the literals
 pub use Rattle.segment_manager.specs.Changeable.{IsChangeable, IsElement, IsNoElement, IsPairOf, IsToChange}

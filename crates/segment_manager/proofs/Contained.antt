@@ -1,5 +1,5 @@
--- A vector or text as the value of an object: it stands at its place as the calls of seg_vector see it, and what they do to it is what
--- becomes of the object.
+-- A vector or text as the value of an object: it stands at its place as the calls of seg_vector see it, and what they
+-- do to it is what becomes of the object.
 use Rattle.segment_manager.proofs.Common.{◌≡◌, refl, sym, ap, subst, ◌∙◌, ℕ, ◌+◌, ◌*◌, ◌≤◌, ℤ, Bool, ◌&&◌, Option, Some}
 use Rattle.segment_manager.proofs.Common.{None, List, [], ◌∷◌, length, append-nil, arith, IsTrue, nat_le, nat_lt}
 use Rattle.segment_manager.proofs.Common.{option_to_list, list_all, and_from, le-leb, same_Some, current, Cut, Memory}

@@ -1,7 +1,8 @@
--- The laws of the calls on elements for the crate that reads commands: which plan a command comes to by the kind of the object, and when
--- one call is the step of a command.
+-- The laws of the calls on elements for the crate that reads commands: which plan a command comes to by the kind of the
+-- object, and when one call is the step of a command.
 
--- the object of a key, by its kind: the step of the kind is the command's, and where there is no object the command is refused
+-- the object of a key, by its kind: the step of the kind is the command's, and where there is no object the command is
+-- refused
 pub use Rattle.segment_manager.proofs.AnyStorage.{IsOfKindAt, of_kind-steps}
 pub use Rattle.segment_manager.proofs.Steps.{step_of_kind-step, with-found, with-not_found}
 -- two commands with one plan, and a plan that comes to a refusal

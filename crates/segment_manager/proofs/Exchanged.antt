@@ -95,7 +95,8 @@ pub all-but-beside : (m m' : Memory) (from n : ℕ) (x : Extent) (ys : List Exte
 all-but-beside m m' from n x [] f g h s = tt
 all-but-beside m m' from n x (y ∷ ys) f g h s = (but-beside m m' from n x y f g h.0 s.0, all-but-beside m m' from n x ys f g h.1 s.1)
 
--- what is said of all blocks that stay is said of the object's own, of those of its value that are the same, and of those of the others
+-- what is said of all blocks that stay is said of the object's own, of those of its value that are the same, and of
+-- those of the others
 pub record Kept (P : Extent → Type 0) (d : Directory) (o o' : Object) (same : List Extent) : Type 0 where
   pub own : P o.extent
   pub value : AllByRecursion P same
@@ -119,8 +120,9 @@ others-beside d o o' p =
 
 -- ---- the directory
 
--- What the bytes denote once an object's value has other blocks, whatever its class: a vector or text regrown, cut or released, texts
--- put or gone, pairs put or removed. In its own block n bytes changed. A block of the value that is written in is gone, and comes.
+-- What the bytes denote once an object's value has other blocks, whatever its class: a vector or text regrown, cut or
+-- released, texts put or gone, pairs put or removed. In its own block n bytes changed. A block of the value that is
+-- written in is gone, and comes.
 pub denotes-exchanged : (format : ℕ) (old new : Cut) (d : Directory) (o o' : Object) (from n : ℕ) (gone come : List Extent) → Denotes format old.bytes d
     → IsFound (handle o'.extent) d.objects o → IsLike o o' → Exchange o o' gone come → IsTrue (is_object format o') → handle o.extent ≤ from → from + n ≤ end_of o.extent
     → IsExchanged format old new from n gone come → IsObjectAt (bytes_of new.bytes) o' → Denotes format new.bytes (with_changed d o')

@@ -1,4 +1,5 @@
--- Bytes that denote a directory hold its two indexes: each stands in its heap with its block, and its entries lead to rising keys.
+-- Bytes that denote a directory hold its two indexes: each stands in its heap with its block, and its entries lead to
+-- rising keys.
 use Rattle.segment_manager.proofs.Common.{◌≡◌, sym, subst, ◌∙◌, ℕ, ◌+◌, ◌≤◌, ◌%◌, true, Some, List, [], ◌∷◌, length}
 use Rattle.segment_manager.proofs.Common.{arith, Less, IsTrue, IfSome, AllByRecursion, nat_cmp, slice_cmp, le-leb}
 use Rattle.segment_manager.proofs.Common.{current, Cut, Memory, bytes_of, handle, extent_at, has_room, Index, Named}

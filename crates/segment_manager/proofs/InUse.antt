@@ -1,5 +1,5 @@
--- The blocks of a directory, as its live set has them: each is found by its handle, has the room that its extent holds, and lies at a
--- whole place.
+-- The blocks of a directory, as its live set has them: each is found by its handle, has the room that its extent holds,
+-- and lies at a whole place.
 use Rattle.segment_manager.proofs.Common.{◌≡◌, ℕ, ◌+◌, ◌%◌, Option, Some, None, List, [], ◌∷◌, arith, IsTrue, IfSome}
 use Rattle.segment_manager.proofs.Common.{flat_map, option_to_list, AllByRecursion, Extent, LiveSet, handle, holds}
 use Rattle.segment_manager.proofs.Common.{is_proper, extent_at, has_room, Object, Directory, extents_of, live}

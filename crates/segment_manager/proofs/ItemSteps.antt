@@ -1,5 +1,5 @@
--- A call on a vector of numbers or on a text is one step: what the calls of seg_vector ensure of the elements at its place comes to the
--- directory.
+-- A call on a vector of numbers or on a text is one step: what the calls of seg_vector ensure of the elements at its
+-- place comes to the directory.
 use Rattle.segment_manager.proofs.Common.{◌&&◌, ◌<◌, Bool, Err, IsTrue, List, None, Ok, Result, Some, ap, false, length}
 use Rattle.segment_manager.proofs.Common.{subst, sym, true, ℕ, ℤ, ◌∙◌, ◌≡◌, ◌≤◌, eqb-true, same_Some, MatchResult}
 use Rattle.segment_manager.proofs.Common.{option_to_list, current, Cut, IsExchanged, live_of, Table, Command}
@@ -31,7 +31,8 @@ vector-only k v e = vector-if k v (one-kind (Vector k) (kind_of v) e)
 
 -- ---- values that are elements in storage
 
--- Of which kind they are, how many bytes an element has, what spells them, which lists are good, and what the other words say of such a value.
+-- Of which kind they are, how many bytes an element has, what spells them, which lists are good, and what the other
+-- words say of such a value.
 pub record Listing (A : Type 0) : Type 0 where
   pub kind : Kind
   pub each : ℕ

@@ -1,5 +1,5 @@
--- The calls that find objects by their keys: what a look-up in an index, and a handle from outside, come to for each directory that the
--- bytes stand for.
+-- The calls that find objects by their keys: what a look-up in an index, and a handle from outside, come to for each
+-- directory that the bytes stand for.
 use Rattle.segment_manager.proofs.Common.{◌≡◌, refl, sym, ap, ◌∙◌, ℕ, ◌+◌, ◌<◌, Bool, true, false, ◌&&◌, ◌||◌, ◌==◌}
 use Rattle.segment_manager.proofs.Common.{Option, Some, None, List, [], ◌∷◌, arith, cond, find, is_some, option_map}
 use Rattle.segment_manager.proofs.Common.{slice_get, list_any, eqb-true, ne_eqb, none-some, same_Some, slice_get_within}

@@ -1,5 +1,5 @@
--- How the keys that an index compares stand to the objects of a directory: an order of keys says which object has the key and which
--- comes first.
+-- How the keys that an index compares stand to the objects of a directory: an order of keys says which object has the
+-- key and which comes first.
 use Rattle.segment_manager.proofs.Common.{◌≡◌, refl, sym, ap, ◌∙◌, ℕ, ◌<◌, ◌≢◌, Bool, true, false, ◌&&◌, ◌==◌, List}
 use Rattle.segment_manager.proofs.Common.{arith, cond, Ordering, Less, Equal, Greater, nat_lt, nat_cmp, is_lt, is_eq}
 use Rattle.segment_manager.proofs.Common.{ordering_reverse, slice_cmp, texts_ties, and_from, and_right, eq-eqb}

@@ -2,8 +2,8 @@
 
 -- lists of facts: of a part, and of two parts
 pub use Rattle.segment_manager.proofs.Words.{AllByRecursion-append, AllByRecursion-behind, AllByRecursion-front}
--- extents by offset: a hole ends where it begins or later, a list that rises does so with an extent put in and from lower on,
--- and what holds of each extent holds of each when they are sorted, and back
+-- extents by offset: a hole ends where it begins or later, a list that rises does so with an extent put in and from
+-- lower on, and what holds of each extent holds of each when they are sorted, and back
 pub use Rattle.segment_manager.proofs.Order.{all-sorted, all_of-sorted, rising-insert, rising-weak}
 unfoldable pub use Rattle.segment_manager.proofs.Order.{Rising}
 -- the live set of a directory: its size and its extents, which rise
@@ -24,8 +24,8 @@ pub use Rattle.segment_manager.proofs.Heads.{Has-front, entry-name_len, good_nam
 pub use Rattle.segment_manager.proofs.Calling.{denotes-heap, denotes-live}
 -- what codes name
 pub use Rattle.segment_manager.proofs.Codes.{code-read}
--- a value that is written as a literal is as good as its own literal, of whatever kind the object is; the object of a key that is no
--- vector of texts
+-- a value that is written as a literal is as good as its own literal, of whatever kind the object is; the object of a
+-- key that is no vector of texts
 pub use Rattle.segment_manager.proofs.AnyKind.{any-no_value, any-replies, kind-no_texts, scalars-replies}
 -- an object that was located is that of its key, and what is done under its handle is done under the key
 pub use Rattle.segment_manager.proofs.Locating.{IsSaidAt, kind-by_key, located-here, located-steps, said-at}
@@ -43,5 +43,6 @@ pub use Rattle.segment_manager.proofs.StayingObjects.{leads_on-stay, objects_sta
 -- the elements of the object of a key, one after another: what a reading of one says, and how many there are
 unfoldable pub use Rattle.segment_manager.proofs.ElementLists.{got}
 pub use Rattle.segment_manager.proofs.ElementLists.{array-length, array-read, text-read, vector-length, vector-read}
--- the pairs of the object of a key, a map of kinds: what is told of it is told of them, how many there are, and they rise by their keys
+-- the pairs of the object of a key, a map of kinds: what is told of it is told of them, how many there are, and they
+-- rise by their keys
 pub use Rattle.segment_manager.proofs.MapLists.{map-least, map-length, map-rises, map-told}

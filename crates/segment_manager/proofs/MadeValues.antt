@@ -1,4 +1,5 @@
--- A value made in the block of a new object, by the heap's contracts: its blocks are taken and written, and it stands there.
+-- A value made in the block of a new object, by the heap's contracts: its blocks are taken and written, and it stands
+-- there.
 use Rattle.segment_manager.proofs.Common.{◌≡◌, refl, sym, ap, subst, ◌∙◌, ℕ, zero, suc, ◌+◌, ◌*◌, ◌≤◌, inl, Some, None}
 use Rattle.segment_manager.proofs.Common.{Option, List, [], ◌∷◌, length, arith, if◌then◌else◌, option_map}
 use Rattle.segment_manager.proofs.Common.{AllByRecursion, lt-leb, ne_eqb, current, Cut, Memory, Has, Same, bytes_of}

@@ -1,4 +1,5 @@
--- What the calls of seg_map ensure of the map at the place that was found, as the steps of the calls on the object's map.
+-- What the calls of seg_map ensure of the map at the place that was found, as the steps of the calls on the object's
+-- map.
 use Rattle.segment_manager.proofs.Common.{◌≡◌, sym, subst, ◌∙◌, ℤ, Bool, true, false, Option, Result, Ok, option_map}
 use Rattle.segment_manager.proofs.Common.{Cut, Map, ScalarKind, Plain, Refusal, is_value, Key, Lookup, Put, Remove}
 use Rattle.segment_manager.proofs.Common.{literal_of, Erases, Puts, FindsItem, FindsItemBefore, FindsLastItem}

@@ -1,4 +1,5 @@
--- The blocks of an object and of its map's pairs: each is in use once, and what stays of the others where pairs are put or removed.
+-- The blocks of an object and of its map's pairs: each is in use once, and what stays of the others where pairs are put
+-- or removed.
 use Rattle.segment_manager.proofs.Common.{◌≡◌, refl, sym, ap, subst, ◌∙◌, ℕ, ◌≢◌, ℤ, Bool, true, false, ◌||◌, ◌==◌, not}
 use Rattle.segment_manager.proofs.Common.{Option, Some, None, List, [], ◌∷◌, ◌++◌, map, arith, if◌then◌else◌, IsTrue}
 use Rattle.segment_manager.proofs.Common.{find, int_lt, AllByRecursion, ne_eqb, Extent, LiveSet, handle, is_proper}

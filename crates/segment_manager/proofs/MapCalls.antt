@@ -1,4 +1,5 @@
--- The calls on maps of numbers, each as one step: what the calls of seg_map ensure of the map at its place comes to the directory.
+-- The calls on maps of numbers, each as one step: what the calls of seg_map ensure of the map at its place comes to the
+-- directory.
 use Rattle.segment_manager.proofs.Common.{◌≡◌, refl, sym, ap, subst, ◌∙◌, ℕ, ℤ, Bool, true, false, Option, Some, None}
 use Rattle.segment_manager.proofs.Common.{Result, Ok, Err, List, [], if◌then◌else◌, MatchOption, MatchResult, int_lt}
 use Rattle.segment_manager.proofs.Common.{option_map, eq-eqb, current, Cut, SamePlace, Node, Kind, Map, ScalarKind}

@@ -1,4 +1,5 @@
--- A map as the value of an object: it stands at its place as the calls of seg_map see it, and what they do to it is what becomes of the object.
+-- A map as the value of an object: it stands at its place as the calls of seg_map see it, and what they do to it is
+-- what becomes of the object.
 use Rattle.segment_manager.proofs.Common.{◌≡◌, refl, sym, ap, subst, ◌∙◌, ℕ, ◌+◌, ◌≤◌, ◌≢◌, inl, ℤ, true, ◌&&◌, Some}
 use Rattle.segment_manager.proofs.Common.{None, List, [], ◌∷◌, length, map, arith, IsTrue, int_lt, AllByRecursion}
 use Rattle.segment_manager.proofs.Common.{list_all, and_from, current, Cut, Memory, Same, bytes_of, SameBlockBut}

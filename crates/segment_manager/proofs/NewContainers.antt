@@ -1,5 +1,5 @@
--- A vector of numbers or a text as the value of a new object: it is made without an element, and then with its elements in storage for just so
--- many.
+-- A vector of numbers or a text as the value of a new object: it is made without an element, and then with its elements
+-- in storage for just so many.
 use Rattle.segment_manager.proofs.Common.{◌≡◌, refl, sym, ap, subst, ◌∙◌, ℕ, ℤ, Bool, Some, None, Ok, Err, Result, List}
 use Rattle.segment_manager.proofs.Common.{[], length, map, IsTrue, MatchResult, option_to_list, length-map, current}
 use Rattle.segment_manager.proofs.Common.{Cut, bytes_of, IsExchanged, IsChanged, live_of, Table, no_table, keeps-refl}

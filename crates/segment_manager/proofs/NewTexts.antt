@@ -1,4 +1,5 @@
--- A vector of texts as the value of a new object: it is made without a text, and then with its texts, each in a block of its own.
+-- A vector of texts as the value of a new object: it is made without a text, and then with its texts, each in a block
+-- of its own.
 use Rattle.segment_manager.proofs.Common.{◌≡◌, refl, sym, subst, ℕ, Some, Ok, Err, Result, List, [], ◌∷◌, ◌++◌, length}
 use Rattle.segment_manager.proofs.Common.{IsTrue, option_to_list, list_all, current, Cut, LiveSet, IsChanged, live_of}
 use Rattle.segment_manager.proofs.Common.{Table, no_table, Refusal, Place, place_at, AreTextsAssigned, AssignsTexts}

@@ -1,5 +1,5 @@
--- An object made under a key whose value takes blocks of its own, whatever it is, as a step of the machine: its requests are met in order,
--- or one is refused and all is given back.
+-- An object made under a key whose value takes blocks of its own, whatever it is, as a step of the machine: its
+-- requests are met in order, or one is refused and all is given back.
 use Rattle.segment_manager.proofs.Common.{◌≡◌, refl, sym, ap, subst, ◌∙◌, ℕ, ◌+◌, ◌≤◌, true, ◌&&◌, inl, inr, Some, None}
 use Rattle.segment_manager.proofs.Common.{Option, List, [], ◌∷◌, length, IsTrue, find, and_from, current, Cut}
 use Rattle.segment_manager.proofs.Common.{SamePlace, bytes_of, SamePlace-trans, ObjectRole, Extent, LiveSet, added}

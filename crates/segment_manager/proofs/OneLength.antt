@@ -1,5 +1,5 @@
--- The words of containers, and what the calls of seg_vector leave of storage whose elements have one length: as the steps of the calls
--- on the object, a vector of numbers or a text.
+-- The words of containers, and what the calls of seg_vector leave of storage whose elements have one length: as the
+-- steps of the calls on the object, a vector of numbers or a text.
 use Rattle.segment_manager.proofs.Common.{◌≡◌, ap, arith, ℕ, ◌+◌, ◌*◌, ◌∙◌, ◌≤◌, Err, IsTrue, List, None, Ok, Result}
 use Rattle.segment_manager.proofs.Common.{Some, [], false, length, refl, same_Some, subst, sym, take, true, Cut, Memory}
 use Rattle.segment_manager.proofs.Common.{current, bytes_of, word_at, handle, has_room, live_of, LiveSet, Table}

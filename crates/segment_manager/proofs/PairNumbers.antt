@@ -1,4 +1,5 @@
--- Maps of values of two types as maps of their numbers: lists of pairs, maps at a place, and what the calls of seg_map ensure of them.
+-- Maps of values of two types as maps of their numbers: lists of pairs, maps at a place, and what the calls of seg_map
+-- ensure of them.
 use Rattle.segment_manager.proofs.Common.{◌≡◌, refl, sym, ap, subst, ◌∙◌, ℕ, ◌+◌, ℤ, Bool, true, false, ◌&&◌, ◌||◌, not}
 use Rattle.segment_manager.proofs.Common.{Option, Some, None, Result, Ok, Err, List, [], ◌∷◌, map, if◌then◌else◌}
 use Rattle.segment_manager.proofs.Common.{IsTrue, MatchOption, MatchResult, find, int_lt, option_map, AllByRecursion}

@@ -1,4 +1,5 @@
--- A walk over the pairs of the object of a key, of whatever kinds they are: what each call of it answers, and that none is left out.
+-- A walk over the pairs of the object of a key, of whatever kinds they are: what each call of it answers, and that none
+-- is left out.
 use Rattle.segment_manager.proofs.Common.{◌≡◌, refl, sym, ap, subst, ◌∙◌, ℕ, zero, suc, ◌+◌, ℤ, Bool, true, ◌&&◌}
 use Rattle.segment_manager.proofs.Common.{Option, Some, None, Result, Ok, Err, List, [], ◌∷◌, ◌++◌, slice_get, arith}
 use Rattle.segment_manager.proofs.Common.{if◌then◌else◌, IsTrue, int_lt, option_map, list_all, eq-eqb, current, Node}

@@ -1,4 +1,5 @@
--- Texts of numbered parts, for the crates that write what a segment holds: the text of so many parts, and what has gone out of it.
+-- Texts of numbered parts, for the crates that write what a segment holds: the text of so many parts, and what has gone
+-- out of it.
 use Rattle.segment_manager.proofs.Common.{◌≡◌, ℕ, zero, suc, ◌+◌, ◌<◌, Bool, true, false, List, [], ◌∷◌, ◌++◌, length}
 use Rattle.segment_manager.proofs.Common.{take, nat_lt, Option, Some, None, Result, Ok, Err, slice_get, refl, sym, ap}
 use Rattle.segment_manager.proofs.Common.{subst, ◌∙◌, append_assoc, arith, flat_map, ltb-true, ltb-false, take_all}

@@ -151,7 +151,8 @@ module _ (b : List ℕ) (d : Directory) (key : Key) (k : ScalarKind) (i : ℕ) (
 
 -- ---- the search
 
--- the place in each object that stands at the handle is the place of the key, and why there is none in each is why the key has none
+-- the place in each object that stands at the handle is the place of the key, and why there is none in each is why the
+-- key has none
 pub places : (s : State) (key : Key) (h : ℕ) (k : ScalarKind) (i : ℕ) (r : Result ℕ Refusal) → Answers s (λ d. handle_at d key) (Some h) → ((o : Object) → StandsAt s.cut.bytes h o → r ≡ place_in o k i)
     → Answers s (λ d. place_at d key k i) (placed h r)
 places s key h k i r a each = record {

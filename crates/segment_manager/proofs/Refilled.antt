@@ -42,8 +42,8 @@ grows d l each n t a next = grown-if d l each n t a next (nat_le n t.capacity)
 
 -- ---- a directory
 
--- For a directory that the old bytes denote: the object of the key, its next value, what was done to it, and what the command's plan
--- comes to.
+-- For a directory that the old bytes denote: the object of the key, its next value, what was done to it, and what the
+-- command's plan comes to.
 pub record Refill (old new : Cut) (d : Directory) (key : Key) (c : Command) (answer : Answer) : Type 0 where
   pub object : Object
   pub is : object_at d key ≡ Some object

@@ -108,7 +108,8 @@ contents-released old new d o k f len change said =
     let x : Exchange o (with_value o v) gone [] = between o (with_value o v) [] gone [] [] (sym (append-nil gone)) (emptied-is o.value).alone in
     record { place = change.place; denotes = denotes-container current old new d o v gone [] k f x (emptied-is o.value).kind (emptied-is o.value).count len was good change said }
 
--- The same as a call says it of the container at a place: all that is to be known of a call that releases a kind of value.
+-- The same as a call says it of the container at a place: all that is to be known of a call that releases a kind of
+-- value.
 pub container-released : (old new : Cut) (d : Directory) (key : Key) (o : Object) (p : Place) (v : Value) → Denotes current old.bytes d → object_at d key ≡ Some o → o.value ≡ v → container_place o ≡ p
     → value_len v ≡ 24 → IsExchanged current old new (place_at p) 24 (value_extents v) [] → IsValueAt (bytes_of new.bytes) (place_at p) (emptied v) → Becomes old new (changed d o (emptied o.value))
 container-released old new d key o p v k e is at len change said =

@@ -1,4 +1,5 @@
--- What bytes denote by an older format they denote by the current one, where version, tags and free tree are those of the current one.
+-- What bytes denote by an older format they denote by the current one, where version, tags and free tree are those of
+-- the current one.
 use Rattle.segment_manager.proofs.Common.{◌≡◌, refl, ap, ◌∙◌, ℕ, zero, suc, Bool, true, false, not, ◌&&◌, ◌==◌, List}
 use Rattle.segment_manager.proofs.Common.{[], ◌∷◌, length, arith, IsTrue, nat_le, nat_lt, if◌then◌else◌, AllByRecursion}
 use Rattle.segment_manager.proofs.Common.{list_all, chars, is_utf8, and_from, and_parts, le-leb, leb-true, lt-leb}

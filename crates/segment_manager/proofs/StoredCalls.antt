@@ -1,4 +1,5 @@
--- The calls on what has storage, as the code makes them: the container is found, and then the call at its place is the step.
+-- The calls on what has storage, as the code makes them: the container is found, and then the call at its place is the
+-- step.
 use Rattle.segment_manager.proofs.Common.{◌≡◌, sym, ap, subst, ◌∙◌, false, Ok, Result, Cut, Kind, Refusal}
 use Rattle.segment_manager.proofs.Common.{Command, Key, Place, container_at, Answers, State, is_read_only, StandsThere}
 use Rattle.segment_manager.proofs.Common.{StepsSafely, StepsThere}

@@ -1,4 +1,5 @@
--- What the calls of seg_vector ensure of the text at the place that was found, as the steps of the calls on the object's string.
+-- What the calls of seg_vector ensure of the text at the place that was found, as the steps of the calls on the
+-- object's string.
 use Rattle.segment_manager.proofs.Common.{◌++◌, ◌<◌, Bool, Err, IsTrue, List, None, Ok, Option, Result, Some, [], ap}
 use Rattle.segment_manager.proofs.Common.{arith, false, get_or, if◌then◌else◌, length, map, nat_abs, nat_le, nat_lt}
 use Rattle.segment_manager.proofs.Common.{pos, refl, slice_get, subst, suc, sym, true, zero, ℕ, ◌∙◌, ◌∷◌, ◌≡◌, and_from}

@@ -1,5 +1,5 @@
--- The blocks of a vector of texts among all others: each is in use, and no two are one. And what becomes of them where a part of the texts
--- is replaced.
+-- The blocks of a vector of texts among all others: each is in use, and no two are one. And what becomes of them where
+-- a part of the texts is replaced.
 use Rattle.segment_manager.proofs.Common.{◌≡◌, sym, ap, subst, ◌∙◌, ℕ, ◌≢◌, List, [], ◌∷◌, ◌++◌, append_assoc, arith}
 use Rattle.segment_manager.proofs.Common.{option_to_list, AllByRecursion, Extent, handle, Table, SameSpread}
 use Rattle.segment_manager.proofs.Common.{middle-first, AreOthers, text_blocks, OwnedText, Object, Texts, value_extents}

@@ -1,4 +1,5 @@
--- What the calls of seg_vector ensure of the texts at the place that was found, as the steps of the calls on the object's vector of texts.
+-- What the calls of seg_vector ensure of the texts at the place that was found, as the steps of the calls on the
+-- object's vector of texts.
 use Rattle.segment_manager.proofs.TextsHeld.{some-texts, HasBytes, HoldsTexts}
 use Rattle.segment_manager.proofs.Common.{IsSomeTexts, ◌≡◌, refl, sym, ap, subst, ◌∙◌, ℕ, ◌+◌, ◌-◌, ◌<◌, ◌≤◌, ◌⊎◌, inl}
 use Rattle.segment_manager.proofs.Common.{inr, Bool, true, false, ◌==◌, Option, Some, None, Result, Ok, Err, List, []}

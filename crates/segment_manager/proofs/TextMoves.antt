@@ -1,4 +1,5 @@
--- A call on a vector of texts is one step: what the calls of seg_vector ensure of the texts at its place comes to the directory.
+-- A call on a vector of texts is one step: what the calls of seg_vector ensure of the texts at its place comes to the
+-- directory.
 use Rattle.segment_manager.proofs.Common.{◌≡◌, refl, sym, ap, subst, ◌∙◌, true, false, Option, None, Result, Ok, List}
 use Rattle.segment_manager.proofs.Common.{◌++◌, IfErr, OnErr, option_to_list, AllByRecursion, current, Cut, Extent}
 use Rattle.segment_manager.proofs.Common.{Table, Kind, TextsKind, Refusal, same_kind, Key, Command, Place, IsTextsNow}

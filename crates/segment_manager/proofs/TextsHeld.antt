@@ -1,5 +1,5 @@
--- A vector of texts as the value of an object: it stands at its place as the calls of seg_vector see it, and what they do to it is what
--- becomes of the object.
+-- A vector of texts as the value of an object: it stands at its place as the calls of seg_vector see it, and what they
+-- do to it is what becomes of the object.
 use Rattle.segment_manager.proofs.Common.{◌≡◌, refl, sym, ap, subst, ◌∙◌, ℕ, ◌+◌, ◌≢◌, ◌≤◌, true, ◌&&◌, Option, Some}
 use Rattle.segment_manager.proofs.Common.{None, Ok, List, [], ◌∷◌, ◌++◌, length, arith, IsTrue, nat_le, nat_lt}
 use Rattle.segment_manager.proofs.Common.{option_to_list, AllByRecursion, list_all, and_from, eq-eqb, eqb-true, le-leb}

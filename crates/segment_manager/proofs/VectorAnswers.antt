@@ -1,4 +1,5 @@
--- What the calls of seg_vector ensure of the vector at the place that was found, as the steps of the calls on the object's vector.
+-- What the calls of seg_vector ensure of the vector at the place that was found, as the steps of the calls on the
+-- object's vector.
 use Rattle.segment_manager.proofs.Safely.{pick-outside, pick-space, Answered, answered, done-so}
 use Rattle.segment_manager.proofs.Common.{◌++◌, ◌+◌, ◌-◌, ◌<◌, Bool, Err, IsTrue, List, None, Ok, Result, Some, [], ap}
 use Rattle.segment_manager.proofs.Common.{arith, false, get_or, inl, inr, length, map, pos, refl, slice_get, subst, sym}

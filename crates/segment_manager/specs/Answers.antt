@@ -28,8 +28,8 @@ abbrev pub refusal_of : Answer → Option Refusal
 refusal_of (Refused r) = Some r
 refusal_of answer = None
 
--- A command was refused before it asked for a block, and changed nothing. Where a block has no fit, one that was taken before it
--- is given back, and its tag may be left in the gap.
+-- A command was refused before it asked for a block, and changed nothing. Where a block has no fit, one that was taken
+-- before it is given back, and its tag may be left in the gap.
 abbrev pub is_untouched : Answer → Bool
 is_untouched (Refused NoSpace) = false
 is_untouched (Refused r) = true

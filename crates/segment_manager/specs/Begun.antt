@@ -1,4 +1,5 @@
--- How an object comes to be whose numbers come one by one: it is begun, it is filled, and then it gets its entry or is given back.
+-- How an object comes to be whose numbers come one by one: it is begun, it is filled, and then it gets its entry or is
+-- given back.
 use Rattle.std.specs.Prelude.{◌≡◌, ℕ, ◌<◌, ◌*◌, ◌+◌, ◌%◌, ◌≤◌, ◌⊎◌, ⊤, ℤ, Bool, Option, Some, None, Result, Ok, Err, MatchBool, MatchResult, List, [], insert, length, map, IsTrue}
 use Rattle.std.specs.List.{list_all}
 use Rattle.std.specs.Iterator.{Yields, YieldsThen}
@@ -181,7 +182,8 @@ Finishes now new h entry enough result = MatchBool enough ((result ≡ Ok h) × 
 
 -- ---- filled or not, with whatever it takes
 
--- where it was filled, an entry may lead to it; and where not, all that was taken is its own block and what its index took
+-- where it was filled, an entry may lead to it; and where not, all that was taken is its own block and what its index
+-- took
 abbrev pub IsEnding : Cut → ℕ → Option NewEntry → Result (Unit {0}) Refusal → Type 0
 IsEnding now h entry filled = MatchResult filled (λ u. IsReadyFor now h entry) (λ why. (old : Cut) × IsLoose old now h entry)
 

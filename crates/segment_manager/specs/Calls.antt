@@ -27,8 +27,8 @@ use Rattle.segment_manager.specs.Answers.{Answer, Refused}
 use Rattle.segment_manager.specs.State.{Answers, State, StandsFor}
 use Rattle.segment_manager.specs.Step.{step}
 
--- a segment with nothing in it, in the window of the size at the base; its bytes are 0 but for the header's front, which
--- says the size, the free tree and two indexes without a place, the tags, and the links of the one gap
+-- a segment with nothing in it, in the window of the size at the base; its bytes are 0 but for the header's front,
+-- which says the size, the free tree and two indexes without a place, the tags, and the links of the one gap
 pub record IsCreated (region : List ℕ) (base size : ℕ) (how : Mode) (s : State) : Type 0 where
   pub legal : IsTrue (is_legal_size size)
   pub fits : base + size ≤ length region

@@ -1,4 +1,5 @@
--- Objects that a command changes, and literals that it changes them by: what is known of both where their kind is learnt late.
+-- Objects that a command changes, and literals that it changes them by: what is known of both where their kind is
+-- learnt late.
 use Rattle.std.specs.Prelude.{◌≡◌, ℕ, ℤ, true, false, None, Result, Ok, Err, List, ◌∷◌, []}
 use Rattle.seg_types.specs.declared.kinds.Kind.{Kind}
 use Rattle.seg_types.specs.declared.kinds.Kind.TheVariants.{Vector}

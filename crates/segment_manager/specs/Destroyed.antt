@@ -1,4 +1,5 @@
--- How an object goes: first the blocks that its value has, then its entry, if it has one, and then the block of its own.
+-- How an object goes: first the blocks that its value has, then its entry, if it has one, and then the block of its
+-- own.
 use Rattle.std.specs.Prelude.{◌≡◌, ℕ, Some, List, [], slice_get}
 use Rattle.raw_region.specs.Format.{current}
 use Rattle.raw_region.specs.Memory.{Cut, SamePlace}

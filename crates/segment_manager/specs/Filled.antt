@@ -1,4 +1,5 @@
--- How an object comes to be, whatever it holds: it is begun, its value is made in its block, and then it gets its entry, or all is given back.
+-- How an object comes to be, whatever it holds: it is begun, its value is made in its block, and then it gets its
+-- entry, or all is given back.
 use Rattle.std.specs.Prelude.{◌≡◌, ℕ, ◌<◌, ◌^◌, ◌*◌, false, true, [], Option, Result, Ok, Err, IfErr, MatchResult, IsTrue}
 use Rattle.raw_region.specs.Format.{current}
 use Rattle.raw_region.specs.Memory.{Cut, bytes_of}
@@ -105,7 +106,8 @@ Builds now new h at entry content result = MatchResult result (IsBuilt now new h
 
 -- ---- a construction
 
--- On the heap of a segment that may be changed: it is one step, and where it is refused before it asks for a block nothing changes.
+-- On the heap of a segment that may be changed: it is one step, and where it is refused before it asks for a block
+-- nothing changes.
 pub record Constructs {A : Type 0} (old new : Cut) (command : Command) (answer : Result A Refusal → Answer) (result : Result A Refusal) : Type 0 where
   pub step : (mode : Mode) → is_read_only mode ≡ false → IsStep (record { cut = old; mode = mode }) (record { cut = new; mode = mode }) command (answer result)
   pub refused : IfErr result (λ why. is_untouched (Refused why) ≡ true → new ≡ old)

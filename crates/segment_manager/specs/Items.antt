@@ -25,8 +25,8 @@ KeepsUnasked old new NoSpace = ⊤
 KeepsUnasked old new OutOfRange = ⊤
 KeepsUnasked old new why = new ≡ old
 
--- The call is the step of the items that it took, as whole numbers: as many as the count says, or fewer where no more came. It is
--- refused for another reason before it takes one.
+-- The call is the step of the items that it took, as whole numbers: as many as the count says, or fewer where no more
+-- came. It is refused for another reason before it takes one.
 pub record TakesItems {S A : Type 0} (gives : S → Option A → S → Type 0) (whole : A → ℤ) (old new : State) (key : Key) (k : ScalarKind) (count : ℕ) (before after : S) (result : Result ℕ Refusal) : Type 0 where
   pub items : List A
   pub step : IsStep old new (ConstructIt key k count (map whole items)) (handle_answer result)

@@ -1,5 +1,5 @@
--- Where the words of a header and of an object's head stand, in bytes: of the header from the front of the segment, of an
--- object from its handle.
+-- Where the words of a header and of an object's head stand, in bytes: of the header from the front of the segment, of
+-- an object from its handle.
 use Rattle.std.specs.Prelude.{ℕ}
 
 -- ---- the header

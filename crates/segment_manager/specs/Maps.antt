@@ -66,7 +66,8 @@ told_of_map d key k v say = elim (object_at d key) [
   | Some o ↦ if same_kind (Map k v) (kind_of o.value) then told_of say o.value else Err WrongKind
 ]
 
--- Pairs stand by rising keys. So the first key that is not below a number is the least of those, as is the first above it.
+-- Pairs stand by rising keys. So the first key that is not below a number is the least of those, as is the first above
+-- it.
 abbrev pub pair_from : ℤ → List NumberPair → Option (ℤ × ℤ)
 pair_from from ps = option_map item_of (first_pair int_lt false from ps)
 

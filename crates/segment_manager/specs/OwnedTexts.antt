@@ -28,7 +28,8 @@ abbrev pub with_blocks : Directory → LiveSet → List (List ℕ) → (List Own
 with_blocks d l bss next None = (Refused NoSpace, d)
 with_blocks d l bss next (Some xs) = perform d (all_added l xs) (next (owned_texts bss xs))
 
--- the law: a plan that asks for several texts goes on with the extents that `place_all` gives for those that are not empty
+-- the law: a plan that asks for several texts goes on with the extents that `place_all` gives for those that are not
+-- empty
 abbrev pub TextsArePlaced : Type 0
 TextsArePlaced = (d : Directory) (l : LiveSet) (bss : List (List ℕ)) (next : List OwnedText → Plan) → IsTrue (is_proper l)
     → perform d l (with_owned_texts bss next) ≡ with_blocks d l bss next (place_all l (text_needs bss))

@@ -23,7 +23,8 @@ pub data Need : Type 0 where
   New : Role → ℕ → Need
   Regrown : Option Extent → ℕ → Need
 
--- What a command does if it is not refused: it asks for its blocks in order, and then it answers and leaves a directory.
+-- What a command does if it is not refused: it asks for its blocks in order, and then it answers and leaves a
+-- directory.
 pub data Plan : Type 0 where
   Refuse : Refusal → Plan
   Request : Need → (Extent → Plan) → Plan

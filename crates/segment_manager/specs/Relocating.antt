@@ -5,8 +5,8 @@ use Rattle.segment_manager.specs.declared.errors.RelocateRefused.{RelocateRefuse
 use Rattle.segment_manager.specs.Directory.{Directory}
 use Rattle.segment_manager.specs.State.{State, StandsFor}
 
--- the segment stands at the base of the region with the bytes and the mode that it had, all other bytes of the region stay,
--- and the region that it left has all its bytes
+-- the segment stands at the base of the region with the bytes and the mode that it had, all other bytes of the region
+-- stay, and the region that it left has all its bytes
 pub record IsRelocated (old : State) (region : List ℕ) (base : ℕ) (new : State) (behind : List ℕ) : Type 0 where
   pub fits : base + length old.cut.bytes ≤ length region
   pub place : SamePlace (cut_at region base (length old.cut.bytes)) new.cut

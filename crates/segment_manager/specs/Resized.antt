@@ -17,8 +17,8 @@ shrunk d = record d { size = least_size (live d) }
 abbrev pub room_behind : Cut → ℕ
 room_behind c = length (whole c) - (length c.before + length c.bytes)
 
--- open as it was, and at its place in its region, of which nothing changes behind both ends; of each directory the bytes denote
--- the next one
+-- open as it was, and at its place in its region, of which nothing changes behind both ends; of each directory the
+-- bytes denote the next one
 pub record Resizes (old new : State) (next : Directory → Directory) : Type 0 where
   pub mode : new.mode ≡ old.mode
   pub place : EndsAt old.cut new.cut (length new.cut.bytes)

@@ -48,8 +48,8 @@ IsStep old new c answer = Moves old new answer (λ d. step old.mode d c)
 abbrev pub IsStepOfKind : State → State → Key → Kind → Command → Answer → Type 0
 IsStepOfKind old new key kind c answer = Moves old new answer (λ d. step_of_kind old.mode d key kind c)
 
--- The call is refused exactly where the step is, for the same reason, and else it is not; it leads to the step's directory. This
--- is for a call that answers less than the machine.
+-- The call is refused exactly where the step is, for the same reason, and else it is not; it leads to the step's
+-- directory. This is for a call that answers less than the machine.
 abbrev pub LeadsOn : State → State → Command → Option Refusal → Type 0
 LeadsOn old new c refusal = Moves old new refusal (λ d. (refusal_of (step old.mode d c).0, (step old.mode d c).1))
 

@@ -21,8 +21,8 @@ impl Segment {
     ///
     /// # Errors
     ///
-    /// `NotFound` where no object has the key, `WrongKind` where it is of another kind, `OutOfRange` where it has no element
-    /// there.
+    /// `NotFound` where no object has the key, `WrongKind` where it is of another kind, `OutOfRange` where it has no
+    /// element there.
     pub fn get<T: Scalar, O: Target>(&self, key: &O, index: u64) -> Result<T, Refusal>
         requires { O.stands key.now self.now }
         ensures { IsReplyOfKind self.now (O.key key.now) (ScalarOf T.kind) (Get (O.key key.now) index) (answer_of (λ x. Element T.kind (T.whole x)) result) }
@@ -57,8 +57,8 @@ impl Segment {
     ///
     /// # Errors
     ///
-    /// `ReadOnly` where the segment is open for reading, and else `NotFound` where no object has the key, `WrongKind` where it
-    /// is of another kind, `OutOfRange` where it has no element there. Nothing changes.
+    /// `ReadOnly` where the segment is open for reading, and else `NotFound` where no object has the key, `WrongKind`
+    /// where it is of another kind, `OutOfRange` where it has no element there. Nothing changes.
     pub fn set<T: Scalar, O: Target>(
         &mut self,
         key: &O,

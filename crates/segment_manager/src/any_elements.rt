@@ -12,14 +12,15 @@ use seg_types::{Kind, Refusal, ScalarKind, ScalarValue};
 use seg_vector::SegString;
 
 impl Segment {
-    /// The element at `index` in the object of a key: of scalars, of a vector of scalars, or of a string, which has bytes.
+    /// The element at `index` in the object of a key: of scalars, of a vector of scalars, or of a string, which has
+    /// bytes.
     ///
     /// Example: `let value: ScalarValue = segment.get_any(&key, 0)?`.
     ///
     /// # Errors
     ///
-    /// `NotFound` where no object has the key, `WrongKind` where its elements are no scalars, `OutOfRange` where it has none
-    /// there.
+    /// `NotFound` where no object has the key, `WrongKind` where its elements are no scalars, `OutOfRange` where it has
+    /// none there.
     pub fn get_any<O: Target>(&self, key: &O, index: u64) -> Result<ScalarValue, Refusal>
         requires { O.stands key.now self.now }
         ensures { Answers self.now (λ d. scalar_reply self.now.mode d (O.key key.now) (Get (O.key key.now) index)) (scalar_answer result) }
@@ -84,8 +85,8 @@ impl Segment {
     }
 }
 
-/// Makes a value the element at `index` in the object of a key, whose elements are of the value's kind: of scalars, of a
-/// vector of scalars, or of a string.
+/// Makes a value the element at `index` in the object of a key, whose elements are of the value's kind: of scalars, of
+/// a vector of scalars, or of a string.
 ///
 /// Example: `set_any(&mut segment, &key, 0, ScalarValue::I64(640))?`.
 ///
@@ -96,7 +97,8 @@ impl Segment {
 ///
 /// # Errors
 ///
-/// `ReadOnly` where the segment is open for reading, and else `OutOfRange` where it has no element there. Nothing changes.
+/// `ReadOnly` where the segment is open for reading, and else `OutOfRange` where it has no element there. Nothing
+/// changes.
 pub fn set_any<O: Target>(
     segment: &mut Segment,
     key: &O,

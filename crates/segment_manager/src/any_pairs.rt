@@ -55,14 +55,16 @@ impl Segment {
         })
     }
 
-    /// Puts the value of a key into the map of a key, a map of the two values' kinds, and answers whether the key is new.
+    /// Puts the value of a key into the map of a key, a map of the two values' kinds, and answers whether the key is
+    /// new.
     ///
     /// Example: `segment.map_put_any(&key, ScalarValue::I32(2), ScalarValue::I64(1999))?`.
     ///
     /// # Errors
     ///
-    /// `ReadOnly` where the segment is open for reading, and else `NotFound` where no object has the key, `WrongKind` where it
-    /// is of another kind, `NoSpace` where the key is new and no gap is long enough for its block. Nothing changes.
+    /// `ReadOnly` where the segment is open for reading, and else `NotFound` where no object has the key, `WrongKind`
+    /// where it is of another kind, `NoSpace` where the key is new and no gap is long enough for its block. Nothing
+    /// changes.
     pub fn map_put_any<O: Target>(
         &mut self,
         key: &O,
@@ -104,14 +106,15 @@ impl Segment {
         }
     }
 
-    /// Erases a key from the map of a key, a map with keys of its kind and values of a kind, and answers whether it was there.
+    /// Erases a key from the map of a key, a map with keys of its kind and values of a kind, and answers whether it was
+    /// there.
     ///
     /// Example: `segment.map_erase_any(&key, ScalarValue::I32(2), ScalarKind::I64)?`.
     ///
     /// # Errors
     ///
-    /// `ReadOnly` where the segment is open for reading, and else `NotFound` where no object has the key, `WrongKind` where it
-    /// is of another kind. Nothing changes.
+    /// `ReadOnly` where the segment is open for reading, and else `NotFound` where no object has the key, `WrongKind`
+    /// where it is of another kind. Nothing changes.
     pub fn map_erase_any<O: Target>(
         &mut self,
         key: &O,

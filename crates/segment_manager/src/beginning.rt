@@ -1,4 +1,5 @@
-//! How an object comes to be: its blocks are taken and its head is written, and when it was filled it gets its entry or is given back.
+//! How an object comes to be: its blocks are taken and its head is written, and when it was filled it gets its entry or
+//! is given back.
 ghost use Rattle.std.specs.Prelude.{◌≡◌, ◌^◌, ◌<◌, ◌≤◌, length};
 ghost use Rattle.raw_region.specs.Memory.{Cut};
 ghost use Rattle.seg_types.specs.{Keys.new_key_seen, Names.Key as AnyKey, Names.NoKey};
@@ -34,8 +35,8 @@ pub(crate) struct Begun {
     pub(crate) entry: Option<NewEntry>,
 }
 
-/// Takes the blocks of an object of a kind into use, with `body` bytes for its value, and writes its head. Else it is `Exists` where
-/// an object has the key, or `NoSpace`, and what the heap holds does not change.
+/// Takes the blocks of an object of a kind into use, with `body` bytes for its value, and writes its head. Else it is
+/// `Exists` where an object has the key, or `NoSpace`, and what the heap holds does not change.
 pub(crate) fn begin(
     heap: &mut Heap,
     key: &NewKey,
@@ -150,7 +151,8 @@ pub(crate) fn class_of(index: Index) -> Class
     }
 }
 
-/// Has the entry of an object lead to it where it was filled, and answers its handle. Else all that was taken for it is given back.
+/// Has the entry of an object lead to it where it was filled, and answers its handle. Else all that was taken for it is
+/// given back.
 #[inline(always)]
 pub(crate) fn end(
     heap: &mut Heap,

@@ -1,5 +1,6 @@
-//! The calls with a condition on what a segment holds, for crates that know that it holds: the walks of a script's answers, the
-//! check of images, and the calls that change a segment's end. No program needs them, and `zaluxhoni` does not hand them on:
+//! The calls with a condition on what a segment holds, for crates that know that it holds: the walks of a script's
+//! answers, the check of images, and the calls that change a segment's end. No program needs them, and `zaluxhoni` does
+//! not hand them on:
 //! each names, under `# Conditions`, the call that does the same without one.
 pub use crate::any_elements::set_any;
 pub use crate::finding::{named_at, unique_at};

@@ -15,7 +15,8 @@ use seg_types::{Handle, Refusal, Scalar, ScalarValue};
 use seg_vector::Place;
 
 impl Segment {
-    /// Makes an object of `count` times a value, from 1 to 1048576, and answers its handle. A key that is a kind is the value's.
+    /// Makes an object of `count` times a value, from 1 to 1048576, and answers its handle. A key that is a kind is the
+    /// value's.
     ///
     /// Example: `let handle = segment.construct(&name, 1, 640i64)?`.
     ///
@@ -27,8 +28,8 @@ impl Segment {
     ///
     /// # Errors
     ///
-    /// `ReadOnly` where the segment is open for reading, else `Exists` where an object has the key: nothing changes. Else `NoSpace`
-    /// where no gap is long enough: what the segment holds does not change, and the bytes of gaps may.
+    /// `ReadOnly` where the segment is open for reading, else `Exists` where an object has the key: nothing changes.
+    /// Else `NoSpace` where no gap is long enough: what the segment holds does not change, and the bytes of gaps may.
     pub fn construct<T: Scalar, D: Destination>(
         &mut self,
         key: &D,
@@ -54,9 +55,9 @@ impl Segment {
     ///
     /// # Errors
     ///
-    /// `OutOfRange` where `count` is 0 or above 1048576, else `ReadOnly` where the segment is open for reading, else `Exists` where
-    /// an object has the key: nothing changes. Else `NoSpace` where no gap is long enough: what the segment holds does not change,
-    /// and the bytes of gaps may.
+    /// `OutOfRange` where `count` is 0 or above 1048576, else `ReadOnly` where the segment is open for reading, else
+    /// `Exists` where an object has the key: nothing changes. Else `NoSpace` where no gap is long enough: what the
+    /// segment holds does not change, and the bytes of gaps may.
     pub fn construct_array<T: Scalar, D: Destination>(
         &mut self,
         key: &D,
@@ -118,7 +119,8 @@ impl Segment {
     }
 }
 
-/// Fills an object that was begun, and has its entry lead there. Where its elements have no gap, all that was taken for it is given back.
+/// Fills an object that was begun, and has its entry lead there. Where its elements have no gap, all that was taken for
+/// it is given back.
 #[inline(always)]
 pub(crate) fn build<F: Filling>(
     heap: &mut Heap,

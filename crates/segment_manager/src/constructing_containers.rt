@@ -11,7 +11,8 @@ use crate::segment::Segment;
 use seg_types::{Handle, Refusal, Scalar, ScalarKind};
 
 impl Segment {
-    /// Makes a vector of values with just so many places, and answers its handle. A key that is a kind is that of such vectors.
+    /// Makes a vector of values with just so many places, and answers its handle. A key that is a kind is that of such
+    /// vectors.
     ///
     /// Example: `segment.construct_vec::<i64, _>(&name, &[])?`.
     ///
@@ -21,8 +22,8 @@ impl Segment {
     ///
     /// # Errors
     ///
-    /// `ReadOnly` where the segment is open for reading, else `Exists` where an object has the key: nothing changes. Else `NoSpace`
-    /// where no gap is long enough: what the segment holds does not change, and the bytes of gaps may.
+    /// `ReadOnly` where the segment is open for reading, else `Exists` where an object has the key: nothing changes.
+    /// Else `NoSpace` where no gap is long enough: what the segment holds does not change, and the bytes of gaps may.
     pub fn construct_vec<T: Scalar, D: Destination>(
         &mut self,
         key: &D,
@@ -35,7 +36,8 @@ impl Segment {
         self.construct_under(key, &NewVector { values })
     }
 
-    /// Makes a string of bytes with just so many places, and answers its handle. A key that is a kind is that of strings.
+    /// Makes a string of bytes with just so many places, and answers its handle. A key that is a kind is that of
+    /// strings.
     ///
     /// Example: `segment.construct_string(&name, b"red")?`.
     ///
@@ -54,8 +56,8 @@ impl Segment {
         self.construct_under(key, &NewString { bytes })
     }
 
-    /// The handle of the vector of a key, with 1 for its count. Where no object has the key a vector of the values is made. One that
-    /// is found stays as it is. A key that is a kind is that of such vectors.
+    /// The handle of the vector of a key, with 1 for its count. Where no object has the key a vector of the values is
+    /// made. One that is found stays as it is. A key that is a kind is that of such vectors.
     ///
     /// Example: `segment.find_or_construct_vec(&name, &[1i64, 2])?`.
     ///
@@ -65,8 +67,9 @@ impl Segment {
     ///
     /// # Errors
     ///
-    /// `ReadOnly` where the segment is open for reading, else `WrongKind` where the object is of another kind: nothing changes. Else
-    /// `NoSpace` where none is there and no gap is long enough: what the segment holds does not change, and the bytes of gaps may.
+    /// `ReadOnly` where the segment is open for reading, else `WrongKind` where the object is of another kind: nothing
+    /// changes. Else `NoSpace` where none is there and no gap is long enough: what the segment holds does not change,
+    /// and the bytes of gaps may.
     pub fn find_or_construct_vec<T: Scalar, D: IndexDestination>(
         &mut self,
         key: &D,
@@ -80,8 +83,8 @@ impl Segment {
         self.find_or_construct_under(key, &NewVector { values })
     }
 
-    /// The handle of the string of a key, with 1 for its count. Where no object has the key a string of the bytes is made. One that
-    /// is found stays as it is. A key that is a kind is that of strings.
+    /// The handle of the string of a key, with 1 for its count. Where no object has the key a string of the bytes is
+    /// made. One that is found stays as it is. A key that is a kind is that of strings.
     ///
     /// Example: `segment.find_or_construct_string(&name, b"red")?`.
     ///
@@ -101,8 +104,8 @@ impl Segment {
         self.find_or_construct_under(key, &NewString { bytes })
     }
 
-    /// Makes a vector of texts with just so many places, each text in a block of its own, and answers its handle. A key that is a
-    /// kind is that of such vectors.
+    /// Makes a vector of texts with just so many places, each text in a block of its own, and answers its handle. A key
+    /// that is a kind is that of such vectors.
     ///
     /// Example: `segment.construct_texts(&name, &[b"apples", b"pears"])?`.
     ///
@@ -121,8 +124,8 @@ impl Segment {
         self.construct_under(key, &NewTexts { texts })
     }
 
-    /// The handle of the vector of strings of a key, with 1 for its count. Where no object has the key a vector of the texts is
-    /// made. One that is found stays as it is. A key that is a kind is that of such vectors.
+    /// The handle of the vector of strings of a key, with 1 for its count. Where no object has the key a vector of the
+    /// texts is made. One that is found stays as it is. A key that is a kind is that of such vectors.
     ///
     /// Example: `segment.find_or_construct_texts(&name, &[])?`.
     ///
@@ -180,8 +183,8 @@ impl Segment {
         self.construct_under(key, &NewMap { keys, values })
     }
 
-    /// The handle of the map of a key, with 1 for its count. Where no object has the key a map without pairs is made. One that is
-    /// found stays as it is. A key that is a kind is that of such maps.
+    /// The handle of the map of a key, with 1 for its count. Where no object has the key a map without pairs is made.
+    /// One that is found stays as it is. A key that is a kind is that of such maps.
     ///
     /// Example: `segment.find_or_construct_map::<i32, i64, _>(&name)?`.
     ///

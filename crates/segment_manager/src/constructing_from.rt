@@ -17,8 +17,8 @@ use best_fit::Heap;
 use seg_types::{Handle, Kind, NewKey, Refusal, Scalar, ScalarKind, ScalarValue};
 
 impl Segment {
-    /// Makes an object of the next `count` items, and answers its handle. Items are taken only where each block that is needed
-    /// was found.
+    /// Makes an object of the next `count` items, and answers its handle. Items are taken only where each block that is
+    /// needed was found.
     ///
     /// Example: `segment.construct_it(&name, 5, &mut primes)?`.
     ///
@@ -28,9 +28,9 @@ impl Segment {
     ///
     /// # Errors
     ///
-    /// `OutOfRange` where `count` is 0 or above 1048576, else `ReadOnly` where the segment is open for reading, else `Exists` where
-    /// an object has the key, and else `NoSpace` where no gap is long enough; then no item is taken. `OutOfRange` where fewer items
-    /// come. What the segment holds does not change.
+    /// `OutOfRange` where `count` is 0 or above 1048576, else `ReadOnly` where the segment is open for reading, else
+    /// `Exists` where an object has the key, and else `NoSpace` where no gap is long enough; then no item is taken.
+    /// `OutOfRange` where fewer items come. What the segment holds does not change.
     pub fn construct_it<T: Scalar, I: Iterator<Item = T>, D: Destination>(
         &mut self,
         key: &D,
@@ -84,8 +84,9 @@ impl Segment {
     ///
     /// # Errors
     ///
-    /// `ReadOnly` where the segment is open for reading, else `Exists` where an object has the key, and else `NoSpace` where no
-    /// gap is long enough; then no value is taken. `OutOfRange` where fewer values come. What the segment holds does not change.
+    /// `ReadOnly` where the segment is open for reading, else `Exists` where an object has the key, and else `NoSpace`
+    /// where no gap is long enough; then no value is taken. `OutOfRange` where fewer values come. What the segment
+    /// holds does not change.
     pub fn construct_values<I: Iterator<Item = ScalarValue>, D: Destination>(
         &mut self,
         key: &D,
@@ -125,8 +126,8 @@ fn begin_numbers(
     begin(heap, key, Kind::Scalar(kind), count, body)
 }
 
-/// Takes items until there are `count` of them, and writes each behind the one before it, from `at` on in the block of a handle.
-/// Answers whether so many came.
+/// Takes items until there are `count` of them, and writes each behind the one before it, from `at` on in the block of
+/// a handle. Answers whether so many came.
 fn fill_items<T: Scalar, I: Iterator<Item = T>>(
     heap: &mut Heap,
     handle: u64,

@@ -13,7 +13,8 @@ use seg_types::{Kind, Refusal};
 use seg_vector::Place;
 
 impl Segment {
-    /// Where the container stands of the object of a key: `NotFound` where there is none, `WrongKind` where it is of another kind.
+    /// Where the container stands of the object of a key: `NotFound` where there is none, `WrongKind` where it is of
+    /// another kind.
     pub(crate) fn find_container<O: Target>(&self, key: &O, kind: Kind) -> Result<Place, Refusal>
         requires { O.stands key.now self.now }
         ensures { Answers self.now (λ d. container_at d (O.key key.now) kind) result }

@@ -16,8 +16,9 @@ use offset_link::NULL;
 use raw_region::{RawRegion, Window};
 
 impl Segment {
-    /// A segment with nothing in it: the `size` bytes of the region from `base` on, which is a multiple of 16. All of these
-    /// bytes become 0 but for the header, the tags and the two null links of its gap; no other byte of the region changes.
+    /// A segment with nothing in it: the `size` bytes of the region from `base` on, which is a multiple of 16. All of
+    /// these bytes become 0 but for the header, the tags and the two null links of its gap; no other byte of the region
+    /// changes.
     ///
     /// Example: `let segment = Segment::create(RawRegion::new(alloc, 1024)?, 0, 1024, Mode::Write)?`.
     ///
@@ -27,8 +28,8 @@ impl Segment {
     ///
     /// # Errors
     ///
-    /// `BadSize` where the size is neither 144 nor a multiple of 16 from 176 to 1073741824, and else `RegionTooSmall` where the
-    /// region ends before base plus size. The region comes back as it was.
+    /// `BadSize` where the size is neither 144 nor a multiple of 16 from 176 to 1073741824, and else `RegionTooSmall`
+    /// where the region ends before base plus size. The region comes back as it was.
     pub fn create(
         region: RawRegion,
         base: u64,
@@ -55,9 +56,9 @@ impl Segment {
         Ok(Segment { heap, mode })
     }
 
-    /// The same segment in another region, from `base` on, which is a multiple of 16: its bytes, its directory and its mode are
-    /// those from before, and handles are too. The region that it leaves comes with it, as it was. No byte of the new region
-    /// outside the segment changes.
+    /// The same segment in another region, from `base` on, which is a multiple of 16: its bytes, its directory and its
+    /// mode are those from before, and handles are too. The region that it leaves comes with it, as it was. No byte of
+    /// the new region outside the segment changes.
     ///
     /// Example: `let (moved, left) = segment.relocate(RawRegion::new(alloc, 4096)?, 512)?`.
     ///
@@ -67,8 +68,8 @@ impl Segment {
     ///
     /// # Errors
     ///
-    /// `RelocateRefused` where the region ends before base plus the segment's size. The segment and the region come back as
-    /// they were.
+    /// `RelocateRefused` where the region ends before base plus the segment's size. The segment and the region come
+    /// back as they were.
     pub fn relocate(
         self,
         region: RawRegion,
@@ -92,8 +93,8 @@ impl Segment {
     }
 }
 
-/// Writes the header of a segment with nothing in it, whose bytes from the index of names on are 0. The word in front of it
-/// is the heap's.
+/// Writes the header of a segment with nothing in it, whose bytes from the index of names on are 0. The word in front
+/// of it is the heap's.
 fn write_header(heap: &mut Heap, size: u64)
     requires { AreZero (bytes_of heap.old.bytes) named_at header_len }
     ensures live { LaysOut current heap.new.bytes (live_of heap.old.bytes) }

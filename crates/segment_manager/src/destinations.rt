@@ -1,5 +1,5 @@
-//! Under which keys objects are made. A name, `UniqueInstance` and `AnonymousInstance` suit objects of each kind; a key that
-//! says a kind suits those of this kind alone.
+//! Under which keys objects are made. A name, `UniqueInstance` and `AnonymousInstance` suit objects of each kind; a key
+//! that says a kind suits those of this kind alone.
 ghost use Rattle.std.specs.Prelude.{◌≡◌, ⊤};
 ghost use Rattle.seg_types.specs.{declared.kinds.Kind.Kind as AnyKind, Keys.index_key_seen, Keys.name_seen};
 ghost use Rattle.seg_types.specs.{Keys.new_key_seen, Names.ByKind, Names.ByName, Names.Key as AnyKey, Names.NoKey};

@@ -71,7 +71,8 @@ impl Segment {
     ///
     /// # Errors
     ///
-    /// `ReadOnly` where the segment is open for reading, and else `NotFound` where no object has the handle. Nothing changes.
+    /// `ReadOnly` where the segment is open for reading, and else `NotFound` where no object has the handle. Nothing
+    /// changes.
     pub fn destroy_ptr(&mut self, handle: Handle) -> Result<(), Refusal>
         ensures step { IsStep self.old self.new (DestroyPtr handle) (gone_answer result) }
         ensures refused { OnErr result (self.new ≡ self.old) }

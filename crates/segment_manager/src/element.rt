@@ -1,4 +1,5 @@
-//! The elements of an object of scalars: each is the bytes that spell it, one after another behind the head and the name.
+//! The elements of an object of scalars: each is the bytes that spell it, one after another behind the head and the
+//! name.
 ghost use Rattle.std.specs.Prelude.{◌≡◌, ◌+◌, ◌*◌, IsTrue, length};
 ghost use Rattle.raw_region.specs.{Format.current, Memory.Has, Memory.bytes_of, Memory.read};
 ghost use Rattle.best_fit.specs.Heap.{IsChanged, IsHeap, has_room, live_of};
@@ -34,8 +35,8 @@ pub(crate) fn element(heap: &Heap, handle: u64, at: u64, size: u64) -> &[u8]
     &payload[at as usize..(at + size) as usize]
 }
 
-/// Where the element of an index stands in the block of an object of scalars, from the handle on: `WrongKind` where it is of another
-/// kind, `OutOfRange` where it has no such element.
+/// Where the element of an index stands in the block of an object of scalars, from the handle on: `WrongKind` where it
+/// is of another kind, `OutOfRange` where it has no such element.
 pub(crate) fn place_of(
     heap: &Heap,
     handle: u64,

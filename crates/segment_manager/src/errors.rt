@@ -1,5 +1,5 @@
-//! Why no segment is made or moved. What was handed in comes back with a refusal, and is let go where a refusal is passed
-//! on by `?` as an error of another type.
+//! Why no segment is made or moved. What was handed in comes back with a refusal, and is let go where a refusal is
+//! passed on by `?` as an error of another type.
 ghost use Rattle.std.specs.Prelude.{◌≡◌};
 
 use crate::segment::Segment;
@@ -60,8 +60,8 @@ impl From<CreateRefused> for CreateError {
     }
 }
 
-/// A region is too small for a segment that was to move into it: it ends before base plus the segment's size. Both come back as
-/// they were.
+/// A region is too small for a segment that was to move into it: it ends before base plus the segment's size. Both come
+/// back as they were.
 #[derive(Drop, Error)]
 #[error("region too small")]
 pub struct RelocateRefused {

@@ -24,8 +24,8 @@ pub(crate) const MOST: u32 = 1_048_576;
 /// The bytes of a container in its object: a link to its storage, its length and its capacity.
 const CONTAINER_LEN: u64 = 24;
 
-/// What is known of an object before a block is asked for: its kind, how many elements it has, and the bytes of its value in its
-/// own block.
+/// What is known of an object before a block is asked for: its kind, how many elements it has, and the bytes of its
+/// value in its own block.
 #[derive(Drop)]
 pub(crate) struct Shape {
     pub(crate) kind: Kind,

@@ -21,9 +21,9 @@ use seg_index::{Index, Key as Entry, Lookup};
 use seg_types::{Handle, IndexKey, Kind, Refusal, Scalar, ScalarValue};
 
 impl Segment {
-    /// The handle of the scalars of a key, and how many they are. Where no object has the key one is made, of `count` times a
-    /// value, from 1 to 1048576. An object that is found stays as it is, however many scalars it has. A key that is a kind is the
-    /// value's.
+    /// The handle of the scalars of a key, and how many they are. Where no object has the key one is made, of `count`
+    /// times a value, from 1 to 1048576. An object that is found stays as it is, however many scalars it has. A key
+    /// that is a kind is the value's.
     ///
     /// Example: `let (handle, count) = segment.find_or_construct(&name, 1, 640i64)?`.
     ///
@@ -35,8 +35,9 @@ impl Segment {
     ///
     /// # Errors
     ///
-    /// `ReadOnly` where the segment is open for reading, else `WrongKind` where the object is of another kind: nothing changes. Else
-    /// `NoSpace` where none is there and no gap is long enough: what the segment holds does not change, and the bytes of gaps may.
+    /// `ReadOnly` where the segment is open for reading, else `WrongKind` where the object is of another kind: nothing
+    /// changes. Else `NoSpace` where none is there and no gap is long enough: what the segment holds does not change,
+    /// and the bytes of gaps may.
     pub fn find_or_construct<T: Scalar, D: IndexDestination>(
         &mut self,
         key: &D,
@@ -53,8 +54,8 @@ impl Segment {
         self.find_or_construct_under(key, &NewNumbers { count, value })
     }
 
-    /// The handle of the scalars of a key, and how many they are. Where no object has the key an array is made, of `count` times a
-    /// value. An object that is found stays as it is, however many scalars it has.
+    /// The handle of the scalars of a key, and how many they are. Where no object has the key an array is made, of
+    /// `count` times a value. An object that is found stays as it is, however many scalars it has.
     ///
     /// Example: `let (handle, count) = segment.find_or_construct_array(&name, count, 0u8)?`.
     ///
@@ -64,9 +65,9 @@ impl Segment {
     ///
     /// # Errors
     ///
-    /// `OutOfRange` where `count` is 0 or above 1048576, else `ReadOnly` where the segment is open for reading, else `WrongKind`
-    /// where the object is of another kind: nothing changes. Else `NoSpace` where none is there and no gap is long enough: what the
-    /// segment holds does not change, and the bytes of gaps may.
+    /// `OutOfRange` where `count` is 0 or above 1048576, else `ReadOnly` where the segment is open for reading, else
+    /// `WrongKind` where the object is of another kind: nothing changes. Else `NoSpace` where none is there and no gap
+    /// is long enough: what the segment holds does not change, and the bytes of gaps may.
     pub fn find_or_construct_array<T: Scalar, D: IndexDestination>(
         &mut self,
         key: &D,
@@ -184,7 +185,8 @@ pub(crate) fn counted(made: Result<Handle, Refusal>, count: u32) -> Result<(Hand
     Ok((handle, count))
 }
 
-/// The handle of an object and how many elements it has (1 where it is a container): `WrongKind` where it is of another kind.
+/// The handle of an object and how many elements it has (1 where it is a container): `WrongKind` where it is of another
+/// kind.
 pub(crate) fn found_of(heap: &Heap, handle: u64, kind: Kind) -> Result<(Handle, u32), Refusal>
     requires { HasObject heap.now.bytes handle }
     ensures { (o : Object) → StandsAt heap.now.bytes handle o → result ≡ pair_of_kind o kind }

@@ -11,8 +11,8 @@ use crate::targets::{Object, locate};
 use seg_types::{Handle, Kind, Refusal, Scalar, ScalarKind};
 
 impl Segment {
-    /// The handle of the scalars of a key, and how many they are. Where no object has the key one is made of the next `count`
-    /// items. An object that is found stays as it is, however many scalars it has, and no item is taken then.
+    /// The handle of the scalars of a key, and how many they are. Where no object has the key one is made of the next
+    /// `count` items. An object that is found stays as it is, however many scalars it has, and no item is taken then.
     ///
     /// Example: `let (handle, count) = segment.find_or_construct_it(&name, 5, &mut primes)?`.
     ///
@@ -22,9 +22,9 @@ impl Segment {
     ///
     /// # Errors
     ///
-    /// `OutOfRange` where `count` is 0 or above 1048576, else `ReadOnly` where the segment is open for reading, else `WrongKind`
-    /// where the object is of another kind, and else `NoSpace` where none is there and no gap is long enough; then no item is
-    /// taken. `OutOfRange` where fewer items come. What the segment holds does not change.
+    /// `OutOfRange` where `count` is 0 or above 1048576, else `ReadOnly` where the segment is open for reading, else
+    /// `WrongKind` where the object is of another kind, and else `NoSpace` where none is there and no gap is long
+    /// enough; then no item is taken. `OutOfRange` where fewer items come. What the segment holds does not change.
     pub fn find_or_construct_it<T: Scalar, I: Iterator<Item = T>, D: IndexDestination>(
         &mut self,
         key: &D,

@@ -9,7 +9,8 @@ use crate::telling::Instance;
 use seg_index::Index;
 use std::marker::Model;
 
-/// The objects of one of the two indexes in its order, one after another: what each says of itself. Nothing is looked up.
+/// The objects of one of the two indexes in its order, one after another: what each says of itself. Nothing is looked
+/// up.
 ///
 /// Contracts see the segment, the index, and how many objects came.
 #[derive(Drop)]

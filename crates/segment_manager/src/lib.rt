@@ -3,13 +3,13 @@
 //! What a segment holds is a directory, a finite map from handles to objects with their values and blocks. Each call
 //! is one step of the directory machine: from the directory that the bytes denote to the one that they denote then.
 //!
-//! No method of a [`Segment`] has a condition on what the segment holds: they answer or refuse. Those that have one say so under
-//! `# Conditions`, and how a caller meets it. There are two sorts:
+//! No method of a [`Segment`] has a condition on what the segment holds: they answer or refuse. Those that have one say
+//! so under `# Conditions`, and how a caller meets it. There are two sorts:
 //! - a number is in range: the count of `construct` and `find_or_construct`, the base of `create` and `relocate`;
 //! - a key suits the kind of what is made ([`Destination`]).
 //!
-//! The functions of [`conditioned`] want to be told what the segment holds, and so does every call that is given an [`Object`],
-//! which [`locate`] found: it is still there ([`Target`]). No program needs these.
+//! The functions of [`conditioned`] want to be told what the segment holds, and so does every call that is given an
+//! [`Object`], which [`locate`] found: it is still there ([`Target`]). No program needs these.
 #![tactic(auto)]
 
 mod accessing;

@@ -72,7 +72,8 @@ impl Segment {
         self.pair_past(key, after, true)
     }
 
-    /// The pair with the least key that is above a bound, or not below it. It is inlined, so which of the two costs no test.
+    /// The pair with the least key that is above a bound, or not below it. It is inlined, so which of the two costs no
+    /// test.
     #[inline(always)]
     pub(crate) fn pair_past<K: Scalar, V: Scalar, O: Target>(
         &self,
@@ -129,8 +130,8 @@ impl Segment {
         Ok(SegMap::<K, V>::at(place).last_up_to(&self.heap, to, &mut Steps::new()))
     }
 
-    /// The pair with the greatest key below `before`, of the map of a key, a map of the types. So all pairs are read by falling
-    /// keys from `map_last` on, each in a walk from the root of the tree.
+    /// The pair with the greatest key below `before`, of the map of a key, a map of the types. So all pairs are read by
+    /// falling keys from `map_last` on, each in a walk from the root of the tree.
     ///
     /// Example: `let previous: Option<(i32, i64)> = segment.map_previous_before(&name, 2)?`.
     ///
@@ -149,15 +150,16 @@ impl Segment {
         Ok(SegMap::<K, V>::at(place).previous_before(&self.heap, before, &mut Steps::new()))
     }
 
-    /// Puts the value of a key into the map of a key, a map of the types, and answers whether the key is new. All other pairs
-    /// keep their blocks, and so does this one where the key is not new.
+    /// Puts the value of a key into the map of a key, a map of the types, and answers whether the key is new. All other
+    /// pairs keep their blocks, and so does this one where the key is not new.
     ///
     /// Example: `let is_new = segment.map_put(&name, 2i32, 1999i64)?`.
     ///
     /// # Errors
     ///
-    /// `ReadOnly` where the segment is open for reading, and else `NotFound` where no object has the key, `WrongKind` where it
-    /// is of another kind, `NoSpace` where the key is new and no gap is long enough for its block. Nothing changes.
+    /// `ReadOnly` where the segment is open for reading, and else `NotFound` where no object has the key, `WrongKind`
+    /// where it is of another kind, `NoSpace` where the key is new and no gap is long enough for its block. Nothing
+    /// changes.
     pub fn map_put<K: Scalar, V: Scalar, O: Target>(
         &mut self,
         key: &O,
@@ -181,15 +183,15 @@ impl Segment {
         }
     }
 
-    /// Erases a key from the map of a key, a map of the types, and answers whether it was there. Its block is given back; all
-    /// other pairs keep theirs.
+    /// Erases a key from the map of a key, a map of the types, and answers whether it was there. Its block is given
+    /// back; all other pairs keep theirs.
     ///
     /// Example: `let was_there = segment.map_erase::<i32, i64, _>(&name, 2)?`.
     ///
     /// # Errors
     ///
-    /// `ReadOnly` where the segment is open for reading, and else `NotFound` where no object has the key, `WrongKind` where it
-    /// is of another kind. Nothing changes.
+    /// `ReadOnly` where the segment is open for reading, and else `NotFound` where no object has the key, `WrongKind`
+    /// where it is of another kind. Nothing changes.
     pub fn map_erase<K: Scalar, V: Scalar, O: Target>(
         &mut self,
         key: &O,

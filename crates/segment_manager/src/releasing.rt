@@ -10,8 +10,8 @@ use seg_map::{Place as MapPlace, SegMap};
 use seg_types::{Kind, Scalar, ScalarKind};
 use seg_vector::{Place, SegTexts, give_back};
 
-/// Gives back the blocks that the value of the object of a handle has. A container has nothing in it and no place then, and
-/// numbers stay as they are.
+/// Gives back the blocks that the value of the object of a handle has. A container has nothing in it and no place then,
+/// and numbers stay as they are.
 pub(crate) fn release_contents(heap: &mut Heap, handle: u64)
     requires { HoldsObject heap.old.bytes handle }
     ensures { Empties heap.old heap.new handle }

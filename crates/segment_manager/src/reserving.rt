@@ -11,15 +11,15 @@ use seg_index::Index;
 use seg_types::Refusal;
 
 impl Segment {
-    /// Gives the index of names places for `n` objects, where it has less: in a new block of exactly so many, and the old one is
-    /// given back.
+    /// Gives the index of names places for `n` objects, where it has less: in a new block of exactly so many, and the
+    /// old one is given back.
     ///
     /// Example: `segment.reserve_named(1000)?`.
     ///
     /// # Errors
     ///
-    /// `ReadOnly` where the segment is open for reading: nothing changes. Else `NoSpace` where no gap is long enough: what the segment
-    /// holds does not change.
+    /// `ReadOnly` where the segment is open for reading: nothing changes. Else `NoSpace` where no gap is long enough:
+    /// what the segment holds does not change.
     pub fn reserve_named(&mut self, n: u64) -> Result<(), Refusal>
         ensures step { IsStep self.old self.new (ReserveNamed n) (done_answer result) }
         ensures refused { KeepsRefused self.old self.new result }
@@ -34,8 +34,8 @@ impl Segment {
     ///
     /// # Errors
     ///
-    /// `ReadOnly` where the segment is open for reading: nothing changes. Else `NoSpace` where no gap is long enough: what the segment
-    /// holds does not change.
+    /// `ReadOnly` where the segment is open for reading: nothing changes. Else `NoSpace` where no gap is long enough:
+    /// what the segment holds does not change.
     pub fn reserve_unique(&mut self, n: u64) -> Result<(), Refusal>
         ensures step { IsStep self.old self.new (ReserveUnique n) (done_answer result) }
         ensures refused { KeepsRefused self.old self.new result }
@@ -59,8 +59,8 @@ impl Segment {
         }
     }
 
-    /// Makes the capacity of each index the number of its entries, that of names first. An index without entries gives its
-    /// block back, and else the block is shortened where it stands.
+    /// Makes the capacity of each index the number of its entries, that of names first. An index without entries gives
+    /// its block back, and else the block is shortened where it stands.
     ///
     /// Example: `segment.shrink_indexes()?`.
     ///

@@ -12,8 +12,8 @@ use std::marker::Model;
 
 /// Typed objects under names in one run of bytes, with how it is open.
 ///
-/// Contracts speak of its bytes, which denote one directory, and each call is a step of that directory. An object goes by its
-/// handle: the offset in bytes of its payload from the front of the segment.
+/// Contracts speak of its bytes, which denote one directory, and each call is a step of that directory. An object goes
+/// by its handle: the offset in bytes of its payload from the front of the segment.
 #[derive(Drop)]
 pub struct Segment {
     pub(crate) heap: Heap,

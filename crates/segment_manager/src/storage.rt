@@ -1,5 +1,5 @@
-//! The places of vectors and strings of objects, vectors of strings among them: reserved, given back and left empty; and how many
-//! elements containers have.
+//! The places of vectors and strings of objects, vectors of strings among them: reserved, given back and left empty;
+//! and how many elements containers have.
 ghost use Rattle.std.specs.Prelude.{◌≡◌, OnErr, true};
 ghost use Rattle.seg_types.specs.declared.kinds.Kind.TheVariants.{Map as MapOf, Vector as VectorOf, Texts as TextsKind};
 ghost use Rattle.seg_types.specs.Commands.{Clear, Reserve, Shrink};
@@ -48,8 +48,8 @@ impl Segment {
     ///
     /// # Errors
     ///
-    /// `ReadOnly` where the segment is open for reading, and else `NotFound` where no object has the key, `WrongKind` where it
-    /// has no storage, `NoSpace` where its storage cannot be regrown. Nothing changes.
+    /// `ReadOnly` where the segment is open for reading, and else `NotFound` where no object has the key, `WrongKind`
+    /// where it has no storage, `NoSpace` where its storage cannot be regrown. Nothing changes.
     pub fn reserve<O: Target>(&mut self, key: &O, n: u64) -> Result<(), Refusal>
         requires { O.stands key.now self.old }
         ensures step { IsStep self.old self.new (Reserve (O.key key.now) n) (done_answer result) }
@@ -65,8 +65,8 @@ impl Segment {
     ///
     /// # Errors
     ///
-    /// `ReadOnly` where the segment is open for reading, and else `NotFound` where no object has the key, `WrongKind` where it
-    /// has no storage. Nothing changes.
+    /// `ReadOnly` where the segment is open for reading, and else `NotFound` where no object has the key, `WrongKind`
+    /// where it has no storage. Nothing changes.
     pub fn shrink<O: Target>(&mut self, key: &O) -> Result<(), Refusal>
         requires { O.stands key.now self.old }
         ensures step { IsStep self.old self.new (Shrink (O.key key.now)) (done_answer result) }
@@ -81,8 +81,8 @@ impl Segment {
     ///
     /// # Errors
     ///
-    /// `ReadOnly` where the segment is open for reading, and else `NotFound` where no object has the key, `WrongKind` where it
-    /// has no storage. Nothing changes.
+    /// `ReadOnly` where the segment is open for reading, and else `NotFound` where no object has the key, `WrongKind`
+    /// where it has no storage. Nothing changes.
     pub fn clear<O: Target>(&mut self, key: &O) -> Result<(), Refusal>
         requires { O.stands key.now self.old }
         ensures step { IsStep self.old self.new (Clear (O.key key.now)) (done_answer result) }

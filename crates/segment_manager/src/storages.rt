@@ -1,5 +1,6 @@
-//! The storage of containers of objects: how many elements and places there are; reserved, given back and left empty. The words of
-//! vectors, strings and maps stand at the same places, and what has elements in its storage differs in their length alone.
+//! The storage of containers of objects: how many elements and places there are; reserved, given back and left empty.
+//! The words of vectors, strings and maps stand at the same places, and what has elements in its storage differs in
+//! their length alone.
 ghost use Rattle.std.specs.Prelude.{◌≡◌, true};
 ghost use Rattle.seg_vector.specs.TextsCalls.{IsSomeTexts};
 ghost use Rattle.segment_manager.specs.{Contents.has_sizes, Contents.has_storage};

@@ -23,8 +23,8 @@ pub struct Object {
 ///
 /// # Conditions
 ///
-/// A key and a name have none. An object is one that was located in the segment and is still there: no call on elements takes
-/// it away, `destroy` and `destroy_ptr` do. The views of `segment_views` keep it for their caller.
+/// A key and a name have none. An object is one that was located in the segment and is still there: no call on elements
+/// takes it away, `destroy` and `destroy_ptr` do. The views of `segment_views` keep it for their caller.
 pub trait Target {
     // The key by which commands name the object.
     ghost key: { Self → AnyKey };

@@ -66,7 +66,8 @@ impl Segment {
         read_instance(&self.heap, handle)
     }
 
-    /// Whether an object of the segment has the handle. It is looked for among all blocks, from the nearest way-point on.
+    /// Whether an object of the segment has the handle. It is looked for among all blocks, from the nearest way-point
+    /// on.
     ///
     /// Example: `if segment.belongs(handle)`.
     pub fn belongs(&self, handle: Handle) -> bool
@@ -185,8 +186,8 @@ pub fn named_instance(segment: &Segment, i: u64) -> Instance<'_>
     segment.entered(Index::Named, i)
 }
 
-/// What the unique object says of itself whose kind has `i` others before it, in the order of their codes. There are more
-/// than `i` of them.
+/// What the unique object says of itself whose kind has `i` others before it, in the order of their codes. There are
+/// more than `i` of them.
 ///
 /// Example: `let said = unique_instance(&segment, 0)`.
 ///

@@ -17,7 +17,8 @@ impl Segment {
     ///
     /// # Errors
     ///
-    /// `NotFound` where no object has the key, `WrongKind` where it is of another kind, `OutOfRange` where it has no text there.
+    /// `NotFound` where no object has the key, `WrongKind` where it is of another kind, `OutOfRange` where it has no
+    /// text there.
     pub fn texts_get<O: Target>(&self, key: &O, index: u64) -> Result<&[u8], Refusal>
         requires { O.stands key.now self.now }
         ensures { IsReplyOfKind self.now (O.key key.now) TextsKind (Get (O.key key.now) index) (answer_of (λ text. TextElement text.now) result) }
@@ -26,14 +27,16 @@ impl Segment {
         SegTexts { place }.get(&self.heap, index)
     }
 
-    /// Makes bytes the text at `index` in the vector of strings of a key. Its block is asked for while the old text has its own.
+    /// Makes bytes the text at `index` in the vector of strings of a key. Its block is asked for while the old text has
+    /// its own.
     ///
     /// Example: `segment.texts_set(&name, 0, b"plums")?`.
     ///
     /// # Errors
     ///
-    /// `ReadOnly` where the segment is open for reading, and else `NotFound` where no object has the key, `WrongKind` where it
-    /// is of another kind, `OutOfRange` where it has no text there, `NoSpace` where the text has no fit. Nothing changes.
+    /// `ReadOnly` where the segment is open for reading, and else `NotFound` where no object has the key, `WrongKind`
+    /// where it is of another kind, `OutOfRange` where it has no text there, `NoSpace` where the text has no fit.
+    /// Nothing changes.
     pub fn texts_set<O: Target>(&mut self, key: &O, index: u64, text: &[u8]) -> Result<(), Refusal>
         requires { O.stands key.now self.old }
         ensures step { IsStepOfKind self.old self.new (O.key key.now) TextsKind (Set (O.key key.now) index (Quoted text.now)) (done_answer result) }
@@ -43,16 +46,16 @@ impl Segment {
         SegTexts { place }.set(&mut self.heap, index, text)
     }
 
-    /// Puts bytes behind the last text of the vector of strings of a key. A full vector gets twice its places first, and at
-    /// least 4.
+    /// Puts bytes behind the last text of the vector of strings of a key. A full vector gets twice its places first,
+    /// and at least 4.
     ///
     /// Example: `segment.texts_push(&name, b"plums")?`.
     ///
     /// # Errors
     ///
-    /// `ReadOnly` where the segment is open for reading, and else `NotFound` where no object has the key, `WrongKind` where it
-    /// is of another kind, and nothing changes; `NoSpace` where it is full and its array cannot be regrown, or the text has no
-    /// fit: all objects and blocks are as they were, but bytes of gaps may differ.
+    /// `ReadOnly` where the segment is open for reading, and else `NotFound` where no object has the key, `WrongKind`
+    /// where it is of another kind, and nothing changes; `NoSpace` where it is full and its array cannot be regrown, or
+    /// the text has no fit: all objects and blocks are as they were, but bytes of gaps may differ.
     pub fn texts_push<O: Target>(&mut self, key: &O, text: &[u8]) -> Result<(), Refusal>
         requires { O.stands key.now self.old }
         ensures step { IsStepOfKind self.old self.new (O.key key.now) TextsKind (Push (O.key key.now) (Quoted text.now)) (done_answer result) }
@@ -62,16 +65,16 @@ impl Segment {
         SegTexts { place }.push(&mut self.heap, text)
     }
 
-    /// Makes texts those of the vector of strings of a key. One or more get a new array of just so many places and then their
-    /// blocks, while the old ones are in use; none leave the array that there is.
+    /// Makes texts those of the vector of strings of a key. One or more get a new array of just so many places and then
+    /// their blocks, while the old ones are in use; none leave the array that there is.
     ///
     /// Example: `segment.texts_assign(&name, &[b"apples", b"pears"])?`.
     ///
     /// # Errors
     ///
-    /// `ReadOnly` where the segment is open for reading, and else `NotFound` where no object has the key, `WrongKind` where it
-    /// is of another kind, and nothing changes; `NoSpace` where the array or a text has no fit: all objects and blocks are as
-    /// they were, but bytes of gaps may differ.
+    /// `ReadOnly` where the segment is open for reading, and else `NotFound` where no object has the key, `WrongKind`
+    /// where it is of another kind, and nothing changes; `NoSpace` where the array or a text has no fit: all objects
+    /// and blocks are as they were, but bytes of gaps may differ.
     pub fn texts_assign<O: Target>(&mut self, key: &O, texts: &[&[u8]]) -> Result<(), Refusal>
         requires { O.stands key.now self.old }
         ensures step { IsStepOfKind self.old self.new (O.key key.now) TextsKind (Assign (O.key key.now) (map Quoted (map (λ text. text.now) texts.now))) (done_answer result) }
@@ -88,8 +91,8 @@ impl Segment {
     ///
     /// # Errors
     ///
-    /// `ReadOnly` where the segment is open for reading, and else `NotFound` where no object has the key, `WrongKind` where it
-    /// is of another kind, `OutOfRange` where it is empty. Nothing changes.
+    /// `ReadOnly` where the segment is open for reading, and else `NotFound` where no object has the key, `WrongKind`
+    /// where it is of another kind, `OutOfRange` where it is empty. Nothing changes.
     pub fn texts_pop<O: Target>(&mut self, key: &O) -> Result<(), Refusal>
         requires { O.stands key.now self.old }
         ensures step { LeadsOnOfKind self.old self.new (O.key key.now) TextsKind (Pop (O.key key.now)) (refusal_in result) }
@@ -99,16 +102,17 @@ impl Segment {
         SegTexts { place }.pop(&mut self.heap)
     }
 
-    /// Puts bytes where `index` other texts stand before them in the vector of strings of a key. Those from there on move up. A
-    /// full vector gets twice its places first, and at least 4.
+    /// Puts bytes where `index` other texts stand before them in the vector of strings of a key. Those from there on
+    /// move up. A full vector gets twice its places first, and at least 4.
     ///
     /// Example: `segment.texts_insert(&name, 0, b"plums")?`.
     ///
     /// # Errors
     ///
-    /// `ReadOnly` where the segment is open for reading, and else `NotFound` where no object has the key, `WrongKind` where it
-    /// is of another kind, `OutOfRange` where there are not so many others, and nothing changes; `NoSpace` where it is full and
-    /// its array cannot be regrown, or the text has no fit: all objects and blocks are as they were, but bytes of gaps may differ.
+    /// `ReadOnly` where the segment is open for reading, and else `NotFound` where no object has the key, `WrongKind`
+    /// where it is of another kind, `OutOfRange` where there are not so many others, and nothing changes; `NoSpace`
+    /// where it is full and its array cannot be regrown, or the text has no fit: all objects and blocks are as they
+    /// were, but bytes of gaps may differ.
     pub fn texts_insert<O: Target>(
         &mut self,
         key: &O,
@@ -123,15 +127,15 @@ impl Segment {
         SegTexts { place }.insert(&mut self.heap, index, text)
     }
 
-    /// Leaves out the text at `index` in the vector of strings of a key, and gives back its block. Those behind it move down, and
-    /// the places stay.
+    /// Leaves out the text at `index` in the vector of strings of a key, and gives back its block. Those behind it move
+    /// down, and the places stay.
     ///
     /// Example: `segment.texts_erase(&name, 0)?`.
     ///
     /// # Errors
     ///
-    /// `ReadOnly` where the segment is open for reading, and else `NotFound` where no object has the key, `WrongKind` where it
-    /// is of another kind, `OutOfRange` where it has no text there. Nothing changes.
+    /// `ReadOnly` where the segment is open for reading, and else `NotFound` where no object has the key, `WrongKind`
+    /// where it is of another kind, `OutOfRange` where it has no text there. Nothing changes.
     pub fn texts_erase<O: Target>(&mut self, key: &O, index: u64) -> Result<(), Refusal>
         requires { O.stands key.now self.old }
         ensures step { IsStepOfKind self.old self.new (O.key key.now) TextsKind (Erase (O.key key.now) index) (done_answer result) }

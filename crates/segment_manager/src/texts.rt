@@ -33,8 +33,8 @@ impl Segment {
     ///
     /// # Errors
     ///
-    /// `ReadOnly` where the segment is open for reading, and else `NotFound` where no object has the key, `WrongKind` where it
-    /// is no string, `OutOfRange` where it has no byte there. Nothing changes.
+    /// `ReadOnly` where the segment is open for reading, and else `NotFound` where no object has the key, `WrongKind`
+    /// where it is no string, `OutOfRange` where it has no byte there. Nothing changes.
     pub fn string_set<O: Target>(&mut self, key: &O, index: u64, byte: u8) -> Result<(), Refusal>
         requires { O.stands key.now self.old }
         ensures step { IsStepOfKind self.old self.new (O.key key.now) TextKind (Set (O.key key.now) index (literal_of ByteKind (pos byte))) (done_answer result) }
@@ -44,15 +44,15 @@ impl Segment {
         SegString { place }.set(&mut self.heap, index, byte)
     }
 
-    /// Puts bytes behind those of the string of a key. Where they do not fit, it gets twice its places first, at least 16, and
-    /// as many as are needed.
+    /// Puts bytes behind those of the string of a key. Where they do not fit, it gets twice its places first, at least
+    /// 16, and as many as are needed.
     ///
     /// Example: `segment.string_append(&name, b"-black")?`.
     ///
     /// # Errors
     ///
-    /// `ReadOnly` where the segment is open for reading, and else `NotFound` where no object has the key, `WrongKind` where it
-    /// is no string, `NoSpace` where its storage cannot be regrown. Nothing changes.
+    /// `ReadOnly` where the segment is open for reading, and else `NotFound` where no object has the key, `WrongKind`
+    /// where it is no string, `NoSpace` where its storage cannot be regrown. Nothing changes.
     pub fn string_append<O: Target>(&mut self, key: &O, bytes: &[u8]) -> Result<(), Refusal>
         requires { O.stands key.now self.old }
         ensures step { IsStepOfKind self.old self.new (O.key key.now) TextKind (Append (O.key key.now) bytes.now) (done_answer result) }
@@ -68,8 +68,8 @@ impl Segment {
     ///
     /// # Errors
     ///
-    /// `ReadOnly` where the segment is open for reading, and else `NotFound` where no object has the key, `WrongKind` where it
-    /// is no string, `NoSpace` where its storage cannot be regrown. Nothing changes.
+    /// `ReadOnly` where the segment is open for reading, and else `NotFound` where no object has the key, `WrongKind`
+    /// where it is no string, `NoSpace` where its storage cannot be regrown. Nothing changes.
     pub fn string_assign<O: Target>(&mut self, key: &O, bytes: &[u8]) -> Result<(), Refusal>
         requires { O.stands key.now self.old }
         ensures step { IsStepOfKind self.old self.new (O.key key.now) TextKind (Assign (O.key key.now) (Quoted bytes.now ∷ [])) (done_answer result) }

@@ -24,35 +24,36 @@ pub fn reads_change_nothing()
     ensures of_kind { ReadsOfKindChangeNothing }
 {}
 
-/// A step leads on, refused for the reason that it answers, and what is refused leaves the directory: so it is with a call that
-/// answers less than its command prints.
+/// A step leads on, refused for the reason that it answers, and what is refused leaves the directory: so it is with a
+/// call that answers less than its command prints.
 pub fn steps_lead_on()
     ensures leads { StepsLeadOn }
     ensures popped { PoppedTextsLeadOn }
     ensures refused { RefusedCallsStay }
 {}
 
-/// A command on an object is the same under each key that means it, and the handle of an object that was located is such a key.
+/// A command on an object is the same under each key that means it, and the handle of an object that was located is
+/// such a key.
 pub fn keys_mean_objects()
     ensures any { KeysMeanObjects }
     ensures of_kind { KeysOfKindMeanObjects }
     ensures handle { HandlesMeanObjects }
 {}
 
-/// A command on the elements of an object keeps each object, as one does that only reads: so an object that was located goes on
-/// standing for the object of its handle.
+/// A command on the elements of an object keeps each object, as one does that only reads: so an object that was located
+/// goes on standing for the object of its handle.
 pub fn objects_stay()
     ensures { ObjectsStay }
 {}
 
-/// Each index follows its objects: one that is put in or taken out is one entry more or less, and another value changes no
-/// entry.
+/// Each index follows its objects: one that is put in or taken out is one entry more or less, and another value changes
+/// no entry.
 pub fn indexes_follow_objects()
     ensures { IndexesFollowObjects }
 {}
 
-/// Several texts that ask for blocks get them placed one after another, each text that is not empty one; where one has no
-/// fit, there is no space for all.
+/// Several texts that ask for blocks get them placed one after another, each text that is not empty one; where one has
+/// no fit, there is no space for all.
 pub fn texts_are_placed()
     ensures { TextsArePlaced }
 {}
@@ -68,8 +69,8 @@ pub fn counted_are_below()
     ensures { CountedAreBelow }
 {}
 
-/// Each constant of `layout` is what the definition of the bytes of a segment names: what stands in its header and where, where
-/// the words of an object's head stand, and what the upper half of a word counts.
+/// Each constant of `layout` is what the definition of the bytes of a segment names: what stands in its header and
+/// where, where the words of an object's head stand, and what the upper half of a word counts.
 pub fn layout_is_denoted()
     ensures magic { MAGIC ≡ magic_number }
     ensures format { FORMAT ≡ current }

@@ -56,8 +56,8 @@ impl Segment {
         self.heap.first_tile()
     }
 
-    /// The block or gap with `index` others before it, or nothing where there are no more. It is looked for from the first
-    /// one on.
+    /// The block or gap with `index` others before it, or nothing where there are no more. It is looked for from the
+    /// first one on.
     ///
     /// Example: `let span = segment.tile(0)`.
     pub fn tile(&self, index: u64) -> Option<Span>

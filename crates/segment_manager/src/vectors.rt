@@ -17,8 +17,8 @@ impl Segment {
     ///
     /// # Errors
     ///
-    /// `NotFound` where no object has the key, `WrongKind` where it is of another kind, `OutOfRange` where it has no element
-    /// there.
+    /// `NotFound` where no object has the key, `WrongKind` where it is of another kind, `OutOfRange` where it has no
+    /// element there.
     pub fn vec_get<T: Scalar, O: Target>(&self, key: &O, index: u64) -> Result<T, Refusal>
         requires { O.stands key.now self.now }
         ensures { IsReplyOfKind self.now (O.key key.now) (VectorOf T.kind) (Get (O.key key.now) index) (answer_of (λ x. Element T.kind (T.whole x)) result) }
@@ -33,8 +33,8 @@ impl Segment {
     ///
     /// # Errors
     ///
-    /// `ReadOnly` where the segment is open for reading, and else `NotFound` where no object has the key, `WrongKind` where it
-    /// is of another kind, `OutOfRange` where it has no element there. Nothing changes.
+    /// `ReadOnly` where the segment is open for reading, and else `NotFound` where no object has the key, `WrongKind`
+    /// where it is of another kind, `OutOfRange` where it has no element there. Nothing changes.
     pub fn vec_set<T: Scalar, O: Target>(
         &mut self,
         key: &O,
@@ -50,15 +50,15 @@ impl Segment {
         SegVec::<T>::at(place).set(&mut self.heap, index, value)
     }
 
-    /// Puts a value behind the last element of the vector of a key, a vector of the type. A full vector gets twice its places
-    /// first, and at least 4.
+    /// Puts a value behind the last element of the vector of a key, a vector of the type. A full vector gets twice its
+    /// places first, and at least 4.
     ///
     /// Example: `segment.vec_push(&name, 4i64)?`.
     ///
     /// # Errors
     ///
-    /// `ReadOnly` where the segment is open for reading, and else `NotFound` where no object has the key, `WrongKind` where it
-    /// is of another kind, `NoSpace` where it is full and its storage cannot be regrown. Nothing changes.
+    /// `ReadOnly` where the segment is open for reading, and else `NotFound` where no object has the key, `WrongKind`
+    /// where it is of another kind, `NoSpace` where it is full and its storage cannot be regrown. Nothing changes.
     pub fn vec_push<T: Scalar, O: Target>(&mut self, key: &O, value: T) -> Result<(), Refusal>
         requires { O.stands key.now self.old }
         ensures step { IsStepOfKind self.old self.new (O.key key.now) (VectorOf T.kind) (Push (O.key key.now) (literal_of T.kind (T.whole value))) (done_answer result) }
@@ -69,15 +69,15 @@ impl Segment {
         SegVec::<T>::at(place).push(&mut self.heap, value)
     }
 
-    /// Makes values the elements of the vector of a key, a vector of the type. Where they do not fit, it gets as many places as
-    /// are needed.
+    /// Makes values the elements of the vector of a key, a vector of the type. Where they do not fit, it gets as many
+    /// places as are needed.
     ///
     /// Example: `segment.vec_assign(&name, &[6i64, 7])?`.
     ///
     /// # Errors
     ///
-    /// `ReadOnly` where the segment is open for reading, and else `NotFound` where no object has the key, `WrongKind` where it
-    /// is of another kind, `NoSpace` where its storage cannot be regrown. Nothing changes.
+    /// `ReadOnly` where the segment is open for reading, and else `NotFound` where no object has the key, `WrongKind`
+    /// where it is of another kind, `NoSpace` where its storage cannot be regrown. Nothing changes.
     pub fn vec_assign<T: Scalar, O: Target>(&mut self, key: &O, values: &[T]) -> Result<(), Refusal>
         requires { O.stands key.now self.old }
         ensures step { IsStepOfKind self.old self.new (O.key key.now) (VectorOf T.kind) (Assign (O.key key.now) (map (literal_of T.kind) (map T.whole values.now))) (done_answer result) }
@@ -94,8 +94,8 @@ impl Segment {
     ///
     /// # Errors
     ///
-    /// `ReadOnly` where the segment is open for reading, and else `NotFound` where no object has the key, `WrongKind` where it
-    /// is of another kind, `OutOfRange` where it is empty. Nothing changes.
+    /// `ReadOnly` where the segment is open for reading, and else `NotFound` where no object has the key, `WrongKind`
+    /// where it is of another kind, `OutOfRange` where it is empty. Nothing changes.
     pub fn vec_pop<T: Scalar, O: Target>(&mut self, key: &O) -> Result<T, Refusal>
         requires { O.stands key.now self.old }
         ensures step { IsStepOfKind self.old self.new (O.key key.now) (VectorOf T.kind) (Pop (O.key key.now)) (answer_of (λ x. Element T.kind (T.whole x)) result) }
@@ -105,16 +105,16 @@ impl Segment {
         SegVec::<T>::at(place).pop(&mut self.heap)
     }
 
-    /// Puts a value where `index` others stand before it in the vector of a key, a vector of the type. Those from there on move
-    /// up. A full vector gets twice its places first, and at least 4.
+    /// Puts a value where `index` others stand before it in the vector of a key, a vector of the type. Those from there
+    /// on move up. A full vector gets twice its places first, and at least 4.
     ///
     /// Example: `segment.vec_insert(&name, 0, 3i64)?`.
     ///
     /// # Errors
     ///
-    /// `ReadOnly` where the segment is open for reading, and else `NotFound` where no object has the key, `WrongKind` where it
-    /// is of another kind, `OutOfRange` where there are not so many others, `NoSpace` where it is full and its storage cannot be
-    /// regrown. Nothing changes.
+    /// `ReadOnly` where the segment is open for reading, and else `NotFound` where no object has the key, `WrongKind`
+    /// where it is of another kind, `OutOfRange` where there are not so many others, `NoSpace` where it is full and its
+    /// storage cannot be regrown. Nothing changes.
     pub fn vec_insert<T: Scalar, O: Target>(
         &mut self,
         key: &O,
@@ -130,15 +130,15 @@ impl Segment {
         SegVec::<T>::at(place).insert(&mut self.heap, index, value)
     }
 
-    /// Leaves out the element at `index` in the vector of a key, a vector of the type. Those behind it move down, and the places
-    /// stay.
+    /// Leaves out the element at `index` in the vector of a key, a vector of the type. Those behind it move down, and
+    /// the places stay.
     ///
     /// Example: `segment.vec_erase::<i64, _>(&name, 0)?`.
     ///
     /// # Errors
     ///
-    /// `ReadOnly` where the segment is open for reading, and else `NotFound` where no object has the key, `WrongKind` where it
-    /// is of another kind, `OutOfRange` where it has no element there. Nothing changes.
+    /// `ReadOnly` where the segment is open for reading, and else `NotFound` where no object has the key, `WrongKind`
+    /// where it is of another kind, `OutOfRange` where it has no element there. Nothing changes.
     pub fn vec_erase<T: Scalar, O: Target>(&mut self, key: &O, index: u64) -> Result<(), Refusal>
         requires { O.stands key.now self.old }
         ensures step { IsStepOfKind self.old self.new (O.key key.now) (VectorOf T.kind) (Erase (O.key key.now) index) (done_answer result) }

@@ -10,8 +10,8 @@ use crate::walking_tiles::Tiles;
 use block_tags::TAG;
 use std::marker::Model;
 
-/// All objects of a segment by their offsets, one after another: what each says of itself. Those without a key are among
-/// them. A walk over all of them takes one step for each block and gap.
+/// All objects of a segment by their offsets, one after another: what each says of itself. Those without a key are
+/// among them. A walk over all of them takes one step for each block and gap.
 ///
 /// Contracts see the segment, and how many objects came.
 #[derive(Drop)]
@@ -73,8 +73,8 @@ impl Segment {
         }
     }
 
-    /// What the object says of itself that has a block, and `at` others before it. A block lies within the segment, which
-    /// its bytes say.
+    /// What the object says of itself that has a block, and `at` others before it. A block lies within the segment,
+    /// which its bytes say.
     fn object_in(&self, at: u64, block: Span) -> Instance<'_>
         requires { IsOwnBlock self.now at block }
         ensures { SaysAt self.now (λ d. d.objects) at result }

@@ -30,8 +30,8 @@ macro_rules! valued {
 }
 
 impl Segment {
-    /// The pair with the least key that is above a bound, or not below it, of the map of a key, a map with keys of the kind of
-    /// the bound and values of a kind. It is inlined, so which of the two costs no test.
+    /// The pair with the least key that is above a bound, or not below it, of the map of a key, a map with keys of the
+    /// kind of the bound and values of a kind. It is inlined, so which of the two costs no test.
     #[inline(always)]
     fn pair_of_kinds<O: Target>(
         &self,
@@ -114,8 +114,9 @@ pub fn first_pair<O: Target>(
     }
 }
 
-/// The pair with the least key above `after` of the map of a key, a map with keys of the kind of `after` and values of a
-/// kind, or `None` where no key is above. So all pairs are read in rising order, each in a walk from the root of the tree.
+/// The pair with the least key above `after` of the map of a key, a map with keys of the kind of `after` and values of
+/// a kind, or `None` where no key is above. So all pairs are read in rising order, each in a walk from the root of the
+/// tree.
 ///
 /// Example: `let next = next_pair(&segment, &key, ScalarValue::I32(2), ScalarKind::I64)`.
 ///

@@ -60,7 +60,8 @@ impl Segment {
         }
     }
 
-    /// The place behind that of a tile. No segment has so many tiles that 64 bits do not count them, which its bytes say.
+    /// The place behind that of a tile. No segment has so many tiles that 64 bits do not count them, which its bytes
+    /// say.
     fn place_behind(&self, at: u64) -> u64
         requires { at < length (tiles_of (bytes_of self.now.cut.bytes) (length self.now.cut.bytes)) }
         ensures { result ≡ at + 1 }

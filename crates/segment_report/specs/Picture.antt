@@ -1,5 +1,6 @@
--- The picture of a segment, a text of SVG. Its bytes go through 16 rows from left to right, to scale: each block, each gap, the header
--- and the end tag is a shape of its own, over several rows where it is longer than one. An object has its name and kind in it.
+-- The picture of a segment, a text of SVG. Its bytes go through 16 rows from left to right, to scale: each block, each
+-- gap, the header and the end tag is a shape of its own, over several rows where it is longer than one. An object has
+-- its name and kind in it.
 use Rattle.std.specs.Prelude.{◌≡◌, ℕ, ◌+◌, ◌-◌, ◌*◌, ◌/◌, ◌%◌, max, Option, Some, None, List, [], ◌++◌, codes, decimal, flat_map, ◌==◌, if◌then◌else◌}
 use Rattle.block_tags.specs.declared.tile.Role.{Role}
 use Rattle.block_tags.specs.declared.tile.Role.TheVariants.{Object as ObjectRole, Index, Storage, Node}

@@ -10,9 +10,9 @@ use Rattle.segment_report.specs.Entries.{entry_line}
 use Rattle.segment_report.specs.Objects.{count_of_kind, kind_place, object_tally_of, objects_in}
 use Rattle.segment_report.specs.Usages.{tally_of}
 
--- what is counted once: the size, the bytes of all gaps, how many gaps there are and the longest of them; of each role how many blocks
--- there are, and their bytes; how many objects there are of each class; how many entries each index has places for; and how many bytes
--- the segment would lose if it ended behind its last block
+-- what is counted once: the size, the bytes of all gaps, how many gaps there are and the longest of them; of each role
+-- how many blocks there are, and their bytes; how many objects there are of each class; how many entries each index has
+-- places for; and how many bytes the segment would lose if it ended behind its last block
 abbrev pub figures_text : ℕ → Tally → ObjectTally → ℕ → ℕ → List ℕ
 figures_text size t o named unique =
     entry_line (codes "size") size ++ (entry_line (codes "free") t.gaps.bytes ++ (entry_line (codes "gaps") t.gaps.count ++ (entry_line (codes "largest_gap") t.longest_gap

@@ -62,13 +62,13 @@ static KINDS: [Kind; 37] = [
     Kind::Map(ScalarKind::U64, ScalarKind::U64),
 ];
 
-/// Writes the figures of a segment, a line for each, of a word and a number: its size, its free bytes, how many gaps it has
-/// and the longest of them; how many blocks of each role it has, and their bytes, with their tags; how many objects of each
-/// class; for how many entries its indexes have places; and by how many bytes it would be shorter if it ended behind its last
-/// block. Then there is a line for each kind that some of its objects have, with their number.
+/// Writes the figures of a segment, a line for each, of a word and a number: its size, its free bytes, how many gaps it
+/// has and the longest of them; how many blocks of each role it has, and their bytes, with their tags; how many objects
+/// of each class; for how many entries its indexes have places; and by how many bytes it would be shorter if it ended
+/// behind its last block. Then there is a line for each kind that some of its objects have, with their number.
 ///
-/// It answers `DeviceFault` where the writer failed: what went out is then shorter than the text, and the text begins with
-/// it.
+/// It answers `DeviceFault` where the writer failed: what went out is then shorter than the text, and the text begins
+/// with it.
 pub fn stat<W: Sink>(segment: &Segment, out: &mut W) -> Result<(), DeviceFault>
     requires { (W.history out.old).failures < 2 ^ 64 - 1 }
     ensures { Tells segment.now (W.history out.old) (W.history out.new) result stat_text }

@@ -22,8 +22,8 @@ const HEADER: u64 = 128;
 /// The bytes of its end tag.
 const END_TAG: u64 = 16;
 
-/// Writes a picture of a segment as a text of SVG, and answers `DeviceFault` where the writer failed: what went out is then
-/// shorter than the text, and the text begins with it.
+/// Writes a picture of a segment as a text of SVG, and answers `DeviceFault` where the writer failed: what went out is
+/// then shorter than the text, and the text begins with it.
 pub fn draw<W: Sink>(segment: &Segment, out: &mut W) -> Result<(), DeviceFault>
     requires { (W.history out.old).failures < 2 ^ 64 - 1 }
     ensures { Tells segment.now (W.history out.old) (W.history out.new) result picture_of }

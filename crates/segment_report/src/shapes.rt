@@ -85,8 +85,8 @@ pub fn put_shape<W: Sink>(
     )
 }
 
-/// Writes what an object is called and its kind, as far as there is room for it in the first row of its block, which has `len`
-/// bytes from an offset on.
+/// Writes what an object is called and its kind, as far as there is room for it in the first row of its block, which
+/// has `len` bytes from an offset on.
 pub fn put_label<W: Sink>(
     out: &mut W,
     scale: Scale,

@@ -1,5 +1,5 @@
--- A line asks for no more than there can be: from 1 to 1048576 numbers, or as many elements and bytes as it has, under a key that is for
--- their kind.
+-- A line asks for no more than there can be: from 1 to 1048576 numbers, or as many elements and bytes as it has, under
+-- a key that is for their kind.
 use Rattle.std.proofs.Common.{◌≡◌, refl, sym, subst, ℕ, ℤ, ◌+◌, ◌*◌, ◌≤◌, Bool, true, false, ◌&&◌, Option, Some, None, Result, List, [], ◌∷◌, length, replicate, arith, if◌then◌else◌, ◌==◌, nat_le, nat_lt}
 use Rattle.std.specs.Prelude.{IsTrue, codes, find, option_and_then, option_map, take_while, drop, not, slice_index, ⊤}
 use Rattle.std.specs.List.{AllByRecursion}

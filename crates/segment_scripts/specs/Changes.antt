@@ -36,8 +36,8 @@ abbrev pub ReadsInto : {T : Type 0} → ScalarKind → (T → ℤ) → List Lite
 ReadsInto k whole ls row (Ok u) = (values_of k ls ≡ Ok (map whole row)) × IsTrue (list_all (is_value k) (map whole row))
 ReadsInto k whole ls row (Err why) = values_of k ls ≡ Err why
 
--- The command is executed: the directory is the one behind its step, and nothing changes where it is refused before it asks for a
--- block.
+-- The command is executed: the directory is the one behind its step, and nothing changes where it is refused before it
+-- asks for a block.
 pub record Executes (old new : State) (c : Command) : Type 0 where
   pub stays : Stays old new
   pub denotes : (d : Directory) → StandsFor old.cut.bytes d → StandsFor new.cut.bytes (step old.mode d c).1

@@ -83,8 +83,8 @@ failed_writes (Err WriteFault) = 1
 failed_writes (Err ScriptTooLong) = 0
 failed_writes (Ok u) = 0
 
--- what a run did with its devices, wherever it began: the script was read no further than one byte behind its limit, and
--- asked no more behind its end; and each failure is the one that the run answers
+-- what a run did with its devices, wherever it began: the script was read no further than one byte behind its limit,
+-- and asked no more behind its end; and each failure is the one that the run answers
 pub record UsesDevices (given given' : Gave) (taken taken' : Took) (result : Result (Unit {0}) RunFault) : Type 0 where
   pub reads : Reads given given' (failed_reads result)
   pub reads_no_further : length given'.bytes ≤ length given.bytes + script_limit + 1

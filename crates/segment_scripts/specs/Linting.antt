@@ -29,8 +29,8 @@ first_word line = let rest = behind true line in take (length rest - length (beh
 abbrev pub arguments : List ℕ → List ℕ
 arguments line = behind true (behind false (behind true line))
 
--- the column, counted in bytes from 1: of the command word, of the first byte that is too many, or of what stands behind the
--- command word
+-- the column, counted in bytes from 1: of the command word, of the first byte that is too many, or of what stands
+-- behind the command word
 abbrev pub column_of : LineError → List ℕ → ℕ
 column_of wrong.UnknownCommand line = length line - length (behind true line) + 1
 column_of wrong.LineTooLong line = 4097

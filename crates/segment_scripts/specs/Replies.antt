@@ -100,8 +100,9 @@ has_element (asked.Get key i) = true
 has_element (asked.Pop key) = true
 has_element c = false
 
--- The call is one step of the directory machine, and the reply stands for its answer in the directory behind it. Nothing changes
--- where the command only reads or is refused before it asks for a block, and gaps that were made zero are.
+-- The call is one step of the directory machine, and the reply stands for its answer in the directory behind it.
+-- Nothing changes where the command only reads or is refused before it asks for a block, and gaps that were made zero
+-- are.
 pub record Replies (old new : State) (c : Command) (reply : Reply) : Type 0 where
   pub stays : Stays old new
   pub answers : (d : Directory) → StandsFor old.cut.bytes d → answer_seen (step old.mode d c).1 reply ≡ (step old.mode d c).0

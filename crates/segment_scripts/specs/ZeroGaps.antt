@@ -13,7 +13,8 @@ abbrev pub is_zero_free : Command → Bool
 is_zero_free ZeroFree = true
 is_zero_free c = false
 
--- A command that changes nothing, or is refused before it asks for a block, keeps what was known. Of the others one leaves zeros.
+-- A command that changes nothing, or is refused before it asks for a block, keeps what was known. Of the others one
+-- leaves zeros.
 abbrev pub zeros_after : Mode → Directory → Reading → Bool → Bool
 zeros_after mode d (Asked c) known = if is_untouched (step mode d c).0 then known else if is_changing c then is_zero_free c else known
 zeros_after mode d Nothing known = known

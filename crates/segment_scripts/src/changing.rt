@@ -46,8 +46,9 @@ pub fn object_to_change(segment: &Segment, key: &Key) -> Result<Object, Refusal>
 ///
 /// # Errors
 ///
-/// `ReadOnly` where the segment is open for reading, and else `NotFound` where no object has the key, `WrongKind` where it is no
-/// vector or the literal has not the form of its elements, `OutOfRange` where the literal is not in their range.
+/// `ReadOnly` where the segment is open for reading, and else `NotFound` where no object has the key, `WrongKind` where
+/// it is no vector or the literal has not the form of its elements, `OutOfRange` where the literal is not in their
+/// range.
 fn new_element<'a>(
     segment: &Segment,
     key: &Key,
@@ -75,9 +76,10 @@ fn new_element<'a>(
 ///
 /// # Errors
 ///
-/// `ReadOnly` where the segment is open for reading, and else `NotFound` where no object has the key, `WrongKind` where it is no
-/// vector or the literal has not the form of its elements, `OutOfRange` where the literal is not in their range, and nothing
-/// changes; `NoSpace` where the vector is full and its storage cannot be regrown, or a text has no fit: the objects are as before.
+/// `ReadOnly` where the segment is open for reading, and else `NotFound` where no object has the key, `WrongKind` where
+/// it is no vector or the literal has not the form of its elements, `OutOfRange` where the literal is not in their
+/// range, and nothing changes; `NoSpace` where the vector is full and its storage cannot be regrown, or a text has no
+/// fit: the objects are as before.
 #[inline(never)]
 pub fn push(
     segment: &mut Segment,
@@ -133,10 +135,10 @@ fn push_text(
 ///
 /// # Errors
 ///
-/// `ReadOnly` where the segment is open for reading, and else `NotFound` where no object has the key, `WrongKind` where it is no
-/// vector or the literal has not the form of its elements, `OutOfRange` where the literal is not in their range or there are not
-/// so many others, and nothing changes; `NoSpace` where the vector is full and its storage cannot be regrown, or a text has no
-/// fit: the objects are as before.
+/// `ReadOnly` where the segment is open for reading, and else `NotFound` where no object has the key, `WrongKind` where
+/// it is no vector or the literal has not the form of its elements, `OutOfRange` where the literal is not in their
+/// range or there are not so many others, and nothing changes; `NoSpace` where the vector is full and its storage
+/// cannot be regrown, or a text has no fit: the objects are as before.
 #[inline(never)]
 pub fn insert(
     segment: &mut Segment,
@@ -199,8 +201,8 @@ fn insert_text(
 ///
 /// # Errors
 ///
-/// `ReadOnly` where the segment is open for reading, and else `NotFound` where no object has the key, `WrongKind` where it is no
-/// vector, `OutOfRange` where it has no element there. Nothing changes.
+/// `ReadOnly` where the segment is open for reading, and else `NotFound` where no object has the key, `WrongKind` where
+/// it is no vector, `OutOfRange` where it has no element there. Nothing changes.
 #[inline(never)]
 pub fn erase(segment: &mut Segment, key: &Key, index: u64) -> Result<(), Refusal>
     ensures step { IsStep segment.old segment.new (Erase (key_seen key.now) index) (done_answer result) }
@@ -240,9 +242,9 @@ fn erase_element(
 ///
 /// # Errors
 ///
-/// `ReadOnly` where the segment is open for reading, and else `NotFound` where no object has the key, `WrongKind` where it is
-/// neither or a value has not the form of its elements, `OutOfRange` where a value is not in their range, and nothing changes;
-/// `NoSpace` where its storage cannot be regrown or a text has no fit: the objects are as before.
+/// `ReadOnly` where the segment is open for reading, and else `NotFound` where no object has the key, `WrongKind` where
+/// it is neither or a value has not the form of its elements, `OutOfRange` where a value is not in their range, and
+/// nothing changes; `NoSpace` where its storage cannot be regrown or a text has no fit: the objects are as before.
 #[inline(never)]
 pub fn assign(
     segment: &mut Segment,

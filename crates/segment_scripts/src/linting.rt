@@ -11,7 +11,8 @@ use crate::machine::{Machine, Scratch};
 use raw_region::{DeviceFault, Sink};
 use segment_lang::{LONGEST_LINE, LineError, Piece, Reading, parse_line, put_pieces};
 
-/// Reads the lines of a script, and tells which are no commands: their number, the column, the error, and what is expected.
+/// Reads the lines of a script, and tells which are no commands: their number, the column, the error, and what is
+/// expected.
 #[derive(Drop)]
 pub struct Lint<'a> {
     rows: &'a [CommandRow],

@@ -7,8 +7,8 @@ use crate::text_rows::TextRow;
 use raw_region::{DeviceFault, Sink};
 use segment_lang::Text;
 
-/// Room for a name that a line escapes, and for what it gives an object. It is made once for all lines, and what it held means
-/// nothing.
+/// Room for a name that a line escapes, and for what it gives an object. It is made once for all lines, and what it
+/// held means nothing.
 #[derive(Drop)]
 pub struct Scratch {
     pub(crate) name: Text,

@@ -18,9 +18,9 @@ use segment_manager::{Segment, locate};
 ///
 /// # Errors
 ///
-/// `ReadOnly` where the segment is open for reading, and else `NotFound` where no object has the key, `WrongKind` where it is no
-/// map or a literal has not the form of its kind, `OutOfRange` where a literal is not in the range of its kind, `NoSpace` where
-/// the key is new and no gap is long enough for its block. Nothing changes.
+/// `ReadOnly` where the segment is open for reading, and else `NotFound` where no object has the key, `WrongKind` where
+/// it is no map or a literal has not the form of its kind, `OutOfRange` where a literal is not in the range of its
+/// kind, `NoSpace` where the key is new and no gap is long enough for its block. Nothing changes.
 #[inline(never)]
 pub fn put(
     segment: &mut Segment,
@@ -82,8 +82,9 @@ pub fn lookup(segment: &Segment, key: &Key, at: Literal<'_>) -> Result<Option<Sc
 ///
 /// # Errors
 ///
-/// `ReadOnly` where the segment is open for reading, and else `NotFound` where no object has the key, `WrongKind` where it is no
-/// map or the literal has not the form of its keys, `OutOfRange` where the literal is not in their range. Nothing changes.
+/// `ReadOnly` where the segment is open for reading, and else `NotFound` where no object has the key, `WrongKind` where
+/// it is no map or the literal has not the form of its keys, `OutOfRange` where the literal is not in their range.
+/// Nothing changes.
 #[inline(never)]
 pub fn remove(segment: &mut Segment, key: &Key, at: Literal<'_>) -> Result<bool, Refusal>
     ensures step { IsStep segment.old segment.new (Remove (key_seen key.now) (literal_of at.entry)) (truth_answer result) }

@@ -19,9 +19,9 @@ use raw_region::{DeviceFault, Sink};
 use seg_types::{Key, Kind, Refusal, ScalarKind, ScalarValue};
 use segment_manager::{Object, Segment};
 
-/// Takes the last element out of the vector of a key, and writes it, or why there is none: `ReadOnly` where the segment is open
-/// for reading, and else `NotFound` where no object has the key, `WrongKind` where it is no vector, `OutOfRange` where it is
-/// empty. A fault leaves the element taken out, and a proper prefix of it written.
+/// Takes the last element out of the vector of a key, and writes it, or why there is none: `ReadOnly` where the segment
+/// is open for reading, and else `NotFound` where no object has the key, `WrongKind` where it is no vector,
+/// `OutOfRange` where it is empty. A fault leaves the element taken out, and a proper prefix of it written.
 #[inline(never)]
 pub fn pop<W: Sink>(segment: &mut Segment, key: &Key, out: &mut W) -> Result<(), DeviceFault>
     requires { (W.history out.old).failures < 2 ^ 64 - 1 }
@@ -42,8 +42,8 @@ pub fn pop<W: Sink>(segment: &mut Segment, key: &Key, out: &mut W) -> Result<(),
     }
 }
 
-/// Writes the last text of the vector of strings of a key, which the segment lends, and takes it out then, also where writing it
-/// failed.
+/// Writes the last text of the vector of strings of a key, which the segment lends, and takes it out then, also where
+/// writing it failed.
 fn pop_text<W: Sink>(segment: &mut Segment, object: Object, out: &mut W) -> Result<(), DeviceFault>
     requires object { IsObject object segment.old }
     requires writer { (W.history out.old).failures < 2 ^ 64 - 1 }

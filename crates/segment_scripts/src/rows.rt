@@ -133,8 +133,8 @@ pub fn value_row<T: Scalar>(values: Values<'_>, row: &mut Row<T>)
 ///
 /// # Errors
 ///
-/// `WrongKind` where one has not the form of the kind, and else `OutOfRange` where one is not in its range. The row means nothing
-/// then.
+/// `WrongKind` where one has not the form of the kind, and else `OutOfRange` where one is not in its range. The row
+/// means nothing then.
 pub fn literal_row<T: Scalar>(literals: Literals<'_>, row: &mut Row<T>) -> Result<(), Refusal>
     requires { bytes_taken literals ≤ 4097 }
     ensures { ReadsInto T.kind T.whole literals.entry row.new result }

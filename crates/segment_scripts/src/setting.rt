@@ -23,9 +23,9 @@ use segment_manager::{Object, Segment};
 ///
 /// # Errors
 ///
-/// `ReadOnly` where the segment is open for reading, and else `NotFound` where no object has the key, `WrongKind` where it has
-/// no elements or the literal has not their form, `OutOfRange` where the literal is not in their range or there is no such
-/// element, `NoSpace` where a text has no fit. Nothing changes.
+/// `ReadOnly` where the segment is open for reading, and else `NotFound` where no object has the key, `WrongKind` where
+/// it has no elements or the literal has not their form, `OutOfRange` where the literal is not in their range or there
+/// is no such element, `NoSpace` where a text has no fit. Nothing changes.
 #[inline(never)]
 pub fn set(
     segment: &mut Segment,
@@ -51,7 +51,8 @@ pub fn set(
     }
 }
 
-/// Makes the value that a literal is the element at `index` in the object of a key, whose elements are scalars of a kind.
+/// Makes the value that a literal is the element at `index` in the object of a key, whose elements are scalars of a
+/// kind.
 fn set_scalar(
     segment: &mut Segment,
     object: Object,

@@ -81,7 +81,8 @@ fn put_string_line<W: Sink>(
     }
 }
 
-/// Writes the kind of an object, how many elements it has where they are scalars and not one alone, and as many of them.
+/// Writes the kind of an object, how many elements it has where they are scalars and not one alone, and as many of
+/// them.
 fn put_value_line<W: Sink>(
     segment: &Segment,
     object: Object,

@@ -1,4 +1,5 @@
--- The pairs between two bounds of a list whose keys rise: the first of them and those behind it, the last and those before it.
+-- The pairs between two bounds of a list whose keys rise: the first of them and those behind it, the last and those
+-- before it.
 use Rattle.std.proofs.Common.{◌≡◌, refl, sym, ap, subst, ◌∙◌, ◌≤◌, ℤ, Bool, true, false, ◌&&◌, not, Option, Some, None, List, [], ◌∷◌, ◌++◌, filter, length, map, arith, if◌then◌else◌}
 use Rattle.std.specs.Prelude.{find, int_le, int_lt, option_map, reverse, slice_get}
 use Rattle.std.proofs.lemmas.List.{reverse-append, reverse-reverse}
@@ -94,8 +95,8 @@ module _ (less : ℤ → ℤ → Bool) (transitive : (x y z : ℤ) → less x y 
           subst (λ z. less p.key z ≡ true) same (next-above p q qs r)
       by_cases next false f = next (sym (first-if t q qs false f) ∙ e)
 
-  -- A test, and one for each key: of the key's pair it is false, behind a pair that passes it is the test, and before the pair it is false.
-  -- So behind the first pair that passes there are those that pass the test of its key.
+  -- A test, and one for each key: of the key's pair it is false, behind a pair that passes it is the test, and before
+  -- the pair it is false. So behind the first pair that passes there are those that pass the test of its key.
   module _ (t : NumberPair → Bool) (u : ℤ → NumberPair → Bool) (itself : (p : NumberPair) → u p.key p ≡ false)
       (behind : (p q : NumberPair) → less p.key q.key ≡ true → t p ≡ true → t q ≡ u p.key q) (before : (x : ℤ) (p : NumberPair) → less p.key x ≡ true → u x p ≡ false) where
     same-behind : (p : NumberPair) (qs : List NumberPair) → t p ≡ true → is_rising less (p ∷ qs) ≡ true → items t qs ≡ items (u p.key) qs
@@ -118,7 +119,8 @@ module _ (less : ℤ → ℤ → Bool) (transitive : (x y z : ℤ) → less x y 
             let rest : slice_get (items t qs) 0 ≡ Some (x, y) = sym (first-if t p qs false f) ∙ e in
             items-if t p qs false f ∙ next rest ∙ ap (λ (xs : List (ℤ × ℤ)). (x, y) ∷ xs) (sym (items-if (u x) p qs false (before x p (found-above t p qs x y r rest))))
 
-  -- A test that is two, of which the second is false behind a pair of which it is: the first pair that passes the first passes both, or none does.
+  -- A test that is two, of which the second is false behind a pair of which it is: the first pair that passes the first
+  -- passes both, or none does.
   module _ (t a : NumberPair → Bool) (far : ℤ → Bool) (both : (p : NumberPair) → t p ≡ (a p && far p.key)) (past : (p q : NumberPair) → less p.key q.key ≡ true → far p.key ≡ false → far q.key ≡ false) where
     none-behind : (p : NumberPair) (qs : List NumberPair) → far p.key ≡ false → is_rising less (p ∷ qs) ≡ true → items t qs ≡ []
     none-behind p [] f r = refl

@@ -1,10 +1,10 @@
 //! The library in one place: what a program needs that keeps typed objects under names in a file.
 //!
-//! A program opens or makes a [`SegmentFile`] over the files of the system ([`HostDisk`]), constructs and finds objects in its
-//! [`Segment`] by their names ([`named`]), and saves it. `crates/examples` has twelve programs that do so.
+//! A program opens or makes a [`SegmentFile`] over the files of the system ([`HostDisk`]), constructs and finds objects
+//! in its [`Segment`] by their names ([`named`]), and saves it. `crates/examples` has twelve programs that do so.
 //!
-//! Every call on a segment takes whatever the segment holds, and answers or refuses. A few ask for something else before they
-//! are called, say so under `# Conditions`, and which call does the same without:
+//! Every call on a segment takes whatever the segment holds, and answers or refuses. A few ask for something else
+//! before they are called, say so under `# Conditions`, and which call does the same without:
 //!
 //! | Call | Its condition | Without one |
 //! |---|---|---|
@@ -12,12 +12,12 @@
 //! | what takes a [`Destination`] that says a kind | it is the kind of what is made | a [`Name`], [`UniqueInstance`], [`AnonymousInstance`] |
 //! | `create`, `relocate`, [`open`], [`verify`], [`open_bytes`], [`open_any`] | a base that is a multiple of 16 | |
 //!
-//! The layers below a segment ([`Heap`], [`SegVec`], [`Window`], [`RawRegion`]) are for types of one's own, and want to be told
-//! what lies where.
+//! The layers below a segment ([`Heap`], [`SegVec`], [`Window`], [`RawRegion`]) are for types of one's own, and want to
+//! be told what lies where.
 //!
-//! The calls that want to be told what a segment holds are not here: those that take an object which was looked up before (the
-//! views keep one), and those that go through a segment step by step, which the iterators do. They stand in `segment_manager`,
-//! for crates that know what they ask for.
+//! The calls that want to be told what a segment holds are not here: those that take an object which was looked up
+//! before (the views keep one), and those that go through a segment step by step, which the iterators do. They stand in
+//! `segment_manager`, for crates that know what they ask for.
 #![tactic(auto)]
 
 mod naming;

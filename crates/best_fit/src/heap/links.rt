@@ -58,8 +58,8 @@ impl Heap {
         set_link(&mut self.gaps.window, handle + at, to);
     }
 
-    /// Makes the `n` links from `to_at` on in the block `to` lead where those from `from_at` on in the block `from` lead.
-    /// It may be one block, and the two ranges may overlap.
+    /// Makes the `n` links from `to_at` on in the block `to` lead where those from `from_at` on in the block `from`
+    /// lead. It may be one block, and the two ranges may overlap.
     pub fn shift_links(&mut self, from: u64, from_at: u64, to: u64, to_at: u64, n: u64)
         requires from_whole { from_at % 8 ≡ 0 }
         requires to_whole { to_at % 8 ≡ 0 }

@@ -25,8 +25,8 @@ pub const FREE_TREE: u64 = 24;
 /// The payload of the first tile.
 const FIRST_GAP: u64 = FIRST + TAG;
 
-/// What is looked for among the gaps: the first that is longer than `len`, or just so long and has its payload at `from` or
-/// behind it.
+/// What is looked for among the gaps: the first that is longer than `len`, or just so long and has its payload at
+/// `from` or behind it.
 #[derive(Clone, Copy, Debug)]
 pub struct Sought {
     pub len: u64,

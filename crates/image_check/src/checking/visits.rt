@@ -4,9 +4,9 @@ ghost use Rattle.std.specs.Prelude.{◌≡◌, ◌+◌};
 use raw_region::Steps;
 use std::marker::Model;
 
-/// How often an image was looked at: a visit is reading the tags of a tile, a free node, an entry of an index, an object (its
-/// fields, its name and the padding behind it), an element, the link of an element or a node of a map, and looking for a
-/// block in the map of owners, reading one by its number or putting one in.
+/// How often an image was looked at: a visit is reading the tags of a tile, a free node, an entry of an index, an
+/// object (its fields, its name and the padding behind it), an element, the link of an element or a node of a map, and
+/// looking for a block in the map of owners, reading one by its number or putting one in.
 #[derive(Drop)]
 pub struct Visits {
     steps: Steps,

@@ -123,8 +123,8 @@ impl Blocks {
         self.get(target)
     }
 
-    /// The same. It is quick where the block is that of number `guess`, in the order of the blocks, and right whatever the guess is.
-    /// One visit.
+    /// The same. It is quick where the block is that of number `guess`, in the order of the blocks, and right whatever
+    /// the guess is. One visit.
     pub(crate) fn block_near(&self, guess: usize, target: u64, visits: &mut Visits) -> Option<Block>
         ensures value { result ≡ block_at self.now.entries target }
         ensures visits { visits.new ≡ visits.old + 1 }

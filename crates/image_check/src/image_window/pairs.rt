@@ -25,8 +25,8 @@ const LINKS: u64 = 16;
 
 /// The pairs of the map whose root link stands at `root`, as the nodes of a tree, ordered by key.
 ///
-/// A pair is a node of the map with room for a key and a value, both of them spelled. A link that leads to no pair is read as one
-/// to its own node, which no ordered tree has.
+/// A pair is a node of the map with room for a key and a value, both of them spelled. A link that leads to no pair is
+/// read as one to its own node, which no ordered tree has.
 #[derive(Clone, Copy)]
 struct Pairs<'a> {
     window: &'a ImageWindow,
@@ -165,8 +165,9 @@ impl Nodes for Pairs<'_> {
     ghost agrees = { λ s sought a b x y. y };
 }
 
-/// The check of the links of the map at `map`, as those of an ordered tree of its pairs. Two visits for the root, a look-up and
-/// reading it, and five for each step, which reads a node, and looks up and reads the nodes of its two links.
+/// The check of the links of the map at `map`, as those of an ordered tree of its pairs. Two visits for the root, a
+/// look-up and reading it, and five for each step, which reads a node, and looks up and reads the nodes of its two
+/// links.
 pub(crate) fn check_pairs(
     window: &ImageWindow,
     blocks: &Blocks,

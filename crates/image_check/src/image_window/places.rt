@@ -1,5 +1,5 @@
-//! The places of an image where a payload may begin, as the nodes of the free tree: the calls that go over them, each of which counts
-//! the steps that it took.
+//! The places of an image where a payload may begin, as the nodes of the free tree: the calls that go over them, each
+//! of which counts the steps that it took.
 ghost use Rattle.std.specs.Prelude.{◌≡◌, ◌↔◌, ◌+◌, ◌-◌, ◌*◌, ◌%◌, ◌≤◌, true, ℕ, List, Some, length};
 ghost use Rattle.raw_region.specs.Memory.{bytes_of};
 ghost use Rattle.offset_link.specs.Link.{link_at};
@@ -14,8 +14,8 @@ use crate::checking::Visits;
 use best_fit::RIGHT;
 use link_tree::{Checked, Found, Nodes, check, find_first_not_before};
 
-/// The places of a window where a payload may begin, as the nodes of a tree. A link that leads to no such place is read as
-/// null. A node precedes longer ones, and those as long that stand behind it, by the lengths in front of them.
+/// The places of a window where a payload may begin, as the nodes of a tree. A link that leads to no such place is read
+/// as null. A node precedes longer ones, and those as long that stand behind it, by the lengths in front of them.
 #[derive(Clone, Copy)]
 struct Places<'a> {
     window: &'a ImageWindow,

@@ -4,7 +4,7 @@ use Rattle.seg_index.proofs.Common.{arith, Option, Some, IfSome, insert, remove,
 use Rattle.seg_index.proofs.Common.{length-remove, current, Cut, bytes_of, word_at, SameBut-word, link_at, KeepTargets}
 use Rattle.seg_index.proofs.Common.{SameBut-link, Extent, LiveSet, handle, IsChanged, extent_at, live_of, Table}
 use Rattle.seg_index.proofs.Common.{room-less, KeepsRest, beside_table, IsIndexOf, AreEntries, AreLinks, refl, ap₂, ◌^◌}
-use Rattle.seg_index.proofs.Common.{min, [], IsTrue, None, nat_lt, unwrap_or, and_from, and_parts, leb-true, same_Some}
+use Rattle.seg_index.proofs.Common.{min, IsTrue, None, nat_lt, unwrap_or, and_from, and_parts, leb-true, same_Some}
 use Rattle.seg_index.proofs.Common.{Memory, Role, holds, others, IsAllocated, IsHeap, IsReleased, has_room, is_live_in}
 use Rattle.seg_index.proofs.Common.{same_role, serves, found-room, room_block, IsBlockFor, unlinked, without_link}
 use Rattle.seg_index.proofs.Common.{lt-ltb, IndexRole, ◌==◌, none-some, Same-word, Same-link, released, LaysOut, among}

@@ -3,7 +3,7 @@ use Rattle.seg_vector.proofs.Words as W
 use W.{◌≡◌, ◌≢◌, refl, sym, ap, subst, ◌∙◌, inl, inr, ℕ, ◌+◌, ◌*◌, ◌<◌, ◌≤◌, Option, Some, None, List, ◌∷◌, length}
 use W.{arith, ◌⊎◌, ◌++◌, append-nil, IsTrue, nat_lt, option_to_list, AllByRecursion, and_parts, leb-true, Memory, Cut}
 use W.{SameBut, bytes_of, word_at, Same, SameBut-wider, SameBut-word, link_at, target_of, Storage, current, exchanged}
-use W.{without_all, IsExchanged, inserted, Extent, LiveSet, handle, holds, place, IsChanged, IsHeap, LaysOut, SameBlock}
+use W.{without_all, IsExchanged, inserted, Extent, LiveSet, handle, holds, IsChanged, IsHeap, LaysOut, SameBlock}
 use W.{extent_at, has_room, live_of, Table, is_table, serves, same_role, table_link, found-room, in_use-alone}
 use W.{live-rises, written-keeps, word-same, laid-heap, roomy, changed-live, written-but, IsFound, IsNone, SameSpread}
 use W.{all-found-in, all-in-use, found-none, exchanged-live, found-without, IsRoomy, kept, kept-found, exchange-next}

@@ -7,7 +7,7 @@ use W.{and_parts, leb-true, le-leb, lt-leb, lt-ltb, ltb-true, or_cases, or_left,
 use W.{length-drop, take-take, Memory, Cut, SameBut, Has, bytes_of, read, word_at, patched, read-part, SameBut-word}
 use W.{link_at, Storage, current, CarriesOver, IsGivenRoom, IsNotGivenRoom, block_of, exchanged, without_all}
 use W.{IsExchanged, IsRegrown, Extent, LiveSet, handle, holds, end_of, is_block, is_hole, proper_from, others, resized}
-use W.{longer, place, shorter, IsChanged, IsHeap, LaysOut, extent_at, has_room, live_of, is_live_in, payload_at, Table}
+use W.{longer, place, IsChanged, IsHeap, LaysOut, extent_at, has_room, live_of, is_live_in, payload_at, Table}
 use W.{is_table, serves, same_role, table_link, IsSound, all_of-insert, found-room, live-sound, read-same, room_block}
 use W.{laid-heap, all-same-but, changed-live, regrow-serves, in_use-all, block_payload, room-less, IfSome_is}
 use W.{all_keep_proper, legal_size, too_long, spread-refl, exchange-next, is_legal_size, Place, IsGrown, IsOwnBlock}

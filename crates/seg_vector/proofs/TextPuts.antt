@@ -16,7 +16,7 @@ use Rattle.seg_vector.proofs.Runs.{len-written, none-some, own-facts, run-found,
 use Rattle.seg_vector.proofs.Runs.{stands-none-of}
 use Rattle.seg_vector.proofs.TextBlocks.{element-beside, element-in, element-trans, even-block, found-live, found-texts}
 use Rattle.seg_vector.proofs.TextBlocks.{links-at, links-edited, one-of, run-begin, texts-between, same-loose}
-use Rattle.seg_vector.proofs.TextGrowth.{grown-to, not-grown, all-beside-head, new-other, IsReadyRun, ready-in, ready}
+use Rattle.seg_vector.proofs.TextGrowth.{grown-to, not-grown, all-beside-head, new-other, IsReadyRun, ready-in}
 use Rattle.seg_vector.proofs.TextCalls.{loose-kept, run-others, texts-stand, texts-still}
 use Rattle.seg_vector.proofs.{Runs.same-some, Runs.table, Runs.table-full, Typed.has-element, Storage.capacity-bytes}
 use Rattle.seg_vector.proofs.{Storage.grown-same, TextGrowth.asked-alone, TextGrowth.new-table}

@@ -4,7 +4,7 @@ use W.{◌≡◌, ◌≢◌, refl, sym, ap, subst, ◌∙◌, inl, ℕ, zero, su
 use W.{append-nil, append_assoc, arith, length, length-append, drop, map, slice_index_or, Bor, ◌%◌, inr, if◌then◌else◌}
 use W.{false, ◌==◌, Ok, IfSome, IsTrue, option_map, option_to_list, AllByRecursion, flat_map-append, ne_eqb, drop_all}
 use W.{Cut, bytes_of, word_at, current, link_at, without_all, IsRestored, SameBlockBut, IsExchanged, Extent, LiveSet}
-use W.{handle, others, resized, place, IsChanged, IsHeap, SameBlock, extent_at, has_room, live_of, IsAllocated, NoSpace}
+use W.{handle, resized, place, IsChanged, IsHeap, SameBlock, extent_at, has_room, live_of, IsAllocated, NoSpace}
 use W.{Refusal, IsReleased, is_live_in, IsFound, IsNone, all-in-use, changed-live, exchange-next, exchange-order}
 use W.{exchange-same, exchanged-live, found-room, kept, laid-heap, last-first, live-rises, roomy, spread-refl}
 use W.{exchange-released, exchange-taken, keeps-refl, place-serves, too_long, kept-beside, Storage, Table, no_table}

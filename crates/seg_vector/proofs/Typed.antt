@@ -10,7 +10,7 @@ use W.{Inserts, IsFitted, IsGivenBack, IsRewritten, Overwrites, ReadsOne, Trunca
 use W.{place_at, IsText, IsTextGrown, IsTextNow, capacity_for_one, capacity_for_text, IsVector, IsVectorGrown}
 use W.{IsVectorNow, IsWithoutSpace, [], take-nil, drop-nil}
 use Rattle.seg_vector.proofs.Storage.{capacity-bytes, exchange-then, has-place, not-refused, unchanged-rewritten}
-use Rattle.seg_vector.proofs.{Runs.same-some, Runs.table, Storage.wanted-places}
+use Rattle.seg_vector.proofs.{Runs.same-some, Storage.wanted-places}
 use Rattle.best_fit.specs.Table.{cut_table}
 
 -- ---- what holds of each

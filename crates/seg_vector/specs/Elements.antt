@@ -1,6 +1,6 @@
 -- The elements of a container that stands at a place: read, written over, and fewer or more of them in the places that
 -- there are.
-use Rattle.std.specs.Prelude.{◌≡◌, ℕ, ◌+◌, ◌-◌, ◌*◌, ◌<◌, ◌≤◌, List, [], ◌++◌, length, take, drop, option_to_list}
+use Rattle.std.specs.Prelude.{◌≡◌, ℕ, ◌+◌, ◌-◌, ◌*◌, ◌<◌, ◌≤◌, List, [], ◌++◌, take, drop, option_to_list}
 use Rattle.raw_region.specs.{Memory.Cut, Memory.bytes_of, Memory.part, Memory.patched, Memory.word_at, Format.current}
 use Rattle.best_fit.specs.{Exchange.IsExchanged, Heap.live_of, Table.Table, Table.cut_table, Table.no_table}
 use Rattle.seg_vector.specs.{declared.elements.Spot.Spot, Standing.Stands, Standing.place_at}

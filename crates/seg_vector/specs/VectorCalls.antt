@@ -1,5 +1,5 @@
 -- A vector at a place, of any type whose values are spelled by `size` bytes, and what its calls answer and do.
-use Rattle.std.specs.Prelude.{◌≡◌, ℕ, ◌+◌, ◌-◌, ◌<◌, ◌≤◌, ◌⊎◌, Bool, IsTrue, Some, None, Result, Ok, MatchResult, List, [], ◌∷◌, ◌++◌, length, take, insert, remove, slice_get, slice_set, flat_map, option_to_list}
+use Rattle.std.specs.Prelude.{◌≡◌, ℕ, ◌+◌, ◌-◌, ◌<◌, ◌≤◌, ◌⊎◌, Bool, IsTrue, Some, Result, Ok, MatchResult, List, [], ◌∷◌, ◌++◌, length, take, insert, remove, slice_get, slice_set, flat_map, option_to_list}
 use Rattle.std.specs.List.{list_all}
 use Rattle.raw_region.specs.{Memory.Cut, Format.current}
 use Rattle.best_fit.specs.{Exchange.IsExchanged, Heap.live_of, Table.Table, Table.cut_table, Table.no_table}

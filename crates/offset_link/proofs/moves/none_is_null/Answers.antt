@@ -1,4 +1,3 @@
-use Rattle.std.proofs.Common.{◌%◌, bit_or}
 use Rattle.std.proofs.lemmas.Bool.{eqb-true}
 use Rattle.raw_region.specs.Memory.{bytes_of}
 use Rattle.offset_link.proofs.Shifting.{eight_even}

@@ -15,7 +15,6 @@ use Rattle.std.proofs.lemmas.List.{append-nil, length-append}
 use Rattle.seg_types.specs.declared.kinds.Class.TheVariants.{Named, Unique}
 use Rattle.segment_manager.specs.declared.modes.Mode.TheVariants.{ReadOnly}
 use Rattle.segment_manager.specs.Items.{KeepsUnasked, TakesUntil}
-use Rattle.seg_types.specs.declared.refusals.Refusal.TheVariants as refusal
 use Rattle.seg_types.specs.Commands as asked
 
 -- ---- the items

@@ -1,16 +1,15 @@
-//! Binary search over the entries of a block, and the one way from an entry to the key that it leads to: each
-//! comparison is counted. The first eight bytes of a name, as one number, tell most names apart in one step.
-ghost use Rattle.std.specs.Prelude.{◌≡◌, ◌+◌, ◌*◌, ◌%◌, ◌^◌, ◌<◌, ◌≤◌, IsTrue};
+//! The one way from an entry to the key that it leads to: each comparison is counted. The first eight bytes of a name, as
+//! one number, tell most names apart in one step.
+ghost use Rattle.std.specs.Prelude.{◌≡◌, ◌+◌, ◌*◌, ◌%◌, ◌^◌, ◌<◌, IsTrue};
 ghost use Rattle.std.specs.{Cmp.Lexicographic.slice_cmp, Ordering.nat_cmp};
 ghost use Rattle.raw_region.specs.{Memory.bytes_of, Format.current};
-ghost use Rattle.link_tree.specs.Tree.{bits};
 ghost use Rattle.best_fit.specs.Heap.{IsHeap, has_room, live_of};
 ghost use Rattle.seg_index.specs.Beginnings.{AreBytes, front as front_of_bytes, key_front};
-ghost use Rattle.seg_index.specs.Comparing.{HasEntry, comparisons_in, order_at};
+ghost use Rattle.seg_index.specs.Comparing.{HasEntry, order_at};
 ghost use Rattle.seg_index.specs.Keys.{name_at, name_len_at};
-ghost use Rattle.seg_index.specs.Lookups.{AreKeys, HasKey, IsPlaceIn, order};
+ghost use Rattle.seg_index.specs.Lookups.{HasKey, order};
 
-use crate::keys::{Key, Lookup};
+use crate::keys::Key;
 use best_fit::Heap;
 use byteorder::{BigEndian, ByteOrder};
 use std::cmp::Ordering;
@@ -66,31 +65,6 @@ impl<'a> Comparisons<'a> {
         let handle = self.heap.link(self.block, 8 * i).unwrap_or(0);
         order_of(self.heap, self.key, self.front, handle)
     }
-}
-
-/// Where the key stands among those that the first entries lead to.
-pub fn search(comparisons: &mut Comparisons<'_>, count: u64) -> Lookup
-    requires keys { AreKeys comparisons.old.heap.now comparisons.old.block count comparisons.old.key }
-    requires few { count < 2 ^ 40 }
-    requires front { comparisons.old.front ≡ key_front comparisons.old.key }
-    requires none { comparisons.old.count ≡ 0 }
-    ensures place { IsPlaceIn (bytes_of comparisons.old.heap.now.bytes) comparisons.old.key comparisons.old.block
-        count result }
-    ensures count { comparisons.new.count ≤ bits count }
-    ensures exact { comparisons.new.count
-        ≡ comparisons_in (bytes_of comparisons.old.heap.now.bytes) comparisons.old.key comparisons.old.block count }
-{
-    let mut low = 0;
-    let mut high = count;
-    'halves: while low < high {
-        let middle = low + (high - low) / 2;
-        match comparisons.compare(middle) {
-            Ordering::Less => low = middle + 1,
-            Ordering::Greater => high = middle,
-            Ordering::Equal => return Lookup::Found(middle),
-        }
-    }
-    Lookup::Absent(low)
 }
 
 /// How the key of an object stands to a key, of which it is known how it begins.

@@ -6,8 +6,9 @@ ghost use Rattle.best_fit.specs.{Heap.IsChanged, Table.Table as ATable, Table.no
 ghost use Rattle.seg_index.specs.{Comparing.comparisons, Lookups.HasKeys, Lookups.IsPlace};
 ghost use Rattle.seg_index.specs.Held.{HasIndex, IsIndexOf, capacity_at, entry_count, place_of};
 
-use crate::comparing::{Comparisons, search};
+use crate::comparing::Comparisons;
 use crate::keys::{Key, Lookup};
+use crate::searching::search;
 use best_fit::Heap;
 use raw_region::Steps;
 

@@ -10,6 +10,7 @@ mod comparing;
 mod growing;
 mod index;
 mod keys;
+mod searching;
 pub mod theorems;
 
 pub use growing::Growth;

@@ -1,9 +1,9 @@
 -- Each turn halves what is left, and compares one key.
 use Rattle.seg_index.proofs.{◌≡◌, ◌+◌, ap, refl, sym, subst, ◌∙◌, ◌≤◌, arith, bytes_of, bits, HasEntry, middle}
 use Rattle.seg_index.proofs.{order_at, IsLeft, entry_of, left_down, left_first, left_found, left_none, left_up}
-use Rattle.seg_index.proofs.{comparing.search.Goals.After-compare, bits_few}
+use Rattle.seg_index.proofs.{searching.search.Goals.After-compare, bits_few}
 use Rattle.seg_index.specs.{declared.comparing.Comparisons.Comparisons, Beginnings.key_front}
-use Rattle.seg_index.proofs.comparing.search.Goals as goal
+use Rattle.seg_index.proofs.searching.search.Goals as goal
 
 pub halves-init : goal.halves-init
 halves-init c =

@@ -1,6 +1,6 @@
 -- What is left of the entries, and how many comparisons are left for them.
 use Rattle.seg_index.proofs.{◌≡◌, ◌-◌, IsLeft}
-use Rattle.seg_index.proofs.comparing.search.Given as goal
+use Rattle.seg_index.proofs.searching.search.Given as goal
 
 abbrev pub invariant-halves : goal.invariant-halves
 invariant-halves l = record {

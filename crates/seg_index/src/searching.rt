@@ -1,0 +1,34 @@
+//! Binary search over the entries of a block. It stands apart from what it counts with, whose fields it cannot read.
+ghost use Rattle.std.specs.Prelude.{◌≡◌, ◌^◌, ◌<◌, ◌≤◌};
+ghost use Rattle.raw_region.specs.Memory.{bytes_of};
+ghost use Rattle.link_tree.specs.Tree.{bits};
+ghost use Rattle.seg_index.specs.{Beginnings.key_front, Comparing.comparisons_in, Lookups.AreKeys, Lookups.IsPlaceIn};
+
+use crate::comparing::Comparisons;
+use crate::keys::Lookup;
+use std::cmp::Ordering;
+
+/// Where the key stands among those that the first entries lead to.
+pub fn search(comparisons: &mut Comparisons<'_>, count: u64) -> Lookup
+    requires keys { AreKeys comparisons.old.heap.now comparisons.old.block count comparisons.old.key }
+    requires few { count < 2 ^ 40 }
+    requires front { comparisons.old.front ≡ key_front comparisons.old.key }
+    requires none { comparisons.old.count ≡ 0 }
+    ensures place { IsPlaceIn (bytes_of comparisons.old.heap.now.bytes) comparisons.old.key comparisons.old.block
+        count result }
+    ensures count { comparisons.new.count ≤ bits count }
+    ensures exact { comparisons.new.count
+        ≡ comparisons_in (bytes_of comparisons.old.heap.now.bytes) comparisons.old.key comparisons.old.block count }
+{
+    let mut low = 0;
+    let mut high = count;
+    'halves: while low < high {
+        let middle = low + (high - low) / 2;
+        match comparisons.compare(middle) {
+            Ordering::Less => low = middle + 1,
+            Ordering::Greater => high = middle,
+            Ordering::Equal => return Lookup::Found(middle),
+        }
+    }
+    Lookup::Absent(low)
+}

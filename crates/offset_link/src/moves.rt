@@ -110,9 +110,6 @@ pub fn shift_non_null(w: &mut Window, at: u64, n: u64, by: Places)
 /// The links a run of which moves at once.
 const RUN: usize = 8;
 
-/// The bytes of a link's place.
-const PLACE: usize = 8;
-
 /// Of more runs than these the words do not all fit a processor's first cache.
 const NEAR: usize = 512;
 
@@ -132,26 +129,11 @@ fn move_up(bytes: &mut [u8], at: usize, n: usize, by: usize, non_null: bool)
     let others = n - last;
     let rest = others % RUN;
     links_up(bytes, at + 8 * others, last, by);
-    known_up(bytes, at + 8 * rest, others / RUN, by, non_null);
+    runs_up(bytes, at + 8 * rest, others / RUN, by, non_null);
     links_up(bytes, at, rest, by);
 }
 
-/// The runs. By one place, as the entries of an index move, they move in code of their own, which knows the distance: a
-/// store then needs one register for its place, where with two it takes the way of a load.
-fn known_up(bytes: &mut [u8], at: usize, n: usize, by: usize, non_null: bool)
-    requires inside { at + by + 64 * n ≤ length bytes.old }
-    requires non_null { IsTrue non_null → NoneIsNull (bytes_of bytes.old) at (8 * n) }
-    ensures { bytes.new ≡ patched bytes.old (at + by) (relinked (bytes_of bytes.old) at (at + by) (8 * n)) }
-{
-    if by == PLACE {
-        runs_up(bytes, at, n, PLACE, non_null);
-    } else {
-        runs_up(bytes, at, n, by, non_null);
-    }
-}
-
 /// The runs, which are far where they are many.
-#[inline(always)]
 fn runs_up(bytes: &mut [u8], at: usize, n: usize, by: usize, non_null: bool)
     requires inside { at + by + 64 * n ≤ length bytes.old }
     requires non_null { IsTrue non_null → NoneIsNull (bytes_of bytes.old) at (8 * n) }
@@ -249,26 +231,11 @@ fn move_down(bytes: &mut [u8], at: usize, n: usize, by: usize, non_null: bool)
     let runs = others / RUN;
     let from = at + 8 * first;
     links_down(bytes, at, first, by);
-    known_down(bytes, from, runs, by, non_null);
+    runs_down(bytes, from, runs, by, non_null);
     links_down(bytes, from + 64 * runs, others % RUN, by);
 }
 
-/// The runs, by one place in code of their own, as `known_up` does.
-fn known_down(bytes: &mut [u8], at: usize, n: usize, by: usize, non_null: bool)
-    requires source { at + 64 * n ≤ length bytes.old }
-    requires inside { by ≤ at }
-    requires non_null { IsTrue non_null → NoneIsNull (bytes_of bytes.old) at (8 * n) }
-    ensures { bytes.new ≡ patched bytes.old (at - by) (relinked (bytes_of bytes.old) at (at - by) (8 * n)) }
-{
-    if by == PLACE {
-        runs_down(bytes, at, n, PLACE, non_null);
-    } else {
-        runs_down(bytes, at, n, by, non_null);
-    }
-}
-
 /// The runs, which are far where they are many.
-#[inline(always)]
 fn runs_down(bytes: &mut [u8], at: usize, n: usize, by: usize, non_null: bool)
     requires source { at + 64 * n ≤ length bytes.old }
     requires inside { by ≤ at }

@@ -30,8 +30,8 @@ module _ (b one : List ℕ) (at by n first q rest : ℕ) (within : at + 8 * n �
       (g ∙ (λ j. patched two (u j) (relinked (bytes_of two) (a j) (u j) rest)))
       ∙ ap (λ (j : ℕ). patched b to (relinked (bytes_of b) at to j)) all
 
-pub known_down-requires-clause-non_null : goal.known_down-requires-clause-non_null
-known_down-requires-clause-non_null c = λ known.
+pub runs_down-requires-clause-non_null : goal.runs_down-requires-clause-non_null
+runs_down-requires-clause-non_null c = λ known.
     let others = c.args.n - c.min-first.result in
     set c.args.bytes.now c.links_down.new.bytes c.args.at c.args.by c.args.n c.min-first.result (others / 8)
     (others % 8)
@@ -41,5 +41,5 @@ pub returns : goal.returns
 returns c =
     let others = c.args.n - c.min-first.result in
     three c.args.bytes.now c.links_down.new.bytes c.args.at c.args.by c.args.n c.min-first.result (others / 8)
-    (others % 8) c.requires.source c.requires.inside (omega arith) c.links_down.ensures c.known_down.new.bytes
-    c.links_down-2.new.bytes c.known_down.ensures c.links_down-2.ensures
+    (others % 8) c.requires.source c.requires.inside (omega arith) c.links_down.ensures c.runs_down.new.bytes
+    c.links_down-2.new.bytes c.runs_down.ensures c.links_down-2.ensures

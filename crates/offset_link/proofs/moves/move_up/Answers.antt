@@ -31,8 +31,8 @@ module _ (b one : List ℕ) (at by n last others rest q : ℕ) (within : at + by
       (back ∙ (λ j. patched b (u j) (relinked (bytes_of b) from (u j) (8 * q + last)))) g
       ∙ ap (λ (j : ℕ). patched b (at + by) (relinked (bytes_of b) at (at + by) j)) all
 
-pub known_up-requires-clause-non_null : goal.known_up-requires-clause-non_null
-known_up-requires-clause-non_null c = λ known.
+pub runs_up-requires-clause-non_null : goal.runs_up-requires-clause-non_null
+runs_up-requires-clause-non_null c = λ known.
     let others = c.args.n - c.min-last.result in
     set c.args.bytes.now c.links_up.new.bytes c.args.at c.args.by c.args.n c.min-last.result others (others % 8)
     (others / 8)
@@ -42,5 +42,5 @@ pub returns : goal.returns
 returns c =
     let others = c.args.n - c.min-last.result in
     three c.args.bytes.now c.links_up.new.bytes c.args.at c.args.by c.args.n c.min-last.result others (others % 8)
-    (others / 8) c.requires.inside (omega arith) (omega arith) c.links_up.ensures c.known_up.new.bytes
-    c.links_up-2.new.bytes c.known_up.ensures c.links_up-2.ensures
+    (others / 8) c.requires.inside (omega arith) (omega arith) c.links_up.ensures c.runs_up.new.bytes
+    c.links_up-2.new.bytes c.runs_up.ensures c.links_up-2.ensures

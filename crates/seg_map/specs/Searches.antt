@@ -25,6 +25,12 @@ LookUpTakes {K} {V} k v c at past key before after =
     (ps : List (Pair K V)) (s : HoldsMap k v c.bytes at.handle at.at ps)
     → after ≡ before + path_in k c past key s.map.tree.tree + reading_steps (first_pair k.order past key ps)
 
+-- a call that looks a key up first takes these steps, and so many more at least
+abbrev pub LooksUpFirst : {K V : Type 0} → Plain K → Plain V → Cut → Place → K → ℕ → ℕ → ℕ → Type 0
+LooksUpFirst {K} {V} k v c at key more before after =
+    (ps : List (Pair K V)) (s : HoldsMap k v c.bytes at.handle at.at ps)
+    → before + path_in k c false key s.map.tree.tree + reading_steps (first_pair k.order false key ps) + more ≤ after
+
 -- So does one that looks back: it goes down the same path as the look-up of that key.
 abbrev pub LookBackTakes : {K V : Type 0} → Plain K → Plain V → Cut → Place → Bool → K → ℕ → ℕ → Type 0
 LookBackTakes {K} {V} k v c at past key before after =

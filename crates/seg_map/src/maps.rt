@@ -2,7 +2,7 @@
 ghost use Rattle.std.specs.Prelude.{◌≡◌, ◌+◌, ◌%◌, ◌<◌, ◌≤◌, IfOk, IsTrue, false, true};
 ghost use Rattle.best_fit.specs.{Extents.is_proper, Heap.has_room, Heap.live_of};
 ghost use Rattle.seg_map.specs.Changing.{ChangeSteps, CountsPairs, Erases, IsNew, Puts, Releases};
-ghost use Rattle.seg_map.specs.Places.{IsSomeMap};
+ghost use Rattle.seg_map.specs.{Places.IsSomeMap, Searches.LookUpTakes, Searches.LooksUpFirst};
 
 use crate::linking::{COUNT, write_head};
 use crate::places::Place;
@@ -68,7 +68,11 @@ impl<K: Plain, V: Plain> SegMap<K, V> {
         ensures put { Puts K.Plain V.Plain heap.old heap.new self.place.handle self.place.at key value result }
         ensures counted { steps.old ≤ steps.new }
         ensures steps { ChangeSteps K.Plain V.Plain heap.old self.place.handle self.place.at steps.old steps.new }
-        ensures went { IfOk result (λ new. new ≡ true → steps.old < steps.new) }
+        ensures searched { LooksUpFirst K.Plain V.Plain heap.old self.place key 0 steps.old steps.new }
+        ensures went { IfOk result (λ new. new ≡ true
+            → LooksUpFirst K.Plain V.Plain heap.old self.place key 1 steps.old steps.new) }
+        ensures exact { IfOk result (λ new. new ≡ false
+            → LookUpTakes K.Plain V.Plain heap.old self.place false key steps.old steps.new) }
     {
         let trace = self.find_in(&*heap, key, steps);
         if let Some(node) = trace.node {
@@ -87,7 +91,8 @@ impl<K: Plain, V: Plain> SegMap<K, V> {
         ensures erased { Erases K.Plain V.Plain heap.old heap.new self.place.handle self.place.at key result }
         ensures counted { steps.old ≤ steps.new }
         ensures steps { ChangeSteps K.Plain V.Plain heap.old self.place.handle self.place.at steps.old steps.new }
-        ensures went { result ≡ true → steps.old < steps.new }
+        ensures went { result ≡ true → LooksUpFirst K.Plain V.Plain heap.old self.place key 1 steps.old steps.new }
+        ensures exact { result ≡ false → LookUpTakes K.Plain V.Plain heap.old self.place false key steps.old steps.new }
         ensures absent { result ≡ false → heap.new ≡ heap.old }
     {
         let trace = self.find_out(&*heap, key, steps);

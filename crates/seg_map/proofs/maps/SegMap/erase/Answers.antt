@@ -30,3 +30,7 @@ returns-clause-erased g c = λ ps s.
 pub returns-clause-steps : goal.returns-clause-steps
 returns-clause-steps g c = λ ps s.
     omega (arith, c.find_out-trace.ensures.found.steps ps s, c.give_up.ensures.steps ps s)
+
+pub returns-clause-went : goal.returns-clause-went
+returns-clause-went g c = λ there ps s.
+    omega (arith, c.find_out-trace.ensures.found.exact ps s, c.give_up.ensures.counted)

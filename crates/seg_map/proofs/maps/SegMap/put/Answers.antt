@@ -48,3 +48,11 @@ returns-clause-steps g c =
     let absent = key_absent c.find_in-trace.ensures.found s none in
     let there = map_there (laws g.met.K.Plain) (laws g.met.V.Plain) s absent c.in_ok-node.ensures.made in
     omega (arith, c.find_in-trace.ensures.found.steps ps s, c.make_node.ensures.steps, c.put_in.ensures.steps ps there)
+
+pub returns-clause-searched : goal.returns-clause-searched
+returns-clause-searched g c = λ ps s.
+    omega (arith, c.find_in-trace.ensures.found.exact ps s, c.make_node.ensures.counted, c.put_in.ensures.counted)
+
+pub returns-clause-went : goal.returns-clause-went
+returns-clause-went g c = λ new ps s.
+    omega (arith, c.find_in-trace.ensures.found.exact ps s, c.make_node.ensures.counted, c.put_in.ensures.counted)

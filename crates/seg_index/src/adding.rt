@@ -1,5 +1,5 @@
 //! An entry more, or less.
-ghost use Rattle.std.specs.Prelude.{◌≡◌, ℕ, ◌+◌, ◌-◌, ◌*◌, ◌%◌, ◌<◌, ◌≤◌, IsTrue, List, Some, insert, remove};
+ghost use Rattle.std.specs.Prelude.{◌≡◌, ℕ, ◌+◌, ◌-◌, ◌*◌, ◌%◌, ◌<◌, ◌≤◌, IfSome, IsTrue, List, Some, insert, remove};
 ghost use Rattle.raw_region.specs.{Format.current, Memory.bytes_of};
 ghost use Rattle.offset_link.specs.{Link.link_at, Relinked.AllLead, Relinked.KeepTargets};
 ghost use Rattle.best_fit.specs.{Fit.others, Table.Table as ATable};
@@ -27,6 +27,8 @@ impl Index {
         ensures keeps { (t : ATable) (handles : List ℕ) → IsIndexOf heap.old (place_of self) t handles
             → AddKeeps heap.old heap.new (place_of self) t growth.block }
         ensures counted { steps.old ≤ steps.new }
+        ensures went { IfSome growth.block (λ block. IfSome (link_at (bytes_of heap.old.bytes) (place_of self))
+            (λ old. steps.old < steps.new)) }
         ensures steps { steps.new ≤ steps.old + heap_touches (live_of heap.old.bytes) }
     {
         match growth.block {
@@ -84,6 +86,7 @@ impl Index {
         ensures keeps { KeepsRest heap.old heap.new (place_of self)
             (others block (unlinked heap.old (place_of self)).extents) }
         ensures counted { steps.old ≤ steps.new }
+        ensures went { IfSome (link_at (bytes_of heap.old.bytes) (place_of self)) (λ old. steps.old < steps.new) }
         ensures steps { steps.new ≤ steps.old + heap_touches (live_of heap.old.bytes) }
     {
         let count = self.len(heap);

@@ -33,6 +33,7 @@ impl Index {
         requires index { HasIndex heap.old (place_of self) }
         ensures growth { Prepares heap.old heap.new (place_of self) result }
         ensures counted { steps.old ≤ steps.new }
+        ensures went { heap.new ≢ heap.old → steps.old < steps.new }
         ensures steps { steps.new ≤ steps.old + heap_touches (live_of heap.old.bytes) }
     {
         let capacity = self.capacity(heap);
@@ -49,6 +50,7 @@ impl Index {
         ensures change { GivesBack heap.old heap.new growth.block }
         ensures restored { Restores heap.old heap.new growth }
         ensures counted { steps.old ≤ steps.new }
+        ensures went { heap.new ≢ heap.old → steps.old < steps.new }
         ensures steps { steps.new ≤ steps.old + heap_touches (live_of heap.old.bytes) }
     {
         if let Some(taken) = growth.block {
@@ -66,6 +68,7 @@ impl Index {
         requires index { HasIndex heap.old (place_of self) }
         ensures reserved { Reserves heap.old heap.new (place_of self) n result }
         ensures counted { steps.old ≤ steps.new }
+        ensures went { heap.new ≢ heap.old → steps.old < steps.new }
         ensures steps { steps.new ≤ steps.old + reserve_steps (live_of heap.old.bytes) n }
     {
         if n <= self.capacity(heap) {
@@ -87,6 +90,7 @@ impl Index {
         ensures shrunk { (t : ATable) (handles : List ℕ) → IsIndexOf heap.old (place_of self) t handles
             → IsShrunk heap.old heap.new (place_of self) t handles }
         ensures counted { steps.old ≤ steps.new }
+        ensures went { live_of heap.new.bytes ≢ live_of heap.old.bytes → steps.old < steps.new }
         ensures steps { steps.new ≤ steps.old + heap_touches (live_of heap.old.bytes) }
     {
         let place = self.place();
@@ -124,6 +128,7 @@ impl Index {
         ensures live { LaysOut current heap.new.bytes (unlinked heap.old (place_of self)) }
         ensures keeps { KeepsRest heap.old heap.new (place_of self) (unlinked heap.old (place_of self)).extents }
         ensures counted { steps.old ≤ steps.new }
+        ensures went { IfSome (link_at (bytes_of heap.old.bytes) (place_of self)) (λ h. steps.old < steps.new) }
         ensures steps { steps.new ≤ steps.old + heap_touches (live_of heap.old.bytes) }
     {
         let place = self.place();

@@ -2,7 +2,7 @@
 use Rattle.seg_index.proofs.{◌≡◌, ap, ap₂, refl, sym, subst, ◌∙◌, ◌+◌, ◌-◌, ◌*◌, ◌%◌, arith, insert, length-insert}
 use Rattle.seg_index.proofs.{current, LiveSet, LaysOut, IsBlockFor, without_link, grown_capacity, same_live}
 use Rattle.seg_index.proofs.{capacity_small, in_header, insert_all, links_lead, filled, index_in, offer, source, target}
-use Rattle.seg_index.proofs.{written, written_both, written_keeps}
+use Rattle.seg_index.proofs.{written, written_both, written_keeps, ℕ, ◌<◌, Option, IfSome}
 use Rattle.seg_index.proofs.index.Index.insert_into.Goals as goal
 
 pub shift_non_null_links-requires : goal.shift_non_null_links-requires
@@ -86,3 +86,12 @@ returns-clause-keeps c =
     c.requires.block c.requires.apart q.index in
     let all = written_both c.args.block c.shift_non_null_links.ensures.change c.spread.ensures.change (omega arith) in
     written_keeps o all (omega arith) c.settle.ensures.keeps
+
+pub returns-clause-went : goal.returns-clause-went
+returns-clause-went c =
+    let q = c.requires.index in
+    let o = offer (in_header c.args.self) c.place.ensures c.header_link.ensures c.unwrap_or-from.ensures
+    c.requires.block c.requires.apart q.index in
+    let all = written_both c.args.block c.shift_non_null_links.ensures.change c.spread.ensures.change (omega arith) in
+    subst (λ (l : Option ℕ). IfSome l (λ old. c.args.steps.now < c.settle.new.steps))
+    ((written o all (omega arith)).leads ∙ sym o.leads) c.settle.ensures.went

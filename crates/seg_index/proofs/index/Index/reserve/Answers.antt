@@ -84,6 +84,7 @@ returns c =
         };
       };
       counted = let first = c.in_ok-block.ensures.counted in let second = c.settle.ensures.counted in omega arith;
+      went = λ differ. omega (arith, c.in_ok-block.ensures.went refl, c.settle.ensures.counted);
       steps = subst (λ (x : Option Extent). c.settle.new.steps ≤ c.args.steps.now + (heap_touches (live_of A.bytes)
           + elim x [ None ↦ 0 | Some y ↦ heap_touches (added (live_of A.bytes) y) ])) (sym there)
           (let first = c.in_ok-block.ensures.steps in let second : c.settle.new.steps ≤ c.allocate.new.steps

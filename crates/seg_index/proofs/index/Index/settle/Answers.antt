@@ -2,7 +2,7 @@
 use Rattle.seg_index.proofs.{◌≡◌, ap, sym, subst, ◌∙◌, ◌+◌, ◌≤◌, arith, current, LiveSet, released, LaysOut}
 use Rattle.seg_index.proofs.{heap_touches, live_of, KeepsRest, unlinked, without_link, place_of, same_live, in_header}
 use Rattle.seg_index.proofs.{leads_from, keeps_words, block_whole, gone, headed, headed_released_keeps, settled}
-use Rattle.seg_index.proofs.{settled_released}
+use Rattle.seg_index.proofs.{settled_released, ℕ, ◌<◌, Option, IfSome}
 use Rattle.seg_index.proofs.index.Index.settle.Goals as goal
 
 pub set_header_link-requires-clause-target : goal.set_header_link-requires-clause-target
@@ -27,6 +27,8 @@ returns-in-Some c =
       keeps = subst (λ (l : LiveSet). KeepsRest A E (place_of c.args.self) l.extents) (sym is)
           (headed_released_keeps old w r h);
       counted = let more = c.deallocate.ensures.counted in omega arith;
+      went = subst (λ (l : Option ℕ). IfSome l (λ h. c.args.steps.now < c.deallocate.new.steps)) (sym leads)
+          c.deallocate.ensures.counted;
       steps = subst (λ (l : LiveSet). c.deallocate.new.steps ≤ c.args.steps.now + heap_touches l) live
           c.deallocate.ensures.steps;
     }
@@ -38,8 +40,8 @@ returns-in_default c =
     let w = headed c.place-place.ensures
     c.set_header_link.ensures.change c.set_header_link.ensures.leads c.set_header_word.ensures.change
     c.set_header_word.ensures.word c.set_header_word-2.ensures.change c.set_header_word-2.ensures.word in
-    let is : unlinked A at ≡ live_of A.bytes = ap (without_link (live_of A.bytes))
-    (leads_from c.args.heap.now c.place-place.ensures c.header_link-old.ensures c.in_default.is) in
+    let leads = leads_from A c.place-place.ensures c.header_link-old.ensures c.in_default.is in
+    let is : unlinked A at ≡ live_of A.bytes = ap (without_link (live_of A.bytes)) leads in
     record {
       index = λ hs links long whole.
           settled hs w h c.requires.heap c.requires.block c.requires.within c.requires.some links long whole;
@@ -47,5 +49,6 @@ returns-in_default c =
       keeps = subst (λ (l : LiveSet). KeepsRest A D at l.extents) (sym is)
           (keeps_words at w.change h (omega arith) (omega arith));
       counted = omega arith;
+      went = subst (λ (l : Option ℕ). IfSome l (λ h. c.args.steps.now < c.args.steps.now)) (sym leads) tt;
       steps = omega arith;
     }

@@ -1,5 +1,5 @@
 -- The block goes, or is cut.
-use Rattle.seg_index.proofs.{sym, ◌∙◌, in_header, leads_from, placed, emptied, shrunk_bare, shrunk_empty, shrunk_short}
+use Rattle.seg_index.proofs.{ap, sym, ◌∙◌, Cut, live_of, same_live, in_header, leads_from, placed, emptied, shrunk_bare, shrunk_empty, shrunk_short}
 use Rattle.seg_index.proofs.index.Index.shrink.Goals as goal
 
 pub returns-in_default-clause-shrunk : goal.returns-in_default-clause-shrunk
@@ -21,3 +21,7 @@ returns-else-count-eq0-clause-shrunk c = λ t hs i.
     shrunk_short (placed c.in-Some.block i leads) c.if-count-eq0.false (c.len-count.ensures.len t hs i)
     c.place-place.ensures c.set_header_word.ensures.change c.set_header_word.ensures.word
     c.shrink_in_place.ensures.shortened (in_header c.args.self)
+
+pub returns-else-count-eq0-clause-went : goal.returns-else-count-eq0-clause-went
+returns-else-count-eq0-clause-went c = λ differ. c.shrink_in_place.ensures.went (λ same.
+    differ (ap (λ (w : Cut). live_of w.bytes) same ∙ same_live c.set_header_word.ensures.change))

@@ -1,11 +1,14 @@
 #!/usr/bin/env bash
 # The check of an image, `segment check`, beside two walks over all objects of Boost's managed_mapped_file after the same
 # script, 200,000 objects of four kinds in 32 MiB: one that looks over Boost's own structure and spells each name and value,
-# and one that adds up what is there, with nothing checked. Both go by name: once names rise as objects were made, and so
-# lie in the file, and once they jump about. Instructions, counted by valgrind's callgrind; and the least of 15 runs, taken
-# in turn: seconds of the processor in the program itself, in the system for it, and as time passes. Run it at the top of
-# the repository, once `rt run` has built crates/segment/out/segment, or with the program's path in PROGRAM; it needs g++,
-# valgrind and Boost (Debian's libboost1.81-dev), and writes into a folder of its own, which it removes.
+# and one that adds up what is there, with nothing checked. Both go by name. Of three images the first has names that rise
+# as objects were made, and so lie in the file; the second names that go on by 7919 from object to object; the third the
+# mixture that docs/SPEED.md speaks of, three fifths numbers, a fifth strings, and vectors of eight numbers and maps of
+# four pairs, made in an order of chance. Instructions, counted by valgrind's callgrind; and the least of so many runs as
+# RUNS says (15), taken in turn: seconds of the processor in the program itself, in the system for it, and as time passes.
+# Run it at the top of the repository, once `rt run` has built crates/segment/out/segment, or with the program's path in
+# PROGRAM; it needs g++, valgrind and Boost (Debian's libboost1.81-dev), and writes into a folder of its own, which it
+# removes.
 set -euo pipefail
 cd "$(dirname "$0")/.."
 program=${PROGRAM:-$PWD/crates/segment/out/segment}
@@ -26,10 +29,22 @@ script() {
     if (i % 8 == 3) { print "construct map<i64,i64>", name; for (k = 0; k < 2; k++) print "put", name, k, i }
     if (i % 8 == 7) print "construct i64", name, i } }'
 }
-# images STEP: those of the script, one of each program
+# mixed: names in an order of chance
+mixed() {
+  awk 'BEGIN { srand(1); n = 200000; text = sprintf("%60s", ""); gsub(/ /, "y", text)
+  for (i = 0; i < n; i++) order[i] = i
+  for (i = n - 1; i > 0; i--) { k = int(rand() * (i + 1)); other = order[i]; order[i] = order[k]; order[k] = other }
+  for (i = 0; i < n; i++) {
+    name = sprintf("n%06d", order[i]); kind = rand()
+    if (kind < 0.6) print "construct i64", name, order[i]
+    else if (kind < 0.8) print "construct string", name, "\"" substr(text, 1, int(rand() * 59) + 1) "\""
+    else if (kind < 0.95) { print "construct vec<i64>", name; for (k = 0; k < 8; k++) print "push", name, int(rand() * 1000) }
+    else { print "construct map<i64,i64>", name; at = int(rand() * 100); for (k = 0; k < 4; k++) print "put", name, (at + 37 * k) % 100, k } } }'
+}
+# images WORD..: those of the script that the words make, one of each program
 images() {
   rm -f ours.seg theirs.seg
-  script "$1" > script
+  "$@" > script
   "$program" run ours.seg --mode create_only --size 33554432 < script > ours.answers
   ./peer theirs.seg 33554432 < script > theirs.answers
   if grep -q '^error' ours.answers theirs.answers; then echo 'a line was refused' >&2; exit 1; fi
@@ -57,7 +72,7 @@ least() { awk -v column="$1" '{ print $column }' "$2.seconds" | sort -n | head -
 # table: a row of each
 table() {
   rm -f ./*.seconds
-  for _ in 1 2 3 4 5 6 7 8 9 10 11 12 13 14 15; do
+  for _ in $(seq "${RUNS:-15}"); do
     for whose in check_ours spell_theirs add_theirs; do seconds $whose >> $whose.seconds; done
   done
   echo '| | Instructions | Seconds of the program | of the system | as time passes |'
@@ -70,9 +85,13 @@ table() {
 }
 
 for step in 1 7919; do
-  images $step
+  images script $step
   echo "names that go on by $step"
   echo
   table
   echo
 done
+images mixed
+echo "a mixture, names in an order of chance"
+echo
+table

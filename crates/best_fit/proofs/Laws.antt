@@ -61,3 +61,5 @@ pub use Rattle.best_fit.proofs.Undone.{not-wide, taken-back, wide-longer, wide-s
 pub use Rattle.best_fit.proofs.Carrying.{ends-then}
 -- a change of header words lays out the same live set
 pub use Rattle.best_fit.proofs.Writes.{header_changed}
+-- no byte of a gap changes where bytes of the header or of a payload do, and through several such changes
+pub use Rattle.best_fit.proofs.KeptGaps.{gaps-header, gaps-payload, gaps-refl, gaps-then, gaps-trans}

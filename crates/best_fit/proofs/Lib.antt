@@ -17,6 +17,7 @@ mod GapSteps
 mod Gaps
 mod GivingBack
 mod Joins
+mod KeptGaps
 mod Laid
 mod LayOut
 mod Lengths

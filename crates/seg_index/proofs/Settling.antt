@@ -16,11 +16,13 @@ use Rattle.seg_index.proofs.Entries.{Placed, beside, leads_from, no_entries, pla
 use Rattle.seg_index.proofs.Entries.{found_handle, found_live, inside, entry_here, insert_all, insert_links}
 use Rattle.seg_index.specs.{Capacities.IsShrunk, Capacities.with_cut, Held.IsIndexIn}
 use Rattle.seg_index.proofs.Staying.{still_released, still_taken, still_written, meant, not_its_own, taken_block}
-use Rattle.best_fit.proofs.Laws.{block_aligned, keeps-refl, resized-live, Rising, shorter-IsShorter}
+use Rattle.best_fit.proofs.Laws.{block_aligned, gaps-header, gaps-payload, gaps-then, keeps-refl, resized-live, Rising}
+use Rattle.best_fit.proofs.Laws.{shorter-IsShorter}
 use Rattle.std.proofs.lemmas.List.{nil_from_length}
 use Rattle.std.specs.Prelude.{option_map}
 use Rattle.std.proofs.lemmas.Bool.{cond-false, cond-true, eq-eqb, le-leb, ne_eqb}
 use Rattle.best_fit.specs.{Heap.IsResized, Heap.IsShortened, Table.cut_table, Table.no_table, Fit.resized, Fit.shorter}
+use Rattle.best_fit.specs.Heap.{KeepsGaps}
 
 -- other links in the block, and then their number in the header
 counted : {a b c : Cut} {at block f n place count : ℕ} {t : Table} {hs : List ℕ} (gs : List ℕ) → Placed a at t hs block
@@ -95,6 +97,17 @@ block_and_count {a} {b} {c} {at} {block} {n} {t = t} p w k one few e two =
     let word : IsChanged current b c (at + 8) 8 = subst (λ j. IsChanged current b c (j + 8) 8) e two in
     subst (λ (ys : List Extent). KeepsRest a c at ys) (beside p xs)
     (keeps_both block k one room word w (omega arith) (omega arith))
+
+-- no byte of a gap changes then
+pub gaps_kept : {a b c : Cut} {at block n place : ℕ} {t : Table} {hs : List ℕ} → Placed a at t hs block → InHeader at
+    → (k : ℕ) → IsChanged current a b (block + k) n → k + n ≤ 8 * t.capacity → place ≡ at
+    → IsChanged current b c (place + 8) 8 → KeepsGaps a c
+gaps_kept {a} {b} {c} {at} {block} {n} {t = t} p w k one few e two =
+    let room = room-less (live_of a.bytes) block (8 * t.capacity) (k + n) few p.room in
+    let word : IsChanged current b c (at + 8) 8 = subst (λ j. IsChanged current b c (j + 8) 8) e two in
+    gaps-then a b c (block + k) n one
+    (gaps-payload a b block (k + n) (block + k) n one room (omega arith) (omega arith))
+    (gaps-header b c (at + 8) 8 word (omega arith))
 
 -- ---- a block that is offered
 
@@ -367,6 +380,7 @@ shrunk_bare {a} {at} {t} {hs} i leads w = table_cases (λ u. IsIndexOf a at u hs
     ap (λ k. let u : Table = record { capacity = k; extent = None } in u) none in
     let xs = (live_of a.bytes).extents in
     record {
+      same = λ without. refl;
       index = subst (λ (u : Table). IsIndexOf a at u hs)
           (same ∙ sym (cut_none (live_of a.bytes) (length hs) (record { capacity = cap; extent = None }) zero)) j;
       live = j.heap;
@@ -421,6 +435,7 @@ shrunk_empty {a} {c} {e} {at} {block} {t} {hs} p zero w r h =
     let l = live_of a.bytes in
     let here = still_released h r (λ q. none-some block (sym w.link ∙ q)) (empty_index hs w zero p.index.whole) in
     record {
+      same = λ without. absurd (none-some p.extent (sym without ∙ p.is));
       index = subst (λ (u : Table). IsIndexOf e at u hs) (sym (cut_none l (length hs) t zero)) here;
       live = subst (λ (s : LiveSet). LaysOut current e.bytes s)
           (ap (λ (s : LiveSet). released s block) (same_live w.change) ∙ cut_zero p l (length hs) zero) r.live;
@@ -514,6 +529,7 @@ shrunk_some a b e at cap x hs p some one word s w =
     ap (λ (k : LiveSet). resized k y) live ∙ sym (cond-false (n == 0) (released l (handle x)) (resized l y)
     (ne_eqb n 0 some)) in
     record {
+      same = λ without. absurd (none-some x (sym without));
       index = subst (λ (u : Table). IsIndexOf e at u hs) (sym (cut_some l n cap x some)) index;
       live = subst (λ (k : LiveSet). LaysOut current e.bytes k) cut r.live;
       keeps = rest_trans (rest_others (handle x) (keeps_words at one w (omega arith) (omega arith)))

@@ -41,8 +41,9 @@ with_cut live n t = elim t.extent [
   | Some x ↦ if n == 0 then released live (handle x) else resized live (shorter live x (8 * n))
 ]
 
--- the index has as many places as entries
+-- the index has as many places as entries; without a block nothing changes
 pub record IsShrunk (old new : Cut) (at : ℕ) (t : Table) (handles : List ℕ) : Type 0 where
+  pub same : t.extent ≡ None → new ≡ old
   pub index : IsIndexOf new at (cut_table (live_of old.bytes) 8 (length handles) t) handles
   pub live : LaysOut current new.bytes (with_cut (live_of old.bytes) (length handles) t)
   pub keeps : KeepsRest old new at (beside_table t (live_of old.bytes).extents)

@@ -1,9 +1,10 @@
 //! An entry more, or less.
-ghost use Rattle.std.specs.Prelude.{◌≡◌, ℕ, ◌+◌, ◌-◌, ◌*◌, ◌%◌, ◌<◌, ◌≤◌, IfSome, IsTrue, List, Some, insert, remove};
+ghost use Rattle.std.specs.Prelude.{◌≡◌, ℕ, ◌+◌, ◌-◌, ◌*◌, ◌%◌, ◌<◌, ◌≤◌, IfSome, IsTrue, List, None, Some};
+ghost use Rattle.std.specs.Prelude.{insert, remove};
 ghost use Rattle.raw_region.specs.{Format.current, Memory.bytes_of};
 ghost use Rattle.offset_link.specs.{Link.link_at, Relinked.AllLead, Relinked.KeepTargets};
 ghost use Rattle.best_fit.specs.{Fit.others, Table.Table as ATable};
-ghost use Rattle.best_fit.specs.Heap.{IsChanged, IsHeap, LaysOut, has_room, heap_touches, live_of};
+ghost use Rattle.best_fit.specs.Heap.{IsChanged, IsHeap, KeepsGaps, LaysOut, has_room, heap_touches, live_of};
 ghost use Rattle.seg_index.specs.Growth.{AddKeeps, Adds, CanGrow, IsBlockFor, KeepsRest, beside_table, grown_live};
 ghost use Rattle.seg_index.specs.{Growth.unlinked, Index.grown_capacity};
 ghost use Rattle.seg_index.specs.Held.{HasIndex, IsIndexIn, IsIndexOf, capacity_at, entry_count, place_of};
@@ -26,6 +27,7 @@ impl Index {
         ensures live { LaysOut current heap.new.bytes (grown_live heap.old (place_of self) growth.block) }
         ensures keeps { (t : ATable) (handles : List ℕ) → IsIndexOf heap.old (place_of self) t handles
             → AddKeeps heap.old heap.new (place_of self) t growth.block }
+        ensures gaps { growth.block ≡ None → KeepsGaps heap.old heap.new }
         ensures counted { steps.old ≤ steps.new }
         ensures went { IfSome growth.block (λ block. IfSome (link_at (bytes_of heap.old.bytes) (place_of self))
             (λ old. steps.old < steps.new)) }
@@ -46,6 +48,7 @@ impl Index {
         ensures live { LaysOut current heap.new.bytes (live_of heap.old.bytes) }
         ensures keeps { (t : ATable) (handles : List ℕ) → IsIndexOf heap.old (place_of self) t handles
             → KeepsRest heap.old heap.new (place_of self) (beside_table t (live_of heap.old.bytes).extents) }
+        ensures gaps { KeepsGaps heap.old heap.new }
     {
         let count = self.len(heap);
         let block = heap.header_link(self.place()).unwrap_or(0);
@@ -65,6 +68,7 @@ impl Index {
         ensures live { LaysOut current heap.new.bytes (live_of heap.old.bytes) }
         ensures keeps { (t : ATable) (handles : List ℕ) → IsIndexOf heap.old (place_of self) t handles
             → KeepsRest heap.old heap.new (place_of self) (beside_table t (live_of heap.old.bytes).extents) }
+        ensures gaps { KeepsGaps heap.old heap.new }
     {
         let count = self.len(heap);
         let block = heap.header_link(self.place()).unwrap_or(0);

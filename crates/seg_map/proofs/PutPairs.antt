@@ -446,7 +446,9 @@ module _ {K V : Type 0} {kp : Plain K} {vp : Plain V} (c : Cut) {h at : ℕ} {ps
 
     pub is_put_again : IsPutAgain kp vp c d h at ps p key value
     is_put_again =
+        let behind : handle p.node + (16 + kp.SIZE) ≡ handle p.node + 16 + kp.SIZE = omega arith in
         record {
+          change = subst (λ n. IsChanged current c d n vp.SIZE) behind change;
           live = change.live;
           beside = keeps_beside keeps (λ y f o. block_stays y (handle y) f (λ e. both_ways _ o
               (ap (λ n. is_in n (nodes_of_pairs ps)) e ∙ in_nodes kp.order ps key p has)));

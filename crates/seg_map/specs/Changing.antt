@@ -21,8 +21,8 @@ pub record IsHeaded (old new : Cut) (at : ℕ) (root : Option ℕ) (count : ℕ)
   pub counted : word_at (bytes_of new.bytes) (at + 8) ≡ count
   pub third : word_at (bytes_of new.bytes) (at + 16) ≡ 0
 
--- of all blocks but these nodes no byte changes but the 24 of the map, nor does the header or what lies round the
--- window
+-- of all blocks but these nodes no byte changes but the 24 of the map, nor does the header but for word 24, or what
+-- lies round the window
 pub record IsBesideMap (old new : Cut) (at : ℕ) (ns : List ℕ) : Type 0 where
   pub place : SamePlace old new
   pub front : Same (bytes_of old.bytes) (bytes_of new.bytes) 0 24
@@ -154,9 +154,10 @@ pub record IsPut {K V : Type 0} (k : Plain K) (v : Plain V) (old new : Cut) (h a
   pub beside : IsBesideMap old new (h + at) (nodes_of_pairs ps)
   pub map : HoldsMap k v new.bytes h at (put_pair k.order (record { key = key; value = value; node = extent }) ps)
 
--- another value of a key, in the block that it had
+-- another value of a key, in the block that it had: no byte changes but those of the value
 pub record IsPutAgain {K V : Type 0} (k : Plain K) (v : Plain V) (old new : Cut) (h at : ℕ) (ps : List (Pair K V))
     (p : Pair K V) (key : K) (value : V) : Type 0 where
+  pub change : IsChanged current old new (handle p.node + 16 + k.SIZE) v.SIZE
   pub live : LaysOut current new.bytes (live_of old.bytes)
   pub beside : IsBesideMap old new (h + at) (nodes_of_pairs ps)
   pub map : HoldsMap k v new.bytes h at (put_pair k.order (record { key = key; value = value; node = p.node }) ps)

@@ -7,9 +7,9 @@ use Rattle.seg_vector.proofs.Words.{Extent, LiveSet, handle, holds, shorter, IsC
 use Rattle.seg_vector.proofs.Words.{live_of, IsResized, IsShortened, Table, no_table, same_role, serves, changed-live}
 use Rattle.seg_vector.proofs.Words.{laid-heap, read-same, shorter-IsShorter, spread-refl, exchange-released}
 use Rattle.seg_vector.proofs.Words.{exchange-resized, Role, Storage, Place, IsGivenBack, IsFitted, Stands, place_at, []}
-use Rattle.seg_vector.proofs.Words.{nil_from_length}
-use Rattle.seg_vector.proofs.Runs.{AreHeadWords, IsRun, beside-head, head-wider, none-some, room-head, run-headed}
-use Rattle.seg_vector.proofs.Runs.{run-stands, run-swapped, same-some, stands-run, table, table-full}
+use Rattle.seg_vector.proofs.Words.{nil_from_length, KeepsGaps}
+use Rattle.seg_vector.proofs.Runs.{AreHeadWords, IsRun, beside-head, head-gaps, head-wider, none-some, room-head}
+use Rattle.seg_vector.proofs.Runs.{run-headed, run-stands, run-swapped, same-some, stands-run, table, table-full}
 use Rattle.seg_vector.proofs.{Storage.storage-role, Bytes.more-times}
 use Rattle.best_fit.specs.Table.{cut_table}
 
@@ -61,13 +61,18 @@ given-back {old} {mid} {new} {o = Some x} s link c1 e r =
     let g_is = same-some (sym link ∙ s.words.link) in
     let gone = exchange-released current mid new x 0 0 (subst (IsReleased current mid new) g_is r) in
     let run = run-swapped [] (spread-refl (x ∷ [])) (emptied s c1 e) gone ((λ f. s.own.1 (sym f)), tt) in
-    record { change = run.change; stands = run-stands [] s run refl (omega arith) (omega arith) refl }
+    record {
+      change = run.change;
+      gaps = λ e. none-some (ap (λ (u : Table). u.extent) e) refl;
+      stands = run-stands [] s run refl (omega arith) (omega arith) refl;
+    }
 
 pub given-nothing : {old new : Cut} {p : Place} {each len c : ℕ} {o : Option Extent} {bytes : List ℕ}
     → Stands old.bytes p each len (table c o) bytes → link_at (bytes_of old.bytes) (place_at p) ≡ None
     → IsChanged current old new (place_at p) 24 → Stands new.bytes p each 0 no_table []
     → IsGivenBack old new p each (table c o)
-given-nothing {o = None} s link c1 e = record { change = (emptied s c1 e).change; stands = e }
+given-nothing {p} {o = None} s link c1 e =
+    record { change = (emptied s c1 e).change; gaps = λ same. head-gaps p s.room c1; stands = e }
 given-nothing {o = Some x} s link c1 e = none-some link s.words.link
 
 -- what is none of these is nothing
@@ -99,6 +104,7 @@ fits-nothing {old} {new} {p} {each} {len} {t} {bytes} s e r =
     subst (λ (bs : List ℕ). IsFitted old new p each len t bs) (sym empty) (record {
       change = subst (λ (u : Table). IsExchanged current old new (place_at p) 24 (option_to_list t.extent)
           (option_to_list u.extent)) (sym cut) r.change;
+      gaps = λ same. r.gaps (same ∙ cut);
       stands = subst (λ (u : Table). Stands new.bytes p each len u []) (sym cut)
           (subst (λ k. Stands new.bytes p each k no_table []) (sym e) r.stands);
     })
@@ -112,6 +118,13 @@ resized-here {b} {e} l {x} {g} {n} live found s =
     let same = same-some (sym s.found ∙ ap (λ (k : LiveSet). extent_at k g) live ∙ found) in
     subst (λ (k : LiveSet). IsResized current b e x (shorter k x n)) live
     (subst (λ (y : Extent). IsResized current b e y (shorter (live_of b.bytes) y n)) same s.shortened)
+
+-- where the shorter block is the block itself
+unshortened : {b e : Cut} (l : LiveSet) {x : Extent} {g n : ℕ} → live_of b.bytes ≡ l → extent_at l g ≡ Some x
+    → (s : IsShortened current b e g n) → shorter l x n ≡ x → shorter (live_of b.bytes) s.extent n ≡ s.extent
+unshortened {b} l {x} {g} {n} live found s is =
+    let same = same-some (sym s.found ∙ ap (λ (k : LiveSet). extent_at k g) live ∙ found) in
+    (λ i. shorter (live i) (same i) n) ∙ is ∙ sym same
 
 -- what the shorter block is
 record Short (x y : Extent) (n : ℕ) : Type 0 where
@@ -138,7 +151,7 @@ pub fitted : {old mid new : Cut} {p : Place} {each len c g : ℕ} {o : Option Ex
     → IsChanged current old mid (p.handle + (p.at + 16)) 8 → word_at (bytes_of mid.bytes) (p.handle + (p.at + 16)) ≡ len
     → IsShortened current mid new g (each * len) → IsFitted old new p each len (table c o) bytes
 fitted {o = None} some s link c1 word sh = none-some s.words.link link
-fitted {old} {mid} {new} {p} {each} {len} {c} {o = Some x} {bytes} some s link c1 word sh =
+fitted {old} {mid} {new} {p} {each} {len} {c} {g} {o = Some x} {bytes} some s link c1 word sh =
     let l = live_of old.bytes in let m = bytes_of old.bytes in let mi = bytes_of mid.bytes in
     let m' = bytes_of new.bytes in let at = place_at p in
     let n : ℕ = each * len in
@@ -178,5 +191,8 @@ fitted {old} {mid} {new} {p} {each} {len} {c} {o = Some x} {bytes} some s link c
     record {
       change = subst (λ (u : Table). IsExchanged current old new at 24 (x ∷ []) (option_to_list u.extent)) (sym cut)
           three.change;
+      gaps = λ same. subst (λ (v : Cut). KeepsGaps old v) (sym (sh.same (unshortened l {x = x} {g = g} {n = n}
+          (changed-live current old mid at 24 wide) (subst (λ k. extent_at l k ≡ Some x) (sym g_is) s.own.0) sh
+          (same-some (ap (λ (u : Table). u.extent) (sym (same ∙ cut))))))) (head-gaps p s.room wide);
       stands = subst (λ (u : Table). Stands new.bytes p each len u bytes) (sym cut) stands;
     }

@@ -8,7 +8,7 @@ use W.{extent_at, has_room, live_of, Table, is_table, serves, same_role, table_l
 use W.{live-rises, written-keeps, word-same, laid-heap, roomy, changed-live, written-but, IsFound, IsNone, SameSpread}
 use W.{all-found-in, all-in-use, found-none, exchanged-live, found-without, IsRoomy, kept, kept-found, exchange-next}
 use W.{exchange-same, spread-refl, exchange-wide, exchange-written, kept-beside, Place, IsOwnBlock, Stands, place_at}
-use W.{IsStorage, SameBut-link, IsSwapped, AreOthers, [], rising-others}
+use W.{IsStorage, SameBut-link, IsSwapped, AreOthers, [], rising-others, KeepsGaps, gaps-payload}
 
 abbrev pub table : ℕ → Option Extent → Table
 table c o = record { capacity = c; extent = o }
@@ -53,6 +53,11 @@ head-exchanged {old} {new} p heap room c =
       blocks = written-but old new l
           p.handle at 24 q.extent heap.proper q.found c (omega (arith, q.at)) (omega (arith, q.at, q.room));
     }
+
+-- no byte of a gap changes where the words of the head are written
+pub head-gaps : {a b : Cut} (p : Place) → IsTrue (has_room (live_of a.bytes) p.handle (p.at + 24))
+    → IsChanged current a b (place_at p) 24 → KeepsGaps a b
+head-gaps {a} {b} p room c = gaps-payload a b p.handle (p.at + 24) (place_at p) 24 c room (omega arith) (omega arith)
 
 pub record IsHead (c : Cut) (p : Place) : Type 0 where
   pub block : Extent

@@ -12,9 +12,11 @@ use W.{is_table, serves, same_role, table_link, IsSound, all_of-insert, found-ro
 use W.{laid-heap, all-same-but, changed-live, regrow-serves, in_use-all, block_payload, room-less, IfSome_is}
 use W.{all_keep_proper, legal_size, too_long, spread-refl, exchange-next, is_legal_size, Place, IsGrown, IsOwnBlock}
 use W.{Stands, place_at, IsWithoutSpace, IsStorage, capacity_for_one, IsRewritten, IsSwapped, SameBut-link, Refusal}
-use W.{NoSpace, [], changed-room, nil_from_length, take-nil, hole-order}
+use W.{NoSpace, [], changed-room, nil_from_length, take-nil, hole-order, all-in-use, exchanged-live, live-rises}
+use W.{gaps-payload, gaps-refl, gaps-then}
 use Rattle.seg_vector.proofs.Runs.{IsRun, beside-head, block-written, changed-both, head-room, head-wider, len-written}
-use Rattle.seg_vector.proofs.Runs.{none-some, room-head, run-found, run-headed, run-stands, run-swapped, same-some}
+use Rattle.seg_vector.proofs.Runs.{head-gaps, none-some, own-facts, room-head, run-found, run-headed, run-stands}
+use Rattle.seg_vector.proofs.Runs.{run-swapped, same-some}
 use Rattle.seg_vector.proofs.Runs.{serves-full, spread-nil, stands-none-of, stands-run, table, table-full}
 use Rattle.seg_vector.proofs.Bytes.{more-times, Has-append, Has-take, Has-drop, Has-beside, Has-patched, length-patch}
 use Rattle.best_fit.specs.{Extents.is_proper, Fit.regrow}
@@ -278,7 +280,8 @@ pub rewritten : {old s1 new : Cut} {p : Place} {each len c g : ℕ} (from : ℕ)
     → IsChanged current s1 new (p.handle + (p.at + 8)) 8 → word_at (bytes_of new.bytes) (p.handle + (p.at + 8)) ≡ len2
     → IsRewritten old new p each len2 (table c o) bytes2
 rewritten from len2 {o = None} bytes2 s link c1 within fits long content c2 word = none-some s.words.link link
-rewritten {s1} {p} {each} {c} from len2 {o = Some x} bytes2 s link c1 within fits long content c2 word =
+rewritten {old} {s1} {new} {p} {each} {c} {g} from {n} len2 {o = Some x} bytes2 s link c1 within fits long content c2
+    word =
     let g_is = same-some (sym s.words.link ∙ link) in let full = table-full each c x s.table in
     let less = more-times each len2 c fits in let one = written-run from s link c1 within in
     let wide = head-wider p c2 (omega arith) (omega arith) in
@@ -286,8 +289,11 @@ rewritten {s1} {p} {each} {c} from len2 {o = Some x} bytes2 s link c1 within fit
     let stays = beside-head (handle x) one.heap one.head wide (run-found one).0 (λ e. s.own.1 (sym e)) in
     let whole : Has (bytes_of s1.bytes) (handle x) bytes2 = subst (λ k. Has (bytes_of s1.bytes) k bytes2) (sym g_is)
     content in
+    let own = found-room (live_of old.bytes) (handle x) (each * c) x s.own.0 full in
     record {
       change = two.change;
+      gaps = gaps-then old s1 new (g + from) n c1 (gaps-payload old s1 (handle x) (each * c) (g + from) n c1 own
+          (omega (arith, g_is)) (omega (arith, g_is, within))) (head-gaps p (head-room one.head) wide);
       stands = run-stands bytes2 s two s.table fits long (read-same _ _ _ _ (handle x) (length bytes2) stays.payload
           (omega arith) (omega (arith, long, full, less)) ∙ whole);
     }
@@ -296,6 +302,18 @@ pub at-least : (each n : ℕ) → 1 ≤ each → n ≤ each * n
 at-least each n f = grind arith
 
 -- ---- places
+
+-- one change after another in the storage that there is
+pub same-storage : {old mid : Cut} {p : Place} {each len from n : ℕ} {t : Table} {bytes : List ℕ}
+    → Stands old.bytes p each len t bytes
+    → IsExchanged current old mid from n (option_to_list t.extent) (option_to_list t.extent)
+    → live_of mid.bytes ≡ live_of old.bytes
+same-storage {old} {mid} {p} {from = from} {n} {t} s x =
+    let l = live_of old.bytes in let own = option_to_list t.extent in
+    let facts = own-facts l p.handle t.extent s.own in
+    exchanged-live old mid from n own own current x
+    ∙ ap (λ (xs : List Extent). record l { extents = xs })
+    (sym (all-in-use own l.extents (live-rises l s.heap.proper) facts.0 facts.1).is)
 
 -- blocks exchanged, and then those that came written in
 pub exchange-then : {old mid new : Cut} {from n : ℕ} {gone come : List Extent}
@@ -342,6 +360,12 @@ pub table-places : (l : LiveSet) (each n : ℕ) (t : Table) {u : Table} → grow
 unfolding grown_table
 table-places l each n t e = table-if l n t (nat_le n t.capacity) (regrow l t.extent (each * n)) refl e
 
+-- with the places that there were, nothing is done
+pub grown-keeps : {old new : Cut} {p : Place} {each n len : ℕ} {t : Table} {bytes : List ℕ}
+    → (g : IsGrown old new p each n len t bytes) → t ≡ g.table → new ≡ old
+grown-keeps {old} {each = each} {n} {t = t} g e =
+    g.enough (subst (λ (u : Table). n ≤ u.capacity) (sym e) (table-places (live_of old.bytes) each n t g.grown))
+
 -- the place for it
 pub has-place : {old mid : Cut} {p : Place} {each len n : ℕ} {t : Table} {bytes : List ℕ} → len < n
     → IsGrown old mid p each n len t bytes
@@ -362,7 +386,7 @@ storage-has {b} {o = Some x} {bytes} s link =
 
 pub unchanged-rewritten : (c : Cut) {p : Place} {each len : ℕ} {t : Table} {bytes : List ℕ}
     → Stands c.bytes p each len t bytes → IsRewritten c c p each len t bytes
-unchanged-rewritten c s = record { change = (stands-run c s).change; stands = s }
+unchanged-rewritten c s = record { change = (stands-run c s).change; gaps = gaps-refl c; stands = s }
 
 pub unchanged : (c : Cut) (from n : ℕ) → IsHeap current c.bytes → IsChanged current c c from n
 unchanged c from n heap =
@@ -408,6 +432,7 @@ truncated {old} {p} {each} {len} n {bytes} s f c2 word =
     let long : length (take (each * n) bytes) ≡ each * n = omega (arith, length-take (each * n) bytes, total, less) in
     record {
       change = two.change;
+      gaps = head-gaps p s.room wide;
       stands = run-stands (take (each * n) bytes) s two s.table (omega (arith, f, fits))
           long (cut-storage (each * n) s (omega (arith, total, less)) wide);
     }

@@ -2,15 +2,16 @@
 use Rattle.seg_vector.proofs.Words as W
 use W.{◌≡◌, refl, sym, ap, subst, ◌∙◌, ℕ, zero, suc, ◌+◌, ◌*◌, ◌<◌, Bool, true, List, ◌∷◌, ◌++◌, length, take, drop}
 use W.{append_assoc, arith, ◌-◌, ◌≤◌, max, false, if◌then◌else◌, length-append, append-nil, IsTrue, Some, flat_map}
-use W.{insert, remove, slice_get, slice_set, nat_le, option_to_list, list_all, and_from, and_parts, leb-true}
+use W.{insert, remove, slice_get, slice_set, nat_le, list_all, and_from, and_parts, leb-true}
 use W.{list_all-append, take-append-drop, length-set, length-take, flat_map-append, take-append-add, drop-append-add}
-use W.{take-append_seam, length-insert, length-remove, part, patched, Cut, bytes_of, word_at, current, IsExchanged}
+use W.{take-append_seam, length-insert, length-remove, part, patched, Cut, bytes_of, word_at}
 use W.{live_of, Table, no_table, Refusal, Place, Erases, Result, Ok, Err, MatchResult, Extends, Fits, GivesBack}
 use W.{Inserts, IsFitted, IsGivenBack, IsRewritten, Overwrites, ReadsOne, Truncates, IsGrown, Grows, IsStanding, Stands}
-use W.{place_at, IsText, IsTextGrown, IsTextNow, capacity_for_one, capacity_for_text, IsVector, IsVectorGrown}
-use W.{IsVectorNow, IsWithoutSpace, [], take-nil, drop-nil}
-use Rattle.seg_vector.proofs.Storage.{capacity-bytes, exchange-then, has-place, not-refused, unchanged-rewritten}
-use Rattle.seg_vector.proofs.{Runs.same-some, Storage.wanted-places}
+use W.{IsText, IsTextGrown, IsTextNow, capacity_for_one, capacity_for_text, IsVector, IsVectorGrown}
+use W.{IsVectorNow, IsWithoutSpace, [], take-nil, drop-nil, KeepsGaps, gaps-refl, gaps-trans}
+use Rattle.seg_vector.proofs.Storage.{capacity-bytes, exchange-then, grown-keeps, has-place, not-refused}
+use Rattle.seg_vector.proofs.Storage.{same-storage, unchanged-rewritten, wanted-places}
+use Rattle.seg_vector.proofs.{Runs.same-some}
 use Rattle.best_fit.specs.Table.{cut_table}
 
 -- ---- what holds of each
@@ -140,6 +141,7 @@ pub vector-now : {T : Type 0} → {size : ℕ} (test : T → Bool) (sp : T → L
     → n ≡ length ys → bytes ≡ flat_map sp ys → IsTrue (list_all test ys) → IsVectorNow size test sp old new p t ys t
 vector-now {size = size} test sp {new = new} {p} {n} {t} ys r e f v = record {
   change = r.change;
+  gaps = λ same. r.gaps;
   vector = record {
     stands = subst (λ k. Stands new.bytes p size k t (flat_map sp ys)) e
         (subst (λ bs. Stands new.bytes p size n t bs) f r.stands);
@@ -148,33 +150,49 @@ vector-now {size = size} test sp {new = new} {p} {n} {t} ys r e f v = record {
 }
 
 module _ {T : Type 0} {size : ℕ} {test : T → Bool} {sp : T → List ℕ} where
-  -- one change after another, in the storage that came
-  pub now-then : {old mid new : Cut} {p : Place} (t : Table) {u : Table} {ys : List T}
-      → IsExchanged current old mid (place_at p) 24 (option_to_list t.extent) (option_to_list u.extent)
-      → IsVectorNow size test sp mid new p u ys u → IsVectorNow size test sp old new p t ys u
-  now-then t c w = record { change = exchange-then c w.change; vector = w.vector }
+  -- one change after another, in the storage that there is
+  pub now-then : {old mid new : Cut} {p : Place} {t : Table} {xs ys zs : List T}
+      → IsVector size test sp old.bytes p xs t → IsVectorNow size test sp old mid p t ys t
+      → IsVectorNow size test sp mid new p t zs t → IsVectorNow size test sp old new p t zs t
+  now-then {old} {mid} {new} v c w = record {
+    change = exchange-then c.change w.change;
+    gaps = λ same. gaps-trans old mid new (same-storage v.stands c.change) (c.gaps same) (w.gaps same);
+    vector = w.vector;
+  }
 
   -- the storage is grown, and the values stay
   pub vector-grown : {old new : Cut} {p : Place} {n : ℕ} {t : Table} {xs : List T}
       → IsVector size test sp old.bytes p xs t → IsGrown old new p size n (length xs) t (flat_map sp xs)
       → IsVectorGrown size test sp old new p t n xs
-  vector-grown v g = record {
+  vector-grown {old} v g = record {
     table = g.table;
     grown = g.grown;
-    now = record { change = g.change; vector = record { stands = g.stands; values = v.values } };
+    now = record {
+      change = g.change;
+      gaps = λ same. subst (λ (c : Cut). KeepsGaps old c) (sym (grown-keeps g same)) (gaps-refl old);
+      vector = record { stands = g.stands; values = v.values };
+    };
   }
 
   -- the storage is grown, and then there are other values in it
   pub grown-then : {old mid new : Cut} {p : Place} {n : ℕ} {t : Table} (xs : List T) {ys : List T}
       → (g : IsGrown old mid p size n (length xs) t (flat_map sp xs))
       → IsVectorNow size test sp mid new p g.table ys g.table → IsVectorGrown size test sp old new p t n ys
-  grown-then {t = t} xs g w = record { table = g.table; grown = g.grown; now = now-then t g.change w }
+  grown-then {new = new} xs g w = record {
+    table = g.table;
+    grown = g.grown;
+    now = record {
+      change = exchange-then g.change w.change;
+      gaps = λ same. subst (λ (c : Cut). KeepsGaps c new) (grown-keeps g same) (w.gaps refl);
+      vector = w.vector;
+    };
+  }
 
   -- nothing is done
   pub unchanged-now : (c : Cut) {p : Place} {xs : List T} (ys : List T) {t : Table}
       → IsVector size test sp c.bytes p xs t → xs ≡ ys → IsVectorNow size test sp c c p t ys t
   unchanged-now c {p} ys {t} v e = subst (λ (zs : List T). IsVectorNow size test sp c c p t zs t) e
-      (record { change = (unchanged-rewritten c v.stands).change; vector = v })
+      (record { change = (unchanged-rewritten c v.stands).change; gaps = λ same. gaps-refl c; vector = v })
 
   -- a place that is free
   pub has-space : {b : List ℕ} {p : Place} {xs : List T} {t : Table} → IsVector size test sp b p xs t
@@ -189,19 +207,31 @@ pub text-now : {old new : Cut} {p : Place} {n : ℕ} {t : Table} {bytes : List �
 text-now {new} {p} {n} {t} ys r e f =
     record {
       change = r.change;
+      gaps = λ same. r.gaps;
       text = subst (λ k. Stands new.bytes p 1 k t ys) e
           (subst (λ bs. Stands new.bytes p 1 n t bs) f r.stands);
     }
 
-pub text-then : {old mid new : Cut} {p : Place} (t : Table) {u : Table} {ys : List ℕ}
-    → IsExchanged current old mid (place_at p) 24 (option_to_list t.extent) (option_to_list u.extent)
-    → IsTextNow mid new p u ys u → IsTextNow old new p t ys u
-text-then t c w = record { change = exchange-then c w.change; text = w.text }
+pub text-then : {old mid new : Cut} {p : Place} {t : Table} {bytes ys zs : List ℕ} → IsText old.bytes p bytes t
+    → IsTextNow old mid p t ys t → IsTextNow mid new p t zs t → IsTextNow old new p t zs t
+text-then {old} {mid} {new} s c w = record {
+  change = exchange-then c.change w.change;
+  gaps = λ same. gaps-trans old mid new (same-storage s c.change) (c.gaps same) (w.gaps same);
+  text = w.text;
+}
 
 pub text-grown-then : {old mid new : Cut} {p : Place} {n : ℕ} {t : Table} {bytes ys : List ℕ}
     → (g : IsGrown old mid p 1 n (length bytes) t bytes) → IsTextNow mid new p g.table ys g.table
     → IsTextGrown old new p t n ys
-text-grown-then {t} g w = record { table = g.table; grown = g.grown; now = text-then t g.change w }
+text-grown-then {new = new} g w = record {
+  table = g.table;
+  grown = g.grown;
+  now = record {
+    change = exchange-then g.change w.change;
+    gaps = λ same. subst (λ (c : Cut). KeepsGaps c new) (grown-keeps g same) (w.gaps refl);
+    text = w.text;
+  };
+}
 
 -- ---- what the calls on bytes do, for vectors. Their element size is the type's.
 
@@ -306,14 +336,14 @@ module _ {T : Type 0} {size : ℕ} {test : T → Bool} {sp : T → List ℕ} (ol
   fitted-now h =
       let r = subst (λ j. IsFitted old mid p j (length xs) t (flat_map sp xs)) e
       (h (length xs) t (flat_map sp xs) stands-at) in
-      record { change = r.change; vector = record { stands = r.stands; values = v.values } }
+      record { change = r.change; gaps = r.gaps; vector = record { stands = r.stands; values = v.values } }
 
   pub released-now : GivesBack old mid p k → let none : List T = [] in IsVectorNow size test sp old mid p t none
       no_table
   released-now h =
       let r = subst (λ j. IsGivenBack old mid p j t) e
       (h (length xs) t (flat_map sp xs) stands-at) in
-      record { change = r.change; vector = record { stands = r.stands; values = refl } }
+      record { change = r.change; gaps = r.gaps; vector = record { stands = r.stands; values = refl } }
 
 -- ---- what the calls on bytes do, for texts
 
@@ -338,7 +368,15 @@ module _ (old mid : Cut) {p : Place} {bytes : List ℕ} {t : Table} (v : IsText 
   pub text-reserved : (n : ℕ) (r : Result (Unit {0}) Refusal) → Grows old mid p 1 n r
       → MatchResult r (λ u. IsTextGrown old mid p t n bytes) (IsWithoutSpace old mid 1 n t)
   text-reserved n (Ok u) h = let g = h (length bytes) t bytes v in
-      record { table = g.table; grown = g.grown; now = record { change = g.change; text = g.stands } }
+      record {
+        table = g.table;
+        grown = g.grown;
+        now = record {
+          change = g.change;
+          gaps = λ same. subst (λ (c : Cut). KeepsGaps old c) (sym (grown-keeps g same)) (gaps-refl old);
+          text = g.stands;
+        };
+      }
   text-reserved n (Err f) h = h (length bytes) t bytes v
 
   pub text-enough : (n : ℕ) (r : Result (Unit {0}) Refusal) → Grows old mid p 1 n r → n ≤ t.capacity

@@ -11,13 +11,13 @@ pub use Rattle.best_fit.proofs.Laws.{middle-first, spread-behind, all_of-inserte
 pub use Rattle.best_fit.proofs.Laws.{regrow-serves, two-apart, taken-back, widened-back, lay_out_one, allocated-room}
 pub use Rattle.best_fit.proofs.Laws.{still_allocated, all_of-insert, all-same-but, in_use-all, room-less, IfSome_is}
 pub use Rattle.best_fit.proofs.Laws.{without-inserted, block_payload, room_block, IsSound, live-sound, SameBlock-trans}
-pub use Rattle.best_fit.proofs.{Laws.blocks-trans, Laws.hole-order}
+pub use Rattle.best_fit.proofs.Laws.{blocks-trans, gaps-payload, gaps-refl, gaps-then, gaps-trans, hole-order}
 pub use Rattle.best_fit.specs.Exchange.{IsNotWidened, IsWidened, CarriesOver, IsGivenRoom, IsNotGivenRoom, block_of}
 pub use Rattle.best_fit.specs.Exchange.{exchanged, without_all, IsExchanged, inserted, IsRestored, SameBlockBut}
 pub use Rattle.best_fit.specs.Extents.{Extent, LiveSet, handle, holds, end_of, is_block, is_hole, proper_from}
 pub use Rattle.best_fit.specs.Fit.{place, shorter, others, resized, longer}
 pub use Rattle.best_fit.specs.Heap.{IsChanged, IsHeap, LaysOut, SameBlock, extent_at, has_room, live_of, IsReleased}
-pub use Rattle.best_fit.specs.Heap.{IsResized, IsShortened, IsAllocated, is_live_in, payload_at}
+pub use Rattle.best_fit.specs.Heap.{IsResized, IsShortened, IsAllocated, KeepsGaps, is_live_in, payload_at}
 pub use Rattle.best_fit.specs.Table.{Table, is_table, serves, same_role, table_link, no_table}
 pub use Rattle.best_fit.specs.{Exchange.IsRegrown}
 pub use Rattle.block_tags.specs.{Format.is_legal_size, declared.tile.Role.Role, declared.tile.Role.TheVariants.Storage}

@@ -2,14 +2,17 @@
 -- there are.
 use Rattle.std.specs.Prelude.{◌≡◌, ℕ, ◌+◌, ◌-◌, ◌*◌, ◌<◌, ◌≤◌, List, [], ◌++◌, take, drop, option_to_list}
 use Rattle.raw_region.specs.{Memory.Cut, Memory.bytes_of, Memory.part, Memory.patched, Memory.word_at, Format.current}
-use Rattle.best_fit.specs.{Exchange.IsExchanged, Heap.live_of, Table.Table, Table.cut_table, Table.no_table}
+use Rattle.best_fit.specs.{Exchange.IsExchanged, Heap.KeepsGaps, Heap.live_of}
+use Rattle.best_fit.specs.Table.{Table, cut_table, no_table}
 use Rattle.seg_vector.specs.{declared.elements.Spot.Spot, Standing.Stands, Standing.place_at}
 use Rattle.seg_vector.specs.declared.elements.Spot.TheVariants.{End, Over, Before}
 use Rattle.seg_vector.specs.declared.places.Place.{Place}
 
--- the container has other elements in the places that there were; of all other blocks no byte changes but its own 24
+-- the container has other elements in the places that there were; of all other blocks no byte changes but its own 24,
+-- and of gaps none
 pub record IsRewritten (old new : Cut) (p : Place) (each len : ℕ) (t : Table) (bytes : List ℕ) : Type 0 where
   pub change : IsExchanged current old new (place_at p) 24 (option_to_list t.extent) (option_to_list t.extent)
+  pub gaps : KeepsGaps old new
   pub stands : Stands new.bytes p each len t bytes
 
 -- the bytes of all elements
@@ -64,17 +67,20 @@ PutsAt old new p each (Before i) more = Inserts old new p each i more
 
 -- ---- fewer places
 
--- the container has no place, and its storage is given back
+-- the container has no place, and its storage is given back; without storage no byte of a gap changes
 pub record IsGivenBack (old new : Cut) (p : Place) (each : ℕ) (t : Table) : Type 0 where
   pub change : IsExchanged current old new (place_at p) 24 (option_to_list t.extent) []
+  pub gaps : t ≡ no_table → KeepsGaps old new
   pub stands : Stands new.bytes p each 0 no_table []
 
 abbrev pub GivesBack : Cut → Cut → Place → ℕ → Type 0
 GivesBack old new p each = (len : ℕ) (t : Table) (bytes : List ℕ) → Stands old.bytes p each len t bytes → IsGivenBack old new p each t
 
--- the container has as many places as elements: its storage is shortened, or given back where there is no element
+-- the container has as many places as elements: its storage is shortened, or given back where there is no element;
+-- where it stays as it is, no byte of a gap changes
 pub record IsFitted (old new : Cut) (p : Place) (each len : ℕ) (t : Table) (bytes : List ℕ) : Type 0 where
   pub change : IsExchanged current old new (place_at p) 24 (option_to_list t.extent) (option_to_list (cut_table (live_of old.bytes) each len t).extent)
+  pub gaps : t ≡ cut_table (live_of old.bytes) each len t → KeepsGaps old new
   pub stands : Stands new.bytes p each len (cut_table (live_of old.bytes) each len t) bytes
 
 abbrev pub Fits : Cut → Cut → Place → ℕ → Type 0

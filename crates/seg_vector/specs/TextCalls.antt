@@ -1,7 +1,8 @@
 -- A text at a place, and what its calls answer and do: elements of a byte each, under their own bytes.
 use Rattle.std.specs.Prelude.{◌≡◌, ℕ, ◌<◌, ◌≤◌, Some, Result, Ok, MatchResult, List, [], ◌++◌, length, slice_get, slice_set, option_to_list}
 use Rattle.raw_region.specs.{Memory.Cut, Format.current}
-use Rattle.best_fit.specs.{Exchange.IsExchanged, Heap.live_of, Table.Table, Table.cut_table, Table.no_table}
+use Rattle.best_fit.specs.{Exchange.IsExchanged, Heap.KeepsGaps, Heap.live_of}
+use Rattle.best_fit.specs.Table.{Table, cut_table, no_table}
 use Rattle.seg_types.specs.declared.refusals.Refusal.{Refusal}
 use Rattle.seg_vector.specs.{declared.places.Place.Place, Vector.capacity_for_text, Vector.grown_table}
 use Rattle.seg_vector.specs.{Standing.Stands, Standing.place_at, VectorCalls.IsOutside, VectorCalls.IsWithoutSpace}
@@ -14,9 +15,10 @@ abbrev pub IsSomeText : List ℕ → Place → Type 0
 IsSomeText b p = (bytes : List ℕ) × ((t : Table) × IsText b p bytes t)
 
 -- The text with these bytes and this storage is in the place of the one with that storage. Of all blocks that stay no
--- byte changes but its own 24.
+-- byte changes but its own 24, and of gaps none where the storage is the one before.
 pub record IsTextNow (old new : Cut) (p : Place) (t : Table) (bytes : List ℕ) (u : Table) : Type 0 where
   pub change : IsExchanged current old new (place_at p) 24 (option_to_list t.extent) (option_to_list u.extent)
+  pub gaps : t ≡ u → KeepsGaps old new
   pub text : IsText new.bytes p bytes u
 
 -- it has n places, or more

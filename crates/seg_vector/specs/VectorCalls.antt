@@ -2,7 +2,8 @@
 use Rattle.std.specs.Prelude.{◌≡◌, ℕ, ◌+◌, ◌-◌, ◌<◌, ◌≤◌, ◌⊎◌, Bool, IsTrue, Some, Result, Ok, MatchResult, List, [], ◌∷◌, ◌++◌, length, take, insert, remove, slice_get, slice_set, flat_map, option_to_list}
 use Rattle.std.specs.List.{list_all}
 use Rattle.raw_region.specs.{Memory.Cut, Format.current}
-use Rattle.best_fit.specs.{Exchange.IsExchanged, Heap.live_of, Table.Table, Table.cut_table, Table.no_table}
+use Rattle.best_fit.specs.{Exchange.IsExchanged, Heap.KeepsGaps, Heap.live_of}
+use Rattle.best_fit.specs.Table.{Table, cut_table, no_table}
 use Rattle.seg_types.specs.{declared.refusals.Refusal.Refusal, declared.refusals.Refusal.TheVariants.OutOfRange}
 use Rattle.seg_vector.specs.declared.places.Place.{Place}
 use Rattle.seg_vector.specs.{Standing.Stands, Standing.place_at, Vector.capacity_for_one, Vector.grown_table}
@@ -17,9 +18,10 @@ abbrev pub IsSomeVector : {T : Type 0} → ℕ → (T → Bool) → (T → List 
 IsSomeVector {T} size is_value spelling b p = (xs : List T) × ((t : Table) × IsVector size is_value spelling b p xs t)
 
 -- The vector with these elements and this storage is in the place of the one with that storage. Of all blocks that stay
--- no byte changes but its own 24.
+-- no byte changes but its own 24, and of gaps none where the storage is the one before.
 pub record IsVectorNow {T : Type 0} (size : ℕ) (is_value : T → Bool) (spelling : T → List ℕ) (old new : Cut) (p : Place) (t : Table) (ys : List T) (u : Table) : Type 0 where
   pub change : IsExchanged current old new (place_at p) 24 (option_to_list t.extent) (option_to_list u.extent)
+  pub gaps : t ≡ u → KeepsGaps old new
   pub vector : IsVector size is_value spelling new.bytes p ys u
 
 -- it has n places, or more

@@ -5,6 +5,7 @@ use Rattle.segment_manager.proofs.Common.{Option, Some, None, Result, Ok, Err, L
 use Rattle.segment_manager.proofs.Common.{IsTrue, MatchOption, MatchResult, find, int_lt, option_map, AllByRecursion}
 use Rattle.segment_manager.proofs.Common.{length-map, current, Cut, Has, Memory, bytes_of, Node, IsExchanged, LiveSet}
 use Rattle.segment_manager.proofs.Common.{handle, IsTreeOf, place, live_of, serves, ScalarKind, Plain, is_value}
+use Rattle.segment_manager.proofs.Common.{IsChanged}
 use Rattle.segment_manager.proofs.Common.{size_of, spelling, Erases, IsBesideMap, IsErased, IsFull, IsPut, IsPutAgain}
 use Rattle.segment_manager.proofs.Common.{Puts, Releases, is_key, is_rising, node_len, pair_at, put_pair, remove_pair}
 use Rattle.segment_manager.proofs.Common.{IsNumberPairAt, NumberPair, is_number_pair, FindsItem, FindsItemBefore}
@@ -245,6 +246,8 @@ module _ {K V : Type 0} (k v : ScalarKind) (kp : Plain K) (vp : Plain V) (kw : K
     puts-if ps x y result (Some p) r = (
       r.0,
       record {
+        change = subst (λ n. IsChanged current old new (handle p.node + 16 + n) (size_of v)) kl.long
+            (subst (λ n. IsChanged current old new (handle p.node + 16 + kp.SIZE) n) vl.long r.1.change);
         live = r.1.live;
         beside = beside-numbers ps r.1.beside;
         map = put-numbers ps (record { key = x; value = y; node = p.node }) r.1.map;

@@ -37,7 +37,7 @@ loop-value-preserved g c xs t v f =
     let whole : (xs ++ front) ++ y ∷ [] ≡ xs ++ take (i + 1) c.args.values.now = append_assoc xs front (y ∷ [])
     ∙ ap (λ zs. xs ++ zs) (sym next ∙ ap (λ k. take k c.args.values.now) count) in
     subst (λ zs. IsVectorNow g.T.Plain.SIZE g.T.Plain.is_value g.T.Plain.spelling c.args.heap.now c.put_value.new.heap
-    c.args.place t zs t) whole (now-then t w.change
+    c.args.place t zs t) whole (now-then v w
     (appended-now c.loop-value.heap c.put_value.new.heap refl w.vector y c.put_value.ensures.value
     c.put_value.ensures.put))
 

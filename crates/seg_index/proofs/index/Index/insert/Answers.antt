@@ -1,6 +1,6 @@
 -- The links behind the place make way.
 use Rattle.seg_index.proofs.{◌-◌, ◌*◌, subst, arith, current, LiveSet, LaysOut, same_live, has_places, in_header}
-use Rattle.seg_index.proofs.{links_lead, block_and_count, inserted}
+use Rattle.seg_index.proofs.{links_lead, block_and_count, gaps_kept, inserted}
 use Rattle.seg_index.proofs.index.Index.insert.Goals as goal
 
 pub spread-requires-clause-links : goal.spread-requires-clause-links
@@ -26,3 +26,10 @@ returns-clause-keeps c = λ t hs i.
     let p = has_places i (omega arith) c.place.ensures c.header_link.ensures c.unwrap_or-block.ensures in
     block_and_count p (in_header c.args.self) (8 * c.args.place) c.spread.ensures.change (omega arith) c.place-2.ensures
     c.set_header_word.ensures.change
+
+pub returns-clause-gaps : goal.returns-clause-gaps
+returns-clause-gaps c =
+    let q = c.requires.index in
+    let p = has_places q.index (omega arith) c.place.ensures c.header_link.ensures c.unwrap_or-block.ensures in
+    gaps_kept p (in_header c.args.self) (8 * c.args.place) c.spread.ensures.change (omega arith)
+    c.place-2.ensures c.set_header_word.ensures.change

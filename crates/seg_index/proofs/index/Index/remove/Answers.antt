@@ -1,6 +1,6 @@
 -- The links behind the place close up.
 use Rattle.seg_index.proofs.{◌≡◌, ◌+◌, ◌-◌, ◌*◌, subst, arith, current, bytes_of, AllLead, LiveSet, LaysOut, same_live}
-use Rattle.seg_index.proofs.{has_places, in_header, links_lead, block_and_count, removed}
+use Rattle.seg_index.proofs.{has_places, in_header, links_lead, block_and_count, gaps_kept, removed}
 use Rattle.seg_index.proofs.index.Index.remove.Goals as goal
 
 pub shift_non_null_links-requires-clause-links : goal.shift_non_null_links-requires-clause-links
@@ -27,4 +27,11 @@ pub returns-clause-keeps : goal.returns-clause-keeps
 returns-clause-keeps c = λ t hs i.
     let p = has_places i (omega arith) c.place.ensures c.header_link.ensures c.unwrap_or-block.ensures in
     block_and_count p (in_header c.args.self) (8 * c.args.place) c.shift_non_null_links.ensures.change (omega arith)
+    c.place-2.ensures c.set_header_word.ensures.change
+
+pub returns-clause-gaps : goal.returns-clause-gaps
+returns-clause-gaps c =
+    let q = c.requires.index in
+    let p = has_places q.index (omega arith) c.place.ensures c.header_link.ensures c.unwrap_or-block.ensures in
+    gaps_kept p (in_header c.args.self) (8 * c.args.place) c.shift_non_null_links.ensures.change (omega arith)
     c.place-2.ensures c.set_header_word.ensures.change

@@ -1,6 +1,6 @@
 -- The storage grows, and then the values are put in from the front.
 use Rattle.seg_vector.proofs.{arith, length, [], live_of, err_from_is_err_and, table-places, grown-of, grown-then}
-use Rattle.seg_vector.proofs.{now-then, without-space}
+use Rattle.seg_vector.proofs.{IsVector, now-then, without-space}
 use Rattle.seg_vector.proofs.vectors.SegVec.assign.Goals as goal
 
 pub clear-requires : goal.clear-requires
@@ -39,6 +39,8 @@ returns g c xs t v =
     let grown = grown-of c.args.heap.now c.reserve.new.heap c.SIZE.ensures v
     (λ len capacity. length c.args.values.now) (λ n u bytes s. c.in_ok-reserve.ensures n u bytes s) in
     let places = table-places (live_of c.args.heap.now.bytes) g.T.Plain.SIZE (length c.args.values.now) t grown.grown in
-    let cleared = c.clear.ensures xs grown.table (record { stands = grown.stands; values = v.values }) in
+    let mid : IsVector g.T.Plain.SIZE g.T.Plain.is_value g.T.Plain.spelling c.reserve.new.heap.bytes c.args.self.place
+    xs grown.table = record { stands = grown.stands; values = v.values } in
+    let cleared = c.clear.ensures xs grown.table mid in
     grown-then xs grown
-    (now-then grown.table cleared.change (c.put_all.ensures [] grown.table cleared.vector (omega (arith, places))))
+    (now-then mid cleared (c.put_all.ensures [] grown.table cleared.vector (omega (arith, places))))

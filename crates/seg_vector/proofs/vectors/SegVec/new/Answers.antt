@@ -1,9 +1,10 @@
 -- The words are those of a vector without a place.
-use Rattle.seg_vector.proofs.{refl, head-exchanged}
+use Rattle.seg_vector.proofs.{refl, head-exchanged, head-gaps}
 use Rattle.seg_vector.proofs.vectors.SegVec.new.Goals as goal
 
 pub returns-clause-vector : goal.returns-clause-vector
 returns-clause-vector g c = record {
   change = head-exchanged c.args.place c.requires.heap c.requires.room c.start.ensures.change;
+  gaps = λ same. head-gaps c.args.place c.requires.room c.start.ensures.change;
   vector = record { stands = c.start.ensures.stands g.T.Plain.SIZE; values = refl };
 }

@@ -7,7 +7,7 @@ ghost use Rattle.image_check.specs.EarlyTests.{has_reserved as is_reserved};
 ghost use Rattle.image_check.specs.Frame.{has_frame};
 ghost use Rattle.image_check.specs.Opening.{IsImage, IsRaisedFor};
 ghost use Rattle.image_check.specs.Owners.{entries_of};
-ghost use Rattle.image_check.specs.Passes.{HasTiles, Spends, tiles_in};
+ghost use Rattle.image_check.specs.Passes.{CountsTiles, HasTiles, Spends, tiles_in};
 ghost use Rattle.image_check.specs.Reading.{HasFront};
 ghost use Rattle.image_check.specs.Visits.{block_rates, frame_rates};
 
@@ -35,7 +35,7 @@ use std::mem;
 pub(crate) use visits::Visits;
 
 /// Whether a window whose first words are right by a format, from 0 to 2, is the image of a directory by it. A visit is
-/// a step.
+/// a step: where it is, there is at least one for each tile.
 ///
 /// # Errors
 ///
@@ -50,6 +50,7 @@ pub fn check(
     requires front { HasFront format window.now }
     ensures answers { MatchResult result (λ done. IsImage format window.now.bytes) (IsWhyRefused format window.now.bytes) }
     ensures steps { IsRaisedFor (length window.now.bytes) steps.old steps.new }
+    ensures tiles { OnOk result (CountsTiles window.now.bytes steps.old steps.new) }
 {
     let mut visits = Visits::new(mem::replace(steps, Steps::new()));
     let checked = check_counted(format, alloc, window, &mut visits);
@@ -72,6 +73,7 @@ fn check_counted(
     requires front { HasFront format window.now }
     ensures answers { MatchResult result (λ done. IsImage format window.now.bytes) (IsWhyRefused format window.now.bytes) }
     ensures visits { IsRaisedFor (length window.now.bytes) visits.old visits.new }
+    ensures tiles { OnOk result (CountsTiles window.now.bytes visits.old visits.new) }
 {
     let counts = match check_frame(format, window, visits) {
         Ok(counts) => counts,

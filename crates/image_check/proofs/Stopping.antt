@@ -1,5 +1,6 @@
 -- Why the reading of an image stops: too few bytes came, the first ones are wrong, or more follow.
-use Rattle.std.proofs.Common.{◌≡◌, refl, sym, ap, subst, ◌∙◌, ℕ, ◌+◌, ◌<◌, ◌≤◌, Bool, true, false, inl, inr, List, [], ◌∷◌, ◌++◌, length, take, arith, Some, None, Ok, Err}
+use Rattle.std.proofs.Common.{◌≡◌, refl, sym, ap, subst, ◌∙◌, ℕ, ◌+◌, ◌<◌, ◌≤◌, Bool, true, false, inl, inr}
+use Rattle.std.proofs.Common.{List, [], ◌∷◌, ◌++◌, length, take, arith, Some, None, Ok, Err}
 use Rattle.std.specs.Prelude.{IsTrue, nat_lt, nat_le, if◌then◌else◌}
 use Rattle.std.proofs.lemmas.Bool.{and_from, and_right, lt-ltb, le-ltb, lt-leb, le-leb, both_ways}
 use Rattle.std.proofs.lemmas.List.{length-append, length-take}
@@ -69,7 +70,11 @@ right-undecided format b size r l =
 -- a reader failed where nothing is decided
 fault_stops : (format : ℕ) (b : List ℕ) (ended : Bool) (f f' base capacity : ℕ) → decided format b ≡ None → (IsTooSmallFor format (given b ended f f') base capacity → ⊥) → f' ≡ f + 1
     → Stops format (given b ended f f') base capacity ReadFault
-fault_stops format b ended f f' base capacity d n g = record { why = record { failed = lt-ltb f f' (omega arith); open_class = decided-none format b d }; too_small = λ t. absurd (n t); early = refl }
+fault_stops format b ended f f' base capacity d n g = record {
+  why = record { failed = lt-ltb f f' (omega arith); open_class = decided-none format b d };
+  too_small = λ t. absurd (n t);
+  early = refl;
+}
 
 -- too few bytes came, and what came decides nothing
 short_stops : (format : ℕ) (b : List ℕ) (ended : Bool) (f f' base capacity : ℕ) (cause : OpenError) → IsTrue (holds format b Truncated) → decided format b ≡ None
@@ -79,7 +84,11 @@ short_stops format b ended f f' base capacity cause t d n (inl e) g =
 short_stops format b ended f f' base capacity cause t d n (inr h) g =
     let same : f' ≡ f + 0 = g ∙ ap (λ c. f + rise c) h.0 in
     subst (Stops format (given b ended f f') base capacity) (sym h.0)
-    (record { why = record { sound = none_failed f f' same; right = inl (h.1, first_class (holds format b) t) }; too_small = λ s. absurd (n s); early = refl })
+    (record {
+      why = record { sound = none_failed f f' same; right = inl (h.1, first_class (holds format b) t) };
+      too_small = λ s. absurd (n s);
+      early = refl;
+    })
 
 -- ---- in the first 24 bytes, and in the others where these are wrong
 
@@ -130,7 +139,14 @@ wrong_front_decides format old mid new front xs ended f f' base capacity c l k e
     let both = length-append front xs in
     let wrong = front_of-append format front xs (omega arith) ∙ w in
     stops_since format old new b ended f f' base capacity (Image c) (both_added old mid new front xs e a)
-    (record { why = record { sound = none_failed f f' g; right = inr (decided-some format b c (front-decided format b c (omega arith) wrong)) }; too_small = λ t. absurd (none_too_small format b ended f f' base capacity c wrong t); early = front-early format front c w })
+    (record {
+      why = record {
+        sound = none_failed f f' g;
+        right = inr (decided-some format b c (front-decided format b c (omega arith) wrong));
+      };
+      too_small = λ t. absurd (none_too_small format b ended f f' base capacity c wrong t);
+      early = front-early format front c w;
+    })
 
 -- ---- behind a right front
 
@@ -176,4 +192,11 @@ whole_stops format old mid new b size ended f f' base capacity cause r l room e 
     let right = IsRight-append format b one size r in
     stops_since format old new (b ++ one) ended f f' base capacity cause (both_added old mid new b one e h.1.1)
     (subst (Stops format (given (b ++ one) ended f f') base capacity) (sym h.0)
-    (record { why = record { sound = none_failed f f' (g ∙ ap (λ c. f + rise c) h.0); right = inr (decided-some format (b ++ one) BadSize (more-decided format (b ++ one) size right (omega arith))) }; too_small = λ t. absurd (room_for format (b ++ one) size ended f f' base capacity right room t); early = refl }))
+    (record {
+      why = record {
+        sound = none_failed f f' (g ∙ ap (λ c. f + rise c) h.0);
+        right = inr (decided-some format (b ++ one) BadSize (more-decided format (b ++ one) size right (omega arith)));
+      };
+      too_small = λ t. absurd (room_for format (b ++ one) size ended f f' base capacity right room t);
+      early = refl;
+    }))

@@ -1,5 +1,6 @@
 -- What the parts of an opening read, and why they stop.
-use Rattle.std.specs.Prelude.{◌≡◌, ◌⊎◌, ◌≤◌, ℕ, ◌+◌, Bool, true, false, List, [], ◌∷◌, ◌++◌, length, IsTrue, if◌then◌else◌, Result, Ok, Err}
+use Rattle.std.specs.Prelude.{◌≡◌, ◌⊎◌, ◌≤◌, ℕ, ◌+◌, Bool, true, false, List, [], ◌∷◌, ◌++◌, length}
+use Rattle.std.specs.Prelude.{IsTrue, if◌then◌else◌, Result, Ok, Err}
 use Rattle.raw_region.specs.Memory.{Cut, SamePlace, cut_at, whole}
 use Rattle.raw_region.specs.Device.{Given}
 use Rattle.block_tags.specs.Format.{is_legal_size}

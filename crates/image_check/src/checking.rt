@@ -1,5 +1,6 @@
 //! Whether a whole image is that of a directory.
-ghost use Rattle.std.specs.Prelude.{◌≡◌, ◌≤◌, IfErr, IfOk, IsTrue, None, Some, MatchResult, OnErr, OnOk, false, length, true};
+ghost use Rattle.std.specs.Prelude.{◌≡◌, ◌≤◌, IfErr, IfOk, IsTrue, None, Some, MatchResult, OnErr, OnOk};
+ghost use Rattle.std.specs.Prelude.{false, length, true};
 ghost use Rattle.image_check.specs.Checking.{FindsLate, IsWhyRefused, cause_for};
 ghost use Rattle.image_check.specs.Classes.{are_bytes, class_of};
 ghost use Rattle.image_check.specs.Counting.{AreCounted};
@@ -52,7 +53,8 @@ pub fn check(
     ensures answers { MatchResult result (λ done. IsImage format window.now.bytes) (IsWhyRefused format window.now.bytes) }
     ensures steps { IsRaisedFor (length window.now.bytes) steps.old steps.new }
     ensures tiles { OnOk result (CountsTiles window.now.bytes steps.old steps.new) }
-    ensures late { IfErr result (λ why. is_late (cause_for why) ≡ true → CountsTiles window.now.bytes steps.old steps.new) }
+    ensures late { IfErr result (λ why. is_late (cause_for why) ≡ true
+        → CountsTiles window.now.bytes steps.old steps.new) }
 {
     let mut visits = Visits::new(mem::replace(steps, Steps::new()));
     let checked = check_counted(format, alloc, window, &mut visits);
@@ -76,7 +78,8 @@ fn check_counted(
     ensures answers { MatchResult result (λ done. IsImage format window.now.bytes) (IsWhyRefused format window.now.bytes) }
     ensures visits { IsRaisedFor (length window.now.bytes) visits.old visits.new }
     ensures tiles { OnOk result (CountsTiles window.now.bytes visits.old visits.new) }
-    ensures late { IfErr result (λ why. is_late (cause_for why) ≡ true → CountsTiles window.now.bytes visits.old visits.new) }
+    ensures late { IfErr result (λ why. is_late (cause_for why) ≡ true
+        → CountsTiles window.now.bytes visits.old visits.new) }
 {
     let counts = match check_frame(format, window, visits) {
         Ok(counts) => counts,

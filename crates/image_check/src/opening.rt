@@ -2,7 +2,8 @@
 ghost use Rattle.std.specs.Prelude.{◌≡◌, ◌+◌, ◌-◌, ◌%◌, ◌^◌, ◌<◌, IfErr, OnOk, length, true};
 ghost use Rattle.raw_region.specs.Device.{Reads, given_since};
 ghost use Rattle.raw_region.specs.Format.{current};
-ghost use Rattle.image_check.specs.Opening.{AsksToTheEnd, IsRaisedFor, Opens, cause_of, failed_reads, is_late, size_or_least};
+ghost use Rattle.image_check.specs.Opening.{AsksToTheEnd, IsRaisedFor, Opens, cause_of, failed_reads};
+ghost use Rattle.image_check.specs.Opening.{is_late, size_or_least};
 ghost use Rattle.image_check.specs.Passes.{CountsTiles};
 
 use crate::checking::check;

@@ -317,7 +317,7 @@ count-most (t ∷ ts) = by t.use_of (count-most ts)
 pub record Gathering (seen visits room spared : ℕ) (es : Blocks) (front : List Tile) : Type 0 where
   pub entries : es ≡ entries_of front
   pub spare : room ≤ spared + length (entries_of front)
-  pub more : seen ≤ visits
+  pub more : seen + length front ≤ visits
   pub most : visits ≤ seen + (length front + length front)
 
 -- all tiles are those passed, this one and those behind
@@ -350,7 +350,8 @@ gathering-below c seen visits room spared es here a =
     (below-here 128 a.front here a.back (length c.bytes - 16) (said_row c (a.front ++ here ∷ a.back) a.said))
 
 pub gathering-more : (seen visits room spared : ℕ) (es : Blocks) (front : List Tile) (here : Tile) (v2 s2 : ℕ) (fs : Blocks) → Gathering seen visits room spared es front
-    → visits ≤ v2 → v2 ≤ visits + 2 → fs ≡ es ++ option_to_list (entry_of here) → spared ≤ s2 + length (option_to_list (entry_of here)) → Gathering seen v2 room s2 fs (front ++ here ∷ [])
+    → visits + 1 ≤ v2 → v2 ≤ visits + 2 → fs ≡ es ++ option_to_list (entry_of here)
+    → spared ≤ s2 + length (option_to_list (entry_of here)) → Gathering seen v2 room s2 fs (front ++ here ∷ [])
 gathering-more seen visits room spared es front here v2 s2 fs g lo hi e s =
     let left = g.spare in
     let more = g.more in

@@ -23,7 +23,7 @@ use Rattle.image_check.proofs.Deciding.{decided-some, first_class}
 use Rattle.image_check.proofs.Early.{cut-Truncated}
 use Rattle.image_check.proofs.Fronts.{IsRight, front-decided, front-wrong, has_front-IsRight}
 use Rattle.image_check.proofs.Refused.{back-from, no-room}
-use Rattle.image_check.proofs.Stopping.{more-decided}
+use Rattle.image_check.proofs.Stopping.{front-early, more-decided}
 
 -- ---- why it is not put there
 
@@ -40,6 +40,7 @@ pub misfit-front : (format : ℕ) (b : List ℕ) (base capacity : ℕ) (c : Imag
 misfit-front format b base capacity c e l = record {
   why = whole-class format b c (decided-some format b c (front-decided format b c l e) [] refl);
   too_small = λ t. absurd (wrong-room format b base capacity c e t);
+  early = front-early format b c e;
 }
 
 -- first words that say a size
@@ -66,6 +67,7 @@ misfit-cut format b base capacity size r room l =
     record {
       why = first_class (holds format b) (cut-Truncated format b r.magic r.version (ap is_legal_size says ∙ r.legal) (omega arith));
       too_small = λ t. absurd (right-room format b base capacity size r room t);
+      early = refl;
     }
 
 -- or more
@@ -73,6 +75,7 @@ pub misfit-more : (format : ℕ) (b : List ℕ) (base capacity size : ℕ) → I
 misfit-more format b base capacity size r room l = record {
   why = whole-class format b BadSize (decided-some format b BadSize (more-decided format b size r l) [] refl);
   too_small = λ t. absurd (right-room format b base capacity size r room t);
+  early = refl;
 }
 
 -- ---- why no segment is opened

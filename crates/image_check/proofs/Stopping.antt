@@ -1,6 +1,7 @@
 -- Why the reading of an image stops: too few bytes came, the first ones are wrong, or more follow.
-use Rattle.std.proofs.Common.{◌≡◌, refl, sym, ap, subst, ◌∙◌, ℕ, ◌+◌, ◌<◌, ◌≤◌, Bool, true, false, inl, inr, List, [], ◌∷◌, ◌++◌, length, take, arith, Some, None, Err}
-use Rattle.std.specs.Prelude.{IsTrue, nat_lt, nat_le}
+use Rattle.std.proofs.Common.{◌≡◌, refl, sym, ap, subst, ◌∙◌, ℕ, ◌+◌, ◌<◌, ◌≤◌, Bool, true, false, inl, inr}
+use Rattle.std.proofs.Common.{List, [], ◌∷◌, ◌++◌, length, take, arith, Some, None, Ok, Err}
+use Rattle.std.specs.Prelude.{IsTrue, nat_lt, nat_le, if◌then◌else◌}
 use Rattle.std.proofs.lemmas.Bool.{and_from, and_right, lt-ltb, le-ltb, lt-leb, le-leb, both_ways}
 use Rattle.std.proofs.lemmas.List.{length-append, length-take}
 use Rattle.raw_region.specs.Answers.{AddsFront}
@@ -9,13 +10,13 @@ use Rattle.raw_region.proofs.Laws.{added, both_added}
 use Rattle.block_tags.specs.Format.{is_legal_size}
 use Rattle.best_fit.proofs.Laws.{legal_size}
 use Rattle.image_check.specs.declared.classes.ImageClass.{ImageClass}
-use Rattle.image_check.specs.declared.classes.ImageClass.TheVariants.{Truncated, BadSize}
+use Rattle.image_check.specs.declared.classes.ImageClass.TheVariants.{Truncated, BadMagic, UnsupportedVersion, BadSize}
 use Rattle.image_check.specs.declared.errors.OpenError.{OpenError}
 use Rattle.image_check.specs.declared.errors.OpenError.TheVariants.{Image, ReadFault}
 use Rattle.image_check.specs.EarlyTests.{size_word, has_magic, has_version, has_front, has_size}
 use Rattle.image_check.specs.Classes.{holds}
 use Rattle.image_check.specs.Deciding.{decided, decided_by}
-use Rattle.image_check.specs.Opening.{IsTooSmallFor, failed_reads}
+use Rattle.image_check.specs.Opening.{IsTooSmallFor, failed_reads, is_late}
 use Rattle.image_check.specs.Reading.{front_of, IsShort, GoesOn, Stops}
 use Rattle.image_check.proofs.Deciding.{decided-some, decided-none, first_class}
 use Rattle.image_check.proofs.Early.{short-Truncated, cut-Truncated}
@@ -69,7 +70,11 @@ right-undecided format b size r l =
 -- a reader failed where nothing is decided
 fault_stops : (format : ℕ) (b : List ℕ) (ended : Bool) (f f' base capacity : ℕ) → decided format b ≡ None → (IsTooSmallFor format (given b ended f f') base capacity → ⊥) → f' ≡ f + 1
     → Stops format (given b ended f f') base capacity ReadFault
-fault_stops format b ended f f' base capacity d n g = record { why = record { failed = lt-ltb f f' (omega arith); open_class = decided-none format b d }; too_small = λ t. absurd (n t) }
+fault_stops format b ended f f' base capacity d n g = record {
+  why = record { failed = lt-ltb f f' (omega arith); open_class = decided-none format b d };
+  too_small = λ t. absurd (n t);
+  early = refl;
+}
 
 -- too few bytes came, and what came decides nothing
 short_stops : (format : ℕ) (b : List ℕ) (ended : Bool) (f f' base capacity : ℕ) (cause : OpenError) → IsTrue (holds format b Truncated) → decided format b ≡ None
@@ -79,7 +84,11 @@ short_stops format b ended f f' base capacity cause t d n (inl e) g =
 short_stops format b ended f f' base capacity cause t d n (inr h) g =
     let same : f' ≡ f + 0 = g ∙ ap (λ c. f + rise c) h.0 in
     subst (Stops format (given b ended f f') base capacity) (sym h.0)
-    (record { why = record { sound = none_failed f f' same; right = inl (h.1, first_class (holds format b) t) }; too_small = λ s. absurd (n s) })
+    (record {
+      why = record { sound = none_failed f f' same; right = inl (h.1, first_class (holds format b) t) };
+      too_small = λ s. absurd (n s);
+      early = refl;
+    })
 
 -- ---- in the first 24 bytes, and in the others where these are wrong
 
@@ -109,6 +118,19 @@ wrong_front_stops format old mid new front xs ended f f' base capacity c cause l
     (short_stops format b ended f f' base capacity cause (short-Truncated format b (omega arith)) (short-undecided format b (omega arith))
     (none_too_small format b ended f f' base capacity c (front_of-append format front (take a.count xs) (omega arith) ∙ w)) s g)
 
+-- what is wrong with the first words is no class from the eighth on
+early-by : (m v l : Bool) (n : ℕ) (c : ImageClass)
+    → (if m then (if v then (if l then Ok n else Err BadSize) else Err UnsupportedVersion) else Err BadMagic) ≡ Err c
+    → is_late (Image c) ≡ false
+early-by true true true n c e = absurd (cc)
+early-by true true false n c e = let same : BadSize ≡ c = cc in ap (λ k. is_late (Image k)) (sym same)
+early-by true false l n c e = let same : UnsupportedVersion ≡ c = cc in ap (λ k. is_late (Image k)) (sym same)
+early-by false v l n c e = let same : BadMagic ≡ c = cc in ap (λ k. is_late (Image k)) (sym same)
+
+pub front-early : (format : ℕ) (b : List ℕ) (c : ImageClass) → front_of format b ≡ Err c → is_late (Image c) ≡ false
+front-early format b c e =
+    early-by (has_magic b) (has_version format b) (is_legal_size (size_word b)) (size_word b) c e
+
 -- with 144 bytes the wrong front decides
 pub wrong_front_decides : (format : ℕ) (old mid new front xs : List ℕ) (ended : Bool) (f f' base capacity : ℕ) (c : ImageClass) → length front ≡ 24 → length xs ≡ 120 → mid ≡ old ++ front
     → front_of format front ≡ Err c → new ≡ mid ++ xs → f' ≡ f + 0 → Stops format (read_since old new ended f f') base capacity (Image c)
@@ -117,7 +139,14 @@ wrong_front_decides format old mid new front xs ended f f' base capacity c l k e
     let both = length-append front xs in
     let wrong = front_of-append format front xs (omega arith) ∙ w in
     stops_since format old new b ended f f' base capacity (Image c) (both_added old mid new front xs e a)
-    (record { why = record { sound = none_failed f f' g; right = inr (decided-some format b c (front-decided format b c (omega arith) wrong)) }; too_small = λ t. absurd (none_too_small format b ended f f' base capacity c wrong t) })
+    (record {
+      why = record {
+        sound = none_failed f f' g;
+        right = inr (decided-some format b c (front-decided format b c (omega arith) wrong));
+      };
+      too_small = λ t. absurd (none_too_small format b ended f f' base capacity c wrong t);
+      early = front-early format front c w;
+    })
 
 -- ---- behind a right front
 
@@ -163,4 +192,11 @@ whole_stops format old mid new b size ended f f' base capacity cause r l room e 
     let right = IsRight-append format b one size r in
     stops_since format old new (b ++ one) ended f f' base capacity cause (both_added old mid new b one e h.1.1)
     (subst (Stops format (given (b ++ one) ended f f') base capacity) (sym h.0)
-    (record { why = record { sound = none_failed f f' (g ∙ ap (λ c. f + rise c) h.0); right = inr (decided-some format (b ++ one) BadSize (more-decided format (b ++ one) size right (omega arith))) }; too_small = λ t. absurd (room_for format (b ++ one) size ended f f' base capacity right room t) }))
+    (record {
+      why = record {
+        sound = none_failed f f' (g ∙ ap (λ c. f + rise c) h.0);
+        right = inr (decided-some format (b ++ one) BadSize (more-decided format (b ++ one) size right (omega arith)));
+      };
+      too_small = λ t. absurd (room_for format (b ++ one) size ended f f' base capacity right room t);
+      early = refl;
+    }))

@@ -140,6 +140,13 @@ AsksToTheEnd old new = new.ends ≡ old.ends + (if new.ended then 1 else 0)
 abbrev pub size_or_least : List ℕ → ℕ
 size_or_least b = if is_legal_size (size_word b) then size_word b else 144
 
+-- why an image is refused for its blocks in use, which were gone over then: by a class from the eighth on
+abbrev pub is_late : OpenError → Bool
+is_late (Image c) = nat_lt 7 (number_of c)
+is_late RegionTooSmall = false
+is_late OutOfMemory = false
+is_late ReadFault = false
+
 -- a count is raised by no more than 64 for each 16 bytes of the size, and 64
 abbrev pub IsRaisedFor : ℕ → ℕ → ℕ → Type 0
 IsRaisedFor size old new = (old ≤ new) × (new ≤ old + 64 * (size / 16 + 1))

@@ -8,7 +8,8 @@ use Rattle.image_check.specs.declared.errors.OpenError.TheVariants.{Image, Regio
 use Rattle.image_check.specs.declared.errors.OpenRefused.{OpenRefused}
 use Rattle.image_check.specs.EarlyTests.{has_front, size_word}
 use Rattle.image_check.specs.Classes.{class_of}
-use Rattle.image_check.specs.Opening.{IsHandedBack, IsOpened, IsOutOfMemory, IsTooSmallFor, cause_of, is_too_small_answer}
+use Rattle.image_check.specs.Opening.{IsHandedBack, IsOpened, IsOutOfMemory, IsTooSmallFor, cause_of}
+use Rattle.image_check.specs.Opening.{is_late, is_too_small_answer}
 
 -- bytes that lie in memory are as those of a reader that gave them, was read to its end and did not fail
 abbrev pub as_given : List ℕ → Given
@@ -45,6 +46,7 @@ pub record FitsIn (format : ℕ) (b : List ℕ) (base capacity size : ℕ) : Typ
 pub record IsMisfit (format : ℕ) (b : List ℕ) (base capacity : ℕ) (cause : OpenError) : Type 0 where
   pub why : IsWhyNotOf format b base capacity cause
   pub too_small : IsTooSmallFor format (as_given b) base capacity → cause ≡ RegionTooSmall
+  pub early : is_late cause ≡ false
 
 -- they are not put there, and the region comes back as it was
 pub record IsNotPlaced (format : ℕ) (b region : List ℕ) (base : ℕ) (refused : OpenRefused) : Type 0 where

@@ -28,3 +28,7 @@ Finds class fine result = MatchResult result (λ done. fine ≡ true) (λ c. (c 
 -- a pass raises the count by no more than so many, and so many for each 16 bytes of a tile
 abbrev pub Spends : Rates → ℕ → List ℕ → ℕ → ℕ → Type 0
 Spends rates more b old new = (old ≤ new) × (new ≤ old + (more + weigh rates (tiles_in b)))
+
+-- a pass counts at least one visit for each tile
+abbrev pub CountsTiles : List ℕ → ℕ → ℕ → Type 0
+CountsTiles b old new = old + length (tiles_in b) ≤ new

@@ -1,5 +1,6 @@
 -- What the parts of an opening read, and why they stop.
-use Rattle.std.specs.Prelude.{◌≡◌, ◌⊎◌, ◌≤◌, ℕ, ◌+◌, Bool, true, List, [], ◌∷◌, ◌++◌, length, IsTrue, if◌then◌else◌, Result, Ok, Err}
+use Rattle.std.specs.Prelude.{◌≡◌, ◌⊎◌, ◌≤◌, ℕ, ◌+◌, Bool, true, false, List, [], ◌∷◌, ◌++◌, length}
+use Rattle.std.specs.Prelude.{IsTrue, if◌then◌else◌, Result, Ok, Err}
 use Rattle.raw_region.specs.Memory.{Cut, SamePlace, cut_at, whole}
 use Rattle.raw_region.specs.Device.{Given}
 use Rattle.block_tags.specs.Format.{is_legal_size}
@@ -11,7 +12,7 @@ use Rattle.image_check.specs.declared.classes.ImageClass.TheVariants.{Truncated,
 use Rattle.image_check.specs.declared.versions.Versions.{Versions}
 use Rattle.image_check.specs.Formats.{format_in}
 use Rattle.image_check.specs.EarlyTests.{has_magic, has_version, has_front, size_word}
-use Rattle.image_check.specs.Opening.{IsHandedBack, IsReadToEnd, IsWhyNot, IsTooSmallFor}
+use Rattle.image_check.specs.Opening.{IsHandedBack, IsReadToEnd, IsWhyNot, IsTooSmallFor, is_late}
 
 -- ---- the first words
 
@@ -35,6 +36,7 @@ GoesOn old new cause = ((cause ≡ ReadFault) × (new ≡ old)) ⊎ ((cause ≡ 
 pub record Stops (format : ℕ) (image : Given) (base capacity : ℕ) (cause : OpenError) : Type 0 where
   pub why : IsWhyNot format image base capacity cause
   pub too_small : IsTooSmallFor format image base capacity → cause ≡ RegionTooSmall
+  pub early : is_late cause ≡ false
 
 -- the first 24 bytes were read and say a size for which there is room
 pub record IsFrontRead (format : ℕ) (old new front : List ℕ) (base capacity size : ℕ) : Type 0 where

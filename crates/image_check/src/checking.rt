@@ -1,15 +1,17 @@
 //! Whether a whole image is that of a directory.
-ghost use Rattle.std.specs.Prelude.{◌≡◌, ◌≤◌, IfOk, IsTrue, None, Some, MatchResult, OnErr, OnOk, length};
-ghost use Rattle.image_check.specs.Checking.{FindsLate, IsWhyRefused};
+ghost use Rattle.std.specs.Prelude.{◌≡◌, ◌≤◌, IfErr, IfOk, IsTrue, None, Some, MatchResult, OnErr, OnOk};
+ghost use Rattle.std.specs.Prelude.{false, length, true};
+ghost use Rattle.image_check.specs.Checking.{FindsLate, IsWhyRefused, cause_for};
 ghost use Rattle.image_check.specs.Classes.{are_bytes, class_of};
 ghost use Rattle.image_check.specs.Counting.{AreCounted};
 ghost use Rattle.image_check.specs.EarlyTests.{has_reserved as is_reserved};
 ghost use Rattle.image_check.specs.Frame.{has_frame};
-ghost use Rattle.image_check.specs.Opening.{IsImage, IsRaisedFor};
+ghost use Rattle.image_check.specs.Opening.{IsImage, IsRaisedFor, is_late};
 ghost use Rattle.image_check.specs.Owners.{entries_of};
-ghost use Rattle.image_check.specs.Passes.{HasTiles, Spends, tiles_in};
+ghost use Rattle.image_check.specs.Passes.{CountsTiles, HasTiles, Spends, tiles_in};
 ghost use Rattle.image_check.specs.Reading.{HasFront};
 ghost use Rattle.image_check.specs.Visits.{block_rates, frame_rates};
+ghost use Rattle.image_check.specs.declared.errors.OpenError.TheVariants.{Image};
 
 mod visits;
 
@@ -35,7 +37,7 @@ use std::mem;
 pub(crate) use visits::Visits;
 
 /// Whether a window whose first words are right by a format, from 0 to 2, is the image of a directory by it. A visit is
-/// a step.
+/// a step: where it is, or a class from `BadIndex` on holds, there is at least one for each tile.
 ///
 /// # Errors
 ///
@@ -50,6 +52,9 @@ pub fn check(
     requires front { HasFront format window.now }
     ensures answers { MatchResult result (λ done. IsImage format window.now.bytes) (IsWhyRefused format window.now.bytes) }
     ensures steps { IsRaisedFor (length window.now.bytes) steps.old steps.new }
+    ensures tiles { OnOk result (CountsTiles window.now.bytes steps.old steps.new) }
+    ensures late { IfErr result (λ why. is_late (cause_for why) ≡ true
+        → CountsTiles window.now.bytes steps.old steps.new) }
 {
     let mut visits = Visits::new(mem::replace(steps, Steps::new()));
     let checked = check_counted(format, alloc, window, &mut visits);
@@ -72,6 +77,9 @@ fn check_counted(
     requires front { HasFront format window.now }
     ensures answers { MatchResult result (λ done. IsImage format window.now.bytes) (IsWhyRefused format window.now.bytes) }
     ensures visits { IsRaisedFor (length window.now.bytes) visits.old visits.new }
+    ensures tiles { OnOk result (CountsTiles window.now.bytes visits.old visits.new) }
+    ensures late { IfErr result (λ why. is_late (cause_for why) ≡ true
+        → CountsTiles window.now.bytes visits.old visits.new) }
 {
     let counts = match check_frame(format, window, visits) {
         Ok(counts) => counts,
@@ -101,6 +109,7 @@ fn check_frame(format: u64, window: &ImageWindow, visits: &mut Visits) -> Result
     ensures bytes { OnOk result (IsTrue (are_bytes window.now.bytes)) }
     ensures visits { OnOk result (Spends frame_rates 51 window.now.bytes visits.old visits.new) }
     ensures most { OnErr result (IsRaisedFor (length window.now.bytes) visits.old visits.new) }
+    ensures early { IfErr result (λ class. is_late (Image class) ≡ false) }
 {
     window.hold_bytes();
     if !has_reserved(window) {

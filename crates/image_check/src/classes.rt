@@ -7,7 +7,7 @@ use thiserror::Error;
 /// Why bytes are no image of a directory, in the order in which the classes are looked at.
 #[derive(Clone, Copy, Debug, PartialEq, Eq, Error)]
 pub enum ImageClass {
-    /// There are fewer bytes than the header takes, or than it says.
+    /// There are fewer than 144 bytes, the least that a segment has, or fewer than the header says.
     #[error("the image ends too early")]
     Truncated,
     /// The first eight bytes are not `MSEGFILE`.

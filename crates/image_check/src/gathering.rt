@@ -1,8 +1,8 @@
 //! Gathering the blocks in use.
-ghost use Rattle.std.specs.Prelude.{◌≡◌, ◌+◌, ◌++◌, ◌<◌, ◌≤◌, ◌^◌, IfOk, IsOk, None, [], length, option_to_list};
+ghost use Rattle.std.specs.Prelude.{◌≡◌, ◌+◌, ◌++◌, ◌<◌, ◌≤◌, ◌^◌, IfOk, IsOk, None, OnOk, [], length, option_to_list};
 ghost use Rattle.image_check.specs.Counting.{AreCounted};
 ghost use Rattle.image_check.specs.Owners.{entries_of, entry_of};
-ghost use Rattle.image_check.specs.Passes.{HasTiles, Spends, tiles_in};
+ghost use Rattle.image_check.specs.Passes.{CountsTiles, HasTiles, Spends, tiles_in};
 ghost use Rattle.image_check.specs.Rows.{AreBelow};
 ghost use Rattle.image_check.specs.Visits.{Adds, gathering_rates};
 
@@ -33,6 +33,7 @@ pub(crate) fn gather(
     ensures waiting { IfOk result (λ o. o.waiting ≡ 0) }
     ensures memory { entries_of (tiles_in window.now.bytes) ≡ [] → IsOk result }
     ensures visits { Spends gathering_rates 2 window.now.bytes visits.old visits.new }
+    ensures tiles { OnOk result (CountsTiles window.now.bytes visits.old visits.new) }
 {
     match room_for(alloc, counts.used, counts.end) {
         Ok(mut blocks) => {
@@ -47,13 +48,14 @@ pub(crate) fn gather(
     }
 }
 
-/// Adds the blocks in use to a map with room for them. At most two visits for each tile.
+/// Adds the blocks in use to a map with room for them. One or two visits for each tile.
 fn add_all(window: &ImageWindow, blocks: &mut Blocks, visits: &mut Visits)
     requires tiles { HasTiles window.now.bytes }
     requires empty { blocks.old.entries ≡ [] }
     requires room { length (entries_of (tiles_in window.now.bytes)) ≤ blocks.old.room }
     ensures entries { blocks.new.entries ≡ entries_of (tiles_in window.now.bytes) }
     ensures visits { Adds (length (tiles_in window.now.bytes) + length (tiles_in window.now.bytes)) visits.old visits.new }
+    ensures tiles { CountsTiles window.now.bytes visits.old visits.new }
 {
     let mut tile = window.first();
     'tiles: while let Some(unread) = tile {

@@ -1,8 +1,10 @@
 //! The opening of an image.
-ghost use Rattle.std.specs.Prelude.{◌≡◌, ◌+◌, ◌-◌, ◌%◌, ◌^◌, ◌<◌, length};
+ghost use Rattle.std.specs.Prelude.{◌≡◌, ◌+◌, ◌-◌, ◌%◌, ◌^◌, ◌<◌, IfErr, OnOk, length, true};
 ghost use Rattle.raw_region.specs.Device.{Reads, given_since};
 ghost use Rattle.raw_region.specs.Format.{current};
-ghost use Rattle.image_check.specs.Opening.{AsksToTheEnd, IsRaisedFor, Opens, cause_of, failed_reads, size_or_least};
+ghost use Rattle.image_check.specs.Opening.{AsksToTheEnd, IsRaisedFor, Opens, cause_of, failed_reads};
+ghost use Rattle.image_check.specs.Opening.{is_late, size_or_least};
+ghost use Rattle.image_check.specs.Passes.{CountsTiles};
 
 use crate::checking::check;
 use crate::errors::OpenRefused;
@@ -24,7 +26,8 @@ use std::alloc::Global;
 /// behind its end. `OutOfMemory` where memory for the check of the blocks was refused: only where no class before
 /// `BadIndex` holds and a tile is in use. The region comes back.
 ///
-/// `steps` is raised by each visit of the check: by no more than 64 for each 16 bytes of the size, and 64.
+/// `steps` is raised by each visit of the check: by no more than 64 for each 16 bytes of the size, and 64, and where a
+/// segment is answered, or a class from `BadIndex` on, by at least one for each tile.
 pub fn open<S: Source>(
     alloc: Global,
     reader: &mut S,
@@ -39,6 +42,10 @@ pub fn open<S: Source>(
     ensures history { Reads (S.history reader.old) (S.history reader.new) (failed_reads (cause_of result)) }
     ensures ends { AsksToTheEnd (S.history reader.old) (S.history reader.new) }
     ensures steps { IsRaisedFor (size_or_least (given_since (S.history reader.old) (S.history reader.new)).bytes) steps.old steps.new }
+    ensures tiles { OnOk result
+        (CountsTiles (given_since (S.history reader.old) (S.history reader.new)).bytes steps.old steps.new) }
+    ensures late { IfErr result (λ refused. is_late refused.cause ≡ true
+        → CountsTiles (given_since (S.history reader.old) (S.history reader.new)).bytes steps.old steps.new) }
 {
     let window = read_image(Versions::Current, reader, region, base)?;
     match check(FORMAT, alloc, &window, steps) {

@@ -1,8 +1,9 @@
 //! The opening of an image of any of the three formats.
-ghost use Rattle.std.specs.Prelude.{◌≡◌, ◌+◌, ◌-◌, ◌%◌, ◌^◌, ◌<◌, length};
+ghost use Rattle.std.specs.Prelude.{◌≡◌, ◌+◌, ◌-◌, ◌%◌, ◌^◌, ◌<◌, IfErr, OnOk, length, true};
 ghost use Rattle.raw_region.specs.Device.{Reads, given_since};
-ghost use Rattle.image_check.specs.Opening.{AsksToTheEnd, IsRaisedFor, cause_of, failed_reads, size_or_least};
+ghost use Rattle.image_check.specs.Opening.{AsksToTheEnd, IsRaisedFor, cause_of, failed_reads, is_late, size_or_least};
 ghost use Rattle.image_check.specs.OpeningAny.{OpensAny};
+ghost use Rattle.image_check.specs.Passes.{CountsTiles};
 
 use crate::checking::check;
 use crate::errors::OpenRefused;
@@ -39,6 +40,10 @@ pub fn open_any<S: Source>(
     ensures history { Reads (S.history reader.old) (S.history reader.new) (failed_reads (cause_of result)) }
     ensures ends { AsksToTheEnd (S.history reader.old) (S.history reader.new) }
     ensures steps { IsRaisedFor (size_or_least (given_since (S.history reader.old) (S.history reader.new)).bytes) steps.old steps.new }
+    ensures tiles { OnOk result
+        (CountsTiles (given_since (S.history reader.old) (S.history reader.new)).bytes steps.old steps.new) }
+    ensures late { IfErr result (λ refused. is_late refused.cause ≡ true
+        → CountsTiles (given_since (S.history reader.old) (S.history reader.new)).bytes steps.old steps.new) }
 {
     let window = read_image(Versions::All, reader, region, base)?;
     let format = version_in(window.header(0, FRONT as u64));

@@ -1,8 +1,9 @@
 //! The opening of an image that lies in memory.
-ghost use Rattle.std.specs.Prelude.{◌≡◌, ◌%◌, length};
+ghost use Rattle.std.specs.Prelude.{◌≡◌, ◌%◌, IfErr, OnOk, length, true};
 ghost use Rattle.raw_region.specs.Format.{current};
-ghost use Rattle.image_check.specs.Opening.{IsRaisedFor, size_or_least};
+ghost use Rattle.image_check.specs.Opening.{IsRaisedFor, is_late, size_or_least};
 ghost use Rattle.image_check.specs.OpeningBytes.{OpensBytes};
+ghost use Rattle.image_check.specs.Passes.{CountsTiles};
 
 use crate::checking::check;
 use crate::errors::OpenRefused;
@@ -24,7 +25,8 @@ use std::alloc::Global;
 /// memory for the check of the blocks was refused: only where no class before `BadIndex` holds and a tile is in use.
 /// `ReadFault` never. The region comes back, as it was where the bytes are not as many as they say.
 ///
-/// `steps` is raised by each visit of the check: by no more than 64 for each 16 bytes of the size, and 64.
+/// `steps` is raised by each visit of the check: by no more than 64 for each 16 bytes of the size, and 64, and where a
+/// segment is answered, or a class from `BadIndex` on, by at least one for each tile.
 pub fn open_bytes(
     alloc: Global,
     image: &[u8],
@@ -36,6 +38,8 @@ pub fn open_bytes(
     requires aligned { base % 16 ≡ 0 }
     ensures opens { OpensBytes current image.now region base mode result }
     ensures steps { IsRaisedFor (size_or_least image.now) steps.old steps.new }
+    ensures tiles { OnOk result (CountsTiles image.now steps.old steps.new) }
+    ensures late { IfErr result (λ refused. is_late refused.cause ≡ true → CountsTiles image.now steps.old steps.new) }
 {
     let window = place_image(Versions::Current, image, region, base)?;
     match check(FORMAT, alloc, &window, steps) {

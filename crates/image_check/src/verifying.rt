@@ -1,8 +1,10 @@
 //! The check of an image of which no segment is made.
-ghost use Rattle.std.specs.Prelude.{◌≡◌, ◌+◌, ◌-◌, ◌%◌, ◌^◌, ◌<◌, length};
+ghost use Rattle.std.specs.Prelude.{◌≡◌, ◌+◌, ◌-◌, ◌%◌, ◌^◌, ◌<◌, IfErr, OnOk, length, true};
 ghost use Rattle.raw_region.specs.Device.{Reads, given_since};
 ghost use Rattle.raw_region.specs.Format.{current};
-ghost use Rattle.image_check.specs.Opening.{AsksToTheEnd, IsRaisedFor, Verifies, cause_of, failed_reads, size_or_least};
+ghost use Rattle.image_check.specs.Opening.{AsksToTheEnd, IsRaisedFor, Verifies, cause_of, failed_reads};
+ghost use Rattle.image_check.specs.Opening.{is_late, size_or_least};
+ghost use Rattle.image_check.specs.Passes.{CountsTiles};
 
 use crate::checking::check;
 use crate::errors::OpenRefused;
@@ -20,7 +22,8 @@ use std::alloc::Global;
 ///
 /// Those of [`open`](crate::open), for the same reasons. The region comes back as it does there.
 ///
-/// `steps` is raised by each visit of the check, as there.
+/// `steps` is raised by each visit of the check, as there, and where the region is answered, or a class from `BadIndex`
+/// on, by at least one for each tile.
 pub fn verify<S: Source>(
     alloc: Global,
     reader: &mut S,
@@ -34,6 +37,10 @@ pub fn verify<S: Source>(
     ensures history { Reads (S.history reader.old) (S.history reader.new) (failed_reads (cause_of result)) }
     ensures ends { AsksToTheEnd (S.history reader.old) (S.history reader.new) }
     ensures steps { IsRaisedFor (size_or_least (given_since (S.history reader.old) (S.history reader.new)).bytes) steps.old steps.new }
+    ensures tiles { OnOk result
+        (CountsTiles (given_since (S.history reader.old) (S.history reader.new)).bytes steps.old steps.new) }
+    ensures late { IfErr result (λ refused. is_late refused.cause ≡ true
+        → CountsTiles (given_since (S.history reader.old) (S.history reader.new)).bytes steps.old steps.new) }
 {
     let window = read_image(Versions::Current, reader, region, base)?;
     match check(FORMAT, alloc, &window, steps) {

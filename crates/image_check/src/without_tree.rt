@@ -1,10 +1,12 @@
 //! What a segment of format 0 has in place of a free tree: gaps that are not red, and a null link.
-ghost use Rattle.std.specs.Prelude.{◌≡◌, IfOk, IfSome, is_some};
+ghost use Rattle.std.specs.Prelude.{◌≡◌, IfErr, IfOk, IfSome, false, is_some};
 ghost use Rattle.std.specs.List.{list_all};
 ghost use Rattle.image_check.specs.Counting.{AreCounted};
+ghost use Rattle.image_check.specs.Opening.{is_late};
 ghost use Rattle.image_check.specs.OlderFormats.{FindsWithoutTree, is_plain as is_plain_tile};
 ghost use Rattle.image_check.specs.Passes.{HasTiles, Spends, tiles_in};
 ghost use Rattle.image_check.specs.Visits.{tag_rates};
+ghost use Rattle.image_check.specs.declared.errors.OpenError.TheVariants.{Image};
 
 use crate::checking::Visits;
 use crate::classes::ImageClass;
@@ -27,6 +29,7 @@ pub(crate) fn check_without_tree(
     ensures finds { FindsWithoutTree window.now.bytes result }
     ensures counted { IfOk result (AreCounted (tiles_in window.now.bytes)) }
     ensures visits { Spends tag_rates 0 window.now.bytes visits.old visits.new }
+    ensures early { IfErr result (λ class. is_late (Image class) ≡ false) }
 {
     let Some(counts) = count_plain(window, visits) else {
         return Err(ImageClass::BadTag);

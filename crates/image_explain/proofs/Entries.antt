@@ -17,7 +17,8 @@ use Rattle.block_tags.specs.declared.tile.Tile.{Tile}
 use Rattle.image_check.specs.EarlyTests.{is_among}
 use Rattle.image_check.specs.Entered.{links_in}
 use Rattle.image_check.proofs.Facts.{split}
-use Rattle.image_explain.specs.IndexPlaces.{AreEntries, IsWrongEntry, IsWrongHead, IsWrongIndex, is_head, is_new}
+use Rattle.image_explain.specs.IndexPlaces.{AreEntries, IsFirstWrongEntry, IsWrongEntry, IsWrongHead, IsWrongIndex}
+use Rattle.image_explain.specs.IndexPlaces.{is_head, is_new}
 use Rattle.image_check.specs.ObjectTests.{are_distinct, entries, good_for, has_index, has_indexes, index_capacity}
 use Rattle.image_check.specs.ObjectTests.{is_table_link, leads_to, targets, tile_of}
 use Rattle.image_check.specs.Passes.{HasTiles, tiles_in}
@@ -269,7 +270,7 @@ head-not m ts at place h (inl w) =
     let more = w.1 in
     omega arith
 head-not m ts at place h (inr w) = false≢true
-    (sym w.1 ∙ (and_parts (nat_le (word_at m (at + 8)) (index_capacity m at))
+    (sym w.2 ∙ (and_parts (nat_le (word_at m (at + 8)) (index_capacity m at))
     (is_table_link ts Index (link_at m at) 8 (index_capacity m at)) h).1)
 
 -- a link that leads to an object, in a list in which no other one does
@@ -321,15 +322,20 @@ entry-not m ts at place a index w =
 
 -- a place that shows a wrong index makes the indexes wrong
 pub index-wrong : (m : Memory) (ts : List Tile) (place : ℕ) → IsWrongIndex m ts place → has_indexes m ts ≡ false
-index-wrong m ts place w = false_from_ne_true (has_indexes m ts) (λ h. by-cause (index-parts m ts h) w.wrong)
+index-wrong m ts place w = false_from_ne_true (has_indexes m ts) (λ h. by-cause (index-parts m ts h) w)
   where
-    by-cause : AreIndexes m ts → IsWrongHead m ts w.at place ⊎ IsWrongEntry m ts w.at place → ⊥
-    by-cause a (inl x) = head-not m ts w.at place (head-of m ts w.at (index-is m ts w.at a w.index)).0 x
-    by-cause a (inr x) = entry-not m ts w.at place a w.index x
+    by-entry : AreIndexes m ts → IsFirstWrongEntry m ts place → ⊥
+    by-entry a (inl x) = entry-not m ts 32 place a (inl refl) x
+    by-entry a (inr x) = entry-not m ts 56 place a (inr refl) x.1
+
+    by-cause : AreIndexes m ts → IsWrongIndex m ts place → ⊥
+    by-cause a (inl x) = head-not m ts 32 place (head-of m ts 32 a.named).0 x
+    by-cause a (inr (inl x)) = head-not m ts 56 place (head-of m ts 56 a.unique).0 x.1
+    by-cause a (inr (inr x)) = by-entry a x.1
 
 -- what is said of the entries of the unique index is said of both indexes
 pub last-entries : (m : Memory) (ts : List Tile) (place : Option ℕ) → is_head m ts 32 ≡ true → is_head m ts 56 ≡ true
     → AreEntries m ts 32 → MatchOption place (AreEntries m ts 56) (IsWrongEntry m ts 56)
     → MatchOption place (has_indexes m ts ≡ true) (IsWrongIndex m ts)
 last-entries m ts None h k a c = indexes-right m ts h k a c
-last-entries m ts (Some place) h k a c = record { at = 56; index = inr refl; wrong = inr c }
+last-entries m ts (Some place) h k a c = inr (inr (record { named = h; unique = k }, inr (a, c)))

@@ -121,8 +121,8 @@ misplaced-wrong class m at place w =
 pub object-wrong : (format : ℕ) (m : Memory) (ts : List Tile) (place : ℕ) → IsWrongObject format m ts place
     → has_objects format m ts ≡ false
 object-wrong format m ts place (inl w) = wrong-tiles format m ts (some-fails (is_right_tile format m) ts w.tile w.is)
-object-wrong format m ts place (inr (inl w)) = wrong-named format m ts (misplaced-wrong 1 m 32 place w)
-object-wrong format m ts place (inr (inr w)) = wrong-unique format m ts (misplaced-wrong 2 m 56 place w)
+object-wrong format m ts place (inr (right, inl w)) = wrong-named format m ts (misplaced-wrong 1 m 32 place w)
+object-wrong format m ts place (inr (right, inr w)) = wrong-unique format m ts (misplaced-wrong 2 m 56 place w.1)
 
 -- ---- all together
 
@@ -159,8 +159,11 @@ pub named-misplaced : (b : List ℕ) (o : Option ℕ) (place : ℕ) → HasTiles
     → has_indexes (bytes_of b) (tiles_in b) ≡ true → IsWrongObject current (bytes_of b) (tiles_in b) place
 named-misplaced b o place tiles right f e h =
     let r = named-ready current b tiles right h in
-    inr (inl (subst (λ o. MatchOption o (are_ranked 1 (bytes_of b) (targets (bytes_of b) 32) ≡ true)
-    (IsMisplaced 1 (bytes_of b) 32)) e (f r.index r.heads)))
+    inr (
+      right,
+      inl (subst (λ o. MatchOption o (are_ranked 1 (bytes_of b) (targets (bytes_of b) 32) ≡ true)
+          (IsMisplaced 1 (bytes_of b) 32)) e (f r.index r.heads)),
+    )
 
 -- what is said of the unique index is said of all
 pub unique-misplaced : (b : List ℕ) (one other : Option ℕ) → HasTiles b
@@ -185,4 +188,4 @@ unique-misplaced b one other tiles right f e g h =
         → MatchOption other (has_objects current (bytes_of b) (tiles_in b) ≡ true)
         (IsWrongObject current (bytes_of b) (tiles_in b))
     by-unique None named unique = right-from current (bytes_of b) (tiles_in b) right named unique
-    by-unique (Some place) named w = inr (inr w)
+    by-unique (Some place) named w = inr (right, inr (named, w))

@@ -1,10 +1,13 @@
 -- The place that shows that an object is wrong, or the order of an index.
-use Rattle.std.specs.Prelude.{◌≡◌, ◌<◌, ◌⊎◌, ℕ, zero, suc, ◌+◌, ◌*◌, Bool, false, not, Option, Some, None, List, find}
+use Rattle.std.specs.Prelude.{◌≡◌, ◌<◌, ◌⊎◌, ℕ, zero, suc, ◌+◌, ◌*◌, Bool, true, false, not, Option, Some, None, List}
+use Rattle.std.specs.Prelude.{find}
+use Rattle.std.specs.List.{list_all}
 use Rattle.raw_region.specs.Memory.{Memory, word_at}
 use Rattle.offset_link.specs.Link.{link_at}
 use Rattle.block_tags.specs.declared.tile.Tile.{Tile}
-use Rattle.image_check.specs.ObjectPasses.{follows, is_right_tile}
-use Rattle.image_check.specs.ObjectTests.{payload}
+use Rattle.image_check.specs.ObjectPasses.{are_ranked, follows, is_right_tile}
+use Rattle.image_check.specs.ObjectTests.{payload, targets}
+use Rattle.image_explain.specs.IndexPlaces.{first_targets}
 
 -- the payload of the first tile that passes a test begins at a place
 pub record IsFirstTile (test : Tile → Bool) (ts : List Tile) (place : ℕ) : Type 0 where
@@ -18,7 +21,7 @@ link_before m block zero = None
 link_before m block (suc number) = link_at m (block + 8 * number)
 
 -- the entry at a place of the index at an offset leads to an object of another class than the index has, or of one
--- whose key does not stand behind that of the object to which the entry before it leads
+-- whose key does not stand behind that of the object to which the entry before it leads; those before it are in order
 pub record IsMisplaced (class : ℕ) (m : Memory) (at place : ℕ) : Type 0 where
   pub block : ℕ
   pub number : ℕ
@@ -28,7 +31,16 @@ pub record IsMisplaced (class : ℕ) (m : Memory) (at place : ℕ) : Type 0 wher
   pub here : ℕ
   pub leads : link_at m place ≡ Some here
   pub wrong : follows class m (link_before m block number) here ≡ false
+  pub first : are_ranked class m (first_targets m block number) ≡ true
 
--- the first object that is wrong by itself or has no entry in the index of its class; or else an entry out of order
+-- the first entry out of order in the named index, or else in the unique index
+abbrev pub IsFirstMisplaced : Memory → ℕ → Type 0
+IsFirstMisplaced m place =
+    IsMisplaced 1 m 32 place ⊎ ((are_ranked 1 m (targets m 32) ≡ true) × IsMisplaced 2 m 56 place)
+
+-- the first object that is wrong by itself or has no entry in the index of its class; or else, where all are right, the
+-- first entry out of order
 abbrev pub IsWrongObject : ℕ → Memory → List Tile → ℕ → Type 0
-IsWrongObject format m ts place = IsFirstTile (λ t. not (is_right_tile format m t)) ts place ⊎ (IsMisplaced 1 m 32 place ⊎ IsMisplaced 2 m 56 place)
+IsWrongObject format m ts place =
+    IsFirstTile (λ t. not (is_right_tile format m t)) ts place
+    ⊎ ((list_all (is_right_tile format m) ts ≡ true) × IsFirstMisplaced m place)

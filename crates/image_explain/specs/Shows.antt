@@ -39,8 +39,8 @@ said_tiles b = tiles_of (bytes_of b) (size_word b)
 -- The place that shows a class, and that it does: the end of what is too short; the first byte that is not the magic's;
 -- the version; the size that is none, or else the first byte behind it; the first reserved byte that is not zero; the
 -- first tag that is wrong; the root link of the free tree; the word or entry of an index that is wrong; the first
--- object that is wrong, or else an entry of an index out of order; a link that leads where another does; an object
--- whose container is wrong; and a block to which no link leads.
+-- object that is wrong, or else the first entry of an index out of order; a link that leads where another does; an
+-- object whose container is wrong; and a block to which no link leads.
 abbrev pub Shows : List ℕ → ImageClass → ℕ → Type 0
 Shows b Truncated at = (at ≡ length b) × IsTrue (is_truncated current b)
 Shows b BadMagic at = IsFirstOther b (codes "MSEGFILE") at × (has_magic b ≡ false)

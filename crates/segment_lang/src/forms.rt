@@ -27,13 +27,13 @@ use crate::words::ends_word;
 /// How what stands behind a command word is written.
 #[derive(Clone, Copy, Debug, PartialEq, Eq)]
 pub enum CommandForm {
-    /// A kind with a count, a key and one value.
+    /// A kind with a count, a key and what an object of the kind is made with: one value, any number of them or none.
     Construct,
     /// A kind with a count, a key and as many values.
     ConstructIt,
     /// A kind and an entry of an index.
     Find,
-    /// A kind with a count, an entry of an index and one value.
+    /// A kind with a count, an entry of an index and what an object of the kind is made with.
     FindOrConstruct,
     /// An entry of an index.
     Destroy,

@@ -22,7 +22,7 @@ use crate::values::read_values;
 use crate::words::{next_two, only_word, three_words, two_words};
 use seg_types::{Key, Kind};
 
-/// A kind with a count, a key and one value.
+/// A kind with a count, a key and what an object of the kind is made with: one value, any number of them or none.
 #[tactic(auto, unfolding(crate::specs::Arguments::making_at))]
 #[inline(never)]
 pub fn read_construct<'a>(bytes: &'a [u8], scratch: &'a mut Text) -> Option<Command<'a>>
@@ -35,7 +35,7 @@ pub fn read_construct<'a>(bytes: &'a [u8], scratch: &'a mut Text) -> Option<Comm
     Some(Command::Construct { key, content })
 }
 
-/// A kind with a count, an entry of an index and one value.
+/// A kind with a count, an entry of an index and what an object of the kind is made with.
 #[tactic(auto, unfolding(crate::specs::Arguments::making_at))]
 #[inline(never)]
 pub fn read_find_or_construct<'a>(bytes: &'a [u8], scratch: &'a mut Text) -> Option<Command<'a>>

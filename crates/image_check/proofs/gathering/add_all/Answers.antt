@@ -77,4 +77,9 @@ returns-clause-entries c =
 pub returns-clause-visits : goal.returns-clause-visits
 returns-clause-visits c =
     let all = walk-end c.args.window.now _ c.tiles.tile c.tiles.invariant c.in_default.not-Some in
-    (all.more, all.most)
+    let more = all.more in
+    (omega arith, all.most)
+
+pub returns-clause-tiles : goal.returns-clause-tiles
+returns-clause-tiles c =
+    (walk-end c.args.window.now _ c.tiles.tile c.tiles.invariant c.in_default.not-Some).more

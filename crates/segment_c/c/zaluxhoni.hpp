@@ -983,10 +983,11 @@ template <class T> class vector : public object {
     }
     /// Takes the last element out, and gives it. Of an empty vector it throws `out_of_range`.
     T pop_back() const {
-        // no element is taken out of a vector of another kind: this reads none, and throws `wrong_kind`
-        this->template read_row<T>(0, nullptr, 0);
         zx_value value{};
         by_key(zx_pop, &value);
+        // one of another kind goes back into its place, which is still there, and is told of then: to look at the kind
+        // first would make each call a look-up dearer
+        if (value.kind != kind_of<T>) by_key(zx_push, &value);
         return scalar<T>::from(value);
     }
     /// Puts a value before the element `index`, which may be the length.

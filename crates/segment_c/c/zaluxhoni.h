@@ -238,7 +238,7 @@ zx_code zx_create(zx_segment *segment, uint64_t size);
 zx_code zx_open(zx_segment *segment, const uint8_t *image, size_t len, uint64_t capacity, uint32_t mode);
 
 /* Whether the bytes are the image of a segment: ZX_DONE, ZX_TRUNCATED to ZX_ORPHAN_BLOCK, ZX_NO_MEMORY. It takes a region
-   for as many bytes as there are, or as the first of them say, if these are more. */
+   for as many bytes as the first of them say, and none where there are fewer. */
 zx_code zx_check(const uint8_t *image, size_t len);
 
 /* Copies the image to the front of the buffer: as many bytes as zx_size says. ZX_CLOSED, ZX_SHORT_BUFFER. */

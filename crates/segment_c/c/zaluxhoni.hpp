@@ -6,8 +6,8 @@
        shop.vector<std::int64_t>("queue").push_back(1);
        shop.map<std::int32_t, std::int64_t>("prices")[7] = 250;
 
-   A call that the library refuses throws `zaluxhoni::error`, and then nothing has changed. A segment, and all that was
-   asked of it, are used on one thread, one call at a time. */
+   A call that the library refuses throws `zaluxhoni::error`, and then nothing has changed, but for `growing`, which is
+   several calls. A segment, and all that was asked of it, are used on one thread, one call at a time. */
 #ifndef ZALUXHONI_HPP
 #define ZALUXHONI_HPP
 
@@ -142,6 +142,11 @@ inline bool is_there(zx_code code) {
 
 // ---- kinds
 
+/// Throws `wrong_kind` where a value that was read is of another kind.
+inline void check_kind(const zx_value &value, std::uint32_t kind) {
+    if (value.kind != kind) throw wrong_kind();
+}
+
 /// A scalar of the library: `bool`, `std::uint8_t`, `std::int32_t`, `std::int64_t` or `std::uint64_t`.
 template <class T> struct scalar {
     static constexpr bool is_one = false;
@@ -151,7 +156,10 @@ template <> struct scalar<bool> {
     static constexpr bool is_one = true;
     static constexpr std::uint32_t kind = ZX_BOOL;
     static zx_value value(bool truth) { return zx_bool(truth); }
-    static bool from(const zx_value &value) { return value.natural != 0; }
+    static bool from(const zx_value &value) {
+        check_kind(value, kind);
+        return value.natural != 0;
+    }
     static zx_values values(const bool *at, std::size_t count) { return zx_bools(at, count); }
     static zx_code read(zx_segment *of, const zx_key *at, std::uint64_t first, bool *row, std::size_t count) {
         return zx_read_bools(of, at, first, row, count);
@@ -162,7 +170,10 @@ template <> struct scalar<std::uint8_t> {
     static constexpr bool is_one = true;
     static constexpr std::uint32_t kind = ZX_U8;
     static zx_value value(std::uint8_t number) { return zx_u8(number); }
-    static std::uint8_t from(const zx_value &value) { return static_cast<std::uint8_t>(value.natural); }
+    static std::uint8_t from(const zx_value &value) {
+        check_kind(value, kind);
+        return static_cast<std::uint8_t>(value.natural);
+    }
     static zx_values values(const std::uint8_t *at, std::size_t count) { return zx_u8s(at, count); }
     static zx_code read(zx_segment *of, const zx_key *at, std::uint64_t first, std::uint8_t *row, std::size_t count) {
         return zx_read_u8s(of, at, first, row, count);
@@ -173,7 +184,10 @@ template <> struct scalar<std::int32_t> {
     static constexpr bool is_one = true;
     static constexpr std::uint32_t kind = ZX_I32;
     static zx_value value(std::int32_t number) { return zx_i32(number); }
-    static std::int32_t from(const zx_value &value) { return static_cast<std::int32_t>(value.number); }
+    static std::int32_t from(const zx_value &value) {
+        check_kind(value, kind);
+        return static_cast<std::int32_t>(value.number);
+    }
     static zx_values values(const std::int32_t *at, std::size_t count) { return zx_i32s(at, count); }
     static zx_code read(zx_segment *of, const zx_key *at, std::uint64_t first, std::int32_t *row, std::size_t count) {
         return zx_read_i32s(of, at, first, row, count);
@@ -184,7 +198,10 @@ template <> struct scalar<std::int64_t> {
     static constexpr bool is_one = true;
     static constexpr std::uint32_t kind = ZX_I64;
     static zx_value value(std::int64_t number) { return zx_i64(number); }
-    static std::int64_t from(const zx_value &value) { return value.number; }
+    static std::int64_t from(const zx_value &value) {
+        check_kind(value, kind);
+        return value.number;
+    }
     static zx_values values(const std::int64_t *at, std::size_t count) { return zx_i64s(at, count); }
     static zx_code read(zx_segment *of, const zx_key *at, std::uint64_t first, std::int64_t *row, std::size_t count) {
         return zx_read_i64s(of, at, first, row, count);
@@ -195,7 +212,10 @@ template <> struct scalar<std::uint64_t> {
     static constexpr bool is_one = true;
     static constexpr std::uint32_t kind = ZX_U64;
     static zx_value value(std::uint64_t number) { return zx_u64(number); }
-    static std::uint64_t from(const zx_value &value) { return value.natural; }
+    static std::uint64_t from(const zx_value &value) {
+        check_kind(value, kind);
+        return value.natural;
+    }
     static zx_values values(const std::uint64_t *at, std::size_t count) { return zx_u64s(at, count); }
     static zx_code read(zx_segment *of, const zx_key *at, std::uint64_t first, std::uint64_t *row, std::size_t count) {
         return zx_read_u64s(of, at, first, row, count);
@@ -276,6 +296,7 @@ inline const std::uint8_t *bytes_of(std::string_view text) {
 
 /// Texts as the library takes them. They lead to the bytes of those that they are made of.
 inline std::vector<zx_text> texts_of(slice<std::string_view> texts) {
+    if (texts.data() == nullptr) throw null_slice();
     std::vector<zx_text> passed;
     passed.reserve(texts.size() + 1);
     for (std::size_t i = 0; i < texts.size(); i++) passed.push_back({bytes_of(texts[i]), texts[i].size()});
@@ -341,6 +362,7 @@ struct measures {
 enum class mode : std::uint32_t { write = ZX_WRITE, read = ZX_READ, copy_on_write = ZX_COPY_ON_WRITE };
 
 class segment;
+class object;
 template <class T> class array;
 template <class T> class vector;
 template <class K, class V> class map;
@@ -361,6 +383,12 @@ template <class Read> std::string text_by(Read read) {
     check_code(code);
     text.resize(static_cast<std::size_t>(len));
     return text;
+}
+
+/// Where the elements of a row go: not null, where there is none of them.
+template <class T> T *row_at(T *row, std::size_t count) {
+    static T none{};
+    return row == nullptr && count == 0 ? &none : row;
 }
 
 /// The info that a call gives, with the name that it copies.
@@ -508,6 +536,16 @@ class segment {
   public:
     /// Has no segment.
     segment() = default;
+    segment(segment &&) noexcept = default;
+    /// Frees the segment that was there, as `close` does.
+    segment &operator=(segment &&other) noexcept {
+        if (this != &other) {
+            close();
+            at_ = std::move(other.at_);
+        }
+        return *this;
+    }
+    ~segment() { close(); }
 
     /// An empty segment of `size` bytes: 144, or a multiple of 16 from 176 to 1073741824.
     static segment create(std::uint64_t size) {
@@ -552,10 +590,7 @@ class segment {
     bool is_open() const noexcept { return at_ != nullptr && at_->at != nullptr; }
     explicit operator bool() const noexcept { return is_open(); }
     /// For the calls of zaluxhoni.h.
-    zx_segment *raw() const {
-        if (at_ == nullptr) throw closed();
-        return at_.get();
-    }
+    zx_segment *raw() const { return shared().get(); }
 
     /// The image.
     std::vector<std::uint8_t> save() const {
@@ -577,8 +612,8 @@ class segment {
     /// Moves the segment into a region of `capacity` bytes.
     void relocate(std::uint64_t capacity) { check_code(zx_relocate(raw(), capacity)); }
 
-    /// Calls `call`, and where it finds no space makes the segment longer by half and calls it again; it throws
-    /// `too_large` where the segment cannot become longer.
+    /// Calls `call`, and where it finds no space makes the segment longer by half and calls it again. Where the segment
+    /// cannot become longer it throws `too_large` or `no_memory`, and stays as long as it has become by then.
     template <class Call> auto growing(Call call) -> decltype(call()) {
         for (;;) {
             try {
@@ -704,7 +739,6 @@ class segment {
         const zx_key raw_key = at.raw();
         zx_value value{};
         check_code(zx_get(raw(), &raw_key, index, &value));
-        if (value.kind != kind_of<T>) throw wrong_kind();
         return scalar<T>::from(value);
     }
     template <class T> void set(const key &at, std::uint64_t index, value_of<T> value) {
@@ -717,7 +751,7 @@ class segment {
 
     template <class T> void read(const key &at, std::uint64_t first, T *row, std::size_t count) const {
         const zx_key raw_key = at.raw();
-        check_code(scalar<T>::read(raw(), &raw_key, first, row, count));
+        check_code(scalar<T>::read(raw(), &raw_key, first, detail::row_at(row, count), count));
     }
     template <class T> void write(const key &at, std::uint64_t first, slice<value_of<T>> values) {
         const zx_key raw_key = at.raw();
@@ -776,17 +810,17 @@ class segment {
     bool all_deallocated() const { return truth_by(zx_all_deallocated); }
 
   private:
-    struct closing {
-        void operator()(zx_segment *at) const noexcept {
-            zx_close(at);
-            delete at;
-        }
-    };
+    friend class object;
 
     static segment allotted() {
         segment made;
         made.at_.reset(new zx_segment ZX_CLOSED_HANDLE);
         return made;
+    }
+
+    const std::shared_ptr<zx_segment> &shared() const {
+        if (at_ == nullptr) throw closed();
+        return at_;
     }
 
     void grow_by_half() {
@@ -836,22 +870,23 @@ class segment {
         return had;
     }
 
-    // the handle itself stays where it is: it is not copied
-    std::unique_ptr<zx_segment, closing> at_;
+    // the handle itself stays where it is: it is not copied. What was asked of the segment keeps it, and finds it closed
+    // behind the destructor
+    std::shared_ptr<zx_segment> at_;
 };
 
 // ---- one object
 
-/// What the objects have in common: the segment, which outlives them, and their key.
+/// What the objects have in common: their segment, of which each call throws `closed` when it is freed, and their key.
 class object {
   public:
-    object(const segment &of, key at) : at_of_(of.raw()), key_(std::move(at)) {}
+    object(const segment &of, key at) : of_(of.shared()), key_(std::move(at)) {}
 
     /// Elements and places: of a map pairs, and 0.
     measures measure() const {
         const zx_key at = key_.raw();
         measures told{0, 0};
-        check_code(zx_measure(at_of_, &at, &told.len, &told.places));
+        check_code(zx_measure(of(), &at, &told.len, &told.places));
         return told;
     }
     std::uint64_t size() const { return measure().len; }
@@ -870,8 +905,7 @@ class object {
     }
 
     template <class T> void read_row(std::uint64_t first, T *row, std::size_t count) const {
-        T none{};
-        by_key(scalar<T>::read, first, row == nullptr && count == 0 ? &none : row, count);
+        by_key(scalar<T>::read, first, detail::row_at(row, count), count);
     }
     template <class T> void write_row(std::uint64_t first, slice<T> values) const {
         const zx_values passed = scalar<T>::values(values.data(), values.size());
@@ -891,16 +925,16 @@ class object {
         }
     }
 
-    zx_segment *of() const { return at_of_; }
+    zx_segment *of() const { return of_.get(); }
     const key &at() const { return key_; }
 
     template <class Call, class... Args> void by_key(Call call, Args... args) const {
         const zx_key at = key_.raw();
-        check_code(call(at_of_, &at, args...));
+        check_code(call(of(), &at, args...));
     }
 
   private:
-    zx_segment *at_of_;
+    std::shared_ptr<zx_segment> of_;
     key key_;
 };
 
@@ -951,6 +985,9 @@ template <class T> class vector : public object {
     T pop_back() const {
         zx_value value{};
         by_key(zx_pop, &value);
+        // one of another kind goes back into its place, which is still there, and is told of then: to look at the kind
+        // first would make each call a look-up dearer
+        if (value.kind != kind_of<T>) by_key(zx_push, &value);
         return scalar<T>::from(value);
     }
     /// Puts a value before the element `index`, which may be the length.

@@ -11,7 +11,8 @@ At the end of the block the file is saved, whole or not at all; where the block 
 An object is found by its name: shop["prices"] is its value where it is one number or truth, and else an object that is
 used as a list (Vector, Strings, Array), as a dict (Map) or as a bytearray (String). Each of their methods is a call of
 the library that looks the name up, so they are good as long as the segment is open. What the library refuses is raised
-as an Error, of the class that has the refusal's name, and then nothing has changed.
+as an Error, of the class that has the refusal's name, and then nothing has changed, but for methods that are several
+calls, as docs/PYTHON.md says.
 
 A segment is used by the thread that opened it alone. docs/PYTHON.md is the guide."""
 import collections
@@ -441,8 +442,8 @@ def _from(value):
     return value.number if value.kind in (_I32, _I64) else value.natural
 
 
-def _values(code, values, refused):
-    """Elements of one kind side by side; of one that is outside it `refused` is raised, or WrongKind."""
+def _checked(code, values, refused):
+    """A list of values of one kind; of one that is outside it `refused` is raised, or WrongKind."""
     listed = list(values)
     least, most = _ranges[code]
     for value in listed:
@@ -450,6 +451,12 @@ def _values(code, values, refused):
             raise WrongKind(f"{value!r} is no {_kinds[code]}")
         if not least <= _whole(value) <= most:
             raise refused(f"{value} is no {_kinds[code]}")
+    return listed
+
+
+def _values(code, values, refused):
+    """Elements of one kind side by side; of one that is outside it `refused` is raised, or WrongKind."""
+    listed = _checked(code, values, refused)
     kind, field, count = _arrays[code]
     passed = _Values(kind=code)
     for _, other, _ in _arrays.values():
@@ -459,6 +466,14 @@ def _values(code, values, refused):
     setattr(passed, count, len(listed))
     passed.kept = array
     return passed
+
+
+def _checked_pairs(code, value):
+    """A dict of the pairs of a map of a kind; of one that is outside it WrongKind is raised, or OutOfRange."""
+    pairs = dict(value)
+    _checked(code >> 8 & 255, pairs.keys(), OutOfRange)
+    _checked(code & 255, pairs.values(), OutOfRange)
+    return pairs
 
 
 def _bytes(text, encoding):
@@ -695,14 +710,15 @@ class Segment(collections.abc.MutableMapping):
     def construct(self, kind, key=None, value=None):
         """Makes an object and gives it: construct("i64", "a", 5), construct("i64[3]", "b", 7), construct("i64[3]", "c",
         [1, 2, 3]), construct("vec<i64>", "v", [1]), construct("string", "s", "text"), construct("vec<string>", "t",
-        ["text"]) or construct("map<i32,i64>", "m"). The key is a name, unique(kind), or None for an object without a
-        key. Exists, NoSpace."""
+        ["text"]) or construct("map<i32,i64>", "m", {1: 2}). The key is a name, unique(kind), or None for an object
+        without a key. A map is made with all its pairs, or there is none. Exists, NoSpace."""
         made = ctypes.c_uint64()
         code = self._make("construct", kind, key, value, made)
         return self._object_of(key if key is not None else handle(made.value), code)
 
     def find_or_construct(self, kind, key, value=None):
-        """The object of the key, which stays as it is, or makes it. WrongKind where one of another kind has the key."""
+        """The object of the key, which stays as it is, or makes it, as `construct` does. WrongKind where one of another
+        kind has the key."""
         code = self._make("find_or_construct", kind, key, value, ctypes.c_uint64(), ctypes.c_uint32())
         return self._object_of(key, code)
 
@@ -720,11 +736,21 @@ class Segment(collections.abc.MutableMapping):
             values = _values(code - _VECTOR, value or (), BadValue)
             self._call(getattr(_zx, f"zx_{call}_vector"), _key_of(key), values, *told)
         else:
-            is_new = self._is_new(call, code, key)
-            self._call(getattr(_zx, f"zx_{call}_map"), _key_of(key), code >> 8 & 255, code & 255, *told)
-            if value and is_new:
-                Map(self, handle(told[0].value), code).update(value)
+            self._make_map(call, code, key, value, told)
         return code
+
+    def _make_map(self, call, code, key, value, told):
+        """Makes a map with its pairs. Where one of them finds no space the map is destroyed again."""
+        pairs = _checked_pairs(code, value) if value and self._is_new(call, code, key) else {}
+        self._call(getattr(_zx, f"zx_{call}_map"), _key_of(key), code >> 8 & 255, code & 255, *told)
+        if not pairs:
+            return
+        made = Map(self, handle(told[0].value), code)
+        try:
+            made.update(pairs)
+        except BaseException:
+            made.destroy()
+            raise
 
     def _make_scalars(self, call, code, count, key, value, told):
         listed = None if value is None or _is_truth(value) or hasattr(value, "__index__") else list(value)
@@ -1353,7 +1379,7 @@ class Map(_Object, collections.abc.MutableMapping):
 
     def _become(self, value):
         """Makes these the pairs: those that stay keep their blocks."""
-        pairs = dict(value)
+        pairs = _checked_pairs(self._code, value)
         for key in [key for key in self if key not in pairs]:
             self.erase(key)
         self.update(pairs)
@@ -1366,7 +1392,7 @@ class _File:
     lock that the program `segment` takes."""
 
     def __init__(self, path, mode):
-        self.path, self.is_written, self._descriptor = os.fspath(path), _modes[mode] == 0, None
+        self.path, self.is_written, self._descriptor = _absolute(path), _modes[mode] == 0, None
         if mode in ("r", "p"):
             with _opened(self.path) as file:
                 self.image = file.read()
@@ -1424,6 +1450,12 @@ class _File:
         if self._descriptor is not None:
             os.close(self._descriptor)
             self._descriptor = None
+
+
+def _absolute(path):
+    """The path from the root on, which leads to the same file when the program goes to another folder."""
+    path = os.fsdecode(path)
+    return path if os.path.isabs(path) else os.path.join(os.getcwd(), path)
 
 
 def _opened(path):

@@ -5,7 +5,7 @@ use Rattle.seg_types.specs.declared.kinds.Kind.TheVariants.{Text}
 use Rattle.seg_types.specs.declared.kinds.ScalarKind.{ScalarKind}
 use Rattle.seg_types.specs.declared.kinds.ScalarKind.TheVariants.{Bool as BoolKind, U8, I32, I64, U64}
 use Rattle.seg_types.specs.Commands.{Literal, Whole, literal_of}
-use Rattle.segment_manager.specs.Answers.{Answer, Absent, Element}
+use Rattle.segment_manager.specs.Answers.{Answer, Done, Element}
 use Rattle.seg_types.specs.Kinds.{code_of, is_value, kind_of_code, truth_number}
 use Rattle.seg_types.specs.Names.{Key, ByName, ByKind, ByHandle, NoKey, is_text_name}
 use Rattle.segment_c.specs.declared.keys.ObjectKey.{ObjectKey}
@@ -99,9 +99,9 @@ value_wrong v = elim (scalar_in v) [ None ↦ 20 | Some s ↦ 0 ]
 abbrev pub literal_in : Value → Literal
 literal_in v = elim (scalar_in v) as (λ _. Literal) [ None ↦ Whole (pos 0) | Some s ↦ literal_of s.0 s.1 ]
 
--- a value that is given is an element
+-- a value that is given is an element; one that is no scalar is what no element is answered by
 abbrev pub element_in : Value → Answer
-element_in v = elim (scalar_in v) as (λ _. Answer) [ None ↦ Absent | Some s ↦ Element s.0 s.1 ]
+element_in v = elim (scalar_in v) as (λ _. Answer) [ None ↦ Done | Some s ↦ Element s.0 s.1 ]
 
 -- the kind of scalars of a value that is passed
 abbrev pub kind_in : Value → ScalarKind

@@ -20,7 +20,7 @@ ghost use Rattle.segment_manager.specs.declared.modes.Mode.TheVariants.{Write};
 use crate::calls::passed;
 use crate::codes::{BAD_IMAGE, BAD_MODE, BAD_SIZE, DONE, NO_MEMORY, SHORT_BUFFER, SHORT_REGION};
 use crate::handle::{Handle, put, take};
-use crate::resizing::{LARGEST_REGION, capacity_for};
+use crate::resizing::{capacity_for, is_capacity};
 use block_tags::is_legal_size;
 use image_check::{FRONT, ImageClass, OpenError, open_bytes, size_in};
 use raw_region::{RawRegion, Steps};
@@ -174,7 +174,7 @@ pub extern "C" fn zx_open(
     ensures why { or_else (capacity_wrong capacity) (mode_wrong mode) ≡ 0 → 1 ≤ result → IsWhyNotOpened image.now capacity result }
     ensures kept { 1 ≤ result → h.new.value ≡ h.old.value }
 {
-    if capacity < 16 || capacity > LARGEST_REGION || capacity % 16 != 0 {
+    if !is_capacity(capacity) {
         return BAD_SIZE;
     }
     let Some(mode) = mode_for(mode) else {
@@ -211,10 +211,7 @@ fn checked(alloc: Global, image: &[u8]) -> Result<Segment, u32>
     let Ok(region) = RawRegion::new(alloc, capacity_for(size)) else {
         return Err(NO_MEMORY);
     };
-    match open_in(alloc, image, region, Mode::ReadOnly) {
-        Ok(segment) => Ok(segment),
-        Err(code) => Err(code),
-    }
+    open_in(alloc, image, region, Mode::ReadOnly)
 }
 
 /// The size that the first bytes say, or 0 where they say none.

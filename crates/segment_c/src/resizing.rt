@@ -1,5 +1,5 @@
 //! Segments that become longer or shorter, and that move into other regions.
-ghost use Rattle.std.specs.Prelude.{◌≡◌, ◌<◌, ◌≤◌, ◌⊎◌, ◌+◌, IfOk, Some, length, min};
+ghost use Rattle.std.specs.Prelude.{◌≡◌, ◌<◌, ◌≤◌, ◌⊎◌, ◌+◌, IfOk, Some, if◌then◌else◌, length, min, true};
 ghost use Rattle.std.specs.declared.option.Option.TheVariants.{Some as Held};
 ghost use Rattle.grow_shrink.specs.Resized.{room_of, shrink_refusal};
 ghost use Rattle.raw_region.specs.Regions.{IsCapacity};
@@ -21,7 +21,15 @@ use segment_manager::conditioned::{adopt, extend_end};
 use std::alloc::Global;
 
 /// The most bytes of a region.
-pub(crate) const LARGEST_REGION: u64 = 1 << 40;
+const LARGEST_REGION: u64 = 1 << 40;
+
+/// Whether a region may have so many bytes: a multiple of 16, from 16 to 1099511627776.
+pub fn is_capacity(bytes: u64) -> bool
+    ensures wrong { capacity_wrong bytes ≡ (if result then 0 else 22) }
+    ensures capacity { result ≡ true → IsCapacity bytes }
+{
+    16 <= bytes && bytes <= LARGEST_REGION && bytes % 16 == 0
+}
 
 /// Makes the segment as short as its last block lets it be.
 #[unsafe(no_mangle)]
@@ -66,10 +74,10 @@ pub extern "C" fn zx_relocate(alloc: Global, h: &mut Handle, capacity: u64) -> u
     ensures stopped { IsStopped (capacity_wrong capacity) result h.old.value h.new.value }
     ensures closed { IsClosed (capacity_wrong capacity) result h.old.value h.new.value }
     ensures moved { (s : State) → h.old.value ≡ Held s → result ≡ 0 → Opened h.new.value (λ t. IsMoved s t capacity) }
-    ensures why { (s : State) → capacity_wrong capacity ≡ 0 → h.old.value ≡ Held s → 1 ≤ result → ((result ≡ 27) × (capacity < length s.cut.bytes)) ⊎ (result ≡ 26) }
+    ensures why { (s : State) → capacity_wrong capacity ≡ 0 → h.old.value ≡ Held s → 1 ≤ result → ((result ≡ 27) × (capacity < length s.cut.bytes)) ⊎ ((result ≡ 26) × (length s.cut.bytes ≤ capacity)) }
     ensures kept { 1 ≤ result → h.new.value ≡ h.old.value }
 {
-    if capacity < 16 || capacity > LARGEST_REGION || capacity % 16 != 0 {
+    if !is_capacity(capacity) {
         return BAD_SIZE;
     }
     let mut segment = passed!(take(alloc, h));
@@ -80,7 +88,7 @@ pub extern "C" fn zx_relocate(alloc: Global, h: &mut Handle, capacity: u64) -> u
 fn relocate(alloc: Global, segment: &mut Segment, capacity: u64) -> u32
     requires { IsCapacity capacity }
     ensures moved { result ≡ 0 → IsMoved segment.old segment.new capacity }
-    ensures why { 1 ≤ result → ((result ≡ 27) × (capacity < length segment.old.cut.bytes)) ⊎ (result ≡ 26) }
+    ensures why { 1 ≤ result → ((result ≡ 27) × (capacity < length segment.old.cut.bytes)) ⊎ ((result ≡ 26) × (length segment.old.cut.bytes ≤ capacity)) }
     ensures kept { 1 ≤ result → segment.new ≡ segment.old }
 {
     if capacity < segment.as_bytes().len() as u64 {

@@ -419,6 +419,11 @@ void many_at_once() {
     THROWS(wrong_kind, s.write<i32>("a", 0, {1}));
     s.read<i64>("a", 2, row, 1);
     IS(row[0], 30);
+    i64 *const nowhere = nullptr;
+    s.read<i64>("a", 3, nowhere, 0);
+    a.read(3, nowhere, 0);
+    THROWS(out_of_range, s.read<i64>("a", 4, nowhere, 0));
+    THROWS(null_slice, s.read<i64>("a", 0, nowhere, 1));
     s.construct_vector<i32>("v", {1, 2, 3});
     const zaluxhoni::vector<i32> v = s.vector<i32>("v");
     v.write(0, {4, 5});
@@ -441,6 +446,35 @@ void many_at_once() {
 #endif
     s = reopened(s, "many", zaluxhoni::mode::read);
     THROWS(read_only, s.write<i64>("a", 0, {1}));
+}
+
+/// Under a name another object may have come, of another kind: what was asked of the first one reads nothing of it.
+void another_kind_under_the_name() {
+    segment s = segment::create(4096);
+    const zaluxhoni::vector<i64> v = s.vector<i64>("v");
+    const zaluxhoni::map<i64, i64> m = s.map<i64, i64>("m");
+    s.construct<i64>("a", 1);
+    const zaluxhoni::array<i64> a = s.array<i64>("a");
+    for (const char *name : {"v", "m", "a"}) IS(s.destroy(name), true);
+    s.construct_vector<u64>("v", {7, UINT64_MAX});
+    s.construct<u64>("a", UINT64_MAX);
+    s.map<i64, u64>("m").put(1, UINT64_MAX);
+    const std::vector<u8> before = s.save();
+    THROWS(wrong_kind, v.get(1));
+    THROWS(wrong_kind, i64{v[1]});
+    THROWS(wrong_kind, *v.begin());
+    THROWS(wrong_kind, v.pop_back());
+    THROWS(wrong_kind, v.to_vector());
+    THROWS(wrong_kind, a.get(0));
+    THROWS(wrong_kind, m.find(1));
+    THROWS(wrong_kind, m.first());
+    THROWS(wrong_kind, m.next(0));
+    THROWS(wrong_kind, (zaluxhoni::map<u8, u64>(s, "m").first()));
+    THROWS(wrong_kind, zaluxhoni::vector<i32>(s, "v").pop_back());
+    THROWS(wrong_kind, zaluxhoni::vector<u64>(s, "a").pop_back());
+    IS((s.save() == before), true);
+    IS(s.vector<u64>("v").pop_back(), UINT64_MAX);
+    IS(s.vector<u64>("v").size(), 1);
 }
 
 /// One object of each kind, by the calls that every_call.c makes: all three programs save the same bytes.
@@ -523,6 +557,10 @@ void what_is_refused() {
     THROWS(bad_size, segment::open(image, zaluxhoni::mode::write, 1025));
     THROWS(bad_mode, segment::open(image, static_cast<zaluxhoni::mode>(3)));
     THROWS(null_slice, segment::open({nullptr, 1024}));
+    const zaluxhoni::slice<std::string_view> no_texts(nullptr, 2);
+    THROWS(null_slice, s.construct_strings("t", no_texts));
+    THROWS(null_slice, s.find_or_construct_strings("t", no_texts));
+    THROWS(null_slice, s.strings("t").assign(no_texts));
     THROWS(short_buffer, s.save(image.data(), 1023));
     const std::vector<u8> half(image.begin(), image.begin() + 512);
     IS(zaluxhoni::check_image(half), u64{ZX_TRUNCATED});
@@ -561,6 +599,23 @@ void segments_move() {
     THROWS(closed, v.size());
 }
 
+/// What was asked of a segment finds it closed behind the destructor, and where another segment has taken its place.
+void segments_end_before_their_objects() {
+    segment s = segment::create(1024);
+    const zaluxhoni::vector<i64> v = s.vector<i64>("v");
+    s = segment::create(1024);
+    s.construct_vector<i64>("v", {1});
+    THROWS(closed, v.size());
+    THROWS(closed, v.push_back(2));
+    const zaluxhoni::vector<i64> later = s.vector<i64>("v");
+    IS(later.size(), 1);
+    s = segment();
+    THROWS(closed, later.size());
+    THROWS(closed, s.size());
+    const zaluxhoni::strings texts = segment::create(1024).strings("t");
+    THROWS(closed, texts.push_back("text"));
+}
+
 void errors_say_what() {
     IS(zaluxhoni::words(ZX_READ_ONLY), "read only"s);
     IS(zaluxhoni::words(1000), "code 1000"s);
@@ -583,8 +638,9 @@ int main(int count, char **arguments) {
     void (*const cases[])() = {
         an_anonymous_object, names, files, index_and_object_do_not_both_fit, arrays, the_only_object_of_its_kind,
         places_reserved_in_the_indexes, best_fit, storage_is_lengthened_then_replaced, a_string_grows_and_shrinks,
-        a_map, refusals_of_a_vector, a_vector_of_strings, objects_found_or_made, many_at_once, one_of_each, size_and_region,
-        modes, what_is_refused, segments_move, errors_say_what};
+        a_map, refusals_of_a_vector, a_vector_of_strings, objects_found_or_made, many_at_once,
+        another_kind_under_the_name, one_of_each, size_and_region, modes, what_is_refused, segments_move,
+        segments_end_before_their_objects, errors_say_what};
     for (void (*each)() : cases) {
         try {
             each();

@@ -474,6 +474,27 @@ def a_segment_as_a_dict():
     saved(s, "dict")
 
 
+def maps_are_made_whole():
+    s = zaluxhoni.create(1024)
+    many, free = {number: 0 for number in range(100)}, s.free
+    raises(zaluxhoni.OutOfRange, set_item, s, "m", {1: 2**64})
+    raises(zaluxhoni.OutOfRange, set_item, s, "m", {1: 10, -2**63 - 1: 20})
+    raises(zaluxhoni.WrongKind, set_item, s, "m", {1: True, 2: 3})
+    raises(zaluxhoni.WrongKind, s.construct, "map<i32,bool>", "m", {1: True, 2: 0})
+    raises(zaluxhoni.OutOfRange, s.find_or_construct, "map<u8,i64>", unique("map<u8,i64>"), {1: 2, 256: 3})
+    raises(zaluxhoni.NoSpace, s.construct, "map<i64,i64>", None, many)
+    same((len(s), s.num_unique, s.free), (0, 0, free))
+    raises(zaluxhoni.NoSpace, s.find_or_construct, "map<i64,i64>", "m", many)
+    same((list(s), [tile for tile in s.tiles() if tile.use in ("object", "node")]), ([], []))
+    # of one that is there nothing is changed by pairs that are outside it, and it stays where it is asked for
+    s["m"] = {1: 10, 2: 20}
+    raises(zaluxhoni.OutOfRange, set_item, s, "m", {3: 30, 4: 2**63})
+    raises(zaluxhoni.WrongKind, set_item, s, "m", {3: True})
+    same(dict(s.find_or_construct("map<i64,i64>", "m", many)), {1: 10, 2: 20})
+    raises(zaluxhoni.Exists, s.construct, "map<i64,i64>", "m", {1: 11})
+    same(dict(s["m"]), {1: 10, 2: 20})
+
+
 def size_and_region():
     s = zaluxhoni.create(208)
     raises(zaluxhoni.NoSpace, s.construct, "i64[100]", "numbers", 0)
@@ -590,6 +611,24 @@ def files():
     raises(zaluxhoni.BadMode, zaluxhoni.open, path, "rw")
 
 
+def a_relative_path():
+    path, start = os.path.relpath(new("relative")), os.getcwd()
+    s = zaluxhoni.open(path, size=1024)
+    s["a"] = 5
+    os.chdir(folder)
+    try:
+        s.save()
+        s["a"] = 6
+        s.close()
+    finally:
+        os.chdir(start)
+    with zaluxhoni.open(os.fsencode(path), "w") as s:
+        same(s["a"], 6)
+        s["a"] = 7
+    with zaluxhoni.open(path, "r") as s:
+        same(s["a"], 7)
+
+
 def files_that_fail():
     path = path_of("stranger")
     with open(path, "wb") as file:
@@ -635,7 +674,8 @@ def what_is_not_closed():
 for case in (an_anonymous_object, names, index_and_object_do_not_both_fit, arrays, the_only_object_of_its_kind,
              places_reserved_in_the_indexes, best_fit, storage_is_lengthened_then_replaced, a_string_grows_and_shrinks, a_map,
              refusals_of_a_vector, a_vector_of_strings, objects_found_or_made, every_kind_of_scalar, many_at_once, one_of_each,
-             a_segment_as_a_dict, size_and_region, what_is_refused, one_thread, files, files_that_fail, what_is_not_closed):
+             a_segment_as_a_dict, maps_are_made_whole, size_and_region, what_is_refused, one_thread, files,
+             a_relative_path, files_that_fail, what_is_not_closed):
     try:
         case()
     except Exception as error:

@@ -1,5 +1,4 @@
-//! How the four calls whose touches are bounded, and the two that move the window's end, reach the tiles of a heap and
-//! the tree of its gaps: each touch is counted.
+//! How the calls of a heap whose touches are bounded reach its tiles and the tree of its gaps: each touch is counted.
 ghost use Rattle.std.specs.Prelude.{◌≡◌, ℕ, ◌+◌, ◌*◌, ◌%◌, ◌^◌, ◌<◌, ◌≤◌, true, ◌-◌, Option, Some, List, ◌∷◌, ◌++◌, length, filter, option_map, false};
 ghost use Rattle.raw_region.specs.Memory.{cut_at, whole};
 ghost use Rattle.block_tags.specs.declared.tile.Role.{Role as ARole};

@@ -1,5 +1,7 @@
 -- The tags of a window, tested one tile after the other.
-use Rattle.std.proofs.Common.{Some, None, is_some, is_none, ◌≡◌, refl, sym, ap, subst, ◌∙◌, ℕ, zero, suc, ◌+◌, ◌-◌, ◌*◌, ◌/◌, ◌<◌, ◌≤◌, Bool, true, false, List, [], ◌∷◌, length, arith, nat_lt, nat_le, ◌&&◌, not, IsTrue, ◌==◌}
+use Rattle.std.proofs.Common.{Some, None, is_some, is_none, ◌≡◌, refl, sym, ap, subst, ◌∙◌, ℕ, zero, suc, ◌+◌, ◌-◌, ◌*◌}
+use Rattle.std.proofs.Common.{◌/◌, ◌<◌, ◌≤◌, Bool, true, false, List, [], ◌∷◌, length, arith, nat_lt, nat_le, ◌&&◌, not}
+use Rattle.std.proofs.Common.{IsTrue, ◌==◌}
 use Rattle.std.specs.Prelude.{Option}
 use mathlib.Core.Bool.{true≢false}
 use Rattle.std.proofs.lemmas.Bool.{eq-eqb}
@@ -77,13 +79,21 @@ none_at_end : (more : ℕ) (m : Memory) (end : ℕ) → tiles_from more m end en
 none_at_end zero m end = refl
 none_at_end (suc more) m end =
     let l : nat_lt end end ≡ false = grind arith in
-    ap (λ (b : Bool). elim b [ false ↦ [] | true ↦ let t : Tile = tile_at m end in t ∷ tiles_from more m (end + t.len) end ]) l
+    ap (λ (b : Bool). elim b [
+      | false ↦ []
+      | true ↦ let t : Tile = tile_at m end in t ∷ tiles_from more m (end + t.len)
+          end
+    ]) l
 
 one_more_tile : (more : ℕ) (m : Memory) (at end : ℕ) → at < end
     → length (tiles_from (suc more) m at end) ≡ suc (length (tiles_from more m (at + (tile_at m at).len) end))
 one_more_tile more m at end h =
     let l : nat_lt at end ≡ true = grind arith in
-    ap (λ (b : Bool). let ts : List Tile = elim b [ false ↦ [] | true ↦ let t : Tile = tile_at m at in t ∷ tiles_from more m (at + t.len) end ] in length ts) l
+    ap (λ (b : Bool). let ts : List Tile = elim b [
+      | false ↦ []
+      | true ↦ let t : Tile = tile_at m at in t ∷ tiles_from
+          more m (at + t.len) end
+    ] in length ts) l
 
 -- the count behind one test, as `good_tiles_from` has it
 abbrev counted_if : ℕ → Memory → ℕ → ℕ → Bool → ℕ
@@ -93,25 +103,30 @@ counted_if more m at end b =
       | true ↦ let t : Tile = tile_at m at in 1 + good_tiles_from current more m (at + t.len) t.len (is_free t) end
     ]
 
-none_good_behind : (more : ℕ) (m : Memory) (at before : ℕ) (free : Bool) (end : ℕ) → end ≤ at → good_tiles_from current more m at before free end ≡ 0
+none_good_behind : (more : ℕ) (m : Memory) (at before : ℕ) (free : Bool) (end : ℕ) → end ≤ at
+    → good_tiles_from current more m at before free end ≡ 0
 none_good_behind zero m at before free end h = refl
 none_good_behind (suc more) m at before free end h =
     let l : nat_lt at end ≡ false = grind arith in
     ap (λ (b : Bool). counted_if more m at end (b && is_good_tile current m at before free end)) l
 
-none_good_here : (more : ℕ) (m : Memory) (at before : ℕ) (free : Bool) (end : ℕ) → at < end → is_good_tile current m at before free end ≡ false
+none_good_here : (more : ℕ) (m : Memory) (at before : ℕ) (free : Bool) (end : ℕ) → at < end
+    → is_good_tile current m at before free end ≡ false
     → good_tiles_from current more m at before free end ≡ 0
 none_good_here zero m at before free end h g = refl
 none_good_here (suc more) m at before free end h g =
     let l : nat_lt at end ≡ true = grind arith in
-    ap (λ (b : Bool). counted_if more m at end (b && is_good_tile current m at before free end)) l ∙ ap (counted_if more m at end) g
+    ap (λ (b : Bool). counted_if more m at end (b && is_good_tile current m at before free end)) l
+    ∙ ap (counted_if more m at end) g
 
-one_more_good : (more : ℕ) (m : Memory) (at before : ℕ) (free : Bool) (end : ℕ) → at < end → is_good_tile current m at before free end ≡ true
+one_more_good : (more : ℕ) (m : Memory) (at before : ℕ) (free : Bool) (end : ℕ) → at < end
+    → is_good_tile current m at before free end ≡ true
     → good_tiles_from current (suc more) m at before free end
     ≡ 1 + good_tiles_from current more m (at + (tile_at m at).len) (tile_at m at).len (is_free (tile_at m at)) end
 one_more_good more m at before free end h g =
     let l : nat_lt at end ≡ true = grind arith in
-    ap (λ (b : Bool). counted_if more m at end (b && is_good_tile current m at before free end)) l ∙ ap (counted_if more m at end) g
+    ap (λ (b : Bool). counted_if more m at end (b && is_good_tile current m at before free end)) l
+    ∙ ap (counted_if more m at end) g
 
 -- ---- where the loop stands, with so many tags read or to be read next
 pub record Walking (m : Memory) (size end at before : ℕ) (free : Bool) (tags : ℕ) : Type 0 where
@@ -123,7 +138,8 @@ pub record Walking (m : Memory) (size end at before : ℕ) (free : Bool) (tags :
   tiles : length (tiles_of m size) + 1 ≡ tags + length (tiles_from more m at end)
   good : good_tiles_of current m size + 1 ≡ tags + good_tiles_from current more m at before free end
 
-pub starts : (m : Memory) (size end : ℕ) → IsTrue (is_legal_size size) → end ≡ size - 16 → Walking m size end 128 0 false 1
+pub starts : (m : Memory) (size end : ℕ) → IsTrue (is_legal_size size) → end ≡ size - 16
+    → Walking m size end 128 0 false 1
 unfolding from_here
 starts m size end h e =
     let g = legal size h in let low = g.low in
@@ -146,7 +162,8 @@ bad_here (suc more) m at before free end h b =
     one_more more m at before free end h ∙ ap (λ (c : Bool). c && from_here more m (at + (tile_at m at).len) (tile_at m at).len (is_free (tile_at m at)) end) b
 
 -- a bad tag
-pub stops : (m : Memory) (size end at before : ℕ) (free : Bool) (tags : ℕ) → Walking m size end at before free tags → at < end → is_good_tile current m at before free end ≡ false
+pub stops : (m : Memory) (size end at before : ℕ) (free : Bool) (tags : ℕ) → Walking m size end at before free tags
+    → at < end → is_good_tile current m at before free end ≡ false
     → (has_tags current m size ≡ false) × (tags ≡ good_tiles_of current m size + 1)
 stops m size end at before free tags w h b =
     let good = w.good in let none = none_good_here w.more m at before free end h b in
@@ -175,7 +192,8 @@ is_inside m at before free end g =
     let fits : IsTrue (nat_le t.len (end - at)) = (and_parts (word_at m at == before) (nat_le t.len (end - at)) front).1 in
     grind arith
 
-onward : (more : ℕ) (m : Memory) (size end at before : ℕ) (free : Bool) (tags : ℕ) → end ≡ size - 16 → end < at + 32 * more + 32 → has_tags current m size ≡ from_here more m at before free end
+onward : (more : ℕ) (m : Memory) (size end at before : ℕ) (free : Bool) (tags : ℕ) → end ≡ size - 16
+    → end < at + 32 * more + 32 → has_tags current m size ≡ from_here more m at before free end
     → length (tiles_of m size) + 1 ≡ tags + length (tiles_from more m at end)
     → good_tiles_of current m size + 1 ≡ tags + good_tiles_from current more m at before free end
     → at < end → is_good_tile current m at before free end ≡ true
@@ -195,7 +213,8 @@ onward (suc more) m size end at before free tags is enough same tiles good h g =
       good = omega arith;
     }
 
-pub goes_on : (m : Memory) (size end at before : ℕ) (free : Bool) (tags : ℕ) → Walking m size end at before free tags → at < end → is_good_tile current m at before free end ≡ true
+pub goes_on : (m : Memory) (size end at before : ℕ) (free : Bool) (tags : ℕ)
+    → Walking m size end at before free tags → at < end → is_good_tile current m at before free end ≡ true
     → (t : Tile) → t ≡ tile_at m at → GoesOn m size end at t tags
 goes_on m size end at before free tags w h g t e =
     let P : Tile → Type 0 = λ (u : Tile). GoesOn m size end at u tags in
@@ -224,10 +243,12 @@ pub record Ends (m : Memory) (size end before tags : ℕ) : Type 0 where
   pub tiles : tags ≡ length (tiles_of m size) + 1
   pub good : tags ≡ good_tiles_of current m size + 1
 
-pub ends : (m : Memory) (size end at before : ℕ) (free : Bool) (tags : ℕ) → Walking m size end at before free tags → end ≤ at → Ends m size end before tags
+pub ends : (m : Memory) (size end at before : ℕ) (free : Bool) (tags : ℕ) → Walking m size end at before free tags
+    → end ≤ at → Ends m size end before tags
 ends m size end at before free tags w h =
     let reach = w.reach in let e : at ≡ end = omega arith in
-    let tiles = w.tiles ∙ ap (λ (k : ℕ). tags + length (tiles_from w.more m k end)) e ∙ ap (λ (us : List Tile). tags + length us) (none_at_end w.more m end) in
+    let tiles = w.tiles ∙ ap (λ (k : ℕ). tags + length (tiles_from w.more m k end)) e
+    ∙ ap (λ (us : List Tile). tags + length us) (none_at_end w.more m end) in
     let good = w.good in let none = none_good_behind w.more m at before free end h in
     record {
       said = w.same ∙ ap (λ (k : ℕ). from_here w.more m k before free end) e ∙ end_here w.more m end before free;

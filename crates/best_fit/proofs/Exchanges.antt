@@ -2,7 +2,8 @@
 use Rattle.best_fit.proofs.Common.{◌≡◌, refl, sym, ap, subst, ◌∙◌, inl, ℕ, ◌+◌, ◌-◌, ◌%◌, ◌<◌, ◌≤◌, Bool, true, false}
 use Rattle.best_fit.proofs.Common.{Option, Some, None, List, [], ◌∷◌, arith, if◌then◌else◌, IsTrue, IfSome}
 use Rattle.best_fit.proofs.Common.{option_map, min, Result, and_from, le-leb, leb-true, lt-leb, AllByRecursion}
-use Rattle.best_fit.proofs.Common.{both_ways, same_Some, none-some, Same-trans, SameBut-word, Memory, Cut, SameBut, bytes_of}
+use Rattle.best_fit.proofs.Common.{both_ways, same_Some, none-some, Same-trans, SameBut-word, Memory, Cut, SameBut}
+use Rattle.best_fit.proofs.Common.{bytes_of}
 use Rattle.best_fit.proofs.Common.{read, Storage, current, exchanged, without_all, IsExchanged, SameBlockBut}
 use Rattle.best_fit.proofs.Common.{IsGivenRoom, Regrows, serves, same_role, Extent, LiveSet, handle, end_of, holds}
 use Rattle.best_fit.proofs.Common.{is_proper, insert, others, added, released, place, regrow, longer, Allocates}

@@ -13,7 +13,8 @@ use Rattle.best_fit.proofs.Frames.{blocks-refl}
 use Rattle.best_fit.proofs.GapSteps.{same_gaps}
 use Rattle.best_fit.proofs.Laid.{heap-says, legal_size, said_row}
 use Rattle.best_fit.proofs.Regrowths.{SplitsAlike, regrown_keeps, regrown_live, splits_alike, tree_says}
-use Rattle.best_fit.proofs.Rows.{Row, extents_of, extents_of-free, extents_of-used, gaps_of-append, gaps_of-free, unused, used}
+use Rattle.best_fit.proofs.Rows.{Row, extents_of, extents_of-free, extents_of-used, gaps_of-append, gaps_of-free}
+use Rattle.best_fit.proofs.Rows.{unused, used}
 use Rattle.best_fit.proofs.Rows.{use_cases, unused-free, used-not_free}
 use Rattle.best_fit.proofs.Walks.{live_extents}
 use Rattle.best_fit.proofs.Uprooting.{One, one_listed, one_small}

@@ -71,7 +71,8 @@ impl<'a> Touches<'a> {
         ensures tree { (xs : List Gap) (g : Gap) (ys : List Gap) → node ≡ node_of g → HasTree self.old.gaps.now.window (xs ++ g ∷ ys) → HasTree self.new.gaps.now.window (xs ++ ys) }
         ensures rest { Regrown self.old.gaps.now.window self.new.gaps.now.window }
         ensures counted { self.old.count < self.new.count }
-        ensures steps { (hs : List Gap) → HasTree self.old.gaps.now.window hs → self.new.count ≤ self.old.count + 32 * bits (length hs + 1) + 33 }
+        ensures steps { (hs : List Gap) → HasTree self.old.gaps.now.window hs
+            → self.new.count ≤ self.old.count + 32 * bits (length hs + 1) + 33 }
         ensures reference { self.new.gaps.ghost_name ≡ self.old.gaps.ghost_name }
     {
         let root = load(&self.gaps.window, FREE_TREE);
@@ -92,7 +93,8 @@ impl<'a> Touches<'a> {
         ensures tree { (xs : List Gap) (g : Gap) (ys : List Gap) → node ≡ node_of g → HasTree self.old.gaps.now.window (xs ++ g ∷ ys) → HasTree self.new.gaps.now.window (xs ++ ys) }
         ensures rest { Regrown self.old.gaps.now.window self.new.gaps.now.window }
         ensures counted { self.old.count < self.new.count }
-        ensures steps { (hs : List Gap) → HasTree self.old.gaps.now.window hs → self.new.count ≤ self.old.count + 32 * bits (length hs + 1) + 33 }
+        ensures steps { (hs : List Gap) → HasTree self.old.gaps.now.window hs
+            → self.new.count ≤ self.old.count + 32 * bits (length hs + 1) + 33 }
         ensures reference { self.new.gaps.ghost_name ≡ self.old.gaps.ghost_name }
     {
         let way = way_out(&*self.gaps, root, node);

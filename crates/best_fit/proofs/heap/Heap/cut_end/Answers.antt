@@ -1,5 +1,6 @@
 -- What is done to the window is done to the heap.
-use Rattle.best_fit.proofs.Common.{◌≡◌, subst, ◌∙◌, ◌*◌, ◌+◌, ◌≤◌, length, arith, Cut, bits, gaps_in, current, least_size}
+use Rattle.best_fit.proofs.Common.{◌≡◌, subst, ◌∙◌, ◌*◌, ◌+◌, ◌≤◌, length, arith, Cut, bits, gaps_in, current}
+use Rattle.best_fit.proofs.Common.{least_size}
 use Rattle.best_fit.proofs.Common.{of_size, LaysOut, heap_touches, live_of}
 use Rattle.best_fit.proofs.Allocating.{heap_bits}
 use Rattle.best_fit.proofs.WayPoints.{held-on}

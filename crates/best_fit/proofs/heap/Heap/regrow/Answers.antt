@@ -1,5 +1,6 @@
 -- The block has the room, or it is lengthened, or it is replaced.
-use Rattle.best_fit.proofs.Common.{◌≡◌, sym, subst, IsTrue, IfSome, Cut, current, Regrows, IsGivenRoom, IsHeap, has_room}
+use Rattle.best_fit.proofs.Common.{◌≡◌, sym, subst, IsTrue, IfSome, Cut, current, Regrows, IsGivenRoom, IsHeap}
+use Rattle.best_fit.proofs.Common.{has_room}
 use Rattle.best_fit.proofs.Common.{live_of}
 use Rattle.best_fit.specs.Exchange.{block_of}
 use Rattle.best_fit.proofs.Exchanges.{given-same, given-longer, not_longer-same, regrows-replaced, regrows-none}

@@ -2,7 +2,8 @@
 use Rattle.best_fit.proofs.Common.{◌≡◌, refl, sym, ap, subst, ◌∙◌, inl, ℕ, ◌+◌, ◌-◌, ◌%◌, ◌<◌, ◌≤◌, Bool, true, false}
 use Rattle.best_fit.proofs.Common.{Option, Some, None, List, [], ◌∷◌, arith, if◌then◌else◌, IsTrue, IfSome}
 use Rattle.best_fit.proofs.Common.{option_map, min, Result, and_from, le-leb, leb-true, lt-leb, AllByRecursion}
-use Rattle.best_fit.proofs.Common.{both_ways, same_Some, Same-trans, SameBut-word, Memory, Cut, SameBut, bytes_of}
+use Rattle.best_fit.proofs.Common.{both_ways, same_Some, none-some, Same-trans, SameBut-word, Memory, Cut, SameBut}
+use Rattle.best_fit.proofs.Common.{bytes_of}
 use Rattle.best_fit.proofs.Common.{read, Storage, current, exchanged, without_all, IsExchanged, SameBlockBut}
 use Rattle.best_fit.proofs.Common.{IsGivenRoom, Regrows, serves, same_role, Extent, LiveSet, handle, end_of, holds}
 use Rattle.best_fit.proofs.Common.{is_proper, insert, others, added, released, place, regrow, longer, Allocates}
@@ -129,6 +130,7 @@ given-same c h n used heap t r e f =
         keeps = keeps-refl c (others (handle x) l.extents);
       };
       carried = refl;
+      enough = λ z f h. refl;
     } in
     subst (λ o. IsGivenRoom current c c o n used h) (sym q.found) given
 
@@ -146,6 +148,11 @@ is_short c h n used heap t r e f =
     let long : x.len - 16 ≡ r = cc in
     let has : used + 16 ≤ x.len = q.room in
     record { roomy = q; short = lt-leb (n + 16) x.len (omega (arith, long, f, has)) }
+
+-- no block in its place has the room
+not_enough : (x z : Extent) (n : ℕ) → holds x n ≡ false → Some x ≡ Some z → IsTrue (holds z n) → ⊥
+not_enough x z n short e h =
+    both_ways (holds x n) short (ap (λ (y : Extent). holds y n) (same_Some x z e) ∙ h)
 
 pub regrow-short : (l : LiveSet) (x : Extent) (n : ℕ) (o : Option Extent) → holds x n ≡ false → longer l x n ≡ o
     → regrow l (Some x) n ≡ elim o as (λ _. Option Extent) [ Some y ↦ Some y | None ↦ place l n Storage ]
@@ -219,6 +226,7 @@ given-longer old new h n used result heap t r e f ext is =
       carried = ap (λ k. read (bytes_of new.bytes) (k + 16) used) begins
           ∙ Same-read (bytes_of old.bytes) (bytes_of new.bytes) (handle x) (x.offset + min x.len y.len) (handle x) used
           a.resized.still.payload (omega arith) (omega arith);
+      enough = λ z f h. absurd (not_enough x z n q.short f h);
     })
 
 -- a block that was not lengthened is as it was
@@ -240,6 +248,7 @@ given-replaced old new h n used x (Ok g) found at e f p = record {
   at = p.at;
   change = p.change x found;
   carried = p.carried ∙ ap (λ k. read (bytes_of old.bytes) k used) (sym at);
+  enough = λ z g h. absurd (not_enough x z n e g h);
 }
 given-replaced old new h n used x (Err e') found at e f p =
     record { none = regrow-short (live_of old.bytes) x n None e f ∙ p.none; same = p.same }
@@ -269,6 +278,7 @@ regrows-none old new n used (Ok h) a = record {
   at = a.at;
   change = record { live = a.live; keeps = a.keeps };
   carried = tt;
+  enough = λ x e h. absurd (none-some x e);
 }
 regrows-none old new n used (Err e) a = record { none = a.none; same = a.same }
 

@@ -126,10 +126,10 @@ module _ (w : Cut) (at : ℕ) (heap : IsHeap current w.bytes) (b : Block w (at +
   pub record HalfUprooted (d : Cut) (start count : ℕ) : Type 0 where
     pub tree : HasTree d (init ++ (last ++ tail))
     pub rest : Regrown w d
-    pub steps : count ≤ start + 32 * bits (length (gaps_in w) + 1) + 34
+    pub steps : count ≤ start + 32 * bits (length (gaps_in w) + 1) + 35
 
   pub half_uprooted : (d : Cut) (start n count : ℕ) → HasTree d ((init ++ last) ++ tail) → Regrown w d → n ≤ start + 2
-      → count ≤ n + 32 * bits (length ((init ++ last) ++ (first ++ tail)) + 1) + 32
+      → count ≤ n + 32 * bits (length ((init ++ last) ++ (first ++ tail)) + 1) + 33
       → HalfUprooted d start count
   half_uprooted d start n count tree rest low high =
       let few = first_tree.some.few in
@@ -144,10 +144,10 @@ module _ (w : Cut) (at : ℕ) (heap : IsHeap current w.bytes) (b : Block w (at +
   pub record Uprooted (d : Cut) (start count : ℕ) : Type 0 where
     pub tree : HasTree d (init ++ tail)
     pub rest : Regrown w d
-    pub steps : count ≤ start + 64 * bits (length (gaps_in w) + 1) + 66
+    pub steps : count ≤ start + 64 * bits (length (gaps_in w) + 1) + 68
 
   pub uprooted : (d1 d : Cut) (start n count : ℕ) → HalfUprooted d1 start n → HasTree d (init ++ tail) → Regrown d1 d
-      → count ≤ n + 32 * bits (length (init ++ (last ++ tail)) + 1) + 32 → Uprooted d start count
+      → count ≤ n + 32 * bits (length (init ++ (last ++ tail)) + 1) + 33 → Uprooted d start count
   uprooted d1 d start n count half tree rest high =
       let few = half.tree.some.few in let low = half.steps in
       let same : length (gaps_in d1) ≡ length (gaps_in w) = ap (λ (hs : List Gap). length hs)

@@ -13,7 +13,9 @@ use Rattle.best_fit.proofs.Frames.{blocks-refl}
 use Rattle.best_fit.proofs.GapSteps.{same_gaps}
 use Rattle.best_fit.proofs.Laid.{heap-says, legal_size, said_row}
 use Rattle.best_fit.proofs.Regrowths.{SplitsAlike, regrown_keeps, regrown_live, splits_alike, tree_says}
-use Rattle.best_fit.proofs.Rows.{gaps_of-append, gaps_of-free, unused, used, use_cases, unused-free, used-not_free}
+use Rattle.best_fit.proofs.Rows.{Row, extents_of, extents_of-free, extents_of-used, gaps_of-append, gaps_of-free}
+use Rattle.best_fit.proofs.Rows.{unused, used}
+use Rattle.best_fit.proofs.Rows.{use_cases, unused-free, used-not_free}
 use Rattle.best_fit.proofs.Walks.{live_extents}
 use Rattle.best_fit.proofs.Uprooting.{One, one_listed, one_small}
 
@@ -47,6 +49,23 @@ none_plain : (ts : List Tile) → map plain ts ≡ [] → ts ≡ []
 none_plain [] e = refl
 none_plain (t ∷ ts) e = absurd (cons_not (plain t) (map plain ts) e)
 
+-- the blocks before a gap at the end, which has 32 bytes at least
+ends_before : (from at : ℕ) (front : List Tile) (t : Tile) (end : ℕ) → Row at (front ++ t ∷ []) end → t.use_of ≡ None
+    → from ≤ at → last_end from (extents_of (front ++ t ∷ [])) + 32 ≤ end
+ends_before from at [] t end r free low =
+    let on : at + t.len ≡ end = r.3 in let long = r.1 in
+    let same = ap (λ (xs : List Extent). last_end from xs) (extents_of-free t [] free) in omega arith
+ends_before from at (u ∷ front) t end r free low =
+    let o = r.0 in
+    elim (use_cases u) [
+      | unused e ↦
+          let same = ap (λ (xs : List Extent). last_end from xs) (extents_of-free u (front ++ t ∷ []) e) in
+          let rest = ends_before from (at + u.len) front t end r.3 free (omega arith) in omega arith
+      | used role e ↦
+          let same = ap (λ (xs : List Extent). last_end from xs) (extents_of-used u (front ++ t ∷ []) role e) in
+          let rest = ends_before (u.offset + u.len) (at + u.len) front t end r.3 free (omega arith) in omega arith
+    ]
+
 module _ (w : Cut) (heap : IsHeap current w.bytes) (at : ℕ) (l : LastGap w at) where
   one : One (gap_of l.tile ∷ []) at
   one = record { gap = gap_of l.tile; list = refl; offset = sym l.offset }
@@ -67,6 +86,15 @@ module _ (w : Cut) (heap : IsHeap current w.bytes) (at : ℕ) (l : LastGap w at)
 
   pub last_node : at + 16 ≡ node_of (gap_of l.tile)
   last_node = ap (λ k. k + 16) (sym l.offset)
+
+  -- and no block ends behind it
+  pub not_least : least_size (live_of w.bytes) ≡ length w.bytes → ⊥
+  not_least e =
+      let row = subst (λ (ts : List Tile). Row 128 ts (length w.bytes - 16)) l.list
+      (said_row w (tiles_in w) (heap-says w heap).said) in
+      let low = ends_before 128 128 l.front l.tile (length w.bytes - 16) row l.free (omega arith) in
+      let same = ap (λ (xs : List Extent). last_end 128 xs) (live_extents w ∙ ap extents_of l.list) in
+      absurd (omega arith)
 
   -- once it has left the tree
   module _ (d : Cut) (tree : HasTree d (gaps_of l.front ++ [])) (r : Regrown w d) where

@@ -93,13 +93,13 @@ module _ (w : Cut) (at : ℕ) (heap : IsHeap current w.bytes) (b : Block w (at +
   pub record TailUprooted (d : Cut) (before count : ℕ) : Type 0 where
     pub tree : HasTree d (gaps_of b.front ++ gaps_of (rest_of b.back))
     pub rest : Regrown w d
-    pub steps : count ≤ before + 32 * bits (length (gaps_in w) + 1) + 33
+    pub steps : count ≤ before + 32 * bits (length (gaps_in w) + 1) + 34
 
   pub tail_uprooted : (d : Cut) (before n count : ℕ) → HasTree d (gaps_of b.front ++ gaps_of (rest_of b.back))
       → Regrown w d → n ≤ before + 1
       → count ≤ n + 32
       * bits (length (gaps_of b.front ++ (gaps_of (of_option (first_in b.back)) ++ gaps_of (rest_of b.back))) + 1)
-      + 32 → TailUprooted d before count
+      + 33 → TailUprooted d before count
   tail_uprooted d before n count tree rest low high =
       let few = tree_w.some.few in
       let most = bits-le

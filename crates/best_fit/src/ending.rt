@@ -35,9 +35,10 @@ impl Heap {
     }
 
     /// Shortens the window by the gap at its end, where there is one, so that it ends behind the last block. A window
-    /// without blocks has 144 bytes then. All blocks stay.
+    /// without blocks has 144 bytes then. All blocks stay, and without such a gap every byte does.
     pub fn cut_end(&mut self, steps: &mut Steps)
         ensures moved { HasEndMoved current self.old self.new (least_size (live_of self.old.bytes)) }
+        ensures same { least_size (live_of self.old.bytes) ≡ length self.old.bytes → self.new ≡ self.old }
         ensures counted { steps.old < steps.new }
         ensures steps { steps.new ≤ steps.old + heap_touches (live_of self.old.bytes) }
     {
@@ -74,7 +75,9 @@ fn cut_gap(touches: &mut Touches)
     requires heap { IsHeap current touches.old.gaps.now.window.bytes }
     requires room { touches.old.count < 2 ^ 60 }
     ensures moved { HasEndMoved current touches.old.gaps.now.window touches.new.gaps.now.window (least_size (live_of touches.old.gaps.now.window.bytes)) }
-    ensures steps { touches.new.count ≤ touches.old.count + 32 * bits (length (gaps_in touches.old.gaps.now.window) + 1) + 34 }
+    ensures same { least_size (live_of touches.old.gaps.now.window.bytes) ≡ length touches.old.gaps.now.window.bytes
+        → touches.new.gaps.now.window ≡ touches.old.gaps.now.window }
+    ensures steps { touches.new.count ≤ touches.old.count + 32 * bits (length (gaps_in touches.old.gaps.now.window) + 1) + 35 }
     ensures counted { touches.old.count < touches.new.count }
     ensures reference { touches.new.gaps.ghost_name ≡ touches.old.gaps.ghost_name }
 {

@@ -2,7 +2,7 @@
 ghost use Rattle.std.specs.Prelude.{◌≤◌, IfSome, IsTrue};
 ghost use Rattle.raw_region.specs.Format.{current};
 ghost use Rattle.best_fit.specs.Exchange.{Regrows, Replaces};
-ghost use Rattle.best_fit.specs.Heap.{IsHeap, has_room, live_of};
+ghost use Rattle.best_fit.specs.Heap.{has_room, live_of};
 
 use crate::heap::Heap;
 use crate::refusal::NoSpace;
@@ -11,18 +11,20 @@ use raw_region::Steps;
 
 impl Heap {
     /// A block for `n` bytes in the place of the one of a handle, of which the first `used` bytes are kept: the same
-    /// block where it has the room, else the block lengthened where it stands, and else a new one of role storage,
-    /// which is taken before the old one is given back. Without a handle a new one. It answers the block's handle.
+    /// block where it has the room, and then no byte changes, else the block lengthened where it stands, and else a new
+    /// one of role storage, which is taken before the old one is given back. Without a handle a new one. It answers the
+    /// block's handle.
     ///
     /// # Errors
     ///
     /// `NoSpace` where a new block is needed and has no gap that is long enough. Nothing changes.
     pub fn regrow(&mut self, storage: Option<u64>, n: u64, used: u64) -> Result<u64, NoSpace>
-        requires heap { IsHeap current self.old.bytes }
         requires fits { used ≤ n }
         requires room { IfSome storage (λ h. IsTrue (has_room (live_of self.old.bytes) h used)) }
         ensures { Regrows current self.old self.new storage n used result }
     {
+        // What is true of every heap is known from here on: its bytes lay out a live set.
+        let _ = &self.gaps;
         match storage {
             None => self.allocate(n, Role::Storage, &mut Steps::new()),
             Some(handle) => {
@@ -39,11 +41,12 @@ impl Heap {
 
     /// A new block in the place of one, of which the first `used` bytes are kept.
     fn replace(&mut self, handle: u64, n: u64, used: u64) -> Result<u64, NoSpace>
-        requires heap { IsHeap current self.old.bytes }
         requires fits { used ≤ n }
         requires room { IsTrue (has_room (live_of self.old.bytes) handle used) }
         ensures { Replaces current self.old self.new handle n used result }
     {
+        // What is true of every heap is known from here on: its bytes lay out a live set.
+        let _ = &self.gaps;
         let new = self.allocate(n, Role::Storage, &mut Steps::new())?;
         self.copy(handle, 0, new, 0, used);
         self.deallocate(handle, &mut Steps::new());

@@ -1,5 +1,7 @@
 -- The tags of a window, tested one tile after the other.
-use Rattle.std.proofs.Common.{Some, None, is_some, is_none, ◌≡◌, refl, sym, ap, subst, ◌∙◌, ℕ, zero, suc, ◌+◌, ◌-◌, ◌*◌, ◌/◌, ◌<◌, ◌≤◌, Bool, true, false, List, [], ◌∷◌, arith, nat_lt, nat_le, ◌&&◌, not, IsTrue, ◌==◌}
+use Rattle.std.proofs.Common.{Some, None, is_some, is_none, ◌≡◌, refl, sym, ap, subst, ◌∙◌, ℕ, zero, suc, ◌+◌, ◌-◌, ◌*◌}
+use Rattle.std.proofs.Common.{◌/◌, ◌<◌, ◌≤◌, Bool, true, false, List, [], ◌∷◌, length, arith, nat_lt, nat_le, ◌&&◌, not}
+use Rattle.std.proofs.Common.{IsTrue, ◌==◌}
 use Rattle.std.specs.Prelude.{Option}
 use mathlib.Core.Bool.{true≢false}
 use Rattle.std.proofs.lemmas.Bool.{eq-eqb}
@@ -9,7 +11,7 @@ use Rattle.block_tags.specs.declared.tile.Role.{Role}
 use Rattle.block_tags.specs.declared.tile.Tile.{Tile}
 use Rattle.block_tags.specs.Format.{is_legal_size}
 use Rattle.block_tags.specs.Tiles.{is_tile, is_free, is_merged, tag_word, tile_at, tiles_from, tiles_of, are_tags, has_tags}
-use Rattle.block_tags.specs.Checks.{is_good_tile, is_tagged}
+use Rattle.block_tags.specs.Checks.{good_tiles_from, good_tiles_of, is_good_tile, is_tagged}
 use Rattle.std.proofs.lemmas.Bool.{and_parts}
 use Rattle.block_tags.proofs.ReadOff.{is_tile-IsWhole}
 use Rattle.block_tags.proofs.Saying.{legal}
@@ -71,25 +73,85 @@ one_more more m at before free end h =
     ∙ regrouped (is_tile current t) (word_at m at == before) (word_at m (at + 8) == tag_word t) (nat_le t.len (end - at)) (not (free && is_free t))
     (are_tags current m (at + t.len) t.len rest end) (merged_after (is_free t) rest) (λ e. not_beyond more m (at + t.len) t.len end (late e))
 
--- ---- where the loop stands
-pub record Walking (m : Memory) (size end at before : ℕ) (free : Bool) : Type 0 where
+-- ---- how many tiles are read off, and how many of them are good
+
+none_at_end : (more : ℕ) (m : Memory) (end : ℕ) → tiles_from more m end end ≡ []
+none_at_end zero m end = refl
+none_at_end (suc more) m end =
+    let l : nat_lt end end ≡ false = grind arith in
+    ap (λ (b : Bool). elim b [
+      | false ↦ []
+      | true ↦ let t : Tile = tile_at m end in t ∷ tiles_from more m (end + t.len)
+          end
+    ]) l
+
+one_more_tile : (more : ℕ) (m : Memory) (at end : ℕ) → at < end
+    → length (tiles_from (suc more) m at end) ≡ suc (length (tiles_from more m (at + (tile_at m at).len) end))
+one_more_tile more m at end h =
+    let l : nat_lt at end ≡ true = grind arith in
+    ap (λ (b : Bool). let ts : List Tile = elim b [
+      | false ↦ []
+      | true ↦ let t : Tile = tile_at m at in t ∷ tiles_from
+          more m (at + t.len) end
+    ] in length ts) l
+
+-- the count behind one test, as `good_tiles_from` has it
+abbrev counted_if : ℕ → Memory → ℕ → ℕ → Bool → ℕ
+counted_if more m at end b =
+    elim b [
+      | false ↦ 0
+      | true ↦ let t : Tile = tile_at m at in 1 + good_tiles_from current more m (at + t.len) t.len (is_free t) end
+    ]
+
+none_good_behind : (more : ℕ) (m : Memory) (at before : ℕ) (free : Bool) (end : ℕ) → end ≤ at
+    → good_tiles_from current more m at before free end ≡ 0
+none_good_behind zero m at before free end h = refl
+none_good_behind (suc more) m at before free end h =
+    let l : nat_lt at end ≡ false = grind arith in
+    ap (λ (b : Bool). counted_if more m at end (b && is_good_tile current m at before free end)) l
+
+none_good_here : (more : ℕ) (m : Memory) (at before : ℕ) (free : Bool) (end : ℕ) → at < end
+    → is_good_tile current m at before free end ≡ false
+    → good_tiles_from current more m at before free end ≡ 0
+none_good_here zero m at before free end h g = refl
+none_good_here (suc more) m at before free end h g =
+    let l : nat_lt at end ≡ true = grind arith in
+    ap (λ (b : Bool). counted_if more m at end (b && is_good_tile current m at before free end)) l
+    ∙ ap (counted_if more m at end) g
+
+one_more_good : (more : ℕ) (m : Memory) (at before : ℕ) (free : Bool) (end : ℕ) → at < end
+    → is_good_tile current m at before free end ≡ true
+    → good_tiles_from current (suc more) m at before free end
+    ≡ 1 + good_tiles_from current more m (at + (tile_at m at).len) (tile_at m at).len (is_free (tile_at m at)) end
+one_more_good more m at before free end h g =
+    let l : nat_lt at end ≡ true = grind arith in
+    ap (λ (b : Bool). counted_if more m at end (b && is_good_tile current m at before free end)) l
+    ∙ ap (counted_if more m at end) g
+
+-- ---- where the loop stands, with so many tags read or to be read next
+pub record Walking (m : Memory) (size end at before : ℕ) (free : Bool) (tags : ℕ) : Type 0 where
   pub is : end ≡ size - 16
   pub reach : at ≤ end
   more : ℕ
   enough : end < at + 32 * more + 32
   same : has_tags current m size ≡ from_here more m at before free end
+  tiles : length (tiles_of m size) + 1 ≡ tags + length (tiles_from more m at end)
+  good : good_tiles_of current m size + 1 ≡ tags + good_tiles_from current more m at before free end
 
-pub starts : (m : Memory) (size end : ℕ) → IsTrue (is_legal_size size) → end ≡ size - 16 → Walking m size end 128 0 false
+pub starts : (m : Memory) (size end : ℕ) → IsTrue (is_legal_size size) → end ≡ size - 16
+    → Walking m size end 128 0 false 1
 unfolding from_here
 starts m size end h e =
     let g = legal size h in let low = g.low in
-    let P : ℕ → Type 0 = λ (k : ℕ). Walking m size k 128 0 false in
+    let P : ℕ → Type 0 = λ (k : ℕ). Walking m size k 128 0 false 1 in
     subst P (sym e) (record {
       is = refl;
       reach = omega arith;
       more = size / 32;
       enough = omega arith;
       same = ap (λ (b : Bool). are_tags current m 128 0 (tiles_of m size) (size - 16) && b) (is_merged-after (tiles_of m size));
+      tiles = omega arith;
+      good = omega arith;
     })
 
 bad_here : (more : ℕ) (m : Memory) (at before : ℕ) (free : Bool) (end : ℕ) → at < end → is_good_tile current m at before free end ≡ false → from_here more m at before free end ≡ false
@@ -100,14 +162,18 @@ bad_here (suc more) m at before free end h b =
     one_more more m at before free end h ∙ ap (λ (c : Bool). c && from_here more m (at + (tile_at m at).len) (tile_at m at).len (is_free (tile_at m at)) end) b
 
 -- a bad tag
-pub stops : (m : Memory) (size end at before : ℕ) (free : Bool) → Walking m size end at before free → at < end → is_good_tile current m at before free end ≡ false → has_tags current m size ≡ false
-stops m size end at before free w h b = w.same ∙ bad_here w.more m at before free end h b
+pub stops : (m : Memory) (size end at before : ℕ) (free : Bool) (tags : ℕ) → Walking m size end at before free tags
+    → at < end → is_good_tile current m at before free end ≡ false
+    → (has_tags current m size ≡ false) × (tags ≡ good_tiles_of current m size + 1)
+stops m size end at before free tags w h b =
+    let good = w.good in let none = none_good_here w.more m at before free end h b in
+    (w.same ∙ bad_here w.more m at before free end h b, omega arith)
 
 -- a good one
-pub record GoesOn (m : Memory) (size end at : ℕ) (t : Tile) : Type 0 where
+pub record GoesOn (m : Memory) (size end at : ℕ) (t : Tile) (tags : ℕ) : Type 0 where
   pub long : 32 ≤ t.len
   pub inside : t.len ≤ end - at
-  pub next : Walking m size end (at + t.len) t.len (is_free t)
+  pub next : Walking m size end (at + t.len) t.len (is_free t) (tags + 1)
 
 is_long : (m : Memory) (at before : ℕ) (free : Bool) (end : ℕ) → is_good_tile current m at before free end ≡ true → 32 ≤ (tile_at m at).len
 unfolding is_good_tile
@@ -126,28 +192,36 @@ is_inside m at before free end g =
     let fits : IsTrue (nat_le t.len (end - at)) = (and_parts (word_at m at == before) (nat_le t.len (end - at)) front).1 in
     grind arith
 
-onward : (more : ℕ) (m : Memory) (size end at before : ℕ) (free : Bool) → end ≡ size - 16 → end < at + 32 * more + 32 → has_tags current m size ≡ from_here more m at before free end
-    → at < end → is_good_tile current m at before free end ≡ true → Walking m size end (at + (tile_at m at).len) (tile_at m at).len (is_free (tile_at m at))
-onward zero m size end at before free is enough same h g =
+onward : (more : ℕ) (m : Memory) (size end at before : ℕ) (free : Bool) (tags : ℕ) → end ≡ size - 16
+    → end < at + 32 * more + 32 → has_tags current m size ≡ from_here more m at before free end
+    → length (tiles_of m size) + 1 ≡ tags + length (tiles_from more m at end)
+    → good_tiles_of current m size + 1 ≡ tags + good_tiles_from current more m at before free end
+    → at < end → is_good_tile current m at before free end ≡ true
+    → Walking m size end (at + (tile_at m at).len) (tile_at m at).len (is_free (tile_at m at)) (tags + 1)
+onward zero m size end at before free tags is enough same tiles good h g =
     let long = is_long m at before free end g in let inside = is_inside m at before free end g in absurd (omega arith)
-onward (suc more) m size end at before free is enough same h g =
+onward (suc more) m size end at before free tags is enough same tiles good h g =
     let long = is_long m at before free end g in let inside = is_inside m at before free end g in
+    let one = one_more_tile more m at end h in let other = one_more_good more m at before free end h g in
     record {
       is = is;
       reach = omega arith;
       more = more;
       enough = omega arith;
       same = same ∙ one_more more m at before free end h ∙ ap (λ (c : Bool). c && from_here more m (at + (tile_at m at).len) (tile_at m at).len (is_free (tile_at m at)) end) g;
+      tiles = omega arith;
+      good = omega arith;
     }
 
-pub goes_on : (m : Memory) (size end at before : ℕ) (free : Bool) → Walking m size end at before free → at < end → is_good_tile current m at before free end ≡ true
-    → (t : Tile) → t ≡ tile_at m at → GoesOn m size end at t
-goes_on m size end at before free w h g t e =
-    let P : Tile → Type 0 = λ (u : Tile). GoesOn m size end at u in
+pub goes_on : (m : Memory) (size end at before : ℕ) (free : Bool) (tags : ℕ)
+    → Walking m size end at before free tags → at < end → is_good_tile current m at before free end ≡ true
+    → (t : Tile) → t ≡ tile_at m at → GoesOn m size end at t tags
+goes_on m size end at before free tags w h g t e =
+    let P : Tile → Type 0 = λ (u : Tile). GoesOn m size end at u tags in
     subst P (sym e) (record {
       long = is_long m at before free end g;
       inside = is_inside m at before free end g;
-      next = onward w.more m size end at before free w.is w.enough w.same h g;
+      next = onward w.more m size end at before free tags w.is w.enough w.same w.tiles w.good h g;
     })
 
 and_true : (b : Bool) → (b && true) ≡ b
@@ -164,10 +238,23 @@ end_here (suc more) m at before free =
     ∙ ap (λ (b : Bool). (b && (word_at m at == before) && (word_at m (at + 8) == 1)) && true) (eq-eqb at at refl) ∙ and_true ((word_at m at == before) && (word_at m (at + 8) == 1))
 
 -- the end tag
-pub ends : (m : Memory) (size end at before : ℕ) (free : Bool) → Walking m size end at before free → end ≤ at → has_tags current m size ≡ ((word_at m end == before) && (word_at m (end + 8) == 1))
-ends m size end at before free w h =
+pub record Ends (m : Memory) (size end before tags : ℕ) : Type 0 where
+  pub said : has_tags current m size ≡ ((word_at m end == before) && (word_at m (end + 8) == 1))
+  pub tiles : tags ≡ length (tiles_of m size) + 1
+  pub good : tags ≡ good_tiles_of current m size + 1
+
+pub ends : (m : Memory) (size end at before : ℕ) (free : Bool) (tags : ℕ) → Walking m size end at before free tags
+    → end ≤ at → Ends m size end before tags
+ends m size end at before free tags w h =
     let reach = w.reach in let e : at ≡ end = omega arith in
-    w.same ∙ ap (λ (k : ℕ). from_here w.more m k before free end) e ∙ end_here w.more m end before free
+    let tiles = w.tiles ∙ ap (λ (k : ℕ). tags + length (tiles_from w.more m k end)) e
+    ∙ ap (λ (us : List Tile). tags + length us) (none_at_end w.more m end) in
+    let good = w.good in let none = none_good_behind w.more m at before free end h in
+    record {
+      said = w.same ∙ ap (λ (k : ℕ). from_here w.more m k before free end) e ∙ end_here w.more m end before free;
+      tiles = omega arith;
+      good = omega arith;
+    }
 
 -- nothing is there exactly where something is not
 pub none_of : (o : Option Role) (b : Bool) → is_some o ≡ not b → is_none o ≡ b

@@ -2,9 +2,9 @@
 ghost use Rattle.std.specs.Prelude.{◌≡◌, ◌+◌, ◌*◌, ◌≤◌, ◌<◌, ◌^◌, ◌==◌, ◌&&◌, IsTrue, is_ok, length};
 ghost use Rattle.raw_region.specs.Memory.{bytes_of, word_at};
 ghost use Rattle.raw_region.specs.Format.{current};
-ghost use Rattle.block_tags.specs.Checks.{is_good_tile, is_tagged};
+ghost use Rattle.block_tags.specs.Checks.{good_tiles_of, is_good_tile, is_tagged};
 ghost use Rattle.block_tags.specs.Format.{is_legal_size};
-ghost use Rattle.block_tags.specs.Tiles.{has_tags};
+ghost use Rattle.block_tags.specs.Tiles.{has_tags, tiles_of};
 
 use crate::sizes::{FIRST, TAG};
 use crate::tile::{BadTag, Tile};
@@ -16,7 +16,7 @@ use raw_region::Window;
 pub struct Checked {
     /// Whether the tags say tiles that fill the window.
     pub are_good: bool,
-    /// How many tags were read, the end tag among them.
+    /// How many tags were read: those of the good tiles, and one more, the end tag or the first wrong one.
     pub tags: u64,
 }
 
@@ -38,10 +38,13 @@ pub fn check(window: &Window) -> Result<(), BadTag>
 }
 
 /// Reads all tags of such a window up to the first wrong one, and counts them: there is at most one for each 32 bytes
-/// behind the header.
+/// behind the header. Where all are right, these are one for each tile and the end tag.
 pub fn check_counted(window: &Window) -> Checked
     requires { IsTrue (is_legal_size (length window.now.bytes)) }
     ensures good { result.are_good ≡ has_tags current (bytes_of window.now.bytes) (length window.now.bytes) }
+    ensures read { result.tags ≡ good_tiles_of current (bytes_of window.now.bytes) (length window.now.bytes) + 1 }
+    ensures tiles { IsTrue result.are_good
+        → result.tags ≡ length (tiles_of (bytes_of window.now.bytes) (length window.now.bytes)) + 1 }
     ensures few { 32 * result.tags + 112 ≤ length window.now.bytes }
 {
     let end = window.size() - TAG;

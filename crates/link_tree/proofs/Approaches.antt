@@ -3,6 +3,7 @@ use Rattle.std.proofs.Common.{◌≡◌, ℕ, Bool, true, false, not, Option, So
 use Rattle.std.specs.Prelude.{IfSome, if◌then◌else◌}
 use Rattle.std.specs.Option.{option_or}
 use Rattle.std.proofs.lemmas.Bool.{cases_Bool, eq-eqb, false_from_ne_true, ne_eqb, true≢false}
+use Rattle.std.proofs.lemmas.Option.{none-some}
 use Rattle.link_tree.specs.Tree.{Tree, leaf, fork, nodes_of, has_black_root, rises}
 use Rattle.link_tree.specs.Nodes.{first_not, is_in}
 use Rattle.link_tree.specs.Searching.{noted}
@@ -115,17 +116,24 @@ module _ {lt : ℕ → ℕ → Bool} (strict : IsStrict lt) (before : ℕ → Bo
     exit_found t exit None e = tt
     exit_found t exit (Some x) e = e ∙ either_none (has_black_root t) (exit_of lt x t)
 
+    -- where none is found
+    exit_none : (t : Tree) (exit found : Option ℕ)
+        → exit ≡ exit_with lt (record { node = None; above = None; exit = None; of_node = None }) t found
+        → found ≡ None → exit ≡ None
+    exit_none t exit None e none = e
+    exit_none t exit (Some x) e none = absurd (none-some x (sym none))
+
     pub way_out : (notes : Followed) (t : Tree) → rises lt (nodes_of t) ≡ true
         → notes ≡ noted followed before (record { node = None; above = None; exit = None; of_node = None }) t
         → (notes.node ≡ first_not before (nodes_of t)) × IfSome notes.node (λ x. notes.of_node ≡ exit_of lt x t)
+        × (notes.node ≡ None → notes.of_node ≡ None)
     way_out notes t o e =
         let start : Followed = record { node = None; above = None; exit = None; of_node = None } in
         let first : notes.node ≡ first_not before (nodes_of t) = ap (λ (m : Followed). m.node) e
-        ∙ first_from agrees followed (λ (m : Followed). m.node) (λ m n red b. refl) start t o refl in (
-          first,
-          exit_found t notes.of_node notes.node (ap (λ (m : Followed). m.of_node) e ∙ exit_noted start t o
-              ∙ ap (exit_with lt start t) (sym first)),
-        )
+        ∙ first_from agrees followed (λ (m : Followed). m.node) (λ m n red b. refl) start t o refl in
+        let exit : notes.of_node ≡ exit_with lt start t notes.node = ap (λ (m : Followed). m.of_node) e
+        ∙ exit_noted start t o ∙ ap (exit_with lt start t) (sym first) in
+        (first, exit_found t notes.of_node notes.node exit, exit_none t notes.of_node notes.node exit)
 
 -- ---- searches that are the same
 

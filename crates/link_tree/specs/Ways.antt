@@ -10,8 +10,8 @@ abbrev pub entry_over : Bool → ℕ → Tree → Option ℕ → Option ℕ
 entry_over red n next below = option_or below (if not red && has_black_root next then Some n else None)
 
 -- The lowest black node on the path of a search that no red one follows there. Where a red node is hung at the end of
--- the
--- path, the tree below this one is balanced anew, with this one still on top and black: so all above it is as it was.
+-- the path, the tree below this one is balanced anew, with this one still on top and black: so all above it is as it
+-- was.
 abbrev pub entry_of : (ℕ → Bool) → Tree → Option ℕ
 entry_of before leaf = None
 entry_of before (fork red left n right) =
@@ -30,8 +30,8 @@ abbrev pub exit_over : ℕ → Tree → Option ℕ → Option ℕ
 exit_over n next below = option_or below (if has_black_root next then None else Some n)
 
 -- The lowest node above another that a red one follows on the way there. Where the other is taken out, the tree under
--- the red
--- one has as many black nodes on each path as before, whatever its root is then: so all above this node is as it was.
+-- the red one has as many black nodes on each path as before, whatever its root is then: so all above this node is as
+-- it was.
 abbrev pub exit_of : (ℕ → ℕ → Bool) → ℕ → Tree → Option ℕ
 exit_of precedes x leaf = None
 exit_of precedes x (fork red left n right) =

@@ -69,7 +69,8 @@ impl Notes for Passed {
 pub struct WayOut {
     /// The first node that does not stand before the probe; none where there is no such node in the tree.
     pub node: Option<u64>,
-    /// Where the removal of that node begins, for `remove_at`; none where it begins at the root.
+    /// Where the removal of that node begins, for `remove_at`; none where it begins at the root, or where there is no
+    /// such node.
     pub exit: Option<u64>,
     /// How often the search went to a node.
     pub steps: u64,
@@ -146,6 +147,7 @@ pub fn find_way_out<N: Nodes>(nodes: &N, root: Option<u64>, probe: &N::Probe) ->
     // The lowest node above it that a red one follows on the way there.
     ensures exit { (t : Tree) → IsSearchTree (N.order nodes.now) (N.cells nodes.now) root t
         → IfSome result.node (λ n. result.exit ≡ exit_of (N.order nodes.now) n t) }
+    ensures none { result.node ≡ None → result.exit ≡ None }
     ensures steps { (t : Tree) → IsSearchTree (N.order nodes.now) (N.cells nodes.now) root t
         → result.steps ≤ 2 * bits (length (nodes_of t) + 1) }
     ensures exact { (t : Tree) → IsSearchTree (N.order nodes.now) (N.cells nodes.now) root t

@@ -1,4 +1,4 @@
-//! The one file with raw pointers: a block of memory, which is zeroed, lent as slices and freed.
+//! The one file with `unsafe`: a block of memory behind a raw pointer, which is zeroed, lent as slices and freed.
 ghost use Rattle.std.specs.Prelude.{◌≡◌, ◌+◌, ◌^◌, ◌<◌, ◌≤◌, ℕ, List, length, replicate, IfSome};
 ghost use denote.RawPtr.{Ptr};
 ghost use Rattle.std.specs.Borrow.{sem};

@@ -1,4 +1,4 @@
-//! The one way to the tiles of a heap and to the tree of its gaps: each touch is counted.
+//! How the calls of a heap whose touches are bounded reach its tiles and the tree of its gaps: each touch is counted.
 ghost use Rattle.std.specs.Prelude.{◌≡◌, ℕ, ◌+◌, ◌*◌, ◌%◌, ◌^◌, ◌<◌, ◌≤◌, true, ◌-◌, Option, Some, List, ◌∷◌, ◌++◌, length, filter, option_map, false};
 ghost use Rattle.raw_region.specs.Memory.{cut_at, whole};
 ghost use Rattle.block_tags.specs.declared.tile.Role.{Role as ARole};
@@ -71,7 +71,8 @@ impl<'a> Touches<'a> {
         ensures tree { (xs : List Gap) (g : Gap) (ys : List Gap) → node ≡ node_of g → HasTree self.old.gaps.now.window (xs ++ g ∷ ys) → HasTree self.new.gaps.now.window (xs ++ ys) }
         ensures rest { Regrown self.old.gaps.now.window self.new.gaps.now.window }
         ensures counted { self.old.count < self.new.count }
-        ensures steps { (hs : List Gap) → HasTree self.old.gaps.now.window hs → self.new.count ≤ self.old.count + 32 * bits (length hs + 1) + 32 }
+        ensures steps { (hs : List Gap) → HasTree self.old.gaps.now.window hs
+            → self.new.count ≤ self.old.count + 32 * bits (length hs + 1) + 33 }
         ensures reference { self.new.gaps.ghost_name ≡ self.old.gaps.ghost_name }
     {
         let root = load(&self.gaps.window, FREE_TREE);
@@ -92,11 +93,13 @@ impl<'a> Touches<'a> {
         ensures tree { (xs : List Gap) (g : Gap) (ys : List Gap) → node ≡ node_of g → HasTree self.old.gaps.now.window (xs ++ g ∷ ys) → HasTree self.new.gaps.now.window (xs ++ ys) }
         ensures rest { Regrown self.old.gaps.now.window self.new.gaps.now.window }
         ensures counted { self.old.count < self.new.count }
-        ensures steps { (hs : List Gap) → HasTree self.old.gaps.now.window hs → self.new.count ≤ self.old.count + 32 * bits (length hs + 1) + 32 }
+        ensures steps { (hs : List Gap) → HasTree self.old.gaps.now.window hs
+            → self.new.count ≤ self.old.count + 32 * bits (length hs + 1) + 33 }
         ensures reference { self.new.gaps.ghost_name ≡ self.old.gaps.ghost_name }
     {
         let way = way_out(&*self.gaps, root, node);
-        self.count += way.steps;
+        // One more than the search, for the look at the gap's own tag.
+        self.count += way.steps + 1;
         self.take_out_at(root, way.exit, node);
     }
 

@@ -4,7 +4,7 @@ use Rattle.best_fit.proofs.Common.{bits, Gap, gap_of, gaps_in, gaps_of, tiles_in
 use Rattle.best_fit.proofs.Allocating.{heap_tree}
 use Rattle.best_fit.proofs.Laid.{heap-says}
 use Rattle.best_fit.proofs.LastGap.{LastGap, end_cut, ends_there, last_gap, last_gaps, last_listed, last_node}
-use Rattle.best_fit.proofs.LastGap.{last_small, last_tree, left_alone}
+use Rattle.best_fit.proofs.LastGap.{last_small, last_tree, left_alone, not_least}
 use Rattle.best_fit.proofs.Replanting.{few_bits}
 use Rattle.best_fit.proofs.Walks.{window_tiled}
 use Rattle.best_fit.proofs.ending.cut_gap.Goals.{After-gap_at, After-take_out}
@@ -58,7 +58,7 @@ rest c f = rw f at c.take_out.ensures.rest
 counted : (c : After-take_out) (l : LastGap c.args.touches.now.gaps.now.window c.in-Some.at)
     → HasTree c.last-last.new.self.gaps.now.window (gaps_of l.front ++ (gap_of l.tile ∷ []))
     → c.take_out.new.self.count ≤ c.args.touches.now.count + 32
-    * bits (length (gaps_in c.args.touches.now.gaps.now.window) + 1) + 33
+    * bits (length (gaps_in c.args.touches.now.gaps.now.window) + 1) + 34
 counted c l t =
     let one = c.last-last.ensures.touched in
     let more = c.take_out.ensures.steps (gaps_of l.front ++ (gap_of l.tile ∷ [])) t in
@@ -94,6 +94,13 @@ returns-in-Some-clause-steps c =
     let g = goal.at.returns-in-Some-clause-steps c in let p = g.After-gap_at in
     let l = gap p c.in-Some.at c.in-Some.is in
     let high = counted g.After-take_out l (tree p c.in-Some.at l) in let one = c.drop_gap.ensures.touched in omega arith
+
+-- a gap at the end is cut off
+pub returns-in-Some-clause-same : goal.returns-in-Some-clause-same
+returns-in-Some-clause-same c = λ none.
+    let p = (goal.at.returns-in-Some-clause-same c).After-gap_at in
+    absurd (not_least c.args.touches.now.gaps.now.window c.requires.heap c.in-Some.at
+    (gap p c.in-Some.at c.in-Some.is) none)
 
 pub returns-in_default-clause-moved : goal.returns-in_default-clause-moved
 returns-in_default-clause-moved c =

@@ -13,3 +13,9 @@ returns-clause-exit g c = λ t k.
     let s = c.args.nodes.now in
     (way_out (strict g.met.N.Nodes s) _ (g.met.N.Nodes.agrees s c.args.probe.now) _ t k.ordered
     (c.descend-way.ensures.noted t k)).1
+
+pub returns-clause-none : goal.returns-clause-none
+returns-clause-none g c =
+    let s = c.args.nodes.now in let t = c.requires.tree.0 in let k = c.requires.tree.1 in
+    (way_out (strict g.met.N.Nodes s) _ (g.met.N.Nodes.agrees s c.args.probe.now) _ t k.ordered
+    (c.descend-way.ensures.noted t k)).2

@@ -1,5 +1,6 @@
 -- The new block is taken while the old one is in use.
-use Rattle.best_fit.proofs.Common.{◌≡◌, ◌+◌, subst, arith, IsTrue, bytes_of, read, current, IsChanged, has_room}
+use Rattle.best_fit.proofs.Common.{◌≡◌, ◌+◌, subst, arith, IsTrue, Cut, bytes_of, read, current, IsChanged, IsHeap}
+use Rattle.best_fit.proofs.Common.{has_room}
 use Rattle.best_fit.proofs.Common.{live_of, Storage}
 use Rattle.best_fit.proofs.Allocated.{allocated-room, allocated-room_before, changed-room, has_room-names}
 use Rattle.best_fit.proofs.Exchanges.{allocated-fits, replaced}
@@ -32,6 +33,9 @@ deallocate-requires c =
 
 pub returns : goal.returns
 returns c =
+    let is_now : c.self.inside.gaps.window ≡ c.args.self.now = cc in
+    let heap : IsHeap current c.args.self.now.bytes = subst (λ (v : Cut). IsHeap current v.bytes) is_now
+    c.self.invariant.heap in
     let n : c.in_ok-new.new + 0 ≡ c.in_ok-new.new = omega arith in
     let o : c.args.handle + 0 ≡ c.args.handle = omega arith in
     let change = subst (λ k. IsChanged current c.allocate.new.self c.copy.new.self k c.args.used) n
@@ -41,6 +45,6 @@ returns c =
     let content = subst (λ k. read (bytes_of c.copy.new.self.bytes) c.in_ok-new.new c.args.used
     ≡ read (bytes_of c.allocate.new.self.bytes) k c.args.used) o moved in
     replaced c.args.self.now c.allocate.new.self c.copy.new.self c.deallocate.new.self c.args.handle c.args.n
-    c.args.used c.in_ok-new.new c.requires.heap c.requires.room c.requires.fits
+    c.args.used c.in_ok-new.new heap c.requires.room c.requires.fits
     c.in_ok-new.ensures.answer (allocated-fits c.args.self.now c.allocate.new.self c.args.n c.in_ok-new.new
     c.in_ok-new.ensures.answer) change content c.deallocate.ensures.released

@@ -9,6 +9,12 @@ overflow_add-self c =
     let steps = c.way_out-way.ensures.steps hs h in let few = few_bits w hs h in let room = c.requires.room in
     omega arith
 
+pub overflow_add-self-2 : goal.overflow_add-self-2
+overflow_add-self-2 c =
+    let w = c.args.self.now.gaps.now.window in let hs = c.requires.tree.0 in let h = c.requires.tree.1 in
+    let steps = c.way_out-way.ensures.steps hs h in let few = few_bits w hs h in let room = c.requires.room in
+    omega arith
+
 pub take_out_at-requires-clause-room : goal.take_out_at-requires-clause-room
 take_out_at-requires-clause-room c =
     let w = c.args.self.now.gaps.now.window in let hs = c.requires.tree.0 in let h = c.requires.tree.1 in

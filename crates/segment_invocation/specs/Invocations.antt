@@ -1,5 +1,7 @@
 -- What the program may be asked on its command line, over the matches that clap states for its words.
-use Rattle.std.specs.Prelude.{◌≡◌, ◌⊎◌, ◌==◌, ◌∷◌, ◌++◌, ℕ, Bool, true, false, not, List, [], Option, Some, None, is_some, Result, MatchResult, IsTrue, option_map, option_and_then, codes, fold, if◌then◌else◌}
+use Rattle.std.specs.Prelude.{◌≡◌, ◌⊎◌, ◌==◌, ◌∷◌, ◌++◌, ℕ, Bool, true, false, not, List, [], Option, Some, None}
+use Rattle.std.specs.Prelude.{is_some, Result, MatchResult, IsTrue, option_map, option_and_then, codes, fold}
+use Rattle.std.specs.Prelude.{if◌then◌else◌}
 use Rattle.std.specs.Str.{bytes_eq}
 use Rattle.clap.specs.Walk.{Row, Rule, Text, first_of}
 use Rattle.clap.specs.Simple.{App, Shape, new_rule, new_shape, subcommand_of, with_subcommand}
@@ -16,7 +18,8 @@ use Rattle.segment_invocation.specs.declared.invocations.ModeName.TheVariants.{C
 use Rattle.segment_invocation.specs.declared.invocations.Saving.{Saving}
 use Rattle.segment_invocation.specs.declared.invocations.Saving.TheVariants.{InPlace, Replacing}
 use Rattle.segment_invocation.specs.declared.usage.UsageError.{UsageError}
-use Rattle.segment_invocation.specs.declared.usage.UsageError.TheVariants.{Words, Command, File, Number, Mode, Topic, Size}
+use Rattle.segment_invocation.specs.declared.usage.UsageError.TheVariants.{Words, Command, File, Number, Mode, Topic}
+use Rattle.segment_invocation.specs.declared.usage.UsageError.TheVariants.{Size}
 
 -- ---- the command line, as clap reads it
 

@@ -1,10 +1,16 @@
-//! Values as bytes: those of the five scalar types, and those of a type that a caller gives the trait; names and kinds.
-use crate::checks::{holds, same};
+//! Values as bytes: those of the five scalar types, and those of a type that a caller gives the trait; names and kinds;
+//! what is printed of each.
+use crate::checks::{done, holds, same};
 use crate::ticket::Ticket;
 use seg_types::theorems::{
     scalar_is_number, unordered_are_same, values_spell_one, written_is_read,
 };
-use seg_types::{Kind, LONGEST_NAME, Name, Plain, Scalar, ScalarKind, ScalarValue, is_name};
+use seg_types::{
+    BadName, Class, IndexKey, Key, Kind, LONGEST_NAME, LineError, Name, NewKey, Plain, Refusal,
+    Scalar, ScalarKind, ScalarValue, is_name,
+};
+use std::alloc::Global;
+use std::fmt::Display;
 use std::process::Abort;
 
 /// A value is spelled by these bytes, which are read as it, and it does not stand before itself.
@@ -224,4 +230,62 @@ fn values_are_spelled(rt: HostRuntime) {
     holds(&rt, ScalarKind::U8.is_spelling(&[2]));
     holds(&rt, ScalarKind::I32.precedes(&[255; 4], &[0; 4]));
     holds(&rt, !ScalarKind::U64.precedes(&[255; 8], &[0; 8]));
+}
+
+/// Something is printed as this.
+fn is_printed<T: Display + Drop>(rt: &impl Abort, alloc: Global, it: T, text: &str) {
+    let printed = done(rt, format!(in alloc; "{it}"));
+    holds(rt, printed.as_str() == text);
+}
+
+const PRINTED: [(ScalarValue, &str); 5] = [
+    (ScalarValue::Bool(true), "true"),
+    (ScalarValue::U8(200), "200"),
+    (ScalarValue::I32(i32::MIN), "-2147483648"),
+    (ScalarValue::I64(-1), "-1"),
+    (ScalarValue::U64(u64::MAX), "18446744073709551615"),
+];
+
+#[test]
+fn values_are_printed(rt: HostRuntime) {
+    for (value, text) in PRINTED {
+        is_printed(&rt, rt.alloc(), value, text);
+    }
+}
+
+#[test]
+fn keys_are_printed(rt: HostRuntime) {
+    let kind = Kind::Map(ScalarKind::U8, ScalarKind::I64);
+    is_printed(&rt, rt.alloc(), Class::Anonymous, "anonymous");
+    is_printed(&rt, rt.alloc(), Key::Handle(192), "#192");
+    is_printed(&rt, rt.alloc(), Key::Unique(kind), "@map<u8,i64>");
+    is_printed(&rt, rt.alloc(), NewKey::Anonymous, "-");
+    is_printed(
+        &rt,
+        rt.alloc(),
+        IndexKey::Unique(Kind::Texts),
+        "@vec<string>",
+    );
+}
+
+#[test]
+fn names_are_printed(rt: HostRuntime) {
+    for (name, text) in [
+        ("a.1", "a.1"),
+        ("1 \"", "\"1 \\\"\""),
+        ("\u{e4}", "\"\\xc3\\xa4\""),
+    ] {
+        if let Some(name) = Name::new(name.as_bytes()) {
+            is_printed(&rt, rt.alloc(), name, text);
+            is_printed(&rt, rt.alloc(), IndexKey::Name(name), text);
+        }
+    }
+}
+
+#[test]
+fn errors_are_printed(rt: HostRuntime) {
+    is_printed(&rt, rt.alloc(), LineError::BadSyntax, "bad syntax");
+    is_printed(&rt, rt.alloc(), Refusal::ReadOnly, "read only");
+    let words = "a name has 1 to 255 bytes of UTF-8 without control characters";
+    is_printed(&rt, rt.alloc(), BadName, words);
 }

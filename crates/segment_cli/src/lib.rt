@@ -6,7 +6,6 @@ mod migrations;
 mod sessions;
 
 pub use faults::{SessionFault, Start};
-pub use image_check::save;
 pub use migrations::migrate;
-pub use segment_scripts::{LANGUAGE, Machine, RunFault, Scratch, run};
+pub use segment_scripts::{Machine, RunFault, Scratch, run};
 pub use sessions::{begin, session};

@@ -1,17 +1,19 @@
 -- The size that was asked for, and the objects that a text is the dump of.
 use Rattle.segment_dump.proofs.Common.{◌≡◌, ◌<◌, ◌^◌, ℕ, Bool, true, false, nat_eq, List, Option, None, Some, Result}
 use Rattle.segment_dump.proofs.Common.{Ok, Err, refl, sym, ap, subst, ◌∙◌, arith, ◌+◌, nat_lt, length, if◌then◌else◌}
-use Rattle.segment_dump.proofs.Common.{IfOk, MatchResult, not, OnTrue, AllByRecursion, eqb-true, false≢true, ltb-false}
-use Rattle.segment_dump.proofs.Common.{ltb-true, is_legal_size, Class, Anonymous, Named, Unique, Number, CreateError}
-use Rattle.segment_dump.proofs.Common.{CreateRefused, IsWhy, Directory, State, StandsFor, step, Count, LoadError}
+use Rattle.segment_dump.proofs.Common.{IfOk, MatchResult, not, OnTrue, AllByRecursion, eqb-true}
+use Rattle.segment_dump.proofs.Common.{ltb-true, is_legal_size, Class, Anonymous, Named, Unique, Number}
+use Rattle.segment_dump.proofs.Common.{CreateRefused, Directory, State, StandsFor, step, Count, LoadError}
 use Rattle.segment_dump.proofs.Common.{BadSize, RegionTooSmall, NoSpace, LongText, LoadRefused, AreCountable}
 use Rattle.segment_dump.proofs.Common.{CountsDump, IsNameless, Item, portable, items_needs, dump_text, IsAsked, IsExact}
 use Rattle.segment_dump.proofs.Common.{IsLoaded, IsNotLoaded, IsRefusalOf, IsWrong, asked_of, cause_in, refusal_for}
+use Rattle.std.specs.Prelude.{IfSome}
 use Rattle.segment_manager.specs.Calls.{IsNotCreated}
 use Rattle.segment_dump.specs.declared.faults.LoadError.TheVariants.{BadDump as Bad}
 use Rattle.segment_dump.specs.Comparing.{IsDumpOf}
 use Rattle.segment_dump.specs.Loading.{HasLongText, HasNoSpace, HasObjectsOf, HasSize, IsBack, IsJudged, IsLetGo}
-use Rattle.segment_dump.specs.Loading.{IsMade, IsWhyNot, cause_but_bad, load_error}
+use Rattle.segment_dump.specs.Counting.{IsCounted}
+use Rattle.segment_dump.specs.Loading.{IsLacking, IsMade, IsWhyNot, cause_but_bad}
 use Rattle.segment_dump.proofs.Elements.{free-is, size-is}
 use Rattle.segment_dump.proofs.ItemLines.{IsGoodItem}
 use Rattle.segment_dump.proofs.ObjectRooms.{segments-have-room}
@@ -19,7 +21,6 @@ use Rattle.segment_dump.proofs.Found.{none-some, same_Some, ok-same}
 use Rattle.segment_dump.proofs.Told.{dumps-tell-objects, portable-told, size-most}
 use Rattle.segment_dump.proofs.Lists.{all-by}
 use Rattle.seg_types.specs.Commands as asked
-use Rattle.segment_manager.specs.declared.errors.CreateError.TheVariants as create
 
 module _ (s : State) (n m : ℕ) (says : (d : Directory) → StandsFor s.cut.bytes d → Number n ≡ (step s.mode d asked.Size).0) where
   size-if : (b : Bool) → nat_eq n m ≡ b → OnTrue b (HasSize s (Some m))
@@ -63,14 +64,11 @@ judged text region base size room (Ok s) h = loaded text size s h
 judged text region base size room (Err refused) h = let-go text region base size room refused h
 
 -- no segment was created: the region is handed back
-why-if : (text region : List ℕ) (base : ℕ) (size : Option ℕ) (room n : ℕ) (cause : CreateError) → IsAsked size n → IsWhy region base n cause → IsWhyNot text region base size room (load_error cause)
-why-if text region base size room n create.BadSize a h = (n, a, h)
-why-if text region base size room n create.RegionTooSmall a h = (n, a, h.0, h.1)
-
-pub not-created : (text region : List ℕ) (base : ℕ) (size : Option ℕ) (room n : ℕ) (refused : CreateRefused) (said : LoadRefused) → IsAsked size n → IsNotCreated region base n refused → said.region ≡ Some refused.region
-    → said.cause ≡ load_error refused.cause → IsNotLoaded text region base size room said
-not-created text region base size room n refused said a h e f = record {
-  why = subst (IsWhyNot text region base size room) (sym f) (why-if text region base size room n refused.cause a h.why);
+pub not-created : (text region : List ℕ) (base : ℕ) (size : Option ℕ) (room n : ℕ) (refused : CreateRefused)
+    (said : LoadRefused) → IsNotCreated region base n refused → said.region ≡ Some refused.region
+    → IsWrong text said.cause → IsNotLoaded text region base size room said
+not-created text region base size room n refused said h e w = record {
+  why = wrong-why text region base size room said.cause w;
   back = subst (IsBack region) (sym e) h.region_same;
 }
 
@@ -153,31 +151,13 @@ wrong-bad text cause h = absurd h
 
 pub made-wrong : (text : List ℕ) (capacity base : ℕ) (size : Option ℕ) (room : ℕ) (counted : Result Count ℕ) (cause : LoadError) → IsWrong text cause → IsMade capacity base size room counted (cause_but_bad cause)
 made-wrong text capacity base size room (Ok count) cause h = λ e. wrong-bad text cause h
-made-wrong text capacity base size room (Err left) cause h = tt
+made-wrong text capacity base size room (Err left) cause h = wrong-bad text cause h
 
 pub made-judged : (text : List ℕ) (capacity base : ℕ) (size : Option ℕ) (room : ℕ) (counted : Result Count ℕ) (r : Result State LoadRefused) → MatchResult r (IsJudged text size) (IsLetGo text) → IsMade capacity base size room counted (cause_in r)
 made-judged text capacity base size room (Ok count) (Ok s) h = λ e. refl
 made-judged text capacity base size room (Ok count) (Err refused) h = λ e. wrong-bad text refused.cause h.why
-made-judged text capacity base size room (Err left) r h = tt
-
--- nothing is lacking, and so a segment is created
-none-legal : (legal short full long : Bool) → (if not legal then Some BadSize else if short then Some RegionTooSmall else if full then Some NoSpace else if long then Some LongText else None) ≡ None → (legal ≡ true) × (short ≡ false)
-none-legal false short full long e = absurd (none-some BadSize (sym e))
-none-legal true true full long e = absurd (none-some RegionTooSmall (sym e))
-none-legal true false full long e = (refl, refl)
-
-created-by : (region : List ℕ) (base n : ℕ) (cause : CreateError) → is_legal_size n ≡ true → nat_lt (length region) (base + n) ≡ false → IsWhy region base n cause → ⊥
-created-by region base n create.BadSize l s h = false≢true (sym h ∙ l)
-created-by region base n create.RegionTooSmall l s h = omega (arith, h.1, ltb-false (length region) (base + n) s)
-
-pub made-created : (region : List ℕ) (base : ℕ) (size : Option ℕ) (room n said : ℕ) (counted : Result Count ℕ) (refused : CreateRefused) (cause : Option LoadError) → IfOk counted (λ (count : Count). said ≡ count.size) → n ≡ asked_of size said
-    → IsNotCreated region base n refused → IsMade (length region) base size room counted cause
-made-created region base size room n said (Err left) refused cause s e h = tt
-made-created region base size room n said (Ok count) refused cause s e h = λ f.
-    let wanted = asked_of size count.size in
-    let p = none-legal (is_legal_size wanted) (nat_lt (length region) (base + wanted)) (nat_lt wanted count.needs.room) (nat_lt room count.needs.longest) f in
-    let is : n ≡ wanted = e ∙ ap (asked_of size) s in
-    absurd (created-by region base wanted refused.cause p.0 p.1 (subst (λ m. IsWhy region base m refused.cause) is h.why))
+made-judged text capacity base size room (Err left) (Ok s) h = refl
+made-judged text capacity base size room (Err left) (Err refused) h = wrong-bad text refused.cause h.why
 
 -- a reason that is none of the text
 but-bad : (legal short full long : Bool) (cause : LoadError) → (if not legal then Some BadSize else if short then Some RegionTooSmall else if full then Some NoSpace else if long then Some LongText else None) ≡ Some cause → cause_but_bad cause ≡ Some cause
@@ -219,3 +199,31 @@ none-lacking capacity base size room (Err left) o r e = tt
 pub exact-done : (text : List ℕ) (capacity base : ℕ) (size : Option ℕ) (room : ℕ) (counted : Result Count ℕ) (o cause : Option LoadError) → CountsDump text counted → IsRefusalOf capacity base size room counted o → o ≡ None
     → IsMade capacity base size room counted cause → IsExact text capacity base size room cause
 exact-done text capacity base size room counted o cause h r e m = exact-made text capacity base size room counted cause h (none-lacking capacity base size room counted o r e) m
+
+-- ---- of any text
+
+module _ (text : List ℕ) (capacity base : ℕ) (size : Option ℕ) (room : ℕ) where
+  lacking-by : (cause : LoadError) → IsLacking text capacity base size room cause
+      → IfSome (cause_but_bad cause) (IsLacking text capacity base size room)
+  lacking-by (Bad bad) h = tt
+  lacking-by cause h = h
+
+  pub lacking-refused : (counted : Result Count ℕ) (o : Option LoadError) (cause : LoadError)
+      → IfOk counted (IsCounted text) → CountsDump text counted → IsRefusalOf capacity base size room counted o
+      → o ≡ Some cause → IfSome (cause_but_bad cause) (IsLacking text capacity base size room)
+  lacking-refused (Ok count) o cause c h r e =
+      lacking-by cause (record { count = count; counted = c; counts = h; lacks = sym r ∙ e })
+  lacking-refused (Err left) o cause c h r e = absurd (none-some cause (sym r ∙ e))
+
+  made-none : (counted : Result Count ℕ) (cause : Option LoadError)
+      → IfOk counted (λ (count : Count). refusal_for capacity base size room count ≡ None)
+      → IsMade capacity base size room counted cause → cause ≡ None
+  made-none (Ok count) cause z m = m z
+  made-none (Err left) cause z m = m
+
+  pub lacking-made : (counted : Result Count ℕ) (o cause : Option LoadError)
+      → IsRefusalOf capacity base size room counted o → o ≡ None → IsMade capacity base size room counted cause
+      → IfSome cause (IsLacking text capacity base size room)
+  lacking-made counted o cause r e m =
+      let none = made-none counted cause (none-lacking capacity base size room counted o r e) m in
+      subst (λ p. IfSome p (IsLacking text capacity base size room)) (sym none) tt

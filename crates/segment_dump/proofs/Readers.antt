@@ -84,6 +84,11 @@ number-reads law text w rest o f s = record {
       ap (option_map (λ m. (m, rest))) found ∙ ap (λ l. Some (n, l)) r.1;
 }
 
+-- what was read is spelled there
+pub number-whole : NumbersAreDecimals → (text w rest : List ℕ) (n : ℕ) → number_of w ≡ Some n → text ≡ w ++ rest
+    → text ≡ number_text n ++ rest
+number-whole law text w rest n e s = s ∙ ap (λ v. v ++ rest) ((law w n).0 e).1
+
 -- ---- kinds
 
 abbrev pub KindReads : List ℕ → Option (Kind × List ℕ) → Type 0

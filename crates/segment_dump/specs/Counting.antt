@@ -57,6 +57,13 @@ pub record CountsObjects (text : List ℕ) (result : Result Needs ℕ) : Type 0 
 pub record CountsDump (text : List ℕ) (result : Result Count ℕ) : Type 0 where
   pub counts : (n : ℕ) (items : Items) → n < 2 ^ 64 → AreCountable items → text ≡ dump_text n items → result ≡ Ok (record { size = n; needs = items_needs items })
 
+-- whatever the text is, it begins with the three first lines of a dump, and this size was read there
+pub record IsCounted (text : List ℕ) (count : Count) : Type 0 where
+  pub front : Front
+  pub behind : List ℕ
+  pub is : text ≡ fronted front ++ behind
+  pub size : count.size ≡ front.size
+
 -- the size that it says, of whatever objects the text is the dump
 pub record SaysSize (text : List ℕ) (result : Option ℕ) : Type 0 where
   pub says : (n : ℕ) (items : Items) → n < 2 ^ 64 → text ≡ dump_text n items → result ≡ Some n

@@ -2,12 +2,11 @@
 use Rattle.std.specs.Prelude.{◌≡◌, ◌+◌, ◌^◌, ◌<◌, ◌≤◌, ⊤, ℕ, false, Option, Some, None, Result, Ok, Err, List, length, take, IsTrue, not, nat_lt, if◌then◌else◌}
 use Rattle.block_tags.specs.Format.{is_legal_size}
 use Rattle.best_fit.specs.Extents.{free_bytes}
-use Rattle.segment_manager.specs.declared.errors.CreateError.{CreateError}
-use Rattle.segment_manager.specs.declared.errors.CreateError.TheVariants as create
 use Rattle.segment_manager.specs.declared.modes.Mode.TheVariants.{Write}
 use Rattle.segment_manager.specs.Directory.{Directory, live}
 use Rattle.segment_manager.specs.State.{State, StandsFor}
 use Rattle.segment_dump.specs.Comparing.{IsDumpOf}
+use Rattle.segment_dump.specs.Counting.{CountsDump, IsCounted}
 use Rattle.segment_dump.specs.Items.{portable}
 use Rattle.segment_dump.specs.Need.{items_needs}
 use Rattle.segment_dump.specs.Texts.{dump_text}
@@ -115,10 +114,18 @@ cause_in (Err refused) = cause_but_bad refused.cause
 pub record IsExact (text : List ℕ) (capacity base : ℕ) (size : Option ℕ) (room : ℕ) (cause : Option LoadError) : Type 0 where
   pub exact : (b : List ℕ) (d : Directory) (n : ℕ) → StandsFor b d → n < 2 ^ 64 → text ≡ dump_text n (portable d) → cause ≡ refusal_for capacity base size room (record { size = n; needs = items_needs (portable d) })
 
--- where nothing is lacking, only a place of the text is a reason
+-- where nothing is lacking, or the objects were not counted, only a place of the text is a reason
 abbrev pub IsMade : ℕ → ℕ → Option ℕ → ℕ → Result Count ℕ → Option LoadError → Type 0
 IsMade capacity base size room (Ok count) cause = refusal_for capacity base size room count ≡ None → cause ≡ None
-IsMade capacity base size room (Err left) cause = ⊤
+IsMade capacity base size room (Err left) cause = cause ≡ None
+
+-- Of any text, a cause that is no place of it is what is lacking for objects that were counted: the text begins as a
+-- dump does, and whatever segment it is the dump of, these are its needs.
+pub record IsLacking (text : List ℕ) (capacity base : ℕ) (size : Option ℕ) (room : ℕ) (cause : LoadError) : Type 0 where
+  pub count : Count
+  pub counted : IsCounted text count
+  pub counts : CountsDump text (Ok count)
+  pub lacks : refusal_for capacity base size room count ≡ Some cause
 
 -- the region comes back as it was, if it does
 abbrev pub IsBack : List ℕ → Option (List ℕ) → Type 0
@@ -133,8 +140,3 @@ pub record IsNotLoaded (text region : List ℕ) (base : ℕ) (size : Option ℕ)
 pub record IsLetGo (text : List ℕ) (refused : LoadRefused) : Type 0 where
   pub why : IsWrong text refused.cause
   pub gone : refused.region ≡ None
-
--- why a segment is not created, said of a load
-abbrev pub load_error : CreateError → LoadError
-load_error create.BadSize = BadSize
-load_error create.RegionTooSmall = RegionTooSmall

@@ -1,7 +1,7 @@
 //! What the objects of a dump need, counted from its text before a segment is begun.
-ghost use Rattle.std.specs.Prelude.{◌≡◌, ◌++◌, ℕ, List, true, length, flat_map, IfSome};
+ghost use Rattle.std.specs.Prelude.{◌≡◌, ◌++◌, ℕ, List, true, length, flat_map, IfOk, IfSome};
 ghost use Rattle.std.specs.Bool.{OnTrue};
-ghost use Rattle.segment_dump.specs.Counting.{AreTexts, CountsDump, CountsObjects, IsContent, IsCountable, IsFront, fronted};
+ghost use Rattle.segment_dump.specs.Counting.{AreTexts, CountsDump, CountsObjects, IsContent, IsCountable, IsCounted, IsFront, fronted};
 ghost use Rattle.segment_dump.specs.Leads.{IsSmall};
 ghost use Rattle.segment_dump.specs.Need.{all_needs, block_room, item_needs, nothing, only_room, text_needs, texts_needs};
 ghost use Rattle.segment_dump.specs.Reads.{Any, AreLines, Reads, itself, lines_text, seen};
@@ -137,6 +137,7 @@ fn count_objects(text: &[u8]) -> Result<Needs, usize>
 /// What the first lines say, and what is behind them.
 fn read_front(text: &[u8]) -> Option<(Front, &[u8])>
     ensures value { Reads fronted IsFront Any itself text.now (seen result) }
+    ensures spelled { IfSome result (λ r. text.now ≡ fronted r.0 ++ r.1.now) }
     ensures named { IfSome result (λ r. IsSmall r.0.named) }
     ensures unique { IfSome result (λ r. IsSmall r.0.unique) }
 {
@@ -159,7 +160,8 @@ fn read_front(text: &[u8]) -> Option<(Front, &[u8])>
 ///
 /// How many bytes are left from the first line on that cannot be read; the text is the dump of no segment then.
 pub fn count_dump(text: &[u8]) -> Result<Count, usize>
-    ensures { CountsDump text.now result }
+    ensures counts { CountsDump text.now result }
+    ensures counted { IfOk result (IsCounted text.now) }
 {
     let Some((front, rest)) = read_front(text) else {
         return Err(text.len());

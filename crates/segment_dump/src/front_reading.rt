@@ -62,7 +62,8 @@ pub fn next_word(text: &[u8]) -> (&[u8], &[u8])
 
 /// The number in front, and what is behind it.
 pub fn next_number(text: &[u8]) -> Option<(u64, &[u8])>
-    ensures { Reads number_text (λ n. n < 2 ^ 64) Breaks itself text.now (seen result) }
+    ensures value { Reads number_text (λ n. n < 2 ^ 64) Breaks itself text.now (seen result) }
+    ensures spelled { IfSome result (λ r. text.now ≡ number_text r.0 ++ r.1.now) }
 {
     numbers_are_decimals();
     let (word, rest) = next_word(text);
@@ -73,6 +74,7 @@ pub fn next_number(text: &[u8]) -> Option<(u64, &[u8])>
 /// The number in front, of no more than a segment has bytes, and what is behind it.
 pub fn next_count(text: &[u8]) -> Option<(u64, &[u8])>
     ensures value { Reads number_text IsSmall Breaks itself text.now (seen result) }
+    ensures spelled { IfSome result (λ r. text.now ≡ number_text r.0 ++ r.1.now) }
     ensures small { IfSome result (λ r. IsSmall r.0) }
 {
     let (number, rest) = next_number(text)?;
@@ -162,6 +164,7 @@ pub fn next_measure(text: &[u8]) -> Option<((Kind, u64), &[u8])>
 /// How many entries the two indexes have, and what is behind the end of the line.
 pub fn next_entries(text: &[u8]) -> Option<((u64, u64), &[u8])>
     ensures value { Reads entries_text AreEntries Any itself text.now (seen result) }
+    ensures spelled { IfSome result (λ r. text.now ≡ entries_text r.0 ++ r.1.now) }
     ensures named { IfSome result (λ r. IsSmall r.0.0) }
     ensures unique { IfSome result (λ r. IsSmall r.0.1) }
 {

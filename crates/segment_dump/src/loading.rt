@@ -1,13 +1,13 @@
 //! A segment made of a dump. What the lines ask for is done, and then the segment is compared with the whole text, so
 //! that no line needs to be believed.
-ghost use Rattle.std.specs.Prelude.{◌≡◌, ◌↔◌, ◌%◌, length, IfOk, IsTrue, MatchResult, Some, None};
+ghost use Rattle.std.specs.Prelude.{◌≡◌, ◌↔◌, ◌%◌, length, IfOk, IfSome, IsTrue, MatchResult, Some, None};
 ghost use Rattle.std.specs.Bool.{OnTrue};
 ghost use Rattle.segment_manager.specs.declared.modes.Mode.TheVariants.{Write};
 ghost use Rattle.segment_dump.specs.Counting.{IsFront, fronted};
 ghost use Rattle.segment_dump.specs.Notes.{without_notes};
 ghost use Rattle.segment_dump.specs.Reads.{Any};
 ghost use Rattle.segment_dump.specs.Succeeding.{AreNumbers, IsNumber, Judges, MakesObjects, ReadsLead, Sizes, Succeeds, SucceedsOf, Takes, Trims, entries_said, size_said, version_said};
-ghost use Rattle.segment_dump.specs.Loading.{HasSize, IsAsked, IsExact, IsJudged, IsLetGo, IsLoaded, IsMade, IsNotLoaded, IsRefusalOf, IsWrong, asked_of, cause_in, load_error, refusal_for};
+ghost use Rattle.segment_dump.specs.Loading.{HasSize, IsAsked, IsExact, IsJudged, IsLacking, IsLetGo, IsLoaded, IsMade, IsNotLoaded, IsRefusalOf, IsWrong, asked_of, cause_in, refusal_for};
 
 use crate::building::{Stop, build, stop_of};
 use crate::comparing::compare;
@@ -20,7 +20,7 @@ use block_tags::is_legal_size;
 use raw_region::RawRegion;
 use segment_lang::numbers_are_decimals;
 use segment_manager::conditioned::cut_end;
-use segment_manager::{CreateError, CreateRefused, Mode, Segment};
+use segment_manager::{CreateRefused, Mode, Segment};
 
 /// Makes a segment of a dump, in the `size` bytes of the region from `base` on, which is a multiple of 16; without a
 /// size in as many as the dump says, of which it keeps those up to its last block: nothing in it is free then. Whatever
@@ -30,10 +30,11 @@ use segment_manager::{CreateError, CreateRefused, Mode, Segment};
 ///
 /// # Errors
 ///
-/// `BadDump` says where the text is no dump, and why. `BadSize` and `RegionTooSmall` are as they are called. `NoSpace`:
-/// whatever segment the text is the dump of, its objects need more bytes than the size, and so it was longer itself.
-/// `LongText`: it has a vector of strings with a text that is longer than the room. The region comes back as it was
-/// where no segment was begun, as for these two, and else is let go.
+/// `BadDump` says where the text is no dump, and why; where its lines cannot be counted, it is the only cause.
+/// `BadSize` and `RegionTooSmall` are as they are called. `NoSpace`: whatever segment the text is the dump of, its
+/// objects need more bytes than the size, and so it was longer itself. `LongText`: it has a vector of strings with a
+/// text that is longer than the room. The region comes back as it was where no segment was begun, as for these four,
+/// and else is let go.
 pub fn load(
     text: &[u8],
     room: &mut [u8],
@@ -44,6 +45,8 @@ pub fn load(
     requires aligned { base % 16 ≡ 0 }
     ensures done { MatchResult result (IsLoaded (without_notes text.now) size) (IsNotLoaded (without_notes text.now) region base size (length room.old)) }
     ensures exact { IsExact (without_notes text.now) (length region) base size (length room.old) (cause_in result) }
+    ensures lacking { IfSome (cause_in result)
+        (IsLacking (without_notes text.now) (length region) base size (length room.old)) }
     ensures succeeds { Succeeds (without_notes text.now) (length region) base size (length room.old) result }
 {
     load_lines(without_notes(text), room, region, base, size)
@@ -60,6 +63,7 @@ fn load_lines(
     requires aligned { base % 16 ≡ 0 }
     ensures done { MatchResult result (IsLoaded text.now size) (IsNotLoaded text.now region base size (length room.old)) }
     ensures exact { IsExact text.now (length region) base size (length room.old) (cause_in result) }
+    ensures lacking { IfSome (cause_in result) (IsLacking text.now (length region) base size (length room.old)) }
     ensures succeeds { Succeeds text.now (length region) base size (length room.old) result }
 {
     let counted = count_dump(text);
@@ -99,7 +103,7 @@ fn make(
     let asked = asked_size(size, said_size(counted, front.size));
     let mut segment = match Segment::create(region, base, asked, Mode::Write) {
         Ok(segment) => segment,
-        Err(refused) => return Err(not_created(refused)),
+        Err(refused) => return Err(not_created(text, refused, counted)),
     };
     if let Err(stop) = make_objects(&mut segment, front, &mut lines, room, text.len()) {
         return Err(let_go(cause_of(text, stop, counted)));
@@ -227,19 +231,15 @@ fn refusal_of(
     }
 }
 
-/// No segment is created.
-fn not_created(refused: CreateRefused) -> LoadRefused
+/// No segment is created, and nothing was lacking for what was counted: so some lines could not be counted.
+fn not_created(text: &[u8], refused: CreateRefused, counted: Result<Count, usize>) -> LoadRefused
     ensures back { result.region ≡ Some refused.region }
-    ensures cause { result.cause ≡ load_error refused.cause }
+    ensures cause { IsWrong text.now result.cause }
 {
-    let (region, cause) = refused.into_parts();
-    let cause = match cause {
-        CreateError::BadSize => LoadError::BadSize,
-        CreateError::RegionTooSmall => LoadError::RegionTooSmall,
-    };
+    let (region, _cause) = refused.into_parts();
     LoadRefused {
         region: Some(region),
-        cause,
+        cause: bad_dump(text, uncounted(text, 0, counted)),
     }
 }
 

@@ -2,7 +2,7 @@
 use Rattle.std.proofs.Common.{◌≡◌, refl, sym, ap, ap₂, subst, ◌∙◌, List, [], ◌∷◌, Option, Some, None, Ok, Err, true, inl, inr}
 use Rattle.std.specs.Prelude.{◌⊎◌, Box, Result, IfOk, MatchResult, option_map}
 use Rattle.std.specs.Box.{box_value}
-use Rattle.std.proofs.lemmas.Option.{same_Some}
+use Rattle.std.proofs.lemmas.Option.{none-some, same_Some}
 use Rattle.std.proofs.lemmas.Result.{IfOk-weaker}
 use Rattle.clap.specs.Walk.{Row, Text}
 use Rattle.clap.specs.Values.{kind_of}
@@ -18,11 +18,15 @@ use Rattle.clap.specs.declared.builder.command.Command.{Command}
 use Rattle.clap.specs.declared.error.Error.{Error}
 use Rattle.clap.specs.declared.error.kind.ErrorKind.{ErrorKind}
 use Rattle.clap.specs.declared.error.kind.ErrorKind.TheVariants.{DisplayVersion, OutOfMemory as NoMemory}
-use Rattle.segment_invocation.specs.Invocations.{Asked, IsAskedBy, asked_by, asked_in, asked_of, command_line}
+use Rattle.segment_invocation.specs.Invocations.{Asked, IsAskedBy, IsWrongBy, asked_by, asked_in, asked_of}
+use Rattle.segment_invocation.specs.Invocations.{command_line, wrong_by, wrong_of}
 use Rattle.segment_invocation.specs.declared.invocations.Invocation.{Invocation}
 use Rattle.segment_invocation.specs.declared.invocations.Invocation.TheVariants.{Version}
 use Rattle.segment_invocation.specs.declared.usage.InvocationFault.{InvocationFault}
-use Rattle.segment_invocation.specs.declared.usage.InvocationFault.TheVariants.{OutOfMemory}
+use Rattle.segment_invocation.specs.declared.usage.UsageError.{UsageError}
+use Rattle.segment_invocation.specs.declared.usage.UsageError.TheVariants.{Words, Command as NoCommand, File, Number}
+use Rattle.segment_invocation.specs.declared.usage.UsageError.TheVariants.{Mode, Topic, Size}
+use Rattle.segment_invocation.specs.declared.usage.InvocationFault.TheVariants.{OutOfMemory, Usage}
 use Rattle.segment_invocation.proofs.CommandLines.{IsUnderstood, WantsVersion, free, simple as plain}
 
 no-memory : DisplayVersion ≡ NoMemory → ⊥
@@ -39,6 +43,11 @@ entered_rows : {Z : Type 0} (o : Option (Box SubCommand Z)) (name : Text) (rows 
     → option_map (λ p. p.1) (subcommand_rows o) ≡ Some rows → subcommand_rows o ≡ Some (name, rows)
 entered_rows None name rows n r = cc
 entered_rows (Some b) name rows n r = ap₂ (λ x y. Some (x, y)) (same_Some _ _ n) (same_Some _ _ r)
+
+among : (kinds : Kinds) (other : Error) → HasKind kinds other → (kind_of other ≡ NoMemory → ⊥)
+    → IsAmong (kind_of other) kinds
+among kinds other (inl m) n = absurd (n m)
+among kinds other (inr a) n = a
 
 module _ (words : List Text) (command : Command) (is : app_of command ≡ command_line) where
   same-faults : fault_of (app_of command) words ≡ fault_of command_line words
@@ -69,8 +78,47 @@ module _ (words : List Text) (command : Command) (is : app_of command ≡ comman
   read_given a (inl u) kinds = u.asks
   read_given a (inr v) kinds = absurd (no-kinds DisplayVersion (sym v.fault ∙ (sym same-faults ∙ kinds simple)))
 
+  pub faultless : (is_simple_and_free (app_of command) ≡ true → fault_of (app_of command) words ≡ [])
+      → fault_of command_line words ≡ []
+  faultless kinds = sym same-faults ∙ kinds simple
+
+  pub enters : (m : ArgMatches) → HasMatchesOf (app_of command) words m → (name : Text) (rows : List Row)
+      → Some name ≡ subcommand_name_of m
+      → Some rows ≡ option_map (λ p. p.1) (subcommand_rows (out-ArgMatches m).subcommand)
+      → subcommand_of command_line words ≡ Some (name, rows)
+  enters m matches name rows n r =
+      let entered = (matches (ap is_simple is ∙ plain)).1 in
+      sym (ap (λ (x : App). subcommand_of x words) is)
+      ∙ (sym entered ∙ entered_rows (out-ArgMatches m).subcommand name rows (sym n) (sym r))
+
   pub asks : (m : ArgMatches) → HasMatchesOf (app_of command) words m → (name : Text) (rows : List Row) → Some name ≡ subcommand_name_of m
       → Some rows ≡ option_map (λ p. p.1) (subcommand_rows (out-ArgMatches m).subcommand) → asked_of (subcommand_of command_line words) ≡ asked_in name rows
-  asks m matches name rows n r =
-      let entered = (matches (ap is_simple is ∙ plain)).1 in
-      ap asked_of (sym (ap (λ (x : App). subcommand_of x words) is) ∙ (sym entered ∙ entered_rows (out-ArgMatches m).subcommand name rows (sym n) (sym r)))
+  asks m matches name rows n r = ap asked_of (enters m matches name rows n r)
+
+  -- what is wrong with words of which a parse made an error
+  pub unread_wrong : (other : Error)
+      → (is_simple_and_free (app_of command) ≡ true → HasKind (fault_of (app_of command) words) other)
+      → (w : UsageError) → (w ≡ Words other) × (kind_of other ≡ NoMemory → ⊥) → IsWrongBy words w
+  unread_wrong other kinds w h =
+      subst (IsWrongBy words) (sym h.0)
+      (subst (IsAmong (kind_of other)) same-faults (among (fault_of (app_of command) words) other (kinds simple) h.1))
+
+-- what is wrong with words of which a parse made matches
+wrong_if : (words : List Text) → fault_of command_line words ≡ [] → asked_of (subcommand_of command_line words) ≡ None
+    → (w : UsageError) → wrong_by w ≡ Some (wrong_of (subcommand_of command_line words)) → IsWrongBy words w
+wrong_if words f n (Words misread) e = absurd (none-some _ e)
+wrong_if words f n NoCommand e = (f, n, e)
+wrong_if words f n File e = (f, n, e)
+wrong_if words f n Number e = (f, n, e)
+wrong_if words f n (Mode nearest) e = (f, n, e)
+wrong_if words f n Topic e = (f, n, e)
+wrong_if words f n Size e = (f, n, e)
+
+pub read_wrong : (words : List Text) → fault_of command_line words ≡ [] → (found : Option (Text × List Row))
+    → subcommand_of command_line words ≡ found → asked_of found ≡ None
+    → (w : UsageError) → wrong_by w ≡ Some (wrong_of found) → IsWrongBy words w
+read_wrong words f found is n w e = wrong_if words f (ap asked_of is ∙ n) w (e ∙ ap (λ x. Some (wrong_of x)) (sym is))
+
+pub usage_same : (told w : UsageError) (fault : InvocationFault) → fault ≡ Usage told → ◌≡◌ {A = Result Invocation
+    InvocationFault} (Err fault) (Err (Usage w)) → told ≡ w
+usage_same told w fault f e = cc

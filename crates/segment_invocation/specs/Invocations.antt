@@ -1,10 +1,13 @@
 -- What the program may be asked on its command line, over the matches that clap states for its words.
-use Rattle.std.specs.Prelude.{◌≡◌, ◌⊎◌, ◌==◌, ◌∷◌, ◌++◌, ℕ, Bool, true, false, not, List, [], Option, Some, None, Result, MatchResult, IsTrue, option_map, option_and_then, codes, fold, if◌then◌else◌}
+use Rattle.std.specs.Prelude.{◌≡◌, ◌⊎◌, ◌==◌, ◌∷◌, ◌++◌, ℕ, Bool, true, false, not, List, [], Option, Some, None}
+use Rattle.std.specs.Prelude.{is_some, Result, MatchResult, IsTrue, option_map, option_and_then, codes, fold}
+use Rattle.std.specs.Prelude.{if◌then◌else◌}
 use Rattle.std.specs.Str.{bytes_eq}
 use Rattle.clap.specs.Walk.{Row, Rule, Text, first_of}
 use Rattle.clap.specs.Simple.{App, Shape, new_rule, new_shape, subcommand_of, with_subcommand}
 use Rattle.clap.specs.Faults.{fault_of}
 use Rattle.clap.specs.Kinds.{IsAmong}
+use Rattle.clap.specs.Values.{kind_of}
 use Rattle.clap.specs.declared.error.kind.ErrorKind.TheVariants.{DisplayVersion}
 use Rattle.clap.specs.declared.builder.action.ArgAction.TheVariants.{Set, SetTrue}
 use Rattle.segment_lang.specs.Words.{number_of}
@@ -14,6 +17,9 @@ use Rattle.segment_invocation.specs.declared.invocations.ModeName.{ModeName}
 use Rattle.segment_invocation.specs.declared.invocations.ModeName.TheVariants.{CreateOnly, OpenOnly, OpenOrCreate, OpenReadOnly, OpenCopyOnWrite}
 use Rattle.segment_invocation.specs.declared.invocations.Saving.{Saving}
 use Rattle.segment_invocation.specs.declared.invocations.Saving.TheVariants.{InPlace, Replacing}
+use Rattle.segment_invocation.specs.declared.usage.UsageError.{UsageError}
+use Rattle.segment_invocation.specs.declared.usage.UsageError.TheVariants.{Words, Command, File, Number, Mode, Topic}
+use Rattle.segment_invocation.specs.declared.usage.UsageError.TheVariants.{Size}
 
 -- ---- the command line, as clap reads it
 
@@ -221,13 +227,69 @@ abbrev pub asked_of : Option (Text × List Row) → Option Asked
 asked_of None = None
 asked_of (Some found) = asked_in found.0 found.1
 
--- the words, the program's name first, ask for this: by their subcommand, or they want the version to be shown
+-- the words, the program's name first, ask for this: by their subcommand, where clap finds no fault, or they want the
+-- version to be shown
 abbrev pub IsAskedBy : List Text → Asked → Type 0
-IsAskedBy words a = (asked_of (subcommand_of command_line words) ≡ Some a) ⊎ ((a ≡ version) × IsAmong DisplayVersion (fault_of command_line words))
+IsAskedBy words a = ((fault_of command_line words ≡ []) × (asked_of (subcommand_of command_line words) ≡ Some a))
+    ⊎ ((a ≡ version) × IsAmong DisplayVersion (fault_of command_line words))
 
 -- an answer is what is wanted, and an error stands for nothing
 abbrev pub Reads : {A E : Type 0} → Option A → Result A E → Type 0
 Reads wanted result = MatchResult result (λ a. wanted ≡ Some a) (λ e. wanted ≡ None)
+
+-- ---- what is wrong with words that ask for nothing
+
+-- there is no such command, topic or mode, or no file, number or size
+pub data Wrong : Type 0 where
+  no_command : Wrong
+  no_file : Wrong
+  no_number : Wrong
+  no_mode : Wrong
+  no_topic : Wrong
+  no_size : Wrong
+
+-- what an error says of the words, unless it is one of clap's
+abbrev pub wrong_by : UsageError → Option Wrong
+wrong_by (Words misread) = None
+wrong_by Command = Some no_command
+wrong_by File = Some no_file
+wrong_by Number = Some no_number
+wrong_by (Mode nearest) = Some no_mode
+wrong_by Topic = Some no_topic
+wrong_by Size = Some no_size
+
+-- of a run the first of these: its mode is none, its size is no number, it lacks a size
+abbrev pub wrong_run : RunWords → Wrong
+wrong_run (file, mode, size, replace, strict, numbered) =
+    if is_some (mode_of mode) then (if is_some (size_of size) then no_size else no_number) else no_mode
+
+-- of a command with a file: its number, or what is wrong with a run, or there is no such command
+abbrev pub wrong_filed : Text → List Row → Wrong
+wrong_filed subcommand words =
+    if bytes_eq subcommand (codes "run") then wrong_run (run_words words)
+    else if bytes_eq subcommand (codes "create") then no_number
+    else if bytes_eq subcommand (codes "grow") then no_number
+    else if bytes_eq subcommand (codes "load") then no_number
+    else no_command
+
+-- a file is looked for before all else, but by `help`
+abbrev pub wrong_in : Text → List Row → Wrong
+wrong_in subcommand words =
+    if bytes_eq subcommand (codes "help") then no_topic
+    else if is_some (first_of (codes "file") words) then wrong_filed subcommand words
+    else no_file
+
+-- of a subcommand with its words, or of none
+abbrev pub wrong_of : Option (Text × List Row) → Wrong
+wrong_of None = no_command
+wrong_of (Some found) = wrong_in found.0 found.1
+
+-- an error tells what is wrong with the words, the program's name first: a fault that clap finds, or, where it finds
+-- none, why they ask for nothing
+abbrev pub IsWrongBy : List Text → UsageError → Type 0
+IsWrongBy words (Words misread) = IsAmong (kind_of misread) (fault_of command_line words)
+IsWrongBy words e = (fault_of command_line words ≡ []) × (asked_of (subcommand_of command_line words) ≡ None)
+    × (wrong_by e ≡ Some (wrong_of (subcommand_of command_line words)))
 
 -- ---- command lines that are always understood
 

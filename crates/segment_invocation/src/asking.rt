@@ -1,12 +1,12 @@
 //! What the words of a command line ask for.
-ghost use Rattle.std.specs.Prelude.{◌≡◌, false, Some, None, Ok, Err, map, drop, codes, IfOk, MatchResult, option_map, option_and_then};
+ghost use Rattle.std.specs.Prelude.{◌≡◌, false, Some, None, Ok, Err, map, drop, codes, IfErr, IfOk, MatchResult, option_map, option_and_then};
 ghost use Rattle.std.specs.Str.{bytes_eq};
 ghost use Rattle.clap.specs.Matches.{found_of};
 ghost use Rattle.clap.specs.Values.{kind_of};
 ghost use Rattle.clap.specs.Walk.{first_of, rows_of};
 ghost use Rattle.clap.specs.declared.error.kind.ErrorKind.TheVariants.{DisplayVersion, OutOfMemory as NoMemory};
 ghost use Rattle.segment_lang.specs.Words.{number_of};
-ghost use Rattle.segment_invocation.specs.Invocations.{Asked, IsAskedBy, IsWritten, Reads, asked_by, asked_help, asked_in, asked_run, is_set, mode_of, saving_of, size_of};
+ghost use Rattle.segment_invocation.specs.Invocations.{Asked, IsAskedBy, IsWritten, IsWrongBy, Reads, asked_by, asked_help, asked_in, asked_run, is_set, mode_of, no_mode, no_number, no_topic, run_words, saving_of, size_of, wrong_by, wrong_filed, wrong_in, wrong_run};
 ghost use Rattle.segment_invocation.specs.declared.invocations.Invocation.TheVariants.{Version};
 ghost use Rattle.segment_invocation.specs.declared.usage.InvocationFault.TheVariants.{OutOfMemory, Usage};
 ghost use Rattle.segment_invocation.specs.declared.usage.UsageError.TheVariants.{Words};
@@ -29,7 +29,8 @@ fn word_of<'a>(words: &ArgMatches<'a>, id: &str) -> Option<&'a str>
 
 /// The number of a command.
 fn number_in(words: &ArgMatches<'_>) -> Result<u64, UsageError>
-    ensures { Reads (option_and_then number_of (first_of (codes "number") (rows_of (found_of words.now)))) result }
+    ensures read { Reads (option_and_then number_of (first_of (codes "number") (rows_of (found_of words.now)))) result }
+    ensures wrong { IfErr result (λ e. wrong_by e ≡ Some no_number) }
 {
     match word_of(words, "number") {
         Some(word) => match number_of(word.as_bytes()) {
@@ -42,7 +43,8 @@ fn number_in(words: &ArgMatches<'_>) -> Result<u64, UsageError>
 
 /// The mode of a run, `open_only` where none is named.
 fn mode_in(alloc: Global, words: &ArgMatches<'_>) -> Result<ModeName, UsageError>
-    ensures { Reads (mode_of (first_of (codes "mode") (rows_of (found_of words.now)))) result }
+    ensures read { Reads (mode_of (first_of (codes "mode") (rows_of (found_of words.now)))) result }
+    ensures wrong { IfErr result (λ e. wrong_by e ≡ Some no_mode) }
 {
     match word_of(words, "mode") {
         Some(word) => match ModeName::called(word) {
@@ -55,7 +57,8 @@ fn mode_in(alloc: Global, words: &ArgMatches<'_>) -> Result<ModeName, UsageError
 
 /// The size that is asked for, if there is one.
 fn size_in(words: &ArgMatches<'_>) -> Result<Option<u64>, UsageError>
-    ensures { Reads (size_of (first_of (codes "size") (rows_of (found_of words.now)))) result }
+    ensures read { Reads (size_of (first_of (codes "size") (rows_of (found_of words.now)))) result }
+    ensures wrong { IfErr result (λ e. wrong_by e ≡ Some no_number) }
 {
     match word_of(words, "size") {
         Some(word) => match number_of(word.as_bytes()) {
@@ -101,7 +104,9 @@ fn read_run<'a>(
     words: &ArgMatches<'a>,
 ) -> Result<Invocation<'a>, UsageError>
     requires { first_of (codes "file") (rows_of (found_of words.now)) ≡ Some file.now }
-    ensures { MatchResult result (λ i. asked_run (rows_of (found_of words.now)) ≡ Some (asked_by i)) (λ e. asked_run (rows_of (found_of words.now)) ≡ None) }
+    ensures read { MatchResult result (λ i. asked_run (rows_of (found_of words.now)) ≡ Some (asked_by i))
+        (λ e. asked_run (rows_of (found_of words.now)) ≡ None) }
+    ensures wrong { IfErr result (λ e. wrong_by e ≡ Some (wrong_run (run_words (rows_of (found_of words.now))))) }
 {
     let mode = mode_in(alloc, words)?;
     let size = size_in(words)?;
@@ -113,7 +118,9 @@ fn read_run<'a>(
 
 /// What the word of the command `help` asks for.
 fn read_help<'a>(words: &ArgMatches<'a>) -> Result<Invocation<'a>, UsageError>
-    ensures { MatchResult result (λ i. asked_help (rows_of (found_of words.now)) ≡ Some (asked_by i)) (λ e. asked_help (rows_of (found_of words.now)) ≡ None) }
+    ensures read { MatchResult result (λ i. asked_help (rows_of (found_of words.now)) ≡ Some (asked_by i))
+        (λ e. asked_help (rows_of (found_of words.now)) ≡ None) }
+    ensures wrong { IfErr result (λ e. wrong_by e ≡ Some no_topic) }
 {
     match word_of(words, "topic") {
         Some("language") => Ok(Invocation::Language),
@@ -131,7 +138,9 @@ fn read_filed<'a>(
     requires file { first_of (codes "file") (rows_of (found_of words.now)) ≡ Some file.now }
     requires lint { bytes_eq name.now (codes "lint") ≡ false }
     requires help { bytes_eq name.now (codes "help") ≡ false }
-    ensures { MatchResult result (λ i. asked_in name.now (rows_of (found_of words.now)) ≡ Some (asked_by i)) (λ e. asked_in name.now (rows_of (found_of words.now)) ≡ None) }
+    ensures read { MatchResult result (λ i. asked_in name.now (rows_of (found_of words.now)) ≡ Some (asked_by i))
+        (λ e. asked_in name.now (rows_of (found_of words.now)) ≡ None) }
+    ensures wrong { IfErr result (λ e. wrong_by e ≡ Some (wrong_filed name.now (rows_of (found_of words.now)))) }
 {
     match name {
         "create" => Ok(Invocation::Create(file, number_in(words)?)),
@@ -157,7 +166,9 @@ fn read_command<'a>(
     name: &str,
     words: &ArgMatches<'a>,
 ) -> Result<Invocation<'a>, UsageError>
-    ensures { MatchResult result (λ i. asked_in name.now (rows_of (found_of words.now)) ≡ Some (asked_by i)) (λ e. asked_in name.now (rows_of (found_of words.now)) ≡ None) }
+    ensures read { MatchResult result (λ i. asked_in name.now (rows_of (found_of words.now)) ≡ Some (asked_by i))
+        (λ e. asked_in name.now (rows_of (found_of words.now)) ≡ None) }
+    ensures wrong { IfErr result (λ e. wrong_by e ≡ Some (wrong_in name.now (rows_of (found_of words.now)))) }
 {
     match name {
         "lint" => Ok(Invocation::Lint),
@@ -176,6 +187,7 @@ fn read_other<'a>(other: Misread) -> Result<Invocation<'a>, InvocationFault>
     ensures wrong { (kind_of other ≡ DisplayVersion → ⊥) → (kind_of other ≡ NoMemory → ⊥)
         → result ≡ Err (Usage (Words other)) }
     ensures only { IfOk result (λ i. (i ≡ Version) × (kind_of other ≡ DisplayVersion)) }
+    ensures told { (w : UsageError) → result ≡ Err (Usage w) → (w ≡ Words other) × (kind_of other ≡ NoMemory → ⊥) }
 {
     if other.kind() == ErrorKind::DisplayVersion {
         return Ok(Invocation::Version);
@@ -195,6 +207,7 @@ pub fn invocation<'a>(
 ) -> Result<Invocation<'a>, InvocationFault>
     ensures read { IfOk result (λ i. IsAskedBy (map (λ s. s.now) words.now) (asked_by i)) }
     ensures given { (a : Asked) → IsWritten a (drop 1 (map (λ s. s.now) words.now)) → MatchResult result (λ i. asked_by i ≡ a) (λ e. e ≡ OutOfMemory) }
+    ensures refused { (w : UsageError) → result ≡ Err (Usage w) → IsWrongBy (map (λ s. s.now) words.now) w }
 {
     let matches = match command_line(alloc)?.try_get_matches_from(words) {
         Ok(matches) => matches,

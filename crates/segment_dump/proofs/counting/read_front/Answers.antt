@@ -1,5 +1,5 @@
 use Rattle.segment_dump.proofs.Common.{None, sym, IsFront, fronted, Any, itself}
-use Rattle.segment_dump.proofs.FrontLines.{front-no_entries, front-none, front-some}
+use Rattle.segment_dump.proofs.FrontLines.{front-no_entries, front-none, front-some, front-whole}
 use Rattle.segment_dump.proofs.Readers.{as-seen}
 use Rattle.segment_dump.proofs.counting.read_front.Goals as goal
 
@@ -10,9 +10,20 @@ returns-in_err-behind-clause-value c =
 pub returns-in_err-named-clause-value : goal.returns-in_err-named-clause-value
 returns-in_err-named-clause-value c =
     as-seen fronted IsFront Any itself c.args.text.now None c.from_residual-in_err-named.result (sym c.from_residual-in_err-named.ensures)
-    (front-no_entries c.args.text.now c.in_ok-behind.field-0.now c.in_ok-size.size c.in_ok-size.rest.now c.in_ok-behind-2.field-0.now c.in_ok-behind.ensures c.in_ok-size.ensures c.in_ok-behind-2.ensures c.in_err-named.ensures.value)
+    (front-no_entries c.args.text.now c.in_ok-behind.field-0.now c.in_ok-size.size c.in_ok-size.rest.now
+    c.in_ok-behind-2.field-0.now c.in_ok-behind.ensures c.in_ok-size.ensures.value c.in_ok-behind-2.ensures
+    c.in_err-named.ensures.value)
 
 pub returns-clause-value : goal.returns-clause-value
 returns-clause-value c =
-    front-some c.args.text.now c.in_ok-behind.field-0.now c.in_ok-size.size c.in_ok-size.rest.now c.in_ok-behind-2.field-0.now c.in_ok-named.named c.in_ok-named.unique c.in_ok-named.rest.now c.in_ok-behind.ensures c.in_ok-size.ensures
+    front-some c.args.text.now c.in_ok-behind.field-0.now c.in_ok-size.size c.in_ok-size.rest.now
+    c.in_ok-behind-2.field-0.now c.in_ok-named.named c.in_ok-named.unique c.in_ok-named.rest.now
+    c.in_ok-behind.ensures c.in_ok-size.ensures.value
     c.in_ok-behind-2.ensures c.in_ok-named.ensures.value
+
+pub returns-clause-spelled : goal.returns-clause-spelled
+returns-clause-spelled c =
+    front-whole c.args.text.now c.in_ok-behind.field-0.now c.in_ok-size.size c.in_ok-size.rest.now
+    c.in_ok-behind-2.field-0.now c.in_ok-named.named c.in_ok-named.unique c.in_ok-named.rest.now
+    c.in_ok-behind.ensures
+    c.in_ok-size.ensures.spelled c.in_ok-behind-2.ensures c.in_ok-named.ensures.spelled

@@ -1,4 +1,6 @@
 use Rattle.segment_dump.proofs.Common.{length, subst, MatchResult, IsExact, IsLoaded, IsNotLoaded, cause_in, Succeeds}
+use Rattle.std.specs.Prelude.{IfSome}
+use Rattle.segment_dump.specs.Loading.{IsLacking}
 use Rattle.segment_dump.proofs.loading.load.Goals as goal
 
 pub returns-clause-done : goal.returns-clause-done
@@ -10,3 +12,7 @@ returns-clause-exact c = subst (λ t. IsExact t (length c.args.region) c.args.ba
 
 pub returns-clause-succeeds : goal.returns-clause-succeeds
 returns-clause-succeeds c = subst (λ t. Succeeds t (length c.args.region) c.args.base c.args.size (length c.args.room.now) c.load_lines.result) c.without_notes.ensures c.load_lines.ensures.succeeds
+
+pub returns-clause-lacking : goal.returns-clause-lacking
+returns-clause-lacking c = subst (λ t. IfSome (cause_in c.load_lines.result) (IsLacking t (length c.args.region)
+    c.args.base c.args.size (length c.args.room.now))) c.without_notes.ensures c.load_lines.ensures.lacking

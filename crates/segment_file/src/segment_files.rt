@@ -53,7 +53,7 @@ impl SegmentFile {
         })
     }
 
-    /// The segment in a file, open in a mode. The file is read and closed, and none but `save` and `replace` asks for it
+    /// The segment in a file, open in a mode. The file is read and closed, and only `save` and `replace` ask for it
     /// again.
     ///
     /// `crates/examples/src/prices.rt` has an example.

@@ -133,7 +133,7 @@ module _ (mid new : Gave) (grows : Grows mid.bytes new.bytes) where
 
     pub told_file : (most : ℕ) → most ≤ capacity → (fault : SessionFault) → IsToldByLength most new fault → BeginsIn OfImage mode image (Err fault)
     told_file most room fault (inl t) = subst (λ (f : SessionFault). BeginsIn OfImage mode image (Err f)) (sym t.0) (cut_file most room t.1)
-    told_file most room fault (inr e) = subst (λ (f : SessionFault). BeginsIn OfImage mode image (Err f)) (sym e) too_small_file
+    told_file most room fault (inr e) = subst (λ (f : SessionFault). BeginsIn OfImage mode image (Err f)) (sym e.0) too_small_file
 
   -- of an image of any of the three formats
   module _ (capacity : ℕ) (h : IsTooSmallFor (format_of mid.bytes) (given_since nothing_given mid) 0 capacity) where
@@ -177,4 +177,4 @@ module _ (mid new : Gave) (grows : Grows mid.bytes new.bytes) where
 
     pub told_any : (region : List ℕ) → length region ≡ capacity → (most : ℕ) → most ≤ capacity → (fault : SessionFault) → IsToldByLength most new fault → BeginsAny image (Err fault)
     told_any region is most room fault (inl t) = subst (λ (f : SessionFault). BeginsAny image (Err f)) (sym t.0) (cut_any most room t.1)
-    told_any region is most room fault (inr e) = subst (λ (f : SessionFault). BeginsAny image (Err f)) (sym e) (too_small_any region is)
+    told_any region is most room fault (inr e) = subst (λ (f : SessionFault). BeginsAny image (Err f)) (sym e.0) (too_small_any region is)

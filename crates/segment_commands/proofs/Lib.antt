@@ -2,6 +2,7 @@ mod Ran
 mod Opened
 mod Commanded
 mod CutFiles
+mod NewSegments
 mod Verified
 mod Linted
 mod Loads

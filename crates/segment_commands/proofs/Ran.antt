@@ -1,25 +1,30 @@
 -- How a run ends, from what its steps answered.
-use Rattle.std.proofs.Common.{◌≡◌, ◌≢◌, ◌⊎◌, ℕ, Bool, true, false, inl, inr, List, [], ◌∷◌, Ok, Err, refl, sym, subst, ◌∙◌}
+use Rattle.std.proofs.Common.{◌≡◌, ◌≢◌, ◌⊎◌, ◌<◌, ℕ, Bool, true, false, inl, inr, List, [], ◌∷◌, length, Ok, Err, refl, sym, ap, subst, ◌∙◌, arith}
+use Rattle.std.proofs.lemmas.Bool.{false≢true}
 use Rattle.raw_region.specs.Device.{Given, Taken}
+use Rattle.raw_region.specs.Format.{current}
+use Rattle.raw_region.specs.Memory.{bytes_of, word_at}
 use Rattle.segment_manager.specs.declared.modes.Mode.{Mode}
 use Rattle.segment_manager.specs.declared.modes.Mode.TheVariants.{Write, ReadOnly, CopyOnWrite}
 use Rattle.segment_manager.specs.Directory.{Directory}
+use Rattle.segment_manager.specs.Layout.{magic_at}
 use Rattle.segment_manager.specs.State.{State, StandsFor}
+use Rattle.segment_lang.specs.Language.{whole as whole_language}
 use Rattle.segment_scripts.specs.Leaves.{RunsWhole, answer_all}
-use Rattle.segment_scripts.specs.Run.{lines}
+use Rattle.segment_scripts.specs.Run.{lines, run}
 use Rattle.segment_scripts.specs.Segments.{Place, IsAt, answer_line}
 use Rattle.segment_cli.specs.declared.faults.Start.{Start}
 use Rattle.segment_cli.specs.declared.faults.SessionFault.{SessionFault}
 use Rattle.segment_cli.specs.declared.faults.SessionFault.TheVariants.{WriteFault}
 use Rattle.segment_cli.specs.Beginning.{Starts}
 use Rattle.image_check.specs.Saving.{IsSaved}
-use Rattle.segment_cli.specs.Session.{Saves}
+use Rattle.segment_cli.specs.Session.{Begins, Failures, Saves}
 use Rattle.segment_cli.proofs.Laws.{stopped_session, done_session, unsaved_session}
 use Rattle.segment_disk.specs.declared.presence.Making.{Making}
 use Rattle.segment_disk.specs.declared.presence.Making.TheVariants.{New, Emptied, Beside}
 use Rattle.segment_disk.specs.Events.{Event, After}
 use Rattle.segment_file.specs.Files.{Written, NotMade, Closed, Offered, IsUnwritten, WritesImage, writes, whole, all_of}
-use Rattle.segment_commands.specs.Running.{Act, IsAnswered, IsStopped, IsLost, IsUnsavedFor, EndsRun, Ran, saving}
+use Rattle.segment_commands.specs.Running.{Act, IsAnswered, IsAnsweredAct, IsStopped, IsLost, IsUnsavedFor, EndsRun, Ran, saving}
 
 -- lines leave the mode as it is
 mode_kept : (at : Place) (ls : List (List ℕ)) → (answer_all answer_line at ls).1.mode ≡ at.mode
@@ -45,6 +50,35 @@ whole-made New image e = cc
 whole-made Emptied image e = cc
 whole-made Beside image e = cc
 
+-- a segment has bytes: a word at their front
+no_word : word_at (bytes_of []) magic_at ≡ 0
+unfolding word_at
+no_word = refl
+
+has_bytes : (b : List ℕ) (d : Directory) → StandsFor b d → 0 < length b
+has_bytes [] d h = let magic = h.denotes.header.magic in let none = no_word in omega (arith, magic, none)
+has_bytes (x ∷ xs) d h = omega arith
+
+-- whether a mode is the one that saves
+is_write : (m : Mode) → (m ≡ Write) ⊎ (m ≡ Write → ⊥)
+is_write Write = inl refl
+is_write ReadOnly = inr (λ e. cc)
+is_write CopyOnWrite = inr (λ e. cc)
+
+-- what an output took of a run, from a directory
+abbrev Printed : Act → Type 0
+Printed act = (from : Directory) × Begins act.start act.image from × (act.out.bytes ≡ (run (whole_language current) act.mode from act.script.bytes).0)
+
+-- a file that took nothing
+abbrev refusing : Taken
+refusing = record { bytes = []; failed = true }
+
+printed_by : (act : Act) → Ran act refusing (Err WriteFault) → Printed act
+printed_by act ran = elim ran.answers [
+  | inl a ↦ absurd (false≢true (sym (ap (λ (f : Failures). f.saved) a.failed)))
+  | inr u ↦ (u.cut.from, u.cut.begins, u.cut.prints)
+]
+
 module _ {D : Type 0} (step : D → Event → D → Type 0) (how : Making) (path : List ℕ) (start : Start) (mode : Mode) (capacity : ℕ) (image : Given) (script : Given) (out : Taken) (Flushed : Bool → Type 0)
     (s s' : State) (h : Starts start mode 0 capacity image (Ok s)) where
   abbrev act : Act
@@ -63,6 +97,25 @@ module _ {D : Type 0} (step : D → Event → D → Type 0) (how : Making) (path
     last_mode : s'.mode ≡ mode
     last_mode = ran.answers.stands.mode ∙ mode_kept (record { mode = mode; directory = h.answers.from; zeros = false }) (lines script.bytes)
 
+    printed : (s'.mode ≡ Write) ⊎ (s'.mode ≡ Write → ⊥) → Printed act
+    printed (inl is) = printed_by act (unsaved_session start mode 0 capacity (record { image = image; script = script; out = out; saved = refusing }) s s' h answered.ran is
+        (s'.cut.bytes, refl, has_bytes s'.cut.bytes _ ran.answers.stands.denotes) refl)
+    printed (inr keeps) =
+        let d = (done_session start mode 0 capacity (record { image = image; script = script; out = out; saved = all_of [] }) s s' tt h answered.ran
+        (λ d stands. saves_nothing s'.mode d keeps) (λ e. absurd (keeps e)) refl).answers in
+        (d.from, d.begins, d.prints)
+
+    answered_act : IsAnsweredAct act
+    answered_act = let told = printed (is_write s'.mode) in record {
+      from = told.0;
+      begins = told.1;
+      whole = ran.whole;
+      read = ran.read;
+      within = ran.within;
+      prints = told.2;
+      written = ran.written;
+    }
+
   pub stopped : (old : D) (fault : SessionFault) → IsStopped s s' script out Flushed fault ⊎ IsLost s s' script out Flushed fault → EndsRun step old old how path act Flushed (Err fault)
   stopped old fault (inl p) = inl (record {
     asked = refl;
@@ -73,8 +126,7 @@ module _ {D : Type 0} (step : D → Event → D → Type 0) (how : Making) (path
   stopped old fault (inr p) = inr (inl (record {
     why = p.why;
     asked = refl;
-    whole = (ran false p.answered).whole;
-    read = (ran false p.answered).read;
+    answered = answered_act false p.answered;
     flushed = p.answered.flushed;
   }))
 
@@ -114,7 +166,7 @@ module _ {D : Type 0} (step : D → Event → D → Type 0) (how : Making) (path
 
       unsaved_by : (written : Written) → IsUnwritten how s'.cut.bytes written → (written ≢ NotMade → (d : Directory) → StandsFor s'.cut.bytes d → IsSaved s'.cut.bytes d)
           → IsUnsavedFor step old new how path act Flushed written
-      unsaved_by written (inl e) good = subst (IsUnsavedFor step old new how path act Flushed) (sym e) (ran true answered).whole
+      unsaved_by written (inl e) good = subst (IsUnsavedFor step old new how path act Flushed) (sym e) (answered_act true answered)
       unsaved_by written (inr (inl c)) good = subst (IsUnsavedFor step old new how path act Flushed) (sym c.closed)
           (inl (unsaved_session start mode 0 capacity (record { image = image; script = script; out = out; saved = c.taken }) s s' h answered.ran is c.is_part.part c.is_part.failed))
       unsaved_by written (inr (inr (inl e))) good = subst (IsUnsavedFor step old new how path act Flushed) (sym e) (inr (refl, done (good (λ n. is_closed (sym e ∙ n)))))

@@ -1,12 +1,12 @@
 -- What the commands of the program do to a file: what the disk is asked, in order, what is said, and with which answer
 -- each ends.
-use Rattle.std.specs.Prelude.{◌≡◌, ◌≢◌, ◌⊎◌, ℕ, Bool, false, List, [], ◌∷◌, Result, Ok, Err, IsTrue, codes}
+use Rattle.std.specs.Prelude.{◌≡◌, ◌≢◌, ◌⊎◌, ℕ, Bool, false, List, [], ◌∷◌, Result, Ok, Err, IfErr, IsTrue, codes}
 use Rattle.block_tags.specs.Format.{is_legal_size}
 use Rattle.raw_region.specs.Device.{Given, Took}
 use Rattle.segment_manager.specs.declared.modes.Mode.TheVariants.{Write, ReadOnly}
 use Rattle.segment_manager.specs.State.{State}
 use Rattle.segment_cli.specs.declared.faults.SessionFault.{SessionFault}
-use Rattle.segment_cli.specs.declared.faults.SessionFault.TheVariants.{BadSize, WriteFault}
+use Rattle.segment_cli.specs.declared.faults.SessionFault.TheVariants.{BadSize, OutOfMemory, WriteFault}
 use Rattle.segment_cli.specs.declared.faults.Start.TheVariants.{Fresh}
 use Rattle.segment_commands.specs.declared.program_faults.ProgramFault.{ProgramFault}
 use Rattle.segment_commands.specs.declared.program_faults.ProgramFault.TheVariants.{Exists, Session}
@@ -30,11 +30,12 @@ pub record IsSizeless (size : ℕ) (result : Result State SessionFault) : Type 0
   pub illegal : is_legal_size size ≡ false
   pub refused : result ≡ Err BadSize
 
--- an empty segment of the size begins, or there is no memory for it
+-- an empty segment of the size begins, or memory for it was refused
 pub record IsFresh (size : ℕ) (result : Result State SessionFault) : Type 0 where
   pub legal : IsTrue (is_legal_size size)
   pub image : Given
   pub begins : BeginsIn (Fresh size) Write image result
+  pub memory : IfErr result (λ fault. fault ≡ OutOfMemory)
 
 abbrev pub MakesSegment : ℕ → Result State SessionFault → Type 0
 MakesSegment size result = IsSizeless size result ⊎ IsFresh size result

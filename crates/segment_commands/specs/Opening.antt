@@ -1,5 +1,5 @@
 -- How the segment of a file is opened, or only its image checked.
-use Rattle.std.specs.Prelude.{◌≡◌, ◌⊎◌, ◌≤◌, ℕ, true, List, Result, Ok, Err, MatchResult, length}
+use Rattle.std.specs.Prelude.{◌≡◌, ◌⊎◌, ◌≤◌, ◌<◌, ℕ, true, List, Result, Ok, Err, MatchResult, length}
 use Rattle.raw_region.specs.Device.{Gave, Given}
 use Rattle.segment_manager.specs.declared.modes.Mode.{Mode}
 use Rattle.segment_manager.specs.declared.modes.Mode.TheVariants.{ReadOnly}
@@ -20,9 +20,14 @@ pub record EndsWithin (most : ℕ) (gave : Gave) : Type 0 where
   pub sound : gave.failures ≡ 0
   pub few : length gave.bytes ≤ most
 
+-- a reader failed, or gave more than so many bytes
+abbrev pub GoesBeyond : ℕ → Gave → Type 0
+GoesBeyond most gave = (0 < gave.failures) ⊎ (most < length gave.bytes)
+
 -- how an image is told whose size is more than the room for it: it ended within the room, or it has no place there
 abbrev pub IsToldByLength : ℕ → Gave → SessionFault → Type 0
-IsToldByLength room gave fault = ((fault ≡ Refused Truncated) × EndsWithin room gave) ⊎ (fault ≡ RegionTooSmall)
+IsToldByLength room gave fault =
+    ((fault ≡ Refused Truncated) × EndsWithin room gave) ⊎ ((fault ≡ RegionTooSmall) × GoesBeyond room gave)
 
 -- memory for a region was refused before the image was read
 pub record IsRegionless (image : Given) (result : Result State SessionFault) : Type 0 where

@@ -1,11 +1,16 @@
 -- How a script is run on the segment of a file: what the disk is asked, in order, and how the run ends.
-use Rattle.std.specs.Prelude.{◌≡◌, ◌≢◌, ◌⊎◌, ℕ, ◌+◌, Bool, true, false, List, [], ◌∷◌, Result, Ok, Err, MatchResult}
+use Rattle.std.specs.Prelude.{◌≡◌, ◌≢◌, ◌⊎◌, ◌≤◌, ℕ, ◌+◌, Bool, true, false, List, [], ◌∷◌, length, Result, Ok, Err, MatchResult}
 use Rattle.raw_region.specs.Device.{Gave, Given, Took, Taken, given_since, taken_since}
+use Rattle.raw_region.specs.Format.{current}
 use Rattle.segment_manager.specs.declared.modes.Mode.{Mode}
 use Rattle.segment_manager.specs.declared.modes.Mode.TheVariants.{Write, ReadOnly, CopyOnWrite}
+use Rattle.segment_manager.specs.Directory.{Directory}
 use Rattle.segment_manager.specs.State.{State}
+use Rattle.segment_lang.specs.Language.{whole as whole_language}
 use Rattle.segment_scripts.specs.declared.faults.RunFault.{RunFault}
 use Rattle.segment_scripts.specs.Leaves.{LeavesFault, RunsWhole}
+use Rattle.segment_scripts.specs.Lines.{script_limit}
+use Rattle.segment_scripts.specs.Run.{run}
 use Rattle.segment_scripts.specs.Segments.{Place, IsAt, answer_line}
 use Rattle.segment_cli.specs.declared.faults.Start.{Start}
 use Rattle.segment_cli.specs.declared.faults.Start.TheVariants.{Fresh, Image}
@@ -14,7 +19,7 @@ use Rattle.segment_cli.specs.declared.faults.SessionFault.TheVariants.{ReadFault
 use Rattle.segment_commands.specs.declared.program_faults.ProgramFault.{ProgramFault}
 use Rattle.segment_commands.specs.declared.program_faults.ProgramFault.TheVariants.{Exists, Session}
 use Rattle.segment_cli.specs.Beginning.{run_fault}
-use Rattle.segment_cli.specs.Session.{IsSession}
+use Rattle.segment_cli.specs.Session.{Begins, IsSession}
 use Rattle.segment_disk.specs.declared.presence.Making.{Making}
 use Rattle.segment_disk.specs.declared.presence.Making.TheVariants.{New, Beside}
 use Rattle.segment_disk.specs.declared.presence.Presence.{Presence}
@@ -64,6 +69,16 @@ pub record Act : Type 0 where
 abbrev pub Ran : Act → Taken → Result (Unit {0}) SessionFault → Type 0
 Ran act saved result = IsSession act.start act.mode 0 act.capacity (record { image = act.image; script = act.script; out = act.out; saved = saved }) result
 
+-- the script was read to its end, and the output took every answer, from a directory that the run begins with
+pub record IsAnsweredAct (act : Act) : Type 0 where
+  pub from : Directory
+  pub begins : Begins act.start act.image from
+  pub whole : act.script.ended ≡ true
+  pub read : act.script.failed ≡ false
+  pub within : length act.script.bytes ≤ script_limit
+  pub prints : act.out.bytes ≡ (run (whole_language current) act.mode from act.script.bytes).0
+  pub written : act.out.failed ≡ false
+
 -- what a run asks of the disk that saved this: in mode Write its file is made, emptied or replaced and takes it, and
 -- else nothing
 abbrev pub saving : Mode → Making → List ℕ → List ℕ → List Event
@@ -90,14 +105,13 @@ module _ {D : Type 0} (step : D → Event → D → Type 0) (old new : D) (how :
   pub record IsLostRun (fault : SessionFault) : Type 0 where
     pub why : fault ≡ WriteFault
     pub asked : new ≡ old
-    pub whole : act.script.ended ≡ true
-    pub read : act.script.failed ≡ false
+    pub answered : IsAnsweredAct act
     pub flushed : Flushed false
 
   -- why the image is not in the file or need not last: it could not be made or emptied, writing it failed, or all of it
   -- was written and need not last, or did not take the place of the old one
   abbrev pub IsUnsavedFor : Written → Type 0
-  IsUnsavedFor NotMade = act.script.ended ≡ true
+  IsUnsavedFor NotMade = IsAnsweredAct act
   IsUnsavedFor (Closed taken lasts) = Ran act taken (Err WriteFault) ⊎ ((lasts ≡ false) × Ran act taken (Ok tt))
   IsUnsavedFor (Offered image placed) = (how ≡ Beside) × (placed ≡ false) × Ran act (all_of image) (Ok tt)
 

@@ -1,5 +1,5 @@
 //! A reader that counts what it gives.
-ghost use Rattle.std.specs.Prelude.{◌≡◌, ◌≤◌, ◌^◌, ◌-◌, ◌<◌, false, length};
+ghost use Rattle.std.specs.Prelude.{◌≡◌, ◌≤◌, ◌^◌, ◌-◌, ◌<◌, true, false, length};
 ghost use Rattle.segment_disk.specs.Events.{nothing_given};
 
 use raw_region::{DeviceFault, Source};
@@ -11,7 +11,9 @@ pub(crate) struct Counted<S: Source> {
     pub(crate) given: u64,
     pub(crate) has_failed: bool,
     ghost counted: { given < 2 ^ 64 - 1 → length (S.history inner).bytes ≤ given },
+    ghost gave: { given ≤ length (S.history inner).bytes },
     ghost sound: { has_failed ≡ false → (S.history inner).failures ≡ 0 },
+    ghost failed: { has_failed ≡ true → 0 < (S.history inner).failures },
 }
 
 impl<S: Source> Counted<S> {

@@ -1,10 +1,10 @@
 //! Files that end before the size that their first words say, and the segments of others, made or not.
-ghost use Rattle.std.specs.Prelude.{◌≡◌, ◌≤◌, true};
+ghost use Rattle.std.specs.Prelude.{◌≡◌, ◌≤◌, true, false};
 ghost use Rattle.raw_region.specs.Device.{Grows, given_since};
 ghost use Rattle.segment_cli.specs.declared.faults.Start.TheVariants.{Image as OfImage};
 ghost use Rattle.segment_disk.specs.Events.{nothing_given};
 ghost use Rattle.segment_commands.specs.Migrating.{BeginsAny};
-ghost use Rattle.segment_commands.specs.Opening.{BeginsIn, EndsWithin, IsToldByLength, VerifiesIn};
+ghost use Rattle.segment_commands.specs.Opening.{BeginsIn, EndsWithin, GoesBeyond, IsToldByLength, VerifiesIn};
 
 use crate::counting::Counted;
 use image_check::{ImageClass, OpenError, open_any, verify};
@@ -21,6 +21,7 @@ const PIECE: usize = 4096;
 fn ends_within<S: Source>(reader: &mut Counted<S>, most: u64) -> bool
     requires { most ≤ 1073741824 }
     ensures within { result ≡ true → EndsWithin most (S.history reader.new.inner) }
+    ensures beyond { result ≡ false → GoesBeyond most (S.history reader.new.inner) }
     ensures grows { Grows (S.history reader.old.inner).bytes (S.history reader.new.inner).bytes }
 {
     if reader.has_failed {

@@ -1,6 +1,8 @@
 //! The opening of the segment in a file, and its check.
-ghost use Rattle.std.specs.Prelude.{◌≡◌, ◌^◌, ◌-◌, ◌<◌};
+ghost use Rattle.std.specs.Prelude.{◌≡◌, ◌^◌, ◌-◌, ◌<◌, Err, min};
 ghost use Rattle.raw_region.specs.Device.{given_since};
+ghost use Rattle.segment_cli.specs.declared.faults.SessionFault.TheVariants.{RegionTooSmall};
+ghost use Rattle.segment_cli.specs.Session.{IsTooSmall};
 ghost use Rattle.segment_commands.specs.Opening.{BeginsIn, OpensFile, VerifiesFile};
 
 use crate::cutting::{begin_from, verify_from};
@@ -20,7 +22,9 @@ pub(crate) fn begin_in<S: Source>(
     bytes: u64,
 ) -> Result<Segment, SessionFault>
     requires { (S.history reader.old).failures < 2 ^ 64 - 1 }
-    ensures { BeginsIn start mode (given_since (S.history reader.old) (S.history reader.new)) result }
+    ensures begins { BeginsIn start mode (given_since (S.history reader.old) (S.history reader.new)) result }
+    ensures room { result ≡ Err RegionTooSmall
+        → IsTooSmall start (given_since (S.history reader.old) (S.history reader.new)) 0 (min bytes 1073741824) }
 {
     let Ok(region) = region_for(alloc, bytes) else {
         return Err(SessionFault::OutOfMemory);

@@ -34,7 +34,7 @@ pub struct InUse;
 pub enum Trouble {
     /// No file is there.
     Missing,
-    /// No folder is there in which the file is to be made.
+    /// No folder is there in which the file is to be made, or no file beside which it is to be made.
     Homeless,
     /// It is a folder.
     Folder,

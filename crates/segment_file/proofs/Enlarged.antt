@@ -1,5 +1,5 @@
 -- A segment that is refused more bytes by its region alone may have them in another.
-use Rattle.std.proofs.Common.{◌≡◌, refl, sym, ap, ◌∙◌, ℕ, ◌+◌, ◌%◌, ◌≤◌, Bool, true, false, ◌||◌, not, Option, Some, None, Err, List, length, arith, nat_lt, ◌==◌, if◌then◌else◌}
+use Rattle.std.proofs.Common.{◌≡◌, refl, sym, subst, ap, ◌∙◌, ℕ, ◌+◌, ◌%◌, ◌≤◌, ◌<◌, Bool, true, false, ◌||◌, not, Option, Some, None, Err, List, length, arith, nat_lt, ◌==◌, if◌then◌else◌}
 use Rattle.std.proofs.lemmas.Bool.{eqb-true, false≢true}
 use Rattle.segment_manager.specs.declared.modes.Mode.{Mode}
 use Rattle.segment_manager.specs.Directory.{Directory}
@@ -20,11 +20,12 @@ record AreNot (a b c : Bool) : Type 0 where
   bad : b ≡ false
   large : c ≡ false
 
-by_region : (a b c e : Bool) → Some RegionTooSmall ≡ first_of a b c e → AreNot a b c
+by_region : (a b c e : Bool) → Some RegionTooSmall ≡ first_of a b c e → AreNot a b c × (e ≡ true)
 by_region true b c e h = absurd (cc)
 by_region false true c e h = absurd (cc)
 by_region false false true e h = absurd (cc)
-by_region false false false e h = record { reading = refl; bad = refl; large = refl }
+by_region false false false true h = (record { reading = refl; bad = refl; large = refl }, refl)
+by_region false false false false h = absurd (cc)
 
 or_false : (a b : Bool) → (a || b) ≡ false → (a ≡ false) × (b ≡ false)
 or_false true b e = absurd (false≢true (sym e))
@@ -36,6 +37,9 @@ not_false false e = absurd (false≢true (sym e))
 
 at_least : (a b : ℕ) → nat_lt a b ≡ false → b ≤ a
 at_least a b e = grind arith
+
+below : (a b : ℕ) → nat_lt a b ≡ true → a < b
+below a b e = grind arith
 
 not_less : (a : ℕ) → nat_lt a a ≡ false
 not_less a = grind arith
@@ -51,12 +55,14 @@ stands-size : (b : List ℕ) (d : Directory) → StandsFor b d → d.size ≡ le
 stands-size b d h = sym (h.denotes.heap.size ∙ live-size d)
 
 module _ (s : State) (extra : ℕ) (why : GrowError) (is : why ≡ RegionTooSmall) (refused : IsRefusedBy s (Err why) (λ d. growth_refusal s.mode d.size extra (room_of s.cut))) where
-  are_not : (d : Directory) → StandsFor s.cut.bytes d → AreNot (is_read_only s.mode) (is_bad extra) (nat_lt 1073741824 (d.size + extra))
-  are_not d h = by_region (is_read_only s.mode) (is_bad extra) (nat_lt 1073741824 (d.size + extra)) (nat_lt (room_of s.cut) (d.size + extra)) (ap (λ (e : GrowError). Some e) (sym is) ∙ refused.refused d h)
+  are_short : (d : Directory) → StandsFor s.cut.bytes d
+      → AreNot (is_read_only s.mode) (is_bad extra) (nat_lt 1073741824 (d.size + extra)) × (nat_lt (room_of s.cut) (d.size + extra) ≡ true)
+  are_short d h = by_region (is_read_only s.mode) (is_bad extra) (nat_lt 1073741824 (d.size + extra)) (nat_lt (room_of s.cut) (d.size + extra)) (ap (λ (e : GrowError). Some e) (sym is) ∙ refused.refused d h)
 
   pub short_of_room : IsSegment s.cut.bytes → IsShortOfRoom s extra
   short_of_room (d, h) =
-      let none = are_not d h in
+      let none = (are_short d h).0 in
+      let beyond = below (room_of s.cut) (d.size + extra) (are_short d h).1 in
       let low = at_least 1073741824 (d.size + extra) none.large in
       let size = stands-size s.cut.bytes d h in
       record {
@@ -64,5 +70,6 @@ module _ (s : State) (extra : ℕ) (why : GrowError) (is : why ≡ RegionTooSmal
         long = at_least extra 32 (or_false (nat_lt extra 32) (not (extra % 16 == 0)) none.bad).0;
         whole = eqb-true (extra % 16) 0 (not_false (extra % 16 == 0) (or_false (nat_lt extra 32) (not (extra % 16 == 0)) none.bad).1);
         small = omega arith;
-        may = record { may = λ e k. may_grow s.mode e.size extra (are_not e k) };
+        may = record { may = λ e k. may_grow s.mode e.size extra (are_short e k).0 };
+        short = subst (λ (n : ℕ). room_of s.cut < n + extra) size beyond;
       }

@@ -4,7 +4,7 @@ use Rattle.std.proofs.lemmas.Slice.Eq.{bytes_eq-Decides}
 use Rattle.raw_region.specs.Device.{Taken}
 use Rattle.segment_disk.specs.declared.presence.Making.TheVariants.{New, Emptied, Beside}
 use Rattle.segment_disk.specs.Events.{Event}
-use Rattle.segment_file.specs.Files.{Written, Closed, Offered, IsUnwritten, all_of, whole, writes}
+use Rattle.segment_file.specs.Files.{Written, NotMade, Closed, Offered, IsUnwritten, all_of, whole, writes}
 use Rattle.segment_file.specs.Standing.{Scene, Whole, Neither, IsOneOf, ReplacingKeepsOneWhole, UnplacedLeavesTheOld, SavingEndsWhole, EmptyingTears, after_event, standing}
 
 same : (path : List ℕ) → bytes_eq path path ≡ true
@@ -48,7 +48,9 @@ pub replacing_keeps : ReplacingKeepsOneWhole
 replacing_keeps path old image written h k = at_each path old image (writes Beside path written) (before old) (kept path old image written h) k
 
 pub unplaced_leaves : UnplacedLeavesTheOld
-unplaced_leaves path old taken lasts = rw (standing, same path) refl
+unplaced_leaves path old NotMade h = refl
+unplaced_leaves path old (Closed taken lasts) h = rw (standing, same path) refl
+unplaced_leaves path old (Offered image placed) h = absurd h
 
 pub ends_whole : SavingEndsWhole
 ends_whole New path old image = rw (standing, same path) refl

@@ -1,5 +1,5 @@
 -- A segment with the path of its file: what the disk is asked, in order, and what becomes of the segment.
-use Rattle.std.specs.Prelude.{◌≡◌, ◌≢◌, ◌⊎◌, ◌≤◌, ℕ, ◌+◌, ◌%◌, false, List, [], ◌∷◌, length, IsTrue, string_bytes, Option, Some, None, Result, Ok, Err, IfErr, MatchResult}
+use Rattle.std.specs.Prelude.{◌≡◌, ◌≢◌, ◌⊎◌, ◌≤◌, ◌<◌, ℕ, ◌+◌, ◌%◌, false, List, [], ◌∷◌, length, IsTrue, string_bytes, Option, Some, None, Result, Ok, Err, IfErr, MatchResult}
 use Rattle.raw_region.specs.Device.{Given}
 use Rattle.raw_region.specs.Format.{current}
 use Rattle.block_tags.specs.Format.{is_legal_size}
@@ -250,6 +250,10 @@ growth_reason mode size extra = growth_refusal mode size extra (size + extra)
 pub record MayGrow (s : State) (extra : ℕ) : Type 0 where
   pub may : (d : Directory) → StandsFor s.cut.bytes d → growth_reason s.mode d.size extra ≡ None
 
+-- its region has no room for so many bytes more
+abbrev pub IsTooLongFor : State → ℕ → Type 0
+IsTooLongFor s extra = room_of s.cut < length s.cut.bytes + extra
+
 -- it may grow, and its region has no room for it
 pub record IsShortOfRoom (s : State) (extra : ℕ) : Type 0 where
   pub writing : is_read_only s.mode ≡ false
@@ -257,12 +261,14 @@ pub record IsShortOfRoom (s : State) (extra : ℕ) : Type 0 where
   pub whole : extra % 16 ≡ 0
   pub small : length s.cut.bytes + extra ≤ 1073741824
   pub may : MayGrow s extra
+  pub short : IsTooLongFor s extra
 
--- open as it was, and each directory has so many bytes more; the segment may lie in another region then
+-- open as it was, and each directory has so many bytes more; at its place in its region, or that has no room for it
 pub record IsLonger (old new : State) (extra : ℕ) : Type 0 where
   pub may : MayGrow old extra
   pub mode : new.mode ≡ old.mode
   pub denotes : (d : Directory) → StandsFor old.cut.bytes d → StandsFor new.cut.bytes (grown d extra)
+  pub place : Resizes old new (λ d. grown d extra) ⊎ IsTooLongFor old extra
 
 -- it does not grow, for this reason
 pub record IsNotLonger (old new : State) (extra : ℕ) (why : FileError) : Type 0 where
@@ -271,10 +277,11 @@ pub record IsNotLonger (old new : State) (extra : ℕ) (why : FileError) : Type 
   pub applies : (d : Directory) → StandsFor old.cut.bytes d → growth_reason old.mode d.size extra ≡ Some reason
   pub refused : why ≡ Growth reason
 
--- it may grow, and memory for a larger region was refused
+-- it may grow, its region has no room for it, and memory for a larger one was refused
 pub record IsWithoutRoom (old new : State) (extra : ℕ) (why : FileError) : Type 0 where
   pub same : new ≡ old
   pub may : MayGrow old extra
+  pub short : IsTooLongFor old extra
   pub refused : why ≡ OutOfMemory
 
 -- `grow`

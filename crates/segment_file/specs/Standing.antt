@@ -1,11 +1,11 @@
 -- What stands under the path of a file: by what a disk was asked, one question after another.
-use Rattle.std.specs.Prelude.{◌≡◌, ◌⊎◌, ◌&&◌, ℕ, Bool, true, false, not, List, Option, Some, None, fold, take, if◌then◌else◌}
+use Rattle.std.specs.Prelude.{◌≡◌, ◌⊎◌, ◌&&◌, ⊤, ℕ, Bool, true, false, not, List, Option, Some, None, fold, take, if◌then◌else◌}
 use Rattle.std.specs.Str.{bytes_eq}
 use Rattle.raw_region.specs.Device.{Taken}
 use Rattle.segment_disk.specs.declared.presence.Making.{Making}
 use Rattle.segment_disk.specs.declared.presence.Making.TheVariants.{New, Emptied, Beside}
 use Rattle.segment_disk.specs.Events.{Event, Looked, Held, Released, Opened, Read, Made, Wrote, Placed, Discarded}
-use Rattle.segment_file.specs.Files.{Written, Closed, IsUnwritten, whole, writes}
+use Rattle.segment_file.specs.Files.{Written, NotMade, Closed, Offered, IsUnwritten, whole, writes}
 
 -- these bytes, whole; or one of two, each whole, whichever it is; or a file that was made or emptied and need not be
 -- whole
@@ -80,6 +80,12 @@ IsOneOf old new (Whole bytes) = (bytes ≡ old) ⊎ (bytes ≡ new)
 IsOneOf old new (EitherOf a b) = ((a ≡ old) ⊎ (a ≡ new)) × ((b ≡ old) ⊎ (b ≡ new))
 IsOneOf old new Torn = ⊥
 
+-- the new file was not made, or was closed and not to take the place of the old one
+abbrev pub IsNotOffered : Written → Type 0
+IsNotOffered NotMade = ⊤
+IsNotOffered (Closed taken lasts) = ⊤
+IsNotOffered (Offered image placed) = ⊥
+
 -- ---- the laws
 
 -- At each point of a save that replaces, however it ends, the old image or the new one stands whole under the path.
@@ -89,7 +95,7 @@ ReplacingKeepsOneWhole = (path old image : List ℕ) (written : Written) → (wr
 
 -- Where it failed before the new file was to take its place, the old image does.
 abbrev pub UnplacedLeavesTheOld : Type 0
-UnplacedLeavesTheOld = (path old : List ℕ) (taken : Taken) (lasts : Bool) → standing path old (writes Beside path (Closed taken lasts)) ≡ Whole old
+UnplacedLeavesTheOld = (path old : List ℕ) (written : Written) → IsNotOffered written → standing path old (writes Beside path written) ≡ Whole old
 
 -- Any save that is done ends with the new image.
 abbrev pub SavingEndsWhole : Type 0

@@ -14,7 +14,8 @@ use segment_disk::{Disk, Making, Presence};
 use segment_manager::{Mode, Segment};
 use std::alloc::Global;
 
-/// A segment in memory, and the path of the file that it was read from or made in. The file changes by `save` alone.
+/// A segment in memory, and the path of the file that it was read from or made in. The file changes by `save` and
+/// `replace` alone.
 #[derive(Drop)]
 pub struct SegmentFile {
     /// The segment.
@@ -52,7 +53,7 @@ impl SegmentFile {
         })
     }
 
-    /// The segment in a file, open in a mode. The file is read and closed, and no other call but `save` asks for it
+    /// The segment in a file, open in a mode. The file is read and closed, and only `save` and `replace` ask for it
     /// again.
     ///
     /// `crates/examples/src/prices.rt` has an example.
@@ -169,16 +170,16 @@ impl SegmentFile {
     }
 
     /// Makes the segment longer by `extra` bytes, which are free: a multiple of 16, at least 32. Where its region has
-    /// no room, it moves into a larger one. Every object keeps its handle and its value. The file is as it was until
-    /// `save`.
+    /// no room, and only there, it moves into a larger one. Every object keeps its handle and its value. The file is as
+    /// it was until `save` or `replace`.
     ///
     /// `crates/examples/src/growing.rt` has an example.
     ///
     /// # Errors
     ///
     /// `Growth` with `ReadOnly` where the segment is open for reading, with `BadGrow` where `extra` is below 32 or no
-    /// multiple of 16, and with `TooLarge` where the size would be above 1073741824; else `OutOfMemory` where there is
-    /// none for a larger region. The segment is as it was.
+    /// multiple of 16, and with `TooLarge` where the size would be above 1073741824; else `OutOfMemory` where its
+    /// region has no room, and there is none for a larger one. The segment is as it was.
     pub fn grow(&mut self, alloc: Global, extra: u64) -> Result<(), FileError>
         ensures grows { Grows self.old.segment self.new.segment extra result }
         ensures path { self.new.path ≡ self.old.path }
@@ -187,7 +188,7 @@ impl SegmentFile {
     }
 
     /// Makes the segment as short as its last block lets it be. Every object keeps its handle and its value. The file
-    /// is as it was until `save`.
+    /// is as it was until `save` or `replace`.
     ///
     /// `crates/examples/src/growing.rt` has an example.
     ///

@@ -6,7 +6,8 @@ pub fn replacing_keeps_one_whole()
     ensures { ReplacingKeepsOneWhole }
 {}
 
-/// A save that replaces, and fails before its file is to take the place of the old one, leaves the old image.
+/// A save that replaces, and fails before its file is to take the place of the old one, leaves the old image, also
+/// where its file can't be made.
 pub fn unplaced_leaves_the_old()
     ensures { UnplacedLeavesTheOld }
 {}

@@ -170,7 +170,8 @@ impl<'a, K: Scalar, V: Scalar> View<'a, Pairs<K, V>> {
         ensures same { IsSame self.old self.new }
         ensures step { IsStepOfKind (segment_of self.old) (segment_of self.new) (key_of self.old) (MapOf K.kind V.kind) (Remove (key_of self.old) (literal_of K.kind (K.whole key))) (truth_answer result) }
         ensures refused { OnErr result (segment_of self.new ≡ segment_of self.old) }
-        ensures absent { KeepsWhere (segment_of self.old) (segment_of self.new) (LacksPair (key_of self.old) (K.whole key)) }
+        ensures absent { KeepsWhere (segment_of self.old) (segment_of self.new)
+            (LacksPair (key_of self.old) (K.whole key)) }
     {
         let _ = self.segment.as_bytes();
         self.segment.map_erase::<K, V, Object>(&self.object, key)

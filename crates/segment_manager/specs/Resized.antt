@@ -24,5 +24,6 @@ room_behind c = length (whole c) - (length c.before + length c.bytes)
 pub record Resizes (old new : State) (next : Directory → Directory) : Type 0 where
   pub mode : new.mode ≡ old.mode
   pub place : EndsAt old.cut new.cut (length new.cut.bytes)
-  pub blocks : AllByRecursion (SameBlock (bytes_of old.cut.bytes) (bytes_of new.cut.bytes)) (live_of old.cut.bytes).extents
+  pub blocks : AllByRecursion (SameBlock (bytes_of old.cut.bytes) (bytes_of new.cut.bytes))
+      (live_of old.cut.bytes).extents
   pub denotes : (d : Directory) → StandsFor old.cut.bytes d → StandsFor new.cut.bytes (next d)

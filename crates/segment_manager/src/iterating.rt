@@ -47,8 +47,10 @@ impl<'a> Iterator for Instances<'a> {
     }
 
     fn size_hint(&self) -> (usize, Option<usize>)
-        ensures lower { IsWithinCount result.0 (at_most (entry_count self.now.segment.cut (place_of self.now.index) - self.now.at)) }
-        ensures upper { IfSome result.1 (UpTo (at_most (entry_count self.now.segment.cut (place_of self.now.index) - self.now.at))) }
+        ensures lower { IsWithinCount result.0
+            (at_most (entry_count self.now.segment.cut (place_of self.now.index) - self.now.at)) }
+        ensures upper { IfSome result.1
+            (UpTo (at_most (entry_count self.now.segment.cut (place_of self.now.index) - self.now.at))) }
         ensures exact { IsExactHint result (entry_count self.now.segment.cut (place_of self.now.index) - self.now.at) }
     {
         let left = self.segment.count_of(self.index).saturating_sub(self.at) as usize;
@@ -91,8 +93,10 @@ impl<'a> Iterator for Names<'a> {
     }
 
     fn size_hint(&self) -> (usize, Option<usize>)
-        ensures lower { IsWithinCount result.0 (at_most (entry_count self.now.segment.cut (place_of Named) - self.now.at)) }
-        ensures upper { IfSome result.1 (UpTo (at_most (entry_count self.now.segment.cut (place_of Named) - self.now.at))) }
+        ensures lower { IsWithinCount result.0
+            (at_most (entry_count self.now.segment.cut (place_of Named) - self.now.at)) }
+        ensures upper { IfSome result.1
+            (UpTo (at_most (entry_count self.now.segment.cut (place_of Named) - self.now.at))) }
         ensures exact { IsExactHint result (entry_count self.now.segment.cut (place_of Named) - self.now.at) }
     {
         self.instances.size_hint()

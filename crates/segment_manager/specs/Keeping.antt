@@ -40,4 +40,4 @@ LacksPair key x d = pair_at int_lt (pairs_at d key) x ≡ None
 abbrev pub ChangesElement : State → State → Key → ScalarKind → ℕ → Type 0
 ChangesElement old new key k i = (d : Directory) → StandsFor old.cut.bytes d
     → IfOk (place_at d key k i) (λ (p : Place).
-        SameBut (bytes_of old.cut.bytes) (bytes_of new.cut.bytes) (p.handle + p.at) (size_of k))
+    SameBut (bytes_of old.cut.bytes) (bytes_of new.cut.bytes) (p.handle + p.at) (size_of k))

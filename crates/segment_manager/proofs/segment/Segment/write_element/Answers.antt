@@ -44,6 +44,6 @@ returns-clause-element g c = λ d h.
     let rest : SameBut (bytes_of c.self.inside.heap.bytes) m (p.handle + p.at) n =
     subst (λ k. SameBut (bytes_of c.self.inside.heap.bytes) m (p.handle + p.at) k) long c.write.ensures.change.rest in
     subst (λ (r : Result Place Refusal). IfOk r (λ (q : Place).
-        SameBut (bytes_of c.args.self.now.cut.bytes) m (q.handle + q.at) n))
+    SameBut (bytes_of c.args.self.now.cut.bytes) m (q.handle + q.at) n))
     (c.in_ok-place.ensures.answers d h)
     (subst (λ (s : State). SameBut (bytes_of s.cut.bytes) m (p.handle + p.at) n) c.self.view_is rest)

@@ -18,7 +18,7 @@ module _ (old mid new : Cut) (n : ℕ) (moved : HasEndMoved current old mid n) (
   mid_live : live_of mid.bytes ≡ of_size (live_of old.bytes) n
   mid_live = lay_out_one current mid.bytes (of_size (live_of old.bytes) n) moved.live
 
-  blocks : AllByRecursion (SameBlock (bytes_of old.bytes) (bytes_of new.bytes)) (live_of old.bytes).extents
+  pub blocks : AllByRecursion (SameBlock (bytes_of old.bytes) (bytes_of new.bytes)) (live_of old.bytes).extents
   blocks =
       blocks-trans (bytes_of old.bytes) (bytes_of mid.bytes) (bytes_of new.bytes) (live_of old.bytes).extents moved.keeps.blocks
       (subst (λ (l : LiveSet). AllByRecursion (SameBlock (bytes_of mid.bytes) (bytes_of new.bytes)) l.extents) mid_live (changed-header_blocks current mid new 16 8 change (omega arith)))
@@ -82,6 +82,7 @@ pub resizes : (old new : State) (mid : Cut) (n : ℕ) (next : Directory → Dire
 resizes old new mid n next mode moved change word is = record {
   mode = mode;
   place = place-resized old.cut mid new.cut n moved change word;
+  blocks = blocks old.cut mid new.cut n moved change word;
   denotes = λ d h. subst (StandsFor new.cut.bytes) (is d h) (record { denotes = denotes-resized old.cut mid new.cut n moved change word d h.denotes });
 }
 

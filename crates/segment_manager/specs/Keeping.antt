@@ -1,9 +1,15 @@
--- What calls leave to the last byte, that of gaps too, since they find that there is nothing to do.
-use Rattle.std.specs.Prelude.{◌≡◌, ◌≤◌, ℕ, ℤ, int_lt, Some, None, Ok}
+-- What calls leave to the last byte, that of gaps too: all, since they find that there is nothing to do, or all but an
+-- element.
+use Rattle.std.specs.Prelude.{◌≡◌, ◌≤◌, ◌+◌, ℕ, ℤ, int_lt, Some, None, Ok, IfOk}
+use Rattle.raw_region.specs.Memory.{SameBut, bytes_of}
+use Rattle.seg_types.specs.declared.kinds.ScalarKind.{ScalarKind}
+use Rattle.seg_types.specs.Kinds.{size_of}
 use Rattle.seg_types.specs.Names.{Key}
 use Rattle.seg_map.specs.Map.{pair_at}
 use Rattle.segment_manager.specs.Contents.{sizes_at}
+use Rattle.seg_vector.specs.declared.places.Place.{Place}
 use Rattle.segment_manager.specs.Directory.{Object, Directory, object_at}
+use Rattle.segment_manager.specs.Standing.{place_at}
 use Rattle.segment_manager.specs.State.{State, StandsFor}
 use Rattle.segment_manager.specs.Walks.{pairs_at}
 
@@ -29,3 +35,9 @@ pub record HasPlaces (key : Key) (n : ℕ) (d : Directory) : Type 0 where
 -- the map of the key has no such key
 abbrev pub LacksPair : Key → ℤ → Directory → Type 0
 LacksPair key x d = pair_at int_lt (pairs_at d key) x ≡ None
+
+-- no byte changes but those of the element at an index in the object of the key, an object of scalars of the kind
+abbrev pub ChangesElement : State → State → Key → ScalarKind → ℕ → Type 0
+ChangesElement old new key k i = (d : Directory) → StandsFor old.cut.bytes d
+    → IfOk (place_at d key k i) (λ (p : Place).
+    SameBut (bytes_of old.cut.bytes) (bytes_of new.cut.bytes) (p.handle + p.at) (size_of k))

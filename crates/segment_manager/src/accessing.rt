@@ -1,9 +1,9 @@
 //! The elements of objects of scalars, read and written.
-ghost use Rattle.std.specs.Prelude.{◌≡◌, ℤ, OnErr, true};
+ghost use Rattle.std.specs.Prelude.{◌≡◌, ℤ, OnErr, OnOk, true};
 ghost use Rattle.seg_types.specs.declared.kinds.Kind.TheVariants.{Scalar as ScalarOf};
 ghost use Rattle.seg_types.specs.{Commands.Get, Commands.Set, Commands.literal_of, Kinds.is_value};
 ghost use Rattle.seg_types.specs.{Kinds.spelling as spelling_of, Values.kind_of_scalar, Values.value_of_scalar};
-ghost use Rattle.segment_manager.specs.{Answers.Element, Standing.Spells, Standing.place_at};
+ghost use Rattle.segment_manager.specs.{Answers.Element, Keeping.ChangesElement, Standing.Spells, Standing.place_at};
 ghost use Rattle.segment_manager.specs.State.{Answers, IsReplyOfKind, IsStepOfKind, answer_of, done_answer, scalar_answer};
 
 use crate::element::{element, place_of};
@@ -51,7 +51,8 @@ impl Segment {
         .ok_or(Refusal::WrongKind)
     }
 
-    /// Makes a value the element at `index` in the object of a key, an object of scalars of the type.
+    /// Makes a value the element at `index` in the object of a key, an object of scalars of the type. No other byte
+    /// changes.
     ///
     /// Example: `segment.set(&name, 0, 640i64)?`.
     ///
@@ -68,6 +69,7 @@ impl Segment {
         requires { O.stands key.now self.old }
         ensures step { IsStepOfKind self.old self.new (O.key key.now) (ScalarOf T.kind) (Set (O.key key.now) index (literal_of T.kind (T.whole value))) (done_answer result) }
         ensures refused { OnErr result (self.new ≡ self.old) }
+        ensures element { OnOk result (ChangesElement self.old self.new (O.key key.now) T.kind index) }
     {
         let mut bytes = [0; LONGEST];
         let spelling = &mut bytes[..T::SIZE as usize];
@@ -86,6 +88,7 @@ impl Segment {
         ensures step { IsStepOfKind self.old self.new (O.key key.now) (ScalarOf (kind_of_scalar value))
             (Set (O.key key.now) index (literal_of (kind_of_scalar value) (value_of_scalar value))) (done_answer result) }
         ensures refused { OnErr result (self.new ≡ self.old) }
+        ensures element { OnOk result (ChangesElement self.old self.new (O.key key.now) (kind_of_scalar value) index) }
     {
         let kind = value.kind();
         let mut bytes = [0; LONGEST];
@@ -107,6 +110,7 @@ impl Segment {
         ensures step { (z : ℤ) → is_value kind z ≡ true → spelling.now ≡ spelling_of kind z
             → IsStepOfKind self.old self.new (O.key key.now) (ScalarOf kind) (Set (O.key key.now) index (literal_of kind z)) (done_answer result) }
         ensures refused { OnErr result (self.new ≡ self.old) }
+        ensures element { OnOk result (ChangesElement self.old self.new (O.key key.now) kind index) }
     {
         if self.is_read_only() {
             return Err(Refusal::ReadOnly);

@@ -77,8 +77,8 @@ impl Segment {
         }
     }
 
-    /// Whether an object has the handle. It is looked for among all blocks, one after another, since a handle may come
-    /// from outside.
+    /// Whether an object has the handle. It is looked for among all blocks, from the nearest way-point on, since it may
+    /// come from outside.
     pub(crate) fn is_object(&self, handle: Handle) -> bool
         ensures { Answers self.now (λ d. is_object_at d handle) result }
     {

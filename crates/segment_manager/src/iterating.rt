@@ -1,5 +1,6 @@
 //! The objects of an index, and the names of those that have one, one after another.
-ghost use Rattle.std.specs.{Prelude.◌≡◌, Prelude.◌-◌, Prelude.length, Iterator.at_most};
+ghost use Rattle.std.specs.{Prelude.◌≡◌, Prelude.◌-◌, Prelude.IfSome, Prelude.length, Iterator.UpTo, Iterator.at_most};
+ghost use Rattle.std.specs.Iterator.SizeHint.{IsExactHint, IsWithinCount};
 ghost use Rattle.seg_index.specs.declared.index.Index.TheVariants.{Named, Unique};
 ghost use Rattle.seg_index.specs.Held.{entry_count, place_of};
 ghost use Rattle.segment_manager.specs.{Indexed.objects_of, Iterating.GoesOn, Iterating.GoesOnNames, State.Answers};
@@ -45,7 +46,13 @@ impl<'a> Iterator for Instances<'a> {
         Some(said)
     }
 
-    fn size_hint(&self) -> (usize, Option<usize>) {
+    fn size_hint(&self) -> (usize, Option<usize>)
+        ensures lower { IsWithinCount result.0
+            (at_most (entry_count self.now.segment.cut (place_of self.now.index) - self.now.at)) }
+        ensures upper { IfSome result.1
+            (UpTo (at_most (entry_count self.now.segment.cut (place_of self.now.index) - self.now.at))) }
+        ensures exact { IsExactHint result (entry_count self.now.segment.cut (place_of self.now.index) - self.now.at) }
+    {
         let left = self.segment.count_of(self.index).saturating_sub(self.at) as usize;
         (left, Some(left))
     }
@@ -85,7 +92,13 @@ impl<'a> Iterator for Names<'a> {
         }
     }
 
-    fn size_hint(&self) -> (usize, Option<usize>) {
+    fn size_hint(&self) -> (usize, Option<usize>)
+        ensures lower { IsWithinCount result.0
+            (at_most (entry_count self.now.segment.cut (place_of Named) - self.now.at)) }
+        ensures upper { IfSome result.1
+            (UpTo (at_most (entry_count self.now.segment.cut (place_of Named) - self.now.at))) }
+        ensures exact { IsExactHint result (entry_count self.now.segment.cut (place_of Named) - self.now.at) }
+    {
         self.instances.size_hint()
     }
 }

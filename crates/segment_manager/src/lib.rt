@@ -4,9 +4,10 @@
 //! is one step of the directory machine: from the directory that the bytes denote to the one that they denote then.
 //!
 //! No method of a [`Segment`] has a condition on what the segment holds: they answer or refuse. Those that have one say
-//! so under `# Conditions`, and how a caller meets it. There are two sorts:
+//! so under `# Conditions`, and how a caller meets it. There are three sorts:
 //! - a number is in range: the count of `construct` and `find_or_construct`, the base of `create` and `relocate`;
-//! - a key suits the kind of what is made ([`Destination`]).
+//! - a key suits the kind of what is made ([`Destination`]);
+//! - an iterator may be asked for its next item, and each that `construct_values` takes is of the kind.
 //!
 //! The functions of [`conditioned`] want to be told what the segment holds, and so does every call that is given an
 //! [`Object`], which [`locate`] found: it is still there ([`Target`]). No program needs these.

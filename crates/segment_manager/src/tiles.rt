@@ -1,8 +1,8 @@
 //! The blocks and gaps of a segment.
 ghost use Rattle.std.specs.Prelude.{◌≡◌, ◌+◌, ℕ, Some, OnErr, OnOk, length, option_map, slice_get};
-ghost use Rattle.raw_region.specs.Memory.{bytes_of};
+ghost use Rattle.raw_region.specs.{Format.current, Memory.bytes_of};
 ghost use Rattle.block_tags.specs.{declared.tile.Role.TheVariants.Object as ObjectRole, Tiles.tiles_of};
-ghost use Rattle.best_fit.specs.{Extents.spans, FreeTree.span, Heap.IsTileOf, Table.same_role};
+ghost use Rattle.best_fit.specs.{Extents.spans, FreeTree.span, Heap.IsTileOf, Heap.IsZeroed, Table.same_role};
 ghost use Rattle.seg_types.specs.Commands.{AllDeallocated, Sanity, ZeroFree};
 ghost use Rattle.segment_manager.specs.{Answers.Truth, Directory.live, Iterating.is_own_span};
 ghost use Rattle.segment_manager.specs.Calls.{HasZeroGaps, IsTileOfIndex, as_span};
@@ -85,7 +85,7 @@ impl Segment {
         self.heap.live_count() == 0
     }
 
-    /// Makes the free bytes 0 that are no part of a tag.
+    /// Makes the free bytes 0 that are no part of a tag or a link. No other byte changes.
     ///
     /// Example: `segment.zero_free()?`.
     ///
@@ -95,6 +95,7 @@ impl Segment {
     pub fn zero_free(&mut self) -> Result<(), Refusal>
         ensures step { IsStep self.old self.new ZeroFree (done_answer result) }
         ensures zeros { OnOk result (HasZeroGaps self.new) }
+        ensures zeroed { OnOk result (IsZeroed current self.old.cut self.new.cut) }
         ensures refused { OnErr result (self.new ≡ self.old) }
     {
         if self.is_read_only() {

@@ -15,7 +15,7 @@ use seg_types::{Key, Kind, Refusal, Scalar};
 use segment_manager::{Mode, Object, Segment, locate};
 
 /// Makes the values of a row elements of the object of a key, from `first` on. The object is an array of scalars of the
-/// type, or a vector of them.
+/// type, or a vector of them. Of an empty row nothing changes.
 ///
 /// # Errors
 ///
@@ -29,6 +29,7 @@ pub fn write_elements<T: Scalar>(
 ) -> Result<(), Refusal>
     ensures step { WritesRange segment.old segment.new (key_seen key.now) T.kind first (map T.whole row.now) (done_answer result) }
     ensures refused { OnErr result (segment.new ≡ segment.old) }
+    ensures none { length row.now ≡ 0 → segment.new ≡ segment.old }
 {
     if segment.mode() == Mode::ReadOnly {
         return Err(Refusal::ReadOnly);
@@ -50,6 +51,7 @@ fn write_object<T: Scalar>(
     requires writing { is_read_only segment.old.mode ≡ false }
     ensures step { WritesRange segment.old segment.new (ByHandle object.now.handle) T.kind first (map T.whole row.now) (done_answer result) }
     ensures refused { OnErr result (segment.new ≡ segment.old) }
+    ensures none { length row.now ≡ 0 → segment.new ≡ segment.old }
 {
     if object.kind == Kind::Vector(T::kind()) {
         write_vector(segment, object, first, row)
@@ -72,6 +74,7 @@ fn write_vector<T: Scalar>(
     requires writing { is_read_only segment.old.mode ≡ false }
     ensures step { WritesRange segment.old segment.new (ByHandle object.now.handle) T.kind first (map T.whole row.now) (done_answer result) }
     ensures refused { OnErr result (segment.new ≡ segment.old) }
+    ensures none { length row.now ≡ 0 → segment.new ≡ segment.old }
 {
     let len = number_or_none(segment.vec_len::<T, Object>(object));
     if !has_range(len, first, row.len() as u64) {
@@ -93,6 +96,7 @@ fn write_array<T: Scalar>(
     requires writing { is_read_only segment.old.mode ≡ false }
     ensures step { WritesRange segment.old segment.new (ByHandle object.now.handle) T.kind first (map T.whole row.now) (done_answer result) }
     ensures refused { OnErr result (segment.new ≡ segment.old) }
+    ensures none { length row.now ≡ 0 → segment.new ≡ segment.old }
 {
     let len = number_or_none(segment.array_len::<T, Object>(object));
     if !has_range(len, first, row.len() as u64) {
@@ -109,7 +113,8 @@ fn set_vector<T: Scalar>(segment: &mut Segment, object: &Object, first: u64, row
     requires writing { is_read_only segment.old.mode ≡ false }
     requires fits { first + length row.now < 2 ^ 64 }
     requires there { (d : Directory) → StandsFor segment.old.cut.bytes d → first + length row.now ≤ length (vector_at d (ByHandle object.now.handle) T.kind) }
-    ensures { HasRange segment.old segment.new object.now first (map T.whole row.now) }
+    ensures range { HasRange segment.old segment.new object.now first (map T.whole row.now) }
+    ensures none { length row.now ≡ 0 → segment.new ≡ segment.old }
 {
     let _ = segment.as_bytes();
     'elements: for i in 0..row.len() {
@@ -127,7 +132,8 @@ fn set_array<T: Scalar>(segment: &mut Segment, object: &Object, first: u64, row:
     requires writing { is_read_only segment.old.mode ≡ false }
     requires fits { first + length row.now < 2 ^ 64 }
     requires there { (d : Directory) → StandsFor segment.old.cut.bytes d → first + length row.now ≤ length (array_at d (ByHandle object.now.handle) T.kind) }
-    ensures { HasRange segment.old segment.new object.now first (map T.whole row.now) }
+    ensures range { HasRange segment.old segment.new object.now first (map T.whole row.now) }
+    ensures none { length row.now ≡ 0 → segment.new ≡ segment.old }
 {
     let _ = segment.as_bytes();
     'elements: for i in 0..row.len() {

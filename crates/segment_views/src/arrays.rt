@@ -3,6 +3,7 @@ ghost use Rattle.std.specs.Prelude.{map};
 ghost use Rattle.seg_types.specs.declared.kinds.Kind.TheVariants.{Scalar as ScalarOf};
 ghost use Rattle.seg_types.specs.Commands.{Set, literal_of};
 ghost use Rattle.segment_manager.specs.ElementLists.{array_at, array_length_at};
+ghost use Rattle.segment_manager.specs.Keeping.{ChangesElement};
 ghost use Rattle.segment_views.specs.Repeated.{StepsOn};
 
 use crate::elements::RowItems;
@@ -27,6 +28,8 @@ impl Storage for Array {
     ghost elements = { array_at };
 
     ghost count = { array_length_at };
+
+    ghost keeps = { ChangesElement };
 
     fn kind(of: ScalarKind) -> Kind {
         Kind::Scalar(of)

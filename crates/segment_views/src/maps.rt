@@ -3,6 +3,7 @@ ghost use Rattle.std.specs.Prelude.{◌≡◌, OnErr, option_map};
 ghost use Rattle.seg_types.specs.declared.kinds.Kind.TheVariants.{Map as MapOf};
 ghost use Rattle.seg_types.specs.Commands.{Lookup, Put, Remove, literal_of};
 ghost use Rattle.segment_manager.specs.ElementLists.{length_at_kind};
+ghost use Rattle.segment_manager.specs.Keeping.{KeepsWhere, LacksPair};
 ghost use Rattle.segment_manager.specs.Maps.{pair_above, pair_at_end, pair_from, pair_result, told_of_map, value_answer};
 ghost use Rattle.segment_manager.specs.Walks.{first_of};
 ghost use Rattle.seg_map.specs.Places.{item_of};
@@ -159,7 +160,7 @@ impl<'a, K: Scalar, V: Scalar> View<'a, Pairs<K, V>> {
         self.segment.map_put(&self.object, key, value)
     }
 
-    /// Erases a key, and answers whether it was there.
+    /// Erases a key, and answers whether it was there. Nothing changes where it was not.
     ///
     /// # Errors
     ///
@@ -169,6 +170,8 @@ impl<'a, K: Scalar, V: Scalar> View<'a, Pairs<K, V>> {
         ensures same { IsSame self.old self.new }
         ensures step { IsStepOfKind (segment_of self.old) (segment_of self.new) (key_of self.old) (MapOf K.kind V.kind) (Remove (key_of self.old) (literal_of K.kind (K.whole key))) (truth_answer result) }
         ensures refused { OnErr result (segment_of self.new ≡ segment_of self.old) }
+        ensures absent { KeepsWhere (segment_of self.old) (segment_of self.new)
+            (LacksPair (key_of self.old) (K.whole key)) }
     {
         let _ = self.segment.as_bytes();
         self.segment.map_erase::<K, V, Object>(&self.object, key)

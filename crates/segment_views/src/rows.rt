@@ -9,7 +9,8 @@ ghost use Rattle.segment_manager.specs.Answers.{Element};
 ghost use Rattle.segment_manager.specs.Directory.{Directory};
 ghost use Rattle.segment_manager.specs.ElementLists.{number_or_none};
 ghost use Rattle.segment_manager.specs.Located.{IsObject};
-ghost use Rattle.segment_manager.specs.State.{Answers, IsReplyOfKind, IsStepOfKind, answer_of, done_answer, refusal_in};
+ghost use Rattle.segment_manager.specs.State.{Answers, IsReplyOfKind, IsStepOfKind, State, answer_of, done_answer};
+ghost use Rattle.segment_manager.specs.State.{refusal_in};
 ghost use Rattle.segment_views.specs.Copied.{lacking};
 ghost use Rattle.segment_views.specs.Walked.{element_of};
 
@@ -30,6 +31,9 @@ pub trait Storage {
 
     // How many they are, or why there are none.
     ghost count: { Directory → Key → AnyScalarKind → AnyResult ℕ AnyRefusal };
+
+    // What a change of the element at an index leaves, of the segment before and after.
+    ghost keeps: { State → State → Key → AnyScalarKind → ℕ → Type 0 };
 
     /// The kind of the object, by that of its scalars.
     fn kind(of: ScalarKind) -> Kind
@@ -68,7 +72,8 @@ pub trait Storage {
     ) -> Result<(), Refusal>
         requires { IsObject object.now segment.old }
         ensures step { IsStepOfKind segment.old segment.new (ByHandle object.now.handle) (kind T.kind) (Set (ByHandle object.now.handle) index (literal_of T.kind (T.whole value))) (done_answer result) }
-        ensures refused { OnErr result (segment.new ≡ segment.old) };
+        ensures refused { OnErr result (segment.new ≡ segment.old) }
+        ensures others { OnOk result (keeps segment.old segment.new (ByHandle object.now.handle) T.kind index) };
 }
 
 /// Scalars of a type, one after another.
@@ -146,7 +151,7 @@ impl<'a, T: Scalar, S: Storage> View<'a, Row<T, S>> {
         }
     }
 
-    /// Makes a value the element at `index`.
+    /// Makes a value the element at `index`. Of an array no other byte changes.
     ///
     /// # Errors
     ///
@@ -156,6 +161,7 @@ impl<'a, T: Scalar, S: Storage> View<'a, Row<T, S>> {
         ensures same { IsSame self.old self.new }
         ensures step { IsStepOfKind (segment_of self.old) (segment_of self.new) (key_of self.old) (S.kind T.kind) (Set (key_of self.old) index (literal_of T.kind (T.whole value))) (done_answer result) }
         ensures refused { OnErr result (segment_of self.new ≡ segment_of self.old) }
+        ensures others { OnOk result (S.keeps (segment_of self.old) (segment_of self.new) (key_of self.old) T.kind index) }
     {
         let _ = self.segment.as_bytes();
         S::set::<T>(self.segment, &self.object, index, value)

@@ -1,5 +1,5 @@
 //! A vector of scalars of a type in a segment that may be changed, looked up once.
-ghost use Rattle.std.specs.Prelude.{◌≡◌, OnErr, map};
+ghost use Rattle.std.specs.Prelude.{◌≡◌, OnErr, map, ⊤};
 ghost use Rattle.seg_types.specs.declared.kinds.Kind.TheVariants.{Vector as VectorOf};
 ghost use Rattle.seg_types.specs.Commands.{Assign, Erase, Insert, Pop, Push, literal_of};
 ghost use Rattle.segment_manager.specs.Answers.{Element};
@@ -30,6 +30,8 @@ impl Storage for Vector {
     ghost elements = { vector_at };
 
     ghost count = { λ d key k. length_at_kind d key (VectorOf k) };
+
+    ghost keeps = { λ old new key k i. ⊤ };
 
     fn kind(of: ScalarKind) -> Kind {
         Kind::Vector(of)

@@ -1,5 +1,5 @@
 -- One element more.
-use Rattle.std.proofs.Common.{sym, subst, ◌∙◌}
+use Rattle.std.proofs.Common.{refl, sym, subst, ◌∙◌, arith}
 use Rattle.seg_types.specs.declared.kinds.Kind.TheVariants.{Scalar}
 use Rattle.segment_manager.specs.State.{IsSegment, done_answer}
 use Rattle.segment_values.specs.Ranges.{HasRange}
@@ -12,6 +12,7 @@ pub elements-init : goal.elements-init
 elements-init g c = record {
   begun = subst IsSegment c.as_bytes.ensures.bytes c.as_bytes.ensures.denotes;
   has = range-starts c.args.segment.now c.args.object.now c.requires.object (Scalar g.T.Scalar.kind) g.T.Scalar.kind c.requires.kind (array-row g.T.Scalar.kind) c.args.first;
+  none = λ e. refl;
 }
 
 pub elements-preserved : goal.elements-preserved
@@ -20,7 +21,13 @@ elements-preserved g c = record {
   has = range-row c.args.segment.now c.args.object.now c.requires.object (Scalar g.T.Scalar.kind) g.T.Scalar.kind c.requires.kind (array-row g.T.Scalar.kind) g.T.Scalar.whole c.args.first c.elements.i c.args.row.now c.index-row-i.result
       c.elements-test.true c.index-row-i.is c.elements.segment c.set.new.self (done_answer c.set.result) c.requires.writing c.elements.invariant.begun c.requires.there
       (sym (g.met.T.Scalar.values c.index-row-i.result) ∙ c.judge.ensures) c.elements.invariant.has c.set.ensures.step;
+  none = λ e. let within = c.elements-test.true in absurd (omega arith);
 }
 
-pub returns : goal.returns
-returns g c = subst (HasRange c.args.segment.now c.elements.segment c.args.object.now c.args.first) (mapped-all g.T.Scalar.whole c.args.row.now c.elements.i c.elements-test.false) c.elements.invariant.has
+pub returns-clause-range : goal.returns-clause-range
+returns-clause-range g c =
+    subst (HasRange c.args.segment.now c.elements.segment c.args.object.now c.args.first)
+    (mapped-all g.T.Scalar.whole c.args.row.now c.elements.i c.elements-test.false) c.elements.invariant.has
+
+pub returns-clause-none : goal.returns-clause-none
+returns-clause-none g c = c.elements.invariant.none

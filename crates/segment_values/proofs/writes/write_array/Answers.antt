@@ -22,4 +22,5 @@ returns-clause-step g c =
     row-written s (ByHandle o.handle) g.T.Scalar.kind g.T.Scalar.whole c.args.row.now c.args.first c.number_or_none-len.result (λ d. array_at d (ByHandle o.handle) g.T.Scalar.kind)
     (array-many s (ByHandle o.handle) c.number_or_none-len.result c.array_len.result c.number_or_none-len.ensures g.T.Scalar.kind c.array_len.ensures)
     (λ d st. array-range s o c.requires.object g.T.Scalar.kind c.args.first (length c.args.row.now) d st c.requires.kind) c.requires.writing
-    c.set_array.new.segment (sym c.has_range.ensures ∙ c.if-not-has_range.false) c.set_array.ensures.stays c.set_array.ensures.denotes
+    c.set_array.new.segment (sym c.has_range.ensures ∙ c.if-not-has_range.false) c.set_array.ensures.range.stays
+    c.set_array.ensures.range.denotes

@@ -22,4 +22,5 @@ returns-clause-step g c =
     row-written s (ByHandle o.handle) g.T.Scalar.kind g.T.Scalar.whole c.args.row.now c.args.first c.number_or_none-len.result (λ d. vector_at d (ByHandle o.handle) g.T.Scalar.kind)
     (vector-many s (ByHandle o.handle) c.number_or_none-len.result c.vec_len.result c.number_or_none-len.ensures g.T.Scalar.kind c.vec_len.ensures)
     (λ d st. vector-range s o c.requires.object g.T.Scalar.kind c.args.first (length c.args.row.now) d st c.requires.kind) c.requires.writing
-    c.set_vector.new.segment (sym c.has_range.ensures ∙ c.if-not-has_range.false) c.set_vector.ensures.stays c.set_vector.ensures.denotes
+    c.set_vector.new.segment (sym c.has_range.ensures ∙ c.if-not-has_range.false) c.set_vector.ensures.range.stays
+    c.set_vector.ensures.range.denotes

@@ -1,11 +1,11 @@
 #!/usr/bin/env bash
-# The check of an image, `segment check`, beside two walks over all objects of Boost's managed_mapped_file after the same
-# script, 200,000 objects of four kinds in 32 MiB: one that looks over Boost's own structure and spells each name and value,
-# and one that adds up what is there, with nothing checked. Both go by name. Of three images the first has names that rise
-# as objects were made, and so lie in the file; the second names that go on by 7919 from object to object; the third the
-# mixture that docs/SPEED.md speaks of, three fifths numbers, a fifth strings, and vectors of eight numbers and maps of
-# four pairs, made in an order of chance. Instructions, counted by valgrind's callgrind; and the least of so many runs as
-# RUNS says (15), taken in turn: seconds of the processor in the program itself, in the system for it, and as time passes.
+# The check of an image, `segment check`, beside two walks over all objects of Boost's managed_mapped_file after the
+# same script, 200,000 objects of four kinds in 32 MiB: one that looks over Boost's own structure and spells each name
+# and value, and one that adds up what is there, with nothing checked. Both go by name. Of three images the first is a
+# mixture in an order of chance: three fifths numbers, a fifth strings, and vectors of eight numbers and maps of four
+# pairs. In the second, of more blocks, names rise as objects were made, and so lie in the file; in the third they go on
+# by 7919 from object to object. Instructions, counted by valgrind's callgrind; and the least of so many runs as RUNS
+# says (15), taken in turn: seconds of the processor in the program itself, in the system for it, and as time passes.
 # Run it at the top of the repository, once `rt run` has built crates/segment/out/segment, or with the program's path in
 # PROGRAM; it needs g++, valgrind and Boost (Debian's libboost1.81-dev), and writes into a folder of its own, which it
 # removes.
@@ -38,8 +38,13 @@ mixed() {
     name = sprintf("n%06d", order[i]); kind = rand()
     if (kind < 0.6) print "construct i64", name, order[i]
     else if (kind < 0.8) print "construct string", name, "\"" substr(text, 1, int(rand() * 59) + 1) "\""
-    else if (kind < 0.95) { print "construct vec<i64>", name; for (k = 0; k < 8; k++) print "push", name, int(rand() * 1000) }
-    else { print "construct map<i64,i64>", name; at = int(rand() * 100); for (k = 0; k < 4; k++) print "put", name, (at + 37 * k) % 100, k } } }'
+    else if (kind < 0.95) {
+      print "construct vec<i64>", name; for (k = 0; k < 8; k++) print "push", name, int(rand() * 1000)
+    } else {
+      print "construct map<i64,i64>", name; at = int(rand() * 100)
+      for (k = 0; k < 4; k++) print "put", name, (at + 37 * k) % 100, k
+    }
+  } }'
 }
 # images WORD..: those of the script that the words make, one of each program
 images() {
@@ -84,14 +89,14 @@ table() {
   done
 }
 
-for step in 1 7919; do
-  images script $step
-  echo "names that go on by $step"
-  echo
-  table
-  echo
-done
 images mixed
 echo "a mixture, names in an order of chance"
 echo
 table
+for step in 1 7919; do
+  images script $step
+  echo
+  echo "names that go on by $step"
+  echo
+  table
+done

@@ -1,6 +1,7 @@
 //! The words that the layers above the heap share: kinds of values, values, keys of objects, refusals and commands.
 #![tactic(auto)]
 
+mod by_kind;
 mod conversions;
 mod key_texts;
 mod keys;

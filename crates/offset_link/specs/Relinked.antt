@@ -1,7 +1,8 @@
 -- Links that move together, and links that cannot be trusted.
-use Rattle.std.specs.Prelude.{◌≡◌, ◌≢◌, ℕ, zero, suc, ◌+◌, ◌*◌, ◌<◌, ◌%◌, Option, Some, None, IfSome, List, [], ◌++◌, Bool, false, not}
-use Rattle.raw_region.specs.Memory.{Memory}
-use Rattle.offset_link.specs.Link.{link_at, link, is_handle_place}
+use Rattle.std.specs.Prelude.{◌≡◌, ◌≢◌, ℕ, zero, suc, ◌+◌, ◌*◌, ◌<◌, ◌%◌, ◌^◌, ◌==◌, if◌then◌else◌}
+use Rattle.std.specs.Prelude.{Option, Some, None, IfSome, List, [], ◌++◌, Bool, false, not}
+use Rattle.raw_region.specs.Memory.{Memory, word_at, word_bytes}
+use Rattle.offset_link.specs.Link.{is_handle_place, link_at, link_word, target_of}
 
 -- a link leads to a multiple of 16, or nowhere
 abbrev pub IsLink : Memory → ℕ → Type 0
@@ -19,10 +20,31 @@ pub record AllLead (m : Memory) (at n : ℕ) : Type 0 where
 pub record NoneIsNull (m : Memory) (at n : ℕ) : Type 0 where
   pub each : (k : ℕ) → k < n → link_at m (at + 8 * k) ≢ None
 
--- the bytes of the n links from an offset on, once they stand at another
+-- two numbers, each of which is even
+abbrev pub AreEven : ℕ → ℕ → Type 0
+AreEven a b = (a % 2 ≡ 0) × (b % 2 ≡ 0)
+
+-- the bytes of the n words from an offset on, once they stand at another: each has become what f says of the two offsets
+-- and of itself
+abbrev pub reworded : (ℕ → ℕ → ℕ → ℕ) → Memory → ℕ → ℕ → ℕ → List ℕ
+reworded f m at to zero = []
+reworded f m at to (suc n) = word_bytes (f at to (word_at m at)) ++ reworded f m (at + 8) (to + 8) n
+
+-- the word of a link, once it stands at another offset and leads where it led
+abbrev pub by_target : ℕ → ℕ → ℕ → ℕ
+by_target at to w = link_word to (target_of at w)
+
+-- the same of a link that is not null, whose word changes by the distance
+abbrev pub by_distance : ℕ → ℕ → ℕ → ℕ
+by_distance at to w = link_word to (Some ((at + w) % 2 ^ 64))
+
+-- a word that changed by the distance between two offsets, null again where it was null
+abbrev pub unless_null : ℕ → ℕ → ℕ → ℕ → ℕ → ℕ
+unless_null from to here there w = if w == by_distance from to 1 then 1 else w
+
+-- the bytes of the n links from an offset on, once they stand at another and lead where they led
 abbrev pub relinked : Memory → ℕ → ℕ → ℕ → List ℕ
-relinked m at to zero = []
-relinked m at to (suc n) = link to (link_at m at) ++ relinked m (at + 8) (to + 8) n
+relinked m at to n = reworded by_target m at to n
 
 -- the n links from an offset on stand at another, and lead where they led
 pub record KeepTargets (m m' : Memory) (at to n : ℕ) : Type 0 where

@@ -1,9 +1,9 @@
 //! Many links that move together, each of which keeps its target.
-ghost use Rattle.std.specs.Prelude.{◌≡◌, ◌≢◌, ◌↔◌, IsTrue, None, ◌+◌, ◌-◌, ◌*◌, ◌%◌, ◌≤◌, length};
-ghost use Rattle.raw_region.specs.Memory.{bytes_of, patched};
+ghost use Rattle.std.specs.Prelude.{◌≡◌, ◌↔◌, IsTrue, ◌+◌, ◌-◌, ◌*◌, ◌%◌, ◌≤◌, ◌<◌, ◌==◌, if◌then◌else◌, false, length, slice_index, ℕ};
+ghost use Rattle.raw_region.specs.Memory.{bytes_of, patched, word_at};
 ghost use Rattle.raw_region.specs.Regions.{with_bytes};
 ghost use Rattle.offset_link.specs.Link.{link_at, link, link_word};
-ghost use Rattle.offset_link.specs.Relinked.{relinked, AllLead, AreLinks, KeepTargets, NoneIsNull};
+ghost use Rattle.offset_link.specs.Relinked.{by_distance, relinked, reworded, unless_null, AllLead, AreEven, AreLinks, KeepTargets, NoneIsNull};
 ghost use Rattle.offset_link.specs.Moves.{moved_to, StaysInside};
 
 use crate::link::{NULL, load};
@@ -55,8 +55,8 @@ pub fn all_lead(w: &Window, at: u64, n: u64) -> bool
     true
 }
 
-/// Moves the `n` links from `at` on, eight at a time where none of the eight is null. Each leads where it led, to a
-/// multiple of 16 or nowhere, and the places that they leave may be among those that they take.
+/// Moves the `n` links from `at` on, eight at a time. Each leads where it led, to a multiple of 16 or nowhere, and the
+/// places that they leave may be among those that they take.
 pub fn shift(w: &mut Window, at: u64, n: u64, by: Places)
     requires aligned { at % 8 ≡ 0 }
     requires source { at + 8 * n ≤ length w.old.bytes }
@@ -116,10 +116,30 @@ const NEAR: usize = 512;
 /// How many runs before their turn words are looked at.
 const AHEAD: usize = 8;
 
+/// What was seen of words: all that stood first in a pair, in one, and all that stood second. So a compiler keeps both in
+/// one register of two words, as it does the words that move.
+#[derive(Clone, Copy, Default)]
+struct Seen {
+    first: u64,
+    second: u64,
+}
+
+impl Seen {
+    /// Whether one of the words was odd, as that of a link that leads nowhere is.
+    #[inline(always)]
+    fn has_odd(self) -> bool
+        ensures { result ≡ false → AreEven self.first self.second }
+    {
+        (self.first | self.second) % 2 == 1
+    }
+}
+
 /// From the last run on, and then from the last link of the rest on, so that none is overwritten before it has moved.
 /// That none is null may be known.
+#[inline(always)]
 fn move_up(bytes: &mut [u8], at: usize, n: usize, by: usize, non_null: bool)
     requires inside { at + by + 8 * n ≤ length bytes.old }
+    requires places { by % 8 ≡ 0 }
     requires non_null { IsTrue non_null → NoneIsNull (bytes_of bytes.old) at n }
     ensures { bytes.new ≡ patched bytes.old (at + by) (relinked (bytes_of bytes.old) at (at + by) n) }
 {
@@ -133,75 +153,111 @@ fn move_up(bytes: &mut [u8], at: usize, n: usize, by: usize, non_null: bool)
     links_up(bytes, at, rest, by);
 }
 
-/// The runs, which are far where they are many.
+/// The runs, which are far where they are many. The words of all links change by the distance first, and where one was
+/// odd, those that led nowhere are put right.
+#[inline(always)]
 fn runs_up(bytes: &mut [u8], at: usize, n: usize, by: usize, non_null: bool)
     requires inside { at + by + 64 * n ≤ length bytes.old }
+    requires places { by % 8 ≡ 0 }
     requires non_null { IsTrue non_null → NoneIsNull (bytes_of bytes.old) at (8 * n) }
     ensures { bytes.new ≡ patched bytes.old (at + by) (relinked (bytes_of bytes.old) at (at + by) (8 * n)) }
 {
-    if n <= NEAR {
-        turns_up(bytes, at, n, by, 0, non_null);
-        return;
+    hold_bytes(bytes);
+    let seen = all_turns_up(bytes, at, n, by, non_null);
+    if seen.has_odd() {
+        put_right(bytes, at, at + by, 8 * n);
     }
-    let seen = turns_up(bytes, at + 64 * AHEAD, n - AHEAD, by, 64 * AHEAD, non_null);
-    turns_up(bytes, at, AHEAD, by, 0, still_known(non_null, seen));
+}
+
+/// The elements of a slice of type `u8` are below 256. Nothing is done.
+#[inline(always)]
+fn hold_bytes(bytes: &[u8])
+    ensures { (k : ℕ) → slice_index bytes.now k < 256 }
+{}
+
+/// The turns of all runs; those that are far look ahead.
+#[inline(always)]
+fn all_turns_up(bytes: &mut [u8], at: usize, n: usize, by: usize, non_null: bool) -> Seen
+    requires inside { at + by + 64 * n ≤ length bytes.old }
+    requires places { by % 8 ≡ 0 }
+    ensures moved { bytes.new ≡ patched bytes.old (at + by) (reworded by_distance (bytes_of bytes.old) at (at + by) (8 * n)) }
+    ensures seen { non_null ≡ false → AreEven result.first result.second → NoneIsNull (bytes_of bytes.old) at (8 * n) }
+{
+    if n <= NEAR {
+        return turns_up(bytes, at, n, by, 0, non_null, Seen::default());
+    }
+    let far = turns_up(
+        bytes,
+        at + 64 * AHEAD,
+        n - AHEAD,
+        by,
+        64 * AHEAD,
+        non_null,
+        Seen::default(),
+    );
+    turns_up(bytes, at, AHEAD, by, 0, non_null, far)
 }
 
 /// The runs, the last of them first, two in a turn. Where they are far, words are looked at so many bytes `ahead`, so
-/// that a processor has them near in time. What was seen is answered and then asked, so that no compiler leaves the
-/// look out.
+/// that a processor has them near in time.
 #[inline(always)]
-fn turns_up(bytes: &mut [u8], at: usize, n: usize, by: usize, ahead: usize, non_null: bool) -> u64
+fn turns_up(
+    bytes: &mut [u8],
+    at: usize,
+    n: usize,
+    by: usize,
+    ahead: usize,
+    non_null: bool,
+    before: Seen,
+) -> Seen
     requires ahead { ahead ≤ at }
     requires inside { at + by + 64 * n ≤ length bytes.old }
-    requires non_null { IsTrue non_null → NoneIsNull (bytes_of bytes.old) at (8 * n) }
-    ensures { bytes.new ≡ patched bytes.old (at + by) (relinked (bytes_of bytes.old) at (at + by) (8 * n)) }
+    requires places { by % 8 ≡ 0 }
+    ensures moved { bytes.new ≡ patched bytes.old (at + by) (reworded by_distance (bytes_of bytes.old) at (at + by) (8 * n)) }
+    ensures seen { non_null ≡ false → AreEven result.first result.second → AreEven before.first before.second × NoneIsNull (bytes_of bytes.old) at (8 * n) }
 {
     let mut left = n;
-    let mut seen = 0;
+    let mut seen = before;
     'runs: while left > 1 {
         left -= 2;
         let from = at + 64 * left;
-        seen |= look_ahead(bytes, from - ahead, ahead > 0);
-        run_up(bytes, from + 64, by, non_null);
-        run_up(bytes, from, by, non_null);
+        seen = look_ahead(bytes, from - ahead, ahead > 0, seen);
+        seen = see_run(bytes, from + 64, from + 64 + by, non_null, seen);
+        seen = see_run(bytes, from, from + by, non_null, seen);
     }
     if left == 1 {
-        run_up(bytes, at, by, non_null);
+        seen = see_run(bytes, at, at + by, non_null, seen);
     }
     seen
 }
 
-/// A word of each of two runs whose turn comes later, in one, where they are far.
+/// A word of each of two runs whose turn comes later, where they are far.
 #[inline(always)]
-fn look_ahead(bytes: &[u8], later: usize, far: bool) -> u64
+fn look_ahead(bytes: &[u8], later: usize, far: bool, seen: Seen) -> Seen
     requires { later + 72 ≤ length bytes.now }
+    ensures { AreEven result.first result.second → AreEven seen.first seen.second }
 {
     if !far {
-        return 0;
+        return seen;
     }
-    word_in(bytes, later) | word_in(bytes, later + 64)
+    Seen {
+        first: seen.first | word_in(bytes, later),
+        second: seen.second | word_in(bytes, later + 64),
+    }
 }
 
-/// Whether none is null is known still, after words ahead of their turn were seen.
+/// Moves a run. Where it is known that none is null, what was seen before is all that counts, and a compiler leaves out
+/// the rest.
 #[inline(always)]
-fn still_known(non_null: bool, seen: u64) -> bool
-    ensures { IsTrue result → IsTrue non_null }
+fn see_run(bytes: &mut [u8], from: usize, to: usize, non_null: bool, seen: Seen) -> Seen
+    requires from_inside { from + 64 ≤ length bytes.old }
+    requires to_inside { to + 64 ≤ length bytes.old }
+    requires places { from % 8 ≡ to % 8 }
+    ensures moved { bytes.new ≡ patched bytes.old to (reworded by_distance (bytes_of bytes.old) from to 8) }
+    ensures seen { non_null ≡ false → AreEven result.first result.second → AreEven seen.first seen.second × NoneIsNull (bytes_of bytes.old) from 8 }
 {
-    non_null && seen % 2 == 0
-}
-
-/// One run, link by link where one of it is null.
-#[inline(always)]
-fn run_up(bytes: &mut [u8], at: usize, by: usize, non_null: bool)
-    requires inside { at + by + 64 ≤ length bytes.old }
-    requires non_null { IsTrue non_null → NoneIsNull (bytes_of bytes.old) at 8 }
-    ensures { bytes.new ≡ patched bytes.old (at + by) (relinked (bytes_of bytes.old) at (at + by) 8) }
-{
-    if non_null || none_is_null(bytes, at) {
-        return move_run(bytes, at, at + by);
-    }
-    links_up(bytes, at, RUN, by);
+    let now = move_run(bytes, from, to, seen);
+    if non_null { seen } else { now }
 }
 
 /// The links one by one, the last of them first.
@@ -218,9 +274,11 @@ fn links_up(bytes: &mut [u8], at: usize, n: usize, by: usize)
 }
 
 /// From the first run on, and then from the first link of the rest on.
+#[inline(always)]
 fn move_down(bytes: &mut [u8], at: usize, n: usize, by: usize, non_null: bool)
     requires source { at + 8 * n ≤ length bytes.old }
     requires inside { by ≤ at }
+    requires places { by % 8 ≡ 0 }
     requires non_null { IsTrue non_null → NoneIsNull (bytes_of bytes.old) at n }
     ensures { bytes.new ≡ patched bytes.old (at - by) (relinked (bytes_of bytes.old) at (at - by) n) }
 {
@@ -235,63 +293,69 @@ fn move_down(bytes: &mut [u8], at: usize, n: usize, by: usize, non_null: bool)
     links_down(bytes, from + 64 * runs, others % RUN, by);
 }
 
-/// The runs, which are far where they are many.
+/// The runs, as `runs_up` has them.
+#[inline(always)]
 fn runs_down(bytes: &mut [u8], at: usize, n: usize, by: usize, non_null: bool)
     requires source { at + 64 * n ≤ length bytes.old }
     requires inside { by ≤ at }
+    requires places { by % 8 ≡ 0 }
     requires non_null { IsTrue non_null → NoneIsNull (bytes_of bytes.old) at (8 * n) }
     ensures { bytes.new ≡ patched bytes.old (at - by) (relinked (bytes_of bytes.old) at (at - by) (8 * n)) }
 {
-    if n <= NEAR {
-        turns_down(bytes, at, n, by, 0, non_null);
-        return;
+    hold_bytes(bytes);
+    let seen = all_turns_down(bytes, at, n, by, non_null);
+    if seen.has_odd() {
+        put_right(bytes, at, at - by, 8 * n);
     }
-    let far = n - AHEAD;
-    let seen = turns_down(bytes, at, far, by, 64 * AHEAD, non_null);
-    turns_down(
-        bytes,
-        at + 64 * far,
-        AHEAD,
-        by,
-        0,
-        still_known(non_null, seen),
-    );
+}
+
+/// The turns of all runs; those that are far look ahead.
+#[inline(always)]
+fn all_turns_down(bytes: &mut [u8], at: usize, n: usize, by: usize, non_null: bool) -> Seen
+    requires source { at + 64 * n ≤ length bytes.old }
+    requires inside { by ≤ at }
+    requires places { by % 8 ≡ 0 }
+    ensures moved { bytes.new ≡ patched bytes.old (at - by) (reworded by_distance (bytes_of bytes.old) at (at - by) (8 * n)) }
+    ensures seen { non_null ≡ false → AreEven result.first result.second → NoneIsNull (bytes_of bytes.old) at (8 * n) }
+{
+    if n <= NEAR {
+        return turns_down(bytes, at, n, by, 0, non_null, Seen::default());
+    }
+    let many = n - AHEAD;
+    let far = turns_down(bytes, at, many, by, 64 * AHEAD, non_null, Seen::default());
+    turns_down(bytes, at + 64 * many, AHEAD, by, 0, non_null, far)
 }
 
 /// The runs, the first of them first, two in a turn. Where they are far, words are looked at so many bytes `ahead`, as
 /// `turns_up` does.
 #[inline(always)]
-fn turns_down(bytes: &mut [u8], at: usize, n: usize, by: usize, ahead: usize, non_null: bool) -> u64
+fn turns_down(
+    bytes: &mut [u8],
+    at: usize,
+    n: usize,
+    by: usize,
+    ahead: usize,
+    non_null: bool,
+    before: Seen,
+) -> Seen
     requires source { at + 64 * n + ahead ≤ length bytes.old }
     requires inside { by ≤ at }
-    requires non_null { IsTrue non_null → NoneIsNull (bytes_of bytes.old) at (8 * n) }
-    ensures { bytes.new ≡ patched bytes.old (at - by) (relinked (bytes_of bytes.old) at (at - by) (8 * n)) }
+    requires places { by % 8 ≡ 0 }
+    ensures moved { bytes.new ≡ patched bytes.old (at - by) (reworded by_distance (bytes_of bytes.old) at (at - by) (8 * n)) }
+    ensures seen { non_null ≡ false → AreEven result.first result.second → AreEven before.first before.second × NoneIsNull (bytes_of bytes.old) at (8 * n) }
 {
-    let mut seen = 0;
+    let mut seen = before;
     'runs: for i in 0..n / 2 {
         let from = at + 128 * i;
-        seen |= look_ahead(bytes, from + ahead, ahead > 0);
-        run_down(bytes, from, by, non_null);
-        run_down(bytes, from + 64, by, non_null);
+        seen = look_ahead(bytes, from + ahead, ahead > 0, seen);
+        seen = see_run(bytes, from, from - by, non_null, seen);
+        seen = see_run(bytes, from + 64, from + 64 - by, non_null, seen);
     }
     if n % 2 == 1 {
-        run_down(bytes, at + 64 * (n - 1), by, non_null);
+        let from = at + 64 * (n - 1);
+        seen = see_run(bytes, from, from - by, non_null, seen);
     }
     seen
-}
-
-/// One run, link by link where one of it is null.
-#[inline(always)]
-fn run_down(bytes: &mut [u8], at: usize, by: usize, non_null: bool)
-    requires source { at + 64 ≤ length bytes.old }
-    requires inside { by ≤ at }
-    requires non_null { IsTrue non_null → NoneIsNull (bytes_of bytes.old) at 8 }
-    ensures { bytes.new ≡ patched bytes.old (at - by) (relinked (bytes_of bytes.old) at (at - by) 8) }
-{
-    if non_null || none_is_null(bytes, at) {
-        return move_run(bytes, at, at - by);
-    }
-    links_down(bytes, at, RUN, by);
 }
 
 /// The links one by one, the first of them first.
@@ -306,40 +370,24 @@ fn links_down(bytes: &mut [u8], at: usize, n: usize, by: usize)
     }
 }
 
-/// Whether it is seen at once that none of the eight links from `at` on is null: their words are even, as those are
-/// that lead to a multiple of 16 from a multiple of 8.
+/// Makes the eight words from `to` on those from `from` on, less the distance: links that lead where those lead, but for
+/// null ones. All are read before one is written, and what is written is seen.
 #[inline(always)]
-fn none_is_null(bytes: &[u8], at: usize) -> bool
-    requires { at + 64 ≤ length bytes.now }
-    ensures { IsTrue result → NoneIsNull (bytes_of bytes.now) at 8 }
-{
-    let front = word_in(bytes, at)
-        | word_in(bytes, at + 8)
-        | word_in(bytes, at + 16)
-        | word_in(bytes, at + 24);
-    let back = word_in(bytes, at + 32)
-        | word_in(bytes, at + 40)
-        | word_in(bytes, at + 48)
-        | word_in(bytes, at + 56);
-    (front | back) % 2 == 0
-}
-
-/// Makes the eight words from `to` on links that lead where those from `from` on lead, none of which is null. All are
-/// read before one is written.
-fn move_run(bytes: &mut [u8], from: usize, to: usize)
+fn move_run(bytes: &mut [u8], from: usize, to: usize, seen: Seen) -> Seen
     requires from_inside { from + 64 ≤ length bytes.old }
     requires to_inside { to + 64 ≤ length bytes.old }
-    requires non_null { NoneIsNull (bytes_of bytes.old) from 8 }
-    ensures { bytes.new ≡ patched bytes.old to (relinked (bytes_of bytes.old) from to 8) }
+    requires places { from % 8 ≡ to % 8 }
+    ensures moved { bytes.new ≡ patched bytes.old to (reworded by_distance (bytes_of bytes.old) from to 8) }
+    ensures seen { AreEven result.first result.second → AreEven seen.first seen.second × NoneIsNull (bytes_of bytes.old) from 8 }
 {
-    let a = moved_non_null(bytes, from, to);
-    let b = moved_non_null(bytes, from + 8, to + 8);
-    let c = moved_non_null(bytes, from + 16, to + 16);
-    let d = moved_non_null(bytes, from + 24, to + 24);
-    let e = moved_non_null(bytes, from + 32, to + 32);
-    let f = moved_non_null(bytes, from + 40, to + 40);
-    let g = moved_non_null(bytes, from + 48, to + 48);
-    let h = moved_non_null(bytes, from + 56, to + 56);
+    let a = moved_by_distance(bytes, from, to);
+    let b = moved_by_distance(bytes, from + 8, to + 8);
+    let c = moved_by_distance(bytes, from + 16, to + 16);
+    let d = moved_by_distance(bytes, from + 24, to + 24);
+    let e = moved_by_distance(bytes, from + 32, to + 32);
+    let f = moved_by_distance(bytes, from + 40, to + 40);
+    let g = moved_by_distance(bytes, from + 48, to + 48);
+    let h = moved_by_distance(bytes, from + 56, to + 56);
     set_word_in(bytes, to, a);
     set_word_in(bytes, to + 8, b);
     set_word_in(bytes, to + 16, c);
@@ -348,6 +396,34 @@ fn move_run(bytes: &mut [u8], from: usize, to: usize)
     set_word_in(bytes, to + 40, f);
     set_word_in(bytes, to + 48, g);
     set_word_in(bytes, to + 56, h);
+    Seen {
+        first: seen.first | a | c | e | g,
+        second: seen.second | b | d | f | h,
+    }
+}
+
+/// Makes each of the `n` words from `to` on that came from a null link at its place from `from` on, less the distance, a
+/// null link.
+fn put_right(bytes: &mut [u8], from: usize, to: usize, n: usize)
+    requires { to + 8 * n ≤ length bytes.old }
+    ensures { bytes.new ≡ patched bytes.old to (reworded (unless_null from to) (bytes_of bytes.old) to to n) }
+{
+    let null = less_distance(NULL, from, to);
+    'links: for i in 0..n {
+        let here = to + 8 * i;
+        let word = null_again(word_in(bytes, here), null);
+        set_word_in(bytes, here, word);
+    }
+}
+
+/// The null link where a word is what became of one, and else the word.
+fn null_again(word: u64, null: u64) -> u64
+    ensures { result ≡ (if word == null then 1 else word) }
+{
+    if word == null {
+        return NULL;
+    }
+    word
 }
 
 /// Makes the word at `to` a link that leads where the one at `from` leads.
@@ -368,16 +444,23 @@ fn moved(bytes: &[u8], from: usize, to: usize) -> u64
     if word_in(bytes, from) == NULL {
         return NULL;
     }
-    moved_non_null(bytes, from, to)
+    moved_by_distance(bytes, from, to)
 }
 
 /// The same of a link that is not null, without a branch.
 #[inline(always)]
-fn moved_non_null(bytes: &[u8], from: usize, to: usize) -> u64
-    requires inside { from + 8 ≤ length bytes.now }
-    requires non_null { link_at (bytes_of bytes.now) from ≢ None }
-    ensures { result ≡ link_word to (link_at (bytes_of bytes.now) from) }
+fn moved_by_distance(bytes: &[u8], from: usize, to: usize) -> u64
+    requires { from + 8 ≤ length bytes.now }
+    ensures { result ≡ by_distance from to (word_at (bytes_of bytes.now) from) }
 {
-    let target = (from as u64).wrapping_add(word_in(bytes, from));
+    less_distance(word_in(bytes, from), from, to)
+}
+
+/// The word of a link that is not null, with `word` at `from`, once it stands at `to`.
+#[inline(always)]
+fn less_distance(word: u64, from: usize, to: usize) -> u64
+    ensures { result ≡ by_distance from to word }
+{
+    let target = (from as u64).wrapping_add(word);
     target.wrapping_sub(to as u64)
 }

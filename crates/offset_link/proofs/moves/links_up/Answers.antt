@@ -1,7 +1,7 @@
 use Rattle.std.proofs.Common.{◌≡◌, ℕ, suc, ◌+◌, ◌-◌, ◌*◌, ◌<◌, ◌≤◌, List, length, ap, ◌∙◌, arith}
 use Rattle.raw_region.specs.Memory.{bytes_of, patched}
 use Rattle.offset_link.specs.Link.{link, link_at}
-use Rattle.offset_link.specs.Relinked.{relinked}
+use Rattle.offset_link.specs.Relinked.{by_target, relinked}
 use Rattle.offset_link.proofs.Shifting.{one_before}
 use Rattle.offset_link.proofs.moves.links_up.Goals as goal
 
@@ -13,7 +13,7 @@ step b cur new at by n left within some few e f =
     let k = left - 1 in let from = at + 8 * k in let to = at + by + 8 * k in
     let e₁ : at + by + 8 * left ≡ to + 8 = omega arith in let e₂ : at + 8 * left ≡ from + 8 = omega arith in
     let f₁ : from + by ≡ to = omega arith in let g : suc (n - left) ≡ n - k = omega arith in
-    one_before b cur new from to (n - left) (omega arith) (omega arith)
+    one_before by_target b cur new from to (n - left) (omega arith) (omega arith)
     (e ∙ (λ i. patched b (e₁ i) (relinked (bytes_of b) (e₂ i) (e₁ i) (n - left))))
     (f ∙ (λ i. patched cur (f₁ i) (link (f₁ i) (link_at (bytes_of cur) from))))
     ∙ ap (λ (j : ℕ). patched b to (relinked (bytes_of b) from to j)) g

@@ -1,7 +1,7 @@
 use Rattle.std.proofs.Common.{◌≡◌, ℕ, ◌+◌, ◌-◌, ◌*◌, ◌/◌, ◌%◌, ◌≤◌, List, length, ap, ◌∙◌, arith}
 use Rattle.raw_region.specs.Memory.{bytes_of, patched}
-use Rattle.offset_link.specs.Relinked.{relinked, NoneIsNull}
-use Rattle.offset_link.proofs.Shifting.{non_null-after, non_null-part, run_after}
+use Rattle.offset_link.specs.Relinked.{by_target, relinked, NoneIsNull}
+use Rattle.offset_link.proofs.Shifting.{non_null-part, non_null-same, run_after, words-after}
 use Rattle.offset_link.proofs.moves.move_down.Goals as goal
 
 -- the first link, the runs behind it, and the rest behind them
@@ -10,7 +10,8 @@ module _ (b one : List ℕ) (at by n first q rest : ℕ) (within : at + 8 * n �
     (e : one ≡ patched b (at - by) (relinked (bytes_of b) at (at - by) first)) where
   set : NoneIsNull (bytes_of b) at n → NoneIsNull (bytes_of one) (at + 8 * first) (8 * q)
   set all =
-      non_null-after b one (at + 8 * first) (8 * q) (at - by) first at (omega arith) (omega arith) e
+      non_null-same (bytes_of b) (bytes_of one) (at + 8 * first) (8 * q)
+      (words-after by_target b one (at - by) first at (omega arith) e (at + 8 * first) (8 * q) (omega arith) (omega arith))
       (non_null-part (bytes_of b) at n (at + 8 * first) first (8 * q) (omega arith) (omega arith) all)
 
   three : (two new : List ℕ)
@@ -24,9 +25,9 @@ module _ (b one : List ℕ) (at by n first q rest : ℕ) (within : at + 8 * n �
       let a : at + 8 * first + 64 * q ≡ at + 8 * (first + 8 * q) = omega arith in
       let u : at + 8 * first + 64 * q - by ≡ to + 8 * (first + 8 * q) = omega arith in
       let all : first + 8 * q + rest ≡ n = omega arith in
-      let front = run_after b one two at to first (8 * q) (omega arith) (omega arith) e
+      let front = run_after by_target b one two at to first (8 * q) (omega arith) (omega arith) e
       (f ∙ (λ j. patched one (t j) (relinked (bytes_of one) (at + 8 * first) (t j) (8 * q)))) in
-      run_after b two new at to (first + 8 * q) rest (omega arith) (omega arith) front
+      run_after by_target b two new at to (first + 8 * q) rest (omega arith) (omega arith) front
       (g ∙ (λ j. patched two (u j) (relinked (bytes_of two) (a j) (u j) rest)))
       ∙ ap (λ (j : ℕ). patched b to (relinked (bytes_of b) at to j)) all
 

@@ -1,7 +1,7 @@
 use Rattle.std.proofs.Common.{◌≡◌, ℕ, ◌+◌, ◌-◌, ◌*◌, ◌/◌, ◌%◌, ◌≤◌, List, length, ap, ◌∙◌, arith}
 use Rattle.raw_region.specs.Memory.{bytes_of, patched}
-use Rattle.offset_link.specs.Relinked.{relinked, NoneIsNull}
-use Rattle.offset_link.proofs.Shifting.{non_null-before, non_null-part, run_before}
+use Rattle.offset_link.specs.Relinked.{by_target, relinked, NoneIsNull}
+use Rattle.offset_link.proofs.Shifting.{non_null-part, non_null-same, run_before, words-before}
 use Rattle.offset_link.proofs.moves.move_up.Goals as goal
 
 -- the last link, the runs before it, and the rest before them
@@ -11,8 +11,8 @@ module _ (b one : List ℕ) (at by n last others rest q : ℕ) (within : at + by
     (relinked (bytes_of b) (at + 8 * others) (at + 8 * others + by) last)) where
   set : NoneIsNull (bytes_of b) at n → NoneIsNull (bytes_of one) (at + 8 * rest) (8 * q)
   set all =
-      non_null-before b one (at + 8 * rest) (8 * q) (at + 8 * others + by) last (at + 8 * others) (omega arith)
-      (omega arith) e
+      non_null-same (bytes_of b) (bytes_of one) (at + 8 * rest) (8 * q)
+      (words-before by_target b one (at + 8 * others + by) last (at + 8 * others) (omega arith) e (at + 8 * rest) (8 * q) (omega arith))
       (non_null-part (bytes_of b) at n (at + 8 * rest) rest (8 * q) (omega arith) (omega arith) all)
 
   three : (two new : List ℕ)
@@ -25,9 +25,9 @@ module _ (b one : List ℕ) (at by n last others rest q : ℕ) (within : at + by
       let t : at + 8 * others + by ≡ to + 8 * (8 * q) = omega arith in
       let u : to ≡ at + by + 8 * rest = omega arith in
       let all : rest + (8 * q + last) ≡ n = omega arith in
-      let back = run_before b one two from to (8 * q) last (omega arith) (omega arith)
+      let back = run_before by_target b one two from to (8 * q) last (omega arith) (omega arith)
       (e ∙ (λ j. patched b (t j) (relinked (bytes_of b) (a j) (t j) last))) f in
-      run_before b two new at (at + by) rest (8 * q + last) (omega arith) (omega arith)
+      run_before by_target b two new at (at + by) rest (8 * q + last) (omega arith) (omega arith)
       (back ∙ (λ j. patched b (u j) (relinked (bytes_of b) from (u j) (8 * q + last)))) g
       ∙ ap (λ (j : ℕ). patched b (at + by) (relinked (bytes_of b) at (at + by) j)) all
 

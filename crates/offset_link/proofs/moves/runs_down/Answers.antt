@@ -1,35 +1,25 @@
-use Rattle.std.proofs.Common.{◌≡◌, ℕ, ◌+◌, ◌-◌, ◌*◌, ◌≤◌, List, length, ap, ◌∙◌, arith}
+use Rattle.std.proofs.Common.{◌≡◌, ℕ, ◌+◌, ◌-◌, ◌*◌, ◌≤◌, ◌<◌, ◌^◌, ◌⊎◌, inl, inr, Bool, true, false, List, length, refl, arith}
+use Rattle.std.specs.Prelude.{IsTrue, slice_index}
 use Rattle.raw_region.specs.Memory.{bytes_of, patched}
-use Rattle.offset_link.specs.Relinked.{relinked, NoneIsNull}
-use Rattle.offset_link.proofs.Shifting.{non_null-after, non_null-part, run_after}
+use Rattle.offset_link.specs.Relinked.{relinked, AreEven, NoneIsNull}
+use Rattle.offset_link.proofs.Shifting.{put_right, straight}
 use Rattle.offset_link.proofs.moves.runs_down.Goals as goal
 
--- all runs but the last eight, and then these
-module _ (b one : List ℕ) (at by n : ℕ) (within : at + 64 * n ≤ length b) (inside : by ≤ at) (many : 8 ≤ n)
-    (e : one ≡ patched b (at - by) (relinked (bytes_of b) at (at - by) (8 * (n - 8)))) where
-  last : NoneIsNull (bytes_of b) at (8 * n) → NoneIsNull (bytes_of one) (at + 64 * (n - 8)) 64
-  last all =
-      non_null-after b one (at + 64 * (n - 8)) 64 (at - by) (8 * (n - 8)) at (omega arith) (omega arith) e
-      (non_null-part (bytes_of b) at (8 * n) (at + 64 * (n - 8)) (8 * (n - 8)) 64 (omega arith) (omega arith) all)
+-- that none is null was known, or seen
+none : (q : Bool) (b : List ℕ) (at n s t : ℕ) → (IsTrue q → NoneIsNull (bytes_of b) at n)
+    → (q ≡ false → AreEven s t → NoneIsNull (bytes_of b) at n) → AreEven s t → NoneIsNull (bytes_of b) at n
+none true b at n s t known seen even = known refl
+none false b at n s t known seen even = seen refl even
 
-  both : (new : List ℕ)
-      → new ≡ patched one (at + 64 * (n - 8) - by)
-      (relinked (bytes_of one) (at + 64 * (n - 8)) (at + 64 * (n - 8) - by) 64)
-      → new ≡ patched b (at - by) (relinked (bytes_of b) at (at - by) (8 * n))
-  both new f =
-      let j = 8 * (n - 8) in let a : at + 64 * (n - 8) ≡ at + 8 * j = omega arith in
-      let t : at + 64 * (n - 8) - by ≡ at - by + 8 * j = omega arith in
-      let all : j + 64 ≡ 8 * n = omega arith in
-      run_after b one new at (at - by) j 64 (omega arith) (omega arith) e
-      (f ∙ (λ i. patched one (t i) (relinked (bytes_of one) (a i) (t i) 64)))
-      ∙ ap (λ (i : ℕ). patched b (at - by) (relinked (bytes_of b) at (at - by) i)) all
+pub returns-then-has_odd : goal.returns-then-has_odd
+returns-then-has_odd c =
+    put_right c.args.bytes.now c.all_turns_down-seen.new.bytes c.put_right.new.bytes c.args.at (c.args.at - c.args.by) (8 * c.args.n)
+    (omega (arith, c.requires.source)) (omega (arith, c.requires.source)) (omega (arith, c.requires.source)) c.all_turns_down-seen.ensures.moved
+    c.hold_bytes.ensures c.put_right.ensures
 
-pub turns_down-requires-2-clause-non_null : goal.turns_down-requires-2-clause-non_null
-turns_down-requires-2-clause-non_null c = λ known.
-    last c.args.bytes.now c.turns_down-seen.new.bytes c.args.at c.args.by c.args.n c.requires.source c.requires.inside
-    (omega (arith, c.if-n-le-NEAR.false)) c.turns_down-seen.ensures (c.requires.non_null (c.still_known.ensures known))
-
-pub returns : goal.returns
-returns c =
-    both c.args.bytes.now c.turns_down-seen.new.bytes c.args.at c.args.by c.args.n c.requires.source c.requires.inside
-    (omega (arith, c.if-n-le-NEAR.false)) c.turns_down-seen.ensures c.turns_down-2.new.bytes c.turns_down-2.ensures
+pub returns-else-has_odd : goal.returns-else-has_odd
+returns-else-has_odd c =
+    straight c.args.bytes.now c.all_turns_down-seen.new.bytes c.all_turns_down-seen.new.bytes c.args.at (c.args.at - c.args.by) (8 * c.args.n)
+    (omega (arith, c.requires.source)) (omega (arith, c.requires.source)) (omega (arith, c.requires.source)) c.all_turns_down-seen.ensures.moved
+    (none c.args.non_null c.args.bytes.now c.args.at (8 * c.args.n) c.all_turns_down-seen.result.first c.all_turns_down-seen.result.second
+    c.requires.non_null c.all_turns_down-seen.ensures.seen (c.has_odd.ensures c.if-has_odd.false))

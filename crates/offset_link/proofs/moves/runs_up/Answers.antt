@@ -1,38 +1,25 @@
-use Rattle.std.proofs.Common.{◌≡◌, ℕ, ◌+◌, ◌-◌, ◌*◌, ◌≤◌, List, length, ap, ◌∙◌, arith}
+use Rattle.std.proofs.Common.{◌≡◌, ℕ, ◌+◌, ◌-◌, ◌*◌, ◌≤◌, ◌<◌, ◌^◌, ◌⊎◌, inl, inr, Bool, true, false, List, length, refl, arith}
+use Rattle.std.specs.Prelude.{IsTrue, slice_index}
 use Rattle.raw_region.specs.Memory.{bytes_of, patched}
-use Rattle.offset_link.specs.Relinked.{relinked, NoneIsNull}
-use Rattle.offset_link.proofs.Shifting.{non_null-before, non_null-part, run_before}
+use Rattle.offset_link.specs.Relinked.{relinked, AreEven, NoneIsNull}
+use Rattle.offset_link.proofs.Shifting.{put_right, straight}
 use Rattle.offset_link.proofs.moves.runs_up.Goals as goal
 
--- all runs but the first eight, and then these
-module _ (b one : List ℕ) (at by n : ℕ) (within : at + by + 64 * n ≤ length b) (many : 8 ≤ n)
-    (e : one ≡ patched b (at + 512 + by) (relinked (bytes_of b) (at + 512) (at + 512 + by) (8 * (n - 8)))) where
-  first : NoneIsNull (bytes_of b) at (8 * n) → NoneIsNull (bytes_of one) at 64
-  first all =
-      non_null-before b one at 64 (at + 512 + by) (8 * (n - 8)) (at + 512) (omega arith) (omega arith) e
-      (non_null-part (bytes_of b) at (8 * n) at 0 64 (omega arith) (omega arith) all)
+-- that none is null was known, or seen
+none : (q : Bool) (b : List ℕ) (at n s t : ℕ) → (IsTrue q → NoneIsNull (bytes_of b) at n)
+    → (q ≡ false → AreEven s t → NoneIsNull (bytes_of b) at n) → AreEven s t → NoneIsNull (bytes_of b) at n
+none true b at n s t known seen even = known refl
+none false b at n s t known seen even = seen refl even
 
-  both : (new : List ℕ) → new ≡ patched one (at + by) (relinked (bytes_of one) at (at + by) 64)
-      → new ≡ patched b (at + by) (relinked (bytes_of b) at (at + by) (8 * n))
-  both new f =
-      let t : at + 512 + by ≡ at + by + 8 * 64 = omega arith in let a : at + 512 ≡ at + 8 * 64 = omega arith in
-      let all : 64 + 8 * (n - 8) ≡ 8 * n = omega arith in
-      run_before b one new at (at + by) 64 (8 * (n - 8)) (omega arith) (omega arith)
-      (e ∙ (λ j. patched b (t j) (relinked (bytes_of b) (a j) (t j) (8 * (n - 8))))) f
-      ∙ ap (λ (j : ℕ). patched b (at + by) (relinked (bytes_of b) at (at + by) j)) all
+pub returns-then-has_odd : goal.returns-then-has_odd
+returns-then-has_odd c =
+    put_right c.args.bytes.now c.all_turns_up-seen.new.bytes c.put_right.new.bytes c.args.at (c.args.at + c.args.by) (8 * c.args.n)
+    (omega (arith, c.requires.inside)) (omega (arith, c.requires.inside)) (omega (arith, c.requires.inside)) c.all_turns_up-seen.ensures.moved
+    c.hold_bytes.ensures c.put_right.ensures
 
-pub turns_up-seen-requires-clause-non_null : goal.turns_up-seen-requires-clause-non_null
-turns_up-seen-requires-clause-non_null c = λ known.
-    let many = c.if-n-le-NEAR.false in
-    non_null-part (bytes_of c.args.bytes.now) c.args.at (8 * c.args.n) (c.args.at + 512) 64 (8 * (c.args.n - 8))
-    (omega arith) (omega arith) (c.requires.non_null known)
-
-pub turns_up-requires-2-clause-non_null : goal.turns_up-requires-2-clause-non_null
-turns_up-requires-2-clause-non_null c = λ known.
-    first c.args.bytes.now c.turns_up-seen.new.bytes c.args.at c.args.by c.args.n c.requires.inside
-    (omega (arith, c.if-n-le-NEAR.false)) c.turns_up-seen.ensures (c.requires.non_null (c.still_known.ensures known))
-
-pub returns : goal.returns
-returns c =
-    both c.args.bytes.now c.turns_up-seen.new.bytes c.args.at c.args.by c.args.n c.requires.inside
-    (omega (arith, c.if-n-le-NEAR.false)) c.turns_up-seen.ensures c.turns_up-2.new.bytes c.turns_up-2.ensures
+pub returns-else-has_odd : goal.returns-else-has_odd
+returns-else-has_odd c =
+    straight c.args.bytes.now c.all_turns_up-seen.new.bytes c.all_turns_up-seen.new.bytes c.args.at (c.args.at + c.args.by) (8 * c.args.n)
+    (omega (arith, c.requires.inside)) (omega (arith, c.requires.inside)) (omega (arith, c.requires.inside)) c.all_turns_up-seen.ensures.moved
+    (none c.args.non_null c.args.bytes.now c.args.at (8 * c.args.n) c.all_turns_up-seen.result.first c.all_turns_up-seen.result.second
+    c.requires.non_null c.all_turns_up-seen.ensures.seen (c.has_odd.ensures c.if-has_odd.false))

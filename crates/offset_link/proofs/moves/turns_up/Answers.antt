@@ -1,66 +1,85 @@
-use Rattle.std.proofs.Common.{◌≡◌, ℕ, suc, ◌+◌, ◌-◌, ◌*◌, ◌<◌, ◌≤◌, List, length, refl, ap, subst, ◌∙◌, arith}
+use Rattle.std.proofs.Common.{◌≡◌, ℕ, suc, ◌+◌, ◌-◌, ◌*◌, ◌<◌, ◌≤◌, Bool, false, List, length, refl, sym, ap, subst, ◌∙◌, arith}
 use Rattle.raw_region.specs.Memory.{bytes_of, patched}
-use Rattle.offset_link.specs.Relinked.{relinked, NoneIsNull}
-use Rattle.offset_link.proofs.Shifting.{non_null-before, non_null-part, run_before}
+use Rattle.offset_link.specs.Relinked.{by_distance, reworded, AreEven, NoneIsNull}
+use Rattle.offset_link.proofs.Shifting.{no_links, non_null-join, non_null-same, run_before, words-before}
 use Rattle.offset_link.proofs.moves.turns_up.Goals as goal
 
 -- the runs from number k on have moved
 abbrev Moved : List ℕ → List ℕ → ℕ → ℕ → ℕ → ℕ → Type 0
 Moved b cur at by n k =
-    cur ≡ patched b (at + by + 64 * k) (relinked (bytes_of b) (at + 64 * k) (at + by + 64 * k) (8 * (n - k)))
+    cur ≡ patched b (at + by + 64 * k) (reworded by_distance (bytes_of b) (at + 64 * k) (at + by + 64 * k) (8 * (n - k)))
+
+-- what they were seen to be
+abbrev Set : List ℕ → ℕ → ℕ → ℕ → Type 0
+Set b at n k = NoneIsNull (bytes_of b) (at + 64 * k) (8 * (n - k))
 
 -- all of them
 all : (b cur : List ℕ) (at by n : ℕ) → Moved b cur at by n 0
-    → cur ≡ patched b (at + by) (relinked (bytes_of b) at (at + by) (8 * n))
+    → cur ≡ patched b (at + by) (reworded by_distance (bytes_of b) at (at + by) (8 * n))
 all b cur at by n moved =
     let e : at + by + 64 * 0 ≡ at + by = omega arith in let f : at + 64 * 0 ≡ at = omega arith in
     let g : 8 * (n - 0) ≡ 8 * n = omega arith in
-    moved ∙ (λ i. patched b (e i) (relinked (bytes_of b) (f i) (e i) (g i)))
+    moved ∙ (λ i. patched b (e i) (reworded by_distance (bytes_of b) (f i) (e i) (g i)))
+
+all_set : (b : List ℕ) (at n : ℕ) → Set b at n 0 → NoneIsNull (bytes_of b) at (8 * n)
+all_set b at n set =
+    let f : at + 64 * 0 ≡ at = omega arith in let g : 8 * (n - 0) ≡ 8 * n = omega arith in
+    subst (NoneIsNull (bytes_of b) at) g (subst (λ (a : ℕ). NoneIsNull (bytes_of b) a (8 * (n - 0))) f set)
 
 module _ (b cur : List ℕ) (at by n k from : ℕ) (within : at + by + 64 * n ≤ length b) (few : suc k ≤ n)
     (there : from ≡ at + 64 * k) (moved : Moved b cur at by n (suc k)) where
   -- and then the one before them
-  step : (new : List ℕ) → new ≡ patched cur (from + by) (relinked (bytes_of cur) from (from + by) 8)
+  step : (new : List ℕ) → new ≡ patched cur (from + by) (reworded by_distance (bytes_of cur) from (from + by) 8)
       → Moved b new at by n k
   step new f =
       let to = at + by + 64 * k in
       let e₁ : at + by + 64 * suc k ≡ to + 8 * 8 = omega arith in
       let e₂ : at + 64 * suc k ≡ at + 64 * k + 8 * 8 = omega arith in
       let t : from + by ≡ to = omega arith in let g : 8 + 8 * (n - suc k) ≡ 8 * (n - k) = omega arith in
-      run_before b cur new (at + 64 * k) to 8 (8 * (n - suc k)) (omega arith) (omega arith)
-      (moved ∙ (λ i. patched b (e₁ i) (relinked (bytes_of b) (e₂ i) (e₁ i) (8 * (n - suc k)))))
-      (f ∙ (λ i. patched cur (t i) (relinked (bytes_of cur) (there i) (t i) 8)))
-      ∙ ap (λ (j : ℕ). patched b to (relinked (bytes_of b) (at + 64 * k) to j)) g
+      run_before by_distance b cur new (at + 64 * k) to 8 (8 * (n - suc k)) (omega arith) (omega arith)
+      (moved ∙ (λ i. patched b (e₁ i) (reworded by_distance (bytes_of b) (e₂ i) (e₁ i) (8 * (n - suc k)))))
+      (f ∙ (λ i. patched cur (t i) (reworded by_distance (bytes_of cur) (there i) (t i) 8)))
+      ∙ ap (λ (j : ℕ). patched b to (reworded by_distance (bytes_of b) (at + 64 * k) to j)) g
 
-  -- none of whose links is null
-  set : NoneIsNull (bytes_of b) at (8 * n) → NoneIsNull (bytes_of cur) from 8
-  set all =
-      non_null-before b cur from 8 (at + by + 64 * suc k) (8 * (n - suc k)) (at + 64 * suc k) (omega arith)
-      (omega arith) moved (non_null-part (bytes_of b) at (8 * n) from (8 * k) 8 (omega arith) (omega arith) all)
+  -- whose words were still as they had been
+  set : NoneIsNull (bytes_of cur) from 8 → Set b at n (suc k) → Set b at n k
+  set now rest =
+      let m = bytes_of b in let j = 8 * (n - suc k) in
+      let was : NoneIsNull m from 8 = non_null-same (bytes_of cur) m from 8
+      (λ a low high. sym (words-before by_distance b cur (at + by + 64 * suc k) j (at + 64 * suc k) (omega arith) moved from 8 (omega arith) a low high)) now in
+      let e : at + 64 * suc k ≡ from + 8 * 8 = omega arith in let g : 8 + j ≡ 8 * (n - k) = omega arith in
+      let both = non_null-join m from 8 j was (subst (λ (a : ℕ). NoneIsNull m a j) e rest) in
+      subst (NoneIsNull m (at + 64 * k)) g (subst (λ (a : ℕ). NoneIsNull m a (8 + j)) there both)
 
 module _ (b cur : List ℕ) (at by n left : ℕ) (within : at + by + 64 * n ≤ length b) (two : 1 < left) (few : left ≤ n)
     (moved : Moved b cur at by n left) where
   abbrev from : ℕ
   from = at + 64 * (left - 2)
 
-  later : Moved b cur at by n (suc (left - 1))
-  later = let e : left ≡ suc (left - 1) = omega arith in subst (Moved b cur at by n) e moved
+  abbrev last_of : left ≡ suc (left - 1)
+  last_of = omega arith
 
-  set_first : NoneIsNull (bytes_of b) at (8 * n) → NoneIsNull (bytes_of cur) (from + 64) 8
-  set_first all = set b cur at by n (left - 1) (from + 64) within (omega arith) (omega arith) later all
+  abbrev first_of : left - 1 ≡ suc (left - 2)
+  first_of = omega arith
+
+  later : Moved b cur at by n (suc (left - 1))
+  later = subst (Moved b cur at by n) last_of moved
+
+  set_last : NoneIsNull (bytes_of cur) (from + 64) 8 → Set b at n left → Set b at n (left - 1)
+  set_last now rest =
+      set b cur at by n (left - 1) (from + 64) within (omega arith) (omega arith) later now (subst (Set b at n) last_of rest)
 
   module _ (mid : List ℕ)
-      (f : mid ≡ patched cur (from + 64 + by) (relinked (bytes_of cur) (from + 64) (from + 64 + by) 8)) where
+      (f : mid ≡ patched cur (from + 64 + by) (reworded by_distance (bytes_of cur) (from + 64) (from + 64 + by) 8)) where
     earlier : Moved b mid at by n (suc (left - 2))
     earlier =
-        let e : left - 1 ≡ suc (left - 2) = omega arith in
-        subst (Moved b mid at by n) e
+        subst (Moved b mid at by n) first_of
         (step b cur at by n (left - 1) (from + 64) within (omega arith) (omega arith) later mid f)
 
-    set_second : NoneIsNull (bytes_of b) at (8 * n) → NoneIsNull (bytes_of mid) from 8
-    set_second all = set b mid at by n (left - 2) from within (omega arith) refl earlier all
+    set_first : NoneIsNull (bytes_of mid) from 8 → Set b at n (left - 1) → Set b at n (left - 2)
+    set_first now rest = set b mid at by n (left - 2) from within (omega arith) refl earlier now (subst (Set b at n) first_of rest)
 
-    both : (new : List ℕ) → new ≡ patched mid (from + by) (relinked (bytes_of mid) from (from + by) 8)
+    both : (new : List ℕ) → new ≡ patched mid (from + by) (reworded by_distance (bytes_of mid) from (from + by) 8)
         → Moved b new at by n (left - 2)
     both new g = step b mid at by n (left - 2) from within (omega arith) refl earlier new g
 
@@ -69,37 +88,57 @@ module _ (b cur : List ℕ) (at by n left : ℕ) (within : at + by + 64 * n ≤ 
   last : Moved b cur at by n (suc 0)
   last = subst (Moved b cur at by n) one moved
 
-  set_last : NoneIsNull (bytes_of b) at (8 * n) → NoneIsNull (bytes_of cur) at 8
-  set_last all = set b cur at by n 0 at within (omega arith) (omega arith) last all
+  set_all : NoneIsNull (bytes_of cur) at 8 → Set b at n left → NoneIsNull (bytes_of b) at (8 * n)
+  set_all now rest =
+      all_set b at n (set b cur at by n 0 at within (omega arith) (omega arith) last now (subst (Set b at n) one rest))
 
-  ends : (new : List ℕ) → new ≡ patched cur (at + by) (relinked (bytes_of cur) at (at + by) 8)
-      → new ≡ patched b (at + by) (relinked (bytes_of b) at (at + by) (8 * n))
+  ends : (new : List ℕ) → new ≡ patched cur (at + by) (reworded by_distance (bytes_of cur) at (at + by) 8)
+      → new ≡ patched b (at + by) (reworded by_distance (bytes_of b) at (at + by) (8 * n))
   ends new f = all b new at by n (step b cur at by n 0 at within (omega arith) (omega arith) last new f)
 
-pub run_up-requires-clause-non_null : goal.run_up-requires-clause-non_null
-run_up-requires-clause-non_null c = λ known.
-    set_first c.args.bytes.now c.runs.bytes c.args.at c.args.by c.args.n c.runs.left c.requires.inside (omega arith)
-    c.runs.invariant.some c.runs.invariant.moved (c.requires.non_null known)
-
-pub run_up-requires-in-runs-clause-non_null : goal.run_up-requires-in-runs-clause-non_null
-run_up-requires-in-runs-clause-non_null c = λ known.
-    set_second c.args.bytes.now c.runs.bytes c.args.at c.args.by c.args.n c.runs.left c.requires.inside (omega arith)
-    c.runs.invariant.some c.runs.invariant.moved c.run_up.new.bytes c.run_up.ensures (c.requires.non_null known)
-
-pub runs-preserved : goal.runs-preserved
-runs-preserved c = record {
+pub runs-init : goal.runs-init
+runs-init c = record {
   some = omega arith;
-  moved = both c.args.bytes.now c.runs.bytes c.args.at c.args.by c.args.n c.runs.left c.requires.inside (omega arith)
-      c.runs.invariant.some c.runs.invariant.moved c.run_up.new.bytes c.run_up.ensures c.run_up-in-runs.new.bytes
-      c.run_up-in-runs.ensures;
+  moved = no_links c.args.bytes.now (c.args.at + c.args.by) c.args.at c.args.n;
+  seen = λ q even. (even, record { each = λ k h null. omega (arith, h) });
 }
 
-pub run_up-requires-then-left-eq1-clause-non_null : goal.run_up-requires-then-left-eq1-clause-non_null
-run_up-requires-then-left-eq1-clause-non_null c = λ known.
-    set_last c.args.bytes.now c.runs.bytes c.args.at c.args.by c.args.n c.runs.left c.requires.inside (omega arith)
-    c.runs.invariant.some c.runs.invariant.moved (c.requires.non_null known)
+pub runs-preserved : goal.runs-preserved
+runs-preserved c =
+    let b = c.args.bytes.now in let at = c.args.at in let by = c.args.by in let n = c.args.n in let left = c.runs.left in
+    let cur = c.runs.bytes in let within = c.requires.inside in let moved = c.runs.invariant.moved in
+    let two : 1 < left = omega arith in let few = c.runs.invariant.some in let mid = c.see_run-seen.new.bytes in
+    record {
+      some = omega arith;
+      moved = both b cur at by n left within two few moved mid c.see_run-seen.ensures.moved c.see_run-seen-in-runs.new.bytes
+          c.see_run-seen-in-runs.ensures.moved;
+      seen = λ q even.
+          let second = c.see_run-seen-in-runs.ensures.seen q even in
+          let first = c.see_run-seen.ensures.seen q second.0 in
+          let old = c.runs.invariant.seen q (c.look_ahead-seen.ensures first.0) in (
+            old.0,
+            set_first b cur at by n left within two few moved mid c.see_run-seen.ensures.moved second.1
+                (set_last b cur at by n left within two few moved first.1 old.1),
+          );
+    }
 
 pub returns-then-left-eq1 : goal.returns-then-left-eq1
 returns-then-left-eq1 c =
-    ends c.args.bytes.now c.runs.bytes c.args.at c.args.by c.args.n c.runs.left c.requires.inside (omega arith)
-    c.runs.invariant.some c.runs.invariant.moved c.run_up-then-left-eq1.new.bytes c.run_up-then-left-eq1.ensures
+    let b = c.args.bytes.now in let at = c.args.at in let by = c.args.by in let n = c.args.n in let left = c.runs.left in
+    let one : left ≡ 1 = c.if-left-eq1.true in
+    record {
+      moved = ends b c.runs.bytes at by n left c.requires.inside one c.runs.invariant.some c.runs.invariant.moved
+          c.see_run-seen-then-left-eq1.new.bytes c.see_run-seen-then-left-eq1.ensures.moved;
+      seen = λ q even.
+          let run = c.see_run-seen-then-left-eq1.ensures.seen q even in let old = c.runs.invariant.seen q run.0 in
+          (old.0, set_all b c.runs.bytes at by n left c.requires.inside one c.runs.invariant.some c.runs.invariant.moved run.1 old.1);
+    }
+
+pub returns-else-left-eq1 : goal.returns-else-left-eq1
+returns-else-left-eq1 c =
+    let b = c.args.bytes.now in let at = c.args.at in let by = c.args.by in let n = c.args.n in
+    let none : c.runs.left ≡ 0 = omega (arith, c.if-left-eq1.false) in
+    record {
+      moved = all b c.runs.bytes at by n (subst (Moved b c.runs.bytes at by n) none c.runs.invariant.moved);
+      seen = λ q even. let old = c.runs.invariant.seen q even in (old.0, all_set b at n (subst (Set b at n) none old.1));
+    }

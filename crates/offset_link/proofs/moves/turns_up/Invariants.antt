@@ -1,12 +1,13 @@
-use Rattle.std.proofs.Common.{◌≡◌, ◌+◌, ◌-◌, ◌*◌, ◌≤◌}
+use Rattle.std.proofs.Common.{◌≡◌, ◌+◌, ◌-◌, ◌*◌, ◌≤◌, false}
 use Rattle.raw_region.specs.Memory.{bytes_of, patched}
-use Rattle.offset_link.specs.Relinked.{relinked}
+use Rattle.offset_link.specs.Relinked.{by_distance, reworded, AreEven, NoneIsNull}
 use Rattle.offset_link.proofs.moves.turns_up.Given as goal
 
 abbrev pub invariant-runs : goal.invariant-runs
 invariant-runs l = record {
   some : l.left ≤ l.n;
-  moved : l.bytes ≡ patched l.initial.bytes (l.at + l.by + 64 * l.left) (relinked (bytes_of l.initial.bytes) (l.at + 64 * l.left) (l.at + l.by + 64 * l.left) (8 * (l.n - l.left)));
+  moved : l.bytes ≡ patched l.initial.bytes (l.at + l.by + 64 * l.left) (reworded by_distance (bytes_of l.initial.bytes) (l.at + 64 * l.left) (l.at + l.by + 64 * l.left) (8 * (l.n - l.left)));
+  seen : l.non_null ≡ false → AreEven l.seen.first l.seen.second → AreEven l.fn.before.first l.fn.before.second × NoneIsNull (bytes_of l.initial.bytes) (l.at + 64 * l.left) (8 * (l.n - l.left));
 }
 
 abbrev pub decreases-runs : goal.decreases-runs

@@ -70,13 +70,12 @@ pub fn shift(w: &mut Window, at: u64, n: u64, by: Places)
     let size = w.size();
     let bytes = w.bytes_mut(0, size);
     match by {
-        Places::Up(places) => move_up(bytes, at as usize, n as usize, 8 * places as usize, false),
-        Places::Down(places) => move_down(
+        Places::Up(places) => move_up::<false>(bytes, at as usize, n as usize, 8 * places as usize),
+        Places::Down(places) => move_down::<false>(
             bytes,
             at as usize,
             n as usize,
             8 * places as usize,
-            false,
         ),
     }
 }
@@ -96,13 +95,12 @@ pub fn shift_non_null(w: &mut Window, at: u64, n: u64, by: Places)
     let size = w.size();
     let bytes = w.bytes_mut(0, size);
     match by {
-        Places::Up(places) => move_up(bytes, at as usize, n as usize, 8 * places as usize, true),
-        Places::Down(places) => move_down(
+        Places::Up(places) => move_up::<true>(bytes, at as usize, n as usize, 8 * places as usize),
+        Places::Down(places) => move_down::<true>(
             bytes,
             at as usize,
             n as usize,
             8 * places as usize,
-            true,
         ),
     }
 }
@@ -137,10 +135,10 @@ impl Seen {
 /// From the last run on, and then from the last link of the rest on, so that none is overwritten before it has moved.
 /// That none is null may be known.
 #[inline(always)]
-fn move_up(bytes: &mut [u8], at: usize, n: usize, by: usize, non_null: bool)
+fn move_up<const NON_NULL: bool>(bytes: &mut [u8], at: usize, n: usize, by: usize)
     requires inside { at + by + 8 * n ≤ length bytes.old }
     requires places { by % 8 ≡ 0 }
-    requires non_null { IsTrue non_null → NoneIsNull (bytes_of bytes.old) at n }
+    requires non_null { IsTrue NON_NULL → NoneIsNull (bytes_of bytes.old) at n }
     ensures { bytes.new ≡ patched bytes.old (at + by) (relinked (bytes_of bytes.old) at (at + by) n) }
 {
     // The last one moves alone where the runs before it then end at a multiple of 16: each of their stores of 16 bytes
@@ -149,21 +147,21 @@ fn move_up(bytes: &mut [u8], at: usize, n: usize, by: usize, non_null: bool)
     let others = n - last;
     let rest = others % RUN;
     links_up(bytes, at + 8 * others, last, by);
-    runs_up(bytes, at + 8 * rest, others / RUN, by, non_null);
+    runs_up::<NON_NULL>(bytes, at + 8 * rest, others / RUN, by);
     links_up(bytes, at, rest, by);
 }
 
 /// The runs, which are far where they are many. The words of all links change by the distance first, and where one was
 /// odd, those that led nowhere are put right.
 #[inline(always)]
-fn runs_up(bytes: &mut [u8], at: usize, n: usize, by: usize, non_null: bool)
+fn runs_up<const NON_NULL: bool>(bytes: &mut [u8], at: usize, n: usize, by: usize)
     requires inside { at + by + 64 * n ≤ length bytes.old }
     requires places { by % 8 ≡ 0 }
-    requires non_null { IsTrue non_null → NoneIsNull (bytes_of bytes.old) at (8 * n) }
+    requires non_null { IsTrue NON_NULL → NoneIsNull (bytes_of bytes.old) at (8 * n) }
     ensures { bytes.new ≡ patched bytes.old (at + by) (relinked (bytes_of bytes.old) at (at + by) (8 * n)) }
 {
     hold_bytes(bytes);
-    let seen = all_turns_up(bytes, at, n, by, non_null);
+    let seen = all_turns_up::<NON_NULL>(bytes, at, n, by);
     if seen.has_odd() {
         put_right(bytes, at, at + by, 8 * n);
     }
@@ -177,44 +175,42 @@ fn hold_bytes(bytes: &[u8])
 
 /// The turns of all runs; those that are far look ahead.
 #[inline(always)]
-fn all_turns_up(bytes: &mut [u8], at: usize, n: usize, by: usize, non_null: bool) -> Seen
+fn all_turns_up<const NON_NULL: bool>(bytes: &mut [u8], at: usize, n: usize, by: usize) -> Seen
     requires inside { at + by + 64 * n ≤ length bytes.old }
     requires places { by % 8 ≡ 0 }
     ensures moved { bytes.new ≡ patched bytes.old (at + by) (reworded by_distance (bytes_of bytes.old) at (at + by) (8 * n)) }
-    ensures seen { non_null ≡ false → AreEven result.first result.second → NoneIsNull (bytes_of bytes.old) at (8 * n) }
+    ensures seen { NON_NULL ≡ false → AreEven result.first result.second → NoneIsNull (bytes_of bytes.old) at (8 * n) }
 {
     if n <= NEAR {
-        return turns_up(bytes, at, n, by, 0, non_null, Seen::default());
+        return turns_up::<NON_NULL>(bytes, at, n, by, 0, Seen::default());
     }
-    let far = turns_up(
+    let far = turns_up::<NON_NULL>(
         bytes,
         at + 64 * AHEAD,
         n - AHEAD,
         by,
         64 * AHEAD,
-        non_null,
         Seen::default(),
     );
-    turns_up(bytes, at, AHEAD, by, 0, non_null, far)
+    turns_up::<NON_NULL>(bytes, at, AHEAD, by, 0, far)
 }
 
 /// The runs, the last of them first, two in a turn. Where they are far, words are looked at so many bytes `ahead`, so
 /// that a processor has them near in time.
 #[inline(always)]
-fn turns_up(
+fn turns_up<const NON_NULL: bool>(
     bytes: &mut [u8],
     at: usize,
     n: usize,
     by: usize,
     ahead: usize,
-    non_null: bool,
     before: Seen,
 ) -> Seen
     requires ahead { ahead ≤ at }
     requires inside { at + by + 64 * n ≤ length bytes.old }
     requires places { by % 8 ≡ 0 }
     ensures moved { bytes.new ≡ patched bytes.old (at + by) (reworded by_distance (bytes_of bytes.old) at (at + by) (8 * n)) }
-    ensures seen { non_null ≡ false → AreEven result.first result.second → AreEven before.first before.second × NoneIsNull (bytes_of bytes.old) at (8 * n) }
+    ensures seen { NON_NULL ≡ false → AreEven result.first result.second → AreEven before.first before.second × NoneIsNull (bytes_of bytes.old) at (8 * n) }
 {
     let mut left = n;
     let mut seen = before;
@@ -222,11 +218,11 @@ fn turns_up(
         left -= 2;
         let from = at + 64 * left;
         seen = look_ahead(bytes, from - ahead, ahead > 0, seen);
-        seen = see_run(bytes, from + 64, from + 64 + by, non_null, seen);
-        seen = see_run(bytes, from, from + by, non_null, seen);
+        seen = see_run::<NON_NULL>(bytes, from + 64, from + 64 + by, seen);
+        seen = see_run::<NON_NULL>(bytes, from, from + by, seen);
     }
     if left == 1 {
-        seen = see_run(bytes, at, at + by, non_null, seen);
+        seen = see_run::<NON_NULL>(bytes, at, at + by, seen);
     }
     seen
 }
@@ -249,15 +245,15 @@ fn look_ahead(bytes: &[u8], later: usize, far: bool, seen: Seen) -> Seen
 /// Moves a run. Where it is known that none is null, what was seen before is all that counts, and a compiler leaves out
 /// the rest.
 #[inline(always)]
-fn see_run(bytes: &mut [u8], from: usize, to: usize, non_null: bool, seen: Seen) -> Seen
+fn see_run<const NON_NULL: bool>(bytes: &mut [u8], from: usize, to: usize, seen: Seen) -> Seen
     requires from_inside { from + 64 ≤ length bytes.old }
     requires to_inside { to + 64 ≤ length bytes.old }
     requires places { from % 8 ≡ to % 8 }
     ensures moved { bytes.new ≡ patched bytes.old to (reworded by_distance (bytes_of bytes.old) from to 8) }
-    ensures seen { non_null ≡ false → AreEven result.first result.second → AreEven seen.first seen.second × NoneIsNull (bytes_of bytes.old) from 8 }
+    ensures seen { NON_NULL ≡ false → AreEven result.first result.second → AreEven seen.first seen.second × NoneIsNull (bytes_of bytes.old) from 8 }
 {
     let now = move_run(bytes, from, to, seen);
-    if non_null { seen } else { now }
+    if NON_NULL { seen } else { now }
 }
 
 /// The links one by one, the last of them first.
@@ -275,11 +271,11 @@ fn links_up(bytes: &mut [u8], at: usize, n: usize, by: usize)
 
 /// From the first run on, and then from the first link of the rest on.
 #[inline(always)]
-fn move_down(bytes: &mut [u8], at: usize, n: usize, by: usize, non_null: bool)
+fn move_down<const NON_NULL: bool>(bytes: &mut [u8], at: usize, n: usize, by: usize)
     requires source { at + 8 * n ≤ length bytes.old }
     requires inside { by ≤ at }
     requires places { by % 8 ≡ 0 }
-    requires non_null { IsTrue non_null → NoneIsNull (bytes_of bytes.old) at n }
+    requires non_null { IsTrue NON_NULL → NoneIsNull (bytes_of bytes.old) at n }
     ensures { bytes.new ≡ patched bytes.old (at - by) (relinked (bytes_of bytes.old) at (at - by) n) }
 {
     // The first one moves alone where the runs behind it then begin at a multiple of 16, as those of `move_up` end at
@@ -289,21 +285,21 @@ fn move_down(bytes: &mut [u8], at: usize, n: usize, by: usize, non_null: bool)
     let runs = others / RUN;
     let from = at + 8 * first;
     links_down(bytes, at, first, by);
-    runs_down(bytes, from, runs, by, non_null);
+    runs_down::<NON_NULL>(bytes, from, runs, by);
     links_down(bytes, from + 64 * runs, others % RUN, by);
 }
 
 /// The runs, as `runs_up` has them.
 #[inline(always)]
-fn runs_down(bytes: &mut [u8], at: usize, n: usize, by: usize, non_null: bool)
+fn runs_down<const NON_NULL: bool>(bytes: &mut [u8], at: usize, n: usize, by: usize)
     requires source { at + 64 * n ≤ length bytes.old }
     requires inside { by ≤ at }
     requires places { by % 8 ≡ 0 }
-    requires non_null { IsTrue non_null → NoneIsNull (bytes_of bytes.old) at (8 * n) }
+    requires non_null { IsTrue NON_NULL → NoneIsNull (bytes_of bytes.old) at (8 * n) }
     ensures { bytes.new ≡ patched bytes.old (at - by) (relinked (bytes_of bytes.old) at (at - by) (8 * n)) }
 {
     hold_bytes(bytes);
-    let seen = all_turns_down(bytes, at, n, by, non_null);
+    let seen = all_turns_down::<NON_NULL>(bytes, at, n, by);
     if seen.has_odd() {
         put_right(bytes, at, at - by, 8 * n);
     }
@@ -311,49 +307,48 @@ fn runs_down(bytes: &mut [u8], at: usize, n: usize, by: usize, non_null: bool)
 
 /// The turns of all runs; those that are far look ahead.
 #[inline(always)]
-fn all_turns_down(bytes: &mut [u8], at: usize, n: usize, by: usize, non_null: bool) -> Seen
+fn all_turns_down<const NON_NULL: bool>(bytes: &mut [u8], at: usize, n: usize, by: usize) -> Seen
     requires source { at + 64 * n ≤ length bytes.old }
     requires inside { by ≤ at }
     requires places { by % 8 ≡ 0 }
     ensures moved { bytes.new ≡ patched bytes.old (at - by) (reworded by_distance (bytes_of bytes.old) at (at - by) (8 * n)) }
-    ensures seen { non_null ≡ false → AreEven result.first result.second → NoneIsNull (bytes_of bytes.old) at (8 * n) }
+    ensures seen { NON_NULL ≡ false → AreEven result.first result.second → NoneIsNull (bytes_of bytes.old) at (8 * n) }
 {
     if n <= NEAR {
-        return turns_down(bytes, at, n, by, 0, non_null, Seen::default());
+        return turns_down::<NON_NULL>(bytes, at, n, by, 0, Seen::default());
     }
     let many = n - AHEAD;
-    let far = turns_down(bytes, at, many, by, 64 * AHEAD, non_null, Seen::default());
-    turns_down(bytes, at + 64 * many, AHEAD, by, 0, non_null, far)
+    let far = turns_down::<NON_NULL>(bytes, at, many, by, 64 * AHEAD, Seen::default());
+    turns_down::<NON_NULL>(bytes, at + 64 * many, AHEAD, by, 0, far)
 }
 
 /// The runs, the first of them first, two in a turn. Where they are far, words are looked at so many bytes `ahead`, as
 /// `turns_up` does.
 #[inline(always)]
-fn turns_down(
+fn turns_down<const NON_NULL: bool>(
     bytes: &mut [u8],
     at: usize,
     n: usize,
     by: usize,
     ahead: usize,
-    non_null: bool,
     before: Seen,
 ) -> Seen
     requires source { at + 64 * n + ahead ≤ length bytes.old }
     requires inside { by ≤ at }
     requires places { by % 8 ≡ 0 }
     ensures moved { bytes.new ≡ patched bytes.old (at - by) (reworded by_distance (bytes_of bytes.old) at (at - by) (8 * n)) }
-    ensures seen { non_null ≡ false → AreEven result.first result.second → AreEven before.first before.second × NoneIsNull (bytes_of bytes.old) at (8 * n) }
+    ensures seen { NON_NULL ≡ false → AreEven result.first result.second → AreEven before.first before.second × NoneIsNull (bytes_of bytes.old) at (8 * n) }
 {
     let mut seen = before;
     'runs: for i in 0..n / 2 {
         let from = at + 128 * i;
         seen = look_ahead(bytes, from + ahead, ahead > 0, seen);
-        seen = see_run(bytes, from, from - by, non_null, seen);
-        seen = see_run(bytes, from + 64, from + 64 - by, non_null, seen);
+        seen = see_run::<NON_NULL>(bytes, from, from - by, seen);
+        seen = see_run::<NON_NULL>(bytes, from + 64, from + 64 - by, seen);
     }
     if n % 2 == 1 {
         let from = at + 64 * (n - 1);
-        seen = see_run(bytes, from, from - by, non_null, seen);
+        seen = see_run::<NON_NULL>(bytes, from, from - by, seen);
     }
     seen
 }

@@ -28,7 +28,7 @@ module _ (b one : List ℕ) (at by n : ℕ) (within : at + 64 * n ≤ length b) 
       ∙ ap (λ (i : ℕ). patched b (at - by) (reworded by_distance (bytes_of b) at (at - by) i)) all
 
 pub returns : goal.returns
-returns c =
+returns g c =
     let b = c.args.bytes.now in let one = c.turns_down-far.new.bytes in let at = c.args.at in let by = c.args.by in let n = c.args.n in
     let many : 8 ≤ n = omega (arith, c.if-n-le-NEAR.false) in
     record {
@@ -39,4 +39,4 @@ returns c =
     }
 
 pub returns-then-n-le-NEAR-clause-seen : goal.returns-then-n-le-NEAR-clause-seen
-returns-then-n-le-NEAR-clause-seen c = λ q even. (c.turns_down.ensures.seen q even).1
+returns-then-n-le-NEAR-clause-seen g c = λ q even. (c.turns_down.ensures.seen q even).1

@@ -25,7 +25,7 @@ module _ (b one : List ℕ) (at by n : ℕ) (within : at + by + 64 * n ≤ lengt
       ∙ ap (λ (j : ℕ). patched b (at + by) (reworded by_distance (bytes_of b) at (at + by) j)) all
 
 pub returns : goal.returns
-returns c =
+returns g c =
     let b = c.args.bytes.now in let one = c.turns_up-far.new.bytes in let at = c.args.at in let by = c.args.by in let n = c.args.n in
     let many : 8 ≤ n = omega (arith, c.if-n-le-NEAR.false) in
     record {
@@ -36,4 +36,4 @@ returns c =
     }
 
 pub returns-then-n-le-NEAR-clause-seen : goal.returns-then-n-le-NEAR-clause-seen
-returns-then-n-le-NEAR-clause-seen c = λ q even. (c.turns_up.ensures.seen q even).1
+returns-then-n-le-NEAR-clause-seen g c = λ q even. (c.turns_up.ensures.seen q even).1

@@ -32,14 +32,14 @@ module _ (b one : List ℕ) (at by n first q rest : ℕ) (within : at + 8 * n �
       ∙ ap (λ (j : ℕ). patched b to (relinked (bytes_of b) at to j)) all
 
 pub runs_down-requires-clause-non_null : goal.runs_down-requires-clause-non_null
-runs_down-requires-clause-non_null c = λ known.
+runs_down-requires-clause-non_null g c = λ known.
     let others = c.args.n - c.min-first.result in
     set c.args.bytes.now c.links_down.new.bytes c.args.at c.args.by c.args.n c.min-first.result (others / 8)
     (others % 8)
     c.requires.source c.requires.inside (omega arith) c.links_down.ensures (c.requires.non_null known)
 
 pub returns : goal.returns
-returns c =
+returns g c =
     let others = c.args.n - c.min-first.result in
     three c.args.bytes.now c.links_down.new.bytes c.args.at c.args.by c.args.n c.min-first.result (others / 8)
     (others % 8) c.requires.source c.requires.inside (omega arith) c.links_down.ensures c.runs_down.new.bytes

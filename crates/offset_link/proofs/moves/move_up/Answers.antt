@@ -32,14 +32,14 @@ module _ (b one : List ℕ) (at by n last others rest q : ℕ) (within : at + by
       ∙ ap (λ (j : ℕ). patched b (at + by) (relinked (bytes_of b) at (at + by) j)) all
 
 pub runs_up-requires-clause-non_null : goal.runs_up-requires-clause-non_null
-runs_up-requires-clause-non_null c = λ known.
+runs_up-requires-clause-non_null g c = λ known.
     let others = c.args.n - c.min-last.result in
     set c.args.bytes.now c.links_up.new.bytes c.args.at c.args.by c.args.n c.min-last.result others (others % 8)
     (others / 8)
     c.requires.inside (omega arith) (omega arith) c.links_up.ensures (c.requires.non_null known)
 
 pub returns : goal.returns
-returns c =
+returns g c =
     let others = c.args.n - c.min-last.result in
     three c.args.bytes.now c.links_up.new.bytes c.args.at c.args.by c.args.n c.min-last.result others (others % 8)
     (others / 8) c.requires.inside (omega arith) (omega arith) c.links_up.ensures c.runs_up.new.bytes

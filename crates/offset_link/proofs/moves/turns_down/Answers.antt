@@ -84,7 +84,7 @@ module _ (b cur : List ℕ) (at by n i : ℕ) (within : at + 64 * n ≤ length b
       (step b cur at by n (n - 1) (at + 64 * (n - 1)) within inside (omega arith) refl nearly new f)
 
 pub runs-preserved : goal.runs-preserved
-runs-preserved c =
+runs-preserved g c =
     let b = c.args.bytes.now in let at = c.args.at in let by = c.args.by in let n = c.args.n in let i = c.runs.i in
     let cur = c.runs.bytes in let within : at + 64 * n ≤ length b = omega (arith, c.requires.source) in
     let moved = c.runs.invariant.moved in let few : i < n / 2 = omega arith in let mid = c.see_run-seen.new.bytes in
@@ -102,7 +102,7 @@ runs-preserved c =
     }
 
 pub returns-then-n-eq1 : goal.returns-then-n-eq1
-returns-then-n-eq1 c =
+returns-then-n-eq1 g c =
     let b = c.args.bytes.now in let at = c.args.at in let by = c.args.by in let n = c.args.n in let i = c.runs.i in
     let within : at + 64 * n ≤ length b = omega (arith, c.requires.source) in
     record {
@@ -114,7 +114,7 @@ returns-then-n-eq1 c =
     }
 
 pub returns-else-n-eq1 : goal.returns-else-n-eq1
-returns-else-n-eq1 c =
+returns-else-n-eq1 g c =
     let b = c.args.bytes.now in let at = c.args.at in let by = c.args.by in let n = c.args.n in
     let all : 2 * c.runs.i ≡ n = omega (arith, c.if-n-eq1.false) in
     record {

@@ -97,14 +97,14 @@ module _ (b cur : List ℕ) (at by n left : ℕ) (within : at + by + 64 * n ≤ 
   ends new f = all b new at by n (step b cur at by n 0 at within (omega arith) (omega arith) last new f)
 
 pub runs-init : goal.runs-init
-runs-init c = record {
+runs-init g c = record {
   some = omega arith;
   moved = no_links c.args.bytes.now (c.args.at + c.args.by) c.args.at c.args.n;
   seen = λ q even. (even, record { each = λ k h null. omega (arith, h) });
 }
 
 pub runs-preserved : goal.runs-preserved
-runs-preserved c =
+runs-preserved g c =
     let b = c.args.bytes.now in let at = c.args.at in let by = c.args.by in let n = c.args.n in let left = c.runs.left in
     let cur = c.runs.bytes in let within = c.requires.inside in let moved = c.runs.invariant.moved in
     let two : 1 < left = omega arith in let few = c.runs.invariant.some in let mid = c.see_run-seen.new.bytes in
@@ -123,7 +123,7 @@ runs-preserved c =
     }
 
 pub returns-then-left-eq1 : goal.returns-then-left-eq1
-returns-then-left-eq1 c =
+returns-then-left-eq1 g c =
     let b = c.args.bytes.now in let at = c.args.at in let by = c.args.by in let n = c.args.n in let left = c.runs.left in
     let one : left ≡ 1 = c.if-left-eq1.true in
     record {
@@ -135,7 +135,7 @@ returns-then-left-eq1 c =
     }
 
 pub returns-else-left-eq1 : goal.returns-else-left-eq1
-returns-else-left-eq1 c =
+returns-else-left-eq1 g c =
     let b = c.args.bytes.now in let at = c.args.at in let by = c.args.by in let n = c.args.n in
     let none : c.runs.left ≡ 0 = omega (arith, c.if-left-eq1.false) in
     record {

@@ -1,9 +1,11 @@
 //! Many links that move together, each of which keeps its target.
-ghost use Rattle.std.specs.Prelude.{◌≡◌, ◌↔◌, IsTrue, ◌+◌, ◌-◌, ◌*◌, ◌%◌, ◌≤◌, ◌<◌, ◌==◌, if◌then◌else◌, false, length, slice_index, ℕ};
+ghost use Rattle.std.specs.Prelude.{◌≡◌, ◌↔◌, IsTrue, ◌+◌, ◌-◌, ◌*◌, ◌%◌, ◌≤◌, ◌<◌, ◌==◌, if◌then◌else◌, false, length};
+ghost use Rattle.std.specs.Prelude.{slice_index, ℕ};
 ghost use Rattle.raw_region.specs.Memory.{bytes_of, patched, word_at};
 ghost use Rattle.raw_region.specs.Regions.{with_bytes};
 ghost use Rattle.offset_link.specs.Link.{link_at, link, link_word};
-ghost use Rattle.offset_link.specs.Relinked.{by_distance, relinked, reworded, unless_null, AllLead, AreEven, AreLinks, KeepTargets, NoneIsNull};
+ghost use Rattle.offset_link.specs.Relinked.{by_distance, relinked, reworded, unless_null, AllLead, AreEven, AreLinks};
+ghost use Rattle.offset_link.specs.Relinked.{KeepTargets, NoneIsNull};
 ghost use Rattle.offset_link.specs.Moves.{moved_to, StaysInside};
 
 use crate::link::{NULL, load};
@@ -65,7 +67,8 @@ pub fn shift(w: &mut Window, at: u64, n: u64, by: Places)
     requires links { AreLinks (bytes_of w.old.bytes) at n }
     ensures len { length w.new.bytes ≡ length w.old.bytes }
     ensures lead { KeepTargets (bytes_of w.old.bytes) (bytes_of w.new.bytes) at (moved_to at by) n }
-    ensures written { w.new ≡ with_bytes w.old (patched w.old.bytes (moved_to at by) (relinked (bytes_of w.old.bytes) at (moved_to at by) n)) }
+    ensures written { w.new ≡ with_bytes w.old (patched w.old.bytes (moved_to at by)
+        (relinked (bytes_of w.old.bytes) at (moved_to at by) n)) }
 {
     let size = w.size();
     let bytes = w.bytes_mut(0, size);
@@ -90,7 +93,8 @@ pub fn shift_non_null(w: &mut Window, at: u64, n: u64, by: Places)
     requires links { AllLead (bytes_of w.old.bytes) at n }
     ensures len { length w.new.bytes ≡ length w.old.bytes }
     ensures lead { KeepTargets (bytes_of w.old.bytes) (bytes_of w.new.bytes) at (moved_to at by) n }
-    ensures written { w.new ≡ with_bytes w.old (patched w.old.bytes (moved_to at by) (relinked (bytes_of w.old.bytes) at (moved_to at by) n)) }
+    ensures written { w.new ≡ with_bytes w.old (patched w.old.bytes (moved_to at by)
+        (relinked (bytes_of w.old.bytes) at (moved_to at by) n)) }
 {
     let size = w.size();
     let bytes = w.bytes_mut(0, size);
@@ -114,8 +118,8 @@ const NEAR: usize = 512;
 /// How many runs before their turn words are looked at.
 const AHEAD: usize = 8;
 
-/// What was seen of words: all that stood first in a pair, in one, and all that stood second. So a compiler keeps both in
-/// one register of two words, as it does the words that move.
+/// What was seen of words: all that stood first in a pair, in one, and all that stood second. So a compiler keeps both
+/// in one register of two words, as it does the words that move.
 #[derive(Clone, Copy, Default)]
 struct Seen {
     first: u64,
@@ -178,7 +182,8 @@ fn hold_bytes(bytes: &[u8])
 fn all_turns_up<const NON_NULL: bool>(bytes: &mut [u8], at: usize, n: usize, by: usize) -> Seen
     requires inside { at + by + 64 * n ≤ length bytes.old }
     requires places { by % 8 ≡ 0 }
-    ensures moved { bytes.new ≡ patched bytes.old (at + by) (reworded by_distance (bytes_of bytes.old) at (at + by) (8 * n)) }
+    ensures moved { bytes.new ≡ patched bytes.old (at + by) (reworded by_distance (bytes_of bytes.old) at (at + by)
+        (8 * n)) }
     ensures seen { NON_NULL ≡ false → AreEven result.first result.second → NoneIsNull (bytes_of bytes.old) at (8 * n) }
 {
     if n <= NEAR {
@@ -209,8 +214,10 @@ fn turns_up<const NON_NULL: bool>(
     requires ahead { ahead ≤ at }
     requires inside { at + by + 64 * n ≤ length bytes.old }
     requires places { by % 8 ≡ 0 }
-    ensures moved { bytes.new ≡ patched bytes.old (at + by) (reworded by_distance (bytes_of bytes.old) at (at + by) (8 * n)) }
-    ensures seen { NON_NULL ≡ false → AreEven result.first result.second → AreEven before.first before.second × NoneIsNull (bytes_of bytes.old) at (8 * n) }
+    ensures moved { bytes.new ≡ patched bytes.old (at + by) (reworded by_distance (bytes_of bytes.old) at (at + by)
+        (8 * n)) }
+    ensures seen { NON_NULL ≡ false → AreEven result.first result.second → AreEven before.first before.second
+        × NoneIsNull (bytes_of bytes.old) at (8 * n) }
 {
     let mut left = n;
     let mut seen = before;
@@ -250,7 +257,8 @@ fn see_run<const NON_NULL: bool>(bytes: &mut [u8], from: usize, to: usize, seen:
     requires to_inside { to + 64 ≤ length bytes.old }
     requires places { from % 8 ≡ to % 8 }
     ensures moved { bytes.new ≡ patched bytes.old to (reworded by_distance (bytes_of bytes.old) from to 8) }
-    ensures seen { NON_NULL ≡ false → AreEven result.first result.second → AreEven seen.first seen.second × NoneIsNull (bytes_of bytes.old) from 8 }
+    ensures seen { NON_NULL ≡ false → AreEven result.first result.second → AreEven seen.first seen.second
+        × NoneIsNull (bytes_of bytes.old) from 8 }
 {
     let now = move_run(bytes, from, to, seen);
     if NON_NULL { seen } else { now }
@@ -311,7 +319,8 @@ fn all_turns_down<const NON_NULL: bool>(bytes: &mut [u8], at: usize, n: usize, b
     requires source { at + 64 * n ≤ length bytes.old }
     requires inside { by ≤ at }
     requires places { by % 8 ≡ 0 }
-    ensures moved { bytes.new ≡ patched bytes.old (at - by) (reworded by_distance (bytes_of bytes.old) at (at - by) (8 * n)) }
+    ensures moved { bytes.new ≡ patched bytes.old (at - by) (reworded by_distance (bytes_of bytes.old) at (at - by)
+        (8 * n)) }
     ensures seen { NON_NULL ≡ false → AreEven result.first result.second → NoneIsNull (bytes_of bytes.old) at (8 * n) }
 {
     if n <= NEAR {
@@ -336,8 +345,10 @@ fn turns_down<const NON_NULL: bool>(
     requires source { at + 64 * n + ahead ≤ length bytes.old }
     requires inside { by ≤ at }
     requires places { by % 8 ≡ 0 }
-    ensures moved { bytes.new ≡ patched bytes.old (at - by) (reworded by_distance (bytes_of bytes.old) at (at - by) (8 * n)) }
-    ensures seen { NON_NULL ≡ false → AreEven result.first result.second → AreEven before.first before.second × NoneIsNull (bytes_of bytes.old) at (8 * n) }
+    ensures moved { bytes.new ≡ patched bytes.old (at - by) (reworded by_distance (bytes_of bytes.old) at (at - by)
+        (8 * n)) }
+    ensures seen { NON_NULL ≡ false → AreEven result.first result.second → AreEven before.first before.second
+        × NoneIsNull (bytes_of bytes.old) at (8 * n) }
 {
     let mut seen = before;
     'runs: for i in 0..n / 2 {
@@ -365,15 +376,16 @@ fn links_down(bytes: &mut [u8], at: usize, n: usize, by: usize)
     }
 }
 
-/// Makes the eight words from `to` on those from `from` on, less the distance: links that lead where those lead, but for
-/// null ones. All are read before one is written, and what is written is seen.
+/// Makes the eight words from `to` on those from `from` on, less the distance: links that lead where those lead, but
+/// for null ones. All are read before one is written, and what is written is seen.
 #[inline(always)]
 fn move_run(bytes: &mut [u8], from: usize, to: usize, seen: Seen) -> Seen
     requires from_inside { from + 64 ≤ length bytes.old }
     requires to_inside { to + 64 ≤ length bytes.old }
     requires places { from % 8 ≡ to % 8 }
     ensures moved { bytes.new ≡ patched bytes.old to (reworded by_distance (bytes_of bytes.old) from to 8) }
-    ensures seen { AreEven result.first result.second → AreEven seen.first seen.second × NoneIsNull (bytes_of bytes.old) from 8 }
+    ensures seen { AreEven result.first result.second → AreEven seen.first seen.second
+        × NoneIsNull (bytes_of bytes.old) from 8 }
 {
     let a = moved_by_distance(bytes, from, to);
     let b = moved_by_distance(bytes, from + 8, to + 8);
@@ -397,8 +409,8 @@ fn move_run(bytes: &mut [u8], from: usize, to: usize, seen: Seen) -> Seen
     }
 }
 
-/// Makes each of the `n` words from `to` on that came from a null link at its place from `from` on, less the distance, a
-/// null link.
+/// Makes each of the `n` words from `to` on that came from a null link at its place from `from` on, less the distance,
+/// a null link.
 fn put_right(bytes: &mut [u8], from: usize, to: usize, n: usize)
     requires { to + 8 * n ≤ length bytes.old }
     ensures { bytes.new ≡ patched bytes.old to (reworded (unless_null from to) (bytes_of bytes.old) to to n) }

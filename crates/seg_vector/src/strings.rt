@@ -5,7 +5,7 @@ ghost use Rattle.best_fit.specs.Heap.{IsChanged, IsHeap, has_room, live_of};
 ghost use Rattle.seg_vector.specs.{Standing.place_at, Vector.capacity_for_text as places_for_text};
 ghost use Rattle.seg_vector.specs.TextCalls.{AppendsText, AssignsText, ClearsText, CountsBytePlaces, CountsBytes, GetsByte, IsSomeText, ReadsText, ReleasesText, ReservesBytes, ReservesNoBytes, SetsByte, ShrinksText, StartsText};
 
-use crate::elements::{elements, extend, set_element, truncate};
+use crate::elements::{Spot, elements, extend, put_at, truncate};
 use crate::places::{Place, capacity_of, len_of};
 use crate::sizing::{self, LIMIT, fit, give_back, start};
 use best_fit::Heap;
@@ -98,7 +98,7 @@ impl SegString {
         if index >= self.len(heap) {
             return Err(Refusal::OutOfRange);
         }
-        set_element(heap, self.place, 1, index, &[byte]);
+        put_at(heap, self.place, 1, Spot::Over(index), &[byte]);
         Ok(())
     }
 

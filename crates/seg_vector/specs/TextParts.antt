@@ -74,22 +74,6 @@ pub record IsTextPlaced (old new : Cut) (bytes : List ℕ) (block : Option ℕ) 
 abbrev pub PlacesText : Cut → Cut → List ℕ → Result (Option ℕ) Refusal → Type 0
 PlacesText old new bytes result = MatchResult result (IsTextPlaced old new bytes) (IsWithoutFit old new (placed_text (live_of old.bytes) bytes))
 
--- ---- an element that is written
-
--- the text with i others before it is released, and its element is written
-pub record IsTextReplaced (old new : Cut) (p : Place) (t : Table) (i : ℕ) (before : OwnedText) (text : Option ℕ) (len : ℕ) : Type 0 where
-  pub mid : Cut
-  pub array : Extent
-  pub extent : t.extent ≡ Some array
-  pub released : IsSwapped old mid (option_to_list before.extent) []
-  pub written : IsChanged current mid new (handle array + 16 * i) 16
-  pub link : link_at (bytes_of new.bytes) (handle array + 16 * i) ≡ text
-  pub len_word : word_at (bytes_of new.bytes) (handle array + 16 * i + 8) ≡ len
-
-abbrev pub ReplacesText : Cut → Cut → Place → ℕ → Option ℕ → ℕ → Type 0
-ReplacesText old new p i text len =
-    (ps : List OwnedText) (t : Table) (before : OwnedText) → IsTexts old.bytes p ps t → slice_get ps i ≡ Some before → IsTextReplaced old new p t i before text len
-
 -- ---- an array with more places
 
 -- The old array has the room where it stands; or a new block was taken into use, beside the old one.

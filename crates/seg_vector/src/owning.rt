@@ -69,17 +69,6 @@ pub fn release_texts(heap: &mut Heap, array: u64, n: u64)
     }
 }
 
-/// Gives back the blocks of all texts of the vector at a place. Its words and its array stay.
-pub fn release_all(heap: &mut Heap, place: Place)
-    requires { IsSomeTexts heap.old.bytes place }
-    ensures { (ps : List OwnedText) (t : ATable) → IsTexts heap.old.bytes place ps t → IsSwapped heap.old heap.new (text_blocks ps) [] }
-{
-    let len = len_of(heap, place);
-    if let Some(array) = link_of(heap, place) {
-        release_texts(heap, array, len);
-    }
-}
-
 /// Takes a block into use for each text that is not empty, one after another, and writes their elements from the
 /// beginning of an array on. It stops at the first text for which no gap is long enough, and answers how many there are
 /// before it.

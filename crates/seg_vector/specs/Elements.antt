@@ -1,10 +1,10 @@
 -- The elements of a container that stands at a place: read, written over, and fewer or more of them in the places that
 -- there are.
 use Rattle.std.specs.Prelude.{◌≡◌, ℕ, ◌+◌, ◌-◌, ◌*◌, ◌<◌, ◌≤◌, List, [], ◌++◌, take, drop, option_to_list}
-use Rattle.raw_region.specs.{Memory.Cut, Memory.bytes_of, Memory.part, Memory.patched, Memory.word_at, Format.current}
+use Rattle.raw_region.specs.{Memory.Cut, Memory.part, Memory.patched, Format.current}
 use Rattle.best_fit.specs.{Exchange.IsExchanged, Heap.KeepsGaps, Heap.live_of}
 use Rattle.best_fit.specs.Table.{Table, cut_table, no_table}
-use Rattle.seg_vector.specs.{declared.elements.Spot.Spot, Standing.Stands, Standing.place_at}
+use Rattle.seg_vector.specs.{declared.elements.Spot.Spot, Standing.Stands, Standing.capacity_at, Standing.len_at, Standing.place_at}
 use Rattle.seg_vector.specs.declared.elements.Spot.TheVariants.{End, Over, Before}
 use Rattle.seg_vector.specs.declared.places.Place.{Place}
 
@@ -54,11 +54,9 @@ Extends old new p each n more =
 -- where an element is put: behind the last one and before another one where there is a place more, and over one that is
 -- there
 abbrev pub HasSpot : List ℕ → Place → Spot → Type 0
-HasSpot b p End = word_at (bytes_of b) (place_at p + 8) < word_at (bytes_of b) (place_at p + 16)
-HasSpot b p (Over i) = i < word_at (bytes_of b) (place_at p + 8)
-HasSpot b p (Before i) =
-    (word_at (bytes_of b) (place_at p + 8) < word_at (bytes_of b) (place_at p + 16))
-    × (i ≤ word_at (bytes_of b) (place_at p + 8))
+HasSpot b p End = len_at b p < capacity_at b p
+HasSpot b p (Over i) = i < len_at b p
+HasSpot b p (Before i) = (len_at b p < capacity_at b p) × (i ≤ len_at b p)
 
 abbrev pub PutsAt : Cut → Cut → Place → ℕ → Spot → List ℕ → Type 0
 PutsAt old new p each End more = Extends old new p each 1 more

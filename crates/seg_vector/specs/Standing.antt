@@ -1,6 +1,6 @@
 -- A container at a place in a heap: its three words in a block, and its storage, which is a block of its own.
 use Rattle.std.specs.Prelude.{◌≡◌, ◌≢◌, ℕ, ◌+◌, ◌*◌, ◌%◌, ◌≤◌, ⊤, IsTrue, Option, Some, None, Result, MatchResult, List, length, option_to_list}
-use Rattle.raw_region.specs.{Memory.Cut, Memory.bytes_of, Format.current}
+use Rattle.raw_region.specs.{Memory.Cut, Memory.bytes_of, Memory.word_at, Format.current}
 use Rattle.block_tags.specs.declared.tile.Role.TheVariants.{Storage}
 use Rattle.best_fit.specs.{Exchange.IsExchanged, Extents.Extent, Extents.LiveSet, Extents.handle}
 use Rattle.best_fit.specs.{Heap.IsHeap, Heap.extent_at, Heap.has_room, Heap.live_of, Table.Table, Table.is_table}
@@ -11,6 +11,13 @@ use Rattle.seg_vector.specs.Vector.{IsContainerAt, capacity_for_one, grown_table
 -- where the three words stand
 abbrev pub place_at : Place → ℕ
 place_at p = p.handle + p.at
+
+-- what the words say: how many elements there are, and how many places
+abbrev pub len_at : List ℕ → Place → ℕ
+len_at b p = word_at (bytes_of b) (place_at p + 8)
+
+abbrev pub capacity_at : List ℕ → Place → ℕ
+capacity_at b p = word_at (bytes_of b) (place_at p + 16)
 
 -- a block in use, and not the one of the handle
 abbrev pub IsOwnBlock : LiveSet → ℕ → Option Extent → Type 0

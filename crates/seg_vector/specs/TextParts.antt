@@ -1,5 +1,5 @@
 -- The parts of what the calls of a vector of texts do: elements of an array, and the blocks of texts.
-use Rattle.std.specs.Prelude.{◌≡◌, ◌≢◌, ℕ, ◌+◌, ◌-◌, ◌*◌, ◌%◌, ◌<◌, ◌≤◌, IsTrue, IfSome, Option, Some, None, List, [], ◌∷◌, insert, length, option_map, option_to_list, Result, MatchResult, slice_get}
+use Rattle.std.specs.Prelude.{◌≡◌, ◌≢◌, ℕ, ◌+◌, ◌-◌, ◌*◌, ◌%◌, ◌<◌, ◌≤◌, ◌⊎◌, IsTrue, IfSome, Option, Some, None, List, [], ◌∷◌, insert, length, option_map, option_to_list, Result, MatchResult}
 use Rattle.std.specs.List.{AllByRecursion}
 use Rattle.raw_region.specs.{Memory.Memory, Memory.Cut, Memory.bytes_of, Memory.word_at, Format.current}
 use Rattle.offset_link.specs.Link.{link_at}
@@ -42,6 +42,24 @@ pub record AreHeldElements (b : List ℕ) (array n : ℕ) (ps : List OwnedText) 
 abbrev pub AreEvenLinks : Memory → ℕ → ℕ → Type 0
 AreEvenLinks m at n = (j : ℕ) → j < n → IfSome (link_at m (at + 16 * j)) (λ target. target % 16 ≡ 0)
 
+-- 16 bytes at an offset in a block that are an element of an array: a link and a length
+pub record HasElement (b : List ℕ) (array at : ℕ) : Type 0 where
+  pub whole : at % 8 ≡ 0
+  pub room : IsTrue (has_room (live_of b) array (at + 16))
+
+-- the same, for an element with this link
+pub record HasElementRoom (b : List ℕ) (array at : ℕ) (text : Option ℕ) : Type 0 where
+  pub heap : IsHeap current b
+  pub whole : at % 8 ≡ 0
+  pub room : IsTrue (has_room (live_of b) array (at + 16))
+  pub target : IfSome text (λ target. target % 16 ≡ 0)
+
+-- the element at an offset is this now
+pub record IsElementPut (old new : Cut) (at : ℕ) (text : Option ℕ) (len : ℕ) : Type 0 where
+  pub change : IsChanged current old new at 16
+  pub link : link_at (bytes_of new.bytes) at ≡ text
+  pub len_word : word_at (bytes_of new.bytes) (at + 8) ≡ len
+
 -- the element at b says what the one at a said
 pub record IsSameElement (m m' : Memory) (a b : ℕ) : Type 0 where
   pub link : link_at m' b ≡ link_at m a
@@ -50,6 +68,28 @@ pub record IsSameElement (m m' : Memory) (a b : ℕ) : Type 0 where
 -- and so do n of them
 abbrev pub AreSameElements : Memory → Memory → ℕ → ℕ → ℕ → Type 0
 AreSameElements m m' a b n = (j : ℕ) → j < n → IsSameElement m m' (a + 16 * j) (b + 16 * j)
+
+-- n elements at b say what those at a said, and nothing else changes
+pub record AreCarried (old new : Cut) (a b n : ℕ) : Type 0 where
+  pub change : IsChanged current old new b (16 * n)
+  pub carried : AreSameElements (bytes_of old.bytes) (bytes_of new.bytes) a b n
+
+-- n elements of one block, and as many places for them in another, or in the same one, but not behind them in it
+pub record CanCarryDown (b : List ℕ) (from from_at to to_at n : ℕ) : Type 0 where
+  pub heap : IsHeap current b
+  pub from_whole : from_at % 8 ≡ 0
+  pub to_whole : to_at % 8 ≡ 0
+  pub source : IsTrue (has_room (live_of b) from (from_at + 16 * n))
+  pub target : IsTrue (has_room (live_of b) to (to_at + 16 * n))
+  pub even : AreEvenLinks (bytes_of b) (from + from_at) n
+  pub apart : (to + to_at ≤ from + from_at) ⊎ (from + from_at + 16 * n ≤ to + to_at)
+
+-- n elements in a block, and a place more behind them
+pub record CanCarryUp (b : List ℕ) (array at n : ℕ) : Type 0 where
+  pub heap : IsHeap current b
+  pub whole : at % 8 ≡ 0
+  pub room : IsTrue (has_room (live_of b) array (at + 16 * n + 16))
+  pub even : AreEvenLinks (bytes_of b) (array + at) n
 
 -- a block of storage is taken into use
 abbrev pub TakesStorage : Cut → Cut → ℕ → Result ℕ Refusal → Type 0

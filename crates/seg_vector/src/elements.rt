@@ -1,8 +1,8 @@
 //! The elements of a container at a place: read, written over, left out, and put in where there is a place.
 ghost use Rattle.std.specs.Prelude.{◌≡◌, ◌+◌, ◌*◌, ◌<◌, ◌≤◌, length, true};
-ghost use Rattle.raw_region.specs.Memory.{bytes_of, word_at};
 ghost use Rattle.seg_vector.specs.Elements.{Erases, Extends, HasSpot, PutsAt, ReadsAll};
-ghost use Rattle.seg_vector.specs.{Elements.ReadsOne, Elements.Truncates, Standing.IsStanding};
+ghost use Rattle.seg_vector.specs.Elements.{ReadsOne, Truncates};
+ghost use Rattle.seg_vector.specs.Standing.{IsStanding, capacity_at, len_at};
 
 use crate::places::{LEN, Place, len_of, link_of};
 use best_fit::Heap;
@@ -23,7 +23,7 @@ pub fn elements(heap: &Heap, place: Place, each: u64) -> &[u8]
 /// The bytes of the element with `index` others before it.
 pub fn element(heap: &Heap, place: Place, each: u64, index: u64) -> &[u8]
     requires stands { IsStanding heap.now.bytes place each }
-    requires inside { index < word_at (bytes_of heap.now.bytes) (place.handle + place.at + 8) }
+    requires inside { index < len_at heap.now.bytes place }
     ensures { ReadsOne heap.now.bytes place each index result.now }
 {
     let all = elements(heap, place, each);
@@ -34,7 +34,7 @@ pub fn element(heap: &Heap, place: Place, each: u64, index: u64) -> &[u8]
 /// Leaves the first `n` elements.
 pub fn truncate(heap: &mut Heap, place: Place, each: u64, n: u64)
     requires stands { IsStanding heap.old.bytes place each }
-    requires fewer { n ≤ word_at (bytes_of heap.old.bytes) (place.handle + place.at + 8) }
+    requires fewer { n ≤ len_at heap.old.bytes place }
     ensures { Truncates heap.old heap.new place each n }
 {
     heap.set_word(place.handle, place.at + LEN, n);
@@ -43,7 +43,7 @@ pub fn truncate(heap: &mut Heap, place: Place, each: u64, n: u64)
 /// Writes `n` elements of `each` bytes behind the last one, where the capacity allows.
 pub fn extend(heap: &mut Heap, place: Place, each: u64, n: u64, bytes: &[u8])
     requires stands { IsStanding heap.old.bytes place each }
-    requires space { word_at (bytes_of heap.old.bytes) (place.handle + place.at + 8) + n ≤ word_at (bytes_of heap.old.bytes) (place.handle + place.at + 16) }
+    requires space { len_at heap.old.bytes place + n ≤ capacity_at heap.old.bytes place }
     requires some { 1 ≤ each }
     requires long { length bytes.now ≡ each * n }
     ensures { Extends heap.old heap.new place each n bytes.now }
@@ -58,7 +58,7 @@ pub fn extend(heap: &mut Heap, place: Place, each: u64, n: u64, bytes: &[u8])
 /// Leaves out the element with `index` others before it. Those behind it move down.
 pub fn erase_element(heap: &mut Heap, place: Place, each: u64, index: u64)
     requires stands { IsStanding heap.old.bytes place each }
-    requires inside { index < word_at (bytes_of heap.old.bytes) (place.handle + place.at + 8) }
+    requires inside { index < len_at heap.old.bytes place }
     ensures { Erases heap.old heap.new place each index }
 {
     let len = len_of(heap, place);

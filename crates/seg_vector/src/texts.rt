@@ -19,8 +19,6 @@ use seg_types::Refusal;
 
 /// A vector of texts at a place in a heap: three words there (the link to its array, its length and its capacity), an
 /// array with as many places as its capacity says, and a block for each text that is not empty.
-///
-/// It is the place alone. Each call takes the heap anew, so that nothing is borrowed between two calls.
 #[derive(Clone, Copy, Debug)]
 pub struct SegTexts {
     /// Where the three words stand.

@@ -1,5 +1,6 @@
 //! An entry more, or less.
-ghost use Rattle.std.specs.Prelude.{◌≡◌, ℕ, ◌+◌, ◌-◌, ◌*◌, ◌%◌, ◌<◌, ◌≤◌, IfSome, IsTrue, List, None, Some, insert, remove};
+ghost use Rattle.std.specs.Prelude.{◌≡◌, ℕ, ◌+◌, ◌-◌, ◌*◌, ◌%◌, ◌<◌, ◌≤◌, IfSome, IsTrue, List, None, Some, insert};
+ghost use Rattle.std.specs.Prelude.{remove};
 ghost use Rattle.raw_region.specs.{Format.current, Memory.bytes_of};
 ghost use Rattle.offset_link.specs.{Link.link_at, Relinked.AllLead, Relinked.KeepTargets};
 ghost use Rattle.best_fit.specs.Heap.{IsChanged, IsHeap, KeepsGaps, LaysOut, has_room, heap_touches, live_of};

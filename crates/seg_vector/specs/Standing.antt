@@ -1,5 +1,6 @@
 -- A container at a place in a heap: its three words in a block, and its storage, which is a block of its own.
-use Rattle.std.specs.Prelude.{◌≡◌, ◌≢◌, ℕ, ◌+◌, ◌*◌, ◌%◌, ◌≤◌, ⊤, IsTrue, Option, Some, None, Result, MatchResult, List, length, option_to_list}
+use Rattle.std.specs.Prelude.{◌≡◌, ◌≢◌, ℕ, ◌+◌, ◌*◌, ◌%◌, ◌≤◌, ⊤, IsTrue, Option, Some, None, Result, MatchResult, List}
+use Rattle.std.specs.Prelude.{length, option_to_list}
 use Rattle.raw_region.specs.{Memory.Cut, Memory.bytes_of, Memory.word_at, Format.current}
 use Rattle.block_tags.specs.declared.tile.Role.TheVariants.{Storage}
 use Rattle.best_fit.specs.{Exchange.IsExchanged, Extents.Extent, Extents.LiveSet, Extents.handle}
@@ -55,10 +56,12 @@ pub record IsWithoutSpace (old new : Cut) (each n : ℕ) (t : Table) (e : Refusa
 
 abbrev pub Grows : Cut → Cut → Place → ℕ → ℕ → Result (Unit {0}) Refusal → Type 0
 Grows old new p each n result =
-    (len : ℕ) (t : Table) (bytes : List ℕ) → Stands old.bytes p each len t bytes → MatchResult result (λ u. IsGrown old new p each n len t bytes) (IsWithoutSpace old new each n t)
+    (len : ℕ) (t : Table) (bytes : List ℕ) → Stands old.bytes p each len t bytes
+    → MatchResult result (λ u. IsGrown old new p each n len t bytes) (IsWithoutSpace old new each n t)
 
 -- one place more than there are elements, at least
 abbrev pub GrowsForOne : Cut → Cut → Place → ℕ → Result (Unit {0}) Refusal → Type 0
 GrowsForOne old new p each result =
-    (len : ℕ) (t : Table) (bytes : List ℕ) → Stands old.bytes p each len t bytes → let n = capacity_for_one len t.capacity in
+    (len : ℕ) (t : Table) (bytes : List ℕ) → Stands old.bytes p each len t bytes
+    → let n = capacity_for_one len t.capacity in
     MatchResult result (λ u. IsGrown old new p each n len t bytes) (IsWithoutSpace old new each n t)

@@ -1,5 +1,6 @@
 -- The parts of what the calls of a vector of texts do: elements of an array, and the blocks of texts.
-use Rattle.std.specs.Prelude.{◌≡◌, ◌≢◌, ℕ, ◌+◌, ◌-◌, ◌*◌, ◌%◌, ◌<◌, ◌≤◌, ◌⊎◌, IsTrue, IfSome, Option, Some, None, List, [], ◌∷◌, insert, length, option_map, option_to_list, Result, MatchResult}
+use Rattle.std.specs.Prelude.{◌≡◌, ◌≢◌, ℕ, ◌+◌, ◌-◌, ◌*◌, ◌%◌, ◌<◌, ◌≤◌, ◌⊎◌, IsTrue, IfSome, Option, Some, None, List}
+use Rattle.std.specs.Prelude.{[], ◌∷◌, insert, length, option_map, option_to_list, Result, MatchResult}
 use Rattle.std.specs.List.{AllByRecursion}
 use Rattle.raw_region.specs.{Memory.Memory, Memory.Cut, Memory.bytes_of, Memory.word_at, Format.current}
 use Rattle.offset_link.specs.Link.{link_at}
@@ -10,7 +11,8 @@ use Rattle.block_tags.specs.declared.tile.Role.TheVariants.{Storage}
 use Rattle.seg_types.specs.{declared.refusals.Refusal.Refusal, declared.refusals.Refusal.TheVariants.NoSpace}
 use Rattle.seg_vector.specs.{declared.places.Place.Place, Standing.place_at}
 use Rattle.seg_vector.specs.Vector.{AreTextLinks, IsOwnedText, OwnedText, capacity_for_one, grown_table}
-use Rattle.seg_vector.specs.TextsCalls.{AreOthers, IsStillAtFirst, IsWithoutFit, IsTextPutIn, IsTexts, IsTextsNow, one_more, placed_text, text_blocks}
+use Rattle.seg_vector.specs.TextsCalls.{AreOthers, IsStillAtFirst, IsWithoutFit, IsTextPutIn, IsTexts, IsTextsNow}
+use Rattle.seg_vector.specs.TextsCalls.{one_more, placed_text, text_blocks}
 
 -- blocks are gone and others came, and nothing in those that stay changes
 abbrev pub IsSwapped : Cut → Cut → List Extent → List Extent → Type 0
@@ -93,13 +95,17 @@ pub record CanCarryUp (b : List ℕ) (array at n : ℕ) : Type 0 where
 
 -- a block of storage is taken into use
 abbrev pub TakesStorage : Cut → Cut → ℕ → Result ℕ Refusal → Type 0
-TakesStorage old new n result = MatchResult result (IsAllocated current old new n Storage) (IsWithoutFit old new (place (live_of old.bytes) n Storage))
+TakesStorage old new n result = MatchResult result (IsAllocated current old new n Storage)
+    (IsWithoutFit old new (place (live_of old.bytes) n Storage))
 
 -- ---- the block of a text
 
 -- it serves the text, and an empty one has none
 abbrev pub IsServed : OwnedText → Type 0
-IsServed q = elim q.extent [ None ↦ q.bytes ≡ [] | Some x ↦ (0 < length q.bytes) × IsTrue (serves x Storage (length q.bytes)) ]
+IsServed q = elim q.extent [
+  | None ↦ q.bytes ≡ []
+  | Some x ↦ (0 < length q.bytes) × IsTrue (serves x Storage (length q.bytes))
+]
 
 -- a block was taken into use, and the text stands in it
 pub record IsTextPlaced (old new : Cut) (bytes : List ℕ) (block : Option ℕ) : Type 0 where
@@ -112,19 +118,22 @@ pub record IsTextPlaced (old new : Cut) (bytes : List ℕ) (block : Option ℕ) 
   pub served : IsServed text
 
 abbrev pub PlacesText : Cut → Cut → List ℕ → Result (Option ℕ) Refusal → Type 0
-PlacesText old new bytes result = MatchResult result (IsTextPlaced old new bytes) (IsWithoutFit old new (placed_text (live_of old.bytes) bytes))
+PlacesText old new bytes result = MatchResult result (IsTextPlaced old new bytes)
+    (IsWithoutFit old new (placed_text (live_of old.bytes) bytes))
 
 -- ---- an array with more places
 
 -- The old array has the room where it stands; or a new block was taken into use, beside the old one.
 pub data IsAsked (old new : Cut) (o : Option Extent) (n g : ℕ) : Type 0 where
   widened : (w : IsWidened current old new g n) → o ≡ Some w.before → IsAsked old new o n g
-  taken : (a : IsAllocated current old new n Storage g) → regrow (live_of old.bytes) o n ≡ Some a.extent → IsAsked old new o n g
+  taken : (a : IsAllocated current old new n Storage g) → regrow (live_of old.bytes) o n ≡ Some a.extent
+      → IsAsked old new o n g
 
 abbrev pub AsksArray : Cut → Cut → Place → ℕ → Result ℕ Refusal → Type 0
 AsksArray old new p n result =
     (ps : List OwnedText) (t : Table) → IsTexts old.bytes p ps t
-    → MatchResult result (IsAsked old new t.extent (16 * n)) (IsWithoutFit old new (regrow (live_of old.bytes) t.extent (16 * n)))
+    → MatchResult result (IsAsked old new t.extent (16 * n))
+    (IsWithoutFit old new (regrow (live_of old.bytes) t.extent (16 * n)))
 
 -- the link and the capacity at a place are these
 pub record IsPointed (old new : Cut) (p : Place) (g n : ℕ) : Type 0 where
@@ -147,7 +156,8 @@ pub record IsReady (now : Cut) (p : Place) (g n : ℕ) : Type 0 where
 
 -- The vector has the array that was asked for, with n places. Its elements are the same, and the blocks taken since
 -- stay.
-pub record IsAdopted (first old new : Cut) (p : Place) (ps : List OwnedText) (t : Table) (g n : ℕ) (loose : List Extent) : Type 0 where
+pub record IsAdopted (first old new : Cut) (p : Place) (ps : List OwnedText) (t : Table) (g n : ℕ)
+    (loose : List Extent) : Type 0 where
   pub array : Extent
   pub at : g ≡ handle array
   pub grown : grown_table (live_of first.bytes) 16 n t ≡ Some (record { capacity = n; extent = Some array })
@@ -166,7 +176,8 @@ Adopts old new p g n = (r : IsReady old p g n) → IsAdopted r.first old new p r
 
 -- Since the first call blocks were exchanged: the array y, with m places, came, and the block of a text that is not in
 -- the vector yet.
-pub record IsPutReady (first now : Cut) (p : Place) (ps : List OwnedText) (t : Table) (y : Extent) (m : ℕ) (z : OwnedText) : Type 0 where
+pub record IsPutReady (first now : Cut) (p : Place) (ps : List OwnedText) (t : Table) (y : Extent) (m : ℕ)
+    (z : OwnedText) : Type 0 where
   pub texts : IsTexts first.bytes p ps t
   pub table : IsTrue (is_table Storage 16 (record { capacity = m; extent = Some y }))
   pub space : length ps < m
@@ -192,8 +203,10 @@ pub record IsPutAsked (now : Cut) (p : Place) (i : ℕ) (block : Option ℕ) (le
 
 abbrev pub PutsIn : Cut → Cut → Place → ℕ → Option ℕ → ℕ → Type 0
 PutsIn old new p i block len =
-    (first : Cut) (ps : List OwnedText) (t : Table) (y : Extent) (m : ℕ) (z : OwnedText) → IsPutReady first old p ps t y m z → i ≤ length ps → block ≡ option_map handle z.extent → len ≡ length z.bytes
-    → IsTextsNow first new p (option_to_list t.extent) (y ∷ option_to_list z.extent) (insert ps i z) (record { capacity = m; extent = Some y })
+    (first : Cut) (ps : List OwnedText) (t : Table) (y : Extent) (m : ℕ) (z : OwnedText)
+    → IsPutReady first old p ps t y m z → i ≤ length ps → block ≡ option_map handle z.extent → len ≡ length z.bytes
+    → IsTextsNow first new p (option_to_list t.extent) (y ∷ option_to_list z.extent) (insert ps i z)
+    (record { capacity = m; extent = Some y })
 
 -- ---- an array that is given up
 
@@ -216,7 +229,8 @@ pub record IsToBeGivenUp (now : Cut) (p : Place) (g room : ℕ) : Type 0 where
 
 abbrev pub GivesUp : Cut → Cut → Place → ℕ → ℕ → Type 0
 GivesUp old new p g room =
-    (first : Cut) (ps : List OwnedText) (t : Table) (n : ℕ) → IsTexts first.bytes p ps t → IsAsked first old t.extent (16 * n) g → room ≡ room_of t.extent → IsRestored current first new
+    (first : Cut) (ps : List OwnedText) (t : Table) (n : ℕ) → IsTexts first.bytes p ps t
+    → IsAsked first old t.extent (16 * n) g → room ≡ room_of t.extent → IsRestored current first new
 
 -- ---- a text put in, once the index is known to be inside
 
@@ -227,7 +241,8 @@ pub record IsRefusedPut (old new : Cut) (ps : List OwnedText) (t : Table) (bytes
   pub first : IsStillAtFirst old new ps t bytes
 
 abbrev pub PutsInto : Cut → Cut → Place → List OwnedText → Table → ℕ → List ℕ → Result (Unit {0}) Refusal → Type 0
-PutsInto old new p ps t i bytes result = MatchResult result (λ u. IsTextPutIn old new p ps t i bytes) (IsRefusedPut old new ps t bytes)
+PutsInto old new p ps t i bytes result = MatchResult result (λ u. IsTextPutIn old new p ps t i bytes)
+    (IsRefusedPut old new ps t bytes)
 
 -- there is a place for it
 pub record HasPlace (b : List ℕ) (p : Place) (i : ℕ) : Type 0 where
@@ -238,7 +253,8 @@ pub record HasPlace (b : List ℕ) (p : Place) (i : ℕ) : Type 0 where
   pub space : length ps < t.capacity
 
 abbrev pub InsertsWithin : Cut → Cut → Place → ℕ → List ℕ → Result (Unit {0}) Refusal → Type 0
-InsertsWithin old new p i bytes result = (ps : List OwnedText) (t : Table) → IsTexts old.bytes p ps t → i ≤ length ps → length ps < t.capacity → PutsInto old new p ps t i bytes result
+InsertsWithin old new p i bytes result = (ps : List OwnedText) (t : Table) → IsTexts old.bytes p ps t → i ≤ length ps
+    → length ps < t.capacity → PutsInto old new p ps t i bytes result
 
 -- there is none, and n places are asked for
 pub record IsFull (b : List ℕ) (p : Place) (i n : ℕ) : Type 0 where
@@ -251,4 +267,5 @@ pub record IsFull (b : List ℕ) (p : Place) (i n : ℕ) : Type 0 where
 
 abbrev pub InsertsGrowing : Cut → Cut → Place → ℕ → List ℕ → ℕ → Result (Unit {0}) Refusal → Type 0
 InsertsGrowing old new p i bytes n result =
-    (ps : List OwnedText) (t : Table) → IsTexts old.bytes p ps t → i ≤ length ps → t.capacity ≤ length ps → n ≡ capacity_for_one (length ps) t.capacity → PutsInto old new p ps t i bytes result
+    (ps : List OwnedText) (t : Table) → IsTexts old.bytes p ps t → i ≤ length ps → t.capacity ≤ length ps
+    → n ≡ capacity_for_one (length ps) t.capacity → PutsInto old new p ps t i bytes result

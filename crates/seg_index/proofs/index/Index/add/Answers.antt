@@ -1,6 +1,6 @@
 -- In the block that the index has the links behind the place make way; in that of the growth they are put round the new
 -- one, and then the block is the index's.
-use Rattle.seg_index.proofs.{◌≡◌, ap, ap₂, refl, sym, subst, ◌∙◌, ℕ, ◌+◌, ◌-◌, ◌*◌, ◌%◌, ◌<◌, Option, Some, IfSome, List}
+use Rattle.seg_index.proofs.{◌≡◌, ap, ap₂, refl, sym, subst, ◌∙◌, ℕ, ◌+◌, ◌-◌, ◌*◌, ◌%◌, ◌<◌, Option, IfSome, List}
 use Rattle.seg_index.proofs.{arith, insert, length-insert, current, LiveSet, LaysOut, IsBlockFor, without_link, IsIndexOf}
 use Rattle.seg_index.proofs.{block_and_count, capacity_at, capacity_small, filled, gaps_kept, grown_capacity, has_places}
 use Rattle.seg_index.proofs.{in_header, index_in, insert_all, inserted, links_lead, offer, place_of, same_live, source}

@@ -133,8 +133,7 @@ pub erased-by : {s0 s1 s2 s3 : Cut} {p : Place} {ps : List OwnedText} {c g : ℕ
     → IsTextsNow s0 s3 p (option_to_list o ++ option_to_list q.extent) (option_to_list o) (remove ps i) (table c o)
 erased-by i n {o = None} s e link n_is x1 c2 m2 c3 word = none-some s.words.link link
 erased-by {s0} {s1} {s2} {s3} {p} {ps} {c} {g} i n {o = Some x} {q} s e link n_is x1 c2 m2 c3 word =
-    let t = table c (Some x) in let eq = option_to_list q.extent in
-    let gone : List Extent = x ∷ eq in
+    let t = table c (Some x) in let eq = option_to_list q.extent in let gone : List Extent = x ∷ eq in
     let g_is = same-some (sym link ∙ s.words.link) in let below = slice_get_within ps i q e in
     let fits = s.fits in let full = table-full 16 c x s.table in let apart = text-apart i s e in
     let one = append-nil eq in
@@ -234,12 +233,10 @@ stands-none {b} {p} {t} s = subst (λ (xs : List ℕ). Stands b p 16 0 t xs) (ra
 read-at : (m m' : Memory) (at n j : ℕ) → read m' at n ≡ read m at n → j < n → m' (at + j) ≡ m (at + j)
 read-at m m' at zero j e f = absurd (omega arith)
 read-at m m' at (suc n) zero e f =
-    let here : at ≡ at + 0 = omega arith in
-    let first : m' at ≡ m at = cc in
+    let here : at ≡ at + 0 = omega arith in let first : m' at ≡ m at = cc in
     subst (λ k. m' k ≡ m k) here first
 read-at m m' at (suc n) (suc j) e f =
-    let there : at + 1 + j ≡ at + suc j = omega arith in
-    let rest : read m' (at + 1) n ≡ read m (at + 1) n = cc in
+    let there : at + 1 + j ≡ at + suc j = omega arith in let rest : read m' (at + 1) n ≡ read m (at + 1) n = cc in
     subst (λ k. m' k ≡ m k) there (read-at m m' (at + 1) n j rest (omega arith))
 
 read-spread : (m m' : Memory) (at n : ℕ) → read m' at n ≡ read m at n → Same m m' at (at + n)
@@ -263,9 +260,7 @@ cut-links : (l : LiveSet) (m m' : Memory) (ps : List OwnedText) (c : ℕ) (o : O
 cut-links l m m' [] c o a h = let u : Table = cut_table l 16 0 (table c o) in no-links m' u.capacity u.extent
 cut-links l m m' (q ∷ qs) c None a h = absurd (cc)
 cut-links l m m' (q ∷ qs) c (Some x) a h =
-    let n = length (q ∷ qs) in
-    let y = shorter l x (16 * n) in
-    let cut = cut-some l 16 n c x (omega arith) in
+    let n = length (q ∷ qs) in let y = shorter l x (16 * n) in let cut = cut-some l 16 n c x (omega arith) in
     let begins : handle y ≡ handle x = ap (λ (z : Extent). handle z) (shorter-IsShorter l x (16 * n)).same in
     let has = subst (λ (u : Table). IsStorage m' u (read m (handle x) (16 * n))) cut h in
     let is : read m' (handle x) (16 * n) ≡ read m (handle x) (16 * n) =
@@ -405,8 +400,7 @@ texts-still {a} {b} {p} {ps} {t} s x =
 -- the block of a text begins at a multiple of 16
 pub come-even : {a b : Cut} (o : Option Extent) → IsSwapped a b [] (option_to_list o)
     → IfSome (option_map handle o) (λ target. target % 16 ≡ 0)
-come-even {a} {b} o x =
-    let heap = laid-heap _ _ x.live in even-block (live_of b.bytes) o heap.proper (came-found x)
+come-even {a} {b} o x = let heap = laid-heap _ _ x.live in even-block (live_of b.bytes) o heap.proper (came-found x)
 
 -- ---- a text in the place of another one: its block was taken into use before the other is given back
 
@@ -448,12 +442,10 @@ text-set {o = None} i s e pl at y written link_is word_is len_is = none-some (te
 text-set {s0} {s1} {mid} {s3} {p} {ps} {c} {len} {o = Some x} {q} {block = block} i s e pl at y written link_is word_is
     len_is =
     let g_is = same-some (sym at ∙ (texts-still s pl.change).words.link) in let t = table c (Some x) in
-    let z = pl.text in let n = length ps in
-    let eb = option_to_list q.extent in let ez = option_to_list z.extent in
+    let z = pl.text in let n = length ps in let eb = option_to_list q.extent in let ez = option_to_list z.extent in
     let gone : List Extent = x ∷ eb in
     let below = slice_get_within ps i q e in let fits = s.fits in let full = table-full 16 c x s.table in
-    let apart = text-apart i s e in
-    let other : p.handle ≢ handle x = λ f. s.own.1 (sym f) in
+    let apart = text-apart i s e in let other : p.handle ≢ handle x = λ f. s.own.1 (sym f) in
     let one = append-nil eb in
     let r0 : IsRun s0 s0 p gone gone n t = subst (λ (xs : List Extent). IsRun s0 s0 p (x ∷ xs) (x ∷ xs) n t) one
     (run-begin s0 (take i ps) (q ∷ []) (drop (suc i) ps) (around ps i e) s) in

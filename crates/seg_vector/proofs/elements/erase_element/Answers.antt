@@ -28,8 +28,7 @@ copy-requires-clause-target c =
 
 pub returns-in-Some : goal.returns-in-Some
 returns-in-Some c len t bytes s =
-    let is = c.len_of-len.ensures ∙ s.words.len_word in
-    let at : ℕ = c.args.each * c.args.index in
+    let is = c.len_of-len.ensures ∙ s.words.len_word in let at : ℕ = c.args.each * c.args.index in
     let now = subst (λ n. Stands c.args.heap.now.bytes c.args.place c.args.each n t bytes) (sym is) s in
     subst (λ n. IsRewritten c.args.heap.now c.set_word.new.self c.args.place c.args.each (n - 1) t
     (take at bytes ++ drop (at + c.args.each) bytes)) is

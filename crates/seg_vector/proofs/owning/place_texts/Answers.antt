@@ -35,8 +35,7 @@ loop-i-preserved c y at found =
     laid-put (length c.args.texts.now) c.args.array at (c.loop-i.invariant y at found)
     (drop-next c.args.texts.now c.loop-i.i _ c.loop-i-test.true) c.loop-i-test.true
     (found-big c.args.heap.now c.args.array (16 * length c.args.texts.now) c.requires.heap c.requires.room found)
-    c.in-Ok.ensures
-    c.put_element.ensures.change c.put_element.ensures.link c.put_element.ensures.len_word
+    c.in-Ok.ensures c.put_element.ensures.change c.put_element.ensures.link c.put_element.ensures.len_word
 
 pub returns : goal.returns
 returns c y at found =

@@ -37,8 +37,7 @@ carry_element-requires c =
 
 pub loop-i-preserved : goal.loop-i-preserved
 loop-i-preserved c =
-    let a = c.args.array + c.args.at in
-    let k = c.args.n - 1 - c.loop-i.i in
+    let a = c.args.array + c.args.at in let k = c.args.n - 1 - c.loop-i.i in
     let is : k + (c.loop-i.i + 1) ≡ c.args.n = omega (arith, c.loop-i-test.true) in
     record {
       change = up-changed a k c.loop-i.i c.args.n is c.loop-i.invariant.change (omega arith)

@@ -23,16 +23,14 @@ had c i =
 
 pub spread-requires-clause-links : goal.spread-requires-clause-links
 spread-requires-clause-links c =
-    let q = c.requires.index in
-    let p = had (goal.at.spread-requires-clause-links c).After-unwrap_or-block q.index in
+    let q = c.requires.index in let p = had (goal.at.spread-requires-clause-links c).After-unwrap_or-block q.index in
     links_lead c.unwrap_or-block.result c.args.place (c.len-count.result - c.args.place) q.handles p.links q.index.whole
     (omega arith)
 
 pub returns-in-None-clause-index : goal.returns-in-None-clause-index
 returns-in-None-clause-index c = λ t hs i.
     let A = c.args.heap.now in let at = place_of c.args.self in
-    let v = (goal.at.returns-in-None-clause-index c).After-unwrap_or-block in let left = few v in
-    let p = had v i in
+    let v = (goal.at.returns-in-None-clause-index c).After-unwrap_or-block in let left = few v in let p = had v i in
     subst (λ b. Adds A c.set_header_word.new.self at t (insert hs c.args.place c.args.handle) b) (sym c.in-None.is)
     (inserted p (in_header c.args.self) (c.len-count.ensures.len t hs i) (omega arith) (omega arith) c.requires.handle
     c.spread.ensures.change c.spread.ensures.here c.spread.ensures.tail c.place-in-None.ensures
@@ -47,8 +45,7 @@ returns-in-None-clause-live c =
 
 pub returns-in-None-clause-keeps : goal.returns-in-None-clause-keeps
 returns-in-None-clause-keeps c = λ t hs i.
-    let v = (goal.at.returns-in-None-clause-keeps c).After-unwrap_or-block in let left = few v in
-    let p = had v i in
+    let v = (goal.at.returns-in-None-clause-keeps c).After-unwrap_or-block in let left = few v in let p = had v i in
     subst (λ b. AddKeeps c.args.heap.now c.set_header_word.new.self (place_of c.args.self) t b) (sym c.in-None.is)
     (block_and_count p (in_header c.args.self) (8 * c.args.place) c.spread.ensures.change (omega arith)
     c.place-in-None.ensures c.set_header_word.ensures.change)
@@ -151,15 +148,13 @@ returns-in-Some-clause-live c =
 
 pub returns-in-Some-clause-keeps : goal.returns-in-Some-clause-keeps
 returns-in-Some-clause-keeps c = λ t hs i.
-    let at = goal.at.returns-in-Some-clause-keeps c in
-    let o = given at.After-unwrap_or-from c.requires.index.index in
+    let at = goal.at.returns-in-Some-clause-keeps c in let o = given at.After-unwrap_or-from c.requires.index.index in
     subst (λ b. AddKeeps c.args.heap.now c.settle.new.heap (place_of c.args.self) t b) (sym c.in-Some.is)
     (written_keeps o (all at.After-spread-in-Some) (omega arith) c.settle.ensures.keeps)
 
 pub returns-in-Some-clause-went : goal.returns-in-Some-clause-went
 returns-in-Some-clause-went c =
-    let at = goal.at.returns-in-Some-clause-went c in
-    let o = given at.After-unwrap_or-from c.requires.index.index in
+    let at = goal.at.returns-in-Some-clause-went c in let o = given at.After-unwrap_or-from c.requires.index.index in
     let more = λ (l : Option ℕ). IfSome l (λ old. c.args.steps.now < c.settle.new.steps) in
     subst (λ (b : Option ℕ). IfSome b (λ block. more (link_at (bytes_of c.args.heap.now.bytes) (place_of c.args.self))))
     (sym c.in-Some.is)

@@ -56,8 +56,7 @@ returns-clause-planted g c = λ ps p s loose is.
 
 pub returns-clause-steps : goal.returns-clause-steps
 returns-clause-steps g c = λ ps s.
-    let r = c.requires.there in
-    let u = entered g (goal.at.returns-clause-steps g c).After-add in
+    let r = c.requires.there in let u = entered g (goal.at.returns-clause-steps g c).After-add in
     let t = planted_tree (laws g.met.K.Plain) c.args.heap.now r.map c.link-root.ensures r.loose r.is in
     let digits = ap (λ n. bits (n + 1)) (sym r.map.map.count ∙ s.map.count) in
     omega (arith, few_steps r.map t u, digits, c.add.ensures, c.insert_at-changed.ensures.counted)

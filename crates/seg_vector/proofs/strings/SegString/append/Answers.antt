@@ -49,8 +49,7 @@ returns-in_err-reserve c bytes t v =
     (c.capacity.ensures bytes t v) in
     let p = err_from_is_err_and c.from_residual.result c.from_residual.ensures.1 in
     rw (p.1, p.2) (subst (λ n. IsWithoutSpace c.args.heap.now c.reserve.new.heap 1 n t c.in_err-reserve.field-0.0)
-    wanted
-    (c.in_err-reserve.ensures (length bytes) t bytes v))
+    wanted (c.in_err-reserve.ensures (length bytes) t bytes v))
 
 pub returns : goal.returns
 returns c bytes t v =

@@ -37,8 +37,7 @@ pub carry_down-requires : goal.carry_down-requires
 carry_down-requires c =
     let a = (left-at (goal.at.carry_down-requires c).After-release_text).0 in let k = length c.requires.0 in
     let n = c.len-len.ensures c.requires.0 c.requires.1.0 c.requires.1.1 in
-    let l = live_of c.release_text.new.heap.bytes in
-    let at : ℕ = 16 * c.args.index in
+    let l = live_of c.release_text.new.heap.bytes in let at : ℕ = 16 * c.args.index in
     let rest : ℕ = c.len-len.result - c.args.index - 1 in
     record {
       heap = a.heap;

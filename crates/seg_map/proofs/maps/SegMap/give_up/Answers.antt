@@ -27,19 +27,15 @@ cut g c =
     (relinked g.K.Plain lent.result.own c.remove_at-changed.new.nodes.own c.link-root.result r.root c.args.steps.now
     r.steps (search rules) f.same.kept f.root c.add.ensures f.tree (λ t k. fewer _ _ (f.steps t k)))
 
-pub write_head-requires-clause-proper : goal.write_head-requires-clause-proper
-write_head-requires-clause-proper g c =
-    kept_proper _ _ _ (cut g (goal.at.write_head-requires-clause-proper g c).After-add).kept c.requires.map.heap.proper
-
-pub write_head-requires-clause-room : goal.write_head-requires-clause-room
-write_head-requires-clause-room g c =
-    kept_room _ _ _ _ _ (cut g (goal.at.write_head-requires-clause-room g c).After-add).kept c.requires.map.room
-
-pub write_head-requires-clause-root : goal.write_head-requires-clause-root
-write_head-requires-clause-root g c =
-    let r = c.requires in
-    top_whole r.map (lent_tree (laws g.met.K.Plain) c.args.heap.now r.map c.link-root.ensures refl)
-    (cut g (goal.at.write_head-requires-clause-root g c).After-add)
+pub write_head-requires : goal.write_head-requires
+write_head-requires g c =
+    let r = c.requires.map in let u = cut g (goal.at.write_head-requires g c).After-add in
+    record {
+      aligned = r.aligned;
+      proper = kept_proper _ _ _ u.kept r.heap.proper;
+      room = kept_room _ _ _ _ _ u.kept r.room;
+      root = top_whole r (lent_tree (laws g.met.K.Plain) c.args.heap.now r c.link-root.ensures refl) u;
+    }
 
 pub deallocate-requires : goal.deallocate-requires
 deallocate-requires g c =

@@ -32,21 +32,16 @@ overflow_add-count g c =
     let r = c.requires.there in
     omega (arith, c.len-count.ensures r.pairs r.map, few_in_map (laws g.met.K.Plain) c.args.heap.now r.map)
 
-pub write_head-requires-clause-proper : goal.write_head-requires-clause-proper
-write_head-requires-clause-proper g c =
-    kept_proper _ _ _ (entered g (goal.at.write_head-requires-clause-proper g c).After-add).kept
-    c.requires.there.map.heap.proper
-
-pub write_head-requires-clause-room : goal.write_head-requires-clause-room
-write_head-requires-clause-room g c =
-    kept_room _ _ _ _ _ (entered g (goal.at.write_head-requires-clause-room g c).After-add).kept
-    c.requires.there.map.room
-
-pub write_head-requires-clause-root : goal.write_head-requires-clause-root
-write_head-requires-clause-root g c =
-    let r = c.requires.there in
-    top_whole r.map (planted_tree (laws g.met.K.Plain) c.args.heap.now r.map c.link-root.ensures r.loose r.is)
-    (entered g (goal.at.write_head-requires-clause-root g c).After-add)
+pub write_head-requires : goal.write_head-requires
+write_head-requires g c =
+    let h = c.requires.there in let u = entered g (goal.at.write_head-requires g c).After-add in
+    record {
+      aligned = h.map.aligned;
+      proper = kept_proper _ _ _ u.kept h.map.heap.proper;
+      room = kept_room _ _ _ _ _ u.kept h.map.room;
+      root = top_whole h.map
+          (planted_tree (laws g.met.K.Plain) c.args.heap.now h.map c.link-root.ensures h.loose h.is) u;
+    }
 
 pub returns-clause-planted : goal.returns-clause-planted
 returns-clause-planted g c = λ ps p s loose is.

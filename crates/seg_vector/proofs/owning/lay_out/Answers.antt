@@ -8,11 +8,9 @@ returns-then-n-gt-LIMIT c =
     out-of-reach c.args.heap.now (length c.args.texts.now) (map (λ text. text.now) c.args.texts.now) c.requires.heap
     (sym (length-map c.args.texts.now (λ text. text.now))) c.if-n-gt-LIMIT.true
 
-pub place_texts-placed-requires-clause-heap : goal.place_texts-placed-requires-clause-heap
-place_texts-placed-requires-clause-heap c = (array-taken (length c.args.texts.now) c.in_ok-array.ensures).heap
-
-pub place_texts-placed-requires-clause-room : goal.place_texts-placed-requires-clause-room
-place_texts-placed-requires-clause-room c = (array-taken (length c.args.texts.now) c.in_ok-array.ensures).room
+pub place_texts-placed-requires : goal.place_texts-placed-requires
+place_texts-placed-requires c =
+    let t = array-taken (length c.args.texts.now) c.in_ok-array.ensures in record { heap = t.heap; room = t.room }
 
 pub returns-then-placed-n : goal.returns-then-placed-n
 returns-then-placed-n c =

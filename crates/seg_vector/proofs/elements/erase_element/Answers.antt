@@ -18,13 +18,13 @@ overflow_mul-behind c = omega (arith, (fits (goal.at.overflow_mul-behind c).In-S
 pub overflow_add-from : goal.overflow_add-from
 overflow_add-from c = omega (arith, (fits (goal.at.overflow_add-from c).In-Some).small)
 
-pub copy-requires-clause-source : goal.copy-requires-clause-source
-copy-requires-clause-source c = (fits (goal.at.copy-requires-clause-source c).In-Some).room
-
-pub copy-requires-clause-target : goal.copy-requires-clause-target
-copy-requires-clause-target c =
-    part-room (c.args.each * c.args.index + c.args.each * (c.len_of-len.result - c.args.index - 1)) (omega arith)
-    (fits (goal.at.copy-requires-clause-target c).In-Some)
+pub copy-requires : goal.copy-requires
+copy-requires c =
+    let f = fits (goal.at.copy-requires c).In-Some in record {
+      source = f.room;
+      target = part-room (c.args.each * c.args.index + c.args.each * (c.len_of-len.result - c.args.index - 1))
+          (omega arith) f;
+    }
 
 pub returns-in-Some : goal.returns-in-Some
 returns-in-Some c len t bytes s =

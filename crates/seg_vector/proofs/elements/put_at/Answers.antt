@@ -55,13 +55,13 @@ overflow_mul-behind c = omega (arith, (fits (goal.at.overflow_mul-behind c).In-S
 pub overflow_add-from : goal.overflow_add-from
 overflow_add-from c = omega (arith, (fits (goal.at.overflow_add-from c).In-Some-link_of).small)
 
-pub copy-requires-clause-source : goal.copy-requires-clause-source
-copy-requires-clause-source c =
-    part-room (c.args.each * c.in-Before.index + c.args.each * (c.len_of-len.result - c.in-Before.index)) (omega arith)
-    (fits (goal.at.copy-requires-clause-source c).In-Some-link_of)
-
-pub copy-requires-clause-target : goal.copy-requires-clause-target
-copy-requires-clause-target c = (fits (goal.at.copy-requires-clause-target c).In-Some-link_of).room
+pub copy-requires : goal.copy-requires
+copy-requires c =
+    let f = fits (goal.at.copy-requires c).In-Some-link_of in record {
+      source = part-room (c.args.each * c.in-Before.index + c.args.each * (c.len_of-len.result - c.in-Before.index))
+          (omega arith) f;
+      target = f.room;
+    }
 
 pub write-requires-in-Some-link_of : goal.write-requires-in-Some-link_of
 write-requires-in-Some-link_of c =

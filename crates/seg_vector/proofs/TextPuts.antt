@@ -423,9 +423,9 @@ wanted-more n k c f e = e ∙ full-if k c (nat_lt k c) refl f
 
 -- ---- what the calls need
 
-pub few-places : (c : Cut) {p : Place} {ps : List OwnedText} {t : Table} → IsTexts c.bytes p ps t
+pub few_places : (c : Cut) {p : Place} {ps : List OwnedText} {t : Table} → IsTexts c.bytes p ps t
     → 16 * t.capacity < 1073741824
-few-places c s = capacity-bytes c s.heap (texts-stand s)
+few_places c s = capacity-bytes c s.heap (texts-stand s)
 
 pub more-places : (c : Cut) {p : Place} {ps : List OwnedText} {t : Table} (n : ℕ) → IsTexts c.bytes p ps t
     → t.capacity ≤ length ps → n ≡ capacity_for_one (length ps) t.capacity → (t.capacity < n) × (length ps < n)
@@ -434,5 +434,5 @@ more-places c {ps} {t} n s f e =
 
 pub small-wanted : (c : Cut) {p : Place} {ps : List OwnedText} {t : Table} (n : ℕ) → IsTexts c.bytes p ps t
     → t.capacity ≤ length ps → n ≡ capacity_for_one (length ps) t.capacity → 16 * n < 18446744073709551616
-small-wanted c {ps} {t} n s f e = let few : 16 * t.capacity < 1073741824 = few-places c s in let is : n ≡ max 4
+small-wanted c {ps} {t} n s f e = let few : 16 * t.capacity < 1073741824 = few_places c s in let is : n ≡ max 4
     (2 * t.capacity) = wanted-more n (length ps) t.capacity f e in omega (arith, few, is)

@@ -60,6 +60,7 @@ impl SegTexts {
     /// # Errors
     ///
     /// `OutOfRange` where there are not so many.
+    #[tactic(auto, using(crate::proofs::Storage::sizes, crate::proofs::TextPuts::few_places))]
     pub fn get(self, heap: &Heap, index: u64) -> Result<&[u8], Refusal>
         requires { IsSomeTexts heap.now.bytes self.place }
         ensures { GetsText heap.now self.place index result }
@@ -87,6 +88,7 @@ impl SegTexts {
     ///
     /// `OutOfRange` where there are not so many, and else `NoSpace` where no gap is long enough for the text. Nothing
     /// changes.
+    #[tactic(auto, using(crate::proofs::Storage::sizes, crate::proofs::TextPuts::few_places))]
     pub fn set(self, heap: &mut Heap, index: u64, text: &[u8]) -> Result<(), Refusal>
         requires { IsSomeTexts heap.old.bytes self.place }
         ensures { SetsText heap.old heap.new self.place index text.now result }
@@ -150,6 +152,7 @@ impl SegTexts {
     /// # Errors
     ///
     /// `OutOfRange` where there are not so many. Nothing changes.
+    #[tactic(auto, using(crate::proofs::Storage::sizes, crate::proofs::TextPuts::few_places))]
     pub fn erase(self, heap: &mut Heap, index: u64) -> Result<(), Refusal>
         requires { IsSomeTexts heap.old.bytes self.place }
         ensures { ErasesText heap.old heap.new self.place index result }

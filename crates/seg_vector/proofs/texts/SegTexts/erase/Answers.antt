@@ -1,19 +1,9 @@
 -- The block of the text is released, those behind it move down, and then the length is written.
 use Rattle.seg_vector.proofs.{ℕ, inl, sym, ◌∙◌, ◌+◌, ◌-◌, ◌*◌, arith, length, bytes_of, live_of, changed-room}
 use Rattle.seg_vector.proofs.{room-less, IsHead, head-room, len-room, IsArrayLeft, even-from, no-array, none-left, erased-by, left}
-use Rattle.seg_vector.proofs.{has-element, few-places}
+use Rattle.seg_vector.proofs.{has-element}
 use Rattle.seg_vector.proofs.texts.SegTexts.erase.Goals.{After-release_text}
 use Rattle.seg_vector.proofs.texts.SegTexts.erase.Goals as goal
-
-pub overflow_mul-at : goal.overflow_mul-at
-overflow_mul-at c =
-    let s = c.requires.1.1 in let few = few-places c.args.heap.now s in
-    omega (arith, few, s.fits, c.if-index-len.false, c.len-len.ensures c.requires.0 c.requires.1.0 s)
-
-pub overflow_add-at : goal.overflow_add-at
-overflow_add-at c =
-    let s = c.requires.1.1 in let few = few-places c.args.heap.now s in
-    omega (arith, few, s.fits, c.if-index-len.false, c.len-len.ensures c.requires.0 c.requires.1.0 s)
 
 pub release_text-requires : goal.release_text-requires
 release_text-requires c =

@@ -1,7 +1,7 @@
 -- The element is in the array, and the text is the front of its block.
 use Rattle.seg_vector.proofs.{◌≡◌, sym, ap, ◌∙◌, ◌+◌, ◌*◌, ◌<◌, ◌≤◌, ℕ, IsTrue, has_room, arith, length, take, bytes_of, live_of, word_at, List, Some}
 use Rattle.seg_vector.proofs.{IsTextElement, IsTexts, OwnedText, block-front, block-live, element-of, empty-text}
-use Rattle.seg_vector.proofs.{few-places, has-element, option_map, room-less, slice_get, text-block}
+use Rattle.seg_vector.proofs.{has-element, option_map, room-less, slice_get, text-block}
 use Rattle.best_fit.specs.Table.{Table as ATable}
 use Rattle.seg_vector.proofs.texts.SegTexts.get.Goals.{After-word-len, In-Some}
 use Rattle.seg_vector.proofs.texts.SegTexts.get.Goals as goal
@@ -15,11 +15,6 @@ there c {ps} {t} s =
     let q = has-element ps c.args.index inside in
     (q.0, (q.1, element-of c.args.heap.now c.args.index s (sym c.link_of.ensures ∙ c.in-Some.is) q.1))
 
-pub overflow_mul-at : goal.overflow_mul-at
-overflow_mul-at c =
-    let s = c.requires.1.1 in let few = few-places c.args.heap.now s in
-    omega (arith, few, s.fits, c.if-index-len.false, c.len.ensures c.requires.0 c.requires.1.0 s)
-
 -- words of the element have room in the array
 room : (c : In-Some) (n : ℕ) → n ≤ 16 * c.args.index + 16
     → IsTrue (has_room (live_of c.args.heap.now.bytes) c.in-Some.array n)
@@ -28,11 +23,6 @@ room c n few = room-less (live_of c.args.heap.now.bytes) c.in-Some.array (16 * c
 
 pub link-requires-clause-room : goal.link-requires-clause-room
 link-requires-clause-room c = room (goal.at.link-requires-clause-room c).In-Some _ (omega arith)
-
-pub overflow_add-at : goal.overflow_add-at
-overflow_add-at c =
-    let s = c.requires.1.1 in let few = few-places c.args.heap.now s in
-    omega (arith, few, s.fits, c.if-index-len.false, c.len.ensures c.requires.0 c.requires.1.0 s)
 
 pub word-len-requires : goal.word-len-requires
 word-len-requires c = room (goal.at.word-len-requires c).In-Some _ (omega arith)

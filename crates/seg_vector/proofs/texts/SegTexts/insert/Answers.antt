@@ -1,11 +1,11 @@
 -- No array has so many places. What the call for an index inside answers is the answer.
-use Rattle.seg_vector.proofs.{arith, wanted-is, few-places, first-answered, put-answered, IsTexts, OwnedText, List}
+use Rattle.seg_vector.proofs.{arith, wanted-is, few_places, first-answered, put-answered, IsTexts, OwnedText, List}
 use Rattle.best_fit.specs.Table.{Table as ATable}
 use Rattle.seg_vector.proofs.texts.SegTexts.insert.Goals as goal
 
 pub capacity_for_one-wanted-requires : goal.capacity_for_one-wanted-requires
 capacity_for_one-wanted-requires c =
-    let few = few-places c.args.heap.now c.requires.1.1 in
+    let few = few_places c.args.heap.now c.requires.1.1 in
     omega (arith, few, c.capacity-capacity.ensures c.requires.0 c.requires.1.0 c.requires.1.1)
 
 pub returns-then-len-capacity : goal.returns-then-len-capacity

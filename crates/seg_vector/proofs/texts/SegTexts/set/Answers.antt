@@ -1,6 +1,6 @@
 -- The text is placed, the one before is released, and then the element is written.
 use Rattle.seg_vector.proofs.{sym, refl, ◌∙◌, ◌+◌, ◌*◌, arith, length, live_of, left, no-array}
-use Rattle.seg_vector.proofs.{none-left, room-less, text-set, texts-still, has-element, few-places, text-even, IsTexts}
+use Rattle.seg_vector.proofs.{none-left, room-less, text-set, texts-still, has-element, text-even, IsTexts}
 use Rattle.seg_vector.proofs.{IsArrayLeft}
 use Rattle.seg_vector.proofs.texts.SegTexts.set.Goals.{After-release_text, In-Some, In_ok-block}
 use Rattle.seg_vector.proofs.texts.SegTexts.set.Goals as goal
@@ -11,16 +11,6 @@ still c = texts-still c.requires.1.1 c.in_ok-block.ensures.change
 
 pub link_of-requires-clause-room : goal.link_of-requires-clause-room
 link_of-requires-clause-room c = (still (goal.at.link_of-requires-clause-room c).In_ok-block).room
-
-pub overflow_mul-index : goal.overflow_mul-index
-overflow_mul-index c =
-    let s = c.requires.1.1 in let few = few-places c.args.heap.now s in
-    omega (arith, few, s.fits, c.if-index-len.false, c.len.ensures c.requires.0 c.requires.1.0 s)
-
-pub overflow_mul-index-in-Some : goal.overflow_mul-index-in-Some
-overflow_mul-index-in-Some c =
-    let s = c.requires.1.1 in let few = few-places c.args.heap.now s in
-    omega (arith, few, s.fits, c.if-index-len.false, c.len.ensures c.requires.0 c.requires.1.0 s)
 
 pub release_text-requires : goal.release_text-requires
 release_text-requires c =

@@ -22,8 +22,7 @@ big_from-same i (suc n) xs ys same =
 big_from-zeros : (i n : ℕ) (xs : List ℕ) → ((k : ℕ) → i ≤ k → slice_index xs k ≡ 0) → big_from i n xs ≡ 0
 big_from-zeros i zero xs none = refl
 big_from-zeros i (suc n) xs none =
-    let here = none i (omega arith) in
-    let rest = big_from-zeros (suc i) n xs (λ k low. none k (omega arith)) in
+    let here = none i (omega arith) in let rest = big_from-zeros (suc i) n xs (λ k low. none k (omega arith)) in
     rw (here, rest) (omega arith)
 
 big_from-split : (i a k : ℕ) (xs : List ℕ) → big_from i (a + k) xs ≡ big_from i a xs * 256 ^ k + big_from (i + a) k xs
@@ -34,8 +33,7 @@ big_from-split i zero k xs =
     omega (arith, moved)
 big_from-split i (suc a) k xs =
     let b = slice_index xs i in let p = 256 ^ a in let q = 256 ^ k in let r = big_from (suc i) a xs in
-    let ih = big_from-split (suc i) a k xs in
-    let e : suc i + a ≡ i + suc a = omega arith in
+    let ih = big_from-split (suc i) a k xs in let e : suc i + a ≡ i + suc a = omega arith in
     let moved : big_from (suc i + a) k xs ≡ big_from (i + suc a) k xs = ap (λ (j : ℕ). big_from j k xs) e in
     let worth : b * 256 ^ (a + k) ≡ b * p * q = ap (λ (n : ℕ). b * n) (pow-add 256 a k) ∙ sym (mul_assoc b p q) in
     let all : (b * p + r) * q ≡ b * p * q + r * q = add-mul (b * p) r q in
@@ -163,8 +161,7 @@ module _ (b : List ℕ) (bytes : AreBytes b) (h len word : ℕ)
 
     behind : bit_and word ((2 ^ 64 - 1) / 2 ^ (8 * len)) ≡ big_from len rest eight
     behind =
-        let ones = ones_shr 64 (8 * len) (omega arith) in
-        let e : 64 - 8 * len ≡ 8 * rest = omega arith in
+        let ones = ones_shr 64 (8 * len) (omega arith) in let e : 64 - 8 * len ≡ 8 * rest = omega arith in
         let size = pow256 rest in
         let small : big_from len rest eight < 2 ^ (8 * rest) =
         subst (λ (n : ℕ). big_from len rest eight < n) size
@@ -177,8 +174,7 @@ module _ (b : List ℕ) (bytes : AreBytes b) (h len word : ℕ)
 
     pub short_front : word - bit_and word ((2 ^ 64 - 1) / 2 ^ (8 * len)) ≡ front name
     short_front =
-        let whole = is ∙ split eight in
-        let own = split name in
+        let whole = is ∙ split eight in let own = split name in
         let none = big_from-zeros len rest name (λ k low. read_past (bytes_of b) (h + 16) len k low) in
         let alike = big_from-same 0 len name eight (λ k low high. same k (omega arith) (omega arith)) in
         let worth : big_from 0 len name * 256 ^ rest ≡ big_from 0 len eight * 256 ^ rest =

@@ -347,8 +347,7 @@ pub comparisons_found : (m : Memory) (key : Key) (hs : List ℕ) (block count : 
 comparisons_found m key hs block count a long =
     ap (λ n. comparisons_in m key block n) long
     ∙ same_comparisons (length hs) (order_at m key block) (λ j. order m key (unwrap_or (slice_get hs j) 0)) 0
-    (length hs)
-    (λ j l. ap (λ (o : Option ℕ). order m key (unwrap_or o 0))
+    (length hs) (λ j l. ap (λ (o : Option ℕ). order m key (unwrap_or o 0))
     (entry_here m block hs j a l ∙ sym (slice_get-get_or hs j 0 l)))
 
 pub comparisons_none : (m : Memory) (key : Key) (hs : List ℕ) → length hs ≡ 0 → comparisons m key hs ≡ 0

@@ -45,8 +45,7 @@ counted {a} {b} {c} {at} {block} {f} {n} {place} {count} {t} gs p w one low link
         capacity = SameBut-word B C (at + 8) 8 (at + 16) two.rest (inr (omega arith))
             ∙ SameBut-word A B f n (at + 16) one.rest (inl (omega arith)) ∙ i.stands.capacity;
         entries = subst (λ (o : Option Extent). AreEntries C (record { capacity = t.capacity; extent = o }) gs)
-            (sym p.is)
-            (subst (λ k. AreLinks C k gs) (sym p.begins) links2);
+            (sym p.is) (subst (λ k. AreLinks C k gs) (sym p.begins) links2);
       };
       places = i.places;
       few = few;
@@ -113,8 +112,7 @@ gaps_kept {a} {b} {c} {at} {block} {n} {t = t} p w k one few e two =
 
 block_room : (c : Cut) (h places : ℕ) → IsBlockFor c h places → IsTrue (has_room (live_of c.bytes) h (8 * places))
 block_room c h places f =
-    let n = 8 * places in let x = f.extent in
-    let two = and_parts (same_role x.role IndexRole) (holds x n) f.fits in
+    let n = 8 * places in let x = f.extent in let two = and_parts (same_role x.role IndexRole) (holds x n) f.fits in
     found-room (live_of c.bytes) h n x f.found (leb-true (n + 16) x.len two.1)
 
 pub block_whole : {c : Cut} {h places : ℕ} → IsHeap current c.bytes → IsBlockFor c h places → h % 16 ≡ 0
@@ -506,8 +504,7 @@ shrunk_some a b e at cap x hs p some one word s w =
     let q : handle y + 8 * k ≡ handle x + 8 * k = omega arith in
     ap (λ j. link_at E j) q
     ∙ Same-link B E (handle x) (x.offset + min x.len y.len) (handle x + 8 * k) r.still.payload (omega arith)
-    (omega arith)
-    ∙ SameBut-link A B (at + 16) 8 (handle x + 8 * k) one.rest (inr (omega arith))) in
+    (omega arith) ∙ SameBut-link A B (at + 16) 8 (handle x + 8 * k) one.rest (inr (omega arith))) in
     let index : IsIndexOf e at (record { capacity = n; extent = Some y }) hs = record {
       heap = laid-heap e.bytes (resized (live_of b.bytes) y) r.live;
       stands = record {

@@ -222,5 +222,4 @@ pub growth-written : {a b : Cut} {at n : ℕ} (g : Option ℕ) (h k : ℕ) → C
     → IsTrue (has_room (live_of a.bytes) h (k + n)) → InHeader at → CanGrow b at g
 growth-written {a} {b} {n = n} g h k can d room w =
     let keeps = changed-keeps current a b h k n d room in
-    still_grows g (words_in a b keeps.behind w)
-    (λ j x q e. ap (λ (l : LiveSet). extent_at l j) (same_live d) ∙ e) can
+    still_grows g (words_in a b keeps.behind w) (λ j x q e. ap (λ (l : LiveSet). extent_at l j) (same_live d) ∙ e) can

@@ -1,13 +1,12 @@
 //! An entry more, or less.
-ghost use Rattle.std.specs.Prelude.{◌≡◌, ℕ, ◌+◌, ◌-◌, ◌*◌, ◌%◌, ◌<◌, ◌≤◌, IfSome, IsTrue, List, None, Some};
-ghost use Rattle.std.specs.Prelude.{insert, remove};
+ghost use Rattle.std.specs.Prelude.{◌≡◌, ℕ, ◌+◌, ◌-◌, ◌*◌, ◌%◌, ◌<◌, ◌≤◌, IfSome, IsTrue, List, None, Some, insert};
+ghost use Rattle.std.specs.Prelude.{remove};
 ghost use Rattle.raw_region.specs.{Format.current, Memory.bytes_of};
 ghost use Rattle.offset_link.specs.{Link.link_at, Relinked.AllLead, Relinked.KeepTargets};
-ghost use Rattle.best_fit.specs.{Fit.others, Table.Table as ATable};
 ghost use Rattle.best_fit.specs.Heap.{IsChanged, IsHeap, KeepsGaps, LaysOut, has_room, heap_touches, live_of};
-ghost use Rattle.seg_index.specs.Growth.{AddKeeps, Adds, CanGrow, IsBlockFor, KeepsRest, beside_table, grown_live};
-ghost use Rattle.seg_index.specs.{Growth.unlinked, Index.grown_capacity};
-ghost use Rattle.seg_index.specs.Held.{HasIndex, IsIndexIn, IsIndexOf, capacity_at, entry_count, place_of};
+ghost use Rattle.best_fit.specs.Table.{Table as ATable};
+ghost use Rattle.seg_index.specs.Growth.{AddKeeps, Adds, CanGrow, KeepsRest, beside_table, grown_live};
+ghost use Rattle.seg_index.specs.Held.{HasIndex, IsIndexOf, entry_count, place_of};
 
 use crate::growing::{Growth, LINK, grown};
 use crate::index::Index;
@@ -33,9 +32,21 @@ impl Index {
             (λ old. steps.old < steps.new)) }
         ensures steps { steps.new ≤ steps.old + heap_touches (live_of heap.old.bytes) }
     {
+        let count = self.len(heap);
         match growth.block {
-            None => self.insert(heap, place, handle),
-            Some(block) => self.insert_into(heap, block, place, handle, steps),
+            None => {
+                let block = heap.header_link(self.place()).unwrap_or(0);
+                spread(heap, block, block, place, count, handle);
+                heap.set_header_word(self.place() + 8, count + 1);
+            }
+            Some(block) => {
+                let capacity = grown(self.capacity(heap));
+                // without a block there are no links to be moved
+                let from = heap.header_link(self.place()).unwrap_or(block);
+                heap.shift_non_null_links(from, 0, block, 0, place);
+                spread(heap, from, block, place, count, handle);
+                self.settle(heap, block, capacity, count + 1, steps);
+            }
         }
     }
 
@@ -55,51 +66,6 @@ impl Index {
         let at = LINK * place;
         heap.shift_non_null_links(block, at + LINK, block, at, count - place - 1);
         heap.set_header_word(self.place() + 8, count - 1);
-    }
-
-    /// Puts an entry at a place of an index that has places left.
-    fn insert(self, heap: &mut Heap, place: u64, handle: u64)
-        requires index { HasIndex heap.old (place_of self) }
-        requires room { entry_count heap.old (place_of self) < capacity_at heap.old (place_of self) }
-        requires within { place ≤ entry_count heap.old (place_of self) }
-        requires handle { handle % 16 ≡ 0 }
-        ensures index { (t : ATable) (handles : List ℕ) → IsIndexOf heap.old (place_of self) t handles
-            → IsIndexOf heap.new (place_of self) t (insert handles place handle) }
-        ensures live { LaysOut current heap.new.bytes (live_of heap.old.bytes) }
-        ensures keeps { (t : ATable) (handles : List ℕ) → IsIndexOf heap.old (place_of self) t handles
-            → KeepsRest heap.old heap.new (place_of self) (beside_table t (live_of heap.old.bytes).extents) }
-        ensures gaps { KeepsGaps heap.old heap.new }
-    {
-        let count = self.len(heap);
-        let block = heap.header_link(self.place()).unwrap_or(0);
-        spread(heap, block, block, place, count, handle);
-        heap.set_header_word(self.place() + 8, count + 1);
-    }
-
-    /// The same into a block with more places, which becomes the index's.
-    fn insert_into(self, heap: &mut Heap, block: u64, place: u64, handle: u64, steps: &mut Steps)
-        requires index { HasIndex heap.old (place_of self) }
-        requires block { IsBlockFor heap.old block (grown_capacity (capacity_at heap.old (place_of self))) }
-        requires apart { link_at (bytes_of heap.old.bytes) (place_of self) ≡ Some block → ⊥ }
-        requires within { place ≤ entry_count heap.old (place_of self) }
-        requires handle { handle % 16 ≡ 0 }
-        ensures index { (t : ATable) (handles : List ℕ) → IsIndexOf heap.old (place_of self) t handles
-            → IsIndexIn heap.old heap.new (place_of self) block (grown_capacity (capacity_at heap.old (place_of self)))
-            (insert handles place handle) }
-        ensures live { LaysOut current heap.new.bytes (unlinked heap.old (place_of self)) }
-        ensures keeps { KeepsRest heap.old heap.new (place_of self)
-            (others block (unlinked heap.old (place_of self)).extents) }
-        ensures counted { steps.old ≤ steps.new }
-        ensures went { IfSome (link_at (bytes_of heap.old.bytes) (place_of self)) (λ old. steps.old < steps.new) }
-        ensures steps { steps.new ≤ steps.old + heap_touches (live_of heap.old.bytes) }
-    {
-        let count = self.len(heap);
-        let capacity = grown(self.capacity(heap));
-        // without a block there are no links to be moved
-        let from = heap.header_link(self.place()).unwrap_or(block);
-        heap.shift_non_null_links(from, 0, block, 0, place);
-        spread(heap, from, block, place, count, handle);
-        self.settle(heap, block, capacity, count + 1, steps);
     }
 }
 

@@ -1,5 +1,5 @@
-//! The one way from an entry to the key that it leads to: each comparison is counted. The first eight bytes of a name, as
-//! one number, tell most names apart in one step.
+//! The one way from an entry to the key that it leads to: each comparison is counted. The first eight bytes of a name,
+//! as one number, tell most names apart in one step.
 ghost use Rattle.std.specs.Prelude.{◌≡◌, ◌+◌, ◌*◌, ◌%◌, ◌^◌, ◌<◌, IsTrue};
 ghost use Rattle.std.specs.{Cmp.Lexicographic.slice_cmp, Ordering.nat_cmp};
 ghost use Rattle.raw_region.specs.{Memory.bytes_of, Format.current};

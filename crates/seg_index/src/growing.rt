@@ -107,24 +107,18 @@ impl Index {
         }
     }
 
-    /// Makes a block whose first links are set the block of an index, and releases the one that it had.
-    pub(crate) fn settle(
-        self,
-        heap: &mut Heap,
-        block: u64,
-        capacity: u64,
-        count: u64,
-        steps: &mut Steps,
-    )
+    /// Makes a block of `n` places, of which the first `count` links are set, the block of an index, and releases the
+    /// one that it had.
+    pub(crate) fn settle(self, heap: &mut Heap, block: u64, n: u64, count: u64, steps: &mut Steps)
         requires heap { IsHeap current heap.old.bytes }
-        requires block { IsBlockFor heap.old block capacity }
+        requires block { IsBlockFor heap.old block n }
         requires released { IfSome (link_at (bytes_of heap.old.bytes) (place_of self))
             (λ h. IsTrue (is_live_in (live_of heap.old.bytes) h) × (h ≢ block)) }
-        requires some { 0 < capacity }
-        requires within { count ≤ capacity }
+        requires some { 0 < n }
+        requires within { count ≤ n }
         ensures index { (handles : List ℕ) → AreLinks (bytes_of heap.old.bytes) block handles → count ≡ length handles
             → AllByRecursion (λ h. h % 16 ≡ 0) handles
-            → IsIndexIn heap.old heap.new (place_of self) block capacity handles }
+            → IsIndexIn heap.old heap.new (place_of self) block n handles }
         ensures live { LaysOut current heap.new.bytes (unlinked heap.old (place_of self)) }
         ensures keeps { KeepsRest heap.old heap.new (place_of self) (unlinked heap.old (place_of self)).extents }
         ensures counted { steps.old ≤ steps.new }
@@ -135,7 +129,7 @@ impl Index {
         let old = heap.header_link(place);
         heap.set_header_link(place, Some(block));
         heap.set_header_word(place + 8, count);
-        heap.set_header_word(place + 16, capacity);
+        heap.set_header_word(place + 16, n);
         if let Some(old) = old {
             heap.deallocate(old, steps);
         }

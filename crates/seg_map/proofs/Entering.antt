@@ -47,9 +47,7 @@ pub record PairParts {K V : Type 0} (kp : Plain K) (vp : Plain V) (p : Pair K V)
 pub pair_parts : {K V : Type 0} {kp : Plain K} {vp : Plain V} {live : LiveSet} {h : ℕ} {p : Pair K V}
     → IsPairIn kp vp live h p → PairParts kp vp p
 pair_parts {kp = kp} {vp = vp} {p = p} i =
-    let parts = and_parts _ _ i.good in
-    let values = and_parts _ _ parts.0 in
-    let two = and_parts _ _ parts.1 in
+    let parts = and_parts _ _ i.good in let values = and_parts _ _ parts.0 in let two = and_parts _ _ parts.1 in
     record {
       key = values.0;
       value = values.1;
@@ -81,8 +79,7 @@ module _ {K V : Type 0} (less : K → K → Bool) where
   rising_nodes on keys [] k r = refl
   rising_nodes on keys (p ∷ []) k r = refl
   rising_nodes on keys (p ∷ q ∷ qs) k r =
-      let two = and_parts _ _ r in
-      let rest = rising_nodes on keys (q ∷ qs) k.1 two.1 in
+      let two = and_parts _ _ r in let rest = rising_nodes on keys (q ∷ qs) k.1 two.1 in
       let parts = and_parts _ _ rest in
       let below : comes_before less keys (pair_node p) (pair_node q) ≡ true =
       (λ i. before_key less (k.0 i) (k.1.0 i)) ∙ two.0 in
@@ -126,8 +123,7 @@ module _ {K V : Type 0} {kp : Plain K} {vp : Plain V} (laws : Laws kp) (c : Cut)
   pair_block p i =
       let q = pair_parts i in let long = q.long in
       any_at (λ (x : Extent). (handle x == pair_node p) && serves x Node (16 + kp.SIZE))
-      (live_of c.bytes).extents p.node
-      (found_in (live_of c.bytes).extents (handle p.node) p.node i.listed)
+      (live_of c.bytes).extents p.node (found_in (live_of c.bytes).extents (handle p.node) p.node i.listed)
       (rw (eq-eqb (handle p.node) (pair_node p) refl, q.role, le-leb (16 + kp.SIZE + 16) p.node.len (omega arith)) refl)
 
   pub good : Good (16 + kp.SIZE) (nodes_of s.map.tree.tree) c

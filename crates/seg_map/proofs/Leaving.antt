@@ -62,8 +62,7 @@ module _ {K V : Type 0} {kp : Plain K} {vp : Plain V} (kl : Laws kp) (vl : Laws 
 
   pub erased : IsErased kp vp c f h at ps p key
   erased =
-      let room = roomy e h (at + 24) t.map.heap t.map.room in
-      let begins = room.at in let long = room.room in
+      let room = roomy e h (at + 24) t.map.heap t.map.room in let begins = room.at in let long = room.room in
       let apart = other h (apart_all kp vp (live_of c.bytes) h ps s.pairs) in
       let same = other_block (live_of e.bytes) node h r.keeps room.found (λ g. apart (sym begins ∙ g)) in
       record {

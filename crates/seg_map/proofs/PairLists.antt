@@ -221,8 +221,7 @@ none_behind {K} {V} less strict keys q (p ∷ ps) e k b =
   where
     differs : pair_node q ≡ pair_node p → ⊥
     differs f =
-        let same : Some q.key ≡ Some p.key = sym e ∙ ap keys f ∙ k.0 in
-        let is : q.key ≡ p.key = cc same in
+        let same : Some q.key ≡ Some p.key = sym e ∙ ap keys f ∙ k.0 in let is : q.key ≡ p.key = cc same in
         both_ways _ (ap (less q.key) (sym is) ∙ strict q.key) b.0
 
 module _ {K V : Type 0} (less : K → K → Bool) (strict : IsStrict less) (on : Chains less) (keys : ℕ → Option K) where
@@ -316,8 +315,7 @@ module _ {K V : Type 0} (less : K → K → Bool) where
         and_from (comes_before less keys (pair_node p) (pair_node q) || comes_before less keys (pair_node q)
         (pair_node p)) (has_place (comes_before less keys) (pair_node p) (nodes_of_pairs qs))
         ((λ i. before_key less (own i) (k.0 i) || before_key less (k.0 i) (own i))
-        ∙ not-false (less p.key q.key || less q.key p.key) two.0)
-        (place_of qs k.1 two.1)
+        ∙ not-false (less p.key q.key || less q.key p.key) two.0) (place_of qs k.1 two.1)
 
     pub put_nodes : (ps : List (Pair K V)) → HaveKeys keys ps → pair_at less ps p.key ≡ None
         → put (comes_before less keys) (pair_node p) (nodes_of_pairs ps) ≡ nodes_of_pairs (put_pair less p ps)
@@ -385,8 +383,7 @@ module _ {K V : Type 0} (less : K → K → Bool) where
               let found = rw (n, y) at e in
               rw (n, y) (below_rising less q (put_pair less p' qs)
               (replaced_all (λ (x : Pair K V). less q.key x.key ≡ true) (λ (x : Pair K V). less q.key x.key ≡ true)
-              (λ x h o. h) y qs rest found
-              (rising_below less on q qs r)) (replaced_rising qs rest found))
+              (λ x h o. h) y qs rest found (rising_below less on q qs r)) (replaced_rising qs rest found))
           | inr z ↦
               let f = rw (n, z) at e in let is : q.key ≡ p'.key = cc in
               rw (n, z) (below_rising less p' qs (subst (λ k. Below less k qs) is (rising_below less on q qs r)) rest)

@@ -75,8 +75,7 @@ module _ {len : ℕ} {ns : List ℕ} {c d : Cut} {n : ℕ} (g : PairNode len ns 
       by_place (inl e) = rw e h.links
       by_place (inr o) =
           subst (λ (x : Cell). (leads (λ k. is_in k ns) x.left && leads (λ k. is_in k ns) x.right) ≡ true)
-          (sym (h.others m i o))
-          (links_at len ns c m (record { good = g.good; listed = i }))
+          (sym (h.others m i o)) (links_at len ns c m (record { good = g.good; listed = i }))
 
   pub good_stays : Good len ns d
   good_stays =
@@ -100,12 +99,10 @@ module _ {len : ℕ} {ns : List ℕ} {c d : Cut} {n : ℕ} (g : PairNode len ns 
   other_colour : (k : ℕ) → is_other ns (live_of c.bytes) k ≡ true
       → word_at (bytes_of d.bytes) (k - 8) % 16 ≡ word_at (bytes_of c.bytes) (k - 8) % 16
   other_colour k t =
-      let two = and_parts _ _ t in
-      let l = passing (λ (x : Extent). handle x == k) (live_of c.bytes).extents two.0 in
+      let two = and_parts _ _ t in let l = passing (λ (x : Extent). handle x == k) (live_of c.bytes).extents two.0 in
       let far : k ≡ n → ⊥ = λ e. both_ways (is_in k ns) (not-true (is_in k ns) two.1)
       (ap (λ j. is_in j ns) e ∙ g.listed) in
-      let at = eqb-true (handle l.extent) k l.passes in
-      let w : l.extent.offset + 8 ≡ k - 8 = omega arith in
+      let at = eqb-true (handle l.extent) k l.passes in let w : l.extent.offset + 8 ≡ k - 8 = omega arith in
       subst (λ a. word_at (bytes_of d.bytes) a % 16 ≡ word_at (bytes_of c.bytes) a % 16) w
       (h.colours l.extent l.listed (λ e. far (sym at ∙ e)))
 
@@ -191,8 +188,7 @@ leads_in len ns c (Some n) h = (is_pair_node-PairNode len ns c n h).listed
 kept_away : (ns : List ℕ) (live : LiveSet) (n k : ℕ) → is_in n ns ≡ true → is_kept ns live k ≡ true
     → (k < n) ⊎ (n + 16 ≤ k)
 kept_away ns live n k i t =
-    let two = and_parts _ _ t in
-    let off = not-true (is_link_byte ns k) two.1 in
+    let two = and_parts _ _ t in let off = not-true (is_link_byte ns k) two.1 in
     elim (cases_lt k n) [
       | inl l ↦ inl l
       | inr l ↦ elim (cases_lt k (n + 16)) [
@@ -269,8 +265,7 @@ module _ {len : ℕ} {ns : List ℕ} {c d : Cut} {n from : ℕ} (g : PairNode le
       key_apart : (m : ℕ) → is_in m ns ≡ true → (m ≡ n) ⊎ (m ≡ n → ⊥) → (m + len ≤ from) ⊎ (from + 8 ≤ m + 16)
       key_apart m i (inl e) = inr (rw e high)
       key_apart m i (inr o) =
-          let q : PairNode len ns c m = record { good = g.good; listed = i } in
-          grind (arith, nodes_apart g q o)
+          let q : PairNode len ns c m = record { good = g.good; listed = i } in grind (arith, nodes_apart g q o)
 
   -- both links are known then
   links_set : {left right : Option ℕ} → link_at (bytes_of d.bytes) n ≡ left → link_at (bytes_of d.bytes) (n + 8) ≡ right
@@ -318,8 +313,7 @@ module _ {len : ℕ} {ns : List ℕ} {c d : Cut} {n : ℕ} {red : Bool} (g : Pai
   node_same : (m : ℕ) → PairNode len ns c m → Same (bytes_of c.bytes) (bytes_of d.bytes) m (m + len)
   node_same m q =
       let b = node_block len ns c m q in let at = b.at in let enough = b.holds in
-      let s = same_payload b.extent b.listed in
-      record { at = λ k l h. s.at k (omega arith) (omega arith) }
+      let s = same_payload b.extent b.listed in record { at = λ k l h. s.at k (omega arith) (omega arith) }
 
   left_link : (m : ℕ) → PairNode len ns c m → link_at (bytes_of d.bytes) m ≡ link_at (bytes_of c.bytes) m
   left_link m q = Same-link _ _ _ _ m (node_same m q) (le_refl m) (omega arith)
@@ -339,8 +333,7 @@ module _ {len : ℕ} {ns : List ℕ} {c d : Cut} {n : ℕ} {red : Bool} (g : Pai
 
   other_red : (m : ℕ) → PairNode len ns c m → (m ≡ n → ⊥) → is_red (bytes_of d.bytes) m ≡ is_red (bytes_of c.bytes) m
   other_red m q o =
-      let b = node_block len ns c m q in let at = b.at in
-      let w : b.extent.offset + 8 ≡ m - 8 = omega arith in
+      let b = node_block len ns c m q in let at = b.at in let w : b.extent.offset + 8 ≡ m - 8 = omega arith in
       let e = subst (λ a. word_at (bytes_of d.bytes) a % 16 ≡ word_at (bytes_of c.bytes) a % 16) w
       (colour_at b.extent b.listed (λ f. o (sym at ∙ f))) in
       same_red (word_at (bytes_of c.bytes) (m - 8)) (word_at (bytes_of d.bytes) (m - 8)) e

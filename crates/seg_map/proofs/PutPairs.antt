@@ -412,8 +412,7 @@ module _ {K V : Type 0} {kp : Plain K} {vp : Plain V} (c : Cut) {h at : ℕ} {ps
 
     own_bytes : IsPairAt kp.SIZE kp.spelling vp.spelling (bytes_of d.bytes) new
     own_bytes =
-        let found = pair_of kp.order Was ps key p has were in
-        let size = kl.spells p.key (pair_parts own).key in
+        let found = pair_of kp.order Was ps key p has were in let size = kl.spells p.key (pair_parts own).key in
         let old = Has-same _ _ _ _ (handle p.node + 16) (kp.spelling p.key)
         (SameBut-Same _ _ _ _ (handle p.node + 16) (handle p.node + 16 + kp.SIZE) change.rest (inl (omega arith)))
         (omega arith) (omega (arith, size)) found.0.bytes.0 in
@@ -440,8 +439,7 @@ module _ {K V : Type 0} {kp : Plain K} {vp : Plain V} (c : Cut) {h at : ℕ} {ps
         (replaced_rising kp.order kl.transitive p new same_key_is ps s.rising has)
         (rw (changed-live _ _ _ _ _ change) (replaced_all kp.order kl.transitive p new same_key_is
         (IsPairIn kp vp (live_of c.bytes) h) (IsPairIn kp vp (live_of c.bytes) h) (λ q a o. a) own_block ps s.rising has
-        s.pairs))
-        (replaced_all kp.order kl.transitive p new same_key_is Was
+        s.pairs)) (replaced_all kp.order kl.transitive p new same_key_is Was
         (IsPairAt kp.SIZE kp.spelling vp.spelling (bytes_of d.bytes)) bytes_stay own_bytes ps s.rising has were)
 
     pub is_put_again : IsPutAgain kp vp c d h at ps p key value

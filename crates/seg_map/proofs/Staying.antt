@@ -387,8 +387,7 @@ module _ {K V : Type 0} {kp : Plain K} {vp : Plain V} {c d : Cut} {h at : ℕ} {
         → cells_of (bytes_of e.bytes) m ≡ pair_cells (16 + kp.SIZE) ns d m
     tree_cells qs {t} k lists these own m i =
         let j = ap (λ ms. is_in m ms) (sym lists) ∙ i in
-        let a = at_node (IsPairIn kp vp (live_of c.bytes) h) qs m j these in
-        let long = (pair_parts a.holds).long in
+        let a = at_node (IsPairIn kp vp (live_of c.bytes) h) qs m j these in let long = (pair_parts a.holds).long in
         let same = block_stays a.pair.node a.holds.listed a.holds.apart in
         subst (λ x. cells_of (bytes_of e.bytes) x ≡ cells_of (bytes_of d.bytes) x) a.at
         (block_cells (bytes_of d.bytes) (bytes_of e.bytes) a.pair.node same (omega arith))

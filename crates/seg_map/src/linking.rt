@@ -1,9 +1,7 @@
 //! Nodes that enter and leave the tree of a map, and the three words that say so.
-ghost use Rattle.std.specs.Prelude.{◌≡◌, ◌+◌, ◌-◌, ◌%◌, ◌<◌, ◌≤◌, Some, None, IfSome, IsTrue};
-ghost use Rattle.link_tree.specs.Nodes.{put, without};
+ghost use Rattle.std.specs.Prelude.{◌≡◌, ◌+◌, ◌%◌, ◌<◌, IfSome, IsTrue};
 ghost use Rattle.best_fit.specs.{Extents.is_proper, Heap.has_room, Heap.heap_touches, Heap.live_of};
-ghost use Rattle.seg_map.specs.PairNodes.{comes_before, own_nodes};
-ghost use Rattle.seg_map.specs.Linking.{CanLink, CanUnlink, Relinked, keys_in};
+ghost use Rattle.seg_map.specs.PairNodes.{own_nodes};
 ghost use Rattle.seg_map.specs.Changing.{CanGiveUp, CanPutIn, Drops, IsHeaded, PutsIn, TreeSteps};
 
 use crate::maps::SegMap;
@@ -46,8 +44,10 @@ impl<K: Plain, V: Plain> SegMap<K, V> {
     {
         let root = heap.link(self.place.handle, self.place.at);
         let count = self.len(&*heap);
-        let top = unlink::<K>(heap, root, start, node, steps);
-        write_head(heap, self.place, top, count - 1);
+        let mut pairs = lend::<K>(heap, root, None);
+        let changed = remove_at(&mut pairs, root, start, node);
+        steps.add(changed.steps);
+        write_head(heap, self.place, changed.root, count - 1);
         heap.deallocate(node, steps);
     }
 
@@ -61,8 +61,10 @@ impl<K: Plain, V: Plain> SegMap<K, V> {
     {
         let root = heap.link(self.place.handle, self.place.at);
         let count = self.len(&*heap);
-        let top = link::<K>(heap, root, start, node, steps);
-        write_head(heap, self.place, top, count + 1);
+        let mut pairs = lend::<K>(heap, root, Some(node));
+        let changed = insert_at(&mut pairs, root, start, node);
+        steps.add(changed.steps);
+        write_head(heap, self.place, changed.root, count + 1);
     }
 }
 
@@ -83,45 +85,4 @@ fn lend<'a, K: Plain>(
         root,
         keys: PhantomData,
     }
-}
-
-/// Takes a node out of the tree that a link leads to, from the root on or from where a search has found that its
-/// removal begins, and answers the new root.
-fn unlink<K: Plain>(
-    heap: &mut Heap,
-    root: Option<u64>,
-    start: Option<u64>,
-    node: u64,
-    steps: &mut Steps,
-) -> Option<u64>
-    requires { CanUnlink K.Plain (own_nodes heap.old.bytes root None) heap.old root start node }
-    ensures counted { steps.old < steps.new }
-    ensures change { Relinked K.Plain (own_nodes heap.old.bytes root None) heap.old heap.new root result
-        (without node) (steps.new - steps.old) }
-{
-    let mut pairs = lend::<K>(heap, root, None);
-    let changed = remove_at(&mut pairs, root, start, node);
-    steps.add(changed.steps);
-    changed.root
-}
-
-/// Puts a node into the tree that a link leads to, from the root on or from where a search has found that its
-/// insertion begins, and answers the new root.
-fn link<K: Plain>(
-    heap: &mut Heap,
-    root: Option<u64>,
-    start: Option<u64>,
-    node: u64,
-    steps: &mut Steps,
-) -> Option<u64>
-    requires { CanLink K.Plain (own_nodes heap.old.bytes root (Some node)) heap.old root start node }
-    ensures counted { steps.old < steps.new }
-    ensures change { Relinked K.Plain (own_nodes heap.old.bytes root (Some node)) heap.old heap.new root result
-        (put (comes_before K.order (keys_in K.Plain (own_nodes heap.old.bytes root (Some node)) heap.old)) node)
-        (steps.new - steps.old) }
-{
-    let mut pairs = lend::<K>(heap, root, Some(node));
-    let changed = insert_at(&mut pairs, root, start, node);
-    steps.add(changed.steps);
-    changed.root
 }

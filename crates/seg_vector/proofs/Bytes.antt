@@ -11,8 +11,7 @@ pub read-append : (m : Memory) (at a b : ℕ) → read m at (a + b) ≡ read m a
 read-append m at zero b = let e1 : 0 + b ≡ b = omega arith in let e2 : at ≡ at + 0 = omega arith in ap (read m at) e1
     ∙ ap (λ k. read m k b) e2
 read-append m at (suc a) b =
-    let e1 : suc a + b ≡ suc (a + b) = omega arith in
-    let e2 : at + 1 + a ≡ at + suc a = omega arith in
+    let e1 : suc a + b ≡ suc (a + b) = omega arith in let e2 : at + 1 + a ≡ at + suc a = omega arith in
     ap (read m at) e1 ∙ ap (λ ws. m at ∷ ws) (read-append m (at + 1) a b ∙ ap (λ k. read m (at + 1) a ++ read m k b) e2)
 
 pub Has-append : (m : Memory) (at : ℕ) (xs ys : List ℕ) → Has m at xs → Has m (at + length xs) ys → Has m at (xs ++ ys)

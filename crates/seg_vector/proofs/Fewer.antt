@@ -23,8 +23,7 @@ pub started : {old s1 s2 new : Cut} (p : Place) (each : ℕ) → p.at % 8 ≡ 0
     → Stands new.bytes p each 0 no_table []
 started {old} {s1} {s2} {new} p each a r c link c2 len c3 cap =
     let m1 = bytes_of s1.bytes in let m2 = bytes_of s2.bytes in let m3 = bytes_of new.bytes in
-    let at = place_at p in
-    let one : p.handle + (p.at + 8) ≡ at + 8 = omega arith in
+    let at = place_at p in let one : p.handle + (p.at + 8) ≡ at + 8 = omega arith in
     let two : p.handle + (p.at + 16) ≡ at + 16 = omega arith in
     record {
       heap = laid-heap _ _ c.live;
@@ -136,8 +135,7 @@ record Short (x y : Extent) (n : ℕ) : Type 0 where
 short : (l : LiveSet) (x : Extent) (n : ℕ) → IsTrue (same_role x.role Storage) → n + 16 ≤ x.len
     → Short x (shorter l x n) n
 short l x n role big =
-    let y = shorter l x n in let sh = shorter-IsShorter l x n in
-    let enough = sh.holds (le-leb (n + 16) x.len big) in
+    let y = shorter l x n in let sh = shorter-IsShorter l x n in let enough = sh.holds (le-leb (n + 16) x.len big) in
     record {
       begins = ap (λ (z : Extent). handle z) sh.same;
       less = sh.less;
@@ -153,8 +151,7 @@ pub fitted : {old mid new : Cut} {p : Place} {each len c g : ℕ} {o : Option Ex
 fitted {o = None} some s link c1 word sh = none-some s.words.link link
 fitted {old} {mid} {new} {p} {each} {len} {c} {g} {o = Some x} {bytes} some s link c1 word sh =
     let l = live_of old.bytes in let m = bytes_of old.bytes in let mi = bytes_of mid.bytes in
-    let m' = bytes_of new.bytes in let at = place_at p in
-    let n : ℕ = each * len in
+    let m' = bytes_of new.bytes in let at = place_at p in let n : ℕ = each * len in
     let y = shorter l x n in let g_is = same-some (sym link ∙ s.words.link) in
     let other : p.handle ≢ handle x = λ e. s.own.1 (sym e) in
     let full = table-full each c x s.table in let less = more-times each len c s.fits in
@@ -177,8 +174,7 @@ fitted {old} {mid} {new} {p} {each} {len} {c} {g} {o = Some x} {bytes} some s li
     } in
     let three : IsRun old new p (x ∷ []) (y ∷ []) len (table len (Some y)) =
     record { change = two.change; heap = two.heap; head = two.head; words = words } in
-    let k1 = beside-head (handle x) s.heap (room-head old p s.heap s.room) wide s.own.0 other in
-    let total = s.long in
+    let k1 = beside-head (handle x) s.heap (room-head old p s.heap s.room) wide s.own.0 other in let total = s.long in
     let least : min x.len y.len ≡ y.len = omega (arith, q.less) in
     let stored : Has mi (handle x) bytes = read-same m mi _ _ (handle x) (length bytes) k1.payload (omega arith)
     (omega (arith, full, less, total)) ∙ s.words.storage in

@@ -253,8 +253,7 @@ facts-own l h (Some x) f n = (f.0, λ e. n.0 (sym e))
 pub stands-run : (c : Cut) {p : Place} {each len : ℕ} {t : Table} {bytes : List ℕ} → Stands c.bytes p each len t bytes
     → IsRun c c p (option_to_list t.extent) (option_to_list t.extent) len t
 stands-run c {p} {t} s =
-    let l = live_of c.bytes in let own = option_to_list t.extent in
-    let facts = own-facts l p.handle t.extent s.own in
+    let l = live_of c.bytes in let own = option_to_list t.extent in let facts = own-facts l p.handle t.extent s.own in
     let used = all-in-use own l.extents (live-rises l s.heap.proper) facts.0 facts.1 in
     record {
       change = exchange-same current c (place_at p) 24 own (without_all own l.extents) s.heap used.is;

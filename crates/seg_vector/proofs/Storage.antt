@@ -106,10 +106,8 @@ carried-storage : (m m' : Memory) (each len c : ℕ) (o : Option Extent) (y : Ex
     → IsTrue (is_table Storage each (table c o)) → len ≤ c → length bytes ≡ each * len
     → IsStorage m (table c o) bytes → CarriesOver m m' o y (each * len) → Has m' (handle y) bytes
 carried-storage m m' each len c None y bytes t f e h k =
-    let none = eqb-true c 0 t in
-    let short : len ≡ 0 = omega (arith, f, none) in
-    let a : each * len ≡ each * 0 = ap (λ n. each * n) short in
-    let b : each * 0 ≡ 0 = omega arith in
+    let none = eqb-true c 0 t in let short : len ≡ 0 = omega (arith, f, none) in
+    let a : each * len ≡ each * 0 = ap (λ n. each * n) short in let b : each * 0 ≡ 0 = omega arith in
     let empty = nil_from_length bytes (e ∙ a ∙ b) in
     subst (λ (bs : List ℕ). Has m' (handle y) bs) (sym empty) refl
 carried-storage m m' each len c (Some x) y bytes t f e h k = ap (read m' (handle y)) e ∙ k ∙ ap (read m (handle x))
@@ -162,8 +160,7 @@ grows-more {old} {mid} {s1} {new} {p} {each} n {len} {t} {bytes} more s r c1 lin
       capacity = ap (word_at m') (omega arith) ∙ word;
     }) in
     let serving = regrow-serves l t.extent y (each * n) (storage-role each t.capacity t.extent s.table) r.regrown in
-    let long = serves-full y (each * n) serving in
-    let less = more-times each len n (omega (arith, s.fits, more)) in
+    let long = serves-full y (each * n) serving in let less = more-times each len n (omega (arith, s.fits, more)) in
     let stored = carried-storage (bytes_of old.bytes) (bytes_of mid.bytes) each len t.capacity t.extent y bytes s.table
     s.fits s.long s.words.storage r.carried in
     let stays = beside-head (handle y) run.heap run.head c (run-found run).0 (stands-none-of s run).0 in
@@ -185,8 +182,7 @@ grows-more {old} {mid} {s1} {new} {p} {each} n {len} {t} {bytes} more s r c1 lin
 pub room-small : (c : Cut) (h n : ℕ) → IsHeap current c.bytes → IsTrue (has_room (live_of c.bytes) h n) → n < 1073741824
 room-small c h n heap t =
     let r = room_block c h n heap t in
-    let b = r.block in let enough = r.enough in let ends = b.inside in let size = b.size in
-    omega arith
+    let b = r.block in let enough = r.enough in let ends = b.inside in let size = b.size in omega arith
 
 pub place-small : {b : List ℕ} (p : Place) → IsHeap current b → IsTrue (has_room (live_of b) p.handle (p.at + 24))
     → p.at + 24 < 1073741824
@@ -311,8 +307,7 @@ pub same-storage : {old mid : Cut} {p : Place} {each len from n : ℕ} {t : Tabl
 same-storage {old} {mid} {p} {from = from} {n} {t} s x =
     let l = live_of old.bytes in let own = option_to_list t.extent in
     let facts = own-facts l p.handle t.extent s.own in
-    exchanged-live old mid from n own own current x
-    ∙ ap (λ (xs : List Extent). record l { extents = xs })
+    exchanged-live old mid from n own own current x ∙ ap (λ (xs : List Extent). record l { extents = xs })
     (sym (all-in-use own l.extents (live-rises l s.heap.proper) facts.0 facts.1).is)
 
 -- blocks exchanged, and then those that came written in
@@ -327,8 +322,7 @@ exchange-then {old} {mid} {new} {from} {n} {gone} {come} p q =
 pub capacity-bytes : (c : Cut) {p : Place} {each len n : ℕ} {o : Option Extent} {bytes : List ℕ}
     → IsHeap current c.bytes → Stands c.bytes p each len (table n o) bytes → each * n < 1073741824
 capacity-bytes c {each} {n} {o = None} heap s =
-    let none = eqb-true n 0 s.table in
-    let e : each * n ≡ each * 0 = ap (λ k. each * k) none in
+    let none = eqb-true n 0 s.table in let e : each * n ≡ each * 0 = ap (λ k. each * k) none in
     omega (arith, e)
 capacity-bytes c {each} {n} {o = Some x} heap s =
     let full = table-full each n x s.table in
@@ -381,8 +375,7 @@ pub storage-has : {b : List ℕ} {p : Place} {each len c g : ℕ} {o : Option Ex
     → Stands b p each len (table c o) bytes → link_at (bytes_of b) (place_at p) ≡ Some g → Has (bytes_of b) g bytes
 storage-has {o = None} s link = none-some s.words.link link
 storage-has {b} {o = Some x} {bytes} s link =
-    let g_is = same-some (sym s.words.link ∙ link) in
-    subst (λ k. Has (bytes_of b) k bytes) g_is s.words.storage
+    let g_is = same-some (sym s.words.link ∙ link) in subst (λ k. Has (bytes_of b) k bytes) g_is s.words.storage
 
 pub unchanged-rewritten : (c : Cut) {p : Place} {each len : ℕ} {t : Table} {bytes : List ℕ}
     → Stands c.bytes p each len t bytes → IsRewritten c c p each len t bytes
@@ -426,8 +419,7 @@ pub truncated : {old new : Cut} {p : Place} {each len : ℕ} (n : ℕ) {t : Tabl
     → IsRewritten old new p each n t (take (each * n) bytes)
 truncated {old} {p} {each} {len} n {bytes} s f c2 word =
     let less = more-times each n len f in let total = s.long in let fits = s.fits in
-    let one = stands-run old s in
-    let wide = head-wider p c2 (omega arith) (omega arith) in
+    let one = stands-run old s in let wide = head-wider p c2 (omega arith) (omega arith) in
     let two = run-headed one wide (len-written n (omega arith) c2.rest word one.words) in
     let long : length (take (each * n) bytes) ≡ each * n = omega (arith, length-take (each * n) bytes, total, less) in
     record {
@@ -478,8 +470,7 @@ pub element-fits : {b : List ℕ} {p : Place} {each len : ℕ} (i : ℕ) {t : Ta
     → Stands b p each len t bytes → i < len → each * i + each ≤ each * t.capacity
 element-fits {each} i {t} s f =
     let within = elements-fit (i + 1) s (omega (arith, f)) in
-    let step : each * (i + 1) ≡ each * i + each = omega arith in
-    omega (arith, within, step)
+    let step : each * (i + 1) ≡ each * i + each = omega arith in omega (arith, within, step)
 
 -- ---- the bytes of all elements
 
@@ -502,16 +493,14 @@ ends from [] to f h = (hole-order from to h, tt)
 ends from (x ∷ xs) to f h =
     let two = and_parts (is_hole from x.offset && is_block x) (proper_from (end_of x) xs to) h in
     let front = and_parts (is_hole from x.offset) (is_block x) two.0 in
-    let rest = ends (end_of x) xs to f two.1 in let above = hole-order from x.offset front.0 in
-    let below = rest.0 in
+    let rest = ends (end_of x) xs to f two.1 in let above = hole-order from x.offset front.0 in let below = rest.0 in
     (omega (arith, above, below), (omega (arith, below, f), rest.1))
 
 short-extents : (l : LiveSet) → IsTrue (is_proper l) → AllByRecursion (λ (x : Extent). x.len < 1073741824) l.extents
 unfolding is_proper
 short-extents l p =
     let two = and_parts (is_legal_size l.size) (proper_from 128 l.extents (l.size - 16)) p in
-    let high = (legal_size l.size two.0).high in
-    let low = (legal_size l.size two.0).low in
+    let high = (legal_size l.size two.0).high in let low = (legal_size l.size two.0).low in
     (ends 128 l.extents (l.size - 16) (omega (arith, high, low)) two.1).1
 
 regrow-moved : (l : LiveSet) (x : Extent) (n : ℕ) (o : Option Extent) → holds x n ≡ false → longer l x n ≡ o
@@ -536,8 +525,7 @@ none-by l {x} n (Some y) p found role f e is none =
     let less = (all_of-insert (λ (z : Extent). z.len < 1073741824) y (others (handle y) l.extents)
     (short-extents (resized l y) proper)).0 in
     let serving = regrow-serves l (Some x) y n role (regrow-moved l x n (Some y) e is) in
-    let long = serves-full y n serving in
-    absurd (omega (arith, less, long, f))
+    let long = serves-full y n serving in absurd (omega (arith, less, long, f))
 
 no-regrow : (c : Cut) (p : Place) (each k n : ℕ) (o : Option Extent) → IsHeap current c.bytes
     → IsTrue (is_table Storage each (table k o)) → IsOwnBlock (live_of c.bytes) p.handle o → 1073741824 < n
@@ -587,8 +575,7 @@ pub extended-not : (c : Cut) {p : Place} {each len k : ℕ} (n : ℕ) {o : Optio
     → Stands c.bytes p each len (table k o) bytes → len + n ≤ k → length more ≡ each * n
     → link_at (bytes_of c.bytes) (place_at p) ≡ None → IsRewritten c c p each (len + n) (table k o) (bytes ++ more)
 extended-not c {p} {each} {len} {k} n {o = None} {bytes} more s f long link =
-    let none = eqb-true k 0 s.table in
-    let no : n ≡ 0 = omega (arith, f, none) in
+    let none = eqb-true k 0 s.table in let no : n ≡ 0 = omega (arith, f, none) in
     let nothing : each * 0 ≡ 0 = omega arith in
     let empty = nil_from_length more (long ∙ ap (λ j. each * j) no ∙ nothing) in
     subst (λ (ws : List ℕ). IsRewritten c c p each (len + n) (table k None) (bytes ++ ws)) (sym empty)
@@ -626,13 +613,10 @@ pub erased : {old s1 new : Cut} {p : Place} {each len g : ℕ} (i : ℕ) {t : Ta
     → IsChanged current s1 new (p.handle + (p.at + 8)) 8 → word_at (bytes_of new.bytes) (p.handle + (p.at + 8)) ≡ len
     - 1 → IsRewritten old new p each (len - 1) t (take (each * i) bytes ++ drop (each * i + each) bytes)
 erased {old} {s1} {each} {len} {g} i {t} {bytes} s f link c1 moved c2 word =
-    let m = bytes_of old.bytes in let ms = bytes_of s1.bytes in
-    let k : ℕ = each * i + each in
+    let m = bytes_of old.bytes in let ms = bytes_of s1.bytes in let k : ℕ = each * i + each in
     let n : ℕ = each * (len - i - 1) in
     let front = take (each * i) bytes in let back = drop k bytes in let has = storage-has s link in
-    let total = s.long in
-    let a = pieces each len i bytes (omega (arith, f)) s.long in
-    let before = a.front in
+    let total = s.long in let a = pieces each len i bytes (omega (arith, f)) s.long in let before = a.front in
     let whole : (i + 1) + (len - i - 1) ≡ len = omega (arith, f) in
     let split : each * ((i + 1) + (len - i - 1)) ≡ each * i + each + each * (len - i - 1) = omega arith in
     let sum : k + n ≡ each * len = sym split ∙ ap (λ j. each * j) whole in
@@ -677,8 +661,7 @@ put_in {old} {s1} {s2} {each} {len} {g} i {t} {bytes} more s f room e link c1 mo
     let n : ℕ = each * (len - i) in
     let front = take (each * i) bytes in let back = drop (each * i) bytes in let has = storage-has s link in
     let total = s.long in let a = pieces each len i bytes f s.long in let before = a.front in
-    let behind = a.back in let sum = a.sum in
-    let step : each * (len + 1) ≡ each * len + each = omega arith in
+    let behind = a.back in let sum = a.sum in let step : each * (len + 1) ≡ each * len + each = omega arith in
     let less = more-times each (len + 1) t.capacity (omega (arith, room)) in
     let c : IsChanged current old s2 (g + each * i) (each + n) = record {
       place = record { before = c2.place.before ∙ c1.place.before; after = c2.place.after ∙ c1.place.after };
@@ -722,8 +705,7 @@ pub erase-fits : (c : Cut) {p : Place} {each len : ℕ} (k : ℕ) {g : ℕ} (i :
     → i < word_at (bytes_of c.bytes) (p.handle + p.at + 8) → link_at (bytes_of c.bytes) (place_at p) ≡ Some g
     → Fitting (live_of c.bytes) each i (each * (k - i - 1)) g
 erase-fits c {each} {len} k i s e inside link =
-    let is = e ∙ s.words.len_word in
-    let below : i < len = omega (arith, inside, s.words.len_word) in
+    let is = e ∙ s.words.len_word in let below : i < len = omega (arith, inside, s.words.len_word) in
     let whole : (i + 1) + (k - i - 1) ≡ len = omega (arith, below, is) in
     let split : each * ((i + 1) + (k - i - 1)) ≡ each * i + each + each * (k - i - 1) = omega arith in
     fitting c i (each * (k - i - 1)) len s link s.fits (sym split ∙ ap (λ j. each * j) whole)
@@ -734,8 +716,7 @@ pub insert-fits : (c : Cut) {p : Place} {each len : ℕ} (k : ℕ) {g : ℕ} (i 
     (bytes_of c.bytes) (p.handle + p.at + 16)
     → link_at (bytes_of c.bytes) (place_at p) ≡ Some g → Fitting (live_of c.bytes) each i (each * (k - i)) g
 insert-fits c {each} {len} k i {t} s e inside space link =
-    let is = e ∙ s.words.len_word in
-    let below : i ≤ len = omega (arith, inside, s.words.len_word) in
+    let is = e ∙ s.words.len_word in let below : i ≤ len = omega (arith, inside, s.words.len_word) in
     let room : len < t.capacity = omega (arith, space, s.words.len_word, s.words.capacity) in
     let whole : (i + 1) + (k - i) ≡ len + 1 = omega (arith, below, is) in
     let split : each * ((i + 1) + (k - i)) ≡ each * i + each + each * (k - i) = omega arith in

@@ -194,8 +194,7 @@ pub own-parts : (c : Cut) {p : Place} (a m b : List OwnedText) {t : Table} → I
     → (live_of c.bytes).extents ≡ inserted (option_to_list t.extent ++ text_blocks m)
     (inserted (text_blocks a ++ text_blocks b) (without_all (own_blocks (a ++ (m ++ b)) t) (live_of c.bytes).extents))
 own-parts c {p} a m b {t} s =
-    let own = own_blocks (a ++ (m ++ b)) t in
-    let w = texts-own c s in
+    let own = own_blocks (a ++ (m ++ b)) t in let w = texts-own c s in
     let rest = without_all own (live_of c.bytes).extents in
     w.is ∙ (own-between a m b t).same rest (subst (Rising 128) w.is (live-rises (live_of c.bytes) s.heap.proper))
     ∙ inserted-append (option_to_list t.extent ++ text_blocks m) (text_blocks a ++ text_blocks b) rest
@@ -218,8 +217,7 @@ texts-between {old} {new} {p} qs a m m' b {t} {u} {gone} e f g h before change t
     let x : IsExchanged current old new (place_at p) 24 out into =
     subst (λ (xs : List Extent). IsExchanged current old new (place_at p) 24 xs into) g
     (subst (IsExchanged current old new (place_at p) 24 gone) h change) in
-    let own = own_blocks (a ++ (m ++ b)) t in
-    let w = texts-own old s in let rest = without_all own l.extents in
+    let own = own_blocks (a ++ (m ++ b)) t in let w = texts-own old s in let rest = without_all own l.extents in
     let parts = own-parts old a m b s in
     let stay : without_all out l.extents ≡ inserted same rest = ap (without_all out) parts ∙ without-inserted 128
     out (inserted same rest) (subst (Rising 128) parts (live-rises l s.heap.proper)) in
@@ -231,8 +229,7 @@ texts-between {old} {new} {p} qs a m m' b {t} {u} {gone} e f g h before change t
     let blocks = all-split (SameBlockBut M M' (place_at p) 24) (text_blocks a) (text_blocks b)
     (all_of-inserted (SameBlockBut M M' (place_at p) 24) same rest
     (subst (AllByRecursion (SameBlockBut M M' (place_at p) 24)) stay x.blocks)).0 in
-    let held = all-split (IsHeldText l) a (m ++ b) s.held in
-    let held_b = (all-split (IsHeldText l) m b held.1).1 in
+    let held = all-split (IsHeldText l) a (m ++ b) s.held in let held_b = (all-split (IsHeldText l) m b held.1).1 in
     let owned = all-split (IsOwnedText M) a (m ++ b) s.words.texts in
     let owned_b = (all-split (IsOwnedText M) m b owned.1).1 in
     let apart = all-split (λ (z : Extent). handle z ≢ p.handle) (text_blocks a) (text_blocks m ++ text_blocks b)
@@ -309,8 +306,7 @@ pub element-of : (c : Cut) {p : Place} {ps : List OwnedText} {k g : ℕ} (i : �
 element-of c i {o = None} s link e = none-some s.words.link link
 element-of c {ps} {k} i {o = Some x} {q} s link e =
     let g_is = same-some (sym s.words.link ∙ link) in let full = table-full 16 k x s.table in
-    let below = slice_get_within ps i q e in
-    let r = links-at (bytes_of c.bytes) (handle x) ps i s.words.array e in
+    let below = slice_get_within ps i q e in let r = links-at (bytes_of c.bytes) (handle x) ps i s.words.array e in
     record {
       heap = s.heap;
       aligned = omega arith;
@@ -419,8 +415,7 @@ pub element-left : {old now : Cut} {array n : ℕ} (i : ℕ) {ps : List OwnedTex
 element-left {old} {now} {array} {n} i {ps} {q} s e x =
     let gone = text_blocks ps in let come = text_blocks (drop i ps) in let none = none-of array gone s.apart in
     let r = roomy old array (16 * n) s.heap s.room in let at = r.at in let big = r.room in
-    let below = slice_get_within ps i q e in
-    let within : i < n = omega (arith, below, s.long) in
+    let below = slice_get_within ps i q e in let within : i < n = omega (arith, below, s.long) in
     let stays = kept old now array _ gone come _ s.heap x r.found none in
     let first = subst (λ (xs : List OwnedText). AllByRecursion (IsFound (live_of now.bytes).extents) (text_blocks xs))
     (drop-at ps i e) (came-found x) in
@@ -439,8 +434,7 @@ pub releases-next : {old now new : Cut} (i : ℕ) (ps : List OwnedText) {q : Own
     → IsSwapped old now (text_blocks ps) (text_blocks (drop i ps)) → IsSwapped now new (option_to_list q.extent) []
     → IsSwapped old new (text_blocks ps) (text_blocks (drop (i + 1) ps))
 releases-next {old} {now} {new} i ps {q} e x y =
-    let count : suc i ≡ i + 1 = omega arith in
-    let left = text_blocks (drop (suc i) ps) in
+    let count : suc i ≡ i + 1 = omega arith in let left = text_blocks (drop (suc i) ps) in
     let spread = subst (λ (xs : List OwnedText). SameSpread (text_blocks xs) (option_to_list q.extent ++ left))
     (sym (drop-at ps i e)) (spread-refl (option_to_list q.extent ++ left)) in
     subst (λ k. IsSwapped old new (text_blocks ps) (text_blocks (drop k ps))) count
@@ -461,8 +455,7 @@ element-in {m} {m'} at s f g = record {
 }
 
 same-at : {m m' : Memory} {a b at to : ℕ} → a ≡ at → b ≡ to → IsSameElement m m' a b → IsSameElement m m' at to
-same-at {m} {m'} {a} {b} {at} {to} e f s =
-    subst (λ k. IsSameElement m m' k to) e (subst (IsSameElement m m' a) f s)
+same-at {m} {m'} {a} {b} {at} {to} e f s = subst (λ k. IsSameElement m m' k to) e (subst (IsSameElement m m' a) f s)
 
 later : (m m' : Memory) (a b n : ℕ) → AreSameElements m m' a b (suc n) → AreSameElements m m' (a + 16) (b + 16) n
 later m m' a b n s j f = same-at (omega arith) (omega arith) (s (suc j) (omega arith))
@@ -545,8 +538,7 @@ pub even-block : (l : LiveSet) (o : Option Extent) → IsTrue (is_proper l)
     → AllByRecursion (IsFound l.extents) (option_to_list o) → IfSome (option_map handle o) (λ target. target % 16 ≡ 0)
 even-block l None p f = tt
 even-block l (Some x) p f =
-    let s = (in_use-all IsSound l (handle x) x p f.0 (live-sound l p)).0 in
-    omega (arith, s.aligned)
+    let s = (in_use-all IsSound l (handle x) x p f.0 (live-sound l p)).0 in omega (arith, s.aligned)
 
 pub even-held : (c : Cut) {array n : ℕ} {ps : List OwnedText} → AreHeldElements c.bytes array n ps
     → AreEvenLinks (bytes_of c.bytes) array n
@@ -571,8 +563,7 @@ pub array-left : {old new : Cut} {array n : ℕ} {ps : List OwnedText} {gone com
     → AreHeldElements old.bytes array n ps → IsSwapped old new gone come → IsNone array gone → IsArrayLeft new array n
 array-left {old} {new} {array} {n} {gone} {come} s x none =
     let r = roomy old array (16 * n) s.heap s.room in
-    let stays = kept old new array _ gone come _ s.heap x r.found none in
-    let even = even-held old s in
+    let stays = kept old new array _ gone come _ s.heap x r.found none in let even = even-held old s in
     record {
       heap = laid-heap _ _ x.live;
       room = found-room (live_of new.bytes) array (16 * n) _

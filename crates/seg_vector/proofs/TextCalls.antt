@@ -8,7 +8,7 @@ use W.{current, link_at, target_of, Extent, handle, end_of, LiveSet, IsChanged, 
 use W.{Table, no_table, is_table, SameSpread, exchange-next, found-room, laid-heap, last-first, spread-refl, IsNone}
 use W.{kept, shorter-IsShorter, word-same, IsFound, allocated-room, exchange-taken, kept-found, place-serves}
 use W.{still_allocated, SameBlock-trans, Storage, shorter, place, Place, IsGivenBack, IsFitted, Stands, place_at}
-use W.{IsOwnBlock, AreHeldElements, IsSwapped, AreSameElements, IsHeldElement, IsTextPlaced, IsServed, IsTextReplaced}
+use W.{IsOwnBlock, AreHeldElements, IsSwapped, AreSameElements, IsHeldElement, IsTextPlaced, IsServed}
 use W.{IsTexts, IsTextsNow, text_blocks, placed_text, AreOthers, AreInArray, IsStorage, OwnedText, AreTextLinks}
 use W.{IsOwnedText, Refusal, IsWithoutFit, [], nil_from_length}
 use Rattle.seg_vector.proofs.Runs.{AreHeadWords, IsHead, IsRun, beside-head, block-written, head-kept, head-room}
@@ -133,8 +133,7 @@ pub erased-by : {s0 s1 s2 s3 : Cut} {p : Place} {ps : List OwnedText} {c g : ℕ
     → IsTextsNow s0 s3 p (option_to_list o ++ option_to_list q.extent) (option_to_list o) (remove ps i) (table c o)
 erased-by i n {o = None} s e link n_is x1 c2 m2 c3 word = none-some s.words.link link
 erased-by {s0} {s1} {s2} {s3} {p} {ps} {c} {g} i n {o = Some x} {q} s e link n_is x1 c2 m2 c3 word =
-    let t = table c (Some x) in let eq = option_to_list q.extent in
-    let gone : List Extent = x ∷ eq in
+    let t = table c (Some x) in let eq = option_to_list q.extent in let gone : List Extent = x ∷ eq in
     let g_is = same-some (sym link ∙ s.words.link) in let below = slice_get_within ps i q e in
     let fits = s.fits in let full = table-full 16 c x s.table in let apart = text-apart i s e in
     let one = append-nil eq in
@@ -234,12 +233,10 @@ stands-none {b} {p} {t} s = subst (λ (xs : List ℕ). Stands b p 16 0 t xs) (ra
 read-at : (m m' : Memory) (at n j : ℕ) → read m' at n ≡ read m at n → j < n → m' (at + j) ≡ m (at + j)
 read-at m m' at zero j e f = absurd (omega arith)
 read-at m m' at (suc n) zero e f =
-    let here : at ≡ at + 0 = omega arith in
-    let first : m' at ≡ m at = cc in
+    let here : at ≡ at + 0 = omega arith in let first : m' at ≡ m at = cc in
     subst (λ k. m' k ≡ m k) here first
 read-at m m' at (suc n) (suc j) e f =
-    let there : at + 1 + j ≡ at + suc j = omega arith in
-    let rest : read m' (at + 1) n ≡ read m (at + 1) n = cc in
+    let there : at + 1 + j ≡ at + suc j = omega arith in let rest : read m' (at + 1) n ≡ read m (at + 1) n = cc in
     subst (λ k. m' k ≡ m k) there (read-at m m' (at + 1) n j rest (omega arith))
 
 read-spread : (m m' : Memory) (at n : ℕ) → read m' at n ≡ read m at n → Same m m' at (at + n)
@@ -263,9 +260,7 @@ cut-links : (l : LiveSet) (m m' : Memory) (ps : List OwnedText) (c : ℕ) (o : O
 cut-links l m m' [] c o a h = let u : Table = cut_table l 16 0 (table c o) in no-links m' u.capacity u.extent
 cut-links l m m' (q ∷ qs) c None a h = absurd (cc)
 cut-links l m m' (q ∷ qs) c (Some x) a h =
-    let n = length (q ∷ qs) in
-    let y = shorter l x (16 * n) in
-    let cut = cut-some l 16 n c x (omega arith) in
+    let n = length (q ∷ qs) in let y = shorter l x (16 * n) in let cut = cut-some l 16 n c x (omega arith) in
     let begins : handle y ≡ handle x = ap (λ (z : Extent). handle z) (shorter-IsShorter l x (16 * n)).same in
     let has = subst (λ (u : Table). IsStorage m' u (read m (handle x) (16 * n))) cut h in
     let is : read m' (handle x) (16 * n) ≡ read m (handle x) (16 * n) =
@@ -405,8 +400,7 @@ texts-still {a} {b} {p} {ps} {t} s x =
 -- the block of a text begins at a multiple of 16
 pub come-even : {a b : Cut} (o : Option Extent) → IsSwapped a b [] (option_to_list o)
     → IfSome (option_map handle o) (λ target. target % 16 ≡ 0)
-come-even {a} {b} o x =
-    let heap = laid-heap _ _ x.live in even-block (live_of b.bytes) o heap.proper (came-found x)
+come-even {a} {b} o x = let heap = laid-heap _ _ x.live in even-block (live_of b.bytes) o heap.proper (came-found x)
 
 -- ---- a text in the place of another one: its block was taken into use before the other is given back
 
@@ -437,34 +431,35 @@ others-front (Some y) xs d = (d.0, tt)
 
 -- ---- the vector afterwards
 
-pub text-set : {s0 s1 s3 : Cut} {p : Place} {ps : List OwnedText} {c i len : ℕ} {o : Option Extent} {q : OwnedText}
-    {bytes : List ℕ} {block : Option ℕ} → IsTexts s0.bytes p ps (table c o) → slice_get ps i ≡ Some q
-    → (pl : IsTextPlaced s0 s1 bytes block) → (rep : IsTextReplaced s1 s3 p (table c o) i q block len)
+pub text-set : {s0 s1 mid s3 : Cut} {p : Place} {ps : List OwnedText} {c len g : ℕ} {o : Option Extent} {q : OwnedText}
+    {bytes : List ℕ} {block : Option ℕ} (i : ℕ) → IsTexts s0.bytes p ps (table c o) → slice_get ps i ≡ Some q
+    → (pl : IsTextPlaced s0 s1 bytes block) → link_at (bytes_of s1.bytes) (place_at p) ≡ Some g
+    → IsSwapped s1 mid (option_to_list q.extent) [] → IsChanged current mid s3 (g + 16 * i) 16
+    → link_at (bytes_of s3.bytes) (g + 16 * i) ≡ block → word_at (bytes_of s3.bytes) (g + 16 * i + 8) ≡ len
     → len ≡ length bytes → IsTextsNow s0 s3 p (option_to_list o ++ option_to_list q.extent)
     (option_to_list o ++ option_to_list pl.text.extent) (slice_set ps i pl.text) (table c o)
-text-set {o = None} s e pl rep len_is = none-some refl rep.extent
-text-set {s0} {s1} {s3} {p} {ps} {c} {i} {len} {o = Some x} {q} {block = block} s e pl rep len_is =
-    let array_is : rep.array ≡ x = same-some (sym rep.extent) in let t = table c (Some x) in let z = pl.text in
-    let n = length ps in let mid = rep.mid in
-    let eb = option_to_list q.extent in let ez = option_to_list z.extent in
+text-set {o = None} i s e pl at y written link_is word_is len_is = none-some (texts-still s pl.change).words.link at
+text-set {s0} {s1} {mid} {s3} {p} {ps} {c} {len} {o = Some x} {q} {block = block} i s e pl at y written link_is word_is
+    len_is =
+    let g_is = same-some (sym at ∙ (texts-still s pl.change).words.link) in let t = table c (Some x) in
+    let z = pl.text in let n = length ps in let eb = option_to_list q.extent in let ez = option_to_list z.extent in
     let gone : List Extent = x ∷ eb in
     let below = slice_get_within ps i q e in let fits = s.fits in let full = table-full 16 c x s.table in
-    let apart = text-apart i s e in
-    let other : p.handle ≢ handle x = λ f. s.own.1 (sym f) in
+    let apart = text-apart i s e in let other : p.handle ≢ handle x = λ f. s.own.1 (sym f) in
     let one = append-nil eb in
     let r0 : IsRun s0 s0 p gone gone n t = subst (λ (xs : List Extent). IsRun s0 s0 p (x ∷ xs) (x ∷ xs) n t) one
     (run-begin s0 (take i ps) (q ∷ []) (drop (suc i) ps) (around ps i e) s) in
     let r1 = run-swapped gone (spread-refl gone) r0 pl.change tt in
     let spread = subst (λ (xs : List Extent). SameSpread xs (eb ++ (ez ++ (x ∷ [])))) (append_assoc ez (x ∷ []) eb)
     (last-first (ez ++ (x ∷ [])) eb) in
-    let r2 = run-swapped (ez ++ (x ∷ [])) spread r1 rep.released apart.head in
+    let r2 = run-swapped (ez ++ (x ∷ [])) spread r1 y apart.head in
     let found1 = (all-split (IsFound (live_of s1.bytes).extents) ez gone (run-found r1)) in
     let found2 = (all-split (IsFound (live_of mid.bytes).extents) ez (x ∷ []) (run-found r2)) in
-    let c3 = subst (λ (y : Extent). IsChanged current mid s3 (handle y + 16 * i) 16) array_is rep.written in
+    let c3 = subst (λ k. IsChanged current mid s3 (k + 16 * i) 16) g_is written in
     let w3 = block-written (16 * c) r2.heap found2.1.0 c3 (omega arith) (omega (arith, below, fits)) full in
     let r3 = run-swapped ez (last-first ez (x ∷ [])) r2 w3 (other, tt) in
     let k1 = kept s0 s1 (handle x) x [] ez _ s.heap pl.change s.own.0 tt in
-    let k2 = kept s1 mid (handle x) x eb [] _ r1.heap rep.released found1.1.0 apart.array in
+    let k2 = kept s1 mid (handle x) x eb [] _ r1.heap y found1.1.0 apart.array in
     let k = SameBlock-trans _ _ _ x k1 k2 in
     let front : AreSameElements (bytes_of s0.bytes) (bytes_of s3.bytes) (handle x) (handle x) i = λ j f.
     element-trans (element-in (handle x + 16 * j) k (omega arith) (omega (arith, f, below, fits, full)))
@@ -473,9 +468,8 @@ text-set {s0} {s1} {s3} {p} {ps} {c} {i} {len} {o = Some x} {q} {block = block} 
     (handle x + 16 * i + 16) (n - i - 1) = λ j f.
     element-trans (element-in (handle x + 16 * i + 16 + 16 * j) k (omega arith) (omega (arith, f, below, fits, full)))
     (element-beside (handle x + 16 * i + 16 + 16 * j) c3.rest (inr (omega arith))) in
-    let link =
-    subst (λ (y : Extent). link_at (bytes_of s3.bytes) (handle y + 16 * i) ≡ block) array_is rep.link ∙ pl.at in
-    let word = subst (λ (y : Extent). word_at (bytes_of s3.bytes) (handle y + 16 * i + 8) ≡ len) array_is rep.len_word
+    let link = subst (λ k. link_at (bytes_of s3.bytes) (k + 16 * i) ≡ block) g_is link_is ∙ pl.at in
+    let word = subst (λ k. word_at (bytes_of s3.bytes) (k + 16 * i + 8) ≡ len) g_is word_is
     ∙ len_is ∙ ap (λ (bs : List ℕ). length bs) (sym pl.same) in
     let qs_is = set-pieces ps i z below in
     let links = links-edited (handle x) ps i (suc i) (z ∷ []) (omega (arith, below)) (omega (arith, below))
@@ -493,7 +487,7 @@ text-set {s0} {s1} {s3} {p} {ps} {c} {i} {len} {o = Some x} {q} {block = block} 
     let from_gone = λ (y : Extent). IsNone (handle y) gone in
     let from_text = all-as from_gone (λ (y : Extent). IsNone (handle y) eb) (λ y d. d.1) ez apart1 in
     let from_array = all-as from_gone (λ (y : Extent). IsNone (handle y) (x ∷ [])) (λ y d. (d.0, tt)) ez apart1 in
-    let t2 = loose-kept z.bytes z.extent r1.heap rep.released found1.0 from_text pl.served pl.owned in
+    let t2 = loose-kept z.bytes z.extent r1.heap y found1.0 from_text pl.served pl.owned in
     let t3 = loose-kept z.bytes z.extent r2.heap w3 found2.0 from_array pl.served t2.0 in
     texts-between (slice_set ps i z) (take i ps) (q ∷ []) (z ∷ []) (drop (suc i) ps) {u = t} (around ps i e) qs_is
     (ap (λ (xs : List Extent). x ∷ xs) (sym one))
@@ -502,22 +496,3 @@ text-set {s0} {s1} {s3} {p} {ps} {c} {i} {len} {o = Some x} {q} {block = block} 
     (subst (AreTextLinks (bytes_of s3.bytes) (handle x)) (sym qs_is) links) (t3.0, tt) (pl.served, tt)
 
 -- ---- the element is written once the old text is released
-
-pub text-replaced : {s1 mid s3 : Cut} {p : Place} {ps : List OwnedText} {c g : ℕ} (i len : ℕ) {o : Option Extent}
-    (q : OwnedText) (block : Option ℕ) → IsTexts s1.bytes p ps (table c o)
-    → link_at (bytes_of s1.bytes) (place_at p) ≡ Some g
-    → IsSwapped s1 mid (option_to_list q.extent) [] → IsChanged current mid s3 (g + 16 * i) 16
-    → link_at (bytes_of s3.bytes) (g + 16 * i) ≡ block → word_at (bytes_of s3.bytes) (g + 16 * i + 8) ≡ len
-    → IsTextReplaced s1 s3 p (table c o) i q block len
-text-replaced i len {o = None} q block s link x c3 l w = none-some s.words.link link
-text-replaced {mid} {s3} i len {o = Some x} q block s link y c3 l w =
-    let g_is = same-some (sym link ∙ s.words.link) in
-    record {
-      mid = mid;
-      array = x;
-      extent = refl;
-      released = y;
-      written = subst (λ k. IsChanged current mid s3 (k + 16 * i) 16) g_is c3;
-      link = subst (λ k. link_at (bytes_of s3.bytes) (k + 16 * i) ≡ block) g_is l;
-      len_word = subst (λ k. word_at (bytes_of s3.bytes) (k + 16 * i + 8) ≡ len) g_is w;
-    }

@@ -40,8 +40,7 @@ array-of : {b : List ℕ} {p : Place} {ps : List OwnedText} {c g : ℕ} {o : Opt
     → o ≡ Some z
 array-of {o = None} s link e = none-some s.words.link link
 array-of {b} {o = Some x} s link e =
-    let g_is = same-some (sym s.words.link ∙ link) in
-    sym s.own.0 ∙ ap (λ k. extent_at (live_of b) k) g_is ∙ e
+    let g_is = same-some (sym s.words.link ∙ link) in sym s.own.0 ∙ ap (λ k. extent_at (live_of b) k) g_is ∙ e
 
 pub asked-wide : {old new : Cut} {p : Place} {ps : List OwnedText} {t : Table} {g n : ℕ} → IsTexts old.bytes p ps t
     → link_at (bytes_of old.bytes) (place_at p) ≡ Some g → IsWidened current old new g n → IsAsked old new t.extent n g
@@ -96,8 +95,7 @@ wide-place : {first mid now : Cut} {p : Place} {ps : List OwnedText} {c g : ℕ}
     {loose : List Extent} → IsTexts first.bytes p ps (table c (Some x)) → (w : IsWidened current first mid g (16 * n))
     → Some x ≡ Some w.before → IsSwapped mid now [] loose → IsInPlace first now p ps (table c (Some x)) g n loose
 wide-place {first} {mid} {now} {p} {ps} {c} n {x} s w is since =
-    let y = w.after in
-    let same : w.before ≡ x = same-some (sym is) in
+    let y = w.after in let same : w.before ≡ x = same-some (sym is) in
     let begins : handle y ≡ handle x = w.begins ∙ ap (λ (z : Extent). handle z) same in
     let longer : x.len ≤ y.len = subst (λ (z : Extent). z.len ≤ y.len) same w.longer in
     let r : IsResized current first mid x y = subst (λ (z : Extent). IsResized current first mid z y) same w.change in
@@ -146,8 +144,7 @@ adopt-place {first} {old} {new} {p} {ps} {t} {g} {n} {loose} s more q d =
     let words : AreHeadWords (bytes_of new.bytes) (place_at p) (length ps) (table n (Some y)) =
     record { link = d.link ∙ ap (λ k. Some k) q.at; len_word = d.len_word ∙ r.words.len_word; capacity = d.capacity } in
     let found = all-split (IsFound (live_of old.bytes).extents) loose (y ∷ []) (run-found r) in
-    let none = all-split (λ (z : Extent). p.handle ≢ handle z) loose (y ∷ [])
-    (stands-none-of (texts-stand s) r) in
+    let none = all-split (λ (z : Extent). p.handle ≢ handle z) loose (y ∷ []) (stands-none-of (texts-stand s) r) in
     let k = beside-head (handle y) r.heap r.head c found.1.0 none.1.0 in
     let full = serves-full y (16 * n) q.serving in
     let links = links-moved (bytes_of old.bytes) (bytes_of new.bytes) (handle y) (handle y) ps q.links
@@ -185,8 +182,7 @@ pub adopt-same : {first mid old new : Cut} {p : Place} {ps : List OwnedText} {c 
 adopt-same n {o = None} s more a since was d = none-some s.words.link was
 adopt-same n {o = Some x} s more (widened w is) since was d = adopt-place s more (wide-place n s w is since) d
 adopt-same n {o = Some x} s more (taken a e) since was d =
-    let g_is = same-some (sym s.words.link ∙ was) in
-    absurd (new-other (handle x) a s.own.0 (g_is ∙ a.at))
+    let g_is = same-some (sym s.words.link ∙ was) in absurd (new-other (handle x) a s.own.0 (g_is ∙ a.at))
 
 -- ---- a new one in the place of the old one
 
@@ -196,8 +192,7 @@ others-of-loose : (loose : List Extent) (y x : Extent) → AreOthers (loose ++ (
 others-of-loose [] y x d = (tt, tt)
 others-of-loose (z ∷ zs) y x d =
     let here = (all-split (λ (w : Extent). handle z ≢ handle w) zs (y ∷ x ∷ []) d.0).1 in
-    let rest = others-of-loose zs y x d.1 in
-    (((here.0, tt), rest.0), ((here.1.0, tt), rest.1))
+    let rest = others-of-loose zs y x d.1 in (((here.0, tt), rest.0), ((here.1.0, tt), rest.1))
 
 -- so far: the new array stands beside the old one
 pub record IsBeside (first old : Cut) (p : Place) (ps : List OwnedText) (t : Table) (x y : Extent)
@@ -213,10 +208,8 @@ pub beside : {first mid old : Cut} {p : Place} {ps : List OwnedText} {c g n : �
     → IsTexts first.bytes p ps (table c (Some x)) → (a : IsAllocated current first mid n Storage g)
     → IsSwapped mid old [] loose → IsBeside first old p ps (table c (Some x)) x a.extent loose
 beside {first} {mid} {old} {p} {ps} {c} {g} {n} {x} s a since =
-    let x1 = exchange-taken _ _ mid n _ g 0 0 a in
-    let r0 = run-begin first [] [] ps refl s in
-    let r1 = run-swapped (x ∷ []) (spread-refl (x ∷ [])) r0 x1 tt in
-    let found1 = run-found r1 in
+    let x1 = exchange-taken _ _ mid n _ g 0 0 a in let r0 = run-begin first [] [] ps refl s in
+    let r1 = run-swapped (x ∷ []) (spread-refl (x ∷ [])) r0 x1 tt in let found1 = run-found r1 in
     record {
       run = run-swapped (a.extent ∷ x ∷ []) (spread-refl (a.extent ∷ x ∷ [])) r1 since tt;
       other = λ f. s.own.1 (sym f);
@@ -262,8 +255,7 @@ adopt-beside {first} {old} {a1} {a2} {new} {p} {ps} {c} {g} n {x} {loose} s more
     let loose2 = (all-split (IsFound (live_of a2.bytes).extents) loose (x ∷ []) found2.1).0 in
     let y12 = beside-head (handle y) r1.heap r1.head c2 found1.0 none.1.0 in
     let y23 = kept a2 new (handle y) y _ [] _ r2.heap x3 found2.0 ((λ f. b.apart (sym f)), tt) in
-    let y13 = SameBlock-trans _ _ _ y y12 y23 in
-    let from : handle x + 0 ≡ handle x = omega arith in
+    let y13 = SameBlock-trans _ _ _ y y12 y23 in let from : handle x + 0 ≡ handle x = omega arith in
     let to : g + 0 ≡ handle y = omega (arith, g_is) in
     let moved = subst (λ w. AreSameElements (bytes_of old.bytes) (bytes_of a1.bytes) w (handle y) k) from
     (subst (λ w. AreSameElements (bytes_of old.bytes) (bytes_of a1.bytes) (handle x + 0) w k) to carried) in
@@ -391,8 +383,7 @@ ready-new_in : {first mid now : Cut} {p : Place} {ps : List OwnedText} {c g h : 
     → link_at (bytes_of first.bytes) (place_at p) ≡ Some h → h ≢ g → IsReadyNew now g h n (length ps)
 ready-new_in n {o = None} s more a since was differ = none-some s.words.link was
 ready-new_in n {o = Some x} s more (widened w is) since was differ =
-    let h_is = same-some (sym s.words.link ∙ was) in
-    let same : x ≡ w.before = cc in
+    let h_is = same-some (sym s.words.link ∙ was) in let same : x ≡ w.before = cc in
     absurd (differ (sym h_is ∙ ap (λ (z : Extent). handle z) same ∙ w.at))
 ready-new_in {first} {now} {p} {ps} {c} {g} {h} n {o = Some x} {loose} s more (taken a e) since was differ =
     let k = length ps in let y = a.extent in let g_is = a.at in let h_is = same-some (sym was ∙ s.words.link) in

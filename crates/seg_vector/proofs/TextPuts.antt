@@ -69,17 +69,14 @@ put-by {first} {now} {b1} {b2} {new} {p} {ps} {t} {y} {m} {z} i {g} n len block 
     let u = table m (Some y) in let gone = option_to_list t.extent in let ez = option_to_list z.extent in
     let come : List Extent = y ∷ ez in
     let g_is = same-some (sym leads ∙ r.link) in let k_is : n ≡ length ps = n_is ∙ r.len_word in
-    let space = r.space in let big = put-big r in
-    let r0 = put-run r in
-    let none = stands-none-of (texts-stand r.texts) r0 in
-    let found0 = run-found r0 in
+    let space = r.space in let big = put-big r in let r0 = put-run r in
+    let none = stands-none-of (texts-stand r.texts) r0 in let found0 = run-found r0 in
     let x1 = block-written (16 * m) r0.heap found0.0 c1 (omega (arith, g_is)) (omega (arith, g_is, k_is, inside, space))
     big in
     let r1 = run-swapped ez (spread-refl come) r0 x1 (none.0, tt) in
     let x2 = block-written (16 * m) r1.heap (run-found r1).0 c2 (omega (arith, g_is))
     (omega (arith, g_is, inside, space)) big in
-    let r2 = run-swapped ez (spread-refl come) r1 x2 (none.0, tt) in
-    let found2 = run-found r2 in
+    let r2 = run-swapped ez (spread-refl come) r1 x2 (none.0, tt) in let found2 = run-found r2 in
     let c3' = head-wider p c3 (omega arith) (omega arith) in
     let r3 = run-headed r2 c3' (len-written (n + 1) (omega arith) c3.rest last r2.words) in
     let y3 = beside-head (handle y) r2.heap r2.head c3' found2.0 none.0 in
@@ -186,8 +183,7 @@ undone-same {o = None} s a was e r = none-some s.words.link was
 undone-same {mid} {new} {g} {n} {room} {o = Some x} s (widened w is) was e r =
     widened-back _ mid new g n room s.heap w (e ∙ ap (λ (z : Extent). z.len - 16) (same-some is)) r
 undone-same {o = Some x} s (taken a e') was e r =
-    let g_is = same-some (sym s.words.link ∙ was) in
-    absurd (new-other (handle x) a s.own.0 (g_is ∙ a.at))
+    let g_is = same-some (sym s.words.link ∙ was) in absurd (new-other (handle x) a s.own.0 (g_is ∙ a.at))
 
 -- ---- the room of the array
 
@@ -218,10 +214,8 @@ pub within : {s0 s1 : Cut} {p : Place} {ps : List OwnedText} {c : ℕ} {o : Opti
     → IsWithin s0 s1 p ps (table c o) pl.text
 within {c} {o = None} s space pl = let none : c ≡ 0 = eqb-true c 0 s.table in absurd (omega arith)
 within {s0} {s1} {p} {ps} {c} {o = Some x} s space pl =
-    let ez = option_to_list pl.text.extent in
-    let r0 = run-begin s0 [] [] ps refl s in
-    let r1 = run-swapped (x ∷ []) (spread-refl (x ∷ [])) r0 pl.change tt in
-    let still = texts-still s pl.change in
+    let ez = option_to_list pl.text.extent in let r0 = run-begin s0 [] [] ps refl s in
+    let r1 = run-swapped (x ∷ []) (spread-refl (x ∷ [])) r0 pl.change tt in let still = texts-still s pl.change in
     record {
       array = x;
       extent = refl;
@@ -257,8 +251,7 @@ pub within-ok : {s0 s1 new : Cut} {p : Place} (ps : List OwnedText) {c : ℕ} (i
     (table c (Some y)) → IsTextPutIn s0 new p ps (table c o) i bytes
 within-ok ps i None space pl e now = absurd (cc)
 within-ok {s0} {new} {p} ps {c} i (Some x) {bytes} space pl {y} e now =
-    let t = table c (Some x) in
-    let same : x ≡ y = cc in
+    let t = table c (Some x) in let same : x ≡ y = cc in
     record {
       table = t;
       grown = same-grown-one (live_of s0.bytes) ps t space;
@@ -430,9 +423,9 @@ wanted-more n k c f e = e ∙ full-if k c (nat_lt k c) refl f
 
 -- ---- what the calls need
 
-pub few-places : (c : Cut) {p : Place} {ps : List OwnedText} {t : Table} → IsTexts c.bytes p ps t
+pub few_places : (c : Cut) {p : Place} {ps : List OwnedText} {t : Table} → IsTexts c.bytes p ps t
     → 16 * t.capacity < 1073741824
-few-places c s = capacity-bytes c s.heap (texts-stand s)
+few_places c s = capacity-bytes c s.heap (texts-stand s)
 
 pub more-places : (c : Cut) {p : Place} {ps : List OwnedText} {t : Table} (n : ℕ) → IsTexts c.bytes p ps t
     → t.capacity ≤ length ps → n ≡ capacity_for_one (length ps) t.capacity → (t.capacity < n) × (length ps < n)
@@ -441,5 +434,5 @@ more-places c {ps} {t} n s f e =
 
 pub small-wanted : (c : Cut) {p : Place} {ps : List OwnedText} {t : Table} (n : ℕ) → IsTexts c.bytes p ps t
     → t.capacity ≤ length ps → n ≡ capacity_for_one (length ps) t.capacity → 16 * n < 18446744073709551616
-small-wanted c {ps} {t} n s f e = let few : 16 * t.capacity < 1073741824 = few-places c s in let is : n ≡ max 4
+small-wanted c {ps} {t} n s f e = let few : 16 * t.capacity < 1073741824 = few_places c s in let is : n ≡ max 4
     (2 * t.capacity) = wanted-more n (length ps) t.capacity f e in omega (arith, few, is)

@@ -118,8 +118,7 @@ laid-put {old} {now} {mid} {new} {y} {i} n array {bytes} {more} at a split below
     let there = are-come x1 in
     let x2 = block-written (16 * n) there.heap there.found.0 c (omega (arith, at)) (omega (arith, at, below)) big in
     let x3 = exchange-next _ old mid new 0 0 _ _ _ (tb ++ oq) _ (spread-refl (y ∷ (tb ++ oq))) x1 x2 in
-    let blocks = blocks-more a.texts q in
-    let served = all-join IsServed a.texts (q ∷ []) a.served (pl.served, tt) in
+    let blocks = blocks-more a.texts q in let served = all-join IsServed a.texts (q ∷ []) a.served (pl.served, tt) in
     let first = owned-same (bytes_of now.bytes) (bytes_of mid.bytes) a.texts
     (all-kept tb here.heap pl.change here.found.1 (none-of-none tb)) a.served a.owned in
     let stay = subst (AllByRecursion (SameBlock (bytes_of mid.bytes) (bytes_of new.bytes))) (sym blocks)
@@ -169,8 +168,7 @@ laid-all {old} {now} {y} n {more} a e f =
 pub drop-next : (xs : List (Bor (List ℕ))) (i : ℕ) (d : Bor (List ℕ)) → i < length xs
     → drop i (map (λ t. t.now) xs) ≡ (slice_index_or xs i d).now ∷ drop (i + 1) (map (λ t. t.now) xs)
 drop-next xs i d f =
-    let now : Bor (List ℕ) → List ℕ = λ t. t.now in
-    let count : suc i ≡ i + 1 = omega arith in
+    let now : Bor (List ℕ) → List ℕ = λ t. t.now in let count : suc i ≡ i + 1 = omega arith in
     drop-map now i xs ∙ ap (map now) (drop-cons xs i d f) ∙ ap (λ zs. (slice_index_or xs i d).now ∷ zs)
     (sym (drop-map now (suc i) xs) ∙ ap (λ k. drop k (map now xs)) count)
 
@@ -289,8 +287,7 @@ all-placed ps l rest e = ap (λ xs. option_map (λ (qs : List OwnedText). ps ++ 
 pub laid-out : {old mid new : Cut} {n k g : ℕ} {more : List (List ℕ)} → (t : IsArrayTaken old mid n g)
     → n ≡ length more → AreLaidUpTo mid new t.block k more → k ≡ n → AreLaidOut old new more g
 laid-out {old} {mid} {new} {k} {more} t e w all =
-    let a = w.laid in
-    let count : k ≡ length more = all ∙ e in
+    let a = w.laid in let count : k ≡ length more = all ∙ e in
     record {
       block = t.block;
       at = sym t.at;
@@ -408,8 +405,7 @@ record IsBesideOwn (old now : Cut) (p : Place) (ps : List OwnedText) (t : Table)
 beside-own : {old now : Cut} {p : Place} {ps : List OwnedText} {t : Table} {come : List Extent}
     → IsTexts old.bytes p ps t → IsExchanged current old now 0 0 [] come → IsBesideOwn old now p ps t come
 beside-own {old} {now} {p} {ps} {t} {come} s x =
-    let own = own_blocks ps t in let w = texts-own old s in
-    let r0 = run-begin old [] ps [] (sym (append-nil ps)) s in
+    let own = own_blocks ps t in let w = texts-own old s in let r0 = run-begin old [] ps [] (sym (append-nil ps)) s in
     let r1 = run-swapped own (spread-refl own) r0 x tt in
     record {
       heap = r1.heap;
@@ -439,8 +435,7 @@ assigned {old} {now} {rel} {led} {new} {p} {ps} {t} n {more} s w e some released
     let stay = all-beside come b.heap b.head e12 b.found b.none b.others in
     let serves_all = place-serves (live_of old.bytes) (16 * n) Storage y
     (subst (λ k. place (live_of old.bytes) (16 * k) Storage ≡ Some y) (sym e) w.fit) in
-    let big = serves-full y (16 * n) serves_all in
-    let long : n ≡ length qs = e ∙ sym w.long in
+    let big = serves-full y (16 * n) serves_all in let long : n ≡ length qs = e ∙ sym w.long in
     let words : AreHeadWords (bytes_of new.bytes) at n u = len-written n (omega arith) d.rest word
     (record { link = q.link ∙ ap (λ k. Some k) w.at; len_word = refl; capacity = q.capacity }) in
     let links = links-moved (bytes_of now.bytes) (bytes_of new.bytes) (handle y) (handle y) qs w.links

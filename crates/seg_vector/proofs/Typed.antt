@@ -111,8 +111,7 @@ module _ {T : Type 0} (size : ℕ) (test : T → Bool) (sp : T → List ℕ)
   pub flat-set : (xs : List T) (i : ℕ) (y : T) → IsTrue (list_all test xs) → i < length xs → test y ≡ true
       → patched (flat_map sp xs) (size * i) (sp y) ≡ flat_map sp (slice_set xs i y)
   flat-set xs i y v f e =
-      let fs : List ℕ = flat_map sp xs in
-      let long = spells y e in
+      let fs : List ℕ = flat_map sp xs in let long = spells y e in
       let step : size * suc i ≡ size * i + size = omega arith in
       let behind : size * i + length (sp y) ≡ size * suc i = omega (arith, step, long) in
       append_assoc (take (size * i) fs) (sp y) (drop (size * i + length (sp y)) fs)
@@ -319,8 +318,7 @@ module _ {T : Type 0} {size : ℕ} {test : T → Bool} {sp : T → List ℕ} (ol
       (take (j * i) (flat_map sp xs) ++ (sp y ++ drop (j * i) (flat_map sp xs)))) e
       (h (length xs) t (flat_map sp xs) stands-at) in
       vector-now test sp (insert xs i y) r (sym (length-insert xs i y f))
-      (flat-insert size test sp spells xs i y v.values)
-      (all-edit test xs i i (y ∷ []) v.values (all-one test y good))
+      (flat-insert size test sp spells xs i y v.values) (all-edit test xs i i (y ∷ []) v.values (all-one test y good))
 
   pub erased-now : (i : ℕ) → ((x : T) → test x ≡ true → length (sp x) ≡ size) → i < length xs → Erases old mid p k i
       → IsVectorNow size test sp old mid p t (remove xs i) t
@@ -341,8 +339,7 @@ module _ {T : Type 0} {size : ℕ} {test : T → Bool} {sp : T → List ℕ} (ol
   pub released-now : GivesBack old mid p k → let none : List T = [] in IsVectorNow size test sp old mid p t none
       no_table
   released-now h =
-      let r = subst (λ j. IsGivenBack old mid p j t) e
-      (h (length xs) t (flat_map sp xs) stands-at) in
+      let r = subst (λ j. IsGivenBack old mid p j t) e (h (length xs) t (flat_map sp xs) stands-at) in
       record { change = r.change; gaps = r.gaps; vector = record { stands = r.stands; values = refl } }
 
 -- ---- what the calls on bytes do, for texts
@@ -387,8 +384,7 @@ module _ (old mid : Cut) {p : Place} {bytes : List ℕ} {t : Table} (v : IsText 
   pub byte-set : (i x : ℕ) → i < length bytes → Overwrites old mid p 1 i (x ∷ [])
       → IsTextNow old mid p t (slice_set bytes i x) t
   byte-set i x f h =
-      let at : 1 * i ≡ i = omega arith in
-      let next : i + 1 ≡ suc i = omega arith in
+      let at : 1 * i ≡ i = omega arith in let next : i + 1 ≡ suc i = omega arith in
       let r = subst (λ j. IsRewritten old mid p 1 (length bytes) t (patched bytes j (x ∷ []))) at
       (h (length bytes) t bytes v) in
       let is : patched bytes i (x ∷ []) ≡ slice_set bytes i x = append_assoc (take i bytes) (x ∷ [])

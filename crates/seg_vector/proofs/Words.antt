@@ -33,7 +33,7 @@ pub use Rattle.seg_vector.specs.Standing.{IsOwnBlock, Stands, place_at, IsGrown,
 pub use Rattle.seg_vector.specs.TextLists.{AreLaid, AreLaidUpTo, AreLaidOut, AreNotLaidOut}
 pub use Rattle.seg_vector.specs.TextParts.{AreHeldElements, IsHeldElement, IsSameElement, AreEvenLinks, IsAdopted}
 pub use Rattle.seg_vector.specs.TextParts.{IsAsked, taken, widened, IsReady, IsPutAsked, IsPutReady, room_of}
-pub use Rattle.seg_vector.specs.TextParts.{IsRefusedPut, IsTextReplaced, PutsInto, IsPointed}
+pub use Rattle.seg_vector.specs.TextParts.{IsRefusedPut, PutsInto, IsPointed}
 pub use Rattle.seg_vector.specs.TextParts.{IsSwapped, AreSameElements, IsServed, TakesStorage, IsTextPlaced}
 pub use Rattle.seg_vector.specs.TextsCalls.{AreOthers, placed_text, placed_texts, text_blocks, with_text, all_texts}
 pub use Rattle.seg_vector.specs.TextsCalls.{ReleasesTexts, IsHeldText, IsTextElement, IsStillAtFirst, IsTextPutIn}

@@ -1,10 +1,11 @@
 -- The elements of a container that stands at a place: read, written over, and fewer or more of them in the places that
 -- there are.
 use Rattle.std.specs.Prelude.{◌≡◌, ℕ, ◌+◌, ◌-◌, ◌*◌, ◌<◌, ◌≤◌, List, [], ◌++◌, take, drop, option_to_list}
-use Rattle.raw_region.specs.{Memory.Cut, Memory.bytes_of, Memory.part, Memory.patched, Memory.word_at, Format.current}
+use Rattle.raw_region.specs.{Memory.Cut, Memory.part, Memory.patched, Format.current}
 use Rattle.best_fit.specs.{Exchange.IsExchanged, Heap.KeepsGaps, Heap.live_of}
 use Rattle.best_fit.specs.Table.{Table, cut_table, no_table}
-use Rattle.seg_vector.specs.{declared.elements.Spot.Spot, Standing.Stands, Standing.place_at}
+use Rattle.seg_vector.specs.{declared.elements.Spot.Spot, Standing.Stands, Standing.capacity_at, Standing.len_at}
+use Rattle.seg_vector.specs.{Standing.place_at}
 use Rattle.seg_vector.specs.declared.elements.Spot.TheVariants.{End, Over, Before}
 use Rattle.seg_vector.specs.declared.places.Place.{Place}
 
@@ -21,17 +22,20 @@ ReadsAll b p each out = (len : ℕ) (t : Table) (bytes : List ℕ) → Stands b 
 
 -- the bytes of the element with i others before it
 abbrev pub ReadsOne : List ℕ → Place → ℕ → ℕ → List ℕ → Type 0
-ReadsOne b p each i out = (len : ℕ) (t : Table) (bytes : List ℕ) → Stands b p each len t bytes → out ≡ part bytes (each * i) each
+ReadsOne b p each i out = (len : ℕ) (t : Table) (bytes : List ℕ) → Stands b p each len t bytes
+    → out ≡ part bytes (each * i) each
 
 -- the element with i others before it has these bytes now
 abbrev pub Overwrites : Cut → Cut → Place → ℕ → ℕ → List ℕ → Type 0
 Overwrites old new p each i more =
-    (len : ℕ) (t : Table) (bytes : List ℕ) → Stands old.bytes p each len t bytes → IsRewritten old new p each len t (patched bytes (each * i) more)
+    (len : ℕ) (t : Table) (bytes : List ℕ) → Stands old.bytes p each len t bytes
+    → IsRewritten old new p each len t (patched bytes (each * i) more)
 
 -- the first n elements are left
 abbrev pub Truncates : Cut → Cut → Place → ℕ → ℕ → Type 0
 Truncates old new p each n =
-    (len : ℕ) (t : Table) (bytes : List ℕ) → Stands old.bytes p each len t bytes → IsRewritten old new p each n t (take (each * n) bytes)
+    (len : ℕ) (t : Table) (bytes : List ℕ) → Stands old.bytes p each len t bytes
+    → IsRewritten old new p each n t (take (each * n) bytes)
 
 -- an element more, with i others before it
 abbrev pub Inserts : Cut → Cut → Place → ℕ → ℕ → List ℕ → Type 0
@@ -54,11 +58,9 @@ Extends old new p each n more =
 -- where an element is put: behind the last one and before another one where there is a place more, and over one that is
 -- there
 abbrev pub HasSpot : List ℕ → Place → Spot → Type 0
-HasSpot b p End = word_at (bytes_of b) (place_at p + 8) < word_at (bytes_of b) (place_at p + 16)
-HasSpot b p (Over i) = i < word_at (bytes_of b) (place_at p + 8)
-HasSpot b p (Before i) =
-    (word_at (bytes_of b) (place_at p + 8) < word_at (bytes_of b) (place_at p + 16))
-    × (i ≤ word_at (bytes_of b) (place_at p + 8))
+HasSpot b p End = len_at b p < capacity_at b p
+HasSpot b p (Over i) = i < len_at b p
+HasSpot b p (Before i) = (len_at b p < capacity_at b p) × (i ≤ len_at b p)
 
 abbrev pub PutsAt : Cut → Cut → Place → ℕ → Spot → List ℕ → Type 0
 PutsAt old new p each End more = Extends old new p each 1 more
@@ -74,14 +76,17 @@ pub record IsGivenBack (old new : Cut) (p : Place) (each : ℕ) (t : Table) : Ty
   pub stands : Stands new.bytes p each 0 no_table []
 
 abbrev pub GivesBack : Cut → Cut → Place → ℕ → Type 0
-GivesBack old new p each = (len : ℕ) (t : Table) (bytes : List ℕ) → Stands old.bytes p each len t bytes → IsGivenBack old new p each t
+GivesBack old new p each = (len : ℕ) (t : Table) (bytes : List ℕ) → Stands old.bytes p each len t bytes
+    → IsGivenBack old new p each t
 
 -- the container has as many places as elements: its storage is shortened, or given back where there is no element;
 -- where it stays as it is, no byte of a gap changes
 pub record IsFitted (old new : Cut) (p : Place) (each len : ℕ) (t : Table) (bytes : List ℕ) : Type 0 where
-  pub change : IsExchanged current old new (place_at p) 24 (option_to_list t.extent) (option_to_list (cut_table (live_of old.bytes) each len t).extent)
+  pub change : IsExchanged current old new (place_at p) 24 (option_to_list t.extent)
+      (option_to_list (cut_table (live_of old.bytes) each len t).extent)
   pub gaps : t ≡ cut_table (live_of old.bytes) each len t → KeepsGaps old new
   pub stands : Stands new.bytes p each len (cut_table (live_of old.bytes) each len t) bytes
 
 abbrev pub Fits : Cut → Cut → Place → ℕ → Type 0
-Fits old new p each = (len : ℕ) (t : Table) (bytes : List ℕ) → Stands old.bytes p each len t bytes → IsFitted old new p each len t bytes
+Fits old new p each = (len : ℕ) (t : Table) (bytes : List ℕ) → Stands old.bytes p each len t bytes
+    → IsFitted old new p each len t bytes

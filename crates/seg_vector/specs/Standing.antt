@@ -1,6 +1,7 @@
 -- A container at a place in a heap: its three words in a block, and its storage, which is a block of its own.
-use Rattle.std.specs.Prelude.{◌≡◌, ◌≢◌, ℕ, ◌+◌, ◌*◌, ◌%◌, ◌≤◌, ⊤, IsTrue, Option, Some, None, Result, MatchResult, List, length, option_to_list}
-use Rattle.raw_region.specs.{Memory.Cut, Memory.bytes_of, Format.current}
+use Rattle.std.specs.Prelude.{◌≡◌, ◌≢◌, ℕ, ◌+◌, ◌*◌, ◌%◌, ◌≤◌, ⊤, IsTrue, Option, Some, None, Result, MatchResult, List}
+use Rattle.std.specs.Prelude.{length, option_to_list}
+use Rattle.raw_region.specs.{Memory.Cut, Memory.bytes_of, Memory.word_at, Format.current}
 use Rattle.block_tags.specs.declared.tile.Role.TheVariants.{Storage}
 use Rattle.best_fit.specs.{Exchange.IsExchanged, Extents.Extent, Extents.LiveSet, Extents.handle}
 use Rattle.best_fit.specs.{Heap.IsHeap, Heap.extent_at, Heap.has_room, Heap.live_of, Table.Table, Table.is_table}
@@ -11,6 +12,13 @@ use Rattle.seg_vector.specs.Vector.{IsContainerAt, capacity_for_one, grown_table
 -- where the three words stand
 abbrev pub place_at : Place → ℕ
 place_at p = p.handle + p.at
+
+-- what the words say: how many elements there are, and how many places
+abbrev pub len_at : List ℕ → Place → ℕ
+len_at b p = word_at (bytes_of b) (place_at p + 8)
+
+abbrev pub capacity_at : List ℕ → Place → ℕ
+capacity_at b p = word_at (bytes_of b) (place_at p + 16)
 
 -- a block in use, and not the one of the handle
 abbrev pub IsOwnBlock : LiveSet → ℕ → Option Extent → Type 0
@@ -48,10 +56,12 @@ pub record IsWithoutSpace (old new : Cut) (each n : ℕ) (t : Table) (e : Refusa
 
 abbrev pub Grows : Cut → Cut → Place → ℕ → ℕ → Result (Unit {0}) Refusal → Type 0
 Grows old new p each n result =
-    (len : ℕ) (t : Table) (bytes : List ℕ) → Stands old.bytes p each len t bytes → MatchResult result (λ u. IsGrown old new p each n len t bytes) (IsWithoutSpace old new each n t)
+    (len : ℕ) (t : Table) (bytes : List ℕ) → Stands old.bytes p each len t bytes
+    → MatchResult result (λ u. IsGrown old new p each n len t bytes) (IsWithoutSpace old new each n t)
 
 -- one place more than there are elements, at least
 abbrev pub GrowsForOne : Cut → Cut → Place → ℕ → Result (Unit {0}) Refusal → Type 0
 GrowsForOne old new p each result =
-    (len : ℕ) (t : Table) (bytes : List ℕ) → Stands old.bytes p each len t bytes → let n = capacity_for_one len t.capacity in
+    (len : ℕ) (t : Table) (bytes : List ℕ) → Stands old.bytes p each len t bytes
+    → let n = capacity_for_one len t.capacity in
     MatchResult result (λ u. IsGrown old new p each n len t bytes) (IsWithoutSpace old new each n t)

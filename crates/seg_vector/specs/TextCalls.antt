@@ -1,5 +1,6 @@
 -- A text at a place, and what its calls answer and do: elements of a byte each, under their own bytes.
-use Rattle.std.specs.Prelude.{◌≡◌, ℕ, ◌<◌, ◌≤◌, Some, Result, Ok, MatchResult, List, [], ◌++◌, length, slice_get, slice_set, option_to_list}
+use Rattle.std.specs.Prelude.{◌≡◌, ℕ, ◌<◌, ◌≤◌, Some, Result, Ok, MatchResult, List, [], ◌++◌, length, slice_get}
+use Rattle.std.specs.Prelude.{slice_set, option_to_list}
 use Rattle.raw_region.specs.{Memory.Cut, Format.current}
 use Rattle.best_fit.specs.{Exchange.IsExchanged, Heap.KeepsGaps, Heap.live_of}
 use Rattle.best_fit.specs.Table.{Table, cut_table, no_table}
@@ -39,7 +40,8 @@ abbrev pub ReadsText : List ℕ → Place → List ℕ → Type 0
 ReadsText b p out = (bytes : List ℕ) (t : Table) → IsText b p bytes t → out ≡ bytes
 
 abbrev pub GetsByte : Cut → Place → ℕ → Result ℕ Refusal → Type 0
-GetsByte c p i result = (bytes : List ℕ) (t : Table) → IsText c.bytes p bytes t → MatchResult result (λ x. slice_get bytes i ≡ Some x) (IsOutside c c (length bytes) i)
+GetsByte c p i result = (bytes : List ℕ) (t : Table) → IsText c.bytes p bytes t
+    → MatchResult result (λ x. slice_get bytes i ≡ Some x) (IsOutside c c (length bytes) i)
 
 -- ---- what changes
 
@@ -50,18 +52,21 @@ StartsText old new p = IsTextNow old new p no_table [] no_table
 abbrev pub SetsByte : Cut → Cut → Place → ℕ → ℕ → Result (Unit {0}) Refusal → Type 0
 SetsByte old new p i x result =
     (bytes : List ℕ) (t : Table) → IsText old.bytes p bytes t
-    → MatchResult result (λ u. (i < length bytes) × IsTextNow old new p t (slice_set bytes i x) t) (IsOutside old new (length bytes) i)
+    → MatchResult result (λ u. (i < length bytes) × IsTextNow old new p t (slice_set bytes i x) t)
+    (IsOutside old new (length bytes) i)
 
 abbrev pub ClearsText : Cut → Cut → Place → Type 0
 ClearsText old new p = (bytes : List ℕ) (t : Table) → IsText old.bytes p bytes t → IsTextNow old new p t [] t
 
 abbrev pub ReservesBytes : Cut → Cut → Place → ℕ → Result (Unit {0}) Refusal → Type 0
 ReservesBytes old new p n result =
-    (bytes : List ℕ) (t : Table) → IsText old.bytes p bytes t → MatchResult result (λ u. IsTextGrown old new p t n bytes) (IsWithoutSpace old new 1 n t)
+    (bytes : List ℕ) (t : Table) → IsText old.bytes p bytes t
+    → MatchResult result (λ u. IsTextGrown old new p t n bytes) (IsWithoutSpace old new 1 n t)
 
 -- where there are n places already, nothing changes
 abbrev pub ReservesNoBytes : Cut → Cut → Place → ℕ → Result (Unit {0}) Refusal → Type 0
-ReservesNoBytes old new p n result = (bytes : List ℕ) (t : Table) → IsText old.bytes p bytes t → n ≤ t.capacity → (result ≡ Ok tt) × (new ≡ old)
+ReservesNoBytes old new p n result = (bytes : List ℕ) (t : Table) → IsText old.bytes p bytes t → n ≤ t.capacity
+    → (result ≡ Ok tt) × (new ≡ old)
 
 abbrev pub AssignsText : Cut → Cut → Place → List ℕ → Result (Unit {0}) Refusal → Type 0
 AssignsText old new p more result =
@@ -70,11 +75,13 @@ AssignsText old new p more result =
 
 abbrev pub AppendsText : Cut → Cut → Place → List ℕ → Result (Unit {0}) Refusal → Type 0
 AppendsText old new p more result =
-    (bytes : List ℕ) (t : Table) → IsText old.bytes p bytes t → let n = capacity_for_text (length (bytes ++ more)) t.capacity in
+    (bytes : List ℕ) (t : Table) → IsText old.bytes p bytes t
+    → let n = capacity_for_text (length (bytes ++ more)) t.capacity in
     MatchResult result (λ u. IsTextGrown old new p t n (bytes ++ more)) (IsWithoutSpace old new 1 n t)
 
 abbrev pub ShrinksText : Cut → Cut → Place → Type 0
-ShrinksText old new p = (bytes : List ℕ) (t : Table) → IsText old.bytes p bytes t → IsTextNow old new p t bytes (cut_table (live_of old.bytes) 1 (length bytes) t)
+ShrinksText old new p = (bytes : List ℕ) (t : Table) → IsText old.bytes p bytes t
+    → IsTextNow old new p t bytes (cut_table (live_of old.bytes) 1 (length bytes) t)
 
 abbrev pub ReleasesText : Cut → Cut → Place → Type 0
 ReleasesText old new p = (bytes : List ℕ) (t : Table) → IsText old.bytes p bytes t → IsTextNow old new p t [] no_table

@@ -1,5 +1,6 @@
 -- An array with texts, laid out beside all that a heap holds.
-use Rattle.std.specs.Prelude.{◌≡◌, ℕ, ◌*◌, ◌<◌, ◌≤◌, Some, None, Result, MatchResult, List, [], ◌∷◌, ◌++◌, drop, length, option_map}
+use Rattle.std.specs.Prelude.{◌≡◌, ℕ, ◌*◌, ◌<◌, ◌≤◌, Some, None, Result, MatchResult, List, [], ◌∷◌, ◌++◌, drop, length}
+use Rattle.std.specs.Prelude.{option_map}
 use Rattle.std.specs.List.{AllByRecursion}
 use Rattle.raw_region.specs.{Memory.Cut, Memory.bytes_of, Format.current}
 use Rattle.block_tags.specs.declared.tile.Role.TheVariants.{Storage}
@@ -15,7 +16,8 @@ use Rattle.seg_vector.specs.Vector.{AreTextLinks, IsOwnedText, OwnedText}
 pub record AreLaid (old now : Cut) (y : Extent) (n : ℕ) (more : List (List ℕ)) : Type 0 where
   pub texts : List OwnedText
   pub long : length texts ≡ n
-  pub placed : placed_texts (live_of old.bytes) more ≡ option_map (λ (qs : List OwnedText). texts ++ qs) (placed_texts (live_of now.bytes) (drop n more))
+  pub placed : placed_texts (live_of old.bytes) more ≡ option_map (λ (qs : List OwnedText). texts ++ qs)
+      (placed_texts (live_of now.bytes) (drop n more))
   pub change : IsSwapped old now (y ∷ []) (y ∷ text_blocks texts)
   pub links : AreTextLinks (bytes_of now.bytes) (handle y) texts
   pub owned : AllByRecursion (IsOwnedText (bytes_of now.bytes)) texts
@@ -28,7 +30,8 @@ pub record AreLaidUpTo (old new : Cut) (y : Extent) (n : ℕ) (more : List (List
   pub stopped : n < length more → placed_texts (live_of new.bytes) (drop n more) ≡ None
 
 abbrev pub LaysTexts : Cut → Cut → ℕ → List (List ℕ) → ℕ → Type 0
-LaysTexts old new array more n = (y : Extent) → handle y ≡ array → extent_at (live_of old.bytes) array ≡ Some y → AreLaidUpTo old new y n more
+LaysTexts old new array more n = (y : Extent) → handle y ≡ array → extent_at (live_of old.bytes) array ≡ Some y
+    → AreLaidUpTo old new y n more
 
 -- the array and the texts
 pub record AreLaidOut (old new : Cut) (more : List (List ℕ)) (array : ℕ) : Type 0 where

@@ -1,5 +1,6 @@
 -- The parts of what the calls of a vector of texts do: elements of an array, and the blocks of texts.
-use Rattle.std.specs.Prelude.{◌≡◌, ◌≢◌, ℕ, ◌+◌, ◌-◌, ◌*◌, ◌%◌, ◌<◌, ◌≤◌, IsTrue, IfSome, Option, Some, None, List, [], ◌∷◌, insert, length, option_map, option_to_list, Result, MatchResult, slice_get}
+use Rattle.std.specs.Prelude.{◌≡◌, ◌≢◌, ℕ, ◌+◌, ◌-◌, ◌*◌, ◌%◌, ◌<◌, ◌≤◌, ◌⊎◌, IsTrue, IfSome, Option, Some, None, List}
+use Rattle.std.specs.Prelude.{[], ◌∷◌, insert, length, option_map, option_to_list, Result, MatchResult}
 use Rattle.std.specs.List.{AllByRecursion}
 use Rattle.raw_region.specs.{Memory.Memory, Memory.Cut, Memory.bytes_of, Memory.word_at, Format.current}
 use Rattle.offset_link.specs.Link.{link_at}
@@ -10,7 +11,8 @@ use Rattle.block_tags.specs.declared.tile.Role.TheVariants.{Storage}
 use Rattle.seg_types.specs.{declared.refusals.Refusal.Refusal, declared.refusals.Refusal.TheVariants.NoSpace}
 use Rattle.seg_vector.specs.{declared.places.Place.Place, Standing.place_at}
 use Rattle.seg_vector.specs.Vector.{AreTextLinks, IsOwnedText, OwnedText, capacity_for_one, grown_table}
-use Rattle.seg_vector.specs.TextsCalls.{AreOthers, IsStillAtFirst, IsWithoutFit, IsTextPutIn, IsTexts, IsTextsNow, one_more, placed_text, text_blocks}
+use Rattle.seg_vector.specs.TextsCalls.{AreOthers, IsStillAtFirst, IsWithoutFit, IsTextPutIn, IsTexts, IsTextsNow}
+use Rattle.seg_vector.specs.TextsCalls.{one_more, placed_text, text_blocks}
 
 -- blocks are gone and others came, and nothing in those that stay changes
 abbrev pub IsSwapped : Cut → Cut → List Extent → List Extent → Type 0
@@ -42,6 +44,24 @@ pub record AreHeldElements (b : List ℕ) (array n : ℕ) (ps : List OwnedText) 
 abbrev pub AreEvenLinks : Memory → ℕ → ℕ → Type 0
 AreEvenLinks m at n = (j : ℕ) → j < n → IfSome (link_at m (at + 16 * j)) (λ target. target % 16 ≡ 0)
 
+-- 16 bytes at an offset in a block that are an element of an array: a link and a length
+pub record HasElement (b : List ℕ) (array at : ℕ) : Type 0 where
+  pub whole : at % 8 ≡ 0
+  pub room : IsTrue (has_room (live_of b) array (at + 16))
+
+-- the same, for an element with this link
+pub record HasElementRoom (b : List ℕ) (array at : ℕ) (text : Option ℕ) : Type 0 where
+  pub heap : IsHeap current b
+  pub whole : at % 8 ≡ 0
+  pub room : IsTrue (has_room (live_of b) array (at + 16))
+  pub target : IfSome text (λ target. target % 16 ≡ 0)
+
+-- the element at an offset is this now
+pub record IsElementPut (old new : Cut) (at : ℕ) (text : Option ℕ) (len : ℕ) : Type 0 where
+  pub change : IsChanged current old new at 16
+  pub link : link_at (bytes_of new.bytes) at ≡ text
+  pub len_word : word_at (bytes_of new.bytes) (at + 8) ≡ len
+
 -- the element at b says what the one at a said
 pub record IsSameElement (m m' : Memory) (a b : ℕ) : Type 0 where
   pub link : link_at m' b ≡ link_at m a
@@ -51,15 +71,41 @@ pub record IsSameElement (m m' : Memory) (a b : ℕ) : Type 0 where
 abbrev pub AreSameElements : Memory → Memory → ℕ → ℕ → ℕ → Type 0
 AreSameElements m m' a b n = (j : ℕ) → j < n → IsSameElement m m' (a + 16 * j) (b + 16 * j)
 
+-- n elements at b say what those at a said, and nothing else changes
+pub record AreCarried (old new : Cut) (a b n : ℕ) : Type 0 where
+  pub change : IsChanged current old new b (16 * n)
+  pub carried : AreSameElements (bytes_of old.bytes) (bytes_of new.bytes) a b n
+
+-- n elements of one block, and as many places for them in another, or in the same one, but not behind them in it
+pub record CanCarryDown (b : List ℕ) (from from_at to to_at n : ℕ) : Type 0 where
+  pub heap : IsHeap current b
+  pub from_whole : from_at % 8 ≡ 0
+  pub to_whole : to_at % 8 ≡ 0
+  pub source : IsTrue (has_room (live_of b) from (from_at + 16 * n))
+  pub target : IsTrue (has_room (live_of b) to (to_at + 16 * n))
+  pub even : AreEvenLinks (bytes_of b) (from + from_at) n
+  pub apart : (to + to_at ≤ from + from_at) ⊎ (from + from_at + 16 * n ≤ to + to_at)
+
+-- n elements in a block, and a place more behind them
+pub record CanCarryUp (b : List ℕ) (array at n : ℕ) : Type 0 where
+  pub heap : IsHeap current b
+  pub whole : at % 8 ≡ 0
+  pub room : IsTrue (has_room (live_of b) array (at + 16 * n + 16))
+  pub even : AreEvenLinks (bytes_of b) (array + at) n
+
 -- a block of storage is taken into use
 abbrev pub TakesStorage : Cut → Cut → ℕ → Result ℕ Refusal → Type 0
-TakesStorage old new n result = MatchResult result (IsAllocated current old new n Storage) (IsWithoutFit old new (place (live_of old.bytes) n Storage))
+TakesStorage old new n result = MatchResult result (IsAllocated current old new n Storage)
+    (IsWithoutFit old new (place (live_of old.bytes) n Storage))
 
 -- ---- the block of a text
 
 -- it serves the text, and an empty one has none
 abbrev pub IsServed : OwnedText → Type 0
-IsServed q = elim q.extent [ None ↦ q.bytes ≡ [] | Some x ↦ (0 < length q.bytes) × IsTrue (serves x Storage (length q.bytes)) ]
+IsServed q = elim q.extent [
+  | None ↦ q.bytes ≡ []
+  | Some x ↦ (0 < length q.bytes) × IsTrue (serves x Storage (length q.bytes))
+]
 
 -- a block was taken into use, and the text stands in it
 pub record IsTextPlaced (old new : Cut) (bytes : List ℕ) (block : Option ℕ) : Type 0 where
@@ -72,35 +118,22 @@ pub record IsTextPlaced (old new : Cut) (bytes : List ℕ) (block : Option ℕ) 
   pub served : IsServed text
 
 abbrev pub PlacesText : Cut → Cut → List ℕ → Result (Option ℕ) Refusal → Type 0
-PlacesText old new bytes result = MatchResult result (IsTextPlaced old new bytes) (IsWithoutFit old new (placed_text (live_of old.bytes) bytes))
-
--- ---- an element that is written
-
--- the text with i others before it is released, and its element is written
-pub record IsTextReplaced (old new : Cut) (p : Place) (t : Table) (i : ℕ) (before : OwnedText) (text : Option ℕ) (len : ℕ) : Type 0 where
-  pub mid : Cut
-  pub array : Extent
-  pub extent : t.extent ≡ Some array
-  pub released : IsSwapped old mid (option_to_list before.extent) []
-  pub written : IsChanged current mid new (handle array + 16 * i) 16
-  pub link : link_at (bytes_of new.bytes) (handle array + 16 * i) ≡ text
-  pub len_word : word_at (bytes_of new.bytes) (handle array + 16 * i + 8) ≡ len
-
-abbrev pub ReplacesText : Cut → Cut → Place → ℕ → Option ℕ → ℕ → Type 0
-ReplacesText old new p i text len =
-    (ps : List OwnedText) (t : Table) (before : OwnedText) → IsTexts old.bytes p ps t → slice_get ps i ≡ Some before → IsTextReplaced old new p t i before text len
+PlacesText old new bytes result = MatchResult result (IsTextPlaced old new bytes)
+    (IsWithoutFit old new (placed_text (live_of old.bytes) bytes))
 
 -- ---- an array with more places
 
 -- The old array has the room where it stands; or a new block was taken into use, beside the old one.
 pub data IsAsked (old new : Cut) (o : Option Extent) (n g : ℕ) : Type 0 where
   widened : (w : IsWidened current old new g n) → o ≡ Some w.before → IsAsked old new o n g
-  taken : (a : IsAllocated current old new n Storage g) → regrow (live_of old.bytes) o n ≡ Some a.extent → IsAsked old new o n g
+  taken : (a : IsAllocated current old new n Storage g) → regrow (live_of old.bytes) o n ≡ Some a.extent
+      → IsAsked old new o n g
 
 abbrev pub AsksArray : Cut → Cut → Place → ℕ → Result ℕ Refusal → Type 0
 AsksArray old new p n result =
     (ps : List OwnedText) (t : Table) → IsTexts old.bytes p ps t
-    → MatchResult result (IsAsked old new t.extent (16 * n)) (IsWithoutFit old new (regrow (live_of old.bytes) t.extent (16 * n)))
+    → MatchResult result (IsAsked old new t.extent (16 * n))
+    (IsWithoutFit old new (regrow (live_of old.bytes) t.extent (16 * n)))
 
 -- the link and the capacity at a place are these
 pub record IsPointed (old new : Cut) (p : Place) (g n : ℕ) : Type 0 where
@@ -123,7 +156,8 @@ pub record IsReady (now : Cut) (p : Place) (g n : ℕ) : Type 0 where
 
 -- The vector has the array that was asked for, with n places. Its elements are the same, and the blocks taken since
 -- stay.
-pub record IsAdopted (first old new : Cut) (p : Place) (ps : List OwnedText) (t : Table) (g n : ℕ) (loose : List Extent) : Type 0 where
+pub record IsAdopted (first old new : Cut) (p : Place) (ps : List OwnedText) (t : Table) (g n : ℕ)
+    (loose : List Extent) : Type 0 where
   pub array : Extent
   pub at : g ≡ handle array
   pub grown : grown_table (live_of first.bytes) 16 n t ≡ Some (record { capacity = n; extent = Some array })
@@ -142,7 +176,8 @@ Adopts old new p g n = (r : IsReady old p g n) → IsAdopted r.first old new p r
 
 -- Since the first call blocks were exchanged: the array y, with m places, came, and the block of a text that is not in
 -- the vector yet.
-pub record IsPutReady (first now : Cut) (p : Place) (ps : List OwnedText) (t : Table) (y : Extent) (m : ℕ) (z : OwnedText) : Type 0 where
+pub record IsPutReady (first now : Cut) (p : Place) (ps : List OwnedText) (t : Table) (y : Extent) (m : ℕ)
+    (z : OwnedText) : Type 0 where
   pub texts : IsTexts first.bytes p ps t
   pub table : IsTrue (is_table Storage 16 (record { capacity = m; extent = Some y }))
   pub space : length ps < m
@@ -168,8 +203,10 @@ pub record IsPutAsked (now : Cut) (p : Place) (i : ℕ) (block : Option ℕ) (le
 
 abbrev pub PutsIn : Cut → Cut → Place → ℕ → Option ℕ → ℕ → Type 0
 PutsIn old new p i block len =
-    (first : Cut) (ps : List OwnedText) (t : Table) (y : Extent) (m : ℕ) (z : OwnedText) → IsPutReady first old p ps t y m z → i ≤ length ps → block ≡ option_map handle z.extent → len ≡ length z.bytes
-    → IsTextsNow first new p (option_to_list t.extent) (y ∷ option_to_list z.extent) (insert ps i z) (record { capacity = m; extent = Some y })
+    (first : Cut) (ps : List OwnedText) (t : Table) (y : Extent) (m : ℕ) (z : OwnedText)
+    → IsPutReady first old p ps t y m z → i ≤ length ps → block ≡ option_map handle z.extent → len ≡ length z.bytes
+    → IsTextsNow first new p (option_to_list t.extent) (y ∷ option_to_list z.extent) (insert ps i z)
+    (record { capacity = m; extent = Some y })
 
 -- ---- an array that is given up
 
@@ -192,7 +229,8 @@ pub record IsToBeGivenUp (now : Cut) (p : Place) (g room : ℕ) : Type 0 where
 
 abbrev pub GivesUp : Cut → Cut → Place → ℕ → ℕ → Type 0
 GivesUp old new p g room =
-    (first : Cut) (ps : List OwnedText) (t : Table) (n : ℕ) → IsTexts first.bytes p ps t → IsAsked first old t.extent (16 * n) g → room ≡ room_of t.extent → IsRestored current first new
+    (first : Cut) (ps : List OwnedText) (t : Table) (n : ℕ) → IsTexts first.bytes p ps t
+    → IsAsked first old t.extent (16 * n) g → room ≡ room_of t.extent → IsRestored current first new
 
 -- ---- a text put in, once the index is known to be inside
 
@@ -203,7 +241,8 @@ pub record IsRefusedPut (old new : Cut) (ps : List OwnedText) (t : Table) (bytes
   pub first : IsStillAtFirst old new ps t bytes
 
 abbrev pub PutsInto : Cut → Cut → Place → List OwnedText → Table → ℕ → List ℕ → Result (Unit {0}) Refusal → Type 0
-PutsInto old new p ps t i bytes result = MatchResult result (λ u. IsTextPutIn old new p ps t i bytes) (IsRefusedPut old new ps t bytes)
+PutsInto old new p ps t i bytes result = MatchResult result (λ u. IsTextPutIn old new p ps t i bytes)
+    (IsRefusedPut old new ps t bytes)
 
 -- there is a place for it
 pub record HasPlace (b : List ℕ) (p : Place) (i : ℕ) : Type 0 where
@@ -214,7 +253,8 @@ pub record HasPlace (b : List ℕ) (p : Place) (i : ℕ) : Type 0 where
   pub space : length ps < t.capacity
 
 abbrev pub InsertsWithin : Cut → Cut → Place → ℕ → List ℕ → Result (Unit {0}) Refusal → Type 0
-InsertsWithin old new p i bytes result = (ps : List OwnedText) (t : Table) → IsTexts old.bytes p ps t → i ≤ length ps → length ps < t.capacity → PutsInto old new p ps t i bytes result
+InsertsWithin old new p i bytes result = (ps : List OwnedText) (t : Table) → IsTexts old.bytes p ps t → i ≤ length ps
+    → length ps < t.capacity → PutsInto old new p ps t i bytes result
 
 -- there is none, and n places are asked for
 pub record IsFull (b : List ℕ) (p : Place) (i n : ℕ) : Type 0 where
@@ -227,4 +267,5 @@ pub record IsFull (b : List ℕ) (p : Place) (i n : ℕ) : Type 0 where
 
 abbrev pub InsertsGrowing : Cut → Cut → Place → ℕ → List ℕ → ℕ → Result (Unit {0}) Refusal → Type 0
 InsertsGrowing old new p i bytes n result =
-    (ps : List OwnedText) (t : Table) → IsTexts old.bytes p ps t → i ≤ length ps → t.capacity ≤ length ps → n ≡ capacity_for_one (length ps) t.capacity → PutsInto old new p ps t i bytes result
+    (ps : List OwnedText) (t : Table) → IsTexts old.bytes p ps t → i ≤ length ps → t.capacity ≤ length ps
+    → n ≡ capacity_for_one (length ps) t.capacity → PutsInto old new p ps t i bytes result

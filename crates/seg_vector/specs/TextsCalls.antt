@@ -1,6 +1,8 @@
 -- A vector of texts at a place: an array of links and lengths, and a block for each text that is not empty. Every block
 -- is asked for while those that it replaces are in use.
-use Rattle.std.specs.Prelude.{◌≡◌, ◌≢◌, ℕ, ◌+◌, ◌-◌, ◌*◌, ◌%◌, ◌<◌, ◌≤◌, ◌⊎◌, ⊤, ◌==◌, nat_lt, if◌then◌else◌, IsTrue, Option, Some, None, Result, Ok, MatchResult, List, [], ◌∷◌, ◌++◌, length, insert, remove, flat_map, slice_get, slice_set, option_map, option_to_list}
+use Rattle.std.specs.Prelude.{◌≡◌, ◌≢◌, ℕ, ◌+◌, ◌-◌, ◌*◌, ◌%◌, ◌<◌, ◌≤◌, ◌⊎◌, ⊤, ◌==◌, nat_lt, if◌then◌else◌, IsTrue}
+use Rattle.std.specs.Prelude.{Option, Some, None, Result, Ok, MatchResult, List, [], ◌∷◌, ◌++◌, length, insert, remove}
+use Rattle.std.specs.Prelude.{flat_map, slice_get, slice_set, option_map, option_to_list}
 use Rattle.std.specs.List.{AllByRecursion}
 use denote.Ref.{Bor}
 use Rattle.raw_region.specs.{Memory.Cut, Memory.bytes_of, Memory.word_at, Format.current}
@@ -19,7 +21,11 @@ text_blocks ps = flat_map (λ (q : OwnedText). option_to_list q.extent) ps
 
 -- the block of a text is in use and holds it, and an empty one has none
 abbrev pub IsHeldText : LiveSet → OwnedText → Type 0
-IsHeldText live q = elim q.extent [ None ↦ q.bytes ≡ [] | Some x ↦ (extent_at live (handle x) ≡ Some x) × (0 < length q.bytes) × IsTrue (serves x Storage (length q.bytes)) ]
+IsHeldText live q = elim q.extent [
+  | None ↦ q.bytes ≡ []
+  | Some x ↦ (extent_at live (handle x) ≡ Some x)
+      × (0 < length q.bytes) × IsTrue (serves x Storage (length q.bytes))
+]
 
 -- no two of these are one block
 abbrev pub AreOthers : List Extent → Type 0
@@ -44,7 +50,8 @@ IsSomeTexts b p = (ps : List OwnedText) × ((t : Table) × IsTexts b p ps t)
 
 -- The vector has these texts and this array. Some blocks are gone and others came; of all blocks that stay, those of
 -- the other texts among them, no byte changes but its own 24.
-pub record IsTextsNow (old new : Cut) (p : Place) (gone come : List Extent) (ps : List OwnedText) (t : Table) : Type 0 where
+pub record IsTextsNow (old new : Cut) (p : Place) (gone come : List Extent) (ps : List OwnedText)
+    (t : Table) : Type 0 where
   pub change : IsExchanged current old new (place_at p) 24 gone come
   pub texts : IsTexts new.bytes p ps t
 
@@ -52,13 +59,15 @@ pub record IsTextsNow (old new : Cut) (p : Place) (gone come : List Extent) (ps 
 
 -- the live set in which the array is grown: the old array is in use still, where it is not the new one
 abbrev pub with_array : LiveSet → Table → Table → LiveSet
-with_array live t u = if nat_lt t.capacity u.capacity then elim u.extent [ None ↦ live | Some x ↦ resized live x ] else live
+with_array live t u =
+    if nat_lt t.capacity u.capacity then elim u.extent [ None ↦ live | Some x ↦ resized live x ] else live
 
 -- a text and the block that it takes, which an empty one does not
 abbrev pub placed_text : LiveSet → List ℕ → Option OwnedText
 placed_text live bytes =
     if length bytes == 0 then Some (record { bytes = bytes; extent = None })
-    else option_map (λ (x : Extent). let q : OwnedText = record { bytes = bytes; extent = Some x } in q) (place live (length bytes) Storage)
+    else option_map (λ (x : Extent). let q : OwnedText = record { bytes = bytes; extent = Some x } in q)
+    (place live (length bytes) Storage)
 
 -- texts, one after another, each beside those before it
 abbrev pub with_text : LiveSet → OwnedText → LiveSet
@@ -66,11 +75,15 @@ with_text live q = elim q.extent [ None ↦ live | Some x ↦ resized live x ]
 
 abbrev pub placed_texts : LiveSet → List (List ℕ) → Option (List OwnedText)
 placed_texts live [] = Some []
-placed_texts live (bytes ∷ more) = elim (placed_text live bytes) [ None ↦ None | Some q ↦ option_map (λ qs. q ∷ qs) (placed_texts (with_text live q) more) ]
+placed_texts live (bytes ∷ more) = elim (placed_text live bytes) [
+  | None ↦ None
+  | Some q ↦ option_map (λ qs. q ∷ qs) (placed_texts (with_text live q) more)
+]
 
 -- an array of so many places, in a new block
 abbrev pub new_array : LiveSet → ℕ → Option Table
-new_array live n = if n == 0 then Some no_table else option_map (λ (x : Extent). let u : Table = record { capacity = n; extent = Some x } in u) (place live (16 * n) Storage)
+new_array live n = if n == 0 then Some no_table else option_map
+    (λ (x : Extent). let u : Table = record { capacity = n; extent = Some x } in u) (place live (16 * n) Storage)
 
 -- ---- what calls answer and do
 
@@ -88,7 +101,8 @@ StartsTexts old new p = IsTextsNow old new p [] [] [] no_table
 abbrev pub GetsText : Cut → Place → ℕ → Result (Bor (List ℕ)) Refusal → Type 0
 GetsText c p i result =
     (ps : List OwnedText) (t : Table) → IsTexts c.bytes p ps t
-    → MatchResult result (λ (r : Bor (List ℕ)). option_map (λ (q : OwnedText). q.bytes) (slice_get ps i) ≡ Some r.now) (IsOutside c c (length ps) i)
+    → MatchResult result (λ (r : Bor (List ℕ)). option_map (λ (q : OwnedText). q.bytes) (slice_get ps i) ≡ Some r.now)
+    (IsOutside c c (length ps) i)
 
 -- 16 bytes at an offset in a block are the element of a text
 pub record IsTextElement (b : List ℕ) (array at : ℕ) (q : OwnedText) : Type 0 where
@@ -114,15 +128,20 @@ pub record IsGivenUp {A : Type 0} (old new : Cut) (met : Option A) (e : Refusal)
   pub restored : IsRestored current old new
 
 -- one more with i others before it: the array's growth is asked for first, and then the text's block
-pub record IsTextPutIn (old new : Cut) (p : Place) (ps : List OwnedText) (t : Table) (i : ℕ) (bytes : List ℕ) : Type 0 where
+pub record IsTextPutIn (old new : Cut) (p : Place) (ps : List OwnedText) (t : Table) (i : ℕ)
+    (bytes : List ℕ) : Type 0 where
   pub table : Table
   pub grown : grown_table (live_of old.bytes) 16 (capacity_for_one (length ps) t.capacity) t ≡ Some table
   pub text : OwnedText
   pub placed : placed_text (with_array (live_of old.bytes) t table) bytes ≡ Some text
-  pub now : IsTextsNow old new p (option_to_list t.extent) (option_to_list table.extent ++ option_to_list text.extent) (insert ps i text) table
+  pub now : IsTextsNow old new p (option_to_list t.extent) (option_to_list table.extent ++ option_to_list text.extent)
+      (insert ps i text) table
 
 abbrev pub one_more : LiveSet → List OwnedText → Table → List ℕ → Option OwnedText
-one_more live ps t bytes = elim (grown_table live 16 (capacity_for_one (length ps) t.capacity) t) [ None ↦ None | Some u ↦ placed_text (with_array live t u) bytes ]
+one_more live ps t bytes = elim (grown_table live 16 (capacity_for_one (length ps) t.capacity) t) [
+  | None ↦ None
+  | Some u ↦ placed_text (with_array live t u) bytes
+]
 
 -- Where the block that is asked for first has no space, nothing changes: it is the text's where there is a place, and
 -- else the array's.
@@ -131,85 +150,108 @@ pub record IsStillAtFirst (old new : Cut) (ps : List OwnedText) (t : Table) (byt
   pub array : grown_table (live_of old.bytes) 16 (capacity_for_one (length ps) t.capacity) t ≡ None → new ≡ old
 
 abbrev pub StaysAtFirst : Cut → Cut → Place → List ℕ → Type 0
-StaysAtFirst old new p bytes = (ps : List OwnedText) (t : Table) → IsTexts old.bytes p ps t → IsStillAtFirst old new ps t bytes
+StaysAtFirst old new p bytes = (ps : List OwnedText) (t : Table) → IsTexts old.bytes p ps t
+    → IsStillAtFirst old new ps t bytes
 
 abbrev pub PushesText : Cut → Cut → Place → List ℕ → Result (Unit {0}) Refusal → Type 0
 PushesText old new p bytes result =
     (ps : List OwnedText) (t : Table) → IsTexts old.bytes p ps t
-    → MatchResult result (λ u. IsTextPutIn old new p ps t (length ps) bytes) (IsGivenUp old new (one_more (live_of old.bytes) ps t bytes))
+    → MatchResult result (λ u. IsTextPutIn old new p ps t (length ps) bytes)
+    (IsGivenUp old new (one_more (live_of old.bytes) ps t bytes))
 
 abbrev pub InsertsText : Cut → Cut → Place → ℕ → List ℕ → Result (Unit {0}) Refusal → Type 0
 InsertsText old new p i bytes result =
     (ps : List OwnedText) (t : Table) → IsTexts old.bytes p ps t
     → MatchResult result (λ u. (i ≤ length ps) × IsTextPutIn old new p ps t i bytes)
-    (λ e. IsOutside old new (length ps + 1) i e ⊎ ((i ≤ length ps) × IsGivenUp old new (one_more (live_of old.bytes) ps t bytes) e))
+    (λ e. IsOutside old new (length ps + 1) i e ⊎
+    ((i ≤ length ps) × IsGivenUp old new (one_more (live_of old.bytes) ps t bytes) e))
 
 -- another in the place of one, whose block is released once there is the new one
-pub record IsTextSet (old new : Cut) (p : Place) (ps : List OwnedText) (t : Table) (i : ℕ) (bytes : List ℕ) : Type 0 where
+pub record IsTextSet (old new : Cut) (p : Place) (ps : List OwnedText) (t : Table) (i : ℕ)
+    (bytes : List ℕ) : Type 0 where
   pub before : OwnedText
   pub found : slice_get ps i ≡ Some before
   pub text : OwnedText
   pub placed : placed_text (live_of old.bytes) bytes ≡ Some text
-  pub now : IsTextsNow old new p (option_to_list t.extent ++ option_to_list before.extent) (option_to_list t.extent ++ option_to_list text.extent) (slice_set ps i text) t
+  pub now : IsTextsNow old new p (option_to_list t.extent ++ option_to_list before.extent)
+      (option_to_list t.extent ++ option_to_list text.extent) (slice_set ps i text) t
 
 abbrev pub SetsText : Cut → Cut → Place → ℕ → List ℕ → Result (Unit {0}) Refusal → Type 0
 SetsText old new p i bytes result =
     (ps : List OwnedText) (t : Table) → IsTexts old.bytes p ps t
     → MatchResult result (λ u. IsTextSet old new p ps t i bytes)
-    (λ e. IsOutside old new (length ps) i e ⊎ ((i < length ps) × IsWithoutFit old new (placed_text (live_of old.bytes) bytes) e))
+    (λ e. IsOutside old new (length ps) i e ⊎
+    ((i < length ps) × IsWithoutFit old new (placed_text (live_of old.bytes) bytes) e))
 
 -- one less, and its block is released; the array stays
 pub record IsTextLeftOut (old new : Cut) (p : Place) (ps : List OwnedText) (t : Table) (i : ℕ) : Type 0 where
   pub before : OwnedText
   pub found : slice_get ps i ≡ Some before
-  pub now : IsTextsNow old new p (option_to_list t.extent ++ option_to_list before.extent) (option_to_list t.extent) (remove ps i) t
+  pub now : IsTextsNow old new p (option_to_list t.extent ++ option_to_list before.extent) (option_to_list t.extent)
+      (remove ps i) t
 
 abbrev pub ErasesText : Cut → Cut → Place → ℕ → Result (Unit {0}) Refusal → Type 0
 ErasesText old new p i result =
-    (ps : List OwnedText) (t : Table) → IsTexts old.bytes p ps t → MatchResult result (λ u. IsTextLeftOut old new p ps t i) (IsOutside old new (length ps) i)
+    (ps : List OwnedText) (t : Table) → IsTexts old.bytes p ps t
+    → MatchResult result (λ u. IsTextLeftOut old new p ps t i) (IsOutside old new (length ps) i)
 
 abbrev pub PopsText : Cut → Cut → Place → Result (Unit {0}) Refusal → Type 0
 PopsText old new p result =
-    (ps : List OwnedText) (t : Table) → IsTexts old.bytes p ps t → MatchResult result (λ u. IsTextLeftOut old new p ps t (length ps - 1)) (IsOutside old new (length ps) 0)
+    (ps : List OwnedText) (t : Table) → IsTexts old.bytes p ps t
+    → MatchResult result (λ u. IsTextLeftOut old new p ps t (length ps - 1)) (IsOutside old new (length ps) 0)
 
 abbrev pub ReservesTexts : Cut → Cut → Place → ℕ → Result (Unit {0}) Refusal → Type 0
 ReservesTexts old new p n result =
     (ps : List OwnedText) (t : Table) → IsTexts old.bytes p ps t
     → MatchResult result
-    (λ u. (w : Table) × (grown_table (live_of old.bytes) 16 n t ≡ Some w) × IsTextsNow old new p (option_to_list t.extent) (option_to_list w.extent) ps w)
+    (λ u. (w : Table) × (grown_table (live_of old.bytes) 16 n t ≡ Some w)
+    × IsTextsNow old new p (option_to_list t.extent) (option_to_list w.extent) ps w)
     (IsWithoutFit old new (grown_table (live_of old.bytes) 16 n t))
 
 -- where there are n places already, nothing changes
 abbrev pub ReservesNoTexts : Cut → Cut → Place → ℕ → Result (Unit {0}) Refusal → Type 0
-ReservesNoTexts old new p n result = (ps : List OwnedText) (t : Table) → IsTexts old.bytes p ps t → n ≤ t.capacity → (result ≡ Ok tt) × (new ≡ old)
+ReservesNoTexts old new p n result = (ps : List OwnedText) (t : Table) → IsTexts old.bytes p ps t → n ≤ t.capacity
+    → (result ≡ Ok tt) × (new ≡ old)
 
 abbrev pub ShrinksTexts : Cut → Cut → Place → Type 0
 ShrinksTexts old new p =
-    (ps : List OwnedText) (t : Table) → IsTexts old.bytes p ps t → let u = cut_table (live_of old.bytes) 16 (length ps) t in
+    (ps : List OwnedText) (t : Table) → IsTexts old.bytes p ps t
+    → let u = cut_table (live_of old.bytes) 16 (length ps) t in
     IsTextsNow old new p (option_to_list t.extent) (option_to_list u.extent) ps u
 
 -- no text: their blocks are released, and the array stays
 abbrev pub ClearsTexts : Cut → Cut → Place → Type 0
 ClearsTexts old new p =
-    (ps : List OwnedText) (t : Table) → IsTexts old.bytes p ps t → IsTextsNow old new p (option_to_list t.extent ++ text_blocks ps) (option_to_list t.extent) [] t
+    (ps : List OwnedText) (t : Table) → IsTexts old.bytes p ps t
+    → IsTextsNow old new p (option_to_list t.extent ++ text_blocks ps) (option_to_list t.extent) [] t
 
 abbrev pub ReleasesTexts : Cut → Cut → Place → Type 0
 ReleasesTexts old new p =
-    (ps : List OwnedText) (t : Table) → IsTexts old.bytes p ps t → IsTextsNow old new p (option_to_list t.extent ++ text_blocks ps) [] [] no_table
+    (ps : List OwnedText) (t : Table) → IsTexts old.bytes p ps t
+    → IsTextsNow old new p (option_to_list t.extent ++ text_blocks ps) [] [] no_table
 
 -- one or more texts: a new array for just so many and then the texts, and then the old ones are released
-pub record AreTextsAssigned (old new : Cut) (p : Place) (ps : List OwnedText) (t : Table) (more : List (List ℕ)) : Type 0 where
+pub record AreTextsAssigned (old new : Cut) (p : Place) (ps : List OwnedText) (t : Table)
+    (more : List (List ℕ)) : Type 0 where
   pub table : Table
   pub array : new_array (live_of old.bytes) (length more) ≡ Some table
   pub texts : List OwnedText
-  pub placed : placed_texts (elim table.extent [ None ↦ live_of old.bytes | Some x ↦ resized (live_of old.bytes) x ]) more ≡ Some texts
-  pub now : IsTextsNow old new p (option_to_list t.extent ++ text_blocks ps) (option_to_list table.extent ++ text_blocks texts) texts table
+  pub placed : placed_texts (elim table.extent [
+    | None ↦ live_of old.bytes
+    | Some x ↦ resized (live_of old.bytes) x
+  ]) more ≡ Some texts
+  pub now : IsTextsNow old new p (option_to_list t.extent ++ text_blocks ps)
+      (option_to_list table.extent ++ text_blocks texts) texts table
 
 abbrev pub all_texts : LiveSet → List (List ℕ) → Option (List OwnedText)
-all_texts live more = elim (new_array live (length more)) [ None ↦ None | Some u ↦ placed_texts (elim u.extent [ None ↦ live | Some x ↦ resized live x ]) more ]
+all_texts live more = elim (new_array live (length more)) [
+  | None ↦ None
+  | Some u ↦ placed_texts (elim u.extent [ None ↦ live | Some x ↦ resized live x ]) more
+]
 
 abbrev pub AssignsTexts : Cut → Cut → Place → List (List ℕ) → Result (Unit {0}) Refusal → Type 0
 AssignsTexts old new p [] result = (result ≡ Ok tt) × ClearsTexts old new p
 AssignsTexts old new p (bytes ∷ more) result =
     (ps : List OwnedText) (t : Table) → IsTexts old.bytes p ps t
-    → MatchResult result (λ u. AreTextsAssigned old new p ps t (bytes ∷ more)) (IsGivenUp old new (all_texts (live_of old.bytes) (bytes ∷ more)))
+    → MatchResult result (λ u. AreTextsAssigned old new p ps t (bytes ∷ more))
+    (IsGivenUp old new (all_texts (live_of old.bytes) (bytes ∷ more)))

@@ -1,5 +1,6 @@
 -- Vectors, texts and vectors of texts: how they grow, and the bytes that spell them.
-use Rattle.std.specs.Prelude.{◌≡◌, ℕ, ◌+◌, ◌*◌, max, ℤ, Bool, ◌&&◌, Option, Some, None, List, [], ◌∷◌, length, flat_map, if◌then◌else◌, nat_lt, nat_le, ⊤, option_map}
+use Rattle.std.specs.Prelude.{◌≡◌, ℕ, ◌+◌, ◌*◌, max, ℤ, Bool, ◌&&◌, Option, Some, None, List, [], ◌∷◌, length, flat_map}
+use Rattle.std.specs.Prelude.{if◌then◌else◌, nat_lt, nat_le, ⊤, option_map}
 use Rattle.std.specs.List.{AllByRecursion, list_all}
 use Rattle.raw_region.specs.Memory.{Memory, Has, word_at}
 use Rattle.offset_link.specs.Link.{link_at}
@@ -21,7 +22,8 @@ unfoldable pub grown_table : LiveSet → ℕ → ℕ → Table → Option Table
 unfolding regrow
 grown_table live each n t =
     if nat_le n t.capacity then Some t
-    else option_map (λ x. let u : Table = record { capacity = n; extent = Some x } in u) (regrow live t.extent (each * n))
+    else option_map (λ x. let u : Table = record { capacity = n; extent = Some x } in u)
+    (regrow live t.extent (each * n))
 
 abbrev pub spelled : ScalarKind → List ℤ → List ℕ
 spelled k = flat_map (spelling k)

@@ -1,5 +1,6 @@
 -- A vector at a place, of any type whose values are spelled by `size` bytes, and what its calls answer and do.
-use Rattle.std.specs.Prelude.{◌≡◌, ℕ, ◌+◌, ◌-◌, ◌<◌, ◌≤◌, ◌⊎◌, Bool, IsTrue, Some, Result, Ok, MatchResult, List, [], ◌∷◌, ◌++◌, length, take, insert, remove, slice_get, slice_set, flat_map, option_to_list}
+use Rattle.std.specs.Prelude.{◌≡◌, ℕ, ◌+◌, ◌-◌, ◌<◌, ◌≤◌, ◌⊎◌, Bool, IsTrue, Some, Result, Ok, MatchResult, List, []}
+use Rattle.std.specs.Prelude.{◌∷◌, ◌++◌, length, take, insert, remove, slice_get, slice_set, flat_map, option_to_list}
 use Rattle.std.specs.List.{list_all}
 use Rattle.raw_region.specs.{Memory.Cut, Format.current}
 use Rattle.best_fit.specs.{Exchange.IsExchanged, Heap.KeepsGaps, Heap.live_of}
@@ -10,7 +11,8 @@ use Rattle.seg_vector.specs.{Standing.Stands, Standing.place_at, Vector.capacity
 pub use Rattle.seg_vector.specs.Standing.{IsWithoutSpace}
 
 -- the vector at a place has these elements
-pub record IsVector {T : Type 0} (size : ℕ) (is_value : T → Bool) (spelling : T → List ℕ) (b : List ℕ) (p : Place) (xs : List T) (t : Table) : Type 0 where
+pub record IsVector {T : Type 0} (size : ℕ) (is_value : T → Bool) (spelling : T → List ℕ) (b : List ℕ) (p : Place)
+    (xs : List T) (t : Table) : Type 0 where
   pub stands : Stands b p size (length xs) t (flat_map spelling xs)
   pub values : IsTrue (list_all is_value xs)
 
@@ -19,13 +21,15 @@ IsSomeVector {T} size is_value spelling b p = (xs : List T) × ((t : Table) × I
 
 -- The vector with these elements and this storage is in the place of the one with that storage. Of all blocks that stay
 -- no byte changes but its own 24, and of gaps none where the storage is the one before.
-pub record IsVectorNow {T : Type 0} (size : ℕ) (is_value : T → Bool) (spelling : T → List ℕ) (old new : Cut) (p : Place) (t : Table) (ys : List T) (u : Table) : Type 0 where
+pub record IsVectorNow {T : Type 0} (size : ℕ) (is_value : T → Bool) (spelling : T → List ℕ) (old new : Cut) (p : Place)
+    (t : Table) (ys : List T) (u : Table) : Type 0 where
   pub change : IsExchanged current old new (place_at p) 24 (option_to_list t.extent) (option_to_list u.extent)
   pub gaps : t ≡ u → KeepsGaps old new
   pub vector : IsVector size is_value spelling new.bytes p ys u
 
 -- it has n places, or more
-pub record IsVectorGrown {T : Type 0} (size : ℕ) (is_value : T → Bool) (spelling : T → List ℕ) (old new : Cut) (p : Place) (t : Table) (n : ℕ) (ys : List T) : Type 0 where
+pub record IsVectorGrown {T : Type 0} (size : ℕ) (is_value : T → Bool) (spelling : T → List ℕ) (old new : Cut)
+    (p : Place) (t : Table) (n : ℕ) (ys : List T) : Type 0 where
   pub table : Table
   pub grown : grown_table (live_of old.bytes) size n t ≡ Some table
   pub now : IsVectorNow size is_value spelling old new p t ys table
@@ -41,79 +45,102 @@ pub record IsOutside (old new : Cut) (end i : ℕ) (e : Refusal) : Type 0 where
 -- ---- what is read
 
 abbrev pub Counts : {T : Type 0} → ℕ → (T → Bool) → (T → List ℕ) → List ℕ → Place → ℕ → Type 0
-Counts {T} size is_value spelling b p n = (xs : List T) (t : Table) → IsVector size is_value spelling b p xs t → n ≡ length xs
+Counts {T} size is_value spelling b p n = (xs : List T) (t : Table) → IsVector size is_value spelling b p xs t
+    → n ≡ length xs
 
 abbrev pub CountsPlaces : {T : Type 0} → ℕ → (T → Bool) → (T → List ℕ) → List ℕ → Place → ℕ → Type 0
-CountsPlaces {T} size is_value spelling b p n = (xs : List T) (t : Table) → IsVector size is_value spelling b p xs t → n ≡ t.capacity
+CountsPlaces {T} size is_value spelling b p n = (xs : List T) (t : Table) → IsVector size is_value spelling b p xs t
+    → n ≡ t.capacity
 
 -- the element with i others before it, or a refusal where there are no more
 abbrev pub Gets : {T : Type 0} → ℕ → (T → Bool) → (T → List ℕ) → Cut → Place → ℕ → Result T Refusal → Type 0
 Gets {T} size is_value spelling c p i result =
-    (xs : List T) (t : Table) → IsVector size is_value spelling c.bytes p xs t → MatchResult result (λ x. slice_get xs i ≡ Some x) (IsOutside c c (length xs) i)
+    (xs : List T) (t : Table) → IsVector size is_value spelling c.bytes p xs t
+    → MatchResult result (λ x. slice_get xs i ≡ Some x) (IsOutside c c (length xs) i)
 
 -- ---- what changes in the places that there are
 
 -- a vector without a place, whatever stood there
 abbrev pub Starts : {T : Type 0} → ℕ → (T → Bool) → (T → List ℕ) → Cut → Cut → Place → Type 0
-Starts {T} size is_value spelling old new p = let none : List T = [] in IsVectorNow size is_value spelling old new p no_table none no_table
+Starts {T} size is_value spelling old new p =
+    let none : List T = [] in IsVectorNow size is_value spelling old new p no_table none no_table
 
-abbrev pub Sets : {T : Type 0} → ℕ → (T → Bool) → (T → List ℕ) → Cut → Cut → Place → ℕ → T → Result (Unit {0}) Refusal → Type 0
+abbrev pub Sets : {T : Type 0} → ℕ → (T → Bool) → (T → List ℕ) → Cut → Cut → Place → ℕ → T → Result (Unit {0}) Refusal
+    → Type 0
 Sets {T} size is_value spelling old new p i x result =
     (xs : List T) (t : Table) → IsVector size is_value spelling old.bytes p xs t
-    → MatchResult result (λ u. (i < length xs) × IsVectorNow size is_value spelling old new p t (slice_set xs i x) t) (IsOutside old new (length xs) i)
+    → MatchResult result (λ u. (i < length xs) × IsVectorNow size is_value spelling old new p t (slice_set xs i x) t)
+    (IsOutside old new (length xs) i)
 
 abbrev pub Pops : {T : Type 0} → ℕ → (T → Bool) → (T → List ℕ) → Cut → Cut → Place → Result T Refusal → Type 0
 Pops {T} size is_value spelling old new p result =
     (xs : List T) (t : Table) → IsVector size is_value spelling old.bytes p xs t
-    → MatchResult result (λ x. (slice_get xs (length xs - 1) ≡ Some x) × IsVectorNow size is_value spelling old new p t (take (length xs - 1) xs) t) (IsOutside old new (length xs) 0)
+    → MatchResult result (λ x. (slice_get xs (length xs - 1) ≡ Some x)
+    × IsVectorNow size is_value spelling old new p t (take (length xs - 1) xs) t) (IsOutside old new (length xs) 0)
 
-abbrev pub ErasesFrom : {T : Type 0} → ℕ → (T → Bool) → (T → List ℕ) → Cut → Cut → Place → ℕ → Result (Unit {0}) Refusal → Type 0
+abbrev pub ErasesFrom : {T : Type 0} → ℕ → (T → Bool) → (T → List ℕ) → Cut → Cut → Place → ℕ → Result (Unit {0}) Refusal
+    → Type 0
 ErasesFrom {T} size is_value spelling old new p i result =
     (xs : List T) (t : Table) → IsVector size is_value spelling old.bytes p xs t
-    → MatchResult result (λ u. (i < length xs) × IsVectorNow size is_value spelling old new p t (remove xs i) t) (IsOutside old new (length xs) i)
+    → MatchResult result (λ u. (i < length xs) × IsVectorNow size is_value spelling old new p t (remove xs i) t)
+    (IsOutside old new (length xs) i)
 
 abbrev pub Clears : {T : Type 0} → ℕ → (T → Bool) → (T → List ℕ) → Cut → Cut → Place → Type 0
 Clears {T} size is_value spelling old new p =
-    (xs : List T) (t : Table) → IsVector size is_value spelling old.bytes p xs t → let none : List T = [] in IsVectorNow size is_value spelling old new p t none t
+    (xs : List T) (t : Table) → IsVector size is_value spelling old.bytes p xs t
+    → let none : List T = [] in IsVectorNow size is_value spelling old new p t none t
 
 -- ---- what needs places, or has fewer
 
-abbrev pub Pushes : {T : Type 0} → ℕ → (T → Bool) → (T → List ℕ) → Cut → Cut → Place → T → Result (Unit {0}) Refusal → Type 0
+abbrev pub Pushes : {T : Type 0} → ℕ → (T → Bool) → (T → List ℕ) → Cut → Cut → Place → T → Result (Unit {0}) Refusal
+    → Type 0
 Pushes {T} size is_value spelling old new p x result =
-    (xs : List T) (t : Table) → IsVector size is_value spelling old.bytes p xs t → let n = capacity_for_one (length xs) t.capacity in
-    MatchResult result (λ u. IsVectorGrown size is_value spelling old new p t n (xs ++ x ∷ [])) (IsWithoutSpace old new size n t)
+    (xs : List T) (t : Table) → IsVector size is_value spelling old.bytes p xs t
+    → let n = capacity_for_one (length xs) t.capacity in
+    MatchResult result (λ u. IsVectorGrown size is_value spelling old new p t n (xs ++ x ∷ []))
+    (IsWithoutSpace old new size n t)
 
 -- where both could be refused, the index is
-abbrev pub InsertsInto : {T : Type 0} → ℕ → (T → Bool) → (T → List ℕ) → Cut → Cut → Place → ℕ → T → Result (Unit {0}) Refusal → Type 0
+abbrev pub InsertsInto : {T : Type 0} → ℕ → (T → Bool) → (T → List ℕ) → Cut → Cut → Place → ℕ → T
+    → Result (Unit {0}) Refusal → Type 0
 InsertsInto {T} size is_value spelling old new p i x result =
-    (xs : List T) (t : Table) → IsVector size is_value spelling old.bytes p xs t → let n = capacity_for_one (length xs) t.capacity in
+    (xs : List T) (t : Table) → IsVector size is_value spelling old.bytes p xs t
+    → let n = capacity_for_one (length xs) t.capacity in
     MatchResult result (λ u. (i ≤ length xs) × IsVectorGrown size is_value spelling old new p t n (insert xs i x))
     (λ e. IsOutside old new (length xs + 1) i e ⊎ ((i ≤ length xs) × IsWithoutSpace old new size n t e))
 
-abbrev pub Reserves : {T : Type 0} → ℕ → (T → Bool) → (T → List ℕ) → Cut → Cut → Place → ℕ → Result (Unit {0}) Refusal → Type 0
+abbrev pub Reserves : {T : Type 0} → ℕ → (T → Bool) → (T → List ℕ) → Cut → Cut → Place → ℕ → Result (Unit {0}) Refusal
+    → Type 0
 Reserves {T} size is_value spelling old new p n result =
     (xs : List T) (t : Table) → IsVector size is_value spelling old.bytes p xs t
     → MatchResult result (λ u. IsVectorGrown size is_value spelling old new p t n xs) (IsWithoutSpace old new size n t)
 
 -- where there are n places already, nothing changes
-abbrev pub ReservesNothing : {T : Type 0} → ℕ → (T → Bool) → (T → List ℕ) → Cut → Cut → Place → ℕ → Result (Unit {0}) Refusal → Type 0
+abbrev pub ReservesNothing : {T : Type 0} → ℕ → (T → Bool) → (T → List ℕ) → Cut → Cut → Place → ℕ
+    → Result (Unit {0}) Refusal → Type 0
 ReservesNothing {T} size is_value spelling old new p n result =
-    (xs : List T) (t : Table) → IsVector size is_value spelling old.bytes p xs t → n ≤ t.capacity → (result ≡ Ok tt) × (new ≡ old)
+    (xs : List T) (t : Table) → IsVector size is_value spelling old.bytes p xs t → n ≤ t.capacity
+    → (result ≡ Ok tt) × (new ≡ old)
 
-abbrev pub Assigns : {T : Type 0} → ℕ → (T → Bool) → (T → List ℕ) → Cut → Cut → Place → List T → Result (Unit {0}) Refusal → Type 0
+abbrev pub Assigns : {T : Type 0} → ℕ → (T → Bool) → (T → List ℕ) → Cut → Cut → Place → List T
+    → Result (Unit {0}) Refusal → Type 0
 Assigns {T} size is_value spelling old new p ys result =
     (xs : List T) (t : Table) → IsVector size is_value spelling old.bytes p xs t
-    → MatchResult result (λ u. IsVectorGrown size is_value spelling old new p t (length ys) ys) (IsWithoutSpace old new size (length ys) t)
+    → MatchResult result (λ u. IsVectorGrown size is_value spelling old new p t (length ys) ys)
+    (IsWithoutSpace old new size (length ys) t)
 
 abbrev pub Shrinks : {T : Type 0} → ℕ → (T → Bool) → (T → List ℕ) → Cut → Cut → Place → Type 0
 Shrinks {T} size is_value spelling old new p =
-    (xs : List T) (t : Table) → IsVector size is_value spelling old.bytes p xs t → IsVectorNow size is_value spelling old new p t xs (cut_table (live_of old.bytes) size (length xs) t)
+    (xs : List T) (t : Table) → IsVector size is_value spelling old.bytes p xs t
+    → IsVectorNow size is_value spelling old new p t xs (cut_table (live_of old.bytes) size (length xs) t)
 
 abbrev pub Releases : {T : Type 0} → ℕ → (T → Bool) → (T → List ℕ) → Cut → Cut → Place → Type 0
 Releases {T} size is_value spelling old new p =
-    (xs : List T) (t : Table) → IsVector size is_value spelling old.bytes p xs t → let none : List T = [] in IsVectorNow size is_value spelling old new p t none no_table
+    (xs : List T) (t : Table) → IsVector size is_value spelling old.bytes p xs t
+    → let none : List T = [] in IsVectorNow size is_value spelling old new p t none no_table
 
 -- values put behind the last one, where there are places for all of them
 abbrev pub PutsAll : {T : Type 0} → ℕ → (T → Bool) → (T → List ℕ) → Cut → Cut → Place → List T → Type 0
 PutsAll {T} size is_value spelling old new p ys =
-    (xs : List T) (t : Table) → IsVector size is_value spelling old.bytes p xs t → length xs + length ys ≤ t.capacity → IsVectorNow size is_value spelling old new p t (xs ++ ys) t
+    (xs : List T) (t : Table) → IsVector size is_value spelling old.bytes p xs t → length xs + length ys ≤ t.capacity
+    → IsVectorNow size is_value spelling old new p t (xs ++ ys) t

@@ -1,8 +1,8 @@
 //! The elements of a container at a place: read, written over, left out, and put in where there is a place.
 ghost use Rattle.std.specs.Prelude.{◌≡◌, ◌+◌, ◌*◌, ◌<◌, ◌≤◌, length, true};
-ghost use Rattle.raw_region.specs.Memory.{bytes_of, word_at};
-ghost use Rattle.seg_vector.specs.Elements.{Erases, Extends, HasSpot, Inserts, Overwrites, PutsAt, ReadsAll};
-ghost use Rattle.seg_vector.specs.{Elements.ReadsOne, Elements.Truncates, Standing.IsStanding};
+ghost use Rattle.seg_vector.specs.Elements.{Erases, Extends, HasSpot, PutsAt, ReadsAll};
+ghost use Rattle.seg_vector.specs.Elements.{ReadsOne, Truncates};
+ghost use Rattle.seg_vector.specs.Standing.{IsStanding, capacity_at, len_at};
 
 use crate::places::{LEN, Place, len_of, link_of};
 use best_fit::Heap;
@@ -23,7 +23,7 @@ pub fn elements(heap: &Heap, place: Place, each: u64) -> &[u8]
 /// The bytes of the element with `index` others before it.
 pub fn element(heap: &Heap, place: Place, each: u64, index: u64) -> &[u8]
     requires stands { IsStanding heap.now.bytes place each }
-    requires inside { index < word_at (bytes_of heap.now.bytes) (place.handle + place.at + 8) }
+    requires inside { index < len_at heap.now.bytes place }
     ensures { ReadsOne heap.now.bytes place each index result.now }
 {
     let all = elements(heap, place, each);
@@ -31,22 +31,10 @@ pub fn element(heap: &Heap, place: Place, each: u64, index: u64) -> &[u8]
     &all[from..from + each as usize]
 }
 
-/// Writes over the element with `index` others before it.
-pub fn set_element(heap: &mut Heap, place: Place, each: u64, index: u64, bytes: &[u8])
-    requires stands { IsStanding heap.old.bytes place each }
-    requires inside { index < word_at (bytes_of heap.old.bytes) (place.handle + place.at + 8) }
-    requires long { length bytes.now ≡ each }
-    ensures { Overwrites heap.old heap.new place each index bytes.now }
-{
-    if let Some(storage) = link_of(heap, place) {
-        heap.write(storage, each * index, bytes);
-    }
-}
-
 /// Leaves the first `n` elements.
 pub fn truncate(heap: &mut Heap, place: Place, each: u64, n: u64)
     requires stands { IsStanding heap.old.bytes place each }
-    requires fewer { n ≤ word_at (bytes_of heap.old.bytes) (place.handle + place.at + 8) }
+    requires fewer { n ≤ len_at heap.old.bytes place }
     ensures { Truncates heap.old heap.new place each n }
 {
     heap.set_word(place.handle, place.at + LEN, n);
@@ -55,7 +43,7 @@ pub fn truncate(heap: &mut Heap, place: Place, each: u64, n: u64)
 /// Writes `n` elements of `each` bytes behind the last one, where the capacity allows.
 pub fn extend(heap: &mut Heap, place: Place, each: u64, n: u64, bytes: &[u8])
     requires stands { IsStanding heap.old.bytes place each }
-    requires space { word_at (bytes_of heap.old.bytes) (place.handle + place.at + 8) + n ≤ word_at (bytes_of heap.old.bytes) (place.handle + place.at + 16) }
+    requires space { len_at heap.old.bytes place + n ≤ capacity_at heap.old.bytes place }
     requires some { 1 ≤ each }
     requires long { length bytes.now ≡ each * n }
     ensures { Extends heap.old heap.new place each n bytes.now }
@@ -67,30 +55,10 @@ pub fn extend(heap: &mut Heap, place: Place, each: u64, n: u64, bytes: &[u8])
     }
 }
 
-/// Puts an element of `each` bytes where `index` others stand before it, where the capacity is above the length. Those
-/// from there on move up.
-pub fn insert_element(heap: &mut Heap, place: Place, each: u64, index: u64, bytes: &[u8])
-    requires stands { IsStanding heap.old.bytes place each }
-    requires space { word_at (bytes_of heap.old.bytes) (place.handle + place.at + 8) < word_at (bytes_of heap.old.bytes) (place.handle + place.at + 16) }
-    requires inside { index ≤ word_at (bytes_of heap.old.bytes) (place.handle + place.at + 8) }
-    requires some { 1 ≤ each }
-    requires long { length bytes.now ≡ each }
-    ensures { Inserts heap.old heap.new place each index bytes.now }
-{
-    let len = len_of(heap, place);
-    if let Some(storage) = link_of(heap, place) {
-        let from = each * index;
-        let behind = each * (len - index);
-        heap.copy(storage, from, storage, from + each, behind);
-        heap.write(storage, from, bytes);
-        heap.set_word(place.handle, place.at + LEN, len + 1);
-    }
-}
-
 /// Leaves out the element with `index` others before it. Those behind it move down.
 pub fn erase_element(heap: &mut Heap, place: Place, each: u64, index: u64)
     requires stands { IsStanding heap.old.bytes place each }
-    requires inside { index < word_at (bytes_of heap.old.bytes) (place.handle + place.at + 8) }
+    requires inside { index < len_at heap.old.bytes place }
     ensures { Erases heap.old heap.new place each index }
 {
     let len = len_of(heap, place);
@@ -114,7 +82,7 @@ pub enum Spot {
 }
 
 /// Puts an element of `each` bytes at a spot.
-fn put_at(heap: &mut Heap, place: Place, each: u64, spot: Spot, bytes: &[u8])
+pub fn put_at(heap: &mut Heap, place: Place, each: u64, spot: Spot, bytes: &[u8])
     requires stands { IsStanding heap.old.bytes place each }
     requires spot { HasSpot heap.old.bytes place spot }
     requires some { 1 ≤ each }
@@ -123,8 +91,21 @@ fn put_at(heap: &mut Heap, place: Place, each: u64, spot: Spot, bytes: &[u8])
 {
     match spot {
         Spot::End => extend(heap, place, each, 1, bytes),
-        Spot::Over(index) => set_element(heap, place, each, index, bytes),
-        Spot::Before(index) => insert_element(heap, place, each, index, bytes),
+        Spot::Over(index) => {
+            if let Some(storage) = link_of(heap, place) {
+                heap.write(storage, each * index, bytes);
+            }
+        }
+        Spot::Before(index) => {
+            let len = len_of(heap, place);
+            if let Some(storage) = link_of(heap, place) {
+                let from = each * index;
+                let behind = each * (len - index);
+                heap.copy(storage, from, storage, from + each, behind);
+                heap.write(storage, from, bytes);
+                heap.set_word(place.handle, place.at + LEN, len + 1);
+            }
+        }
     }
 }
 

@@ -1,4 +1,5 @@
-//! Vectors and strings at a place in a heap: what they hold, how they grow, and the bytes that spell them.
+//! Vectors and strings at a place in a heap: what they hold, how they grow, and the bytes that spell them. Each is the
+//! place alone: a call takes the heap anew, so that nothing is borrowed between two calls.
 #![tactic(auto, using(crate::proofs::Storage::sizes))]
 
 mod elements;

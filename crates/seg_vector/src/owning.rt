@@ -1,13 +1,13 @@
 //! The blocks of the texts of a vector, and those of other texts: these are laid out while those that they replace are
 //! in use.
-ghost use Rattle.std.specs.Prelude.{ℕ, ◌*◌, ◌<◌, IsTrue, List, [], length, map, option_to_list};
+ghost use Rattle.std.specs.Prelude.{◌*◌, ◌<◌, IsTrue, List, [], length, map, option_to_list};
 ghost use Rattle.raw_region.specs.Format.{current};
-ghost use Rattle.best_fit.specs.{Heap.IsHeap, Heap.has_room, Heap.live_of, Table.Table as ATable};
+ghost use Rattle.best_fit.specs.Heap.{IsHeap, has_room, live_of};
 ghost use Rattle.seg_vector.specs.{TextLists.LaysOut, TextLists.LaysTexts, Vector.OwnedText};
 ghost use Rattle.seg_vector.specs.TextParts.{AreHeldElements, IsHeldElement, IsSwapped, PlacesText, TakesStorage};
-ghost use Rattle.seg_vector.specs.TextsCalls.{IsSomeTexts, IsTexts, text_blocks};
+ghost use Rattle.seg_vector.specs.TextsCalls.{text_blocks};
 
-use crate::places::{ELEMENT, Place, len_of, link_of};
+use crate::places::ELEMENT;
 use crate::sizing::LIMIT;
 use crate::text_arrays::put_element;
 use best_fit::{Heap, NoSpace};
@@ -15,11 +15,8 @@ use block_tags::Role;
 use raw_region::Steps;
 use seg_types::Refusal;
 
-/// Takes a block of storage for `n` bytes into use, and answers its handle.
-///
-/// # Errors
-///
-/// `NoSpace` where no gap is long enough. Nothing changes.
+/// Takes a block of storage for `n` bytes into use, and answers its handle, or `NoSpace` where no gap is long enough:
+/// then nothing changes.
 pub fn take(heap: &mut Heap, n: u64) -> Result<u64, Refusal>
     requires { IsHeap current heap.old.bytes }
     ensures { TakesStorage heap.old heap.new n result }
@@ -30,12 +27,8 @@ pub fn take(heap: &mut Heap, n: u64) -> Result<u64, Refusal>
     }
 }
 
-/// Takes a block for the bytes of a text into use, and writes them in it. It answers the block's handle. An empty text
-/// needs none.
-///
-/// # Errors
-///
-/// `NoSpace` where no gap is long enough. Nothing changes.
+/// Takes a block for the bytes of a text into use, and writes them in it. It answers the block's handle, or `NoSpace`
+/// where no gap is long enough: then nothing changes. An empty text needs no block.
 pub fn place_text(heap: &mut Heap, text: &[u8]) -> Result<Option<u64>, Refusal>
     requires { IsHeap current heap.old.bytes }
     ensures { PlacesText heap.old heap.new text.now result }
@@ -52,7 +45,8 @@ pub fn place_text(heap: &mut Heap, text: &[u8]) -> Result<Option<u64>, Refusal>
 /// Gives back the block of the text whose element stands at an offset in the block of an array. An empty text has none.
 pub fn release_text(heap: &mut Heap, array: u64, at: u64)
     requires { (q : OwnedText) × IsHeldElement heap.old.bytes array at q }
-    ensures { (q : OwnedText) → IsHeldElement heap.old.bytes array at q → IsSwapped heap.old heap.new (option_to_list q.extent) [] }
+    ensures { (q : OwnedText) → IsHeldElement heap.old.bytes array at q
+        → IsSwapped heap.old heap.new (option_to_list q.extent) [] }
 {
     if let Some(text) = heap.link(array, at) {
         heap.deallocate(text, &mut Steps::new());
@@ -62,21 +56,11 @@ pub fn release_text(heap: &mut Heap, array: u64, at: u64)
 /// Gives back the blocks of the first `n` texts of the array in a block.
 pub fn release_texts(heap: &mut Heap, array: u64, n: u64)
     requires { (ps : List OwnedText) × AreHeldElements heap.old.bytes array n ps }
-    ensures { (ps : List OwnedText) → AreHeldElements heap.old.bytes array n ps → IsSwapped heap.old heap.new (text_blocks ps) [] }
+    ensures { (ps : List OwnedText) → AreHeldElements heap.old.bytes array n ps
+        → IsSwapped heap.old heap.new (text_blocks ps) [] }
 {
     for i in 0..n {
         release_text(heap, array, ELEMENT * i);
-    }
-}
-
-/// Gives back the blocks of all texts of the vector at a place. Its words and its array stay.
-pub fn release_all(heap: &mut Heap, place: Place)
-    requires { IsSomeTexts heap.old.bytes place }
-    ensures { (ps : List OwnedText) (t : ATable) → IsTexts heap.old.bytes place ps t → IsSwapped heap.old heap.new (text_blocks ps) [] }
-{
-    let len = len_of(heap, place);
-    if let Some(array) = link_of(heap, place) {
-        release_texts(heap, array, len);
     }
 }
 
@@ -100,12 +84,8 @@ pub fn place_texts(heap: &mut Heap, array: u64, texts: &[&[u8]]) -> u64
 }
 
 /// Takes an array of as many places as there are texts into use, and then a block for each text that is not empty, and
-/// writes the elements and the texts. It answers the array's handle.
-///
-/// # Errors
-///
-/// `NoSpace` where one of them has no gap that is long enough. The same blocks are in use as before, with the same
-/// bytes.
+/// writes the elements and the texts. It answers the array's handle, or `NoSpace` where one of them has no gap that is
+/// long enough: then the same blocks are in use as before, with the same bytes.
 pub fn lay_out(heap: &mut Heap, texts: &[&[u8]]) -> Result<u64, Refusal>
     requires heap { IsHeap current heap.old.bytes }
     requires some { 0 < length texts.now }

@@ -1,9 +1,9 @@
 //! Where a container stands, and what its three words say.
 ghost use Rattle.std.specs.Prelude.{◌≡◌, ◌+◌, ◌%◌, IsTrue};
-ghost use Rattle.raw_region.specs.{Format.current, Memory.bytes_of, Memory.word_at};
+ghost use Rattle.raw_region.specs.{Format.current, Memory.bytes_of};
 ghost use Rattle.offset_link.specs.Link.{link_at};
 ghost use Rattle.best_fit.specs.Heap.{IsHeap, has_room, live_of};
-ghost use Rattle.seg_vector.specs.Standing.{place_at};
+ghost use Rattle.seg_vector.specs.Standing.{capacity_at, len_at, place_at};
 
 use best_fit::Heap;
 
@@ -37,7 +37,7 @@ pub fn link_of(heap: &Heap, place: Place) -> Option<u64>
 pub fn len_of(heap: &Heap, place: Place) -> u64
     requires heap { IsHeap current heap.now.bytes }
     requires room { IsTrue (has_room (live_of heap.now.bytes) place.handle (place.at + 24)) }
-    ensures { result ≡ word_at (bytes_of heap.now.bytes) (place_at place + 8) }
+    ensures { result ≡ len_at heap.now.bytes place }
 {
     heap.word(place.handle, place.at + LEN)
 }
@@ -46,7 +46,7 @@ pub fn len_of(heap: &Heap, place: Place) -> u64
 pub fn capacity_of(heap: &Heap, place: Place) -> u64
     requires heap { IsHeap current heap.now.bytes }
     requires room { IsTrue (has_room (live_of heap.now.bytes) place.handle (place.at + 24)) }
-    ensures { result ≡ word_at (bytes_of heap.now.bytes) (place_at place + 16) }
+    ensures { result ≡ capacity_at heap.now.bytes place }
 {
     heap.word(place.handle, place.at + CAPACITY)
 }

@@ -1,9 +1,9 @@
 //! The storage of a container at a place: it has none at the beginning, gets more of it, has it cut, and gives it back.
 ghost use Rattle.std.specs.Prelude.{◌≡◌, ℕ, ◌+◌, ◌*◌, ◌%◌, ◌<◌, ◌≤◌, IsTrue, []};
-ghost use Rattle.raw_region.specs.{Format.current, Memory.bytes_of, Memory.word_at};
+ghost use Rattle.raw_region.specs.Format.{current};
 ghost use Rattle.best_fit.specs.{Heap.IsChanged, Heap.IsHeap, Heap.has_room, Heap.live_of, Table.no_table};
 ghost use Rattle.seg_vector.specs.{Elements.Fits, Elements.GivesBack, Vector.capacity_for_one as places_for_one};
-ghost use Rattle.seg_vector.specs.Standing.{Grows, GrowsForOne, IsStanding, Stands, place_at};
+ghost use Rattle.seg_vector.specs.Standing.{Grows, GrowsForOne, IsStanding, Stands, len_at, place_at};
 
 use crate::places::{CAPACITY, LEN, Place, capacity_of, len_of, link_of};
 use best_fit::{Heap, NoSpace};
@@ -100,16 +100,12 @@ pub fn capacity_for_one(len: u64, capacity: u64) -> u64
 }
 
 /// Makes room for one element more, of 1 to 4096 bytes, behind the `len` that there are. A full container gets twice
-/// its places, and at least 4.
-///
-/// # Errors
-///
-/// `NoSpace` where it is full and its storage cannot be regrown. Nothing changes.
+/// its places, and at least 4; or it answers `NoSpace` where its storage cannot be regrown, and nothing changes.
 pub fn grow_for_one(heap: &mut Heap, place: Place, each: u64, len: u64) -> Result<(), Refusal>
     requires stands { IsStanding heap.old.bytes place each }
     requires some { 1 ≤ each }
     requires short { each ≤ 4096 }
-    requires len { len ≡ word_at (bytes_of heap.old.bytes) (place.handle + place.at + 8) }
+    requires len { len ≡ len_at heap.old.bytes place }
     ensures { GrowsForOne heap.old heap.new place each result }
 {
     let capacity = capacity_of(heap, place);

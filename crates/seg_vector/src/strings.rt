@@ -3,9 +3,11 @@ ghost use Rattle.std.specs.Prelude.{◌≡◌, ◌+◌, ◌*◌, ◌%◌, ◌<�
 ghost use Rattle.raw_region.specs.Format.{current};
 ghost use Rattle.best_fit.specs.Heap.{IsChanged, IsHeap, has_room, live_of};
 ghost use Rattle.seg_vector.specs.{Standing.place_at, Vector.capacity_for_text as places_for_text};
-ghost use Rattle.seg_vector.specs.TextCalls.{AppendsText, AssignsText, ClearsText, CountsBytePlaces, CountsBytes, GetsByte, IsSomeText, ReadsText, ReleasesText, ReservesBytes, ReservesNoBytes, SetsByte, ShrinksText, StartsText};
+ghost use Rattle.seg_vector.specs.TextCalls.{AppendsText, AssignsText, ClearsText, CountsBytePlaces, CountsBytes};
+ghost use Rattle.seg_vector.specs.TextCalls.{GetsByte, IsSomeText, ReadsText, ReleasesText, ReservesBytes};
+ghost use Rattle.seg_vector.specs.TextCalls.{ReservesNoBytes, SetsByte, ShrinksText, StartsText};
 
-use crate::elements::{elements, extend, set_element, truncate};
+use crate::elements::{Spot, elements, extend, put_at, truncate};
 use crate::places::{Place, capacity_of, len_of};
 use crate::sizing::{self, LIMIT, fit, give_back, start};
 use best_fit::Heap;
@@ -13,8 +15,6 @@ use seg_types::Refusal;
 
 /// A text at a place in a heap: three words there (the link to its storage, its length and its capacity), and a block
 /// of storage for as many bytes as its capacity says. Without a place for a byte it has no block.
-///
-/// It is the place alone. Each call takes the heap anew, so that nothing is borrowed between two calls.
 #[derive(Clone, Copy, Debug)]
 pub struct SegString {
     /// Where the three words stand.
@@ -98,7 +98,7 @@ impl SegString {
         if index >= self.len(heap) {
             return Err(Refusal::OutOfRange);
         }
-        set_element(heap, self.place, 1, index, &[byte]);
+        put_at(heap, self.place, 1, Spot::Over(index), &[byte]);
         Ok(())
     }
 

@@ -1,11 +1,14 @@
 //! The array of a vector of texts: elements of a link, which is a distance, and a length. They are moved as a link and
 //! a word, within it and to one with more places.
-ghost use Rattle.std.specs.Prelude.{◌≡◌, ◌+◌, ◌*◌, ◌%◌, ◌^◌, ◌<◌, ◌≤◌, ◌⊎◌, IfSome, IsTrue, true, false};
-ghost use Rattle.raw_region.specs.{Format.current, Memory.bytes_of, Memory.word_at};
+ghost use Rattle.std.specs.Prelude.{◌≡◌, ◌+◌, ◌*◌, ◌%◌, ◌^◌, ◌<◌, IsTrue, true, false};
+ghost use Rattle.raw_region.specs.{Format.current, Memory.bytes_of};
 ghost use Rattle.offset_link.specs.Link.{link_at};
 ghost use Rattle.best_fit.specs.Exchange.{IsNotWidened, IsWidened};
 ghost use Rattle.best_fit.specs.Heap.{IsChanged, IsHeap, has_room, is_live_in, live_of};
-ghost use Rattle.seg_vector.specs.TextParts.{Adopts, AreEvenLinks, AreSameElements, AsksArray, GivesUp, HasArrayRoom, HasPlace, InsertsGrowing, InsertsWithin, IsFull, IsPointed, IsPutAsked, IsReady, IsSameElement, IsToBeGivenUp, PutsIn};
+ghost use Rattle.seg_vector.specs.TextParts.{Adopts, AreCarried, AsksArray, CanCarryDown, CanCarryUp, GivesUp};
+ghost use Rattle.seg_vector.specs.TextParts.{HasArrayRoom, HasElement, HasElementRoom, HasPlace, InsertsGrowing};
+ghost use Rattle.seg_vector.specs.TextParts.{InsertsWithin, IsElementPut, IsFull, IsPointed, IsPutAsked, IsReady};
+ghost use Rattle.seg_vector.specs.TextParts.{IsSameElement, IsToBeGivenUp, PutsIn};
 ghost use Rattle.seg_vector.specs.TextsCalls.{IsSomeTexts};
 
 use crate::owning::{place_text, take};
@@ -16,13 +19,8 @@ use seg_types::Refusal;
 
 /// Writes the element at an offset in a block: a link to the block of a text, or nowhere, and its length.
 pub fn put_element(heap: &mut Heap, array: u64, at: u64, text: Option<u64>, len: u64)
-    requires heap { IsHeap current heap.old.bytes }
-    requires whole { at % 8 ≡ 0 }
-    requires room { IsTrue (has_room (live_of heap.old.bytes) array (at + 16)) }
-    requires target { IfSome text (λ target. target % 16 ≡ 0) }
-    ensures change { IsChanged current heap.old heap.new (array + at) 16 }
-    ensures link { link_at (bytes_of heap.new.bytes) (array + at) ≡ text }
-    ensures len_word { word_at (bytes_of heap.new.bytes) (array + at + 8) ≡ len }
+    requires { HasElementRoom heap.old.bytes array at text }
+    ensures { IsElementPut heap.old heap.new (array + at) text len }
 {
     heap.set_link(array, at, text);
     heap.set_word(array, at + LEN, len);
@@ -31,12 +29,8 @@ pub fn put_element(heap: &mut Heap, array: u64, at: u64, text: Option<u64>, len:
 /// Makes the element at an offset in one block that at an offset in another, or in the same one: a link that leads
 /// where its link leads, and its length.
 pub fn carry_element(heap: &mut Heap, from: u64, from_at: u64, to: u64, to_at: u64)
-    requires heap { IsHeap current heap.old.bytes }
-    requires from_whole { from_at % 8 ≡ 0 }
-    requires to_whole { to_at % 8 ≡ 0 }
-    requires source { IsTrue (has_room (live_of heap.old.bytes) from (from_at + 16)) }
-    requires target { IsTrue (has_room (live_of heap.old.bytes) to (to_at + 16)) }
-    requires even { IfSome (link_at (bytes_of heap.old.bytes) (from + from_at)) (λ target. target % 16 ≡ 0) }
+    requires element { HasElement heap.old.bytes from from_at }
+    requires room { HasElementRoom heap.old.bytes to to_at (link_at (bytes_of heap.old.bytes) (from + from_at)) }
     ensures change { IsChanged current heap.old heap.new (to + to_at) 16 }
     ensures carried { IsSameElement (bytes_of heap.old.bytes) (bytes_of heap.new.bytes) (from + from_at) (to + to_at) }
 {
@@ -48,15 +42,8 @@ pub fn carry_element(heap: &mut Heap, from: u64, from_at: u64, to: u64, to_at: u
 /// Makes the `n` elements from `to_at` on in the block `to` those from `from_at` on in the block `from`, the first one
 /// first. It may be one block, where they move down.
 pub fn carry_down(heap: &mut Heap, from: u64, from_at: u64, to: u64, to_at: u64, n: u64)
-    requires heap { IsHeap current heap.old.bytes }
-    requires from_whole { from_at % 8 ≡ 0 }
-    requires to_whole { to_at % 8 ≡ 0 }
-    requires source { IsTrue (has_room (live_of heap.old.bytes) from (from_at + 16 * n)) }
-    requires target { IsTrue (has_room (live_of heap.old.bytes) to (to_at + 16 * n)) }
-    requires even { AreEvenLinks (bytes_of heap.old.bytes) (from + from_at) n }
-    requires apart { (to + to_at ≤ from + from_at) ⊎ (from + from_at + 16 * n ≤ to + to_at) }
-    ensures change { IsChanged current heap.old heap.new (to + to_at) (16 * n) }
-    ensures carried { AreSameElements (bytes_of heap.old.bytes) (bytes_of heap.new.bytes) (from + from_at) (to + to_at) n }
+    requires { CanCarryDown heap.old.bytes from from_at to to_at n }
+    ensures { AreCarried heap.old heap.new (from + from_at) (to + to_at) n }
 {
     for i in 0..n {
         carry_element(heap, from, from_at + ELEMENT * i, to, to_at + ELEMENT * i);
@@ -65,12 +52,8 @@ pub fn carry_down(heap: &mut Heap, from: u64, from_at: u64, to: u64, to_at: u64,
 
 /// Moves the `n` elements from `at` on in a block up by one place, the last one first.
 pub fn carry_up(heap: &mut Heap, array: u64, at: u64, n: u64)
-    requires heap { IsHeap current heap.old.bytes }
-    requires whole { at % 8 ≡ 0 }
-    requires room { IsTrue (has_room (live_of heap.old.bytes) array (at + 16 * n + 16)) }
-    requires even { AreEvenLinks (bytes_of heap.old.bytes) (array + at) n }
-    ensures change { IsChanged current heap.old heap.new (array + at + 16) (16 * n) }
-    ensures carried { AreSameElements (bytes_of heap.old.bytes) (bytes_of heap.new.bytes) (array + at) (array + at + 16) n }
+    requires { CanCarryUp heap.old.bytes array at n }
+    ensures { AreCarried heap.old heap.new (array + at) (array + at + 16) n }
 {
     for i in 0..n {
         let place = at + ELEMENT * (n - 1 - i);
@@ -94,11 +77,8 @@ pub fn widen(heap: &mut Heap, handle: u64, n: u64) -> bool
 
 /// Asks for an array of `n` places for the vector of texts at a place, which has fewer, and answers the array's handle:
 /// that of the old one where it is long enough or can be lengthened where it stands, and else that of a new block,
-/// beside the old one. The vector's words stay.
-///
-/// # Errors
-///
-/// `NoSpace` where a new block is needed and has no gap that is long enough. Nothing changes.
+/// beside the old one. The vector's words stay. Where a new block is needed and no gap is long enough, it answers
+/// `NoSpace`, and nothing changes.
 pub fn ask_array(heap: &mut Heap, place: Place, n: u64) -> Result<u64, Refusal>
     requires texts { IsSomeTexts heap.old.bytes place }
     requires small { 16 * n < 2 ^ 64 }
@@ -182,11 +162,8 @@ pub fn give_up(heap: &mut Heap, place: Place, array: u64, room: u64)
     heap.deallocate(array, &mut Steps::new());
 }
 
-/// Puts a text where `index` others stand before it. There is a place for it.
-///
-/// # Errors
-///
-/// `NoSpace` where no gap is long enough for the text. Nothing changes.
+/// Puts a text where `index` others stand before it. There is a place for it. Where no gap is long enough for the text,
+/// it answers `NoSpace`, and nothing changes.
 pub fn insert_within(heap: &mut Heap, place: Place, index: u64, text: &[u8]) -> Result<(), Refusal>
     requires { HasPlace heap.old.bytes place index }
     ensures { InsertsWithin heap.old heap.new place index text.now result }
@@ -197,11 +174,8 @@ pub fn insert_within(heap: &mut Heap, place: Place, index: u64, text: &[u8]) -> 
 }
 
 /// Puts a text where `index` others stand before it, in an array of `n` places, since there is no place for it. The
-/// array is asked for first, and then the text's block, while the old array is in use.
-///
-/// # Errors
-///
-/// `NoSpace` where one of the two has no gap that is long enough. The live set is as before, and all blocks with it.
+/// array is asked for first, and then the text's block, while the old array is in use. Where one of the two has no gap
+/// that is long enough, it answers `NoSpace`: then the live set is as before, and all blocks with it.
 pub fn insert_growing(
     heap: &mut Heap,
     place: Place,

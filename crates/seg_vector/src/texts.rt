@@ -1,11 +1,14 @@
 //! Vectors of texts: an array of links and lengths, and a block for each text that is not empty.
-ghost use Rattle.std.specs.Prelude.{◌≡◌, ◌+◌, ◌%◌, ◌<◌, None, IfSome, IsTrue, List, length, map};
+ghost use Rattle.std.specs.Prelude.{◌≡◌, ◌+◌, ◌%◌, None, IsTrue, length, map};
 ghost use Rattle.raw_region.specs.Format.{current};
-ghost use Rattle.best_fit.specs.{Heap.IsChanged, Heap.IsHeap, Heap.has_room, Heap.live_of, Table.Table as ATable};
-ghost use Rattle.seg_vector.specs.{Standing.place_at, TextParts.ReplacesText, Vector.OwnedText};
-ghost use Rattle.seg_vector.specs.TextsCalls.{AssignsTexts, ClearsTexts, CountsTextPlaces, CountsTexts, ErasesText, GetsText, InsertsText, IsSomeTexts, IsTextElement, IsTexts, PopsText, PushesText, ReleasesTexts, ReservesNoTexts, ReservesTexts, SetsText, ShrinksTexts, StartsTexts, StaysAtFirst, new_array};
+ghost use Rattle.best_fit.specs.Heap.{IsChanged, IsHeap, has_room, live_of};
+ghost use Rattle.seg_vector.specs.Standing.{place_at};
+ghost use Rattle.seg_vector.specs.TextsCalls.{AssignsTexts, ClearsTexts, CountsTextPlaces, CountsTexts, ErasesText};
+ghost use Rattle.seg_vector.specs.TextsCalls.{GetsText, InsertsText, IsSomeTexts, PopsText, PushesText, ReleasesTexts};
+ghost use Rattle.seg_vector.specs.TextsCalls.{ReservesNoTexts, ReservesTexts, SetsText, ShrinksTexts, StartsTexts};
+ghost use Rattle.seg_vector.specs.TextsCalls.{StaysAtFirst, new_array};
 
-use crate::owning::{lay_out, place_text, release_all, release_text};
+use crate::owning::{lay_out, place_text, release_text, release_texts};
 use crate::places::{ELEMENT, LEN, Place, capacity_of, len_of, link_of};
 use crate::sizing::{LIMIT, capacity_for_one, fit, give_back, start};
 use crate::text_arrays::{
@@ -16,8 +19,6 @@ use seg_types::Refusal;
 
 /// A vector of texts at a place in a heap: three words there (the link to its array, its length and its capacity), an
 /// array with as many places as its capacity says, and a block for each text that is not empty.
-///
-/// It is the place alone. Each call takes the heap anew, so that nothing is borrowed between two calls.
 #[derive(Clone, Copy, Debug)]
 pub struct SegTexts {
     /// Where the three words stand.
@@ -59,6 +60,7 @@ impl SegTexts {
     /// # Errors
     ///
     /// `OutOfRange` where there are not so many.
+    #[tactic(auto, using(crate::proofs::Storage::sizes, crate::proofs::TextPuts::few_places))]
     pub fn get(self, heap: &Heap, index: u64) -> Result<&[u8], Refusal>
         requires { IsSomeTexts heap.now.bytes self.place }
         ensures { GetsText heap.now self.place index result }
@@ -66,9 +68,16 @@ impl SegTexts {
         if index >= self.len(heap) {
             return Err(Refusal::OutOfRange);
         }
-        match link_of(heap, self.place) {
-            None => unreachable!(),
-            Some(array) => Ok(text_at(heap, array, ELEMENT * index)),
+        let Some(array) = link_of(heap, self.place) else {
+            unreachable!()
+        };
+        let at = ELEMENT * index;
+        match heap.link(array, at) {
+            None => Ok(&[]),
+            Some(text) => {
+                let len = heap.word(array, at + LEN);
+                Ok(&heap.block(text)[..len as usize])
+            }
         }
     }
 
@@ -79,6 +88,7 @@ impl SegTexts {
     ///
     /// `OutOfRange` where there are not so many, and else `NoSpace` where no gap is long enough for the text. Nothing
     /// changes.
+    #[tactic(auto, using(crate::proofs::Storage::sizes, crate::proofs::TextPuts::few_places))]
     pub fn set(self, heap: &mut Heap, index: u64, text: &[u8]) -> Result<(), Refusal>
         requires { IsSomeTexts heap.old.bytes self.place }
         ensures { SetsText heap.old heap.new self.place index text.now result }
@@ -87,7 +97,10 @@ impl SegTexts {
             return Err(Refusal::OutOfRange);
         }
         let block = place_text(heap, text)?;
-        replace_text(heap, self.place, index, block, text.len() as u64);
+        if let Some(array) = link_of(heap, self.place) {
+            release_text(heap, array, ELEMENT * index);
+            put_element(heap, array, ELEMENT * index, block, text.len() as u64);
+        }
         Ok(())
     }
 
@@ -139,6 +152,7 @@ impl SegTexts {
     /// # Errors
     ///
     /// `OutOfRange` where there are not so many. Nothing changes.
+    #[tactic(auto, using(crate::proofs::Storage::sizes, crate::proofs::TextPuts::few_places))]
     pub fn erase(self, heap: &mut Heap, index: u64) -> Result<(), Refusal>
         requires { IsSomeTexts heap.old.bytes self.place }
         ensures { ErasesText heap.old heap.new self.place index result }
@@ -147,16 +161,13 @@ impl SegTexts {
         if index >= len {
             return Err(Refusal::OutOfRange);
         }
-        match link_of(heap, self.place) {
-            None => unreachable!(),
-            Some(array) => {
-                let at = ELEMENT * index;
-                release_text(heap, array, at);
-                carry_down(heap, array, at + ELEMENT, array, at, len - index - 1);
-                heap.set_word(self.place.handle, self.place.at + LEN, len - 1);
-                Ok(())
-            }
+        if let Some(array) = link_of(heap, self.place) {
+            let at = ELEMENT * index;
+            release_text(heap, array, at);
+            carry_down(heap, array, at + ELEMENT, array, at, len - index - 1);
+            heap.set_word(self.place.handle, self.place.at + LEN, len - 1);
         }
+        Ok(())
     }
 
     /// Leaves out the last text, and gives back its block. The array stays.
@@ -236,7 +247,10 @@ impl SegTexts {
         requires { IsSomeTexts heap.old.bytes self.place }
         ensures { ClearsTexts heap.old heap.new self.place }
     {
-        release_all(heap, self.place);
+        let len = self.len(heap);
+        if let Some(array) = link_of(heap, self.place) {
+            release_texts(heap, array, len);
+        }
         heap.set_word(self.place.handle, self.place.at + LEN, 0);
     }
 
@@ -247,31 +261,5 @@ impl SegTexts {
     {
         self.clear(heap);
         give_back(heap, self.place, ELEMENT);
-    }
-}
-
-/// Makes the element with `index` others before it that of another text, and gives back the block of the one before.
-fn replace_text(heap: &mut Heap, place: Place, index: u64, text: Option<u64>, len: u64)
-    requires texts { (ps : List OwnedText) × ((t : ATable) × (IsTexts heap.old.bytes place ps t × (index < length ps))) }
-    requires target { IfSome text (λ target. target % 16 ≡ 0) }
-    ensures { ReplacesText heap.old heap.new place index text len }
-{
-    if let Some(array) = link_of(heap, place) {
-        release_text(heap, array, ELEMENT * index);
-        put_element(heap, array, ELEMENT * index, text, len);
-    }
-}
-
-/// The text of the element at an offset in the block of an array.
-fn text_at(heap: &Heap, array: u64, at: u64) -> &[u8]
-    requires { (q : OwnedText) × IsTextElement heap.now.bytes array at q }
-    ensures { (q : OwnedText) → IsTextElement heap.now.bytes array at q → result.now ≡ q.bytes }
-{
-    match heap.link(array, at) {
-        None => &[],
-        Some(text) => {
-            let len = heap.word(array, at + LEN);
-            &heap.block(text)[..len as usize]
-        }
     }
 }

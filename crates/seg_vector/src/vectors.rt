@@ -3,7 +3,9 @@ ghost use Rattle.std.specs.Prelude.{◌≡◌, ◌+◌, ◌%◌, ◌≤◌, ◌+
 ghost use Rattle.raw_region.specs.Format.{current};
 ghost use Rattle.best_fit.specs.{Heap.IsChanged, Heap.IsHeap, Heap.has_room, Heap.live_of, Table.Table as ATable};
 ghost use Rattle.seg_vector.specs.Standing.{place_at};
-ghost use Rattle.seg_vector.specs.VectorCalls.{Assigns, Clears, Counts, CountsPlaces, ErasesFrom, Gets, InsertsInto, IsSomeVector, IsVector, Pops, Pushes, PutsAll, Releases, Reserves, ReservesNothing, Sets, Shrinks, Starts};
+ghost use Rattle.seg_vector.specs.VectorCalls.{Assigns, Clears, Counts, CountsPlaces, ErasesFrom, Gets, InsertsInto};
+ghost use Rattle.seg_vector.specs.VectorCalls.{IsSomeVector, IsVector, Pops, Pushes, PutsAll, Releases, Reserves};
+ghost use Rattle.seg_vector.specs.VectorCalls.{ReservesNothing, Sets, Shrinks, Starts};
 
 use crate::elements::{Spot, element, erase_element, put_value, truncate};
 use crate::places::{Place, capacity_of, len_of};
@@ -14,8 +16,6 @@ use std::marker::PhantomData;
 
 /// A vector at a place in a heap: three words there (the link to its storage, its length and its capacity), and a block
 /// of storage, in which it has as many places as its capacity says. Without a place it has no block.
-///
-/// It is the place alone. Each call takes the heap anew, so that nothing is borrowed between two calls.
 #[derive(Clone, Copy)]
 pub struct SegVec<T: Plain> {
     /// Where the three words stand.
@@ -223,7 +223,8 @@ impl<T: Plain> SegVec<T> {
 
 /// Puts values behind the last one, one after another, where there are places for all of them.
 fn put_all<T: Plain>(heap: &mut Heap, place: Place, values: &[T])
-    requires { (xs : List T) × ((t : ATable) × (IsVector T.SIZE T.is_value T.spelling heap.old.bytes place xs t × (length xs + length values.now ≤ t.capacity))) }
+    requires { (xs : List T) × ((t : ATable) × (IsVector T.SIZE T.is_value T.spelling heap.old.bytes place xs t
+        × (length xs + length values.now ≤ t.capacity))) }
     ensures { PutsAll T.SIZE T.is_value T.spelling heap.old heap.new place values.now }
 {
     for value in values {

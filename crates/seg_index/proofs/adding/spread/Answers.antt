@@ -10,8 +10,7 @@ returns-clause-change c =
 
 pub returns-clause-tail : goal.returns-clause-tail
 returns-clause-tail c =
-    let a = c.args in let B = bytes_of c.shift_non_null_links.new.self.bytes in
-    let at = a.to + 8 * a.place in
+    let a = c.args in let B = bytes_of c.shift_non_null_links.new.self.bytes in let at = a.to + 8 * a.place in
     record {
       each = λ k l.
           let e : at + 8 + 8 * k ≡ a.to + (8 * a.place + 8) + 8 * k = omega arith in

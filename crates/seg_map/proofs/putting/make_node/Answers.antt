@@ -15,6 +15,5 @@ returns-clause-made g c =
     made (laws g.met.K.Plain) g.V.Plain (new g (goal.at.returns-clause-made g c).In_ok-node) left.change left.leads
     right.change
     right.leads
-    key.value key.change key.content c.args.value value.value
-    (rw c.SIZE-3.ensures at value.change)
+    key.value key.change key.content c.args.value value.value (rw c.SIZE-3.ensures at value.change)
     (rw c.SIZE-3.ensures at value.content)

@@ -18,18 +18,17 @@ overflow_mul-behind c = omega (arith, (fits (goal.at.overflow_mul-behind c).In-S
 pub overflow_add-from : goal.overflow_add-from
 overflow_add-from c = omega (arith, (fits (goal.at.overflow_add-from c).In-Some).small)
 
-pub copy-requires-clause-source : goal.copy-requires-clause-source
-copy-requires-clause-source c = (fits (goal.at.copy-requires-clause-source c).In-Some).room
-
-pub copy-requires-clause-target : goal.copy-requires-clause-target
-copy-requires-clause-target c =
-    part-room (c.args.each * c.args.index + c.args.each * (c.len_of-len.result - c.args.index - 1)) (omega arith)
-    (fits (goal.at.copy-requires-clause-target c).In-Some)
+pub copy-requires : goal.copy-requires
+copy-requires c =
+    let f = fits (goal.at.copy-requires c).In-Some in record {
+      source = f.room;
+      target = part-room (c.args.each * c.args.index + c.args.each * (c.len_of-len.result - c.args.index - 1))
+          (omega arith) f;
+    }
 
 pub returns-in-Some : goal.returns-in-Some
 returns-in-Some c len t bytes s =
-    let is = c.len_of-len.ensures ∙ s.words.len_word in
-    let at : ℕ = c.args.each * c.args.index in
+    let is = c.len_of-len.ensures ∙ s.words.len_word in let at : ℕ = c.args.each * c.args.index in
     let now = subst (λ n. Stands c.args.heap.now.bytes c.args.place c.args.each n t bytes) (sym is) s in
     subst (λ n. IsRewritten c.args.heap.now c.set_word.new.self c.args.place c.args.each (n - 1) t
     (take at bytes ++ drop (at + c.args.each) bytes)) is

@@ -38,8 +38,7 @@ returns-in-Some c len t bytes s =
     (subst (λ k. IsChanged current c.args.heap.now c.write.new.self (c.in-Some.storage + c.args.each * k)
     (length c.args.bytes.now)) is c.write.ensures.change)
     (subst (λ k. Has (bytes_of c.write.new.self.bytes) (c.in-Some.storage + c.args.each * k) c.args.bytes.now) is
-    c.write.ensures.content)
-    c.set_word.ensures.change (c.set_word.ensures.word ∙ ap (λ k. k + c.args.n) is)
+    c.write.ensures.content) c.set_word.ensures.change (c.set_word.ensures.word ∙ ap (λ k. k + c.args.n) is)
 
 pub returns-in_default : goal.returns-in_default
 returns-in_default c len t bytes s = extended-not c.args.heap.now c.args.n c.args.bytes.now s

@@ -8,11 +8,9 @@ returns-then-n-gt-LIMIT c =
     out-of-reach c.args.heap.now (length c.args.texts.now) (map (λ text. text.now) c.args.texts.now) c.requires.heap
     (sym (length-map c.args.texts.now (λ text. text.now))) c.if-n-gt-LIMIT.true
 
-pub place_texts-placed-requires-clause-heap : goal.place_texts-placed-requires-clause-heap
-place_texts-placed-requires-clause-heap c = (array-taken (length c.args.texts.now) c.in_ok-array.ensures).heap
-
-pub place_texts-placed-requires-clause-room : goal.place_texts-placed-requires-clause-room
-place_texts-placed-requires-clause-room c = (array-taken (length c.args.texts.now) c.in_ok-array.ensures).room
+pub place_texts-placed-requires : goal.place_texts-placed-requires
+place_texts-placed-requires c =
+    let t = array-taken (length c.args.texts.now) c.in_ok-array.ensures in record { heap = t.heap; room = t.room }
 
 pub returns-then-placed-n : goal.returns-then-placed-n
 returns-then-placed-n c =
@@ -28,10 +26,8 @@ release_texts-requires c =
 
 pub deallocate-requires : goal.deallocate-requires
 deallocate-requires c =
-    let n = length c.args.texts.now in
-    let more = map (λ text. text.now) c.args.texts.now in
-    let t = array-taken n c.in_ok-array.ensures in
-    let w = c.place_texts-placed.ensures t.block t.at t.found in
+    let n = length c.args.texts.now in let more = map (λ text. text.now) c.args.texts.now in
+    let t = array-taken n c.in_ok-array.ensures in let w = c.place_texts-placed.ensures t.block t.at t.found in
     let h = laid-held t (sym (length-map c.args.texts.now (λ text. text.now))) w in
     array-live t w (c.release_texts.ensures w.laid.texts h)
 
@@ -44,11 +40,8 @@ returns-in_err-array c =
 
 pub returns : goal.returns
 returns c =
-    let n = length c.args.texts.now in
-    let more = map (λ text. text.now) c.args.texts.now in
-    let e = sym (length-map c.args.texts.now (λ text. text.now)) in
-    let t = array-taken n c.in_ok-array.ensures in
-    let w = c.place_texts-placed.ensures t.block t.at t.found in
-    let h = laid-held t e w in
+    let n = length c.args.texts.now in let more = map (λ text. text.now) c.args.texts.now in
+    let e = sym (length-map c.args.texts.now (λ text. text.now)) in let t = array-taken n c.in_ok-array.ensures in
+    let w = c.place_texts-placed.ensures t.block t.at t.found in let h = laid-held t e w in
     taken-off t e c.requires.some w c.if-placed-n.false
     (c.release_texts.ensures w.laid.texts h) c.deallocate.ensures.released

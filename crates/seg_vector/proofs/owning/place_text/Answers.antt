@@ -16,5 +16,4 @@ returns c = placed-some c.args.text.now (omega (arith, c.if-len-eq0.false)) c.in
 pub returns-in_err-block : goal.returns-in_err-block
 returns-in_err-block c =
     let p = err_from_is_err_and c.from_residual.result c.from_residual.ensures.1 in
-    rw (p.1, p.2)
-    (not-placed c.args.text.now (omega (arith, c.if-len-eq0.false)) c.in_err-block.ensures)
+    rw (p.1, p.2) (not-placed c.args.text.now (omega (arith, c.if-len-eq0.false)) c.in_err-block.ensures)

@@ -18,17 +18,16 @@ returns-in-Err c y at found =
     laid-stops (c.loop-i.invariant y at found) (drop-next c.args.texts.now c.loop-i.i _ c.loop-i-test.true)
     (omega (arith, c.loop-i-test.true, length-map c.args.texts.now (λ text. text.now))) c.in-Err.ensures
 
-pub put_element-requires-clause-heap : goal.put_element-requires-clause-heap
-put_element-requires-clause-heap c = laid-heap _ _ c.in-Ok.ensures.change.live
-
-pub put_element-requires-clause-room : goal.put_element-requires-clause-room
-put_element-requires-clause-room c =
+pub put_element-requires : goal.put_element-requires
+put_element-requires c =
     let r = roomy c.args.heap.now c.args.array (16 * length c.args.texts.now) c.requires.heap c.requires.room in
-    laid-room (length c.args.texts.now) c.args.array r.at (c.loop-i.invariant r.extent r.at r.found) c.in-Ok.ensures
-    c.loop-i-test.true r.room
-
-pub put_element-requires-clause-target : goal.put_element-requires-clause-target
-put_element-requires-clause-target c = text-even c.in-Ok.ensures
+    record {
+      heap = laid-heap _ _ c.in-Ok.ensures.change.live;
+      whole = omega arith;
+      room = laid-room (length c.args.texts.now) c.args.array r.at (c.loop-i.invariant r.extent r.at r.found)
+          c.in-Ok.ensures c.loop-i-test.true r.room;
+      target = text-even c.in-Ok.ensures;
+    }
 
 pub loop-i-preserved : goal.loop-i-preserved
 loop-i-preserved c y at found =
@@ -36,8 +35,7 @@ loop-i-preserved c y at found =
     laid-put (length c.args.texts.now) c.args.array at (c.loop-i.invariant y at found)
     (drop-next c.args.texts.now c.loop-i.i _ c.loop-i-test.true) c.loop-i-test.true
     (found-big c.args.heap.now c.args.array (16 * length c.args.texts.now) c.requires.heap c.requires.room found)
-    c.in-Ok.ensures
-    c.put_element.ensures.change c.put_element.ensures.link c.put_element.ensures.len_word
+    c.in-Ok.ensures c.put_element.ensures.change c.put_element.ensures.link c.put_element.ensures.len_word
 
 pub returns : goal.returns
 returns c y at found =

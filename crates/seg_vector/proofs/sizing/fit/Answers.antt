@@ -12,8 +12,7 @@ pub overflow_mul-each : goal.overflow_mul-each
 overflow_mul-each c =
     let s = c.requires.stands.1.1.1 in let is = c.len_of-len.ensures ∙ s.words.len_word in
     let few = more-times c.args.each c.len_of-len.result c.requires.stands.1.0.capacity (omega (arith, is, s.fits)) in
-    let small = capacity-bytes c.args.heap.now s.heap s in
-    omega (arith, few, small)
+    let small = capacity-bytes c.args.heap.now s.heap s in omega (arith, few, small)
 
 pub shrink_in_place-requires : goal.shrink_in_place-requires
 shrink_in_place-requires c =

@@ -41,8 +41,7 @@ returns-in-Ok c len t bytes s =
     let capacity = c.capacity_of.ensures ∙ s.words.capacity in
     grows-more {new = c.set_word.new.self} c.args.n (omega (arith, capacity, c.if-n-capacity_of.false)) s
     (given-of c.args.n c.len_of.result c.link_of-storage.result s c.link_of-storage.ensures
-    c.len_of.ensures c.in-Ok.ensures)
-    c.set_link.ensures.change c.set_link.ensures.leads
+    c.len_of.ensures c.in-Ok.ensures) c.set_link.ensures.change c.set_link.ensures.leads
     c.set_word.ensures.change c.set_word.ensures.word
 
 pub returns-then-n-gt-LIMIT : goal.returns-then-n-gt-LIMIT

@@ -19,8 +19,7 @@ point_to-requires-2 c =
 pub carry_down-requires : goal.carry_down-requires
 carry_down-requires c =
     let w = ready-new c.requires (sym c.link_of.ensures ∙ c.in-Some.is) c.if-old-array.true in
-    rw (c.len_of-len.ensures ∙ (ready c.requires).run.words.len_word)
-    (record {
+    rw (c.len_of-len.ensures ∙ (ready c.requires).run.words.len_word) (record {
       heap = (ready c.requires).run.heap;
       from_whole = refl;
       to_whole = refl;

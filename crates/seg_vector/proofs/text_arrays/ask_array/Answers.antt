@@ -5,8 +5,7 @@ use Rattle.seg_vector.proofs.text_arrays.ask_array.Goals.{in-Some+else-widen, in
 use Rattle.seg_vector.proofs.text_arrays.ask_array.Goals as goal
 
 pub widen-requires-clause-live : goal.widen-requires-clause-live
-widen-requires-clause-live c =
-    storage-live (texts-stand c.requires.texts.1.1) (sym c.link_of.ensures ∙ c.in-Some.is)
+widen-requires-clause-live c = storage-live (texts-stand c.requires.texts.1.1) (sym c.link_of.ensures ∙ c.in-Some.is)
 
 pub returns-then-widen : goal.returns-then-widen
 returns-then-widen c ps t s = asked-wide s (sym c.link_of.ensures ∙ c.in-Some.is) (c.widen.ensures.wide c.if-widen.true)

@@ -1,10 +1,12 @@
 -- What is read is what is written.
-use Rattle.seg_vector.proofs.{◌≡◌, ap, sym, subst, ◌∙◌, ◌+◌, ◌%◌, arith, IfSome, bytes_of, word_at}
+use Rattle.seg_vector.proofs.{◌≡◌, ap, sym, subst, ◌∙◌, ◌+◌, arith, bytes_of, word_at}
+use Rattle.seg_vector.specs.TextParts.{HasElementRoom}
 use Rattle.seg_vector.proofs.text_arrays.carry_element.Goals as goal
 
-pub put_element-requires-clause-target : goal.put_element-requires-clause-target
-put_element-requires-clause-target c = subst (λ o. IfSome o (λ target. target % 16 ≡ 0)) (sym c.link-text.ensures)
-    c.requires.even
+pub put_element-requires : goal.put_element-requires
+put_element-requires c =
+    subst (λ text. HasElementRoom c.args.heap.now.bytes c.args.to c.args.to_at text) (sym c.link-text.ensures)
+    c.requires.room
 
 pub returns-clause-carried : goal.returns-clause-carried
 returns-clause-carried c =

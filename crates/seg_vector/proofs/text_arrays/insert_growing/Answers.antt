@@ -34,8 +34,7 @@ pub put_in-requires : goal.put_in-requires
 put_in-requires c =
     let r = c.requires in let pl = c.in-Ok.ensures in
     let both = more-places c.args.heap.now c.args.n r.texts r.full r.wanted in
-    let ad = c.adopt.ensures
-    (ready-of c.args.n r.texts both.0 (c.in_ok-array.ensures r.ps r.t r.texts) pl.change) in
+    let ad = c.adopt.ensures (ready-of c.args.n r.texts both.0 (c.in_ok-array.ensures r.ps r.t r.texts) pl.change) in
     record {
       first = c.args.heap.now;
       ps = r.ps;
@@ -60,15 +59,13 @@ returns-in-Err c ps t s inside full wanted =
     let a = c.in_ok-array.ensures ps t s in
     let asked = subst (λ (k : Cut). IsAsked c.args.heap.now k t.extent (16 * c.args.n) c.in_ok-array.array)
     (sym c.in-Err.ensures.same) a in
-    growing-err ps t c.args.n (more-places c.args.heap.now c.args.n s full wanted).0 wanted full a
-    c.in-Err.ensures
+    growing-err ps t c.args.n (more-places c.args.heap.now c.args.n s full wanted).0 wanted full a c.in-Err.ensures
     (c.give_up.ensures c.args.heap.now ps t c.args.n s asked (c.array_room-room.ensures ps t s))
 
 pub returns-in-Ok : goal.returns-in-Ok
 returns-in-Ok c ps t s inside full wanted =
     let pl = c.in-Ok.ensures in let a = c.in_ok-array.ensures ps t s in
     let both = more-places c.args.heap.now c.args.n s full wanted in
-    let ad = c.adopt.ensures (ready-of c.args.n s both.0 a pl.change) in
-    let ready = growing-ready s both.1 pl ad in
+    let ad = c.adopt.ensures (ready-of c.args.n s both.0 a pl.change) in let ready = growing-ready s both.1 pl ad in
     growing-ok c.args.index both.0 wanted a pl ad
     (c.put_in.ensures c.args.heap.now ps t ad.array c.args.n pl.text ready inside pl.at (ap length (sym pl.same)))

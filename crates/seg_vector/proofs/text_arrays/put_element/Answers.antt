@@ -1,12 +1,13 @@
 -- A link, and a word behind it.
-use Rattle.seg_vector.proofs.{◌∙◌, inl, ◌+◌, arith, SameBut-link, changed-both}
+use Rattle.seg_vector.proofs.{◌≡◌, subst, ◌∙◌, inl, ◌+◌, arith, bytes_of, word_at, SameBut-link, changed-both}
 use Rattle.seg_vector.proofs.text_arrays.put_element.Goals as goal
 
-pub returns-clause-change : goal.returns-clause-change
-returns-clause-change c = changed-both (c.args.array + c.args.at) 16
-    c.set_link.ensures.change c.set_word.ensures.change (omega arith) (omega arith) (omega arith) (omega arith)
-
-pub returns-clause-link : goal.returns-clause-link
-returns-clause-link c =
-    SameBut-link _ _ _ 8 (c.args.array + c.args.at) c.set_word.ensures.change.rest (inl (omega arith))
-    ∙ c.set_link.ensures.leads
+pub returns : goal.returns
+returns c =
+    let at = c.args.array + c.args.at in let one = c.set_link.ensures in let two = c.set_word.ensures in
+    let word : c.args.array + (c.args.at + 8) ≡ at + 8 = omega arith in
+    record {
+      change = changed-both at 16 one.change two.change (omega arith) (omega arith) (omega arith) (omega arith);
+      link = SameBut-link _ _ _ 8 at two.change.rest (inl (omega arith)) ∙ one.leads;
+      len_word = subst (λ k. word_at (bytes_of c.set_word.new.self.bytes) k ≡ c.args.len) word two.word;
+    }

@@ -29,10 +29,8 @@ overflow_sub-len c =
 
 pub carry_up-requires : goal.carry_up-requires
 carry_up-requires c =
-    let w = put-place c.requires (sym c.link_of.ensures ∙ c.in-Some.is) in
-    let at : ℕ = 16 * c.args.index in
-    rw (c.len_of-len.ensures ∙ w.count)
-    (record {
+    let w = put-place c.requires (sym c.link_of.ensures ∙ c.in-Some.is) in let at : ℕ = 16 * c.args.index in
+    rw (c.len_of-len.ensures ∙ w.count) (record {
       heap = w.heap;
       whole = omega arith;
       room = room-less (live_of c.args.heap.now.bytes) c.in-Some.array (16 * length c.requires.ps + 16)
@@ -43,8 +41,7 @@ carry_up-requires c =
 
 pub put_element-requires : goal.put_element-requires
 put_element-requires c =
-    let w = put-place c.requires (sym c.link_of.ensures ∙ c.in-Some.is) in
-    let d = c.carry_up.ensures.change in
+    let w = put-place c.requires (sym c.link_of.ensures ∙ c.in-Some.is) in let d = c.carry_up.ensures.change in
     record {
       heap = laid-heap _ _ d.live;
       whole = omega arith;

@@ -1,1 +1,161 @@
--- In the block that the index has, or in that of the growth.
+-- In the block that the index has the links behind the place make way; in that of the growth they are put round the new
+-- one, and then the block is the index's.
+use Rattle.seg_index.proofs.{◌≡◌, ap, ap₂, refl, sym, subst, ◌∙◌, ℕ, ◌+◌, ◌-◌, ◌*◌, ◌%◌, ◌<◌, Option, IfSome, List}
+use Rattle.seg_index.proofs.{arith, insert, length-insert, current, LiveSet, LaysOut, IsBlockFor, without_link, IsIndexOf}
+use Rattle.seg_index.proofs.{block_and_count, capacity_at, capacity_small, filled, gaps_kept, grown_capacity, has_places}
+use Rattle.seg_index.proofs.{in_header, index_in, insert_all, inserted, links_lead, offer, place_of, same_live, source}
+use Rattle.seg_index.proofs.{target, written, written_both, written_keeps, IsChanged, Offer, Placed, bytes_of, link_at}
+use Rattle.best_fit.specs.Table.{Table as ATable}
+use Rattle.seg_index.specs.Growth.{AddKeeps, Adds, CanGrow, grown_live}
+use Rattle.seg_index.specs.Held.{entry_count}
+use Rattle.seg_index.proofs.index.Index.add.Goals as goal
+use Rattle.seg_index.proofs.index.Index.add.Goals.{After-unwrap_or-block, After-unwrap_or-from, After-spread-in-Some}
+
+-- there are places left in the block that the index has
+few : (c : After-unwrap_or-block)
+    → entry_count c.args.heap.now (place_of c.args.self) < capacity_at c.args.heap.now (place_of c.args.self)
+few c = subst (λ b. CanGrow c.args.heap.now (place_of c.args.self) b) c.in-None.is c.requires.growth
+
+had : (c : After-unwrap_or-block) {t : ATable} {hs : List ℕ} → IsIndexOf c.args.heap.now (place_of c.args.self) t hs
+    → Placed c.args.heap.now (place_of c.args.self) t hs c.unwrap_or-block.result
+had c i =
+    let left = few c in has_places i (omega arith) c.place.ensures c.header_link.ensures c.unwrap_or-block.ensures
+
+pub spread-requires-clause-links : goal.spread-requires-clause-links
+spread-requires-clause-links c =
+    let q = c.requires.index in let p = had (goal.at.spread-requires-clause-links c).After-unwrap_or-block q.index in
+    links_lead c.unwrap_or-block.result c.args.place (c.len-count.result - c.args.place) q.handles p.links q.index.whole
+    (omega arith)
+
+pub returns-in-None-clause-index : goal.returns-in-None-clause-index
+returns-in-None-clause-index c = λ t hs i.
+    let A = c.args.heap.now in let at = place_of c.args.self in
+    let v = (goal.at.returns-in-None-clause-index c).After-unwrap_or-block in let left = few v in let p = had v i in
+    subst (λ b. Adds A c.set_header_word.new.self at t (insert hs c.args.place c.args.handle) b) (sym c.in-None.is)
+    (inserted p (in_header c.args.self) (c.len-count.ensures.len t hs i) (omega arith) (omega arith) c.requires.handle
+    c.spread.ensures.change c.spread.ensures.here c.spread.ensures.tail c.place-in-None.ensures
+    c.set_header_word.ensures.change c.set_header_word.ensures.word)
+
+pub returns-in-None-clause-live : goal.returns-in-None-clause-live
+returns-in-None-clause-live c =
+    let B = c.set_header_word.new.self in
+    subst (λ b. LaysOut current B.bytes (grown_live c.args.heap.now (place_of c.args.self) b)) (sym c.in-None.is)
+    (subst (λ (l : LiveSet). LaysOut current B.bytes l) (same_live c.spread.ensures.change)
+    c.set_header_word.ensures.change.live)
+
+pub returns-in-None-clause-keeps : goal.returns-in-None-clause-keeps
+returns-in-None-clause-keeps c = λ t hs i.
+    let v = (goal.at.returns-in-None-clause-keeps c).After-unwrap_or-block in let left = few v in let p = had v i in
+    subst (λ b. AddKeeps c.args.heap.now c.set_header_word.new.self (place_of c.args.self) t b) (sym c.in-None.is)
+    (block_and_count p (in_header c.args.self) (8 * c.args.place) c.spread.ensures.change (omega arith)
+    c.place-in-None.ensures c.set_header_word.ensures.change)
+
+pub returns-in-None-clause-gaps : goal.returns-in-None-clause-gaps
+returns-in-None-clause-gaps c = λ none.
+    let v = (goal.at.returns-in-None-clause-gaps c).After-unwrap_or-block in let left = few v in
+    let p = had v c.requires.index.index in
+    gaps_kept p (in_header c.args.self) (8 * c.args.place) c.spread.ensures.change (omega arith)
+    c.place-in-None.ensures c.set_header_word.ensures.change
+
+-- the block of the growth, and where the links come from
+given : (c : After-unwrap_or-from) {t : ATable} {hs : List ℕ} → IsIndexOf c.args.heap.now (place_of c.args.self) t hs
+    → let A = c.args.heap.now in let at = place_of c.args.self in
+    Offer A (record {
+      at = at;
+      block = c.in-Some.block;
+      places = grown_capacity (capacity_at A at);
+      from = c.unwrap_or-from.result;
+      link = c.header_link-in-Some.result;
+      table = t;
+      handles = hs;
+    })
+given c i =
+    let g = subst (λ b. CanGrow c.args.heap.now (place_of c.args.self) b) c.in-Some.is c.requires.growth in
+    offer (in_header c.args.self) c.place-in-Some.ensures c.header_link-in-Some.ensures c.unwrap_or-from.ensures g.0 g.1 i
+
+-- all that is written in it
+all : (c : After-spread-in-Some) → IsChanged current c.args.heap.now c.spread-in-Some.new.heap (c.in-Some.block + 0)
+    (8 * c.len-count.result + 8)
+all c =
+    written_both c.in-Some.block c.shift_non_null_links.ensures.change c.spread-in-Some.ensures.change (omega arith)
+
+pub shift_non_null_links-requires : goal.shift_non_null_links-requires
+shift_non_null_links-requires c =
+    let q = c.requires.index in let place = c.args.place in
+    let o = given (goal.at.shift_non_null_links-requires c).After-unwrap_or-from q.index in let s = source o in
+    record {
+      from_whole = refl;
+      to_whole = refl;
+      source = s.room (0 + 8 * place) (omega arith);
+      target = target (0 + 8 * place) o (omega arith);
+      links = links_lead c.unwrap_or-from.result 0 place q.handles s.links q.index.whole (omega arith);
+    }
+
+pub spread-requires-in-Some : goal.spread-requires-in-Some
+spread-requires-in-Some c =
+    let q = c.requires.index in let place = c.args.place in let count = c.len-count.result in
+    let o = given (goal.at.spread-requires-in-Some c).After-unwrap_or-from q.index in
+    let p = written o c.shift_non_null_links.ensures.change (omega arith) in let s = source p in
+    record {
+      heap = p.index.heap;
+      within = omega arith;
+      source = s.room (8 * count) (omega arith);
+      target = target (8 * count + 8) p (omega arith);
+      links = links_lead c.unwrap_or-from.result place (count - place) q.handles s.links q.index.whole (omega arith);
+      handle = c.requires.handle;
+    }
+
+pub grown-capacity-requires : goal.grown-capacity-requires
+grown-capacity-requires c =
+    let q = c.requires.index in let s = capacity_small q.index in
+    let e = c.capacity.ensures.capacity q.table q.handles q.index in omega arith
+
+pub settle-requires : goal.settle-requires
+settle-requires c =
+    let at = goal.at.settle-requires c in
+    let cap = c.grown-capacity.ensures ∙ ap grown_capacity c.capacity.ensures.word in
+    let p = written (given at.After-unwrap_or-from c.requires.index.index) (all at.After-spread-in-Some) (omega arith) in
+    record {
+      heap = p.index.heap;
+      block = subst (λ k. IsBlockFor c.spread-in-Some.new.heap c.in-Some.block k) (sym cap) p.offered;
+      released = (source p).left;
+      some = omega arith;
+      within = omega arith;
+    }
+
+pub returns-in-Some-clause-index : goal.returns-in-Some-clause-index
+returns-in-Some-clause-index c = λ t hs i.
+    let A = c.args.heap.now in let at = goal.at.returns-in-Some-clause-index c in let place = c.args.place in
+    let cap = c.grown-capacity.ensures ∙ ap grown_capacity c.capacity.ensures.word in
+    let before = given at.After-unwrap_or-from i in
+    let behind = written before c.shift_non_null_links.ensures.change (omega arith) in
+    let long = c.len-count.ensures.len t hs i in let more = length-insert hs place c.args.handle (omega arith) in
+    let links = filled c.unwrap_or-from.result c.in-Some.block hs (source before).links (source behind).links
+    long (omega arith) c.shift_non_null_links.ensures.lead c.spread-in-Some.ensures.change
+    c.spread-in-Some.ensures.here c.spread-in-Some.ensures.tail in
+    let whole = insert_all (λ k. k % 16 ≡ 0) hs place c.args.handle (omega arith) i.whole c.requires.handle in
+    subst (λ b. Adds A c.settle.new.heap (place_of c.args.self) t (insert hs place c.args.handle) b) (sym c.in-Some.is)
+    (index_in A c.spread-in-Some.new.heap c.settle.new.heap c.in-Some.block (same_live (all at.After-spread-in-Some))
+    cap (c.settle.ensures.index (insert hs place c.args.handle) links (omega arith) whole))
+
+pub returns-in-Some-clause-live : goal.returns-in-Some-clause-live
+returns-in-Some-clause-live c =
+    let at = goal.at.returns-in-Some-clause-live c in let d = all at.After-spread-in-Some in
+    let o = given at.After-unwrap_or-from c.requires.index.index in let E = c.settle.new.heap in
+    subst (λ b. LaysOut current E.bytes (grown_live c.args.heap.now (place_of c.args.self) b)) (sym c.in-Some.is)
+    (subst (λ (l : LiveSet). LaysOut current E.bytes l)
+    (ap₂ without_link (same_live d) ((written o d (omega arith)).leads ∙ sym o.leads)) c.settle.ensures.live)
+
+pub returns-in-Some-clause-keeps : goal.returns-in-Some-clause-keeps
+returns-in-Some-clause-keeps c = λ t hs i.
+    let at = goal.at.returns-in-Some-clause-keeps c in let o = given at.After-unwrap_or-from c.requires.index.index in
+    subst (λ b. AddKeeps c.args.heap.now c.settle.new.heap (place_of c.args.self) t b) (sym c.in-Some.is)
+    (written_keeps o (all at.After-spread-in-Some) (omega arith) c.settle.ensures.keeps)
+
+pub returns-in-Some-clause-went : goal.returns-in-Some-clause-went
+returns-in-Some-clause-went c =
+    let at = goal.at.returns-in-Some-clause-went c in let o = given at.After-unwrap_or-from c.requires.index.index in
+    let more = λ (l : Option ℕ). IfSome l (λ old. c.args.steps.now < c.settle.new.steps) in
+    subst (λ (b : Option ℕ). IfSome b (λ block. more (link_at (bytes_of c.args.heap.now.bytes) (place_of c.args.self))))
+    (sym c.in-Some.is)
+    (subst more ((written o (all at.After-spread-in-Some) (omega arith)).leads ∙ sym o.leads) c.settle.ensures.went)

@@ -52,8 +52,7 @@ returns c =
     let A = c.args.heap.now in let B = c.allocate.new.self in let E = c.settle.new.heap in
     let at = place_of c.args.self in let q = c.requires.index in let n = c.args.n in let h = c.in_ok-block.block in
     let al = c.in_ok-block.ensures.answer in let w = in_header c.args.self in
-    let one = c.shift_non_null_links.ensures.change in
-    let k = meant n q.index.heap al c.saturating_mul.ensures in
+    let one = c.shift_non_null_links.ensures.change in let k = meant n q.index.heap al c.saturating_mul.ensures in
     let o = taken_offer w al c.saturating_mul.ensures c.place.ensures c.header_link.ensures c.unwrap_or-from.ensures
     q.index in
     let long = c.len-count.ensures.len q.table q.handles o.index in

@@ -1,35 +1,59 @@
 -- The node leaves the tree, the three words say so, and its block is given back.
-use Rattle.seg_map.proofs.{refl, ap, arith, laws, can_unlink, erased, few_steps, gone_live, lent_tree, live_laid}
-use Rattle.seg_map.proofs.{removed_length, taken, top_whole}
+use Rattle.seg_map.proofs.{refl, ap, ℕ, ◌+◌, ◌-◌, ◌*◌, ◌≤◌, None, arith, laws, can_unlink, erased, few_steps, gone_live}
+use Rattle.seg_map.proofs.{kept_proper, kept_room, lent_tree, live_laid, own_nodes, relinked, removed_length, taken}
+use Rattle.seg_map.proofs.{rules, top_whole, Relinked}
+use Rattle.link_tree.specs.Nodes.{without}
 use Rattle.best_fit.specs.Heap.{heap_touches}
 use Rattle.seg_map.proofs.maps.SegMap.give_up.Goals as goal
+use Rattle.seg_map.proofs.maps.SegMap.give_up.Goals.{After-add}
 
-pub unlink-top-requires : goal.unlink-top-requires
-unlink-top-requires g c =
-    let r = c.requires in
-    can_unlink (laws g.met.K.Plain) c.args.heap.now r.map c.link-root.ensures r.key r.found r.is c.args.start r.begins
+fewer : (n b : ℕ) → n ≤ 30 * b + 32 → n ≤ 32 * b + 32
+fewer n b h = omega arith
 
-pub write_head-requires-clause-root : goal.write_head-requires-clause-root
-write_head-requires-clause-root g c =
-    let r = c.requires in
-    top_whole r.map (lent_tree (laws g.met.K.Plain) c.args.heap.now r.map c.link-root.ensures refl)
-    c.unlink-top.ensures.change
+pub remove_at-changed-requires : goal.remove_at-changed-requires
+remove_at-changed-requires g c =
+    let q = c.requires in let lent = c.lend-pairs.ensures in
+    let r = can_unlink (laws g.met.K.Plain) c.args.heap.now q.map c.link-root.ensures q.key q.found q.is c.args.start
+    q.begins in
+    rw (lent.own, lent.heap) (record { root = r.tree.leads; tree = (r.shape, r.tree.tree, r.listed, r.begins) })
+
+-- what is known of the nodes is known of the heap
+cut : (g : _) (c : After-add g) → Relinked g.K.Plain (own_nodes c.args.heap.now.bytes c.link-root.result None)
+    c.args.heap.now c.heap-1.given.0 c.link-root.result c.remove_at-changed.result.root
+    (without c.args.node) (c.add.new.self - c.args.steps.now)
+cut g c =
+    let f = c.remove_at-changed.ensures in let lent = c.lend-pairs in let r = c.remove_at-changed.result in
+    rw (← lent.ensures.own, ← lent.ensures.heap)
+    (relinked g.K.Plain lent.result.own c.remove_at-changed.new.nodes.own c.link-root.result r.root c.args.steps.now
+    r.steps (search rules) f.same.kept f.root c.add.ensures f.tree (λ t k. fewer _ _ (f.steps t k)))
+
+pub write_head-requires : goal.write_head-requires
+write_head-requires g c =
+    let r = c.requires.map in let u = cut g (goal.at.write_head-requires g c).After-add in
+    record {
+      aligned = r.aligned;
+      proper = kept_proper _ _ _ u.kept r.heap.proper;
+      room = kept_room _ _ _ _ _ u.kept r.room;
+      root = top_whole r (lent_tree (laws g.met.K.Plain) c.args.heap.now r c.link-root.ensures refl) u;
+    }
 
 pub deallocate-requires : goal.deallocate-requires
 deallocate-requires g c =
     let r = c.requires in
-    gone_live r.map r.key r.found r.is (live_laid c.unlink-top.ensures.change c.write_head.ensures)
+    gone_live r.map r.key r.found r.is
+    (live_laid (cut g (goal.at.deallocate-requires g c).After-add) c.write_head.ensures)
 
 pub returns-clause-dropped : goal.returns-clause-dropped
 returns-clause-dropped g c = λ ps key p s has is.
     erased (laws g.met.K.Plain) (laws g.met.V.Plain) s key has is
-    (taken (laws g.met.K.Plain) c.args.heap.now s c.link-root.ensures key has is c.unlink-top.ensures.change
+    (taken (laws g.met.K.Plain) c.args.heap.now s c.link-root.ensures key has is
+    (cut g (goal.at.returns-clause-dropped g c).After-add)
     (laws g.met.V.Plain) (omega (arith, c.len-count.ensures ps s, removed_length g.K.Plain.order ps key p has))
     c.write_head.ensures) c.deallocate.ensures.released
 
 pub returns-clause-steps : goal.returns-clause-steps
 returns-clause-steps g c = λ ps s.
-    let u = c.unlink-top.ensures in
-    let few = few_steps s (lent_tree (laws g.met.K.Plain) c.args.heap.now s c.link-root.ensures refl) u.change in
-    let touches = ap heap_touches (live_laid u.change c.write_head.ensures) in
-    omega (arith, few, u.counted, c.deallocate.ensures.steps, touches)
+    let u = cut g (goal.at.returns-clause-steps g c).After-add in
+    let few = few_steps s (lent_tree (laws g.met.K.Plain) c.args.heap.now s c.link-root.ensures refl) u in
+    let touches = ap heap_touches (live_laid u c.write_head.ensures) in
+    omega (arith, few, c.add.ensures, c.remove_at-changed.ensures.counted, c.deallocate.ensures.steps, touches)

@@ -19,9 +19,7 @@ returns-in-Some-clause-put g c = λ ps s.
     rw k.holds (
       refl,
       is_put_again w s c.args.key k.holds (laws g.met.K.Plain) (laws g.met.V.Plain) g.met.K.Plain.total c.args.value one
-          written.value
-          (rw place at written.change)
-          (rw place at written.content),
+          written.value (rw place at written.change) (rw place at written.content),
     )
 
 pub put_in-requires : goal.put_in-requires

@@ -1,33 +1,57 @@
 -- The node enters the tree, and the three words say so.
-use Rattle.seg_map.proofs.{sym, ap, ◌∙◌, ◌+◌, arith, bits, laws, can_link, few_steps, planted, planted_tree, top_whole}
+use Rattle.seg_map.proofs.{sym, ap, ◌∙◌, ◌+◌, ◌-◌, Some, arith, bits, laws, can_link, few_steps, fewer}
+use Rattle.seg_map.proofs.{kept_proper, kept_room, own_nodes, planted, planted_tree, relinked, rules, top_whole, Relinked}
+use Rattle.link_tree.specs.Nodes.{put}
 use Rattle.seg_map.proofs.Entering.{few_in_map}
+use Rattle.seg_map.specs.Linking.{keys_in}
+use Rattle.seg_map.specs.PairNodes.{comes_before}
 use Rattle.seg_map.proofs.maps.SegMap.put_in.Goals as goal
+use Rattle.seg_map.proofs.maps.SegMap.put_in.Goals.{After-add}
 
-pub link-top-requires : goal.link-top-requires
-link-top-requires g c =
-    let r = c.requires.there in
-    can_link (laws g.met.K.Plain) c.args.heap.now r.map c.link-root.ensures r.loose r.is c.args.start
-    c.requires.begins
+pub insert_at-changed-requires : goal.insert_at-changed-requires
+insert_at-changed-requires g c =
+    let h = c.requires.there in let lent = c.lend-pairs.ensures in
+    let r = can_link (laws g.met.K.Plain) c.args.heap.now h.map c.link-root.ensures h.loose h.is c.args.start
+    c.requires.begins in
+    rw (lent.own, lent.heap)
+    (record { root = r.tree.leads; node = r.own; tree = (r.shape, r.tree.tree, r.place, r.begins) })
+
+-- what is known of the nodes is known of the heap
+entered : (g : _) (c : After-add g) → let ns = own_nodes c.args.heap.now.bytes c.link-root.result (Some c.args.node) in
+    Relinked g.K.Plain ns c.args.heap.now c.heap-1.given.0 c.link-root.result c.insert_at-changed.result.root
+    (put (comes_before g.K.Plain.order (keys_in g.K.Plain ns c.args.heap.now)) c.args.node)
+    (c.add.new.self - c.args.steps.now)
+entered g c =
+    let f = c.insert_at-changed.ensures in let lent = c.lend-pairs in let r = c.insert_at-changed.result in
+    rw (← lent.ensures.own, ← lent.ensures.heap)
+    (relinked g.K.Plain lent.result.own c.insert_at-changed.new.nodes.own c.link-root.result r.root c.args.steps.now
+    r.steps (search rules) f.same.kept f.root c.add.ensures f.tree (λ t k. fewer _ _ (f.steps t k)))
 
 pub overflow_add-count : goal.overflow_add-count
 overflow_add-count g c =
     let r = c.requires.there in
     omega (arith, c.len-count.ensures r.pairs r.map, few_in_map (laws g.met.K.Plain) c.args.heap.now r.map)
 
-pub write_head-requires-clause-root : goal.write_head-requires-clause-root
-write_head-requires-clause-root g c =
-    let r = c.requires.there in
-    top_whole r.map (planted_tree (laws g.met.K.Plain) c.args.heap.now r.map c.link-root.ensures r.loose r.is)
-    c.link-top.ensures.change
+pub write_head-requires : goal.write_head-requires
+write_head-requires g c =
+    let h = c.requires.there in let u = entered g (goal.at.write_head-requires g c).After-add in
+    record {
+      aligned = h.map.aligned;
+      proper = kept_proper _ _ _ u.kept h.map.heap.proper;
+      room = kept_room _ _ _ _ _ u.kept h.map.room;
+      root = top_whole h.map
+          (planted_tree (laws g.met.K.Plain) c.args.heap.now h.map c.link-root.ensures h.loose h.is) u;
+    }
 
 pub returns-clause-planted : goal.returns-clause-planted
 returns-clause-planted g c = λ ps p s loose is.
-    planted (laws g.met.K.Plain) c.args.heap.now s c.link-root.ensures loose is c.link-top.ensures.change
-    (laws g.met.V.Plain) (omega (arith, c.len-count.ensures ps s)) c.write_head.ensures
+    planted (laws g.met.K.Plain) c.args.heap.now s c.link-root.ensures loose is
+    (entered g (goal.at.returns-clause-planted g c).After-add) (laws g.met.V.Plain)
+    (omega (arith, c.len-count.ensures ps s)) c.write_head.ensures
 
 pub returns-clause-steps : goal.returns-clause-steps
 returns-clause-steps g c = λ ps s.
-    let r = c.requires.there in let u = c.link-top.ensures in
+    let r = c.requires.there in let u = entered g (goal.at.returns-clause-steps g c).After-add in
     let t = planted_tree (laws g.met.K.Plain) c.args.heap.now r.map c.link-root.ensures r.loose r.is in
     let digits = ap (λ n. bits (n + 1)) (sym r.map.map.count ∙ s.map.count) in
-    omega (arith, few_steps r.map t u.change, digits, u.counted)
+    omega (arith, few_steps r.map t u, digits, c.add.ensures, c.insert_at-changed.ensures.counted)

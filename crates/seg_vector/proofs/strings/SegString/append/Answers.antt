@@ -27,21 +27,20 @@ capacity_for_text-wanted-requires c =
     let few = few-bytes c.args.heap.now c.args.heap.now c.requires.1.1 in
     omega (arith, few, c.capacity.ensures c.requires.0 c.requires.1.0 c.requires.1.1)
 
-pub extend-requires-clause-stands : goal.extend-requires-clause-stands
-extend-requires-clause-stands c =
-    let grown = c.in_ok-reserve.ensures _ _ _ c.requires.1.1 in
-    (length c.requires.0, (grown.table, (c.requires.0, grown.stands)))
-
-pub extend-requires-clause-space : goal.extend-requires-clause-space
-extend-requires-clause-space c =
-    let bytes = c.requires.0 in let t = c.requires.1.0 in
-    let wanted = text-wanted bytes c.args.bytes.now c.capacity_for_text-wanted.ensures
-    (c.len.ensures bytes t c.requires.1.1) (c.capacity.ensures bytes t c.requires.1.1) in
+pub extend-requires : goal.extend-requires
+extend-requires c =
+    let bytes = c.requires.0 in let t = c.requires.1.0 in let more = c.args.bytes.now in
+    let wanted = text-wanted bytes more c.capacity_for_text-wanted.ensures (c.len.ensures bytes t c.requires.1.1)
+    (c.capacity.ensures bytes t c.requires.1.1) in
     let grown = c.in_ok-reserve.ensures _ _ _ c.requires.1.1 in
     let places = table-places (live_of c.args.heap.now.bytes) 1 c.capacity_for_text-wanted.result t grown.grown in
-    let enough = wanted-bytes (length (bytes ++ c.args.bytes.now)) t.capacity in
-    text-space c.reserve.new.heap c.reserve.new.heap grown.stands c.args.bytes.now
-    (omega (arith, places, wanted, enough, length-append bytes c.args.bytes.now))
+    let enough = wanted-bytes (length (bytes ++ more)) t.capacity in record {
+      stands = (length bytes, (grown.table, (bytes, grown.stands)));
+      space = text-space c.reserve.new.heap c.reserve.new.heap grown.stands more
+          (omega (arith, places, wanted, enough, length-append bytes more));
+      some = omega arith;
+      long = omega arith;
+    }
 
 pub returns-in_err-reserve : goal.returns-in_err-reserve
 returns-in_err-reserve c bytes t v =
@@ -49,8 +48,7 @@ returns-in_err-reserve c bytes t v =
     (c.capacity.ensures bytes t v) in
     let p = err_from_is_err_and c.from_residual.result c.from_residual.ensures.1 in
     rw (p.1, p.2) (subst (λ n. IsWithoutSpace c.args.heap.now c.reserve.new.heap 1 n t c.in_err-reserve.field-0.0)
-    wanted
-    (c.in_err-reserve.ensures (length bytes) t bytes v))
+    wanted (c.in_err-reserve.ensures (length bytes) t bytes v))
 
 pub returns : goal.returns
 returns c bytes t v =

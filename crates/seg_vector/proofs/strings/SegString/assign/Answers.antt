@@ -7,17 +7,16 @@ pub clear-requires : goal.clear-requires
 clear-requires c =
     let grown = c.in_ok-reserve.ensures _ _ _ c.requires.1.1 in (c.requires.0, (grown.table, grown.stands))
 
-pub extend-requires-clause-stands : goal.extend-requires-clause-stands
-extend-requires-clause-stands c =
-    let grown = c.in_ok-reserve.ensures _ _ _ c.requires.1.1 in
-    (0, (grown.table, ([], (c.clear.ensures c.requires.0 grown.table grown.stands).text)))
-
-pub extend-requires-clause-space : goal.extend-requires-clause-space
-extend-requires-clause-space c =
+pub extend-requires : goal.extend-requires
+extend-requires c =
     let grown = c.in_ok-reserve.ensures _ _ _ c.requires.1.1 in
     let places = table-places (live_of c.args.heap.now.bytes) 1 (length c.args.bytes.now) c.requires.1.0 grown.grown in
-    text-space c.clear.new.heap c.clear.new.heap (c.clear.ensures c.requires.0 grown.table grown.stands).text
-    c.args.bytes.now (omega (arith, places))
+    let text = (c.clear.ensures c.requires.0 grown.table grown.stands).text in record {
+      stands = (0, (grown.table, ([], text)));
+      space = text-space c.clear.new.heap c.clear.new.heap text c.args.bytes.now (omega (arith, places));
+      some = omega arith;
+      long = omega arith;
+    }
 
 pub returns-in_err-reserve : goal.returns-in_err-reserve
 returns-in_err-reserve c bytes t v =

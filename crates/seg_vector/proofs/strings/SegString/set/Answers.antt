@@ -5,4 +5,4 @@ use Rattle.seg_vector.proofs.strings.SegString.set.Goals as goal
 pub returns : goal.returns
 returns c bytes t v =
     let inside : c.args.index < length bytes = omega (arith, c.if-index-len.false, c.len.ensures bytes t v) in
-    (inside, byte-set c.args.heap.now c.set_element.new.heap v c.args.index c.args.byte inside c.set_element.ensures)
+    (inside, byte-set c.args.heap.now c.put_at.new.heap v c.args.index c.args.byte inside c.put_at.ensures)

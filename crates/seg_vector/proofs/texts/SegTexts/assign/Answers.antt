@@ -21,18 +21,15 @@ set_word-requires c =
 
 pub returns-clause-assigned : goal.returns-clause-assigned
 returns-clause-assigned c =
-    let more = map (λ text. text.now) c.args.texts.now in
-    let long = length-map c.args.texts.now (λ text. text.now) in
+    let more = map (λ text. text.now) c.args.texts.now in let long = length-map c.args.texts.now (λ text. text.now) in
     let some = some-texts (length c.args.texts.now) c.if-is_empty.ensures in
     assigns-some c.args.heap.now c.set_word.new.self c.args.self.place more (omega (arith, long, some))
     (λ ps t s. assigned (length c.args.texts.now) s c.in_ok-array.ensures (sym long) some c.release.ensures
-    c.point_to.ensures c.set_word.ensures.change
-    c.set_word.ensures.word)
+    c.point_to.ensures c.set_word.ensures.change c.set_word.ensures.word)
 
 pub returns-clause-first : goal.returns-clause-first
 returns-clause-first c = λ none.
-    let more = map (λ text. text.now) c.args.texts.now in
-    let long = length-map c.args.texts.now (λ text. text.now) in
+    let more = map (λ text. text.now) c.args.texts.now in let long = length-map c.args.texts.now (λ text. text.now) in
     let some = some-texts (length c.args.texts.now) c.if-is_empty.ensures in
     absurd (laid-fitted (live_of c.args.heap.now.bytes) more (omega (arith, long, some)) c.in_ok-array.ensures.fit
     (ap (new_array (live_of c.args.heap.now.bytes)) long ∙ none))

@@ -1,24 +1,9 @@
 -- The block of the text is released, those behind it move down, and then the length is written.
 use Rattle.seg_vector.proofs.{ℕ, inl, sym, ◌∙◌, ◌+◌, ◌-◌, ◌*◌, arith, length, bytes_of, live_of, changed-room}
-use Rattle.seg_vector.proofs.{room-less, IsHead, head-room, len-room, IsArrayLeft, even-from, no-array, erased-by, left}
-use Rattle.seg_vector.proofs.{has-element, few-places}
+use Rattle.seg_vector.proofs.{room-less, IsHead, head-room, len-room, IsArrayLeft, even-from, no-array, none-left, erased-by, left}
+use Rattle.seg_vector.proofs.{has-element}
 use Rattle.seg_vector.proofs.texts.SegTexts.erase.Goals.{After-release_text}
 use Rattle.seg_vector.proofs.texts.SegTexts.erase.Goals as goal
-
-pub unreachable-requires : goal.unreachable-requires
-unreachable-requires c =
-    let none = no-array c.args.heap.now c.requires.1.1 (sym c.link_of.ensures ∙ c.in-None.is) in
-    omega (arith, none, c.len-len.ensures c.requires.0 c.requires.1.0 c.requires.1.1, c.if-index-len.false)
-
-pub overflow_mul-at : goal.overflow_mul-at
-overflow_mul-at c =
-    let s = c.requires.1.1 in let few = few-places c.args.heap.now s in
-    omega (arith, few, s.fits, c.if-index-len.false, c.len-len.ensures c.requires.0 c.requires.1.0 s)
-
-pub overflow_add-at : goal.overflow_add-at
-overflow_add-at c =
-    let s = c.requires.1.1 in let few = few-places c.args.heap.now s in
-    omega (arith, few, s.fits, c.if-index-len.false, c.len-len.ensures c.requires.0 c.requires.1.0 s)
 
 pub release_text-requires : goal.release_text-requires
 release_text-requires c =
@@ -42,8 +27,7 @@ pub carry_down-requires : goal.carry_down-requires
 carry_down-requires c =
     let a = (left-at (goal.at.carry_down-requires c).After-release_text).0 in let k = length c.requires.0 in
     let n = c.len-len.ensures c.requires.0 c.requires.1.0 c.requires.1.1 in
-    let l = live_of c.release_text.new.heap.bytes in
-    let at : ℕ = 16 * c.args.index in
+    let l = live_of c.release_text.new.heap.bytes in let at : ℕ = 16 * c.args.index in
     let rest : ℕ = c.len-len.result - c.args.index - 1 in
     record {
       heap = a.heap;
@@ -63,8 +47,8 @@ set_word-requires c =
     (len-room c.release_text.new.heap.bytes c.args.self.place
     (head-room (left-at (goal.at.set_word-requires c).After-release_text).1))
 
-pub returns : goal.returns
-returns c ps t s =
+pub returns-in-Some : goal.returns-in-Some
+returns-in-Some c ps t s =
     let n = c.len-len.ensures ps t s in
     let q = has-element ps c.args.index (omega (arith, c.if-index-len.false, n)) in
     let w = left c.args.heap.now c.release_text.new.heap c.args.index s q.1 (sym c.link_of.ensures ∙ c.in-Some.is) in
@@ -75,3 +59,8 @@ returns c ps t s =
           (c.release_text.ensures q.0 w.element) c.carry_down.ensures.change c.carry_down.ensures.carried
           c.set_word.ensures.change c.set_word.ensures.word;
     }
+
+pub returns-in_default : goal.returns-in_default
+returns-in_default c ps t s =
+    let none = no-array c.args.heap.now s (sym c.link_of.ensures ∙ none-left c.link_of.result c.in_default.not-Some) in
+    absurd (omega (arith, none, c.len-len.ensures ps t s, c.if-index-len.false))

@@ -9,5 +9,4 @@ give_back-requires c =
 
 pub returns : goal.returns
 returns c ps t s =
-    let x = c.clear.ensures ps t s in
-    given-up-all x (c.give_back.ensures 0 t [] (stands-none x.texts))
+    let x = c.clear.ensures ps t s in given-up-all x (c.give_back.ensures 0 t [] (stands-none x.texts))

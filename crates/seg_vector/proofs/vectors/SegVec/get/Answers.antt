@@ -2,17 +2,12 @@
 use Rattle.seg_vector.proofs.{sym, ap, ◌∙◌, ◌<◌, arith, length, Some, all-at, element-spells, has-element, is-standing}
 use Rattle.seg_vector.proofs.vectors.SegVec.get.Goals as goal
 
-pub element-requires-clause-stands : goal.element-requires-clause-stands
-element-requires-clause-stands g c = is-standing c.args.heap.now c.args.heap.now c.SIZE.ensures c.requires.1.1
-
-pub element-requires-clause-inside : goal.element-requires-clause-inside
-element-requires-clause-inside g c =
-    omega (
-      arith,
-      c.if-index-len.false,
-      c.len.ensures c.requires.0 c.requires.1.0 c.requires.1.1,
-      c.requires.1.1.stands.words.len_word,
-    )
+pub element-requires : goal.element-requires
+element-requires g c =
+    let v = c.requires.1.1 in let len = c.len.ensures c.requires.0 c.requires.1.0 v in record {
+      stands = is-standing c.args.heap.now c.args.heap.now c.SIZE.ensures v;
+      inside = omega (arith, c.if-index-len.false, len, v.stands.words.len_word);
+    }
 
 pub read-requires : goal.read-requires
 read-requires g c =

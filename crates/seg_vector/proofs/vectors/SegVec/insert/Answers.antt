@@ -7,21 +7,22 @@ pub grow_for_one-requires-clause-len : goal.grow_for_one-requires-clause-len
 grow_for_one-requires-clause-len g c = c.len-len.ensures c.requires.0 c.requires.1.0 c.requires.1.1
     ∙ sym c.requires.1.1.stands.words.len_word
 
-pub put_value-requires-clause-stands : goal.put_value-requires-clause-stands
-put_value-requires-clause-stands g c =
-    stands-for-one c.args.heap.now c.grow_for_one.new.heap c.SIZE.ensures c.requires.1.1
-    (λ n u bytes s. c.in_ok-grow_for_one.ensures n u bytes s)
-
-pub put_value-requires-clause-spot : goal.put_value-requires-clause-spot
-put_value-requires-clause-spot g c =
-    let v = c.requires.1.1 in
-    let grown = grown-of c.args.heap.now c.grow_for_one.new.heap c.SIZE.ensures v capacity_for_one
-    (λ n u bytes s. c.in_ok-grow_for_one.ensures n u bytes s) in (
-      space-for-one c.args.heap.now c.grow_for_one.new.heap c.SIZE.ensures v
-          (λ n u bytes s. c.in_ok-grow_for_one.ensures n u bytes s),
-      omega
-          (arith, c.if-index-len.false, c.len-len.ensures c.requires.0 c.requires.1.0 v, grown.stands.words.len_word),
-    )
+pub put_value-requires : goal.put_value-requires
+put_value-requires g c =
+    let A = c.args.heap.now in let B = c.grow_for_one.new.heap in let v = c.requires.1.1 in
+    let grown = grown-of A B c.SIZE.ensures v capacity_for_one
+    (λ n u bytes s. c.in_ok-grow_for_one.ensures n u bytes s) in record {
+      stands = stands-for-one A B c.SIZE.ensures v (λ n u bytes s. c.in_ok-grow_for_one.ensures n u bytes s);
+      spot = (
+        space-for-one A B c.SIZE.ensures v (λ n u bytes s. c.in_ok-grow_for_one.ensures n u bytes s),
+        omega (
+          arith,
+          c.if-index-len.false,
+          c.len-len.ensures c.requires.0 c.requires.1.0 v,
+          grown.stands.words.len_word,
+        ),
+      );
+    }
 
 pub returns-in_err-grow_for_one : goal.returns-in_err-grow_for_one
 returns-in_err-grow_for_one g c xs t v = let p = err_from_is_err_and c.from_residual.result

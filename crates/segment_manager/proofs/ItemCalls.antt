@@ -1,5 +1,5 @@
 -- The calls that construct numbers from items, as the code makes them.
-use Rattle.segment_manager.proofs.Common.{◌≡◌, refl, sym, ap, subst, ◌∙◌, ℕ, ◌+◌, ◌*◌, ◌≤◌, ℤ, Bool, true, false, Err}
+use Rattle.segment_manager.proofs.Common.{◌≡◌, refl, sym, ap, subst, ◌∙◌, ℕ, ◌+◌, ◌*◌, ◌≤◌, ℤ, Bool, true, false, Ok, Err}
 use Rattle.segment_manager.proofs.Common.{Result, Some, None, Option, List, [], length, map, replicate, arith, ◌<◌}
 use Rattle.segment_manager.proofs.Common.{if◌then◌else◌, mul-le-mul_left, IsTrue, pos, take, nat_lt, list_all, lt-ltb}
 use Rattle.segment_manager.proofs.Common.{le-ltb, length-map, length-replicate, take_all, Cut, SamePlace, current}
@@ -12,12 +12,13 @@ use Rattle.segment_manager.proofs.Common.{with_object, object_at, IsBegunFor, Is
 use Rattle.segment_manager.proofs.Common.{table_of, TakesItems, head_len, IsRestored, room_for, IsSegment, IsStep}
 use Rattle.segment_manager.proofs.Common.{State, StandsFor, is_read_only, effect, step, Plan, Reply, perform}
 use Rattle.segment_manager.proofs.Common.{with_new_object, has_room, live_of}
-use Rattle.segment_manager.specs.Begun.{Fills, Finishes}
+use Rattle.segment_manager.specs.Begun.{Ends, Fills, IsEnding}
+use Rattle.segment_manager.specs.{Filled.numbers_shape, declared.fillings.Shape.Shape}
 use Rattle.seg_types.specs.Names as names
 use Rattle.seg_types.specs.Commands as asked
 use Rattle.segment_manager.proofs.{ArrayItems.by-items, ArrayItems.from-items, Bridge.lookup-absent}
 use Rattle.segment_manager.proofs.{Calling.denotes-live, HeldIndexes.denotes-index, KeyCalls.segment-index}
-use Rattle.segment_manager.proofs.{Loose.begun-room, MadeValues.headed-change, NewKeys.key-seeks, NewKeys.numbers-value}
+use Rattle.segment_manager.proofs.{Loose.begun-room, Loose.loose-ready, MadeValues.headed-change, NewKeys.key-seeks, NewKeys.numbers-value}
 use Rattle.segment_manager.proofs.{FoundOrMade.made_handle, FoundOrMade.makes, NewNumbers.numbers-made}
 use Rattle.segment_manager.proofs.Constructed.{IsMet, IsNewObject, numbers-met, restored-denotes, IsNoObject}
 use Rattle.segment_manager.proofs.NewValues.{IsMadeNever, IsMadeNow, away-in, key-taken, no_key-none, value-built}
@@ -120,7 +121,7 @@ module _ (S A : Type 0) (gives : S → Option A → S → Type 0) (whole : A →
   good-items xs e all = let l : length (map whole xs) ≡ count = many xs e in numbers-value k (map whole xs) (omega arith) (omega arith) all
 
   -- the object is made of the items
-  steps-made : (entry : Option NewEntry) (m w c : Cut) (h at : ℕ) → IsBegun s.cut m key (Scalar k) count (size_of k * count) h at entry → (f : Fills gives whole m w k (h + at) count before after true) → LeadsThere w c h entry
+  steps-made : (entry : Option NewEntry) (m w c : Cut) (h at : ℕ) → IsBegun s.cut m key (Scalar k) count (size_of k * count) h at entry → (f : Fills gives whole m w k (h + at) count before after (Ok tt)) → LeadsThere w c h entry
       → IsStep s (record s { cut = c }) (asked.ConstructIt key k count (map whole f.items)) (Made h)
   steps-made entry m w c h at g f led =
       let zs : List ℤ = map whole f.items in
@@ -135,10 +136,10 @@ module _ (S A : Type 0) (gives : S → Option A → S → Type 0) (whole : A →
       let both = now.each d st in (both.0, subst (λ ys. IsNewObject c d key (asked.Numbers k ys) h) (sym (whole-list f.items f.taken.1)) both.1))
 
   -- its blocks are given back
-  few-entry : (m w c : Cut) (h at : ℕ) (e : NewEntry) → IsBegunEntry s.cut m key (Scalar k) count (size_of k * count) h at e → (f : Fills gives whole m w k (h + at) count before after false) → IsRestored s.cut c
+  few-entry : (why : Refusal) (m w c : Cut) (h at : ℕ) (e : NewEntry) → IsBegunEntry s.cut m key (Scalar k) count (size_of k * count) h at e → (f : Fills gives whole m w k (h + at) count before after (Err why)) → IsRestored s.cut c
       → IsStep s (record s { cut = c }) (asked.ConstructIt key k count (map whole f.items)) (Refused OutOfRange)
-  few-entry m w c h at e g f back =
-      items-few s key k count (map whole f.items) writing c back.keeps.place (let l = length-map f.items whole in let few = f.taken.1 in omega arith)
+  few-entry why m w c h at e g f back =
+      items-few s key k count (map whole f.items) writing c back.keeps.place (let l = length-map f.items whole in let few = f.taken.2 in omega arith)
       (λ d st.
       let away = away-in e.index s.cut d g.entry e.place st.denotes g.absent in (
         (lookup-absent e.index s.cut d g.entry key st.denotes (key-seeks e.index g.entry key g.name (Scalar k) g.is) e.place away).none,
@@ -146,11 +147,11 @@ module _ (S A : Type 0) (gives : S → Option A → S → Type 0) (whole : A →
         restored-denotes s.cut c d st.denotes back,
       ))
 
-  few-alone : (m w c : Cut) (h at : ℕ) → (g : IsBegunAlone s.cut m key (Scalar k) count (size_of k * count) h at) → (f : Fills gives whole m w k (h + at) count before after false) → IsRestored s.cut c
+  few-alone : (why : Refusal) (m w c : Cut) (h at : ℕ) → (g : IsBegunAlone s.cut m key (Scalar k) count (size_of k * count) h at) → (f : Fills gives whole m w k (h + at) count before after (Err why)) → IsRestored s.cut c
       → IsStep s (record s { cut = c }) (asked.ConstructIt key k count (map whole f.items)) (Refused OutOfRange)
-  few-alone m w c h at g f back =
+  few-alone why m w c h at g f back =
       subst (λ (q : names.Key). IsStep s (record s { cut = c }) (asked.ConstructIt q k count (map whole f.items)) (Refused OutOfRange)) (sym g.is)
-      (items-few s names.NoKey k count (map whole f.items) writing c back.keeps.place (let l = length-map f.items whole in let few = f.taken.1 in omega arith)
+      (items-few s names.NoKey k count (map whole f.items) writing c back.keeps.place (let l = length-map f.items whole in let few = f.taken.2 in omega arith)
       (λ d st. (
         no_key-none d.objects,
         anonymous-met s.cut g.taken d k (replicate count (pos 0)) (room_for [] (size_of k * count)) h st.denotes (equal-len k [] count (pos 0)) g.takes,
@@ -159,45 +160,51 @@ module _ (S A : Type 0) (gives : S → Option A → S → Type 0) (whole : A →
 
   -- ---- what is loose
 
-  most : (enough : Bool) (m w : Cut) (from : ℕ) → (f : Fills gives whole m w k from count before after enough) → size_of k * length f.items ≤ size_of k * count
-  most true m w from f = let e : size_of k * length f.items ≡ size_of k * count = ap (λ j. size_of k * j) f.taken.1 in omega arith
-  most false m w from f = mul-le-mul_left (size_of k) (let few = f.taken.1 in omega arith)
+  most : (filled : Result (Unit {0}) Refusal) (m w : Cut) (from : ℕ) → (f : Fills gives whole m w k from count before after filled) → size_of k * length f.items ≤ size_of k * count
+  most (Ok u) m w from f = let e : size_of k * length f.items ≡ size_of k * count = ap (λ j. size_of k * j) f.taken.1 in omega arith
+  most (Err why) m w from f = mul-le-mul_left (size_of k) (let few = f.taken.2 in omega arith)
 
-  pub loose : (entry : Option NewEntry) (enough : Bool) (m w : Cut) (h at : ℕ) → IsBegun s.cut m key (Scalar k) count (size_of k * count) h at entry → Fills gives whole m w k (h + at) count before after enough → IsLoose s.cut w h entry
-  loose None enough m w h at g f = record {
+  loose : (entry : Option NewEntry) (filled : Result (Unit {0}) Refusal) (m w : Cut) (h at : ℕ) → IsBegun s.cut m key (Scalar k) count (size_of k * count) h at entry → Fills gives whole m w k (h + at) count before after filled → IsLoose s.cut w h entry
+  loose None filled m w h at g f = record {
     len = room_for [] (size_of k * count);
     taken = g.taken;
     takes = g.takes;
-    change = headed-change g.taken m w (Scalar k) Anonymous [] count (size_of k * count) h at (size_of k * length f.items) g.headed f.change (most enough m w (h + at) f);
+    change = headed-change g.taken m w (Scalar k) Anonymous [] count (size_of k * count) h at (size_of k * length f.items) g.headed f.change (most filled m w (h + at) f);
   }
-  loose (Some e) enough m w h at g f =
+  loose (Some e) filled m w h at g f =
       let x = denotes-index e.index s.cut b.0 b.1.denotes in
       let away = g.absent (table_of e.index b.0) (entries_of e.index b.0) x in
       record {
         len = room_for g.name (size_of k * count);
         taken = g.taken;
         requested = g.requested;
-        change = headed-change g.taken m w (Scalar k) (class_of_index e.index) g.name count (size_of k * count) h at (size_of k * length f.items) g.headed f.change (most enough m w (h + at) f);
+        change = headed-change g.taken m w (Scalar k) (class_of_index e.index) g.name count (size_of k * count) h at (size_of k * length f.items) g.headed f.change (most filled m w (h + at) f);
         index = segment-index s.cut e.index b;
         within = subst (λ n. e.place ≤ n) (sym x.stands.count) away.0;
       }
 
   -- ---- all together
 
-  steps-few : (entry : Option NewEntry) (m w c : Cut) (h at : ℕ) → IsBegun s.cut m key (Scalar k) count (size_of k * count) h at entry → (f : Fills gives whole m w k (h + at) count before after false) → IsRestored s.cut c
+  steps-few : (entry : Option NewEntry) (why : Refusal) (m w c : Cut) (h at : ℕ) → IsBegun s.cut m key (Scalar k) count (size_of k * count) h at entry → (f : Fills gives whole m w k (h + at) count before after (Err why)) → IsRestored s.cut c
       → IsStep s (record s { cut = c }) (asked.ConstructIt key k count (map whole f.items)) (Refused OutOfRange)
-  steps-few None m w c h at g f back = few-alone m w c h at g f back
-  steps-few (Some e) m w c h at g f back = few-entry m w c h at e g f back
+  steps-few None why m w c h at g f back = few-alone why m w c h at g f back
+  steps-few (Some e) why m w c h at g f back = few-entry why m w c h at e g f back
+
+  -- where it is filled an entry may lead to it, and where not all can be given back
+  pub fills-ending : (entry : Option NewEntry) (filled : Result (Unit {0}) Refusal) (m w : Cut) (h at : ℕ) → IsBegun s.cut m key (Scalar k) count (size_of k * count) h at entry → Fills gives whole m w k (h + at) count before after filled
+      → IsEnding w h entry filled
+  fills-ending entry (Ok u) m w h at g f = loose-ready entry s.cut w h (loose entry (Ok u) m w h at g f)
+  fills-ending entry (Err why) m w h at g f = (s.cut, loose entry (Err why) m w h at g f)
 
   -- it is filled, and then made or given back
-  pub takes : (entry : Option NewEntry) (enough : Bool) (m w c : Cut) (h at : ℕ) (result : Result ℕ Refusal) → IsBegun s.cut m key (Scalar k) count (size_of k * count) h at entry → Fills gives whole m w k (h + at) count before after enough
-      → Finishes w c h entry enough result → TakesItems gives whole s (record s { cut = c }) key k count before after result
-  takes entry true m w c h at result g f fin =
+  pub takes : (entry : Option NewEntry) (filled : Result (Unit {0}) Refusal) (m w c : Cut) (h at : ℕ) (result : Result ℕ Refusal) → IsBegun s.cut m key (Scalar k) count (size_of k * count) h at entry
+      → Fills gives whole m w k (h + at) count before after filled → Ends w c h entry filled result → TakesItems gives whole s (record s { cut = c }) key k count before after result
+  takes entry (Ok tt) m w c h at result g f fin =
       subst (λ (r : Result ℕ Refusal). TakesItems gives whole s (record s { cut = c }) key k count before after r) (sym fin.0)
       (record { items = f.items; step = steps-made entry m w c h at g f fin.1; taken = f.taken; unchanged = tt })
-  takes entry false m w c h at result g f fin =
-      subst (λ (r : Result ℕ Refusal). TakesItems gives whole s (record s { cut = c }) key k count before after r) (sym fin.0)
-      (record { items = f.items; step = steps-few entry m w c h at g f (fin.1 s.cut (loose entry false m w h at g f)); taken = f.taken; unchanged = tt })
+  takes entry (Err why) m w c h at result g f fin =
+      subst (λ (r : Result ℕ Refusal). TakesItems gives whole s (record s { cut = c }) key k count before after r) (sym (fin.0 ∙ ap Err f.taken.0))
+      (record { items = f.items; step = steps-few entry why m w c h at g f (fin.1 s.cut (loose entry (Err why) m w h at g f)); taken = (f.taken.1, f.taken.2); unchanged = tt })
 
 -- ---- it is refused before an item is taken
 
@@ -222,40 +229,40 @@ module _ (S A : Type 0) (gives : S → Option A → S → Type 0) (whole : A →
   takes-none NoSpace c writing low t = record { items = []; step = none-step c writing low t; taken = (refl, refl); unchanged = tt }
   takes-none why c writing low t = absurd t
 
--- ---- the same, as the segment is named before the call and the kind by the type of the items
+-- ---- the same, as the segment is named before the call, and its shape is made for it
 
-module _ (S A : Type 0) (gives : S → Option A → S → Type 0) (whole : A → ℤ) (s t : State) (view : s ≡ t) (b : IsSegment s.cut.bytes) (key : names.Key) (l k : ScalarKind) (same : l ≡ k) (count : ℕ)
-    (writing : is_read_only t.mode ≡ false) (low : 1 ≤ count) (before : S) where
+module _ (S A : Type 0) (gives : S → Option A → S → Type 0) (whole : A → ℤ) (s t : State) (view : s ≡ t) (b : IsSegment s.cut.bytes) (key : names.Key) (k : ScalarKind) (count : ℕ)
+    (shape : Shape) (same : shape ≡ numbers_shape k count) (writing : is_read_only t.mode ≡ false) (low : 1 ≤ count) (before : S) where
   writes : is_read_only s.mode ≡ false
   writes = subst (λ (u : State). is_read_only u.mode ≡ false) (sym view) writing
 
-  none-taken : (why : Refusal) (c : Cut) → IsNotBegun s.cut c key (Scalar l) (size_of l * count) why → TakesItems gives whole s (record s { cut = c }) key k count before before (Err why)
+  none-taken : (why : Refusal) (c : Cut) → IsNotBegun s.cut c key shape.kind shape.len why → TakesItems gives whole s (record s { cut = c }) key k count before before (Err why)
   none-taken why c not =
-      takes-none S A gives whole s key k count before why c writes low (subst (λ j. IsNotBegun s.cut c key (Scalar j) (size_of j * count) why) same not)
+      takes-none S A gives whole s key k count before why c writes low (subst (λ (j : Shape). IsNotBegun s.cut c key j.kind j.len why) same not)
 
-  pub refused-segment : (why : Refusal) (c : Cut) → IsNotBegun s.cut c key (Scalar l) (size_of l * count) why → IsSegment c.bytes
+  pub refused-segment : (why : Refusal) (c : Cut) → IsNotBegun s.cut c key shape.kind shape.len why → IsSegment c.bytes
   refused-segment why c not = step-segment s (record s { cut = c }) _ _ (none-taken why c not).step b
 
-  pub refused-items : (why : Refusal) (c : Cut) (r : Result ℕ Refusal) → r ≡ Err why → IsNotBegun s.cut c key (Scalar l) (size_of l * count) why
+  pub refused-items : (why : Refusal) (c : Cut) (r : Result ℕ Refusal) → r ≡ Err why → IsNotBegun s.cut c key shape.kind shape.len why
       → TakesItems gives whole t (record s { cut = c }) key k count before before r
   refused-items why c r is not =
       subst (λ (q : Result ℕ Refusal). TakesItems gives whole t (record s { cut = c }) key k count before before q) (sym is)
       (subst (λ (u : State). TakesItems gives whole u (record s { cut = c }) key k count before before (Err why)) view (none-taken why c not))
 
-  module _ (high : count ≤ 1048576) (m : Cut) (h at : ℕ) (entry : Option NewEntry) (begun : IsBegun s.cut m key (Scalar l) count (size_of l * count) h at entry) where
+  module _ (high : count ≤ 1048576) (m : Cut) (h at : ℕ) (entry : Option NewEntry) (begun : IsBegun s.cut m key shape.kind shape.count shape.len h at entry) where
     begun-so : IsBegun s.cut m key (Scalar k) count (size_of k * count) h at entry
-    begun-so = subst (λ j. IsBegun s.cut m key (Scalar j) count (size_of j * count) h at entry) same begun
+    begun-so = subst (λ (j : Shape). IsBegun s.cut m key j.kind j.count j.len h at entry) same begun
 
     pub items-room : IsTrue (has_room (live_of m.bytes) h (at + size_of k * count))
     items-room = begun-room entry s.cut m key (Scalar k) count (size_of k * count) h at begun-so
 
-    module _ (w : Cut) (after : S) (enough : Bool) (f : Fills gives whole m w k (h + at) count before after enough) where
-      pub items-loose : (old : Cut) × IsLoose old w h entry
-      items-loose = (s.cut, loose S A gives whole s b key k count writes low high before after entry enough m w h at begun-so f)
+    module _ (w : Cut) (after : S) (filled : Result (Unit {0}) Refusal) (f : Fills gives whole m w k (h + at) count before after filled) where
+      pub items-ending : IsEnding w h entry filled
+      items-ending = fills-ending S A gives whole s b key k count writes low high before after entry filled m w h at begun-so f
 
-      module _ (c : Cut) (result : Result ℕ Refusal) (fin : Finishes w c h entry enough result) where
+      module _ (c : Cut) (result : Result ℕ Refusal) (fin : Ends w c h entry filled result) where
         finished : TakesItems gives whole s (record s { cut = c }) key k count before after result
-        finished = takes S A gives whole s b key k count writes low high before after entry enough m w c h at result begun-so f fin
+        finished = takes S A gives whole s b key k count writes low high before after entry filled m w c h at result begun-so f fin
 
         pub items-segment : IsSegment c.bytes
         items-segment = step-segment s (record s { cut = c }) _ _ finished.step b

@@ -1,6 +1,6 @@
 -- How an object comes to be whose numbers come one by one: it is begun, it is filled, and then it gets its entry or is
 -- given back.
-use Rattle.std.specs.Prelude.{◌≡◌, ℕ, ◌<◌, ◌*◌, ◌+◌, ◌%◌, ◌≤◌, ◌⊎◌, ⊤, ℤ, Bool, Option, Some, None, Result, Ok, Err, MatchBool, MatchResult, List, [], insert, length, map, IsTrue}
+use Rattle.std.specs.Prelude.{◌≡◌, ℕ, ◌<◌, ◌*◌, ◌+◌, ◌%◌, ◌≤◌, ◌⊎◌, ⊤, ℤ, Option, Some, None, Result, Ok, Err, MatchResult, List, [], insert, length, map, IsTrue}
 use Rattle.std.specs.List.{list_all}
 use Rattle.std.specs.Iterator.{Yields, YieldsThen}
 use Rattle.raw_region.specs.Format.{current}
@@ -12,12 +12,9 @@ use Rattle.seg_types.specs.declared.kinds.ScalarKind.{ScalarKind}
 use Rattle.seg_types.specs.declared.kinds.Class.{Class}
 use Rattle.seg_types.specs.declared.kinds.Class.TheVariants.{Anonymous}
 use Rattle.seg_types.specs.declared.kinds.Kind.{Kind}
-use Rattle.seg_types.specs.declared.kinds.Kind.TheVariants.{Scalar}
 use Rattle.seg_types.specs.declared.refusals.Refusal.{Refusal}
 use Rattle.seg_types.specs.declared.refusals.Refusal.TheVariants.{Exists, NoSpace, OutOfRange}
 use Rattle.seg_types.specs.Kinds.{is_value, size_of, spelling}
-use Rattle.seg_types.specs.declared.values.ScalarValue.{ScalarValue}
-use Rattle.seg_types.specs.Values.{kind_of_scalar}
 use Rattle.seg_types.specs.Names as names
 use Rattle.seg_index.specs.declared.index.Index.{Index}
 use Rattle.seg_index.specs.declared.keys.Key.{Key}
@@ -102,10 +99,6 @@ Begins old new key kind count body result = MatchResult result (λ b. IsBegun ol
 abbrev pub BeginsEntry : Cut → Cut → Index → ℕ → Key → names.Key → List ℕ → Kind → ℕ → ℕ → Result Begun Refusal → Type 0
 BeginsEntry old new i place e key name kind count body result = IsNewKeyOf i e key name kind → IsAbsentAt old i e place → Begins old new key kind count body result
 
--- of numbers
-abbrev pub BeginsNumbers : Cut → Cut → names.Key → ScalarKind → ℕ → Result Begun Refusal → Type 0
-BeginsNumbers old new key k count result = Begins old new key (Scalar k) count (size_of k * count) result
-
 -- ---- filled
 
 -- an item was taken, and its spelling is written
@@ -116,17 +109,19 @@ pub record IsItemWritten {S A : Type 0} (gives : S → Option A → S → Type 0
   pub change : IsChanged current old new from (size_of k)
   pub content : Has (bytes_of new.bytes) from (spelling k (whole item))
 
-abbrev pub WritesNext : {S A : Type 0} → (S → Option A → S → Type 0) → (A → ℤ) → Cut → Cut → ScalarKind → ℕ → S → S → Bool → Type 0
-WritesNext gives whole old new k from before after came = MatchBool came (IsItemWritten gives whole old new k from before after) ((new ≡ old) × gives before None after)
+abbrev pub WritesNext : {S A : Type 0} → (S → Option A → S → Type 0) → (A → ℤ) → Cut → Cut → ScalarKind → ℕ → S → S → Result (Unit {0}) Refusal → Type 0
+WritesNext gives whole old new k from before after wrote =
+    MatchResult wrote (λ u. IsItemWritten gives whole old new k from before after) (λ why. (why ≡ OutOfRange) × (new ≡ old) × gives before None after)
 
--- the next value, if one comes, is of the kind
-abbrev pub IsNextOfKind : {S : Type 0} → (S → Option ScalarValue → S → Type 0) → S → ScalarKind → Type 0
-IsNextOfKind {S} gives before k = (v : ScalarValue) (after : S) → gives before (Some v) after → kind_of_scalar v ≡ k
+-- the next item, if one comes, is of the kind
+abbrev pub IsNextOfKind : {S A : Type 0} → (S → Option A → S → Type 0) → (A → ScalarKind) → S → ScalarKind → Type 0
+IsNextOfKind {S} {A} gives kind before k = (item : A) (after : S) → gives before (Some item) after → kind item ≡ k
 
 -- Items were taken in turn and written one behind another: as many as were asked for, or fewer where no more came.
-pub record Fills {S A : Type 0} (gives : S → Option A → S → Type 0) (whole : A → ℤ) (old new : Cut) (k : ScalarKind) (from count : ℕ) (before after : S) (enough : Bool) : Type 0 where
+pub record Fills {S A : Type 0} (gives : S → Option A → S → Type 0) (whole : A → ℤ) (old new : Cut) (k : ScalarKind) (from count : ℕ) (before after : S) (filled : Result (Unit {0}) Refusal) : Type 0 where
   pub items : List A
-  pub taken : MatchBool enough (Yields gives before items after × (length items ≡ count)) (YieldsThen gives before items None after × (length items < count))
+  pub taken : MatchResult filled (λ u. Yields gives before items after × (length items ≡ count))
+      (λ why. (why ≡ OutOfRange) × YieldsThen gives before items None after × (length items < count))
   pub values : IsTrue (list_all (is_value k) (map whole items))
   pub change : IsChanged current old new from (size_of k * length items)
   pub content : Has (bytes_of new.bytes) from (spelled k (map whole items))
@@ -176,9 +171,6 @@ LeadsThere now new h (Some e) = IsEntryAdded now new h e
 -- all that was taken is given back
 abbrev pub GivesAllBack : Cut → Cut → ℕ → Option NewEntry → Type 0
 GivesAllBack now new h entry = (old : Cut) → IsLoose old now h entry → IsRestored old new
-
-abbrev pub Finishes : Cut → Cut → ℕ → Option NewEntry → Bool → Result ℕ Refusal → Type 0
-Finishes now new h entry enough result = MatchBool enough ((result ≡ Ok h) × LeadsThere now new h entry) ((result ≡ Err OutOfRange) × GivesAllBack now new h entry)
 
 -- ---- filled or not, with whatever it takes
 

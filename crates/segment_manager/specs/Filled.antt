@@ -1,6 +1,6 @@
 -- How an object comes to be, whatever it holds: it is begun, its value is made in its block, and then it gets its
 -- entry, or all is given back.
-use Rattle.std.specs.Prelude.{◌≡◌, ℕ, ◌<◌, ◌^◌, ◌*◌, false, true, [], Option, Result, Ok, Err, IfErr, MatchResult, IsTrue}
+use Rattle.std.specs.Prelude.{◌≡◌, ℕ, ℤ, ◌<◌, ◌^◌, ◌*◌, false, true, [], replicate, Option, Result, Ok, Err, IfErr, MatchResult, IsTrue}
 use Rattle.raw_region.specs.Format.{current}
 use Rattle.raw_region.specs.Memory.{Cut, bytes_of}
 use Rattle.best_fit.specs.Exchange.{IsExchanged}
@@ -13,7 +13,7 @@ use Rattle.seg_types.specs.declared.refusals.Refusal.{Refusal}
 use Rattle.seg_types.specs.declared.refusals.Refusal.TheVariants.{NoSpace}
 use Rattle.seg_types.specs.Kinds.{size_of}
 use Rattle.seg_types.specs.Names as names
-use Rattle.seg_types.specs.Commands.{Command, Content, FindOrConstruct}
+use Rattle.seg_types.specs.Commands.{Command, Construct, Content, FindOrConstruct, Numbers}
 use Rattle.seg_vector.specs.declared.places.Place.{Place}
 use Rattle.seg_vector.specs.Standing.{place_at}
 use Rattle.segment_manager.specs.declared.beginning.NewEntry.{NewEntry}
@@ -27,7 +27,7 @@ use Rattle.segment_manager.specs.Found.{pair_answer}
 use Rattle.segment_manager.specs.Keeping.{HasKey}
 use Rattle.segment_manager.specs.NewObjects.{IsRestored}
 use Rattle.segment_manager.specs.Plan.{Plan, bare, perform, with_value}
-use Rattle.segment_manager.specs.State.{IsSegment, IsStep, StandsFor}
+use Rattle.segment_manager.specs.State.{IsSegment, IsStep, StandsFor, State, handle_answer}
 use Rattle.segment_manager.specs.Step.{is_read_only}
 
 -- ---- the value
@@ -121,3 +121,17 @@ pub record FindsOrConstructs (old new : Cut) (key : names.Key) (content : Conten
 abbrev pub with_count : ℕ → Result ℕ Refusal → Result (ℕ × ℕ) Refusal
 with_count n (Ok h) = Ok (h, n)
 with_count n (Err why) = Err why
+
+-- ---- as calls on a segment say it
+
+-- an object of the content is made under the key
+abbrev pub Makes : State → State → names.Key → Content → Result ℕ Refusal → Type 0
+Makes old new key content result = IsStep old new (Construct key content) (handle_answer result)
+
+-- or one is found there
+abbrev pub FindsOrMakes : State → State → names.Key → Content → Result (ℕ × ℕ) Refusal → Type 0
+FindsOrMakes old new key content result = IsStep old new (FindOrConstruct key content) (pair_answer result)
+
+-- so many times the same number
+abbrev pub alike : ScalarKind → ℕ → ℤ → Content
+alike k count z = Numbers k (replicate count z)

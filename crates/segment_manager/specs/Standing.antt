@@ -1,5 +1,5 @@
 -- An object in its block, as calls on a heap see it: what its head says, and its elements.
-use Rattle.std.specs.Prelude.{◌≡◌, ℕ, ◌+◌, ◌*◌, ℤ, List, length, replicate, flat_map, IsTrue, Some, None, true, Result, Ok, Err, if◌then◌else◌, nat_lt}
+use Rattle.std.specs.Prelude.{◌≡◌, ℕ, ◌+◌, ◌*◌, List, length, replicate, flat_map, IsTrue, Some, None, true, Result, Ok, Err, if◌then◌else◌, nat_lt}
 use Rattle.raw_region.specs.Format.{current}
 use Rattle.raw_region.specs.Memory.{Memory, bytes_of, word_at, Has}
 use Rattle.best_fit.specs.Extents.{handle}
@@ -10,7 +10,7 @@ use Rattle.seg_types.specs.declared.kinds.Kind.TheVariants.{Scalar}
 use Rattle.seg_types.specs.declared.kinds.Class.{Class}
 use Rattle.seg_types.specs.declared.refusals.Refusal.{Refusal}
 use Rattle.seg_types.specs.declared.refusals.Refusal.TheVariants.{NotFound, WrongKind, OutOfRange}
-use Rattle.seg_types.specs.Kinds.{class_code, code_of, same_kind, size_of, is_value, spelling}
+use Rattle.seg_types.specs.Kinds.{class_code, code_of, same_kind, size_of}
 use Rattle.seg_types.specs.Names.{Key}
 use Rattle.segment_manager.specs.declared.head.Head.{Head}
 use Rattle.seg_vector.specs.declared.places.Place.{Place}
@@ -68,7 +68,3 @@ place_at d key k i = elim (object_at d key) [
   | None ↦ Err NotFound
   | Some o ↦ elim (place_in o k i) [ Ok at ↦ Ok (record { handle = handle o.extent; at = at }) | Err r ↦ Err r ]
 ]
-
--- the bytes spell a value of the kind
-abbrev pub Spells : ScalarKind → List ℕ → Type 0
-Spells k bytes = (z : ℤ) × (is_value k z ≡ true) × (bytes ≡ spelling k z)

@@ -1,17 +1,17 @@
 //! The elements of objects of scalars, read and written.
-ghost use Rattle.std.specs.Prelude.{◌≡◌, ℤ, OnErr, OnOk, true};
+ghost use Rattle.std.specs.Prelude.{◌≡◌, OnErr, OnOk};
 ghost use Rattle.seg_types.specs.declared.kinds.Kind.TheVariants.{Scalar as ScalarOf};
-ghost use Rattle.seg_types.specs.{Commands.Get, Commands.Set, Commands.literal_of, Kinds.is_value};
-ghost use Rattle.seg_types.specs.{Kinds.spelling as spelling_of, Values.kind_of_scalar, Values.value_of_scalar};
-ghost use Rattle.segment_manager.specs.{Answers.Element, Keeping.ChangesElement, Standing.Spells, Standing.place_at};
-ghost use Rattle.segment_manager.specs.State.{Answers, IsReplyOfKind, IsStepOfKind, answer_of, done_answer, scalar_answer};
+ghost use Rattle.seg_types.specs.Commands.{Get, Set, literal_of};
+ghost use Rattle.seg_types.specs.Values.{kind_of_scalar, value_of_scalar};
+ghost use Rattle.segment_manager.specs.{Answers.Element, Keeping.ChangesElement, Standing.place_at, State.Answers};
+ghost use Rattle.segment_manager.specs.State.{IsReplyOfKind, IsStepOfKind, answer_of, done_answer, scalar_answer};
 
 use crate::element::{element, place_of};
 use crate::fillings::LONGEST;
 use crate::segment::Segment;
 use crate::targets::Target;
 use seg_types::theorems::scalar_is_number;
-use seg_types::{Refusal, Scalar, ScalarKind, ScalarValue};
+use seg_types::{Refusal, Scalar, ScalarKind, ScalarValue, by_kind, by_value};
 use seg_vector::Place;
 
 impl Segment {
@@ -43,12 +43,12 @@ impl Segment {
         requires { O.stands key.now self.now }
         ensures { IsReplyOfKind self.now (O.key key.now) (ScalarOf kind) (Get (O.key key.now) index) (scalar_answer result) }
     {
-        let place = self.find_element(key, kind, index)?;
-        ScalarValue::read(
-            kind,
-            element(&self.heap, place.handle, place.at, kind.size()),
-        )
-        .ok_or(Refusal::WrongKind)
+        macro_rules! typed {
+            ($type:ty, $name:ident) => {
+                ScalarValue::$name(self.get::<$type, O>(key, index)?)
+            };
+        }
+        Ok(by_kind!(kind, typed))
     }
 
     /// Makes a value the element at `index` in the object of a key, an object of scalars of the type. No other byte
@@ -74,7 +74,12 @@ impl Segment {
         let mut bytes = [0; LONGEST];
         let spelling = &mut bytes[..T::SIZE as usize];
         value.write(spelling);
-        self.write_element(key, T::kind(), index, spelling)
+        if self.is_read_only() {
+            return Err(Refusal::ReadOnly);
+        }
+        let target = self.find_element(key, T::kind(), index)?;
+        self.heap.write(target.handle, target.at, spelling);
+        Ok(())
     }
 
     /// The same of a value's kind.
@@ -90,34 +95,7 @@ impl Segment {
         ensures refused { OnErr result (self.new ≡ self.old) }
         ensures element { OnOk result (ChangesElement self.old self.new (O.key key.now) (kind_of_scalar value) index) }
     {
-        let kind = value.kind();
-        let mut bytes = [0; LONGEST];
-        let spelling = &mut bytes[..kind.size() as usize];
-        value.write(spelling);
-        self.write_element(key, kind, index, spelling)
-    }
-
-    /// Writes the bytes that spell a value as an element.
-    fn write_element<O: Target>(
-        &mut self,
-        key: &O,
-        kind: ScalarKind,
-        index: u64,
-        spelling: &[u8],
-    ) -> Result<(), Refusal>
-        requires target { O.stands key.now self.old }
-        requires spells { Spells kind spelling.now }
-        ensures step { (z : ℤ) → is_value kind z ≡ true → spelling.now ≡ spelling_of kind z
-            → IsStepOfKind self.old self.new (O.key key.now) (ScalarOf kind) (Set (O.key key.now) index (literal_of kind z)) (done_answer result) }
-        ensures refused { OnErr result (self.new ≡ self.old) }
-        ensures element { OnOk result (ChangesElement self.old self.new (O.key key.now) kind index) }
-    {
-        if self.is_read_only() {
-            return Err(Refusal::ReadOnly);
-        }
-        let place = self.find_element(key, kind, index)?;
-        self.heap.write(place.handle, place.at, spelling);
-        Ok(())
+        by_value!(value, it => self.set(key, index, it))
     }
 
     /// Where the element at `index` stands in the object of a key, an object of scalars of a kind.

@@ -25,7 +25,8 @@ impl Segment {
     /// element there.
     pub fn get<T: Scalar, O: Target>(&self, key: &O, index: u64) -> Result<T, Refusal>
         requires { O.stands key.now self.now }
-        ensures { IsReplyOfKind self.now (O.key key.now) (ScalarOf T.kind) (Get (O.key key.now) index) (answer_of (λ x. Element T.kind (T.whole x)) result) }
+        ensures { IsReplyOfKind self.now (O.key key.now) (ScalarOf T.kind) (Get (O.key key.now) index)
+            (answer_of (λ x. Element T.kind (T.whole x)) result) }
     {
         let place = self.find_element(key, T::kind(), index)?;
         scalar_is_number::<T>(element(&self.heap, place.handle, place.at, T::SIZE)).ok_or(
@@ -41,7 +42,8 @@ impl Segment {
         index: u64,
     ) -> Result<ScalarValue, Refusal>
         requires { O.stands key.now self.now }
-        ensures { IsReplyOfKind self.now (O.key key.now) (ScalarOf kind) (Get (O.key key.now) index) (scalar_answer result) }
+        ensures { IsReplyOfKind self.now (O.key key.now) (ScalarOf kind) (Get (O.key key.now) index)
+            (scalar_answer result) }
     {
         macro_rules! typed {
             ($type:ty, $name:ident) => {
@@ -67,7 +69,8 @@ impl Segment {
         value: T,
     ) -> Result<(), Refusal>
         requires { O.stands key.now self.old }
-        ensures step { IsStepOfKind self.old self.new (O.key key.now) (ScalarOf T.kind) (Set (O.key key.now) index (literal_of T.kind (T.whole value))) (done_answer result) }
+        ensures step { IsStepOfKind self.old self.new (O.key key.now) (ScalarOf T.kind)
+            (Set (O.key key.now) index (literal_of T.kind (T.whole value))) (done_answer result) }
         ensures refused { OnErr result (self.new ≡ self.old) }
         ensures element { OnOk result (ChangesElement self.old self.new (O.key key.now) T.kind index) }
     {
@@ -91,7 +94,8 @@ impl Segment {
     ) -> Result<(), Refusal>
         requires { O.stands key.now self.old }
         ensures step { IsStepOfKind self.old self.new (O.key key.now) (ScalarOf (kind_of_scalar value))
-            (Set (O.key key.now) index (literal_of (kind_of_scalar value) (value_of_scalar value))) (done_answer result) }
+            (Set (O.key key.now) index (literal_of (kind_of_scalar value) (value_of_scalar value)))
+            (done_answer result) }
         ensures refused { OnErr result (self.new ≡ self.old) }
         ensures element { OnOk result (ChangesElement self.old self.new (O.key key.now) (kind_of_scalar value) index) }
     {

@@ -38,7 +38,8 @@ impl Segment {
         requires kind { D.suits key.now (ScalarOf T.kind) }
         requires some { 1 ≤ count }
         requires few { count ≤ 1048576 }
-        ensures step { Makes self.old self.new (D.key key.now (ScalarOf T.kind)) (alike T.kind count (T.whole value)) result }
+        ensures step { Makes self.old self.new (D.key key.now (ScalarOf T.kind))
+            (alike T.kind count (T.whole value)) result }
         ensures refused { KeepsRefused self.old self.new result }
     {
         self.construct_under(key, &NewNumbers { count, value })
@@ -97,7 +98,8 @@ impl Segment {
     ) -> Result<Handle, Refusal>
         requires stands { F.stands filling.now }
         requires kind { D.suits key.now (kind_of (bare (F.content filling.now))) }
-        ensures step { Makes self.old self.new (D.key key.now (kind_of (bare (F.content filling.now)))) (F.content filling.now) result }
+        ensures step { Makes self.old self.new (D.key key.now (kind_of (bare (F.content filling.now))))
+            (F.content filling.now) result }
         ensures refused { KeepsRefused self.old self.new result }
     {
         if self.is_read_only() {

@@ -22,7 +22,8 @@ impl Segment {
         values: &[T],
     ) -> Result<Handle, Refusal>
         requires kind { D.suits key.now (VectorOf T.kind) }
-        ensures step { Makes self.old self.new (D.key key.now (VectorOf T.kind)) (Elements T.kind (map T.whole values.now)) result }
+        ensures step { Makes self.old self.new (D.key key.now (VectorOf T.kind))
+            (Elements T.kind (map T.whole values.now)) result }
         ensures refused { KeepsRefused self.old self.new result }
     {
         self.construct_under(key, &NewVector { values })
@@ -55,7 +56,8 @@ impl Segment {
         values: &[T],
     ) -> Result<(Handle, u32), Refusal>
         requires kind { D.suits key.now (VectorOf T.kind) }
-        ensures step { FindsOrMakes self.old self.new (D.key key.now (VectorOf T.kind)) (Elements T.kind (map T.whole values.now)) result }
+        ensures step { FindsOrMakes self.old self.new (D.key key.now (VectorOf T.kind))
+            (Elements T.kind (map T.whole values.now)) result }
         ensures refused { KeepsRefused self.old self.new result }
         ensures found { KeepsWhere self.old self.new (HasKey (D.key key.now (VectorOf T.kind))) }
     {
@@ -90,7 +92,8 @@ impl Segment {
         texts: &[&[u8]],
     ) -> Result<Handle, Refusal>
         requires kind { D.suits key.now TextsKind }
-        ensures step { Makes self.old self.new (D.key key.now TextsKind) (Strings (map (λ text. text.now) texts.now)) result }
+        ensures step { Makes self.old self.new (D.key key.now TextsKind)
+            (Strings (map (λ text. text.now) texts.now)) result }
         ensures refused { KeepsRefused self.old self.new result }
     {
         self.construct_under(key, &NewTexts { texts })
@@ -107,7 +110,8 @@ impl Segment {
         texts: &[&[u8]],
     ) -> Result<(Handle, u32), Refusal>
         requires kind { D.suits key.now TextsKind }
-        ensures step { FindsOrMakes self.old self.new (D.key key.now TextsKind) (Strings (map (λ text. text.now) texts.now)) result }
+        ensures step { FindsOrMakes self.old self.new (D.key key.now TextsKind)
+            (Strings (map (λ text. text.now) texts.now)) result }
         ensures refused { KeepsRefused self.old self.new result }
         ensures found { KeepsWhere self.old self.new (HasKey (D.key key.now TextsKind)) }
     {
@@ -155,7 +159,8 @@ impl Segment {
         key: &D,
     ) -> Result<(Handle, u32), Refusal>
         requires kind { D.suits key.now (MapOf K.kind V.kind) }
-        ensures step { FindsOrMakes self.old self.new (D.key key.now (MapOf K.kind V.kind)) (NoPairs K.kind V.kind) result }
+        ensures step { FindsOrMakes self.old self.new (D.key key.now (MapOf K.kind V.kind))
+            (NoPairs K.kind V.kind) result }
         ensures refused { KeepsRefused self.old self.new result }
         ensures found { KeepsWhere self.old self.new (HasKey (D.key key.now (MapOf K.kind V.kind))) }
     {

@@ -42,7 +42,8 @@ impl Segment {
         requires ready { I.can_next items.old }
         ensures count { RefusesCount count self.old self.new result }
         ensures untaken { is_count count ≡ false → items.new ≡ items.old }
-        ensures items { is_count count ≡ true → TakesItems I.next_gives T.whole self.old self.new (D.key key.now (ScalarOf T.kind)) T.kind count items.old items.new result }
+        ensures items { is_count count ≡ true → TakesItems I.next_gives T.whole self.old self.new
+            (D.key key.now (ScalarOf T.kind)) T.kind count items.old items.new result }
     {
         if count == 0 || count > MOST {
             return Err(Refusal::OutOfRange);
@@ -71,7 +72,8 @@ impl Segment {
         requires few { count ≤ 1048576 }
         requires ready { I.can_next items.old }
         requires of_kind { HoldsAlong I.next_gives items.old (AllByRecursion (λ v. kind_of_scalar v ≡ kind)) }
-        ensures { TakesItems I.next_gives value_of_scalar self.old self.new (D.key key.now (ScalarOf kind)) kind count items.old items.new result }
+        ensures { TakesItems I.next_gives value_of_scalar self.old self.new (D.key key.now (ScalarOf kind)) kind count
+            items.old items.new result }
     {
         let key = key.key_for(Kind::Scalar(kind));
         self.construct_items::<OfKind, ScalarValue, I>(&key, kind, count, items)
@@ -90,7 +92,8 @@ impl Segment {
         requires few { count ≤ 1048576 }
         requires ready { I.can_next items.old }
         requires of_kind { HoldsAlong I.next_gives items.old (AllByRecursion (λ item. S.kind item ≡ kind)) }
-        ensures { TakesItems I.next_gives S.whole self.old self.new (new_key_seen key.now) kind count items.old items.new result }
+        ensures { TakesItems I.next_gives S.whole self.old self.new (new_key_seen key.now) kind count
+            items.old items.new result }
     {
         if self.is_read_only() {
             return Err(Refusal::ReadOnly);

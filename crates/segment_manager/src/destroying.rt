@@ -53,7 +53,8 @@ impl Segment {
     fn destroy_entered(&mut self, index: Index, entry: Entry<'_>) -> bool
         requires writing { is_read_only self.old.mode ≡ false }
         requires key { (key : AnyKey) × Seeks index entry key }
-        ensures step { (key : AnyKey) → Seeks index entry.entry key → IsStep self.old self.new (Destroy key) (Truth result) }
+        ensures step { (key : AnyKey) → Seeks index entry.entry key
+            → IsStep self.old self.new (Destroy key) (Truth result) }
         ensures absent { (key : AnyKey) → Seeks index entry.entry key → KeepsWhere self.old self.new (LacksKey key) }
     {
         match index.lookup(&self.heap, entry, &mut Steps::new()) {

@@ -54,7 +54,8 @@ pub(crate) trait Filling {
         requires stands { stands self.now }
         requires heap { IsHeap current heap.old.bytes }
         requires aligned { place.at % 8 ≡ 0 }
-        requires room { IsTrue (has_room (live_of heap.old.bytes) place.handle (place.at + value_len (bare (content self.now)))) }
+        requires room { IsTrue
+            (has_room (live_of heap.old.bytes) place.handle (place.at + value_len (bare (content self.now)))) }
         ensures { MakesValue (content self.now) heap.old heap.new place result };
 }
 

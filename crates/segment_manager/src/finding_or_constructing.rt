@@ -46,7 +46,8 @@ impl Segment {
         requires kind { D.suits key.now (ScalarOf T.kind) }
         requires some { 1 ≤ count }
         requires few { count ≤ 1048576 }
-        ensures step { FindsOrMakes self.old self.new (D.key key.now (ScalarOf T.kind)) (alike T.kind count (T.whole value)) result }
+        ensures step { FindsOrMakes self.old self.new (D.key key.now (ScalarOf T.kind))
+            (alike T.kind count (T.whole value)) result }
         ensures refused { KeepsRefused self.old self.new result }
         ensures found { KeepsWhere self.old self.new (HasKey (D.key key.now (ScalarOf T.kind))) }
     {
@@ -68,7 +69,8 @@ impl Segment {
     ) -> Result<(Handle, u32), Refusal>
         requires kind { D.suits key.now (ScalarOf T.kind) }
         ensures step { is_count count ≡ true
-            → FindsOrMakes self.old self.new (D.key key.now (ScalarOf T.kind)) (alike T.kind count (T.whole value)) result }
+            → FindsOrMakes self.old self.new (D.key key.now (ScalarOf T.kind))
+            (alike T.kind count (T.whole value)) result }
         ensures count { RefusesCount count self.old self.new result }
         ensures refused { KeepsRefused self.old self.new result }
         ensures found { KeepsWhere self.old self.new (HasKey (D.key key.now (ScalarOf T.kind))) }
@@ -108,7 +110,8 @@ impl Segment {
     ) -> Result<(Handle, u32), Refusal>
         requires stands { F.stands filling.now }
         requires kind { D.suits key.now (kind_of (bare (F.content filling.now))) }
-        ensures step { FindsOrMakes self.old self.new (D.key key.now (kind_of (bare (F.content filling.now)))) (F.content filling.now) result }
+        ensures step { FindsOrMakes self.old self.new (D.key key.now (kind_of (bare (F.content filling.now))))
+            (F.content filling.now) result }
         ensures refused { KeepsRefused self.old self.new result }
         ensures found { KeepsWhere self.old self.new (HasKey (D.key key.now (kind_of (bare (F.content filling.now))))) }
     {

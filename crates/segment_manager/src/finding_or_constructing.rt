@@ -1,10 +1,10 @@
 //! Objects found, or constructed where there are none, whatever they hold; those of one number, so many times.
 ghost use Rattle.std.specs.Prelude.{◌≡◌, ◌≤◌, true};
-ghost use Rattle.seg_types.specs.{declared.kinds.Kind.TheVariants.Scalar as ScalarOf, Keys.index_key_seen};
-ghost use Rattle.seg_types.specs.{Names.Key as AnyKey, Values.kind_of_scalar, Values.value_of_scalar};
+ghost use Rattle.seg_types.specs.{declared.kinds.Kind.TheVariants.Scalar as ScalarOf, Names.Key as AnyKey};
+ghost use Rattle.seg_types.specs.Values.{kind_of_scalar, value_of_scalar};
 ghost use Rattle.segment_manager.specs.{Counted.RefusesCount, Counted.is_count, Directory.Object, Directory.kind_of};
 ghost use Rattle.segment_manager.specs.Filled.{FindsOrConstructs, FindsOrMakes, alike, with_count};
-ghost use Rattle.segment_manager.specs.{Keeping.HasKey, Keeping.KeepsWhere, NewObjects.IsNewKeyOf, NewObjects.IsOfKind};
+ghost use Rattle.segment_manager.specs.{Keeping.HasKey, Keeping.KeepsWhere, NewObjects.IsNewKeyOf};
 ghost use Rattle.segment_manager.specs.{Plan.bare, Standing.HasObject, Standing.StandsAt, Standing.pair_of_kind};
 ghost use Rattle.segment_manager.specs.State.{IsSegment, KeepsRefused};
 
@@ -12,12 +12,13 @@ use crate::beginning::begin_at;
 use crate::constructing::build;
 use crate::destinations::IndexDestination;
 use crate::fillings::{Filling, MOST, NewNumbers};
+use crate::finding::entry_of;
 use crate::head::read_head;
 use crate::segment::Segment;
 use best_fit::Heap;
 use raw_region::Steps;
 use seg_index::{Index, Key as Entry, Lookup};
-use seg_types::{Handle, IndexKey, Kind, Refusal, Scalar, ScalarValue, by_value};
+use seg_types::{Handle, Kind, Refusal, Scalar, ScalarValue, by_value};
 
 impl Segment {
     /// The handle of the scalars of a key, and how many they are. Where no object has the key one is made, of `count`
@@ -119,34 +120,12 @@ impl Segment {
             return Err(Refusal::ReadOnly);
         }
         let key = key.entry_for(filling.shape().kind);
-        find_or_construct_in(&mut self.heap, &key, filling)
+        let (index, entry, name) = entry_of(&key);
+        find_or_construct_entered(&mut self.heap, index, entry, name, filling)
     }
 }
 
-/// The same on the heap of a segment that may be changed.
-#[inline(always)]
-fn find_or_construct_in<F: Filling>(
-    heap: &mut Heap,
-    key: &IndexKey,
-    filling: &F,
-) -> Result<(Handle, u32), Refusal>
-    requires segment { IsSegment heap.old.bytes }
-    requires stands { F.stands filling.now }
-    requires kind { IsOfKind (index_key_seen key.now) (kind_of (bare (F.content filling.now))) }
-    ensures { FindsOrConstructs heap.old heap.new (index_key_seen key.now) (F.content filling.now) result }
-{
-    match key {
-        IndexKey::Name(name) => {
-            let bytes = name.as_bytes();
-            find_or_construct_entered(heap, Index::Named, Entry::Name(bytes), bytes, filling)
-        }
-        IndexKey::Unique(kind) => {
-            find_or_construct_entered(heap, Index::Unique, Entry::Code(kind.code()), &[], filling)
-        }
-    }
-}
-
-/// The same under an entry of an index.
+/// The same under an entry of an index, on the heap of a segment that may be changed.
 fn find_or_construct_entered<F: Filling>(
     heap: &mut Heap,
     index: Index,

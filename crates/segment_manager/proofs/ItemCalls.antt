@@ -135,28 +135,23 @@ module _ (S A : Type 0) (gives : S → Option A → S → Type 0) (whole : A →
       (λ d st.
       let both = now.each d st in (both.0, subst (λ ys. IsNewObject c d key (asked.Numbers k ys) h) (sym (whole-list f.items f.taken.1)) both.1))
 
-  -- its blocks are given back
-  few-entry : (why : Refusal) (m w c : Cut) (h at : ℕ) (e : NewEntry) → IsBegunEntry s.cut m key (Scalar k) count (size_of k * count) h at e → (f : Fills gives whole m w k (h + at) count before after (Err why)) → IsRestored s.cut c
-      → IsStep s (record s { cut = c }) (asked.ConstructIt key k count (map whole f.items)) (Refused OutOfRange)
-  few-entry why m w c h at e g f back =
-      items-few s key k count (map whole f.items) writing c back.keeps.place (let l = length-map f.items whole in let few = f.taken.2 in omega arith)
-      (λ d st.
-      let away = away-in e.index s.cut d g.entry e.place st.denotes g.absent in (
-        (lookup-absent e.index s.cut d g.entry key st.denotes (key-seeks e.index g.entry key g.name (Scalar k) g.is) e.place away).none,
-        numbers-met e.index s.cut d g.entry key g.name k (replicate count (pos 0)) st.denotes g.is g.taken (room_for g.name (size_of k * count)) h e.growth.block (equal-len k g.name count (pos 0)) g.requested,
-        restored-denotes s.cut c d st.denotes back,
-      ))
+  -- no object had the key, and the requests for zeros are met
+  begun-met : (entry : Option NewEntry) (m : Cut) (h at : ℕ) → IsBegun s.cut m key (Scalar k) count (size_of k * count) h at entry → (d : Directory) → StandsFor s.cut.bytes d
+      → (object_at d key ≡ None) × IsMet d key (asked.Numbers k (replicate count (pos 0)))
+  begun-met None m h at g d st =
+      subst (λ (q : names.Key). (object_at d q ≡ None) × IsMet d q (asked.Numbers k (replicate count (pos 0)))) (sym g.is)
+      (no_key-none d.objects, anonymous-met s.cut g.taken d k (replicate count (pos 0)) (room_for [] (size_of k * count)) h st.denotes (equal-len k [] count (pos 0)) g.takes)
+  begun-met (Some e) m h at g d st = (
+    (lookup-absent e.index s.cut d g.entry key st.denotes (key-seeks e.index g.entry key g.name (Scalar k) g.is) e.place (away-in e.index s.cut d g.entry e.place st.denotes g.absent)).none,
+    numbers-met e.index s.cut d g.entry key g.name k (replicate count (pos 0)) st.denotes g.is g.taken (room_for g.name (size_of k * count)) h e.growth.block (equal-len k g.name count (pos 0)) g.requested,
+  )
 
-  few-alone : (why : Refusal) (m w c : Cut) (h at : ℕ) → (g : IsBegunAlone s.cut m key (Scalar k) count (size_of k * count) h at) → (f : Fills gives whole m w k (h + at) count before after (Err why)) → IsRestored s.cut c
+  -- its blocks are given back
+  steps-few : (entry : Option NewEntry) (why : Refusal) (m w c : Cut) (h at : ℕ) → IsBegun s.cut m key (Scalar k) count (size_of k * count) h at entry → (f : Fills gives whole m w k (h + at) count before after (Err why)) → IsRestored s.cut c
       → IsStep s (record s { cut = c }) (asked.ConstructIt key k count (map whole f.items)) (Refused OutOfRange)
-  few-alone why m w c h at g f back =
-      subst (λ (q : names.Key). IsStep s (record s { cut = c }) (asked.ConstructIt q k count (map whole f.items)) (Refused OutOfRange)) (sym g.is)
-      (items-few s names.NoKey k count (map whole f.items) writing c back.keeps.place (let l = length-map f.items whole in let few = f.taken.2 in omega arith)
-      (λ d st. (
-        no_key-none d.objects,
-        anonymous-met s.cut g.taken d k (replicate count (pos 0)) (room_for [] (size_of k * count)) h st.denotes (equal-len k [] count (pos 0)) g.takes,
-        restored-denotes s.cut c d st.denotes back,
-      )))
+  steps-few entry why m w c h at g f back =
+      items-few s key k count (map whole f.items) writing c back.keeps.place (let l = length-map f.items whole in let few = f.taken.2 in omega arith)
+      (λ d st. let met = begun-met entry m h at g d st in (met.0, met.1, restored-denotes s.cut c d st.denotes back))
 
   -- ---- what is loose
 
@@ -184,11 +179,6 @@ module _ (S A : Type 0) (gives : S → Option A → S → Type 0) (whole : A →
       }
 
   -- ---- all together
-
-  steps-few : (entry : Option NewEntry) (why : Refusal) (m w c : Cut) (h at : ℕ) → IsBegun s.cut m key (Scalar k) count (size_of k * count) h at entry → (f : Fills gives whole m w k (h + at) count before after (Err why)) → IsRestored s.cut c
-      → IsStep s (record s { cut = c }) (asked.ConstructIt key k count (map whole f.items)) (Refused OutOfRange)
-  steps-few None why m w c h at g f back = few-alone why m w c h at g f back
-  steps-few (Some e) why m w c h at g f back = few-entry why m w c h at e g f back
 
   -- where it is filled an entry may lead to it, and where not all can be given back
   pub fills-ending : (entry : Option NewEntry) (filled : Result (Unit {0}) Refusal) (m w : Cut) (h at : ℕ) → IsBegun s.cut m key (Scalar k) count (size_of k * count) h at entry → Fills gives whole m w k (h + at) count before after filled

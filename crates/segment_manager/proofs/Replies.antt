@@ -111,12 +111,3 @@ number-answer k z whole bytes None r f v e h =
 number-answer k z whole bytes (Some x) r f v e h =
     ap (answer_of (λ x. Element k (whole x))) f
     ∙ ap (Element k) (h.1 ∙ ap (λ (bs : List ℕ). value_of k (little_number (size_of k) bs)) e ∙ (all_spell_one k z v).reads)
-
--- the same of a value with its kind
-pub scalar-answer : (k : ScalarKind) (z : ℤ) (bytes : List ℕ) (q : Option ScalarValue) (r : Result ScalarValue Refusal) → r ≡ ok_or q WrongKind → IsTrue (is_value k z) → bytes ≡ spelling k z → SpelledBy k bytes q
-    → scalar_answer r ≡ Element k z
-scalar-answer k z bytes None r f v e h =
-    absurd (false≢true (sym h ∙ ap (is_spelling k) e ∙ (all_spell_one k z v).is_one))
-scalar-answer k z bytes (Some x) r f v e h =
-    let number : value_of_scalar x ≡ z = h.2 ∙ ap (λ (bs : List ℕ). value_of k (little_number (size_of k) bs)) e ∙ (all_spell_one k z v).reads in
-    ap scalar_answer f ∙ (λ i. Element (h.1 i) (number i))

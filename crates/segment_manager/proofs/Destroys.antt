@@ -17,8 +17,8 @@ use Rattle.segment_manager.proofs.Steps.{by_no_change, by_step, lands, open-writ
 use Rattle.segment_manager.proofs.{Steps.with-found, Steps.with-not_found, Listed.seen-there, Listed.object-here}
 use Rattle.segment_manager.proofs.{Safely.Stepped, Safely.stepped, Calling.denotes-live, Calling.denotes-released}
 use Rattle.segment_manager.proofs.{Calling.object-live, EntryPlaces.all-at, EntryPlaces.at-handle, EntryPlaces.of-class}
-use Rattle.segment_manager.proofs.{ObjectLists.found-handle, ObjectLists.key-found, Removed.IsGone, Removed.IsLeft}
-use Rattle.segment_manager.proofs.{Removed.removed-denotes, Here.IsHere, HeldIndexes.denotes-index, Live.IsIn}
+use Rattle.segment_manager.proofs.{ObjectLists.found-handle, ObjectLists.key-found, Tabled.IsGone, Tabled.IsLeft}
+use Rattle.segment_manager.proofs.{Tabled.removed-denotes, Here.IsHere, HeldIndexes.denotes-index, Live.IsIn}
 use Rattle.segment_manager.proofs.{Ranks.all-ordered, Rewritten.with_value}
 use Rattle.seg_index.specs.declared.keys.{Key.Key, Lookup.Lookup}
 use Rattle.seg_types.specs.declared.kinds.Class.TheVariants as class

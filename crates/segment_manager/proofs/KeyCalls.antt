@@ -9,7 +9,7 @@ use Rattle.segment_manager.proofs.Common.{Absent, HasIndex, IsIndexOf, entry_cou
 use Rattle.segment_manager.proofs.Common.{Directory, has_key, live, object_at, Denotes, handle_at, is_object_at, Seeks}
 use Rattle.segment_manager.proofs.Common.{entries_of, table_of, Answers, IsSegment, State, StandsFor}
 use Rattle.segment_manager.proofs.Bridge.{IsEntryFor, IsNoEntryFor, lookup-absent, lookup-found}
-use Rattle.segment_manager.proofs.{Calling.denotes-live, Handles.handle-is-object, Handles.or-none}
+use Rattle.segment_manager.proofs.{Calling.denotes-live, OwnBlocks.handle-is-object, OwnBlocks.or-none}
 use Rattle.segment_manager.proofs.{HeldIndexes.denotes-index, ObjectLists.found-handle, Order.Rising, Order.live-rises}
 use Rattle.std.specs.Bool.{then_some}
 use Rattle.block_tags.specs.contracts.tile.Role.{the_type}

@@ -11,9 +11,6 @@ invariant_of-self c =
     (destroys-ptr _ _ c.self.view_is c.self.invariant c.remove_entered.new.heap c.args.handle c.in-Some.listed.index
     c.in-Some.listed.place c.requires.writing c.in-Some.ensures c.remove_entered.ensures).segment
 
-pub remove_anonymous-requires : goal.remove_anonymous-requires
-remove_anonymous-requires c = own-object _ _ c.self.view_is c.self.invariant c.args.handle c.requires.object
-
 pub invariant_of-self-in-None : goal.invariant_of-self-in-None
 invariant_of-self-in-None c =
     (destroys-anonymous _ _ c.self.view_is c.self.invariant c.remove_anonymous.new.heap c.args.handle c.requires.writing

@@ -1,5 +1,8 @@
 mod Common
 mod Denoted
+mod Destroys
+mod FilledCalls
+mod KeyCalls
 mod OwnBlocks
 mod Refusals
 mod Stored
@@ -35,11 +38,9 @@ mod Reserves
 mod FoundOrMade
 mod Filling
 mod Loose
-mod ItemCalls
 mod MadeValues
 mod NewContainers
 mod NewNumbers
-mod FilledCalls
 mod Heads
 mod Payloads
 mod Rows
@@ -76,7 +77,6 @@ mod NewTexts
 mod Whole
 mod Emptied
 mod Released
-mod Destroys
 mod Keeping
 mod KeptContainers
 mod StoredCalls
@@ -96,11 +96,7 @@ mod EntryPlaces
 mod KeyOrder
 mod HeldIndexes
 mod Bridge
-mod KeyCalls
 mod Locating
-mod FindCalls
-mod Tellings
-mod Listed
 pub mod Laws
 pub mod ElementLaws
 mod Resizes

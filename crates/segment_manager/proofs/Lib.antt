@@ -4,9 +4,11 @@ mod Destroys
 mod FilledCalls
 mod KeyCalls
 mod OwnBlocks
+mod Pieces
 mod Refusals
 mod Stored
 mod Tabled
+mod Taking
 mod Unchanged
 mod Words
 mod PairNumbers
@@ -27,10 +29,8 @@ mod ElementLists
 mod Kept
 mod Fresh
 mod Tables
-mod Made
 mod Entered
 mod Requests
-mod Taking
 mod NewKeys
 mod NewBlocks
 mod Constructed
@@ -42,11 +42,9 @@ mod MadeValues
 mod NewContainers
 mod NewNumbers
 mod Heads
-mod Payloads
 mod Rows
 mod Codes
 mod Standings
-mod Pieces
 mod Rewritten
 mod Exchanged
 mod Contained

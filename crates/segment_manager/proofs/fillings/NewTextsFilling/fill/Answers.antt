@@ -3,9 +3,6 @@ use Rattle.segment_manager.proofs.Common.{ℕ, List, map, Bor}
 use Rattle.segment_manager.proofs.NewTexts.{none-started, texts-made}
 use Rattle.segment_manager.proofs.fillings.NewTextsFilling.fill.Goals as goal
 
-pub assign-requires : goal.assign-requires
-assign-requires c = none-started c.args.heap.now c.new-vector.new.heap c.args.place c.new-vector.result.place c.new-vector.ensures.place c.new-vector.ensures.texts
-
 pub returns : goal.returns
 returns c =
     texts-made c.args.heap.now c.new-vector.new.heap c.assign.new.heap c.args.place c.new-vector.ensures.change c.new-vector.result.place (map (λ (text : Bor (List ℕ)). text.now) c.args.self.now.texts.now)

@@ -12,7 +12,7 @@ use Rattle.segment_manager.proofs.Common.{mul-le-mul_left, IsTrue, pos, take, na
 use Rattle.segment_manager.proofs.Common.{length-map, length-replicate, take_all, SamePlace, current, ObjectRole}
 use Rattle.segment_manager.proofs.Common.{Extent, handle, place, resized, IsAllocated, IsChanged, Scalar, ScalarKind}
 use Rattle.segment_manager.proofs.Common.{Anonymous, OutOfRange, ReadOnly, is_value, size_of, IsBegun}
-use Rattle.segment_manager.proofs.Common.{IsBegunAlone, IsBegunEntry, IsLoose, IsTakenKey, LeadsThere, Denotes, Numbers}
+use Rattle.segment_manager.proofs.Common.{IsLoose, IsTakenKey, LeadsThere, Denotes, Numbers}
 use Rattle.segment_manager.proofs.Common.{is_good_value, live, object_len, padded, with_object, IsMadeValue}
 use Rattle.segment_manager.proofs.Common.{class_of_index, entries_of, table_of, TakesItems, head_len, IsRestored}
 use Rattle.segment_manager.proofs.Common.{room_for, StandsFor, step, Plan, perform, has_room, live_of}

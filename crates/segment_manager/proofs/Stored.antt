@@ -8,9 +8,9 @@ use Rattle.segment_manager.proofs.Common.{NotFound, WrongKind, OutOfRange, is_va
 use Rattle.segment_manager.proofs.Common.{spelled, Numbers, Object, Directory, count_of, is_good_value, is_object}
 use Rattle.segment_manager.proofs.Common.{kind_of, object_at, padded, value_len, Denotes, IsValueAt, handle_at}
 use Rattle.segment_manager.proofs.Common.{StandsAt, Answers, State, MatchOption, slice_set, eq-eqb, false≢true}
-use Rattle.segment_manager.proofs.Common.{ltb-false, slice_get_past, ScalarValue, code_of, value_of_scalar, Literal}
+use Rattle.segment_manager.proofs.Common.{ltb-false, slice_get_past, code_of, Literal}
 use Rattle.segment_manager.proofs.Common.{value_of_literal, Mode, Answer, Element, Refused, Done, live, perform, Refuse}
-use Rattle.segment_manager.proofs.Common.{Reply, with, IsReplyOfKind, IsSegment, answer_of, scalar_answer, step_of_kind}
+use Rattle.segment_manager.proofs.Common.{Reply, with, IsReplyOfKind, IsSegment, answer_of, step_of_kind}
 use Rattle.segment_manager.proofs.Common.{effect, get, set as set_element, changed, Command, done_answer, ◌&&◌, nat_le}
 use Rattle.segment_manager.proofs.Common.{and_from, Cut}
 use Rattle.segment_manager.proofs.Common.{Memory, SameBut, ObjectRole, IsChanged, serves, BoolKind, literal_of}
@@ -29,7 +29,6 @@ use Rattle.segment_manager.specs.Standing.{element_at, place_at, place_in}
 use Rattle.std.specs.Option.{ok_or}
 use Rattle.byteorder.specs.Endian.{little_number}
 use Rattle.seg_types.specs.Kinds.{is_spelling, value_of}
-use Rattle.seg_types.specs.Values.{SpelledBy}
 use Rattle.seg_types.proofs.Laws.{all_spell_one}
 use Rattle.seg_types.specs.Commands as asked
 use Rattle.std.proofs.Common.{negsuc, set}

@@ -1,5 +1,5 @@
 -- An object in its block, as calls on a heap see it: what its head says, and its elements.
-use Rattle.std.specs.Prelude.{◌≡◌, ℕ, ◌+◌, ◌*◌, List, length, replicate, flat_map, IsTrue, Some, None, true, Result, Ok}
+use Rattle.std.specs.Prelude.{◌≡◌, ℕ, ◌+◌, ◌*◌, List, length, replicate, flat_map, IsTrue, Some, None, Result, Ok}
 use Rattle.std.specs.Prelude.{Err, if◌then◌else◌, nat_lt}
 use Rattle.raw_region.specs.Format.{current}
 use Rattle.raw_region.specs.Memory.{Memory, bytes_of, word_at, Has}

@@ -1,6 +1,6 @@
 -- The vector is made without a text, and then the texts are put there.
 use Rattle.segment_manager.proofs.Common.{ℕ, List, map, Bor}
-use Rattle.segment_manager.proofs.NewTexts.{none-started, texts-made}
+use Rattle.segment_manager.proofs.NewTexts.{texts-made}
 use Rattle.segment_manager.proofs.fillings.NewTextsFilling.fill.Goals as goal
 
 pub returns : goal.returns

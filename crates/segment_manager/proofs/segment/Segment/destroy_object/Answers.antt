@@ -1,5 +1,5 @@
 -- Its entry goes with it, if it has one.
-use Rattle.segment_manager.proofs.Destroys.{destroys-anonymous, destroys-ptr, own-entry, own-object}
+use Rattle.segment_manager.proofs.Destroys.{destroys-anonymous, destroys-ptr, own-entry}
 use Rattle.segment_manager.proofs.segment.Segment.destroy_object.Goals as goal
 
 pub remove_entered-requires : goal.remove_entered-requires

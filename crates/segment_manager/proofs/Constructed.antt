@@ -10,10 +10,10 @@ use Rattle.segment_manager.proofs.Common.{with_object, IsDenied, IsGiven, class_
 use Rattle.segment_manager.proofs.Common.{table_of, with_table_of, IsNewKeyOf, IsRequested, IsRestored, Plan, New}
 use Rattle.segment_manager.proofs.Common.{Request, bare, class_of, name_of, perform, with_entry, with_new_object}
 use Rattle.segment_manager.proofs.Requests.{entry-grows, entry-refused, entry-room}
-use Rattle.segment_manager.proofs.Added.{IsEntered, entered-denotes, entered-none, entered-some, grown_into}
+use Rattle.segment_manager.proofs.Tabled.{IsEntered, entered-denotes, entered-none, entered-some, grown_into}
 use Rattle.segment_manager.proofs.NewKeys.{key-class, key-has, key-name, key-own, key-seeks, object_of}
 use Rattle.segment_manager.proofs.{Common.with_value, Common.NoSpace, Bridge.entry-added, Bridge.lookup-absent}
-use Rattle.segment_manager.proofs.{Calling.denotes-live, Kept.denotes-kept, Made.IsMade, Made.taken-index}
+use Rattle.segment_manager.proofs.{Calling.denotes-live, Kept.denotes-kept, Taking.IsMade, Taking.taken-index}
 use Rattle.segment_manager.proofs.{Steps.perform-new, Steps.perform-no_space, Tables.same-table, Taking.growth-index}
 use Rattle.segment_manager.proofs.{HeldIndexes.denotes-index, Denoted.handles-length}
 use Rattle.best_fit.proofs.Laws.{AllByRecursion-insert}

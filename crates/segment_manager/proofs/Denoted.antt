@@ -1,4 +1,4 @@
--- What the bytes denote after one object is added, removed or changed.
+-- What the bytes denote after one object is added, removed or changed, also where its index is written too.
 use Rattle.segment_manager.proofs.Common.{◌≡◌, refl, sym, ap, subst, ◌∙◌, ℕ, suc, ◌+◌, ◌≤◌, ◌≢◌, Bool, ◌&&◌, List, []}
 use Rattle.segment_manager.proofs.Common.{◌∷◌, length, arith, IsTrue, nat_le, AllByRecursion, Memory, Cut, Same}
 use Rattle.segment_manager.proofs.Common.{bytes_of, Extent, LiveSet, handle, is_proper, LaysOut, SameBlock, Keeps}
@@ -6,14 +6,16 @@ use Rattle.segment_manager.proofs.Common.{Table, is_table, Anonymous, IsIndexAt,
 use Rattle.segment_manager.proofs.Common.{extents_of, value_extents, table_extents, is_object, is_index, rises}
 use Rattle.segment_manager.proofs.Common.{remove_object, with_object, with_changed, without_object, named_objects}
 use Rattle.segment_manager.proofs.Common.{unique_objects, by_name, by_kind, Denotes, IsObjectAt, IsHeader, handles}
+use Rattle.segment_manager.proofs.Common.{Same-part, flat_map, list_all, rises_from}
 use Rattle.segment_manager.proofs.Order.{Differs, IsFresh, inserted, live-rises, rising-insert, all_of-inserted}
 use Rattle.segment_manager.proofs.Live.{adding, removing, OfEach, of_each, IsFound, IsIn, live-put, live-without}
 use Rattle.segment_manager.proofs.Faces.{IsLike, SameIndex, replace-rises, anonymous-named, anonymous-unique}
 use Rattle.segment_manager.proofs.Faces.{ordered-with, ordered-without, ordered-changed, by_name-face, by_kind-face}
 use Rattle.segment_manager.proofs.ObjectLists.{all-put, all-remove, all-replace, list_all-put, list_all-remove}
 use Rattle.segment_manager.proofs.ObjectLists.{list_all-replace, stands_apart, put-rises, remove-rises}
-use Rattle.segment_manager.proofs.{Common.Same-part, Words.first, Words.second, Words.no_more, Frame.any_objects-same}
-use Rattle.segment_manager.proofs.{Frame.any_index-same, Frame.header-same}
+use Rattle.segment_manager.proofs.Words.{first, second, no_more}
+use Rattle.segment_manager.proofs.Frame.{any_objects-same, any_index-same, header-same}
+use Rattle.segment_manager.proofs.{Indexes.directory-less}
 use Rattle.block_tags.specs.declared.tile.Role.TheVariants.{Index}
 use Rattle.seg_types.specs.declared.kinds.Class.TheVariants.{Named, Unique}
 
@@ -148,4 +150,58 @@ denotes-replaced format old new d o o' h f like is_there l k at =
           (any_objects-same format (bytes_of old.bytes) (bytes_of new.bytes) (remove_object (handle o'.extent) d.objects)
           (list_all-remove (is_object format) (handle o'.extent) d.objects h.directory.objects) blocks.objects
           (all-remove (IsObjectAt (bytes_of old.bytes)) (handle o'.extent) d.objects h.objects));
+    }
+
+-- the header words round the two indexes stay
+pub record KeepsFront (m m' : Memory) : Type 0 where
+  pub front : Same m m' 0 24
+  pub zeros : Same m m' 80 128
+
+-- what the two indexes of a directory are, and the bytes that say so
+pub record HasIndexes (m : Memory) (d : Directory) : Type 0 where
+  pub named : IsTrue (is_index d.named (named_objects d) by_name)
+  pub unique : IsTrue (is_index d.unique (unique_objects d) by_kind)
+  pub named_at : IsIndexAt m 32 d.named (handles (named_objects d))
+  pub unique_at : IsIndexAt m 56 d.unique (handles (unique_objects d))
+
+-- One object more, of any class. The directory e is d, but for the tables of its indexes, which may have grown.
+pub denotes-put : (format : ℕ) (b b' : List ℕ) (d e : Directory) (o : Object) → Denotes format b d → e.size ≡ d.size → e.objects ≡ d.objects
+    → IsTrue (is_object format o) → LaysOut format b' (adding (live e) (extents_of o)) → KeepsFront (bytes_of b) (bytes_of b')
+    → AllByRecursion (SameBlock (bytes_of b) (bytes_of b')) (flat_map extents_of d.objects)
+    → HasIndexes (bytes_of b') (with_object e o) → IsObjectAt (bytes_of b') o → Denotes format b' (with_object e o)
+denotes-put format b b' d e o h s os is_there l k blocks i at =
+    let apart = (of_each (λ (y : Extent). o.extent.offset ≢ y.offset) e (fresh e o l.proper)).objects in
+    record {
+      directory = record {
+        proper = subst (λ (x : LiveSet). IsTrue (is_proper x)) (sym (live-put e o l.proper)) l.proper;
+        objects = list_all-put (is_object format) o e.objects is_there (subst (λ ps. IsTrue (list_all (is_object format) ps)) (sym os) h.directory.objects);
+        by_offset = put-rises 0 o e.objects (omega arith) (stands_apart o e.objects apart) (subst (λ ps. IsTrue (rises_from 0 ps)) (sym os) h.directory.by_offset);
+        named = i.named;
+        unique = i.unique;
+      };
+      header = subst (IsHeader format (bytes_of b')) (sym s) (header-same format (bytes_of b) (bytes_of b') d.size k.front k.zeros h.header);
+      heap = subst (LaysOut format b') (sym (live-put e o l.proper)) l;
+      named = i.named_at;
+      unique = i.unique_at;
+      objects = all-put (IsObjectAt (bytes_of b')) o e.objects at
+          (subst (AllByRecursion (IsObjectAt (bytes_of b'))) (sym os) (any_objects-same format (bytes_of b) (bytes_of b') d.objects h.directory.objects blocks h.objects));
+    }
+
+-- One object less, of any class: the indexes are written as those of the others.
+pub denotes-taken : (format : ℕ) (b b' : List ℕ) (d : Directory) (o : Object) → Denotes format b d → IsIn d o
+    → LaysOut format b' (removing (live d) (extents_of o)) → KeepsFront (bytes_of b) (bytes_of b')
+    → AllByRecursion (SameBlock (bytes_of b) (bytes_of b')) (flat_map extents_of (remove_object (handle o.extent) d.objects))
+    → IsIndexAt (bytes_of b') 32 d.named (handles (named_objects (without_object d o))) → IsIndexAt (bytes_of b') 56 d.unique (handles (unique_objects (without_object d o)))
+    → Denotes format b' (without_object d o)
+denotes-taken format b b' d o h f l k blocks n u =
+    let l' : LaysOut format b' (live (without_object d o)) = subst (LaysOut format b') (sym (live-without d o f h.directory.proper)) l in
+    record {
+      directory = directory-less format d o h.directory f l'.proper;
+      header = header-same format (bytes_of b) (bytes_of b') d.size k.front k.zeros h.header;
+      heap = l';
+      named = n;
+      unique = u;
+      objects = any_objects-same format (bytes_of b) (bytes_of b') (remove_object (handle o.extent) d.objects)
+          (list_all-remove (is_object format) (handle o.extent) d.objects h.directory.objects) blocks
+          (all-remove (IsObjectAt (bytes_of b)) (handle o.extent) d.objects h.objects);
     }

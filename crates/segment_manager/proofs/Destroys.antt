@@ -1,30 +1,119 @@
--- The calls that destroy objects, as the code makes them.
-use Rattle.segment_manager.specs.Listed.{IsEntryAt}
-use Rattle.segment_manager.specs.Destroyed.{HoldsEntry, RemovesAnonymous, RemovesEntry}
-use Rattle.segment_manager.proofs.Common.{◌≡◌, refl, sym, ap, subst, ◌∙◌, ℕ, ◌<◌, true, false, ◌==◌, Some, None, Option}
-use Rattle.segment_manager.proofs.Common.{List, [], ◌∷◌, arith, remove, slice_get, same_Some, slice_get_within, Cut}
-use Rattle.segment_manager.proofs.Common.{bytes_of, current, SamePlace-trans, handle, IsReleased, LaysOut, is_live_in}
-use Rattle.segment_manager.proofs.Common.{live_of, Table, lay_out_one, Class, NotFound, class_code, Index, Absent}
-use Rattle.segment_manager.proofs.Common.{Found, KeepsRest, beside_table, HasIndex, IsIndexOf, entry_count, place_of}
-use Rattle.segment_manager.proofs.Common.{IsPlace, Refused, Truth, Denotes, Becomes, Empties, HoldsObject, emptied}
-use Rattle.segment_manager.proofs.Common.{Object, Directory, is_class, object_at, without_object, is_object_at, Seeks}
-use Rattle.segment_manager.proofs.Common.{class_of_index, entries_of, objects_of, order_of, table_of, HasEntry}
-use Rattle.segment_manager.proofs.Common.{IsAnonymousAt, Plan, Reply, Answers, IsSegment, IsStep, StandsFor, State}
-use Rattle.segment_manager.proofs.Common.{changed, is_read_only, step}
+-- The object of a handle and its own entry, and what it is to destroy an object.
+use Rattle.segment_manager.proofs.Common.{◌≡◌, refl, sym, ap, subst, ◌∙◌, ℕ, true, false, ◌==◌, Some, None, Option}
+use Rattle.segment_manager.proofs.Common.{List, is_some, none-some, bytes_of, current, handle, Class, class_code}
+use Rattle.segment_manager.proofs.Common.{code_of, Index, Absent, IsPlace, Head, Object, Directory, is_class, kind_of}
+use Rattle.segment_manager.proofs.Common.{object_at, handle_at, is_object_at, HasEntries, HasEntry, IsAnonymousAt}
+use Rattle.segment_manager.proofs.Common.{Answers, IsSegment, State, StandsFor, HasObject, IsHeadOf, StandsAt, ◌<◌, []}
+use Rattle.segment_manager.proofs.Common.{◌∷◌, arith, remove, slice_get, same_Some, slice_get_within, Cut}
+use Rattle.segment_manager.proofs.Common.{SamePlace-trans, IsReleased, LaysOut, is_live_in, live_of, Table, lay_out_one}
+use Rattle.segment_manager.proofs.Common.{NotFound, Found, KeepsRest, beside_table, HasIndex, IsIndexOf, entry_count}
+use Rattle.segment_manager.proofs.Common.{place_of, Refused, Truth, Denotes, Becomes, Empties, HoldsObject, emptied}
+use Rattle.segment_manager.proofs.Common.{without_object, Seeks, class_of_index, entries_of, objects_of, order_of}
+use Rattle.segment_manager.proofs.Common.{table_of, Plan, Reply, IsStep, changed, is_read_only, step}
+use Rattle.segment_manager.proofs.Bridge.{lookup-absent, own-kind, own-name, IsEntryFor, entry-removed, in-handles}
+use Rattle.segment_manager.proofs.Here.{IsHere, IsReadAt, has-object, here}
+use Rattle.segment_manager.proofs.KeyCalls.{ForIndex, handle-answers, of-directory}
 use Rattle.segment_manager.proofs.Emptied.{changed-entries, changed-in, changed-others, emptied-is}
-use Rattle.segment_manager.proofs.Bridge.{IsEntryFor, entry-removed, in-handles, lookup-absent, lookup-found}
 use Rattle.segment_manager.proofs.Steps.{by_no_change, by_step, lands, open-writing, step-refuse, step-reply}
-use Rattle.segment_manager.proofs.{Steps.with-found, Steps.with-not_found, Listed.seen-there, Listed.object-here}
-use Rattle.segment_manager.proofs.{Safely.Stepped, Safely.stepped, Calling.denotes-live, Calling.denotes-released}
-use Rattle.segment_manager.proofs.{Calling.object-live, EntryPlaces.all-at, EntryPlaces.at-handle, EntryPlaces.of-class}
-use Rattle.segment_manager.proofs.{ObjectLists.found-handle, ObjectLists.key-found, Removed.IsGone, Removed.IsLeft}
-use Rattle.segment_manager.proofs.{Removed.removed-denotes, Here.IsHere, HeldIndexes.denotes-index, Live.IsIn}
-use Rattle.segment_manager.proofs.{Ranks.all-ordered, Rewritten.with_value}
-use Rattle.seg_index.specs.declared.keys.{Key.Key, Lookup.Lookup}
+use Rattle.segment_manager.proofs.Calling.{denotes-live, denotes-released, object-live}
+use Rattle.segment_manager.proofs.EntryPlaces.{all-at, at-handle, of-class}
+use Rattle.segment_manager.proofs.Tabled.{IsGone, IsLeft, removed-denotes}
+use Rattle.segment_manager.proofs.{Bridge.lookup-found, Steps.with-found, Steps.with-not_found, Safely.Stepped}
+use Rattle.segment_manager.proofs.{Safely.stepped, ObjectLists.found-handle, ObjectLists.key-found}
+use Rattle.segment_manager.proofs.{HeldIndexes.denotes-index, Live.IsIn, Ranks.all-ordered, Rewritten.with_value}
 use Rattle.seg_types.specs.declared.kinds.Class.TheVariants as class
 use Rattle.seg_types.specs.Names as names
 use Rattle.seg_types.specs.Commands as asked
 use Rattle.seg_index.specs.declared.index.Index.TheVariants as index
+use Rattle.seg_index.specs.declared.keys.Key.{Key}
+use Rattle.seg_index.specs.declared.keys.Key.TheVariants as entry
+use Rattle.segment_manager.specs.Listed.{IsEntryAt}
+use Rattle.segment_manager.specs.Destroyed.{HoldsEntry, RemovesAnonymous, RemovesEntry}
+use Rattle.seg_index.specs.declared.keys.Lookup.{Lookup}
+
+-- ---- the object of a handle
+
+-- the handle means itself
+itself : (s : State) (h : ℕ) → Answers s (λ d. is_object_at d h) true → Answers s (λ d. handle_at d (names.ByHandle h)) (Some h)
+itself s h a = handle-answers s h true a
+
+pub object-here : (s : State) (h : ℕ) → Answers s (λ d. is_object_at d h) true → (d : Directory) → StandsFor s.cut.bytes d → IsHere s.cut.bytes d (names.ByHandle h) h
+object-here s h a d k = here s.cut.bytes d (names.ByHandle h) h k.denotes ((itself s h a).answers d k)
+
+-- as the view before the call names the segment
+pub seen-there : (s t : State) (view : s ≡ t) (h : ℕ) → Answers t (λ d. is_object_at d h) true → Answers s (λ d. is_object_at d h) true
+seen-there s t view h = subst (λ (u : State). Answers u (λ d. is_object_at d h) true) (sym view)
+
+pub has-own_object : (s t : State) (view : s ≡ t) (h : ℕ) → IsSegment s.cut.bytes → Answers t (λ d. is_object_at d h) true → HasObject s.cut.bytes h
+has-own_object s t view h i a = has-object s (names.ByHandle h) h i (itself s h (seen-there s t view h a))
+
+none-if : (r : Option Object) → false ≡ is_some r → r ≡ None
+none-if None e = refl
+none-if (Some o) e = absurd (cc)
+
+-- or no object has it
+pub no-object : (s : State) (h : ℕ) → Answers s (λ d. is_object_at d h) false → (d : Directory) → StandsFor s.cut.bytes d → object_at d (names.ByHandle h) ≡ None
+no-object s h a d k = none-if (object_at d (names.ByHandle h)) (a.answers d k)
+
+-- ---- what its head says of its entry
+
+own-class : (c : Class) (o : Object) → o.class ≡ c → (class_code c == class_code c) ≡ true → is_class c o ≡ true
+own-class c o e f = ap (λ b. class_code c == class_code b) e ∙ f
+
+by-own_handle : (d : Directory) (h : ℕ) (o : Object) → h ≡ handle o.extent → object_at d (names.ByHandle h) ≡ Some o → object_at d (names.ByHandle (handle o.extent)) ≡ Some o
+by-own_handle d h o e f = subst (λ g. object_at d (names.ByHandle g) ≡ Some o) e f
+
+-- the entry is looked up by this name
+abbrev pub IsNamed : Key → List ℕ → Type 0
+IsNamed (entry.Name bytes) name = bytes.now ≡ name
+IsNamed (entry.Code n) name = ⊥
+
+module _ (s t : State) (view : s ≡ t) (h : ℕ) (head : Head) (a : Answers t (λ d. is_object_at d h) true) (r : IsReadAt s.cut.bytes h head) where
+  here-in : (d : Directory) → StandsFor s.cut.bytes d → IsHere s.cut.bytes d (names.ByHandle h) h
+  here-in = object-here s h (seen-there s t view h a)
+
+  -- it has no key
+  pub listed-none : head.class ≡ class.Anonymous → IsAnonymousAt t h
+  listed-none e =
+      subst (λ (u : State). IsAnonymousAt u h) view (λ d k.
+      let o : IsHere s.cut.bytes d (names.ByHandle h) h = here-in d k in
+      (o.object, o.is, sym (r o.object o.stands).class ∙ e))
+
+  -- it has a name
+  pub listed-name : (e : Key) → head.class ≡ class.Named → ((o : Object) → StandsAt s.cut.bytes h o → IsNamed e o.name) → HasEntries t index.Named e h
+  listed-name (entry.Name bytes) e n =
+      subst (λ (u : State). HasEntries u index.Named (entry.Name bytes) h) view (λ d k.
+      let o : IsHere s.cut.bytes d (names.ByHandle h) h = here-in d k in
+      record {
+        object = o.object;
+        is = o.is;
+        key = names.ByName o.object.name;
+        seeks = n o.object o.stands;
+        found = own-name current d o.object k.denotes.directory (by-own_handle d h o.object o.stands.at o.is) (own-class class.Named o.object (sym (r o.object o.stands).class ∙ e) refl);
+      })
+  listed-name (entry.Code n) e m =
+      subst (λ (u : State). HasEntries u index.Named (entry.Code n) h) view (λ d k. absurd (m (here-in d k).object (here-in d k).stands))
+
+  -- it is the only one of its kind
+  pub listed-kind : (n : ℕ) → head.class ≡ class.Unique → n ≡ code_of head.kind → HasEntries t index.Unique (entry.Code n) h
+  listed-kind n e f =
+      subst (λ (u : State). HasEntries u index.Unique (entry.Code n) h) view (λ d k.
+      let o : IsHere s.cut.bytes d (names.ByHandle h) h = here-in d k in
+      let said : IsHeadOf o.object head = r o.object o.stands in
+      record {
+        object = o.object;
+        is = o.is;
+        key = names.ByKind (kind_of o.object.value);
+        seeks = f ∙ ap code_of said.kind;
+        found = own-kind current d o.object k.denotes.directory (by-own_handle d h o.object o.stands.at o.is) (own-class class.Unique o.object (sym said.class ∙ e) refl);
+      })
+
+-- an entry that an object has is found
+pub listed-found : (s t : State) (view : s ≡ t) (i : Index) (e : Key) (h at : ℕ) → ForIndex s.cut i (λ hs. IsPlace (bytes_of s.cut.bytes) e hs (Absent at)) → HasEntries t i e h → IsAnonymousAt t h
+listed-found s t view i e h at f each =
+    subst (λ (u : State). IsAnonymousAt u h) view (λ d k.
+    let x : HasEntry i e d h = subst (λ (u : State). HasEntries u i e h) (sym view) each d k in
+    absurd (none-some x.object (sym (lookup-absent i s.cut d e x.key k.denotes x.seeks at (of-directory s i (λ hs. IsPlace (bytes_of s.cut.bytes) e hs (Absent at)) d k f)).none ∙ x.found)))
 
 -- ---- an object with an entry
 

@@ -9,7 +9,7 @@ use Rattle.std.proofs.lemmas.List.{map_push}
 use Rattle.segment_manager.specs.Begun.{IsItemWritten}
 use Rattle.seg_vector.proofs.Bytes.{Has-append}
 use Rattle.segment_manager.proofs.{Blocks.spelled-length, Blocks.spelling-length, NewBlocks.changed-trans}
-use Rattle.segment_manager.proofs.{Payloads.bytes-stay, Words.AllByRecursion-behind, Words.first, Words.second}
+use Rattle.segment_manager.proofs.{Pieces.bytes-stay, Words.AllByRecursion-behind, Words.first, Words.second}
 
 -- ---- calls, and then one more
 

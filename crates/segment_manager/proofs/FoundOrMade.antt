@@ -6,7 +6,7 @@ use Rattle.segment_manager.proofs.Common.{handle_at, pair_answer, Plan, Refuse, 
 use Rattle.segment_manager.proofs.Common.{pair_of_kind, Answers, IsStep, StandsFor, State, found, is_read_only, step}
 use Rattle.segment_manager.proofs.Constructed.{IsNewObject, IsNoObject}
 use Rattle.segment_manager.proofs.Steps.{by_no_change, by_step, lands, open-writing, step-plan, step-refuse}
-use Rattle.segment_manager.proofs.{Common.Command, Common.effect, Here.IsHere, Here.here, FindCalls.kind-step}
+use Rattle.segment_manager.proofs.{Common.Command, Common.effect, Here.IsHere, Here.here, KeyCalls.kind-step}
 use Rattle.seg_types.specs.Commands as asked
 
 -- ---- an object that is constructed

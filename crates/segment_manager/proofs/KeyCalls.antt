@@ -1,5 +1,4 @@
--- The calls that find objects by their keys: what a look-up in an index, and a handle from outside, come to for each
--- directory that the bytes stand for.
+-- What calls that look a key up find, and what they say of it, for each directory that the bytes stand for.
 use Rattle.segment_manager.proofs.Common.{◌≡◌, refl, sym, ap, ◌∙◌, ℕ, ◌+◌, ◌<◌, Bool, true, false, ◌&&◌, ◌||◌, ◌==◌}
 use Rattle.segment_manager.proofs.Common.{Option, Some, None, List, [], ◌∷◌, arith, cond, find, is_some, option_map}
 use Rattle.segment_manager.proofs.Common.{slice_get, list_any, eqb-true, ne_eqb, none-some, same_Some, slice_get_within}
@@ -7,14 +6,25 @@ use Rattle.segment_manager.proofs.Common.{current, Cut, bytes_of, Role, ObjectRo
 use Rattle.segment_manager.proofs.Common.{is_live_in, live_of, Table, same_role, Key, ByHandle, Index, Entry, Found}
 use Rattle.segment_manager.proofs.Common.{Absent, HasIndex, IsIndexOf, entry_count, place_of, IsPlace, Object}
 use Rattle.segment_manager.proofs.Common.{Directory, has_key, live, object_at, Denotes, handle_at, is_object_at, Seeks}
-use Rattle.segment_manager.proofs.Common.{entries_of, table_of, Answers, IsSegment, State, StandsFor}
-use Rattle.segment_manager.proofs.Bridge.{IsEntryFor, IsNoEntryFor, lookup-absent, lookup-found}
-use Rattle.segment_manager.proofs.{Calling.denotes-live, Handles.handle-is-object, Handles.or-none}
+use Rattle.segment_manager.proofs.Common.{entries_of, table_of, Answers, IsSegment, State, StandsFor, subst, length}
+use Rattle.segment_manager.proofs.Common.{if◌then◌else◌, Kind, WrongKind, same_kind, Named, Unique, Answer, Number}
+use Rattle.segment_manager.proofs.Common.{kind_of, named_objects, unique_objects, IsBelow, objects_of, Plan, Refuse}
+use Rattle.segment_manager.proofs.Common.{Reply, StandsAt, IsReply, found, Mode, Command, step, Err, Ok, Refusal}
+use Rattle.segment_manager.proofs.Common.{Result, count_of, pair_answer, pair_of_kind, effect, NotFound, Instance}
+use Rattle.segment_manager.proofs.Common.{IsInstance, IsMissing, SaysAt, SaysOf, HasObject}
+use Rattle.segment_manager.proofs.Bridge.{IsEntryFor, IsNoEntryFor, lookup-absent, lookup-found, in-handles}
+use Rattle.segment_manager.proofs.Steps.{open-reading, IsOpenFor, step-refuse, step-reply}
+use Rattle.segment_manager.proofs.Here.{IsHere, here, nothing-here, standing}
+use Rattle.segment_manager.proofs.EntryPlaces as places
+use Rattle.segment_manager.proofs.{Calling.denotes-live, OwnBlocks.handle-is-object, OwnBlocks.or-none}
 use Rattle.segment_manager.proofs.{HeldIndexes.denotes-index, ObjectLists.found-handle, Order.Rising, Order.live-rises}
+use Rattle.segment_manager.proofs.{Denoted.handles-length, EntryPlaces.all-at, EntryPlaces.stands-at}
 use Rattle.std.specs.Bool.{then_some}
 use Rattle.block_tags.specs.contracts.tile.Role.{the_type}
 use denote.Enum.Bare.{sameb}
 use Rattle.seg_types.specs.Names.{NoKey}
+use Rattle.segment_manager.specs.Answers.{Absent}
+use Rattle.seg_types.specs.Commands as asked
 
 -- ---- a handle from outside
 
@@ -142,3 +152,118 @@ no-key (o ∷ os) = no-key os
 -- no object is found without a key
 pub anonymous-answers : (s : State) → Answers s (λ d. handle_at d NoKey) None
 anonymous-answers s = record { answers = λ d k. sym (ap (option_map (λ (o : Object). handle o.extent)) (no-key d.objects)) }
+
+-- ---- an object of a kind
+
+-- what the plan is for what is found
+abbrev finds : Directory → Kind → Option Object → Plan
+finds d kind r = elim r as (λ _. Plan) [ None ↦ Reply Absent d | Some o ↦ if same_kind kind (kind_of o.value) then Reply (found o) d else Refuse WrongKind ]
+
+-- nothing has the key
+pub find-absent : (s : State) (key : Key) (kind : Kind) → Answers s (λ d. handle_at d key) None → IsReply s (asked.Find key kind) Absent
+find-absent s key kind a = record {
+  answers = λ d k.
+      sym (ap (λ (r : Answer × Directory). r.0)
+      (step-reply s.mode d (asked.Find key kind) Absent d (open-reading s.mode (asked.Find key kind) refl) (ap (finds d kind) (nothing-here d key (a.answers d k)))));
+}
+
+-- A command that asks of which kind an object is: it is found, or of another kind.
+kind-if : (mode : Mode) (d : Directory) (c : Command) (o : Object) (b : Bool) → IsOpenFor mode c → effect d c ≡ (if b then Reply (found o) d else Refuse WrongKind)
+    → step mode d c ≡ (pair_answer (if b then Ok (handle o.extent, count_of o.value) else Err WrongKind), d)
+kind-if mode d c o true may e = step-reply mode d c (found o) d may e
+kind-if mode d c o false may e = step-refuse mode d c WrongKind may e
+
+pub kind-step : (mode : Mode) (d : Directory) (c : Command) (o : Object) (kind : Kind) → IsOpenFor mode c
+    → effect d c ≡ (if same_kind kind (kind_of o.value) then Reply (found o) d else Refuse WrongKind) → step mode d c ≡ (pair_answer (pair_of_kind o kind), d)
+kind-step mode d c o kind may e = kind-if mode d c o (same_kind kind (kind_of o.value)) may e
+
+-- an object has it, of the kind or of another
+pub find-there : (s t : State) (view : s ≡ t) (key : Key) (kind : Kind) (h : ℕ) (r : Result (ℕ × ℕ) Refusal) → Answers t (λ d. handle_at d key) (Some h)
+    → ((o : Object) → StandsAt s.cut.bytes h o → r ≡ pair_of_kind o kind) → IsReply t (asked.Find key kind) (pair_answer r)
+find-there s t view key kind h r a each = record {
+  answers = λ d k.
+      let o : IsHere t.cut.bytes d key h = here t.cut.bytes d key h k.denotes (a.answers d k) in
+      ap pair_answer (each o.object (subst (λ (u : State). StandsAt u.cut.bytes h o.object) (sym view) o.stands))
+      ∙ sym (ap (λ (q : Answer × Directory). q.0) (kind-step t.mode d (asked.Find key kind) o.object kind (open-reading t.mode (asked.Find key kind) refl) (ap (finds d kind) o.is)));
+}
+
+-- ---- the entries of the indexes
+
+-- how many an index has
+pub index-counts : (s : State) (i : Index) (n : ℕ) → ForIndex s.cut i (λ hs. n ≡ length hs) → (d : Directory) → StandsFor s.cut.bytes d → n ≡ length (objects_of i d)
+index-counts s i n f d k = of-directory s i (λ hs. n ≡ length hs) d k f ∙ handles-length (objects_of i d)
+
+-- the command that asks for it
+abbrev num_command : Index → Command
+num_command Named = asked.NumNamed
+num_command Unique = asked.NumUnique
+
+num-step : (mode : Mode) (i : Index) (d : Directory) → step mode d (num_command i) ≡ (Number (length (objects_of i d)), d)
+num-step mode Named d = step-reply mode d asked.NumNamed (Number (length (objects_of Named d))) d (open-reading mode asked.NumNamed refl) refl
+num-step mode Unique d = step-reply mode d asked.NumUnique (Number (length (objects_of Unique d))) d (open-reading mode asked.NumUnique refl) refl
+
+pub num-replies : (s : State) (i : Index) (n : ℕ) → ForIndex s.cut i (λ hs. n ≡ length hs) → IsReply s (num_command i) (Number n)
+num-replies s i n f = record { answers = λ d k. ap Number (index-counts s i n f d k) ∙ sym (ap (λ (r : Answer × Directory). r.0) (num-step s.mode i d)) }
+
+-- a number below their count is a place
+pub below-count : (s : State) (i : Index) (n : ℕ) → IsSegment s.cut.bytes → IsBelow s (λ d. length (objects_of i d)) n → n < entry_count s.cut (place_of i)
+below-count s i n g b =
+    let stands : IsIndexOf s.cut (place_of i) (table_of i g.0) (entries_of i g.0) = denotes-index i s.cut g.0 g.1.denotes in
+    omega (arith, b.below g.0 g.1, stands.stands.count, handles-length (objects_of i g.0))
+
+-- and what stands there is an entry of the directory
+pub at-answers : (s : State) (i : Index) (n h : ℕ) → ForIndex s.cut i (λ hs. slice_get hs n ≡ Some h) → Answers s (λ d. slice_get (entries_of i d) n) (Some h)
+at-answers s i n h f = record { answers = λ d k. sym (of-directory s i (λ hs. slice_get hs n ≡ Some h) d k f) }
+
+-- ---- an index below that number
+
+below-number : (s : State) (i : Index) (n at : ℕ) → IsReply s (num_command i) (Number n) → at < n → IsBelow s (λ d. length (objects_of i d)) at
+below-number s i n at h l = record {
+  below = λ d st.
+      let e : Number n ≡ Number (length (objects_of i d)) = h.answers d st ∙ ap (λ (r : Answer × Directory). r.0) (num-step s.mode i d) in
+      let same : n ≡ length (objects_of i d) = cc in subst (λ m. at < m) same l;
+}
+
+pub named-below : (s : State) (n i : ℕ) → IsReply s asked.NumNamed (Number n) → i < n → IsBelow s (λ d. length (named_objects d)) i
+named-below s n i h l = below-number s Named n i h l
+
+pub unique-below : (s : State) (n i : ℕ) → IsReply s asked.NumUnique (Number n) → i < n → IsBelow s (λ d. length (unique_objects d)) i
+unique-below s n i h l = below-number s Unique n i h l
+
+-- the object at a place of an index, in its block
+pub record IsEntered (s : State) (d : Directory) (i : Index) (n h : ℕ) : Type 0 where
+  pub object : Object
+  pub is : slice_get (objects_of i d) n ≡ Some object
+  pub stands : StandsAt s.cut.bytes h object
+
+pub entered : (s : State) (i : Index) (n h : ℕ) → ForIndex s.cut i (λ hs. slice_get hs n ≡ Some h) → (d : Directory) → StandsFor s.cut.bytes d → IsEntered s d i n h
+entered s i n h f d k =
+    let at : places.StandsAt (objects_of i d) n h = stands-at (objects_of i d) n h (of-directory s i (λ hs. slice_get hs n ≡ Some h) d k f) in
+    let o = at.object in
+    let found : object_at d (ByHandle (handle o.extent)) ≡ Some o =
+    all-at (λ (p : Object). object_at d (ByHandle (handle p.extent)) ≡ Some p) (objects_of i d) n o (in-handles current i d k.denotes.directory) at.is in
+    record {
+      object = o;
+      is = at.is;
+      stands = subst (λ x. StandsAt s.cut.bytes x o) (sym at.handle) (standing s.cut.bytes d (ByHandle (handle o.extent)) o k.denotes found);
+    }
+
+-- some object stands there
+pub entered-object : (s : State) (i : Index) (n h : ℕ) → IsSegment s.cut.bytes → ForIndex s.cut i (λ hs. slice_get hs n ≡ Some h) → HasObject s.cut.bytes h
+entered-object s i n h g f = let o : IsEntered s g.0 i n h = entered s i n h f g.0 g.1 in (o.object, o.stands)
+
+-- what was read is said of it
+pub entered-says : (s : State) (i : Index) (n h : ℕ) (said : Instance) → ForIndex s.cut i (λ hs. slice_get hs n ≡ Some h) → ((o : Object) → StandsAt s.cut.bytes h o → IsInstance o said)
+    → SaysAt s (objects_of i) n said
+entered-says s i n h said f each = record {
+  says = λ d k. let o : IsEntered s d i n h = entered s i n h f d k in (o.object, o.is, each o.object o.stands);
+}
+
+-- the same of the object of a key
+pub key-says : (s : State) (key : Key) (h : ℕ) (said : Instance) → Answers s (λ d. handle_at d key) (Some h) → ((o : Object) → StandsAt s.cut.bytes h o → IsInstance o said) → SaysOf s key said
+key-says s key h said a each = record {
+  says = λ d k. let o : IsHere s.cut.bytes d key h = here s.cut.bytes d key h k.denotes (a.answers d k) in (o.object, o.is, each o.object o.stands);
+}
+
+pub key-missing : (s : State) (key : Key) → Answers s (λ d. handle_at d key) None → IsMissing s key NotFound
+key-missing s key a = record { is = refl; missing = λ d k. nothing-here d key (a.answers d k) }

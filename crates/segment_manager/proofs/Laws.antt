@@ -33,7 +33,7 @@ pub use Rattle.segment_manager.proofs.Locating.{same-object, step-by_key, step-s
 -- a command that only reads leaves the directory
 pub use Rattle.segment_manager.proofs.Unchanged.{step-reads}
 -- an index that is less than the number that was answered is below
-pub use Rattle.segment_manager.proofs.FindCalls.{named-below, unique-below}
+pub use Rattle.segment_manager.proofs.KeyCalls.{named-below, unique-below}
 -- the same of a call that answers less than the machine
 pub use Rattle.segment_manager.proofs.TextMoves.{of_kind-leads_on}
 -- what bytes denote by an older format, where the version, the tags and the free tree are made those of the current one

@@ -6,7 +6,7 @@ use Rattle.segment_manager.proofs.Common.{changed-room, lay_out_one, Kind, Class
 use Rattle.segment_manager.proofs.Common.{NewEntry, IsBegun, IsHeaded, IsLoose, IsLooseAlone, IsLooseEntry, IsReadyFor}
 use Rattle.segment_manager.proofs.Common.{IsWanted, class_of_index, IsRestored, room_for, Role, IndexRole, IsGrowth}
 use Rattle.segment_manager.proofs.Taking.{growth-held, ready, requested-aligned, restored-taken, written-taken}
-use Rattle.segment_manager.proofs.{Common.grown_bytes, Payloads.changed-heap}
+use Rattle.segment_manager.proofs.{Common.grown_bytes, Pieces.changed-heap}
 use Rattle.best_fit.proofs.Laws.{taken-back}
 
 -- ---- begun: the value has room behind the head

@@ -14,7 +14,8 @@ use Rattle.segment_manager.proofs.Common.{IsHeadAt, room_for, IsAlone, live-spac
 use Rattle.raw_region.proofs.Laws.{SameBut-wider}
 use Rattle.best_fit.specs.Fit.{insert}
 use Rattle.segment_manager.proofs.{Exchanged.all-but-beside, Exchanged.put-first, Frame.padded_name-length}
-use Rattle.segment_manager.proofs.{Made.IsTaken, Made.requested-taken, Made.taken-live, NewBlocks.allocated-serves}
+use Rattle.segment_manager.proofs.{Taking.IsTaken, Taking.requested-taken, Taking.taken-live}
+use Rattle.segment_manager.proofs.{NewBlocks.allocated-serves}
 use Rattle.segment_manager.proofs.{NewBlocks.changed-trans, Taking.written-taken, Words.second, Words.no_more}
 use Rattle.segment_manager.proofs.Order.{IsFresh, Rising, all_of-insert, inserted, live-rises, resized-fresh}
 use Rattle.segment_manager.proofs.Order.{rising-insert}

@@ -13,9 +13,9 @@ use Rattle.segment_manager.proofs.Common.{is_good_value, is_object, kind_of, liv
 use Rattle.segment_manager.proofs.Common.{value_extents, value_len, with_object, IsDenied, IsGiven, IsMadeValue}
 use Rattle.segment_manager.proofs.Common.{IsNoValue, class_of_index, entries_of, table_of, head_len, IsNewKeyOf}
 use Rattle.segment_manager.proofs.Common.{IsRestored, Plan, bare, with_value, room_for, IsSegment, StandsFor}
-use Rattle.segment_manager.proofs.Made.{IsMade, IsTaken, taken-growth, taken-index}
+use Rattle.segment_manager.proofs.Taking.{IsMade, IsTaken, taken-growth, taken-index, growth-index, requested-aligned}
+use Rattle.segment_manager.proofs.Taking.{restored-taken}
 use Rattle.segment_manager.proofs.MadeValues.{empty-taken, made-object, made-taken, placed-next}
-use Rattle.segment_manager.proofs.Taking.{growth-index, requested-aligned, restored-taken}
 use Rattle.segment_manager.proofs.Constructed.{IsNewObject, IsNoObject, content-denied, content-entered, content-none}
 use Rattle.segment_manager.proofs.{Codes.known-kind, Bridge.lookup-absent, Bridge.lookup-found, Calling.denotes-live}
 use Rattle.segment_manager.proofs.{Denoted.denotes-with, HeldIndexes.denotes-index, KeyCalls.segment-index, Live.adding}

@@ -1,6 +1,7 @@
 -- How an object comes to be whose numbers come one by one: it is begun, it is filled, and then it gets its entry or is
 -- given back.
-use Rattle.std.specs.Prelude.{◌≡◌, ℕ, ◌<◌, ◌*◌, ◌+◌, ◌%◌, ◌≤◌, ◌⊎◌, ⊤, ℤ, Bool, Option, Some, None, Result, Ok, Err, MatchBool, MatchResult, List, [], insert, length, map, IsTrue}
+use Rattle.std.specs.Prelude.{◌≡◌, ℕ, ◌<◌, ◌*◌, ◌+◌, ◌%◌, ◌≤◌, ◌⊎◌, ⊤, ℤ, Option, Some, None, Result, Ok, Err}
+use Rattle.std.specs.Prelude.{MatchResult, List, [], insert, length, map, IsTrue}
 use Rattle.std.specs.List.{list_all}
 use Rattle.std.specs.Iterator.{Yields, YieldsThen}
 use Rattle.raw_region.specs.Format.{current}
@@ -12,12 +13,9 @@ use Rattle.seg_types.specs.declared.kinds.ScalarKind.{ScalarKind}
 use Rattle.seg_types.specs.declared.kinds.Class.{Class}
 use Rattle.seg_types.specs.declared.kinds.Class.TheVariants.{Anonymous}
 use Rattle.seg_types.specs.declared.kinds.Kind.{Kind}
-use Rattle.seg_types.specs.declared.kinds.Kind.TheVariants.{Scalar}
 use Rattle.seg_types.specs.declared.refusals.Refusal.{Refusal}
 use Rattle.seg_types.specs.declared.refusals.Refusal.TheVariants.{Exists, NoSpace, OutOfRange}
 use Rattle.seg_types.specs.Kinds.{is_value, size_of, spelling}
-use Rattle.seg_types.specs.declared.values.ScalarValue.{ScalarValue}
-use Rattle.seg_types.specs.Values.{kind_of_scalar}
 use Rattle.seg_types.specs.Names as names
 use Rattle.seg_index.specs.declared.index.Index.{Index}
 use Rattle.seg_index.specs.declared.keys.Key.{Key}
@@ -38,10 +36,12 @@ use Rattle.segment_manager.specs.Standing.{IsHeadAt, room_for}
 
 -- a look-up finds no entry, which would stand here; or it finds one
 abbrev pub IsAbsentAt : Cut → Index → Key → ℕ → Type 0
-IsAbsentAt c i e at = (t : Table) (hs : List ℕ) → IsIndexOf c (place_of i) t hs → IsPlace (bytes_of c.bytes) e hs (Absent at)
+IsAbsentAt c i e at =
+    (t : Table) (hs : List ℕ) → IsIndexOf c (place_of i) t hs → IsPlace (bytes_of c.bytes) e hs (Absent at)
 
 abbrev pub IsFoundAt : Cut → Index → Key → ℕ → Type 0
-IsFoundAt c i e at = (t : Table) (hs : List ℕ) → IsIndexOf c (place_of i) t hs → IsPlace (bytes_of c.bytes) e hs (Found at)
+IsFoundAt c i e at =
+    (t : Table) (hs : List ℕ) → IsIndexOf c (place_of i) t hs → IsPlace (bytes_of c.bytes) e hs (Found at)
 
 -- A head is written in a block that was taken, and elements go behind it.
 pub record IsHeaded (taken new : Cut) (kind : Kind) (class : Class) (name : List ℕ) (count h at : ℕ) : Type 0 where
@@ -50,7 +50,8 @@ pub record IsHeaded (taken new : Cut) (kind : Kind) (class : Class) (name : List
   pub head : IsHeadAt (bytes_of new.bytes) h kind count class name
 
 -- under a key that gets an entry, with so many bytes for the value
-pub record IsBegunEntry (old new : Cut) (key : names.Key) (kind : Kind) (count body h at : ℕ) (e : NewEntry) : Type 0 where
+pub record IsBegunEntry (old new : Cut) (key : names.Key) (kind : Kind) (count body h at : ℕ)
+    (e : NewEntry) : Type 0 where
   pub entry : Key
   pub name : List ℕ
   pub is : IsNewKeyOf e.index entry key name kind
@@ -92,41 +93,47 @@ pub record IsUnmetEntry (old new : Cut) (key : names.Key) (kind : Kind) (body : 
 
 abbrev pub IsNotBegun : Cut → Cut → names.Key → Kind → ℕ → Refusal → Type 0
 IsNotBegun old new key kind body Exists = IsTakenKey old new key kind
-IsNotBegun old new key kind body NoSpace = ((key ≡ names.NoKey) × IsRefused old new (room_for [] body) ObjectRole) ⊎ IsUnmetEntry old new key kind body
+IsNotBegun old new key kind body NoSpace =
+    ((key ≡ names.NoKey) × IsRefused old new (room_for [] body) ObjectRole) ⊎ IsUnmetEntry old new key kind body
 IsNotBegun old new key kind body why = ⊥
 
 abbrev pub Begins : Cut → Cut → names.Key → Kind → ℕ → ℕ → Result Begun Refusal → Type 0
-Begins old new key kind count body result = MatchResult result (λ b. IsBegun old new key kind count body b.handle b.at b.entry) (IsNotBegun old new key kind body)
+Begins old new key kind count body result =
+    MatchResult result (λ b. IsBegun old new key kind count body b.handle b.at b.entry)
+    (IsNotBegun old new key kind body)
 
 -- the same where no object has the key, which would get its entry here
 abbrev pub BeginsEntry : Cut → Cut → Index → ℕ → Key → names.Key → List ℕ → Kind → ℕ → ℕ → Result Begun Refusal → Type 0
-BeginsEntry old new i place e key name kind count body result = IsNewKeyOf i e key name kind → IsAbsentAt old i e place → Begins old new key kind count body result
-
--- of numbers
-abbrev pub BeginsNumbers : Cut → Cut → names.Key → ScalarKind → ℕ → Result Begun Refusal → Type 0
-BeginsNumbers old new key k count result = Begins old new key (Scalar k) count (size_of k * count) result
+BeginsEntry old new i place e key name kind count body result =
+    IsNewKeyOf i e key name kind → IsAbsentAt old i e place → Begins old new key kind count body result
 
 -- ---- filled
 
 -- an item was taken, and its spelling is written
-pub record IsItemWritten {S A : Type 0} (gives : S → Option A → S → Type 0) (whole : A → ℤ) (old new : Cut) (k : ScalarKind) (from : ℕ) (before after : S) : Type 0 where
+pub record IsItemWritten {S A : Type 0} (gives : S → Option A → S → Type 0) (whole : A → ℤ) (old new : Cut)
+    (k : ScalarKind) (from : ℕ) (before after : S) : Type 0 where
   pub item : A
   pub step : gives before (Some item) after
   pub value : IsTrue (is_value k (whole item))
   pub change : IsChanged current old new from (size_of k)
   pub content : Has (bytes_of new.bytes) from (spelling k (whole item))
 
-abbrev pub WritesNext : {S A : Type 0} → (S → Option A → S → Type 0) → (A → ℤ) → Cut → Cut → ScalarKind → ℕ → S → S → Bool → Type 0
-WritesNext gives whole old new k from before after came = MatchBool came (IsItemWritten gives whole old new k from before after) ((new ≡ old) × gives before None after)
+abbrev pub WritesNext : {S A : Type 0} → (S → Option A → S → Type 0) → (A → ℤ) → Cut → Cut → ScalarKind → ℕ → S → S
+    → Result (Unit {0}) Refusal → Type 0
+WritesNext gives whole old new k from before after wrote =
+    MatchResult wrote (λ u. IsItemWritten gives whole old new k from before after)
+    (λ why. (why ≡ OutOfRange) × (new ≡ old) × gives before None after)
 
--- the next value, if one comes, is of the kind
-abbrev pub IsNextOfKind : {S : Type 0} → (S → Option ScalarValue → S → Type 0) → S → ScalarKind → Type 0
-IsNextOfKind {S} gives before k = (v : ScalarValue) (after : S) → gives before (Some v) after → kind_of_scalar v ≡ k
+-- the next item, if one comes, is of the kind
+abbrev pub IsNextOfKind : {S A : Type 0} → (S → Option A → S → Type 0) → (A → ScalarKind) → S → ScalarKind → Type 0
+IsNextOfKind {S} {A} gives kind before k = (item : A) (after : S) → gives before (Some item) after → kind item ≡ k
 
 -- Items were taken in turn and written one behind another: as many as were asked for, or fewer where no more came.
-pub record Fills {S A : Type 0} (gives : S → Option A → S → Type 0) (whole : A → ℤ) (old new : Cut) (k : ScalarKind) (from count : ℕ) (before after : S) (enough : Bool) : Type 0 where
+pub record Fills {S A : Type 0} (gives : S → Option A → S → Type 0) (whole : A → ℤ) (old new : Cut) (k : ScalarKind)
+    (from count : ℕ) (before after : S) (filled : Result (Unit {0}) Refusal) : Type 0 where
   pub items : List A
-  pub taken : MatchBool enough (Yields gives before items after × (length items ≡ count)) (YieldsThen gives before items None after × (length items < count))
+  pub taken : MatchResult filled (λ u. Yields gives before items after × (length items ≡ count))
+      (λ why. (why ≡ OutOfRange) × YieldsThen gives before items None after × (length items < count))
   pub values : IsTrue (list_all (is_value k) (map whole items))
   pub change : IsChanged current old new from (size_of k * length items)
   pub content : Has (bytes_of new.bytes) from (spelled k (map whole items))
@@ -165,9 +172,11 @@ IsReadyFor now h (Some e) = IsWanted now h e
 
 -- the entry leads to it, if it is to have one
 pub record IsEntryAdded (now new : Cut) (h : ℕ) (e : NewEntry) : Type 0 where
-  pub adds : (t : Table) (hs : List ℕ) → IsIndexOf now (place_of e.index) t hs → Adds now new (place_of e.index) t (insert hs e.place h) e.growth.block
+  pub adds : (t : Table) (hs : List ℕ) → IsIndexOf now (place_of e.index) t hs
+      → Adds now new (place_of e.index) t (insert hs e.place h) e.growth.block
   pub live : LaysOut current new.bytes (grown_live now (place_of e.index) e.growth.block)
-  pub keeps : (t : Table) (hs : List ℕ) → IsIndexOf now (place_of e.index) t hs → AddKeeps now new (place_of e.index) t e.growth.block
+  pub keeps : (t : Table) (hs : List ℕ) → IsIndexOf now (place_of e.index) t hs
+      → AddKeeps now new (place_of e.index) t e.growth.block
 
 abbrev pub LeadsThere : Cut → Cut → ℕ → Option NewEntry → Type 0
 LeadsThere now new h None = new ≡ now
@@ -177,17 +186,16 @@ LeadsThere now new h (Some e) = IsEntryAdded now new h e
 abbrev pub GivesAllBack : Cut → Cut → ℕ → Option NewEntry → Type 0
 GivesAllBack now new h entry = (old : Cut) → IsLoose old now h entry → IsRestored old new
 
-abbrev pub Finishes : Cut → Cut → ℕ → Option NewEntry → Bool → Result ℕ Refusal → Type 0
-Finishes now new h entry enough result = MatchBool enough ((result ≡ Ok h) × LeadsThere now new h entry) ((result ≡ Err OutOfRange) × GivesAllBack now new h entry)
-
 -- ---- filled or not, with whatever it takes
 
 -- where it was filled, an entry may lead to it; and where not, all that was taken is its own block and what its index
 -- took
 abbrev pub IsEnding : Cut → ℕ → Option NewEntry → Result (Unit {0}) Refusal → Type 0
-IsEnding now h entry filled = MatchResult filled (λ u. IsReadyFor now h entry) (λ why. (old : Cut) × IsLoose old now h entry)
+IsEnding now h entry filled =
+    MatchResult filled (λ u. IsReadyFor now h entry) (λ why. (old : Cut) × IsLoose old now h entry)
 
 -- the entry is made, or all is given back
 abbrev pub Ends : Cut → Cut → ℕ → Option NewEntry → Result (Unit {0}) Refusal → Result ℕ Refusal → Type 0
 Ends now new h entry filled result =
-    MatchResult filled (λ u. (result ≡ Ok h) × LeadsThere now new h entry) (λ why. (result ≡ Err why) × GivesAllBack now new h entry)
+    MatchResult filled (λ u. (result ≡ Ok h) × LeadsThere now new h entry)
+    (λ why. (result ≡ Err why) × GivesAllBack now new h entry)

@@ -1,5 +1,6 @@
 -- What the calls of a segment owe that are no steps of the directory machine.
-use Rattle.std.specs.Prelude.{◌≡◌, ◌<◌, ◌≤◌, ℕ, ◌+◌, ◌-◌, ◌%◌, false, Some, None, Result, Ok, Err, MatchResult, Option, option_map, slice_get, List, length, IsTrue}
+use Rattle.std.specs.Prelude.{◌≡◌, ◌<◌, ◌≤◌, ℕ, ◌+◌, ◌-◌, ◌%◌, false, Some, None, Result, Ok, Err, MatchResult, Option}
+use Rattle.std.specs.Prelude.{option_map, slice_get, List, length, IsTrue}
 use Rattle.std.specs.List.{AllByRecursion}
 use Rattle.raw_region.specs.Format.{current}
 use Rattle.raw_region.specs.Memory.{AreZero, SamePlace, bytes_of, cut_at, word_at}
@@ -36,7 +37,8 @@ pub record IsCreated (region : List ℕ) (base size : ℕ) (how : Mode) (s : Sta
   pub place : SamePlace (cut_at region base size) s.cut
   pub stands : StandsFor s.cut.bytes (empty size)
   -- the words in front of its gap's free bytes are null links
-  pub links : (at : ℕ) → at % 8 ≡ 0 → 144 ≤ at → at < header_len + gap_front current → at < size - 16 → word_at (bytes_of s.cut.bytes) at ≡ 1
+  pub links : (at : ℕ) → at % 8 ≡ 0 → 144 ≤ at → at < header_len + gap_front current → at < size - 16
+      → word_at (bytes_of s.cut.bytes) at ≡ 1
   pub zeros : AreZero (bytes_of s.cut.bytes) (header_len + gap_front current) (size - 16)
 
 -- why no segment of the size is created
@@ -50,7 +52,8 @@ pub record IsNotCreated (region : List ℕ) (base size : ℕ) (refused : CreateR
   pub region_same : refused.region ≡ region
 
 abbrev pub Creates : List ℕ → ℕ → ℕ → Mode → Result State CreateRefused → Type 0
-Creates region base size mode result = MatchResult result (IsCreated region base size mode) (IsNotCreated region base size)
+Creates region base size mode result =
+    MatchResult result (IsCreated region base size mode) (IsNotCreated region base size)
 
 -- what is said of the object of a key
 abbrev pub told_at : {A : Type 0} → Directory → Key → (Object → A) → Result A Refusal
@@ -90,4 +93,6 @@ pub record IsTileOfIndex (s : State) (index : ℕ) (result : Option Tile) : Type
 
 -- the free bytes of all gaps are 0
 pub record HasZeroGaps (s : State) : Type 0 where
-  pub zeros : (d : Directory) → StandsFor s.cut.bytes d → AllByRecursion (λ (g : Gap). AreZero (bytes_of s.cut.bytes) (g.offset + gap_front current) (g.offset + g.len)) (gaps (live d))
+  pub zeros : (d : Directory) → StandsFor s.cut.bytes d
+      → AllByRecursion (λ (g : Gap). AreZero (bytes_of s.cut.bytes) (g.offset + gap_front current) (g.offset + g.len))
+      (gaps (live d))

@@ -8,8 +8,10 @@ use Rattle.seg_types.specs.Kinds.{class_code, code_of}
 use Rattle.seg_vector.specs.Vector.{IsVectorAt, IsTextAt, IsTextsAt, spelled}
 use Rattle.seg_map.specs.Numbers.{IsNumberMapAt}
 use Rattle.seg_index.specs.Index.{IsIndexAt}
-use Rattle.segment_manager.specs.Layout.{magic_at, format_at, size_at, named_at, unique_at, reserved_at, header_len, name_class_at, head_len}
-use Rattle.segment_manager.specs.Directory.{Value, Numbers, Elements, Bytes, Pairs, Texts, Object, Directory, IsDirectory, live, kind_of, count_of, padded, named_objects, unique_objects}
+use Rattle.segment_manager.specs.Layout.{magic_at, format_at, size_at, named_at, unique_at, reserved_at, header_len}
+use Rattle.segment_manager.specs.Layout.{name_class_at, head_len}
+use Rattle.segment_manager.specs.Directory.{Value, Numbers, Elements, Bytes, Pairs, Texts, Object, Directory}
+use Rattle.segment_manager.specs.Directory.{IsDirectory, live, kind_of, count_of, padded, named_objects, unique_objects}
 
 -- `MSEGFILE`
 abbrev pub magic_number : ℕ

@@ -8,7 +8,8 @@ use Rattle.seg_types.specs.declared.kinds.Class.TheVariants.{Anonymous}
 use Rattle.seg_types.specs.Names.{ByHandle}
 use Rattle.seg_index.specs.declared.index.Index.{Index}
 use Rattle.segment_manager.specs.Denotes.{Denotes}
-use Rattle.segment_manager.specs.Directory.{Value, Numbers, Elements, Bytes, Pairs, Texts, Object, Directory, object_at, without_object}
+use Rattle.segment_manager.specs.Directory.{Value, Numbers, Elements, Bytes, Pairs, Texts, Object, Directory, object_at}
+use Rattle.segment_manager.specs.Directory.{without_object}
 use Rattle.segment_manager.specs.Indexed.{objects_of}
 use Rattle.segment_manager.specs.State.{StandsFor}
 use Rattle.segment_manager.specs.Step.{changed}
@@ -38,7 +39,8 @@ pub record HoldsObject (b : List ℕ) (h : ℕ) : Type 0 where
 -- it has an emptied value
 abbrev pub Empties : Cut → Cut → ℕ → Type 0
 Empties old new h =
-    (d : Directory) (o : Object) → StandsFor old.bytes d → object_at d (ByHandle h) ≡ Some o → Becomes old new (changed d o (emptied o.value))
+    (d : Directory) (o : Object) → StandsFor old.bytes d → object_at d (ByHandle h) ≡ Some o
+    → Becomes old new (changed d o (emptied o.value))
 
 -- ---- the object
 
@@ -52,9 +54,11 @@ pub record HoldsEntry (b : List ℕ) (i : Index) (at : ℕ) : Type 0 where
 -- it is gone with its entry
 abbrev pub RemovesEntry : Cut → Cut → Index → ℕ → Type 0
 RemovesEntry old new i at =
-    (d : Directory) (o : Object) → StandsFor old.bytes d → slice_get (objects_of i d) at ≡ Some o → Becomes old new (without_object d o)
+    (d : Directory) (o : Object) → StandsFor old.bytes d → slice_get (objects_of i d) at ≡ Some o
+    → Becomes old new (without_object d o)
 
 -- the object of a handle is gone, if it has no key
 abbrev pub RemovesAnonymous : Cut → Cut → ℕ → Type 0
 RemovesAnonymous old new h =
-    (d : Directory) (o : Object) → StandsFor old.bytes d → object_at d (ByHandle h) ≡ Some o → o.class ≡ Anonymous → Becomes old new (without_object d o)
+    (d : Directory) (o : Object) → StandsFor old.bytes d → object_at d (ByHandle h) ≡ Some o → o.class ≡ Anonymous
+    → Becomes old new (without_object d o)

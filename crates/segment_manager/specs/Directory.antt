@@ -1,5 +1,7 @@
 -- The directory: which objects a segment has, by handle, with their values and the extents that they use.
-use Rattle.std.specs.Prelude.{ℕ, ◌+◌, ◌*◌, ◌/◌, ℤ, Bool, true, false, ◌&&◌, Option, Some, None, List, [], ◌∷◌, ◌++◌, length, map, filter, find, flat_map, fold, option_to_list, IsTrue, ◌==◌, nat_lt, nat_le, nat_eq, int_lt, if◌then◌else◌}
+use Rattle.std.specs.Prelude.{ℕ, ◌+◌, ◌*◌, ◌/◌, ℤ, Bool, true, false, ◌&&◌, Option, Some, None, List, [], ◌∷◌, ◌++◌}
+use Rattle.std.specs.Prelude.{length, map, filter, find, flat_map, fold, option_to_list, IsTrue, ◌==◌, nat_lt, nat_le}
+use Rattle.std.specs.Prelude.{nat_eq, int_lt, if◌then◌else◌}
 use Rattle.std.specs.List.{list_all}
 use Rattle.std.specs.Cmp.Lexicographic.{pointwise, slice_cmp}
 use Rattle.std.specs.Ordering.{nat_cmp, is_lt}
@@ -167,7 +169,9 @@ rises lt (o ∷ p ∷ ps) = lt o p && rises lt (p ∷ ps)
 
 -- a block exactly where there are bytes
 abbrev pub has_own_block : OwnedText → Bool
-has_own_block p = elim p.extent [ None ↦ length p.bytes == 0 | Some x ↦ nat_lt 0 (length p.bytes) && serves x Storage (length p.bytes) ]
+has_own_block p =
+    elim p.extent
+    [ None ↦ length p.bytes == 0 | Some x ↦ nat_lt 0 (length p.bytes) && serves x Storage (length p.bytes) ]
 
 abbrev pub is_owned_text : OwnedText → Bool
 is_owned_text p = has_own_block p && list_all (λ b. nat_lt b 256) p.bytes

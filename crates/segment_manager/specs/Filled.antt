@@ -1,6 +1,7 @@
 -- How an object comes to be, whatever it holds: it is begun, its value is made in its block, and then it gets its
 -- entry, or all is given back.
-use Rattle.std.specs.Prelude.{◌≡◌, ℕ, ◌<◌, ◌^◌, ◌*◌, false, true, [], Option, Result, Ok, Err, IfErr, MatchResult, IsTrue}
+use Rattle.std.specs.Prelude.{◌≡◌, ℕ, ℤ, ◌<◌, ◌^◌, ◌*◌, false, true, [], replicate, Option, Result, Ok, Err, IfErr}
+use Rattle.std.specs.Prelude.{MatchResult, IsTrue}
 use Rattle.raw_region.specs.Format.{current}
 use Rattle.raw_region.specs.Memory.{Cut, bytes_of}
 use Rattle.best_fit.specs.Exchange.{IsExchanged}
@@ -13,7 +14,7 @@ use Rattle.seg_types.specs.declared.refusals.Refusal.{Refusal}
 use Rattle.seg_types.specs.declared.refusals.Refusal.TheVariants.{NoSpace}
 use Rattle.seg_types.specs.Kinds.{size_of}
 use Rattle.seg_types.specs.Names as names
-use Rattle.seg_types.specs.Commands.{Command, Content, FindOrConstruct}
+use Rattle.seg_types.specs.Commands.{Command, Construct, Content, FindOrConstruct, Numbers}
 use Rattle.seg_vector.specs.declared.places.Place.{Place}
 use Rattle.seg_vector.specs.Standing.{place_at}
 use Rattle.segment_manager.specs.declared.beginning.NewEntry.{NewEntry}
@@ -22,12 +23,13 @@ use Rattle.segment_manager.specs.declared.modes.Mode.{Mode}
 use Rattle.segment_manager.specs.Answers.{Answer, Refused, is_untouched}
 use Rattle.segment_manager.specs.Begun.{GivesAllBack, IsBegun, LeadsThere}
 use Rattle.segment_manager.specs.Denotes.{IsValueAt}
-use Rattle.segment_manager.specs.Directory.{Value, Directory, count_of, is_good_value, kind_of, value_extents, value_len}
+use Rattle.segment_manager.specs.Directory.{Value, Directory, count_of, is_good_value, kind_of, value_extents}
+use Rattle.segment_manager.specs.Directory.{value_len}
 use Rattle.segment_manager.specs.Found.{pair_answer}
 use Rattle.segment_manager.specs.Keeping.{HasKey}
 use Rattle.segment_manager.specs.NewObjects.{IsRestored}
 use Rattle.segment_manager.specs.Plan.{Plan, bare, perform, with_value}
-use Rattle.segment_manager.specs.State.{IsSegment, IsStep, StandsFor}
+use Rattle.segment_manager.specs.State.{IsSegment, IsStep, StandsFor, State, handle_answer}
 use Rattle.segment_manager.specs.Step.{is_read_only}
 
 -- ---- the value
@@ -77,16 +79,19 @@ pub record IsNoValue (content : Content) (old new : Cut) (p : Place) (why : Refu
   pub refusal : why ≡ NoSpace
 
 abbrev pub MakesValue : Content → Cut → Cut → Place → Result (Unit {0}) Refusal → Type 0
-MakesValue content old new p result = MatchResult result (λ u. IsMadeValue content old new p) (IsNoValue content old new p)
+MakesValue content old new p result =
+    MatchResult result (λ u. IsMadeValue content old new p) (IsNoValue content old new p)
 
 -- ---- in an object that was begun
 
 -- an object was begun, for the content
 abbrev pub IsBegunFor : Cut → Cut → names.Key → Content → ℕ → ℕ → Option NewEntry → Type 0
-IsBegunFor old now key content h at entry = IsBegun old now key (kind_of (bare content)) (count_of (bare content)) (value_len (bare content)) h at entry
+IsBegunFor old now key content h at entry =
+    IsBegun old now key (kind_of (bare content)) (count_of (bare content)) (value_len (bare content)) h at entry
 
 abbrev pub HasBegun : Cut → Content → ℕ → ℕ → Option NewEntry → Type 0
-HasBegun now content h at entry = (old : Cut) × (IsSegment old.bytes × ((key : names.Key) × IsBegunFor old now key content h at entry))
+HasBegun now content h at entry =
+    (old : Cut) × (IsSegment old.bytes × ((key : names.Key) × IsBegunFor old now key content h at entry))
 
 -- its value is made, and an entry leads to it, if it is to have one
 pub record IsBuilt (now new : Cut) (h at : ℕ) (entry : Option NewEntry) (content : Content) (handle : ℕ) : Type 0 where
@@ -96,24 +101,29 @@ pub record IsBuilt (now new : Cut) (h at : ℕ) (entry : Option NewEntry) (conte
   pub entered : LeadsThere made new h entry
 
 -- or all is given back
-pub record IsNotBuilt (now new : Cut) (h at : ℕ) (entry : Option NewEntry) (content : Content) (why : Refusal) : Type 0 where
+pub record IsNotBuilt (now new : Cut) (h at : ℕ) (entry : Option NewEntry) (content : Content)
+    (why : Refusal) : Type 0 where
   pub left : Cut
   pub none : IsNoValue content now left (record { handle = h; at = at }) why
   pub back : GivesAllBack left new h entry
 
 abbrev pub Builds : Cut → Cut → ℕ → ℕ → Option NewEntry → Content → Result ℕ Refusal → Type 0
-Builds now new h at entry content result = MatchResult result (IsBuilt now new h at entry content) (IsNotBuilt now new h at entry content)
+Builds now new h at entry content result =
+    MatchResult result (IsBuilt now new h at entry content) (IsNotBuilt now new h at entry content)
 
 -- ---- a construction
 
 -- On the heap of a segment that may be changed: it is one step, and where it is refused before it asks for a block
 -- nothing changes.
-pub record Constructs {A : Type 0} (old new : Cut) (command : Command) (answer : Result A Refusal → Answer) (result : Result A Refusal) : Type 0 where
-  pub step : (mode : Mode) → is_read_only mode ≡ false → IsStep (record { cut = old; mode = mode }) (record { cut = new; mode = mode }) command (answer result)
+pub record Constructs {A : Type 0} (old new : Cut) (command : Command) (answer : Result A Refusal → Answer)
+    (result : Result A Refusal) : Type 0 where
+  pub step : (mode : Mode) → is_read_only mode ≡ false
+      → IsStep (record { cut = old; mode = mode }) (record { cut = new; mode = mode }) command (answer result)
   pub refused : IfErr result (λ why. is_untouched (Refused why) ≡ true → new ≡ old)
 
 -- and nothing changes where an object has the key
-pub record FindsOrConstructs (old new : Cut) (key : names.Key) (content : Content) (result : Result (ℕ × ℕ) Refusal) : Type 0 where
+pub record FindsOrConstructs (old new : Cut) (key : names.Key) (content : Content)
+    (result : Result (ℕ × ℕ) Refusal) : Type 0 where
   pub constructs : Constructs old new (FindOrConstruct key content) pair_answer result
   pub found : (d : Directory) → StandsFor old.bytes d → HasKey key d → new ≡ old
 
@@ -121,3 +131,17 @@ pub record FindsOrConstructs (old new : Cut) (key : names.Key) (content : Conten
 abbrev pub with_count : ℕ → Result ℕ Refusal → Result (ℕ × ℕ) Refusal
 with_count n (Ok h) = Ok (h, n)
 with_count n (Err why) = Err why
+
+-- ---- as calls on a segment say it
+
+-- an object of the content is made under the key
+abbrev pub Makes : State → State → names.Key → Content → Result ℕ Refusal → Type 0
+Makes old new key content result = IsStep old new (Construct key content) (handle_answer result)
+
+-- or one is found there
+abbrev pub FindsOrMakes : State → State → names.Key → Content → Result (ℕ × ℕ) Refusal → Type 0
+FindsOrMakes old new key content result = IsStep old new (FindOrConstruct key content) (pair_answer result)
+
+-- so many times the same number
+abbrev pub alike : ScalarKind → ℕ → ℤ → Content
+alike k count z = Numbers k (replicate count z)

@@ -17,4 +17,5 @@ pub record IsEntry (m : Memory) (o : Object) : Type 0 where
 
 -- the law
 abbrev pub EntriesSayObjects : Type 0
-EntriesSayObjects = (format : ℕ) (b : List ℕ) (d : Directory) → Denotes format b d → AllByRecursion (IsEntry (bytes_of b)) d.objects
+EntriesSayObjects =
+    (format : ℕ) (b : List ℕ) (d : Directory) → Denotes format b d → AllByRecursion (IsEntry (bytes_of b)) d.objects

@@ -34,7 +34,8 @@ pub record SaysOf (s : State) (key : Key) (said : Instance) : Type 0 where
 
 -- it is said of the object at a place in a list
 pub record SaysAt (s : State) (objects : Directory → List Object) (i : ℕ) (said : Instance) : Type 0 where
-  pub says : (d : Directory) → StandsFor s.cut.bytes d → (o : Object) × (slice_get (objects d) i ≡ Some o) × IsInstance o said
+  pub says : (d : Directory) → StandsFor s.cut.bytes d → (o : Object) × (slice_get (objects d) i ≡ Some o)
+      × IsInstance o said
 
 -- no object has the key
 pub record IsMissing (s : State) (key : Key) (why : Refusal) : Type 0 where

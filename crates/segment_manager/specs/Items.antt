@@ -1,5 +1,6 @@
 -- What a construction takes from an iterator.
-use Rattle.std.specs.Prelude.{◌≡◌, ◌⊎◌, ℕ, ◌<◌, ℤ, true, false, None, Option, Result, Ok, Err, IfErr, IfOk, MatchResult, List, [], length, map, ⊤, if◌then◌else◌}
+use Rattle.std.specs.Prelude.{◌≡◌, ◌⊎◌, ℕ, ◌<◌, ℤ, true, false, None, Option, Result, Ok, Err, IfErr, IfOk, MatchResult}
+use Rattle.std.specs.Prelude.{List, [], length, map, ⊤, if◌then◌else◌}
 use Rattle.std.specs.Iterator.{Yields, YieldsThen}
 use Rattle.seg_types.specs.declared.kinds.ScalarKind.{ScalarKind}
 use Rattle.seg_types.specs.declared.refusals.Refusal.{Refusal}
@@ -27,10 +28,12 @@ KeepsUnasked old new why = new ≡ old
 
 -- The call is the step of the items that it took, as whole numbers: as many as the count says, or fewer where no more
 -- came. It is refused for another reason before it takes one.
-pub record TakesItems {S A : Type 0} (gives : S → Option A → S → Type 0) (whole : A → ℤ) (old new : State) (key : Key) (k : ScalarKind) (count : ℕ) (before after : S) (result : Result ℕ Refusal) : Type 0 where
+pub record TakesItems {S A : Type 0} (gives : S → Option A → S → Type 0) (whole : A → ℤ) (old new : State) (key : Key)
+    (k : ScalarKind) (count : ℕ) (before after : S) (result : Result ℕ Refusal) : Type 0 where
   pub items : List A
   pub step : IsStep old new (ConstructIt key k count (map whole items)) (handle_answer result)
-  pub taken : MatchResult result (λ h. Yields gives before items after × (length items ≡ count)) (TakesUntil gives count before items after)
+  pub taken : MatchResult result (λ h. Yields gives before items after × (length items ≡ count))
+      (TakesUntil gives count before items after)
   pub unchanged : IfErr result (KeepsUnasked old new)
 
 -- ---- found, or made of items
@@ -55,7 +58,8 @@ pub record IsOnlyRead {S : Type 0} (old new : State) (before after : S) (result 
   pub stays : StaysUntaken old new before after
 
 -- an object has the key
-pub record IsThere {S : Type 0} (old new : State) (key : Key) (k : ScalarKind) (before after : S) (result : Result (ℕ × ℕ) Refusal) : Type 0 where
+pub record IsThere {S : Type 0} (old new : State) (key : Key) (k : ScalarKind) (before after : S)
+    (result : Result (ℕ × ℕ) Refusal) : Type 0 where
   pub writing : is_read_only old.mode ≡ false
   pub object : Located
   pub located : IsLocated old key object
@@ -63,12 +67,15 @@ pub record IsThere {S : Type 0} (old new : State) (key : Key) (k : ScalarKind) (
   pub stays : StaysUntaken old new before after
 
 -- none has, and one is made of items
-pub record IsTakenFrom {S A : Type 0} (gives : S → Option A → S → Type 0) (whole : A → ℤ) (old new : State) (key : Key) (k : ScalarKind) (count : ℕ) (before after : S) (result : Result (ℕ × ℕ) Refusal) : Type 0 where
+pub record IsTakenFrom {S A : Type 0} (gives : S → Option A → S → Type 0) (whole : A → ℤ) (old new : State) (key : Key)
+    (k : ScalarKind) (count : ℕ) (before after : S) (result : Result (ℕ × ℕ) Refusal) : Type 0 where
   pub writing : is_read_only old.mode ≡ false
   pub missing : (d : Directory) → StandsFor old.cut.bytes d → object_at d key ≡ None
   pub takes : TakesItems gives whole old new key k count before after (handle_in result)
   pub counted : IfOk result (λ (h, n). n ≡ count)
 
-abbrev pub FindsOrTakes : {S A : Type 0} → (S → Option A → S → Type 0) → (A → ℤ) → State → State → Key → ScalarKind → ℕ → S → S → Result (ℕ × ℕ) Refusal → Type 0
+abbrev pub FindsOrTakes : {S A : Type 0} → (S → Option A → S → Type 0) → (A → ℤ) → State → State → Key → ScalarKind → ℕ
+    → S → S → Result (ℕ × ℕ) Refusal → Type 0
 FindsOrTakes gives whole old new key k count before after result =
-    IsOnlyRead old new before after result ⊎ (IsThere old new key k before after result ⊎ IsTakenFrom gives whole old new key k count before after result)
+    IsOnlyRead old new before after result
+    ⊎ (IsThere old new key k before after result ⊎ IsTakenFrom gives whole old new key k count before after result)

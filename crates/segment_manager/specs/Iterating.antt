@@ -1,5 +1,6 @@
 -- What the iterators of a segment give.
-use Rattle.std.specs.Prelude.{◌≡◌, ℕ, ◌+◌, ◌≤◌, Bool, false, Option, Some, None, List, filter, length, map, option_map, slice_get, take}
+use Rattle.std.specs.Prelude.{◌≡◌, ℕ, ◌+◌, ◌≤◌, Bool, false, Option, Some, None, List, filter, length, map, option_map}
+use Rattle.std.specs.Prelude.{slice_get, take}
 use Rattle.block_tags.specs.declared.tile.Role.TheVariants.{Object as ObjectRole}
 use Rattle.best_fit.specs.Extents.{Extent, Span as LiveSpan, spans}
 use Rattle.best_fit.specs.Heap.{live_of}
@@ -46,7 +47,8 @@ pub record NameWalk : Type 0 where
   pub at : ℕ
 
 -- it gives the name that stands where it stood, as it is seen, and stands behind it then
-pub record GoesOnNames {A : Type 0} (seen : A → List ℕ) (old : NameWalk) (item : Option A) (new : NameWalk) : Type 0 where
+pub record GoesOnNames {A : Type 0} (seen : A → List ℕ) (old : NameWalk) (item : Option A)
+    (new : NameWalk) : Type 0 where
   pub segment : new.segment ≡ old.segment
   pub place : new.at ≡ place_behind old.at item
   pub says : Answers old.segment (λ d. slice_get (names_of d) old.at) (option_map seen item)
@@ -99,8 +101,10 @@ pub record HasPassed (s : State) (tiles : TileWalk) (at : ℕ) : Type 0 where
 -- the next block of an object, and the blocks and gaps up to it are passed
 pub record GoesOnOwn (old : TileWalk) (item : Option Span) (new : TileWalk) : Type 0 where
   pub segment : new.segment ≡ old.segment
-  pub says : (d : Directory) → StandsFor old.segment.cut.bytes d → option_map as_span item ≡ slice_get (own_spans d) (own_before d old.at)
-  pub count : (d : Directory) → StandsFor old.segment.cut.bytes d → own_before d new.at ≡ place_behind (own_before d old.at) item
+  pub says : (d : Directory) → StandsFor old.segment.cut.bytes d
+      → option_map as_span item ≡ slice_get (own_spans d) (own_before d old.at)
+  pub count : (d : Directory) → StandsFor old.segment.cut.bytes d
+      → own_before d new.at ≡ place_behind (own_before d old.at) item
 
 -- the block is that of the object at a place
 pub record IsOwnBlock (s : State) (at : ℕ) (block : Span) : Type 0 where

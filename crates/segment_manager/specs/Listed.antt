@@ -30,11 +30,14 @@ HasEntries s i e h = (d : Directory) → StandsFor s.cut.bytes d → HasEntry i 
 pub record IsEntryAt (s : State) (h : ℕ) (i : Index) (at : ℕ) : Type 0 where
   pub entry : Key
   pub leads : HasEntries s i entry h
-  pub found : (t : Table) (handles : List ℕ) → IsIndexOf s.cut (place_of i) t handles → IsPlace (bytes_of s.cut.bytes) entry handles (Found at)
+  pub found : (t : Table) (handles : List ℕ) → IsIndexOf s.cut (place_of i) t handles
+      → IsPlace (bytes_of s.cut.bytes) entry handles (Found at)
 
 -- or it has none, since it has no key
 abbrev pub IsAnonymousAt : State → ℕ → Type 0
-IsAnonymousAt s h = (d : Directory) → StandsFor s.cut.bytes d → (o : Object) × (object_at d (names.ByHandle h) ≡ Some o) × (o.class ≡ Anonymous)
+IsAnonymousAt s h =
+    (d : Directory) → StandsFor s.cut.bytes d → (o : Object) × (object_at d (names.ByHandle h) ≡ Some o)
+    × (o.class ≡ Anonymous)
 
 -- where the entry of the object of a handle stands, if it has one
 abbrev pub IsListed : State → ℕ → Option Listed → Type 0

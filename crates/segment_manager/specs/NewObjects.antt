@@ -31,7 +31,8 @@ pub record IsRequested (old new : Cut) (at n : ℕ) (growth : Option ℕ) (h : �
 abbrev pub FindsNone : Cut → ℕ → ℕ → Type 0
 FindsNone old at n =
     ((capacity_at old at ≤ entry_count old at) × (place (live_of old.bytes) (grown_bytes old at) IndexRole ≡ None))
-    ⊎ ((growth : Option ℕ) × (between : Cut) × IsGrowth old between at growth × (place (live_of between.bytes) n ObjectRole ≡ None))
+    ⊎ ((growth : Option ℕ) × (between : Cut) × IsGrowth old between at growth
+    × (place (live_of between.bytes) n ObjectRole ≡ None))
 
 -- the same blocks are in use as before, and nothing in them changed
 pub record IsRestored (old new : Cut) : Type 0 where
@@ -43,7 +44,8 @@ pub record IsUnmet (old new : Cut) (at n : ℕ) : Type 0 where
   pub none : FindsNone old at n
 
 abbrev pub Requests : {E : Type 0} → Cut → Cut → ℕ → ℕ → Result Requested E → Type 0
-Requests old new at n result = MatchResult result (λ r. IsRequested old new at n r.growth.block r.handle) (λ e. IsUnmet old new at n)
+Requests old new at n result =
+    MatchResult result (λ r. IsRequested old new at n r.growth.block r.handle) (λ e. IsUnmet old new at n)
 
 -- ---- keys of new objects
 

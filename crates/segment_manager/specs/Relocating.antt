@@ -22,4 +22,5 @@ pub record IsNotRelocated (old : State) (region : List ℕ) (base : ℕ) (refuse
   pub region_same : refused.region ≡ region
 
 abbrev pub Relocates : State → List ℕ → ℕ → Result (State × List ℕ) RelocateRefused → Type 0
-Relocates old region base result = MatchResult result (λ moved. IsRelocated old region base moved.0 moved.1) (IsNotRelocated old region base)
+Relocates old region base result =
+    MatchResult result (λ moved. IsRelocated old region base moved.0 moved.1) (IsNotRelocated old region base)

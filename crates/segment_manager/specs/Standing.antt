@@ -1,5 +1,6 @@
 -- An object in its block, as calls on a heap see it: what its head says, and its elements.
-use Rattle.std.specs.Prelude.{◌≡◌, ℕ, ◌+◌, ◌*◌, ℤ, List, length, replicate, flat_map, IsTrue, Some, None, true, Result, Ok, Err, if◌then◌else◌, nat_lt}
+use Rattle.std.specs.Prelude.{◌≡◌, ℕ, ◌+◌, ◌*◌, List, length, replicate, flat_map, IsTrue, Some, None, Result, Ok}
+use Rattle.std.specs.Prelude.{Err, if◌then◌else◌, nat_lt}
 use Rattle.raw_region.specs.Format.{current}
 use Rattle.raw_region.specs.Memory.{Memory, bytes_of, word_at, Has}
 use Rattle.best_fit.specs.Extents.{handle}
@@ -10,12 +11,13 @@ use Rattle.seg_types.specs.declared.kinds.Kind.TheVariants.{Scalar}
 use Rattle.seg_types.specs.declared.kinds.Class.{Class}
 use Rattle.seg_types.specs.declared.refusals.Refusal.{Refusal}
 use Rattle.seg_types.specs.declared.refusals.Refusal.TheVariants.{NotFound, WrongKind, OutOfRange}
-use Rattle.seg_types.specs.Kinds.{class_code, code_of, same_kind, size_of, is_value, spelling}
+use Rattle.seg_types.specs.Kinds.{class_code, code_of, same_kind, size_of}
 use Rattle.seg_types.specs.Names.{Key}
 use Rattle.segment_manager.specs.declared.head.Head.{Head}
 use Rattle.seg_vector.specs.declared.places.Place.{Place}
 use Rattle.segment_manager.specs.Layout.{name_class_at, head_len}
-use Rattle.segment_manager.specs.Directory.{Object, Directory, object_at, count_of, is_object, kind_of, object_len, padded}
+use Rattle.segment_manager.specs.Directory.{Object, Directory, object_at, count_of, is_object, kind_of, object_len}
+use Rattle.segment_manager.specs.Directory.{padded}
 use Rattle.segment_manager.specs.Denotes.{IsObjectAt, padded_name, two_halves}
 
 -- the object stands in the block of a handle, which has the room for it
@@ -56,7 +58,9 @@ element_at k name i = head_len + padded (length name) + size_of k * i
 
 -- the same for an object, if it has such an element
 abbrev pub place_in : Object → ScalarKind → ℕ → Result ℕ Refusal
-place_in o k i = if same_kind (Scalar k) (kind_of o.value) then (if nat_lt i (count_of o.value) then Ok (element_at k o.name i) else Err OutOfRange) else Err WrongKind
+place_in o k i =
+    if same_kind (Scalar k) (kind_of o.value) then
+    (if nat_lt i (count_of o.value) then Ok (element_at k o.name i) else Err OutOfRange) else Err WrongKind
 
 -- the handle of an object of a kind, and how many elements it has
 abbrev pub pair_of_kind : Object → Kind → Result (ℕ × ℕ) Refusal
@@ -68,7 +72,3 @@ place_at d key k i = elim (object_at d key) [
   | None ↦ Err NotFound
   | Some o ↦ elim (place_in o k i) [ Ok at ↦ Ok (record { handle = handle o.extent; at = at }) | Err r ↦ Err r ]
 ]
-
--- the bytes spell a value of the kind
-abbrev pub Spells : ScalarKind → List ℕ → Type 0
-Spells k bytes = (z : ℤ) × (is_value k z ≡ true) × (bytes ≡ spelling k z)

@@ -27,5 +27,7 @@ KeepsObjects old new = (o : Located) → IsObject o old → IsObject o new
 
 -- the law: a command on the elements of an object, and one that only reads, keeps each object
 pub record ObjectsStay : Type 0 where
-  pub any : (old new : State) (c : Command) (answer : Answer) → IsSegment old.cut.bytes → is_elementwise c ≡ true → IsStep old new c answer → KeepsObjects old new
-  pub of_kind : (old new : State) (key : Key) (kind : Kind) (c : Command) (answer : Answer) → IsSegment old.cut.bytes → is_elementwise c ≡ true → IsStepOfKind old new key kind c answer → KeepsObjects old new
+  pub any : (old new : State) (c : Command) (answer : Answer) → IsSegment old.cut.bytes → is_elementwise c ≡ true
+      → IsStep old new c answer → KeepsObjects old new
+  pub of_kind : (old new : State) (key : Key) (kind : Kind) (c : Command) (answer : Answer) → IsSegment old.cut.bytes
+      → is_elementwise c ≡ true → IsStepOfKind old new key kind c answer → KeepsObjects old new

@@ -1,17 +1,17 @@
 //! The elements of objects of scalars, read and written.
-ghost use Rattle.std.specs.Prelude.{◌≡◌, ℤ, OnErr, OnOk, true};
+ghost use Rattle.std.specs.Prelude.{◌≡◌, OnErr, OnOk};
 ghost use Rattle.seg_types.specs.declared.kinds.Kind.TheVariants.{Scalar as ScalarOf};
-ghost use Rattle.seg_types.specs.{Commands.Get, Commands.Set, Commands.literal_of, Kinds.is_value};
-ghost use Rattle.seg_types.specs.{Kinds.spelling as spelling_of, Values.kind_of_scalar, Values.value_of_scalar};
-ghost use Rattle.segment_manager.specs.{Answers.Element, Keeping.ChangesElement, Standing.Spells, Standing.place_at};
-ghost use Rattle.segment_manager.specs.State.{Answers, IsReplyOfKind, IsStepOfKind, answer_of, done_answer, scalar_answer};
+ghost use Rattle.seg_types.specs.Commands.{Get, Set, literal_of};
+ghost use Rattle.seg_types.specs.Values.{kind_of_scalar, value_of_scalar};
+ghost use Rattle.segment_manager.specs.{Answers.Element, Keeping.ChangesElement, Standing.place_at, State.Answers};
+ghost use Rattle.segment_manager.specs.State.{IsReplyOfKind, IsStepOfKind, answer_of, done_answer, scalar_answer};
 
 use crate::element::{element, place_of};
 use crate::fillings::LONGEST;
 use crate::segment::Segment;
 use crate::targets::Target;
 use seg_types::theorems::scalar_is_number;
-use seg_types::{Refusal, Scalar, ScalarKind, ScalarValue};
+use seg_types::{Refusal, Scalar, ScalarKind, ScalarValue, by_kind, by_value};
 use seg_vector::Place;
 
 impl Segment {
@@ -25,7 +25,8 @@ impl Segment {
     /// element there.
     pub fn get<T: Scalar, O: Target>(&self, key: &O, index: u64) -> Result<T, Refusal>
         requires { O.stands key.now self.now }
-        ensures { IsReplyOfKind self.now (O.key key.now) (ScalarOf T.kind) (Get (O.key key.now) index) (answer_of (λ x. Element T.kind (T.whole x)) result) }
+        ensures { IsReplyOfKind self.now (O.key key.now) (ScalarOf T.kind) (Get (O.key key.now) index)
+            (answer_of (λ x. Element T.kind (T.whole x)) result) }
     {
         let place = self.find_element(key, T::kind(), index)?;
         scalar_is_number::<T>(element(&self.heap, place.handle, place.at, T::SIZE)).ok_or(
@@ -41,14 +42,15 @@ impl Segment {
         index: u64,
     ) -> Result<ScalarValue, Refusal>
         requires { O.stands key.now self.now }
-        ensures { IsReplyOfKind self.now (O.key key.now) (ScalarOf kind) (Get (O.key key.now) index) (scalar_answer result) }
+        ensures { IsReplyOfKind self.now (O.key key.now) (ScalarOf kind) (Get (O.key key.now) index)
+            (scalar_answer result) }
     {
-        let place = self.find_element(key, kind, index)?;
-        ScalarValue::read(
-            kind,
-            element(&self.heap, place.handle, place.at, kind.size()),
-        )
-        .ok_or(Refusal::WrongKind)
+        macro_rules! typed {
+            ($type:ty, $name:ident) => {
+                ScalarValue::$name(self.get::<$type, O>(key, index)?)
+            };
+        }
+        Ok(by_kind!(kind, typed))
     }
 
     /// Makes a value the element at `index` in the object of a key, an object of scalars of the type. No other byte
@@ -67,14 +69,20 @@ impl Segment {
         value: T,
     ) -> Result<(), Refusal>
         requires { O.stands key.now self.old }
-        ensures step { IsStepOfKind self.old self.new (O.key key.now) (ScalarOf T.kind) (Set (O.key key.now) index (literal_of T.kind (T.whole value))) (done_answer result) }
+        ensures step { IsStepOfKind self.old self.new (O.key key.now) (ScalarOf T.kind)
+            (Set (O.key key.now) index (literal_of T.kind (T.whole value))) (done_answer result) }
         ensures refused { OnErr result (self.new ≡ self.old) }
         ensures element { OnOk result (ChangesElement self.old self.new (O.key key.now) T.kind index) }
     {
         let mut bytes = [0; LONGEST];
         let spelling = &mut bytes[..T::SIZE as usize];
         value.write(spelling);
-        self.write_element(key, T::kind(), index, spelling)
+        if self.is_read_only() {
+            return Err(Refusal::ReadOnly);
+        }
+        let target = self.find_element(key, T::kind(), index)?;
+        self.heap.write(target.handle, target.at, spelling);
+        Ok(())
     }
 
     /// The same of a value's kind.
@@ -86,38 +94,12 @@ impl Segment {
     ) -> Result<(), Refusal>
         requires { O.stands key.now self.old }
         ensures step { IsStepOfKind self.old self.new (O.key key.now) (ScalarOf (kind_of_scalar value))
-            (Set (O.key key.now) index (literal_of (kind_of_scalar value) (value_of_scalar value))) (done_answer result) }
+            (Set (O.key key.now) index (literal_of (kind_of_scalar value) (value_of_scalar value)))
+            (done_answer result) }
         ensures refused { OnErr result (self.new ≡ self.old) }
         ensures element { OnOk result (ChangesElement self.old self.new (O.key key.now) (kind_of_scalar value) index) }
     {
-        let kind = value.kind();
-        let mut bytes = [0; LONGEST];
-        let spelling = &mut bytes[..kind.size() as usize];
-        value.write(spelling);
-        self.write_element(key, kind, index, spelling)
-    }
-
-    /// Writes the bytes that spell a value as an element.
-    fn write_element<O: Target>(
-        &mut self,
-        key: &O,
-        kind: ScalarKind,
-        index: u64,
-        spelling: &[u8],
-    ) -> Result<(), Refusal>
-        requires target { O.stands key.now self.old }
-        requires spells { Spells kind spelling.now }
-        ensures step { (z : ℤ) → is_value kind z ≡ true → spelling.now ≡ spelling_of kind z
-            → IsStepOfKind self.old self.new (O.key key.now) (ScalarOf kind) (Set (O.key key.now) index (literal_of kind z)) (done_answer result) }
-        ensures refused { OnErr result (self.new ≡ self.old) }
-        ensures element { OnOk result (ChangesElement self.old self.new (O.key key.now) kind index) }
-    {
-        if self.is_read_only() {
-            return Err(Refusal::ReadOnly);
-        }
-        let place = self.find_element(key, kind, index)?;
-        self.heap.write(place.handle, place.at, spelling);
-        Ok(())
+        by_value!(value, it => self.set(key, index, it))
     }
 
     /// Where the element at `index` stands in the object of a key, an object of scalars of a kind.

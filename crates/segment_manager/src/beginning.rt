@@ -4,18 +4,19 @@ ghost use Rattle.std.specs.Prelude.{◌≡◌, ◌^◌, ◌<◌, ◌≤◌, leng
 ghost use Rattle.raw_region.specs.Memory.{Cut};
 ghost use Rattle.seg_types.specs.{Keys.new_key_seen, Names.Key as AnyKey, Names.NoKey};
 ghost use Rattle.seg_index.specs.{declared.keys.Key.Key as AnyEntry, Held.HasIndex, Held.place_of};
-ghost use Rattle.segment_manager.specs.Begun.{Begins, BeginsEntry, Ends, GivesAllBack, IsEnding, IsLoose, IsReadyFor, LeadsThere};
-ghost use Rattle.segment_manager.specs.{Indexed.class_of_index, State.IsSegment};
-ghost use Rattle.segment_manager.specs.NewObjects.{IsNewKeyOf, IsOfKind};
+ghost use Rattle.segment_manager.specs.Begun.{Begins, BeginsEntry, Ends, GivesAllBack, IsEnding, IsLoose, IsReadyFor};
+ghost use Rattle.segment_manager.specs.{Begun.LeadsThere, Indexed.class_of_index, NewObjects.IsNewKeyOf};
+ghost use Rattle.segment_manager.specs.{NewObjects.IsOfKind, State.IsSegment};
 
+use crate::fillings::Shape;
 use crate::head::write_head;
 use crate::layout::{HEAD_LEN, value_at};
-use crate::requesting::request;
+use crate::requesting::{Requested, request};
 use best_fit::Heap;
 use block_tags::Role;
 use raw_region::Steps;
 use seg_index::{Growth, Index, Key as Entry, Lookup};
-use seg_types::{Class, Handle, Kind, NewKey, Refusal};
+use seg_types::{Class, Handle, NewKey, Refusal};
 
 /// An entry that is to be made: in which index, where, and what the index grows into.
 #[derive(Drop)]
@@ -35,43 +36,23 @@ pub(crate) struct Begun {
     pub(crate) entry: Option<NewEntry>,
 }
 
-/// Takes the blocks of an object of a kind into use, with `body` bytes for its value, and writes its head. Else it is
-/// `Exists` where an object has the key, or `NoSpace`, and what the heap holds does not change.
-pub(crate) fn begin(
-    heap: &mut Heap,
-    key: &NewKey,
-    kind: Kind,
-    count: u32,
-    body: u64,
-) -> Result<Begun, Refusal>
+/// Takes the blocks of an object of a shape into use, and writes its head. Else it is `Exists` where an object has the
+/// key, or `NoSpace`, and what the heap holds does not change.
+pub(crate) fn begin(heap: &mut Heap, key: &NewKey, shape: Shape) -> Result<Begun, Refusal>
     requires segment { IsSegment heap.old.bytes }
-    requires kind { IsOfKind (new_key_seen key.now) kind }
-    requires small { body < 2 ^ 40 }
-    ensures { Begins heap.old heap.new (new_key_seen key.now) kind count body result }
+    requires kind { IsOfKind (new_key_seen key.now) shape.kind }
+    requires small { shape.len < 2 ^ 40 }
+    ensures { Begins heap.old heap.new (new_key_seen key.now) shape.kind shape.count shape.len result }
 {
     match key {
         NewKey::Name(name) => {
             let bytes = name.as_bytes();
-            begin_entered(
-                heap,
-                Index::Named,
-                Entry::Name(bytes),
-                kind,
-                bytes,
-                count,
-                body,
-            )
+            begin_entered(heap, Index::Named, Entry::Name(bytes), bytes, shape)
         }
-        NewKey::Unique(unique) => begin_entered(
-            heap,
-            Index::Unique,
-            Entry::Code(unique.code()),
-            kind,
-            &[],
-            count,
-            body,
-        ),
-        NewKey::Anonymous => begin_alone(heap, kind, count, body),
+        NewKey::Unique(unique) => {
+            begin_entered(heap, Index::Unique, Entry::Code(unique.code()), &[], shape)
+        }
+        NewKey::Anonymous => begin_alone(heap, shape),
     }
 }
 
@@ -80,19 +61,18 @@ fn begin_entered(
     heap: &mut Heap,
     index: Index,
     entry: Entry<'_>,
-    kind: Kind,
     name: &[u8],
-    count: u32,
-    body: u64,
+    shape: Shape,
 ) -> Result<Begun, Refusal>
     requires segment { IsSegment heap.old.bytes }
-    requires key { (key : AnyKey) × IsNewKeyOf index entry key name.now kind }
-    requires small { body < 2 ^ 40 }
-    ensures { (key : AnyKey) → IsNewKeyOf index entry.entry key name.now kind → Begins heap.old heap.new key kind count body result }
+    requires key { (key : AnyKey) × IsNewKeyOf index entry key name.now shape.kind }
+    requires small { shape.len < 2 ^ 40 }
+    ensures { (key : AnyKey) → IsNewKeyOf index entry.entry key name.now shape.kind
+        → Begins heap.old heap.new key shape.kind shape.count shape.len result }
 {
     match index.lookup(heap, entry, &mut Steps::new()) {
         Lookup::Found(_) => Err(Refusal::Exists),
-        Lookup::Absent(place) => begin_at(heap, index, place, kind, name, count, body),
+        Lookup::Absent(place) => begin_at(heap, index, place, name, shape),
     }
 }
 
@@ -101,39 +81,38 @@ pub(crate) fn begin_at(
     heap: &mut Heap,
     index: Index,
     place: u64,
-    kind: Kind,
     name: &[u8],
-    count: u32,
-    body: u64,
+    shape: Shape,
 ) -> Result<Begun, Refusal>
     requires index { HasIndex heap.old (place_of index) }
     requires short { length name.now ≤ 255 }
-    requires small { body < 2 ^ 40 }
-    ensures { (key : AnyKey) (entry : AnyEntry) → BeginsEntry heap.old heap.new index place entry key name.now kind count body result }
+    requires small { shape.len < 2 ^ 40 }
+    ensures { (key : AnyKey) (entry : AnyEntry)
+        → BeginsEntry heap.old heap.new index place entry key name.now shape.kind shape.count shape.len result }
 {
     let at = value_at(name.len() as u64);
-    let Ok(requested) = request(heap, index, at + body) else {
+    let Ok(requested) = request(heap, index, at + shape.len) else {
         return Err(Refusal::NoSpace);
     };
-    let handle = requested.handle;
-    write_head(heap, handle, kind, count, class_of(index), name);
+    let Requested { handle, growth } = requested;
+    write_head(heap, handle, shape.kind, shape.count, class_of(index), name);
     let entry = Some(NewEntry {
         index,
         place,
-        growth: requested.growth,
+        growth,
     });
     Ok(Begun { handle, at, entry })
 }
 
 /// The same without a key.
-fn begin_alone(heap: &mut Heap, kind: Kind, count: u32, body: u64) -> Result<Begun, Refusal>
-    requires { body < 2 ^ 40 }
-    ensures { Begins heap.old heap.new NoKey kind count body result }
+fn begin_alone(heap: &mut Heap, shape: Shape) -> Result<Begun, Refusal>
+    requires { shape.len < 2 ^ 40 }
+    ensures { Begins heap.old heap.new NoKey shape.kind shape.count shape.len result }
 {
-    let Ok(handle) = heap.allocate(HEAD_LEN + body, Role::Object, &mut Steps::new()) else {
+    let Ok(handle) = heap.allocate(HEAD_LEN + shape.len, Role::Object, &mut Steps::new()) else {
         return Err(Refusal::NoSpace);
     };
-    write_head(heap, handle, kind, count, Class::Anonymous, &[]);
+    write_head(heap, handle, shape.kind, shape.count, Class::Anonymous, &[]);
     Ok(Begun {
         handle,
         at: HEAD_LEN,

@@ -1,17 +1,16 @@
 //! Objects constructed, whatever they hold; those of one number, so many times.
-ghost use Rattle.std.specs.Prelude.{◌≡◌, ◌≤◌, replicate, true};
-ghost use Rattle.seg_types.specs.{declared.kinds.Kind.TheVariants.Scalar as ScalarOf, Commands.Construct};
-ghost use Rattle.seg_types.specs.{Commands.Numbers, Values.kind_of_scalar, Values.value_of_scalar};
-ghost use Rattle.segment_manager.specs.{Directory.kind_of, Filled.Builds, Filled.HasBegun};
-ghost use Rattle.segment_manager.specs.{Plan.bare, Counted.RefusesCount, Counted.is_count};
-ghost use Rattle.segment_manager.specs.State.{IsStep, KeepsRefused, handle_answer};
+ghost use Rattle.std.specs.Prelude.{◌≡◌, ◌≤◌, true};
+ghost use Rattle.seg_types.specs.declared.kinds.Kind.TheVariants.{Scalar as ScalarOf};
+ghost use Rattle.seg_types.specs.Values.{kind_of_scalar, value_of_scalar};
+ghost use Rattle.segment_manager.specs.{Counted.RefusesCount, Counted.is_count, Directory.kind_of, Filled.Builds};
+ghost use Rattle.segment_manager.specs.{Filled.HasBegun, Filled.Makes, Filled.alike, Plan.bare, State.KeepsRefused};
 
 use crate::beginning::{Begun, begin, end};
 use crate::destinations::Destination;
-use crate::fillings::{Filling, MOST, NewNumbers, NewScalars};
+use crate::fillings::{Filling, MOST, NewNumbers};
 use crate::segment::Segment;
 use best_fit::Heap;
-use seg_types::{Handle, Refusal, Scalar, ScalarValue};
+use seg_types::{Handle, Refusal, Scalar, ScalarValue, by_value};
 use seg_vector::Place;
 
 impl Segment {
@@ -39,7 +38,8 @@ impl Segment {
         requires kind { D.suits key.now (ScalarOf T.kind) }
         requires some { 1 ≤ count }
         requires few { count ≤ 1048576 }
-        ensures step { IsStep self.old self.new (Construct (D.key key.now (ScalarOf T.kind)) (Numbers T.kind (replicate count (T.whole value)))) (handle_answer result) }
+        ensures step { Makes self.old self.new (D.key key.now (ScalarOf T.kind))
+            (alike T.kind count (T.whole value)) result }
         ensures refused { KeepsRefused self.old self.new result }
     {
         self.construct_under(key, &NewNumbers { count, value })
@@ -49,15 +49,9 @@ impl Segment {
     ///
     /// Example: `let handle = segment.construct_array(&name, count, 0u8)?`.
     ///
-    /// # Conditions
+    /// # Conditions and errors
     ///
-    /// The key suits the kind: one that says a kind says this one ([`Destination`]).
-    ///
-    /// # Errors
-    ///
-    /// `OutOfRange` where `count` is 0 or above 1048576, else `ReadOnly` where the segment is open for reading, else
-    /// `Exists` where an object has the key: nothing changes. Else `NoSpace` where no gap is long enough: what the
-    /// segment holds does not change, and the bytes of gaps may.
+    /// `OutOfRange` where `count` is 0 or above 1048576: nothing changes. Else as of `construct`.
     pub fn construct_array<T: Scalar, D: Destination>(
         &mut self,
         key: &D,
@@ -65,7 +59,8 @@ impl Segment {
         value: T,
     ) -> Result<Handle, Refusal>
         requires kind { D.suits key.now (ScalarOf T.kind) }
-        ensures step { is_count count ≡ true → IsStep self.old self.new (Construct (D.key key.now (ScalarOf T.kind)) (Numbers T.kind (replicate count (T.whole value)))) (handle_answer result) }
+        ensures step { is_count count ≡ true
+            → Makes self.old self.new (D.key key.now (ScalarOf T.kind)) (alike T.kind count (T.whole value)) result }
         ensures count { RefusesCount count self.old self.new result }
         ensures refused { KeepsRefused self.old self.new result }
     {
@@ -75,13 +70,9 @@ impl Segment {
         self.construct(key, count, value)
     }
 
-    /// The same for a value of a kind.
+    /// The same for a value of a kind. Conditions and errors: as of `construct`.
     ///
     /// Example: `segment.construct_value(&name, 1, ScalarValue::I64(640))?`.
-    ///
-    /// # Conditions and errors
-    ///
-    /// As of `construct`.
     pub fn construct_value<D: Destination>(
         &mut self,
         key: &D,
@@ -91,10 +82,11 @@ impl Segment {
         requires kind { D.suits key.now (ScalarOf (kind_of_scalar value)) }
         requires some { 1 ≤ count }
         requires few { count ≤ 1048576 }
-        ensures step { IsStep self.old self.new (Construct (D.key key.now (ScalarOf (kind_of_scalar value))) (Numbers (kind_of_scalar value) (replicate count (value_of_scalar value)))) (handle_answer result) }
+        ensures step { Makes self.old self.new (D.key key.now (ScalarOf (kind_of_scalar value)))
+            (alike (kind_of_scalar value) count (value_of_scalar value)) result }
         ensures refused { KeepsRefused self.old self.new result }
     {
-        self.construct_under(key, &NewScalars { count, value })
+        by_value!(value, it => self.construct(key, count, it))
     }
 
     /// The same of what fills an object.
@@ -106,7 +98,8 @@ impl Segment {
     ) -> Result<Handle, Refusal>
         requires stands { F.stands filling.now }
         requires kind { D.suits key.now (kind_of (bare (F.content filling.now))) }
-        ensures step { IsStep self.old self.new (Construct (D.key key.now (kind_of (bare (F.content filling.now)))) (F.content filling.now)) (handle_answer result) }
+        ensures step { Makes self.old self.new (D.key key.now (kind_of (bare (F.content filling.now))))
+            (F.content filling.now) result }
         ensures refused { KeepsRefused self.old self.new result }
     {
         if self.is_read_only() {
@@ -114,7 +107,7 @@ impl Segment {
         }
         let shape = filling.shape();
         let key = key.key_for(shape.kind);
-        let begun = begin(&mut self.heap, &key, shape.kind, shape.count, shape.len)?;
+        let begun = begin(&mut self.heap, &key, shape)?;
         build(&mut self.heap, begun, filling)
     }
 }

@@ -1,9 +1,10 @@
 //! Objects that are vectors, strings or maps, constructed.
 ghost use Rattle.std.specs.Prelude.{map};
-ghost use Rattle.seg_types.specs.declared.kinds.Kind.TheVariants.{Text as TextKind, Vector as VectorOf, Texts as TextsKind, Map as MapOf};
-ghost use Rattle.seg_types.specs.Commands.{Bytes, Construct, Elements, FindOrConstruct, Strings, NoPairs};
-ghost use Rattle.segment_manager.specs.{Found.pair_answer, Keeping.HasKey, Keeping.KeepsWhere};
-ghost use Rattle.segment_manager.specs.State.{IsStep, KeepsRefused, handle_answer};
+ghost use Rattle.seg_types.specs.declared.kinds.Kind.TheVariants.{Map as MapOf, Text as TextKind, Texts as TextsKind};
+ghost use Rattle.seg_types.specs.declared.kinds.Kind.TheVariants.{Vector as VectorOf};
+ghost use Rattle.seg_types.specs.Commands.{Bytes, Elements, NoPairs, Strings};
+ghost use Rattle.segment_manager.specs.{Filled.FindsOrMakes, Filled.Makes, Keeping.HasKey, Keeping.KeepsWhere};
+ghost use Rattle.segment_manager.specs.State.{KeepsRefused};
 
 use crate::destinations::{Destination, IndexDestination};
 use crate::fillings::{NewMap, NewString, NewTexts, NewVector};
@@ -12,71 +13,51 @@ use seg_types::{Handle, Refusal, Scalar, ScalarKind};
 
 impl Segment {
     /// Makes a vector of values with just so many places, and answers its handle. A key that is a kind is that of such
-    /// vectors.
+    /// vectors. Conditions and errors: as of `construct`, but for the count.
     ///
     /// Example: `segment.construct_vec::<i64, _>(&name, &[])?`.
-    ///
-    /// # Conditions
-    ///
-    /// The key suits the kind: one that says a kind says this one ([`Destination`]).
-    ///
-    /// # Errors
-    ///
-    /// `ReadOnly` where the segment is open for reading, else `Exists` where an object has the key: nothing changes.
-    /// Else `NoSpace` where no gap is long enough: what the segment holds does not change, and the bytes of gaps may.
     pub fn construct_vec<T: Scalar, D: Destination>(
         &mut self,
         key: &D,
         values: &[T],
     ) -> Result<Handle, Refusal>
         requires kind { D.suits key.now (VectorOf T.kind) }
-        ensures step { IsStep self.old self.new (Construct (D.key key.now (VectorOf T.kind)) (Elements T.kind (map T.whole values.now))) (handle_answer result) }
+        ensures step { Makes self.old self.new (D.key key.now (VectorOf T.kind))
+            (Elements T.kind (map T.whole values.now)) result }
         ensures refused { KeepsRefused self.old self.new result }
     {
         self.construct_under(key, &NewVector { values })
     }
 
     /// Makes a string of bytes with just so many places, and answers its handle. A key that is a kind is that of
-    /// strings.
+    /// strings. Conditions and errors: as of `construct`, but for the count.
     ///
     /// Example: `segment.construct_string(&name, b"red")?`.
-    ///
-    /// # Conditions and errors
-    ///
-    /// As of `construct_vec`.
     pub fn construct_string<D: Destination>(
         &mut self,
         key: &D,
         bytes: &[u8],
     ) -> Result<Handle, Refusal>
         requires kind { D.suits key.now TextKind }
-        ensures step { IsStep self.old self.new (Construct (D.key key.now TextKind) (Bytes bytes.now)) (handle_answer result) }
+        ensures step { Makes self.old self.new (D.key key.now TextKind) (Bytes bytes.now) result }
         ensures refused { KeepsRefused self.old self.new result }
     {
         self.construct_under(key, &NewString { bytes })
     }
 
     /// The handle of the vector of a key, with 1 for its count. Where no object has the key a vector of the values is
-    /// made. One that is found stays as it is. A key that is a kind is that of such vectors.
+    /// made. One that is found stays as it is. A key that is a kind is that of such vectors. Conditions and errors: as
+    /// of `find_or_construct`, but for the count.
     ///
     /// Example: `segment.find_or_construct_vec(&name, &[1i64, 2])?`.
-    ///
-    /// # Conditions
-    ///
-    /// The key suits the kind: one that says a kind says this one ([`Destination`]).
-    ///
-    /// # Errors
-    ///
-    /// `ReadOnly` where the segment is open for reading, else `WrongKind` where the object is of another kind: nothing
-    /// changes. Else `NoSpace` where none is there and no gap is long enough: what the segment holds does not change,
-    /// and the bytes of gaps may.
     pub fn find_or_construct_vec<T: Scalar, D: IndexDestination>(
         &mut self,
         key: &D,
         values: &[T],
     ) -> Result<(Handle, u32), Refusal>
         requires kind { D.suits key.now (VectorOf T.kind) }
-        ensures step { IsStep self.old self.new (FindOrConstruct (D.key key.now (VectorOf T.kind)) (Elements T.kind (map T.whole values.now))) (pair_answer result) }
+        ensures step { FindsOrMakes self.old self.new (D.key key.now (VectorOf T.kind))
+            (Elements T.kind (map T.whole values.now)) result }
         ensures refused { KeepsRefused self.old self.new result }
         ensures found { KeepsWhere self.old self.new (HasKey (D.key key.now (VectorOf T.kind))) }
     {
@@ -84,20 +65,17 @@ impl Segment {
     }
 
     /// The handle of the string of a key, with 1 for its count. Where no object has the key a string of the bytes is
-    /// made. One that is found stays as it is. A key that is a kind is that of strings.
+    /// made. One that is found stays as it is. A key that is a kind is that of strings. Conditions and errors: as of
+    /// `find_or_construct`, but for the count.
     ///
     /// Example: `segment.find_or_construct_string(&name, b"red")?`.
-    ///
-    /// # Conditions and errors
-    ///
-    /// As of `find_or_construct_vec`.
     pub fn find_or_construct_string<D: IndexDestination>(
         &mut self,
         key: &D,
         bytes: &[u8],
     ) -> Result<(Handle, u32), Refusal>
         requires kind { D.suits key.now TextKind }
-        ensures step { IsStep self.old self.new (FindOrConstruct (D.key key.now TextKind) (Bytes bytes.now)) (pair_answer result) }
+        ensures step { FindsOrMakes self.old self.new (D.key key.now TextKind) (Bytes bytes.now) result }
         ensures refused { KeepsRefused self.old self.new result }
         ensures found { KeepsWhere self.old self.new (HasKey (D.key key.now TextKind)) }
     {
@@ -105,71 +83,59 @@ impl Segment {
     }
 
     /// Makes a vector of texts with just so many places, each text in a block of its own, and answers its handle. A key
-    /// that is a kind is that of such vectors.
+    /// that is a kind is that of such vectors. Conditions and errors: as of `construct`, but for the count.
     ///
     /// Example: `segment.construct_texts(&name, &[b"apples", b"pears"])?`.
-    ///
-    /// # Conditions and errors
-    ///
-    /// As of `construct_vec`.
     pub fn construct_texts<D: Destination>(
         &mut self,
         key: &D,
         texts: &[&[u8]],
     ) -> Result<Handle, Refusal>
         requires kind { D.suits key.now TextsKind }
-        ensures step { IsStep self.old self.new (Construct (D.key key.now TextsKind) (Strings (map (λ text. text.now) texts.now))) (handle_answer result) }
+        ensures step { Makes self.old self.new (D.key key.now TextsKind)
+            (Strings (map (λ text. text.now) texts.now)) result }
         ensures refused { KeepsRefused self.old self.new result }
     {
         self.construct_under(key, &NewTexts { texts })
     }
 
     /// The handle of the vector of strings of a key, with 1 for its count. Where no object has the key a vector of the
-    /// texts is made. One that is found stays as it is. A key that is a kind is that of such vectors.
+    /// texts is made. One that is found stays as it is. A key that is a kind is that of such vectors. Conditions and
+    /// errors: as of `find_or_construct`, but for the count.
     ///
     /// Example: `segment.find_or_construct_texts(&name, &[])?`.
-    ///
-    /// # Conditions and errors
-    ///
-    /// As of `find_or_construct_vec`.
     pub fn find_or_construct_texts<D: IndexDestination>(
         &mut self,
         key: &D,
         texts: &[&[u8]],
     ) -> Result<(Handle, u32), Refusal>
         requires kind { D.suits key.now TextsKind }
-        ensures step { IsStep self.old self.new (FindOrConstruct (D.key key.now TextsKind) (Strings (map (λ text. text.now) texts.now))) (pair_answer result) }
+        ensures step { FindsOrMakes self.old self.new (D.key key.now TextsKind)
+            (Strings (map (λ text. text.now) texts.now)) result }
         ensures refused { KeepsRefused self.old self.new result }
         ensures found { KeepsWhere self.old self.new (HasKey (D.key key.now TextsKind)) }
     {
         self.find_or_construct_under(key, &NewTexts { texts })
     }
 
-    /// Makes a map without pairs, and answers its handle. A key that is a kind is that of such maps.
+    /// Makes a map without pairs, and answers its handle. A key that is a kind is that of such maps. Conditions and
+    /// errors: as of `construct`, but for the count.
     ///
     /// Example: `segment.construct_map::<i32, i64, _>(&name)?`.
-    ///
-    /// # Conditions and errors
-    ///
-    /// As of `construct_vec`.
     pub fn construct_map<K: Scalar, V: Scalar, D: Destination>(
         &mut self,
         key: &D,
     ) -> Result<Handle, Refusal>
         requires kind { D.suits key.now (MapOf K.kind V.kind) }
-        ensures step { IsStep self.old self.new (Construct (D.key key.now (MapOf K.kind V.kind)) (NoPairs K.kind V.kind)) (handle_answer result) }
+        ensures step { Makes self.old self.new (D.key key.now (MapOf K.kind V.kind)) (NoPairs K.kind V.kind) result }
         ensures refused { KeepsRefused self.old self.new result }
     {
         self.construct_map_of(key, K::kind(), V::kind())
     }
 
-    /// The same of two kinds.
+    /// The same of two kinds. Conditions and errors: as of `construct`, but for the count.
     ///
     /// Example: `segment.construct_map_of(&name, ScalarKind::I32, ScalarKind::I64)?`.
-    ///
-    /// # Conditions and errors
-    ///
-    /// As of `construct_vec`.
     pub fn construct_map_of<D: Destination>(
         &mut self,
         key: &D,
@@ -177,39 +143,33 @@ impl Segment {
         values: ScalarKind,
     ) -> Result<Handle, Refusal>
         requires kind { D.suits key.now (MapOf keys values) }
-        ensures step { IsStep self.old self.new (Construct (D.key key.now (MapOf keys values)) (NoPairs keys values)) (handle_answer result) }
+        ensures step { Makes self.old self.new (D.key key.now (MapOf keys values)) (NoPairs keys values) result }
         ensures refused { KeepsRefused self.old self.new result }
     {
         self.construct_under(key, &NewMap { keys, values })
     }
 
     /// The handle of the map of a key, with 1 for its count. Where no object has the key a map without pairs is made.
-    /// One that is found stays as it is. A key that is a kind is that of such maps.
+    /// One that is found stays as it is. A key that is a kind is that of such maps. Conditions and errors: as of
+    /// `find_or_construct`, but for the count.
     ///
     /// Example: `segment.find_or_construct_map::<i32, i64, _>(&name)?`.
-    ///
-    /// # Conditions and errors
-    ///
-    /// As of `find_or_construct_vec`.
     pub fn find_or_construct_map<K: Scalar, V: Scalar, D: IndexDestination>(
         &mut self,
         key: &D,
     ) -> Result<(Handle, u32), Refusal>
         requires kind { D.suits key.now (MapOf K.kind V.kind) }
-        ensures step { IsStep self.old self.new (FindOrConstruct (D.key key.now (MapOf K.kind V.kind)) (NoPairs K.kind V.kind)) (pair_answer result) }
+        ensures step { FindsOrMakes self.old self.new (D.key key.now (MapOf K.kind V.kind))
+            (NoPairs K.kind V.kind) result }
         ensures refused { KeepsRefused self.old self.new result }
         ensures found { KeepsWhere self.old self.new (HasKey (D.key key.now (MapOf K.kind V.kind))) }
     {
         self.find_or_construct_map_of(key, K::kind(), V::kind())
     }
 
-    /// The same of two kinds.
+    /// The same of two kinds. Conditions and errors: as of `find_or_construct`, but for the count.
     ///
     /// Example: `segment.find_or_construct_map_of(&name, ScalarKind::I32, ScalarKind::I64)?`.
-    ///
-    /// # Conditions and errors
-    ///
-    /// As of `find_or_construct_vec`.
     pub fn find_or_construct_map_of<D: IndexDestination>(
         &mut self,
         key: &D,
@@ -217,7 +177,7 @@ impl Segment {
         values: ScalarKind,
     ) -> Result<(Handle, u32), Refusal>
         requires kind { D.suits key.now (MapOf keys values) }
-        ensures step { IsStep self.old self.new (FindOrConstruct (D.key key.now (MapOf keys values)) (NoPairs keys values)) (pair_answer result) }
+        ensures step { FindsOrMakes self.old self.new (D.key key.now (MapOf keys values)) (NoPairs keys values) result }
         ensures refused { KeepsRefused self.old self.new result }
         ensures found { KeepsWhere self.old self.new (HasKey (D.key key.now (MapOf keys values))) }
     {

@@ -40,16 +40,12 @@ impl Segment {
         ensures { Creates region base size mode result }
     {
         if !is_legal_size(size) {
-            return Err(CreateRefused {
-                region,
-                cause: CreateError::BadSize,
-            });
+            let cause = CreateError::BadSize;
+            return Err(CreateRefused { region, cause });
         }
         if !region.in_range(base, size) {
-            return Err(CreateRefused {
-                region,
-                cause: CreateError::RegionTooSmall,
-            });
+            let cause = CreateError::RegionTooSmall;
+            return Err(CreateRefused { region, cause });
         }
         let mut heap = Heap::fresh(Window::zeroed(region, base, size));
         write_header(&mut heap, size);
@@ -79,10 +75,8 @@ impl Segment {
         ensures { Relocates self region base result }
     {
         if !region.in_range(base, self.heap.size()) {
-            return Err(RelocateRefused {
-                segment: self,
-                region,
-            });
+            let segment = self;
+            return Err(RelocateRefused { segment, region });
         }
         let Segment { heap, mode } = self;
         let left = heap.into_window();

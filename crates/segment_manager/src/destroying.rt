@@ -7,6 +7,7 @@ ghost use Rattle.segment_manager.specs.{Keeping.LacksKey, Listed.HasEntries, Lis
 ghost use Rattle.segment_manager.specs.Destroyed.{HoldsEntry, HoldsObject, RemovesAnonymous, RemovesEntry};
 ghost use Rattle.segment_manager.specs.State.{Answers, IsStep, gone_answer, truth_answer};
 
+use crate::finding::entry_of;
 use crate::head::{read_head, read_name};
 use crate::releasing::release_contents;
 use crate::segment::Segment;
@@ -40,20 +41,16 @@ impl Segment {
         if self.is_read_only() {
             return Err(Refusal::ReadOnly);
         }
-        Ok(match key {
-            IndexKey::Name(name) => self.destroy_entered(
-                Index::Named,
-                Entry::Name(name.as_bytes()),
-            ),
-            IndexKey::Unique(kind) => self.destroy_entered(Index::Unique, Entry::Code(kind.code())),
-        })
+        let (index, entry, _) = entry_of(key);
+        Ok(self.destroy_entered(index, entry))
     }
 
     /// The same under an entry of an index, in a segment that may be changed.
     fn destroy_entered(&mut self, index: Index, entry: Entry<'_>) -> bool
         requires writing { is_read_only self.old.mode ≡ false }
         requires key { (key : AnyKey) × Seeks index entry key }
-        ensures step { (key : AnyKey) → Seeks index entry.entry key → IsStep self.old self.new (Destroy key) (Truth result) }
+        ensures step { (key : AnyKey) → Seeks index entry.entry key
+            → IsStep self.old self.new (Destroy key) (Truth result) }
         ensures absent { (key : AnyKey) → Seeks index entry.entry key → KeepsWhere self.old self.new (LacksKey key) }
     {
         match index.lookup(&self.heap, entry, &mut Steps::new()) {

@@ -3,7 +3,6 @@ ghost use Rattle.std.specs.Prelude.{◌≡◌, ◌+◌, ◌%◌, ◌≤◌, ⊤,
 ghost use Rattle.raw_region.specs.Format.{current};
 ghost use Rattle.best_fit.specs.Heap.{IsHeap, has_room, live_of};
 ghost use Rattle.seg_types.specs.Commands.{Bytes, Content, Elements, NoPairs, Numbers, Strings};
-ghost use Rattle.seg_types.specs.{Kinds.is_value, Values.kind_of_scalar, Values.value_of_scalar};
 ghost use Rattle.segment_manager.specs.{Directory.value_len, Plan.bare};
 ghost use Rattle.segment_manager.specs.Filled.{IsShapeOf, MakesValue, container_shape, numbers_shape};
 
@@ -12,7 +11,7 @@ use crate::maps::map_place;
 use crate::text_lists::{judge, judge_all};
 use best_fit::Heap;
 use seg_map::SegMap;
-use seg_types::{Kind, Refusal, Scalar, ScalarKind, ScalarValue};
+use seg_types::{Kind, Refusal, Scalar, ScalarKind};
 use seg_vector::{Place, SegString, SegTexts, SegVec};
 
 /// The longest spelling of a scalar, in bytes.
@@ -26,7 +25,7 @@ const CONTAINER_LEN: u64 = 24;
 
 /// What is known of an object before a block is asked for: its kind, how many elements it has, and the bytes of its
 /// value in its own block.
-#[derive(Drop)]
+#[derive(Clone, Copy)]
 pub(crate) struct Shape {
     pub(crate) kind: Kind,
     pub(crate) count: u32,
@@ -55,7 +54,8 @@ pub(crate) trait Filling {
         requires stands { stands self.now }
         requires heap { IsHeap current heap.old.bytes }
         requires aligned { place.at % 8 ≡ 0 }
-        requires room { IsTrue (has_room (live_of heap.old.bytes) place.handle (place.at + value_len (bare (content self.now)))) }
+        requires room { IsTrue
+            (has_room (live_of heap.old.bytes) place.handle (place.at + value_len (bare (content self.now)))) }
         ensures { MakesValue (content self.now) heap.old heap.new place result };
 }
 
@@ -80,34 +80,6 @@ impl<T: Scalar> Filling for NewNumbers<T> {
     fn fill(&self, heap: &mut Heap, place: Place) -> Result<(), Refusal> {
         let mut bytes = [0; LONGEST];
         let spelling = &mut bytes[..T::SIZE as usize];
-        self.value.write(spelling);
-        write_elements(heap, place.handle, place.at, self.count, spelling);
-        Ok(())
-    }
-}
-
-/// The same for a value of a kind.
-#[derive(Drop)]
-pub(crate) struct NewScalars {
-    pub(crate) count: u32,
-    pub(crate) value: ScalarValue,
-}
-
-impl Filling for NewScalars {
-    ghost content = { λ f. Numbers (kind_of_scalar f.value) (replicate f.count (value_of_scalar f.value)) };
-
-    ghost stands = { λ f. (1 ≤ f.count) × (f.count ≤ 1048576) };
-
-    #[inline(always)]
-    fn shape(&self) -> Shape {
-        numbers(self.value.kind(), self.count)
-    }
-
-    #[inline(always)]
-    fn fill(&self, heap: &mut Heap, place: Place) -> Result<(), Refusal> {
-        judge_value(self.value);
-        let mut bytes = [0; LONGEST];
-        let spelling = &mut bytes[..self.value.kind().size() as usize];
         self.value.write(spelling);
         write_elements(heap, place.handle, place.at, self.count, spelling);
         Ok(())
@@ -212,7 +184,7 @@ impl Filling for NewMap {
 
 /// An object of `count` numbers of a kind.
 #[inline(always)]
-fn numbers(kind: ScalarKind, count: u32) -> Shape
+pub(crate) fn numbers(kind: ScalarKind, count: u32) -> Shape
     requires { count ≤ 1048576 }
     ensures { result ≡ numbers_shape kind count }
 {
@@ -234,9 +206,3 @@ fn container(kind: Kind) -> Shape
         len: CONTAINER_LEN,
     }
 }
-
-/// Says that a value is one of its kind. Its type knows it.
-#[inline(always)]
-fn judge_value(value: ScalarValue)
-    ensures { IsTrue (is_value (kind_of_scalar value) (value_of_scalar value)) }
-{}

@@ -1,9 +1,10 @@
 //! Objects found by their keys, and the entries of the two indexes.
 ghost use Rattle.std.specs.Prelude.{length, slice_get, Some, ◌≡◌};
-ghost use Rattle.seg_types.specs.{declared.kinds.Kind.TheVariants.Scalar as ScalarOf, Commands.Find, Commands.NumNamed};
-ghost use Rattle.seg_types.specs.{Commands.NumUnique, Keys.key_seen, Names.Key as AnyKey};
+ghost use Rattle.seg_types.specs.declared.kinds.{Kind.Kind as AnyKind, Kind.TheVariants.Scalar as ScalarOf};
+ghost use Rattle.seg_types.specs.{Commands.Find, Commands.NumNamed, Commands.NumUnique, Keys.index_key_seen};
+ghost use Rattle.seg_types.specs.{Keys.key_seen, Names.Key as AnyKey};
 ghost use Rattle.segment_manager.specs.{Answers.Number, Denotes.handles, State.Answers, State.IsReply};
-ghost use Rattle.segment_manager.specs.Indexed.{Seeks, objects_of};
+ghost use Rattle.segment_manager.specs.{Indexed.Seeks, Indexed.objects_of, NewObjects.IsNewKeyOf, NewObjects.IsOfKind};
 ghost use Rattle.segment_manager.specs.Directory.{named_objects, unique_objects};
 ghost use Rattle.segment_manager.specs.Found.{IsBelow, found_answer, handle_at, is_object_at};
 
@@ -12,7 +13,7 @@ use crate::segment::Segment;
 use block_tags::Role;
 use raw_region::Steps;
 use seg_index::{Index, Key as Entry, Lookup};
-use seg_types::{Handle, Key, Kind, Refusal, Scalar};
+use seg_types::{Handle, IndexKey, Key, Kind, Refusal, Scalar};
 
 impl Segment {
     /// The handle of the object of a key, and how many elements it has (1 where it is a container), or nothing where no
@@ -101,6 +102,22 @@ impl Segment {
             Lookup::Found(place) => Some(index.at(&self.heap, place)),
             Lookup::Absent(_) => None,
         }
+    }
+}
+
+/// The index that has the entry of a key, the entry, and the name of the object that it leads to.
+#[inline(always)]
+pub(crate) fn entry_of<'a>(key: &IndexKey<'a>) -> (Index, Entry<'a>, &'a [u8])
+    ensures seeks { Seeks result.0 result.1 (index_key_seen key.now) }
+    ensures new { (kind : AnyKind) → IsOfKind (index_key_seen key.now) kind
+        → IsNewKeyOf result.0 result.1 (index_key_seen key.now) result.2.now kind }
+{
+    match key {
+        IndexKey::Name(name) => {
+            let bytes = name.as_bytes();
+            (Index::Named, Entry::Name(bytes), bytes)
+        }
+        IndexKey::Unique(kind) => (Index::Unique, Entry::Code(kind.code()), &[]),
     }
 }
 

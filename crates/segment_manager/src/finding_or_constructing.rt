@@ -1,24 +1,24 @@
 //! Objects found, or constructed where there are none, whatever they hold; those of one number, so many times.
-ghost use Rattle.std.specs.Prelude.{◌≡◌, ◌≤◌, replicate, true};
-ghost use Rattle.seg_types.specs.declared.kinds.Kind.TheVariants.{Scalar as ScalarOf};
-ghost use Rattle.seg_types.specs.{Commands.FindOrConstruct, Commands.Numbers, Keys.index_key_seen, Names.Key as AnyKey};
+ghost use Rattle.std.specs.Prelude.{◌≡◌, ◌≤◌, true};
+ghost use Rattle.seg_types.specs.{declared.kinds.Kind.TheVariants.Scalar as ScalarOf, Names.Key as AnyKey};
 ghost use Rattle.seg_types.specs.Values.{kind_of_scalar, value_of_scalar};
-ghost use Rattle.segment_manager.specs.{Directory.Object, Directory.kind_of, Filled.FindsOrConstructs};
-ghost use Rattle.segment_manager.specs.{Filled.with_count, Found.pair_answer, Keeping.HasKey, Keeping.KeepsWhere};
-ghost use Rattle.segment_manager.specs.{NewObjects.IsNewKeyOf, NewObjects.IsOfKind, Plan.bare, State.IsSegment};
-ghost use Rattle.segment_manager.specs.{State.IsStep, State.KeepsRefused, Counted.RefusesCount, Counted.is_count};
-ghost use Rattle.segment_manager.specs.Standing.{HasObject, StandsAt, pair_of_kind};
+ghost use Rattle.segment_manager.specs.{Counted.RefusesCount, Counted.is_count, Directory.Object, Directory.kind_of};
+ghost use Rattle.segment_manager.specs.Filled.{FindsOrConstructs, FindsOrMakes, alike, with_count};
+ghost use Rattle.segment_manager.specs.{Keeping.HasKey, Keeping.KeepsWhere, NewObjects.IsNewKeyOf};
+ghost use Rattle.segment_manager.specs.{Plan.bare, Standing.HasObject, Standing.StandsAt, Standing.pair_of_kind};
+ghost use Rattle.segment_manager.specs.State.{IsSegment, KeepsRefused};
 
 use crate::beginning::begin_at;
 use crate::constructing::build;
 use crate::destinations::IndexDestination;
-use crate::fillings::{Filling, MOST, NewNumbers, NewScalars};
+use crate::fillings::{Filling, MOST, NewNumbers};
+use crate::finding::entry_of;
 use crate::head::read_head;
 use crate::segment::Segment;
 use best_fit::Heap;
 use raw_region::Steps;
 use seg_index::{Index, Key as Entry, Lookup};
-use seg_types::{Handle, IndexKey, Kind, Refusal, Scalar, ScalarValue};
+use seg_types::{Handle, Kind, Refusal, Scalar, ScalarValue, by_value};
 
 impl Segment {
     /// The handle of the scalars of a key, and how many they are. Where no object has the key one is made, of `count`
@@ -47,27 +47,21 @@ impl Segment {
         requires kind { D.suits key.now (ScalarOf T.kind) }
         requires some { 1 ≤ count }
         requires few { count ≤ 1048576 }
-        ensures step { IsStep self.old self.new (FindOrConstruct (D.key key.now (ScalarOf T.kind)) (Numbers T.kind (replicate count (T.whole value)))) (pair_answer result) }
+        ensures step { FindsOrMakes self.old self.new (D.key key.now (ScalarOf T.kind))
+            (alike T.kind count (T.whole value)) result }
         ensures refused { KeepsRefused self.old self.new result }
         ensures found { KeepsWhere self.old self.new (HasKey (D.key key.now (ScalarOf T.kind))) }
     {
         self.find_or_construct_under(key, &NewNumbers { count, value })
     }
 
-    /// The handle of the scalars of a key, and how many they are. Where no object has the key an array is made, of
-    /// `count` times a value. An object that is found stays as it is, however many scalars it has.
+    /// The same for an array, of any `count`.
     ///
     /// Example: `let (handle, count) = segment.find_or_construct_array(&name, count, 0u8)?`.
     ///
-    /// # Conditions
+    /// # Conditions and errors
     ///
-    /// The key suits the kind: one that says a kind says this one ([`Destination`]).
-    ///
-    /// # Errors
-    ///
-    /// `OutOfRange` where `count` is 0 or above 1048576, else `ReadOnly` where the segment is open for reading, else
-    /// `WrongKind` where the object is of another kind: nothing changes. Else `NoSpace` where none is there and no gap
-    /// is long enough: what the segment holds does not change, and the bytes of gaps may.
+    /// `OutOfRange` where `count` is 0 or above 1048576: nothing changes. Else as of `find_or_construct`.
     pub fn find_or_construct_array<T: Scalar, D: IndexDestination>(
         &mut self,
         key: &D,
@@ -75,7 +69,9 @@ impl Segment {
         value: T,
     ) -> Result<(Handle, u32), Refusal>
         requires kind { D.suits key.now (ScalarOf T.kind) }
-        ensures step { is_count count ≡ true → IsStep self.old self.new (FindOrConstruct (D.key key.now (ScalarOf T.kind)) (Numbers T.kind (replicate count (T.whole value)))) (pair_answer result) }
+        ensures step { is_count count ≡ true
+            → FindsOrMakes self.old self.new (D.key key.now (ScalarOf T.kind))
+            (alike T.kind count (T.whole value)) result }
         ensures count { RefusesCount count self.old self.new result }
         ensures refused { KeepsRefused self.old self.new result }
         ensures found { KeepsWhere self.old self.new (HasKey (D.key key.now (ScalarOf T.kind))) }
@@ -86,13 +82,9 @@ impl Segment {
         self.find_or_construct(key, count, value)
     }
 
-    /// The same for a value of a kind.
+    /// The same for a value of a kind. Conditions and errors: as of `find_or_construct`.
     ///
     /// Example: `segment.find_or_construct_value(&name, 1, ScalarValue::I64(640))?`.
-    ///
-    /// # Conditions and errors
-    ///
-    /// As of `find_or_construct`.
     pub fn find_or_construct_value<D: IndexDestination>(
         &mut self,
         key: &D,
@@ -102,11 +94,12 @@ impl Segment {
         requires kind { D.suits key.now (ScalarOf (kind_of_scalar value)) }
         requires some { 1 ≤ count }
         requires few { count ≤ 1048576 }
-        ensures step { IsStep self.old self.new (FindOrConstruct (D.key key.now (ScalarOf (kind_of_scalar value))) (Numbers (kind_of_scalar value) (replicate count (value_of_scalar value)))) (pair_answer result) }
+        ensures step { FindsOrMakes self.old self.new (D.key key.now (ScalarOf (kind_of_scalar value)))
+            (alike (kind_of_scalar value) count (value_of_scalar value)) result }
         ensures refused { KeepsRefused self.old self.new result }
         ensures found { KeepsWhere self.old self.new (HasKey (D.key key.now (ScalarOf (kind_of_scalar value)))) }
     {
-        self.find_or_construct_under(key, &NewScalars { count, value })
+        by_value!(value, it => self.find_or_construct(key, count, it))
     }
 
     /// The same of what fills an object.
@@ -118,7 +111,8 @@ impl Segment {
     ) -> Result<(Handle, u32), Refusal>
         requires stands { F.stands filling.now }
         requires kind { D.suits key.now (kind_of (bare (F.content filling.now))) }
-        ensures step { IsStep self.old self.new (FindOrConstruct (D.key key.now (kind_of (bare (F.content filling.now)))) (F.content filling.now)) (pair_answer result) }
+        ensures step { FindsOrMakes self.old self.new (D.key key.now (kind_of (bare (F.content filling.now))))
+            (F.content filling.now) result }
         ensures refused { KeepsRefused self.old self.new result }
         ensures found { KeepsWhere self.old self.new (HasKey (D.key key.now (kind_of (bare (F.content filling.now))))) }
     {
@@ -126,34 +120,12 @@ impl Segment {
             return Err(Refusal::ReadOnly);
         }
         let key = key.entry_for(filling.shape().kind);
-        find_or_construct_in(&mut self.heap, &key, filling)
+        let (index, entry, name) = entry_of(&key);
+        find_or_construct_entered(&mut self.heap, index, entry, name, filling)
     }
 }
 
-/// The same on the heap of a segment that may be changed.
-#[inline(always)]
-fn find_or_construct_in<F: Filling>(
-    heap: &mut Heap,
-    key: &IndexKey,
-    filling: &F,
-) -> Result<(Handle, u32), Refusal>
-    requires segment { IsSegment heap.old.bytes }
-    requires stands { F.stands filling.now }
-    requires kind { IsOfKind (index_key_seen key.now) (kind_of (bare (F.content filling.now))) }
-    ensures { FindsOrConstructs heap.old heap.new (index_key_seen key.now) (F.content filling.now) result }
-{
-    match key {
-        IndexKey::Name(name) => {
-            let bytes = name.as_bytes();
-            find_or_construct_entered(heap, Index::Named, Entry::Name(bytes), bytes, filling)
-        }
-        IndexKey::Unique(kind) => {
-            find_or_construct_entered(heap, Index::Unique, Entry::Code(kind.code()), &[], filling)
-        }
-    }
-}
-
-/// The same under an entry of an index.
+/// The same under an entry of an index, on the heap of a segment that may be changed.
 fn find_or_construct_entered<F: Filling>(
     heap: &mut Heap,
     index: Index,
@@ -172,7 +144,7 @@ fn find_or_construct_entered<F: Filling>(
         Lookup::Found(place) => return found_of(heap, index.at(heap, place), shape.kind),
         Lookup::Absent(place) => place,
     };
-    let begun = begin_at(heap, index, place, shape.kind, name, shape.count, shape.len)?;
+    let begun = begin_at(heap, index, place, name, shape)?;
     counted(build(heap, begun, filling), shape.count)
 }
 

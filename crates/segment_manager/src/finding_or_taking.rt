@@ -3,6 +3,7 @@ ghost use Rattle.std.specs.Prelude.{◌≡◌, true, false};
 ghost use Rattle.seg_types.specs.declared.kinds.Kind.TheVariants.{Scalar as ScalarOf};
 ghost use Rattle.segment_manager.specs.{Counted.RefusesCount, Counted.is_count, Items.FindsOrTakes, Items.found_as};
 
+use crate::constructing_from::OfType;
 use crate::destinations::IndexDestination;
 use crate::fillings::MOST;
 use crate::finding_or_constructing::counted;
@@ -16,15 +17,9 @@ impl Segment {
     ///
     /// Example: `let (handle, count) = segment.find_or_construct_it(&name, 5, &mut primes)?`.
     ///
-    /// # Conditions
+    /// # Conditions and errors
     ///
-    /// The key suits the kind: one that says a kind says this one ([`Destination`]).
-    ///
-    /// # Errors
-    ///
-    /// `OutOfRange` where `count` is 0 or above 1048576, else `ReadOnly` where the segment is open for reading, else
-    /// `WrongKind` where the object is of another kind, and else `NoSpace` where none is there and no gap is long
-    /// enough; then no item is taken. `OutOfRange` where fewer items come. What the segment holds does not change.
+    /// As of `construct_it`, with `WrongKind` in the place of `Exists`, where the object is of another kind.
     pub fn find_or_construct_it<T: Scalar, I: Iterator<Item = T>, D: IndexDestination>(
         &mut self,
         key: &D,
@@ -35,7 +30,8 @@ impl Segment {
         requires ready { I.can_next items.old }
         ensures count { RefusesCount count self.old self.new result }
         ensures untaken { is_count count ≡ false → items.new ≡ items.old }
-        ensures items { is_count count ≡ true → FindsOrTakes I.next_gives T.whole self.old self.new (D.key key.now (ScalarOf T.kind)) T.kind count items.old items.new result }
+        ensures items { is_count count ≡ true → FindsOrTakes I.next_gives T.whole self.old self.new
+            (D.key key.now (ScalarOf T.kind)) T.kind count items.old items.new result }
     {
         if count == 0 || count > MOST {
             return Err(Refusal::OutOfRange);
@@ -46,10 +42,13 @@ impl Segment {
         let entry = key.entry_for(Kind::Scalar(T::kind()));
         match locate(self, &entry.into_key()) {
             Ok(object) => scalars_in(object, T::kind()),
-            Err(_) => counted(
-                self.construct_items(&entry.into_new_key(), count, items),
-                count,
-            ),
+            Err(_) => {
+                let key = entry.into_new_key();
+                counted(
+                    self.construct_items::<OfType, T, I>(&key, T::kind(), count, items),
+                    count,
+                )
+            }
         }
     }
 }

@@ -64,11 +64,8 @@ pub(crate) fn write_head(
 {
     let len = name.len() as u64;
     heap.set_word(handle, 0, u64::from(kind.code()) + HALF * u64::from(count));
-    heap.set_word(
-        handle,
-        NAME_CLASS_AT,
-        len + HALF * u64::from(code_of_class(class)),
-    );
+    let second = len + HALF * u64::from(code_of_class(class));
+    heap.set_word(handle, NAME_CLASS_AT, second);
     write_name(heap, handle, name);
 }
 
@@ -81,12 +78,8 @@ fn write_name(heap: &mut Heap, handle: u64, name: &[u8])
 {
     let len = name.len() as u64;
     heap.write(handle, HEAD_LEN, name);
-    let zeros = [0; 8];
-    heap.write(
-        handle,
-        HEAD_LEN + len,
-        &zeros[..(padded(len) - len) as usize],
-    );
+    let zeros = &[0; 8][..(padded(len) - len) as usize];
+    heap.write(handle, HEAD_LEN + len, zeros);
 }
 
 /// The kind of a code, or a string where no kind has it.

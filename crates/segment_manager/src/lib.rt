@@ -4,7 +4,7 @@
 //! is one step of the directory machine: from the directory that the bytes denote to the one that they denote then.
 //!
 //! No method of a [`Segment`] has a condition on what the segment holds: they answer or refuse. Those that have one say
-//! so under `# Conditions`, and how a caller meets it. There are three sorts:
+//! so under `# Conditions`, or name the call that does, and how a caller meets it. There are three sorts:
 //! - a number is in range: the count of `construct` and `find_or_construct`, the base of `create` and `relocate`;
 //! - a key suits the kind of what is made ([`Destination`]);
 //! - an iterator may be asked for its next item, and each that `construct_values` takes is of the kind.

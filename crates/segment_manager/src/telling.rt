@@ -41,7 +41,8 @@ impl Segment {
     /// `NotFound` where no object has the key.
     pub fn instance<O: Target>(&self, key: &O) -> Result<Instance<'_>, Refusal>
         requires { O.stands key.now self.now }
-        ensures { MatchResult result (λ said. SaysOf self.now (O.key key.now) said) (IsMissing self.now (O.key key.now)) }
+        ensures { MatchResult result (λ said. SaysOf self.now (O.key key.now) said)
+            (IsMissing self.now (O.key key.now)) }
     {
         match key.handle_in(self) {
             None => Err(Refusal::NotFound),
@@ -113,7 +114,8 @@ impl Segment {
     ///
     /// `NotFound` where no object has the key.
     pub fn instance_name(&self, key: &Key) -> Result<Option<&[u8]>, Refusal>
-        ensures { MatchResult result (λ name. Answers self.now (λ d. told_at d (key_seen key.now) own_name) (Ok (option_map (λ bytes. bytes.now) name)))
+        ensures { MatchResult result (λ name. Answers self.now (λ d. told_at d (key_seen key.now) own_name)
+            (Ok (option_map (λ bytes. bytes.now) name)))
             (λ why. Answers self.now (λ d. told_at d (key_seen key.now) own_name) (Err why)) }
     {
         match self.handle_of(key) {

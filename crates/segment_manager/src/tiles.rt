@@ -127,7 +127,8 @@ fn is_for_object(role: Role) -> bool
 /// `tiles` goes over all of them without a condition.
 pub fn next_tile(segment: &Segment, tile: Tile) -> Option<Tile>
     requires { IsTileOf segment.now.cut.bytes tile }
-    ensures { (i : ℕ) → slice_get (tiles_of (bytes_of segment.now.cut.bytes) (length segment.now.cut.bytes)) i ≡ Some tile
+    ensures { (i : ℕ)
+        → slice_get (tiles_of (bytes_of segment.now.cut.bytes) (length segment.now.cut.bytes)) i ≡ Some tile
         → IsTileOfIndex segment.now (i + 1) result }
 {
     segment.heap.next_tile(tile)

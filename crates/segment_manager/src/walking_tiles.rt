@@ -35,7 +35,8 @@ impl<'a> Iterator for Tiles<'a> {
 
     ghost next_gives = { GoesOnTiles };
 
-    ghost remaining = { λ w. at_most (length (tiles_of (bytes_of w.segment.cut.bytes) (length w.segment.cut.bytes)) - w.at) };
+    ghost remaining = { λ w. at_most
+        (length (tiles_of (bytes_of w.segment.cut.bytes) (length w.segment.cut.bytes)) - w.at) };
 
     fn next(&mut self) -> Option<Span> {
         let tile = self.tile?;

@@ -1,6 +1,6 @@
 -- The element lies in the payload.
 use Rattle.segment_manager.proofs.Common.{◌≡◌, ◌+◌, ◌-◌, ◌≤◌, ◌∙◌, ap, arith, length, ℕ, part, live_of}
-use Rattle.segment_manager.proofs.Payloads.{lent, room-live, room-small}
+use Rattle.segment_manager.proofs.Pieces.{lent, room-live, room-small}
 use Rattle.segment_manager.proofs.element.element.Goals as goal
 
 pub block-payload-requires : goal.block-payload-requires

@@ -1,6 +1,6 @@
 -- The name lies in the payload.
 use Rattle.segment_manager.proofs.Common.{◌≡◌, ◌+◌, ◌-◌, ◌%◌, ◌≤◌, ◌∙◌, ap, arith, length, ℕ, part, live_of, Object}
-use Rattle.segment_manager.proofs.Payloads.{lent, room-live}
+use Rattle.segment_manager.proofs.Pieces.{lent, room-live}
 use Rattle.segment_manager.proofs.Standings.{head-words, standing-name, standing-room}
 use Rattle.segment_manager.proofs.head.read_name.Goals as goal
 

@@ -1,11 +1,8 @@
 -- The head of the object at the handle says its kind and its count.
 use Rattle.segment_manager.proofs.Common.{subst, IsLocated}
 use Rattle.segment_manager.specs.declared.targets.Object.{Object}
-use Rattle.segment_manager.proofs.{Here.seen-handle, Here.seen-object, Locating.locates, Tellings.key-missing}
+use Rattle.segment_manager.proofs.{Here.seen-handle, Here.seen-object, Locating.locates, KeyCalls.key-missing}
 use Rattle.segment_manager.proofs.targets.locate.Goals as goal
-
-pub returns-in-None : goal.returns-in-None
-returns-in-None g c = key-missing c.args.segment.now (g.O.Target.key c.args.key.now) c.in-None.ensures
 
 pub read_head-head-requires : goal.read_head-head-requires
 read_head-head-requires g c = seen-object _ _ c.segment.view_is (g.O.Target.key c.args.key.now) _ c.segment.invariant c.in-Some.ensures

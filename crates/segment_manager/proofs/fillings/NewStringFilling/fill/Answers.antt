@@ -3,9 +3,6 @@ use Rattle.segment_manager.proofs.Common.{subst, sym, [], no_table, IsSomeText}
 use Rattle.segment_manager.proofs.NewContainers.{string-made}
 use Rattle.segment_manager.proofs.fillings.NewStringFilling.fill.Goals as goal
 
-pub assign-requires : goal.assign-requires
-assign-requires c = subst (IsSomeText c.new-string.new.heap.bytes) (sym c.new-string.ensures.place) ([], (no_table, c.new-string.ensures.text.text))
-
 pub returns : goal.returns
 returns c =
     string-made c.args.heap.now c.new-string.new.heap c.assign.new.heap c.args.place c.new-string.result.place c.args.self.now.bytes.now c.assign.result c.judge.ensures c.new-string.ensures.place

@@ -1,10 +1,7 @@
 -- The vector is made without a text, and then the texts are put there.
 use Rattle.segment_manager.proofs.Common.{ℕ, List, map, Bor}
-use Rattle.segment_manager.proofs.NewTexts.{none-started, texts-made}
+use Rattle.segment_manager.proofs.NewTexts.{texts-made}
 use Rattle.segment_manager.proofs.fillings.NewTextsFilling.fill.Goals as goal
-
-pub assign-requires : goal.assign-requires
-assign-requires c = none-started c.args.heap.now c.new-vector.new.heap c.args.place c.new-vector.result.place c.new-vector.ensures.place c.new-vector.ensures.texts
 
 pub returns : goal.returns
 returns c =

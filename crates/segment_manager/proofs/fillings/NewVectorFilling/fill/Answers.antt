@@ -2,11 +2,6 @@
 use Rattle.segment_manager.proofs.{NewContainers.some-started, NewContainers.vector-made, ScalarTypes.of-vector}
 use Rattle.segment_manager.proofs.fillings.NewVectorFilling.fill.Goals as goal
 
-pub assign-requires : goal.assign-requires
-assign-requires g c =
-    some-started _ _ _ _ _ (of-vector g.met.T.Scalar) c.args.heap.now c.new-vector.new.heap c.args.place c.new-vector.result.place
-    c.new-vector.ensures.place c.new-vector.ensures.vector
-
 pub returns : goal.returns
 returns g c =
     vector-made _ _ _ _ _ (of-vector g.met.T.Scalar) c.args.heap.now c.new-vector.new.heap c.assign.new.heap c.args.place

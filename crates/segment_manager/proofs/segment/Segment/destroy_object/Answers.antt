@@ -1,5 +1,5 @@
 -- Its entry goes with it, if it has one.
-use Rattle.segment_manager.proofs.Destroys.{destroys-anonymous, destroys-ptr, own-entry, own-object}
+use Rattle.segment_manager.proofs.Destroys.{destroys-anonymous, destroys-ptr, own-entry}
 use Rattle.segment_manager.proofs.segment.Segment.destroy_object.Goals as goal
 
 pub remove_entered-requires : goal.remove_entered-requires
@@ -10,9 +10,6 @@ pub invariant_of-self : goal.invariant_of-self
 invariant_of-self c =
     (destroys-ptr _ _ c.self.view_is c.self.invariant c.remove_entered.new.heap c.args.handle c.in-Some.listed.index
     c.in-Some.listed.place c.requires.writing c.in-Some.ensures c.remove_entered.ensures).segment
-
-pub remove_anonymous-requires : goal.remove_anonymous-requires
-remove_anonymous-requires c = own-object _ _ c.self.view_is c.self.invariant c.args.handle c.requires.object
 
 pub invariant_of-self-in-None : goal.invariant_of-self-in-None
 invariant_of-self-in-None c =

@@ -1,7 +1,7 @@
 -- The object at the entry is read.
 use Rattle.segment_manager.proofs.Common.{sym, subst, length, current, IsBelow, objects_of, SaysAt, State}
-use Rattle.segment_manager.proofs.{Calling.denotes-heap, FindCalls.below-count, KeyCalls.segment-index}
-use Rattle.segment_manager.proofs.Tellings.{entered-object, entered-says}
+use Rattle.segment_manager.proofs.{Calling.denotes-heap, KeyCalls.below-count, KeyCalls.segment-index}
+use Rattle.segment_manager.proofs.KeyCalls.{entered-object, entered-says}
 use Rattle.segment_manager.proofs.segment.Segment.entered.Goals as goal
 
 pub at-handle-requires-clause-index : goal.at-handle-requires-clause-index

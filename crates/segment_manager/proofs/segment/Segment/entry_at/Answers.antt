@@ -1,6 +1,6 @@
 -- The entry of the index is that of the directory.
 use Rattle.segment_manager.proofs.Common.{sym, subst, Some, length, slice_get, IsBelow, entries_of, objects_of, Answers}
-use Rattle.segment_manager.proofs.{FindCalls.at-answers, FindCalls.below-count, KeyCalls.segment-index}
+use Rattle.segment_manager.proofs.{KeyCalls.at-answers, KeyCalls.below-count, KeyCalls.segment-index}
 use Rattle.segment_manager.proofs.segment.Segment.entry_at.Goals as goal
 
 pub at-requires-clause-index : goal.at-requires-clause-index

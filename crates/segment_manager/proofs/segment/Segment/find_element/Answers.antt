@@ -1,6 +1,6 @@
 -- The place in the object at the handle.
 use Rattle.segment_manager.proofs.Common.{exit-is, subst, Ok, Err, Answers}
-use Rattle.segment_manager.proofs.{Here.seen-handle, Here.seen-object, Places.places, Places.placed}
+use Rattle.segment_manager.proofs.{Here.seen-handle, Here.seen-object, Stored.places, Stored.placed}
 use Rattle.segment_manager.specs.Standing.{place_at}
 use Rattle.segment_manager.proofs.segment.Segment.find_element.Goals as goal
 

@@ -1,5 +1,5 @@
 -- The object that was found says its kind and its count.
-use Rattle.segment_manager.proofs.FindCalls.{find-absent, find-there}
+use Rattle.segment_manager.proofs.KeyCalls.{find-absent, find-there}
 use Rattle.segment_manager.proofs.{Common.exit-is, Common.key_seen, Here.seen-object}
 use Rattle.segment_manager.proofs.segment.Segment.find_kind.Goals as goal
 

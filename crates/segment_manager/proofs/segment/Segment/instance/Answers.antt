@@ -1,10 +1,7 @@
 -- The object of the key is read.
 use Rattle.segment_manager.proofs.{Common.subst, Common.current, Common.SaysOf, Calling.denotes-heap, Here.seen-handle}
-use Rattle.segment_manager.proofs.{Here.seen-object, Tellings.key-missing, Tellings.key-says}
+use Rattle.segment_manager.proofs.{Here.seen-object, KeyCalls.key-missing, KeyCalls.key-says}
 use Rattle.segment_manager.proofs.segment.Segment.instance.Goals as goal
-
-pub returns-in-None : goal.returns-in-None
-returns-in-None g c = key-missing c.args.self.now (g.O.Target.key c.args.key.now) c.in-None.ensures
 
 pub read_instance-requires-clause-heap : goal.read_instance-requires-clause-heap
 read_instance-requires-clause-heap g c = denotes-heap current c.self.inside.heap.bytes c.self.invariant.0 c.self.invariant.1.denotes

@@ -55,6 +55,15 @@ answered {says = says} s t view b new key kind c r done = record {
   segment = step_of_kind-segment s (record s { cut = new }) key kind c (says r) done.step b;
 }
 
+-- what the call ensures
+pub told : {R : Type 0} {says : Result R Refusal → Answer} {s t : State} {new : Cut} {key : Key} {kind : Kind}
+    {c : Command} {r : Result R Refusal} → Answered says s t new key kind c r
+    → record {
+      step : IsStepOfKind t (record s { cut = new }) key kind c (says r);
+      refused : OnErr r ((record s { cut = new }) ≡ t);
+    }
+told a = record { step = a.step; refused = a.refused }
+
 -- the same of a call on whatever object
 pub record Stepped (s t : State) (new : Cut) (c : Command) (answer : Answer) : Type 0 where
   pub step : IsStep t (record s { cut = new }) c answer

@@ -15,15 +15,16 @@ use Rattle.segment_manager.proofs.ItemSteps.{HoldsItems, ListedGrown, ListedNow,
 use Rattle.segment_manager.proofs.ItemSteps.{holds-items, items-stay, one-kind, so-too, some-items}
 use Rattle.segment_manager.proofs.{Common.StepsSafely, Common.done_answer, Steps.open-reading, Safely.Answered}
 use Rattle.segment_manager.proofs.{Safely.answered, Stored.literal-read, ToChange.seen-found, Words.first, Words.second}
+use Rattle.std.proofs.Common.{Fits, w8}
 use Rattle.seg_vector.specs.TextCalls.{AppendsText, GetsByte, ReadsText, SetsByte}
-use Rattle.segment_manager.specs.Contents.{text_bytes}
+use Rattle.segment_manager.specs.{Contents.text_bytes, ToChange.IsToChange}
 
 -- ---- bytes
 
 -- numbers that are below 256 each
-pub fits-bytes : (bs : List ℕ) → ((k : ℕ) → get_or bs k 0 < 256) → IsTrue (are_bytes bs)
+pub fits-bytes : (bs : List ℕ) → ((k : ℕ) → Fits w8 (get_or bs k 0)) → IsTrue (are_bytes bs)
 fits-bytes [] h = refl
-fits-bytes (b ∷ bs) h = and_from (nat_lt b 256) (are_bytes bs) (lt-ltb b 256 (h 0)) (fits-bytes bs (λ k. h (suc k)))
+fits-bytes (b ∷ bs) h = and_from (nat_lt b 256) (are_bytes bs) (lt-ltb b 256 (omega (arith, h 0))) (fits-bytes bs (λ k. h (suc k)))
 
 are_bytes-append : (bs cs : List ℕ) → IsTrue (are_bytes bs) → IsTrue (are_bytes cs) → IsTrue (are_bytes (bs ++ cs))
 are_bytes-append [] cs h g = g
@@ -109,11 +110,11 @@ reads-nothing s key why a = record { answers = λ d l. no-bytes-if why (object_a
 
 -- as the view before the call names the segment
 module _ {s t : State} (view : s ≡ t) (key : Key) (p : Place) (b : IsSegment s.cut.bytes) (there : Answers t (λ d. container_at d key Text) (Ok p)) where
-  found : Answers s (λ d. container_at d key Text) (Ok p)
-  found = seen-found s t view key Text p there
+  there-too : Answers s (λ d. container_at d key Text) (Ok p)
+  there-too = seen-found s t view key Text p there
 
   abbrev some : HoldsItems texts s.cut.bytes b.0 key p
-  some = some-items texts s key p b found
+  some = some-items texts s key p b there-too
 
   -- some bytes stand there
   pub text-standing : IsSomeText s.cut.bytes p
@@ -122,42 +123,46 @@ module _ {s t : State} (view : s ≡ t) (key : Key) (p : Place) (b : IsSegment s
   -- one of them
   pub text-got : (i x : ℕ) → GetsByte s.cut p i (Ok x) → IsStepOfKind s s key Text (Get key i) (Element U8 (pos x))
   text-got i x a =
-      items-stay texts s key p b found (Get key i) (Element U8 (pos x)) (open-reading s.mode (Get key i) refl)
+      items-stay texts s key p b there-too (Get key i) (Element U8 (pos x)) (open-reading s.mode (Get key i) refl)
       (λ d den h. ap (perform d (live d)) (byte-plan d key h.object h.items h.table h.is h.value i (Some (pos x)) (byte-got h.items i (Some x) (a h.items h.table h.stands))))
 
   pub text_got-past : (i : ℕ) (e : Refusal) → GetsByte s.cut p i (Err e) → IsStepOfKind s s key Text (Get key i) (Refused e)
   text_got-past i e a =
       subst (λ (r : Refusal). IsStepOfKind s s key Text (Get key i) (Refused r)) (sym (a some.items some.table some.stands).refusal)
-      (items-stay texts s key p b found (Get key i) (Refused OutOfRange) (open-reading s.mode (Get key i) refl)
+      (items-stay texts s key p b there-too (Get key i) (Refused OutOfRange) (open-reading s.mode (Get key i) refl)
       (λ d den h.
       ap (perform d (live d)) (byte-plan d key h.object h.items h.table h.is h.value i None (byte-got h.items i None (slice_get_past h.items i (a h.items h.table h.stands).outside)))))
 
-  module _ (new : Cut) (may : is_read_only t.mode ≡ false) where
-    writing : is_read_only s.mode ≡ false
-    writing = subst (λ (u : State). is_read_only u.mode ≡ false) (sym view) may
+-- the same, where it may be changed
+module _ {s t : State} (view : s ≡ t) (b : IsSegment s.cut.bytes) {key : Key} {p : Place} (to : IsToChange t key Text p) (new : Cut) where
+  found : Answers s (λ d. container_at d key Text) (Ok p)
+  found = seen-found s t view key Text p to.at
 
-    seen : (c : Command) (r : Result (Unit {0}) Refusal) → StepsSafely s new key Text c r → Answered done_answer s t new key Text c r
-    seen c r done = answered s t view b new key Text c r done
+  writing : is_read_only s.mode ≡ false
+  writing = subst (λ (u : State). is_read_only u.mode ≡ false) (sym view) to.writing
 
-    pub text-appended : (more : List ℕ) (r : Result (Unit {0}) Refusal) → IsTrue (are_bytes more) → AppendsText s.cut new p more r → Answered done_answer s t new key Text (Append key more) r
-    text-appended more r small a =
-        seen _ r (grows-safely texts s key p b found new writing (Append key more) (λ bs t. capacity_for_text (length (bs ++ more)) t.capacity) (λ bs. bs ++ more) r
-        (λ d h. append-plan d key h.object h.items h.table h.is h.value more)
-        (λ d h. so-too _ _ _ r (a h.items h.table h.stands) (λ g. bytes-grown (are_bytes-append h.items more h.values small) g)))
+  seen : (c : Command) (r : Result (Unit {0}) Refusal) → StepsSafely s new key Text c r → Answered done_answer s t new key Text c r
+  seen c r done = answered s t view b new key Text c r done
 
-    pub text-assigned : (bytes : List ℕ) (r : Result (Unit {0}) Refusal) → IsTrue (are_bytes bytes) → AssignsText s.cut new p bytes r → Answered done_answer s t new key Text (Assign key (Quoted bytes ∷ [])) r
-    text-assigned bytes r small a =
-        seen _ r (grows-safely texts s key p b found new writing (Assign key (Quoted bytes ∷ [])) (λ bs t. length bytes) (λ bs. bytes) r
-        (λ d h. text-plan d key h.object h.items h.table h.is h.value (Quoted bytes ∷ []) bytes refl)
-        (λ d h. so-too _ _ _ r (a h.items h.table h.stands) (λ g. bytes-grown small g)))
+  pub text-appended : (more : List ℕ) (r : Result (Unit {0}) Refusal) → ((k : ℕ) → Fits w8 (get_or more k 0)) → AppendsText s.cut new p more r → Answered done_answer s t new key Text (Append key more) r
+  text-appended more r small a =
+      seen _ r (grows-safely texts s key p b found new writing (Append key more) (λ bs t. capacity_for_text (length (bs ++ more)) t.capacity) (λ bs. bs ++ more) r
+      (λ d h. append-plan d key h.object h.items h.table h.is h.value more)
+      (λ d h. so-too _ _ _ r (a h.items h.table h.stands) (λ g. bytes-grown (are_bytes-append h.items more h.values (fits-bytes more small)) g)))
 
-    pub text-set : (i x : ℕ) (r : Result (Unit {0}) Refusal) → IsTrue (nat_lt x 256) → is_value U8 (pos x) ≡ true → SetsByte s.cut new p i x r → Answered done_answer s t new key Text (Set key i (literal_of U8 (pos x))) r
-    text-set i x r small v a =
-        seen _ r (changes-safely texts s key p b found new writing (Set key i (literal_of U8 (pos x))) i (λ bs. slice_set bs i x) r
-        (λ d h within.
-        set_byte-plan d key h.object h.items h.table h.is h.value i (literal_of U8 (pos x)) (pos x) (Some (pos (get_or h.items i 0))) (literal-read U8 (pos x) v)
-        (byte-got h.items i (Some (get_or h.items i 0)) (slice_get-get_or h.items i 0 within))
-        ∙ ap (λ bs. Reply Done (changed d h.object (Bytes bs h.table))) (bytes-set h.items i x))
-        (λ d h past.
-        set_byte-plan d key h.object h.items h.table h.is h.value i (literal_of U8 (pos x)) (pos x) None (literal-read U8 (pos x) v) (byte-got h.items i None (slice_get_past h.items i past)))
-        (λ d h. so-too _ _ _ r (a h.items h.table h.stands) (λ q. (q.0, bytes-now (are_bytes-set h.items i x h.values small) q.1))))
+  pub text-assigned : (bytes : List ℕ) (r : Result (Unit {0}) Refusal) → ((k : ℕ) → Fits w8 (get_or bytes k 0)) → AssignsText s.cut new p bytes r → Answered done_answer s t new key Text (Assign key (Quoted bytes ∷ [])) r
+  text-assigned bytes r small a =
+      seen _ r (grows-safely texts s key p b found new writing (Assign key (Quoted bytes ∷ [])) (λ bs t. length bytes) (λ bs. bytes) r
+      (λ d h. text-plan d key h.object h.items h.table h.is h.value (Quoted bytes ∷ []) bytes refl)
+      (λ d h. so-too _ _ _ r (a h.items h.table h.stands) (λ g. bytes-grown (fits-bytes bytes small) g)))
+
+  pub text-set : (i x : ℕ) (r : Result (Unit {0}) Refusal) → IsTrue (nat_lt x 256) → is_value U8 (pos x) ≡ true → SetsByte s.cut new p i x r → Answered done_answer s t new key Text (Set key i (literal_of U8 (pos x))) r
+  text-set i x r small v a =
+      seen _ r (changes-safely texts s key p b found new writing (Set key i (literal_of U8 (pos x))) i (λ bs. slice_set bs i x) r
+      (λ d h within.
+      set_byte-plan d key h.object h.items h.table h.is h.value i (literal_of U8 (pos x)) (pos x) (Some (pos (get_or h.items i 0))) (literal-read U8 (pos x) v)
+      (byte-got h.items i (Some (get_or h.items i 0)) (slice_get-get_or h.items i 0 within))
+      ∙ ap (λ bs. Reply Done (changed d h.object (Bytes bs h.table))) (bytes-set h.items i x))
+      (λ d h past.
+      set_byte-plan d key h.object h.items h.table h.is h.value i (literal_of U8 (pos x)) (pos x) None (literal-read U8 (pos x) v) (byte-got h.items i None (slice_get_past h.items i past)))
+      (λ d h. so-too _ _ _ r (a h.items h.table h.stands) (λ q. (q.0, bytes-now (are_bytes-set h.items i x h.values small) q.1))))

@@ -8,7 +8,7 @@ ghost use Rattle.segment_manager.specs.State.{Answers, IsReplyOfKind, IsStep, Is
 
 use crate::segment::Segment;
 use crate::targets::{Target, locate};
-use seg_types::{Kind, Refusal, ScalarKind, ScalarValue};
+use seg_types::{Kind, Refusal, ScalarKind, ScalarValue, by_kind, by_value};
 use seg_vector::SegString;
 
 impl Segment {
@@ -23,7 +23,8 @@ impl Segment {
     /// none there.
     pub fn get_any<O: Target>(&self, key: &O, index: u64) -> Result<ScalarValue, Refusal>
         requires { O.stands key.now self.now }
-        ensures { Answers self.now (λ d. scalar_reply self.now.mode d (O.key key.now) (Get (O.key key.now) index)) (scalar_answer result) }
+        ensures { Answers self.now (λ d. scalar_reply self.now.mode d (O.key key.now) (Get (O.key key.now) index))
+            (scalar_answer result) }
     {
         let object = locate(self, key)?;
         match object.kind {
@@ -42,15 +43,15 @@ impl Segment {
         index: u64,
     ) -> Result<ScalarValue, Refusal>
         requires { O.stands key.now self.now }
-        ensures { IsReplyOfKind self.now (O.key key.now) (VectorOf kind) (Get (O.key key.now) index) (scalar_answer result) }
+        ensures { IsReplyOfKind self.now (O.key key.now) (VectorOf kind)
+            (Get (O.key key.now) index) (scalar_answer result) }
     {
-        Ok(match kind {
-            ScalarKind::Bool => ScalarValue::Bool(self.vec_get(key, index)?),
-            ScalarKind::U8 => ScalarValue::U8(self.vec_get(key, index)?),
-            ScalarKind::I32 => ScalarValue::I32(self.vec_get(key, index)?),
-            ScalarKind::I64 => ScalarValue::I64(self.vec_get(key, index)?),
-            ScalarKind::U64 => ScalarValue::U64(self.vec_get(key, index)?),
-        })
+        macro_rules! got {
+            ($type:ty, $kind:ident) => {
+                ScalarValue::$kind(self.vec_get(key, index)?)
+            };
+        }
+        Ok(by_kind!(kind, got))
     }
 
     /// The same of a string.
@@ -72,16 +73,11 @@ impl Segment {
     ) -> Result<(), Refusal>
         requires { O.stands key.now self.old }
         ensures step { IsStepOfKind self.old self.new (O.key key.now) (VectorOf (kind_of_scalar value))
-            (Set (O.key key.now) index (literal_of (kind_of_scalar value) (value_of_scalar value))) (done_answer result) }
+            (Set (O.key key.now) index (literal_of (kind_of_scalar value) (value_of_scalar value)))
+            (done_answer result) }
         ensures refused { OnErr result (self.new ≡ self.old) }
     {
-        match value {
-            ScalarValue::Bool(truth) => self.vec_set(key, index, truth),
-            ScalarValue::U8(number) => self.vec_set(key, index, number),
-            ScalarValue::I32(number) => self.vec_set(key, index, number),
-            ScalarValue::I64(number) => self.vec_set(key, index, number),
-            ScalarValue::U64(number) => self.vec_set(key, index, number),
-        }
+        by_value!(value, number => self.vec_set(key, index, number))
     }
 }
 
@@ -107,7 +103,8 @@ pub fn set_any<O: Target>(
 ) -> Result<(), Refusal>
     requires target { O.stands key.now segment.old }
     requires of_kind { Answers segment.old (λ d. elements_at d (O.key key.now)) (Ok (kind_of_scalar value)) }
-    ensures step { IsStep segment.old segment.new (Set (O.key key.now) index (literal_of (kind_of_scalar value) (value_of_scalar value))) (done_answer result) }
+    ensures step { IsStep segment.old segment.new
+        (Set (O.key key.now) index (literal_of (kind_of_scalar value) (value_of_scalar value))) (done_answer result) }
     ensures refused { OnErr result (segment.new ≡ segment.old) }
 {
     let object = locate(segment, key)?;

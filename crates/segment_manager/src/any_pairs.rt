@@ -7,7 +7,7 @@ ghost use Rattle.segment_manager.specs.State.{IsReplyOfKind, IsStepOfKind, truth
 
 use crate::segment::Segment;
 use crate::targets::Target;
-use seg_types::{Refusal, Scalar, ScalarKind, ScalarValue};
+use seg_types::{Refusal, ScalarKind, ScalarValue, by_kind, by_value};
 
 impl Segment {
     /// The value of a key of the map of a key, a map with keys of the kind of `at` and values of a kind.
@@ -27,32 +27,12 @@ impl Segment {
         ensures { IsReplyOfKind self.now (O.key key.now) (MapOf (kind_of_scalar at) values)
             (Lookup (O.key key.now) (literal_of (kind_of_scalar at) (value_of_scalar at))) (any_value_answer result) }
     {
-        match at {
-            ScalarValue::Bool(truth) => self.get_by_key(key, truth, values),
-            ScalarValue::U8(number) => self.get_by_key(key, number, values),
-            ScalarValue::I32(number) => self.get_by_key(key, number, values),
-            ScalarValue::I64(number) => self.get_by_key(key, number, values),
-            ScalarValue::U64(number) => self.get_by_key(key, number, values),
+        macro_rules! got {
+            ($type:ty, $kind:ident) => {
+                by_value!(at, at => self.map_get::<_, $type, O>(key, at)?.map(ScalarValue::$kind))
+            };
         }
-    }
-
-    /// The same of keys of a type.
-    fn get_by_key<K: Scalar, O: Target>(
-        &self,
-        key: &O,
-        at: K,
-        values: ScalarKind,
-    ) -> Result<Option<ScalarValue>, Refusal>
-        requires { O.stands key.now self.now }
-        ensures { IsReplyOfKind self.now (O.key key.now) (MapOf K.kind values) (Lookup (O.key key.now) (literal_of K.kind (K.whole at))) (any_value_answer result) }
-    {
-        Ok(match values {
-            ScalarKind::Bool => self.map_get::<K, bool, O>(key, at)?.map(ScalarValue::Bool),
-            ScalarKind::U8 => self.map_get::<K, u8, O>(key, at)?.map(ScalarValue::U8),
-            ScalarKind::I32 => self.map_get::<K, i32, O>(key, at)?.map(ScalarValue::I32),
-            ScalarKind::I64 => self.map_get::<K, i64, O>(key, at)?.map(ScalarValue::I64),
-            ScalarKind::U64 => self.map_get::<K, u64, O>(key, at)?.map(ScalarValue::U64),
-        })
+        Ok(by_kind!(values, got))
     }
 
     /// Puts the value of a key into the map of a key, a map of the two values' kinds, and answers whether the key is
@@ -73,37 +53,11 @@ impl Segment {
     ) -> Result<bool, Refusal>
         requires { O.stands key.now self.old }
         ensures step { IsStepOfKind self.old self.new (O.key key.now) (MapOf (kind_of_scalar at) (kind_of_scalar value))
-            (Put (O.key key.now) (literal_of (kind_of_scalar at) (value_of_scalar at)) (literal_of (kind_of_scalar value) (value_of_scalar value))) (truth_answer result) }
+            (Put (O.key key.now) (literal_of (kind_of_scalar at) (value_of_scalar at))
+            (literal_of (kind_of_scalar value) (value_of_scalar value))) (truth_answer result) }
         ensures refused { OnErr result (self.new ≡ self.old) }
     {
-        match at {
-            ScalarValue::Bool(truth) => self.put_by_key(key, truth, value),
-            ScalarValue::U8(number) => self.put_by_key(key, number, value),
-            ScalarValue::I32(number) => self.put_by_key(key, number, value),
-            ScalarValue::I64(number) => self.put_by_key(key, number, value),
-            ScalarValue::U64(number) => self.put_by_key(key, number, value),
-        }
-    }
-
-    /// The same of a key of a type.
-    fn put_by_key<K: Scalar, O: Target>(
-        &mut self,
-        key: &O,
-        at: K,
-        value: ScalarValue,
-    ) -> Result<bool, Refusal>
-        requires { O.stands key.now self.old }
-        ensures step { IsStepOfKind self.old self.new (O.key key.now) (MapOf K.kind (kind_of_scalar value))
-            (Put (O.key key.now) (literal_of K.kind (K.whole at)) (literal_of (kind_of_scalar value) (value_of_scalar value))) (truth_answer result) }
-        ensures refused { OnErr result (self.new ≡ self.old) }
-    {
-        match value {
-            ScalarValue::Bool(truth) => self.map_put(key, at, truth),
-            ScalarValue::U8(number) => self.map_put(key, at, number),
-            ScalarValue::I32(number) => self.map_put(key, at, number),
-            ScalarValue::I64(number) => self.map_put(key, at, number),
-            ScalarValue::U64(number) => self.map_put(key, at, number),
-        }
+        by_value!(at, at => by_value!(value, value => self.map_put(key, at, value)))
     }
 
     /// Erases a key from the map of a key, a map with keys of its kind and values of a kind, and answers whether it was
@@ -127,34 +81,11 @@ impl Segment {
         ensures refused { OnErr result (self.new ≡ self.old) }
         ensures absent { KeepsWhere self.old self.new (LacksPair (O.key key.now) (value_of_scalar at)) }
     {
-        match at {
-            ScalarValue::Bool(truth) => self.erase_by_key(key, truth, values),
-            ScalarValue::U8(number) => self.erase_by_key(key, number, values),
-            ScalarValue::I32(number) => self.erase_by_key(key, number, values),
-            ScalarValue::I64(number) => self.erase_by_key(key, number, values),
-            ScalarValue::U64(number) => self.erase_by_key(key, number, values),
+        macro_rules! erased {
+            ($type:ty, $kind:ident) => {
+                by_value!(at, at => self.map_erase::<_, $type, O>(key, at))
+            };
         }
-    }
-
-    /// The same of a key of a type.
-    fn erase_by_key<K: Scalar, O: Target>(
-        &mut self,
-        key: &O,
-        at: K,
-        values: ScalarKind,
-    ) -> Result<bool, Refusal>
-        requires { O.stands key.now self.old }
-        ensures step { IsStepOfKind self.old self.new (O.key key.now) (MapOf K.kind values)
-            (Remove (O.key key.now) (literal_of K.kind (K.whole at))) (truth_answer result) }
-        ensures refused { OnErr result (self.new ≡ self.old) }
-        ensures absent { KeepsWhere self.old self.new (LacksPair (O.key key.now) (K.whole at)) }
-    {
-        match values {
-            ScalarKind::Bool => self.map_erase::<K, bool, O>(key, at),
-            ScalarKind::U8 => self.map_erase::<K, u8, O>(key, at),
-            ScalarKind::I32 => self.map_erase::<K, i32, O>(key, at),
-            ScalarKind::I64 => self.map_erase::<K, i64, O>(key, at),
-            ScalarKind::U64 => self.map_erase::<K, u64, O>(key, at),
-        }
+        by_kind!(values, erased)
     }
 }

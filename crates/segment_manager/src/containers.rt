@@ -28,7 +28,8 @@ impl Segment {
     /// The same, where the container is to be changed: `ReadOnly` where the segment is open for reading.
     pub(crate) fn find_to_change<O: Target>(&self, key: &O, kind: Kind) -> Result<Place, Refusal>
         requires { O.stands key.now self.now }
-        ensures { MatchResult result (IsToChange self.now (O.key key.now) kind) (IsNotToChange self.now (O.key key.now) kind) }
+        ensures { MatchResult result (IsToChange self.now (O.key key.now) kind)
+            (IsNotToChange self.now (O.key key.now) kind) }
     {
         if self.is_read_only() {
             return Err(Refusal::ReadOnly);

@@ -3,7 +3,8 @@ ghost use Rattle.std.specs.Prelude.{◌≡◌, OnErr};
 ghost use Rattle.seg_types.specs.declared.kinds.Kind.TheVariants.{Map as MapOf};
 ghost use Rattle.seg_types.specs.Commands.{Lookup, Put, Remove, literal_of};
 ghost use Rattle.segment_manager.specs.Keeping.{KeepsWhere, LacksPair};
-ghost use Rattle.segment_manager.specs.Maps.{map_at, pair_above, pair_at_end, pair_below, pair_from, pair_result, pair_up_to, told_of_map, value_answer};
+ghost use Rattle.segment_manager.specs.Maps.{map_at, pair_above, pair_at_end, pair_below, pair_from, pair_result};
+ghost use Rattle.segment_manager.specs.Maps.{pair_up_to, told_of_map, value_answer};
 ghost use Rattle.segment_manager.specs.State.{Answers, IsReplyOfKind, IsStepOfKind, truth_answer};
 ghost use Rattle.segment_manager.specs.Walks.{pair_past};
 
@@ -29,7 +30,8 @@ impl Segment {
         at: K,
     ) -> Result<Option<V>, Refusal>
         requires { O.stands key.now self.now }
-        ensures { IsReplyOfKind self.now (O.key key.now) (MapOf K.kind V.kind) (Lookup (O.key key.now) (literal_of K.kind (K.whole at))) (value_answer V.kind V.whole result) }
+        ensures { IsReplyOfKind self.now (O.key key.now) (MapOf K.kind V.kind)
+            (Lookup (O.key key.now) (literal_of K.kind (K.whole at))) (value_answer V.kind V.whole result) }
     {
         judge(at);
         let place = self.find_map::<K, V, O>(key)?;
@@ -49,7 +51,8 @@ impl Segment {
         from: K,
     ) -> Result<Option<(K, V)>, Refusal>
         requires { O.stands key.now self.now }
-        ensures { Answers self.now (λ d. told_of_map d (O.key key.now) K.kind V.kind (pair_from (K.whole from))) (pair_result K.whole V.whole result) }
+        ensures { Answers self.now (λ d. told_of_map d (O.key key.now) K.kind V.kind (pair_from (K.whole from)))
+            (pair_result K.whole V.whole result) }
     {
         self.pair_past(key, from, false)
     }
@@ -67,7 +70,8 @@ impl Segment {
         after: K,
     ) -> Result<Option<(K, V)>, Refusal>
         requires { O.stands key.now self.now }
-        ensures { Answers self.now (λ d. told_of_map d (O.key key.now) K.kind V.kind (pair_above (K.whole after))) (pair_result K.whole V.whole result) }
+        ensures { Answers self.now (λ d. told_of_map d (O.key key.now) K.kind V.kind (pair_above (K.whole after)))
+            (pair_result K.whole V.whole result) }
     {
         self.pair_past(key, after, true)
     }
@@ -82,7 +86,8 @@ impl Segment {
         above: bool,
     ) -> Result<Option<(K, V)>, Refusal>
         requires { O.stands key.now self.now }
-        ensures { Answers self.now (λ d. told_of_map d (O.key key.now) K.kind V.kind (pair_past above (K.whole bound))) (pair_result K.whole V.whole result) }
+        ensures { Answers self.now (λ d. told_of_map d (O.key key.now) K.kind V.kind (pair_past above (K.whole bound)))
+            (pair_result K.whole V.whole result) }
     {
         let place = self.find_map::<K, V, O>(key)?;
         let map = SegMap::<K, V>::at(place);
@@ -105,7 +110,8 @@ impl Segment {
         key: &O,
     ) -> Result<Option<(K, V)>, Refusal>
         requires { O.stands key.now self.now }
-        ensures { Answers self.now (λ d. told_of_map d (O.key key.now) K.kind V.kind pair_at_end) (pair_result K.whole V.whole result) }
+        ensures { Answers self.now (λ d. told_of_map d (O.key key.now) K.kind V.kind pair_at_end)
+            (pair_result K.whole V.whole result) }
     {
         let place = self.find_map::<K, V, O>(key)?;
         Ok(SegMap::<K, V>::at(place).last(&self.heap, &mut Steps::new()))
@@ -124,7 +130,8 @@ impl Segment {
         to: K,
     ) -> Result<Option<(K, V)>, Refusal>
         requires { O.stands key.now self.now }
-        ensures { Answers self.now (λ d. told_of_map d (O.key key.now) K.kind V.kind (pair_up_to (K.whole to))) (pair_result K.whole V.whole result) }
+        ensures { Answers self.now (λ d. told_of_map d (O.key key.now) K.kind V.kind (pair_up_to (K.whole to)))
+            (pair_result K.whole V.whole result) }
     {
         let place = self.find_map::<K, V, O>(key)?;
         Ok(SegMap::<K, V>::at(place).last_up_to(&self.heap, to, &mut Steps::new()))
@@ -144,7 +151,8 @@ impl Segment {
         before: K,
     ) -> Result<Option<(K, V)>, Refusal>
         requires { O.stands key.now self.now }
-        ensures { Answers self.now (λ d. told_of_map d (O.key key.now) K.kind V.kind (pair_below (K.whole before))) (pair_result K.whole V.whole result) }
+        ensures { Answers self.now (λ d. told_of_map d (O.key key.now) K.kind V.kind (pair_below (K.whole before)))
+            (pair_result K.whole V.whole result) }
     {
         let place = self.find_map::<K, V, O>(key)?;
         Ok(SegMap::<K, V>::at(place).previous_before(&self.heap, before, &mut Steps::new()))
@@ -168,7 +176,8 @@ impl Segment {
     ) -> Result<bool, Refusal>
         requires { O.stands key.now self.old }
         ensures step { IsStepOfKind self.old self.new (O.key key.now) (MapOf K.kind V.kind)
-            (Put (O.key key.now) (literal_of K.kind (K.whole at)) (literal_of V.kind (V.whole value))) (truth_answer result) }
+            (Put (O.key key.now) (literal_of K.kind (K.whole at)) (literal_of V.kind (V.whole value)))
+            (truth_answer result) }
         ensures refused { OnErr result (self.new ≡ self.old) }
     {
         if self.is_read_only() {
@@ -226,8 +235,6 @@ pub(crate) fn map_place(place: Place) -> MapPlace
     ensures handle { result.handle ≡ place.handle }
     ensures at { result.at ≡ place.at }
 {
-    MapPlace {
-        handle: place.handle,
-        at: place.at,
-    }
+    let Place { handle, at } = place;
+    MapPlace { handle, at }
 }

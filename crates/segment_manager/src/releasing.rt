@@ -7,7 +7,7 @@ use crate::maps::map_place;
 use crate::storages::element_len;
 use best_fit::Heap;
 use seg_map::{Place as MapPlace, SegMap};
-use seg_types::{Kind, Scalar, ScalarKind};
+use seg_types::{Kind, Scalar, ScalarKind, by_kind};
 use seg_vector::{Place, SegTexts, give_back};
 
 /// Gives back the blocks that the value of the object of a handle has. A container has nothing in it and no place then,
@@ -34,13 +34,12 @@ fn release_pairs(heap: &mut Heap, place: MapPlace, keys: ScalarKind, values: Sca
     requires { HasPairs keys values heap.old.bytes place }
     ensures { ReleasesPairs keys values heap.old heap.new place }
 {
-    match keys {
-        ScalarKind::Bool => release_pairs_of::<bool>(heap, place, values),
-        ScalarKind::U8 => release_pairs_of::<u8>(heap, place, values),
-        ScalarKind::I32 => release_pairs_of::<i32>(heap, place, values),
-        ScalarKind::I64 => release_pairs_of::<i64>(heap, place, values),
-        ScalarKind::U64 => release_pairs_of::<u64>(heap, place, values),
+    macro_rules! released {
+        ($type:ty, $kind:ident) => {
+            release_pairs_of::<$type>(heap, place, values)
+        };
     }
+    by_kind!(keys, released)
 }
 
 /// The same of a map whose keys are of a type.
@@ -48,13 +47,12 @@ fn release_pairs_of<K: Scalar>(heap: &mut Heap, place: MapPlace, values: ScalarK
     requires { HasPairs K.kind values heap.old.bytes place }
     ensures { ReleasesPairs K.kind values heap.old heap.new place }
 {
-    match values {
-        ScalarKind::Bool => release_map::<K, bool>(heap, place),
-        ScalarKind::U8 => release_map::<K, u8>(heap, place),
-        ScalarKind::I32 => release_map::<K, i32>(heap, place),
-        ScalarKind::I64 => release_map::<K, i64>(heap, place),
-        ScalarKind::U64 => release_map::<K, u64>(heap, place),
+    macro_rules! released {
+        ($type:ty, $kind:ident) => {
+            release_map::<K, $type>(heap, place)
+        };
     }
+    by_kind!(values, released)
 }
 
 /// The same of a map of two types.

@@ -139,8 +139,7 @@ impl Segment {
         requires { O.stands key.now self.now }
         ensures { Answers self.now (λ d. length_at_kind d (O.key key.now) (VectorOf T.kind)) result }
     {
-        let (len, _places) = self.measure_kind(key, Kind::Vector(T::kind()))?;
-        Ok(len)
+        Ok(self.measure_kind(key, Kind::Vector(T::kind()))?.0)
     }
 
     /// How many texts the vector of strings of a key has.
@@ -154,8 +153,7 @@ impl Segment {
         requires { O.stands key.now self.now }
         ensures { Answers self.now (λ d. length_at_kind d (O.key key.now) TextsKind) result }
     {
-        let (len, _places) = self.measure_kind(key, Kind::Texts)?;
-        Ok(len)
+        Ok(self.measure_kind(key, Kind::Texts)?.0)
     }
 
     /// How many pairs the map of a key has, a map of the types.
@@ -169,7 +167,6 @@ impl Segment {
         requires { O.stands key.now self.now }
         ensures { Answers self.now (λ d. length_at_kind d (O.key key.now) (MapOf K.kind V.kind)) result }
     {
-        let (len, _places) = self.measure_kind(key, Kind::Map(K::kind(), V::kind()))?;
-        Ok(len)
+        Ok(self.measure_kind(key, Kind::Map(K::kind(), V::kind()))?.0)
     }
 }

@@ -4,7 +4,8 @@
 ghost use Rattle.std.specs.Prelude.{◌≡◌, true};
 ghost use Rattle.seg_vector.specs.TextsCalls.{IsSomeTexts};
 ghost use Rattle.segment_manager.specs.{Contents.has_sizes, Contents.has_storage};
-ghost use Rattle.segment_manager.specs.Stored.{ChangesElements, ChangesTexts, HasContainer, HasEnough, IsElements, KeepsThere, StepsThere, TellsSizes, command_of, each_of};
+ghost use Rattle.segment_manager.specs.Stored.{ChangesElements, ChangesTexts, HasContainer, HasEnough, IsElements};
+ghost use Rattle.segment_manager.specs.Stored.{KeepsThere, StepsThere, TellsSizes, command_of, each_of};
 
 use best_fit::Heap;
 use seg_types::{Kind, Refusal};
@@ -83,16 +84,11 @@ fn change_texts(heap: &mut Heap, texts: SegTexts, change: Change) -> Result<(), 
     ensures { ChangesTexts change heap.old heap.new texts.place result }
 {
     match change {
-        Change::Reserve(n) => texts.reserve(heap, n),
-        Change::Shrink => {
-            texts.shrink(heap);
-            Ok(())
-        }
-        Change::Clear => {
-            texts.clear(heap);
-            Ok(())
-        }
+        Change::Reserve(n) => return texts.reserve(heap, n),
+        Change::Shrink => texts.shrink(heap),
+        Change::Clear => texts.clear(heap),
     }
+    Ok(())
 }
 
 /// The same of elements of `each` bytes.
@@ -102,14 +98,9 @@ fn change_elements(heap: &mut Heap, place: Place, each: u64, change: Change) -> 
     ensures { ChangesElements change heap.old heap.new place each result }
 {
     match change {
-        Change::Reserve(n) => reserve(heap, place, each, n),
-        Change::Shrink => {
-            fit(heap, place, each);
-            Ok(())
-        }
-        Change::Clear => {
-            truncate(heap, place, each, 0);
-            Ok(())
-        }
+        Change::Reserve(n) => return reserve(heap, place, each, n),
+        Change::Shrink => fit(heap, place, each),
+        Change::Clear => truncate(heap, place, each, 0),
     }
+    Ok(())
 }

@@ -3,7 +3,8 @@ ghost use Rattle.std.specs.{Prelude.◌≡◌, Prelude.IsTrue, Prelude.OnErr, Pr
 ghost use Rattle.seg_types.specs.declared.kinds.Kind.TheVariants.{Texts as TextsKind};
 ghost use Rattle.seg_types.specs.Commands.{Assign, Erase, Get, Insert, Pop, Push, Quoted, Set};
 ghost use Rattle.segment_manager.specs.{Answers.TextElement, Contents.are_bytes, TextLists.LeadsOnOfKind};
-ghost use Rattle.segment_manager.specs.State.{IsReplyOfKind, IsStepOfKind, KeepsRefused, answer_of, done_answer, refusal_in};
+ghost use Rattle.segment_manager.specs.State.{IsReplyOfKind, IsStepOfKind, KeepsRefused, answer_of, done_answer};
+ghost use Rattle.segment_manager.specs.State.{refusal_in};
 
 use crate::segment::Segment;
 use crate::targets::Target;
@@ -21,7 +22,8 @@ impl Segment {
     /// text there.
     pub fn texts_get<O: Target>(&self, key: &O, index: u64) -> Result<&[u8], Refusal>
         requires { O.stands key.now self.now }
-        ensures { IsReplyOfKind self.now (O.key key.now) TextsKind (Get (O.key key.now) index) (answer_of (λ text. TextElement text.now) result) }
+        ensures { IsReplyOfKind self.now (O.key key.now) TextsKind
+            (Get (O.key key.now) index) (answer_of (λ text. TextElement text.now) result) }
     {
         let place = self.find_container(key, Kind::Texts)?;
         SegTexts { place }.get(&self.heap, index)
@@ -39,7 +41,8 @@ impl Segment {
     /// Nothing changes.
     pub fn texts_set<O: Target>(&mut self, key: &O, index: u64, text: &[u8]) -> Result<(), Refusal>
         requires { O.stands key.now self.old }
-        ensures step { IsStepOfKind self.old self.new (O.key key.now) TextsKind (Set (O.key key.now) index (Quoted text.now)) (done_answer result) }
+        ensures step { IsStepOfKind self.old self.new (O.key key.now) TextsKind
+            (Set (O.key key.now) index (Quoted text.now)) (done_answer result) }
         ensures refused { OnErr result (self.new ≡ self.old) }
     {
         let place = self.find_to_change(key, Kind::Texts)?;
@@ -58,7 +61,8 @@ impl Segment {
     /// the text has no fit: all objects and blocks are as they were, but bytes of gaps may differ.
     pub fn texts_push<O: Target>(&mut self, key: &O, text: &[u8]) -> Result<(), Refusal>
         requires { O.stands key.now self.old }
-        ensures step { IsStepOfKind self.old self.new (O.key key.now) TextsKind (Push (O.key key.now) (Quoted text.now)) (done_answer result) }
+        ensures step { IsStepOfKind self.old self.new (O.key key.now) TextsKind
+            (Push (O.key key.now) (Quoted text.now)) (done_answer result) }
         ensures refused { KeepsRefused self.old self.new result }
     {
         let place = self.find_to_change(key, Kind::Texts)?;
@@ -77,7 +81,8 @@ impl Segment {
     /// and blocks are as they were, but bytes of gaps may differ.
     pub fn texts_assign<O: Target>(&mut self, key: &O, texts: &[&[u8]]) -> Result<(), Refusal>
         requires { O.stands key.now self.old }
-        ensures step { IsStepOfKind self.old self.new (O.key key.now) TextsKind (Assign (O.key key.now) (map Quoted (map (λ text. text.now) texts.now))) (done_answer result) }
+        ensures step { IsStepOfKind self.old self.new (O.key key.now) TextsKind
+            (Assign (O.key key.now) (map Quoted (map (λ text. text.now) texts.now))) (done_answer result) }
         ensures refused { KeepsRefused self.old self.new result }
     {
         judge_all(texts);
@@ -95,7 +100,8 @@ impl Segment {
     /// where it is of another kind, `OutOfRange` where it is empty. Nothing changes.
     pub fn texts_pop<O: Target>(&mut self, key: &O) -> Result<(), Refusal>
         requires { O.stands key.now self.old }
-        ensures step { LeadsOnOfKind self.old self.new (O.key key.now) TextsKind (Pop (O.key key.now)) (refusal_in result) }
+        ensures step { LeadsOnOfKind self.old self.new (O.key key.now) TextsKind (Pop (O.key key.now))
+            (refusal_in result) }
         ensures refused { OnErr result (self.new ≡ self.old) }
     {
         let place = self.find_to_change(key, Kind::Texts)?;
@@ -120,7 +126,8 @@ impl Segment {
         text: &[u8],
     ) -> Result<(), Refusal>
         requires { O.stands key.now self.old }
-        ensures step { IsStepOfKind self.old self.new (O.key key.now) TextsKind (Insert (O.key key.now) index (Quoted text.now)) (done_answer result) }
+        ensures step { IsStepOfKind self.old self.new (O.key key.now) TextsKind
+            (Insert (O.key key.now) index (Quoted text.now)) (done_answer result) }
         ensures refused { KeepsRefused self.old self.new result }
     {
         let place = self.find_to_change(key, Kind::Texts)?;
@@ -138,7 +145,8 @@ impl Segment {
     /// where it is of another kind, `OutOfRange` where it has no text there. Nothing changes.
     pub fn texts_erase<O: Target>(&mut self, key: &O, index: u64) -> Result<(), Refusal>
         requires { O.stands key.now self.old }
-        ensures step { IsStepOfKind self.old self.new (O.key key.now) TextsKind (Erase (O.key key.now) index) (done_answer result) }
+        ensures step { IsStepOfKind self.old self.new (O.key key.now) TextsKind
+            (Erase (O.key key.now) index) (done_answer result) }
         ensures refused { OnErr result (self.new ≡ self.old) }
     {
         let place = self.find_to_change(key, Kind::Texts)?;

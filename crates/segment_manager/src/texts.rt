@@ -37,7 +37,8 @@ impl Segment {
     /// where it is no string, `OutOfRange` where it has no byte there. Nothing changes.
     pub fn string_set<O: Target>(&mut self, key: &O, index: u64, byte: u8) -> Result<(), Refusal>
         requires { O.stands key.now self.old }
-        ensures step { IsStepOfKind self.old self.new (O.key key.now) TextKind (Set (O.key key.now) index (literal_of ByteKind (pos byte))) (done_answer result) }
+        ensures step { IsStepOfKind self.old self.new (O.key key.now) TextKind
+            (Set (O.key key.now) index (literal_of ByteKind (pos byte))) (done_answer result) }
         ensures refused { OnErr result (self.new ≡ self.old) }
     {
         let place = self.find_to_change(key, Kind::Text)?;
@@ -55,7 +56,8 @@ impl Segment {
     /// where it is no string, `NoSpace` where its storage cannot be regrown. Nothing changes.
     pub fn string_append<O: Target>(&mut self, key: &O, bytes: &[u8]) -> Result<(), Refusal>
         requires { O.stands key.now self.old }
-        ensures step { IsStepOfKind self.old self.new (O.key key.now) TextKind (Append (O.key key.now) bytes.now) (done_answer result) }
+        ensures step { IsStepOfKind self.old self.new (O.key key.now) TextKind
+            (Append (O.key key.now) bytes.now) (done_answer result) }
         ensures refused { OnErr result (self.new ≡ self.old) }
     {
         let place = self.find_to_change(key, Kind::Text)?;
@@ -72,7 +74,8 @@ impl Segment {
     /// where it is no string, `NoSpace` where its storage cannot be regrown. Nothing changes.
     pub fn string_assign<O: Target>(&mut self, key: &O, bytes: &[u8]) -> Result<(), Refusal>
         requires { O.stands key.now self.old }
-        ensures step { IsStepOfKind self.old self.new (O.key key.now) TextKind (Assign (O.key key.now) (Quoted bytes.now ∷ [])) (done_answer result) }
+        ensures step { IsStepOfKind self.old self.new (O.key key.now) TextKind
+            (Assign (O.key key.now) (Quoted bytes.now ∷ [])) (done_answer result) }
         ensures refused { OnErr result (self.new ≡ self.old) }
     {
         let place = self.find_to_change(key, Kind::Text)?;

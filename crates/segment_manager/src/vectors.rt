@@ -21,7 +21,8 @@ impl Segment {
     /// element there.
     pub fn vec_get<T: Scalar, O: Target>(&self, key: &O, index: u64) -> Result<T, Refusal>
         requires { O.stands key.now self.now }
-        ensures { IsReplyOfKind self.now (O.key key.now) (VectorOf T.kind) (Get (O.key key.now) index) (answer_of (λ x. Element T.kind (T.whole x)) result) }
+        ensures { IsReplyOfKind self.now (O.key key.now) (VectorOf T.kind)
+            (Get (O.key key.now) index) (answer_of (λ x. Element T.kind (T.whole x)) result) }
     {
         let place = self.find_container(key, Kind::Vector(T::kind()))?;
         SegVec::<T>::at(place).get(&self.heap, index)
@@ -42,7 +43,8 @@ impl Segment {
         value: T,
     ) -> Result<(), Refusal>
         requires { O.stands key.now self.old }
-        ensures step { IsStepOfKind self.old self.new (O.key key.now) (VectorOf T.kind) (Set (O.key key.now) index (literal_of T.kind (T.whole value))) (done_answer result) }
+        ensures step { IsStepOfKind self.old self.new (O.key key.now) (VectorOf T.kind)
+            (Set (O.key key.now) index (literal_of T.kind (T.whole value))) (done_answer result) }
         ensures refused { OnErr result (self.new ≡ self.old) }
     {
         judge(value);
@@ -61,7 +63,8 @@ impl Segment {
     /// where it is of another kind, `NoSpace` where it is full and its storage cannot be regrown. Nothing changes.
     pub fn vec_push<T: Scalar, O: Target>(&mut self, key: &O, value: T) -> Result<(), Refusal>
         requires { O.stands key.now self.old }
-        ensures step { IsStepOfKind self.old self.new (O.key key.now) (VectorOf T.kind) (Push (O.key key.now) (literal_of T.kind (T.whole value))) (done_answer result) }
+        ensures step { IsStepOfKind self.old self.new (O.key key.now) (VectorOf T.kind)
+            (Push (O.key key.now) (literal_of T.kind (T.whole value))) (done_answer result) }
         ensures refused { OnErr result (self.new ≡ self.old) }
     {
         judge(value);
@@ -80,7 +83,8 @@ impl Segment {
     /// where it is of another kind, `NoSpace` where its storage cannot be regrown. Nothing changes.
     pub fn vec_assign<T: Scalar, O: Target>(&mut self, key: &O, values: &[T]) -> Result<(), Refusal>
         requires { O.stands key.now self.old }
-        ensures step { IsStepOfKind self.old self.new (O.key key.now) (VectorOf T.kind) (Assign (O.key key.now) (map (literal_of T.kind) (map T.whole values.now))) (done_answer result) }
+        ensures step { IsStepOfKind self.old self.new (O.key key.now) (VectorOf T.kind)
+            (Assign (O.key key.now) (map (literal_of T.kind) (map T.whole values.now))) (done_answer result) }
         ensures refused { OnErr result (self.new ≡ self.old) }
     {
         judge_all(values);
@@ -98,7 +102,8 @@ impl Segment {
     /// where it is of another kind, `OutOfRange` where it is empty. Nothing changes.
     pub fn vec_pop<T: Scalar, O: Target>(&mut self, key: &O) -> Result<T, Refusal>
         requires { O.stands key.now self.old }
-        ensures step { IsStepOfKind self.old self.new (O.key key.now) (VectorOf T.kind) (Pop (O.key key.now)) (answer_of (λ x. Element T.kind (T.whole x)) result) }
+        ensures step { IsStepOfKind self.old self.new (O.key key.now) (VectorOf T.kind)
+            (Pop (O.key key.now)) (answer_of (λ x. Element T.kind (T.whole x)) result) }
         ensures refused { OnErr result (self.new ≡ self.old) }
     {
         let place = self.find_to_change(key, Kind::Vector(T::kind()))?;
@@ -122,7 +127,8 @@ impl Segment {
         value: T,
     ) -> Result<(), Refusal>
         requires { O.stands key.now self.old }
-        ensures step { IsStepOfKind self.old self.new (O.key key.now) (VectorOf T.kind) (Insert (O.key key.now) index (literal_of T.kind (T.whole value))) (done_answer result) }
+        ensures step { IsStepOfKind self.old self.new (O.key key.now) (VectorOf T.kind)
+            (Insert (O.key key.now) index (literal_of T.kind (T.whole value))) (done_answer result) }
         ensures refused { OnErr result (self.new ≡ self.old) }
     {
         judge(value);
@@ -141,7 +147,8 @@ impl Segment {
     /// where it is of another kind, `OutOfRange` where it has no element there. Nothing changes.
     pub fn vec_erase<T: Scalar, O: Target>(&mut self, key: &O, index: u64) -> Result<(), Refusal>
         requires { O.stands key.now self.old }
-        ensures step { IsStepOfKind self.old self.new (O.key key.now) (VectorOf T.kind) (Erase (O.key key.now) index) (done_answer result) }
+        ensures step { IsStepOfKind self.old self.new (O.key key.now) (VectorOf T.kind)
+            (Erase (O.key key.now) index) (done_answer result) }
         ensures refused { OnErr result (self.new ≡ self.old) }
     {
         let place = self.find_to_change(key, Kind::Vector(T::kind()))?;

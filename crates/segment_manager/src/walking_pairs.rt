@@ -3,31 +3,12 @@ ghost use Rattle.std.specs.Prelude.{◌≡◌, option_map};
 ghost use Rattle.seg_types.specs.{Kinds.lowest, Values.kind_of_scalar, Values.value_of_scalar};
 ghost use Rattle.seg_map.specs.Places.{item_of};
 ghost use Rattle.segment_manager.specs.{Maps.pair_above, Maps.told_of_map, State.Answers};
-ghost use Rattle.segment_manager.specs.Walks.{AreOfKinds, HasValueOf, IsMap, first_of, item_of_kinds, item_seen, numbers_read, pair_past, pairs_at};
+ghost use Rattle.segment_manager.specs.Walks.{AreOfKinds, IsMap, first_of, item_of_kinds, item_seen, numbers_read};
+ghost use Rattle.segment_manager.specs.Walks.{pair_past, pairs_at};
 
 use crate::segment::Segment;
 use crate::targets::Target;
-use seg_types::{Refusal, Scalar, ScalarKind, ScalarValue};
-
-/// A pair that was read, whose key becomes the value of a kind.
-macro_rules! keyed {
-    ($read:expr, $kind:ident) => {
-        match $read? {
-            None => Ok(None),
-            Some((at, value)) => Ok(Some((ScalarValue::$kind(at), value))),
-        }
-    };
-}
-
-/// The same of its value.
-macro_rules! valued {
-    ($read:expr, $kind:ident) => {
-        match $read? {
-            None => Ok(None),
-            Some((at, value)) => Ok(Some((at, ScalarValue::$kind(value)))),
-        }
-    };
-}
+use seg_types::{Refusal, ScalarKind, ScalarValue, by_kind, by_value};
 
 impl Segment {
     /// The pair with the least key that is above a bound, or not below it, of the map of a key, a map with keys of the
@@ -41,38 +22,20 @@ impl Segment {
         values: ScalarKind,
     ) -> Result<Option<(ScalarValue, ScalarValue)>, Refusal>
         requires { O.stands key.now self.now }
-        ensures pair { Answers self.now (λ d. told_of_map d (O.key key.now) (kind_of_scalar bound) values (pair_past above (value_of_scalar bound))) (numbers_read value_of_scalar value_of_scalar result) }
+        ensures pair { Answers self.now
+            (λ d. told_of_map d (O.key key.now) (kind_of_scalar bound) values (pair_past above (value_of_scalar bound)))
+            (numbers_read value_of_scalar value_of_scalar result) }
         ensures kinds { AreOfKinds (kind_of_scalar bound) values result }
     {
-        match bound {
-            ScalarValue::Bool(bound) => keyed!(self.pair_by_key(key, bound, above, values), Bool),
-            ScalarValue::U8(bound) => keyed!(self.pair_by_key(key, bound, above, values), U8),
-            ScalarValue::I32(bound) => keyed!(self.pair_by_key(key, bound, above, values), I32),
-            ScalarValue::I64(bound) => keyed!(self.pair_by_key(key, bound, above, values), I64),
-            ScalarValue::U64(bound) => keyed!(self.pair_by_key(key, bound, above, values), U64),
+        macro_rules! read {
+            ($type:ty, $kind:ident) => {
+                by_value!(bound, bound => match self.pair_past::<_, $type, O>(key, bound, above)? {
+                    None => Ok(None),
+                    Some((at, value)) => Ok(Some((ScalarValue::from(at), ScalarValue::$kind(value)))),
+                })
+            };
         }
-    }
-
-    /// The same of keys of a type.
-    #[inline(always)]
-    fn pair_by_key<K: Scalar, O: Target>(
-        &self,
-        key: &O,
-        bound: K,
-        above: bool,
-        values: ScalarKind,
-    ) -> Result<Option<(K, ScalarValue)>, Refusal>
-        requires { O.stands key.now self.now }
-        ensures pair { Answers self.now (λ d. told_of_map d (O.key key.now) K.kind values (pair_past above (K.whole bound))) (numbers_read K.whole value_of_scalar result) }
-        ensures kind { HasValueOf values result }
-    {
-        match values {
-            ScalarKind::Bool => valued!(self.pair_past::<K, bool, O>(key, bound, above), Bool),
-            ScalarKind::U8 => valued!(self.pair_past::<K, u8, O>(key, bound, above), U8),
-            ScalarKind::I32 => valued!(self.pair_past::<K, i32, O>(key, bound, above), I32),
-            ScalarKind::I64 => valued!(self.pair_past::<K, i64, O>(key, bound, above), I64),
-            ScalarKind::U64 => valued!(self.pair_past::<K, u64, O>(key, bound, above), U64),
-        }
+        by_kind!(values, read)
     }
 }
 
@@ -81,13 +44,15 @@ fn least(kind: ScalarKind) -> ScalarValue
     ensures kind { kind_of_scalar result ≡ kind }
     ensures value { value_of_scalar result ≡ lowest kind }
 {
-    match kind {
-        ScalarKind::Bool => ScalarValue::Bool(false),
-        ScalarKind::U8 => ScalarValue::U8(0),
-        ScalarKind::I32 => ScalarValue::I32(i32::MIN),
-        ScalarKind::I64 => ScalarValue::I64(i64::MIN),
-        ScalarKind::U64 => ScalarValue::U64(0),
+    macro_rules! least {
+        (bool, Bool) => {
+            ScalarValue::Bool(false)
+        };
+        ($type:ty, $kind:ident) => {
+            ScalarValue::$kind(<$type>::MIN)
+        };
     }
+    by_kind!(kind, least)
 }
 
 /// The pair with the least key of the map of a key, a map of the two kinds, or `None` where the map is empty.
@@ -106,7 +71,8 @@ pub fn first_pair<O: Target>(
 ) -> Option<(ScalarValue, ScalarValue)>
     requires target { O.stands key.now segment.now }
     requires map { IsMap segment.now (O.key key.now) keys values }
-    ensures { Answers segment.now (λ d. option_map (item_of_kinds keys values) (option_map item_of (first_of (pairs_at d (O.key key.now))))) (option_map item_seen result) }
+    ensures { Answers segment.now (λ d. option_map (item_of_kinds keys values)
+        (option_map item_of (first_of (pairs_at d (O.key key.now))))) (option_map item_seen result) }
 {
     match segment.pair_of_kinds(key, least(keys), false, values) {
         Ok(pair) => pair,
@@ -132,7 +98,8 @@ pub fn next_pair<O: Target>(
 ) -> Option<(ScalarValue, ScalarValue)>
     requires target { O.stands key.now segment.now }
     requires map { IsMap segment.now (O.key key.now) (kind_of_scalar after) values }
-    ensures { Answers segment.now (λ d. option_map (item_of_kinds (kind_of_scalar after) values) (pair_above (value_of_scalar after) (pairs_at d (O.key key.now)))) (option_map item_seen result) }
+    ensures { Answers segment.now (λ d. option_map (item_of_kinds (kind_of_scalar after) values)
+        (pair_above (value_of_scalar after) (pairs_at d (O.key key.now)))) (option_map item_seen result) }
 {
     match segment.pair_of_kinds(key, after, true, values) {
         Ok(pair) => pair,

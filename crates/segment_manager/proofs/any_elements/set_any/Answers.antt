@@ -17,16 +17,14 @@ returns-in-U8-clause-step g c =
 pub returns-in-Vector-clause-step : goal.returns-in-Vector-clause-step
 returns-in-Vector-clause-step g c =
     let key : Key = g.O.Target.key c.args.key.now in
-    let k : ScalarKind = kind_of_scalar c.args.value in
-    of_kind-steps c.args.segment.now c.set_in_vector.new.self key (Vector k) (Set key c.args.index (literal_of k (value_of_scalar c.args.value))) (done_answer c.set_in_vector.result)
-    (vector-kind c.args.segment.now key c.in-Vector.field-0 k
-    (subst (λ (n : Kind). Answers c.args.segment.now (λ d. kind_at d key) (Ok n)) c.in-Vector.is (kind-by_key c.args.segment.now key c.in_ok-object.object c.in_ok-object.ensures)) c.requires.of_kind)
-    (step_of_kind-by_key c.args.segment.now key c.in_ok-object.object c.in_ok-object.ensures c.set_in_vector.new.self (Vector k) (Set key c.args.index (literal_of k (value_of_scalar c.args.value))) (done_answer c.set_in_vector.result) c.set_in_vector.ensures.step)
+    of_kind-steps _ _ _ (Vector (kind_of_scalar c.args.value)) (Set key c.args.index _) _
+    (vector-kind _ _ c.in-Vector.field-0 _
+    (subst (λ (n : Kind). Answers c.args.segment.now (λ d. kind_at d key) (Ok n)) c.in-Vector.is (kind-by_key _ key _ c.in_ok-object.ensures)) c.requires.of_kind)
+    (step_of_kind-by_key _ key _ c.in_ok-object.ensures _ _ (Set key c.args.index _) _ c.set_in_vector.ensures.step)
 
 pub returns-in_default-clause-step : goal.returns-in_default-clause-step
 returns-in_default-clause-step g c =
     let key : Key = g.O.Target.key c.args.key.now in
-    let k : ScalarKind = kind_of_scalar c.args.value in
-    of_kind-steps c.args.segment.now c.set_value.new.self key (Scalar k) (Set key c.args.index (literal_of k (value_of_scalar c.args.value))) (done_answer c.set_value.result)
-    (scalar-kind c.args.segment.now key c.in_ok-object.object.kind k (kind-by_key c.args.segment.now key c.in_ok-object.object c.in_ok-object.ensures) c.requires.of_kind c.in_default.not-Text c.in_default.not-Vector)
-    (step_of_kind-by_key c.args.segment.now key c.in_ok-object.object c.in_ok-object.ensures c.set_value.new.self (Scalar k) (Set key c.args.index (literal_of k (value_of_scalar c.args.value))) (done_answer c.set_value.result) c.set_value.ensures.step)
+    of_kind-steps _ _ _ (Scalar (kind_of_scalar c.args.value)) (Set key c.args.index _) _
+    (scalar-kind _ _ _ _ (kind-by_key _ key _ c.in_ok-object.ensures) c.requires.of_kind c.in_default.not-Text c.in_default.not-Vector)
+    (step_of_kind-by_key _ key _ c.in_ok-object.ensures _ _ (Set key c.args.index _) _ c.set_value.ensures.step)

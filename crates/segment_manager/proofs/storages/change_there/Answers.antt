@@ -22,8 +22,9 @@ returns-in-Texts-clause-change c =
     subst (λ (k : Kind). StepsThere c.args.heap.now c.change_texts.new.heap k c.args.place (command_of c.args.change) c.change_texts.result)
     (sym c.in-Texts.is)
     (λ mode key writing there.
-    texts-changed {s = record { cut = c.args.heap.now; mode = mode }} refl key _ c.requires.there.0 (record { answers = there })
-    c.change_texts.new.heap writing c.args.change c.change_texts.result c.change_texts.ensures)
+    texts-changed {s = record { cut = c.args.heap.now; mode = mode }} refl c.requires.there.0
+    (record { writing = writing; at = record { answers = there } }) _ c.args.change c.change_texts.result
+    c.change_texts.ensures)
 
 pub returns-in-Texts-clause-enough : goal.returns-in-Texts-clause-enough
 returns-in-Texts-clause-enough c =

@@ -1,6 +1,6 @@
 -- Each element of a slice of bytes is one.
-use Rattle.segment_manager.proofs.{Common.arith, TextAnswers.fits-bytes}
+use Rattle.segment_manager.proofs.TextAnswers.{fits-bytes}
 use Rattle.segment_manager.proofs.text_lists.judge.Goals as goal
 
 pub returns : goal.returns
-returns c = fits-bytes c.args.text.now (λ k. omega (arith, c.type_inv.text k))
+returns c = fits-bytes _ c.type_inv.text

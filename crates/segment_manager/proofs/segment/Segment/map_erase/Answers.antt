@@ -11,8 +11,8 @@ returns-then-is_read_only-clause-step g c =
 
 pub erase-requires : goal.erase-requires
 erase-requires g c =
-    some-there (of-map g.met.K.Scalar) (of-map g.met.V.Scalar) c.self.view_is _ c.at.ensures
-    c.self.invariant c.in_ok-place.ensures
+    some-there (of-map g.met.K.Scalar) (of-map g.met.V.Scalar) c.self.view_is _ c.at.ensures c.self.invariant
+    c.in_ok-place.ensures
 
 pub returns-in_err-place-clause-step : goal.returns-in_err-place-clause-step
 returns-in_err-place-clause-step g c =
@@ -23,14 +23,14 @@ returns-in_err-place-clause-step g c =
 pub invariant_of-self : goal.invariant_of-self
 invariant_of-self g c =
     (erased-there (of-map g.met.K.Scalar) (of-map g.met.V.Scalar) c.self.view_is _ c.at.ensures c.self.invariant
-    c.in_ok-place.ensures c.erase.new.heap (sym c.is_read_only.ensures ∙ c.if-is_read_only.false) c.args.at
-    c.erase.result c.judge.ensures c.erase.ensures.erased).segment
+    c.in_ok-place.ensures _ (sym c.is_read_only.ensures ∙ c.if-is_read_only.false) _ _ c.judge.ensures
+    c.erase.ensures.erased).segment
 
 pub returns : goal.returns
 returns g c =
     let d = erased-there (of-map g.met.K.Scalar) (of-map g.met.V.Scalar) c.self.view_is _ c.at.ensures c.self.invariant
-    c.in_ok-place.ensures c.erase.new.heap (sym c.is_read_only.ensures ∙ c.if-is_read_only.false) c.args.at
-    c.erase.result c.judge.ensures c.erase.ensures.erased in
+    c.in_ok-place.ensures _ (sym c.is_read_only.ensures ∙ c.if-is_read_only.false) _ _ c.judge.ensures
+    c.erase.ensures.erased in
     record {
       step = d.step;
       refused = d.refused;

@@ -6,8 +6,8 @@ use Rattle.segment_manager.proofs.segment.Segment.map_get.Goals as goal
 
 pub get-requires : goal.get-requires
 get-requires g c =
-    some-there (of-map g.met.K.Scalar) (of-map g.met.V.Scalar) c.self.view_is _ c.at.ensures
-    c.self.invariant c.in_ok-place.ensures
+    some-there (of-map g.met.K.Scalar) (of-map g.met.V.Scalar) c.self.view_is _ c.at.ensures c.self.invariant
+    c.in_ok-place.ensures
 
 pub returns-in_err-place : goal.returns-in_err-place
 returns-in_err-place g c =
@@ -17,5 +17,5 @@ returns-in_err-place g c =
 
 pub returns : goal.returns
 returns g c =
-    got-there (of-map g.met.K.Scalar) (of-map g.met.V.Scalar) c.self.view_is _ c.at.ensures
-    c.self.invariant c.in_ok-place.ensures c.args.at c.get.result c.judge.ensures c.get.ensures.value
+    got-there (of-map g.met.K.Scalar) (of-map g.met.V.Scalar) c.self.view_is _ c.at.ensures c.self.invariant
+    c.in_ok-place.ensures _ _ c.judge.ensures c.get.ensures.value

@@ -1,19 +1,18 @@
 -- The pair is looked for in the map that is found.
-use Rattle.segment_manager.proofs.{Common.exit-is, Common.true, Common.pair_up_to, MapAnswers.back-there}
+use Rattle.segment_manager.proofs.{Common.exit-is, Common.true, MapAnswers.back-there}
 use Rattle.segment_manager.proofs.{MapAnswers.some-there, MapCalls.tells-nothing, ScalarTypes.of-map}
 use Rattle.segment_manager.proofs.segment.Segment.map_last_up_to.Goals as goal
 
 pub last_up_to-requires : goal.last_up_to-requires
 last_up_to-requires g c =
-    some-there (of-map g.met.K.Scalar) (of-map g.met.V.Scalar) c.self.view_is _ c.at.ensures
-    c.self.invariant c.in_ok-place.ensures
+    some-there (of-map g.met.K.Scalar) (of-map g.met.V.Scalar) c.self.view_is _ c.at.ensures c.self.invariant
+    c.in_ok-place.ensures
 
 pub returns-in_err-place : goal.returns-in_err-place
 returns-in_err-place g c =
-    rw (exit-is c.from_residual.result _ c.from_residual.ensures.1)
-    (tells-nothing _ _ _ _ (pair_up_to (g.K.Scalar.whole c.args.to)) _ c.in_err-place.ensures)
+    rw (exit-is _ _ c.from_residual.ensures.1) (tells-nothing _ _ _ _ _ _ c.in_err-place.ensures)
 
 pub returns : goal.returns
 returns g c =
-    back-there (of-map g.met.K.Scalar) (of-map g.met.V.Scalar) c.self.view_is _ c.at.ensures
-    c.self.invariant c.in_ok-place.ensures true c.args.to c.last_up_to.result c.last_up_to.ensures.item
+    back-there (of-map g.met.K.Scalar) (of-map g.met.V.Scalar) c.self.view_is _ c.at.ensures c.self.invariant
+    c.in_ok-place.ensures true _ _ c.last_up_to.ensures.item

@@ -1,14 +1,15 @@
 -- The pair is put into the map that is found.
 use Rattle.segment_manager.proofs.Common.{exit-is, ◌≡◌, refl, sym, ap, ◌∙◌, Command, Map, Put, literal_of, truth_answer}
 use Rattle.segment_manager.proofs.{MapAnswers.put-there, MapAnswers.some-there, MapCalls.finds-no_map}
-use Rattle.segment_manager.proofs.{MapCalls.put_result, Safely.Answered, ScalarTypes.of-map, Steps.open-writing}
+use Rattle.segment_manager.proofs.{MapCalls.put_result, Safely.Answered, Safely.told, ScalarTypes.of-map}
+use Rattle.segment_manager.proofs.{Steps.open-writing}
 use Rattle.segment_manager.proofs.{Steps.refuses_of_kind-read_only}
 use Rattle.segment_manager.proofs.segment.Segment.map_put.Goals as goal
 use Rattle.segment_manager.proofs.segment.Segment.map_put.{Goals.Joined-put, Goals.in-Err, Goals.in-Ok, Given.Over}
 
 -- what the call answers
-told : (g : Over) (c : Joined-put g) → c.match-put.result ≡ put_result c.put.result
-told g c =
+answer : (g : Over) (c : Joined-put g) → c.match-put.result ≡ put_result c.put.result
+answer g c =
     elim c.match-put.branch [ in-Err w ↦ w.result-is ∙ sym (ap put_result w.in-Err.is) | in-Ok w ↦ w.result-is ∙ sym (ap put_result w.in-Ok.is) ]
 
 -- what the call does, in each goal behind it
@@ -17,9 +18,9 @@ done : (g : Over) (c : Joined-put g) → Answered truth_answer (record { cut = c
     (g.O.Target.key c.args.key.now) (literal_of g.K.Scalar.kind (g.K.Scalar.whole c.args.at)) (literal_of g.V.Scalar.kind
     (g.V.Scalar.whole c.args.value))) c.match-put.result
 done g c =
-    put-there (of-map g.met.K.Scalar) (of-map g.met.V.Scalar) c.self.view_is _ c.at.ensures
-    c.self.invariant c.in_ok-place.ensures c.put.new.heap (sym c.is_read_only.ensures ∙ c.if-is_read_only.false) c.args.at c.args.value
-    c.put.result c.match-put.result (told g c) c.judge.ensures c.judge-2.ensures c.put.ensures.put
+    put-there (of-map g.met.K.Scalar) (of-map g.met.V.Scalar) c.self.view_is _ c.at.ensures c.self.invariant
+    c.in_ok-place.ensures _ (sym c.is_read_only.ensures ∙ c.if-is_read_only.false) _ _ c.put.result _ (answer g c)
+    c.judge.ensures c.judge-2.ensures c.put.ensures.put
 
 pub returns-then-is_read_only-clause-step : goal.returns-then-is_read_only-clause-step
 returns-then-is_read_only-clause-step g c =
@@ -27,8 +28,8 @@ returns-then-is_read_only-clause-step g c =
 
 pub put-requires : goal.put-requires
 put-requires g c =
-    some-there (of-map g.met.K.Scalar) (of-map g.met.V.Scalar) c.self.view_is _ c.at.ensures
-    c.self.invariant c.in_ok-place.ensures
+    some-there (of-map g.met.K.Scalar) (of-map g.met.V.Scalar) c.self.view_is _ c.at.ensures c.self.invariant
+    c.in_ok-place.ensures
 
 pub returns-in_err-place-clause-step : goal.returns-in_err-place-clause-step
 returns-in_err-place-clause-step g c =
@@ -40,4 +41,4 @@ pub invariant_of-self : goal.invariant_of-self
 invariant_of-self g c = (done g (goal.at.invariant_of-self g c).Joined-put).segment
 
 pub returns : goal.returns
-returns g c = let d = done g (goal.at.returns g c).Joined-put in record { step = d.step; refused = d.refused }
+returns g c = told (done g (goal.at.returns g c).Joined-put)

@@ -1,6 +1,6 @@
 -- The bytes are put in the place of those of the string that is found.
-use Rattle.segment_manager.proofs.TextAnswers.{fits-bytes, text-assigned, text-standing}
-use Rattle.segment_manager.proofs.{Common.arith, Common.refl, ToChange.not-changed}
+use Rattle.segment_manager.proofs.TextAnswers.{text-assigned, text-standing}
+use Rattle.segment_manager.proofs.{Common.refl, Safely.told, ToChange.not-changed}
 use Rattle.segment_manager.proofs.segment.Segment.string_assign.Goals as goal
 
 pub assign-requires : goal.assign-requires
@@ -8,17 +8,12 @@ assign-requires g c = text-standing c.self.view_is _ _ c.self.invariant c.in_ok-
 
 pub invariant_of-self : goal.invariant_of-self
 invariant_of-self g c =
-    (text-assigned c.self.view_is _ _ c.self.invariant c.in_ok-place.ensures.at c.assign.new.heap
-    c.in_ok-place.ensures.writing c.args.bytes.now c.assign.result
-    (fits-bytes c.args.bytes.now (λ k. omega (arith, c.type_inv.bytes k))) c.assign.ensures).segment
+    (text-assigned c.self.view_is c.self.invariant c.in_ok-place.ensures _ _ _ c.type_inv.bytes
+    c.assign.ensures).segment
 
 pub returns-in_err-place-clause-step : goal.returns-in_err-place-clause-step
-returns-in_err-place-clause-step g c =
-    not-changed _ c.from_residual.result refl c.from_residual.ensures.1 refl c.in_err-place.ensures
+returns-in_err-place-clause-step g c = not-changed _ _ _ refl c.from_residual.ensures.1 refl c.in_err-place.ensures
 
 pub returns : goal.returns
 returns g c =
-    let d = text-assigned c.self.view_is _ _ c.self.invariant c.in_ok-place.ensures.at c.assign.new.heap
-    c.in_ok-place.ensures.writing c.args.bytes.now c.assign.result
-    (fits-bytes c.args.bytes.now (λ k. omega (arith, c.type_inv.bytes k))) c.assign.ensures in
-    record { step = d.step; refused = d.refused }
+    told (text-assigned c.self.view_is c.self.invariant c.in_ok-place.ensures _ _ _ c.type_inv.bytes c.assign.ensures)

@@ -1,6 +1,6 @@
 -- The texts are those of the vector of strings that is found.
-use Rattle.segment_manager.proofs.TextListCalls.{texts-assigned, texts-standing}
-use Rattle.segment_manager.proofs.{Common.map, Common.refl, ToChange.not-changed}
+use Rattle.segment_manager.proofs.{Common.refl, TextListCalls.texts-assigned, TextListCalls.texts-standing}
+use Rattle.segment_manager.proofs.{TextMoves.kept-told, ToChange.not-changed}
 use Rattle.segment_manager.proofs.segment.Segment.texts_assign.Goals as goal
 
 pub assign-requires : goal.assign-requires
@@ -8,17 +8,13 @@ assign-requires g c = texts-standing c.self.view_is _ _ c.self.invariant c.in_ok
 
 pub invariant_of-self : goal.invariant_of-self
 invariant_of-self g c =
-    (texts-assigned c.self.view_is _ _ c.self.invariant c.in_ok-place.ensures.at c.assign.new.heap
-    c.in_ok-place.ensures.writing (map (λ text. text.now) c.args.texts.now) c.assign.result c.judge_all.ensures
+    (texts-assigned c.self.view_is c.self.invariant c.in_ok-place.ensures _ _ _ c.judge_all.ensures
     c.assign.ensures.assigned).segment
 
 pub returns-in_err-place-clause-step : goal.returns-in_err-place-clause-step
-returns-in_err-place-clause-step g c =
-    not-changed _ c.from_residual.result refl c.from_residual.ensures.1 refl c.in_err-place.ensures
+returns-in_err-place-clause-step g c = not-changed _ _ _ refl c.from_residual.ensures.1 refl c.in_err-place.ensures
 
 pub returns : goal.returns
 returns g c =
-    let d = texts-assigned c.self.view_is _ _ c.self.invariant c.in_ok-place.ensures.at c.assign.new.heap
-    c.in_ok-place.ensures.writing (map (λ text. text.now) c.args.texts.now) c.assign.result c.judge_all.ensures
-    c.assign.ensures.assigned in
-    record { step = d.step; refused = d.refused }
+    kept-told (texts-assigned c.self.view_is c.self.invariant c.in_ok-place.ensures _ _ _ c.judge_all.ensures
+    c.assign.ensures.assigned)

@@ -1,5 +1,5 @@
 -- The text is that of the vector of strings that is found.
-use Rattle.segment_manager.proofs.{Common.exit-is, Common.refl, Common.Get, StorageSteps.no_container-reply}
+use Rattle.segment_manager.proofs.{Common.exit-is, Common.refl, StorageSteps.no_container-reply}
 use Rattle.segment_manager.proofs.{StorageSteps.seen-reply, TextListCalls.text-got, TextListCalls.texts-standing}
 use Rattle.segment_manager.proofs.segment.Segment.texts_get.Goals as goal
 
@@ -8,8 +8,7 @@ get-requires g c = texts-standing c.self.view_is _ _ c.self.invariant c.in_ok-pl
 
 pub returns-in_err-place : goal.returns-in_err-place
 returns-in_err-place g c =
-    rw (exit-is c.from_residual.result _ c.from_residual.ensures.1)
-    (no_container-reply _ _ _ (Get (g.O.Target.key c.args.key.now) c.args.index) _ refl c.in_err-place.ensures)
+    rw (exit-is _ _ c.from_residual.ensures.1) (no_container-reply _ _ _ _ _ refl c.in_err-place.ensures)
 
 pub returns : goal.returns
 returns g c =

@@ -7,9 +7,7 @@ pub pop-requires : goal.pop-requires
 pop-requires g c = texts-standing c.self.view_is _ _ c.self.invariant c.in_ok-place.ensures.at
 
 pub invariant_of-self : goal.invariant_of-self
-invariant_of-self g c =
-    (text-popped c.self.view_is _ _ c.self.invariant c.in_ok-place.ensures.at c.pop.new.heap
-    c.in_ok-place.ensures.writing c.pop.result c.pop.ensures).segment
+invariant_of-self g c = (text-popped c.self.view_is c.self.invariant c.in_ok-place.ensures _ _ c.pop.ensures).segment
 
 pub returns-in_err-place-clause-step : goal.returns-in_err-place-clause-step
 returns-in_err-place-clause-step g c =
@@ -18,6 +16,5 @@ returns-in_err-place-clause-step g c =
 
 pub returns : goal.returns
 returns g c =
-    let d = text-popped c.self.view_is _ _ c.self.invariant c.in_ok-place.ensures.at c.pop.new.heap
-    c.in_ok-place.ensures.writing c.pop.result c.pop.ensures in
+    let d = text-popped c.self.view_is c.self.invariant c.in_ok-place.ensures _ _ c.pop.ensures in
     record { step = d.step; refused = d.refused }

@@ -1,5 +1,5 @@
 -- The values are put in the place of those of the vector that is found.
-use Rattle.segment_manager.proofs.{Common.Vector, Common.ap, Common.refl, ScalarTypes.of-vector}
+use Rattle.segment_manager.proofs.{Common.Vector, Common.ap, Common.refl, Safely.told, ScalarTypes.of-vector}
 use Rattle.segment_manager.proofs.{ToChange.not-changed, VectorAnswers.some-vector, VectorAnswers.vector-assigned}
 use Rattle.segment_manager.proofs.segment.Segment.vec_assign.Goals as goal
 
@@ -11,16 +11,13 @@ assign-requires g c =
 pub invariant_of-self : goal.invariant_of-self
 invariant_of-self g c =
     (vector-assigned (of-vector g.met.T.Scalar) c.self.view_is _ c.kind.ensures c.at.ensures c.self.invariant
-    c.in_ok-place.ensures.at c.assign.new.heap c.in_ok-place.ensures.writing c.args.values.now c.assign.result
-    c.judge_all.ensures c.assign.ensures).segment
+    c.in_ok-place.ensures.at _ c.in_ok-place.ensures.writing _ _ c.judge_all.ensures c.assign.ensures).segment
 
 pub returns-in_err-place-clause-step : goal.returns-in_err-place-clause-step
 returns-in_err-place-clause-step g c =
-    not-changed _ c.from_residual.result (ap Vector c.kind.ensures) c.from_residual.ensures.1 refl c.in_err-place.ensures
+    not-changed _ _ _ (ap Vector c.kind.ensures) c.from_residual.ensures.1 refl c.in_err-place.ensures
 
 pub returns : goal.returns
 returns g c =
-    let d = vector-assigned (of-vector g.met.T.Scalar) c.self.view_is _ c.kind.ensures c.at.ensures c.self.invariant
-    c.in_ok-place.ensures.at c.assign.new.heap c.in_ok-place.ensures.writing c.args.values.now c.assign.result
-    c.judge_all.ensures c.assign.ensures in
-    record { step = d.step; refused = d.refused }
+    told (vector-assigned (of-vector g.met.T.Scalar) c.self.view_is _ c.kind.ensures c.at.ensures c.self.invariant
+    c.in_ok-place.ensures.at _ c.in_ok-place.ensures.writing _ _ c.judge_all.ensures c.assign.ensures)

@@ -27,10 +27,8 @@ pub fn read_elements<T: Scalar>(
     ensures read { Answers segment.now (λ d. range_at d (key_seen key.now) T.kind first (length row.old)) (read_into T.whole row.new result) }
     ensures kept { OnErr result (row.new ≡ row.old) }
 {
-    match locate(segment, key) {
-        Err(why) => Err(why),
-        Ok(object) => read_object(segment, &object, first, row),
-    }
+    let object = locate(segment, key)?;
+    read_object(segment, &object, first, row)
 }
 
 /// The same of an object that was located.

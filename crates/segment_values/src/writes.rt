@@ -34,10 +34,8 @@ pub fn write_elements<T: Scalar>(
     if segment.mode() == Mode::ReadOnly {
         return Err(Refusal::ReadOnly);
     }
-    match locate(segment, key) {
-        Err(why) => Err(why),
-        Ok(object) => write_object(segment, &object, first, row),
-    }
+    let object = locate(segment, key)?;
+    write_object(segment, &object, first, row)
 }
 
 /// The same of an object that was located, in a segment that may be changed.

@@ -2,7 +2,7 @@
 use Rattle.std.proofs.Common.{◌≡◌, length, map, take}
 use Rattle.segment_manager.specs.State.{IsSegment}
 use Rattle.segment_values.specs.Ranges.{HasRange}
-use Rattle.segment_values.proofs.writes.set_array.Given as goal
+use Rattle.segment_values.proofs.writes.set_row.Given as goal
 
 abbrev pub invariant-elements : goal.invariant-elements
 invariant-elements g l = record {

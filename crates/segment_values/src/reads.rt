@@ -115,10 +115,7 @@ fn element<T: Scalar>(segment: &Segment, object: &Object, index: u64) -> Result<
 fn number_or_none(number: Result<u64, Refusal>) -> u64
     ensures { result ≡ number_of number }
 {
-    match number {
-        Ok(many) => many,
-        Err(_) => 0,
-    }
+    number.unwrap_or(0)
 }
 
 /// Whether so many elements have `count` from `first` on.

@@ -60,7 +60,8 @@ fn fill_elements(
     room: &mut [u8],
     scratch: &mut Text,
 ) -> Result<(), Stop>
-    ensures { FillsElements segment.old segment.new handle shape.kind shape.count lines.old lines.new (length room.old) result }
+    ensures { FillsElements segment.old segment.new handle shape.kind shape.count lines.old lines.new
+        (length room.old) result }
 {
     'elements: for index in 0..shape.count {
         add_element(segment, handle, shape.kind, index, lines, room, scratch)?;

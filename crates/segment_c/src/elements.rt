@@ -19,7 +19,7 @@ use crate::codes::{done, element};
 use crate::handle::Handle;
 use crate::keys::ObjectKey;
 use crate::values::Value;
-use seg_types::{Key, Kind, Refusal, ScalarKind, ScalarValue};
+use seg_types::{Key, Kind, Refusal, ScalarKind, ScalarValue, by_kind};
 use segment_manager::{Segment, locate};
 use std::alloc::Global;
 
@@ -124,28 +124,17 @@ fn pop(segment: &mut Segment, key: &Key) -> Result<ScalarValue, Refusal>
     pop_of_kind(segment, key, kind)
 }
 
-/// The last element of a vector of a type, taken out, with its kind beside it.
-macro_rules! popped {
-    ($segment:ident, $key:ident, $type:ty, $kind:ident) => {
-        match $segment.vec_pop::<$type, Key>($key) {
-            Ok(it) => Ok(ScalarValue::$kind(it)),
-            Err(why) => Err(why),
-        }
-    };
-}
-
 /// The same of a vector of scalars of a kind.
 fn pop_of_kind(segment: &mut Segment, key: &Key, kind: ScalarKind) -> Result<ScalarValue, Refusal>
     ensures step { IsStepOfKind segment.old segment.new (key_seen key.now) (VectorOf kind) (Pop (key_seen key.now)) (scalar_answer result) }
     ensures refused { OnErr result (segment.new ≡ segment.old) }
 {
-    match kind {
-        ScalarKind::Bool => popped!(segment, key, bool, Bool),
-        ScalarKind::U8 => popped!(segment, key, u8, U8),
-        ScalarKind::I32 => popped!(segment, key, i32, I32),
-        ScalarKind::I64 => popped!(segment, key, i64, I64),
-        ScalarKind::U64 => popped!(segment, key, u64, U64),
+    macro_rules! pop {
+        ($type:ty, $kind:ident) => {
+            segment.vec_pop::<$type, Key>(key).map(ScalarValue::$kind)
+        };
     }
+    by_kind!(kind, pop)
 }
 
 /// The kind of the elements of the vector of a key; where it has no vector of scalars, one kind or another, by which
@@ -165,10 +154,7 @@ fn element_kind(kind: Kind) -> ScalarKind
 {
     match kind {
         Kind::Vector(element) => element,
-        Kind::Scalar(_) => ScalarKind::U8,
-        Kind::Text => ScalarKind::U8,
-        Kind::Map(_, _) => ScalarKind::U8,
-        Kind::Texts => ScalarKind::U8,
+        _ => ScalarKind::U8,
     }
 }
 

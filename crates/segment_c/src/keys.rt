@@ -29,14 +29,8 @@ impl<'a> ObjectKey<'a> {
         ensures { MatchResult result (λ key. (key_wrong self.now ≡ 0) × (key_seen key ≡ key_of self.now) × (key_seen key ≢ NoKey)) (λ code. (code ≡ key_wrong self.now) × (1 ≤ code)) }
     {
         match self.how {
-            0 => match Name::new(self.name) {
-                Some(name) => Ok(Key::Name(name)),
-                None => Err(BAD_NAME),
-            },
-            1 => match Kind::from_code(self.kind) {
-                Some(kind) => Ok(Key::Unique(kind)),
-                None => Err(BAD_KIND),
-            },
+            0 => Ok(Key::Name(Name::new(self.name).ok_or(BAD_NAME)?)),
+            1 => Ok(Key::Unique(Kind::from_code(self.kind).ok_or(BAD_KIND)?)),
             2 => Ok(Key::Handle(self.handle)),
             4 => Err(NULL_SLICE),
             _ => Err(BAD_KEY),
@@ -54,10 +48,7 @@ impl<'a> ObjectKey<'a> {
             (λ code. (code ≡ entry_wrong self.now kind) × (1 ≤ code)) }
     {
         match self.how {
-            0 => match Name::new(self.name) {
-                Some(name) => Ok(IndexKey::Name(name)),
-                None => Err(BAD_NAME),
-            },
+            0 => Ok(IndexKey::Name(Name::new(self.name).ok_or(BAD_NAME)?)),
             1 => {
                 if self.kind == kind.code() {
                     Ok(IndexKey::Unique(kind))

@@ -1,6 +1,6 @@
 -- An object of a line is made, with nothing in it.
 use Rattle.segment_dump.proofs.Common.{◌≡◌, inl, ℕ, ◌+◌, ◌*◌, ◌^◌, ◌<◌, pos, List, length, replicate, Result, Ok, Err}
-use Rattle.segment_dump.proofs.Common.{refl, sym, ap, subst, ◌∙◌, arith, ◌∷◌, [], Class, Anonymous, Named, Unique, Kind}
+use Rattle.segment_dump.proofs.Common.{refl, sym, ap, subst, ◌∙◌, arith, Class, Anonymous, Named, Unique, Kind}
 use Rattle.segment_dump.proofs.Common.{Refusal, size_of, Key, node_len, Made, Directory, object_len, padded, value_len}
 use Rattle.segment_dump.proofs.Common.{head_len, bare, class_of, name_of, IsStep, State, Shape, HasPlace, IsNext}
 use Rattle.segment_dump.proofs.Common.{ReadsShape, StartsUnder, content_need, first_content, IsBuilt, IsFilling, Site}

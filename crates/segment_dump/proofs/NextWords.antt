@@ -23,7 +23,6 @@ use Rattle.segment_dump.proofs.Words.{decimal-some, AreBare, IsWhole, bool-near,
 use Rattle.segment_dump.proofs.Lists.{all-tested}
 use Rattle.segment_dump.proofs.KindWords.{kind-bare, kind-long}
 use Rattle.segment_dump.proofs.Found.{none-some}
-use Rattle.seg_types.specs.declared.kinds.Kind.TheVariants as kinds
 use Rattle.seg_types.specs.Commands as asked
 
 -- ---- a bare word

@@ -1,6 +1,6 @@
 -- All objects are those of the dump.
 use Rattle.segment_dump.proofs.Common.{◌≡◌, ℕ, ◌≤◌, Bool, true, false, List, [], ◌∷◌, ◌++◌, length, map, slice_get}
-use Rattle.segment_dump.proofs.Common.{refl, sym, ap, ◌∙◌, cond, ◌==◌, if◌then◌else◌, ◌+◌, ◌<◌, Result, Ok, Err, filter}
+use Rattle.segment_dump.proofs.Common.{refl, sym, ap, ◌∙◌, cond, ◌==◌, if◌then◌else◌, ◌+◌, Result, Ok, Err, filter}
 use Rattle.segment_dump.proofs.Common.{flat_map, AllByRecursion, take_all, Class, Anonymous, Named, Unique, class_code}
 use Rattle.segment_dump.proofs.Common.{ByHandle, Instance, Directory, Object, is_class, named_objects, object_at}
 use Rattle.segment_dump.proofs.Common.{unique_objects, SaysOf, SaysAt, Answers, State, StandsFor, anonymous_objects}

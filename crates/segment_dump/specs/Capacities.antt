@@ -96,11 +96,8 @@ measured_places (Err r) = None
 abbrev pub notes_of : List Object → List ℕ
 notes_of = flat_map object_notes
 
-abbrev pub other_notes : Directory → List ℕ
-other_notes d = notes_of (unique_objects d) ++ notes_of (anonymous_objects d)
-
 abbrev pub all_notes : Directory → List ℕ
-all_notes d = notes_of (named_objects d) ++ other_notes d
+all_notes d = notes_of (named_objects d) ++ (notes_of (unique_objects d) ++ notes_of (anonymous_objects d))
 
 -- those of the indexes
 abbrev pub index_notes : ℕ → ℕ → List ℕ

@@ -53,12 +53,8 @@ count_at d key = elim (object_at d key) [ None ↦ 0 | Some o ↦ object_count o
 abbrev pub objects_text : List Object → List ℕ
 objects_text = flat_map object_text
 
--- what comes behind the unique objects, behind those with names, and behind the first lines
-abbrev pub last_text : Directory → List ℕ
-last_text d = objects_text (anonymous_objects d) ++ end_text
-
-abbrev pub others_text : Directory → List ℕ
-others_text d = objects_text (unique_objects d) ++ last_text d
-
+-- what comes behind the first lines
 abbrev pub all_text : Directory → List ℕ
-all_text d = objects_text (named_objects d) ++ others_text d
+all_text d =
+    objects_text (named_objects d)
+    ++ (objects_text (unique_objects d) ++ (objects_text (anonymous_objects d) ++ end_text))

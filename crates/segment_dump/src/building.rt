@@ -14,7 +14,7 @@ ghost use Rattle.segment_dump.specs.Builders.{Builds, BuildsObject, IsCountOf, I
 use crate::faults::{DumpFault, Misfit};
 use crate::filling::fill;
 use crate::reading::{Lines, Words};
-use seg_types::{Class, Handle, Kind, Name, Refusal, ScalarKind};
+use seg_types::{Class, Handle, Kind, Name, Refusal, ScalarKind, by_kind};
 use segment_lang::{Text, Word, numbers_are_decimals, texts_are_spelled};
 use segment_manager::{AnonymousInstance, Destination, Segment, UniqueInstance};
 
@@ -65,7 +65,7 @@ pub fn build(
         }
         build_object(segment, &mut words, lines, room, &mut scratch)?;
     }
-    Err(cut(lines))
+    Err(misfit(lines.at(), DumpFault::Cut))
 }
 
 /// Nothing stands behind the last line.
@@ -75,18 +75,7 @@ fn finish(lines: &Lines<'_>) -> Result<(), Stop>
     if lines.is_empty() {
         return Ok(());
     }
-    Err(Stop::Misfit(Misfit {
-        at: lines.at(),
-        cause: DumpFault::More,
-    }))
-}
-
-/// The text ends too early.
-fn cut(lines: &Lines<'_>) -> Stop {
-    Stop::Misfit(Misfit {
-        at: lines.at(),
-        cause: DumpFault::Cut,
-    })
+    Err(misfit(lines.at(), DumpFault::More))
 }
 
 /// Makes the object of a line, and of those that follow.
@@ -246,13 +235,12 @@ fn construct_scalars<D: Destination>(
         return Err(Refusal::OutOfRange);
     }
     let count = count as u32;
-    match kind {
-        ScalarKind::Bool => segment.construct(under, count, false),
-        ScalarKind::U8 => segment.construct(under, count, 0_u8),
-        ScalarKind::I32 => segment.construct(under, count, 0_i32),
-        ScalarKind::I64 => segment.construct(under, count, 0_i64),
-        ScalarKind::U64 => segment.construct(under, count, 0_u64),
+    macro_rules! construct {
+        ($type:ty, $kind:ident) => {
+            segment.construct(under, count, <$type>::default())
+        };
     }
+    by_kind!(kind, construct)
 }
 
 /// Makes a vector of a kind without elements.
@@ -264,11 +252,10 @@ fn construct_vector<D: Destination>(
     requires { (kind : AnyKind) → D.suits under.now kind }
     ensures { IsStep segment.old segment.new (Construct (D.key under.now (VectorOf kind)) (first_content (VectorOf kind) 0)) (handle_answer result) }
 {
-    match kind {
-        ScalarKind::Bool => segment.construct_vec::<bool, D>(under, &[]),
-        ScalarKind::U8 => segment.construct_vec::<u8, D>(under, &[]),
-        ScalarKind::I32 => segment.construct_vec::<i32, D>(under, &[]),
-        ScalarKind::I64 => segment.construct_vec::<i64, D>(under, &[]),
-        ScalarKind::U64 => segment.construct_vec::<u64, D>(under, &[]),
+    macro_rules! construct {
+        ($type:ty, $kind:ident) => {
+            segment.construct_vec::<$type, D>(under, &[])
+        };
     }
+    by_kind!(kind, construct)
 }

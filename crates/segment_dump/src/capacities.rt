@@ -6,7 +6,7 @@ ghost use Rattle.segment_manager.specs.Contents.{sizes_at};
 ghost use Rattle.segment_manager.specs.Instances.{SaysOf};
 ghost use Rattle.segment_manager.specs.Located.{IsLocated, IsObject};
 ghost use Rattle.segment_manager.specs.State.{Answers};
-ghost use Rattle.segment_dump.specs.Capacities.{Holds, all_notes, capacities, capacities_text, capacity_note, index_notes, measured_places, notes_at, other_notes, places_at};
+ghost use Rattle.segment_dump.specs.Capacities.{Holds, capacities, capacities_text, capacity_note, index_notes, measured_places, notes_at, places_at};
 ghost use Rattle.segment_dump.specs.Items.{portable};
 ghost use Rattle.segment_dump.specs.Owed.{WritesOf};
 ghost use Rattle.segment_dump.specs.Texts.{dump_text};
@@ -61,7 +61,9 @@ fn put_capacities<W: Sink>(segment: &Segment, out: &mut W) -> Result<(), DeviceF
     ensures { WritesOf segment.now (W.history out.old) (W.history out.new) result (λ d. capacities_text (capacities d)) }
 {
     put_indexes(segment, out)?;
-    put_objects(segment, out)
+    put_named(&Notes, segment, out)?;
+    put_unique(&Notes, segment, out)?;
+    put_anonymous(&Notes, segment, out)
 }
 
 /// Writes the notes of the two indexes.
@@ -69,21 +71,13 @@ fn put_indexes<W: Sink>(segment: &Segment, out: &mut W) -> Result<(), DeviceFaul
     requires { (W.history out.old).failures < 2 ^ 64 - 1 }
     ensures { WritesOf segment.now (W.history out.old) (W.history out.new) result (λ d. index_notes d.named.capacity d.unique.capacity) }
 {
-    put_places(named_capacity(segment), unique_capacity(segment), out)
-}
-
-/// The same for indexes with so many places.
-fn put_places<W: Sink>(named: u64, unique: u64, out: &mut W) -> Result<(), DeviceFault>
-    requires { (W.history out.old).failures < 2 ^ 64 - 1 }
-    ensures { Writes (W.history out.old) (W.history out.new) result (index_notes named unique) }
-{
     put_pieces(
         out,
         &[
             Piece::Bytes(b"# capacity of names: "),
-            Piece::Number(named),
+            Piece::Number(named_capacity(segment)),
             Piece::Bytes(b"\n# capacity of kinds: "),
-            Piece::Number(unique),
+            Piece::Number(unique_capacity(segment)),
             Piece::Bytes(b"\n"),
         ],
     )
@@ -101,24 +95,6 @@ fn unique_capacity(segment: &Segment) -> u64
     ensures { Answers segment.now (λ d. d.unique.capacity) result }
 {
     word_in(segment.as_bytes(), UNIQUE_AT as usize + CAPACITY)
-}
-
-/// Writes the notes of the objects.
-fn put_objects<W: Sink>(segment: &Segment, out: &mut W) -> Result<(), DeviceFault>
-    requires { (W.history out.old).failures < 2 ^ 64 - 1 }
-    ensures { WritesOf segment.now (W.history out.old) (W.history out.new) result (λ d. all_notes d) }
-{
-    put_named(&Notes, segment, out)?;
-    put_others(segment, out)
-}
-
-/// Writes the notes of the objects without names.
-fn put_others<W: Sink>(segment: &Segment, out: &mut W) -> Result<(), DeviceFault>
-    requires { (W.history out.old).failures < 2 ^ 64 - 1 }
-    ensures { WritesOf segment.now (W.history out.old) (W.history out.new) result (λ d. other_notes d) }
-{
-    put_unique(&Notes, segment, out)?;
-    put_anonymous(&Notes, segment, out)
 }
 
 /// Writes the note of an object that said this of itself, and nothing where it has no capacity.

@@ -3,7 +3,7 @@ ghost use Rattle.std.specs.Prelude.{◌≡◌, ◌-◌, ◌^◌, ◌<◌, length
 ghost use Rattle.raw_region.specs.Device.{Writes};
 ghost use Rattle.segment_manager.specs.Directory.{named_objects, unique_objects};
 ghost use Rattle.segment_dump.specs.Items.{portable};
-ghost use Rattle.segment_dump.specs.Owed.{WritesOf, all_text, last_text, others_text};
+ghost use Rattle.segment_dump.specs.Owed.{WritesOf, all_text};
 ghost use Rattle.segment_dump.specs.Texts.{dump_text, front_text};
 
 use crate::entries::Entries;
@@ -68,23 +68,7 @@ fn put_objects<W: Sink>(segment: &Segment, out: &mut W) -> Result<(), DeviceFaul
     ensures { WritesOf segment.now (W.history out.old) (W.history out.new) result (λ d. all_text d) }
 {
     put_named(&Entries, segment, out)?;
-    put_others(segment, out)
-}
-
-/// Writes the objects without names, and `end`.
-fn put_others<W: Sink>(segment: &Segment, out: &mut W) -> Result<(), DeviceFault>
-    requires { (W.history out.old).failures < 2 ^ 64 - 1 }
-    ensures { WritesOf segment.now (W.history out.old) (W.history out.new) result (λ d. others_text d) }
-{
     put_unique(&Entries, segment, out)?;
-    put_last(segment, out)
-}
-
-/// Writes the anonymous objects, and `end`.
-fn put_last<W: Sink>(segment: &Segment, out: &mut W) -> Result<(), DeviceFault>
-    requires { (W.history out.old).failures < 2 ^ 64 - 1 }
-    ensures { WritesOf segment.now (W.history out.old) (W.history out.new) result (λ d. last_text d) }
-{
     put_anonymous(&Entries, segment, out)?;
     put_pieces(out, &[Piece::Bytes(b"end\n")])
 }

@@ -11,7 +11,7 @@ use crate::building::{Shape, Stop, misfit, stop_of};
 use crate::faults::DumpFault;
 use crate::filling_texts::{fill_string, push_text};
 use crate::reading::{Lines, next_pair, next_value};
-use seg_types::{Handle, Key, Kind, Refusal, ScalarKind, ScalarValue};
+use seg_types::{Handle, Key, Kind, Refusal, ScalarKind, ScalarValue, by_value};
 use segment_lang::Text;
 use segment_manager::Segment;
 
@@ -30,15 +30,7 @@ pub fn fill(
         Kind::Text => fill_string(segment, handle, lines, scratch),
         Kind::Vector(_) => fill_reserved(segment, handle, shape, lines, room, scratch),
         Kind::Texts => fill_reserved(segment, handle, shape, lines, room, scratch),
-        _ => fill_elements(
-            segment,
-            handle,
-            shape.kind,
-            shape.count,
-            lines,
-            room,
-            scratch,
-        ),
+        _ => fill_elements(segment, handle, shape, lines, room, scratch),
     }
 }
 
@@ -54,15 +46,7 @@ fn fill_reserved(
     ensures { IsVectorKind shape.kind → FillsNew segment.old segment.new handle shape.kind shape.count lines.old lines.new (length room.old) result }
 {
     match segment.reserve(&Key::Handle(handle), shape.count) {
-        Ok(()) => fill_elements(
-            segment,
-            handle,
-            shape.kind,
-            shape.count,
-            lines,
-            room,
-            scratch,
-        ),
+        Ok(()) => fill_elements(segment, handle, shape, lines, room, scratch),
         Err(why) => Err(stop_of(why, shape.at)),
     }
 }
@@ -71,16 +55,16 @@ fn fill_reserved(
 fn fill_elements(
     segment: &mut Segment,
     handle: Handle,
-    kind: Kind,
-    count: u64,
+    shape: Shape,
     lines: &mut Lines<'_>,
     room: &mut [u8],
     scratch: &mut Text,
 ) -> Result<(), Stop>
-    ensures { FillsElements segment.old segment.new handle kind count lines.old lines.new (length room.old) result }
+    ensures { FillsElements segment.old segment.new handle shape.kind shape.count lines.old lines.new
+        (length room.old) result }
 {
-    'elements: for index in 0..count {
-        add_element(segment, handle, kind, index, lines, room, scratch)?;
+    'elements: for index in 0..shape.count {
+        add_element(segment, handle, shape.kind, index, lines, room, scratch)?;
     }
     Ok(())
 }
@@ -131,13 +115,7 @@ fn set_value(
     ensures { IsStepOfKind segment.old segment.new (ByHandle handle) (ScalarOf (kind_of_scalar value)) (Set (ByHandle handle) index (literal_of (kind_of_scalar value) (value_of_scalar value))) (done_answer result) }
 {
     let key = Key::Handle(handle);
-    match value {
-        ScalarValue::Bool(truth) => segment.set(&key, index, truth),
-        ScalarValue::U8(number) => segment.set(&key, index, number),
-        ScalarValue::I32(number) => segment.set(&key, index, number),
-        ScalarValue::I64(number) => segment.set(&key, index, number),
-        ScalarValue::U64(number) => segment.set(&key, index, number),
-    }
+    by_value!(value, it => segment.set(&key, index, it))
 }
 
 /// Puts the value of the next line behind the elements of a vector.
@@ -159,13 +137,7 @@ fn push_value(segment: &mut Segment, handle: Handle, value: ScalarValue) -> Resu
     ensures { IsStepOfKind segment.old segment.new (ByHandle handle) (VectorOf (kind_of_scalar value)) (Push (ByHandle handle) (literal_of (kind_of_scalar value) (value_of_scalar value))) (done_answer result) }
 {
     let key = Key::Handle(handle);
-    match value {
-        ScalarValue::Bool(truth) => segment.vec_push(&key, truth),
-        ScalarValue::U8(number) => segment.vec_push(&key, number),
-        ScalarValue::I32(number) => segment.vec_push(&key, number),
-        ScalarValue::I64(number) => segment.vec_push(&key, number),
-        ScalarValue::U64(number) => segment.vec_push(&key, number),
-    }
+    by_value!(value, it => segment.vec_push(&key, it))
 }
 
 /// Puts the pair of the next line into a map.

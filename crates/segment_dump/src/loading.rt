@@ -182,10 +182,7 @@ fn asked_size(size: Option<u64>, said: u64) -> u64
     ensures asked { IsAsked size result }
     ensures value { result ≡ asked_of size said }
 {
-    match size {
-        Some(size) => size,
-        None => said,
-    }
+    size.unwrap_or(said)
 }
 
 /// Why no segment is begun for the objects of a dump, if anything is lacking: a size that segments have, a region that
@@ -360,10 +357,7 @@ fn unlike(text: &[u8], at: usize) -> LoadRefused
 fn is_open(segment: &Segment) -> bool
     ensures { IsTrue result ↔ (segment.now.mode ≡ Write) }
 {
-    match segment.mode() {
-        Mode::Write => true,
-        _ => false,
-    }
+    segment.mode() == Mode::Write
 }
 
 /// Whether a segment has the size that was asked for, or nothing free where none was.

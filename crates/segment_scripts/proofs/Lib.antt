@@ -1,3 +1,4 @@
+mod Exits
 mod LineLaws
 mod LineEnds
 mod Kept

@@ -12,10 +12,10 @@ ghost use Rattle.segment_scripts.specs.Changes.{IsChangeable, IsNew, IsNoElement
 ghost use Rattle.segment_scripts.specs.Replies.{bytes_taken};
 
 use crate::machine::Room;
-use crate::rows::{Row, Rows, literal_row, only_text};
+use crate::rows::{Row, Rows, literal_row, on_row, only_text};
 use crate::setting::value_of;
 use crate::text_rows::{FEW, TextRow, literal_texts};
-use seg_types::{Key, Kind, Refusal, Scalar, ScalarKind, ScalarValue};
+use seg_types::{Key, Kind, Refusal, Scalar, ScalarKind, ScalarValue, by_kind, by_value};
 use segment_lang::{Literal, Literals, Quoted, Text};
 use segment_manager::{Mode, Object, Segment, locate};
 
@@ -56,19 +56,17 @@ fn new_element<'a>(
 ) -> Result<(Object, NewElement<'a>), Refusal>
     ensures { MatchResult result (IsNew segment.now (key_seen key.now) (literal_of literal.entry)) (IsNoElement segment.now (key_seen key.now) (literal_of literal.entry)) }
 {
-    match object_to_change(segment, key) {
-        Err(why) => Err(why),
-        Ok(object) => match object.kind {
-            Kind::Vector(element) => match value_of(element, literal) {
-                Err(why) => Err(why),
-                Ok(value) => Ok((object, NewElement::Scalar(value))),
-            },
-            Kind::Texts => match literal {
-                Literal::Quoted(text) => Ok((object, NewElement::Text(text))),
-                _ => Err(Refusal::WrongKind),
-            },
+    let object = object_to_change(segment, key)?;
+    match object.kind {
+        Kind::Vector(element) => {
+            let value = value_of(element, literal)?;
+            Ok((object, NewElement::Scalar(value)))
+        }
+        Kind::Texts => match literal {
+            Literal::Quoted(text) => Ok((object, NewElement::Text(text))),
             _ => Err(Refusal::WrongKind),
         },
+        _ => Err(Refusal::WrongKind),
     }
 }
 
@@ -85,18 +83,16 @@ pub fn push(
     segment: &mut Segment,
     key: &Key,
     literal: Literal<'_>,
-    scratch: &mut Text,
+    room: &mut Room,
 ) -> Result<(), Refusal>
     requires { bytes_taken (literal_of literal ∷ []) ≤ 4097 }
     ensures step { IsStep segment.old segment.new (Push (key_seen key.now) (literal_of literal.entry)) (done_answer result) }
     ensures refused { KeepsRefused segment.old segment.new result }
 {
-    match new_element(segment, key, literal) {
-        Err(why) => Err(why),
-        Ok((object, element)) => match element {
-            NewElement::Scalar(value) => push_value(segment, object, value),
-            NewElement::Text(text) => push_text(segment, object, text, scratch),
-        },
+    let (object, element) = new_element(segment, key, literal)?;
+    match element {
+        NewElement::Scalar(value) => push_value(segment, object, value),
+        NewElement::Text(text) => segment.texts_push(&object, text.bytes(&mut room.text)),
     }
 }
 
@@ -107,28 +103,7 @@ fn push_value(segment: &mut Segment, object: Object, value: ScalarValue) -> Resu
         (Push (ByHandle object.handle) (literal_for (kind_of_scalar value) (value_of_scalar value))) (done_answer result) }
     ensures refused { OnErr result (segment.new ≡ segment.old) }
 {
-    match value {
-        ScalarValue::Bool(truth) => segment.vec_push(&object, truth),
-        ScalarValue::U8(number) => segment.vec_push(&object, number),
-        ScalarValue::I32(number) => segment.vec_push(&object, number),
-        ScalarValue::I64(number) => segment.vec_push(&object, number),
-        ScalarValue::U64(number) => segment.vec_push(&object, number),
-    }
-}
-
-/// Puts a text behind the last one of the vector of strings of a key.
-fn push_text(
-    segment: &mut Segment,
-    object: Object,
-    text: Quoted<'_>,
-    scratch: &mut Text,
-) -> Result<(), Refusal>
-    requires object { IsObject object segment.old }
-    requires few { length text ≤ 4096 }
-    ensures step { IsStepOfKind segment.old segment.new (ByHandle object.handle) TextsKind (Push (ByHandle object.handle) (AskedQuoted text.entry)) (done_answer result) }
-    ensures refused { KeepsRefused segment.old segment.new result }
-{
-    segment.texts_push(&object, text.bytes(scratch))
+    by_value!(value, it => segment.vec_push(&object, it))
 }
 
 /// Puts the value that a literal is where `index` others stand before it in the vector of a key.
@@ -145,18 +120,16 @@ pub fn insert(
     key: &Key,
     index: u64,
     literal: Literal<'_>,
-    scratch: &mut Text,
+    room: &mut Room,
 ) -> Result<(), Refusal>
     requires { bytes_taken (literal_of literal ∷ []) ≤ 4097 }
     ensures step { IsStep segment.old segment.new (Insert (key_seen key.now) index (literal_of literal.entry)) (done_answer result) }
     ensures refused { KeepsRefused segment.old segment.new result }
 {
-    match new_element(segment, key, literal) {
-        Err(why) => Err(why),
-        Ok((object, element)) => match element {
-            NewElement::Scalar(value) => insert_value(segment, object, index, value),
-            NewElement::Text(text) => insert_text(segment, object, index, text, scratch),
-        },
+    let (object, element) = new_element(segment, key, literal)?;
+    match element {
+        NewElement::Scalar(value) => insert_value(segment, object, index, value),
+        NewElement::Text(text) => segment.texts_insert(&object, index, text.bytes(&mut room.text)),
     }
 }
 
@@ -172,29 +145,7 @@ fn insert_value(
         (Insert (ByHandle object.handle) index (literal_for (kind_of_scalar value) (value_of_scalar value))) (done_answer result) }
     ensures refused { OnErr result (segment.new ≡ segment.old) }
 {
-    match value {
-        ScalarValue::Bool(truth) => segment.vec_insert(&object, index, truth),
-        ScalarValue::U8(number) => segment.vec_insert(&object, index, number),
-        ScalarValue::I32(number) => segment.vec_insert(&object, index, number),
-        ScalarValue::I64(number) => segment.vec_insert(&object, index, number),
-        ScalarValue::U64(number) => segment.vec_insert(&object, index, number),
-    }
-}
-
-/// Puts a text where `index` others stand before it in the vector of strings.
-fn insert_text(
-    segment: &mut Segment,
-    object: Object,
-    index: u64,
-    text: Quoted<'_>,
-    scratch: &mut Text,
-) -> Result<(), Refusal>
-    requires object { IsObject object segment.old }
-    requires few { length text ≤ 4096 }
-    ensures step { IsStepOfKind segment.old segment.new (ByHandle object.handle) TextsKind (Insert (ByHandle object.handle) index (AskedQuoted text.entry)) (done_answer result) }
-    ensures refused { KeepsRefused segment.old segment.new result }
-{
-    segment.texts_insert(&object, index, text.bytes(scratch))
+    by_value!(value, it => segment.vec_insert(&object, index, it))
 }
 
 /// Leaves out the element at `index` in the vector of a key.
@@ -208,13 +159,11 @@ pub fn erase(segment: &mut Segment, key: &Key, index: u64) -> Result<(), Refusal
     ensures step { IsStep segment.old segment.new (Erase (key_seen key.now) index) (done_answer result) }
     ensures refused { OnErr result (segment.new ≡ segment.old) }
 {
-    match object_to_change(segment, key) {
-        Err(why) => Err(why),
-        Ok(object) => match object.kind {
-            Kind::Vector(element) => erase_element(segment, object, element, index),
-            Kind::Texts => segment.texts_erase(&object, index),
-            _ => Err(Refusal::WrongKind),
-        },
+    let object = object_to_change(segment, key)?;
+    match object.kind {
+        Kind::Vector(element) => erase_element(segment, object, element, index),
+        Kind::Texts => segment.texts_erase(&object, index),
+        _ => Err(Refusal::WrongKind),
     }
 }
 
@@ -229,13 +178,12 @@ fn erase_element(
     ensures step { IsStepOfKind segment.old segment.new (ByHandle object.handle) (VectorOf kind) (Erase (ByHandle object.handle) index) (done_answer result) }
     ensures refused { OnErr result (segment.new ≡ segment.old) }
 {
-    match kind {
-        ScalarKind::Bool => segment.vec_erase::<bool, Object>(&object, index),
-        ScalarKind::U8 => segment.vec_erase::<u8, Object>(&object, index),
-        ScalarKind::I32 => segment.vec_erase::<i32, Object>(&object, index),
-        ScalarKind::I64 => segment.vec_erase::<i64, Object>(&object, index),
-        ScalarKind::U64 => segment.vec_erase::<u64, Object>(&object, index),
+    macro_rules! erase {
+        ($type:ty, $kind:ident) => {
+            segment.vec_erase::<$type, Object>(&object, index)
+        };
     }
+    by_kind!(kind, erase)
 }
 
 /// Makes values those of the vector of a key, or one text the bytes of the string of a key.
@@ -256,16 +204,12 @@ pub fn assign(
     ensures step { IsStep segment.old segment.new (Assign (key_seen key.now) values.entry) (done_answer result) }
     ensures refused { KeepsRefused segment.old segment.new result }
 {
-    match object_to_change(segment, key) {
-        Err(why) => Err(why),
-        Ok(object) => match object.kind {
-            Kind::Vector(element) => {
-                assign_vector(segment, object, element, values, &mut room.rows)
-            }
-            Kind::Text => assign_string(segment, object, values, &mut room.text),
-            Kind::Texts => assign_texts(segment, object, values, &mut room.texts),
-            _ => Err(Refusal::WrongKind),
-        },
+    let object = object_to_change(segment, key)?;
+    match object.kind {
+        Kind::Vector(element) => assign_vector(segment, object, element, values, &mut room.rows),
+        Kind::Text => assign_string(segment, object, values, &mut room.text),
+        Kind::Texts => assign_texts(segment, object, values, &mut room.texts),
+        _ => Err(Refusal::WrongKind),
     }
 }
 
@@ -283,13 +227,7 @@ fn assign_vector(
     ensures step { IsStep segment.old segment.new (Assign (ByHandle object.handle) values.entry) (done_answer result) }
     ensures refused { OnErr result (segment.new ≡ segment.old) }
 {
-    match kind {
-        ScalarKind::Bool => assign_row(segment, object, values, &mut rows.truths),
-        ScalarKind::U8 => assign_row(segment, object, values, &mut rows.bytes),
-        ScalarKind::I32 => assign_row(segment, object, values, &mut rows.i32s),
-        ScalarKind::I64 => assign_row(segment, object, values, &mut rows.i64s),
-        ScalarKind::U64 => assign_row(segment, object, values, &mut rows.u64s),
-    }
+    on_row!(kind, rows, assign_row(segment, object, values))
 }
 
 /// Makes values those of a vector, a vector of the type.
@@ -305,10 +243,8 @@ fn assign_row<T: Scalar>(
     ensures step { IsStep segment.old segment.new (Assign (ByHandle object.handle) values.entry) (done_answer result) }
     ensures refused { OnErr result (segment.new ≡ segment.old) }
 {
-    match literal_row(values, row) {
-        Err(why) => Err(why),
-        Ok(()) => segment.vec_assign(&object, row.as_slice()),
-    }
+    literal_row(values, row)?;
+    segment.vec_assign(&object, row.as_slice())
 }
 
 /// Makes one text the bytes of a string.
@@ -324,10 +260,8 @@ fn assign_string(
     ensures step { IsStep segment.old segment.new (Assign (ByHandle object.handle) values.entry) (done_answer result) }
     ensures refused { OnErr result (segment.new ≡ segment.old) }
 {
-    match only_text(values, scratch) {
-        Err(why) => Err(why),
-        Ok(text) => segment.string_assign(&object, text),
-    }
+    let text = only_text(values, scratch)?;
+    segment.string_assign(&object, text)
 }
 
 /// Makes texts those of the vector of strings.
@@ -344,10 +278,8 @@ fn assign_texts(
     ensures step { IsStep segment.old segment.new (Assign (ByHandle object.handle) values.entry) (done_answer result) }
     ensures refused { KeepsRefused segment.old segment.new result }
 {
-    match literal_texts(values, row) {
-        Err(why) => Err(why),
-        Ok(()) => assign_read(segment, object, row),
-    }
+    literal_texts(values, row)?;
+    assign_read(segment, object, row)
 }
 
 /// Makes the texts of a row those of the vector of strings.

@@ -11,7 +11,7 @@ ghost use Rattle.segment_manager.specs.State.{IsStep, KeepsRefused, handle_answe
 ghost use Rattle.segment_scripts.specs.Replies.{IsContent, IsMeant};
 
 use crate::machine::Room;
-use crate::rows::{Row, Rows, value_row};
+use crate::rows::{Row, Rows, on_row, value_row};
 use crate::text_rows::{FEW, TextRow, text_row};
 use seg_types::{Handle, IndexKey, NewKey, Refusal, Scalar, ScalarKind};
 use segment_lang::{Content, Texts, Values};
@@ -57,13 +57,7 @@ fn construct_vector(
     ensures step { IsStep segment.old segment.new (Construct (new_key_seen key.now) (Elements values.entry.kind values.entry.numbers)) (handle_answer result) }
     ensures refused { KeepsRefused segment.old segment.new result }
 {
-    match values.kind() {
-        ScalarKind::Bool => construct_row(segment, key, values, &mut rows.truths),
-        ScalarKind::U8 => construct_row(segment, key, values, &mut rows.bytes),
-        ScalarKind::I32 => construct_row(segment, key, values, &mut rows.i32s),
-        ScalarKind::I64 => construct_row(segment, key, values, &mut rows.i64s),
-        ScalarKind::U64 => construct_row(segment, key, values, &mut rows.u64s),
-    }
+    on_row!(values.kind(), rows, construct_row(segment, key, values))
 }
 
 /// Makes a vector of the values, which are of the type's kind, and answers its handle.
@@ -175,13 +169,11 @@ fn find_or_construct_vector(
     ensures step { IsStep segment.old segment.new (FindOrConstruct (index_key_seen key.now) (Elements values.entry.kind values.entry.numbers)) (pair_answer result) }
     ensures refused { KeepsRefused segment.old segment.new result }
 {
-    match values.kind() {
-        ScalarKind::Bool => find_or_construct_row(segment, key, values, &mut rows.truths),
-        ScalarKind::U8 => find_or_construct_row(segment, key, values, &mut rows.bytes),
-        ScalarKind::I32 => find_or_construct_row(segment, key, values, &mut rows.i32s),
-        ScalarKind::I64 => find_or_construct_row(segment, key, values, &mut rows.i64s),
-        ScalarKind::U64 => find_or_construct_row(segment, key, values, &mut rows.u64s),
-    }
+    on_row!(
+        values.kind(),
+        rows,
+        find_or_construct_row(segment, key, values)
+    )
 }
 
 /// Finds a vector, or makes it of the values, which are of the type's kind, where there is none.

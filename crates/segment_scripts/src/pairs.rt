@@ -31,15 +31,13 @@ pub fn put(
     ensures step { IsStep segment.old segment.new (Put (key_seen key.now) (literal_of at.entry) (literal_of value.entry)) (truth_answer result) }
     ensures refused { OnErr result (segment.new ≡ segment.old) }
 {
-    match object_to_change(segment, key) {
-        Err(why) => Err(why),
-        Ok(object) => match object.kind {
-            Kind::Map(keys, values) => match new_pair(keys, values, at, value) {
-                Err(why) => Err(why),
-                Ok((new_key, new_value)) => segment.map_put_any(&object, new_key, new_value),
-            },
-            _ => Err(Refusal::WrongKind),
-        },
+    let object = object_to_change(segment, key)?;
+    match object.kind {
+        Kind::Map(keys, values) => {
+            let (new_key, new_value) = new_pair(keys, values, at, value)?;
+            segment.map_put_any(&object, new_key, new_value)
+        }
+        _ => Err(Refusal::WrongKind),
     }
 }
 
@@ -66,15 +64,13 @@ pub fn put_written_pair(segment: &mut Segment, key: &Key, pair: Pair<'_>) -> Res
 pub fn lookup(segment: &Segment, key: &Key, at: Literal<'_>) -> Result<Option<ScalarValue>, Refusal>
     ensures { IsReply segment.now (Lookup (key_seen key.now) (literal_of at.entry)) (any_value_answer result) }
 {
-    match locate(segment, key) {
-        Err(why) => Err(why),
-        Ok(object) => match object.kind {
-            Kind::Map(keys, values) => match value_of(keys, at) {
-                Err(why) => Err(why),
-                Ok(wanted) => segment.map_get_any(&object, wanted, values),
-            },
-            _ => Err(Refusal::WrongKind),
-        },
+    let object = locate(segment, key)?;
+    match object.kind {
+        Kind::Map(keys, values) => {
+            let wanted = value_of(keys, at)?;
+            segment.map_get_any(&object, wanted, values)
+        }
+        _ => Err(Refusal::WrongKind),
     }
 }
 
@@ -90,15 +86,13 @@ pub fn remove(segment: &mut Segment, key: &Key, at: Literal<'_>) -> Result<bool,
     ensures step { IsStep segment.old segment.new (Remove (key_seen key.now) (literal_of at.entry)) (truth_answer result) }
     ensures refused { OnErr result (segment.new ≡ segment.old) }
 {
-    match object_to_change(segment, key) {
-        Err(why) => Err(why),
-        Ok(object) => match object.kind {
-            Kind::Map(keys, values) => match value_of(keys, at) {
-                Err(why) => Err(why),
-                Ok(gone) => segment.map_erase_any(&object, gone, values),
-            },
-            _ => Err(Refusal::WrongKind),
-        },
+    let object = object_to_change(segment, key)?;
+    match object.kind {
+        Kind::Map(keys, values) => {
+            let gone = value_of(keys, at)?;
+            segment.map_erase_any(&object, gone, values)
+        }
+        _ => Err(Refusal::WrongKind),
     }
 }
 
@@ -115,18 +109,9 @@ fn new_pair(
 ) -> Result<(ScalarValue, ScalarValue), Refusal>
     ensures { IsPairOf keys values (pair_of keys values (literal_of at.entry) (literal_of value.entry)) result }
 {
-    let second = value_of(values, value);
-    match value_of(keys, at) {
-        Ok(new_key) => match second {
-            Ok(new_value) => Ok((new_key, new_value)),
-            Err(why) => Err(why),
-        },
-        Err(past) => match past {
-            Refusal::WrongKind => Err(past),
-            _ => match second {
-                Err(Refusal::WrongKind) => Err(Refusal::WrongKind),
-                _ => Err(past),
-            },
-        },
+    match (value_of(keys, at), value_of(values, value)) {
+        (Ok(new_key), Ok(new_value)) => Ok((new_key, new_value)),
+        (Err(Refusal::WrongKind), _) | (_, Err(Refusal::WrongKind)) => Err(Refusal::WrongKind),
+        (Err(why), _) | (_, Err(why)) => Err(why),
     }
 }

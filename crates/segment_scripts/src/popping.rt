@@ -16,7 +16,7 @@ use crate::printing::{put_answer, put_refusal_line};
 use crate::replies::element;
 use crate::showing::{length_of, put_text_at};
 use raw_region::{DeviceFault, Sink};
-use seg_types::{Key, Kind, Refusal, ScalarKind, ScalarValue};
+use seg_types::{Key, Kind, Refusal, ScalarKind, ScalarValue, by_kind};
 use segment_manager::{Object, Segment};
 
 /// Takes the last element out of the vector of a key, and writes it, or why there is none: `ReadOnly` where the segment
@@ -69,26 +69,10 @@ fn pop_element(
     ensures step { IsStepOfKind segment.old segment.new (ByHandle object.handle) (VectorOf kind) (Pop (ByHandle object.handle)) (scalar_answer result) }
     ensures refused { OnErr result (segment.new ≡ segment.old) }
 {
-    match kind {
-        ScalarKind::Bool => match segment.vec_pop::<bool, Object>(&object) {
-            Ok(truth) => Ok(ScalarValue::Bool(truth)),
-            Err(why) => Err(why),
-        },
-        ScalarKind::U8 => match segment.vec_pop::<u8, Object>(&object) {
-            Ok(number) => Ok(ScalarValue::U8(number)),
-            Err(why) => Err(why),
-        },
-        ScalarKind::I32 => match segment.vec_pop::<i32, Object>(&object) {
-            Ok(number) => Ok(ScalarValue::I32(number)),
-            Err(why) => Err(why),
-        },
-        ScalarKind::I64 => match segment.vec_pop::<i64, Object>(&object) {
-            Ok(number) => Ok(ScalarValue::I64(number)),
-            Err(why) => Err(why),
-        },
-        ScalarKind::U64 => match segment.vec_pop::<u64, Object>(&object) {
-            Ok(number) => Ok(ScalarValue::U64(number)),
-            Err(why) => Err(why),
-        },
+    macro_rules! pop {
+        ($type:ty, $kind:ident) => {
+            segment.vec_pop::<$type, Object>(&object).map(ScalarValue::$kind)
+        };
     }
+    by_kind!(kind, pop)
 }

@@ -1,12 +1,10 @@
 //! What a command is answered: each is executed by one call of the segment, for some by the kind of the object.
-ghost use Rattle.std.specs.Prelude.{◌≡◌, OnErr, false};
-ghost use Rattle.seg_types.specs.Commands.{Destroy, DestroyPtr, ReserveNamed, ReserveUnique, ShrinkIndexes};
-ghost use Rattle.seg_types.specs.Keys.{index_key_seen};
+ghost use Rattle.std.specs.Prelude.{◌≡◌, false};
 ghost use Rattle.segment_lang.specs.Seen.{command_of};
 ghost use Rattle.segment_manager.specs.Directory.{Directory};
 ghost use Rattle.segment_manager.specs.Found.{found_answer, pair_answer};
 ghost use Rattle.segment_manager.specs.Maps.{any_value_answer};
-ghost use Rattle.segment_manager.specs.State.{IsStep, KeepsRefused, done_answer, gone_answer, handle_answer, scalar_answer, truth_answer};
+ghost use Rattle.segment_manager.specs.State.{done_answer, gone_answer, handle_answer, scalar_answer, truth_answer};
 ghost use Rattle.segment_scripts.specs.Replies.{IsMeant, Replies, answer_seen, has_element};
 
 use crate::changing::{append, assign, clear, erase, insert, push, reserve, shrink};
@@ -14,7 +12,7 @@ use crate::constructing::{construct, construct_it, find_or_construct};
 use crate::machine::Room;
 use crate::pairs::{lookup, put_written_pair, remove};
 use crate::setting::set;
-use seg_types::{Handle, IndexKey, Key, Refusal, ScalarValue};
+use seg_types::{Handle, Key, Refusal, ScalarValue};
 use segment_lang::Command;
 use segment_manager::Segment;
 
@@ -66,27 +64,15 @@ pub fn reply<'a>(segment: &mut Segment, command: Command<'a>, room: &mut Room) -
         Command::FindOrConstruct { key, content } => {
             found(find_or_construct(segment, &key, content, room))
         }
-        Command::Destroy(key) => truth(destroy(segment, &key)),
-        Command::DestroyPtr(handle) => gone(destroy_ptr(segment, handle)),
+        Command::Destroy(key) => truth(segment.destroy(&key)),
+        Command::DestroyPtr(handle) => gone(segment.destroy_ptr(handle)),
         Command::Show(key) => Answer::Shown(key),
         Command::Info(key) => Answer::Told(key),
         Command::Get { .. } => unreachable!(),
-        Command::Set { key, index, value } => done(set(
-            segment,
-            &key,
-            index,
-            value,
-            &mut room.text,
-        )),
-        Command::Push { key, value } => done(push(segment, &key, value, &mut room.text)),
+        Command::Set { key, index, value } => done(set(segment, &key, index, value, room)),
+        Command::Push { key, value } => done(push(segment, &key, value, room)),
         Command::Pop(_) => unreachable!(),
-        Command::Insert { key, index, value } => done(insert(
-            segment,
-            &key,
-            index,
-            value,
-            &mut room.text,
-        )),
+        Command::Insert { key, index, value } => done(insert(segment, &key, index, value, room)),
         Command::Erase { key, index } => done(erase(segment, &key, index)),
         Command::Reserve { key, count } => done(reserve(segment, &key, count)),
         Command::Shrink(key) => done(shrink(segment, &key)),
@@ -103,73 +89,13 @@ pub fn reply<'a>(segment: &mut Segment, command: Command<'a>, room: &mut Room) -
         Command::Free => Answer::Number(segment.free()),
         Command::NumNamed => Answer::Number(segment.num_named()),
         Command::NumUnique => Answer::Number(segment.num_unique()),
-        Command::ReserveNamed(count) => done(reserve_named(segment, count)),
-        Command::ReserveUnique(count) => done(reserve_unique(segment, count)),
-        Command::ShrinkIndexes => done(shrink_indexes(segment)),
+        Command::ReserveNamed(count) => done(segment.reserve_named(count)),
+        Command::ReserveUnique(count) => done(segment.reserve_unique(count)),
+        Command::ShrinkIndexes => done(segment.shrink_indexes()),
         Command::ZeroFree => done(segment.zero_free()),
         Command::Sanity => Answer::Truth(segment.sanity()),
         Command::AllDeallocated => Answer::Truth(segment.all_deallocated()),
     }
-}
-
-/// Destroys the object of an entry, and answers whether there was one.
-///
-/// # Errors
-///
-/// As the segment's call. Nothing changes.
-fn destroy(segment: &mut Segment, key: &IndexKey) -> Result<bool, Refusal>
-    ensures step { IsStep segment.old segment.new (Destroy (index_key_seen key.now)) (truth_answer result) }
-    ensures refused { OnErr result (segment.new ≡ segment.old) }
-{
-    segment.destroy(key)
-}
-
-/// Destroys the object of a handle.
-///
-/// # Errors
-///
-/// As the segment's call. Nothing changes.
-fn destroy_ptr(segment: &mut Segment, handle: Handle) -> Result<(), Refusal>
-    ensures step { IsStep segment.old segment.new (DestroyPtr handle) (gone_answer result) }
-    ensures refused { OnErr result (segment.new ≡ segment.old) }
-{
-    segment.destroy_ptr(handle)
-}
-
-/// Makes room in the index of names.
-///
-/// # Errors
-///
-/// As the segment's call. The objects are as before.
-fn reserve_named(segment: &mut Segment, count: u64) -> Result<(), Refusal>
-    ensures step { IsStep segment.old segment.new (ReserveNamed count) (done_answer result) }
-    ensures refused { KeepsRefused segment.old segment.new result }
-{
-    segment.reserve_named(count)
-}
-
-/// Makes room in the index of unique kinds.
-///
-/// # Errors
-///
-/// As the segment's call. The objects are as before.
-fn reserve_unique(segment: &mut Segment, count: u64) -> Result<(), Refusal>
-    ensures step { IsStep segment.old segment.new (ReserveUnique count) (done_answer result) }
-    ensures refused { KeepsRefused segment.old segment.new result }
-{
-    segment.reserve_unique(count)
-}
-
-/// Gives back the room of the indexes that no entry uses.
-///
-/// # Errors
-///
-/// As the segment's call. Nothing changes.
-fn shrink_indexes(segment: &mut Segment) -> Result<(), Refusal>
-    ensures step { IsStep segment.old segment.new ShrinkIndexes (done_answer result) }
-    ensures refused { OnErr result (segment.new ≡ segment.old) }
-{
-    segment.shrink_indexes()
 }
 
 /// The answer where an object was made, or not.

@@ -79,6 +79,21 @@ pub struct Rows {
     pub u64s: Row<u64>,
 }
 
+/// A call whose last argument is the row of a kind: `on_row!(kind, rows, assign_row(segment, object, values))`.
+macro_rules! on_row {
+    ($kind:expr, $rows:ident, $call:ident($($argument:ident),*)) => {
+        match $kind {
+            ScalarKind::Bool => $call($($argument),*, &mut $rows.truths),
+            ScalarKind::U8 => $call($($argument),*, &mut $rows.bytes),
+            ScalarKind::I32 => $call($($argument),*, &mut $rows.i32s),
+            ScalarKind::I64 => $call($($argument),*, &mut $rows.i64s),
+            ScalarKind::U64 => $call($($argument),*, &mut $rows.u64s),
+        }
+    };
+}
+
+pub(crate) use on_row;
+
 impl Rows {
     /// Rows without values.
     pub fn new() -> Rows {

@@ -103,7 +103,7 @@ fn answer_push<W: Sink>(
 {
     match key_and_literal(rest, &mut scratch.name) {
         Some((key, value)) => {
-            let answer = done(push(segment, &key, value, &mut scratch.room.text));
+            let answer = done(push(segment, &key, value, &mut scratch.room));
             put_answer(segment, answer, out)
         }
         None => put_wrong(LineError::BadSyntax, out),

@@ -14,6 +14,7 @@ ghost use Rattle.segment_scripts.specs.Replies.{bytes_taken};
 ghost use Rattle.segment_scripts.specs.Settings.{IsValueOf};
 
 use crate::changing::object_to_change;
+use crate::machine::Room;
 use seg_types::{Key, Kind, Refusal, ScalarKind, ScalarValue};
 use segment_lang::{Literal, Text};
 use segment_manager::conditioned::set_any;
@@ -32,22 +33,20 @@ pub fn set(
     key: &Key,
     index: u64,
     literal: Literal<'_>,
-    scratch: &mut Text,
+    room: &mut Room,
 ) -> Result<(), Refusal>
     requires { bytes_taken (literal_of literal ∷ []) ≤ 4097 }
     ensures step { IsStep segment.old segment.new (Set (key_seen key.now) index (literal_of literal.entry)) (done_answer result) }
     ensures refused { OnErr result (segment.new ≡ segment.old) }
 {
-    match object_to_change(segment, key) {
-        Err(why) => Err(why),
-        Ok(object) => match object.kind {
-            Kind::Scalar(element) | Kind::Vector(element) => {
-                set_scalar(segment, object, element, index, literal)
-            }
-            Kind::Text => set_scalar(segment, object, ScalarKind::U8, index, literal),
-            Kind::Texts => set_text(segment, object, index, literal, scratch),
-            Kind::Map(_, _) => Err(Refusal::WrongKind),
-        },
+    let object = object_to_change(segment, key)?;
+    match object.kind {
+        Kind::Scalar(element) | Kind::Vector(element) => {
+            set_scalar(segment, object, element, index, literal)
+        }
+        Kind::Text => set_scalar(segment, object, ScalarKind::U8, index, literal),
+        Kind::Texts => set_text(segment, object, index, literal, &mut room.text),
+        Kind::Map(_, _) => Err(Refusal::WrongKind),
     }
 }
 
@@ -66,10 +65,8 @@ fn set_scalar(
     ensures step { IsStep segment.old segment.new (Set (ByHandle object.handle) index (literal_of literal.entry)) (done_answer result) }
     ensures refused { OnErr result (segment.new ≡ segment.old) }
 {
-    match value_of(kind, literal) {
-        Err(why) => Err(why),
-        Ok(value) => set_any(segment, &object, index, value),
-    }
+    let value = value_of(kind, literal)?;
+    set_any(segment, &object, index, value)
 }
 
 /// Makes what a literal is the text at `index` in the vector of strings of a key.
@@ -108,10 +105,7 @@ pub fn value_of(kind: ScalarKind, literal: Literal<'_>) -> Result<ScalarValue, R
         },
         Literal::Whole(number) => match kind {
             ScalarKind::Bool => Err(Refusal::WrongKind),
-            _ => match ScalarValue::of_number(kind, number.get()) {
-                Some(value) => Ok(value),
-                None => Err(Refusal::OutOfRange),
-            },
+            _ => ScalarValue::of_number(kind, number.get()).ok_or(Refusal::OutOfRange),
         },
     }
 }

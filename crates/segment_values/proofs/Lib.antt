@@ -1,4 +1,5 @@
 mod AbsentPairs
+mod Exits
 mod NoTexts
 mod RangeLists
 mod RangeObjects

@@ -1,6 +1,6 @@
 -- Elements that one call reads: what the readings of each come to.
 use Rattle.std.proofs.Common.{◌≡◌, refl, sym, ap, subst, ◌∙◌, ℕ, ◌+◌, ◌<◌, ◌≤◌, ℤ, true, false, Some, None, Option, Result, Ok, Err, List, length, map, set, take, if◌then◌else◌, arith}
-use Rattle.std.specs.Prelude.{drop, nat_le, option_map, slice_get}
+use Rattle.std.specs.Prelude.{Bool, drop, nat_le, slice_get}
 use Rattle.std.proofs.lemmas.Bool.{leb-true}
 use Rattle.std.proofs.lemmas.List.{take_all}
 use Rattle.seg_types.specs.declared.kinds.Kind.TheVariants.{Scalar as ScalarOf, Vector as VectorOf}
@@ -12,14 +12,14 @@ use Rattle.seg_types.specs.Names.{Key, ByHandle}
 use Rattle.segment_manager.specs.declared.targets.Object.{Object as Located}
 use Rattle.segment_manager.specs.Answers.{Answer, Element}
 use Rattle.segment_manager.specs.Directory.{Object, Directory, kind_of}
-use Rattle.segment_manager.specs.ElementLists.{array_at, array_length_at, length_at_kind, number_or_none, vector_at}
+use Rattle.segment_manager.specs.ElementLists.{array_length_at, length_at_kind, list_at, number_or_none, numbers_in}
 use Rattle.segment_manager.specs.Instances.{IsMissing}
 use Rattle.segment_manager.specs.Located.{IsLocated}
 use Rattle.segment_manager.specs.State.{Answers, IsReplyOfKind, State, StandsFor, answer_of}
 use Rattle.segment_manager.proofs.Laws.{IsSaidAt, array-length, array-read, got, said-at, told-by_key, vector-length, vector-read}
-use Rattle.segment_values.specs.Ranges.{numbers_if, range_at, range_in, range_of}
+use Rattle.segment_values.specs.Ranges.{element_of, is_row, numbers_if, range_at, range_in, range_of, row_of}
 use Rattle.segment_values.proofs.RangeLists.{read-more, there-is}
-use Rattle.segment_values.proofs.RangeRows.{array-numbers, its-numbers, no-numbers, vector-numbers}
+use Rattle.segment_values.proofs.RangeRows.{its-numbers}
 
 -- ---- one element
 
@@ -31,27 +31,41 @@ answer-mapped : {A B : Type 0} (say : B → Answer) (f : A → B) (r : Result A 
 answer-mapped say f (Ok a) = refl
 answer-mapped say f (Err why) = refl
 
-got-mapped : {A B : Type 0} (f : A → B) (r : Result A Refusal) → got (mapped f r) ≡ option_map f (got r)
+got-mapped : {A : Type 0} (f : A → ℤ) (r : Result A Refusal) → got (mapped f r) ≡ element_of f r
 got-mapped f (Ok a) = refl
 got-mapped f (Err why) = refl
 
-module _ (s : State) (key : Key) (at : ℕ) where
-  pub vector-item : {A : Type 0} (k : ScalarKind) (whole : A → ℤ) (r : Result A Refusal) → IsReplyOfKind s key (VectorOf k) (Get key at) (answer_of (λ x. Element k (whole x)) r)
-      → Answers s (λ d. slice_get (vector_at d key k) at) (option_map whole (got r))
-  vector-item k whole r a = record { answers = λ d h. sym (got-mapped whole r) ∙ vector-read s.mode d key k at (mapped whole r) (answer-mapped (Element k) whole r ∙ a.answers d h) }
+module _ (s : State) (o : Located) (k : ScalarKind) where
+  pub vector-item : {A : Type 0} (at : ℕ) (whole : A → ℤ) (r : Result A Refusal) → o.kind ≡ VectorOf k
+      → IsReplyOfKind s (ByHandle o.handle) (VectorOf k) (Get (ByHandle o.handle) at) (answer_of (λ x. Element k (whole x)) r)
+      → Answers s (λ d. slice_get (row_of o d) at) (element_of whole r)
+  vector-item at whole r is a = record {
+    answers = λ d h.
+        sym (got-mapped whole r) ∙ vector-read s.mode d (ByHandle o.handle) k at (mapped whole r) (answer-mapped (Element k) whole r ∙ a.answers d h)
+        ∙ ap (λ kind. slice_get (list_at numbers_in d (ByHandle o.handle) kind) at) (sym is);
+  }
 
-  pub array-item : {A : Type 0} (k : ScalarKind) (whole : A → ℤ) (r : Result A Refusal) → IsReplyOfKind s key (ScalarOf k) (Get key at) (answer_of (λ x. Element k (whole x)) r)
-      → Answers s (λ d. slice_get (array_at d key k) at) (option_map whole (got r))
-  array-item k whole r a = record { answers = λ d h. sym (got-mapped whole r) ∙ array-read s.mode d key k at (mapped whole r) (answer-mapped (Element k) whole r ∙ a.answers d h) }
+  pub array-item : {A : Type 0} (at : ℕ) (whole : A → ℤ) (r : Result A Refusal) → o.kind ≡ ScalarOf k
+      → IsReplyOfKind s (ByHandle o.handle) (ScalarOf k) (Get (ByHandle o.handle) at) (answer_of (λ x. Element k (whole x)) r)
+      → Answers s (λ d. slice_get (row_of o d) at) (element_of whole r)
+  array-item at whole r is a = record {
+    answers = λ d h.
+        sym (got-mapped whole r) ∙ array-read s.mode d (ByHandle o.handle) k at (mapped whole r) (answer-mapped (Element k) whole r ∙ a.answers d h)
+        ∙ ap (λ kind. slice_get (list_at numbers_in d (ByHandle o.handle) kind) at) (sym is);
+  }
 
--- ---- how many
+  -- how many
+  pub vector-many : (n : ℕ) (r : Result ℕ Refusal) → n ≡ number_or_none r → o.kind ≡ VectorOf k → Answers s (λ d. length_at_kind d (ByHandle o.handle) (VectorOf k)) r
+      → Answers s (λ d. length (row_of o d)) n
+  vector-many n r e is a = record {
+    answers = λ d h. e ∙ vector-length d (ByHandle o.handle) k r (a.answers d h) ∙ ap (λ kind. length (list_at numbers_in d (ByHandle o.handle) kind)) (sym is);
+  }
 
-module _ (s : State) (key : Key) (n : ℕ) (r : Result ℕ Refusal) (e : n ≡ number_or_none r) where
-  pub vector-many : (k : ScalarKind) → Answers s (λ d. length_at_kind d key (VectorOf k)) r → Answers s (λ d. length (vector_at d key k)) n
-  vector-many k a = record { answers = λ d h. e ∙ vector-length d key k r (a.answers d h) }
-
-  pub array-many : (k : ScalarKind) → Answers s (λ d. array_length_at d key k) r → Answers s (λ d. length (array_at d key k)) n
-  array-many k a = record { answers = λ d h. e ∙ array-length d key k r (a.answers d h) }
+  pub array-many : (n : ℕ) (r : Result ℕ Refusal) → n ≡ number_or_none r → o.kind ≡ ScalarOf k → Answers s (λ d. array_length_at d (ByHandle o.handle) k) r
+      → Answers s (λ d. length (row_of o d)) n
+  array-many n r e is a = record {
+    answers = λ d h. e ∙ array-length d (ByHandle o.handle) k r (a.answers d h) ∙ ap (λ kind. length (list_at numbers_in d (ByHandle o.handle) kind)) (sym is);
+  }
 
 -- ---- those that were read
 
@@ -68,12 +82,12 @@ module _ {A : Type 0} (whole : A → ℤ) (s : State) (list : Directory → List
       read-more whole (list d) first i row x within (one d st (omega arith)) (h d st)
 
   -- what is read where there is such an element
-  module _ (at : ℕ) (r : Result A Refusal) (item : Answers s (λ d. slice_get (list d) at) (option_map whole (got r))) where
+  module _ (at : ℕ) (r : Result A Refusal) (item : Answers s (λ d. slice_get (list d) at) (element_of whole r)) where
     pub reads-some : (x : A) → r ≡ Ok x → (d : Directory) → StandsFor s.cut.bytes d → slice_get (list d) at ≡ Some (whole x)
-    reads-some x e d st = sym (item.answers d st) ∙ ap (λ (q : Result A Refusal). option_map whole (got q)) e
+    reads-some x e d st = sym (item.answers d st) ∙ ap (element_of whole) e
 
     pub reads-none : (why : Refusal) → r ≡ Err why → (d : Directory) → StandsFor s.cut.bytes d → at < length (list d) → ⊥
-    reads-none why e d st within = there-is (list d) at within (sym (item.answers d st) ∙ ap (λ (q : Result A Refusal). option_map whole (got q)) e)
+    reads-none why e d st within = there-is (list d) at within (sym (item.answers d st) ∙ ap (element_of whole) e)
 
 pub reads-all : {A : Type 0} (whole : A → ℤ) (s : State) (list : Directory → List ℤ) (first n : ℕ) (row : List A) → length row ≡ n → AreRead whole s list first row n
     → (d : Directory) → StandsFor s.cut.bytes d → map whole row ≡ take n (drop first (list d))
@@ -109,34 +123,23 @@ module _ (s : State) (o : Located) (l : IsLocated s (ByHandle o.handle) o) (k : 
   kind-here : (d : Directory) (st : StandsFor s.cut.bytes d) → o.kind ≡ kind_of (here d st).object.value
   kind-here d st = ap (λ (q : Located). q.kind) (here d st).said
 
-  pub vector-range : (d : Directory) → StandsFor s.cut.bytes d → o.kind ≡ VectorOf k → range_of (vector_at d (ByHandle o.handle) k) first n ≡ range_at d (ByHandle o.handle) k first n
-  vector-range d st is =
-      let p : IsSaidAt d (ByHandle o.handle) o = here d st in
-      let own : kind_of p.object.value ≡ VectorOf k = sym (kind-here d st) ∙ is in
-      ap (λ zs. range_of zs first n) (its-numbers d (ByHandle o.handle) (VectorOf k) p.object p.is own)
-      ∙ sym (ap (told k first n) p.is ∙ ap (λ (r : Result (List ℤ) Refusal). range_in r first n) (vector-numbers k p.object.value own))
-
-  pub array-range : (d : Directory) → StandsFor s.cut.bytes d → o.kind ≡ ScalarOf k → range_of (array_at d (ByHandle o.handle) k) first n ≡ range_at d (ByHandle o.handle) k first n
-  array-range d st is =
-      let p : IsSaidAt d (ByHandle o.handle) o = here d st in
-      let own : kind_of p.object.value ≡ ScalarOf k = sym (kind-here d st) ∙ is in
-      ap (λ zs. range_of zs first n) (its-numbers d (ByHandle o.handle) (ScalarOf k) p.object p.is own)
-      ∙ sym (ap (told k first n) p.is ∙ ap (λ (r : Result (List ℤ) Refusal). range_in r first n) (array-numbers k p.object.value own))
-
-  pub no-range : (d : Directory) → StandsFor s.cut.bytes d → (o.kind ≡ VectorOf k → ⊥) → (o.kind ≡ ScalarOf k → ⊥) → range_at d (ByHandle o.handle) k first n ≡ Err WrongKind
-  no-range d st a b =
+  told-here : (d : Directory) (st : StandsFor s.cut.bytes d) (b : Bool) → is_row k o.kind ≡ b
+      → range_at d (ByHandle o.handle) k first n ≡ range_in (if b then Ok (numbers_in (here d st).object.value) else Err WrongKind) first n
+  told-here d st b row =
       let p : IsSaidAt d (ByHandle o.handle) o = here d st in
       ap (told k first n) p.is
-      ∙ ap (λ (r : Result (List ℤ) Refusal). range_in r first n) (no-numbers k p.object.value (λ e. a (kind-here d st ∙ e)) (λ e. b (kind-here d st ∙ e)))
+      ∙ ap (λ c. range_in (if c then Ok (numbers_in p.object.value) else Err WrongKind) first n) (ap (is_row k) (sym (kind-here d st)) ∙ row)
 
-  pub vector-reads : (r : Result (List ℤ) Refusal) → o.kind ≡ VectorOf k → Answers s (λ d. range_of (vector_at d (ByHandle o.handle) k) first n) r → Answers s (λ d. range_at d (ByHandle o.handle) k first n) r
-  vector-reads r is a = record { answers = λ d st. a.answers d st ∙ vector-range d st is }
+  pub row-range : (d : Directory) → StandsFor s.cut.bytes d → is_row k o.kind ≡ true → range_of (row_of o d) first n ≡ range_at d (ByHandle o.handle) k first n
+  row-range d st row =
+      let p : IsSaidAt d (ByHandle o.handle) o = here d st in
+      ap (λ zs. range_of zs first n) (its-numbers d (ByHandle o.handle) o.kind p.object p.is (sym (kind-here d st))) ∙ sym (told-here d st true row)
 
-  pub array-reads : (r : Result (List ℤ) Refusal) → o.kind ≡ ScalarOf k → Answers s (λ d. range_of (array_at d (ByHandle o.handle) k) first n) r → Answers s (λ d. range_at d (ByHandle o.handle) k first n) r
-  array-reads r is a = record { answers = λ d st. a.answers d st ∙ array-range d st is }
+  pub row-reads : (r : Result (List ℤ) Refusal) → is_row k o.kind ≡ true → Answers s (λ d. range_of (row_of o d) first n) r → Answers s (λ d. range_at d (ByHandle o.handle) k first n) r
+  row-reads r row a = record { answers = λ d st. a.answers d st ∙ row-range d st row }
 
-  pub no-reads : (o.kind ≡ VectorOf k → ⊥) → (o.kind ≡ ScalarOf k → ⊥) → Answers s (λ d. range_at d (ByHandle o.handle) k first n) (Err WrongKind)
-  no-reads a b = record { answers = λ d st. sym (no-range d st a b) }
+  pub no-reads : is_row k o.kind ≡ false → Answers s (λ d. range_at d (ByHandle o.handle) k first n) (Err WrongKind)
+  no-reads row = record { answers = λ d st. sym (told-here d st false row) }
 
 -- what is said under the handle is said under the key
 pub reads-by_key : (s : State) (key : Key) (o : Located) → IsLocated s key o → (k : ScalarKind) (first n : ℕ) (r : Result (List ℤ) Refusal) → Answers s (λ d. range_at d (ByHandle o.handle) k first n) r

@@ -1,5 +1,5 @@
 -- Values that are arrays or vectors of scalars of a kind: what they list, and what sets an element.
-use Rattle.std.proofs.Common.{◌≡◌, refl, sym, ap, subst, ◌∙◌, ℕ, ℤ, Bool, true, false, ◌||◌, Some, None, Option, Result, Ok, Err, List, [], if◌then◌else◌}
+use Rattle.std.proofs.Common.{◌≡◌, refl, sym, ap, subst, ◌∙◌, ℕ, ℤ, Bool, true, false, ◌||◌, Some, None, Option, List, [], if◌then◌else◌}
 use Rattle.std.specs.Prelude.{slice_set}
 use Rattle.std.proofs.lemmas.Bool.{eq-eqb, eqb-true}
 use Rattle.std.proofs.lemmas.Option.{same_Some}
@@ -7,8 +7,6 @@ use Rattle.best_fit.specs.Table.{Table}
 use Rattle.seg_types.specs.declared.kinds.Kind.{Kind}
 use Rattle.seg_types.specs.declared.kinds.Kind.TheVariants.{Scalar, Vector}
 use Rattle.seg_types.specs.declared.kinds.ScalarKind.{ScalarKind}
-use Rattle.seg_types.specs.declared.refusals.Refusal.{Refusal}
-use Rattle.seg_types.specs.declared.refusals.Refusal.TheVariants.{WrongKind}
 use Rattle.seg_types.specs.Commands.{Literal, value_of_literal}
 use Rattle.seg_types.specs.Kinds.{code_of, kind_of_code, same_kind}
 use Rattle.seg_types.specs.Names.{Key}
@@ -19,7 +17,7 @@ use Rattle.segment_manager.specs.Plan.{Reply, with}
 use Rattle.segment_manager.specs.Step as step
 use Rattle.segment_manager.specs.Step.{changed, element_at, with_items}
 use Rattle.segment_manager.proofs.Laws.{code-read}
-use Rattle.segment_values.specs.Ranges.{numbers_if}
+use Rattle.segment_values.specs.Ranges.{is_row}
 
 -- ---- kinds
 
@@ -29,31 +27,20 @@ of-same kind other e = eq-eqb (code_of kind) (code_of other) (ap code_of e)
 one-kind : (a b : Kind) → same_kind a b ≡ true → a ≡ b
 one-kind a b e = same_Some a b (sym (code-read a) ∙ ap kind_of_code (eqb-true (code_of a) (code_of b) e) ∙ code-read b)
 
-unlike-if : (a b : Kind) (c : Bool) → same_kind a b ≡ c → (a ≡ b → ⊥) → same_kind a b ≡ false
-unlike-if a b true e n = absurd (n (one-kind a b e))
-unlike-if a b false e n = e
+-- such an object is a vector, or else an array
+pub row-vector : (k j : ScalarKind) (kind : Kind) → kind ≡ Vector j → is_row k kind ≡ true → kind ≡ Vector k
+row-vector k j kind e r = vector-if (same_kind (Vector k) kind) refl r
+  where
+    vector-if : (b : Bool) → same_kind (Vector k) kind ≡ b → (b || same_kind (Scalar k) kind) ≡ true → kind ≡ Vector k
+    vector-if true f r = sym (one-kind (Vector k) kind f)
+    vector-if false f r = let g : Scalar k ≡ kind = one-kind (Scalar k) kind r in absurd (cc)
 
-unlike : (a b : Kind) → (a ≡ b → ⊥) → same_kind a b ≡ false
-unlike a b n = unlike-if a b (same_kind a b) refl n
-
-or-true : (b : Bool) → (b || true) ≡ true
-or-true true = refl
-or-true false = refl
-
--- ---- what a value lists
-
-abbrev listed : Value → Bool → Result (List ℤ) Refusal
-listed v b = if b then Ok (numbers_in v) else Err WrongKind
-
-pub vector-numbers : (k : ScalarKind) (v : Value) → kind_of v ≡ Vector k → numbers_if k v ≡ Ok (numbers_in v)
-vector-numbers k v e = ap (λ b. listed v (b || same_kind (Scalar k) (kind_of v))) (of-same (Vector k) (kind_of v) (sym e))
-
-pub array-numbers : (k : ScalarKind) (v : Value) → kind_of v ≡ Scalar k → numbers_if k v ≡ Ok (numbers_in v)
-array-numbers k v e =
-    ap (λ b. listed v (same_kind (Vector k) (kind_of v) || b)) (of-same (Scalar k) (kind_of v) (sym e)) ∙ ap (listed v) (or-true (same_kind (Vector k) (kind_of v)))
-
-pub no-numbers : (k : ScalarKind) (v : Value) → (kind_of v ≡ Vector k → ⊥) → (kind_of v ≡ Scalar k → ⊥) → numbers_if k v ≡ Err WrongKind
-no-numbers k v n m = λ i. listed v (unlike (Vector k) (kind_of v) (λ e. n (sym e)) i || unlike (Scalar k) (kind_of v) (λ e. m (sym e)) i)
+pub row-array : (k : ScalarKind) (kind : Kind) → ((j : ScalarKind) → kind ≡ Vector j → ⊥) → is_row k kind ≡ true → kind ≡ Scalar k
+row-array k kind n r = array-if (same_kind (Vector k) kind) refl r
+  where
+    array-if : (b : Bool) → same_kind (Vector k) kind ≡ b → (b || same_kind (Scalar k) kind) ≡ true → kind ≡ Scalar k
+    array-if true f r = absurd (n k (sym (one-kind (Vector k) kind f)))
+    array-if false f r = sym (one-kind (Scalar k) kind r)
 
 -- of the object of a key
 pub its-numbers : (d : Directory) (key : Key) (kind : Kind) (o : Object) → object_at d key ≡ Some o → kind_of o.value ≡ kind → list_at numbers_in d key kind ≡ numbers_in o.value
@@ -75,16 +62,15 @@ row-numbers k zs = record { itself = refl; same = λ ws. refl; sets = λ ws d o 
 row-elements : (k : ScalarKind) (zs : List ℤ) (t : Table) → IsRow k (Elements k zs t)
 row-elements k zs t = record { itself = refl; same = λ ws. refl; sets = λ ws d o i l. refl }
 
-pub array-row : (k : ScalarKind) (v : Value) → kind_of v ≡ Scalar k → IsRow k v
-array-row k (Numbers l zs) e = let same : l ≡ k = cc in subst (λ j. IsRow j (Numbers l zs)) same (row-numbers l zs)
-array-row k (Elements l zs t) e = absurd (cc)
-array-row k (Bytes bs t) e = absurd (cc)
-array-row k (Pairs l m ps) e = absurd (cc)
-array-row k (Texts ps t) e = absurd (cc)
-
-pub vector-row : (k : ScalarKind) (v : Value) → kind_of v ≡ Vector k → IsRow k v
-vector-row k (Numbers l zs) e = absurd (cc)
-vector-row k (Elements l zs t) e = let same : l ≡ k = cc in subst (λ j. IsRow j (Elements l zs t)) same (row-elements l zs t)
-vector-row k (Bytes bs t) e = absurd (cc)
-vector-row k (Pairs l m ps) e = absurd (cc)
-vector-row k (Texts ps t) e = absurd (cc)
+pub row-itself : (k : ScalarKind) (kind : Kind) → is_row k kind ≡ true → (v : Value) → kind_of v ≡ kind → IsRow k v
+row-itself k kind r (Numbers l zs) e =
+    let g : kind ≡ Scalar k = row-array k kind (λ j f. absurd (cc)) r in
+    let same : l ≡ k = cc in
+    subst (λ j. IsRow j (Numbers l zs)) same (row-numbers l zs)
+row-itself k kind r (Elements l zs t) e =
+    let g : kind ≡ Vector k = row-vector k l kind (sym e) r in
+    let same : l ≡ k = cc in
+    subst (λ j. IsRow j (Elements l zs t)) same (row-elements l zs t)
+row-itself k kind r (Bytes bs t) e = let g : kind ≡ Scalar k = row-array k kind (λ j f. absurd (cc)) r in absurd (cc)
+row-itself k kind r (Pairs l m ps) e = let g : kind ≡ Scalar k = row-array k kind (λ j f. absurd (cc)) r in absurd (cc)
+row-itself k kind r (Texts ps t) e = let g : kind ≡ Scalar k = row-array k kind (λ j f. absurd (cc)) r in absurd (cc)

@@ -1,5 +1,6 @@
 -- Elements of an array or a vector of scalars that are read, or written, by one call: so many from a place on.
-use Rattle.std.specs.Prelude.{ℕ, ◌+◌, ℤ, ◌||◌, Some, None, Result, Ok, Err, List, [], ◌∷◌, drop, length, map, nat_le, slice_set, take, if◌then◌else◌}
+use Rattle.std.specs.Prelude.{ℕ, ◌+◌, ℤ, Bool, ◌||◌, Option, Some, None, Result, Ok, Err, List, [], ◌∷◌, drop, length, map, nat_le, slice_set, take, if◌then◌else◌}
+use Rattle.seg_types.specs.declared.kinds.Kind.{Kind}
 use Rattle.seg_types.specs.declared.kinds.Kind.TheVariants.{Scalar, Vector}
 use Rattle.seg_types.specs.declared.kinds.ScalarKind.{ScalarKind}
 use Rattle.seg_types.specs.declared.refusals.Refusal.{Refusal}
@@ -10,16 +11,29 @@ use Rattle.segment_manager.specs.declared.modes.Mode.{Mode}
 use Rattle.segment_manager.specs.declared.targets.Object.{Object as Located}
 use Rattle.segment_manager.specs.Answers.{Answer, Done, Refused}
 use Rattle.segment_manager.specs.Directory.{Directory, Value, kind_of, object_at}
-use Rattle.segment_manager.specs.ElementLists.{numbers_in}
+use Rattle.segment_manager.specs.ElementLists.{list_at, numbers_in}
 use Rattle.segment_manager.specs.Located.{IsObject}
 use Rattle.segment_manager.specs.State.{Moves, State, StandsFor, Stays}
 use Rattle.segment_manager.specs.Step.{changed, is_read_only, with_items}
 
 -- ---- reading
 
+-- whether objects of a kind are arrays or vectors of scalars of another
+abbrev pub is_row : ScalarKind → Kind → Bool
+is_row k kind = same_kind (Vector k) kind || same_kind (Scalar k) kind
+
 -- the numbers of a value that is an array or a vector of scalars of a kind
 abbrev pub numbers_if : ScalarKind → Value → Result (List ℤ) Refusal
-numbers_if k v = if same_kind (Vector k) (kind_of v) || same_kind (Scalar k) (kind_of v) then Ok (numbers_in v) else Err WrongKind
+numbers_if k v = if is_row k (kind_of v) then Ok (numbers_in v) else Err WrongKind
+
+-- the elements of an object that was located, which is an array or a vector of scalars
+abbrev pub row_of : Located → Directory → List ℤ
+row_of o d = list_at numbers_in d (ByHandle o.handle) o.kind
+
+-- one of them, where there is one
+abbrev pub element_of : {A : Type 0} → (A → ℤ) → Result A Refusal → Option ℤ
+element_of whole (Ok a) = Some (whole a)
+element_of whole (Err why) = None
 
 -- so many of a list, from a place on, where it has so many there
 abbrev pub range_of : List ℤ → ℕ → ℕ → Result (List ℤ) Refusal

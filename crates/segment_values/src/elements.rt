@@ -27,16 +27,14 @@ pub fn set(segment: &mut Segment, key: &Key, index: u64, value: ScalarValue) -> 
     ensures step { IsStep segment.old segment.new (Set (key_seen key.now) index (literal_seen value)) (done_answer result) }
     ensures refused { OnErr result (segment.new ≡ segment.old) }
 {
-    match object_to_change(segment, key) {
-        Err(why) => Err(why),
-        Ok(object) => match object.kind {
-            Kind::Scalar(element) | Kind::Vector(element) => {
-                set_scalar(segment, object, element, index, value)
-            }
-            Kind::Text => set_scalar(segment, object, ScalarKind::U8, index, value),
-            Kind::Texts => Err(Refusal::WrongKind),
-            Kind::Map(_, _) => Err(Refusal::WrongKind),
-        },
+    let object = object_to_change(segment, key)?;
+    match object.kind {
+        Kind::Scalar(element) | Kind::Vector(element) => {
+            set_scalar(segment, object, element, index, value)
+        }
+        Kind::Text => set_scalar(segment, object, ScalarKind::U8, index, value),
+        Kind::Texts => Err(Refusal::WrongKind),
+        Kind::Map(_, _) => Err(Refusal::WrongKind),
     }
 }
 
@@ -54,8 +52,6 @@ fn set_scalar(
     ensures step { IsStep segment.old segment.new (Set (ByHandle object.handle) index (literal_seen value)) (done_answer result) }
     ensures refused { OnErr result (segment.new ≡ segment.old) }
 {
-    match value_as(kind, value) {
-        Err(why) => Err(why),
-        Ok(element) => set_any(segment, &object, index, element),
-    }
+    let element = value_as(kind, value)?;
+    set_any(segment, &object, index, element)
 }

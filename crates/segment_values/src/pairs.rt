@@ -29,15 +29,13 @@ pub fn put_pair(
     ensures step { IsStep segment.old segment.new (Put (key_seen key.now) (literal_seen at) (literal_seen value)) (truth_answer result) }
     ensures refused { OnErr result (segment.new ≡ segment.old) }
 {
-    match object_to_change(segment, key) {
-        Err(why) => Err(why),
-        Ok(object) => match object.kind {
-            Kind::Map(keys, values) => match pair_as(keys, values, at, value) {
-                Err(why) => Err(why),
-                Ok((new_key, new_value)) => segment.map_put_any(&object, new_key, new_value),
-            },
-            _ => Err(Refusal::WrongKind),
-        },
+    let object = object_to_change(segment, key)?;
+    match object.kind {
+        Kind::Map(keys, values) => {
+            let (new_key, new_value) = pair_as(keys, values, at, value)?;
+            segment.map_put_any(&object, new_key, new_value)
+        }
+        _ => Err(Refusal::WrongKind),
     }
 }
 
@@ -54,15 +52,13 @@ pub fn look_up(
 ) -> Result<Option<ScalarValue>, Refusal>
     ensures { IsReply segment.now (Lookup (key_seen key.now) (literal_seen at)) (any_value_answer result) }
 {
-    match locate(segment, key) {
-        Err(why) => Err(why),
-        Ok(object) => match object.kind {
-            Kind::Map(keys, values) => match value_as(keys, at) {
-                Err(why) => Err(why),
-                Ok(wanted) => segment.map_get_any(&object, wanted, values),
-            },
-            _ => Err(Refusal::WrongKind),
-        },
+    let object = locate(segment, key)?;
+    match object.kind {
+        Kind::Map(keys, values) => {
+            let wanted = value_as(keys, at)?;
+            segment.map_get_any(&object, wanted, values)
+        }
+        _ => Err(Refusal::WrongKind),
     }
 }
 
@@ -79,14 +75,12 @@ pub fn erase_pair(segment: &mut Segment, key: &Key, at: ScalarValue) -> Result<b
     ensures refused { OnErr result (segment.new ≡ segment.old) }
     ensures absent { KeepsWhere segment.old segment.new (LacksLiteral (key_seen key.now) (literal_seen at)) }
 {
-    match object_to_change(segment, key) {
-        Err(why) => Err(why),
-        Ok(object) => match object.kind {
-            Kind::Map(keys, values) => match value_as(keys, at) {
-                Err(why) => Err(why),
-                Ok(gone) => segment.map_erase_any(&object, gone, values),
-            },
-            _ => Err(Refusal::WrongKind),
-        },
+    let object = object_to_change(segment, key)?;
+    match object.kind {
+        Kind::Map(keys, values) => {
+            let gone = value_as(keys, at)?;
+            segment.map_erase_any(&object, gone, values)
+        }
+        _ => Err(Refusal::WrongKind),
     }
 }

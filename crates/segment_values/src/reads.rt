@@ -1,12 +1,12 @@
 //! Elements of arrays and vectors of scalars, so many read by one call.
-ghost use Rattle.std.specs.Prelude.{◌≡◌, ℕ, ◌+◌, ◌<◌, ◌≤◌, ◌^◌, OnErr, Some, drop, length, map, nat_le, slice_get, take};
+ghost use Rattle.std.specs.Prelude.{◌≡◌, ◌+◌, ◌<◌, ◌≤◌, ◌^◌, OnErr, Some, drop, length, map, nat_le, slice_get, take, true};
 ghost use Rattle.seg_types.specs.Keys.{key_seen};
 ghost use Rattle.seg_types.specs.Names.{ByHandle};
 ghost use Rattle.segment_manager.specs.Directory.{Directory};
-ghost use Rattle.segment_manager.specs.ElementLists.{array_at, number_or_none as number_of, vector_at};
+ghost use Rattle.segment_manager.specs.ElementLists.{number_or_none as number_of};
 ghost use Rattle.segment_manager.specs.Located.{IsLocated, IsObject};
 ghost use Rattle.segment_manager.specs.State.{Answers, StandsFor};
-ghost use Rattle.segment_values.specs.Ranges.{range_at, range_of, read_into};
+ghost use Rattle.segment_values.specs.Ranges.{element_of, is_row, range_at, read_into, row_of};
 
 use seg_types::{Key, Kind, Refusal, Scalar};
 use segment_manager::{Object, Segment, locate};
@@ -27,10 +27,8 @@ pub fn read_elements<T: Scalar>(
     ensures read { Answers segment.now (λ d. range_at d (key_seen key.now) T.kind first (length row.old)) (read_into T.whole row.new result) }
     ensures kept { OnErr result (row.new ≡ row.old) }
 {
-    match locate(segment, key) {
-        Err(why) => Err(why),
-        Ok(object) => read_object(segment, &object, first, row),
-    }
+    let object = locate(segment, key)?;
+    read_object(segment, &object, first, row)
 }
 
 /// The same of an object that was located.
@@ -44,109 +42,80 @@ fn read_object<T: Scalar>(
     ensures read { Answers segment.now (λ d. range_at d (ByHandle object.now.handle) T.kind first (length row.old)) (read_into T.whole row.new result) }
     ensures kept { OnErr result (row.new ≡ row.old) }
 {
-    if object.kind == Kind::Vector(T::kind()) {
-        read_vector(segment, object, first, row)
-    } else if object.kind == Kind::Scalar(T::kind()) {
-        read_array(segment, object, first, row)
-    } else {
-        Err(Refusal::WrongKind)
+    if !is_row::<T>(object.kind) {
+        return Err(Refusal::WrongKind);
     }
-}
-
-/// The same of the elements that it has as a vector of the type.
-fn read_vector<T: Scalar>(
-    segment: &Segment,
-    object: &Object,
-    first: u64,
-    row: &mut [T],
-) -> Result<(), Refusal>
-    requires { IsObject object.now segment.now }
-    ensures read { Answers segment.now (λ d. range_of (vector_at d (ByHandle object.now.handle) T.kind) first (length row.old)) (read_into T.whole row.new result) }
-    ensures kept { OnErr result (row.new ≡ row.old) }
-{
-    let len = number_or_none(segment.vec_len::<T, Object>(object));
-    if !has_range(len, first, row.len() as u64) {
+    if !has_range(len_of::<T>(segment, object), first, row.len() as u64) {
         return Err(Refusal::OutOfRange);
     }
-    copy_vector(segment, object, first, row);
+    copy_row(segment, object, first, row);
     Ok(())
 }
 
-/// The same of the elements that it has as an array of the type.
-fn read_array<T: Scalar>(
-    segment: &Segment,
-    object: &Object,
-    first: u64,
-    row: &mut [T],
-) -> Result<(), Refusal>
-    requires { IsObject object.now segment.now }
-    ensures read { Answers segment.now (λ d. range_of (array_at d (ByHandle object.now.handle) T.kind) first (length row.old)) (read_into T.whole row.new result) }
-    ensures kept { OnErr result (row.new ≡ row.old) }
+/// Whether objects of a kind are arrays of scalars of the type, or vectors of them.
+pub(crate) fn is_row<T: Scalar>(kind: Kind) -> bool
+    ensures { result ≡ is_row T.kind kind }
 {
-    let len = number_or_none(segment.array_len::<T, Object>(object));
-    if !has_range(len, first, row.len() as u64) {
-        return Err(Refusal::OutOfRange);
-    }
-    copy_array(segment, object, first, row);
-    Ok(())
+    Kind::Vector(T::kind()).code() == kind.code() || Kind::Scalar(T::kind()).code() == kind.code()
 }
 
-/// Copies elements of a vector that has so many.
-fn copy_vector<T: Scalar>(segment: &Segment, object: &Object, first: u64, row: &mut [T])
+/// How many elements such an object has.
+pub(crate) fn len_of<T: Scalar>(segment: &Segment, object: &Object) -> u64
     requires object { IsObject object.now segment.now }
+    requires kind { is_row T.kind object.now.kind ≡ true }
+    ensures { Answers segment.now (λ d. length (row_of object.now d)) result }
+{
+    match object.kind {
+        Kind::Vector(_) => number_or_none(segment.vec_len::<T, Object>(object)),
+        _ => number_or_none(segment.array_len::<T, Object>(object)),
+    }
+}
+
+/// Copies elements of an object that has so many.
+fn copy_row<T: Scalar>(segment: &Segment, object: &Object, first: u64, row: &mut [T])
+    requires object { IsObject object.now segment.now }
+    requires kind { is_row T.kind object.now.kind ≡ true }
     requires fits { first + length row.old < 2 ^ 64 }
-    requires there { (d : Directory) → StandsFor segment.now.cut.bytes d → first + length row.old ≤ length (vector_at d (ByHandle object.now.handle) T.kind) }
-    ensures { (d : Directory) → StandsFor segment.now.cut.bytes d → map T.whole row.new ≡ take (length row.old) (drop first (vector_at d (ByHandle object.now.handle) T.kind)) }
+    requires there { (d : Directory) → StandsFor segment.now.cut.bytes d
+        → first + length row.old ≤ length (row_of object.now d) }
+    ensures { (d : Directory) → StandsFor segment.now.cut.bytes d
+        → map T.whole row.new ≡ take (length row.old) (drop first (row_of object.now d)) }
 {
     'elements: for i in 0..row.len() {
-        row[i] = vector_element(segment, object, first + i as u64, row[i]);
+        row[i] = element_or(segment, object, first + i as u64, row[i]);
     }
 }
 
-/// Copies elements of an array that has so many.
-fn copy_array<T: Scalar>(segment: &Segment, object: &Object, first: u64, row: &mut [T])
+/// The element at `index` of such an object; or another value, where it has none.
+fn element_or<T: Scalar>(segment: &Segment, object: &Object, index: u64, other: T) -> T
     requires object { IsObject object.now segment.now }
-    requires fits { first + length row.old < 2 ^ 64 }
-    requires there { (d : Directory) → StandsFor segment.now.cut.bytes d → first + length row.old ≤ length (array_at d (ByHandle object.now.handle) T.kind) }
-    ensures { (d : Directory) → StandsFor segment.now.cut.bytes d → map T.whole row.new ≡ take (length row.old) (drop first (array_at d (ByHandle object.now.handle) T.kind)) }
+    requires kind { is_row T.kind object.now.kind ≡ true }
+    ensures { (d : Directory) → StandsFor segment.now.cut.bytes d → index < length (row_of object.now d)
+        → slice_get (row_of object.now d) index ≡ Some (T.whole result) }
 {
-    'elements: for i in 0..row.len() {
-        row[i] = array_element(segment, object, first + i as u64, row[i]);
-    }
-}
-
-/// The element at `index` of a vector; or another value, where it has none.
-fn vector_element<T: Scalar>(segment: &Segment, object: &Object, index: u64, other: T) -> T
-    requires { IsObject object.now segment.now }
-    ensures { (d : Directory) → StandsFor segment.now.cut.bytes d → index < length (vector_at d (ByHandle object.now.handle) T.kind)
-        → slice_get (vector_at d (ByHandle object.now.handle) T.kind) index ≡ Some (T.whole result) }
-{
-    match segment.vec_get::<T, Object>(object, index) {
+    match element(segment, object, index) {
         Ok(value) => value,
         Err(_) => other,
     }
 }
 
-/// The element at `index` of an array; or another value, where it has none.
-fn array_element<T: Scalar>(segment: &Segment, object: &Object, index: u64, other: T) -> T
-    requires { IsObject object.now segment.now }
-    ensures { (d : Directory) → StandsFor segment.now.cut.bytes d → index < length (array_at d (ByHandle object.now.handle) T.kind)
-        → slice_get (array_at d (ByHandle object.now.handle) T.kind) index ≡ Some (T.whole result) }
+/// The element at `index` of such an object.
+fn element<T: Scalar>(segment: &Segment, object: &Object, index: u64) -> Result<T, Refusal>
+    requires object { IsObject object.now segment.now }
+    requires kind { is_row T.kind object.now.kind ≡ true }
+    ensures { Answers segment.now (λ d. slice_get (row_of object.now d) index) (element_of T.whole result) }
 {
-    match segment.get::<T, Object>(object, index) {
-        Ok(value) => value,
-        Err(_) => other,
+    match object.kind {
+        Kind::Vector(_) => segment.vec_get::<T, Object>(object, index),
+        _ => segment.get::<T, Object>(object, index),
     }
 }
 
 /// A number, or 0 where there is none.
-pub(crate) fn number_or_none(number: Result<u64, Refusal>) -> u64
+fn number_or_none(number: Result<u64, Refusal>) -> u64
     ensures { result ≡ number_of number }
 {
-    match number {
-        Ok(many) => many,
-        Err(_) => 0,
-    }
+    number.unwrap_or(0)
 }
 
 /// Whether so many elements have `count` from `first` on.

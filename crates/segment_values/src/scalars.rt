@@ -34,10 +34,7 @@ fn number_as(kind: ScalarKind, number: i128) -> Result<ScalarValue, Refusal>
 {
     match kind {
         ScalarKind::Bool => Err(Refusal::WrongKind),
-        _ => match ScalarValue::of_number(kind, number) {
-            Some(value) => Ok(value),
-            None => Err(Refusal::OutOfRange),
-        },
+        _ => ScalarValue::of_number(kind, number).ok_or(Refusal::OutOfRange),
     }
 }
 
@@ -54,18 +51,9 @@ pub fn pair_as(
 ) -> Result<(ScalarValue, ScalarValue), Refusal>
     ensures { IsPairOf keys values (pair_of keys values (literal_seen at) (literal_seen value)) result }
 {
-    let second = value_as(values, value);
-    match value_as(keys, at) {
-        Ok(new_key) => match second {
-            Ok(new_value) => Ok((new_key, new_value)),
-            Err(why) => Err(why),
-        },
-        Err(past) => match past {
-            Refusal::WrongKind => Err(past),
-            _ => match second {
-                Err(Refusal::WrongKind) => Err(Refusal::WrongKind),
-                _ => Err(past),
-            },
-        },
+    match (value_as(keys, at), value_as(values, value)) {
+        (Ok(new_key), Ok(new_value)) => Ok((new_key, new_value)),
+        (Err(Refusal::WrongKind), _) | (_, Err(Refusal::WrongKind)) => Err(Refusal::WrongKind),
+        (Err(why), _) | (_, Err(why)) => Err(why),
     }
 }

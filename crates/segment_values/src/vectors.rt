@@ -12,7 +12,7 @@ ghost use Rattle.segment_values.specs.Literals.{literal_seen};
 
 use crate::objects::object_to_change;
 use crate::scalars::value_as;
-use seg_types::{Key, Kind, Refusal, ScalarKind, ScalarValue};
+use seg_types::{Key, Kind, Refusal, ScalarKind, ScalarValue, by_kind, by_value};
 use segment_manager::{Object, Segment};
 
 /// The vector of a key, and what a literal is as an element of it.
@@ -29,16 +29,14 @@ fn new_element(
 ) -> Result<(Object, ScalarValue), Refusal>
     ensures { MatchResult result (IsNew segment.now (key_seen key.now) (literal_seen value)) (IsNoElement segment.now (key_seen key.now) (literal_seen value)) }
 {
-    match object_to_change(segment, key) {
-        Err(why) => Err(why),
-        Ok(object) => match object.kind {
-            Kind::Vector(kind) => match value_as(kind, value) {
-                Err(why) => Err(why),
-                Ok(element) => Ok((object, element)),
-            },
-            Kind::Texts => Err(Refusal::WrongKind),
-            _ => Err(Refusal::WrongKind),
-        },
+    let object = object_to_change(segment, key)?;
+    match object.kind {
+        Kind::Vector(kind) => {
+            let element = value_as(kind, value)?;
+            Ok((object, element))
+        }
+        Kind::Texts => Err(Refusal::WrongKind),
+        _ => Err(Refusal::WrongKind),
     }
 }
 
@@ -53,10 +51,8 @@ pub fn push(segment: &mut Segment, key: &Key, value: ScalarValue) -> Result<(), 
     ensures step { IsStep segment.old segment.new (Push (key_seen key.now) (literal_seen value)) (done_answer result) }
     ensures refused { OnErr result (segment.new ≡ segment.old) }
 {
-    match new_element(segment, key, value) {
-        Err(why) => Err(why),
-        Ok((object, element)) => push_value(segment, object, element),
-    }
+    let (object, element) = new_element(segment, key, value)?;
+    push_value(segment, object, element)
 }
 
 /// Puts a value behind the last element of a vector, a vector of the value's kind.
@@ -66,13 +62,7 @@ fn push_value(segment: &mut Segment, object: Object, value: ScalarValue) -> Resu
         (Push (ByHandle object.handle) (literal_of (kind_of_scalar value) (value_of_scalar value))) (done_answer result) }
     ensures refused { OnErr result (segment.new ≡ segment.old) }
 {
-    match value {
-        ScalarValue::Bool(truth) => segment.vec_push(&object, truth),
-        ScalarValue::U8(number) => segment.vec_push(&object, number),
-        ScalarValue::I32(number) => segment.vec_push(&object, number),
-        ScalarValue::I64(number) => segment.vec_push(&object, number),
-        ScalarValue::U64(number) => segment.vec_push(&object, number),
-    }
+    by_value!(value, it => segment.vec_push(&object, it))
 }
 
 /// Puts what a literal is where `index` others stand before it in the vector of a key.
@@ -89,10 +79,8 @@ pub fn insert(
     ensures step { IsStep segment.old segment.new (Insert (key_seen key.now) index (literal_seen value)) (done_answer result) }
     ensures refused { OnErr result (segment.new ≡ segment.old) }
 {
-    match new_element(segment, key, value) {
-        Err(why) => Err(why),
-        Ok((object, element)) => insert_value(segment, object, index, element),
-    }
+    let (object, element) = new_element(segment, key, value)?;
+    insert_value(segment, object, index, element)
 }
 
 /// Puts a value into a vector, a vector of the value's kind.
@@ -107,13 +95,7 @@ fn insert_value(
         (Insert (ByHandle object.handle) index (literal_of (kind_of_scalar value) (value_of_scalar value))) (done_answer result) }
     ensures refused { OnErr result (segment.new ≡ segment.old) }
 {
-    match value {
-        ScalarValue::Bool(truth) => segment.vec_insert(&object, index, truth),
-        ScalarValue::U8(number) => segment.vec_insert(&object, index, number),
-        ScalarValue::I32(number) => segment.vec_insert(&object, index, number),
-        ScalarValue::I64(number) => segment.vec_insert(&object, index, number),
-        ScalarValue::U64(number) => segment.vec_insert(&object, index, number),
-    }
+    by_value!(value, it => segment.vec_insert(&object, index, it))
 }
 
 /// Leaves out the element at `index` in the vector of a key, of scalars or of strings.
@@ -126,13 +108,11 @@ pub fn erase(segment: &mut Segment, key: &Key, index: u64) -> Result<(), Refusal
     ensures step { IsStep segment.old segment.new (Erase (key_seen key.now) index) (done_answer result) }
     ensures refused { OnErr result (segment.new ≡ segment.old) }
 {
-    match object_to_change(segment, key) {
-        Err(why) => Err(why),
-        Ok(object) => match object.kind {
-            Kind::Vector(element) => erase_element(segment, object, element, index),
-            Kind::Texts => segment.texts_erase(&object, index),
-            _ => Err(Refusal::WrongKind),
-        },
+    let object = object_to_change(segment, key)?;
+    match object.kind {
+        Kind::Vector(element) => erase_element(segment, object, element, index),
+        Kind::Texts => segment.texts_erase(&object, index),
+        _ => Err(Refusal::WrongKind),
     }
 }
 
@@ -147,11 +127,10 @@ fn erase_element(
     ensures step { IsStepOfKind segment.old segment.new (ByHandle object.handle) (VectorOf kind) (Erase (ByHandle object.handle) index) (done_answer result) }
     ensures refused { OnErr result (segment.new ≡ segment.old) }
 {
-    match kind {
-        ScalarKind::Bool => segment.vec_erase::<bool, Object>(&object, index),
-        ScalarKind::U8 => segment.vec_erase::<u8, Object>(&object, index),
-        ScalarKind::I32 => segment.vec_erase::<i32, Object>(&object, index),
-        ScalarKind::I64 => segment.vec_erase::<i64, Object>(&object, index),
-        ScalarKind::U64 => segment.vec_erase::<u64, Object>(&object, index),
+    macro_rules! erase {
+        ($type:ty, $kind:ident) => {
+            segment.vec_erase::<$type, Object>(&object, index)
+        };
     }
+    by_kind!(kind, erase)
 }

@@ -1,16 +1,15 @@
 //! Elements of arrays and vectors of scalars, so many written by one call.
-ghost use Rattle.std.specs.Prelude.{◌≡◌, ℕ, ◌+◌, ◌<◌, ◌≤◌, ◌^◌, OnErr, false, length, map, true};
-ghost use Rattle.seg_types.specs.declared.kinds.Kind.TheVariants.{Scalar as ScalarOf, Vector as VectorOf};
+ghost use Rattle.std.specs.Prelude.{◌≡◌, ◌+◌, ◌<◌, ◌≤◌, ◌^◌, OnErr, false, length, map, true};
+ghost use Rattle.seg_types.specs.Commands.{Set, literal_of};
 ghost use Rattle.seg_types.specs.Keys.{key_seen};
 ghost use Rattle.seg_types.specs.Names.{ByHandle};
 ghost use Rattle.segment_manager.specs.Directory.{Directory};
-ghost use Rattle.segment_manager.specs.ElementLists.{array_at, vector_at};
-ghost use Rattle.segment_manager.specs.Located.{IsLocated};
-ghost use Rattle.segment_manager.specs.State.{StandsFor, done_answer};
+ghost use Rattle.segment_manager.specs.Located.{IsLocated, IsObject};
+ghost use Rattle.segment_manager.specs.State.{IsStepOfKind, StandsFor, done_answer};
 ghost use Rattle.segment_manager.specs.Step.{is_read_only};
-ghost use Rattle.segment_values.specs.Ranges.{HasRange, WritesRange};
+ghost use Rattle.segment_values.specs.Ranges.{HasRange, WritesRange, is_row, row_of};
 
-use crate::reads::{has_range, number_or_none};
+use crate::reads::{has_range, is_row, len_of};
 use seg_types::{Key, Kind, Refusal, Scalar};
 use segment_manager::{Mode, Object, Segment, locate};
 
@@ -34,10 +33,8 @@ pub fn write_elements<T: Scalar>(
     if segment.mode() == Mode::ReadOnly {
         return Err(Refusal::ReadOnly);
     }
-    match locate(segment, key) {
-        Err(why) => Err(why),
-        Ok(object) => write_object(segment, &object, first, row),
-    }
+    let object = locate(segment, key)?;
+    write_object(segment, &object, first, row)
 }
 
 /// The same of an object that was located, in a segment that may be changed.
@@ -53,66 +50,24 @@ fn write_object<T: Scalar>(
     ensures refused { OnErr result (segment.new ≡ segment.old) }
     ensures none { length row.now ≡ 0 → segment.new ≡ segment.old }
 {
-    if object.kind == Kind::Vector(T::kind()) {
-        write_vector(segment, object, first, row)
-    } else if object.kind == Kind::Scalar(T::kind()) {
-        write_array(segment, object, first, row)
-    } else {
-        Err(Refusal::WrongKind)
+    if !is_row::<T>(object.kind) {
+        return Err(Refusal::WrongKind);
     }
-}
-
-/// The same of a vector of the type.
-fn write_vector<T: Scalar>(
-    segment: &mut Segment,
-    object: &Object,
-    first: u64,
-    row: &[T],
-) -> Result<(), Refusal>
-    requires object { IsLocated segment.old (ByHandle object.now.handle) object.now }
-    requires kind { object.now.kind ≡ VectorOf T.kind }
-    requires writing { is_read_only segment.old.mode ≡ false }
-    ensures step { WritesRange segment.old segment.new (ByHandle object.now.handle) T.kind first (map T.whole row.now) (done_answer result) }
-    ensures refused { OnErr result (segment.new ≡ segment.old) }
-    ensures none { length row.now ≡ 0 → segment.new ≡ segment.old }
-{
-    let len = number_or_none(segment.vec_len::<T, Object>(object));
-    if !has_range(len, first, row.len() as u64) {
+    if !has_range(len_of::<T>(segment, object), first, row.len() as u64) {
         return Err(Refusal::OutOfRange);
     }
-    set_vector(segment, object, first, row);
+    set_row(segment, object, first, row);
     Ok(())
 }
 
-/// The same of an array of the type.
-fn write_array<T: Scalar>(
-    segment: &mut Segment,
-    object: &Object,
-    first: u64,
-    row: &[T],
-) -> Result<(), Refusal>
+/// Writes elements of an object that has so many.
+fn set_row<T: Scalar>(segment: &mut Segment, object: &Object, first: u64, row: &[T])
     requires object { IsLocated segment.old (ByHandle object.now.handle) object.now }
-    requires kind { object.now.kind ≡ ScalarOf T.kind }
-    requires writing { is_read_only segment.old.mode ≡ false }
-    ensures step { WritesRange segment.old segment.new (ByHandle object.now.handle) T.kind first (map T.whole row.now) (done_answer result) }
-    ensures refused { OnErr result (segment.new ≡ segment.old) }
-    ensures none { length row.now ≡ 0 → segment.new ≡ segment.old }
-{
-    let len = number_or_none(segment.array_len::<T, Object>(object));
-    if !has_range(len, first, row.len() as u64) {
-        return Err(Refusal::OutOfRange);
-    }
-    set_array(segment, object, first, row);
-    Ok(())
-}
-
-/// Writes elements of a vector that has so many.
-fn set_vector<T: Scalar>(segment: &mut Segment, object: &Object, first: u64, row: &[T])
-    requires object { IsLocated segment.old (ByHandle object.now.handle) object.now }
-    requires kind { object.now.kind ≡ VectorOf T.kind }
+    requires kind { is_row T.kind object.now.kind ≡ true }
     requires writing { is_read_only segment.old.mode ≡ false }
     requires fits { first + length row.now < 2 ^ 64 }
-    requires there { (d : Directory) → StandsFor segment.old.cut.bytes d → first + length row.now ≤ length (vector_at d (ByHandle object.now.handle) T.kind) }
+    requires there { (d : Directory) → StandsFor segment.old.cut.bytes d
+        → first + length row.now ≤ length (row_of object.now d) }
     ensures range { HasRange segment.old segment.new object.now first (map T.whole row.now) }
     ensures none { length row.now ≡ 0 → segment.new ≡ segment.old }
 {
@@ -121,26 +76,25 @@ fn set_vector<T: Scalar>(segment: &mut Segment, object: &Object, first: u64, row
         let value = row[i];
         judge(value);
         // it is not refused, since there is such an element
-        let _ = segment.vec_set::<T, Object>(object, first + i as u64, value);
+        let _ = set_element(segment, object, first + i as u64, value);
     }
 }
 
-/// Writes elements of an array that has so many.
-fn set_array<T: Scalar>(segment: &mut Segment, object: &Object, first: u64, row: &[T])
-    requires object { IsLocated segment.old (ByHandle object.now.handle) object.now }
-    requires kind { object.now.kind ≡ ScalarOf T.kind }
-    requires writing { is_read_only segment.old.mode ≡ false }
-    requires fits { first + length row.now < 2 ^ 64 }
-    requires there { (d : Directory) → StandsFor segment.old.cut.bytes d → first + length row.now ≤ length (array_at d (ByHandle object.now.handle) T.kind) }
-    ensures range { HasRange segment.old segment.new object.now first (map T.whole row.now) }
-    ensures none { length row.now ≡ 0 → segment.new ≡ segment.old }
+/// Makes a value the element at `index` of such an object.
+fn set_element<T: Scalar>(
+    segment: &mut Segment,
+    object: &Object,
+    index: u64,
+    value: T,
+) -> Result<(), Refusal>
+    requires object { IsObject object.now segment.old }
+    requires kind { is_row T.kind object.now.kind ≡ true }
+    ensures { IsStepOfKind segment.old segment.new (ByHandle object.now.handle) object.now.kind
+        (Set (ByHandle object.now.handle) index (literal_of T.kind (T.whole value))) (done_answer result) }
 {
-    let _ = segment.as_bytes();
-    'elements: for i in 0..row.len() {
-        let value = row[i];
-        judge(value);
-        // it is not refused, since there is such an element
-        let _ = segment.set::<T, Object>(object, first + i as u64, value);
+    match object.kind {
+        Kind::Vector(_) => segment.vec_set::<T, Object>(object, index, value),
+        _ => segment.set::<T, Object>(object, index, value),
     }
 }
 

@@ -1,9 +1,12 @@
 -- A slice into which elements are copied, one after another.
-use Rattle.std.proofs.Common.{◌≡◌, refl, sym, ap, ◌∙◌, ℕ, zero, suc, ◌+◌, ◌<◌, ◌≤◌, ℤ, Option, Some, List, [], ◌∷◌, ◌++◌, add-one, get_or, length, map, take, arith}
+use Rattle.std.proofs.Common.{◌≡◌, refl, sym, ap, ◌∙◌, ℕ, zero, suc, ◌+◌, ◌<◌, ◌≤◌, ℤ, Option, Some, Result, Ok, Err, List, [], ◌∷◌, ◌++◌, add-one, get_or, length, map, take, arith}
 use Rattle.std.specs.Prelude.{slice_get, slice_set}
 use Rattle.std.specs.Option.{unwrap_or}
+use Rattle.std.specs.Result.{result_unwrap_or}
+use Rattle.seg_types.specs.declared.refusals.Refusal.{Refusal}
 use Rattle.segment_manager.specs.Directory.{Directory}
 use Rattle.segment_manager.specs.State.{Answers, State, StandsFor}
+use Rattle.segment_views.specs.Walked.{element_of}
 use Rattle.std.proofs.lemmas.List.{take_more_set}
 use Rattle.std.proofs.lemmas.Option.{none-some, same_Some, slice_get-get_or, unwrap_or-slice_get}
 
@@ -29,6 +32,10 @@ all-taken (x ∷ xs) = ap (λ ys. x ∷ ys) (all-taken xs)
 -- what is read at a place, or another value
 pub reads-or : (s : State) (elements : Directory → List ℤ) (at : ℕ) (other : ℤ) (o : Option ℤ) → Answers s (λ d. slice_get (elements d) at) o → Answers s (λ d. get_or (elements d) at other) (unwrap_or o other)
 reads-or s elements at other o a = record { answers = λ d h. ap (λ q. unwrap_or q other) (a.answers d h) ∙ unwrap_or-slice_get (elements d) at other }
+
+pub read-or : {X : Type 0} (f : X → ℤ) (r : Result X Refusal) (x : X) → unwrap_or (element_of f r) (f x) ≡ f (result_unwrap_or r x)
+read-or f (Ok y) x = refl
+read-or f (Err why) x = refl
 
 -- so one more is copied
 pub copied-on : {X : Type 0} (f : X → ℤ) (s : State) (elements : Directory → List ℤ) (xs : List X) (i : ℕ) (x : X) (other : ℤ) → i < length xs

@@ -1,6 +1,6 @@
 -- Steps for the numbers of a list, one after another.
-use Rattle.std.proofs.Common.{◌≡◌, refl, sym, ap, subst, ◌∙◌, ℕ, zero, suc, ◌+◌, ◌<◌, ℤ, Some, List, [], ◌∷◌, ◌++◌, add-one, get_or, length, map, take, arith}
-use Rattle.std.specs.Prelude.{slice_get}
+use Rattle.std.proofs.Common.{◌≡◌, refl, sym, ap, subst, ◌∙◌, ℕ, zero, suc, ◌+◌, ◌<◌, ℤ, Some, Result, Ok, Err, List, [], ◌∷◌, ◌++◌, add-one, get_or, length, map, take, arith}
+use Rattle.std.specs.Prelude.{IsErrAnd, slice_get}
 use Rattle.std.proofs.lemmas.Option.{none-some, same_Some, slice_get-get_or}
 use Rattle.seg_types.specs.declared.kinds.Kind.{Kind}
 use Rattle.seg_types.specs.declared.refusals.Refusal.{Refusal}
@@ -9,6 +9,11 @@ use Rattle.seg_types.specs.Names.{Key}
 use Rattle.segment_manager.specs.Answers.{Done, Refused}
 use Rattle.segment_manager.specs.State.{IsStepOfKind, State}
 use Rattle.segment_views.specs.Repeated.{AreSteps, StopsAt}
+
+-- what the exit of a `?` returns is the error that it met
+pub exit-is : {T E : Type 0} {r : Result T E} {why : E} → IsErrAnd r (λ e. e ≡ why) → r ≡ Err why
+exit-is {r = Ok x} h = absurd h
+exit-is {r = Err e} h = ap Err h
 
 -- one more
 more-steps : (key : Key) (kind : Kind) (c : ℕ → ℤ → Command) (from : ℕ) (zs : List ℤ) (z : ℤ) (n : ℕ) (old mid new : State) → n ≡ from + length zs → AreSteps key kind c from zs old mid

@@ -69,10 +69,7 @@ impl<'a, T: Scalar> View<'a, Row<T, Array>> {
         ensures steps { StepsOn (key_of self.old) (ScalarOf T.kind) (λ i z. Set (key_of self.old) i (literal_of T.kind z)) (map T.whole values.now) (segment_of self.old) (segment_of self.new) result }
     {
         'values: for i in 0..values.len() {
-            match self.set(i as u64, values[i]) {
-                Err(why) => return Err(why),
-                Ok(()) => {}
-            }
+            self.set(i as u64, values[i])?;
         }
         Ok(())
     }

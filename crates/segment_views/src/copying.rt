@@ -25,8 +25,5 @@ fn element_or<T: Scalar, S: Storage>(segment: &Segment, object: &Object, index: 
     requires { IsObject object.now segment.now }
     ensures { Answers segment.now (λ d. get_or (S.elements d (ByHandle object.now.handle) T.kind) index (T.whole other)) (T.whole result) }
 {
-    match S::get::<T>(segment, object, index) {
-        Ok(value) => value,
-        Err(_) => other,
-    }
+    S::get::<T>(segment, object, index).unwrap_or(other)
 }

@@ -137,8 +137,5 @@ impl<'a> Iterator for TextItems<'a> {
 pub(crate) fn number_or_none(number: Result<u64, Refusal>) -> u64
     ensures { result ≡ number_of number }
 {
-    match number {
-        Ok(number) => number,
-        Err(_) => 0,
-    }
+    number.unwrap_or(0)
 }

@@ -87,14 +87,10 @@ impl<'a, K: Scalar, V: Scalar> Iterator for MapItems<'a, K, V> {
         if self.left == 0 {
             return None;
         }
-        match first_between(self.segment, &self.object, self.start, self.end) {
-            None => None,
-            Some(pair) => {
-                self.start = Bound::Excluded(pair.0);
-                self.left -= 1;
-                Some(pair)
-            }
-        }
+        let pair = first_between(self.segment, &self.object, self.start, self.end)?;
+        self.start = Bound::Excluded(pair.0);
+        self.left -= 1;
+        Some(pair)
     }
 }
 
@@ -105,14 +101,10 @@ impl<'a, K: Scalar, V: Scalar> DoubleEndedIterator for MapItems<'a, K, V> {
         if self.left == 0 {
             return None;
         }
-        match last_between(self.segment, &self.object, self.start, self.end) {
-            None => None,
-            Some(pair) => {
-                self.end = Bound::Excluded(pair.0);
-                self.left -= 1;
-                Some(pair)
-            }
-        }
+        let pair = last_between(self.segment, &self.object, self.start, self.end)?;
+        self.end = Bound::Excluded(pair.0);
+        self.left -= 1;
+        Some(pair)
     }
 }
 
@@ -244,8 +236,5 @@ fn is_up_to<K: Scalar>(end: Bound<K>, key: K) -> bool
 fn pair_or_none<K: Scalar, V: Scalar>(pair: Result<Option<(K, V)>, Refusal>) -> Option<(K, V)>
     ensures { result ≡ pair_of pair }
 {
-    match pair {
-        Ok(pair) => pair,
-        Err(_) => None,
-    }
+    pair.unwrap_or(None)
 }

@@ -139,16 +139,12 @@ impl<'a, T: Scalar, S: Storage> View<'a, Row<T, S>> {
         ensures copied { OnOk result (Answers (segment_of self.now) (λ d. take (length values.old) (S.elements d (key_of self.now) T.kind)) (map T.whole values.new)) }
         ensures unchanged { OnErr result (values.new ≡ values.old) }
     {
-        match S::len::<T>(self.segment, &self.object) {
-            Err(why) => Err(why),
-            Ok(len) => {
-                if len < values.len() as u64 {
-                    return Err(Refusal::OutOfRange);
-                }
-                copy_row::<T, S>(self.segment, &self.object, values);
-                Ok(())
-            }
+        let len = S::len::<T>(self.segment, &self.object)?;
+        if len < values.len() as u64 {
+            return Err(Refusal::OutOfRange);
         }
+        copy_row::<T, S>(self.segment, &self.object, values);
+        Ok(())
     }
 
     /// Makes a value the element at `index`. Of an array no other byte changes.

@@ -157,10 +157,7 @@ impl<'a, T: Scalar> View<'a, Row<T, Vector>> {
         ensures steps { StepsOn (key_of self.old) (VectorOf T.kind) (λ i z. Push (key_of self.old) (literal_of T.kind z)) (map T.whole values.now) (segment_of self.old) (segment_of self.new) result }
     {
         'values: for i in 0..values.len() {
-            match self.push(values[i]) {
-                Err(why) => return Err(why),
-                Ok(()) => {}
-            }
+            self.push(values[i])?;
         }
         Ok(())
     }

@@ -51,14 +51,12 @@ impl<'a, C: Content> View<'a, C> {
         ensures borrows { IfOk result (λ v. Borrows v segment.entry) }
         ensures segment { IfOk result (λ v. segment_of v ≡ segment.old) }
     {
-        match locate_of_kind(segment, key, C::kind()) {
-            Err(why) => Err(why),
-            Ok(object) => Ok(View {
-                segment,
-                object,
-                of: PhantomData,
-            }),
-        }
+        let object = locate_of_kind(segment, key, C::kind())?;
+        Ok(View {
+            segment,
+            object,
+            of: PhantomData,
+        })
     }
 }
 
@@ -72,13 +70,9 @@ fn locate_of_kind<O: Target>(segment: &Segment, key: &O, kind: Kind) -> Result<O
     ensures opens { Answers segment.now (λ d. opened_at d (O.key key.now) kind) (handle_of (λ o. o) result) }
     ensures here { IfOk result (λ o. IsObject o segment.now) }
 {
-    match locate(segment, key) {
-        Err(why) => Err(why),
-        Ok(object) => {
-            if kind.code() != object.kind.code() {
-                return Err(Refusal::WrongKind);
-            }
-            Ok(object)
-        }
+    let object = locate(segment, key)?;
+    if kind.code() != object.kind.code() {
+        return Err(Refusal::WrongKind);
     }
+    Ok(object)
 }

@@ -3,4 +3,4 @@ use Rattle.segment_dump.proofs.Starts.{InElements}
 use Rattle.segment_dump.proofs.filling.fill_elements.Given as goal
 
 abbrev pub invariant-elements : goal.invariant-elements
-invariant-elements l = InElements l.fn.segment l.segment l.handle l.kind l.fn.lines l.lines (length l.fn.room) l.index × (length l.room ≡ length l.fn.room)
+invariant-elements l = InElements l.fn.segment l.segment l.handle l.shape.kind l.fn.lines l.lines (length l.fn.room) l.index × (length l.room ≡ length l.fn.room)

@@ -4,31 +4,33 @@ use Rattle.seg_types.specs.Keys.{key_seen}
 use Rattle.segment_manager.proofs.CommandLaws.{assign-unchangeable, handle-to-change}
 use Rattle.segment_manager.proofs.Laws.{step-by_key}
 use Rattle.segment_scripts.proofs.ElementCalls.{assign-neither}
+use Rattle.segment_scripts.proofs.Exits.{exit-is}
 use Rattle.segment_scripts.proofs.changing.assign.Goals as goal
 
-pub returns-in-Err-clause-step : goal.returns-in-Err-clause-step
-returns-in-Err-clause-step c = assign-unchangeable c.in-Err.ensures _
+pub returns-in_err-object-clause-step : goal.returns-in_err-object-clause-step
+returns-in_err-object-clause-step c =
+    rw (exit-is c.from_residual.ensures.1) (assign-unchangeable c.in_err-object.ensures _)
 
 pub assign_vector-requires-clause-of_kind : goal.assign_vector-requires-clause-of_kind
-assign_vector-requires-clause-of_kind c = handle-to-change c.in-Ok.ensures c.in-Vector.is
+assign_vector-requires-clause-of_kind c = handle-to-change c.in_ok-object.ensures c.in-Vector.is
 
 pub assign_string-requires-clause-of_kind : goal.assign_string-requires-clause-of_kind
-assign_string-requires-clause-of_kind c = handle-to-change c.in-Ok.ensures c.in-Text.is
+assign_string-requires-clause-of_kind c = handle-to-change c.in_ok-object.ensures c.in-Text.is
 
 pub assign_texts-requires-clause-of_kind : goal.assign_texts-requires-clause-of_kind
-assign_texts-requires-clause-of_kind c = handle-to-change c.in-Ok.ensures c.in-Texts.is
+assign_texts-requires-clause-of_kind c = handle-to-change c.in_ok-object.ensures c.in-Texts.is
 
 pub returns-in-Vector-clause-step : goal.returns-in-Vector-clause-step
-returns-in-Vector-clause-step c = step-by_key _ _ _ c.in-Ok.ensures.located _ (Assign (key_seen c.args.key.now) _) _ c.assign_vector.ensures.step
+returns-in-Vector-clause-step c = step-by_key _ _ _ c.in_ok-object.ensures.located _ (Assign (key_seen c.args.key.now) _) _ c.assign_vector.ensures.step
 
 pub returns-in-Text-clause-step : goal.returns-in-Text-clause-step
-returns-in-Text-clause-step c = step-by_key _ _ _ c.in-Ok.ensures.located _ (Assign (key_seen c.args.key.now) _) _ c.assign_string.ensures.step
+returns-in-Text-clause-step c = step-by_key _ _ _ c.in_ok-object.ensures.located _ (Assign (key_seen c.args.key.now) _) _ c.assign_string.ensures.step
 
 pub returns-in-Texts-clause-step : goal.returns-in-Texts-clause-step
-returns-in-Texts-clause-step c = step-by_key _ _ _ c.in-Ok.ensures.located _ (Assign (key_seen c.args.key.now) _) _ c.assign_texts.ensures.step
+returns-in-Texts-clause-step c = step-by_key _ _ _ c.in_ok-object.ensures.located _ (Assign (key_seen c.args.key.now) _) _ c.assign_texts.ensures.step
 
 pub returns-in_default : goal.returns-in_default
 returns-in_default c = record {
-  step = assign-neither c.in-Ok.ensures c.in_default.not-Vector c.in_default.not-Texts c.in_default.not-Text _;
+  step = assign-neither c.in_ok-object.ensures c.in_default.not-Vector c.in_default.not-Texts c.in_default.not-Text _;
   refused = λ _. refl;
 }

@@ -4,15 +4,17 @@ use Rattle.seg_types.specs.Commands.{Assign, literal_of}
 use Rattle.seg_types.specs.Names.{ByHandle}
 use Rattle.segment_manager.specs.State.{IsStepOfKind, done_answer}
 use Rattle.segment_scripts.proofs.ElementCalls.{assign-no_values, assign-read}
+use Rattle.segment_scripts.proofs.Exits.{exit-is}
 use Rattle.segment_scripts.proofs.changing.assign_row.Goals as goal
 
-pub returns-in-Err-clause-step : goal.returns-in-Err-clause-step
-returns-in-Err-clause-step g c = assign-no_values c.requires.of_kind _ c.in-Err.ensures
+pub returns-in_err-literal_row-clause-step : goal.returns-in_err-literal_row-clause-step
+returns-in_err-literal_row-clause-step g c =
+    rw (exit-is c.from_residual.ensures.1) (assign-no_values c.requires.of_kind _ c.in_err-literal_row.ensures)
 
-pub returns-in-Ok-clause-step : goal.returns-in-Ok-clause-step
-returns-in-Ok-clause-step g c =
+pub returns-clause-step : goal.returns-clause-step
+returns-clause-step g c =
     let k = g.T.Scalar.kind in
-    let s = c.in-Ok.ensures in
+    let s = c.in_ok-literal_row.ensures in
     let key = ByHandle c.args.object.handle in
     assign-read c.requires.of_kind _ (map g.T.Scalar.whole c.literal_row.new.row) s.0 s.1
     (subst (λ row. IsStepOfKind c.args.segment.now c.vec_assign.new.self key (Vector k) (Assign key (map (literal_of k) (map g.T.Scalar.whole row))) (done_answer c.vec_assign.result))

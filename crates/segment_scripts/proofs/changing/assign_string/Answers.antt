@@ -1,8 +1,10 @@
 use Rattle.segment_scripts.proofs.ElementCalls.{no_text-refused, text-read}
+use Rattle.segment_scripts.proofs.Exits.{exit-is}
 use Rattle.segment_scripts.proofs.changing.assign_string.Goals as goal
 
-pub returns-in-Err-clause-step : goal.returns-in-Err-clause-step
-returns-in-Err-clause-step c = no_text-refused c.requires.of_kind _ c.in-Err.ensures
+pub returns-in_err-text-clause-step : goal.returns-in_err-text-clause-step
+returns-in_err-text-clause-step c =
+    rw (exit-is c.from_residual.ensures.1) (no_text-refused c.requires.of_kind _ c.in_err-text.ensures)
 
-pub returns-in-Ok-clause-step : goal.returns-in-Ok-clause-step
-returns-in-Ok-clause-step c = text-read c.requires.of_kind _ c.in-Ok.text.now c.in-Ok.ensures c.string_assign.ensures.step
+pub returns-clause-step : goal.returns-clause-step
+returns-clause-step c = text-read c.requires.of_kind _ c.in_ok-text.text.now c.in_ok-text.ensures c.string_assign.ensures.step

@@ -3,16 +3,18 @@ use Rattle.seg_types.specs.Commands.{Erase}
 use Rattle.seg_types.specs.Keys.{key_seen}
 use Rattle.segment_manager.proofs.CommandLaws.{erase-no_vector, erase-unchangeable}
 use Rattle.segment_manager.proofs.Laws.{located-steps}
+use Rattle.segment_scripts.proofs.Exits.{exit-is}
 use Rattle.segment_scripts.proofs.changing.erase.Goals as goal
 
-pub returns-in-Err-clause-step : goal.returns-in-Err-clause-step
-returns-in-Err-clause-step c = erase-unchangeable c.in-Err.ensures _
+pub returns-in_err-object-clause-step : goal.returns-in_err-object-clause-step
+returns-in_err-object-clause-step c =
+    rw (exit-is c.from_residual.ensures.1) (erase-unchangeable c.in_err-object.ensures _)
 
 pub returns-in-Vector-clause-step : goal.returns-in-Vector-clause-step
-returns-in-Vector-clause-step c = located-steps _ _ _ c.in-Ok.ensures.located _ _ (Erase (key_seen c.args.key.now) _) _ c.in-Vector.is c.erase_element.ensures.step
+returns-in-Vector-clause-step c = located-steps _ _ _ c.in_ok-object.ensures.located _ _ (Erase (key_seen c.args.key.now) _) _ c.in-Vector.is c.erase_element.ensures.step
 
 pub returns-in-Texts-clause-step : goal.returns-in-Texts-clause-step
-returns-in-Texts-clause-step c = located-steps _ _ _ c.in-Ok.ensures.located _ _ (Erase (key_seen c.args.key.now) _) _ c.in-Texts.is c.texts_erase.ensures.step
+returns-in-Texts-clause-step c = located-steps _ _ _ c.in_ok-object.ensures.located _ _ (Erase (key_seen c.args.key.now) _) _ c.in-Texts.is c.texts_erase.ensures.step
 
 pub returns-in_default : goal.returns-in_default
-returns-in_default c = record { step = erase-no_vector c.in-Ok.ensures c.in_default.not-Vector c.in_default.not-Texts _; refused = refl }
+returns-in_default c = record { step = erase-no_vector c.in_ok-object.ensures c.in_default.not-Vector c.in_default.not-Texts _; refused = refl }

@@ -1,15 +1,17 @@
 -- The kind of the object says which keys it has.
 use Rattle.segment_manager.proofs.CommandLaws.{lookup-no_map, lookup-no_value, lookup-nowhere, looks-up-key}
+use Rattle.segment_scripts.proofs.Exits.{exit-is}
 use Rattle.segment_scripts.proofs.pairs.lookup.Goals as goal
 
-pub returns-in-Err : goal.returns-in-Err
-returns-in-Err c = lookup-nowhere _ c.in-Err.ensures
+pub returns-in_err-object : goal.returns-in_err-object
+returns-in_err-object c = rw (exit-is c.from_residual.ensures.1) (lookup-nowhere _ c.in_err-object.ensures)
 
-pub returns-in-Err-value_of : goal.returns-in-Err-value_of
-returns-in-Err-value_of c = lookup-no_value c.in-Ok.ensures c.in-Map.is _ c.in-Err-value_of.ensures
+pub returns-in_err-wanted-in-Map : goal.returns-in_err-wanted-in-Map
+returns-in_err-wanted-in-Map c = rw (exit-is c.from_residual-in_err-wanted-in-Map.ensures.1)
+    (lookup-no_value c.in_ok-object.ensures c.in-Map.is _ c.in_err-wanted-in-Map.ensures)
 
-pub returns-in-Ok-value_of : goal.returns-in-Ok-value_of
-returns-in-Ok-value_of c = looks-up-key c.in-Ok.ensures c.in-Map.is _ c.in-Ok-value_of.wanted c.in-Ok-value_of.ensures c.map_get_any.ensures
+pub returns-in_ok-wanted-in-Map : goal.returns-in_ok-wanted-in-Map
+returns-in_ok-wanted-in-Map c = looks-up-key c.in_ok-object.ensures c.in-Map.is _ c.in_ok-wanted-in-Map.wanted c.in_ok-wanted-in-Map.ensures c.map_get_any.ensures
 
 pub returns-in_default : goal.returns-in_default
-returns-in_default c = lookup-no_map c.in-Ok.ensures c.in_default.not-Map _
+returns-in_default c = lookup-no_map c.in_ok-object.ensures c.in_default.not-Map _

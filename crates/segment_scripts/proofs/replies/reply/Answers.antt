@@ -24,10 +24,10 @@ pub returns-in-FindOrConstruct : goal.returns-in-FindOrConstruct
 returns-in-FindOrConstruct c = replies-command c.in-FindOrConstruct.is pair_found (λ _. refl) c.find_or_construct.result refl refl c.found.ensures c.find_or_construct.ensures.step c.find_or_construct.ensures.refused
 
 pub returns-in-Destroy : goal.returns-in-Destroy
-returns-in-Destroy c = replies-command c.in-Destroy.is Truth (λ _. refl) c.destroy.result refl refl c.truth.ensures c.destroy.ensures.step (keeps-refused c.args.segment.now c.destroy.new.segment c.destroy.result c.destroy.ensures.refused)
+returns-in-Destroy c = replies-command c.in-Destroy.is Truth (λ _. refl) c.destroy.result refl refl c.truth.ensures c.destroy.ensures.step (keeps-refused c.args.segment.now c.destroy.new.self c.destroy.result c.destroy.ensures.refused)
 
 pub returns-in-DestroyPtr : goal.returns-in-DestroyPtr
-returns-in-DestroyPtr c = replies-command c.in-DestroyPtr.is (λ _. Truth true) (λ _. refl) c.destroy_ptr.result refl refl c.gone.ensures c.destroy_ptr.ensures.step (keeps-refused c.args.segment.now c.destroy_ptr.new.segment c.destroy_ptr.result c.destroy_ptr.ensures.refused)
+returns-in-DestroyPtr c = replies-command c.in-DestroyPtr.is (λ _. Truth true) (λ _. refl) c.destroy_ptr.result refl refl c.gone.ensures c.destroy_ptr.ensures.step (keeps-refused c.args.segment.now c.destroy_ptr.new.self c.destroy_ptr.result c.destroy_ptr.ensures.refused)
 
 pub returns-in-Show : goal.returns-in-Show
 returns-in-Show c = replies-as c.in-Show.is (replies-show c.args.segment.now c.in-Show.key)

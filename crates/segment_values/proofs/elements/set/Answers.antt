@@ -4,25 +4,29 @@ use Rattle.segment_manager.proofs.Laws.{step-by_key}
 use Rattle.seg_types.specs.Commands.{Set}
 use Rattle.seg_types.specs.Keys.{key_seen}
 use Rattle.segment_values.proofs.NoTexts.{seen-no_text}
+use Rattle.segment_values.proofs.Exits.{exit-is}
 use Rattle.segment_values.proofs.elements.set.Goals as goal
 
-pub returns-in-Err-clause-step : goal.returns-in-Err-clause-step
-returns-in-Err-clause-step c = set-unchangeable c.in-Err.ensures _ _
+pub returns-in_err-object-clause-step : goal.returns-in_err-object-clause-step
+returns-in_err-object-clause-step c =
+    rw (exit-is c.from_residual.ensures.1) (set-unchangeable c.in_err-object.ensures _ _)
 
 pub set_scalar-requires-in-Scalar-clause-elements : goal.set_scalar-requires-in-Scalar-clause-elements
-set_scalar-requires-in-Scalar-clause-elements c = elements-either (handle-to-change c.in-Ok.ensures refl) c.in-Scalar.is
+set_scalar-requires-in-Scalar-clause-elements c =
+    elements-either (handle-to-change c.in_ok-object.ensures refl) c.in-Scalar.is
 
 pub set_scalar-requires-clause-elements : goal.set_scalar-requires-clause-elements
-set_scalar-requires-clause-elements c = elements-told (handle-to-change c.in-Ok.ensures c.in-Text.is) refl
+set_scalar-requires-clause-elements c = elements-told (handle-to-change c.in_ok-object.ensures c.in-Text.is) refl
 
 pub returns-in-Map-clause-step : goal.returns-in-Map-clause-step
-returns-in-Map-clause-step c = set-map _ _ (to-change c.in-Ok.ensures c.in-Map.is)
+returns-in-Map-clause-step c = set-map _ _ (to-change c.in_ok-object.ensures c.in-Map.is)
 
 pub returns-in-Scalar-clause-step : goal.returns-in-Scalar-clause-step
-returns-in-Scalar-clause-step c = step-by_key _ _ _ c.in-Ok.ensures.located _ (Set (key_seen c.args.key.now) _ _) _ c.set_scalar-in-Scalar.ensures.step
+returns-in-Scalar-clause-step c = step-by_key _ _ _ c.in_ok-object.ensures.located _ (Set (key_seen c.args.key.now) _ _) _ c.set_scalar-in-Scalar.ensures.step
 
 pub returns-in-Text-clause-step : goal.returns-in-Text-clause-step
-returns-in-Text-clause-step c = step-by_key _ _ _ c.in-Ok.ensures.located _ (Set (key_seen c.args.key.now) _ _) _ c.set_scalar.ensures.step
+returns-in-Text-clause-step c = step-by_key _ _ _ c.in_ok-object.ensures.located _ (Set (key_seen c.args.key.now) _ _) _ c.set_scalar.ensures.step
 
 pub returns-in-Texts-clause-step : goal.returns-in-Texts-clause-step
-returns-in-Texts-clause-step c = set-no_text (to-change c.in-Ok.ensures c.in-Texts.is) (seen-no_text c.args.value) _
+returns-in-Texts-clause-step c =
+    set-no_text (to-change c.in_ok-object.ensures c.in-Texts.is) (seen-no_text c.args.value) _

@@ -7,9 +7,10 @@ use Rattle.segment_values.proofs.RangeReads.{reads-by_key}
 use Rattle.segment_values.proofs.reads.read_elements.Goals as goal
 
 pub read_object-requires : goal.read_object-requires
-read_object-requires g c = located-here c.args.segment.now (key_seen c.args.key.now) c.in-Ok.object c.in-Ok.ensures
+read_object-requires g c =
+    located-here c.args.segment.now (key_seen c.args.key.now) c.in_ok-object.object c.in_ok-object.ensures
 
-pub returns-in-Ok-clause-read : goal.returns-in-Ok-clause-read
-returns-in-Ok-clause-read g c =
-    reads-by_key c.args.segment.now (key_seen c.args.key.now) c.in-Ok.object c.in-Ok.ensures g.T.Scalar.kind c.args.first (length c.args.row.now) (read_into g.T.Scalar.whole c.read_object.new.row c.read_object.result)
+pub returns-clause-read : goal.returns-clause-read
+returns-clause-read g c =
+    reads-by_key c.args.segment.now (key_seen c.args.key.now) c.in_ok-object.object c.in_ok-object.ensures g.T.Scalar.kind c.args.first (length c.args.row.now) (read_into g.T.Scalar.whole c.read_object.new.row c.read_object.result)
     c.read_object.ensures.read

@@ -1,8 +1,10 @@
 use Rattle.segment_manager.proofs.CommandLaws.{insert-element}
+use Rattle.segment_values.proofs.Exits.{exit-is}
 use Rattle.segment_values.proofs.vectors.insert.Goals as goal
 
-pub returns-in-Err-clause-step : goal.returns-in-Err-clause-step
-returns-in-Err-clause-step c = c.in-Err.ensures.insert c.args.index
+pub returns-in_err-object-clause-step : goal.returns-in_err-object-clause-step
+returns-in_err-object-clause-step c =
+    rw (exit-is c.from_residual.ensures.1) (c.in_err-object.ensures.insert c.args.index)
 
-pub returns-in-Ok-clause-step : goal.returns-in-Ok-clause-step
-returns-in-Ok-clause-step c = insert-element c.in-Ok.ensures.0 c.in-Ok.ensures.1 c.args.index c.insert_value.ensures.step
+pub returns-clause-step : goal.returns-clause-step
+returns-clause-step c = insert-element c.in_ok-object.ensures.0 c.in_ok-object.ensures.1 c.args.index c.insert_value.ensures.step

@@ -7,9 +7,9 @@ use Rattle.segment_values.proofs.RangeWrites.{writes-by_key}
 use Rattle.segment_values.proofs.writes.write_elements.Goals as goal
 
 pub write_object-requires-clause-object : goal.write_object-requires-clause-object
-write_object-requires-clause-object g c = located-here c.args.segment.now (key_seen c.args.key.now) c.in-Ok.object c.in-Ok.ensures
+write_object-requires-clause-object g c = located-here c.args.segment.now (key_seen c.args.key.now) c.in_ok-object.object c.in_ok-object.ensures
 
-pub returns-in-Ok-clause-step : goal.returns-in-Ok-clause-step
-returns-in-Ok-clause-step g c =
-    writes-by_key c.args.segment.now c.write_object.new.segment (key_seen c.args.key.now) c.in-Ok.object c.in-Ok.ensures g.T.Scalar.kind c.args.first (map g.T.Scalar.whole c.args.row.now) (done_answer c.write_object.result)
+pub returns-clause-step : goal.returns-clause-step
+returns-clause-step g c =
+    writes-by_key c.args.segment.now c.write_object.new.segment (key_seen c.args.key.now) c.in_ok-object.object c.in_ok-object.ensures g.T.Scalar.kind c.args.first (map g.T.Scalar.whole c.args.row.now) (done_answer c.write_object.result)
     c.write_object.ensures.step

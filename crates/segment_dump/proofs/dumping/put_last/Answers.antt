@@ -1,9 +1,0 @@
-use Rattle.segment_dump.proofs.Common.{refl, end_text}
-use Rattle.segment_dump.proofs.Owed.{of-cut, of-one, of-then}
-use Rattle.segment_dump.proofs.dumping.put_last.Goals as goal
-
-pub returns-in_err-put_anonymous : goal.returns-in_err-put_anonymous
-returns-in_err-put_anonymous g c = of-cut (λ d. end_text) c.from_residual.ensures.0 c.in_err-put_anonymous.ensures
-
-pub returns : goal.returns
-returns g c = of-then c.in_ok-put_anonymous.ensures (of-one {owed = λ d. end_text} c.put_pieces.ensures (λ d st. refl))

@@ -1,7 +1,7 @@
 -- The head of the object at the handle says its kind and its count.
 use Rattle.segment_manager.proofs.Common.{subst, IsLocated}
 use Rattle.segment_manager.specs.declared.targets.Object.{Object}
-use Rattle.segment_manager.proofs.{Here.seen-handle, Here.seen-object, Locating.locates, KeyCalls.key-missing}
+use Rattle.segment_manager.proofs.{Here.seen-handle, Here.seen-object, Locating.locates}
 use Rattle.segment_manager.proofs.targets.locate.Goals as goal
 
 pub read_head-head-requires : goal.read_head-head-requires

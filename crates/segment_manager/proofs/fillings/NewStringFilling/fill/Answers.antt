@@ -1,5 +1,4 @@
 -- The string is made without a byte, and then the bytes are put there.
-use Rattle.segment_manager.proofs.Common.{subst, sym, [], no_table, IsSomeText}
 use Rattle.segment_manager.proofs.NewContainers.{string-made}
 use Rattle.segment_manager.proofs.fillings.NewStringFilling.fill.Goals as goal
 

@@ -1,5 +1,5 @@
 -- The vector is made without a value, and then the values are put there.
-use Rattle.segment_manager.proofs.{NewContainers.some-started, NewContainers.vector-made, ScalarTypes.of-vector}
+use Rattle.segment_manager.proofs.{NewContainers.vector-made, ScalarTypes.of-vector}
 use Rattle.segment_manager.proofs.fillings.NewVectorFilling.fill.Goals as goal
 
 pub returns : goal.returns

@@ -5,8 +5,7 @@ ghost use Rattle.std.specs.{Cmp.Lexicographic.slice_cmp, Ordering.nat_cmp};
 ghost use Rattle.raw_region.specs.{Memory.bytes_of, Format.current};
 ghost use Rattle.best_fit.specs.Heap.{IsHeap, has_room, live_of};
 ghost use Rattle.seg_index.specs.Beginnings.{AreBytes, front as front_of_bytes, key_front};
-ghost use Rattle.seg_index.specs.Comparing.{HasEntry, order_at};
-ghost use Rattle.seg_index.specs.Keys.{name_at, name_len_at};
+ghost use Rattle.seg_index.specs.{Comparing.HasEntry, Comparing.order_at, Keys.name_at, Keys.name_len_at};
 ghost use Rattle.seg_index.specs.Lookups.{HasKey, order};
 
 use crate::keys::Key;

@@ -1,7 +1,6 @@
 //! The elements of a container at a place: read, written over, left out, and put in where there is a place.
 ghost use Rattle.std.specs.Prelude.{◌≡◌, ◌+◌, ◌*◌, ◌<◌, ◌≤◌, length, true};
-ghost use Rattle.seg_vector.specs.Elements.{Erases, Extends, HasSpot, PutsAt, ReadsAll};
-ghost use Rattle.seg_vector.specs.Elements.{ReadsOne, Truncates};
+ghost use Rattle.seg_vector.specs.Elements.{Erases, Extends, HasSpot, PutsAt, ReadsAll, ReadsOne, Truncates};
 ghost use Rattle.seg_vector.specs.Standing.{IsStanding, capacity_at, len_at};
 
 use crate::places::{LEN, Place, len_of, link_of};

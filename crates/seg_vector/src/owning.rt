@@ -3,9 +3,8 @@
 ghost use Rattle.std.specs.Prelude.{◌*◌, ◌<◌, IsTrue, List, [], length, map, option_to_list};
 ghost use Rattle.raw_region.specs.Format.{current};
 ghost use Rattle.best_fit.specs.Heap.{IsHeap, has_room, live_of};
-ghost use Rattle.seg_vector.specs.{TextLists.LaysOut, TextLists.LaysTexts, Vector.OwnedText};
 ghost use Rattle.seg_vector.specs.TextParts.{AreHeldElements, IsHeldElement, IsSwapped, PlacesText, TakesStorage};
-ghost use Rattle.seg_vector.specs.TextsCalls.{text_blocks};
+ghost use Rattle.seg_vector.specs.{TextLists.LaysOut, TextLists.LaysTexts, TextsCalls.text_blocks, Vector.OwnedText};
 
 use crate::places::ELEMENT;
 use crate::sizing::LIMIT;

@@ -2,11 +2,10 @@
 ghost use Rattle.std.specs.Prelude.{◌≡◌, ◌+◌, ◌%◌, None, IsTrue, length, map};
 ghost use Rattle.raw_region.specs.Format.{current};
 ghost use Rattle.best_fit.specs.Heap.{IsChanged, IsHeap, has_room, live_of};
-ghost use Rattle.seg_vector.specs.Standing.{place_at};
-ghost use Rattle.seg_vector.specs.TextsCalls.{AssignsTexts, ClearsTexts, CountsTextPlaces, CountsTexts, ErasesText};
 ghost use Rattle.seg_vector.specs.TextsCalls.{GetsText, InsertsText, IsSomeTexts, PopsText, PushesText, ReleasesTexts};
+ghost use Rattle.seg_vector.specs.TextsCalls.{AssignsTexts, ClearsTexts, CountsTextPlaces, CountsTexts, ErasesText};
 ghost use Rattle.seg_vector.specs.TextsCalls.{ReservesNoTexts, ReservesTexts, SetsText, ShrinksTexts, StartsTexts};
-ghost use Rattle.seg_vector.specs.TextsCalls.{StaysAtFirst, new_array};
+ghost use Rattle.seg_vector.specs.{TextsCalls.StaysAtFirst, TextsCalls.new_array, Standing.place_at};
 
 use crate::owning::{lay_out, place_text, release_text, release_texts};
 use crate::places::{ELEMENT, LEN, Place, capacity_of, len_of, link_of};

@@ -1,5 +1,6 @@
 -- The segment that a session begins with, or why it has none, from what the call that was to make or open it answered.
-use Rattle.std.proofs.Common.{◌≡◌, ℕ, List, length, false, true, IsTrue, Result, Ok, Err, refl, sym, ap, subst, ◌∙◌, arith}
+use Rattle.std.proofs.Common.{◌≡◌, ℕ, List, length, false, true, IsTrue, Result, Ok, Err, refl, sym, ap, subst, ◌∙◌}
+use Rattle.std.proofs.Common.{arith}
 use Rattle.raw_region.specs.Device.{Given}
 use Rattle.raw_region.specs.Format.{current}
 use Rattle.block_tags.specs.Format.{is_legal_size}
@@ -11,7 +12,8 @@ use Rattle.segment_manager.specs.State.{State, StandsFor}
 use Rattle.segment_manager.specs.Calls.{Creates, IsCreated, IsWhy}
 use Rattle.segment_manager.specs.declared.errors.CreateRefused.{CreateRefused}
 use Rattle.image_check.specs.declared.errors.OpenError.{OpenError}
-use Rattle.image_check.specs.declared.errors.OpenError.TheVariants.{Image as NoImage, RegionTooSmall as NoRoomForImage, OutOfMemory as NoMemory, ReadFault as NotRead}
+use Rattle.image_check.specs.declared.errors.OpenError.TheVariants.{Image as NoImage, RegionTooSmall as NoRoomForImage}
+use Rattle.image_check.specs.declared.errors.OpenError.TheVariants.{OutOfMemory as NoMemory, ReadFault as NotRead}
 use Rattle.image_check.specs.declared.errors.OpenRefused.{OpenRefused}
 use Rattle.image_check.specs.Opening.{IsOpened, IsWhyNot, IsTooSmallFor, Opens}
 use Rattle.segment_cli.specs.declared.faults.Start.TheVariants.{Fresh, Image}
@@ -93,7 +95,8 @@ opened region base mode image s h small =
       too_small = λ p. absurd (small p);
     }
 
-why_not_begun : (image : Given) (base capacity : ℕ) (cause : OpenError) → IsWhyNot current image base capacity cause → IsWhyNotBegun Image image base capacity (opened_fault cause)
+why_not_begun : (image : Given) (base capacity : ℕ) (cause : OpenError) → IsWhyNot current image base capacity cause
+    → IsWhyNotBegun Image image base capacity (opened_fault cause)
 why_not_begun image base capacity (NoImage c) why = (refl, why)
 why_not_begun image base capacity NoRoomForImage why = why
 why_not_begun image base capacity NoMemory why = (refl, why)

@@ -1,5 +1,6 @@
 -- Each end of a session is one that it may have.
-use Rattle.std.proofs.Common.{◌≡◌, ℕ, false, true, inl, inr, List, [], ◌++◌, length, take, drop, Result, Ok, Err, MatchResult, refl, sym, ap, subst, ◌∙◌, arith}
+use Rattle.std.proofs.Common.{◌≡◌, ℕ, false, true, inl, inr, List, [], ◌++◌, length, take, drop, Result, Ok, Err}
+use Rattle.std.proofs.Common.{MatchResult, refl, sym, ap, subst, ◌∙◌, arith}
 use Rattle.std.proofs.lemmas.List.{take-append-drop, length-drop, drop_all}
 use Rattle.raw_region.specs.Answers.{AddsFront}
 use Rattle.raw_region.specs.Device.{Gave, Given, Took, Taken, IsProperPrefix, given_since, taken_since}
@@ -14,17 +15,23 @@ use Rattle.segment_lang.specs.Language.{whole}
 use Rattle.segment_cli.specs.declared.faults.Start.{Start}
 use Rattle.segment_cli.specs.declared.faults.Start.TheVariants.{Image}
 use Rattle.segment_scripts.specs.declared.faults.RunFault.{RunFault}
-use Rattle.segment_scripts.specs.declared.faults.RunFault.TheVariants.{ReadFault as ScriptNotRead, WriteFault as AnswerNotWritten, ScriptTooLong as TooLong}
+use Rattle.segment_scripts.specs.declared.faults.RunFault.TheVariants.{ReadFault as ScriptNotRead}
+use Rattle.segment_scripts.specs.declared.faults.RunFault.TheVariants.{WriteFault as AnswerNotWritten}
+use Rattle.segment_scripts.specs.declared.faults.RunFault.TheVariants.{ScriptTooLong as TooLong}
 use Rattle.segment_cli.specs.declared.faults.SessionFault.{SessionFault}
-use Rattle.segment_cli.specs.declared.faults.SessionFault.TheVariants.{Image as Refused, BadSize, RegionTooSmall, OutOfMemory, ReadFault, WriteFault, ScriptTooLong}
+use Rattle.segment_cli.specs.declared.faults.SessionFault.TheVariants.{Image as Refused, BadSize, RegionTooSmall}
+use Rattle.segment_cli.specs.declared.faults.SessionFault.TheVariants.{OutOfMemory, ReadFault, WriteFault}
+use Rattle.segment_cli.specs.declared.faults.SessionFault.TheVariants.{ScriptTooLong}
 use Rattle.segment_scripts.specs.Run.{run}
-use Rattle.segment_cli.specs.Session.{Traffic, KeepsZeros, Saves, IsSizeRefused, IsTooSmall, IsDone, IsImageUnwritten, IsRefusedBefore, AnswersFault, IsSession}
+use Rattle.segment_cli.specs.Session.{Traffic, KeepsZeros, Saves, IsSizeRefused, IsTooSmall, IsDone, IsImageUnwritten}
+use Rattle.segment_cli.specs.Session.{IsRefusedBefore, AnswersFault, IsSession}
 use Rattle.segment_cli.specs.Beginning.{Starts, IsBegun, IsWhyNotBegun, run_fault}
 use Rattle.segment_scripts.specs.Leaves.{Leaves, LeavesFault, RunsWhole}
 use Rattle.segment_scripts.specs.Segments.{Place, IsAt, answer_line}
 use Rattle.segment_scripts.proofs.Laws.{none_failed}
 use Rattle.segment_cli.proofs.Gaps.{zeros_saved}
-use Rattle.segment_cli.proofs.SessionLaws.{place, stands_done, prints_done, done, script_unread, answer_unwritten, script_too_long}
+use Rattle.segment_cli.proofs.SessionLaws.{place, stands_done, prints_done, done, script_unread, answer_unwritten}
+use Rattle.segment_cli.proofs.SessionLaws.{script_too_long}
 
 -- a writer was not asked
 pub record IsUnwritten (t : Taken) : Type 0 where
@@ -32,22 +39,35 @@ pub record IsUnwritten (t : Taken) : Type 0 where
   pub failed : t.failed ≡ false
 
 pub not_asked : (gave : Gave) → IsUntouched (given_since gave gave)
-not_asked gave = record { bytes = drop_all (length gave.bytes) gave.bytes (omega arith); failed = none_failed gave.failures gave.failures refl }
+not_asked gave = record {
+  bytes = drop_all (length gave.bytes) gave.bytes
+      (omega arith);
+  failed = none_failed gave.failures gave.failures refl;
+}
 
 pub not_written : (took : Took) → IsUnwritten (taken_since took took)
-not_written took = record { bytes = drop_all (length took.bytes) took.bytes (omega arith); failed = none_failed took.failures took.failures refl }
+not_written took = record {
+  bytes = drop_all (length took.bytes) took.bytes
+      (omega arith);
+  failed = none_failed took.failures took.failures refl;
+}
 
 -- a front of the image was added
 pub front_added : (old new image : List ℕ) → AddsFront old new image → IsProperPrefix (drop (length old) new) image
 front_added old new image h =
-    let parts : image ≡ take h.count image ++ drop h.count image = sym (take-append-drop h.count image) in
-    (drop h.count image, rw (added old new (take h.count image) h.added) parts, let more = length-drop h.count image in omega (arith, h.fewer))
+    let parts : image ≡ take h.count image ++ drop h.count image = sym (take-append-drop h.count image) in (
+      drop h.count image,
+      rw (added old new (take h.count image) h.added) parts,
+      let more = length-drop h.count image in
+          omega (arith, h.fewer),
+    )
 
 -- a segment with which a session begins stands at its directory; nothing need be known of its gaps
 abbrev pub first : Mode → Directory → Place
 first mode d = place mode d false
 
-pub at_first : (mode : Mode) (d : Directory) (s : State) → s.mode ≡ mode → StandsFor s.cut.bytes d → IsAt s (first mode d)
+pub at_first : (mode : Mode) (d : Directory) (s : State) → s.mode ≡ mode → StandsFor s.cut.bytes d
+    → IsAt s (first mode d)
 at_first mode d s is stands = record { mode = is; denotes = stands; zeros = λ e. absurd (cc) }
 
 -- what a run leaves, by what it answered
@@ -81,7 +101,8 @@ no_fault s b e = cc
 module _ (start : Start) (mode : Mode) (base capacity : ℕ) (t : Traffic) where
   -- ---- no segment
 
-  refused_before : (cause : Type 0) → cause → IsUntouched t.script → IsUnwritten t.out → IsUnwritten t.saved → IsRefusedBefore t cause
+  refused_before : (cause : Type 0) → cause → IsUntouched t.script → IsUnwritten t.out → IsUnwritten t.saved
+      → IsRefusedBefore t cause
   refused_before cause why script out saved = record {
     why = why;
     silent = record { prints = out.bytes; saves = saved.bytes };
@@ -89,11 +110,15 @@ module _ (start : Start) (mode : Mode) (base capacity : ℕ) (t : Traffic) where
     failed = rw (script.failed, out.failed, saved.failed) refl;
   }
 
-  not_begun : (fault : SessionFault) → IsWhyNotBegun start t.image base capacity fault → IsUntouched t.script → IsUnwritten t.out → IsUnwritten t.saved → AnswersFault start mode base capacity t fault
-  not_begun (Refused c) why script out saved = refused_before ((start ≡ Image) × IsRefusedAs current t.image c) why script out saved
+  not_begun : (fault : SessionFault) → IsWhyNotBegun start t.image base capacity fault → IsUntouched t.script
+      → IsUnwritten t.out → IsUnwritten t.saved → AnswersFault start mode base capacity t fault
+  not_begun (Refused c) why script out saved = refused_before
+      ((start ≡ Image) × IsRefusedAs current t.image c) why script out saved
   not_begun BadSize why script out saved = refused_before (IsSizeRefused start) why script out saved
-  not_begun RegionTooSmall why script out saved = refused_before (IsTooSmall start t.image base capacity) why script out saved
-  not_begun OutOfMemory why script out saved = refused_before ((start ≡ Image) × IsOutOfMemory current t.image) why script out saved
+  not_begun RegionTooSmall why script out saved = refused_before
+      (IsTooSmall start t.image base capacity) why script out saved
+  not_begun OutOfMemory why script out saved = refused_before
+      ((start ≡ Image) × IsOutOfMemory current t.image) why script out saved
   not_begun ReadFault why script out saved = inl (record {
     image = why.0;
     undecided = why.1;
@@ -104,7 +129,9 @@ module _ (start : Start) (mode : Mode) (base capacity : ℕ) (t : Traffic) where
   not_begun WriteFault why script out saved = absurd why
   not_begun ScriptTooLong why script out saved = absurd why
 
-  pub unbegun_session : (fault : SessionFault) → Starts start mode base capacity t.image (Err fault) → IsUntouched t.script → IsUnwritten t.out → IsUnwritten t.saved → IsSession start mode base capacity t (Err fault)
+  pub unbegun_session : (fault : SessionFault) → Starts start mode base capacity t.image (Err fault)
+      → IsUntouched t.script → IsUnwritten t.out → IsUnwritten t.saved
+      → IsSession start mode base capacity t (Err fault)
   unbegun_session fault h script out saved = record {
     answers = not_begun fault h.answers script out saved;
     left = h.left;
@@ -114,7 +141,9 @@ module _ (start : Start) (mode : Mode) (base capacity : ℕ) (t : Traffic) where
 
   -- ---- a segment was made or opened
 
-  begun_session : (s : State) (result : Result (Unit {0}) SessionFault) → Starts start mode base capacity t.image (Ok s) → MatchResult result (λ u. IsDone start mode t) (AnswersFault start mode base capacity t) → IsSession start mode base capacity t result
+  begun_session : (s : State) (result : Result (Unit {0}) SessionFault) → Starts start mode base capacity t.image (Ok s)
+      → MatchResult result (λ u. IsDone start mode t) (AnswersFault start mode base capacity t)
+      → IsSession start mode base capacity t result
   begun_session s result h answers = record {
     answers = answers;
     left = h.left;
@@ -125,22 +154,29 @@ module _ (start : Start) (mode : Mode) (base capacity : ℕ) (t : Traffic) where
   stopped : (s s' : State) (fault : RunFault) → IsBegun start mode t.image s
       → ((at : Place) → IsAt s at → LeavesFault answer_line at t.script t.out fault (IsAt s'))
       → IsUnwritten t.saved → AnswersFault start mode base capacity t (run_fault fault)
-  stopped s s' ScriptNotRead b leaves saved = inr (script_unread start mode t b.from false b.begins (IsAt s') b.read saved.failed (leaves (first mode b.from) (at_first mode b.from s b.mode b.stands)) saved.bytes)
-  stopped s s' AnswerNotWritten b leaves saved = inl (answer_unwritten start mode t b.from false b.begins (IsAt s') b.read saved.failed (leaves (first mode b.from) (at_first mode b.from s b.mode b.stands)) saved.bytes)
-  stopped s s' TooLong b leaves saved = script_too_long start mode t b.from false b.begins (IsAt s') b.read saved.failed (leaves (first mode b.from) (at_first mode b.from s b.mode b.stands)) saved.bytes
+  stopped s s' ScriptNotRead b leaves saved = inr
+      (script_unread start mode t b.from false b.begins (IsAt s') b.read saved.failed
+      (leaves (first mode b.from) (at_first mode b.from s b.mode b.stands)) saved.bytes)
+  stopped s s' AnswerNotWritten b leaves saved = inl
+      (answer_unwritten start mode t b.from false b.begins (IsAt s') b.read saved.failed
+      (leaves (first mode b.from) (at_first mode b.from s b.mode b.stands)) saved.bytes)
+  stopped s s' TooLong b leaves saved = script_too_long start mode t b.from false b.begins (IsAt s') b.read saved.failed
+      (leaves (first mode b.from) (at_first mode b.from s b.mode b.stands)) saved.bytes
 
   -- the script was not run to its end
   pub stopped_session : (s s' : State) (fault : RunFault) → Starts start mode base capacity t.image (Ok s)
       → ((at : Place) → IsAt s at → LeavesFault answer_line at t.script t.out fault (IsAt s'))
       → IsUnwritten t.saved → IsSession start mode base capacity t (Err (run_fault fault))
-  stopped_session s s' fault h leaves saved = begun_session s (Err (run_fault fault)) h (stopped s s' fault h.answers leaves saved)
+  stopped_session s s' fault h leaves saved = begun_session s (Err (run_fault fault)) h
+      (stopped s s' fault h.answers leaves saved)
 
   -- the gaps of the last image are zero where the script leaves them so
   zeros_kept : (s s' : State) (b : IsBegun start mode t.image s)
       → ((at : Place) → IsAt s at → RunsWhole answer_line at t.script t.out (IsAt s'))
       → (image : List ℕ) → image ≡ s'.cut.bytes → KeepsZeros start mode t.image b.from t.script.bytes image
   zeros_kept s s' b leaves image e = λ known began after.
-      let ran = leaves (place mode b.from known) (record { mode = b.mode; denotes = b.stands; zeros = λ e. b.zeros (began e) }) in
+      let ran = leaves (place mode b.from known)
+      (record { mode = b.mode; denotes = b.stands; zeros = λ e. b.zeros (began e) }) in
       zeros_saved s' image e ((stands_done mode b.from known t (IsAt s') ran).zeros after)
 
   -- the last directory was saved as the mode wants it
@@ -154,13 +190,15 @@ module _ (start : Start) (mode : Mode) (base capacity : ℕ) (t : Traffic) where
       let ran = leaves (first mode b.from) (at_first mode b.from s b.mode b.stands) in
       let last = stands_done mode b.from false t (IsAt s') ran in
       let d = (run (whole current) mode b.from t.script.bytes).1 in
-      begun_session s (Ok u) h (done start mode t b.from false b.begins (IsAt s') b.read saved ran (subst (λ (m : Mode). Saves m t.saved.bytes d) last.mode (saves d last.denotes))
+      begun_session s (Ok u) h (done start mode t b.from false b.begins (IsAt s') b.read saved ran
+      (subst (λ (m : Mode). Saves m t.saved.bytes d) last.mode (saves d last.denotes))
       (λ writes. zeros_kept s s' b leaves t.saved.bytes (bytes (last.mode ∙ writes))))
 
   -- all was answered, and of the image a proper prefix was written
   unsaved : (s s' : State) → IsBegun start mode t.image s
       → ((at : Place) → IsAt s at → RunsWhole answer_line at t.script t.out (IsAt s'))
-      → s'.mode ≡ Write → IsProperPrefix t.saved.bytes s'.cut.bytes → t.saved.failed ≡ true → IsImageUnwritten start mode t
+      → s'.mode ≡ Write → IsProperPrefix t.saved.bytes s'.cut.bytes → t.saved.failed ≡ true
+      → IsImageUnwritten start mode t
   unsaved s s' b leaves how part saved =
       let ran = leaves (first mode b.from) (at_first mode b.from s b.mode b.stands) in
       let last = stands_done mode b.from false t (IsAt s') ran in
@@ -182,5 +220,7 @@ module _ (start : Start) (mode : Mode) (base capacity : ℕ) (t : Traffic) where
 
   pub unsaved_session : (s s' : State) → Starts start mode base capacity t.image (Ok s)
       → ((at : Place) → IsAt s at → RunsWhole answer_line at t.script t.out (IsAt s'))
-      → s'.mode ≡ Write → IsProperPrefix t.saved.bytes s'.cut.bytes → t.saved.failed ≡ true → IsSession start mode base capacity t (Err WriteFault)
-  unsaved_session s s' h leaves how part saved = begun_session s (Err WriteFault) h (inr (unsaved s s' h.answers leaves how part saved))
+      → s'.mode ≡ Write → IsProperPrefix t.saved.bytes s'.cut.bytes → t.saved.failed ≡ true
+      → IsSession start mode base capacity t (Err WriteFault)
+  unsaved_session s s' h leaves how part saved = begun_session s (Err WriteFault) h
+      (inr (unsaved s s' h.answers leaves how part saved))

@@ -42,10 +42,13 @@ empty_gaps size = refl
 abbrev Zero : List ℕ → List Gap → Type 0
 Zero b = AllByRecursion (λ (g : Gap). AreZero (bytes_of b) (g.offset + gap_front current) (g.offset + g.len))
 
-pub created_zeros : (region : List ℕ) (base size : ℕ) (mode : Mode) (s : State) → IsCreated region base size mode s → HasZeroGaps s
+pub created_zeros : (region : List ℕ) (base size : ℕ) (mode : Mode) (s : State) → IsCreated region base size mode s
+    → HasZeroGaps s
 created_zeros region base size mode s h =
-    let one : Zero s.cut.bytes (gap_between 128 (size - 16)) = cond_both (nat_lt 128 (size - 16)) (record { offset = 128; len = size - 16 - 128 } ∷ []) [] (Zero s.cut.bytes)
+    let one : Zero s.cut.bytes (gap_between 128 (size - 16)) = cond_both (nat_lt 128 (size - 16))
+    (record { offset = 128; len = size - 16 - 128 } ∷ []) [] (Zero s.cut.bytes)
     (λ _. (record { at = λ k low high. h.zeros.at k low (omega arith) }, tt)) (λ _. tt) in
     record {
-      zeros = λ d k. subst (Zero s.cut.bytes) (sym (ap gaps (one_live s.cut.bytes d (empty size) k h.stands) ∙ empty_gaps size)) one;
+      zeros = λ d k. subst (Zero s.cut.bytes)
+          (sym (ap gaps (one_live s.cut.bytes d (empty size) k h.stands) ∙ empty_gaps size)) one;
     }

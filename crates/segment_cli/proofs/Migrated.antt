@@ -5,7 +5,8 @@ use Rattle.segment_manager.specs.declared.modes.Mode.{Mode}
 use Rattle.segment_manager.specs.Directory.{Directory}
 use Rattle.segment_manager.specs.State.{State, StandsFor}
 use Rattle.image_check.specs.declared.errors.OpenError.{OpenError}
-use Rattle.image_check.specs.declared.errors.OpenError.TheVariants.{Image as NoImage, RegionTooSmall as NoRoomForImage, OutOfMemory as NoMemory, ReadFault as NotRead}
+use Rattle.image_check.specs.declared.errors.OpenError.TheVariants.{Image as NoImage, RegionTooSmall as NoRoomForImage}
+use Rattle.image_check.specs.declared.errors.OpenError.TheVariants.{OutOfMemory as NoMemory, ReadFault as NotRead}
 use Rattle.image_check.specs.declared.errors.OpenRefused.{OpenRefused}
 use Rattle.image_check.specs.OpeningAny.{IsWhyNotAny, OpensAny}
 use Rattle.segment_cli.specs.declared.faults.SessionFault.{SessionFault}
@@ -17,7 +18,8 @@ use Rattle.segment_cli.proofs.Endings.{IsUnwritten}
 
 -- ---- no segment
 
-fault-why : (base capacity : ℕ) (image : Given) (saved : Taken) (cause : OpenError) → IsUnwritten saved → IsWhyNotAny image base capacity cause → IsMigrationFault base capacity image saved (opened_fault cause)
+fault-why : (base capacity : ℕ) (image : Given) (saved : Taken) (cause : OpenError) → IsUnwritten saved
+    → IsWhyNotAny image base capacity cause → IsMigrationFault base capacity image saved (opened_fault cause)
 fault-why base capacity image saved (NoImage c) u why = record { why = why; bytes = u.bytes; failed = u.failed }
 fault-why base capacity image saved NoRoomForImage u why = record { why = why; bytes = u.bytes; failed = u.failed }
 fault-why base capacity image saved NoMemory u why = record { why = why; bytes = u.bytes; failed = u.failed }
@@ -26,7 +28,8 @@ fault-why base capacity image saved NotRead u why = record { why = why; bytes = 
 abbrev failed : SessionFault → Result (Unit {0}) SessionFault
 failed f = Err f
 
-pub not-migrated : (region : List ℕ) (base : ℕ) (mode : Mode) (image : Given) (saved : Taken) (refused : OpenRefused) → OpensAny image region base mode (Err refused) → IsUnwritten saved
+pub not-migrated : (region : List ℕ) (base : ℕ) (mode : Mode) (image : Given) (saved : Taken) (refused : OpenRefused)
+    → OpensAny image region base mode (Err refused) → IsUnwritten saved
     → IsMigration base (length region) image saved (Err (opened_fault refused.cause))
 not-migrated region base mode image saved refused o u = record {
   answers = fault-why base (length region) image saved refused.cause u o.answers.why;
@@ -35,13 +38,19 @@ not-migrated region base mode image saved refused o u = record {
 
 -- ---- a segment
 
-module _ (region : List ℕ) (base : ℕ) (mode : Mode) (image : Given) (saved : Taken) (s : State) (o : OpensAny image region base mode (Ok s))
+module _ (region : List ℕ) (base : ℕ) (mode : Mode) (image : Given) (saved : Taken) (s : State)
+    (o : OpensAny image region base mode (Ok s))
     (again : (d : Directory) → StandsFor s.cut.bytes d → IsSaved s.cut.bytes d) where
   new-image : IsNewImage image s.cut.bytes
   new-image =
       let there = o.answers.denotes in
       let stands = o.answers.renewed.denotes there.0 there.1 in
-      record { read = o.answers.read; denotes = there; renewed = o.answers.renewed; accepted = (again there.0 stands).accepted }
+      record {
+        read = o.answers.read;
+        denotes = there;
+        renewed = o.answers.renewed;
+        accepted = (again there.0 stands).accepted;
+      }
 
   pub migrated : saved.bytes ≡ s.cut.bytes → saved.failed ≡ false → IsMigration base (length region) image saved (Ok tt)
   migrated e f = record {
@@ -49,7 +58,8 @@ module _ (region : List ℕ) (base : ℕ) (mode : Mode) (image : Given) (saved :
     too_small = λ t. absurd (o.too_small t);
   }
 
-  pub unmigrated : IsProperPrefix saved.bytes s.cut.bytes → saved.failed ≡ true → IsMigration base (length region) image saved (Err WriteFault)
+  pub unmigrated : IsProperPrefix saved.bytes s.cut.bytes → saved.failed ≡ true
+      → IsMigration base (length region) image saved (Err WriteFault)
   unmigrated p f = record {
     answers = record { image_of = s.cut.bytes; new = new-image; part = p; failed = f };
     too_small = λ t. absurd (o.too_small t);

@@ -8,6 +8,8 @@ use Rattle.segment_cli.specs.Session.{Saves}
 use Rattle.raw_region.proofs.Laws.{added}
 
 -- an image that is accepted, written in mode Write behind the bytes that a writer took before
-pub image_saved : (mode : Mode) (old new image : List ℕ) (d : Directory) → mode ≡ Write → new ≡ old ++ image → IsSaved image d → Saves mode (drop (length old) new) d
+pub image_saved : (mode : Mode) (old new image : List ℕ) (d : Directory) → mode ≡ Write → new ≡ old ++ image
+    → IsSaved image d → Saves mode (drop (length old) new) d
 image_saved mode old new image d writes e s =
-    subst (λ (m : Mode). Saves m (drop (length old) new) d) (sym writes) (subst (λ (b : List ℕ). IsSaved b d) (sym (added old new image e)) s)
+    subst (λ (m : Mode). Saves m (drop (length old) new) d) (sym writes)
+    (subst (λ (b : List ℕ). IsSaved b d) (sym (added old new image e)) s)

@@ -11,7 +11,8 @@ use Rattle.segment_manager.specs.Directory.{Directory}
 use Rattle.segment_cli.specs.declared.faults.Start.{Start}
 use Rattle.segment_scripts.specs.Run.{lines, respond, run, run_lines}
 use Rattle.segment_scripts.specs.ZeroGaps.{zeros_after, zeros_after_lines, zeros_after_run}
-use Rattle.segment_cli.specs.Session.{Traffic, Begins, KeepsZeros, Saves, IsDone, IsCut, IsScriptUnread, IsAnswerUnwritten, IsScriptTooLong}
+use Rattle.segment_cli.specs.Session.{Traffic, Begins, KeepsZeros, Saves, IsDone, IsCut, IsScriptUnread}
+use Rattle.segment_cli.specs.Session.{IsAnswerUnwritten, IsScriptTooLong}
 use Rattle.segment_scripts.specs.Leaves.{answer_all, Answers, RunsWhole, IsCutByReader, IsCutByWriter, IsCutAtLimit}
 use Rattle.segment_scripts.specs.Lines.{ended_lines, script_limit, whole_lines}
 use Rattle.segment_scripts.specs.Segments.{Place, answer_line}
@@ -23,7 +24,8 @@ place mode d known = record { mode = mode; directory = d; zeros = known }
 
 -- where lines lead
 abbrev behind : Mode → Directory → Bool → List (List ℕ) → Place
-behind mode d known ls = place mode (run_lines (whole current) mode d ls).1 (zeros_after_lines (whole current) mode d ls known)
+behind mode d known ls = place mode (run_lines (whole current) mode d ls).1
+    (zeros_after_lines (whole current) mode d ls known)
 
 -- the answers of a segment, and its last place
 pub answer_all-segment : (mode : Mode) (d : Directory) (known : Bool) (ls : List (List ℕ))
@@ -32,23 +34,30 @@ answer_all-segment mode d known [] = refl
 answer_all-segment mode d known (l ∷ ls) =
     let asked = reading (whole current) l in
     let first = respond mode d asked in
-    ap (λ (r : List ℕ × Place). (first.0 ++ r.0, r.1)) (answer_all-segment mode first.1 (zeros_after mode d asked known) ls)
+    ap (λ (r : List ℕ × Place). (first.0 ++ r.0, r.1))
+    (answer_all-segment mode first.1 (zeros_after mode d asked known) ls)
 
-printed-segment : (mode : Mode) (d : Directory) (known : Bool) (ls : List (List ℕ)) → (answer_all answer_line (place mode d known) ls).0 ≡ (run_lines (whole current) mode d ls).0
+printed-segment : (mode : Mode) (d : Directory) (known : Bool) (ls : List (List ℕ))
+    → (answer_all answer_line (place mode d known) ls).0 ≡ (run_lines (whole current) mode d ls).0
 printed-segment mode d known ls = ap (λ (r : List ℕ × Place). r.0) (answer_all-segment mode d known ls)
 
-place-segment : (mode : Mode) (d : Directory) (known : Bool) (ls : List (List ℕ)) → (answer_all answer_line (place mode d known) ls).1 ≡ behind mode d known ls
+place-segment : (mode : Mode) (d : Directory) (known : Bool) (ls : List (List ℕ))
+    → (answer_all answer_line (place mode d known) ls).1 ≡ behind mode d known ls
 place-segment mode d known ls = ap (λ (r : List ℕ × Place). r.1) (answer_all-segment mode d known ls)
 
-run-lines : (mode : Mode) (d : Directory) (script : List ℕ) → run (whole current) mode d script ≡ run_lines (whole current) mode d (lines script)
+run-lines : (mode : Mode) (d : Directory) (script : List ℕ)
+    → run (whole current) mode d script ≡ run_lines (whole current) mode d (lines script)
 unfolding run
 run-lines mode d script = refl
 
-run-ended : (mode : Mode) (d : Directory) (bytes : List ℕ) → run (whole current) mode d (whole_lines bytes) ≡ run_lines (whole current) mode d (ended_lines bytes)
+run-ended : (mode : Mode) (d : Directory) (bytes : List ℕ)
+    → run (whole current) mode d (whole_lines bytes) ≡ run_lines (whole current) mode d (ended_lines bytes)
 unfolding ended_lines
 run-ended mode d bytes = run-lines mode d (whole_lines bytes)
 
-zeros-lines : (mode : Mode) (d : Directory) (script : List ℕ) (known : Bool) → zeros_after_run (whole current) mode d script known ≡ zeros_after_lines (whole current) mode d (lines script) known
+zeros-lines : (mode : Mode) (d : Directory) (script : List ℕ) (known : Bool)
+    → zeros_after_run (whole current) mode d script known ≡ zeros_after_lines (whole current) mode d
+    (lines script) known
 unfolding zeros_after_run
 zeros-lines mode d script known = refl
 
@@ -56,24 +65,33 @@ zeros-lines mode d script known = refl
 
 -- where it leads
 abbrev pub end_of : Mode → Directory → Bool → List ℕ → Place
-end_of mode from known script = place mode (run (whole current) mode from script).1 (zeros_after_run (whole current) mode from script known)
+end_of mode from known script = place mode (run (whole current) mode from script).1
+    (zeros_after_run (whole current) mode from script known)
 
-end-behind : (mode : Mode) (from : Directory) (known : Bool) (script : List ℕ) → end_of mode from known script ≡ behind mode from known (lines script)
+end-behind : (mode : Mode) (from : Directory) (known : Bool) (script : List ℕ)
+    → end_of mode from known script ≡ behind mode from known (lines script)
 end-behind mode from known script = rw (run-lines mode from script, zeros-lines mode from script known) refl
 
 module _ (mode : Mode) (from : Directory) (known : Bool) (t : Traffic) (Stands : Place → Type 0) where
   -- its last place
-  pub stands_done : RunsWhole answer_line (place mode from known) t.script t.out Stands → Stands (end_of mode from known t.script.bytes)
-  stands_done h = subst Stands (place-segment mode from known (lines t.script.bytes) ∙ sym (end-behind mode from known t.script.bytes)) h.answers.stands
+  pub stands_done : RunsWhole answer_line (place mode from known) t.script t.out Stands
+      → Stands (end_of mode from known t.script.bytes)
+  stands_done h = subst Stands (place-segment mode from known (lines t.script.bytes)
+      ∙ sym (end-behind mode from known t.script.bytes)) h.answers.stands
 
   -- and its answers
-  pub prints_done : RunsWhole answer_line (place mode from known) t.script t.out Stands → t.out.bytes ≡ (run (whole current) mode from t.script.bytes).0
-  prints_done h = h.answers.prints ∙ printed-segment mode from known (lines t.script.bytes) ∙ ap (λ (r : List ℕ × Directory). r.0) (sym (run-lines mode from t.script.bytes))
+  pub prints_done : RunsWhole answer_line (place mode from known) t.script t.out Stands
+      → t.out.bytes ≡ (run (whole current) mode from t.script.bytes).0
+  prints_done h = h.answers.prints ∙ printed-segment mode from known (lines t.script.bytes)
+      ∙ ap (λ (r : List ℕ × Directory). r.0) (sym (run-lines mode from t.script.bytes))
 
 -- ---- what a session owes, where it began at this directory
 
-module _ (start : Start) (mode : Mode) (t : Traffic) (from : Directory) (known : Bool) (begins : Begins start t.image from) (Stands : Place → Type 0) (image : t.image.failed ≡ false) (saved : t.saved.failed ≡ false) where
-  pub done : RunsWhole answer_line (place mode from known) t.script t.out Stands → Saves mode t.saved.bytes (run (whole current) mode from t.script.bytes).1
+module _ (start : Start) (mode : Mode) (t : Traffic) (from : Directory) (known : Bool)
+    (begins : Begins start t.image from) (Stands : Place → Type 0) (image : t.image.failed ≡ false)
+    (saved : t.saved.failed ≡ false) where
+  pub done : RunsWhole answer_line (place mode from known) t.script t.out Stands
+      → Saves mode t.saved.bytes (run (whole current) mode from t.script.bytes).1
       → (mode ≡ Write → KeepsZeros start mode t.image from t.script.bytes t.saved.bytes) → IsDone start mode t
   done h saves zeros = record {
     from = from;
@@ -86,31 +104,37 @@ module _ (start : Start) (mode : Mode) (t : Traffic) (from : Directory) (known :
     failed = rw (image, h.read, h.written, saved) refl;
   }
 
-  cut : Answers answer_line (place mode from known) (ended_lines (take script_limit t.script.bytes)) t.out.bytes Stands → t.saved.bytes ≡ [] → IsCut start mode t
+  cut : Answers answer_line (place mode from known) (ended_lines (take script_limit t.script.bytes)) t.out.bytes Stands
+      → t.saved.bytes ≡ [] → IsCut start mode t
   cut h nothing = record {
     from = from;
     begins = begins;
-    prints = h.prints ∙ printed-segment mode from known (ended_lines (take script_limit t.script.bytes)) ∙ ap (λ (r : List ℕ × Directory). r.0) (sym (run-ended mode from (take script_limit t.script.bytes)));
+    prints = h.prints ∙ printed-segment mode from known (ended_lines (take script_limit t.script.bytes))
+        ∙ ap (λ (r : List ℕ × Directory). r.0) (sym (run-ended mode from (take script_limit t.script.bytes)));
     saves = nothing;
   }
 
-  pub script_unread : IsCutByReader answer_line (place mode from known) t.script t.out Stands → t.saved.bytes ≡ [] → IsScriptUnread start mode t
+  pub script_unread : IsCutByReader answer_line (place mode from known) t.script t.out Stands → t.saved.bytes ≡ []
+      → IsScriptUnread start mode t
   script_unread h nothing =
       let all = take_all script_limit t.script.bytes h.within in
       record {
         within = h.within;
-        cut = cut (subst (λ (l : List ℕ). Answers answer_line (place mode from known) (ended_lines l) t.out.bytes Stands) (sym all) h.answers) nothing;
+        cut = cut (subst (λ (l : List ℕ). Answers answer_line (place mode from known)
+            (ended_lines l) t.out.bytes Stands) (sym all) h.answers) nothing;
         failed = rw (image, h.read, h.written, saved) refl;
       }
 
-  pub script_too_long : IsCutAtLimit answer_line (place mode from known) t.script t.out Stands → t.saved.bytes ≡ [] → IsScriptTooLong start mode t
+  pub script_too_long : IsCutAtLimit answer_line (place mode from known) t.script t.out Stands → t.saved.bytes ≡ []
+      → IsScriptTooLong start mode t
   script_too_long h nothing = record {
     long = h.beyond;
     cut = cut h.answers nothing;
     failed = rw (image, h.read, h.written, saved) refl;
   }
 
-  pub answer_unwritten : IsCutByWriter answer_line (place mode from known) t.script t.out Stands → t.saved.bytes ≡ [] → IsAnswerUnwritten start mode t
+  pub answer_unwritten : IsCutByWriter answer_line (place mode from known) t.script t.out Stands → t.saved.bytes ≡ []
+      → IsAnswerUnwritten start mode t
   answer_unwritten h nothing =
       let a = h.answers in
       let led = place-segment mode from known a.answered in

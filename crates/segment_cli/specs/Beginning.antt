@@ -9,14 +9,19 @@ use Rattle.segment_manager.specs.Directory.{Directory}
 use Rattle.segment_manager.specs.State.{State, StandsFor}
 use Rattle.segment_manager.specs.Calls.{HasZeroGaps}
 use Rattle.image_check.specs.declared.errors.OpenError.{OpenError}
-use Rattle.image_check.specs.declared.errors.OpenError.TheVariants.{Image as NoImage, RegionTooSmall as NoRoomForImage, OutOfMemory as NoMemory, ReadFault as NotRead}
+use Rattle.image_check.specs.declared.errors.OpenError.TheVariants.{Image as NoImage, RegionTooSmall as NoRoomForImage}
+use Rattle.image_check.specs.declared.errors.OpenError.TheVariants.{OutOfMemory as NoMemory, ReadFault as NotRead}
 use Rattle.image_check.specs.Opening.{IsOutOfMemory, IsRefusedAs, IsUndecided}
 use Rattle.segment_cli.specs.declared.faults.Start.{Start}
 use Rattle.segment_cli.specs.declared.faults.Start.TheVariants.{Image}
 use Rattle.segment_scripts.specs.declared.faults.RunFault.{RunFault}
-use Rattle.segment_scripts.specs.declared.faults.RunFault.TheVariants.{ReadFault as ScriptNotRead, WriteFault as AnswerNotWritten, ScriptTooLong as TooLong}
+use Rattle.segment_scripts.specs.declared.faults.RunFault.TheVariants.{ReadFault as ScriptNotRead}
+use Rattle.segment_scripts.specs.declared.faults.RunFault.TheVariants.{WriteFault as AnswerNotWritten}
+use Rattle.segment_scripts.specs.declared.faults.RunFault.TheVariants.{ScriptTooLong as TooLong}
 use Rattle.segment_cli.specs.declared.faults.SessionFault.{SessionFault}
-use Rattle.segment_cli.specs.declared.faults.SessionFault.TheVariants.{Image as Refused, BadSize, RegionTooSmall, OutOfMemory, ReadFault, WriteFault, ScriptTooLong}
+use Rattle.segment_cli.specs.declared.faults.SessionFault.TheVariants.{Image as Refused, BadSize, RegionTooSmall}
+use Rattle.segment_cli.specs.declared.faults.SessionFault.TheVariants.{OutOfMemory, ReadFault, WriteFault}
+use Rattle.segment_cli.specs.declared.faults.SessionFault.TheVariants.{ScriptTooLong}
 use Rattle.segment_cli.specs.Session.{Begins, BeginsWithZeros, IsImageLeft, IsSizeRefused, IsTooSmall}
 
 -- the faults that a session hands on under names of its own
@@ -54,7 +59,8 @@ IsWhyNotBegun start image base capacity ReadFault = (start ≡ Image) × IsUndec
 IsWhyNotBegun start image base capacity WriteFault = ⊥
 IsWhyNotBegun start image base capacity ScriptTooLong = ⊥
 
-pub record Starts (start : Start) (mode : Mode) (base capacity : ℕ) (image : Given) (result : Result State SessionFault) : Type 0 where
+pub record Starts (start : Start) (mode : Mode) (base capacity : ℕ) (image : Given)
+    (result : Result State SessionFault) : Type 0 where
   pub answers : MatchResult result (IsBegun start mode image) (IsWhyNotBegun start image base capacity)
   pub left : IsImageLeft start image
   -- these two are answered wherever they apply

@@ -7,7 +7,9 @@ use Rattle.image_check.specs.Formats.{format_of}
 use Rattle.image_check.specs.Opening.{IsImage, IsOutOfMemory, IsReadToEnd, IsTooSmallFor}
 use Rattle.image_check.specs.OpeningAny.{IsRefusedAsAny, IsRenewed, IsUndecidedAny}
 use Rattle.segment_cli.specs.declared.faults.SessionFault.{SessionFault}
-use Rattle.segment_cli.specs.declared.faults.SessionFault.TheVariants.{Image as Refused, BadSize, RegionTooSmall, OutOfMemory, ReadFault, WriteFault, ScriptTooLong}
+use Rattle.segment_cli.specs.declared.faults.SessionFault.TheVariants.{Image as Refused, BadSize, RegionTooSmall}
+use Rattle.segment_cli.specs.declared.faults.SessionFault.TheVariants.{OutOfMemory, ReadFault, WriteFault}
+use Rattle.segment_cli.specs.declared.faults.SessionFault.TheVariants.{ScriptTooLong}
 
 -- the image was read to its end and denotes a directory by its format, and the new image is that of this directory by
 -- the current one
@@ -39,14 +41,17 @@ pub record IsNothingSaved (saved : Taken) (cause : Type 0) : Type 0 where
 abbrev pub IsMigrationFault : ℕ → ℕ → Given → Taken → SessionFault → Type 0
 IsMigrationFault base capacity image saved (Refused c) = IsNothingSaved saved (IsRefusedAsAny image c)
 IsMigrationFault base capacity image saved BadSize = ⊥
-IsMigrationFault base capacity image saved RegionTooSmall = IsNothingSaved saved (IsTooSmallFor (format_of image.bytes) image base capacity)
-IsMigrationFault base capacity image saved OutOfMemory = IsNothingSaved saved (IsOutOfMemory (format_of image.bytes) image)
+IsMigrationFault base capacity image saved RegionTooSmall = IsNothingSaved saved
+    (IsTooSmallFor (format_of image.bytes) image base capacity)
+IsMigrationFault base capacity image saved OutOfMemory = IsNothingSaved saved
+    (IsOutOfMemory (format_of image.bytes) image)
 IsMigrationFault base capacity image saved ReadFault = IsNothingSaved saved (IsUndecidedAny image)
 IsMigrationFault base capacity image saved WriteFault = IsUnmigrated image saved
 IsMigrationFault base capacity image saved ScriptTooLong = ⊥
 
 -- the answer of a migration in a region of this capacity
-pub record IsMigration (base capacity : ℕ) (image : Given) (saved : Taken) (result : Result (Unit {0}) SessionFault) : Type 0 where
+pub record IsMigration (base capacity : ℕ) (image : Given) (saved : Taken)
+    (result : Result (Unit {0}) SessionFault) : Type 0 where
   pub answers : MatchResult result (λ u. IsMigrated image saved) (IsMigrationFault base capacity image saved)
   -- this one is answered wherever it applies
   pub too_small : IsTooSmallFor (format_of image.bytes) image base capacity → result ≡ Err RegionTooSmall

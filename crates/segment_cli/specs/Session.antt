@@ -1,5 +1,6 @@
 -- What a session owes: what it prints and saves, and what each fault leaves.
-use Rattle.std.specs.Prelude.{◌≡◌, ◌⊎◌, ◌<◌, ◌≤◌, ℕ, ◌+◌, Bool, true, false, ⊤, List, [], ◌∷◌, ◌++◌, length, take, IsTrue, None, Result, Err, MatchResult}
+use Rattle.std.specs.Prelude.{◌≡◌, ◌⊎◌, ◌<◌, ◌≤◌, ℕ, ◌+◌, Bool, true, false, ⊤, List, [], ◌∷◌, ◌++◌, length, take}
+use Rattle.std.specs.Prelude.{IsTrue, None, Result, Err, MatchResult}
 use Rattle.raw_region.specs.Device.{Given, Taken, IsProperPrefix}
 use Rattle.raw_region.specs.Format.{current}
 use Rattle.block_tags.specs.Format.{is_legal_size}
@@ -15,7 +16,9 @@ use Rattle.segment_lang.specs.Reading.{reading}
 use Rattle.segment_cli.specs.declared.faults.Start.{Start}
 use Rattle.segment_cli.specs.declared.faults.Start.TheVariants.{Fresh, Image}
 use Rattle.segment_cli.specs.declared.faults.SessionFault.{SessionFault}
-use Rattle.segment_cli.specs.declared.faults.SessionFault.TheVariants.{Image as Refused, BadSize, RegionTooSmall, OutOfMemory, ReadFault, WriteFault, ScriptTooLong}
+use Rattle.segment_cli.specs.declared.faults.SessionFault.TheVariants.{Image as Refused, BadSize, RegionTooSmall}
+use Rattle.segment_cli.specs.declared.faults.SessionFault.TheVariants.{OutOfMemory, ReadFault, WriteFault}
+use Rattle.segment_cli.specs.declared.faults.SessionFault.TheVariants.{ScriptTooLong}
 use Rattle.segment_scripts.specs.Run.{run, run_lines, respond}
 use Rattle.segment_scripts.specs.Lines.{executable, script_limit, whole_lines}
 use Rattle.segment_scripts.specs.ZeroGaps.{zeros_after_run}
@@ -69,7 +72,8 @@ Saves CopyOnWrite saved d = saved ≡ []
 -- made them zero, or they were zero before it, and nothing may have undone it since.
 abbrev pub KeepsZeros : Start → Mode → Given → Directory → List ℕ → List ℕ → Type 0
 KeepsZeros start mode began from script image =
-    (known : Bool) → (known ≡ true → BeginsWithZeros start began) → zeros_after_run (whole_language current) mode from script known ≡ true → HasZeroGapsIn image
+    (known : Bool) → (known ≡ true → BeginsWithZeros start began)
+    → zeros_after_run (whole_language current) mode from script known ≡ true → HasZeroGapsIn image
 
 -- nothing went out
 pub record IsSilent (t : Traffic) : Type 0 where
@@ -117,7 +121,8 @@ pub record IsCutInAnswer (start : Start) (mode : Mode) (t : Traffic) : Type 0 wh
   pub script : executable t.script ≡ answered ++ next ∷ rest
   pub front : List ℕ
   pub prints : t.out.bytes ≡ (run_lines (whole_language current) mode from answered).0 ++ front
-  pub part : IsProperPrefix front (respond mode (run_lines (whole_language current) mode from answered).1 (reading (whole_language current) next)).0
+  pub part : IsProperPrefix front
+      (respond mode (run_lines (whole_language current) mode from answered).1 (reading (whole_language current) next)).0
   pub saves : t.saved.bytes ≡ []
 
 -- all was answered, and of an image of the last directory a proper prefix was written
@@ -173,16 +178,19 @@ pub record IsRefusedBefore (t : Traffic) (cause : Type 0) : Type 0 where
 -- ---- what a session answers, in a region of this capacity; the check of an image alone takes memory
 
 abbrev pub AnswersFault : Start → Mode → ℕ → ℕ → Traffic → SessionFault → Type 0
-AnswersFault start mode base capacity t (Refused c) = IsRefusedBefore t ((start ≡ Image) × IsRefusedAs current t.image c)
+AnswersFault start mode base capacity t (Refused c) = IsRefusedBefore t
+    ((start ≡ Image) × IsRefusedAs current t.image c)
 AnswersFault start mode base capacity t BadSize = IsRefusedBefore t (IsSizeRefused start)
 AnswersFault start mode base capacity t RegionTooSmall = IsRefusedBefore t (IsTooSmall start t.image base capacity)
-AnswersFault start mode base capacity t OutOfMemory = IsRefusedBefore t ((start ≡ Image) × IsOutOfMemory current t.image)
+AnswersFault start mode base capacity t OutOfMemory = IsRefusedBefore t
+    ((start ≡ Image) × IsOutOfMemory current t.image)
 AnswersFault start mode base capacity t ReadFault = IsImageUnread start t ⊎ IsScriptUnread start mode t
 AnswersFault start mode base capacity t WriteFault = IsAnswerUnwritten start mode t ⊎ IsImageUnwritten start mode t
 AnswersFault start mode base capacity t ScriptTooLong = IsScriptTooLong start mode t
 
 -- The headline, for one session.
-pub record IsSession (start : Start) (mode : Mode) (base capacity : ℕ) (t : Traffic) (result : Result (Unit {0}) SessionFault) : Type 0 where
+pub record IsSession (start : Start) (mode : Mode) (base capacity : ℕ) (t : Traffic)
+    (result : Result (Unit {0}) SessionFault) : Type 0 where
   pub answers : MatchResult result (λ u. IsDone start mode t) (AnswersFault start mode base capacity t)
   pub left : IsImageLeft start t.image
   -- these two are answered wherever they apply

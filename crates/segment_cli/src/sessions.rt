@@ -1,13 +1,10 @@
 //! A session: a segment is made or opened, a script is run on it, and its image is saved.
 ghost use Rattle.std.specs.Prelude.{◌≡◌, ◌+◌, ◌-◌, ◌%◌, ◌^◌, ◌<◌, ◌≤◌, ◌++◌, length, drop, OnOk, OnErr};
-ghost use Rattle.raw_region.specs.Answers.{failures_in};
 ghost use Rattle.raw_region.specs.Device.{given_since, taken_since, EndsAtMostOnce, Grows, IsProperPrefix};
-ghost use Rattle.segment_manager.specs.declared.modes.Mode.TheVariants.{Write};
-ghost use Rattle.segment_manager.specs.Directory.{Directory};
-ghost use Rattle.segment_manager.specs.State.{StandsFor};
-ghost use Rattle.segment_cli.specs.Beginning.{Starts};
+ghost use Rattle.raw_region.specs.Answers.{failures_in};
+ghost use Rattle.segment_manager.specs.{declared.modes.Mode.TheVariants.Write, Directory.Directory, State.StandsFor};
+ghost use Rattle.segment_cli.specs.{Session.IsSession, Session.Saves, Beginning.Starts};
 ghost use Rattle.segment_scripts.specs.Lines.{script_limit};
-ghost use Rattle.segment_cli.specs.Session.{IsSession, Saves};
 
 use crate::faults::{SessionFault, Start};
 use image_check::{open, save};

@@ -1,5 +1,6 @@
 -- Vectors of numbers and texts: what the two have in common as values of objects, and where they stand.
-use Rattle.std.specs.Prelude.{ℕ, ◌+◌, Bool, true, false, Option, Some, None, Result, Ok, Err, List, length, option_to_list, nat_lt, if◌then◌else◌}
+use Rattle.std.specs.Prelude.{ℕ, ◌+◌, Bool, true, false, Option, Some, None, Result, Ok, Err, List, length}
+use Rattle.std.specs.Prelude.{option_to_list, nat_lt, if◌then◌else◌}
 use Rattle.std.specs.List.{list_all}
 use Rattle.raw_region.specs.Format.{current}
 use Rattle.raw_region.specs.Memory.{Cut}
@@ -15,7 +16,8 @@ use Rattle.seg_types.specs.Names.{Key}
 use Rattle.seg_vector.specs.declared.places.Place.{Place}
 use Rattle.seg_vector.specs.Standing.{Stands, place_at}
 use Rattle.seg_vector.specs.Vector.{spelled}
-use Rattle.segment_manager.specs.Directory.{Value, Numbers, Elements, Bytes, Pairs, Texts, Object, Directory, kind_of, object_at, padded}
+use Rattle.segment_manager.specs.Directory.{Value, Numbers, Elements, Bytes, Pairs, Texts, Object, Directory, kind_of}
+use Rattle.segment_manager.specs.Directory.{object_at, padded}
 use Rattle.segment_manager.specs.Layout.{head_len}
 
 -- the bytes of an element, how many elements there are, their storage, and the bytes that spell them
@@ -101,5 +103,6 @@ has_storage kind = true
 
 -- The contents of a container are others. Of all blocks that stay no byte changes but its own 24.
 pub record IsRefilled (old new : Cut) (p : Place) (was is : Contents) : Type 0 where
-  pub change : IsExchanged current old new (place_at p) 24 (option_to_list was.table.extent) (option_to_list is.table.extent)
+  pub change : IsExchanged current old new (place_at p) 24 (option_to_list was.table.extent)
+      (option_to_list is.table.extent)
   pub stands : Stands new.bytes p is.each is.len is.table is.bytes

@@ -9,7 +9,8 @@ use Rattle.seg_types.specs.Kinds.{same_kind}
 use Rattle.seg_types.specs.Names.{Key}
 use Rattle.seg_vector.specs.Vector.{OwnedText}
 use Rattle.segment_manager.specs.Contents.{sizes_at_kind}
-use Rattle.segment_manager.specs.Directory.{Value, Numbers, Elements, Bytes, Pairs, Texts, Directory, count_of, kind_of, object_at}
+use Rattle.segment_manager.specs.Directory.{Value, Numbers, Elements, Bytes, Pairs, Texts, Directory, count_of, kind_of}
+use Rattle.segment_manager.specs.Directory.{object_at}
 
 -- the numbers of a value that is an array or a vector of scalars
 abbrev pub numbers_in : Value → List ℤ
@@ -29,7 +30,8 @@ texts_in (Texts ps t) = map (λ (p : OwnedText). p.bytes) ps
 
 -- what is listed of the object of a key, an object of a kind
 abbrev pub list_at : {A : Type 0} → (Value → List A) → Directory → Key → Kind → List A
-list_at items d key kind = elim (object_at d key) [ None ↦ [] | Some o ↦ if same_kind kind (kind_of o.value) then items o.value else [] ]
+list_at items d key kind = elim
+    (object_at d key) [ None ↦ [] | Some o ↦ if same_kind kind (kind_of o.value) then items o.value else [] ]
 
 -- the scalars of an array of a kind, and of a vector; the texts of a vector of strings
 abbrev pub array_at : Directory → Key → ScalarKind → List ℤ
@@ -53,7 +55,12 @@ length_at_kind d key kind = first_size (sizes_at_kind d key kind)
 
 -- of an array of a kind
 abbrev pub array_length_at : Directory → Key → ScalarKind → Result ℕ Refusal
-array_length_at d key k = elim (object_at d key) [ None ↦ Err NotFound | Some o ↦ if same_kind (ScalarOf k) (kind_of o.value) then Ok (count_of o.value) else Err WrongKind ]
+array_length_at d key k = elim
+    (object_at d key) [
+      | None ↦ Err NotFound
+      | Some o ↦ if same_kind (ScalarOf k) (kind_of o.value) then Ok
+          (count_of o.value) else Err WrongKind
+    ]
 
 -- a number, or 0 where there is none
 abbrev pub number_or_none : Result ℕ Refusal → ℕ

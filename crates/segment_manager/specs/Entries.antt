@@ -3,23 +3,30 @@ use Rattle.std.specs.Prelude.{◌≡◌, ℕ, true, false, Some, None}
 use Rattle.best_fit.specs.Extents.{handle}
 use Rattle.seg_types.specs.declared.kinds.Class.TheVariants.{Named, Unique}
 use Rattle.seg_types.specs.Names.{ByName, ByKind, ByHandle}
-use Rattle.segment_manager.specs.Directory.{Object, Directory, IsDirectory, by_kind, by_name, insert_by, is_class, kind_of, named_objects, object_at, remove_object, unique_objects, with_changed, with_object, without_object}
+use Rattle.segment_manager.specs.Directory.{Object, Directory, IsDirectory, by_kind, by_name, insert_by, is_class}
+use Rattle.segment_manager.specs.Directory.{kind_of, named_objects, object_at, remove_object, unique_objects}
+use Rattle.segment_manager.specs.Directory.{with_changed, with_object, without_object}
 use Rattle.segment_manager.specs.Denotes.{handles}
 
 -- An object that is put in comes into the index of its class, in its place by order, and into no other.
 pub record PutsOneEntry (d : Directory) (o : Object) : Type 0 where
-  pub named : is_class Named o ≡ true → object_at d (ByName o.name) ≡ None → named_objects (with_object d o) ≡ insert_by by_name o (named_objects d)
+  pub named : is_class Named o ≡ true → object_at d (ByName o.name) ≡ None
+      → named_objects (with_object d o) ≡ insert_by by_name o (named_objects d)
   pub not_named : is_class Named o ≡ false → named_objects (with_object d o) ≡ named_objects d
-  pub unique : is_class Unique o ≡ true → object_at d (ByKind (kind_of o.value)) ≡ None → unique_objects (with_object d o) ≡ insert_by by_kind o (unique_objects d)
+  pub unique : is_class Unique o ≡ true → object_at d (ByKind (kind_of o.value)) ≡ None
+      → unique_objects (with_object d o) ≡ insert_by by_kind o (unique_objects d)
   pub not_unique : is_class Unique o ≡ false → unique_objects (with_object d o) ≡ unique_objects d
 
 -- One that is taken out leaves the index of its class, and nothing else does: put in again, it stands where it stood.
 pub record RemovesOneEntry (d : Directory) (o : Object) : Type 0 where
-  pub named : is_class Named o ≡ true → named_objects (without_object d o) ≡ remove_object (handle o.extent) (named_objects d)
+  pub named : is_class Named o ≡ true
+      → named_objects (without_object d o) ≡ remove_object (handle o.extent) (named_objects d)
   pub named_again : is_class Named o ≡ true → insert_by by_name o (named_objects (without_object d o)) ≡ named_objects d
   pub not_named : is_class Named o ≡ false → named_objects (without_object d o) ≡ named_objects d
-  pub unique : is_class Unique o ≡ true → unique_objects (without_object d o) ≡ remove_object (handle o.extent) (unique_objects d)
-  pub unique_again : is_class Unique o ≡ true → insert_by by_kind o (unique_objects (without_object d o)) ≡ unique_objects d
+  pub unique : is_class Unique o ≡ true
+      → unique_objects (without_object d o) ≡ remove_object (handle o.extent) (unique_objects d)
+  pub unique_again : is_class Unique o ≡ true
+      → insert_by by_kind o (unique_objects (without_object d o)) ≡ unique_objects d
   pub not_unique : is_class Unique o ≡ false → unique_objects (without_object d o) ≡ unique_objects d
 
 -- all but the values is the same, and the kinds of the values too
@@ -37,5 +44,7 @@ pub record KeepsEntries (d : Directory) (o : Object) : Type 0 where
 -- the law: each index follows its objects
 pub record IndexesFollowObjects : Type 0 where
   pub puts : (d : Directory) (o : Object) → PutsOneEntry d o
-  pub removes : (format : ℕ) (d : Directory) (o : Object) → IsDirectory format d → object_at d (ByHandle (handle o.extent)) ≡ Some o → RemovesOneEntry d o
-  pub changes : (d : Directory) (o p : Object) → object_at d (ByHandle (handle o.extent)) ≡ Some o → DiffersInValue o p → KeepsEntries d p
+  pub removes : (format : ℕ) (d : Directory) (o : Object) → IsDirectory format d
+      → object_at d (ByHandle (handle o.extent)) ≡ Some o → RemovesOneEntry d o
+  pub changes : (d : Directory) (o p : Object) → object_at d (ByHandle (handle o.extent)) ≡ Some o → DiffersInValue o p
+      → KeepsEntries d p

@@ -23,38 +23,46 @@ pub record IsSafe (mode : Mode) (d : Directory) (c : Command) : Type 0 where
 -- the same of the step of a call that is for objects of one kind
 pub record IsSafeOfKind (mode : Mode) (d : Directory) (key : Key) (kind : Kind) (c : Command) : Type 0 where
   pub refused : (r : Refusal) → (step_of_kind mode d key kind c).0 ≡ Refused r → (step_of_kind mode d key kind c).1 ≡ d
-  pub read_only : is_read_only mode ≡ true → is_changing c ≡ true → step_of_kind mode d key kind c ≡ (Refused ReadOnly, d)
+  pub read_only : is_read_only mode ≡ true → is_changing c ≡ true
+      → step_of_kind mode d key kind c ≡ (Refused ReadOnly, d)
 
 -- the law: a command that is refused changes nothing
 abbrev pub RefusalsChangeNothing : Type 0
 RefusalsChangeNothing = (mode : Mode) (d : Directory) (c : Command) → IsSafe mode d c
 
 abbrev pub RefusalsOfKindChangeNothing : Type 0
-RefusalsOfKindChangeNothing = (mode : Mode) (d : Directory) (key : Key) (kind : Kind) (c : Command) → IsSafeOfKind mode d key kind c
+RefusalsOfKindChangeNothing = (mode : Mode) (d : Directory) (key : Key) (kind : Kind) (c : Command)
+    → IsSafeOfKind mode d key kind c
 
 -- the law: a command that may change nothing leaves the directory
 abbrev pub ReadsChangeNothing : Type 0
 ReadsChangeNothing = (mode : Mode) (d : Directory) (c : Command) → is_changing c ≡ false → (step mode d c).1 ≡ d
 
 abbrev pub ReadsOfKindChangeNothing : Type 0
-ReadsOfKindChangeNothing = (mode : Mode) (d : Directory) (key : Key) (kind : Kind) (c : Command) → is_changing c ≡ false → (step_of_kind mode d key kind c).1 ≡ d
+ReadsOfKindChangeNothing = (mode : Mode) (d : Directory) (key : Key) (kind : Kind) (c : Command) → is_changing c ≡ false
+    → (step_of_kind mode d key kind c).1 ≡ d
 
 -- the law: a step leads on, refused for the reason that it answers
 abbrev pub StepsLeadOn : Type 0
-StepsLeadOn = (old new : State) (c : Command) (answer : Answer) → IsStep old new c answer → LeadsOn old new c (refusal_of answer)
+StepsLeadOn = (old new : State) (c : Command) (answer : Answer) → IsStep old new c answer
+    → LeadsOn old new c (refusal_of answer)
 
 -- for one: a call that takes the last text away and does not answer it, where the text would be a step's answer
 abbrev pub PoppedTextsLeadOn : Type 0
-PoppedTextsLeadOn = (old new : State) (key : Key) (result : Result (List ℕ) Refusal) → IsStep old new (Pop key) (answer_of TextElement result) → LeadsOn old new (Pop key) (refusal_in result)
+PoppedTextsLeadOn = (old new : State) (key : Key) (result : Result (List ℕ) Refusal)
+    → IsStep old new (Pop key) (answer_of TextElement result) → LeadsOn old new (Pop key) (refusal_in result)
 
 -- and what leads on and is refused leaves the directory
 abbrev pub RefusedCallsStay : Type 0
-RefusedCallsStay = (old new : State) (c : Command) (r : Refusal) → LeadsOn old new c (Some r) → (d : Directory) → StandsFor old.cut.bytes d → StandsFor new.cut.bytes d
+RefusedCallsStay = (old new : State) (c : Command) (r : Refusal) → LeadsOn old new c (Some r) → (d : Directory)
+    → StandsFor old.cut.bytes d → StandsFor new.cut.bytes d
 
 -- the law: an index that is less than the number that was answered has an object
 pub record CountedAreBelow : Type 0 where
-  pub named : (s : State) (n i : ℕ) → IsReply s NumNamed (Number n) → i < n → IsBelow s (λ d. length (named_objects d)) i
-  pub unique : (s : State) (n i : ℕ) → IsReply s NumUnique (Number n) → i < n → IsBelow s (λ d. length (unique_objects d)) i
+  pub named : (s : State) (n i : ℕ) → IsReply s NumNamed (Number n) → i < n
+      → IsBelow s (λ d. length (named_objects d)) i
+  pub unique : (s : State) (n i : ℕ) → IsReply s NumUnique (Number n) → i < n
+      → IsBelow s (λ d. length (unique_objects d)) i
 
 -- a command on the object of a key, as one on that of another key
 abbrev pub at_key : Key → Command → Command
@@ -78,12 +86,15 @@ at_key key c = c
 
 -- the law: of two keys of one object one is as good as the other
 abbrev pub KeysMeanObjects : Type 0
-KeysMeanObjects = (mode : Mode) (d : Directory) (key other : Key) (c : Command) → object_at d key ≡ object_at d other → step mode d (at_key key c) ≡ step mode d (at_key other c)
+KeysMeanObjects = (mode : Mode) (d : Directory) (key other : Key) (c : Command) → object_at d key ≡ object_at d other
+    → step mode d (at_key key c) ≡ step mode d (at_key other c)
 
 abbrev pub KeysOfKindMeanObjects : Type 0
-KeysOfKindMeanObjects = (mode : Mode) (d : Directory) (key other : Key) (kind : Kind) (c : Command) → object_at d key ≡ object_at d other
+KeysOfKindMeanObjects = (mode : Mode) (d : Directory) (key other : Key) (kind : Kind) (c : Command)
+    → object_at d key ≡ object_at d other
     → step_of_kind mode d key kind (at_key key c) ≡ step_of_kind mode d other kind (at_key other c)
 
 -- and an object that was located has its handle for a key
 abbrev pub HandlesMeanObjects : Type 0
-HandlesMeanObjects = (s : State) (key : Key) (o : Located) → IsLocated s key o → (d : Directory) → StandsFor s.cut.bytes d → object_at d key ≡ object_at d (ByHandle o.handle)
+HandlesMeanObjects = (s : State) (key : Key) (o : Located) → IsLocated s key o → (d : Directory)
+    → StandsFor s.cut.bytes d → object_at d key ≡ object_at d (ByHandle o.handle)

@@ -1,5 +1,6 @@
 -- Maps of numbers as values of objects: where they stand, what is read of them, and what becomes of them.
-use Rattle.std.specs.Prelude.{ℕ, ℤ, int_lt, true, false, Option, Some, None, Result, Ok, Err, List, option_map, if◌then◌else◌}
+use Rattle.std.specs.Prelude.{ℕ, ℤ, int_lt, true, false, Option, Some, None, Result, Ok, Err, List, option_map}
+use Rattle.std.specs.Prelude.{if◌then◌else◌}
 use Rattle.raw_region.specs.Memory.{Cut}
 use Rattle.byteorder.specs.Endian.{little_number}
 use Rattle.seg_types.specs.declared.kinds.Kind.TheVariants.{Map}
@@ -17,7 +18,8 @@ use Rattle.seg_map.specs.Numbers.{NumberPair}
 use Rattle.seg_map.specs.Places.{HoldsMap, final_pair, first_pair, item_of, last_pair}
 use Rattle.segment_manager.specs.Answers.{Answer, Absent, Element}
 use Rattle.segment_manager.specs.Contents.{container_at}
-use Rattle.segment_manager.specs.Directory.{Value, Numbers, Elements, Bytes, Pairs, Texts, Directory, kind_of, object_at}
+use Rattle.segment_manager.specs.Directory.{Value, Numbers, Elements, Bytes, Pairs, Texts, Directory, kind_of}
+use Rattle.segment_manager.specs.Directory.{object_at}
 use Rattle.segment_manager.specs.State.{answer_of}
 
 -- ---- where they stand
@@ -47,7 +49,8 @@ pub record ReleasesPairs (k v : ScalarKind) (old new : Cut) (p : Place) : Type 0
 
 -- where the three words stand of the map of a key, a map of the kinds
 abbrev pub map_at : Directory → Key → ScalarKind → ScalarKind → Result Place Refusal
-map_at d key k v = elim (container_at d key (Map k v)) [ Ok p ↦ Ok (record { handle = p.handle; at = p.at }) | Err r ↦ Err r ]
+map_at d key k v = elim (container_at d key (Map k v))
+    [ Ok p ↦ Ok (record { handle = p.handle; at = p.at }) | Err r ↦ Err r ]
 
 -- ---- what is read of them
 
@@ -60,7 +63,8 @@ told_of say (Pairs k v ps) = Ok (say ps)
 told_of say (Texts ps t) = Err WrongKind
 
 -- the same of the object of a key, a map of the kinds
-abbrev pub told_of_map : {A : Type 0} → Directory → Key → ScalarKind → ScalarKind → (List NumberPair → A) → Result A Refusal
+abbrev pub told_of_map : {A : Type 0} → Directory → Key → ScalarKind → ScalarKind → (List NumberPair → A)
+    → Result A Refusal
 told_of_map d key k v say = elim (object_at d key) [
   | None ↦ Err NotFound
   | Some o ↦ if same_kind (Map k v) (kind_of o.value) then told_of say o.value else Err WrongKind
@@ -88,7 +92,8 @@ pair_at_end ps = option_map item_of (final_pair ps)
 abbrev pub numbers_in : {K V : Type 0} → (K → ℤ) → (V → ℤ) → Option (K × V) → Option (ℤ × ℤ)
 numbers_in k v = option_map (λ (x, y). (k x, v y))
 
-abbrev pub pair_result : {K V : Type 0} → (K → ℤ) → (V → ℤ) → Result (Option (K × V)) Refusal → Result (Option (ℤ × ℤ)) Refusal
+abbrev pub pair_result : {K V : Type 0} → (K → ℤ) → (V → ℤ) → Result (Option (K × V)) Refusal
+    → Result (Option (ℤ × ℤ)) Refusal
 pair_result k v (Ok r) = Ok (numbers_in k v r)
 pair_result k v (Err e) = Err e
 

@@ -24,12 +24,14 @@ owned_texts (bs ∷ bss) (x ∷ xs) =
     else record { bytes = bs; extent = Some x } ∷ owned_texts bss xs
 
 -- what a plan comes to that goes on with texts in these blocks, or has no space for them
-abbrev pub with_blocks : Directory → LiveSet → List (List ℕ) → (List OwnedText → Plan) → Option (List Extent) → Answer × Directory
+abbrev pub with_blocks : Directory → LiveSet → List (List ℕ) → (List OwnedText → Plan) → Option (List Extent) → Answer
+    × Directory
 with_blocks d l bss next None = (Refused NoSpace, d)
 with_blocks d l bss next (Some xs) = perform d (all_added l xs) (next (owned_texts bss xs))
 
 -- the law: a plan that asks for several texts goes on with the extents that `place_all` gives for those that are not
 -- empty
 abbrev pub TextsArePlaced : Type 0
-TextsArePlaced = (d : Directory) (l : LiveSet) (bss : List (List ℕ)) (next : List OwnedText → Plan) → IsTrue (is_proper l)
+TextsArePlaced = (d : Directory) (l : LiveSet) (bss : List (List ℕ)) (next : List OwnedText → Plan)
+    → IsTrue (is_proper l)
     → perform d l (with_owned_texts bss next) ≡ with_blocks d l bss next (place_all l (text_needs bss))

@@ -1,5 +1,6 @@
 -- What a command does if it is not refused: which blocks it asks for, in which order, and what it does then.
-use Rattle.std.specs.Prelude.{ℕ, ◌*◌, Option, Some, None, Result, Ok, Err, List, [], ◌∷◌, length, ◌==◌, nat_lt, nat_le, if◌then◌else◌}
+use Rattle.std.specs.Prelude.{ℕ, ◌*◌, Option, Some, None, Result, Ok, Err, List, [], ◌∷◌, length, ◌==◌, nat_lt, nat_le}
+use Rattle.std.specs.Prelude.{if◌then◌else◌}
 use Rattle.block_tags.specs.declared.tile.Role.{Role}
 use Rattle.block_tags.specs.declared.tile.Role.TheVariants.{Object as ObjectRole, Index, Storage}
 use Rattle.best_fit.specs.Extents.{Extent, LiveSet}
@@ -15,7 +16,8 @@ use Rattle.seg_types.specs.Commands as asked
 use Rattle.seg_types.specs.Commands.{Command, Content, Literal, value_of_literal, is_changing}
 use Rattle.seg_vector.specs.Vector.{OwnedText}
 use Rattle.seg_index.specs.Index.{grown_capacity}
-use Rattle.segment_manager.specs.Directory.{Value, Numbers, Elements, Bytes, Pairs, Texts, Object, Directory, object_len, with_object, named_objects, unique_objects}
+use Rattle.segment_manager.specs.Directory.{Value, Numbers, Elements, Bytes, Pairs, Texts, Object, Directory}
+use Rattle.segment_manager.specs.Directory.{object_len, with_object, named_objects, unique_objects}
 use Rattle.segment_manager.specs.Answers.{Answer, Refused}
 
 -- a block to ask for: a new one, or one in the place of an old one
@@ -38,7 +40,8 @@ met l (Regrown old n) = regrow l old n
 abbrev pub perform : Directory → LiveSet → Plan → Answer × Directory
 perform d l (Refuse r) = (Refused r, d)
 perform d l (Reply answer after) = (answer, after)
-perform d l (Request need next) = elim (met l need) [ None ↦ (Refused NoSpace, d) | Some x ↦ perform d (resized l x) (next x) ]
+perform d l (Request need next) = elim
+    (met l need) [ None ↦ (Refused NoSpace, d) | Some x ↦ perform d (resized l x) (next x) ]
 
 -- go on with what there is, or refuse
 abbrev pub with : {A : Type 0} → Result A Refusal → (A → Plan) → Plan
@@ -49,7 +52,8 @@ with (Err r) next = Refuse r
 
 -- an index of so many places in a new block
 abbrev pub with_new_index : ℕ → (Table → Plan) → Plan
-with_new_index capacity next = Request (New Index (8 * capacity)) (λ x. next (record { capacity = capacity; extent = Some x }))
+with_new_index capacity next = Request (New Index (8 * capacity))
+    (λ x. next (record { capacity = capacity; extent = Some x }))
 
 -- an index that has so many entries, with a place for one more
 abbrev pub with_place : Table → ℕ → (Table → Plan) → Plan
@@ -63,7 +67,8 @@ with_entry d Unique next = with_place d.unique (length (unique_objects d)) (λ t
 
 -- storage for n elements, if there are any
 abbrev pub with_storage : ℕ → ℕ → (Table → Plan) → Plan
-with_storage each n next = if n == 0 then next no_table else Request (New Storage (each * n)) (λ x. next (record { capacity = n; extent = Some x }))
+with_storage each n next = if n == 0 then next no_table else Request (New Storage (each * n))
+    (λ x. next (record { capacity = n; extent = Some x }))
 
 -- storage for as many as the capacity says: as it is where there are so many places, else regrown
 abbrev pub with_capacity : ℕ → ℕ → Table → (Table → Plan) → Plan

@@ -1,5 +1,7 @@
 -- What each command does: an answer, and the directory after it.
-use Rattle.std.specs.Prelude.{ℕ, ◌-◌, ℤ, pos, nat_abs, Bool, true, false, ◌&&◌, Some, None, Result, Ok, Err, List, [], ◌∷◌, ◌++◌, length, map, insert, remove, slice_get, slice_set, take, replicate, ◌==◌, nat_lt, nat_le, int_lt, if◌then◌else◌}
+use Rattle.std.specs.Prelude.{ℕ, ◌-◌, ℤ, pos, nat_abs, Bool, true, false, ◌&&◌, Some, None, Result, Ok, Err, List, []}
+use Rattle.std.specs.Prelude.{◌∷◌, ◌++◌, length, map, insert, remove, slice_get, slice_set, take, replicate, ◌==◌}
+use Rattle.std.specs.Prelude.{nat_lt, nat_le, int_lt, if◌then◌else◌}
 use Rattle.block_tags.specs.declared.tile.Role.TheVariants.{Node}
 use Rattle.best_fit.specs.Extents.{handle, spans, free_bytes}
 use Rattle.best_fit.specs.Fit.{place, regrow}
@@ -18,9 +20,13 @@ use Rattle.seg_map.specs.Map.{pair_at, put_pair, remove_pair, node_len}
 use Rattle.seg_map.specs.Numbers.{NumberPair}
 use Rattle.segment_manager.specs.declared.modes.Mode.{Mode}
 use Rattle.segment_manager.specs.declared.modes.Mode.TheVariants.{Write, ReadOnly as ReadOnlyMode, CopyOnWrite}
-use Rattle.segment_manager.specs.Directory.{Value, Numbers, Elements, Bytes, Pairs, Texts, Object, Directory, live, object_at, kind_of, count_of, with_changed, without_object, named_objects, unique_objects}
-use Rattle.segment_manager.specs.Plan.{Plan, New, Refuse, Request, Reply, perform, with, with_new_index, with_storage, with_capacity, bare, with_owned_text, with_owned_texts, with_new_object}
-use Rattle.segment_manager.specs.Answers.{Answer, Done, Absent, Truth, Number, Made, Found, Element, TextElement, Shown, Told, Names, Kinds, Blocks, Refused}
+use Rattle.segment_manager.specs.Directory.{Value, Numbers, Elements, Bytes, Pairs, Texts, Object, Directory, live}
+use Rattle.segment_manager.specs.Directory.{object_at, kind_of, count_of, with_changed, without_object, named_objects}
+use Rattle.segment_manager.specs.Directory.{unique_objects}
+use Rattle.segment_manager.specs.Plan.{Plan, New, Refuse, Request, Reply, perform, with, with_new_index, with_storage}
+use Rattle.segment_manager.specs.Plan.{with_capacity, bare, with_owned_text, with_owned_texts, with_new_object}
+use Rattle.segment_manager.specs.Answers.{Answer, Done, Absent, Truth, Number, Made, Found, Element, TextElement, Shown}
+use Rattle.segment_manager.specs.Answers.{Told, Names, Kinds, Blocks, Refused}
 
 -- ---- the parts of a value
 
@@ -125,12 +131,14 @@ owned_text_at ps i = elim (slice_get ps i) [ None ↦ Err OutOfRange | Some p �
 -- what is assigned to a vector or text: as many places as are needed, where there are fewer
 abbrev pub assign : Directory → Object → Value → List Literal → Plan
 assign d o (Elements k zs t) ls =
-    with (values_of k ls) (λ new. with_capacity (size_of k) (length new) t (λ u. Reply Done (changed d o (Elements k new u))))
+    with (values_of k ls) (λ new. with_capacity (size_of k) (length new) t
+    (λ u. Reply Done (changed d o (Elements k new u))))
 assign d o (Bytes bs t) ls =
     with (text_among ls) (λ new. with_capacity 1 (length new) t (λ u. Reply Done (changed d o (Bytes new u))))
 assign d o (Texts ps t) [] = Reply Done (changed d o (Texts [] t))
 assign d o (Texts ps t) (l ∷ ls) =
-    with (texts_of (l ∷ ls)) (λ bss. with_storage 16 (length bss) (λ u. with_owned_texts bss (λ qs. Reply Done (changed d o (Texts qs u)))))
+    with (texts_of (l ∷ ls)) (λ bss. with_storage 16 (length bss)
+    (λ u. with_owned_texts bss (λ qs. Reply Done (changed d o (Texts qs u)))))
 assign d o v ls = Refuse WrongKind
 
 -- the commands on elements
@@ -140,13 +148,16 @@ get d v i = with (items_of v) (λ (k, zs). with (element_at zs i) (λ z. Reply (
 
 abbrev pub set : Directory → Object → Value → ℕ → Literal → Plan
 set d o (Texts ps t) i l =
-    with (text_of_literal l) (λ bs. with (owned_text_at ps i) (λ old. with_owned_text bs (λ p. Reply Done (changed d o (Texts (slice_set ps i p) t)))))
+    with (text_of_literal l) (λ bs. with (owned_text_at ps i)
+    (λ old. with_owned_text bs (λ p. Reply Done (changed d o (Texts (slice_set ps i p) t)))))
 set d o v i l =
-    with (items_of v) (λ (k, zs). with (value_of_literal k l) (λ z. with (element_at zs i) (λ old. Reply Done (changed d o (with_items v (slice_set zs i z))))))
+    with (items_of v) (λ (k, zs). with (value_of_literal k l)
+    (λ z. with (element_at zs i) (λ old. Reply Done (changed d o (with_items v (slice_set zs i z))))))
 
 abbrev pub push : Directory → Object → Value → Literal → Plan
 push d o (Texts ps t) l =
-    with (text_of_literal l) (λ bs. with_capacity 16 (capacity_for_one (length ps) t.capacity) t (λ u. with_owned_text bs (λ p.
+    with (text_of_literal l) (λ bs. with_capacity 16 (capacity_for_one (length ps) t.capacity) t
+    (λ u. with_owned_text bs (λ p.
     Reply Done (changed d o (Texts (ps ++ p ∷ []) u)))))
 push d o v l =
     with (vector_of v) (λ (k, zs, t). with (value_of_literal k l) (λ z.
@@ -155,7 +166,8 @@ push d o v l =
 
 abbrev pub pop : Directory → Object → Value → Plan
 pop d o (Texts ps t) =
-    with (owned_text_at ps (length ps - 1)) (λ p. Reply (TextElement p.bytes) (changed d o (Texts (take (length ps - 1) ps) t)))
+    with (owned_text_at ps (length ps - 1))
+    (λ p. Reply (TextElement p.bytes) (changed d o (Texts (take (length ps - 1) ps) t)))
 pop d o v =
     with (vector_of v) (λ (k, zs, t). with (element_at zs (length zs - 1)) (λ z.
     Reply (Element k z) (changed d o (Elements k (take (length zs - 1) zs) t))))
@@ -174,7 +186,8 @@ insert_at d o v i l =
 abbrev pub erase : Directory → Object → Value → ℕ → Plan
 erase d o (Texts ps t) i = with (owned_text_at ps i) (λ p. Reply Done (changed d o (Texts (remove ps i) t)))
 erase d o v i =
-    with (vector_of v) (λ (k, zs, t). with (element_at zs i) (λ z. Reply Done (changed d o (Elements k (remove zs i) t))))
+    with (vector_of v) (λ (k, zs, t). with (element_at zs i)
+    (λ z. Reply Done (changed d o (Elements k (remove zs i) t))))
 
 abbrev pub put : Directory → Object → ScalarKind → ScalarKind → List NumberPair → List ℤ → Plan
 put d o k v ps (x ∷ y ∷ []) = elim (pair_at int_lt ps x) [
@@ -236,13 +249,18 @@ effect d (asked.Append key more) =
     with_capacity 1 (capacity_for_text (length (bs ++ more)) t.capacity) t (λ u.
     Reply Done (changed d o (Bytes (bs ++ more) u)))))
 effect d (asked.Put key l m) =
-    with (found_at d key) (λ o. with (map_of o.value) (λ (k, v, ps). with (pair_of k v l m) (λ new. put d o k v ps new)))
+    with (found_at d key) (λ o. with (map_of o.value)
+    (λ (k, v, ps). with (pair_of k v l m) (λ new. put d o k v ps new)))
 effect d (asked.Lookup key l) =
     with (found_at d key) (λ o. with (map_of o.value) (λ (k, v, ps). with (value_of_literal k l) (λ x.
     elim (pair_at int_lt ps x) [ None ↦ Reply Absent d | Some p ↦ Reply (Element v p.value) d ])))
 effect d (asked.Remove key l) =
     with (found_at d key) (λ o. with (map_of o.value) (λ (k, v, ps). with (value_of_literal k l) (λ x.
-    elim (pair_at int_lt ps x) [ None ↦ Reply (Truth false) d | Some p ↦ Reply (Truth true) (changed d o (Pairs k v (remove_pair int_lt ps x))) ])))
+    elim (pair_at int_lt ps x) [
+      | None ↦ Reply (Truth false) d
+      | Some p ↦ Reply (Truth true)
+          (changed d o (Pairs k v (remove_pair int_lt ps x)))
+    ])))
 effect d asked.ListNames = Reply (Names (named_objects d)) d
 effect d asked.ListKinds = Reply (Kinds (unique_objects d)) d
 effect d asked.ListBlocks = Reply (Blocks (spans (live d))) d

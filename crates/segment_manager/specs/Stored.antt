@@ -24,7 +24,8 @@ use Rattle.segment_manager.specs.Step.{is_read_only}
 
 -- the container of the object of the key, an object of the kind, stands there
 abbrev pub StandsThere : Cut → Kind → Place → Key → Type 0
-StandsThere c kind p key = (d : Directory) → StandsFor c.bytes d → (let r : Result Place Refusal = Ok p in r) ≡ container_at d key kind
+StandsThere c kind p key = (d : Directory) → StandsFor c.bytes d
+    → (let r : Result Place Refusal = Ok p in r) ≡ container_at d key kind
 
 -- that of some key does
 abbrev pub HasContainer : Cut → Kind → Place → Type 0
@@ -32,7 +33,8 @@ HasContainer c kind p = IsSegment c.bytes × ((key : Key) × StandsThere c kind 
 
 -- how many elements it has, and how many places
 abbrev pub TellsSizes : Cut → Kind → Place → ℕ × ℕ → Type 0
-TellsSizes c kind p sizes = (key : Key) → StandsThere c kind p key → (d : Directory) → StandsFor c.bytes d → (let r : Result (ℕ × ℕ) Refusal = Ok sizes in r) ≡ sizes_at_kind d key kind
+TellsSizes c kind p sizes = (key : Key) → StandsThere c kind p key → (d : Directory) → StandsFor c.bytes d
+    → (let r : Result (ℕ × ℕ) Refusal = Ok sizes in r) ≡ sizes_at_kind d key kind
 
 -- A call that changes it is one step of the machine, and where it is refused nothing changes.
 pub record AnswersSafely {R : Type 0} (says : Result R Refusal → Answer) (s : State) (new : Cut) (key : Key)
@@ -47,11 +49,13 @@ StepsSafely = AnswersSafely done_answer
 -- the same at its place, in a segment that may be changed
 abbrev pub StepsThere : Cut → Cut → Kind → Place → (Key → Command) → Result (Unit {0}) Refusal → Type 0
 StepsThere old new kind p command result =
-    (mode : Mode) (key : Key) → is_read_only mode ≡ false → StandsThere old kind p key → StepsSafely (record { cut = old; mode = mode }) new key kind (command key) result
+    (mode : Mode) (key : Key) → is_read_only mode ≡ false → StandsThere old kind p key
+    → StepsSafely (record { cut = old; mode = mode }) new key kind (command key) result
 
 -- nothing changes where this holds of it
 abbrev pub KeepsThere : Cut → Cut → Kind → Place → (Key → Directory → Type 0) → Type 0
-KeepsThere old new kind p holds = (key : Key) → StandsThere old kind p key → (d : Directory) → StandsFor old.bytes d → holds key d → new ≡ old
+KeepsThere old new kind p holds = (key : Key) → StandsThere old kind p key → (d : Directory) → StandsFor old.bytes d
+    → holds key d → new ≡ old
 
 -- ---- what is done with storage
 

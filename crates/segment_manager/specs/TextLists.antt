@@ -10,4 +10,5 @@ use Rattle.segment_manager.specs.Step.{step_of_kind}
 
 -- it is refused exactly where the step is, for the same reason, and else it is not; it leads to the step's directory
 abbrev pub LeadsOnOfKind : State → State → Key → Kind → Command → Option Refusal → Type 0
-LeadsOnOfKind old new key kind c refusal = Moves old new refusal (λ d. (refusal_of (step_of_kind old.mode d key kind c).0, (step_of_kind old.mode d key kind c).1))
+LeadsOnOfKind old new key kind c refusal = Moves old new refusal
+    (λ d. (refusal_of (step_of_kind old.mode d key kind c).0, (step_of_kind old.mode d key kind c).1))

@@ -60,7 +60,8 @@ item_seen (x, y) = ((kind_of_scalar x, value_of_scalar x), (kind_of_scalar y, va
 -- ---- what is read of a map of which it is not known whether it is one
 
 -- a key and a value, or none, as numbers
-abbrev pub numbers_read : {K V : Type 0} → (K → ℤ) → (V → ℤ) → Result (Option (K × V)) Refusal → Result (Option (ℤ × ℤ)) Refusal
+abbrev pub numbers_read : {K V : Type 0} → (K → ℤ) → (V → ℤ) → Result (Option (K × V)) Refusal
+    → Result (Option (ℤ × ℤ)) Refusal
 numbers_read k v (Ok None) = Ok None
 numbers_read k v (Ok (Some (x, y))) = Ok (Some (k x, v y))
 numbers_read k v (Err why) = Err why

@@ -1,12 +1,11 @@
 //! The pairs of objects that are maps, read and changed.
 ghost use Rattle.std.specs.Prelude.{◌≡◌, OnErr};
-ghost use Rattle.seg_types.specs.declared.kinds.Kind.TheVariants.{Map as MapOf};
 ghost use Rattle.seg_types.specs.Commands.{Lookup, Put, Remove, literal_of};
-ghost use Rattle.segment_manager.specs.Keeping.{KeepsWhere, LacksPair};
+ghost use Rattle.seg_types.specs.declared.kinds.Kind.TheVariants.{Map as MapOf};
 ghost use Rattle.segment_manager.specs.Maps.{map_at, pair_above, pair_at_end, pair_below, pair_from, pair_result};
-ghost use Rattle.segment_manager.specs.Maps.{pair_up_to, told_of_map, value_answer};
 ghost use Rattle.segment_manager.specs.State.{Answers, IsReplyOfKind, IsStepOfKind, truth_answer};
-ghost use Rattle.segment_manager.specs.Walks.{pair_past};
+ghost use Rattle.segment_manager.specs.{Maps.pair_up_to, Maps.told_of_map, Maps.value_answer, Walks.pair_past};
+ghost use Rattle.segment_manager.specs.Keeping.{KeepsWhere, LacksPair};
 
 use crate::segment::Segment;
 use crate::targets::Target;

@@ -3,7 +3,6 @@ ghost use Rattle.std.specs.Prelude.{length, true, MatchResult, ◌≡◌, Ok, Er
 ghost use Rattle.raw_region.specs.Format.{current};
 ghost use Rattle.best_fit.specs.Heap.{IsHeap};
 ghost use Rattle.seg_types.specs.{Names.ByHandle, Keys.key_seen};
-ghost use Rattle.seg_index.specs.Held.{HasIndex, entry_count, place_of};
 ghost use Rattle.segment_manager.specs.Directory.{Object, named_objects, unique_objects, count_of};
 ghost use Rattle.segment_manager.specs.{Found.IsBelow, Found.is_object_at, Indexed.objects_of, Standing.HasObject};
 ghost use Rattle.segment_manager.specs.{Standing.StandsAt, State.Answers, Calls.kind_at, Calls.told_at};

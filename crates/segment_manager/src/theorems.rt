@@ -3,8 +3,12 @@ ghost use Rattle.std.specs.Prelude.{◌≡◌};
 ghost use Rattle.raw_region.specs.Format.{current};
 ghost use Rattle.segment_manager.specs.{Denotes.magic_number, Denotes.two_halves, Entries.IndexesFollowObjects};
 ghost use Rattle.segment_manager.specs.{Heads.EntriesSayObjects, OwnedTexts.TextsArePlaced, Staying.ObjectsStay};
-ghost use Rattle.segment_manager.specs.Laws.{CountedAreBelow, HandlesMeanObjects, KeysMeanObjects, KeysOfKindMeanObjects, ReadsChangeNothing, ReadsOfKindChangeNothing, PoppedTextsLeadOn, RefusalsChangeNothing, RefusalsOfKindChangeNothing, RefusedCallsStay, StepsLeadOn};
-ghost use Rattle.segment_manager.specs.Layout.{format_at, head_len, magic_at, name_class_at, named_at, reserved_at, size_at, unique_at};
+ghost use Rattle.segment_manager.specs.Laws.{CountedAreBelow, HandlesMeanObjects, KeysMeanObjects};
+ghost use Rattle.segment_manager.specs.Laws.{KeysOfKindMeanObjects, ReadsChangeNothing, ReadsOfKindChangeNothing};
+ghost use Rattle.segment_manager.specs.Laws.{PoppedTextsLeadOn, RefusalsChangeNothing, RefusalsOfKindChangeNothing};
+ghost use Rattle.segment_manager.specs.Laws.{RefusedCallsStay, StepsLeadOn};
+ghost use Rattle.segment_manager.specs.Layout.{format_at, head_len, magic_at, name_class_at, named_at, reserved_at};
+ghost use Rattle.segment_manager.specs.Layout.{size_at, unique_at};
 
 use crate::layout::{
     FORMAT, FORMAT_AT, HALF, HEAD_LEN, MAGIC, MAGIC_AT, NAME_CLASS_AT, NAMED_AT, RESERVED_AT,

@@ -1,7 +1,9 @@
 -- One that is written over lies in the storage; before one that is put in, those from the place on move up.
 use Rattle.seg_vector.proofs.{take, drop, ◌++◌, ℕ, ◌*◌, ◌+◌, ◌-◌, ◌<◌, ◌≤◌, sym, subst, ◌∙◌, arith, IsTrue, Stands}
-use Rattle.seg_vector.proofs.{IsRewritten, IsChanged, live_of, has_room, current, changed-room, Fitting, at-least, PutsAt}
-use Rattle.seg_vector.proofs.{bytes_of, capacity-bytes, element-fits, insert-fits, overwritten, part-room, place_at, put_in}
+use Rattle.seg_vector.proofs.{IsRewritten, IsChanged, live_of, has_room, current, changed-room, Fitting, at-least}
+use Rattle.seg_vector.proofs.{PutsAt}
+use Rattle.seg_vector.proofs.{bytes_of, capacity-bytes, element-fits, insert-fits, overwritten, part-room, place_at}
+use Rattle.seg_vector.proofs.{put_in}
 use Rattle.seg_vector.proofs.{room-small, some-room, word_at}
 use Rattle.seg_vector.specs.Elements.{HasSpot}
 use Rattle.seg_vector.proofs.elements.put_at.Goals.{In-Over, In-Some, In-Some-link_of}
@@ -37,7 +39,8 @@ returns-in-Some c =
 
 -- there is a place more, and the index is none behind the end
 before : (c : In-Some-link_of) → let b = c.args.heap.now.bytes in let at = place_at c.args.place in
-    (word_at (bytes_of b) (at + 8) < word_at (bytes_of b) (at + 16)) × (c.in-Before.index ≤ word_at (bytes_of b) (at + 8))
+    (word_at (bytes_of b) (at + 8) < word_at (bytes_of b) (at + 16))
+    × (c.in-Before.index ≤ word_at (bytes_of b) (at + 8))
 before c = subst (λ spot. HasSpot c.args.heap.now.bytes c.args.place spot) c.in-Before.is c.requires.spot
 
 fits : (c : In-Some-link_of) → Fitting (live_of c.args.heap.now.bytes) c.args.each c.in-Before.index
@@ -85,7 +88,8 @@ returns-in-Some-link_of c =
     let is = c.len_of-len.ensures ∙ s.words.len_word in let at : ℕ = k * c.in-Before.index in
     let now = subst (λ n. Stands A.bytes p k n t bytes) (sym is) s in
     subst (λ n. IsRewritten A D p k (n + 1) t (take at bytes ++ (more ++ drop at bytes))) is
-    (put_in {old = A} {s1 = c.copy.new.self} {s2 = c.write-in-Some-link_of.new.self} {new = D} c.in-Before.index more now
+    (put_in {old = A} {s1 = c.copy.new.self} {s2 = c.write-in-Some-link_of.new.self} {new = D} c.in-Before.index more
+    now
     (omega (arith, h.1, now.words.len_word)) (omega (arith, h.0, now.words.len_word, now.words.capacity))
     c.requires.long (sym c.link_of-in-Before.ensures ∙ c.in-Some-link_of.is) c.copy.ensures.change
     c.copy.ensures.content

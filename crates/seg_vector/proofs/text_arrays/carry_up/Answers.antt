@@ -1,6 +1,7 @@
 -- The last element that has not moved moves up, and it is the one that it was.
 use Rattle.seg_vector.proofs.{◌≡◌, subst, ◌+◌, ◌-◌, ◌*◌, ◌%◌, arith, IfSome, current, bytes_of, link_at, IsChanged}
-use Rattle.seg_vector.proofs.{ℕ, laid-heap, live_of, changed-room, room-less, unchanged, even-now, up-changed, up-next, up-source}
+use Rattle.seg_vector.proofs.{ℕ, laid-heap, live_of, changed-room, room-less, unchanged, even-now, up-changed, up-next}
+use Rattle.seg_vector.proofs.{up-source}
 use Rattle.seg_vector.proofs.text_arrays.carry_up.Goals as goal
 
 pub loop-i-init : goal.loop-i-init
@@ -21,7 +22,8 @@ carry_element-requires c =
       element = record {
         whole = omega (arith, c.requires.whole);
         room = changed-room _ _ _ _ _ c.args.array (place + 16) v.change
-            (room-less l c.args.array (c.args.at + 16 * c.args.n + 16) (place + 16) (omega (arith, is)) c.requires.room);
+            (room-less l c.args.array (c.args.at + 16 * c.args.n + 16) (place + 16)
+            (omega (arith, is)) c.requires.room);
       };
       room = record {
         heap = laid-heap _ _ v.change.live;

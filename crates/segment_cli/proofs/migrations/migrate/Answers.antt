@@ -11,7 +11,8 @@ pub returns-in_err-segment-clause-migrates : goal.returns-in_err-segment-clause-
 returns-in_err-segment-clause-migrates g c =
     let p = err_from_is_err_and c.from_residual.result c.from_residual.ensures.1 in
     rw (p.1, p.2) (not-migrated c.args.region c.args.base _ _
-    (taken_since (g.W.Sink.history c.args.image_out.now) (g.W.Sink.history c.args.image_out.now)) c.in_err-segment.field-0.0 c.in_err-segment.ensures.opens
+    (taken_since (g.W.Sink.history c.args.image_out.now) (g.W.Sink.history c.args.image_out.now))
+    c.in_err-segment.field-0.0 c.in_err-segment.ensures.opens
     (not_written (g.W.Sink.history c.args.image_out.now)))
 
 pub returns-in-Ok-clause-migrates : goal.returns-in-Ok-clause-migrates

@@ -1,8 +1,10 @@
 -- In the block that the index has the links behind the place make way; in that of the growth they are put round the new
 -- one, and then the block is the index's.
 use Rattle.seg_index.proofs.{◌≡◌, ap, ap₂, refl, sym, subst, ◌∙◌, ℕ, ◌+◌, ◌-◌, ◌*◌, ◌%◌, ◌<◌, Option, IfSome, List}
-use Rattle.seg_index.proofs.{arith, insert, length-insert, current, LiveSet, LaysOut, IsBlockFor, without_link, IsIndexOf}
-use Rattle.seg_index.proofs.{block_and_count, capacity_at, capacity_small, filled, gaps_kept, grown_capacity, has_places}
+use Rattle.seg_index.proofs.{arith, insert, length-insert, current, LiveSet, LaysOut, IsBlockFor, without_link}
+use Rattle.seg_index.proofs.{IsIndexOf}
+use Rattle.seg_index.proofs.{block_and_count, capacity_at, capacity_small, filled, gaps_kept, grown_capacity}
+use Rattle.seg_index.proofs.{has_places}
 use Rattle.seg_index.proofs.{in_header, index_in, insert_all, inserted, links_lead, offer, place_of, same_live, source}
 use Rattle.seg_index.proofs.{target, written, written_both, written_keeps, IsChanged, Offer, Placed, bytes_of, link_at}
 use Rattle.best_fit.specs.Table.{Table as ATable}
@@ -71,7 +73,8 @@ given : (c : After-unwrap_or-from) {t : ATable} {hs : List ℕ} → IsIndexOf c.
     })
 given c i =
     let g = subst (λ b. CanGrow c.args.heap.now (place_of c.args.self) b) c.in-Some.is c.requires.growth in
-    offer (in_header c.args.self) c.place-in-Some.ensures c.header_link-in-Some.ensures c.unwrap_or-from.ensures g.0 g.1 i
+    offer (in_header c.args.self) c.place-in-Some.ensures c.header_link-in-Some.ensures c.unwrap_or-from.ensures g.0 g.1
+    i
 
 -- all that is written in it
 all : (c : After-spread-in-Some) → IsChanged current c.args.heap.now c.spread-in-Some.new.heap (c.in-Some.block + 0)
@@ -114,7 +117,8 @@ pub settle-requires : goal.settle-requires
 settle-requires c =
     let at = goal.at.settle-requires c in
     let cap = c.grown-capacity.ensures ∙ ap grown_capacity c.capacity.ensures.word in
-    let p = written (given at.After-unwrap_or-from c.requires.index.index) (all at.After-spread-in-Some) (omega arith) in
+    let p = written (given at.After-unwrap_or-from c.requires.index.index) (all at.After-spread-in-Some)
+    (omega arith) in
     record {
       heap = p.index.heap;
       block = subst (λ k. IsBlockFor c.spread-in-Some.new.heap c.in-Some.block k) (sym cap) p.offered;

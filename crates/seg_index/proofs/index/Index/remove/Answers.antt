@@ -1,6 +1,7 @@
 -- The links behind the place close up.
 use Rattle.seg_index.proofs.{◌≡◌, ◌+◌, ◌-◌, ◌*◌, subst, arith, current, bytes_of, AllLead, LiveSet, LaysOut, same_live}
-use Rattle.seg_index.proofs.{ℕ, List, IsIndexOf, place_of, has_places, in_header, links_lead, block_and_count, gaps_kept, removed}
+use Rattle.seg_index.proofs.{ℕ, List, IsIndexOf, place_of, has_places, in_header, links_lead, block_and_count}
+use Rattle.seg_index.proofs.{gaps_kept, removed}
 use Rattle.best_fit.specs.Table.{Table as ATable}
 use Rattle.seg_index.proofs.index.Index.remove.Goals as goal
 

@@ -1,5 +1,6 @@
 -- The block goes, or is cut.
-use Rattle.seg_index.proofs.{ap, sym, ◌∙◌, Cut, live_of, same_live, in_header, leads_from, placed, emptied, shrunk_bare, shrunk_empty, shrunk_short}
+use Rattle.seg_index.proofs.{ap, sym, ◌∙◌, Cut, live_of, same_live, in_header, leads_from, placed, emptied, shrunk_bare}
+use Rattle.seg_index.proofs.{shrunk_empty, shrunk_short}
 use Rattle.seg_index.proofs.index.Index.shrink.Goals as goal
 
 pub returns-in_default-clause-shrunk : goal.returns-in_default-clause-shrunk

@@ -1,6 +1,7 @@
 -- The node enters the tree, and the three words say so.
 use Rattle.seg_map.proofs.{sym, ap, ◌∙◌, ◌+◌, ◌-◌, Some, arith, bits, laws, can_link, few_steps, fewer}
-use Rattle.seg_map.proofs.{kept_proper, kept_room, own_nodes, planted, planted_tree, relinked, rules, top_whole, Relinked}
+use Rattle.seg_map.proofs.{kept_proper, kept_room, own_nodes, planted, planted_tree, relinked, rules, top_whole}
+use Rattle.seg_map.proofs.{Relinked}
 use Rattle.link_tree.specs.Nodes.{put}
 use Rattle.seg_map.proofs.Entering.{few_in_map}
 use Rattle.seg_map.specs.Linking.{keys_in}

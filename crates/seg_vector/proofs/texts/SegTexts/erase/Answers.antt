@@ -1,6 +1,7 @@
 -- The block of the text is released, those behind it move down, and then the length is written.
 use Rattle.seg_vector.proofs.{ℕ, inl, sym, ◌∙◌, ◌+◌, ◌-◌, ◌*◌, arith, length, bytes_of, live_of, changed-room}
-use Rattle.seg_vector.proofs.{room-less, IsHead, head-room, len-room, IsArrayLeft, even-from, no-array, none-left, erased-by, left}
+use Rattle.seg_vector.proofs.{room-less, IsHead, head-room, len-room, IsArrayLeft, even-from, no-array, none-left}
+use Rattle.seg_vector.proofs.{erased-by, left}
 use Rattle.seg_vector.proofs.{has-element}
 use Rattle.seg_vector.proofs.texts.SegTexts.erase.Goals.{After-release_text}
 use Rattle.seg_vector.proofs.texts.SegTexts.erase.Goals as goal

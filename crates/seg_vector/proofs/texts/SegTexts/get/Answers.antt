@@ -1,5 +1,6 @@
 -- The element is in the array, and the text is the front of its block.
-use Rattle.seg_vector.proofs.{◌≡◌, sym, ap, ◌∙◌, ◌+◌, ◌*◌, ◌<◌, ◌≤◌, ℕ, IsTrue, has_room, arith, length, take, bytes_of, live_of, word_at, List, Some}
+use Rattle.seg_vector.proofs.{◌≡◌, sym, ap, ◌∙◌, ◌+◌, ◌*◌, ◌<◌, ◌≤◌, ℕ, IsTrue, has_room, arith, length, take, bytes_of}
+use Rattle.seg_vector.proofs.{live_of, word_at, List, Some}
 use Rattle.seg_vector.proofs.{IsTextElement, IsTexts, OwnedText, block-front, block-live, element-of, empty-text}
 use Rattle.seg_vector.proofs.{has-element, option_map, room-less, slice_get, text-block}
 use Rattle.best_fit.specs.Table.{Table as ATable}

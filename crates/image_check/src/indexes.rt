@@ -159,8 +159,8 @@ fn enter_all(
     true
 }
 
-/// The number of the block to which the link in a place of a block leads, if the place is one of the first `count` and the
-/// link leads to one; else any. At most two visits.
+/// The number of the block to which the link in a place of a block leads, if the place is one of the first `count` and
+/// the link leads to one; else any. At most two visits.
 fn number_later(
     window: &ImageWindow,
     blocks: &Blocks,

@@ -4,7 +4,8 @@ ghost use Rattle.raw_region.specs.Memory.{bytes_of};
 ghost use Rattle.offset_link.specs.Link.{link_at};
 ghost use Rattle.seg_index.specs.Keys.{name_len_at};
 ghost use Rattle.image_check.specs.ObjectTests.{has_index, targets};
-ghost use Rattle.image_check.specs.ObjectPasses.{HaveHeads, LeadToHeads, LeadsElsewhere, are_ranked, entry_rates, follows as comes_behind, key_before};
+ghost use Rattle.image_check.specs.ObjectPasses.{HaveHeads, LeadToHeads, LeadsElsewhere, are_ranked, entry_rates};
+ghost use Rattle.image_check.specs.ObjectPasses.{follows as comes_behind, key_before};
 ghost use Rattle.image_check.specs.Owners.{IsIndexPlace};
 ghost use Rattle.image_check.specs.Entered.{links_in};
 ghost use Rattle.image_check.specs.Passes.{HasTiles, tiles_in};
@@ -59,8 +60,8 @@ fn rise(window: &ImageWindow, visits: &mut Visits, block: u64, count: u64, class
     true
 }
 
-/// Whether the link in a place of a block, if the place is one of the first `count`, leads to an object of another class.
-/// At most two visits.
+/// Whether the link in a place of a block, if the place is one of the first `count`, leads to an object of another
+/// class. At most two visits.
 fn leads_elsewhere(
     window: &ImageWindow,
     visits: &mut Visits,

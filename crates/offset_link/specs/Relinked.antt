@@ -24,8 +24,8 @@ pub record NoneIsNull (m : Memory) (at n : ℕ) : Type 0 where
 abbrev pub AreEven : ℕ → ℕ → Type 0
 AreEven a b = (a % 2 ≡ 0) × (b % 2 ≡ 0)
 
--- the bytes of the n words from an offset on, once they stand at another: each has become what f says of the two offsets
--- and of itself
+-- the bytes of the n words from an offset on, once they stand at another: each has become what f says of the two
+-- offsets and of itself
 abbrev pub reworded : (ℕ → ℕ → ℕ → ℕ) → Memory → ℕ → ℕ → ℕ → List ℕ
 reworded f m at to zero = []
 reworded f m at to (suc n) = word_bytes (f at to (word_at m at)) ++ reworded f m (at + 8) (to + 8) n

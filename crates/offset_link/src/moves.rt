@@ -454,7 +454,7 @@ fn moved(bytes: &[u8], from: usize, to: usize) -> u64
     moved_by_distance(bytes, from, to)
 }
 
-/// The same of a link that is not null, without a branch.
+/// The word at `from`, less the distance: that of the same link, where it is not null.
 #[inline(always)]
 fn moved_by_distance(bytes: &[u8], from: usize, to: usize) -> u64
     requires { from + 8 ≤ length bytes.now }
@@ -463,7 +463,7 @@ fn moved_by_distance(bytes: &[u8], from: usize, to: usize) -> u64
     less_distance(word_in(bytes, from), from, to)
 }
 
-/// The word of a link that is not null, with `word` at `from`, once it stands at `to`.
+/// A word at `from`, less the distance to `to`.
 #[inline(always)]
 fn less_distance(word: u64, from: usize, to: usize) -> u64
     ensures { result ≡ by_distance from to word }

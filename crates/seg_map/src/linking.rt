@@ -38,7 +38,7 @@ impl<K: Plain, V: Plain> SegMap<K, V> {
     pub(crate) fn give_up(self, heap: &mut Heap, start: Option<u64>, node: u64, steps: &mut Steps)
         requires { CanGiveUp K.Plain V.Plain heap.old self.place.handle self.place.at start node }
         ensures dropped { Drops K.Plain V.Plain heap.old heap.new self.place.handle self.place.at node }
-        ensures counted { steps.old < steps.new }
+        ensures counted { steps.old + 1 < steps.new }
         ensures steps { TreeSteps K.Plain V.Plain heap.old self.place.handle self.place.at
             (heap_touches (live_of heap.old.bytes)) steps.old steps.new }
     {

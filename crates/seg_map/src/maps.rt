@@ -91,7 +91,7 @@ impl<K: Plain, V: Plain> SegMap<K, V> {
         ensures erased { Erases K.Plain V.Plain heap.old heap.new self.place.handle self.place.at key result }
         ensures counted { steps.old ≤ steps.new }
         ensures steps { ChangeSteps K.Plain V.Plain heap.old self.place.handle self.place.at steps.old steps.new }
-        ensures went { result ≡ true → LooksUpFirst K.Plain V.Plain heap.old self.place key 1 steps.old steps.new }
+        ensures went { result ≡ true → LooksUpFirst K.Plain V.Plain heap.old self.place key 2 steps.old steps.new }
         ensures exact { result ≡ false → LookUpTakes K.Plain V.Plain heap.old self.place false key steps.old steps.new }
         ensures absent { result ≡ false → heap.new ≡ heap.old }
     {

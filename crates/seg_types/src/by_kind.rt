@@ -1,4 +1,4 @@
-//! The one place where a kind or a value that is known only at run time leads to code for its type.
+//! Where a kind or a value that is known only at run time leads to the same code for its type.
 
 /// The same code for the type of each kind: `work!(bool, Bool)`, with the type and with the name that it has in
 /// [`ScalarKind`](crate::ScalarKind) and [`ScalarValue`](crate::ScalarValue), and so on for each of the five.

@@ -51,7 +51,7 @@ impl Segment {
     ///
     /// # Conditions and errors
     ///
-    /// `OutOfRange` where `count` is 0 or above 1048576: nothing changes. Else as of `construct`.
+    /// `OutOfRange` where `count` is 0 or above 1048576: nothing changes. Else as of `construct`, but for the count.
     pub fn construct_array<T: Scalar, D: Destination>(
         &mut self,
         key: &D,

@@ -56,10 +56,10 @@ impl Segment {
     ///
     /// Example: `segment.construct_values(&name, ScalarKind::I64, 5, &mut values)?`.
     ///
-    /// # Conditions
+    /// # Conditions and errors
     ///
     /// `count` is from 1 to 1048576, and each item is of the kind. `construct_it` takes items of a type and has no such
-    /// condition. Else conditions and errors are as of `construct_it`.
+    /// condition. The other conditions are as of `construct_it`, and the errors are its others.
     pub fn construct_values<I: Iterator<Item = ScalarValue>, D: Destination>(
         &mut self,
         key: &D,

@@ -55,13 +55,14 @@ impl Segment {
         self.find_or_construct_under(key, &NewNumbers { count, value })
     }
 
-    /// The same for an array, of any `count`.
+    /// The same where the count is known only when the program runs.
     ///
     /// Example: `let (handle, count) = segment.find_or_construct_array(&name, count, 0u8)?`.
     ///
     /// # Conditions and errors
     ///
-    /// `OutOfRange` where `count` is 0 or above 1048576: nothing changes. Else as of `find_or_construct`.
+    /// `OutOfRange` where `count` is 0 or above 1048576: nothing changes. Else as of `find_or_construct`, but for the
+    /// count.
     pub fn find_or_construct_array<T: Scalar, D: IndexDestination>(
         &mut self,
         key: &D,

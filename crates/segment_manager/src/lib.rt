@@ -3,8 +3,8 @@
 //! What a segment holds is a directory, a finite map from handles to objects with their values and blocks. Each call
 //! is one step of the directory machine: from the directory that the bytes denote to the one that they denote then.
 //!
-//! No method of a [`Segment`] has a condition on what the segment holds: they answer or refuse. Those that have one say
-//! so under `# Conditions`, or name the call that does, and how a caller meets it. There are three sorts:
+//! No method of a [`Segment`] has a condition on what the segment holds: they answer or refuse. Those that have another
+//! say under `# Conditions` how a caller meets it, or name the call that says it. There are three sorts:
 //! - a number is in range: the count of `construct` and `find_or_construct`, the base of `create` and `relocate`;
 //! - a key suits the kind of what is made ([`Destination`]);
 //! - an iterator may be asked for its next item, and each that `construct_values` takes is of the kind.

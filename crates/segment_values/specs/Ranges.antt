@@ -1,5 +1,6 @@
 -- Elements of an array or a vector of scalars that are read, or written, by one call: so many from a place on.
-use Rattle.std.specs.Prelude.{ℕ, ◌+◌, ℤ, Bool, ◌||◌, Option, Some, None, Result, Ok, Err, List, [], ◌∷◌, drop, length, map, nat_le, slice_set, take, if◌then◌else◌}
+use Rattle.std.specs.Prelude.{ℕ, ◌+◌, ℤ, Bool, ◌||◌, Option, Some, None, Result, Ok, Err, List, [], ◌∷◌, drop, length}
+use Rattle.std.specs.Prelude.{map, nat_le, slice_set, take, if◌then◌else◌}
 use Rattle.seg_types.specs.declared.kinds.Kind.{Kind}
 use Rattle.seg_types.specs.declared.kinds.Kind.TheVariants.{Scalar, Vector}
 use Rattle.seg_types.specs.declared.kinds.ScalarKind.{ScalarKind}

@@ -1,5 +1,6 @@
 //! Elements of arrays and vectors of scalars, so many read by one call.
-ghost use Rattle.std.specs.Prelude.{◌≡◌, ◌+◌, ◌<◌, ◌≤◌, ◌^◌, OnErr, Some, drop, length, map, nat_le, slice_get, take, true};
+ghost use Rattle.std.specs.Prelude.{◌≡◌, ◌+◌, ◌<◌, ◌≤◌, ◌^◌, OnErr, Some, drop, length, map, nat_le, slice_get, take};
+ghost use Rattle.std.specs.Prelude.{true};
 ghost use Rattle.seg_types.specs.Keys.{key_seen};
 ghost use Rattle.seg_types.specs.Names.{ByHandle};
 ghost use Rattle.segment_manager.specs.Directory.{Directory};

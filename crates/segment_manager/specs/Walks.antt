@@ -66,7 +66,13 @@ numbers_read k v (Ok None) = Ok None
 numbers_read k v (Ok (Some (x, y))) = Ok (Some (k x, v y))
 numbers_read k v (Err why) = Err why
 
--- the key and the value are of these kinds
+-- the value is of a kind
+abbrev pub HasValueOf : {K : Type 0} → ScalarKind → Result (Option (K × ScalarValue)) Refusal → Type 0
+HasValueOf v (Ok None) = ⊤
+HasValueOf v (Ok (Some (x, y))) = kind_of_scalar y ≡ v
+HasValueOf v (Err why) = ⊤
+
+-- and so is the key
 abbrev pub AreOfKinds : ScalarKind → ScalarKind → Result (Option (ScalarValue × ScalarValue)) Refusal → Type 0
 AreOfKinds k v (Ok None) = ⊤
 AreOfKinds k v (Ok (Some (x, y))) = (kind_of_scalar x ≡ k) × (kind_of_scalar y ≡ v)

@@ -3,12 +3,12 @@ ghost use Rattle.std.specs.Prelude.{◌≡◌, option_map};
 ghost use Rattle.seg_types.specs.{Kinds.lowest, Values.kind_of_scalar, Values.value_of_scalar};
 ghost use Rattle.seg_map.specs.Places.{item_of};
 ghost use Rattle.segment_manager.specs.{Maps.pair_above, Maps.told_of_map, State.Answers};
-ghost use Rattle.segment_manager.specs.Walks.{AreOfKinds, IsMap, first_of, item_of_kinds, item_seen, numbers_read};
-ghost use Rattle.segment_manager.specs.Walks.{pair_past, pairs_at};
+ghost use Rattle.segment_manager.specs.Walks.{AreOfKinds, HasValueOf, IsMap, first_of, item_of_kinds, item_seen};
+ghost use Rattle.segment_manager.specs.Walks.{numbers_read, pair_past, pairs_at};
 
 use crate::segment::Segment;
 use crate::targets::Target;
-use seg_types::{Refusal, ScalarKind, ScalarValue, by_kind, by_value};
+use seg_types::{Refusal, Scalar, ScalarKind, ScalarValue, by_kind, by_value};
 
 impl Segment {
     /// The pair with the least key that is above a bound, or not below it, of the map of a key, a map with keys of the
@@ -27,12 +27,33 @@ impl Segment {
             (numbers_read value_of_scalar value_of_scalar result) }
         ensures kinds { AreOfKinds (kind_of_scalar bound) values result }
     {
+        by_value!(bound, bound => match self.pair_by_key(key, bound, above, values)? {
+            None => Ok(None),
+            Some((at, value)) => Ok(Some((ScalarValue::from(at), value))),
+        })
+    }
+
+    /// The same of keys of a type.
+    #[inline(always)]
+    fn pair_by_key<K: Scalar, O: Target>(
+        &self,
+        key: &O,
+        bound: K,
+        above: bool,
+        values: ScalarKind,
+    ) -> Result<Option<(K, ScalarValue)>, Refusal>
+        requires { O.stands key.now self.now }
+        ensures pair { Answers self.now
+            (λ d. told_of_map d (O.key key.now) K.kind values (pair_past above (K.whole bound)))
+            (numbers_read K.whole value_of_scalar result) }
+        ensures kind { HasValueOf values result }
+    {
         macro_rules! read {
             ($type:ty, $kind:ident) => {
-                by_value!(bound, bound => match self.pair_past::<_, $type, O>(key, bound, above)? {
+                match self.pair_past::<K, $type, O>(key, bound, above)? {
                     None => Ok(None),
-                    Some((at, value)) => Ok(Some((ScalarValue::from(at), ScalarValue::$kind(value)))),
-                })
+                    Some((at, value)) => Ok(Some((at, ScalarValue::$kind(value)))),
+                }
             };
         }
         by_kind!(values, read)

@@ -1,5 +1,5 @@
 -- Objects of a class whose keys rise, one after another.
-use Rattle.std.proofs.Common.{◌≡◌, refl, sym, ap, ◌∙◌, ℕ, Bool, true, false, ◌==◌, ◌&&◌, List, [], ◌∷◌, ◌++◌}
+use Rattle.std.proofs.Common.{◌≡◌, refl, sym, ◌∙◌, ℕ, Bool, true, false, ◌==◌, List, [], ◌∷◌, ◌++◌}
 use Rattle.std.specs.Prelude.{Option, Some, None}
 use Rattle.std.specs.List.{list_all}
 use Rattle.std.proofs.lemmas.Bool.{and_from, and_parts, both_ways, cases_Bool}
@@ -55,10 +55,6 @@ module _ (class : ℕ) (m : Memory) where
       let p = and_parts (list_all is_of (xs ++ h ∷ back)) (rise_by (key_before class m) (xs ++ h ∷ back)) r in
       let q = and_parts (list_all is_of xs) (list_all is_of (h ∷ back)) (sym (list_all-append is_of xs (h ∷ back)) ∙ p.0) in
       and_from (is_of h) (behind (key_before class m) (last_of xs) h) (and_parts (is_of h) (list_all is_of back) q.1).0 (rise-behind (key_before class m) xs h back p.1)
-
-  -- one of another class follows none
-  pub other-broken : (last : Option ℕ) (h : ℕ) → is_of h ≡ false → follows class m last h ≡ false
-  other-broken last h other = ap (λ (b : Bool). b && elim last [ None ↦ true | Some g ↦ key_before class m g h ]) other
 
   -- one that does not follow
   pub ranked-broken : (xs : List ℕ) (h : ℕ) (back : List ℕ) → follows class m (last_of xs) h ≡ false → are_ranked class m (xs ++ h ∷ back) ≡ false

@@ -59,13 +59,6 @@ HaveHeads m at size = (n : ℕ) → is_among (targets m at) n ≡ true → n + 1
 abbrev pub LeadToHeads : Memory → ℕ → ℕ → ℕ → Type 0
 LeadToHeads m block count size = (i n : ℕ) → i < count → link_at m (block + 8 * i) ≡ Some n → n + 16 + name_len_at m n ≤ size
 
--- the link in one of the first places of a block leads to an object of another class
-pub record LeadsElsewhere (class : ℕ) (m : Memory) (block count i : ℕ) : Type 0 where
-  pub place : i < count
-  pub there : ℕ
-  pub leads : link_at m (block + 8 * i) ≡ Some there
-  pub other : (class_at m there == class) ≡ false
-
 -- ---- visits
 
 -- of the walk over the objects
@@ -74,4 +67,4 @@ object_walk_rates = record { free = 1; object = 22; index = 1; storage = 1; node
 
 -- of both indexes
 abbrev pub entry_rates : Rates
-entry_rates = record { free = 0; object = 0; index = 20; storage = 0; node = 0 }
+entry_rates = record { free = 0; object = 0; index = 12; storage = 0; node = 0 }

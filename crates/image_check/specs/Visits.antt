@@ -52,10 +52,10 @@ abbrev pub tree_rates : Rates
 tree_rates = both step_rates planting_rates
 
 abbrev pub index_rates : Rates
-index_rates = record { free = 0; object = 4; index = 20; storage = 0; node = 0 }
+index_rates = record { free = 0; object = 4; index = 12; storage = 0; node = 0 }
 
 abbrev pub object_rates : Rates
-object_rates = record { free = 1; object = 22; index = 21; storage = 1; node = 1 }
+object_rates = record { free = 1; object = 22; index = 13; storage = 1; node = 1 }
 
 abbrev pub gathering_rates : Rates
 gathering_rates = record { free = 1; object = 1; index = 1; storage = 1; node = 1 }

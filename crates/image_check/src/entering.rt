@@ -8,14 +8,13 @@ use crate::owners::{Block, Owner, Owners, is_same};
 use block_tags::Role;
 
 /// Notes the entry at `place` of the index whose own link stands at `root`, where the entry's link leads to an object
-/// that has no entry yet; whether it does. It is quick where the object's number among the blocks is `guess`.
+/// that has no entry yet; whether it does.
 pub(crate) fn enter(
     owners: &mut Owners,
     visits: &mut Visits,
     link: Option<u64>,
     place: u32,
     root: u32,
-    guess: usize,
 ) -> bool
     ensures entered { MatchBool result (IsEntered owners.old.blocks.entries owners.new.blocks.entries link place root) (can_enter owners.old.blocks.entries link ≡ false) }
     ensures pending { owners.new.pending ≡ owners.old.pending }
@@ -25,7 +24,7 @@ pub(crate) fn enter(
     let Some(target) = link else {
         return false;
     };
-    let Some((number, _, block)) = owners.blocks.find(Some(guess), target, visits) else {
+    let Some((number, _, block)) = owners.blocks.find(target, visits) else {
         return false;
     };
     if !is_new(block) {

@@ -19,10 +19,6 @@ use crate::owners::{Owners, good_len};
 use block_tags::Role;
 use segment_manager::layout::{NAMED_AT, UNIQUE_AT};
 
-/// How many entries before its turn the object of one is looked at first. Objects lie in no order, so a processor has
-/// each near when its turn comes.
-pub(crate) const AHEAD: usize = 8;
-
 /// Checks both indexes, and notes their entries at the objects that they lead to.
 ///
 /// # Errors
@@ -134,54 +130,16 @@ fn enter_all(
         (are_enterable ts owners.old.blocks.entries (links_in (bytes_of window.now.bytes) block count) ≡ false) }
     ensures pending { owners.new.pending ≡ owners.old.pending }
     ensures waiting { owners.new.waiting ≡ owners.old.waiting }
-    ensures spends { Adds (5 * count) visits.old visits.new }
+    ensures spends { Adds (3 * count) visits.old visits.new }
 {
-    let mut guesses = [0; AHEAD];
     let mut i = 0;
     'entries: while i < count {
         let place = block + 8 * i;
         let link = window.link(place, visits);
-        let turn = i as usize % AHEAD;
-        let guess = guesses[turn];
-        guesses[turn] = number_later(
-            window,
-            &owners.blocks,
-            visits,
-            block,
-            count,
-            i + AHEAD as u64,
-        );
-        if !enter(owners, visits, link, place as u32, root, guess) {
+        if !enter(owners, visits, link, place as u32, root) {
             return false;
         }
         i += 1;
     }
     true
-}
-
-/// The number of the block to which the link in a place of a block leads, if the place is one of the first `count` and
-/// the link leads to one; else any. At most two visits.
-fn number_later(
-    window: &ImageWindow,
-    blocks: &Blocks,
-    visits: &mut Visits,
-    block: u64,
-    count: u64,
-    place: u64,
-) -> usize
-    requires small { length window.now.bytes < 2 ^ 32 }
-    requires aligned { block % 8 ≡ 0 }
-    requires inside { block + 8 * count ≤ length window.now.bytes }
-    ensures { Adds 2 visits.old visits.new }
-{
-    if place >= count {
-        return 0;
-    }
-    match window.link(block + 8 * place, visits) {
-        Some(target) => match blocks.find(None, target, visits) {
-            Some((number, _, _)) => number,
-            None => 0,
-        },
-        None => 0,
-    }
 }

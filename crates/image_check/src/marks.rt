@@ -40,7 +40,7 @@ pub(crate) fn mark(
     let Some(target) = target else {
         return Ok(());
     };
-    let Some((number, payload, block)) = owners.blocks.find(None, target, visits) else {
+    let Some((number, payload, block)) = owners.blocks.find(target, visits) else {
         return Ok(());
     };
     if !is_same(block.role, role) {

@@ -4,8 +4,7 @@ ghost use Rattle.raw_region.specs.Memory.{bytes_of};
 ghost use Rattle.offset_link.specs.Link.{link_at};
 ghost use Rattle.seg_index.specs.Keys.{name_len_at};
 ghost use Rattle.image_check.specs.ObjectTests.{has_index, targets};
-ghost use Rattle.image_check.specs.ObjectPasses.{HaveHeads, LeadToHeads, LeadsElsewhere, are_ranked, entry_rates};
-ghost use Rattle.image_check.specs.ObjectPasses.{follows as comes_behind, key_before};
+ghost use Rattle.image_check.specs.ObjectPasses.{HaveHeads, LeadToHeads, are_ranked, entry_rates, follows as comes_behind, key_before};
 ghost use Rattle.image_check.specs.Owners.{IsIndexPlace};
 ghost use Rattle.image_check.specs.Entered.{links_in};
 ghost use Rattle.image_check.specs.Passes.{HasTiles, tiles_in};
@@ -14,7 +13,6 @@ ghost use Rattle.image_check.specs.Visits.{Adds, weigh};
 use crate::checking::Visits;
 use crate::heads::NAMED;
 use crate::image_window::{ImageWindow, Object};
-use crate::indexes::AHEAD;
 
 /// Whether the entries of the index whose words stand at `at` lead to objects of a class, whose keys rise.
 pub(crate) fn has_order(window: &ImageWindow, visits: &mut Visits, at: u64, class: u64) -> bool
@@ -39,14 +37,11 @@ fn rise(window: &ImageWindow, visits: &mut Visits, block: u64, count: u64, class
     requires links { (i : ℕ) → i < count → IsSome (link_at (bytes_of window.now.bytes) (block + 8 * i)) }
     requires heads { LeadToHeads (bytes_of window.now.bytes) block count (length window.now.bytes) }
     ensures is { result ≡ are_ranked class (bytes_of window.now.bytes) (flat_map option_to_list (links_in (bytes_of window.now.bytes) block count)) }
-    ensures spends { Adds (5 * count) visits.old visits.new }
+    ensures spends { Adds (3 * count) visits.old visits.new }
 {
     let mut last = None;
     let mut i = 0;
     'entries: while i < count {
-        if leads_elsewhere(window, visits, block, count, i + AHEAD as u64, class) {
-            return false;
-        }
         let place = block + 8 * i;
         let Some(here) = window.link(place, visits) else {
             return false;
@@ -58,32 +53,6 @@ fn rise(window: &ImageWindow, visits: &mut Visits, block: u64, count: u64, class
         i += 1;
     }
     true
-}
-
-/// Whether the link in a place of a block, if the place is one of the first `count`, leads to an object of another
-/// class. At most two visits.
-fn leads_elsewhere(
-    window: &ImageWindow,
-    visits: &mut Visits,
-    block: u64,
-    count: u64,
-    place: u64,
-    class: u64,
-) -> bool
-    requires small { length window.now.bytes < 2 ^ 63 }
-    requires aligned { block % 8 ≡ 0 }
-    requires inside { block + 8 * count ≤ length window.now.bytes }
-    requires heads { LeadToHeads (bytes_of window.now.bytes) block count (length window.now.bytes) }
-    ensures is { result ≡ true → LeadsElsewhere class (bytes_of window.now.bytes) block count place }
-    ensures spends { Adds 2 visits.old visits.new }
-{
-    if place >= count {
-        return false;
-    }
-    match window.link(block + 8 * place, visits) {
-        Some(there) => Object::visit(there, visits).class(window) != class,
-        None => false,
-    }
 }
 
 /// Whether an object is of the class, and its key stands behind that of the last one, if there was one. At most two

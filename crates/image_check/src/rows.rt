@@ -1,5 +1,5 @@
 //! Blocks in the order of their places: the number of one that is looked for.
-ghost use Rattle.std.specs.Prelude.{◌≡◌, IfSome, IfNone, None, true};
+ghost use Rattle.std.specs.Prelude.{◌≡◌, IfSome, IfNone, None};
 ghost use Rattle.image_check.specs.Owners.{block_at};
 ghost use Rattle.image_check.specs.Rows.{IsBetween, IsRow, Rises};
 
@@ -94,17 +94,6 @@ impl Row {
 
 /// How many blocks are looked at one by one.
 const NEAR: usize = 8;
-
-/// Whether the block of a number, if there is one, is that at `target`.
-pub(crate) fn is_row(rows: &[Row], number: usize, target: u64) -> bool
-    ensures { result ≡ true → IsRow rows.now target number }
-{
-    if number >= rows.len() {
-        return false;
-    }
-    let payload = rows[number].payload() as u64;
-    payload == target
-}
 
 /// The number of the block at `target`, where it is `last` or one of a few before it.
 pub(crate) fn near(rows: &[Row], last: usize, target: u64) -> Option<usize>

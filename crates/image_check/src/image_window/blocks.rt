@@ -6,7 +6,7 @@ ghost use Rattle.image_check.specs.Rows.{AreBelow, IsRow};
 
 use crate::checking::Visits;
 use crate::owners::Block;
-use crate::rows::{Row, bounds, halved, is_row, near};
+use crate::rows::{Row, bounds, halved, near};
 use std::marker::Model;
 
 /// The blocks in use by payload.
@@ -67,19 +67,6 @@ impl Blocks {
         halved(rows, low, high, target)
     }
 
-    /// The same. It is quick where that is `guess`, and right whatever the guess is.
-    fn number_near(&self, guess: Option<usize>, target: u64) -> Option<usize>
-        ensures found { IfSome result (IsRow self.now.entries target) }
-        ensures none { IfNone result (block_at self.now.entries target ≡ None) }
-    {
-        if let Some(number) = guess {
-            if is_row(self.rows.as_slice(), number, target) {
-                return Some(number);
-            }
-        }
-        self.number_of(target)
-    }
-
     /// How many they are.
     pub(crate) fn len(&self) -> usize
         ensures { result ≡ length self.now.entries }
@@ -109,14 +96,8 @@ impl Blocks {
         }
     }
 
-    /// The block whose payload begins at `target`, behind its number and `target` in four bytes. It is quick where the
-    /// number is `guess`. One visit.
-    pub(crate) fn find(
-        &self,
-        guess: Option<usize>,
-        target: u64,
-        visits: &mut Visits,
-    ) -> Option<(usize, u32, Block)>
+    /// The block whose payload begins at `target`, behind its number and `target` in four bytes. One visit.
+    pub(crate) fn find(&self, target: u64, visits: &mut Visits) -> Option<(usize, u32, Block)>
         ensures number { IfSome result (λ found. IsRow self.now.entries target found.0) }
         ensures payload { IfSome result (λ found. found.1 ≡ target) }
         ensures block { IfSome result (λ found. block_at self.now.entries target ≡ Some found.2) }
@@ -124,7 +105,7 @@ impl Blocks {
         ensures visits { visits.new ≡ visits.old + 1 }
     {
         visits.visit();
-        match self.number_near(guess, target) {
+        match self.number_of(target) {
             Some(number) => {
                 let row = &self.rows[number];
                 Some((number, row.payload(), row.block()))

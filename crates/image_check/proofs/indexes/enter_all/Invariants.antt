@@ -15,7 +15,7 @@ invariant-entries l = record {
   pending : l.owners.pending ≡ l.fn.owners.pending;
   waiting : l.owners.waiting ≡ l.fn.owners.waiting;
   more : l.fn.visits ≤ l.visits;
-  most : l.visits ≤ l.fn.visits + 5 * l.i;
+  most : l.visits ≤ l.fn.visits + 3 * l.i;
 }
 
 abbrev pub decreases-entries : goal.decreases-entries

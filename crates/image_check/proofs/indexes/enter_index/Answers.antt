@@ -37,7 +37,7 @@ pub returns-in-Some-clause-spends : goal.returns-in-Some-clause-spends
 returns-in-Some-clause-spends c =
     let w = c.args.window.now in
     let r = room (goal.at.returns-in-Some-clause-spends c).In-Some in
-    let weight : 20 * (r.tile.len / 16) ≤ weigh index_rates (tiles_in w.bytes) = weigh-one index_rates (tiles_in w.bytes) r.tile Index r.mem r.use_of in
+    let weight : 12 * (r.tile.len / 16) ≤ weigh index_rates (tiles_in w.bytes) = weigh-one index_rates (tiles_in w.bytes) r.tile Index r.mem r.use_of in
     let long = r.room in
     let count = c.header_word.ensures in
     let a = c.has_places.ensures.spends in

@@ -10,7 +10,7 @@ use Rattle.image_check.specs.Entered.{links_in}
 use Rattle.image_check.specs.ObjectPasses.{are_ranked, follows}
 use Rattle.image_check.proofs.Ranges.{split}
 use Rattle.image_check.proofs.EntriesNoted.{targets_of, targets-split}
-use Rattle.image_check.proofs.Ranked.{last_of, last-of-more, other-broken, ranked-more, ranked-broken}
+use Rattle.image_check.proofs.Ranked.{last_of, last-of-more, ranked-more, ranked-broken}
 use Rattle.image_check.proofs.ranks.rise.Goals as goal
 
 pub returns-then-not-follows-clause-is : goal.returns-then-not-follows-clause-is
@@ -22,16 +22,6 @@ returns-then-not-follows-clause-is c =
     let all = ap targets_of s.all ∙ targets-split front s.back (f c.entries.i) c.in-Some.here (sym c.link.ensures.link ∙ c.in-Some.is) in
     let off : follows c.args.class m (last_of (targets_of front)) c.in-Some.here ≡ false = ap (λ l. follows c.args.class m l c.in-Some.here) (sym c.entries.invariant.last) ∙ sym c.follows.ensures.is ∙ c.if-not-follows.true in
     sym (ap (are_ranked c.args.class m) all ∙ ranked-broken c.args.class m (targets_of front) c.in-Some.here (targets_of s.back) off)
-
-pub returns-then-leads_elsewhere-clause-is : goal.returns-then-leads_elsewhere-clause-is
-returns-then-leads_elsewhere-clause-is c =
-    let m = bytes_of c.args.window.now.bytes in let class = c.args.class in let k = c.entries.i + 8 in
-    let f : ℕ → Option ℕ = λ i. link_at m (c.args.block + 8 * i) in
-    let one = c.leads_elsewhere.ensures.is c.if-leads_elsewhere.true in
-    let s = split f 0 k c.args.count k (omega arith) one.place in
-    let front : List (Option ℕ) = links_in m c.args.block k in
-    let all = ap targets_of s.all ∙ targets-split front s.back (f k) one.there one.leads in
-    sym (ap (are_ranked class m) all ∙ ranked-broken class m (targets_of front) one.there (targets_of s.back) (other-broken class m (last_of (targets_of front)) one.there one.other))
 
 pub entries-preserved : goal.entries-preserved
 entries-preserved c =

@@ -15,7 +15,7 @@ invariant-entries l = record {
   last : l.last ≡ last_of (flat_map option_to_list (links_in (bytes_of l.window.bytes) l.block l.i));
   head : (g : ℕ) → l.last ≡ Some g → g + 16 + name_len_at (bytes_of l.window.bytes) g ≤ length l.window.bytes;
   more : l.fn.visits ≤ l.visits;
-  most : l.visits ≤ l.fn.visits + 5 * l.i;
+  most : l.visits ≤ l.fn.visits + 3 * l.i;
 }
 
 abbrev pub decreases-entries : goal.decreases-entries

@@ -4,7 +4,8 @@
 # and value, and one that adds up what is there, with nothing checked. Both go by name. Of three images the first is a
 # mixture in an order of chance: three fifths numbers, a fifth strings, and vectors of eight numbers and maps of four
 # pairs. In the second, of more blocks, names rise as objects were made, and so lie in the file; in the third they go on
-# by 7919 from object to object. Instructions, counted by valgrind's callgrind; and the least of so many runs as RUNS
+# by 7919 from object to object. The check is measured a second time with large pages, for which the C library asks where
+# GLIBC_TUNABLES says so. Instructions, counted by valgrind's callgrind; and the least of so many runs as RUNS
 # says (15), taken in turn: seconds of the processor in the program itself, in the system for it, and as time passes.
 # Run it at the top of the repository, once `rt run` has built crates/segment/out/segment, or with the program's path in
 # PROGRAM; it needs g++, valgrind and Boost (Debian's libboost1.81-dev), and writes into a folder of its own, which it
@@ -56,6 +57,7 @@ images() {
 }
 
 check_ours() { "${before[@]}" "$program" check ours.seg; }
+check_ours_in_large_pages() { GLIBC_TUNABLES=glibc.malloc.hugetlb=1 check_ours; }
 spell_theirs() { "${before[@]}" ./peer theirs.seg spell; }
 add_theirs() { "${before[@]}" ./peer theirs.seg sum; }
 
@@ -78,11 +80,11 @@ least() { awk -v column="$1" '{ print $column }' "$2.seconds" | sort -n | head -
 table() {
   rm -f ./*.seconds
   for _ in $(seq "${RUNS:-15}"); do
-    for whose in check_ours spell_theirs add_theirs; do seconds $whose >> $whose.seconds; done
+    for whose in check_ours check_ours_in_large_pages spell_theirs add_theirs; do seconds $whose >> $whose.seconds; done
   done
   echo '| | Instructions | Seconds of the program | of the system | as time passes |'
   echo '|---|---|---|---|---|'
-  for whose in check_ours spell_theirs add_theirs; do
+  for whose in check_ours check_ours_in_large_pages spell_theirs add_theirs; do
     awk -v whose="$whose" -v count="$(instructions $whose)" -v own="$(least 1 $whose)" -v kernel="$(least 2 $whose)" \
       -v whole="$(least 3 $whose)" \
       'BEGIN { printf "| %s | %.0f million | %.3f | %.3f | %.3f |\n", whose, count / 1e6, own, kernel, whole }'

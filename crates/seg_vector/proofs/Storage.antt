@@ -4,20 +4,19 @@ use W.{◌≡◌, refl, sym, ap, subst, ◌∙◌, inl, inr, ℕ, ◌+◌, ◌*�
 use W.{List, ◌∷◌, length, arith, if◌then◌else◌, ◌⊎◌, ◌==◌, ◌++◌, length-append, max, ◌-◌, take, drop, ◌&&◌, append-nil}
 use W.{IsTrue, IfSome, nat_lt, option_map, option_to_list, nat_le, AllByRecursion, list_any, eqb-true, and_from}
 use W.{and_parts, leb-true, le-leb, lt-leb, lt-ltb, ltb-true, or_cases, or_left, or_right, eq-eqb, length-take}
-use W.{length-drop, take-take, Memory, Cut, SameBut, Has, bytes_of, read, word_at, patched, read-part, SameBut-word}
-use W.{link_at, Storage, current, CarriesOver, IsGivenRoom, IsNotGivenRoom, block_of, exchanged, without_all}
-use W.{IsExchanged, IsRegrown, Extent, LiveSet, handle, holds, end_of, is_block, is_hole, proper_from, others, resized}
-use W.{longer, place, IsChanged, IsHeap, LaysOut, extent_at, has_room, live_of, is_live_in, payload_at, Table}
-use W.{is_table, serves, same_role, table_link, IsSound, all_of-insert, found-room, live-sound, read-same, room_block}
-use W.{laid-heap, all-same-but, changed-live, regrow-serves, in_use-all, block_payload, room-less, IfSome_is}
-use W.{all_keep_proper, legal_size, too_long, spread-refl, exchange-next, is_legal_size, Place, IsGrown, IsOwnBlock}
-use W.{Stands, place_at, IsWithoutSpace, IsStorage, capacity_for_one, IsRewritten, IsSwapped, SameBut-link, Refusal}
-use W.{NoSpace, [], changed-room, nil_from_length, take-nil, hole-order, all-in-use, exchanged-live, live-rises}
-use W.{gaps-payload, gaps-refl, gaps-then}
-use Rattle.seg_vector.proofs.Runs.{IsRun, beside-head, block-written, changed-both, head-room, head-wider, len-written}
-use Rattle.seg_vector.proofs.Runs.{head-gaps, none-some, own-facts, room-head, run-found, run-headed, run-stands}
-use Rattle.seg_vector.proofs.Runs.{run-swapped, same-some}
-use Rattle.seg_vector.proofs.Runs.{serves-full, spread-nil, stands-none-of, stands-run, table, table-full}
+use W.{length-drop, take-take, Memory, Cut, SameBut, Has, bytes_of, read, word_at, patched, read-part, link_at, Storage}
+use W.{current, CarriesOver, IsGivenRoom, IsNotGivenRoom, block_of, exchanged, without_all, IsExchanged, IsRegrown}
+use W.{Extent, LiveSet, handle, holds, end_of, is_block, is_hole, proper_from, others, resized, longer, place}
+use W.{IsChanged, IsHeap, LaysOut, extent_at, has_room, live_of, is_live_in, payload_at, Table, is_table, serves}
+use W.{same_role, table_link, IsSound, all_of-insert, found-room, live-sound, read-same, room_block, laid-heap}
+use W.{all-same-but, changed-live, regrow-serves, in_use-all, block_payload, room-less, IfSome_is, all_keep_proper}
+use W.{legal_size, too_long, spread-refl, exchange-next, is_legal_size, Place, IsGrown, IsOwnBlock, Stands, place_at}
+use W.{IsWithoutSpace, IsStorage, capacity_for_one, IsRewritten, IsSwapped, Refusal, NoSpace, [], changed-room}
+use W.{nil_from_length, take-nil, hole-order, all-in-use, exchanged-live, live-rises, gaps-payload, gaps-refl}
+use W.{gaps-then, IsPointed}
+use Rattle.seg_vector.proofs.Runs.{IsRun, beside-head, block-written, head-room, head-wider, len-written, head-gaps}
+use Rattle.seg_vector.proofs.Runs.{none-some, own-facts, room-head, run-found, run-headed, run-stands, run-swapped}
+use Rattle.seg_vector.proofs.Runs.{same-some, serves-full, spread-nil, stands-none-of, stands-run, table, table-full}
 use Rattle.seg_vector.proofs.Bytes.{more-times, Has-append, Has-take, Has-drop, Has-beside, Has-patched, length-patch}
 use Rattle.best_fit.specs.{Extents.is_proper, Fit.regrow}
 use Rattle.seg_vector.specs.Vector.{grown_table}
@@ -137,33 +136,22 @@ grown-run {old} {t} s r =
     let begun = stands-run old s in
     run-swapped [] (spread-nil (option_to_list t.extent)) begun (regrown-swapped r.change) (stands-none-of s begun)
 
--- the container's own block is there still
-pub mid-room : {old mid : Cut} {p : Place} {each len n k g : ℕ} {t : Table} {bytes : List ℕ}
-    → Stands old.bytes p each len t bytes → IsGivenRoom current old mid t.extent n k g
-    → IsTrue (has_room (live_of mid.bytes) p.handle (p.at + 24))
-mid-room s r = head-room (grown-run s r).head
-
-pub grows-more : {old mid s1 new : Cut} {p : Place} {each : ℕ} (n : ℕ) {len g : ℕ} {t : Table} {bytes : List ℕ}
+pub grows-more : {old mid new : Cut} {p : Place} {each : ℕ} (n : ℕ) {len g : ℕ} {t : Table} {bytes : List ℕ}
     → t.capacity < n → Stands old.bytes p each len t bytes
-    → IsGivenRoom current old mid t.extent (each * n) (each * len) g → IsChanged current mid s1 (place_at p) 8
-    → link_at (bytes_of s1.bytes) (place_at p) ≡ Some g
-    → IsChanged current s1 new (p.handle + (p.at + 16)) 8 → word_at (bytes_of new.bytes) (p.handle + (p.at + 16)) ≡ n
+    → IsGivenRoom current old mid t.extent (each * n) (each * len) g → IsPointed mid new p g n
     → IsGrown old new p each n len t bytes
-grows-more {old} {mid} {s1} {new} {p} {each} n {len} {t} {bytes} more s r c1 link c2 word =
-    let l = live_of old.bytes in let ms = bytes_of s1.bytes in let m' = bytes_of new.bytes in
-    let at = place_at p in let y = r.extent in let run = grown-run s r in
-    let c = changed-both at 24 c1 c2 (omega arith) (omega arith) (omega arith) (omega arith) in
-    let done = run-headed {k = len} {u = table n (Some y)} run c (record {
-      link = SameBut-link ms m' _ 8 at c2.rest (inl (omega arith)) ∙ link ∙ ap (λ k. Some k) r.at;
-      len_word = SameBut-word ms m' _ 8 (at + 8) c2.rest (inl (omega arith)) ∙ SameBut-word
-          (bytes_of mid.bytes) ms at 8 (at + 8) c1.rest (inr (omega arith)) ∙ run.words.len_word;
-      capacity = ap (word_at m') (omega arith) ∙ word;
+grows-more {old} {mid} {each = each} n {len} {t} {bytes} more s r w =
+    let l = live_of old.bytes in let y = r.extent in let run = grown-run s r in
+    let done = run-headed {k = len} {u = table n (Some y)} run w.change (record {
+      link = w.link ∙ ap (λ k. Some k) r.at;
+      len_word = w.len_word ∙ run.words.len_word;
+      capacity = w.capacity;
     }) in
     let serving = regrow-serves l t.extent y (each * n) (storage-role each t.capacity t.extent s.table) r.regrown in
     let long = serves-full y (each * n) serving in let less = more-times each len n (omega (arith, s.fits, more)) in
     let stored = carried-storage (bytes_of old.bytes) (bytes_of mid.bytes) each len t.capacity t.extent y bytes s.table
     s.fits s.long s.words.storage r.carried in
-    let stays = beside-head (handle y) run.heap run.head c (run-found run).0 (stands-none-of s run).0 in
+    let stays = beside-head (handle y) run.heap run.head w.change (run-found run).0 (stands-none-of s run).0 in
     let total = s.long in
     let full = and_from (nat_lt 0 n) (serves y Storage (each * n)) (lt-ltb 0 n (omega (arith, more))) serving in
     record {
@@ -192,36 +180,17 @@ pub stands-small : {b : List ℕ} {p : Place} {each len : ℕ} {t : Table} {byte
     → p.at + 24 < 1073741824
 stands-small {p = p} s = place-small p s.heap s.room
 
--- each of the three words is within its block
-pub link-room : (b : List ℕ) (p : Place) → IsTrue (has_room (live_of b) p.handle (p.at + 24))
-    → IsTrue (has_room (live_of b) p.handle (p.at + 8))
-link-room b p room = room-less (live_of b) p.handle (p.at + 24) (p.at + 8) (omega arith) room
-
+-- the word of the length is within its block
 pub len-room : (b : List ℕ) (p : Place) → IsTrue (has_room (live_of b) p.handle (p.at + 24))
     → IsTrue (has_room (live_of b) p.handle (p.at + 8 + 8))
 len-room b p room = room-less (live_of b) p.handle (p.at + 24) (p.at + 8 + 8) (omega arith) room
 
-pub capacity-room : (b : List ℕ) (p : Place) → IsTrue (has_room (live_of b) p.handle (p.at + 24))
-    → IsTrue (has_room (live_of b) p.handle (p.at + 16 + 8))
-capacity-room b p room = room-less (live_of b) p.handle (p.at + 24) (p.at + 16 + 8) (omega arith) room
-
--- and so is each of the two of an element
-pub front-room : (l : LiveSet) (h at : ℕ) → IsTrue (has_room l h (at + 16)) → IsTrue (has_room l h (at + 8))
-front-room l h at room = room-less l h (at + 16) (at + 8) (omega arith) room
-
-pub back-room : (l : LiveSet) (h at : ℕ) → IsTrue (has_room l h (at + 16)) → IsTrue (has_room l h (at + 8 + 8))
-back-room l h at room = room-less l h (at + 16) (at + 8 + 8) (omega arith) room
-
--- where bytes are written, there is a heap still, and a block has the room that it had
+-- where bytes are written, there is a heap still
 pub kept-heap : {old new : Cut} {from n : ℕ} → IsChanged current old new from n → IsHeap current new.bytes
 kept-heap c = laid-heap _ _ c.live
 
-pub kept-room : {old new : Cut} {from n : ℕ} (h k : ℕ) → IsChanged current old new from n
-    → IsTrue (has_room (live_of old.bytes) h k) → IsTrue (has_room (live_of new.bytes) h k)
-kept-room {old} {new} {from} {n} h k c r = changed-room current old new from n h k c r
-
 -- what shows that a word has room, and that a sum within a block fits
-pub ruleset rooms = (link-room, len-room, capacity-room, front-room, back-room, kept-room)
+pub ruleset rooms = (room-less, changed-room)
 
 pub ruleset sizes = (room-small, place-small, stands-small, kept-heap, rooms)
 

@@ -4,10 +4,10 @@ use Rattle.seg_vector.proofs.Words as W
 use W.{in_use-all, take-append-drop, length-take, length-drop, ◌≡◌, ◌≢◌, sym, ap, subst, ◌∙◌, ℕ, ◌+◌, ◌%◌, ◌≤◌, Option}
 use W.{Some, None, List, ◌∷◌, ◌++◌, ◌==◌, append_assoc, length, arith, inl, inr, refl, zero, suc, ◌-◌, ◌*◌, ◌<◌, take}
 use W.{drop, Bool, true, false, cond, ◌⊎◌, IsTrue, find, option_to_list, option_map, slice_get, IfSome, AllByRecursion}
-use W.{list_any, flat_map-append, take-take, drop_all, slice_get_within, or_left, or_right, Memory, Cut, bytes_of}
-use W.{word_at, SameBut, Has, current, Storage, link_at, target_of, inserted, without_all, IsExchanged, SameBlockBut}
-use W.{Extent, LiveSet, handle, end_of, IsHeap, extent_at, live_of, SameBlock, IsChanged, has_room, is_live_in}
-use W.{payload_at, IsReleased, Table, is_table, no_table, IsFound, IsNone, Rising, SameSpread, all-found-in, all-in-use}
+use W.{list_any, flat_map-append, take-take, slice_get_within, or_left, or_right, Memory, Cut, bytes_of, word_at}
+use W.{SameBut, Has, current, Storage, link_at, target_of, inserted, without_all, IsExchanged, SameBlockBut, Extent}
+use W.{LiveSet, handle, end_of, IsHeap, extent_at, live_of, SameBlock, IsChanged, has_room, is_live_in, payload_at}
+use W.{IsReleased, Table, is_table, no_table, IsFound, IsNone, Rising, SameSpread, all-found-in, all-in-use}
 use W.{found-inserted, found-none, found-room, live-rises, middle-first, rising-others, roomy, spread-behind}
 use W.{all_of-inserted, but-apart, exchanged-live, found-without, inserted-append, laid-heap, without-inserted, kept}
 use W.{kept-found, word-same, block_payload, room_block, exchange-next, exchange-released, exchange-same, spread-refl}
@@ -16,8 +16,7 @@ use W.{IsSwapped, AreHeldElements, IsHeldElement, AreSameElements, IsSameElement
 use W.{text_blocks, IsTextsNow, IsTextElement, AreInArray, IsOwnedText, OwnedText, AreTextLinks, []}
 use Rattle.seg_vector.proofs.Runs.{AreHeadWords, IsHead, IsRun, changed-both, none-some, same-some, came-found}
 use Rattle.seg_vector.proofs.Runs.{room-head, own-facts, facts-own}
-use Rattle.seg_vector.proofs.Typed.{has-element}
-use Rattle.seg_vector.proofs.{Runs.serves-full, Runs.table, Runs.table-full, Storage.live-if}
+use Rattle.seg_vector.proofs.{Runs.serves-full, Runs.table, Runs.table-full, Storage.live-if, Typed.has-element}
 use Rattle.best_fit.specs.Extents.{is_proper}
 
 -- ---- the blocks of a vector of texts, its array and those of its texts, among the other blocks of a heap
@@ -439,11 +438,6 @@ releases-next {old} {now} {new} i ps {q} e x y =
     (sym (drop-at ps i e)) (spread-refl (option_to_list q.extent ++ left)) in
     subst (λ k. IsSwapped old new (text_blocks ps) (text_blocks (drop k ps))) count
     (exchange-next _ old now new 0 0 _ _ _ left [] spread x y)
-
-pub releases-end : {old new : Cut} (i : ℕ) (ps : List OwnedText) → length ps ≤ i
-    → IsSwapped old new (text_blocks ps) (text_blocks (drop i ps)) → IsSwapped old new (text_blocks ps) []
-releases-end {old} {new} i ps f x =
-    subst (λ (xs : List OwnedText). IsSwapped old new (text_blocks ps) (text_blocks xs)) (drop_all i ps f) x
 
 -- ---- the elements of the array of a vector of texts, as a list: in parts, and put elsewhere
 

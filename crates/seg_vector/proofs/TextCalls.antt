@@ -8,9 +8,9 @@ use W.{current, link_at, target_of, Extent, handle, end_of, LiveSet, IsChanged, 
 use W.{Table, no_table, is_table, SameSpread, exchange-next, found-room, laid-heap, last-first, spread-refl, IsNone}
 use W.{kept, shorter-IsShorter, word-same, IsFound, allocated-room, exchange-taken, kept-found, place-serves}
 use W.{still_allocated, SameBlock-trans, Storage, shorter, place, Place, IsGivenBack, IsFitted, Stands, place_at}
-use W.{IsOwnBlock, AreHeldElements, IsSwapped, AreSameElements, IsHeldElement, IsTextPlaced, IsServed}
-use W.{IsTexts, IsTextsNow, text_blocks, placed_text, AreOthers, AreInArray, IsStorage, OwnedText, AreTextLinks}
-use W.{IsOwnedText, Refusal, IsWithoutFit, [], nil_from_length}
+use W.{IsOwnBlock, AreHeldElements, IsSwapped, AreSameElements, IsHeldElement, IsTextPlaced, IsServed, IsTexts}
+use W.{IsTextsNow, text_blocks, placed_text, AreOthers, AreInArray, IsStorage, OwnedText, AreTextLinks, IsOwnedText, []}
+use W.{nil_from_length}
 use Rattle.seg_vector.proofs.Runs.{AreHeadWords, IsHead, IsRun, beside-head, block-written, head-kept, head-room}
 use Rattle.seg_vector.proofs.Runs.{head-wider, len-written, none-some, room-head, run-found, run-headed, run-swapped}
 use Rattle.seg_vector.proofs.Runs.{same-some, table, table-full, words-kept, all-as, came-found, came-others, all-kept}
@@ -133,7 +133,7 @@ pub erased-by : {s0 s1 s2 s3 : Cut} {p : Place} {ps : List OwnedText} {c g : ℕ
     → IsTextsNow s0 s3 p (option_to_list o ++ option_to_list q.extent) (option_to_list o) (remove ps i) (table c o)
 erased-by i n {o = None} s e link n_is x1 c2 m2 c3 word = none-some s.words.link link
 erased-by {s0} {s1} {s2} {s3} {p} {ps} {c} {g} i n {o = Some x} {q} s e link n_is x1 c2 m2 c3 word =
-    let t = table c (Some x) in let eq = option_to_list q.extent in let gone : List Extent = x ∷ eq in
+    let t = table c (Some x) in let eq = option_to_list q.extent in
     let g_is = same-some (sym link ∙ s.words.link) in let below = slice_get_within ps i q e in
     let fits = s.fits in let full = table-full 16 c x s.table in let apart = text-apart i s e in
     let one = append-nil eq in
@@ -332,16 +332,6 @@ placed-some {old} {mid} {new} bytes {h} f a c has =
       owned = subst (λ k. Has (bytes_of new.bytes) k bytes) (zero_at ∙ at) has;
       served = (f, place-serves (live_of old.bytes) (length bytes) Storage b.extent b.placed);
     }
-
-pub not-placed : {old new : Cut} (bytes : List ℕ) {e : Refusal} → 0 < length bytes
-    → IsWithoutFit old new (place (live_of old.bytes) (length bytes) Storage) e
-    → IsWithoutFit old new (placed_text (live_of old.bytes) bytes) e
-not-placed {old} bytes f r = record {
-  refusal = r.refusal;
-  none = some-placed (live_of old.bytes) bytes f ∙ ap (option_map (λ (x : Extent).
-      let q : OwnedText = record { bytes = bytes; extent = Some x } in q)) r.none;
-  same = r.same;
-}
 
 -- ---- the vector beside it
 

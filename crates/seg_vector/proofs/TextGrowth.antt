@@ -1,10 +1,10 @@
 -- The array of a vector of texts with more places, one text more in it, and what was asked for given up.
 use Rattle.seg_vector.proofs.Words as W
 use W.{◌≡◌, ◌≢◌, refl, sym, ap, subst, ◌∙◌, ℕ, ◌+◌, ◌*◌, ◌<◌, ◌≤◌, Option, Some, None, List, ◌∷◌, ◌++◌, arith, length}
-use W.{inl, inr, ◌⊎◌, ◌%◌, append-nil, IsTrue, Result, Ok, Err, MatchResult, option_map, option_to_list, IfSome}
-use W.{nat_lt, AllByRecursion, and_from, lt-ltb, Cut, bytes_of, current, Storage, link_at, IsNotWidened, IsWidened}
-use W.{exchanged, Extent, LiveSet, handle, end_of, place, Refusal, IsAllocated, IsChanged, IsHeap, IsReleased}
-use W.{IsResized, SameBlock, extent_at, live_of, has_room, Table, serves, is_table, IsFound, IsNone, SameBlock-trans}
+use W.{inl, inr, ◌⊎◌, ◌%◌, append-nil, IsTrue, Result, Ok, Err, MatchResult, option_map, option_to_list, IfSome, nat_lt}
+use W.{AllByRecursion, and_from, lt-ltb, Cut, bytes_of, current, Storage, link_at, IsNotWidened, IsWidened, exchanged}
+use W.{Extent, LiveSet, handle, end_of, place, Refusal, IsAllocated, IsChanged, IsHeap, IsReleased, IsResized}
+use W.{SameBlock, extent_at, live_of, has_room, Table, serves, is_table, IsFound, IsNone, SameBlock-trans}
 use W.{exchange-order, exchange-released, exchange-resized, exchange-taken, found-none, kept, kept-found, last-first}
 use W.{live-rises, middle-first, place-serves, regrow-serves, spread-refl, found-room, two-apart, laid-heap, Place}
 use W.{place_at, AreSameElements, IsAdopted, IsAsked, IsWithoutFit, IsSwapped, taken, widened, AreEvenLinks, IsReady}

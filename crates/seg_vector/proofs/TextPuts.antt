@@ -1,16 +1,16 @@
 -- A text put into a vector of texts, with a place for it or in an array with more places; and an array given up.
 use Rattle.seg_vector.proofs.Words as W
 use W.{◌≡◌, ◌≢◌, refl, sym, ap, subst, ◌∙◌, ℕ, ◌+◌, ◌*◌, ◌<◌, ◌≤◌, Option, Some, None, List, ◌∷◌, arith, length}
-use W.{if◌then◌else◌, inl, inr, ◌⊎◌, ◌%◌, append-nil, ◌-◌, length-append, take, drop, Bool, true, false, max, IsTrue}
-use W.{Result, Ok, Err, MatchResult, option_map, option_to_list, IfSome, nat_lt, insert, AllByRecursion, lt-ltb}
-use W.{eqb-true, le-ltb, length-drop, length-take, take-append-drop, Cut, bytes_of, word_at, current, link_at}
-use W.{exchanged, IsRestored, Extent, LiveSet, handle, others, resized, Refusal, IsChanged, IsHeap, IsReleased}
-use W.{extent_at, live_of, has_room, IsShortened, is_live_in, Table, IsFound, IsNone, exchange-order, exchange-taken}
-use W.{last-first, live-rises, spread-refl, found-room, laid-heap, taken-back, widened-back, Differs, keeps-refl}
-use W.{lay_out_one, others-past, rising-insert, Place, place_at, AreSameElements, IsAdopted, IsAsked, IsWithoutFit}
-use W.{IsSwapped, taken, widened, AreEvenLinks, IsPutAsked, IsPutReady, room_of, IsRefusedPut, IsTextPlaced, IsGivenUp}
-use W.{IsOutside, PutsInto, one_more, IsTexts, IsTextsNow, IsStillAtFirst, IsTextPutIn, placed_text, with_array}
-use W.{AreTextLinks, OwnedText, capacity_for_one, exchanged-live, [], NoSpace}
+use W.{if◌then◌else◌, inl, inr, ◌%◌, append-nil, ◌-◌, length-append, take, drop, Bool, true, false, max, IsTrue, Result}
+use W.{Ok, Err, option_map, option_to_list, IfSome, nat_lt, insert, AllByRecursion, lt-ltb, eqb-true, le-ltb}
+use W.{length-drop, length-take, take-append-drop, Cut, bytes_of, word_at, current, link_at, exchanged, IsRestored}
+use W.{Extent, LiveSet, handle, others, resized, Refusal, IsChanged, IsHeap, IsReleased, live_of, has_room, IsShortened}
+use W.{is_live_in, Table, IsFound, IsNone, exchange-order, exchange-taken, last-first, live-rises, spread-refl}
+use W.{found-room, laid-heap, taken-back, widened-back, Differs, keeps-refl, lay_out_one, others-past, rising-insert}
+use W.{Place, place_at, AreSameElements, IsAdopted, IsAsked, IsWithoutFit, IsSwapped, taken, widened, AreEvenLinks}
+use W.{IsPutAsked, IsPutReady, room_of, IsRefusedPut, IsTextPlaced, PutsInto, one_more, IsTexts, IsTextsNow}
+use W.{IsStillAtFirst, IsTextPutIn, placed_text, with_array, AreTextLinks, OwnedText, capacity_for_one, exchanged-live}
+use W.{[], NoSpace}
 use Rattle.seg_vector.proofs.Runs.{AreHeadWords, IsHead, IsRun, beside-head, block-written, head-kept, head-wider}
 use Rattle.seg_vector.proofs.Runs.{len-written, none-some, own-facts, run-found, run-headed, run-swapped, room-head}
 use Rattle.seg_vector.proofs.Runs.{stands-none-of}
@@ -19,7 +19,7 @@ use Rattle.seg_vector.proofs.TextBlocks.{links-at, links-edited, one-of, run-beg
 use Rattle.seg_vector.proofs.TextGrowth.{grown-to, not-grown, all-beside-head, new-other, IsReadyRun, ready-in}
 use Rattle.seg_vector.proofs.TextCalls.{loose-kept, run-others, texts-stand, texts-still}
 use Rattle.seg_vector.proofs.{Runs.same-some, Runs.table, Runs.table-full, Typed.has-element, Storage.capacity-bytes}
-use Rattle.seg_vector.proofs.{Storage.grown-same, TextGrowth.asked-alone, TextGrowth.new-table}
+use Rattle.seg_vector.proofs.{Storage.room-small, Storage.grown-same, TextGrowth.asked-alone, TextGrowth.new-table}
 use Rattle.best_fit.specs.Fit.{regrow}
 use Rattle.seg_vector.specs.Vector.{grown_table}
 use Rattle.best_fit.specs.Fit as fit
@@ -112,6 +112,7 @@ pub record IsPutPlace (now : Cut) (p : Place) (g i k : ℕ) : Type 0 where
   pub head : IsHead now p
   pub inside : i ≤ k
   pub room : IsTrue (has_room (live_of now.bytes) g (16 * k + 16))
+  pub small : 16 * k + 16 < 1073741824
   pub even : AreEvenLinks (bytes_of now.bytes) g k
   pub count : word_at (bytes_of now.bytes) (place_at p + 8) ≡ k
 
@@ -120,13 +121,14 @@ pub put-place : {now : Cut} {p : Place} {g i : ℕ} {block : Option ℕ} {len : 
 put-place {now} {p} {g} r leads =
     let w = r.ready in let y = r.y in let k = length r.ps in let g_is = same-some (sym w.link ∙ leads) in
     let space = w.space in let big = put-big w in let q = put-run w in
-    let found = (run-found q).0 in
+    let room = subst (λ h. IsTrue (has_room (live_of now.bytes) h (16 * k + 16))) g_is
+    (found-room (live_of now.bytes) (handle y) (16 * k + 16) y (run-found q).0 (omega (arith, big, space))) in
     record {
       heap = q.heap;
       head = q.head;
       inside = r.inside;
-      room = subst (λ h. IsTrue (has_room (live_of now.bytes) h (16 * k + 16))) g_is
-          (found-room (live_of now.bytes) (handle y) (16 * k + 16) y found (omega (arith, big, space)));
+      room = room;
+      small = room-small now g (16 * k + 16) q.heap room;
       even = λ j f.
           let e = has-element r.ps j f in
           subst (λ o. IfSome o (λ target. target % 16 ≡ 0))
@@ -184,23 +186,6 @@ undone-same {mid} {new} {g} {n} {room} {o = Some x} s (widened w is) was e r =
     widened-back _ mid new g n room s.heap w (e ∙ ap (λ (z : Extent). z.len - 16) (same-some is)) r
 undone-same {o = Some x} s (taken a e') was e r =
     let g_is = same-some (sym s.words.link ∙ was) in absurd (new-other (handle x) a s.own.0 (g_is ∙ a.at))
-
--- ---- the room of the array
-
-pub room-none : {b : List ℕ} {p : Place} {ps : List OwnedText} {c : ℕ} {o : Option Extent} → IsTexts b p ps (table c o)
-    → link_at (bytes_of b) (place_at p) ≡ None → 0 ≡ room_of o
-room-none {o = None} s link = refl
-room-none {o = Some x} s link = none-some link s.words.link
-
-pub room-some : {b : List ℕ} {p : Place} {ps : List OwnedText} {c g r : ℕ} {o : Option Extent}
-    → IsTexts b p ps (table c o) → link_at (bytes_of b) (place_at p) ≡ Some g
-    → option_map (λ (x : Extent). x.len - 16) (extent_at (live_of b) g) ≡ Some r → r ≡ room_of o
-room-some {o = None} s link e = none-some s.words.link link
-room-some {b} {r} {o = Some x} s link e =
-    let g_is = same-some (sym s.words.link ∙ link) in
-    let is : Some (x.len - 16) ≡ Some r = ap (option_map (λ (x : Extent). x.len - 16))
-    (sym s.own.0 ∙ ap (λ k. extent_at (live_of b) k) g_is) ∙ e in
-    sym (same-some is)
 
 -- ---- with a place for it
 
@@ -299,16 +284,6 @@ first-put {old} {ps} {t} {bytes} w =
           absurd (cc);
       array = λ none. let both = sym w.grown ∙ none in absurd (cc);
     }
-
--- what is answered where the index is inside
-pub put-answered : (old new : Cut) (p : Place) (ps : List OwnedText) (t : Table) {i : ℕ} (bytes : List ℕ)
-    (r : Result (Unit {0}) Refusal) → i ≤ length ps → PutsInto old new p ps t i bytes r
-    → MatchResult r (λ u. (i ≤ length ps) × IsTextPutIn old new p ps t i bytes) (λ e.
-    IsOutside old new (length ps + 1) i e ⊎ ((i ≤ length ps) × IsGivenUp old new
-    (one_more (live_of old.bytes) ps t bytes) e))
-put-answered old new p ps t bytes (Ok u) f h = (f, h)
-put-answered old new p ps t bytes (Err e) f h =
-    inr (f, record { refusal = h.refusal; none = h.none; restored = h.restored })
 
 pub first-answered : (old new : Cut) (p : Place) (ps : List OwnedText) (t : Table) (i : ℕ) (bytes : List ℕ)
     (r : Result (Unit {0}) Refusal) → PutsInto old new p ps t i bytes r → IsStillAtFirst old new ps t bytes

@@ -18,9 +18,8 @@ use Rattle.seg_vector.proofs.Runs.{came-others, all-kept, none-of-none}
 use Rattle.seg_vector.proofs.TextBlocks.{all-join, all-split, element-beside, element-in, element-trans, even-block}
 use Rattle.seg_vector.proofs.TextBlocks.{found-live, links-join, links-moved, of-none, own_blocks, run-begin}
 use Rattle.seg_vector.proofs.TextBlocks.{owned-same}
-use Rattle.seg_vector.proofs.TextCalls.{come-even, run-others, texts-still}
-use Rattle.seg_vector.proofs.TextPuts.{came-alone, flip-each}
-use Rattle.seg_vector.proofs.{TextBlocks.texts-between, TextBlocks.texts-own, TextGrowth.new-table}
+use Rattle.seg_vector.proofs.{TextBlocks.texts-between, TextBlocks.texts-own, TextGrowth.new-table, TextCalls.come-even}
+use Rattle.seg_vector.proofs.{TextCalls.run-others, TextCalls.texts-still, TextPuts.came-alone, TextPuts.flip-each}
 
 -- ---- blocks that came
 

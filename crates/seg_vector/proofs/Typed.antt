@@ -2,15 +2,15 @@
 use Rattle.seg_vector.proofs.Words as W
 use W.{◌≡◌, refl, sym, ap, subst, ◌∙◌, ℕ, zero, suc, ◌+◌, ◌*◌, ◌<◌, Bool, true, List, ◌∷◌, ◌++◌, length, take, drop}
 use W.{append_assoc, arith, ◌-◌, ◌≤◌, max, false, if◌then◌else◌, length-append, append-nil, IsTrue, Some, flat_map}
-use W.{insert, remove, slice_get, slice_set, nat_le, list_all, and_from, and_parts, leb-true}
-use W.{list_all-append, take-append-drop, length-set, length-take, flat_map-append, take-append-add, drop-append-add}
-use W.{take-append_seam, length-insert, length-remove, part, patched, Cut, bytes_of, word_at}
-use W.{live_of, Table, no_table, Refusal, Place, Erases, Result, Ok, Err, MatchResult, Extends, Fits, GivesBack}
-use W.{Inserts, IsFitted, IsGivenBack, IsRewritten, Overwrites, ReadsOne, Truncates, IsGrown, Grows, IsStanding, Stands}
-use W.{IsText, IsTextGrown, IsTextNow, capacity_for_one, capacity_for_text, IsVector, IsVectorGrown}
-use W.{IsVectorNow, IsWithoutSpace, [], take-nil, drop-nil, KeepsGaps, gaps-refl, gaps-trans}
-use Rattle.seg_vector.proofs.Storage.{capacity-bytes, exchange-then, grown-keeps, has-place, not-refused}
-use Rattle.seg_vector.proofs.Storage.{same-storage, unchanged-rewritten, wanted-places}
+use W.{insert, remove, slice_get, slice_set, nat_le, list_all, and_from, and_parts, leb-true, list_all-append}
+use W.{take-append-drop, length-set, length-take, flat_map-append, take-append-add, drop-append-add, take-append_seam}
+use W.{length-insert, length-remove, part, patched, Cut, bytes_of, word_at, live_of, Table, no_table, Refusal, Place}
+use W.{Erases, Result, Ok, Err, MatchResult, Extends, Fits, GivesBack, Inserts, IsRewritten, Overwrites, ReadsOne}
+use W.{Truncates, IsGrown, Grows, IsStanding, Stands, IsText, IsTextGrown, IsTextNow, capacity_for_one}
+use W.{capacity_for_text, IsVector, IsVectorGrown, IsVectorNow, IsWithoutSpace, [], take-nil, drop-nil, KeepsGaps}
+use W.{gaps-refl, gaps-trans}
+use Rattle.seg_vector.proofs.Storage.{capacity-bytes, exchange-then, grown-keeps, has-place, not-refused, same-storage}
+use Rattle.seg_vector.proofs.Storage.{unchanged-rewritten, wanted-places}
 use Rattle.seg_vector.proofs.{Runs.same-some}
 use Rattle.best_fit.specs.Table.{cut_table}
 
@@ -249,8 +249,7 @@ module _ {T : Type 0} {size : ℕ} {test : T → Bool} {sp : T → List ℕ} (ol
 
   pub grown-of : (n : ℕ → ℕ → ℕ) → HasGrown old mid p k n
       → IsGrown old mid p size (n (length xs) t.capacity) (length xs) t (flat_map sp xs)
-  grown-of n h = subst (λ j. IsGrown old mid p j (n (length xs) t.capacity) (length xs) t (flat_map sp xs)) e
-      (h (length xs) t (flat_map sp xs) stands-at)
+  grown-of n h = subst (λ j. HasGrown old mid p j n) e h (length xs) t (flat_map sp xs) v.stands
 
   pub without-space : (n : ℕ → ℕ → ℕ) {f : Refusal} → ((len : ℕ) (u : Table) (bytes : List ℕ)
       → Stands old.bytes p k len u bytes → IsWithoutSpace old mid k (n len u.capacity) u f)
@@ -287,16 +286,14 @@ module _ {T : Type 0} {size : ℕ} {test : T → Bool} {sp : T → List ℕ} (ol
   pub cut-now : (n : ℕ) → ((x : T) → test x ≡ true → length (sp x) ≡ size) → n ≤ length xs → Truncates old mid p k n
       → IsVectorNow size test sp old mid p t (take n xs) t
   cut-now n spells f h =
-      let r = subst (λ j. IsRewritten old mid p j n t (take (j * n) (flat_map sp xs))) e
-      (h (length xs) t (flat_map sp xs) stands-at) in
+      let r = subst (λ j. Truncates old mid p j n) e h (length xs) t (flat_map sp xs) v.stands in
       vector-now test sp (take n xs) r (omega (arith, length-take n xs, f))
       (flat-take size test sp spells n xs v.values) (all-parts test n xs v.values).0
 
   pub set-now : (i : ℕ) (y : T) → ((x : T) → test x ≡ true → length (sp x) ≡ size) → i < length xs → test y ≡ true
       → Overwrites old mid p k i (sp y) → IsVectorNow size test sp old mid p t (slice_set xs i y) t
   set-now i y spells f good h =
-      let r = subst (λ j. IsRewritten old mid p j (length xs) t (patched (flat_map sp xs) (j * i) (sp y))) e
-      (h (length xs) t (flat_map sp xs) stands-at) in
+      let r = subst (λ j. Overwrites old mid p j i (sp y)) e h (length xs) t (flat_map sp xs) v.stands in
       vector-now test sp (slice_set xs i y) r (sym (length-set xs i y))
       (flat-set size test sp spells xs i y v.values f good)
       (subst (λ l. IsTrue (list_all test l)) (sym (set-pieces xs i y f))
@@ -305,8 +302,7 @@ module _ {T : Type 0} {size : ℕ} {test : T → Bool} {sp : T → List ℕ} (ol
   pub appended-now : (y : T) → test y ≡ true → Extends old mid p k 1 (sp y)
       → IsVectorNow size test sp old mid p t (xs ++ y ∷ []) t
   appended-now y good h =
-      let r = subst (λ j. IsRewritten old mid p j (length xs + 1) t (flat_map sp xs ++ sp y)) e
-      (h (length xs) t (flat_map sp xs) stands-at) in
+      let r = subst (λ j. Extends old mid p j 1 (sp y)) e h (length xs) t (flat_map sp xs) v.stands in
       vector-now test sp (xs ++ y ∷ []) r (sym (length-append xs (y ∷ [])))
       (ap (λ bs. flat_map sp xs ++ bs) (sym (append-nil (sp y))) ∙ sym (flat_map-append sp xs (y ∷ [])))
       (all-both test xs (y ∷ []) v.values (all-one test y good))
@@ -314,32 +310,27 @@ module _ {T : Type 0} {size : ℕ} {test : T → Bool} {sp : T → List ℕ} (ol
   pub inserted-now : (i : ℕ) (y : T) → ((x : T) → test x ≡ true → length (sp x) ≡ size) → i ≤ length xs → test y ≡ true
       → Inserts old mid p k i (sp y) → IsVectorNow size test sp old mid p t (insert xs i y) t
   inserted-now i y spells f good h =
-      let r = subst (λ j. IsRewritten old mid p j (length xs + 1) t
-      (take (j * i) (flat_map sp xs) ++ (sp y ++ drop (j * i) (flat_map sp xs)))) e
-      (h (length xs) t (flat_map sp xs) stands-at) in
+      let r = subst (λ j. Inserts old mid p j i (sp y)) e h (length xs) t (flat_map sp xs) v.stands in
       vector-now test sp (insert xs i y) r (sym (length-insert xs i y f))
       (flat-insert size test sp spells xs i y v.values) (all-edit test xs i i (y ∷ []) v.values (all-one test y good))
 
   pub erased-now : (i : ℕ) → ((x : T) → test x ≡ true → length (sp x) ≡ size) → i < length xs → Erases old mid p k i
       → IsVectorNow size test sp old mid p t (remove xs i) t
   erased-now i spells f h =
-      let r = subst (λ j. IsRewritten old mid p j (length xs - 1) t
-      (take (j * i) (flat_map sp xs) ++ drop (j * i + j) (flat_map sp xs))) e
-      (h (length xs) t (flat_map sp xs) stands-at) in
+      let r = subst (λ j. Erases old mid p j i) e h (length xs) t (flat_map sp xs) v.stands in
       vector-now test sp (remove xs i) r (omega (arith, length-remove xs i f))
       (flat-remove size test sp spells xs i v.values) (all-edit test xs i (suc i) [] v.values refl)
 
   pub fitted-now : Fits old mid p k
       → IsVectorNow size test sp old mid p t xs (cut_table (live_of old.bytes) size (length xs) t)
   fitted-now h =
-      let r = subst (λ j. IsFitted old mid p j (length xs) t (flat_map sp xs)) e
-      (h (length xs) t (flat_map sp xs) stands-at) in
+      let r = subst (Fits old mid p) e h (length xs) t (flat_map sp xs) v.stands in
       record { change = r.change; gaps = r.gaps; vector = record { stands = r.stands; values = v.values } }
 
   pub released-now : GivesBack old mid p k → let none : List T = [] in IsVectorNow size test sp old mid p t none
       no_table
   released-now h =
-      let r = subst (λ j. IsGivenBack old mid p j t) e (h (length xs) t (flat_map sp xs) stands-at) in
+      let r = subst (GivesBack old mid p) e h (length xs) t (flat_map sp xs) v.stands in
       record { change = r.change; gaps = r.gaps; vector = record { stands = r.stands; values = refl } }
 
 -- ---- what the calls on bytes do, for texts

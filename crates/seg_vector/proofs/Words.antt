@@ -4,22 +4,21 @@ pub use Rattle.best_fit.proofs.Laws.{all_keep_proper, legal_size, not-wide, wide
 pub use Rattle.best_fit.proofs.Laws.{changed-live, written-but, IsFound, IsNone, SameSpread, all-found-in, all-in-use}
 pub use Rattle.best_fit.proofs.Laws.{exchange-next, exchange-same, spread-refl, exchange-wide, exchange-written}
 pub use Rattle.best_fit.proofs.Laws.{exchange-taken, keeps-refl, place-serves, too_long, Rising, found-inserted}
-pub use Rattle.best_fit.proofs.Laws.{found-none, exchanged-live, found-without, IsRoomy, kept, kept-found}
-pub use Rattle.best_fit.proofs.Laws.{found-room, in_use-alone, live-rises, written-keeps, word-same, laid-heap, roomy}
-pub use Rattle.best_fit.proofs.Laws.{kept-beside, read-same, shorter-IsShorter, exchange-released, exchange-resized}
-pub use Rattle.best_fit.proofs.Laws.{middle-first, spread-behind, all_of-inserted, but-apart, inserted-append}
-pub use Rattle.best_fit.proofs.Laws.{regrow-serves, two-apart, taken-back, widened-back, lay_out_one, allocated-room}
-pub use Rattle.best_fit.proofs.Laws.{still_allocated, all_of-insert, all-same-but, in_use-all, room-less, IfSome_is}
-pub use Rattle.best_fit.proofs.Laws.{without-inserted, block_payload, room_block, IsSound, live-sound, SameBlock-trans}
-pub use Rattle.best_fit.proofs.Laws.{blocks-trans, gaps-payload, gaps-refl, gaps-then, gaps-trans, hole-order}
+pub use Rattle.best_fit.proofs.Laws.{found-none, exchanged-live, found-without, IsRoomy, kept, kept-found, found-room}
+pub use Rattle.best_fit.proofs.Laws.{in_use-alone, live-rises, written-keeps, word-same, laid-heap, roomy, kept-beside}
+pub use Rattle.best_fit.proofs.Laws.{read-same, shorter-IsShorter, exchange-released, exchange-resized, middle-first}
+pub use Rattle.best_fit.proofs.Laws.{spread-behind, all_of-inserted, but-apart, inserted-append, regrow-serves}
+pub use Rattle.best_fit.proofs.Laws.{two-apart, taken-back, widened-back, lay_out_one, allocated-room, still_allocated}
+pub use Rattle.best_fit.proofs.Laws.{all_of-insert, all-same-but, in_use-all, room-less, IfSome_is, without-inserted}
+pub use Rattle.best_fit.proofs.Laws.{block_payload, room_block, IsSound, live-sound, SameBlock-trans, blocks-trans}
+pub use Rattle.best_fit.proofs.Laws.{gaps-payload, gaps-refl, gaps-then, gaps-trans, hole-order}
 pub use Rattle.best_fit.specs.Exchange.{IsNotWidened, IsWidened, CarriesOver, IsGivenRoom, IsNotGivenRoom, block_of}
 pub use Rattle.best_fit.specs.Exchange.{exchanged, without_all, IsExchanged, inserted, IsRestored, SameBlockBut}
 pub use Rattle.best_fit.specs.Extents.{Extent, LiveSet, handle, holds, end_of, is_block, is_hole, proper_from}
-pub use Rattle.best_fit.specs.Fit.{place, shorter, others, resized, longer}
 pub use Rattle.best_fit.specs.Heap.{IsChanged, IsHeap, LaysOut, SameBlock, extent_at, has_room, live_of, IsReleased}
 pub use Rattle.best_fit.specs.Heap.{IsResized, IsShortened, IsAllocated, KeepsGaps, is_live_in, payload_at}
 pub use Rattle.best_fit.specs.Table.{Table, is_table, serves, same_role, table_link, no_table}
-pub use Rattle.best_fit.specs.{Exchange.IsRegrown}
+pub use Rattle.best_fit.specs.{Exchange.IsRegrown, Fit.place, Fit.shorter, Fit.others, Fit.resized, Fit.longer}
 pub use Rattle.block_tags.specs.{Format.is_legal_size, declared.tile.Role.Role, declared.tile.Role.TheVariants.Storage}
 pub use Rattle.offset_link.proofs.{Laws.SameBut-link}
 pub use Rattle.offset_link.specs.{Link.link_at, Link.target_of}
@@ -33,16 +32,16 @@ pub use Rattle.seg_vector.specs.Standing.{IsOwnBlock, Stands, place_at, IsGrown,
 pub use Rattle.seg_vector.specs.TextLists.{AreLaid, AreLaidUpTo, AreLaidOut, AreNotLaidOut}
 pub use Rattle.seg_vector.specs.TextParts.{AreHeldElements, IsHeldElement, IsSameElement, AreEvenLinks, IsAdopted}
 pub use Rattle.seg_vector.specs.TextParts.{IsAsked, taken, widened, IsReady, IsPutAsked, IsPutReady, room_of}
-pub use Rattle.seg_vector.specs.TextParts.{IsRefusedPut, PutsInto, IsPointed}
-pub use Rattle.seg_vector.specs.TextParts.{IsSwapped, AreSameElements, IsServed, TakesStorage, IsTextPlaced}
+pub use Rattle.seg_vector.specs.TextParts.{IsRefusedPut, PutsInto, IsPointed, IsSwapped, AreSameElements, IsServed}
+pub use Rattle.seg_vector.specs.TextParts.{TakesStorage, IsTextPlaced}
 pub use Rattle.seg_vector.specs.TextsCalls.{AreOthers, placed_text, placed_texts, text_blocks, with_text, all_texts}
 pub use Rattle.seg_vector.specs.TextsCalls.{ReleasesTexts, IsHeldText, IsTextElement, IsStillAtFirst, IsTextPutIn}
-pub use Rattle.seg_vector.specs.TextsCalls.{new_array, AreTextsAssigned, AssignsTexts, IsTexts, IsTextsNow}
-pub use Rattle.seg_vector.specs.TextsCalls.{with_array, one_more, IsGivenUp, IsWithoutFit}
+pub use Rattle.seg_vector.specs.TextsCalls.{new_array, AreTextsAssigned, AssignsTexts, IsTexts, IsTextsNow, with_array}
+pub use Rattle.seg_vector.specs.TextsCalls.{one_more, IsWithoutFit}
 pub use Rattle.seg_vector.specs.Vector.{IsStorage, AreTextLinks, IsOwnedText, OwnedText, capacity_for_one}
-pub use Rattle.seg_vector.specs.VectorCalls.{IsVector, IsVectorGrown, IsVectorNow, IsWithoutSpace, IsOutside}
-pub use Rattle.seg_vector.specs.{TextCalls.IsTextNow, declared.places.Place.Place}
-pub use Rattle.seg_vector.specs.{Vector.capacity_for_text, Vector.AreInArray, TextCalls.IsText, TextCalls.IsTextGrown}
+pub use Rattle.seg_vector.specs.VectorCalls.{IsVector, IsVectorGrown, IsVectorNow, IsWithoutSpace}
+pub use Rattle.seg_vector.specs.{TextCalls.IsTextNow, declared.places.Place.Place, Vector.capacity_for_text}
+pub use Rattle.seg_vector.specs.{Vector.AreInArray, TextCalls.IsText, TextCalls.IsTextGrown}
 pub use Rattle.std.proofs.Common.{None, List, [], ◌∷◌, length, arith, ◌⊎◌, ◌++◌, append-nil, ◌%◌, min, ◌==◌, zero, suc}
 pub use Rattle.std.proofs.Common.{append_assoc, length-append, drop, map, slice_index_or, Bor, if◌then◌else◌, false, Ok}
 pub use Rattle.std.proofs.Common.{◌≡◌, ◌≢◌, refl, sym, ap, subst, ◌∙◌, inl, inr, ℕ, ◌+◌, ◌*◌, ◌<◌, ◌≤◌, Option, Some}

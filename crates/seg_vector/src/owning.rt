@@ -9,7 +9,7 @@ ghost use Rattle.seg_vector.specs.{TextLists.LaysOut, TextLists.LaysTexts, Texts
 use crate::places::ELEMENT;
 use crate::sizing::LIMIT;
 use crate::text_arrays::put_element;
-use best_fit::{Heap, NoSpace};
+use best_fit::Heap;
 use block_tags::Role;
 use raw_region::Steps;
 use seg_types::Refusal;
@@ -20,10 +20,8 @@ pub fn take(heap: &mut Heap, n: u64) -> Result<u64, Refusal>
     requires { IsHeap current heap.old.bytes }
     ensures { TakesStorage heap.old heap.new n result }
 {
-    match heap.allocate(n, Role::Storage, &mut Steps::new()) {
-        Err(NoSpace) => Err(Refusal::NoSpace),
-        Ok(block) => Ok(block),
-    }
+    let block = heap.allocate(n, Role::Storage, &mut Steps::new());
+    block.ok().ok_or(Refusal::NoSpace)
 }
 
 /// Takes a block for the bytes of a text into use, and writes them in it. It answers the block's handle, or `NoSpace`

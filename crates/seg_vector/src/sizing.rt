@@ -4,6 +4,7 @@ ghost use Rattle.raw_region.specs.Format.{current};
 ghost use Rattle.best_fit.specs.{Heap.IsChanged, Heap.IsHeap, Heap.has_room, Heap.live_of, Table.no_table};
 ghost use Rattle.seg_vector.specs.{Elements.Fits, Elements.GivesBack, Vector.capacity_for_one as places_for_one};
 ghost use Rattle.seg_vector.specs.Standing.{Grows, GrowsForOne, IsStanding, Stands, len_at, place_at};
+ghost use Rattle.seg_vector.specs.TextParts.{IsPointed};
 
 use crate::places::{CAPACITY, LEN, Place, capacity_of, len_of, link_of};
 use best_fit::{Heap, NoSpace};
@@ -57,6 +58,18 @@ pub fn fit(heap: &mut Heap, place: Place, each: u64)
     }
 }
 
+/// Writes the link and the capacity of the container at a place. Its length stays.
+pub fn point_to(heap: &mut Heap, place: Place, array: u64, n: u64)
+    requires heap { IsHeap current heap.old.bytes }
+    requires aligned { place.at % 8 ≡ 0 }
+    requires room { IsTrue (has_room (live_of heap.old.bytes) place.handle (place.at + 24)) }
+    requires even { array % 16 ≡ 0 }
+    ensures { IsPointed heap.old heap.new place array n }
+{
+    heap.set_link(place.handle, place.at, Some(array));
+    heap.set_word(place.handle, place.at + CAPACITY, n);
+}
+
 /// Makes room for `n` elements of `each` bytes, 1 to 4096, in the container at a place: nothing is done where its
 /// capacity is `n` or more, and else its storage is regrown to hold just so many.
 ///
@@ -80,8 +93,7 @@ pub fn reserve(heap: &mut Heap, place: Place, each: u64, n: u64) -> Result<(), R
     match heap.regrow(storage, each * n, used) {
         Err(NoSpace) => Err(Refusal::NoSpace),
         Ok(new) => {
-            heap.set_link(place.handle, place.at, Some(new));
-            heap.set_word(place.handle, place.at + CAPACITY, n);
+            point_to(heap, place, new, n);
             Ok(())
         }
     }

@@ -80,10 +80,8 @@ impl SegString {
         requires { IsSomeText heap.now.bytes self.place }
         ensures { GetsByte heap.now self.place index result }
     {
-        match self.as_bytes(heap).get(index as usize) {
-            None => Err(Refusal::OutOfRange),
-            Some(&byte) => Ok(byte),
-        }
+        let byte = self.as_bytes(heap).get(index as usize);
+        byte.copied().ok_or(Refusal::OutOfRange)
     }
 
     /// Writes over the byte with `index` others before it.

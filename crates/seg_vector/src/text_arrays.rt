@@ -1,18 +1,18 @@
 //! The array of a vector of texts: elements of a link, which is a distance, and a length. They are moved as a link and
 //! a word, within it and to one with more places.
-ghost use Rattle.std.specs.Prelude.{◌≡◌, ◌+◌, ◌*◌, ◌%◌, ◌^◌, ◌<◌, IsTrue, true, false};
+ghost use Rattle.std.specs.Prelude.{◌+◌, ◌*◌, ◌^◌, ◌<◌};
 ghost use Rattle.raw_region.specs.{Format.current, Memory.bytes_of};
 ghost use Rattle.offset_link.specs.Link.{link_at};
-ghost use Rattle.best_fit.specs.Exchange.{IsNotWidened, IsWidened};
-ghost use Rattle.best_fit.specs.Heap.{IsChanged, IsHeap, has_room, is_live_in, live_of};
+ghost use Rattle.best_fit.specs.Heap.{IsChanged};
 ghost use Rattle.seg_vector.specs.TextParts.{Adopts, AreCarried, AsksArray, CanCarryDown, CanCarryUp, GivesUp};
 ghost use Rattle.seg_vector.specs.TextParts.{HasArrayRoom, HasElement, HasElementRoom, HasPlace, InsertsGrowing};
-ghost use Rattle.seg_vector.specs.TextParts.{InsertsWithin, IsElementPut, IsFull, IsPointed, IsPutAsked, IsReady};
-ghost use Rattle.seg_vector.specs.TextParts.{IsSameElement, IsToBeGivenUp, PutsIn};
+ghost use Rattle.seg_vector.specs.TextParts.{InsertsWithin, IsElementPut, IsFull, IsPutAsked, IsReady, IsSameElement};
+ghost use Rattle.seg_vector.specs.TextParts.{IsToBeGivenUp, PutsIn};
 ghost use Rattle.seg_vector.specs.TextsCalls.{IsSomeTexts};
 
 use crate::owning::{place_text, take};
-use crate::places::{CAPACITY, ELEMENT, LEN, Place, len_of, link_of};
+use crate::places::{ELEMENT, LEN, Place, len_of, link_of};
+use crate::sizing::point_to;
 use best_fit::Heap;
 use raw_region::Steps;
 use seg_types::Refusal;
@@ -61,20 +61,6 @@ pub fn carry_up(heap: &mut Heap, array: u64, at: u64, n: u64)
     }
 }
 
-/// Makes the block of a handle have room for `n` bytes where it stands, and answers whether it has: it is long enough,
-/// or it is lengthened. Else nothing changes.
-pub fn widen(heap: &mut Heap, handle: u64, n: u64) -> bool
-    requires heap { IsHeap current heap.old.bytes }
-    requires live { IsTrue (is_live_in (live_of heap.old.bytes) handle) }
-    ensures wide { result ≡ true → IsWidened current heap.old heap.new handle n }
-    ensures not { result ≡ false → IsNotWidened heap.old heap.new handle n }
-{
-    if heap.room(handle) >= n {
-        return true;
-    }
-    heap.try_extend(handle, n, &mut Steps::new())
-}
-
 /// Asks for an array of `n` places for the vector of texts at a place, which has fewer, and answers the array's handle:
 /// that of the old one where it is long enough or can be lengthened where it stands, and else that of a new block,
 /// beside the old one. The vector's words stay. Where a new block is needed and no gap is long enough, it answers
@@ -85,23 +71,14 @@ pub fn ask_array(heap: &mut Heap, place: Place, n: u64) -> Result<u64, Refusal>
     ensures { AsksArray heap.old heap.new place n result }
 {
     if let Some(array) = link_of(heap, place) {
-        if widen(heap, array, ELEMENT * n) {
+        if heap.room(array) >= ELEMENT * n {
+            return Ok(array);
+        }
+        if heap.try_extend(array, ELEMENT * n, &mut Steps::new()) {
             return Ok(array);
         }
     }
     take(heap, ELEMENT * n)
-}
-
-/// Writes the link and the capacity of the container at a place. Its length stays.
-pub fn point_to(heap: &mut Heap, place: Place, array: u64, n: u64)
-    requires heap { IsHeap current heap.old.bytes }
-    requires aligned { place.at % 8 ≡ 0 }
-    requires room { IsTrue (has_room (live_of heap.old.bytes) place.handle (place.at + 24)) }
-    requires even { array % 16 ≡ 0 }
-    ensures { IsPointed heap.old heap.new place array n }
-{
-    heap.set_link(place.handle, place.at, Some(array));
-    heap.set_word(place.handle, place.at + CAPACITY, n);
 }
 
 /// Makes the block that was asked for the array of the vector of texts at a place, with `n` places. Where it is a new

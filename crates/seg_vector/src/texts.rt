@@ -9,9 +9,9 @@ ghost use Rattle.seg_vector.specs.{TextsCalls.StaysAtFirst, TextsCalls.new_array
 
 use crate::owning::{lay_out, place_text, release_text, release_texts};
 use crate::places::{ELEMENT, LEN, Place, capacity_of, len_of, link_of};
-use crate::sizing::{LIMIT, capacity_for_one, fit, give_back, start};
+use crate::sizing::{LIMIT, capacity_for_one, fit, give_back, point_to, start};
 use crate::text_arrays::{
-    adopt, ask_array, carry_down, insert_growing, insert_within, point_to, put_element,
+    adopt, ask_array, carry_down, insert_growing, insert_within, put_element,
 };
 use best_fit::Heap;
 use seg_types::Refusal;
@@ -178,11 +178,8 @@ impl SegTexts {
         requires { IsSomeTexts heap.old.bytes self.place }
         ensures { PopsText heap.old heap.new self.place result }
     {
-        let len = self.len(heap);
-        if len == 0 {
-            return Err(Refusal::OutOfRange);
-        }
-        self.erase(heap, len - 1)
+        let last = self.len(heap).checked_sub(1).ok_or(Refusal::OutOfRange)?;
+        self.erase(heap, last)
     }
 
     /// Makes places for `n` texts, where there are fewer, and else changes nothing. The texts stay.

@@ -107,12 +107,9 @@ impl<T: Plain> SegVec<T> {
         requires { IsSomeVector T.SIZE T.is_value T.spelling heap.old.bytes self.place }
         ensures { Pops T.SIZE T.is_value T.spelling heap.old heap.new self.place result }
     {
-        let len = self.len(heap);
-        if len == 0 {
-            return Err(Refusal::OutOfRange);
-        }
-        let value = self.get(heap, len - 1)?;
-        truncate(heap, self.place, T::SIZE, len - 1);
+        let last = self.len(heap).checked_sub(1).ok_or(Refusal::OutOfRange)?;
+        let value = self.get(heap, last)?;
+        truncate(heap, self.place, T::SIZE, last);
         Ok(value)
     }
 

@@ -1,7 +1,6 @@
 -- Those behind the element move down, and the length is written.
 use Rattle.seg_vector.proofs.{take, drop, ◌++◌, ℕ, ◌*◌, ◌+◌, ◌-◌, sym, subst, ◌∙◌, arith, Stands, IsRewritten, live_of}
-use Rattle.seg_vector.proofs.{Fitting, erase-fits, erased, part-room}
-use Rattle.seg_vector.proofs.elements.erase_element.Goals.{In-Some}
+use Rattle.seg_vector.proofs.{Fitting, erase-fits, erased, part-room, elements.erase_element.Goals.In-Some}
 use Rattle.seg_vector.proofs.elements.erase_element.Goals as goal
 
 fits : (c : In-Some) → Fitting (live_of c.args.heap.now.bytes) c.args.each c.args.index

@@ -1,12 +1,10 @@
 -- One that is written over lies in the storage; before one that is put in, those from the place on move up.
+use Rattle.seg_vector.proofs.elements.put_at.Goals.{In-Over, In-Some, In-Some-link_of}
 use Rattle.seg_vector.proofs.{take, drop, ◌++◌, ℕ, ◌*◌, ◌+◌, ◌-◌, ◌<◌, ◌≤◌, sym, subst, ◌∙◌, arith, IsTrue, Stands}
 use Rattle.seg_vector.proofs.{IsRewritten, IsChanged, live_of, has_room, current, changed-room, Fitting, at-least}
-use Rattle.seg_vector.proofs.{PutsAt}
-use Rattle.seg_vector.proofs.{bytes_of, capacity-bytes, element-fits, insert-fits, overwritten, part-room, place_at}
-use Rattle.seg_vector.proofs.{put_in}
-use Rattle.seg_vector.proofs.{room-small, some-room, word_at}
+use Rattle.seg_vector.proofs.{PutsAt, bytes_of, capacity-bytes, element-fits, insert-fits, overwritten, part-room}
+use Rattle.seg_vector.proofs.{place_at, put_in, room-small, some-room, word_at}
 use Rattle.seg_vector.specs.Elements.{HasSpot}
-use Rattle.seg_vector.proofs.elements.put_at.Goals.{In-Over, In-Some, In-Some-link_of}
 use Rattle.seg_vector.proofs.elements.put_at.Goals as goal
 
 -- the element that is there has room in the storage

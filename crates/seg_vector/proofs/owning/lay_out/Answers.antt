@@ -26,7 +26,7 @@ release_texts-requires c =
 
 pub deallocate-requires : goal.deallocate-requires
 deallocate-requires c =
-    let n = length c.args.texts.now in let more = map (λ text. text.now) c.args.texts.now in
+    let n = length c.args.texts.now in
     let t = array-taken n c.in_ok-array.ensures in let w = c.place_texts-placed.ensures t.block t.at t.found in
     let h = laid-held t (sym (length-map c.args.texts.now (λ text. text.now))) w in
     array-live t w (c.release_texts.ensures w.laid.texts h)
@@ -40,7 +40,7 @@ returns-in_err-array c =
 
 pub returns : goal.returns
 returns c =
-    let n = length c.args.texts.now in let more = map (λ text. text.now) c.args.texts.now in
+    let n = length c.args.texts.now in
     let e = sym (length-map c.args.texts.now (λ text. text.now)) in let t = array-taken n c.in_ok-array.ensures in
     let w = c.place_texts-placed.ensures t.block t.at t.found in let h = laid-held t e w in
     taken-off t e c.requires.some w c.if-placed-n.false

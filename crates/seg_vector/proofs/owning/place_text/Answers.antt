@@ -1,6 +1,5 @@
 -- The block holds the text.
-use Rattle.seg_vector.proofs.{◌+◌, arith, length, allocated-room, err_from_is_err_and, not-placed, placed-empty}
-use Rattle.seg_vector.proofs.{placed-some}
+use Rattle.seg_vector.proofs.{◌+◌, arith, length, allocated-room, placed-empty, placed-some}
 use Rattle.seg_vector.proofs.owning.place_text.Goals as goal
 
 pub returns-then-len-eq0 : goal.returns-then-len-eq0
@@ -12,8 +11,3 @@ write-requires c = allocated-room _ _ _ _ _ _ (0 + length c.args.text.now) c.in_
 pub returns : goal.returns
 returns c = placed-some c.args.text.now (omega (arith, c.if-len-eq0.false)) c.in_ok-block.ensures
     c.write.ensures.change c.write.ensures.content
-
-pub returns-in_err-block : goal.returns-in_err-block
-returns-in_err-block c =
-    let p = err_from_is_err_and c.from_residual.result c.from_residual.ensures.1 in
-    rw (p.1, p.2) (not-placed c.args.text.now (omega (arith, c.if-len-eq0.false)) c.in_err-block.ensures)

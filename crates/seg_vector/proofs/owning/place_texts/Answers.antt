@@ -31,7 +31,6 @@ put_element-requires c =
 
 pub loop-i-preserved : goal.loop-i-preserved
 loop-i-preserved c y at found =
-    let r = roomy c.args.heap.now c.args.array (16 * length c.args.texts.now) c.requires.heap c.requires.room in
     laid-put (length c.args.texts.now) c.args.array at (c.loop-i.invariant y at found)
     (drop-next c.args.texts.now c.loop-i.i _ c.loop-i-test.true) c.loop-i-test.true
     (found-big c.args.heap.now c.args.array (16 * length c.args.texts.now) c.requires.heap c.requires.room found)

@@ -1,5 +1,5 @@
 -- The next text is released, and those behind it are left.
-use Rattle.seg_vector.proofs.{arith, element-left, releases-begin, releases-end, releases-next, has-element}
+use Rattle.seg_vector.proofs.{arith, element-left, releases-begin, releases-next, has-element}
 use Rattle.seg_vector.proofs.owning.release_texts.Goals as goal
 
 pub loop-i-init : goal.loop-i-init
@@ -15,6 +15,3 @@ loop-i-preserved c ps s =
     let q = has-element ps c.loop-i.i (omega (arith, c.loop-i-test.true, s.long)) in
     let x = c.loop-i.invariant ps s in
     releases-next c.loop-i.i ps q.1 x (c.release_text.ensures q.0 (element-left c.loop-i.i s q.1 x))
-
-pub returns : goal.returns
-returns c ps s = releases-end c.loop-i.i ps (omega (arith, c.loop-i-test.false, s.long)) (c.loop-i.invariant ps s)

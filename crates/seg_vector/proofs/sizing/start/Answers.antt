@@ -2,16 +2,13 @@
 use Rattle.seg_vector.proofs.{◌+◌, arith, started, changed-both}
 use Rattle.seg_vector.proofs.sizing.start.Goals as goal
 
-pub returns-clause-change : goal.returns-clause-change
-returns-clause-change c = changed-both (c.args.place.handle + c.args.place.at) 24
-    (changed-both (c.args.place.handle + c.args.place.at) 24
-    c.set_link.ensures.change c.set_word.ensures.change (omega arith) (omega arith) (omega arith) (omega arith))
-    c.set_word-2.ensures.change (omega arith) (omega arith) (omega arith) (omega arith)
-
-pub returns-clause-stands : goal.returns-clause-stands
-returns-clause-stands c each = started c.args.place each c.requires.aligned c.requires.room
-    (changed-both (c.args.place.handle + c.args.place.at) 24 (changed-both (c.args.place.handle + c.args.place.at) 24
-    c.set_link.ensures.change c.set_word.ensures.change (omega arith) (omega arith) (omega arith) (omega arith))
-    c.set_word-2.ensures.change (omega arith) (omega arith) (omega arith) (omega arith))
-    c.set_link.ensures.leads c.set_word.ensures.change c.set_word.ensures.word c.set_word-2.ensures.change
-    c.set_word-2.ensures.word
+pub returns : goal.returns
+returns c =
+    let at = c.args.place.handle + c.args.place.at in let a = c.set_link.ensures in let b = c.set_word.ensures in
+    let d = c.set_word-2.ensures in
+    let two = changed-both at 24 a.change b.change (omega arith) (omega arith) (omega arith) (omega arith) in
+    let all = changed-both at 24 two d.change (omega arith) (omega arith) (omega arith) (omega arith) in record {
+      change = all;
+      stands = λ each. started c.args.place each c.requires.aligned c.requires.room all a.leads b.change b.word d.change
+          d.word;
+    }

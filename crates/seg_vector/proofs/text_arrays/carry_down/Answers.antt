@@ -1,15 +1,7 @@
 -- The next element is put in its place, and it is the one that it was.
 use Rattle.seg_vector.proofs.{ℕ, ◌≡◌, subst, ◌+◌, ◌*◌, ◌%◌, arith, IfSome, bytes_of, link_at, live_of, laid-heap}
-use Rattle.seg_vector.proofs.{changed-room, room-less, unchanged, carried-changed, carried-next, even-now, source-stays}
-use Rattle.seg_vector.specs.TextParts.{AreCarried}
+use Rattle.seg_vector.proofs.{changed-room, room-less, carried-changed, carried-next, even-now, source-stays}
 use Rattle.seg_vector.proofs.text_arrays.carry_down.Goals as goal
-
-pub loop-i-init : goal.loop-i-init
-loop-i-init c =
-    record {
-      change = unchanged c.args.heap.now (c.args.to + c.args.to_at) (16 * 0) c.requires.heap;
-      carried = λ j f. absurd (omega arith);
-    }
 
 pub carry_element-requires : goal.carry_element-requires
 carry_element-requires c =
@@ -43,9 +35,3 @@ loop-i-preserved c = record {
       c.loop-i.invariant.change c.requires.apart c.loop-i-test.true (omega arith) (omega arith)
       c.carry_element.ensures.change c.carry_element.ensures.carried;
 }
-
-pub returns : goal.returns
-returns c =
-    let all : c.loop-i.i ≡ c.args.n = omega (arith, c.loop-i-test.false, c.loop-i.auto.i-end) in
-    subst (AreCarried c.args.heap.now c.loop-i.heap (c.args.from + c.args.from_at) (c.args.to + c.args.to_at)) all
-    c.loop-i.invariant

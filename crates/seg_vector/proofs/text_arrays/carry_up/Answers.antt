@@ -1,16 +1,7 @@
 -- The last element that has not moved moves up, and it is the one that it was.
-use Rattle.seg_vector.proofs.{◌≡◌, subst, ◌+◌, ◌-◌, ◌*◌, ◌%◌, arith, IfSome, current, bytes_of, link_at, IsChanged}
-use Rattle.seg_vector.proofs.{ℕ, laid-heap, live_of, changed-room, room-less, unchanged, even-now, up-changed, up-next}
-use Rattle.seg_vector.proofs.{up-source}
+use Rattle.seg_vector.proofs.{◌≡◌, subst, ◌+◌, ◌-◌, ◌*◌, ◌%◌, arith, IfSome, bytes_of, link_at, ℕ, laid-heap, live_of}
+use Rattle.seg_vector.proofs.{changed-room, room-less, even-now, up-changed, up-next, up-source}
 use Rattle.seg_vector.proofs.text_arrays.carry_up.Goals as goal
-
-pub loop-i-init : goal.loop-i-init
-loop-i-init c =
-    record {
-      change = unchanged c.args.heap.now (c.args.array + c.args.at + 16 + 16 * (c.args.n - 0)) (16 * 0)
-          c.requires.heap;
-      carried = λ j f g. absurd (omega arith);
-    }
 
 pub carry_element-requires : goal.carry_element-requires
 carry_element-requires c =
@@ -46,16 +37,4 @@ loop-i-preserved c =
           c.carry_element.ensures.change;
       carried = up-next a k c.loop-i.i c.args.n is c.loop-i.invariant.carried c.loop-i.invariant.change (omega arith)
           (omega arith) c.carry_element.ensures.change c.carry_element.ensures.carried;
-    }
-
-pub returns : goal.returns
-returns c =
-    let all : c.loop-i.i ≡ c.args.n = omega (arith, c.loop-i-test.false, c.loop-i.auto.i-end) in
-    let from : c.args.array + c.args.at + 16 + 16 * (c.args.n - c.loop-i.i) ≡ c.args.array + c.args.at + 16 =
-    omega (arith, all) in
-    record {
-      change = subst (λ k. IsChanged current c.args.heap.now c.loop-i.heap (c.args.array + c.args.at + 16) (16 * k)) all
-          (subst (λ k. IsChanged current c.args.heap.now c.loop-i.heap k (16 * c.loop-i.i)) from
-          c.loop-i.invariant.change);
-      carried = λ j f. c.loop-i.invariant.carried j (omega (arith, all)) f;
     }

@@ -1,7 +1,6 @@
 -- Those behind move up, the element is written, and then the length.
 use Rattle.seg_vector.proofs.{ℕ, sym, ◌∙◌, ◌+◌, ◌-◌, ◌*◌, arith, length, bytes_of, live_of, changed-room, laid-heap}
-use Rattle.seg_vector.proofs.{room-less, none-left, head-room, len-room, room-small, even-from, put-by, put-even}
-use Rattle.seg_vector.proofs.{put-place, put-run}
+use Rattle.seg_vector.proofs.{room-less, head-room, len-room, even-from, put-by, put-even, put-place, put-run}
 use Rattle.seg_vector.proofs.text_arrays.put_in.Goals as goal
 
 pub len_of-len-requires : goal.len_of-len-requires
@@ -12,20 +11,11 @@ link_of-requires-clause-room c = head-room (put-run c.requires.ready).head
 
 pub overflow_mul-index : goal.overflow_mul-index
 overflow_mul-index c =
-    let w = put-place c.requires (sym c.link_of.ensures ∙ c.in-Some.is) in
-    let small = room-small c.args.heap.now c.in-Some.array (16 * length c.requires.ps + 16) w.heap w.room in
-    omega (arith, small, w.inside)
+    let w = put-place c.requires (sym c.link_of.ensures ∙ c.in-Some.is) in omega (arith, w.small, w.inside)
 
 pub overflow_mul-index-in-Some : goal.overflow_mul-index-in-Some
 overflow_mul-index-in-Some c =
-    let w = put-place c.requires (sym c.link_of.ensures ∙ c.in-Some.is) in
-    let small = room-small c.args.heap.now c.in-Some.array (16 * length c.requires.ps + 16) w.heap w.room in
-    omega (arith, small, w.inside)
-
-pub overflow_sub-len : goal.overflow_sub-len
-overflow_sub-len c =
-    let w = put-place c.requires (sym c.link_of.ensures ∙ c.in-Some.is) in
-    omega (arith, w.inside, w.count, c.len_of-len.ensures)
+    let w = put-place c.requires (sym c.link_of.ensures ∙ c.in-Some.is) in omega (arith, w.small, w.inside)
 
 pub carry_up-requires : goal.carry_up-requires
 carry_up-requires c =
@@ -54,8 +44,7 @@ put_element-requires c =
 pub overflow_add-len : goal.overflow_add-len
 overflow_add-len c =
     let w = put-place c.requires (sym c.link_of.ensures ∙ c.in-Some.is) in
-    let small = room-small c.args.heap.now c.in-Some.array (16 * length c.requires.ps + 16) w.heap w.room in
-    omega (arith, small, w.count, c.len_of-len.ensures)
+    omega (arith, w.small, w.count, c.len_of-len.ensures)
 
 pub set_word-requires : goal.set_word-requires
 set_word-requires c = changed-room _ _ _ _ 16 c.args.place.handle (c.args.place.at + 8 + 8) c.put_element.ensures.change
@@ -68,8 +57,3 @@ returns-in-Some c first ps t y m z r inside at len =
     (sym c.link_of.ensures ∙ c.in-Some.is) c.len_of-len.ensures c.carry_up.ensures.change c.carry_up.ensures.carried
     c.put_element.ensures.change c.put_element.ensures.link c.put_element.ensures.len_word
     c.set_word.ensures.change c.set_word.ensures.word
-
-pub returns-in_default : goal.returns-in_default
-returns-in_default c first ps t y m z r inside at len =
-    let none = sym c.link_of.ensures ∙ none-left c.link_of.result c.in_default.not-Some in
-    absurd (let no_link = sym none ∙ r.link in cc)

@@ -1,6 +1,6 @@
 -- The storage grows, and then the bytes are put in from the front.
-use Rattle.seg_vector.proofs.{arith, length, [], live_of, err_from_is_err_and, table-places, text-extended}
-use Rattle.seg_vector.proofs.{text-grown-then, text-space, text-then}
+use Rattle.seg_vector.proofs.{arith, length, [], live_of, table-places, text-extended, text-grown-then, text-space}
+use Rattle.seg_vector.proofs.{text-then}
 use Rattle.seg_vector.proofs.strings.SegString.assign.Goals as goal
 
 pub clear-requires : goal.clear-requires
@@ -17,11 +17,6 @@ extend-requires c =
       some = omega arith;
       long = omega arith;
     }
-
-pub returns-in_err-reserve : goal.returns-in_err-reserve
-returns-in_err-reserve c bytes t v =
-    let p = err_from_is_err_and c.from_residual.result c.from_residual.ensures.1 in
-    rw (p.1, p.2) (c.in_err-reserve.ensures (length bytes) t bytes v)
 
 pub returns : goal.returns
 returns c bytes t v =

@@ -1,6 +1,6 @@
 -- Other texts are laid out, then those before are released, and then the words are written.
-use Rattle.seg_vector.proofs.{sym, ap, ◌∙◌, ◌+◌, arith, length, map, length-map, live_of, changed-room, new_array}
-use Rattle.seg_vector.proofs.{len-room, assigned, assigns-some, laid-fitted, laid-even, texts-still, some-texts}
+use Rattle.seg_vector.proofs.{sym, ◌+◌, arith, length, map, length-map, changed-room, len-room, assigned, assigns-some}
+use Rattle.seg_vector.proofs.{laid-even, texts-still, some-texts}
 use Rattle.seg_vector.proofs.texts.SegTexts.assign.Goals as goal
 
 pub release-requires : goal.release-requires
@@ -26,15 +26,3 @@ returns-clause-assigned c =
     assigns-some c.args.heap.now c.set_word.new.self c.args.self.place more (omega (arith, long, some))
     (λ ps t s. assigned (length c.args.texts.now) s c.in_ok-array.ensures (sym long) some c.release.ensures
     c.point_to.ensures c.set_word.ensures.change c.set_word.ensures.word)
-
-pub returns-clause-first : goal.returns-clause-first
-returns-clause-first c = λ none.
-    let more = map (λ text. text.now) c.args.texts.now in let long = length-map c.args.texts.now (λ text. text.now) in
-    let some = some-texts (length c.args.texts.now) c.if-is_empty.ensures in
-    absurd (laid-fitted (live_of c.args.heap.now.bytes) more (omega (arith, long, some)) c.in_ok-array.ensures.fit
-    (ap (new_array (live_of c.args.heap.now.bytes)) long ∙ none))
-
-pub returns-in_err-array-clause-first : goal.returns-in_err-array-clause-first
-returns-in_err-array-clause-first c = λ none.
-    let long = length-map c.args.texts.now (λ text. text.now) in
-    c.in_err-array.ensures.first (ap (new_array (live_of c.args.heap.now.bytes)) long ∙ none)

@@ -1,7 +1,7 @@
 -- The texts are released, as many as the array has elements, and then the length is written.
 use Rattle.seg_vector.proofs.{[], ◌+◌, ◌∙◌, arith, sym, subst, List, Cut, live_of, room-less, head-room, cleared}
-use Rattle.seg_vector.proofs.{head-after}
-use Rattle.seg_vector.proofs.{held-elements, none-left, released-nothing, text_blocks, IsSwapped, IsTexts, OwnedText}
+use Rattle.seg_vector.proofs.{head-after, held-elements, none-left, released-nothing, text_blocks, IsSwapped, IsTexts}
+use Rattle.seg_vector.proofs.{OwnedText}
 use Rattle.best_fit.specs.Table.{Table as ATable}
 use Rattle.seg_vector.proofs.texts.SegTexts.clear.Goals.{in-Some, in_default, Joined-link_of}
 use Rattle.seg_vector.proofs.texts.SegTexts.clear.Goals as goal

@@ -1,9 +1,7 @@
 -- The block of the text is released, those behind it move down, and then the length is written.
 use Rattle.seg_vector.proofs.{ℕ, inl, sym, ◌∙◌, ◌+◌, ◌-◌, ◌*◌, arith, length, bytes_of, live_of, changed-room}
-use Rattle.seg_vector.proofs.{room-less, IsHead, head-room, len-room, IsArrayLeft, even-from, no-array, none-left}
-use Rattle.seg_vector.proofs.{erased-by, left}
-use Rattle.seg_vector.proofs.{has-element}
-use Rattle.seg_vector.proofs.texts.SegTexts.erase.Goals.{After-release_text}
+use Rattle.seg_vector.proofs.{room-less, IsHead, head-room, len-room, IsArrayLeft, even-from, erased-by, left}
+use Rattle.seg_vector.proofs.{has-element, texts.SegTexts.erase.Goals.After-release_text}
 use Rattle.seg_vector.proofs.texts.SegTexts.erase.Goals as goal
 
 pub release_text-requires : goal.release_text-requires
@@ -60,8 +58,3 @@ returns-in-Some c ps t s =
           (c.release_text.ensures q.0 w.element) c.carry_down.ensures.change c.carry_down.ensures.carried
           c.set_word.ensures.change c.set_word.ensures.word;
     }
-
-pub returns-in_default : goal.returns-in_default
-returns-in_default c ps t s =
-    let none = no-array c.args.heap.now s (sym c.link_of.ensures ∙ none-left c.link_of.result c.in_default.not-Some) in
-    absurd (omega (arith, none, c.len-len.ensures ps t s, c.if-index-len.false))

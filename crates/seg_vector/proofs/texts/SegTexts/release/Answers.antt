@@ -2,11 +2,6 @@
 use Rattle.seg_vector.proofs.{[], given-up-all, stands-none}
 use Rattle.seg_vector.proofs.texts.SegTexts.release.Goals as goal
 
-pub give_back-requires : goal.give_back-requires
-give_back-requires c =
-    let x = c.clear.ensures c.requires.0 c.requires.1.0 c.requires.1.1 in
-    (0, (c.requires.1.0, ([], stands-none x.texts)))
-
 pub returns : goal.returns
 returns c ps t s =
     let x = c.clear.ensures ps t s in given-up-all x (c.give_back.ensures 0 t [] (stands-none x.texts))

@@ -3,19 +3,13 @@ use Rattle.seg_vector.proofs.{refl, ◌<◌, arith, live_of, err_from_is_err_and
 use Rattle.seg_vector.proofs.{reserved, reserved-same, too-many-texts}
 use Rattle.seg_vector.proofs.texts.SegTexts.reserve.Goals as goal
 
-pub returns-then-n-capacity : goal.returns-then-n-capacity
-returns-then-n-capacity c = record {
-  reserved = λ ps t s. reserved-same c.args.heap.now c.args.n s
-      (omega (arith, c.if-n-capacity.true, c.capacity.ensures ps t s));
-  enough = λ ps t s less. (refl, refl);
-}
+pub returns-then-n-capacity-clause-reserved : goal.returns-then-n-capacity-clause-reserved
+returns-then-n-capacity-clause-reserved c = λ ps t s.
+    reserved-same c.args.heap.now c.args.n s (omega (arith, c.if-n-capacity.true, c.capacity.ensures ps t s))
 
-pub returns-then-n-gt-LIMIT : goal.returns-then-n-gt-LIMIT
-returns-then-n-gt-LIMIT c = record {
-  reserved = λ ps t s.
-      record { refusal = refl; none = too-many-texts c.args.heap.now c.args.n s c.if-n-gt-LIMIT.true; same = refl };
-  enough = λ ps t s less. absurd (omega (arith, less, c.if-n-capacity.false, c.capacity.ensures ps t s));
-}
+pub returns-then-n-gt-LIMIT-clause-reserved : goal.returns-then-n-gt-LIMIT-clause-reserved
+returns-then-n-gt-LIMIT-clause-reserved c = λ ps t s.
+    record { refusal = refl; none = too-many-texts c.args.heap.now c.args.n s c.if-n-gt-LIMIT.true; same = refl }
 
 pub adopt-requires : goal.adopt-requires
 adopt-requires c =
@@ -23,25 +17,19 @@ adopt-requires c =
     ready-of c.args.n c.requires.1.1
     (omega (arith, c.if-n-capacity.false, c.capacity.ensures c.requires.0 t c.requires.1.1)) a (asked-alone a)
 
-pub returns-in_err-array : goal.returns-in_err-array
-returns-in_err-array c = record {
-  reserved = λ ps t s.
-      let e = c.in_err-array.ensures ps t s in
-      let p = err_from_is_err_and c.from_residual.result c.from_residual.ensures.1 in
-      rw (p.1, p.2) (record {
-        refusal = e.refusal;
-        none = not-grown (live_of c.args.heap.now.bytes) c.args.n t
-            (omega (arith, c.if-n-capacity.false, c.capacity.ensures ps t s)) e.none;
-        same = e.same;
-      });
-  enough = λ ps t s less. absurd (omega (arith, less, c.if-n-capacity.false, c.capacity.ensures ps t s));
-}
+pub returns-in_err-array-clause-reserved : goal.returns-in_err-array-clause-reserved
+returns-in_err-array-clause-reserved c = λ ps t s.
+    let e = c.in_err-array.ensures ps t s in
+    let p = err_from_is_err_and c.from_residual.result c.from_residual.ensures.1 in
+    rw (p.1, p.2) (record {
+      refusal = e.refusal;
+      none = not-grown (live_of c.args.heap.now.bytes) c.args.n t
+          (omega (arith, c.if-n-capacity.false, c.capacity.ensures ps t s)) e.none;
+      same = e.same;
+    })
 
-pub returns : goal.returns
-returns c = record {
-  reserved = λ ps t s.
-      let more : t.capacity < c.args.n = omega (arith, c.if-n-capacity.false, c.capacity.ensures ps t s) in
-      let a = c.in_ok-array.ensures ps t s in
-      reserved s more (c.adopt.ensures (ready-of c.args.n s more a (asked-alone a)));
-  enough = λ ps t s less. absurd (omega (arith, less, c.if-n-capacity.false, c.capacity.ensures ps t s));
-}
+pub returns-clause-reserved : goal.returns-clause-reserved
+returns-clause-reserved c = λ ps t s.
+    let more : t.capacity < c.args.n = omega (arith, c.if-n-capacity.false, c.capacity.ensures ps t s) in
+    let a = c.in_ok-array.ensures ps t s in
+    reserved s more (c.adopt.ensures (ready-of c.args.n s more a (asked-alone a)))

@@ -1,8 +1,7 @@
 -- The text is placed, the one before is released, and then the element is written.
-use Rattle.seg_vector.proofs.{sym, refl, ◌∙◌, ◌+◌, ◌*◌, arith, length, live_of, left, no-array}
-use Rattle.seg_vector.proofs.{none-left, room-less, text-set, texts-still, has-element, text-even, IsTexts}
-use Rattle.seg_vector.proofs.{IsArrayLeft}
 use Rattle.seg_vector.proofs.texts.SegTexts.set.Goals.{After-release_text, In-Some, In_ok-block}
+use Rattle.seg_vector.proofs.{sym, refl, ◌∙◌, ◌+◌, ◌*◌, arith, length, live_of, left, no-array, none-left, room-less}
+use Rattle.seg_vector.proofs.{text-set, texts-still, has-element, text-even, IsTexts, IsArrayLeft}
 use Rattle.seg_vector.proofs.texts.SegTexts.set.Goals as goal
 
 -- the new text has a block, and the vector is what it was

@@ -1,11 +1,9 @@
 -- The storage grows, and then the values are put in from the front.
-use Rattle.seg_vector.proofs.{arith, length, [], live_of, err_from_is_err_and, table-places, grown-of, grown-then}
-use Rattle.seg_vector.proofs.{IsVector, now-then, without-space}
+use Rattle.seg_vector.proofs.{arith, length, [], live_of, table-places, grown-of, grown-then, IsVector, now-then}
 use Rattle.seg_vector.proofs.vectors.SegVec.assign.Goals as goal
 
 pub clear-requires : goal.clear-requires
 clear-requires g c =
-    let t = c.requires.1.0 in
     let grown = grown-of c.args.heap.now c.reserve.new.heap c.SIZE.ensures c.requires.1.1
     (λ len capacity. length c.args.values.now) (λ n u bytes s. c.in_ok-reserve.ensures n u bytes s) in
     (c.requires.0, (grown.table, record { stands = grown.stands; values = c.requires.1.1.values }))
@@ -26,13 +24,6 @@ put_all-requires g c =
         ),
       ),
     )
-
-pub returns-in_err-reserve : goal.returns-in_err-reserve
-returns-in_err-reserve g c xs t v =
-    let p = err_from_is_err_and c.from_residual.result c.from_residual.ensures.1 in
-    rw (p.1, p.2)
-    (without-space c.args.heap.now c.reserve.new.heap c.SIZE.ensures v (λ len capacity. length c.args.values.now)
-    (λ n u bytes s. c.in_err-reserve.ensures n u bytes s))
 
 pub returns : goal.returns
 returns g c xs t v =

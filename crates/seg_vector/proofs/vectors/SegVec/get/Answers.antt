@@ -1,13 +1,6 @@
 -- The bytes of an element spell its value, and no other.
-use Rattle.seg_vector.proofs.{sym, ap, ◌∙◌, ◌<◌, arith, length, Some, all-at, element-spells, has-element, is-standing}
+use Rattle.seg_vector.proofs.{sym, ap, ◌∙◌, ◌<◌, arith, length, Some, all-at, element-spells, has-element}
 use Rattle.seg_vector.proofs.vectors.SegVec.get.Goals as goal
-
-pub element-requires : goal.element-requires
-element-requires g c =
-    let v = c.requires.1.1 in let len = c.len.ensures c.requires.0 c.requires.1.0 v in record {
-      stands = is-standing c.args.heap.now c.args.heap.now c.SIZE.ensures v;
-      inside = omega (arith, c.if-index-len.false, len, v.stands.words.len_word);
-    }
 
 pub read-requires : goal.read-requires
 read-requires g c =

@@ -1,11 +1,7 @@
 -- The storage grows, and then the value is put in.
-use Rattle.seg_vector.proofs.{◌≤◌, ◌∙◌, arith, inr, length, refl, sym, capacity_for_one, err_from_is_err_and, grown-of}
-use Rattle.seg_vector.proofs.{grown-then, inserted-now, space-for-one, stands-for-one, without-space}
+use Rattle.seg_vector.proofs.{◌≤◌, arith, length, refl, capacity_for_one, grown-of, grown-then, inserted-now}
+use Rattle.seg_vector.proofs.{space-for-one, stands-for-one}
 use Rattle.seg_vector.proofs.vectors.SegVec.insert.Goals as goal
-
-pub grow_for_one-requires-clause-len : goal.grow_for_one-requires-clause-len
-grow_for_one-requires-clause-len g c = c.len-len.ensures c.requires.0 c.requires.1.0 c.requires.1.1
-    ∙ sym c.requires.1.1.stands.words.len_word
 
 pub put_value-requires : goal.put_value-requires
 put_value-requires g c =
@@ -23,14 +19,6 @@ put_value-requires g c =
         ),
       );
     }
-
-pub returns-in_err-grow_for_one : goal.returns-in_err-grow_for_one
-returns-in_err-grow_for_one g c xs t v = let p = err_from_is_err_and c.from_residual.result
-    c.from_residual.ensures.1 in rw (p.1, p.2) (inr (
-      omega (arith, c.if-index-len.false, c.len-len.ensures xs t v),
-      without-space c.args.heap.now c.grow_for_one.new.heap c.SIZE.ensures v capacity_for_one
-          (λ n u bytes s. c.in_err-grow_for_one.ensures n u bytes s),
-    ))
 
 pub returns : goal.returns
 returns g c xs t v =

@@ -1,7 +1,7 @@
 -- A link, and the word of the capacity.
 use Rattle.seg_vector.proofs.{◌≡◌, subst, ◌∙◌, inl, inr, ◌+◌, arith, bytes_of, word_at, SameBut-word, SameBut-link}
 use Rattle.seg_vector.proofs.{changed-both}
-use Rattle.seg_vector.proofs.text_arrays.point_to.Goals as goal
+use Rattle.seg_vector.proofs.sizing.point_to.Goals as goal
 
 pub returns : goal.returns
 returns c =

@@ -17,11 +17,11 @@ pub use Rattle.raw_region.specs.Format.{current}
 pub use Rattle.raw_region.specs.Memory.{Cut, Has, Memory, Same, SamePlace, bytes_of, read, word_at}
 pub use Rattle.seg_map.specs.Changing.{IsBesideMap, IsErased, IsHeaded, IsLoose, IsMade, IsPlanted}
 pub use Rattle.seg_map.specs.{Linking.IsKeyTree, Linking.Relinked, Linking.keys_in, Searches.entry_in, Searches.exit_in}
+pub use Rattle.seg_map.specs.{PairNodes.pair_cells, PairNodes.stands, PairNodes.stands_before, Places.is_passed}
 pub use Rattle.seg_map.specs.Map.{IsPairAt, Pair, is_key, is_rising, node_len, pair_at, put_pair, remove_pair}
 pub use Rattle.seg_map.specs.PairLaws.{Chains, Good, In, IsStrict, PairNode, PairNode-is_pair_node, cells_at, disjoint}
 pub use Rattle.seg_map.specs.PairLaws.{is_pair_node-PairNode, lies, node_block, node_place, passing}
 pub use Rattle.seg_map.specs.PairNodes.{before_key, comes_before, is_kept, is_link_byte, is_other, links_among}
-pub use Rattle.seg_map.specs.{PairNodes.pair_cells, PairNodes.stands, PairNodes.stands_before, Places.is_passed}
 pub use Rattle.seg_map.specs.Places.{last_pair, nodes_of_pairs, pair_node, HoldsMap, IsPairIn, final_pair, first_pair}
 pub use Rattle.seg_types.specs.{declared.plain.Plain.Ghosts as Plain, Plain.value_in}
 pub use Rattle.std.proofs.Common.{Bool, IsTrue, List, [], ap, arith, false, inl, inr, length, map, nat_le, nat_lt, not}

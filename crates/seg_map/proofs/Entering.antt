@@ -61,7 +61,7 @@ pub found_in : (xs : List Extent) (h : ℕ) (x : Extent) → find (λ (y : Exten
 found_in [] h x e = absurd (cc)
 found_in (y ∷ ys) h x e =
     elim (cases_Bool (handle y == h)) [
-      | inl t ↦ let f = rw t at e in let is : y ≡ x = cc in inl is
+      | inl t ↦ let is : y ≡ x = cc in inl is
       | inr n ↦ inr (found_in ys h x (rw n at e))
     ]
 
@@ -121,7 +121,7 @@ module _ {K V : Type 0} {kp : Plain K} {vp : Plain V} (laws : Laws kp) (c : Cut)
   pub pair_block : (p : Pair K V) → IsPairIn kp vp (live_of c.bytes) h p
       → is_block_in (16 + kp.SIZE) (live_of c.bytes) (pair_node p) ≡ true
   pair_block p i =
-      let q = pair_parts i in let long = q.long in
+      let q = pair_parts i in
       any_at (λ (x : Extent). (handle x == pair_node p) && serves x Node (16 + kp.SIZE))
       (live_of c.bytes).extents p.node (found_in (live_of c.bytes).extents (handle p.node) p.node i.listed)
       (rw (eq-eqb (handle p.node) (pair_node p) refl, q.role, le-leb (16 + kp.SIZE + 16) p.node.len (omega arith)) refl)

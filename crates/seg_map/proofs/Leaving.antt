@@ -15,7 +15,7 @@ use Rattle.seg_map.proofs.PairLists.{nodes_in, Below, rising_below, rising_rest,
 use Rattle.seg_map.proofs.PairLists.{none_left, other_nodes, removed_all, removed_length, apart_all, removed_rising}
 use Rattle.seg_map.specs.{Changing.IsTaken, Changing.IsGivenUp, Linking.CanUnlink}
 use Rattle.seg_map.proofs.Entering.{Laws, found_in, good, keys, other_block}
-use Rattle.best_fit.proofs.Laws.{released-live, keeps-refl, others-comm, rising-weak}
+use Rattle.best_fit.proofs.Laws.{released-live, others-comm, rising-weak}
 use Rattle.seg_map.proofs.Staying.{at_node, map_stays, AtNode, beside_then, keeps_beside, relaid}
 use Rattle.best_fit.specs.{Exchange.exchanged, Exchange.without_all, Heap.IsReleased}
 
@@ -62,7 +62,7 @@ module _ {K V : Type 0} {kp : Plain K} {vp : Plain V} (kl : Laws kp) (vl : Laws 
 
   pub erased : IsErased kp vp c f h at ps p key
   erased =
-      let room = roomy e h (at + 24) t.map.heap t.map.room in let begins = room.at in let long = room.room in
+      let room = roomy e h (at + 24) t.map.heap t.map.room in let begins = room.at in
       let apart = other h (apart_all kp vp (live_of c.bytes) h ps s.pairs) in
       let same = other_block (live_of e.bytes) node h r.keeps room.found (λ g. apart (sym begins ∙ g)) in
       record {
@@ -112,7 +112,7 @@ module _ {K V : Type 0} (less : K → K → Bool) where
   without_removed (q ∷ qs) key p zs e =
       elim (cases_Bool (is_key less key q)) [
         | inl y ↦
-            let f = rw y at e in let same : p ≡ q = cc in
+            let same : p ≡ q = cc in
             rw y (ap (λ (x : Pair K V). without_all (blocks_of qs) (others (handle x.node) zs)) same)
         | inr z ↦
             rw z (ap (without_all (blocks_of (remove_pair less qs key)))
@@ -188,20 +188,6 @@ pub record IsGoing {K V : Type 0} (k : Plain K) (v : Plain V) (old now : Cut) (h
   pub size : (live_of now.bytes).size ≡ (live_of old.bytes).size
   pub left : without_all (map (λ (p : Pair K V). p.node) pairs) (live_of now.bytes).extents ≡ without_all
       (map (λ (p : Pair K V). p.node) ps) (live_of old.bytes).extents
-
-pub going_first : {K V : Type 0} (k : Plain K) (v : Plain V) (c : Cut) (h at : ℕ) (ps : List (Pair K V))
-    → HoldsMap k v c.bytes h at ps → IsGoing k v c c h at ps
-going_first k v c h at ps s =
-    record {
-      pairs = ps;
-      holds = s;
-      among = λ m i. i;
-      beside = keeps_beside (keeps-refl c []) (λ x f o.
-          record { payload = record { at = λ n a b. refl }; colour = refl });
-      there = λ x f o. f;
-      size = refl;
-      left = refl;
-    }
 
 module _ {K V : Type 0} {k : Plain K} {v : Plain V} (kl : Laws k) {old now : Cut} {h at : ℕ} {ps : List (Pair K V)}
     (g : IsGoing k v old now h at ps) where

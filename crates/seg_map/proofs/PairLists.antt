@@ -155,7 +155,7 @@ module _ {K V : Type 0} (less : K → K → Bool) where
   in_nodes (q ∷ qs) key p e =
       elim (cases_Bool (is_key less key q)) [
         | inl y ↦
-            let f = rw y at e in let same : p ≡ q = cc in
+            let same : p ≡ q = cc in
             or_left _ _ (eq-eqb _ _ (ap pair_node same))
         | inr z ↦ or_right _ _ (in_nodes qs key p (rw z at e))
       ]
@@ -253,7 +253,7 @@ module _ {K V : Type 0} (less : K → K → Bool) where
   pub absent_here : (key : K) (q : Pair K V) (qs : List (Pair K V)) → pair_at less (q ∷ qs) key ≡ None
       → (is_key less key q ≡ false) × (pair_at less qs key ≡ None)
   absent_here key q qs e =
-      elim (cases_Bool (is_key less key q)) [ inl y ↦ let f = rw y at e in absurd (cc) | inr z ↦ (z, rw z at e) ]
+      elim (cases_Bool (is_key less key q)) [ inl y ↦ absurd (cc) | inr z ↦ (z, rw z at e) ]
 
   -- the pair that is found is one of them, and has the key
   pub pair_of : (P : Pair K V → Type 0) (ps : List (Pair K V)) (key : K) (p : Pair K V) → pair_at less ps key ≡ Some p
@@ -262,7 +262,7 @@ module _ {K V : Type 0} (less : K → K → Bool) where
   pair_of P (q ∷ qs) key p e a =
       elim (cases_Bool (is_key less key q)) [
         | inl y ↦
-            let f = rw y at e in let same : q ≡ p = cc in
+            let same : q ≡ p = cc in
             (subst P same a.0, ap (is_key less key) (sym same) ∙ y)
         | inr z ↦ pair_of P qs key p (rw z at e) a.1
       ]
@@ -356,7 +356,7 @@ module _ {K V : Type 0} (less : K → K → Bool) where
           elim (cases_Bool (less q.key p'.key)) [
             | inl y ↦ rw (n, y) (step q a.0 (inr y), replaced_all qs (rising_rest less on q qs r) (rw (n, y) at e) a.1)
             | inr z ↦
-                let f = rw (n, z) at e in let is : q.key ≡ p'.key = cc in
+                let is : q.key ≡ p'.key = cc in
                 rw (n, z) (own, behind qs (subst (λ k. Below less k qs) is (rising_below less on q qs r)) a.1)
           ]
 
@@ -369,7 +369,7 @@ module _ {K V : Type 0} (less : K → K → Bool) where
           | inl y ↦ rw (n, y) (ap (λ (ms : List ℕ). pair_node q ∷ ms)
               (replaced_nodes at qs (rising_rest less on q qs r) (rw (n, y) at e)))
           | inr z ↦
-              let f = rw (n, z) at e in let is : p ≡ q = cc in
+              let is : p ≡ q = cc in
               rw (n, z) (ap (λ (m : ℕ). m ∷ nodes_of_pairs qs) (at ∙ ap pair_node is))
         ]
 
@@ -385,7 +385,7 @@ module _ {K V : Type 0} (less : K → K → Bool) where
               (replaced_all (λ (x : Pair K V). less q.key x.key ≡ true) (λ (x : Pair K V). less q.key x.key ≡ true)
               (λ x h o. h) y qs rest found (rising_below less on q qs r)) (replaced_rising qs rest found))
           | inr z ↦
-              let f = rw (n, z) at e in let is : q.key ≡ p'.key = cc in
+              let is : q.key ≡ p'.key = cc in
               rw (n, z) (below_rising less p' qs (subst (λ k. Below less k qs) is (rising_below less on q qs r)) rest)
         ]
 

@@ -211,7 +211,7 @@ pub block_apart : {len : ℕ} {ns : List ℕ} {c : Cut} {n : ℕ} (x : Extent) �
     → In x (live_of c.bytes).extents → (handle x ≡ n → ⊥)
     → (x.offset + x.len ≤ n - 16) ⊎ (n + len ≤ x.offset)
 block_apart {len} {ns} {c} {n} x g i o =
-    let p = node_place len ns c n g in let b = p.block in let at = b.at in let enough = b.holds in let low = p.low in
+    let p = node_place len ns c n g in let b = p.block in let at = b.at in
     let r = is_proper-IsProper (live_of c.bytes) g.good.proper in
     elim (disjoint 128 (live_of c.bytes).extents ((live_of c.bytes).size - 16) b.extent x r.list b.listed i) [
       | inl e ↦ absurd (o (ap handle (sym e) ∙ at))
@@ -221,7 +221,7 @@ block_apart {len} {ns} {c} {n} x g i o =
 pub nodes_apart : {len : ℕ} {ns : List ℕ} {c : Cut} {n m : ℕ} → PairNode len ns c n → PairNode len ns c m → (m ≡ n → ⊥)
     → (m + len ≤ n - 16) ⊎ (n + len ≤ m - 16)
 nodes_apart {len} {ns} {c} {n} {m} g h o =
-    let p = node_place len ns c m h in let b = p.block in let at = b.at in let enough = b.holds in
+    let p = node_place len ns c m h in let b = p.block in let at = b.at in
     grind (arith, block_apart b.extent g b.listed (λ e. o (sym at ∙ e)))
 
 -- ---- a link is set
@@ -312,7 +312,7 @@ module _ {len : ℕ} {ns : List ℕ} {c d : Cut} {n : ℕ} {red : Bool} (g : Pai
 
   node_same : (m : ℕ) → PairNode len ns c m → Same (bytes_of c.bytes) (bytes_of d.bytes) m (m + len)
   node_same m q =
-      let b = node_block len ns c m q in let at = b.at in let enough = b.holds in
+      let b = node_block len ns c m q in let at = b.at in
       let s = same_payload b.extent b.listed in record { at = λ k l h. s.at k (omega arith) (omega arith) }
 
   left_link : (m : ℕ) → PairNode len ns c m → link_at (bytes_of d.bytes) m ≡ link_at (bytes_of c.bytes) m

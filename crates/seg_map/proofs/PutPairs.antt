@@ -13,8 +13,8 @@ use Rattle.seg_map.proofs.Common.{PairNode-is_pair_node, IsKeyTree, Relinked, �
 use Rattle.seg_map.proofs.Common.{Same, others, Keeps, beside_cell, changed-keeps, changed-room, found-room, IsPairAt}
 use Rattle.seg_map.proofs.Common.{put_pair, IsPairIn, PairNode, node_place, or_parts, not-true}
 use Rattle.seg_map.proofs.{Entering.other_block, Entering.Laws, Entering.found_in, Entering.keys, Searching.lent_own}
-use Rattle.seg_map.proofs.Staying.{block_cells, map_over, pair_stays, beside_then, keeps_beside, map_stays, relaid}
 use Rattle.seg_map.proofs.{PairSteps.all_in, Staying.at_node}
+use Rattle.seg_map.proofs.Staying.{block_cells, map_over, pair_stays, beside_then, keeps_beside, map_stays, relaid}
 use Rattle.seg_map.proofs.Entering.{good, keys_among, key_is, pair_block, pair_parts, tree_among, with_bytes}
 use Rattle.seg_map.specs.Changing.{IsNew, IsPut, IsPutAgain, CanPutIn, PutsIn}
 use Rattle.seg_map.specs.Linking.{CanLink}
@@ -110,7 +110,6 @@ module _ {K V : Type 0} {kp : Plain K} (kl : Laws kp) (vp : Plain V) {a b : Cut}
         made {f} value is_value fourth there =
             let begin : node + 0 ≡ node = omega arith in
             let behind : node + (16 + kp.SIZE) ≡ node + 16 + kp.SIZE = omega arith in
-            let size = kl.spells key is_key in
             record {
               block = still (16 + kp.SIZE + vp.SIZE) three fourth (omega arith) (omega arith) (omega arith);
               left = SameBut-link _ _ _ _ node fourth.rest (inl (omega arith))
@@ -159,7 +158,7 @@ module _ {K V : Type 0} {kp : Plain K} {vp : Plain V} (kl : Laws kp) (vl : Laws 
   -- the map is as it was, beside the new block
   pub map_there : HoldsMap kp vp d.bytes h at ps
   map_there =
-      let r = roomy c h (at + 24) s.heap s.room in let begins = r.at in let long = r.room in
+      let r = roomy c h (at + 24) s.heap s.room in
       let same = kept _ r.found in
       map_stays kl vl c d s (laid-heap _ _ m.block.live) (allocated-room_before current c d
       (node_len kp.SIZE vp.SIZE) Node node h (at + 24) m.block s.room)
@@ -429,7 +428,7 @@ module _ {K V : Type 0} {kp : Plain K} {vp : Plain V} (c : Cut) {h at : ℕ} {ps
 
     map_after : HoldsMap kp vp d.bytes h at (put_pair kp.order new ps)
     map_after =
-        let r = roomy c h (at + 24) s.heap s.room in let begins = r.at in let long = r.room in
+        let r = roomy c h (at + 24) s.heap s.room in let begins = r.at in
         let block = block_stays r.extent h r.found (λ e. own.apart (sym e ∙ begins)) in
         let words : Same (bytes_of c.bytes) (bytes_of d.bytes) (h + at) (h + at + 24) =
         record { at = λ n a b. block.payload.at n (omega arith) (omega arith) } in

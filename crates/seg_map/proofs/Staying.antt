@@ -77,7 +77,7 @@ module _ {len : ℕ} {ns : List ℕ} {c : Cut} (d : Cut) (good : Good len ns c) 
 
       below : (k < 24) ⊎ ((32 ≤ k) × (k < 128)) → (n : ℕ) → 144 ≤ n → k < n
       below (inl l) n low' = omega arith
-      below (inr p) n low' = let l = p.1 in omega arith
+      below (inr p) n low' = omega arith
 
   -- a byte in the payload of a block stays, but for links of nodes
   pub kept_inside : (x : Extent) → In x (live_of c.bytes).extents → (k : ℕ) → handle x ≤ k → k < end_of x
@@ -178,7 +178,7 @@ relinked k ns ms {c} {d} {e} root top before {after} steps now kept leads_to add
             subst (λ (ks : List ℕ). IsKeyTree k ks d top r.0) same (record { tree = r.1; leads = leads_to }),
             r.2,
           );
-      few = λ t h. let most = few t h.tree in omega arith;
+      few = λ t h. omega arith;
     })
 
 -- ---- a map whose blocks stay stays
@@ -331,7 +331,7 @@ module _ {K V : Type 0} {kp : Plain K} {vp : Plain V} {c d : Cut} {h at : ℕ} {
 
     beside : IsBesideMap c e (h + at) ns
     beside =
-        let r = roomy c h (at + 24) s.heap s.room in let here = r.at in let long = r.room in
+        let r = roomy c h (at + 24) s.heap s.room in
         let written = written-but d e (live_of c.bytes) h (h + at) 24 r.extent s.heap.proper r.found head.change
         (omega arith) (omega arith) in
         record {

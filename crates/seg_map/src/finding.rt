@@ -38,11 +38,7 @@ impl<K: Plain, V: Plain> SegMap<K, V> {
         ensures exact { LookUpTakes K.Plain V.Plain heap.now self.place false key steps.old steps.new }
     {
         let (found, value) = self.first_from(heap, key, steps)?;
-        if key.precedes(found) {
-            None
-        } else {
-            Some(value)
-        }
+        (!key.precedes(found)).then_some(value)
     }
 
     /// The key and the value of the pair with the least key that is not below `key`.
@@ -173,16 +169,6 @@ impl<K: Plain, V: Plain> SegMap<K, V> {
     }
 }
 
-/// The key and the value of a node.
-fn item<K: Plain, V: Plain>(heap: &Heap, node: u64) -> Option<(K, V)>
-    requires { IsTrue (has_room (live_of heap.now.bytes) node (16 + K.SIZE + V.SIZE)) }
-    ensures { result ≡ item_at K.Plain V.Plain (bytes_of heap.now.bytes) node }
-{
-    let key = value_at::<K>(heap, node, KEY)?;
-    let value = value_at::<V>(heap, node, KEY + K::SIZE)?;
-    Some((key, value))
-}
-
 /// The key and the value of what a search has found. What it took is counted here.
 fn read_found<K: Plain, V: Plain>(heap: &Heap, found: Found, steps: &mut Steps) -> Option<(K, V)>
     requires { IfSome found.node (λ n. IsTrue (has_room (live_of heap.now.bytes) n (16 + K.SIZE + V.SIZE))) }
@@ -192,7 +178,9 @@ fn read_found<K: Plain, V: Plain>(heap: &Heap, found: Found, steps: &mut Steps) 
     steps.add(found.steps);
     let node = found.node?;
     steps.add(1);
-    item(heap, node)
+    let key = value_at::<K>(heap, node, KEY)?;
+    let value = value_at::<V>(heap, node, KEY + K::SIZE)?;
+    Some((key, value))
 }
 
 /// The node that a search for a key has found, where it has that key.
@@ -206,9 +194,5 @@ fn with_key<K: Plain>(heap: &Heap, node: Option<u64>, key: K, steps: &mut Steps)
     let node = node?;
     steps.add(1);
     let found = value_at::<K>(heap, node, KEY)?;
-    if key.precedes(found) {
-        None
-    } else {
-        Some(node)
-    }
+    (!key.precedes(found)).then_some(node)
 }

@@ -21,8 +21,7 @@ use std::marker::PhantomData;
 pub struct SegMap<K: Plain, V: Plain> {
     /// Where the three words stand.
     pub place: Place,
-    keys: PhantomData<K>,
-    values: PhantomData<V>,
+    of: PhantomData<(K, V)>,
 }
 
 impl<K: Plain, V: Plain> SegMap<K, V> {
@@ -32,8 +31,7 @@ impl<K: Plain, V: Plain> SegMap<K, V> {
     {
         SegMap {
             place,
-            keys: PhantomData,
-            values: PhantomData,
+            of: PhantomData,
         }
     }
 

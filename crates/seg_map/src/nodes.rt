@@ -6,7 +6,7 @@ ghost use Rattle.seg_map.specs.PairNodes.{Kept as WhatStays, comes_before, is_pa
 ghost use Rattle.seg_map.specs.PairLaws.{comes_agrees, comes_irreflexive, comes_transitive, pairs_finite, pairs_left};
 ghost use Rattle.seg_map.specs.{Linking.keys_in, PairNodes.stands_before, PairLaws.pairs_right};
 
-use crate::reading::{KEY, Sought, is_before, is_below, value_at};
+use crate::reading::{KEY, Sought, value_at};
 use best_fit::{Heap, RIGHT};
 use link_tree::{Nodes, NodesMut};
 use raw_region::Snapshot;
@@ -120,14 +120,19 @@ impl<H: Lent, K: Plain> Nodes for Pairs<H, K> {
     }
 
     fn precedes(&self, a: u64, b: u64) -> bool {
-        is_below::<K>(
-            value_at(self.heap.heap(), a, KEY),
-            value_at(self.heap.heap(), b, KEY),
-        )
+        let heap = self.heap.heap();
+        match (value_at::<K>(heap, a, KEY), value_at::<K>(heap, b, KEY)) {
+            (Some(first), Some(second)) => first.precedes(second),
+            _ => false,
+        }
     }
 
     fn before_probe(&self, node: u64, probe: &Sought<K>) -> bool {
-        is_before(value_at(self.heap.heap(), node, KEY), probe)
+        match value_at::<K>(self.heap.heap(), node, KEY) {
+            None => false,
+            Some(key) if probe.past => !probe.key.precedes(key),
+            Some(key) => key.precedes(probe.key),
+        }
     }
 
     ghost finite = { λ s. pairs_finite (16 + K.SIZE) s.own (H.cut s.heap) };

@@ -1,9 +1,8 @@
-//! Keys and values that are read, and compared.
+//! Keys and values that are read, and the key that is looked for.
 ghost use Rattle.std.specs.Prelude.{◌≡◌, ◌+◌, IsTrue};
 ghost use Rattle.raw_region.specs.Memory.{bytes_of, read};
 ghost use Rattle.best_fit.specs.Heap.{has_room, live_of};
 ghost use Rattle.seg_types.specs.Plain.{value_in};
-ghost use Rattle.seg_map.specs.PairNodes.{before_key, stands};
 
 use best_fit::Heap;
 use seg_types::Plain;
@@ -24,25 +23,4 @@ pub fn value_at<T: Plain>(heap: &Heap, handle: u64, at: u64) -> Option<T>
     ensures { result ≡ value_in T.reading T.is_value T.spelling (read (bytes_of heap.now.bytes) (handle + at) T.SIZE) }
 {
     T::read(heap.bytes(handle, at, T::SIZE))
-}
-
-/// Whether a pair with the first key stands before one with the second. Without a key it does not.
-pub fn is_below<K: Plain>(first: Option<K>, second: Option<K>) -> bool
-    ensures { result ≡ before_key K.order first second }
-{
-    match (first, second) {
-        (Some(first), Some(second)) => first.precedes(second),
-        _ => false,
-    }
-}
-
-/// Whether a pair with this key stands before what is looked for.
-pub fn is_before<K: Plain>(key: Option<K>, sought: &Sought<K>) -> bool
-    ensures { result ≡ stands K.order sought.now.past sought.now.key key }
-{
-    match key {
-        None => false,
-        Some(key) if sought.past => !sought.key.precedes(key),
-        Some(key) => key.precedes(sought.key),
-    }
 }

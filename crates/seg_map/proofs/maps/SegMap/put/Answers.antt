@@ -5,7 +5,7 @@ use Rattle.seg_map.proofs.maps.SegMap.put.Goals as goal
 
 pub write_value-requires : goal.write_value-requires
 write_value-requires g c =
-    let ps = c.requires.0 in let s = c.requires.1 in
+    let s = c.requires.1 in
     let k = key_at_node c.find_in-trace.ensures.found s c.in-Some.is in
     rw (← k.at, c.SIZE.ensures) (value_room c.args.heap.now s c.args.key k.holds)
 
@@ -46,11 +46,3 @@ returns-clause-steps g c =
     let absent = key_absent c.find_in-trace.ensures.found s none in
     let there = map_there (laws g.met.K.Plain) (laws g.met.V.Plain) s absent c.in_ok-node.ensures.made in
     omega (arith, c.find_in-trace.ensures.found.steps ps s, c.make_node.ensures.steps, c.put_in.ensures.steps ps there)
-
-pub returns-clause-searched : goal.returns-clause-searched
-returns-clause-searched g c = λ ps s.
-    omega (arith, c.find_in-trace.ensures.found.exact ps s, c.make_node.ensures.counted, c.put_in.ensures.counted)
-
-pub returns-clause-went : goal.returns-clause-went
-returns-clause-went g c = λ new ps s.
-    omega (arith, c.find_in-trace.ensures.found.exact ps s, c.make_node.ensures.counted, c.put_in.ensures.counted)

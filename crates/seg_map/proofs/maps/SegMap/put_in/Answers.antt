@@ -1,11 +1,9 @@
 -- The node enters the tree, and the three words say so.
-use Rattle.seg_map.proofs.{sym, ap, ◌∙◌, ◌+◌, ◌-◌, Some, arith, bits, laws, can_link, few_steps, fewer}
-use Rattle.seg_map.proofs.{kept_proper, kept_room, own_nodes, planted, planted_tree, relinked, rules, top_whole}
-use Rattle.seg_map.proofs.{Relinked}
-use Rattle.link_tree.specs.Nodes.{put}
 use Rattle.seg_map.proofs.Entering.{few_in_map}
-use Rattle.seg_map.specs.Linking.{keys_in}
-use Rattle.seg_map.specs.PairNodes.{comes_before}
+use Rattle.seg_map.proofs.{sym, ap, ◌∙◌, ◌+◌, ◌-◌, Some, arith, bits, laws, can_link, few_steps, fewer, kept_proper}
+use Rattle.seg_map.proofs.{kept_room, own_nodes, planted, planted_tree, relinked, rules, top_whole, Relinked}
+use Rattle.link_tree.specs.Nodes.{put}
+use Rattle.seg_map.specs.{Linking.keys_in, PairNodes.comes_before}
 use Rattle.seg_map.proofs.maps.SegMap.put_in.Goals as goal
 use Rattle.seg_map.proofs.maps.SegMap.put_in.Goals.{After-add}
 

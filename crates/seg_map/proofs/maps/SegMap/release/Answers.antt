@@ -1,13 +1,6 @@
 -- A pair is given up as long as there is a root.
-use Rattle.seg_map.proofs.{◌≡◌, sym, ◌∙◌, ◌+◌, arith, None, live_of, room-less, laws, given_up, going_first, going_on}
-use Rattle.seg_map.proofs.{one_less, root_pair}
+use Rattle.seg_map.proofs.{◌≡◌, sym, ◌∙◌, None, laws, given_up, going_on, one_less, root_pair}
 use Rattle.seg_map.proofs.maps.SegMap.release.Goals as goal
-
-pub link-requires-clause-room : goal.link-requires-clause-room
-link-requires-clause-room g c =
-    let at = c.args.self.place.at in
-    room-less (live_of c.pairs.heap.bytes) c.args.self.place.handle (at + 24) (at + 8) (omega arith)
-    (c.pairs.invariant c.requires.0 c.requires.1).holds.room
 
 pub give_up-requires : goal.give_up-requires
 give_up-requires g c =
@@ -22,10 +15,6 @@ give_up-requires g c =
       is = n.at;
       begins = tt;
     }
-
-pub pairs-init : goal.pairs-init
-pairs-init g c = λ ps s. going_first g.K.Plain g.V.Plain c.args.heap.now c.args.self.place.handle c.args.self.place.at
-    ps s
 
 pub pairs-smaller : goal.pairs-smaller
 pairs-smaller g c =

@@ -1,11 +1,10 @@
 -- The names that most proofs cite, passed on from one place.
 pub use Rattle.best_fit.proofs.Laws.{allocated-live, among, changed-keeps, found-less, found-new, found-room, laid-heap}
 pub use Rattle.best_fit.proofs.Laws.{live-rises, released-live, rising-insert, room-less, room_block}
-pub use Rattle.best_fit.specs.Extents.{Extent, LiveSet, handle, holds}
-pub use Rattle.best_fit.specs.Fit.{added, others, place, released}
 pub use Rattle.best_fit.specs.Heap.{IsAllocated, IsChanged, IsHeap, IsReleased, Keeps, LaysOut, SameBlock, extent_at}
 pub use Rattle.best_fit.specs.Heap.{has_room, heap_touches, is_live_in, live_of}
-pub use Rattle.best_fit.specs.Table.{Table, same_role, serves}
+pub use Rattle.best_fit.specs.{Extents.Extent, Extents.LiveSet, Extents.handle, Extents.holds, Fit.added, Fit.others}
+pub use Rattle.best_fit.specs.{Fit.place, Fit.released, Table.Table, Table.same_role, Table.serves}
 pub use Rattle.block_tags.specs.declared.tile.Role.{TheVariants.Index as IndexRole, Role}
 pub use Rattle.byteorder.specs.Endian.{big_number}
 pub use Rattle.link_tree.specs.Tree.{bits}
@@ -13,12 +12,12 @@ pub use Rattle.offset_link.proofs.Laws.{Same-link, SameBut-link}
 pub use Rattle.offset_link.specs.{Relinked.AllLead, Relinked.KeepTargets, Link.link_at}
 pub use Rattle.raw_region.proofs.Laws.{Same-part, Same-word, SameBut-word, SamePlace-trans}
 pub use Rattle.raw_region.specs.{Memory.Cut, Memory.Memory, Memory.Same, Memory.bytes_of, Memory.read, Format.current}
-pub use Rattle.seg_index.specs.{Held.IsIndexOf, Held.capacity_at, Held.place_of, Beginnings.AreBytes, Beginnings.front}
 pub use Rattle.seg_index.specs.Comparing.{HasEntry, comparisons_in, middle, order_at}
 pub use Rattle.seg_index.specs.Growth.{IsBlockFor, KeepsRest, beside_table, unlinked, without_link}
+pub use Rattle.seg_index.specs.declared.keys.Lookup.{TheVariants.Absent, TheVariants.Found, Lookup}
+pub use Rattle.seg_index.specs.{Held.IsIndexOf, Held.capacity_at, Held.place_of, Beginnings.AreBytes, Beginnings.front}
 pub use Rattle.seg_index.specs.{Index.AreEntries, Index.AreLinks, Index.grown_capacity, Keys.name_at, Keys.name_len_at}
 pub use Rattle.seg_index.specs.{Lookups.AreKeys, Lookups.IsPlaceIn, Lookups.order, declared.keys.Key.Key}
-pub use Rattle.seg_index.specs.declared.keys.Lookup.{TheVariants.Absent, TheVariants.Found, Lookup}
 pub use Rattle.std.proofs.Common.{Bool, IsTrue, List, [], ap, ap₂, arith, bit_and, false, get_or, inl, inr, length, min}
 pub use Rattle.std.proofs.Common.{refl, subst, suc, sym, true, zero, ℕ, ◌%◌, ◌*◌, ◌+◌, ◌-◌, ◌/◌, ◌<◌, ◌==◌, ◌^◌, ◌∙◌}
 pub use Rattle.std.proofs.Common.{◌∷◌, ◌≡◌, ◌≢◌, ◌≤◌}
@@ -26,8 +25,8 @@ pub use Rattle.std.proofs.lemmas.Bool.{and_from, and_parts, cases_lt, leb-true, 
 pub use Rattle.std.proofs.lemmas.{Option.none-some, Option.same_Some, Option.slice_get-get_or, Cmp.nat_list_cmp_total}
 pub use Rattle.std.proofs.lemmas.List.Edits.{length-insert, length-remove}
 pub use Rattle.std.specs.Cmp.Lexicographic.{slice_cmp}
-pub use Rattle.std.specs.{Ordering.nat_cmp, Ordering.ordering_reverse, List.AllByRecursion, List.slice_range}
 pub use Rattle.std.specs.Prelude.{IfSome, None, Option, Some, insert, nat_lt, remove, slice_get, unwrap_or}
 pub use Rattle.std.specs.declared.cmp.Ordering.{TheVariants.Equal, TheVariants.Greater, TheVariants.Less, Ordering}
+pub use Rattle.std.specs.{Ordering.nat_cmp, Ordering.ordering_reverse, List.AllByRecursion, List.slice_range}
 unfoldable pub use Rattle.raw_region.specs.Memory.{word_at}
 unfoldable pub use Rattle.seg_index.specs.Comparing.{comparisons_among}

@@ -51,8 +51,8 @@ pub record Inside (c : Cut) (h n : ℕ) : Type 0 where
 
 pub inside : (c : Cut) (h n : ℕ) → IsHeap current c.bytes → IsTrue (has_room (live_of c.bytes) h n) → Inside c h n
 inside c h n heap has =
-    let r = room_block c h n heap has in let b = r.block in let o = b.at in let low = b.low in
-    let enough = r.enough in let ends = b.inside in let size = b.size in
+    let r = room_block c h n heap has in let b = r.block in let low = b.low in
+    let ends = b.inside in
     record { low = omega arith; ends = omega arith; small = omega arith }
 
 pub block_small : (c : Cut) (h n : ℕ) → IsHeap current c.bytes → IsTrue (has_room (live_of c.bytes) h n)
@@ -259,7 +259,7 @@ bare {c} {at} {t} {hs} i leads = table_cases (λ u. IsIndexOf c at u hs → u.ca
 
 pub no_entries : {c : Cut} {at : ℕ} {t : Table} {hs : List ℕ} → IsIndexOf c at t hs
     → link_at (bytes_of c.bytes) at ≡ None → length hs ≡ 0
-no_entries i leads = let z = bare i leads in let f = i.few in omega arith
+no_entries i leads = let z = bare i leads in omega arith
 
 pub capacity_small : {c : Cut} {at : ℕ} {t : Table} {hs : List ℕ} → IsIndexOf c at t hs → t.capacity ≤ 134217728
 capacity_small {c} {at} {t} i = by_case (link_at (bytes_of c.bytes) at) refl
@@ -313,7 +313,6 @@ pub ruleset sizes = (
 pub keys_given : (c : Cut) (at : ℕ) (key : Key) (block count : ℕ) → (k : HasKeys c at key)
     → Placed c at k.table k.handles block → count ≡ word_at (bytes_of c.bytes) (at + 8) → AreKeys c block count key
 keys_given c at key block count k p e =
-    let long : count ≡ length k.handles = e ∙ k.index.stands.count in let few = k.index.few in
     record {
       room = room-less (live_of c.bytes) block (8 * k.table.capacity) (8 * count) (omega arith) p.room;
       target = λ i l. (get_or k.handles i 0, entry_here (bytes_of c.bytes) block k.handles i p.links (omega arith));
@@ -323,15 +322,14 @@ keys_given c at key block count k p e =
 
 pub place_found : (m : Memory) (key : Key) (hs : List ℕ) (block count : ℕ) (r : Lookup) → AreLinks m block hs
     → count ≡ length hs → IsPlaceIn m key block count r → IsPlace m key hs r
-place_found m key hs block count (Found j) a long p =
-    let l = p.0 in (
-      get_or hs j 0,
-      slice_get-get_or hs j 0 (omega arith),
-      p.1 (get_or hs j 0)
-          (entry_here m block hs j a (omega arith)),
-    )
+place_found m key hs block count (Found j) a long p = (
+  get_or hs j 0,
+  slice_get-get_or hs j 0 (omega arith),
+  p.1 (get_or hs j 0)
+      (entry_here m block hs j a (omega arith)),
+)
 place_found m key hs block count (Absent j) a long p =
-    let l = p.0 in let at = λ (x g : ℕ) (w : x < length hs). at_links m block hs x g a w in (
+    let at = λ (x g : ℕ) (w : x < length hs). at_links m block hs x g a w in (
       omega arith,
       λ rises k h e. p.1
           (record {

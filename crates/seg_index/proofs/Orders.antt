@@ -68,9 +68,6 @@ pub record Counting (stands : ℕ → Ordering) (count low high made : ℕ) : Ty
   pub enough : high - low ≤ most
   pub all : made + comparisons_among most stands low high ≡ comparisons_among count stands 0 count
 
-pub counting_start : (stands : ℕ → Ordering) (count : ℕ) → Counting stands count 0 count 0
-counting_start stands count = record { most = count; enough = omega arith; all = omega arith }
-
 -- where keys are left one more is compared
 record More (stands : ℕ → Ordering) (count low high made : ℕ) (o : Ordering) : Type 0 where
   most : ℕ
@@ -91,13 +88,13 @@ one_more {stands} {count} {low} {high} {made} o k l is = by_most k.most k.enough
 pub counts_up : {stands : ℕ → Ordering} {count low high made : ℕ} → Counting stands count low high made → low < high
     → stands (middle low high) ≡ Less → Counting stands count (middle low high + 1) high (made + 1)
 counts_up k l is =
-    let m = one_more Less k l is in let few = m.enough in
+    let m = one_more Less k l is in
     record { most = m.most; enough = omega arith; all = omega (arith, m.all) }
 
 pub counts_down : {stands : ℕ → Ordering} {count low high made : ℕ} → Counting stands count low high made → low < high
     → stands (middle low high) ≡ Greater → Counting stands count low (middle low high) (made + 1)
 counts_down k l is =
-    let m = one_more Greater k l is in let few = m.enough in
+    let m = one_more Greater k l is in
     record { most = m.most; enough = omega arith; all = omega (arith, m.all) }
 
 pub counts_found : {stands : ℕ → Ordering} {count low high made : ℕ} → Counting stands count low high made → low < high
@@ -180,23 +177,13 @@ pub record IsLeft (c : Cut) (key : Key) (block count low high made : ℕ) : Type
   pub few : made + bits (high - low) ≤ bits count
   pub counting : Counting (order_at (bytes_of c.bytes) key block) count low high made
 
-pub left_first : (c : Cut) (key : Key) (block count : ℕ) → IsLeft c key block count 0 count 0
-left_first c key block count = let all : count - 0 ≡ count = omega arith in record {
-  rises = omega arith;
-  within = omega arith;
-  before = λ r j h l e. absurd (omega arith);
-  behind = λ r j h l k e. absurd (omega arith);
-  few = omega (arith, ap bits all);
-  counting = counting_start (order_at (bytes_of c.bytes) key block) count;
-}
-
 -- a key that stands before the one that is looked up, and so all before it do
 pub left_up : {c : Cut} {key : Key} {block count low high made : ℕ} → AreKeys c block count key
     → IsLeft c key block count low high made → low < high
     → order_at (bytes_of c.bytes) key block (middle low high) ≡ Less
     → IsLeft c key block count (middle low high + 1) high (made + 1)
 left_up {c} {key} {block} {low = low} {high} keys i l is =
-    let m = bytes_of c.bytes in let mid = middle low high in let w = i.within in let few = i.few in
+    let m = bytes_of c.bytes in let mid = middle low high in let few = i.few in
     let t = keys.target mid (omega arith) in
     let half = bits_half (high - low) (high - (mid + 1)) (omega arith) (omega arith) in
     record {
@@ -217,7 +204,7 @@ pub left_down : {c : Cut} {key : Key} {block count low high made : ℕ} → AreK
     → order_at (bytes_of c.bytes) key block (middle low high) ≡ Greater
     → IsLeft c key block count low (middle low high) (made + 1)
 left_down {c} {key} {block} {low = low} {high} keys i l is =
-    let m = bytes_of c.bytes in let mid = middle low high in let w = i.within in let few = i.few in
+    let m = bytes_of c.bytes in let mid = middle low high in let few = i.few in
     let t = keys.target mid (omega arith) in let half = bits_half (high - low) (mid - low) (omega arith) (omega arith)
     in
     record {
@@ -244,7 +231,7 @@ pub left_found : {c : Cut} {key : Key} {block count low high made : ℕ} → IsL
     → Answers c key block count (made + 1) (Found (middle low high))
 left_found {c} {key} {block} {low = low} {high} i l is =
     let half = bits_half (high - low) 0 (omega arith) (omega arith) in let few = i.few in
-    let within = i.within in let mid = middle low high in
+    let mid = middle low high in
     record {
       place = (omega arith, λ h e. one_order (bytes_of c.bytes) key block mid mid h Equal refl e is);
       few = omega arith;
@@ -254,7 +241,7 @@ left_found {c} {key} {block} {low = low} {high} i l is =
 pub left_none : {c : Cut} {key : Key} {block count low high made : ℕ} → IsLeft c key block count low high made
     → high ≤ low → Answers c key block count made (Absent low)
 left_none i l =
-    let rises = i.rises in let within = i.within in let few = i.few in
+    let few = i.few in
     record {
       place = (omega arith, λ r j h k e. (λ f. i.before r j h f e, λ f. i.behind r j h (omega arith) k e));
       few = omega arith;

@@ -32,7 +32,6 @@ counted : {a b c : Cut} {at block f n place count : ℕ} {t : Table} {hs : List 
     → IsIndexOf c at t gs
 counted {a} {b} {c} {at} {block} {f} {n} {place} {count} {t} gs p w one low links few whole e change word long =
     let A = bytes_of a.bytes in let B = bytes_of b.bytes in let C = bytes_of c.bytes in let i = p.index in
-    let lies = p.inside in
     let two : IsChanged current b c (at + 8) 8 = subst (λ k. IsChanged current b c (k + 8) 8) e change in
     let links2 : AreLinks C block gs = links_moved B C block block gs links
     (λ k l. SameBut-link B C (at + 8) 8 (block + 8 * k) two.rest (inr (omega arith))) in
@@ -78,7 +77,7 @@ pub removed : {a b c : Cut} {at block here place count : ℕ} {t : Table} {hs : 
     → place ≡ at → IsChanged current b c (place + 8) 8 → word_at (bytes_of c.bytes) (place + 8) ≡ count - 1
     → IsIndexOf c at t (remove hs here)
 removed {a} {b} {block = block} {here} {count = count} {hs = hs} p w long within one tail e two word =
-    let A = bytes_of a.bytes in let B = bytes_of b.bytes in let few = p.index.few in
+    let A = bytes_of a.bytes in let B = bytes_of b.bytes in
     let links : AreLinks B block (remove hs here) = remove_links block here hs p.links (omega arith)
     (λ k l. SameBut-link A B (block + 8 * here) (8 * (count - here - 1)) (block + 8 * k) one.rest (inl (omega arith)))
     (subst (λ n. KeepTargets A B (block + (8 * here + 8)) (block + 8 * here) (n - here - 1)) long tail) in
@@ -277,7 +276,7 @@ source {c} {m} o = subst (λ (p : Option ℕ). Source c m p) (sym o.leads) (by_c
           left = tt;
         }
     by_case (Some b) leads begins apart =
-        let p = placed b o.index leads in let enough = o.index.few in record {
+        let p = placed b o.index leads in record {
           links = subst (λ k. AreLinks (bytes_of c.bytes) k m.handles) (sym begins) p.links;
           room = λ n few. subst (λ k. IsTrue (has_room (live_of c.bytes) k n)) (sym begins)
               (room-less (live_of c.bytes) b (8 * m.table.capacity) n (omega arith) p.room);
@@ -493,11 +492,11 @@ shrunk_some : (a b e : Cut) (at cap : ℕ) (x : Extent) (hs : List ℕ)
 shrunk_some a b e at cap x hs p some one word s w =
     let A = bytes_of a.bytes in let B = bytes_of b.bytes in let E = bytes_of e.bytes in let i = p.index in
     let l = live_of a.bytes in let n = length hs in let y = shorter l x (8 * n) in
-    let few = i.few in let lies = p.inside in let live : live_of b.bytes ≡ l = same_live one in
+    let few = i.few in let live : live_of b.bytes ≡ l = same_live one in
     let r : IsResized current b e x y = resized_here live i.held s in
     let two = and_parts (nat_lt 0 cap) (serves x IndexRole (8 * cap)) i.places in
     let h : Short x y (8 * n) = short l x cap n few two.1 in
-    let begins = h.begins in let less = h.less in let long = h.long in
+    let begins = h.begins in
     let now : live_of e.bytes ≡ resized l y =
     resized-live current b e x y r ∙ ap (λ (k : LiveSet). resized k y) live in
     let links : AreLinks E (handle y) hs = links_moved A E (handle x) (handle y) hs i.stands.entries (λ k f.

@@ -132,7 +132,7 @@ pub not_its_own : (a b : Cut) (at n : ℕ) (role : Role) (h : ℕ) (t : Table) (
     → IsAllocated current a b n role h → link_at (bytes_of a.bytes) at ≡ Some h → ⊥
 not_its_own a b at n role h t hs i al leads =
     let p = placed h i leads in let y = al.extent in let x = p.extent in let xs = (live_of a.bytes).extents in
-    let f = fresh al in let here = al.at in let begins = p.begins in
+    let f = fresh al in
     all_found (λ (z : Extent). y.offset ≡ z.offset → ⊥) h xs x f.differs p.found (omega arith)
 
 pub is_found : {a b : Cut} {n h : ℕ} {role : Role} → (i : IsAllocated current a b n role h)
@@ -189,7 +189,7 @@ words_in a b {at} s h =
 
 still_grows : {a b : Cut} {at : ℕ} (g : Option ℕ) → Words a b at → ((h : ℕ) (x : Extent) → g ≡ Some h
     → extent_at (live_of a.bytes) h ≡ Some x → extent_at (live_of b.bytes) h ≡ Some x) → CanGrow a at g → CanGrow b at g
-still_grows None w f can = let c = w.count in let d = w.capacity in omega arith
+still_grows None w f can = omega arith
 still_grows {b = b} {at} (Some h) w f can =
     let k = can.0 in
     let block : IsBlockFor b h (grown_capacity (capacity_at b at)) = subst (λ n. IsBlockFor b h n)

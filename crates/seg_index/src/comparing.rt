@@ -6,7 +6,6 @@ ghost use Rattle.raw_region.specs.{Memory.bytes_of, Format.current};
 ghost use Rattle.best_fit.specs.Heap.{IsHeap, has_room, live_of};
 ghost use Rattle.seg_index.specs.Beginnings.{AreBytes, front as front_of_bytes, key_front};
 ghost use Rattle.seg_index.specs.{Comparing.HasEntry, Comparing.order_at, Keys.name_at, Keys.name_len_at};
-ghost use Rattle.seg_index.specs.Lookups.{HasKey, order};
 
 use crate::keys::Key;
 use best_fit::Heap;
@@ -39,7 +38,7 @@ impl<'a> Comparisons<'a> {
         Comparisons {
             heap,
             key,
-            front: front_of_key(key),
+            front: front_of(key),
             block,
             count: 0,
         }
@@ -62,24 +61,15 @@ impl<'a> Comparisons<'a> {
     {
         self.count += 1;
         let handle = self.heap.link(self.block, 8 * i).unwrap_or(0);
-        order_of(self.heap, self.key, self.front, handle)
+        match self.key {
+            Key::Name(name) => order_of_name(self.heap, name, self.front, handle),
+            Key::Code(code) => (self.heap.word(handle, 0) % HALF).cmp(&u64::from(code)),
+        }
     }
 }
 
-/// How the key of an object stands to a key, of which it is known how it begins.
-fn order_of(heap: &Heap, key: Key<'_>, front: u64, handle: u64) -> Ordering
-    requires key { HasKey heap.now key handle }
-    requires front { front ≡ key_front key }
-    ensures { result ≡ order (bytes_of heap.now.bytes) key.entry handle }
-{
-    match key {
-        Key::Name(name) => order_of_name(heap, name, front, handle),
-        Key::Code(code) => (heap.word(handle, 0) % HALF).cmp(&u64::from(code)),
-    }
-}
-
-/// The same of a name. Names of one length, of at most eight bytes, that begin alike are equal; of others that begin
-/// alike all bytes are compared.
+/// How the name of an object stands to a name, of which it is known how it begins. Names of one length, of at most
+/// eight bytes, that begin alike are equal; of others that begin alike all bytes are compared.
 fn order_of_name(heap: &Heap, name: &[u8], front: u64, handle: u64) -> Ordering
     requires heap { IsHeap current heap.now.bytes }
     requires room { IsTrue (has_room (live_of heap.now.bytes) handle
@@ -87,10 +77,11 @@ fn order_of_name(heap: &Heap, name: &[u8], front: u64, handle: u64) -> Ordering
     requires front { front ≡ front_of_bytes name.now }
     ensures { result ≡ slice_cmp nat_cmp (name_at (bytes_of heap.now.bytes) handle) name.now }
 {
-    let found = name_of(heap, handle);
+    let len = heap.word(handle, 8) % HALF;
+    let found = heap.bytes(handle, 16, len);
     hold_bytes(found);
     hold_bytes(name);
-    let begun = front_at(heap, handle);
+    let begun = front_at(heap, handle, len);
     if begun != front {
         return begun.cmp(&front);
     }
@@ -100,34 +91,14 @@ fn order_of_name(heap: &Heap, name: &[u8], front: u64, handle: u64) -> Ordering
     found.cmp(name)
 }
 
-/// The name of an object.
-fn name_of(heap: &Heap, handle: u64) -> &[u8]
-    requires heap { IsHeap current heap.now.bytes }
-    requires room { IsTrue (has_room (live_of heap.now.bytes) handle
-        (16 + name_len_at (bytes_of heap.now.bytes) handle)) }
-    ensures { result.now ≡ name_at (bytes_of heap.now.bytes) handle }
-{
-    let len = heap.word(handle, 8) % HALF;
-    heap.bytes(handle, 16, len)
-}
-
 /// The bytes that a front is made of.
 const FRONT: usize = 8;
 
 /// The front of a name that is looked up. A code has none.
-fn front_of_key(key: Key<'_>) -> u64
+fn front_of(key: Key<'_>) -> u64
     ensures { result ≡ key_front key.entry }
 {
-    match key {
-        Key::Name(name) => front_of(name),
-        Key::Code(_) => 0,
-    }
-}
-
-/// The front of a name.
-fn front_of(name: &[u8]) -> u64
-    ensures { result ≡ front_of_bytes name.now }
-{
+    let Key::Name(name) = key else { return 0 };
     if name.len() >= FRONT {
         return BigEndian::read_u64(name);
     }
@@ -136,15 +107,14 @@ fn front_of(name: &[u8]) -> u64
     BigEndian::read_u64(&bytes)
 }
 
-/// The front of the name of an object. Eight bytes are read also of a shorter name, for behind each block there are as
-/// many, and those that are not of the name count as zeros.
-fn front_at(heap: &Heap, handle: u64) -> u64
+/// The front of the name of an object, of `len` bytes. Eight bytes are read also of a shorter name, for behind each
+/// block there are as many, and those that are not of the name count as zeros.
+fn front_at(heap: &Heap, handle: u64, len: u64) -> u64
     requires heap { IsHeap current heap.now.bytes }
-    requires room { IsTrue (has_room (live_of heap.now.bytes) handle
-        (16 + name_len_at (bytes_of heap.now.bytes) handle)) }
+    requires room { IsTrue (has_room (live_of heap.now.bytes) handle (16 + len)) }
+    requires len { len ≡ name_len_at (bytes_of heap.now.bytes) handle }
     ensures { result ≡ front_of_bytes (name_at (bytes_of heap.now.bytes) handle) }
 {
-    let len = heap.word(handle, 8) % HALF;
     let at = handle as usize + 16;
     let bytes = heap.as_bytes();
     hold_bytes(bytes);

@@ -1,6 +1,7 @@
 -- Where the fronts differ, the names stand as they do.
 use Rattle.seg_index.proofs.{◌≡◌, ◌≢◌, ◌≤◌, ◌∙◌, sym, ap, ap₂, subst, arith, ℕ, List, length, Equal, slice_cmp, nat_cmp}
-use Rattle.seg_index.proofs.{Ordering, bytes_of, AreBytes, front, name_at, front_equal, front_order}
+use Rattle.raw_region.specs.Memory.{read}
+use Rattle.seg_index.proofs.{◌+◌, ◌%◌, Ordering, bytes_of, AreBytes, front, name_at, front_equal, front_order}
 use Rattle.seg_index.proofs.comparing.order_of_name.Goals as goal
 
 apart : (xs ys : List ℕ) (f g : ℕ) (r : Ordering) → AreBytes xs → AreBytes ys → f ≡ front xs → g ≡ front ys → f ≢ g
@@ -10,9 +11,10 @@ apart xs ys f g r bx by e e' differ is =
 
 pub returns-then-begun-front : goal.returns-then-begun-front
 returns-then-begun-front c =
-    let there = name_at (bytes_of c.args.heap.now.bytes) c.args.handle in
+    let m = bytes_of c.args.heap.now.bytes in let there = name_at m c.args.handle in
+    let is = c.bytes-found.ensures ∙ ap (λ k. read m (c.args.handle + 16) (k % 4294967296)) c.word-len.ensures in
     apart there c.args.name.now c.front_at-begun.result c.args.front c.cmp.result
-    (subst AreBytes c.name_of-found.ensures c.hold_bytes.ensures) c.hold_bytes-2.ensures c.front_at-begun.ensures
+    (subst AreBytes is c.hold_bytes.ensures) c.hold_bytes-2.ensures c.front_at-begun.ensures
     c.requires.front c.if-begun-front.true c.cmp.ensures
 
 alike : (xs ys : List ℕ) (f g : ℕ) → AreBytes xs → AreBytes ys → f ≡ front xs → g ≡ front ys → f ≡ g
@@ -22,8 +24,9 @@ alike xs ys f g bx by e e' same long few =
 
 pub returns-then-name-le8 : goal.returns-then-name-le8
 returns-then-name-le8 c =
-    let there = name_at (bytes_of c.args.heap.now.bytes) c.args.handle in
-    let is = ap (λ (l : List ℕ). length l) c.name_of-found.ensures in
+    let m = bytes_of c.args.heap.now.bytes in let there = name_at m c.args.handle in
+    let is = c.bytes-found.ensures ∙ ap (λ k. read m (c.args.handle + 16) (k % 4294967296)) c.word-len.ensures in
+    let long = ap (λ (l : List ℕ). length l) is in
     alike there c.args.name.now c.front_at-begun.result c.args.front
-    (subst AreBytes c.name_of-found.ensures c.hold_bytes.ensures) c.hold_bytes-2.ensures c.front_at-begun.ensures
+    (subst AreBytes is c.hold_bytes.ensures) c.hold_bytes-2.ensures c.front_at-begun.ensures
     c.requires.front c.if-begun-front.false (omega arith) (omega arith)

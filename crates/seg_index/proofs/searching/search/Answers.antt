@@ -1,22 +1,13 @@
 -- Each turn halves what is left, and compares one key.
-use Rattle.seg_index.proofs.{◌≡◌, ◌+◌, ap, refl, sym, subst, ◌∙◌, ◌≤◌, arith, bytes_of, bits, HasEntry, middle}
-use Rattle.seg_index.proofs.{order_at, IsLeft, entry_of, left_down, left_first, left_found, left_none, left_up}
+use Rattle.seg_index.proofs.{◌≡◌, ◌+◌, ap, sym, subst, ◌∙◌, ◌≤◌, arith, bytes_of, bits, HasEntry, middle, order_at}
+use Rattle.seg_index.proofs.{IsLeft, entry_of, left_down, left_found, left_none, left_up}
 use Rattle.seg_index.proofs.{searching.search.Goals.After-compare, bits_few}
 use Rattle.seg_index.specs.{declared.comparing.Comparisons.Comparisons, Beginnings.key_front}
 use Rattle.seg_index.proofs.searching.search.Goals as goal
 
-pub halves-init : goal.halves-init
-halves-init c =
-    let a = c.args.comparisons.now in record {
-      same = refl;
-      left = subst (λ k. IsLeft a.heap.now a.key a.block c.args.count 0 c.args.count k) (sym c.requires.none)
-          (left_first a.heap.now a.key a.block c.args.count);
-    }
-
 pub compare-requires : goal.compare-requires
 compare-requires c =
-    let i = c.halves.invariant in let few = i.left.few in let most = bits_few c.args.count c.requires.few in
-    let within = i.left.within in
+    let i = c.halves.invariant in let most = bits_few c.args.count c.requires.few in
     let entry = entry_of (middle c.halves.low c.halves.high) c.requires.keys (omega arith) in
     record {
       entry = subst (λ (s : Comparisons). HasEntry s.heap.now s.key s.block (middle c.halves.low c.halves.high))
@@ -64,7 +55,5 @@ returns-in-Equal c =
     let e = ap (λ (s : Comparisons). s.count) c.compare.ensures.counted in
     record { place = r.place; count = subst (λ k. k ≤ bits c.args.count) (sym e) r.few; exact = e ∙ r.exact }
 
-pub returns : goal.returns
-returns c =
-    let r = left_none c.halves.invariant.left c.halves-test.false in
-    record { place = r.place; count = r.few; exact = r.exact }
+pub returns-clause-exact : goal.returns-clause-exact
+returns-clause-exact c = (left_none c.halves.invariant.left c.halves-test.false).exact

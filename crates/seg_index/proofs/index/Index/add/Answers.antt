@@ -2,14 +2,11 @@
 -- one, and then the block is the index's.
 use Rattle.seg_index.proofs.{◌≡◌, ap, ap₂, refl, sym, subst, ◌∙◌, ℕ, ◌+◌, ◌-◌, ◌*◌, ◌%◌, ◌<◌, Option, IfSome, List}
 use Rattle.seg_index.proofs.{arith, insert, length-insert, current, LiveSet, LaysOut, IsBlockFor, without_link}
-use Rattle.seg_index.proofs.{IsIndexOf}
-use Rattle.seg_index.proofs.{block_and_count, capacity_at, capacity_small, filled, gaps_kept, grown_capacity}
-use Rattle.seg_index.proofs.{has_places}
+use Rattle.seg_index.proofs.{IsIndexOf, block_and_count, capacity_at, filled, gaps_kept, grown_capacity, has_places}
 use Rattle.seg_index.proofs.{in_header, index_in, insert_all, inserted, links_lead, offer, place_of, same_live, source}
 use Rattle.seg_index.proofs.{target, written, written_both, written_keeps, IsChanged, Offer, Placed, bytes_of, link_at}
 use Rattle.best_fit.specs.Table.{Table as ATable}
-use Rattle.seg_index.specs.Growth.{AddKeeps, Adds, CanGrow, grown_live}
-use Rattle.seg_index.specs.Held.{entry_count}
+use Rattle.seg_index.specs.{Growth.AddKeeps, Growth.Adds, Growth.CanGrow, Growth.grown_live, Held.entry_count}
 use Rattle.seg_index.proofs.index.Index.add.Goals as goal
 use Rattle.seg_index.proofs.index.Index.add.Goals.{After-unwrap_or-block, After-unwrap_or-from, After-spread-in-Some}
 
@@ -107,11 +104,6 @@ spread-requires-in-Some c =
       links = links_lead c.unwrap_or-from.result place (count - place) q.handles s.links q.index.whole (omega arith);
       handle = c.requires.handle;
     }
-
-pub grown-capacity-requires : goal.grown-capacity-requires
-grown-capacity-requires c =
-    let q = c.requires.index in let s = capacity_small q.index in
-    let e = c.capacity.ensures.capacity q.table q.handles q.index in omega arith
 
 pub settle-requires : goal.settle-requires
 settle-requires c =

@@ -1,7 +1,7 @@
 -- The search goes over the links of the block.
 use Rattle.seg_index.proofs.{◌≡◌, ◌+◌, sym, ap, ◌∙◌, arith, bytes_of, comparisons_in, place_of, AreKeys, IsPlaceIn}
-use Rattle.seg_index.proofs.{capacity_small, comparisons_found, comparisons_none, keys_given, leads_from, no_entries}
-use Rattle.seg_index.proofs.{place_found, placed, same_search}
+use Rattle.seg_index.proofs.{comparisons_found, comparisons_none, keys_given, leads_from, no_entries, place_found}
+use Rattle.seg_index.proofs.{placed, same_search}
 use Rattle.seg_index.proofs.index.Index.lookup.Goals as goal
 
 pub search-result-requires-clause-keys : goal.search-result-requires-clause-keys
@@ -11,11 +11,6 @@ search-result-requires-clause-keys c =
     c.in-Some.is) in
     same_search (λ v k b. AreKeys v b n k) (sym e.heap) (sym e.key) (sym e.block)
     (keys_given c.args.heap.now (place_of c.args.self) c.args.key block n c.requires.keys p c.len.ensures.word)
-
-pub search-result-requires-clause-few : goal.search-result-requires-clause-few
-search-result-requires-clause-few c =
-    let q = c.requires.keys in let s = capacity_small q.index in let few = q.index.few in
-    let long = c.len.ensures.len q.table q.handles q.index in omega arith
 
 pub returns-clause-place : goal.returns-clause-place
 returns-clause-place c = λ t hs i.

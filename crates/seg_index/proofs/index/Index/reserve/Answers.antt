@@ -23,7 +23,7 @@ shift_non_null_links-requires c =
     let q = c.requires.index in let count = c.len-count.result in
     let o = taken_offer (in_header c.args.self) c.in_ok-block.ensures.answer c.saturating_mul.ensures c.place.ensures
     c.header_link.ensures c.unwrap_or-from.ensures q.index in
-    let long = c.len-count.ensures.len q.table q.handles o.index in let s = source o in
+    let s = source o in
     record {
       from_whole = refl;
       to_whole = refl;
@@ -37,7 +37,6 @@ settle-requires c =
     let q = c.requires.index in
     let o = taken_offer (in_header c.args.self) c.in_ok-block.ensures.answer c.saturating_mul.ensures c.place.ensures
     c.header_link.ensures c.unwrap_or-from.ensures q.index in
-    let long = c.len-count.ensures.len q.table q.handles o.index in
     let p = written o c.shift_non_null_links.ensures.change (omega arith) in
     record {
       heap = p.index.heap;
@@ -82,11 +81,11 @@ returns c =
           keeps = taken_keeps w al same (written_keeps o one few c.settle.ensures.keeps);
         };
       };
-      counted = let first = c.in_ok-block.ensures.counted in let second = c.settle.ensures.counted in omega arith;
+      counted = let second = c.settle.ensures.counted in omega arith;
       went = λ differ. omega (arith, c.in_ok-block.ensures.went refl, c.settle.ensures.counted);
       steps = subst (λ (x : Option Extent). c.settle.new.steps ≤ c.args.steps.now + (heap_touches (live_of A.bytes)
           + elim x [ None ↦ 0 | Some y ↦ heap_touches (added (live_of A.bytes) y) ])) (sym there)
-          (let first = c.in_ok-block.ensures.steps in let second : c.settle.new.steps ≤ c.allocate.new.steps
+          (let second : c.settle.new.steps ≤ c.allocate.new.steps
           + heap_touches (added (live_of A.bytes) al.extent) = subst (λ (l : LiveSet).
           c.settle.new.steps ≤ c.allocate.new.steps + heap_touches l) live c.settle.ensures.steps in omega arith);
     }

@@ -26,7 +26,7 @@ returns-in-Some c =
           r.live;
       keeps = subst (λ (l : LiveSet). KeepsRest A E (place_of c.args.self) l.extents) (sym is)
           (headed_released_keeps old w r h);
-      counted = let more = c.deallocate.ensures.counted in omega arith;
+      counted = omega arith;
       went = subst (λ (l : Option ℕ). IfSome l (λ h. c.args.steps.now < c.deallocate.new.steps)) (sym leads)
           c.deallocate.ensures.counted;
       steps = subst (λ (l : LiveSet). c.deallocate.new.steps ≤ c.args.steps.now + heap_touches l) live

@@ -1,24 +1,18 @@
 -- The segment that a session begins with, or why it has none, from what the call that was to make or open it answered.
 use Rattle.std.proofs.Common.{◌≡◌, ℕ, List, length, false, true, IsTrue, Result, Ok, Err, refl, sym, ap, subst, ◌∙◌}
 use Rattle.std.proofs.Common.{arith}
-use Rattle.raw_region.specs.Device.{Given}
-use Rattle.raw_region.specs.Format.{current}
+use Rattle.raw_region.specs.{Device.Given, Format.current}
 use Rattle.block_tags.specs.Format.{is_legal_size}
-use Rattle.segment_manager.specs.declared.modes.Mode.{Mode}
-use Rattle.segment_manager.specs.declared.errors.CreateError.{CreateError}
 use Rattle.segment_manager.specs.declared.errors.CreateError.TheVariants.{BadSize as NoSize, RegionTooSmall as NoRoom}
-use Rattle.segment_manager.specs.Directory.{empty}
-use Rattle.segment_manager.specs.State.{State, StandsFor}
-use Rattle.segment_manager.specs.Calls.{Creates, IsCreated, IsWhy}
 use Rattle.segment_manager.specs.declared.errors.CreateRefused.{CreateRefused}
-use Rattle.image_check.specs.declared.errors.OpenError.{OpenError}
+use Rattle.segment_manager.specs.{declared.modes.Mode.Mode, declared.errors.CreateError.CreateError, Directory.empty}
+use Rattle.segment_manager.specs.{State.State, State.StandsFor, Calls.Creates, Calls.IsCreated, Calls.IsWhy}
 use Rattle.image_check.specs.declared.errors.OpenError.TheVariants.{Image as NoImage, RegionTooSmall as NoRoomForImage}
 use Rattle.image_check.specs.declared.errors.OpenError.TheVariants.{OutOfMemory as NoMemory, ReadFault as NotRead}
-use Rattle.image_check.specs.declared.errors.OpenRefused.{OpenRefused}
-use Rattle.image_check.specs.Opening.{IsOpened, IsWhyNot, IsTooSmallFor, Opens}
+use Rattle.image_check.specs.Opening.{IsOpened, IsWhyNot, IsTooSmallFor, Opens, IsUntouched}
+use Rattle.image_check.specs.{declared.errors.OpenError.OpenError, declared.errors.OpenRefused.OpenRefused}
 use Rattle.segment_cli.specs.declared.faults.Start.TheVariants.{Fresh, Image}
 use Rattle.segment_cli.specs.declared.faults.SessionFault.{SessionFault}
-use Rattle.image_check.specs.Opening.{IsUntouched}
 use Rattle.segment_cli.specs.Beginning.{Starts, IsWhyNotBegun, created_fault, opened_fault}
 use Rattle.segment_cli.proofs.Gaps.{created_zeros, zeros_read}
 

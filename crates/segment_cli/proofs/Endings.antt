@@ -2,32 +2,26 @@
 use Rattle.std.proofs.Common.{◌≡◌, ℕ, false, true, inl, inr, List, [], ◌++◌, length, take, drop, Result, Ok, Err}
 use Rattle.std.proofs.Common.{MatchResult, refl, sym, ap, subst, ◌∙◌, arith}
 use Rattle.std.proofs.lemmas.List.{take-append-drop, length-drop, drop_all}
-use Rattle.raw_region.specs.Answers.{AddsFront}
 use Rattle.raw_region.specs.Device.{Gave, Given, Took, Taken, IsProperPrefix, given_since, taken_since}
-use Rattle.raw_region.specs.Format.{current}
+use Rattle.raw_region.specs.{Answers.AddsFront, Format.current}
 use Rattle.raw_region.proofs.Laws.{added}
-use Rattle.segment_manager.specs.declared.modes.Mode.{Mode}
-use Rattle.segment_manager.specs.declared.modes.Mode.TheVariants.{Write}
-use Rattle.segment_manager.specs.Directory.{Directory}
 use Rattle.segment_manager.specs.State.{State, StandsFor}
-use Rattle.image_check.specs.Opening.{IsOutOfMemory, IsRefusedAs, IsUntouched}
+use Rattle.segment_manager.specs.{declared.modes.Mode.Mode, declared.modes.Mode.TheVariants.Write, Directory.Directory}
+use Rattle.image_check.specs.{Opening.IsOutOfMemory, Opening.IsRefusedAs, Opening.IsUntouched, Saving.IsSaved}
 use Rattle.segment_lang.specs.Language.{whole}
-use Rattle.segment_cli.specs.declared.faults.Start.{Start}
-use Rattle.segment_cli.specs.declared.faults.Start.TheVariants.{Image}
-use Rattle.segment_scripts.specs.declared.faults.RunFault.{RunFault}
-use Rattle.segment_scripts.specs.declared.faults.RunFault.TheVariants.{ReadFault as ScriptNotRead}
-use Rattle.segment_scripts.specs.declared.faults.RunFault.TheVariants.{WriteFault as AnswerNotWritten}
-use Rattle.segment_scripts.specs.declared.faults.RunFault.TheVariants.{ScriptTooLong as TooLong}
 use Rattle.segment_cli.specs.declared.faults.SessionFault.{SessionFault}
 use Rattle.segment_cli.specs.declared.faults.SessionFault.TheVariants.{Image as Refused, BadSize, RegionTooSmall}
 use Rattle.segment_cli.specs.declared.faults.SessionFault.TheVariants.{OutOfMemory, ReadFault, WriteFault}
 use Rattle.segment_cli.specs.declared.faults.SessionFault.TheVariants.{ScriptTooLong}
-use Rattle.segment_scripts.specs.Run.{run}
 use Rattle.segment_cli.specs.Session.{Traffic, KeepsZeros, Saves, IsSizeRefused, IsTooSmall, IsDone, IsImageUnwritten}
 use Rattle.segment_cli.specs.Session.{IsRefusedBefore, AnswersFault, IsSession}
 use Rattle.segment_cli.specs.Beginning.{Starts, IsBegun, IsWhyNotBegun, run_fault}
-use Rattle.segment_scripts.specs.Leaves.{Leaves, LeavesFault, RunsWhole}
-use Rattle.segment_scripts.specs.Segments.{Place, IsAt, answer_line}
+use Rattle.segment_cli.specs.{declared.faults.Start.Start, declared.faults.Start.TheVariants.Image}
+use Rattle.segment_scripts.specs.declared.faults.RunFault.TheVariants.{ReadFault as ScriptNotRead}
+use Rattle.segment_scripts.specs.declared.faults.RunFault.TheVariants.{WriteFault as AnswerNotWritten}
+use Rattle.segment_scripts.specs.declared.faults.RunFault.TheVariants.{ScriptTooLong as TooLong}
+use Rattle.segment_scripts.specs.{declared.faults.RunFault.RunFault, Run.run, Leaves.Leaves, Leaves.LeavesFault}
+use Rattle.segment_scripts.specs.{Leaves.RunsWhole, Segments.Place, Segments.IsAt, Segments.answer_line}
 use Rattle.segment_scripts.proofs.Laws.{none_failed}
 use Rattle.segment_cli.proofs.Gaps.{zeros_saved}
 use Rattle.segment_cli.proofs.SessionLaws.{place, stands_done, prints_done, done, script_unread, answer_unwritten}
@@ -62,6 +56,13 @@ front_added old new image h =
           omega (arith, h.fewer),
     )
 
+-- an image that is accepted, written in mode Write behind the bytes that a writer took before
+pub image_saved : (mode : Mode) (old new image : List ℕ) (d : Directory) → mode ≡ Write → new ≡ old ++ image
+    → IsSaved image d → Saves mode (drop (length old) new) d
+image_saved mode old new image d writes e s =
+    subst (λ (m : Mode). Saves m (drop (length old) new) d) (sym writes)
+    (subst (λ (b : List ℕ). IsSaved b d) (sym (added old new image e)) s)
+
 -- a segment with which a session begins stands at its directory; nothing need be known of its gaps
 abbrev pub first : Mode → Directory → Place
 first mode d = place mode d false
@@ -87,7 +88,7 @@ module _ (s s' : State) (script : Given) (out : Taken) (ran : Result (Unit {0}) 
 abbrev no_segment : SessionFault → Result State SessionFault
 no_segment f = Err f
 
-abbrev failed : SessionFault → Result (Unit {0}) SessionFault
+abbrev pub failed : SessionFault → Result (Unit {0}) SessionFault
 failed f = Err f
 
 same_fault : (a b : SessionFault) → no_segment a ≡ no_segment b → failed a ≡ failed b

@@ -1,32 +1,22 @@
 -- Whether the gaps are zero of a segment that a session begins with, and of an image that it saves.
 use Rattle.std.proofs.Common.{◌≡◌, ℕ, ◌+◌, ◌-◌, List, [], ◌∷◌, nat_lt, refl, sym, ap, subst, ◌∙◌, arith}
-use Rattle.std.specs.List.{AllByRecursion}
 use Rattle.std.proofs.lemmas.Bool.{cond_both}
-use Rattle.raw_region.specs.Memory.{AreZero, bytes_of}
-use Rattle.raw_region.specs.Format.{current}
-use Rattle.best_fit.specs.Extents.{Gap, gaps, gap_between}
-use Rattle.best_fit.specs.FreeTree.{gap_front}
+use Rattle.std.specs.List.{AllByRecursion}
+use Rattle.raw_region.specs.{Memory.AreZero, Memory.bytes_of, Format.current}
+use Rattle.best_fit.specs.{Extents.Gap, Extents.gaps, Extents.gap_between, FreeTree.gap_front}
 use Rattle.best_fit.proofs.Laws.{lay_out_one}
-use Rattle.segment_manager.specs.declared.modes.Mode.{Mode}
-use Rattle.segment_manager.specs.Directory.{Directory, empty, live}
-use Rattle.segment_manager.specs.State.{State, StandsFor}
-use Rattle.segment_manager.specs.Calls.{HasZeroGaps, IsCreated}
+use Rattle.segment_manager.specs.{declared.modes.Mode.Mode, Directory.Directory, Directory.empty, Directory.live}
+use Rattle.segment_manager.specs.{State.State, State.StandsFor, Calls.HasZeroGaps, Calls.IsCreated}
 use Rattle.segment_cli.specs.Session.{HasZeroGapsIn}
 
 -- ---- bytes
 
 -- gaps are zero by the bytes alone
-zeros_of : (s : State) → HasZeroGaps s → HasZeroGapsIn s.cut.bytes
-zeros_of s h = record { zeros = h.zeros }
-
-zeros_of_bytes : (s : State) → HasZeroGapsIn s.cut.bytes → HasZeroGaps s
-zeros_of_bytes s h = record { zeros = h.zeros }
-
 pub zeros_saved : (s : State) (image : List ℕ) → image ≡ s.cut.bytes → HasZeroGaps s → HasZeroGapsIn image
-zeros_saved s image e h = subst HasZeroGapsIn (sym e) (zeros_of s h)
+zeros_saved s image e h = subst HasZeroGapsIn (sym e) (record { zeros = h.zeros })
 
 pub zeros_read : (s : State) (image : List ℕ) → s.cut.bytes ≡ image → HasZeroGapsIn image → HasZeroGaps s
-zeros_read s image e h = zeros_of_bytes s (subst HasZeroGapsIn (sym e) h)
+zeros_read s image e h = let z = subst HasZeroGapsIn (sym e) h in record { zeros = z.zeros }
 
 -- ---- a fresh segment
 

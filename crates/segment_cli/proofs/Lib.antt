@@ -3,5 +3,4 @@ mod SessionLaws
 mod Endings
 mod Migrated
 mod Beginnings
-mod SavedImages
 pub mod Laws

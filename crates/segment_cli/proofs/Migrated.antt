@@ -1,20 +1,14 @@
 -- What a migration answers, from what opening the image answered.
-use Rattle.std.proofs.Common.{◌≡◌, ℕ, false, true, List, length, Result, Ok, Err, sym, ap, subst}
+use Rattle.std.proofs.Common.{◌≡◌, ℕ, false, true, List, length, Ok, Err, sym, ap, subst}
 use Rattle.raw_region.specs.Device.{Given, Taken, IsProperPrefix}
-use Rattle.segment_manager.specs.declared.modes.Mode.{Mode}
-use Rattle.segment_manager.specs.Directory.{Directory}
-use Rattle.segment_manager.specs.State.{State, StandsFor}
-use Rattle.image_check.specs.declared.errors.OpenError.{OpenError}
+use Rattle.segment_manager.specs.{declared.modes.Mode.Mode, Directory.Directory, State.State, State.StandsFor}
 use Rattle.image_check.specs.declared.errors.OpenError.TheVariants.{Image as NoImage, RegionTooSmall as NoRoomForImage}
 use Rattle.image_check.specs.declared.errors.OpenError.TheVariants.{OutOfMemory as NoMemory, ReadFault as NotRead}
-use Rattle.image_check.specs.declared.errors.OpenRefused.{OpenRefused}
-use Rattle.image_check.specs.OpeningAny.{IsWhyNotAny, OpensAny}
-use Rattle.segment_cli.specs.declared.faults.SessionFault.{SessionFault}
-use Rattle.segment_cli.specs.declared.faults.SessionFault.TheVariants.{WriteFault}
-use Rattle.segment_cli.specs.Beginning.{opened_fault}
+use Rattle.image_check.specs.{declared.errors.OpenError.OpenError, declared.errors.OpenRefused.OpenRefused}
+use Rattle.image_check.specs.{OpeningAny.IsWhyNotAny, OpeningAny.OpensAny, Saving.IsSaved}
 use Rattle.segment_cli.specs.Migration.{IsMigration, IsMigrationFault, IsNewImage}
-use Rattle.image_check.specs.Saving.{IsSaved}
-use Rattle.segment_cli.proofs.Endings.{IsUnwritten}
+use Rattle.segment_cli.specs.{declared.faults.SessionFault.TheVariants.WriteFault, Beginning.opened_fault}
+use Rattle.segment_cli.proofs.Endings.{IsUnwritten, failed}
 
 -- ---- no segment
 
@@ -24,9 +18,6 @@ fault-why base capacity image saved (NoImage c) u why = record { why = why; byte
 fault-why base capacity image saved NoRoomForImage u why = record { why = why; bytes = u.bytes; failed = u.failed }
 fault-why base capacity image saved NoMemory u why = record { why = why; bytes = u.bytes; failed = u.failed }
 fault-why base capacity image saved NotRead u why = record { why = why; bytes = u.bytes; failed = u.failed }
-
-abbrev failed : SessionFault → Result (Unit {0}) SessionFault
-failed f = Err f
 
 pub not-migrated : (region : List ℕ) (base : ℕ) (mode : Mode) (image : Given) (saved : Taken) (refused : OpenRefused)
     → OpensAny image region base mode (Err refused) → IsUnwritten saved

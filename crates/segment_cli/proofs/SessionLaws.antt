@@ -1,21 +1,16 @@
 -- What a run leaves at a segment is what a session owes.
 use Rattle.std.proofs.Common.{◌≡◌, ℕ, Bool, false, List, [], ◌∷◌, ◌++◌, take, refl, sym, ap, subst, ◌∙◌}
 use Rattle.std.proofs.lemmas.List.{take_all}
-use Rattle.raw_region.specs.Device.{IsProperPrefix}
-use Rattle.raw_region.specs.Format.{current}
-use Rattle.segment_lang.specs.Language.{whole}
-use Rattle.segment_lang.specs.Reading.{reading}
-use Rattle.segment_manager.specs.declared.modes.Mode.{Mode}
-use Rattle.segment_manager.specs.declared.modes.Mode.TheVariants.{Write}
-use Rattle.segment_manager.specs.Directory.{Directory}
+use Rattle.raw_region.specs.{Device.IsProperPrefix, Format.current}
+use Rattle.segment_lang.specs.{Language.whole, Reading.reading}
+use Rattle.segment_manager.specs.{declared.modes.Mode.Mode, declared.modes.Mode.TheVariants.Write, Directory.Directory}
 use Rattle.segment_cli.specs.declared.faults.Start.{Start}
-use Rattle.segment_scripts.specs.Run.{lines, respond, run, run_lines}
-use Rattle.segment_scripts.specs.ZeroGaps.{zeros_after, zeros_after_lines, zeros_after_run}
 use Rattle.segment_cli.specs.Session.{Traffic, Begins, KeepsZeros, Saves, IsDone, IsCut, IsScriptUnread}
 use Rattle.segment_cli.specs.Session.{IsAnswerUnwritten, IsScriptTooLong}
+use Rattle.segment_scripts.specs.ZeroGaps.{zeros_after, zeros_after_lines, zeros_after_run}
 use Rattle.segment_scripts.specs.Leaves.{answer_all, Answers, RunsWhole, IsCutByReader, IsCutByWriter, IsCutAtLimit}
 use Rattle.segment_scripts.specs.Lines.{ended_lines, script_limit, whole_lines}
-use Rattle.segment_scripts.specs.Segments.{Place, answer_line}
+use Rattle.segment_scripts.specs.{Run.lines, Run.respond, Run.run, Run.run_lines, Segments.Place, Segments.answer_line}
 
 -- ---- a run of lines
 

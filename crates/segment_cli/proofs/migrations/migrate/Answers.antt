@@ -1,6 +1,4 @@
-use Rattle.std.proofs.Common.{arith}
-use Rattle.std.proofs.lemmas.Result.{err_from_is_err_and}
-use Rattle.raw_region.specs.Device.{taken_since}
+use Rattle.std.proofs.{Common.arith, lemmas.Result.err_from_is_err_and}
 use Rattle.raw_region.proofs.Laws.{added}
 use Rattle.segment_scripts.proofs.Laws.{none_failed, one_failed}
 use Rattle.segment_cli.proofs.Endings.{front_added, not_written}
@@ -10,25 +8,16 @@ use Rattle.segment_cli.proofs.migrations.migrate.Goals as goal
 pub returns-in_err-segment-clause-migrates : goal.returns-in_err-segment-clause-migrates
 returns-in_err-segment-clause-migrates g c =
     let p = err_from_is_err_and c.from_residual.result c.from_residual.ensures.1 in
-    rw (p.1, p.2) (not-migrated c.args.region c.args.base _ _
-    (taken_since (g.W.Sink.history c.args.image_out.now) (g.W.Sink.history c.args.image_out.now))
-    c.in_err-segment.field-0.0 c.in_err-segment.ensures.opens
+    rw (p.1, p.2) (not-migrated _ _ _ _ _ c.in_err-segment.field-0.0 c.in_err-segment.ensures.opens
     (not_written (g.W.Sink.history c.args.image_out.now)))
 
 pub returns-in-Ok-clause-migrates : goal.returns-in-Ok-clause-migrates
 returns-in-Ok-clause-migrates g c =
-    let old = g.W.Sink.history c.args.image_out.now in
-    let new = g.W.Sink.history c.save.new.out in
-    let segment = c.in_ok-segment.segment in
-    migrated c.args.region c.args.base _ _ (taken_since old new) segment c.in_ok-segment.ensures.opens
-    c.save.ensures.accepted (added old.bytes new.bytes segment.cut.bytes c.in-Ok.ensures.writes.ok)
+    migrated _ _ _ _ _ c.in_ok-segment.segment c.in_ok-segment.ensures.opens c.save.ensures.accepted
+    (added _ _ _ c.in-Ok.ensures.writes.ok)
     (none_failed _ _ (let counted = c.in-Ok.ensures.writes.counted in omega arith))
 
 pub returns-clause-migrates : goal.returns-clause-migrates
 returns-clause-migrates g c =
-    let old = g.W.Sink.history c.args.image_out.now in
-    let new = g.W.Sink.history c.save.new.out in
-    let segment = c.in_ok-segment.segment in
-    unmigrated c.args.region c.args.base _ _ (taken_since old new) segment c.in_ok-segment.ensures.opens
-    c.save.ensures.accepted (front_added old.bytes new.bytes segment.cut.bytes c.in-Err.ensures.writes.err)
-    (one_failed _ _ c.in-Err.ensures.writes.counted)
+    unmigrated _ _ _ _ _ c.in_ok-segment.segment c.in_ok-segment.ensures.opens c.save.ensures.accepted
+    (front_added _ _ _ c.in-Err.ensures.writes.err) (one_failed _ _ c.in-Err.ensures.writes.counted)

@@ -1,8 +1,6 @@
-use Rattle.std.proofs.Common.{◌≡◌, rules, sym, ◌∙◌}
-use Rattle.std.proofs.lemmas.Result.{err_from_is_err_and}
+use Rattle.std.proofs.{Common.◌≡◌, Common.rules, Common.sym, Common.◌∙◌, lemmas.Result.err_from_is_err_and}
 use Rattle.segment_manager.specs.declared.modes.Mode.TheVariants.{Write}
-use Rattle.segment_cli.proofs.Endings.{front_added}
-use Rattle.segment_cli.proofs.SavedImages.{image_saved}
+use Rattle.segment_cli.proofs.Endings.{front_added, image_saved}
 use Rattle.segment_cli.proofs.sessions.save_segment.Goals as goal
 
 pub returns-in_err-save-clause-err : goal.returns-in_err-save-clause-err
@@ -11,13 +9,11 @@ returns-in_err-save-clause-err g c =
     let writes : c.mode.result ≡ Write = search rules in
     rw p.1 (
       sym c.mode.ensures ∙ writes,
-      front_added (g.W.Sink.history c.args.image_out.now).bytes (g.W.Sink.history c.save.new.out).bytes
-          c.args.segment.now.cut.bytes c.in_err-save.ensures.writes.err,
+      front_added _ _ _ c.in_err-save.ensures.writes.err,
     )
 
 pub returns-in_ok-save-clause-ok : goal.returns-in_ok-save-clause-ok
 returns-in_ok-save-clause-ok g c d stands =
     let writes : c.mode.result ≡ Write = search rules in
-    image_saved c.args.segment.now.mode (g.W.Sink.history c.args.image_out.now).bytes
-    (g.W.Sink.history c.save.new.out).bytes c.args.segment.now.cut.bytes d
-    (sym c.mode.ensures ∙ writes) c.in_ok-save.ensures.writes.ok (c.save.ensures.accepted d stands)
+    image_saved _ _ _ _ d (sym c.mode.ensures ∙ writes) c.in_ok-save.ensures.writes.ok
+    (c.save.ensures.accepted d stands)

@@ -1,7 +1,7 @@
 -- The calls on maps of numbers, each as one step: what the calls of seg_map ensure of the map at its place comes to the
 -- directory.
 use Rattle.segment_manager.proofs.Common.{◌≡◌, refl, sym, ap, subst, ◌∙◌, ℕ, ℤ, Bool, true, false, Option, Some, None}
-use Rattle.segment_manager.proofs.Common.{Result, Ok, Err, List, [], MatchOption, MatchResult, int_lt, option_map}
+use Rattle.segment_manager.proofs.Common.{Result, Ok, Err, List, [], int_lt, option_map}
 use Rattle.segment_manager.proofs.Common.{eq-eqb, current, Cut, SamePlace, Node, Kind, Map, ScalarKind, Refusal}
 use Rattle.segment_manager.proofs.Common.{NoSpace, code_of, is_value, same_kind, size_of, Key, Command, Literal}
 use Rattle.segment_manager.proofs.Common.{literal_of, value_of_literal, transitive, Erases, IsErased, IsFull, IsPut}
@@ -20,6 +20,7 @@ use Rattle.segment_manager.proofs.{Refilled.holds-at, MapSteps.put-denotes, Call
 use Rattle.segment_manager.proofs.{ObjectLists.key-found, StorageSteps.step_of_kind-reply, Stored.literal-read}
 use Rattle.segment_manager.proofs.{MapBlocks.blocks-in_use, MapBlocks.found-key, Refilled.said-missing}
 use Rattle.segment_manager.proofs.{Refilled.told-some}
+use Rattle.segment_manager.proofs.PairNumbers.{ErasesBy, PutsBy}
 use Rattle.seg_map.specs.declared.places.Place.{Place}
 use Rattle.seg_map.proofs.Laws.{replaced_nodes}
 use Rattle.segment_manager.specs.{Answers.Absent, Maps.IsPairs}
@@ -66,8 +67,15 @@ holds-pairs b d key k v p den e =
     } in
     let at : map_place o ≡ p =
     ap (λ (c : ContainerPlace). let r : Place = record { handle = c.handle; at = c.at } in r) h.at ∙ q.1.1 in
-    record
-    { object = o; is = h.is; pairs = w.0; known = known; at = at; map = subst (λ (r : Place). IsPairs k v b r w.0) at (object-map den known) }
+    record {
+      object = o;
+      is = h.is;
+      pairs = w.0;
+      known = known;
+      at = at;
+      map = subst
+          (λ (r : Place). IsPairs k v b r w.0) at (object-map den known);
+    }
 
 -- why there is no such map is why every call for its kind is refused
 pub finds-no_map : (s : State) (key : Key) (k v : ScalarKind) (c : Command) (r : Refusal) → IsOpenFor s.mode c
@@ -219,12 +227,7 @@ module _ (s : State) (key : Key) (k v : ScalarKind) (p : Place) (b : IsSegment s
     module _ (x y : ℤ) (good : is_value k x ≡ true) (fair : is_value v y ≡ true) {d : Directory}
         (l : StandsFor s.cut.bytes d) (h : Holds d) where
       abbrev PutsHere : {E : Type 0} → Result Bool E → Option NumberPair → Type 0
-      PutsHere result o =
-          MatchOption o
-          (MatchResult result
-          (λ b. (b ≡ true) × IsPut (numbers_of k) (numbers_of v) s.cut new p.handle p.at h.pairs x y)
-          (λ e. IsFull (numbers_of k) (numbers_of v) s.cut new))
-          (λ q. (result ≡ Ok false) × IsPutAgain (numbers_of k) (numbers_of v) s.cut new p.handle p.at h.pairs q x y)
+      PutsHere result o = PutsBy (numbers_of k) (numbers_of v) s.cut new p.handle p.at h.pairs x y result o
 
       put-outcome : (o : Option NumberPair) → pair_at int_lt h.pairs x ≡ o
           → outcome (Put x y) d ≡ perform d (live_of s.cut.bytes) (put_with h x y o)
@@ -325,11 +328,6 @@ module _ (s : State) (key : Key) (k v : ScalarKind) (p : Place) (b : IsSegment s
     Remove x = asked.Remove key (literal_of k x)
 
     module _ (x : ℤ) (good : is_value k x ≡ true) {d : Directory} (l : StandsFor s.cut.bytes d) (h : Holds d) where
-      abbrev ErasesHere : Bool → Option NumberPair → Type 0
-      ErasesHere t o =
-          MatchOption o ((t ≡ false) × (new ≡ s.cut))
-          (λ q. (t ≡ true) × IsErased (numbers_of k) (numbers_of v) s.cut new p.handle p.at h.pairs q x)
-
       remove-outcome : (o : Option NumberPair) → pair_at int_lt h.pairs x ≡ o
           → outcome (Remove x) d ≡ perform d (live_of s.cut.bytes) (removed_with h x o)
       remove-outcome o e =
@@ -337,7 +335,8 @@ module _ (s : State) (key : Key) (k v : ScalarKind) (p : Place) (b : IsSegment s
           ∙ ap (perform d (live_of s.cut.bytes)) (remove-plan h (literal_of k x) x (literal-read k x good))
           ∙ ap (λ r. perform d (live_of s.cut.bytes) (removed_with h x r)) e
 
-      erase-moves : (t : Bool) (o : Option NumberPair) → pair_at int_lt h.pairs x ≡ o → ErasesHere t o
+      erase-moves : (t : Bool) (o : Option NumberPair) → pair_at int_lt h.pairs x ≡ o
+          → ErasesBy (numbers_of k) (numbers_of v) s.cut new p.handle p.at h.pairs x t o
           → Moved (Remove x) t d
       erase-moves t None e r = (
         subst (SamePlace s.cut) (sym r.1) (record { before = refl; after = refl }),

@@ -193,7 +193,7 @@ module _ {T : Type 0} {k : ScalarKind} {w : T → ℤ} {size : ℕ} {test : T �
           seen (done-so (items-steps typed s key p b found new (asked.Insert key i (literal_of k (w x))) Done writing
           (λ d den h.
           let r = a h.items h.table (vector d h) in
-          items-grown typed s.cut new d key p den h (insert h.items i x)
+          items-grown s.cut new den h (insert h.items i x)
           (capacity_for_one (length h.items) h.table.capacity) (asked.Insert key i (literal_of k (w x))) Done
           (insert-so i x v d h r.0) (grown-so r.1))))
       vector-inserted i x (Err e) v a =
@@ -226,7 +226,7 @@ module _ {T : Type 0} {k : ScalarKind} {w : T → ℤ} {size : ℕ} {test : T �
         step = items-steps typed s key p b found new (asked.Pop key) (Element k (w x)) writing
             (λ d den h.
             let r = a h.items h.table (vector d h) in
-            items-now typed s.cut new d key p den h (take (length h.items - 1) h.items) h.table (asked.Pop key)
+            items-now s.cut new den h (take (length h.items - 1) h.items) h.table (asked.Pop key)
             (Element k (w x))
             (pop-plan d key h.object k (map w h.items) h.table h.is h.value (Some (w x))
             (ap (λ (m : ℕ). slice_get (map w h.items) m) (last-at d h) ∙ slice_get-map w h.items (length h.items - 1)

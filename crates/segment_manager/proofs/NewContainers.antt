@@ -27,18 +27,16 @@ record IsContainerOf (content : Content) (each len : ℕ) (bytes : List ℕ) (v 
   holds : (t : Table) → contents_of (v t) ≡ Some (contents each len bytes t)
 
 bytes-content : (bs : List ℕ) → IsContainerOf (asked.Bytes bs) 1 (length bs) bs (Bytes bs)
-bytes-content bs =
-    record {
-      asks = λ next. refl;
-      is_kind = λ t. refl;
-      long = λ t. refl;
-      count = λ t. refl;
-      extents = λ t. refl;
-      holds = λ t.
-          refl;
-    }
+bytes-content bs = record {
+  asks = λ next. refl;
+  is_kind = λ t. refl;
+  long = λ t. refl;
+  count = λ t. refl;
+  extents = λ t. refl;
+  holds = λ t. refl;
+}
 
-module _ (content : Content) (each len : ℕ) (bytes : List ℕ) (v : Table → Value)
+module _ {content : Content} {each len : ℕ} {bytes : List ℕ} {v : Table → Value}
     (is : IsContainerOf content each len bytes v) (old mid new : Cut) (p : Place)
     (change : IsChanged current old mid (place_at p) (value_len (bare content))) where
   -- its elements are in their storage
@@ -71,8 +69,7 @@ module _ (content : Content) (each len : ℕ) (bytes : List ℕ) (v : Table → 
     change = change;
     restored = record {
       laid = laid-heap mid.bytes (live_of old.bytes) change.live;
-      keeps = keeps-refl mid
-          (live_of mid.bytes).extents;
+      keeps = keeps-refl mid (live_of mid.bytes).extents;
     };
     denied = λ d next. ap (perform d (live_of mid.bytes)) (is.asks next)
         ∙ storage-none d (live_of mid.bytes) each len (λ t. next (v t)) none;
@@ -107,12 +104,9 @@ module _ {T : Type 0} (k : ScalarKind) (w : T → ℤ) (size : ℕ) (test : T �
           (IsWithoutSpace mid new size (length ys) no_table)
           → MakesValue (asked.Elements k (map w ys)) old new p r
       made (Ok u) g =
-          stored-value (asked.Elements k (map w ys)) size (length ys) (flat_map sp ys) (Elements k (map w ys))
-          (elements-content ys) old mid new p change g.table g.grown g.now.change g.now.vector.stands
+          stored-value (elements-content ys) old mid new p change g.table g.grown g.now.change g.now.vector.stands
           (sym (whole-values k w size test sp law ys) ∙ g.now.vector.values)
-      made (Err why) g =
-          unstored-value (asked.Elements k (map w ys)) size (length ys) (flat_map sp ys) (Elements k (map w ys))
-          (elements-content ys) old mid new p change why g.same g.none g.refusal
+      made (Err why) g = unstored-value (elements-content ys) old mid new p change why g.same g.none g.refusal
 
 -- ---- a text
 
@@ -126,8 +120,5 @@ string-made old mid new p q bs r small e change begun a =
         → MatchResult r (λ u. IsTextGrown mid new p no_table (length bs) bs)
         (IsWithoutSpace mid new 1 (length bs) no_table) → MakesValue (asked.Bytes bs) old new p r
     made (Ok u) g =
-        stored-value (asked.Bytes bs) 1 (length bs) bs (Bytes bs)
-        (bytes-content bs) old mid new p change g.table g.grown g.now.change g.now.text small
-    made (Err why) g =
-        unstored-value (asked.Bytes bs) 1 (length bs) bs (Bytes bs)
-        (bytes-content bs) old mid new p change why g.same g.none g.refusal
+        stored-value (bytes-content bs) old mid new p change g.table g.grown g.now.change g.now.text small
+    made (Err why) g = unstored-value (bytes-content bs) old mid new p change why g.same g.none g.refusal

@@ -154,9 +154,8 @@ split-at (q ∷ qs) zero p e =
     let one : q ≡ p =
     cc in record { front = []; back = qs; is = ap (λ (r : NumberPair). r ∷ qs) one; next = first-at qs }
 split-at (q ∷ qs) (suc i) p e =
-    let s =
-    split-at qs i p e in record
-    { front = q ∷ s.front; back = s.back; is = ap (λ (ps : List NumberPair). q ∷ ps) s.is; next = s.next }
+    let s = split-at qs i p e in
+    record { front = q ∷ s.front; back = s.back; is = ap (λ (ps : List NumberPair). q ∷ ps) s.is; next = s.next }
 
 -- above the key of the pair at a place comes the pair at the next
 pub walk-next : (b : List ℕ) (d : Directory) (key : Key) (i : ℕ) (p : NumberPair) → Denotes current b d

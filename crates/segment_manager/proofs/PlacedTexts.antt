@@ -10,17 +10,23 @@ use Rattle.segment_manager.proofs.{TextsHeld.HasBytes, Words.first, Words.second
 use Rattle.best_fit.specs.Requests.{place_all, all_added}
 use Rattle.segment_manager.specs.OwnedTexts.{text_needs, owned_texts, with_blocks, TextsArePlaced}
 
+-- a text without a block, and in one
+abbrev pub unplaced : List ℕ → OwnedText
+unplaced bs = record { bytes = bs; extent = None }
+
+abbrev pub in_block : List ℕ → Extent → OwnedText
+in_block bs x = record { bytes = bs; extent = Some x }
+
 -- an empty text takes no block
 owned-empty : (bs : List ℕ) (bss : List (List ℕ)) (xs : List Extent) → (length bs == 0) ≡ true
-    → owned_texts (bs ∷ bss) xs ≡ record { bytes = bs; extent = None } ∷ owned_texts bss xs
+    → owned_texts (bs ∷ bss) xs ≡ unplaced bs ∷ owned_texts bss xs
 owned-empty bs bss [] e = refl
 owned-empty bs bss (x ∷ xs) e =
-    cond-true (length bs == 0) (record { bytes = bs; extent = None } ∷ owned_texts bss (x ∷ xs))
-    (record { bytes = bs; extent = Some x } ∷ owned_texts bss xs) e
+    cond-true (length bs == 0) (unplaced bs ∷ owned_texts bss (x ∷ xs)) (in_block bs x ∷ owned_texts bss xs) e
 
 empty-blocks : (d : Directory) (l : LiveSet) (bs : List ℕ) (bss : List (List ℕ)) (next : List OwnedText → Plan)
     (o : Option (List Extent)) → (length bs == 0) ≡ true
-    → with_blocks d l bss (λ ps. next (record { bytes = bs; extent = None } ∷ ps)) o ≡ with_blocks d l (bs ∷ bss) next o
+    → with_blocks d l bss (λ ps. next (unplaced bs ∷ ps)) o ≡ with_blocks d l (bs ∷ bss) next o
 empty-blocks d l bs bss next None e = refl
 empty-blocks d l bs bss next (Some xs) e =
     ap (λ ps. perform d (all_added l xs) (next ps)) (sym (owned-empty bs bss xs e))
@@ -28,14 +34,12 @@ empty-blocks d l bs bss next (Some xs) e =
 -- any other takes the first
 first-block : (d : Directory) (l : LiveSet) (x : Extent) (bs : List ℕ) (bss : List (List ℕ))
     (next : List OwnedText → Plan) (o : Option (List Extent)) → (length bs == 0) ≡ false
-    → with_blocks d (added l x) bss (λ ps. next (record { bytes = bs; extent = Some x } ∷ ps)) o
+    → with_blocks d (added l x) bss (λ ps. next (in_block bs x ∷ ps)) o
     ≡ with_blocks d l (bs ∷ bss) next (option_map (λ xs. x ∷ xs) o)
 first-block d l x bs bss next None e = refl
 first-block d l x bs bss next (Some xs) e =
     ap (λ ps. perform d (all_added (added l x) xs) (next ps))
-    (sym
-    (cond-false (length bs == 0) (record { bytes = bs; extent = None } ∷ owned_texts bss (x ∷ xs))
-    (record { bytes = bs; extent = Some x } ∷ owned_texts bss xs) e))
+    (sym (cond-false (length bs == 0) (unplaced bs ∷ owned_texts bss (x ∷ xs)) (in_block bs x ∷ owned_texts bss xs) e))
 
 -- what one request comes to
 abbrev requested : Directory → LiveSet → (Extent → Plan) → Option Extent → Answer × Directory
@@ -52,14 +56,14 @@ Placed d bss =
 request-placed : (d : Directory) (l : LiveSet) (bs : List ℕ) (bss : List (List ℕ)) (next : List OwnedText → Plan)
     (o : Option Extent) → Placed d bss → IsTrue (is_proper l)
     → (length bs == 0) ≡ false → place l (length bs) Storage ≡ o
-    → requested d l (λ x. with_owned_texts bss (λ ps. next (record { bytes = bs; extent = Some x } ∷ ps))) o
+    → requested d l (λ x. with_owned_texts bss (λ ps. next (in_block bs x ∷ ps))) o
     ≡ with_blocks d l (bs ∷ bss) next (placed_then l (text_needs bss) o)
 request-placed d l bs bss next None more p e f = refl
 request-placed d l bs bss next (Some x) more p e f =
     let q = placed_is_proper l (length bs) Storage x p f in
-    ap (λ k. perform d k (with_owned_texts bss (λ ps. next (record { bytes = bs; extent = Some x } ∷ ps))))
+    ap (λ k. perform d k (with_owned_texts bss (λ ps. next (in_block bs x ∷ ps))))
     (resized-fresh l x (rising-insert 128 x l.extents (live-rises (added l x) q)).differs)
-    ∙ more (added l x) (λ ps. next (record { bytes = bs; extent = Some x } ∷ ps)) q
+    ∙ more (added l x) (λ ps. next (in_block bs x ∷ ps)) q
     ∙ first-block d l x bs bss next (place_all (added l x) (text_needs bss)) e
 
 -- one text more
@@ -69,20 +73,18 @@ one-more : (d : Directory) (l : LiveSet) (bs : List ℕ) (bss : List (List ℕ))
     ≡ with_blocks d l (bs ∷ bss) next (place_all l (text_needs (bs ∷ bss)))
 one-more d l bs bss next true more p e =
     let after : OwnedText → Plan = λ p. with_owned_texts bss (λ ps. next (p ∷ ps)) in
-    let none : OwnedText = record { bytes = bs; extent = None } in
     ap (perform d l)
-    (cond-true (length bs == 0) (after none)
-    (Request (New Storage (length bs)) (λ x. after (record { bytes = bs; extent = Some x }))) e)
-    ∙ more l (λ ps. next (none ∷ ps)) p
+    (cond-true (length bs == 0) (after (unplaced bs))
+    (Request (New Storage (length bs)) (λ x. after (in_block bs x))) e)
+    ∙ more l (λ ps. next (unplaced bs ∷ ps)) p
     ∙ empty-blocks d l bs bss next (place_all l (text_needs bss)) e
     ∙ ap (λ needs. with_blocks d l (bs ∷ bss) next (place_all l needs))
     (sym (cond-true (length bs == 0) (text_needs bss) ((length bs, Storage) ∷ text_needs bss) e))
 one-more d l bs bss next false more p e =
     let after : OwnedText → Plan = λ p. with_owned_texts bss (λ ps. next (p ∷ ps)) in
-    let none : OwnedText = record { bytes = bs; extent = None } in
     ap (perform d l)
-    (cond-false (length bs == 0) (after none)
-    (Request (New Storage (length bs)) (λ x. after (record { bytes = bs; extent = Some x }))) e)
+    (cond-false (length bs == 0) (after (unplaced bs))
+    (Request (New Storage (length bs)) (λ x. after (in_block bs x))) e)
     ∙ request-placed d l bs bss next (place l (length bs) Storage) more p e refl
     ∙ ap (λ needs. with_blocks d l (bs ∷ bss) next (place_all l needs))
     (sym (cond-false (length bs == 0) (text_needs bss) ((length bs, Storage) ∷ text_needs bss) e))
@@ -97,14 +99,9 @@ texts_are_placed d l bss next p = all-placed d bss l next p
 
 -- ---- the bytes of placed texts
 
-abbrev in_block : List ℕ → Extent → OwnedText
-in_block bs x = record { bytes = bs; extent = Some x }
-
 text_bytes-if : (bs : List ℕ) (q : OwnedText) (b : Bool) (r : Option Extent)
-    → (if b then Some (let p : OwnedText = record { bytes = bs; extent = None } in p) else option_map (in_block bs) r)
-    ≡ Some q
-    → bs ≡ q.bytes
-text_bytes-if bs q true r e = ap (λ (p : OwnedText). p.bytes) (same_Some (record { bytes = bs; extent = None }) q e)
+    → (if b then Some (unplaced bs) else option_map (in_block bs) r) ≡ Some q → bs ≡ q.bytes
+text_bytes-if bs q true r e = ap (λ (p : OwnedText). p.bytes) (same_Some (unplaced bs) q e)
 text_bytes-if bs q false None e = absurd (cc)
 text_bytes-if bs q false (Some x) e = ap (λ (p : OwnedText). p.bytes) (same_Some (in_block bs x) q e)
 

@@ -62,8 +62,8 @@ found-container d key kind o p e f g =
 -- ---- what the head says
 
 -- it says that elements of one length stand behind it, a vector of texts, or a map
-module _ (b : List ℕ) (h at : ℕ) (head : Head) (said : IsReadAt b h head)
-    (behind : at ≡ head_len + padded head.name_len) (d : Directory) (o : Object) (s : StandsFor b d)
+module _ {b : List ℕ} {h at : ℕ} {head : Head} (said : IsReadAt b h head)
+    (behind : at ≡ head_len + padded head.name_len) {d : Directory} {o : Object} (s : StandsFor b d)
     (e : object_at d (ByHandle h) ≡ Some o) where
   read-place : (kind : Kind) → head.kind ≡ kind → Ok (place_behind h at) ≡ container_at d (ByHandle h) kind
   read-place kind is =
@@ -88,20 +88,14 @@ module _ (b : List ℕ) (h at : ℕ) (head : Head) (x : HoldsObject b h) (said :
   pub some-elements : has_storage head.kind ≡ true → (head.kind ≡ TextsKind → ⊥)
       → IsStanding b (place_behind h at) (each_of head.kind)
   some-elements stored no_texts =
-      let e : HoldsElements b x.directory (ByHandle h) head.kind (place_behind h at) =
-      read-elements b h at head said behind x.directory x.object x.stands x.is stored no_texts in
-      (e.len, (e.table, (e.bytes, e.stands)))
+      let e = read-elements said behind x.stands x.is stored no_texts in (e.len, (e.table, (e.bytes, e.stands)))
 
   pub some-texts : head.kind ≡ TextsKind → IsSomeTexts b (place_behind h at)
-  some-texts is =
-      let t : HoldsTexts b x.directory (ByHandle h) (place_behind h at) =
-      read-texts b h at head said behind x.directory x.object x.stands x.is is in (t.texts, (t.table, t.stand))
+  some-texts is = let t = read-texts said behind x.stands x.is is in (t.texts, (t.table, t.stand))
 
   pub some-pairs : (k l : ScalarKind) (p : MapPlace) → map_behind h at ≡ p → head.kind ≡ Map k l → HasPairs k l b p
   some-pairs k l p there is =
-      let m : HoldsPairs b x.directory (ByHandle h) k l (map_behind h at) =
-      read-pairs b h at head said behind x.directory x.object x.stands x.is k l is in
-      subst (HasPairs k l b) there (m.pairs, m.map)
+      let m = read-pairs said behind x.stands x.is k l is in subst (HasPairs k l b) there (m.pairs, m.map)
 
 -- ---- what becomes of the object
 
@@ -132,8 +126,12 @@ contents-released old new d o k f len change said =
     ((emptied-is o.value).good (object-roomy current o was).value) in
     let x : Exchange o (with_value o v) gone [] =
     between o (with_value o v) [] gone [] [] (sym (append-nil gone)) (emptied-is o.value).alone in
-    record
-    { place = change.place; denotes = denotes-container current old new d o v gone [] k f x (emptied-is o.value).kind (emptied-is o.value).count len was good change said }
+    record {
+      place = change.place;
+      denotes =
+          denotes-container current old new d o v gone [] k f x (emptied-is o.value).kind (emptied-is o.value).count len
+          was good change said;
+    }
 
 -- The same as a call says it of the container at a place: all that is to be known of a call that releases a kind of
 -- value.
@@ -155,8 +153,7 @@ module _ (old new : Cut) (h at : ℕ) (head : Head) (said : IsReadAt old.bytes h
   pub elements-contents : has_storage head.kind ≡ true → (head.kind ≡ TextsKind → ⊥)
       → GivesBack old new (place_behind h at) (each_of head.kind) → Empties old new h
   elements-contents stored no_texts released d o s e =
-      let x : HoldsElements old.bytes d (ByHandle h) head.kind (place_behind h at) =
-      read-elements old.bytes h at head said behind d o s e stored no_texts in
+      let x = read-elements said behind s e stored no_texts in
       let p : Object = x.found.object in
       let same : p ≡ o = same_Some p o (sym x.found.is ∙ e) in
       let now : IsGivenBack old new (place_behind h at) (each_of head.kind) x.table =
@@ -172,8 +169,7 @@ module _ (old new : Cut) (h at : ℕ) (head : Head) (said : IsReadAt old.bytes h
 
   pub texts-contents : head.kind ≡ TextsKind → ReleasesTexts old new (place_behind h at) → Empties old new h
   texts-contents is released d o s e =
-      let x : HoldsTexts old.bytes d (ByHandle h) (place_behind h at) =
-      read-texts old.bytes h at head said behind d o s e is in
+      let x = read-texts said behind s e is in
       let same : x.object ≡ o = same_Some x.object o (sym x.is ∙ e) in
       let now : IsTextsNow old new (place_behind h at) (value_extents (Texts x.texts x.table)) [] [] no_table =
       released x.texts x.table x.stand in
@@ -184,8 +180,7 @@ module _ (old new : Cut) (h at : ℕ) (head : Head) (said : IsReadAt old.bytes h
   pub pairs-contents : (k l : ScalarKind) (p : MapPlace) → map_behind h at ≡ p → head.kind ≡ Map k l
       → ReleasesPairs k l old new p → Empties old new h
   pairs-contents k l p there is released d o s e =
-      let x : HoldsPairs old.bytes d (ByHandle h) k l (map_behind h at) =
-      read-pairs old.bytes h at head said behind d o s e k l is in
+      let x = read-pairs said behind s e k l is in
       let same : x.object ≡ o = same_Some x.object o (sym x.is ∙ e) in
       let now : IsGivenUp (numbers_of k) (numbers_of l) old new h at x.pairs =
       (subst (ReleasesPairs k l old new) (sym there) released).each x.pairs x.map in

@@ -164,8 +164,9 @@ module _ (s : State) (key : Key) (p : Place) (b : IsSegment s.cut.bytes)
       (λ d l. record {
         after = d;
         is = texts-plan d l c may ∙ each d l (texts_in d l);
-        stands = record
-            { denotes = restored-denotes s.cut new d l.denotes (record { laid = back.laid; keeps = back.keeps }) };
+        stands = record {
+          denotes = restored-denotes s.cut new d l.denotes (record { laid = back.laid; keeps = back.keeps });
+        };
       })
 
 -- ---- a call that may ask for several blocks

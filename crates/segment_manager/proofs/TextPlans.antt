@@ -14,6 +14,7 @@ use Rattle.std.proofs.lemmas.Bool.{leb-false}
 use Rattle.seg_types.specs.Commands as asked
 use Rattle.segment_manager.specs.Step as step
 use Rattle.segment_manager.proofs.ContentPlans.{reserve_with, shrink_with}
+use Rattle.segment_manager.proofs.PlacedTexts.{in_block, unplaced}
 use Rattle.segment_manager.proofs.{Steps.with-found, TextLists.pushed-last, TextLists.removed-last}
 use Rattle.segment_manager.proofs.{TextsHeld.HoldsTexts}
 
@@ -23,12 +24,6 @@ use Rattle.segment_manager.proofs.{TextsHeld.HoldsTexts}
 abbrev pub then_text : Directory → LiveSet → (OwnedText → Plan) → Option OwnedText → Answer × Directory
 then_text d l next None = (Refused NoSpace, d)
 then_text d l next (Some q) = perform d (with_text l q) (next q)
-
-abbrev unplaced : List ℕ → OwnedText
-unplaced bs = record { bytes = bs; extent = None }
-
-abbrev in_block : List ℕ → Extent → OwnedText
-in_block bs x = record { bytes = bs; extent = Some x }
 
 text-met : (d : Directory) (l : LiveSet) (bs : List ℕ) (next : OwnedText → Plan) (r : Option Extent)
     → elim r as (λ _. Answer × Directory) [

@@ -186,8 +186,8 @@ module _ {A : Type 0} (L : Listing A) (s : State) (key : Key) (p : Place) (b : I
   module _ (new : Cut) (writing : is_read_only s.mode ≡ false) where
     -- it is refused, and nothing has changed
     pub items-refused : (c : Command) (e why : Refusal) → e ≡ why → new ≡ s.cut
-        →
-        ((d : Directory) → Denotes current s.cut.bytes d → Held d → perform d (live d) (effect d c) ≡ (Refused why, d))
+        → ((d : Directory) → Denotes current s.cut.bytes d → Held d → perform d (live d) (effect d c) ≡
+        (Refused why, d))
         → StepsSafely s new key L.kind c (Err e)
     items-refused c e why is same each =
         stays s new key L.kind c e why is same (items-stay c (Refused why) (open-writing s.mode c writing) each)
@@ -203,18 +203,15 @@ module _ {A : Type 0} (L : Listing A) (s : State) (key : Key) (p : Place) (b : I
 
     -- a call on the element at an index, in the places that there are
     pub changes-safely : (c : Command) (i : ℕ) (ys : List A → List A) (r : Result (Unit {0}) Refusal)
-        →
-        ((d : Directory) (h : Held d) → i < length h.items
+        → ((d : Directory) (h : Held d) → i < length h.items
         → effect d c ≡ Reply Done (changed d h.object (L.value (ys h.items) h.table)))
         → ((d : Directory) (h : Held d) → length h.items ≤ i → effect d c ≡ Refuse OutOfRange)
-        →
-        ((d : Directory) (h : Held d)
+        → ((d : Directory) (h : Held d)
         → MatchResult r (λ u. (i < length h.items) × ListedNow L s.cut new p h.table (ys h.items) h.table)
         (IsOutside s.cut new (length h.items) i))
         → StepsSafely s new key L.kind c r
     changes-safely c i ys (Ok u) met past each =
-        done-so
-        (items-steps new c Done writing
+        done-so (items-steps new c Done writing
         (λ d den h. items-now s.cut new den h (ys h.items) h.table c Done (met d h (each d h).0) (each d h).1))
     changes-safely c i ys (Err e) met past each =
         items-refused c e OutOfRange (each b.0 some-items).refusal (each b.0 some-items).same
@@ -222,19 +219,16 @@ module _ {A : Type 0} (L : Listing A) (s : State) (key : Key) (p : Place) (b : I
 
     -- a call that wants places
     pub grows-safely : (c : Command) (n : List A → Table → ℕ) (ys : List A → List A) (r : Result (Unit {0}) Refusal)
-        →
-        ((d : Directory) (h : Held d)
+        → ((d : Directory) (h : Held d)
         → effect d c
         ≡ with_capacity L.each (n h.items h.table) h.table
         (λ u. Reply Done (changed d h.object (L.value (ys h.items) u))))
-        →
-        ((d : Directory) (h : Held d)
+        → ((d : Directory) (h : Held d)
         → MatchResult r (λ u. ListedGrown L s.cut new p h.table (n h.items h.table) (ys h.items))
         (IsWithoutSpace s.cut new L.each (n h.items h.table) h.table))
         → StepsSafely s new key L.kind c r
     grows-safely c n ys (Ok u) plan each =
-        done-so
-        (items-steps new c Done writing
+        done-so (items-steps new c Done writing
         (λ d den h. items-grown s.cut new den h (ys h.items) (n h.items h.table) c Done (plan d h) (each d h)))
     grows-safely c n ys (Err e) plan each =
         items-refused c e NoSpace (each b.0 some-items).refusal (each b.0 some-items).same

@@ -36,8 +36,7 @@ module _ {K V : Type 0} {k v : ScalarKind} {kp : Plain K} {vp : Plain V} {kw : K
   pub got-there : (x : K) (r : Option V) → kp.is_value x ≡ true → FindsValue kp vp s.cut.bytes q.handle q.at x r
       → IsReplyOfKind t key (Map k v) (Lookup key (literal_of k (kw x))) (value_or_absent v (option_map vw r))
   got-there x r good each =
-      subst
-      (λ (u : State). IsReplyOfKind u key (Map k v) (Lookup key (literal_of k (kw x)))
+      subst (λ (u : State). IsReplyOfKind u key (Map k v) (Lookup key (literal_of k (kw x)))
       (value_or_absent v (option_map vw r))) view
       (map-got s key k v q b found-there (kw x) (option_map vw r) (as-value kl x good)
       (finds-value kl vl s.cut.bytes q.handle q.at x r each))

@@ -306,8 +306,7 @@ module _ (s : State) (key : Key) (k v : ScalarKind) (p : Place) (b : IsSegment s
         → Puts (numbers_of k) (numbers_of v) s.cut new p.handle p.at x y r
         → TellsSafely s new key (Map k v) (asked.Put key (literal_of k x) (literal_of v y)) (put_result r)
     map-put {E} x y (Ok t) good fair each =
-        does
-        (λ d l. let h : Holds d = map_in d l in put-moves x y good fair l h E t (pair_at int_lt h.pairs x) refl
+        does (λ d l. let h : Holds d = map_in d l in put-moves x y good fair l h E t (pair_at int_lt h.pairs x) refl
         (each h.pairs h.map))
     map-put {E} x y (Err why) good fair each =
         let at : (d : Directory) (l : StandsFor s.cut.bytes d) → (new ≡ s.cut) ×
@@ -363,8 +362,7 @@ module _ (s : State) (key : Key) (k v : ScalarKind) (p : Place) (b : IsSegment s
         → Erases (numbers_of k) (numbers_of v) s.cut new p.handle p.at x t
         → TellsSafely s new key (Map k v) (asked.Remove key (literal_of k x)) (Ok t)
     map-erased x t good each =
-        does
-        (λ d l. let h : Holds d = map_in d l in erase-moves x good l h t (pair_at int_lt h.pairs x) refl
+        does (λ d l. let h : Holds d = map_in d l in erase-moves x good l h t (pair_at int_lt h.pairs x) refl
         (each h.pairs h.map))
 
 -- why there is no such map is why nothing is said of one

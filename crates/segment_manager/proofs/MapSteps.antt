@@ -190,8 +190,7 @@ module _ (old new : Cut) {d : Directory} {o : Object} {k v : ScalarKind} {ps : L
     (den : Denotes current old.bytes d) (x : IsMapObject old.bytes d o k v ps) where
   -- a pair more
   pub put-denotes : (key value : ℤ) → pair_at int_lt ps key ≡ None
-      →
-      (r : IsPut (numbers_of k) (numbers_of v) old new (handle o.extent)
+      → (r : IsPut (numbers_of k) (numbers_of v) old new (handle o.extent)
       (head_len + padded (length o.name)) ps key value)
       → Denotes current new.bytes
       (changed d o (Pairs k v (put_pair int_lt (record { key = key; value = value; node = r.extent }) ps)))

@@ -102,8 +102,7 @@ module _ {K V : Type 0} {k v : ScalarKind} {kp : Plain K} {vp : Plain V} {kw : K
       ∙ chosen (kp.order p.key q.key) (kp.order q.key p.key)
     where
       chosen : (a b : Bool)
-          →
-          (if a then number_pair p ∷ number_pair q ∷ number_pairs qs else if b then number_pair q ∷ number_pairs
+          → (if a then number_pair p ∷ number_pair q ∷ number_pairs qs else if b then number_pair q ∷ number_pairs
           (put_pair kp.order p qs) else number_pair p ∷ number_pairs qs)
           ≡ number_pairs (if a then p ∷ q ∷ qs else if b then q ∷ put_pair kp.order p qs else p ∷ qs)
       chosen true b = refl

@@ -85,8 +85,7 @@ refill-moves s new d key c answer next k r e = record {
 -- the same of a call for objects of one kind
 pub refill-steps_of_kind : (s : State) (new : Cut) (key : Key) (kind : Kind) (c : Command) (answer : Answer)
     → is_read_only s.mode ≡ false → IsSegment s.cut.bytes
-    →
-    ((d : Directory) → StandsFor s.cut.bytes d
+    → ((d : Directory) → StandsFor s.cut.bytes d
     → (r : Refill s.cut new d key c answer) ×
     (same_kind kind (kind_of r.object.value) ≡ true)) → IsStepOfKind s (record s { cut = new }) key kind c answer
 refill-steps_of_kind s new key kind c answer writing b each =

@@ -170,8 +170,7 @@ module _ {s t : State} (view : s ≡ t) (b : IsSegment s.cut.bytes) {key : Key} 
   pub text-appended : (more : List ℕ) (r : Result (Unit {0}) Refusal) → ((k : ℕ) → Fits w8 (get_or more k 0))
       → AppendsText s.cut new p more r → Answered done_answer s t new key Text (Append key more) r
   text-appended more r small a =
-      seen
-      (grows-safely texts s key p b found new writing (Append key more)
+      seen (grows-safely texts s key p b found new writing (Append key more)
       (λ bs t. capacity_for_text (length (bs ++ more)) t.capacity) (λ bs. bs ++ more) r
       (λ d h. append-plan d key h.object h.items h.table h.is h.value more)
       (λ d h. so-too _ _ _ r (a h.items h.table h.stands)
@@ -180,8 +179,7 @@ module _ {s t : State} (view : s ≡ t) (b : IsSegment s.cut.bytes) {key : Key} 
   pub text-assigned : (bytes : List ℕ) (r : Result (Unit {0}) Refusal) → ((k : ℕ) → Fits w8 (get_or bytes k 0))
       → AssignsText s.cut new p bytes r → Answered done_answer s t new key Text (Assign key (Quoted bytes ∷ [])) r
   text-assigned bytes r small a =
-      seen
-      (grows-safely texts s key p b found new writing (Assign key (Quoted bytes ∷ [])) (λ bs t. length bytes)
+      seen (grows-safely texts s key p b found new writing (Assign key (Quoted bytes ∷ [])) (λ bs t. length bytes)
       (λ bs. bytes) r
       (λ d h. text-plan d key h.object h.items h.table h.is h.value (Quoted bytes ∷ []) bytes refl)
       (λ d h. so-too _ _ _ r (a h.items h.table h.stands) (λ g. bytes-grown (fits-bytes bytes small) g)))
@@ -189,8 +187,8 @@ module _ {s t : State} (view : s ≡ t) (b : IsSegment s.cut.bytes) {key : Key} 
   pub text-set : (i x : ℕ) (r : Result (Unit {0}) Refusal) → IsTrue (nat_lt x 256) → is_value U8 (pos x) ≡ true
       → SetsByte s.cut new p i x r → Answered done_answer s t new key Text (Set key i (literal_of U8 (pos x))) r
   text-set i x r small v a =
-      seen
-      (changes-safely texts s key p b found new writing (Set key i (literal_of U8 (pos x))) i (λ bs. slice_set bs i x) r
+      seen (changes-safely texts s key p b found new writing (Set key i (literal_of U8 (pos x))) i
+      (λ bs. slice_set bs i x) r
       (λ d h within.
       set_byte-plan d key h.object h.items h.table h.is h.value i (literal_of U8 (pos x)) (pos x)
       (Some (pos (get_or h.items i 0))) (literal-read U8 (pos x) v)

@@ -37,8 +37,7 @@ use Rattle.seg_types.specs.Commands as asked
 texts-read : (bss : List (List ℕ)) → texts_of (map asked.Quoted bss) ≡ Ok bss
 texts-read [] = refl
 texts-read (bs ∷ bss) =
-    ap
-    (λ (q : Result (List (List ℕ)) Refusal). elim q as (λ _. Result (List (List ℕ)) Refusal)
+    ap (λ (q : Result (List (List ℕ)) Refusal). elim q as (λ _. Result (List (List ℕ)) Refusal)
     [ Ok css ↦ Ok (bs ∷ css) | Err e ↦ Err e ])
     (texts-read bss)
 

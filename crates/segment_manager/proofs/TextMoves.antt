@@ -8,7 +8,7 @@ use Rattle.segment_manager.proofs.Common.{container_at, Value, Texts, Directory,
 use Rattle.segment_manager.proofs.Common.{IsStepOfKind, LeadsOn, State, StandsFor, done_answer, changed, effect}
 use Rattle.segment_manager.proofs.Common.{is_read_only, step_of_kind, LeadsOnOfKind, LiveSet, live_of, [], append-nil}
 use Rattle.segment_manager.proofs.Common.{remove, ℕ}
-use Rattle.segment_manager.proofs.TextsHeld.{HasBytes, HoldsTexts, holds-texts, texts-changed}
+use Rattle.segment_manager.proofs.TextsHeld.{HasBytes, HoldsTexts, IsTextsMove, holds-texts, texts-changed}
 use Rattle.segment_manager.proofs.Steps.{IsMove, IsOpenFor, by_no_change_of_kind, by_step_of_kind, open-writing}
 use Rattle.segment_manager.proofs.Steps.{step_of_kind-found, step_of_kind-segment}
 use Rattle.segment_manager.proofs.{Calling.denotes-live, AnyStorage.kind-told, AnyStorage.of_kind-same}
@@ -19,19 +19,6 @@ use Rattle.seg_vector.specs.TextsCalls.{IsTextLeftOut}
 use Rattle.best_fit.specs.Exchange.{IsRestored}
 
 -- ---- one directory
-
--- what a call did to the vector: which texts stand there now, in which array, and which part of them is another
-pub record IsTextsMove (old new : Cut) (p : Place) (ps : List OwnedText) (t : Table) (qs : List OwnedText)
-    (u : Table) : Type 0 where
-  pub out : List OwnedText
-  pub in_place : List OwnedText
-  pub part : IsPartOther ps qs out in_place
-  pub bytes : AllByRecursion HasBytes in_place
-  pub gone : List Extent
-  pub come : List Extent
-  pub gone_is : gone ≡ option_to_list t.extent ++ text_blocks out
-  pub come_is : come ≡ option_to_list u.extent ++ text_blocks in_place
-  pub now : IsTextsNow old new p gone come qs u
 
 pub one-block : (xs : List Extent) (r : Option Extent) → xs ++ option_to_list r ≡ xs ++ (option_to_list r ++ [])
 one-block xs r = ap (λ (ys : List Extent). xs ++ ys) (sym (append-nil (option_to_list r)))
@@ -102,22 +89,17 @@ module _ (s : State) (key : Key) (p : Place) (b : IsSegment s.cut.bytes)
       → is_read_only s.mode ≡ false → TextsMove s.cut new d key p (texts_in d l) c answer
       → IsMove (record s { cut = new }) answer (step_of_kind s.mode d key TextsKind c)
   texts-move new d l c answer writing r =
-      let h : HoldsTexts s.cut.bytes d key p = texts_in d l in
-      let m : IsTextsMove s.cut new p h.texts h.table r.texts r.table = r.move in
       record {
-        after = changed d h.object (Texts r.texts r.table);
+        after = changed d (texts_in d l).object (Texts r.texts r.table);
         is = texts-plan d l c (open-writing s.mode c writing) ∙ r.outcome;
-        stands = record {
-          denotes = texts-changed s.cut new d key p l.denotes h r.texts m.out m.in_place r.table m.gone m.come m.part m.bytes m.gone_is m.come_is m.now;
-        };
+        stands = record { denotes = texts-changed l.denotes (texts_in d l) r.move };
       }
 
   -- ---- all directories
 
   -- the call is the step
   pub texts-steps : (new : Cut) (c : Command) (answer : Answer) → is_read_only s.mode ≡ false
-      →
-      ((d : Directory) (l : StandsFor s.cut.bytes d) (h : HoldsTexts s.cut.bytes d key p)
+      → ((d : Directory) (l : StandsFor s.cut.bytes d) (h : HoldsTexts s.cut.bytes d key p)
       → TextsMove s.cut new d key p h c answer)
       → IsStepOfKind s (record s { cut = new }) key TextsKind c answer
   texts-steps new c answer writing each =
@@ -145,8 +127,7 @@ module _ (s : State) (key : Key) (p : Place) (b : IsSegment s.cut.bytes)
 
   -- it answers so, and nothing changes
   pub texts-stay : (c : Command) (answer : Answer) → IsOpenFor s.mode c
-      →
-      ((d : Directory) (l : StandsFor s.cut.bytes d) (h : HoldsTexts s.cut.bytes d key p)
+      → ((d : Directory) (l : StandsFor s.cut.bytes d) (h : HoldsTexts s.cut.bytes d key p)
       → perform d (live_of s.cut.bytes) (effect d c) ≡ (answer, d)) → IsStepOfKind s s key TextsKind c answer
   texts-stay c answer may each =
       by_no_change_of_kind s key TextsKind c answer
@@ -154,8 +135,7 @@ module _ (s : State) (key : Key) (p : Place) (b : IsSegment s.cut.bytes)
 
   -- it answers so, and all blocks are as they were
   pub texts-restored : (new : Cut) (c : Command) (answer : Answer) → IsOpenFor s.mode c → IsRestored current s.cut new
-      →
-      ((d : Directory) (l : StandsFor s.cut.bytes d) (h : HoldsTexts s.cut.bytes d key p)
+      → ((d : Directory) (l : StandsFor s.cut.bytes d) (h : HoldsTexts s.cut.bytes d key p)
       → perform d (live_of s.cut.bytes) (effect d c)
       ≡ (answer, d)) → IsStepOfKind s (record s { cut = new }) key TextsKind c answer
   texts-restored new c answer may back each =

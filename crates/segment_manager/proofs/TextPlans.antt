@@ -60,8 +60,7 @@ texts-mapped d l next q None = refl
 texts-mapped d l next q (Some qs) = refl
 
 text-then : (d : Directory) (l : LiveSet) (bss : List (List ℕ)) (next : List OwnedText → Plan) (r : Option OwnedText)
-    →
-    ((q : OwnedText)
+    → ((q : OwnedText)
     → perform d (with_text l q) (with_owned_texts bss (λ qs. next (q ∷ qs)))
     ≡ then_texts d (with_text l q) (λ qs. next (q ∷ qs)) (placed_texts (with_text l q) bss))
     → then_text d l (λ q. with_owned_texts bss (λ qs. next (q ∷ qs))) r

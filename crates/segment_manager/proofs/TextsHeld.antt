@@ -44,8 +44,7 @@ held-one l bytes None h f = nil_from_length bytes (eqb-true (length bytes) 0 h)
 held-one l bytes (Some x) h f = (
   f.0,
   ltb-true 0 (length bytes) (first (nat_lt 0 (length bytes)) (serves x Storage (length bytes)) h),
-  second
-      (nat_lt 0 (length bytes)) (serves x Storage (length bytes)) h,
+  second (nat_lt 0 (length bytes)) (serves x Storage (length bytes)) h,
 )
 
 held-each : (l : LiveSet) (ps : List OwnedText) → IsTrue (list_all is_owned_text ps)
@@ -63,8 +62,7 @@ bytes-each : (ps : List OwnedText) → IsTrue (list_all is_owned_text ps) → Al
 bytes-each [] h = tt
 bytes-each (p ∷ ps) h = (
   second (has_own_block p) (are_bytes p.bytes) (first (is_owned_text p) (list_all is_owned_text ps) h),
-  bytes-each ps
-      (second (is_owned_text p) (list_all is_owned_text ps) h),
+  bytes-each ps (second (is_owned_text p) (list_all is_owned_text ps) h),
 )
 
 -- and back
@@ -227,39 +225,49 @@ some-texts s key p b a =
 
 -- ---- what becomes of the object
 
--- a part of its texts is another, and its array: the bytes denote the directory with the others
-module _ (old new : Cut) (d : Directory) (key : Key) (p : Place) (k : Denotes current old.bytes d)
-    (h : HoldsTexts old.bytes d key p) where
-  bytes-other : (qs out in_place : List OwnedText) → IsPartOther h.texts qs out in_place
-      → AllByRecursion HasBytes in_place → AllByRecursion HasBytes qs
-  bytes-other qs out in_place part s =
-      let all : AllByRecursion HasBytes (part.front ++ (out ++ part.back)) =
-      subst (AllByRecursion HasBytes) part.was h.bytes in
-      let back : AllByRecursion HasBytes part.back =
-      AllByRecursion-behind HasBytes out part.back (AllByRecursion-behind HasBytes part.front (out ++ part.back) all) in
-      subst (AllByRecursion HasBytes) (sym part.is)
-      (AllByRecursion-append HasBytes part.front (in_place ++ part.back)
-      (AllByRecursion-front HasBytes part.front (out ++ part.back) all)
-      (AllByRecursion-append HasBytes in_place part.back s back))
+-- what a call did to the vector: which texts stand there now, in which array, and which part of them is another
+pub record IsTextsMove (old new : Cut) (p : Place) (ps : List OwnedText) (t : Table) (qs : List OwnedText)
+    (u : Table) : Type 0 where
+  pub out : List OwnedText
+  pub in_place : List OwnedText
+  pub part : IsPartOther ps qs out in_place
+  pub bytes : AllByRecursion HasBytes in_place
+  pub gone : List Extent
+  pub come : List Extent
+  pub gone_is : gone ≡ option_to_list t.extent ++ text_blocks out
+  pub come_is : come ≡ option_to_list u.extent ++ text_blocks in_place
+  pub now : IsTextsNow old new p gone come qs u
 
-  pub texts-changed : (qs out in_place : List OwnedText) (u : Table) (gone come : List Extent)
-      → IsPartOther h.texts qs out in_place → AllByRecursion HasBytes in_place
-      → gone ≡ option_to_list h.table.extent ++ text_blocks out → come ≡ option_to_list u.extent ++ text_blocks in_place
-      → IsTextsNow old new p gone come qs u
-      → Denotes current new.bytes (changed d h.object (Texts qs u))
-  texts-changed qs out in_place u gone come part s f g now =
+-- then the bytes denote the directory with the others
+module _ {old new : Cut} {d : Directory} {key : Key} {p : Place} (k : Denotes current old.bytes d)
+    (h : HoldsTexts old.bytes d key p) {qs : List OwnedText} {u : Table}
+    (m : IsTextsMove old new p h.texts h.table qs u) where
+  bytes-other : AllByRecursion HasBytes qs
+  bytes-other =
+      let front : List OwnedText = m.part.front in
+      let back : List OwnedText = m.part.back in
+      let all : AllByRecursion HasBytes (front ++ (m.out ++ back)) =
+      subst (AllByRecursion HasBytes) m.part.was h.bytes in
+      let behind : AllByRecursion HasBytes back =
+      AllByRecursion-behind HasBytes m.out back (AllByRecursion-behind HasBytes front (m.out ++ back) all) in
+      subst (AllByRecursion HasBytes) (sym m.part.is)
+      (AllByRecursion-append HasBytes front (m.in_place ++ back)
+      (AllByRecursion-front HasBytes front (m.out ++ back) all)
+      (AllByRecursion-append HasBytes m.in_place back m.bytes behind))
+
+  pub texts-changed : Denotes current new.bytes (changed d h.object (Texts qs u))
+  texts-changed =
       let o : Object = h.object in
       let w : Value = Texts qs u in
       let stands : StandsAt old.bytes (handle o.extent) o = standing old.bytes d key o k h.is in
       let found : IsIn d o = key-found current d key o k.directory h.is in
       let kind : kind_of w ≡ kind_of o.value = sym (ap kind_of h.value) in
-      let count : count_of w ≡ count_of o.value = sym (ap count_of h.value) in
       let len : value_len o.value ≡ 24 = ap value_len h.value in
       let good : IsTrue (is_object current (with_value o w)) =
-      good-with current o w stands.good kind (sym len)
-      (good-texts new.bytes p qs u now.texts (bytes-other qs out in_place part s)) in
+      good-with current o w stands.good kind (sym len) (good-texts new.bytes p qs u m.now.texts bytes-other) in
       let at : place_at p ≡ value_start o = sym (ap place_at h.at) ∙ sym (start-place o) in
-      denotes-container current old new d o w gone come k found
-      (part-exchange o h.texts qs out in_place h.table u gone come h.value part f g) kind count len stands.good good
-      (subst (λ n. IsExchanged current old new n 24 gone come) at now.change)
-      (subst (λ n. IsTextsAt (bytes_of new.bytes) n qs u) at now.texts.words)
+      denotes-container current old new d o w m.gone m.come k found
+      (part-exchange o h.texts qs m.out m.in_place h.table u m.gone m.come h.value m.part m.gone_is m.come_is) kind
+      (sym (ap count_of h.value)) len stands.good good
+      (subst (λ n. IsExchanged current old new n 24 m.gone m.come) at m.now.change)
+      (subst (λ n. IsTextsAt (bytes_of new.bytes) n qs u) at m.now.texts.words)

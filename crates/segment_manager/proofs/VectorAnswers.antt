@@ -130,8 +130,7 @@ module _ {T : Type 0} {k : ScalarKind} {w : T → ℤ} {size : ℕ} {test : T �
           → Sets size test sp s.cut new p i x r
           → Answered done_answer s t new key (Vector k) (asked.Set key i (literal_of k (w x))) r
       vector-set i x r v a =
-          seen
-          (changes-safely typed s key p b found new writing (asked.Set key i (literal_of k (w x))) i
+          seen (changes-safely typed s key p b found new writing (asked.Set key i (literal_of k (w x))) i
           (λ xs. slice_set xs i x) r
           (λ d h in_range.
           set-plan d key h.object k (map w h.items) h.table h.is h.value i (literal_of k (w x)) (w x)
@@ -167,8 +166,7 @@ module _ {T : Type 0} {k : ScalarKind} {w : T → ℤ} {size : ℕ} {test : T �
       pub vector-pushed : (x : T) (r : Result (Unit {0}) Refusal) → test x ≡ true → Pushes size test sp s.cut new p x r
           → Answered done_answer s t new key (Vector k) (asked.Push key (literal_of k (w x))) r
       vector-pushed x r v a =
-          seen
-          (grows-safely typed s key p b found new writing (asked.Push key (literal_of k (w x)))
+          seen (grows-safely typed s key p b found new writing (asked.Push key (literal_of k (w x)))
           (λ xs t. capacity_for_one (length xs) t.capacity) (λ xs. xs ++ x ∷ []) r
           (λ d h.
           push-plan d key h.object k (map w h.items) h.table h.is h.value (literal_of k (w x)) (Ok (w x))
@@ -248,8 +246,8 @@ module _ {T : Type 0} {k : ScalarKind} {w : T → ℤ} {size : ℕ} {test : T �
           ∙ behind h.items (length h.items - 1) (omega arith)))) in
           seen (record {
             step =
-                subst
-                (λ (q : Refusal). IsStepOfKind s (record s { cut = new }) key (Vector k) (asked.Pop key) (Refused q))
+                subst (λ (q : Refusal). IsStepOfKind s (record s { cut = new }) key (Vector k) (asked.Pop key)
+                (Refused q))
                 (sym r.refusal)
                 (subst
                 (λ (c : Cut). IsStepOfKind s (record s { cut = c }) key (Vector k) (asked.Pop key) (Refused OutOfRange))
@@ -263,8 +261,7 @@ module _ {T : Type 0} {k : ScalarKind} {w : T → ℤ} {size : ℕ} {test : T �
           → Assigns size test sp s.cut new p ys r
           → Answered done_answer s t new key (Vector k) (asked.Assign key (map (literal_of k) (map w ys))) r
       vector-assigned ys r v a =
-          seen
-          (grows-safely typed s key p b found new writing (asked.Assign key (map (literal_of k) (map w ys)))
+          seen (grows-safely typed s key p b found new writing (asked.Assign key (map (literal_of k) (map w ys)))
           (λ xs t. length ys) (λ xs. ys) r
           (λ d h.
           assign-plan d key h.object k (map w h.items) h.table h.is h.value (map (literal_of k) (map w ys)) (map w ys)

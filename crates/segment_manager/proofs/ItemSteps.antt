@@ -142,7 +142,8 @@ module _ {A : Type 0} {L : Listing A} (old new : Cut) {d : Directory} {key : Key
       → ListedGrown L old new p h.table n xs → Refill old new d key c answer
   items-grown xs n c answer e r =
       items-refill xs r.table c answer
-      (room-asked current old.bytes d c L.each n h.table (Some r.table) answer (with_elements xs) den e r.grown) r.now
+      (room-asked current old.bytes d c L.each n h.table (Some r.table)
+      (λ u. Reply answer (with_elements xs u)) den e r.grown) r.now
 
 -- ---- all directories
 
@@ -198,8 +199,8 @@ module _ {A : Type 0} (L : Listing A) (s : State) (key : Key) (p : Place) (b : I
         → grown_table (live_of s.cut.bytes) L.each n h.table ≡ None
         → perform d (live d) (effect d c) ≡ (Refused NoSpace, d)
     items-full c n xs d den h e none =
-        room-asked current s.cut.bytes d c L.each n h.table None Done
-        (λ u. changed d h.object (L.value xs u)) den e none
+        room-asked current s.cut.bytes d c L.each n h.table None
+        (λ u. Reply Done (changed d h.object (L.value xs u))) den e none
 
     -- a call on the element at an index, in the places that there are
     pub changes-safely : (c : Command) (i : ℕ) (ys : List A → List A) (r : Result (Unit {0}) Refusal)

@@ -266,8 +266,9 @@ module _ {s t : State} (view : s ≡ t) (key : Key) (kind : Kind) (p : Place) (b
           next = contents_at kind h.len g.table h.bytes;
           moved = table-moved g.table h.found.object.value _ h.held;
           change = record { change = g.change; stands = g.stands };
-          outcome = room-asked current s.cut.bytes d (asked.Reserve key n) (each_of kind) n h.table (Some g.table) Done
-              (λ u. changed d h.found.object (with_table h.found.object.value u)) l.denotes (asks n d h) g.grown;
+          outcome = room-asked current s.cut.bytes d (asked.Reserve key n) (each_of kind) n h.table (Some g.table)
+              (λ u. Reply Done (changed d h.found.object (with_table h.found.object.value u))) l.denotes
+              (asks n d h) g.grown;
         })
     elements-reserved n (Err e) a =
         let h : Held b.0 = held b.0 b.1 in
@@ -278,8 +279,8 @@ module _ {s t : State} (view : s ≡ t) (key : Key) (kind : Kind) (p : Place) (b
         let h : Held d = held d l in
         step_of_kind-found s.mode d key kind (asked.Reserve key n) h.found.object
         (open-writing s.mode (asked.Reserve key n) writing) h.found.is h.found.same
-        ∙ room-asked current s.cut.bytes d (asked.Reserve key n) (each_of kind) n h.table None Done
-        (λ u. changed d h.found.object (with_table h.found.object.value u)) l.denotes (asks n d h)
+        ∙ room-asked current s.cut.bytes d (asked.Reserve key n) (each_of kind) n h.table None
+        (λ u. Reply Done (changed d h.found.object (with_table h.found.object.value u))) l.denotes (asks n d h)
         (a h.len h.table h.bytes h.stands).none))
 
     elements-shrunk : Fits s.cut new p (each_of kind) → StepsSafely s new key kind (asked.Shrink key) (Ok tt)

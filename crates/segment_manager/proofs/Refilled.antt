@@ -5,42 +5,55 @@ use Rattle.segment_manager.proofs.Common.{Table, Extent, LiveSet, regrow, Kind, 
 use Rattle.segment_manager.proofs.Common.{ReadOnly, same_kind, Key, Command, is_changing, Place, grown_table, Mode}
 use Rattle.segment_manager.proofs.Common.{Answer, Refused, Contents, IsRefilled, container_at, container_place}
 use Rattle.segment_manager.proofs.Common.{contents_of, has_values, Value, Object, Directory, kind_of, live, object_at}
-use Rattle.segment_manager.proofs.Common.{Denotes, Reply, perform, with_capacity, Request, RegrownNeed, Refuse, Answers}
-use Rattle.segment_manager.proofs.Common.{IsSegment, IsStep, IsStepOfKind, State, StandsFor, changed, effect}
-use Rattle.segment_manager.proofs.Common.{is_read_only, step_of_kind, step}
+use Rattle.segment_manager.proofs.Common.{Denotes, perform, with_capacity, Request, RegrownNeed, Refuse, Answers}
+use Rattle.segment_manager.proofs.Common.{IsSegment, IsStep, IsStepOfKind, State, StandsFor, changed, effect, Plan}
+use Rattle.segment_manager.proofs.Common.{is_read_only, step_of_kind, step, arith, le-ltb, lt-ltb, resized, with_array}
 use Rattle.segment_manager.proofs.{Calling.denotes-live, Contained.contents-changed}
 use Rattle.segment_manager.proofs.Steps.{IsMove, IsOpenFor, by_no_change, by_no_change_of_kind, by_step_of_kind}
 use Rattle.segment_manager.proofs.Steps.{open-writing, step-effect, step_of_kind-found, step_of_kind-not_found}
 use Rattle.segment_manager.proofs.Steps.{step_of_kind-other, moves-same}
+use Rattle.std.proofs.lemmas.Bool.{leb-false}
 
--- ---- a plan that asks for room
+-- ---- a plan that asks for a block
 
--- the answer and the directory for the table with the room, or no space
-abbrev pub answered : Directory → Answer → (Table → Directory) → Option Table → Answer × Directory
-answered d a next None = (Refused NoSpace, d)
-answered d a next (Some u) = (a, next u)
+-- what comes of what is made with it, with the blocks beside that; or there is no space
+abbrev pub then_by : {A : Type 0} → (A → LiveSet) → Directory → (A → Plan) → Option A → Answer × Directory
+then_by beside d next None = (Refused NoSpace, d)
+then_by beside d next (Some a) = perform d (beside a) (next a)
 
-abbrev with_extent : ℕ → Extent → Table
-with_extent n x = record { capacity = n; extent = Some x }
+pub asked-met : {A : Type 0} (beside : A → LiveSet) (made : Extent → A) (d : Directory) (l : LiveSet) (next : A → Plan)
+    → ((x : Extent) → resized l x ≡ beside (made x)) → (r : Option Extent)
+    → elim r as (λ _. Answer × Directory)
+    [ None ↦ (Refused NoSpace, d) | Some x ↦ perform d (resized l x) (next (made x)) ]
+    ≡ then_by beside d next (option_map made r)
+asked-met beside made d l next e None = refl
+asked-met beside made d l next e (Some x) = ap (λ (m : LiveSet). perform d m (next (made x))) (e x)
 
-grown-met : (d : Directory) (n : ℕ) (a : Answer) (next : Table → Directory) (r : Option Extent)
-    → elim r as (λ _. Answer × Directory) [ None ↦ (Refused NoSpace, d) | Some x ↦ (a, next (with_extent n x)) ]
-    ≡ answered d a next (option_map (with_extent n) r)
-grown-met d n a next None = refl
-grown-met d n a next (Some x) = refl
+abbrev pub of_places : ℕ → Extent → Table
+of_places n x = record { capacity = n; extent = Some x }
 
-grown-if : (d : Directory) (l : LiveSet) (each n : ℕ) (t : Table) (a : Answer) (next : Table → Directory) (b : Bool)
-    → perform d l
-    (if b then Reply a (next t) else Request (RegrownNeed t.extent (each * n)) (λ x. Reply a (next (with_extent n x))))
-    ≡ answered d a next (if b then Some t else option_map (with_extent n) (regrow l t.extent (each * n)))
-grown-if d l each n t a next true = refl
-grown-if d l each n t a next false = grown-met d n a next (regrow l t.extent (each * n))
+-- a table with so many places or more
+abbrev pub then_room : Directory → LiveSet → Table → (Table → Plan) → Option Table → Answer × Directory
+then_room d l t = then_by (with_array l t) d
 
--- push, insert, reserve, append and assign
-pub grows : (d : Directory) (l : LiveSet) (each n : ℕ) (t : Table) (a : Answer) (next : Table → Directory)
-    → perform d l (with_capacity each n t (λ u. Reply a (next u))) ≡ answered d a next (grown_table l each n t)
+abbrev grown_set : LiveSet → Table → Bool → LiveSet
+grown_set l u b = if b then elim u.extent as (λ _. LiveSet) [ None ↦ l | Some x ↦ resized l x ] else l
+
+room-if : (d : Directory) (l : LiveSet) (each : ℕ) (t : Table) (n : ℕ) (next : Table → Plan) (b : Bool)
+    → nat_le n t.capacity ≡ b
+    → perform d l (if b then next t else Request (RegrownNeed t.extent (each * n)) (λ x. next (of_places n x)))
+    ≡ then_room d l t next (if b then Some t else option_map (of_places n) (regrow l t.extent (each * n)))
+room-if d l each t n next true h =
+    ap (λ (b : Bool). perform d (grown_set l t b) (next t)) (sym (le-ltb t.capacity t.capacity (omega arith)))
+room-if d l each t n next false h =
+    asked-met (with_array l t) (of_places n) d l next
+    (λ x i. grown_set l (of_places n x) (sym (lt-ltb t.capacity n (leb-false n t.capacity h)) i))
+    (regrow l t.extent (each * n))
+
+pub room-grown : (d : Directory) (l : LiveSet) (each : ℕ) (t : Table) (n : ℕ) (next : Table → Plan)
+    → perform d l (with_capacity each n t next) ≡ then_room d l t next (grown_table l each n t)
 unfolding grown_table
-grows d l each n t a next = grown-if d l each n t a next (nat_le n t.capacity)
+room-grown d l each t n next = room-if d l each t n next (nat_le n t.capacity) refl
 
 -- ---- a directory
 
@@ -61,12 +74,12 @@ pub record Refill (old new : Cut) (d : Directory) (key : Key) (c : Command) (ans
 
 -- the plan asks for room, where there is some or none
 pub room-asked : (format : ℕ) (b : List ℕ) (d : Directory) (c : Command) (each n : ℕ) (t : Table) (r : Option Table)
-    (answer : Answer) (next : Table → Directory) → Denotes format b d
-    → effect d c ≡ with_capacity each n t (λ u. Reply answer (next u)) → grown_table (live_of b) each n t ≡ r
-    → perform d (live d) (effect d c) ≡ answered d answer next r
-room-asked format b d c each n t r answer next k e g =
-    ap (perform d (live d)) e ∙ grows d (live d) each n t answer next
-    ∙ ap (answered d answer next) (ap (λ l. grown_table l each n t) (sym (denotes-live format b d k)) ∙ g)
+    (next : Table → Plan) → Denotes format b d
+    → effect d c ≡ with_capacity each n t next → grown_table (live_of b) each n t ≡ r
+    → perform d (live d) (effect d c) ≡ then_room d (live d) t next r
+room-asked format b d c each n t r next k e g =
+    ap (perform d (live d)) e ∙ room-grown d (live d) each t n next
+    ∙ ap (then_room d (live d) t next) (ap (λ l. grown_table l each n t) (sym (denotes-live format b d k)) ∙ g)
 
 -- the new bytes stand for the directory with the next value
 pub refill-moves : (s : State) (new : Cut) (d : Directory) (key : Key) (c : Command) (answer : Answer)

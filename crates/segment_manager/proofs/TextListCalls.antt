@@ -19,9 +19,9 @@ use Rattle.segment_manager.proofs.TextMoves.{StepsKeeping, kept, led, step-leads
 use Rattle.segment_manager.proofs.TextMoves.{texts-stay, texts-steps, texts_in}
 use Rattle.segment_manager.proofs.TextPlans.{all-met, all-unmet, all_plan, assign-none, assign-some, beside_array}
 use Rattle.segment_manager.proofs.TextPlans.{clear-texts, erase-text, got-text, insert-text, insert_in, insert_plan}
-use Rattle.segment_manager.proofs.TextPlans.{one-more-met, one-more-unmet, pop-text, push-text, reserve-texts}
-use Rattle.segment_manager.proofs.TextPlans.{room-grown, set-text, set_in, shrink-texts, text-placed, then_room}
-use Rattle.segment_manager.proofs.TextPlans.{assign_in, text_in, texts_after}
+use Rattle.segment_manager.proofs.TextPlans.{one-more-met, one-more-unmet, pop-text, push-text, reserve-texts, set-text}
+use Rattle.segment_manager.proofs.TextPlans.{set_in, shrink-texts, text-placed, assign_in, text_in, texts_after}
+use Rattle.segment_manager.proofs.Refilled.{room-grown, then_room}
 use Rattle.segment_manager.proofs.Safely.{pick-outside, pick-space, Answered, answered, done-so, stays}
 use Rattle.segment_manager.proofs.PlacedTexts.{text-bytes, texts-bytes}
 use Rattle.std.proofs.Common.{Fits, w8}
@@ -311,7 +311,8 @@ module _ {s t : State} (view : s ≡ t) (b : IsSegment s.cut.bytes) {key : Key} 
       → perform d heap (effect d (asked.Reserve key n)) ≡ then_room d heap h.table (λ u. assign_in h u h.texts) r
   reserve-comes {d} h n e =
       let next : Table → Plan = λ u. assign_in h u h.texts in
-      ap (perform d heap) (reserve-texts h n) ∙ room-grown d heap h.table n next ∙ ap (then_room d heap h.table next) e
+      ap (perform d heap) (reserve-texts h n) ∙ room-grown d heap 16 h.table n next
+      ∙ ap (then_room d heap h.table next) e
 
   -- what is done with them
   pub texts-changed : (change : Change) (r : Result (Unit {0}) Refusal) → ChangesTexts change s.cut new p r

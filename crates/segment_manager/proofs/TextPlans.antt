@@ -1,20 +1,19 @@
 -- The plans of the commands on a vector of texts, and what they come to.
 use Rattle.segment_manager.proofs.Common.{◌≡◌, refl, sym, ap, ◌∙◌, ℕ, ◌-◌, ◌*◌, Bool, true, false, Option, Some, None}
-use Rattle.segment_manager.proofs.Common.{Result, Ok, Err, List, [], ◌∷◌, length, arith, ◌==◌, if◌then◌else◌, insert}
-use Rattle.segment_manager.proofs.Common.{remove, slice_get, slice_set, nat_le, nat_lt, option_map, le-ltb, lt-ltb}
-use Rattle.segment_manager.proofs.Common.{Storage, Extent, LiveSet, place, regrow, resized, Table, cut_table, no_table}
-use Rattle.segment_manager.proofs.Common.{Refusal, NoSpace, OutOfRange, Key, Literal, Place, all_texts, new_array}
-use Rattle.segment_manager.proofs.Common.{one_more, placed_text, placed_texts, with_array, with_text, OwnedText}
-use Rattle.segment_manager.proofs.Common.{capacity_for_one, grown_table, Answer, Done, Refused, TextElement, Texts}
-use Rattle.segment_manager.proofs.Common.{Object, Directory, Value, found_at, live, New, Plan, Refuse, RegrownNeed}
-use Rattle.segment_manager.proofs.Common.{Reply, Request, perform, with, with_capacity, with_owned_text}
+use Rattle.segment_manager.proofs.Common.{Result, Ok, Err, List, [], ◌∷◌, length, ◌==◌, if◌then◌else◌, insert, remove}
+use Rattle.segment_manager.proofs.Common.{slice_get, slice_set, nat_lt, option_map, Storage, LiveSet, place, resized}
+use Rattle.segment_manager.proofs.Common.{Table, cut_table, no_table, Refusal, NoSpace, OutOfRange, Key, Literal, Place}
+use Rattle.segment_manager.proofs.Common.{all_texts, new_array, one_more, placed_text, placed_texts, with_array}
+use Rattle.segment_manager.proofs.Common.{with_text, OwnedText, capacity_for_one, grown_table, Answer, Done, Refused}
+use Rattle.segment_manager.proofs.Common.{TextElement, Texts, Object, Directory, Value, found_at, live, New, Plan}
+use Rattle.segment_manager.proofs.Common.{Refuse, Reply, Request, perform, with, with_capacity, with_owned_text}
 use Rattle.segment_manager.proofs.Common.{with_owned_texts, with_storage, changed, effect, storage_of, texts_of}
 use Rattle.segment_manager.proofs.Common.{with_items}
-use Rattle.std.proofs.lemmas.Bool.{leb-false}
 use Rattle.seg_types.specs.Commands as asked
 use Rattle.segment_manager.specs.Step as step
 use Rattle.segment_manager.proofs.ContentPlans.{reserve_with, shrink_with}
 use Rattle.segment_manager.proofs.PlacedTexts.{in_block, unplaced}
+use Rattle.segment_manager.proofs.Refilled.{asked-met, of_places, room-grown, then_by, then_room}
 use Rattle.segment_manager.proofs.{Steps.with-found, TextLists.pushed-last, TextLists.removed-last}
 use Rattle.segment_manager.proofs.{TextsHeld.HoldsTexts}
 
@@ -22,23 +21,13 @@ use Rattle.segment_manager.proofs.{TextsHeld.HoldsTexts}
 
 -- the block of a text
 abbrev pub then_text : Directory → LiveSet → (OwnedText → Plan) → Option OwnedText → Answer × Directory
-then_text d l next None = (Refused NoSpace, d)
-then_text d l next (Some q) = perform d (with_text l q) (next q)
-
-text-met : (d : Directory) (l : LiveSet) (bs : List ℕ) (next : OwnedText → Plan) (r : Option Extent)
-    → elim r as (λ _. Answer × Directory) [
-      | None ↦ (Refused NoSpace, d)
-      | Some x ↦ perform d (resized l x)
-          (next (in_block bs x))
-    ] ≡ then_text d l next (option_map (in_block bs) r)
-text-met d l bs next None = refl
-text-met d l bs next (Some x) = refl
+then_text d l = then_by (with_text l) d
 
 text-if : (d : Directory) (l : LiveSet) (bs : List ℕ) (next : OwnedText → Plan) (b : Bool)
     → perform d l (if b then next (unplaced bs) else Request (New Storage (length bs)) (λ x. next (in_block bs x)))
     ≡ then_text d l next (if b then Some (unplaced bs) else option_map (in_block bs) (place l (length bs) Storage))
 text-if d l bs next true = refl
-text-if d l bs next false = text-met d l bs next (place l (length bs) Storage)
+text-if d l bs next false = asked-met (with_text l) (in_block bs) d l next (λ x. refl) (place l (length bs) Storage)
 
 pub text-placed : (d : Directory) (l : LiveSet) (bs : List ℕ) (next : OwnedText → Plan)
     → perform d l (with_owned_text bs next) ≡ then_text d l next (placed_text l bs)
@@ -50,8 +39,7 @@ beside_texts l [] = l
 beside_texts l (q ∷ qs) = beside_texts (with_text l q) qs
 
 abbrev pub then_texts : Directory → LiveSet → (List OwnedText → Plan) → Option (List OwnedText) → Answer × Directory
-then_texts d l next None = (Refused NoSpace, d)
-then_texts d l next (Some qs) = perform d (beside_texts l qs) (next qs)
+then_texts d l = then_by (beside_texts l) d
 
 texts-mapped : (d : Directory) (l : LiveSet) (next : List OwnedText → Plan) (q : OwnedText)
     (r : Option (List OwnedText))
@@ -78,63 +66,21 @@ texts-placed d l (bs ∷ bss) next =
     ∙ text-then d l bss next (placed_text l bs) (λ q. texts-placed d (with_text l q) bss (λ qs. next (q ∷ qs)))
 
 -- a new array
+abbrev pub beside_array : LiveSet → Table → LiveSet
+beside_array l u = elim u.extent as (λ _. LiveSet) [ None ↦ l | Some x ↦ resized l x ]
+
 abbrev pub then_array : Directory → LiveSet → (Table → Plan) → Option Table → Answer × Directory
-then_array d l next None = (Refused NoSpace, d)
-then_array d l next (Some u) = perform d (elim u.extent as (λ _. LiveSet) [ None ↦ l | Some x ↦ resized l x ]) (next u)
-
-abbrev of_places : ℕ → Extent → Table
-of_places n x = record { capacity = n; extent = Some x }
-
-array-met : (d : Directory) (l : LiveSet) (n : ℕ) (next : Table → Plan) (r : Option Extent)
-    → elim r as (λ _. Answer × Directory) [
-      | None ↦ (Refused NoSpace, d)
-      | Some x ↦ perform d (resized l x)
-          (next (of_places n x))
-    ] ≡ then_array d l next (option_map (of_places n) r)
-array-met d l n next None = refl
-array-met d l n next (Some x) = refl
+then_array d l = then_by (beside_array l) d
 
 array-if : (d : Directory) (l : LiveSet) (n : ℕ) (next : Table → Plan) (b : Bool)
     → perform d l (if b then next no_table else Request (New Storage (16 * n)) (λ x. next (of_places n x)))
     ≡ then_array d l next (if b then Some no_table else option_map (of_places n) (place l (16 * n) Storage))
 array-if d l n next true = refl
-array-if d l n next false = array-met d l n next (place l (16 * n) Storage)
+array-if d l n next false = asked-met (beside_array l) (of_places n) d l next (λ x. refl) (place l (16 * n) Storage)
 
 pub array-placed : (d : Directory) (l : LiveSet) (n : ℕ) (next : Table → Plan)
     → perform d l (with_storage 16 n next) ≡ then_array d l next (new_array l n)
 array-placed d l n next = array-if d l n next (n == 0)
-
--- an array with so many places or more
-abbrev pub then_room : Directory → LiveSet → Table → (Table → Plan) → Option Table → Answer × Directory
-then_room d l t next None = (Refused NoSpace, d)
-then_room d l t next (Some u) = perform d (with_array l t u) (next u)
-
-abbrev grown_set : LiveSet → Table → Bool → LiveSet
-grown_set l u b = if b then elim u.extent as (λ _. LiveSet) [ None ↦ l | Some x ↦ resized l x ] else l
-
-room-met : (d : Directory) (l : LiveSet) (t : Table) (n : ℕ) (next : Table → Plan) (r : Option Extent)
-    → nat_lt t.capacity n ≡ true
-    → elim r as (λ _. Answer × Directory) [
-      | None ↦ (Refused NoSpace, d)
-      | Some x ↦ perform d (resized l x)
-          (next (of_places n x))
-    ] ≡ then_room d l t next (option_map (of_places n) r)
-room-met d l t n next None h = refl
-room-met d l t n next (Some x) h =
-    ap (λ (b : Bool). perform d (grown_set l (of_places n x) b) (next (of_places n x))) (sym h)
-
-room-if : (d : Directory) (l : LiveSet) (t : Table) (n : ℕ) (next : Table → Plan) (b : Bool) → nat_le n t.capacity ≡ b
-    → perform d l (if b then next t else Request (RegrownNeed t.extent (16 * n)) (λ x. next (of_places n x)))
-    ≡ then_room d l t next (if b then Some t else option_map (of_places n) (regrow l t.extent (16 * n)))
-room-if d l t n next true h =
-    ap (λ (b : Bool). perform d (grown_set l t b) (next t)) (sym (le-ltb t.capacity t.capacity (omega arith)))
-room-if d l t n next false h =
-    room-met d l t n next (regrow l t.extent (16 * n)) (lt-ltb t.capacity n (leb-false n t.capacity h))
-
-pub room-grown : (d : Directory) (l : LiveSet) (t : Table) (n : ℕ) (next : Table → Plan)
-    → perform d l (with_capacity 16 n t next) ≡ then_room d l t next (grown_table l 16 n t)
-unfolding grown_table
-room-grown d l t n next = room-if d l t n next (nat_le n t.capacity) refl
 
 -- ---- the array, and then a text
 
@@ -148,7 +94,7 @@ module _ (d : Directory) (l : LiveSet) (ps : List OwnedText) (t : Table) (bs : L
       → placed_text (with_array l t u) bs ≡ Some q
       → perform d l (one_more_plan ps t bs next) ≡ perform d (with_text (with_array l t u) q) (next u q)
   one-more-met u q g h =
-      room-grown d l t (capacity_for_one (length ps) t.capacity) (λ u. with_owned_text bs (next u))
+      room-grown d l 16 t (capacity_for_one (length ps) t.capacity) (λ u. with_owned_text bs (next u))
       ∙ ap (then_room d l t (λ u. with_owned_text bs (next u))) g
       ∙ text-placed d (with_array l t u) bs (next u)
       ∙ ap (then_text d (with_array l t u) (next u)) h
@@ -161,14 +107,10 @@ module _ (d : Directory) (l : LiveSet) (ps : List OwnedText) (t : Table) (bs : L
 
   pub one-more-unmet : one_more l ps t bs ≡ None → perform d l (one_more_plan ps t bs next) ≡ (Refused NoSpace, d)
   one-more-unmet h =
-      room-grown d l t (capacity_for_one (length ps) t.capacity) (λ u. with_owned_text bs (next u))
+      room-grown d l 16 t (capacity_for_one (length ps) t.capacity) (λ u. with_owned_text bs (next u))
       ∙ none-if (grown_table l 16 (capacity_for_one (length ps) t.capacity) t) h
 
 -- ---- a new array, and then texts
-
--- the live set beside an array
-abbrev pub beside_array : LiveSet → Table → LiveSet
-beside_array l u = elim u.extent as (λ _. LiveSet) [ None ↦ l | Some x ↦ resized l x ]
 
 abbrev pub all_plan : List (List ℕ) → (Table → List OwnedText → Plan) → Plan
 all_plan bss next = with_storage 16 (length bss) (λ u. with_owned_texts bss (next u))

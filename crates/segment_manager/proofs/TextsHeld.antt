@@ -115,33 +115,20 @@ pub texts-only : (v : Value) → same_kind TextsKind (kind_of v) ≡ true
     → (ps : List OwnedText) × ((t : Table) × (v ≡ Texts ps t))
 texts-only v e = texts-if v (one-kind TextsKind (kind_of v) e)
 
--- what its blocks are to the heap
-record AreItsBlocks (l : LiveSet) (o : Object) (ps : List OwnedText) (t : Table) : Type 0 where
-  array : AllByRecursion (InUse l) (option_to_list t.extent)
-  texts : AllByRecursion (InUse l) (text_blocks ps)
-  beside_array : AllByRecursion (Beside (handle o.extent)) (option_to_list t.extent)
-  beside_texts : AllByRecursion (Beside (handle o.extent)) (text_blocks ps)
-  others : AreOthers (option_to_list t.extent ++ text_blocks ps)
-
+-- its blocks are in use, and no two of them and its own are one
 its-blocks : (d : Directory) (o : Object) (ps : List OwnedText) (t : Table) → IsIn d o → IsTrue (is_proper (live d))
-    → o.value ≡ Texts ps t → AreItsBlocks (live d) o ps t
+    → o.value ≡ Texts ps t
+    → AllByRecursion (InUse (live d)) (option_to_list t.extent ++ text_blocks ps) × AreOthers
+    (o.extent ∷ (option_to_list t.extent ++ text_blocks ps))
 its-blocks d o ps t f proper e =
-    let array : List Extent = option_to_list t.extent in
-    let all : List Extent = o.extent ∷ (array ++ text_blocks ps) in
+    let all : List Extent = o.extent ∷ (option_to_list t.extent ++ text_blocks ps) in
     let is : live d ≡ with_extents d o all =
     live-split d o f proper ∙ ap (λ (v : Value). with_extents d o (extents_of (with_value o v))) e in
     let up : Rising 128 (inserted all (rest d o)) =
     live-rises (with_extents d o all) (subst (λ (l : LiveSet). IsTrue (is_proper l)) is proper) in
     let found : AllByRecursion (InUse (live d)) all =
     subst (λ (l : LiveSet). AllByRecursion (InUse l) all) (sym is) (all-found-in all (rest d o) up) in
-    let apart : AreOthers all = others-apart 128 all (rest d o) up in
-    record {
-      array = AllByRecursion-front (InUse (live d)) array (text_blocks ps) found.1;
-      texts = AllByRecursion-behind (InUse (live d)) array (text_blocks ps) found.1;
-      beside_array = AllByRecursion-front (Beside (handle o.extent)) array (text_blocks ps) apart.0;
-      beside_texts = AllByRecursion-behind (Beside (handle o.extent)) array (text_blocks ps) apart.0;
-      others = apart.1;
-    }
+    (found.1, others-apart 128 all (rest d o) up)
 
 own-array : (l : LiveSet) (h : ℕ) (r : Option Extent) → AllByRecursion (InUse l) (option_to_list r)
     → AllByRecursion (Beside h) (option_to_list r) → IsOwnBlock l h r
@@ -160,9 +147,11 @@ texts-stand b d key o ps t k e f =
     let good : FitsTexts ps t =
     fits-texts ps t (subst (λ (v : Value). IsTrue (is_good_value v)) f (object-roomy current o s.good).value) in
     let found : IsIn d o = key-found current d key o k.directory e in
-    let same : live_of b ≡ live d = denotes-live current b d k in
-    let blocks : AreItsBlocks (live_of b) o ps t =
-    subst (λ (l : LiveSet). AreItsBlocks l o ps t) (sym same) (its-blocks d o ps t found k.directory.proper f) in
+    let array : List Extent = option_to_list t.extent in
+    let blocks = its-blocks d o ps t found k.directory.proper f in
+    let held : AllByRecursion (InUse (live_of b)) (array ++ text_blocks ps) =
+    subst (λ (l : LiveSet). AllByRecursion (InUse l) (array ++ text_blocks ps))
+    (sym (denotes-live current b d k)) blocks.0 in
     let len : value_len o.value ≡ 24 = ap value_len f in
     record {
       heap = denotes-heap current b d k;
@@ -172,10 +161,15 @@ texts-stand b d key o ps t k e f =
       room = standing-room b (handle o.extent) (16 + padded (length o.name) + 24) o s (omega (arith, len));
       table = good.table;
       fits = good.fits;
-      own = own-array (live_of b) (handle o.extent) t.extent blocks.array blocks.beside_array;
-      held = held-each (live_of b) ps good.owned blocks.texts;
-      apart = other-way (handle o.extent) (text_blocks ps) blocks.beside_texts;
-      others = blocks.others;
+      own =
+          own-array (live_of b) (handle o.extent) t.extent
+          (AllByRecursion-front (InUse (live_of b)) array (text_blocks ps) held)
+          (AllByRecursion-front (Beside (handle o.extent)) array (text_blocks ps) blocks.1.0);
+      held = held-each (live_of b) ps good.owned
+          (AllByRecursion-behind (InUse (live_of b)) array (text_blocks ps) held);
+      apart = other-way (handle o.extent) (text_blocks ps)
+          (AllByRecursion-behind (Beside (handle o.extent)) array (text_blocks ps) blocks.1.0);
+      others = blocks.1.1;
     }
 
 -- ---- the object of a key

@@ -76,9 +76,11 @@ module _ {A : Type 0} (L : Listing A) where
   abbrev items_in : List A → Table → Contents
   items_in xs t = record { each = L.each; len = length xs; table = t; bytes = L.spell xs }
 
-  items-of : (b : List ℕ) (d : Directory) (key : Key) (p : Place) → Denotes current b d → HoldsAt d key L.kind p
-      → HoldsItems L b d key p
-  items-of b d key p den h =
+  -- where the search ended, there it is
+  pub holds-items : (b : List ℕ) (d : Directory) (key : Key) (p : Place) → Denotes current b d
+      → Ok p ≡ container_at d key L.kind → HoldsItems L b d key p
+  holds-items b d key p den e =
+      let h : HoldsAt d key L.kind p = holds-at d key L.kind p e in
       let o : Object = h.object in
       let s : StandsAt b _ o = standing b d key o den h.is in
       let good : IsTrue (is_good_value o.value) = (object-roomy current o s.good).value in
@@ -96,11 +98,6 @@ module _ {A : Type 0} (L : Listing A) where
             (contents-stand b d key o (items_in v.0 v.1.0) den h.is held);
         values = subst (λ (g : Bool). IsTrue g) (ap has_values v.1.1 ∙ L.values v.0 v.1.0) fits;
       }
-
-  -- where the search ended, there it is
-  pub holds-items : (b : List ℕ) (d : Directory) (key : Key) (p : Place) → Denotes current b d
-      → Ok p ≡ container_at d key L.kind → HoldsItems L b d key p
-  holds-items b d key p den e = items-of b d key p den (holds-at d key L.kind p e)
 
 -- ---- one directory
 

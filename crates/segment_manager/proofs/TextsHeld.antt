@@ -139,39 +139,6 @@ other-way : (h : ℕ) (xs : List Extent) → AllByRecursion (Beside h) xs → Al
 other-way h [] n = tt
 other-way h (x ∷ xs) n = ((λ e. n.0 (sym e)), other-way h xs n.1)
 
--- its texts stand at its place
-texts-stand : (b : List ℕ) (d : Directory) (key : Key) (o : Object) (ps : List OwnedText) (t : Table)
-    → Denotes current b d → object_at d key ≡ Some o → o.value ≡ Texts ps t → IsTexts b (container_place o) ps t
-texts-stand b d key o ps t k e f =
-    let s : StandsAt b (handle o.extent) o = standing b d key o k e in
-    let good : FitsTexts ps t =
-    fits-texts ps t (subst (λ (v : Value). IsTrue (is_good_value v)) f (object-roomy current o s.good).value) in
-    let found : IsIn d o = key-found current d key o k.directory e in
-    let array : List Extent = option_to_list t.extent in
-    let blocks = its-blocks d o ps t found k.directory.proper f in
-    let held : AllByRecursion (InUse (live_of b)) (array ++ text_blocks ps) =
-    subst (λ (l : LiveSet). AllByRecursion (InUse l) (array ++ text_blocks ps))
-    (sym (denotes-live current b d k)) blocks.0 in
-    let len : value_len o.value ≡ 24 = ap value_len f in
-    record {
-      heap = denotes-heap current b d k;
-      words = subst (λ at. IsTextsAt (bytes_of b) at ps t) (start-place o)
-          (subst (IsValueAt (bytes_of b) (value_start o)) f s.said.value);
-      aligned = omega arith;
-      room = standing-room b (handle o.extent) (16 + padded (length o.name) + 24) o s (omega (arith, len));
-      table = good.table;
-      fits = good.fits;
-      own =
-          own-array (live_of b) (handle o.extent) t.extent
-          (AllByRecursion-front (InUse (live_of b)) array (text_blocks ps) held)
-          (AllByRecursion-front (Beside (handle o.extent)) array (text_blocks ps) blocks.1.0);
-      held = held-each (live_of b) ps good.owned
-          (AllByRecursion-behind (InUse (live_of b)) array (text_blocks ps) held);
-      apart = other-way (handle o.extent) (text_blocks ps)
-          (AllByRecursion-behind (Beside (handle o.extent)) array (text_blocks ps) blocks.1.0);
-      others = blocks.1.1;
-    }
-
 -- ---- the object of a key
 
 -- it is a vector of texts, which stands at the place
@@ -185,30 +152,50 @@ pub record HoldsTexts (b : List ℕ) (d : Directory) (key : Key) (p : Place) : T
   pub stand : IsTexts b p texts table
   pub bytes : AllByRecursion HasBytes texts
 
-texts-of : (b : List ℕ) (d : Directory) (key : Key) (p : Place) → Denotes current b d → HoldsAt d key TextsKind p
-    → HoldsTexts b d key p
-texts-of b d key p k h =
-    let o : Object = h.object in
-    let v : (ps : List OwnedText) × ((t : Table) × (o.value ≡ Texts ps t)) = texts-only o.value h.same in
-    let s : StandsAt b (handle o.extent) o = standing b d key o k h.is in
-    let good : FitsTexts v.0 v.1.0 =
-    fits-texts v.0 v.1.0
-    (subst (λ (w : Value). IsTrue (is_good_value w)) v.1.1 (object-roomy current o s.good).value) in
-    record {
-      object = o;
-      is = h.is;
-      texts = v.0;
-      table = v.1.0;
-      value = v.1.1;
-      at = h.at;
-      stand = subst (λ (q : Place). IsTexts b q v.0 v.1.0) h.at (texts-stand b d key o v.0 v.1.0 k h.is v.1.1);
-      bytes = bytes-each v.0 good.owned;
-    }
-
 -- where the search ended, there it is
 pub holds-texts : (b : List ℕ) (d : Directory) (key : Key) (p : Place) → Denotes current b d
     → Ok p ≡ container_at d key TextsKind → HoldsTexts b d key p
-holds-texts b d key p k e = texts-of b d key p k (holds-at d key TextsKind p e)
+holds-texts b d key p k e =
+    let h : HoldsAt d key TextsKind p = holds-at d key TextsKind p e in
+    let o : Object = h.object in
+    let v : (ps : List OwnedText) × ((t : Table) × (o.value ≡ Texts ps t)) = texts-only o.value h.same in
+    let ps : List OwnedText = v.0 in
+    let t : Table = v.1.0 in
+    let s : StandsAt b (handle o.extent) o = standing b d key o k h.is in
+    let good : FitsTexts ps t =
+    fits-texts ps t (subst (λ (w : Value). IsTrue (is_good_value w)) v.1.1 (object-roomy current o s.good).value) in
+    let array : List Extent = option_to_list t.extent in
+    let blocks = its-blocks d o ps t (key-found current d key o k.directory h.is) k.directory.proper v.1.1 in
+    let held : AllByRecursion (InUse (live_of b)) (array ++ text_blocks ps) =
+    subst (λ (l : LiveSet). AllByRecursion (InUse l) (array ++ text_blocks ps))
+    (sym (denotes-live current b d k)) blocks.0 in
+    let len : value_len o.value ≡ 24 = ap value_len v.1.1 in
+    record {
+      object = o;
+      is = h.is;
+      texts = ps;
+      table = t;
+      value = v.1.1;
+      at = h.at;
+      stand = subst (λ (q : Place). IsTexts b q ps t) h.at (record {
+        heap = denotes-heap current b d k;
+        words = subst (λ at. IsTextsAt (bytes_of b) at ps t) (start-place o)
+            (subst (IsValueAt (bytes_of b) (value_start o)) v.1.1 s.said.value);
+        aligned = omega arith;
+        room = standing-room b (handle o.extent) (16 + padded (length o.name) + 24) o s (omega (arith, len));
+        table = good.table;
+        fits = good.fits;
+        own = own-array (live_of b) (handle o.extent) t.extent
+            (AllByRecursion-front (InUse (live_of b)) array (text_blocks ps) held)
+            (AllByRecursion-front (Beside (handle o.extent)) array (text_blocks ps) blocks.1.0);
+        held = held-each (live_of b) ps good.owned
+            (AllByRecursion-behind (InUse (live_of b)) array (text_blocks ps) held);
+        apart = other-way (handle o.extent) (text_blocks ps)
+            (AllByRecursion-behind (Beside (handle o.extent)) array (text_blocks ps) blocks.1.0);
+        others = blocks.1.1;
+      });
+      bytes = bytes-each ps good.owned;
+    }
 
 -- so some texts stand there
 pub some-texts : (s : State) (key : Key) (p : Place) → IsSegment s.cut.bytes

@@ -57,7 +57,7 @@ module _ {s t : State} (view : s ≡ t) (key : Key) (p : Place) (b : IsSegment s
       → IsStepOfKind s s key TextsKind (asked.Get key i) (answer_of (λ (x : Bor (List ℕ)). TextElement x.now) r)
   text-got i (Ok x) a =
       texts-stay s key p b there-too _ _ (open-reading s.mode (asked.Get key i) refl)
-      (λ d l h.
+      (λ d h.
       ap (perform d (live_of s.cut.bytes)) (got-text h i _ refl)
       ∙ read d (slice_get h.texts i) (a h.texts h.table h.stand))
     where
@@ -71,7 +71,7 @@ module _ {s t : State} (view : s ≡ t) (key : Key) (p : Place) (b : IsSegment s
       subst (λ (q : Refusal). IsStepOfKind s s key TextsKind (asked.Get key i) (Refused q))
       (sym (a h.texts h.table h.stand).refusal)
       (texts-stay s key p b there-too _ (Refused OutOfRange) (open-reading s.mode (asked.Get key i) refl)
-      (λ d l h.
+      (λ d h.
       ap (perform d (live_of s.cut.bytes))
       (got-text h i None (slice_get_past h.texts i (a h.texts h.table h.stand).outside))))
 
@@ -115,7 +115,7 @@ module _ {s t : State} (view : s ≡ t) (b : IsSegment s.cut.bytes) {key : Key} 
       → StepsSafely s new key TextsKind c (Err e)
   turned-down {c} {e} {why} is same each =
       stays s new key TextsKind c e why is same
-      (texts-stay s key p b found c _ (open-writing s.mode c writing) (λ d l h. each d h))
+      (texts-stay s key p b found c _ (open-writing s.mode c writing) each)
 
   -- a refusal for want of space, after which the blocks are as they were
   given-up : {c : Command} {e : Refusal} → e ≡ NoSpace → IsRestored current s.cut new
@@ -123,7 +123,7 @@ module _ {s t : State} (view : s ≡ t) (b : IsSegment s.cut.bytes) {key : Key} 
       → StepsKeeping s new key c (Err e)
   given-up {c} is back each = record {
     step = subst (λ (r : Refusal). IsStepOfKind s (record s { cut = new }) key TextsKind c (Refused r)) (sym is)
-        (texts-restored s key p b found new c _ (open-writing s.mode c writing) back (λ d l h. each d h));
+        (texts-restored s key p b found new c _ (open-writing s.mode c writing) back each);
     refused = λ h. absurd (false≢true (sym (ap (λ (r : Refusal). is_untouched (Refused r)) is) ∙ h));
   }
 

@@ -73,34 +73,39 @@ pub record TextsMove (old new : Cut) (d : Directory) (key : Key) (p : Place) (h 
 
 module _ (s : State) (key : Key) (p : Place) (b : IsSegment s.cut.bytes)
     (found : Answers s (λ d. container_at d key TextsKind) (Ok p)) where
-  abbrev pub texts_in : (d : Directory) → StandsFor s.cut.bytes d → HoldsTexts s.cut.bytes d key p
+  abbrev Holds : Directory → Type 0
+  Holds d = HoldsTexts s.cut.bytes d key p
+
+  abbrev pub texts_in : (d : Directory) → StandsFor s.cut.bytes d → Holds d
   texts_in d l = holds-texts s.cut.bytes d key p l.denotes (found.answers d l)
 
-  -- the step is the command's plan, performed
+  -- what the step of a call comes to
+  abbrev outcome-of : Command → Directory → Answer × Directory
+  outcome-of c d = step_of_kind s.mode d key TextsKind c
+
+  -- the command's plan, performed
   texts-plan : (d : Directory) (l : StandsFor s.cut.bytes d) (c : Command) → IsOpenFor s.mode c
-      → step_of_kind s.mode d key TextsKind c ≡ perform d (live_of s.cut.bytes) (effect d c)
+      → outcome-of c d ≡ perform d (live_of s.cut.bytes) (effect d c)
   texts-plan d l c may =
       step_of_kind-found s.mode d key TextsKind c (texts_in d l).object may (texts_in d l).is
       (ap (λ (v : Value). same_kind TextsKind (kind_of v)) (texts_in d l).value)
       ∙ ap (λ (m : LiveSet). perform d m (effect d c)) (sym (denotes-live current s.cut.bytes d l.denotes))
 
   -- the new bytes stand for the directory with the other texts
-  pub texts-move : (new : Cut) (d : Directory) (l : StandsFor s.cut.bytes d) (c : Command) (answer : Answer)
+  texts-move : (new : Cut) (d : Directory) (l : StandsFor s.cut.bytes d) (c : Command) (answer : Answer)
       → is_read_only s.mode ≡ false → TextsMove s.cut new d key p (texts_in d l) c answer
-      → IsMove (record s { cut = new }) answer (step_of_kind s.mode d key TextsKind c)
-  texts-move new d l c answer writing r =
-      record {
-        after = changed d (texts_in d l).object (Texts r.texts r.table);
-        is = texts-plan d l c (open-writing s.mode c writing) ∙ r.outcome;
-        stands = record { denotes = texts-changed l.denotes (texts_in d l) r.move };
-      }
+      → IsMove (record s { cut = new }) answer (outcome-of c d)
+  texts-move new d l c answer writing r = record {
+    after = changed d (texts_in d l).object (Texts r.texts r.table);
+    is = texts-plan d l c (open-writing s.mode c writing) ∙ r.outcome;
+    stands = record { denotes = texts-changed l.denotes (texts_in d l) r.move };
+  }
 
   -- ---- all directories
 
   -- the call is the step
   pub texts-steps : (new : Cut) (c : Command) (answer : Answer) → is_read_only s.mode ≡ false
-      → ((d : Directory) (l : StandsFor s.cut.bytes d) (h : HoldsTexts s.cut.bytes d key p)
-      → TextsMove s.cut new d key p h c answer)
+      → ((d : Directory) (l : StandsFor s.cut.bytes d) (h : Holds d) → TextsMove s.cut new d key p h c answer)
       → IsStepOfKind s (record s { cut = new }) key TextsKind c answer
   texts-steps new c answer writing each =
       by_step_of_kind s (record s { cut = new }) key TextsKind c answer
@@ -115,35 +120,32 @@ module _ (s : State) (key : Key) (p : Place) (b : IsSegment s.cut.bytes)
       → LeadsOnOfKind s (record s { cut = new }) key TextsKind c None
   texts-lead-on new c answer writing done each = record {
     stays = record { mode = refl; place = (each b.0 b.1).move.now.change.place };
-    answers = λ d l.
-        let m : IsMove (record s { cut = new }) (answer d l) (step_of_kind s.mode d key TextsKind c) =
-        texts-move new d l c (answer d l) writing (each d l) in
-        sym (ap (λ (r : Answer × Directory). refusal_of r.0) m.is ∙ done d l);
-    denotes = λ d l.
-        let m : IsMove (record s { cut = new }) (answer d l) (step_of_kind s.mode d key TextsKind c) =
-        texts-move new d l c (answer d l) writing (each d l) in
-        subst (StandsFor new.bytes) (sym (ap (λ (r : Answer × Directory). r.1) m.is)) m.stands;
+    answers = λ d l. sym (ap (λ (r : Answer × Directory). refusal_of r.0) (moves d l).is ∙ done d l);
+    denotes = λ d l. subst (StandsFor new.bytes) (sym (ap (λ (r : Answer × Directory). r.1) (moves d l).is))
+        (moves d l).stands;
   }
+    where
+      moves : (d : Directory) (l : StandsFor s.cut.bytes d)
+          → IsMove (record s { cut = new }) (answer d l) (outcome-of c d)
+      moves d l = texts-move new d l c (answer d l) writing (each d l)
 
   -- it answers so, and nothing changes
   pub texts-stay : (c : Command) (answer : Answer) → IsOpenFor s.mode c
-      → ((d : Directory) (l : StandsFor s.cut.bytes d) (h : HoldsTexts s.cut.bytes d key p)
-      → perform d (live_of s.cut.bytes) (effect d c) ≡ (answer, d)) → IsStepOfKind s s key TextsKind c answer
+      → ((d : Directory) (h : Holds d) → perform d (live_of s.cut.bytes) (effect d c) ≡ (answer, d))
+      → IsStepOfKind s s key TextsKind c answer
   texts-stay c answer may each =
-      by_no_change_of_kind s key TextsKind c answer
-      (λ d l. texts-plan d l c may ∙ each d l (texts_in d l))
+      by_no_change_of_kind s key TextsKind c answer (λ d l. texts-plan d l c may ∙ each d (texts_in d l))
 
   -- it answers so, and all blocks are as they were
   pub texts-restored : (new : Cut) (c : Command) (answer : Answer) → IsOpenFor s.mode c → IsRestored current s.cut new
-      → ((d : Directory) (l : StandsFor s.cut.bytes d) (h : HoldsTexts s.cut.bytes d key p)
-      → perform d (live_of s.cut.bytes) (effect d c)
-      ≡ (answer, d)) → IsStepOfKind s (record s { cut = new }) key TextsKind c answer
+      → ((d : Directory) (h : Holds d) → perform d (live_of s.cut.bytes) (effect d c) ≡ (answer, d))
+      → IsStepOfKind s (record s { cut = new }) key TextsKind c answer
   texts-restored new c answer may back each =
       by_step_of_kind s (record s { cut = new }) key TextsKind c answer
       (record { mode = refl; place = back.keeps.place })
       (λ d l. record {
         after = d;
-        is = texts-plan d l c may ∙ each d l (texts_in d l);
+        is = texts-plan d l c may ∙ each d (texts_in d l);
         stands = record {
           denotes = restored-denotes s.cut new d l.denotes (record { laid = back.laid; keeps = back.keeps });
         };

@@ -50,8 +50,8 @@ of-contents P f g v c e = absurd (cc)
 good-contents : (v : Value) (c : Contents) → contents_of v ≡ Some c
     → is_good_value v ≡ (nat_le c.len c.table.capacity && is_table Storage c.each c.table && has_values v)
 good-contents =
-    of-contents (λ v c. is_good_value v ≡
-    (nat_le c.len c.table.capacity && is_table Storage c.each c.table && has_values v))
+    of-contents
+    (λ v c. is_good_value v ≡ (nat_le c.len c.table.capacity && is_table Storage c.each c.table && has_values v))
     (λ k zs t. refl) (λ bs t. refl)
 
 contents-long : (v : Value) (c : Contents) → contents_of v ≡ Some c → length c.bytes ≡ c.each * c.len

@@ -161,15 +161,7 @@ module _ {A : Type 0} (L : Listing A) (s : State) (key : Key) (p : Place) (b : I
       → ((d : Directory) → Denotes current s.cut.bytes d → Held d → Refill s.cut new d key c answer)
       → IsStepOfKind s (record s { cut = new }) key L.kind c answer
   items-steps new c answer writing each =
-      refill-steps_of_kind s new key L.kind c answer writing b
-      (λ d l. (each d l.denotes (found-items d l), kind-of d l (each d l.denotes (found-items d l))))
-    where
-      kind-of : (d : Directory) → StandsFor s.cut.bytes d → (r : Refill s.cut new d key c answer)
-          → same_kind L.kind (kind_of r.object.value) ≡ true
-      kind-of d l r =
-          let h : HoldsAt d key L.kind p = holds-at d key L.kind p (found.answers d l) in
-          let same : h.object ≡ r.object = same_Some h.object r.object (sym h.is ∙ r.is) in
-          ap (λ (o : Object). same_kind L.kind (kind_of o.value)) (sym same) ∙ h.same
+      refill-steps_of_kind s new key L.kind p found c answer writing b (λ d l. each d l.denotes (found-items d l))
 
   -- it answers so, and nothing changes
   pub items-stay : (c : Command) (answer : Answer) → (is_read_only s.mode && is_changing c) ≡ false
@@ -184,8 +176,8 @@ module _ {A : Type 0} (L : Listing A) (s : State) (key : Key) (p : Place) (b : I
   module _ (new : Cut) (writing : is_read_only s.mode ≡ false) where
     -- it is refused, and nothing has changed
     pub items-refused : (c : Command) (e why : Refusal) → e ≡ why → new ≡ s.cut
-        → ((d : Directory) → Denotes current s.cut.bytes d → Held d → perform d (live d) (effect d c) ≡
-        (Refused why, d))
+        → ((d : Directory) → Denotes current s.cut.bytes d → Held d
+        → perform d (live d) (effect d c) ≡ (Refused why, d))
         → StepsSafely s new key L.kind c (Err e)
     items-refused c e why is same each =
         stays s new key L.kind c e why is same (items-stay c (Refused why) (open-writing s.mode c writing) each)

@@ -309,8 +309,8 @@ module _ (s : State) (key : Key) (k v : ScalarKind) (p : Place) (b : IsSegment s
         does (λ d l. let h : Holds d = map_in d l in put-moves x y good fair l h E t (pair_at int_lt h.pairs x) refl
         (each h.pairs h.map))
     map-put {E} x y (Err why) good fair each =
-        let at : (d : Directory) (l : StandsFor s.cut.bytes d) → (new ≡ s.cut) ×
-        (outcome (Put x y) d ≡ (Refused NoSpace, d)) =
+        let at : (d : Directory) (l : StandsFor s.cut.bytes d)
+        → (new ≡ s.cut) × (outcome (Put x y) d ≡ (Refused NoSpace, d)) =
         λ d l. let h : Holds d = map_in d l in put-refused x y good fair l h why (pair_at int_lt h.pairs x) refl
         (each h.pairs h.map) in
         record {

@@ -226,26 +226,22 @@ module _ {s t : State} (view : s ≡ t) (key : Key) (kind : Kind) (p : Place) (b
     becomes-so : (c : Command) → ((d : Directory) (l : StandsFor s.cut.bytes d) → Becomes d (held d l) c)
         → StepsSafely s new key kind c (Ok tt)
     becomes-so c each =
-        done-so (refill-steps_of_kind s new key kind c Done writing b
-        (λ d l.
+        done-so (refill-steps_of_kind s new key kind p (seen-found s t view key kind p found) c Done writing b (λ d l.
         let h : Held d = held d l in
-        let r : Becomes d h c = each d l in (
-          record {
-            object = h.found.object;
-            is = h.found.is;
-            value = r.value;
-            kind = r.moved.kind;
-            was = contents_at kind h.len h.table h.bytes;
-            held = h.held;
-            next = r.next;
-            holds = r.moved.held;
-            values = r.moved.values h.values;
-            change = subst (λ q. IsRefilled s.cut new q (contents_at kind h.len h.table h.bytes) r.next)
-                (sym h.found.at) r.change;
-            outcome = r.outcome;
-          },
-          h.found.same,
-        )))
+        let r : Becomes d h c = each d l in record {
+          object = h.found.object;
+          is = h.found.is;
+          value = r.value;
+          kind = r.moved.kind;
+          was = contents_at kind h.len h.table h.bytes;
+          held = h.held;
+          next = r.next;
+          holds = r.moved.held;
+          values = r.moved.values h.values;
+          change = subst (λ q. IsRefilled s.cut new q (contents_at kind h.len h.table h.bytes) r.next)
+              (sym h.found.at) r.change;
+          outcome = r.outcome;
+        }))
 
     -- places are asked for
     asks : (n : ℕ) (d : Directory) (h : Held d)

@@ -3,7 +3,7 @@ use Rattle.segment_manager.proofs.Common.{◌≡◌, refl, sym, ap, ◌∙◌, �
 use Rattle.segment_manager.proofs.Common.{Err, List, if◌then◌else◌, ◌*◌, ◌&&◌, IsTrue, nat_le, option_map, Cut, live_of}
 use Rattle.segment_manager.proofs.Common.{Table, Extent, LiveSet, regrow, Kind, Refusal, NoSpace, NotFound, WrongKind}
 use Rattle.segment_manager.proofs.Common.{ReadOnly, same_kind, Key, Command, is_changing, Place, grown_table, Mode}
-use Rattle.segment_manager.proofs.Common.{Answer, Refused, Contents, IsRefilled, container_at, container_place}
+use Rattle.segment_manager.proofs.Common.{same_Some, Answer, Refused, Contents, IsRefilled, container_at, container_place}
 use Rattle.segment_manager.proofs.Common.{contents_of, has_values, Value, Object, Directory, kind_of, live, object_at}
 use Rattle.segment_manager.proofs.Common.{Denotes, perform, with_capacity, Request, RegrownNeed, Refuse, Answers}
 use Rattle.segment_manager.proofs.Common.{IsSegment, IsStep, IsStepOfKind, State, StandsFor, changed, effect, Plan}
@@ -92,22 +92,6 @@ refill-moves s new d key c answer next k r e = record {
     denotes = contents-changed s.cut new d key r.object r.value r.was r.next k.denotes r.is r.held r.holds r.kind r.values r.change;
   };
 }
-
--- ---- the call
-
--- the same of a call for objects of one kind
-pub refill-steps_of_kind : (s : State) (new : Cut) (key : Key) (kind : Kind) (c : Command) (answer : Answer)
-    → is_read_only s.mode ≡ false → IsSegment s.cut.bytes
-    → ((d : Directory) → StandsFor s.cut.bytes d
-    → (r : Refill s.cut new d key c answer) ×
-    (same_kind kind (kind_of r.object.value) ≡ true)) → IsStepOfKind s (record s { cut = new }) key kind c answer
-refill-steps_of_kind s new key kind c answer writing b each =
-    by_step_of_kind s (record s { cut = new }) key kind c answer
-    (record { mode = refl; place = (each b.0 b.1).0.change.change.place })
-    (λ d k.
-    let r = each d k in
-    refill-moves s new d key c answer (step_of_kind s.mode d key kind c) k r.0
-    (step_of_kind-found s.mode d key kind c r.0.object (open-writing s.mode c writing) r.0.is r.1))
 
 -- a plan that comes to a refusal
 pub refused-steps : (s : State) (c : Command) (r : Refusal) → is_read_only s.mode ≡ false
@@ -207,6 +191,24 @@ finds-no_container s key kind c r w a =
     (λ o f g. step_of_kind-other s.mode d key kind c o w f g
     ∙ (λ i. (Refused (sym (same_Err r WrongKind (a.answers d l ∙ told-some d key kind placed o false f g)) i), d)))
     (λ o f g. not-Err (container_place o) r (sym (a.answers d l ∙ told-some d key kind placed o true f g))))
+
+-- ---- the call
+
+-- a call for objects of one kind is the step, where the object of the key is changed so
+pub refill-steps_of_kind : (s : State) (new : Cut) (key : Key) (kind : Kind) (p : Place)
+    → Answers s (λ d. container_at d key kind) (Ok p) → (c : Command) (answer : Answer) → is_read_only s.mode ≡ false
+    → IsSegment s.cut.bytes → ((d : Directory) → StandsFor s.cut.bytes d → Refill s.cut new d key c answer)
+    → IsStepOfKind s (record s { cut = new }) key kind c answer
+refill-steps_of_kind s new key kind p found c answer writing b each =
+    by_step_of_kind s (record s { cut = new }) key kind c answer
+    (record { mode = refl; place = (each b.0 b.1).change.change.place })
+    (λ d l.
+    let r : Refill s.cut new d key c answer = each d l in
+    let h : HoldsAt d key kind p = holds-at d key kind p (found.answers d l) in
+    let same : h.object ≡ r.object = same_Some h.object r.object (sym h.is ∙ r.is) in
+    refill-moves s new d key c answer (step_of_kind s.mode d key kind c) l r
+    (step_of_kind-found s.mode d key kind c r.object (open-writing s.mode c writing) r.is
+    (ap (λ (o : Object). same_kind kind (kind_of o.value)) (sym same) ∙ h.same)))
 
 -- ---- two commands with one plan
 

@@ -167,8 +167,8 @@ module _ {s t : State} (view : s ≡ t) (b : IsSegment s.cut.bytes) {key : Key} 
 
   put-steps : (c : Command) (at : List OwnedText → ℕ) (bs : List ℕ) → ((k : ℕ) → Fits w8 (get_or bs k 0))
       → ((d : Directory) (h : Holds d)
-      → IsTextPutIn s.cut new p h.texts h.table (at h.texts) bs ×
-      (effect d c ≡ insert_plan h (at h.texts) bs)) → StepsKeeping s new key c (Ok tt)
+      → IsTextPutIn s.cut new p h.texts h.table (at h.texts) bs × (effect d c ≡ insert_plan h (at h.texts) bs))
+      → StepsKeeping s new key c (Ok tt)
   put-steps c at bs small each = record {
     step = does (λ d l h.
         let r : IsTextPutIn s.cut new p h.texts h.table (at h.texts) bs = (each d h).0 in record {

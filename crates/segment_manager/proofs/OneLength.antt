@@ -8,22 +8,23 @@ use Rattle.segment_manager.proofs.Common.{Command, Stands, place_at, Place, Chan
 use Rattle.segment_manager.proofs.Common.{Refused, Contents, IsRefilled, container_at, contents_of, has_values}
 use Rattle.segment_manager.proofs.Common.{sizes_at_kind, sizes_of, Denotes, IsValueAt, Value, Numbers, Elements, Bytes}
 use Rattle.segment_manager.proofs.Common.{Pairs, Texts, Object, Directory, kind_of, live, padded, value_len, emptied}
-use Rattle.segment_manager.proofs.Common.{Reply, perform, with_capacity, StandsAt, Answers, IsSegment, StandsFor, State}
-use Rattle.segment_manager.proofs.Common.{changed, effect, is_read_only, storage_of, with_items, with_table, HasEnough}
+use Rattle.segment_manager.proofs.Common.{Reply, perform, StandsAt, Answers, IsSegment, StandsFor, State, changed}
+use Rattle.segment_manager.proofs.Common.{effect, is_read_only, storage_of, with_items, with_table, HasEnough}
 use Rattle.segment_manager.proofs.Common.{StepsSafely, command_of, has_sizes, has_storage}
 use Rattle.segment_manager.proofs.Contained.{contents-fit, contents-stand, of-contents, start-place}
 use Rattle.segment_manager.proofs.Steps.{by_no_change_of_kind, open-writing, step_of_kind-found}
-use Rattle.segment_manager.proofs.Refilled.{HoldsAt, holds-at, refill-steps_of_kind, room-asked}
+use Rattle.segment_manager.proofs.Refilled.{HoldsAt, holds-at, refill-steps_of_kind, room-asked, then_room}
 use Rattle.segment_manager.proofs.ContentPlans.{clear-plan, reserve-plan, shrink-plan}
 use Rattle.segment_manager.proofs.{AnyStorage.sizes-found, Calling.denotes-live, Frame.object-roomy, Here.standing}
 use Rattle.segment_manager.proofs.{ItemSteps.one-kind, KeptContainers.enough-places, KeptContainers.keeps-cut}
 use Rattle.segment_manager.proofs.{Rewritten.value_start, Safely.done-so, Safely.stays, Standings.standing-room}
 use Rattle.segment_manager.proofs.{Standings.standing-short, ToChange.seen-found, Common.KeepsWhere}
 use Rattle.best_fit.proofs.Laws.{room-less}
-use Rattle.seg_vector.specs.Elements.{Fits, IsFitted, IsRewritten, Truncates}
-use Rattle.seg_vector.specs.Standing.{Grows, IsGrown}
+use Rattle.seg_vector.specs.Elements.{IsFitted, IsRewritten}
+use Rattle.seg_vector.specs.Standing.{IsGrown}
 use Rattle.segment_manager.specs.Stored.{ChangesElements, IsElements, each_of}
 use Rattle.seg_types.specs.Commands as asked
+use Rattle.segment_manager.proofs.Common.{Option, Plan, grown_table}
 
 -- ---- the words of a container
 
@@ -223,12 +224,12 @@ module _ {s t : State} (view : s ≡ t) (key : Key) (kind : Kind) (p : Place) (b
       change : IsRefilled s.cut new p (contents_at kind h.len h.table h.bytes) next
       outcome : perform d (live d) (effect d c) ≡ (Done, changed d h.found.object value)
 
-    becomes-so : (c : Command) → ((d : Directory) (l : StandsFor s.cut.bytes d) → Becomes d (held d l) c)
+    becomes-so : (c : Command) → ((d : Directory) (l : StandsFor s.cut.bytes d) (h : Held d) → Becomes d h c)
         → StepsSafely s new key kind c (Ok tt)
     becomes-so c each =
         done-so (refill-steps_of_kind s new key kind p (seen-found s t view key kind p found) c Done writing b (λ d l.
         let h : Held d = held d l in
-        let r : Becomes d h c = each d l in record {
+        let r : Becomes d h c = each d l h in record {
           object = h.found.object;
           is = h.found.is;
           value = r.value;
@@ -243,69 +244,57 @@ module _ {s t : State} (view : s ≡ t) (key : Key) (kind : Kind) (p : Place) (b
           outcome = r.outcome;
         }))
 
-    -- places are asked for
-    asks : (n : ℕ) (d : Directory) (h : Held d)
-        → effect d (asked.Reserve key n)
-        ≡ with_capacity (each_of kind) n h.table
-        (λ u. Reply Done (changed d h.found.object (with_table h.found.object.value u)))
-    asks n d h = reserve-plan d key h.found.object h.found.is _ (storage-said h.found.object.value _ h.held).0 n
+    said : {d : Directory} (h : Held d) → storage_of h.found.object.value ≡ Ok (each_of kind, h.len, h.table)
+    said h = (storage-said h.found.object.value _ h.held).0
 
-    elements-reserved : (n : ℕ) (r : Result (Unit {0}) Refusal) → Grows s.cut new p (each_of kind) n r
-        → StepsSafely s new key kind (asked.Reserve key n) r
-    elements-reserved n (Ok u) a =
-        becomes-so (asked.Reserve key n)
-        (λ d l.
-        let h : Held d = held d l in
-        let g : IsGrown s.cut new p (each_of kind) n h.len h.table h.bytes = a h.len h.table h.bytes h.stands in
-        record {
+    -- they get places
+    abbrev with_places : (d : Directory) → Held d → Table → Plan
+    with_places d h u = Reply Done (changed d h.found.object (with_table h.found.object.value u))
+
+    places-asked : (n : ℕ) (d : Directory) (l : StandsFor s.cut.bytes d) (h : Held d) (r : Option Table)
+        → grown_table (live_of s.cut.bytes) (each_of kind) n h.table ≡ r
+        → perform d (live d) (effect d (asked.Reserve key n)) ≡ then_room d (live d) h.table (with_places d h) r
+    places-asked n d l h r g =
+        room-asked current s.cut.bytes d (asked.Reserve key n) (each_of kind) n h.table r (with_places d h) l.denotes
+        (reserve-plan d key h.found.object h.found.is _ (said h) n) g
+
+    pub elements-changed : (change : Change) (r : Result (Unit {0}) Refusal)
+        → ChangesElements change s.cut new p (each_of kind) r → StepsSafely s new key kind (command_of change key) r
+    elements-changed (Reserve n) (Ok u) a = becomes-so (asked.Reserve key n) (λ d l h.
+        let g : IsGrown s.cut new p (each_of kind) n h.len h.table h.bytes =
+        a h.len h.table h.bytes h.stands in record {
           value = with_table h.found.object.value g.table;
           next = contents_at kind h.len g.table h.bytes;
           moved = table-moved g.table h.found.object.value _ h.held;
           change = record { change = g.change; stands = g.stands };
-          outcome = room-asked current s.cut.bytes d (asked.Reserve key n) (each_of kind) n h.table (Some g.table)
-              (λ u. Reply Done (changed d h.found.object (with_table h.found.object.value u))) l.denotes
-              (asks n d h) g.grown;
+          outcome = places-asked n d l h (Some g.table) g.grown;
         })
-    elements-reserved n (Err e) a =
+    elements-changed (Reserve n) (Err e) a =
         let h : Held b.0 = held b.0 b.1 in
         let full = a h.len h.table h.bytes h.stands in
         stays s new key kind (asked.Reserve key n) e NoSpace full.refusal full.same
-        (by_no_change_of_kind s key kind (asked.Reserve key n) (Refused NoSpace)
-        (λ d l.
+        (by_no_change_of_kind s key kind (asked.Reserve key n) (Refused NoSpace) (λ d l.
         let h : Held d = held d l in
         step_of_kind-found s.mode d key kind (asked.Reserve key n) h.found.object
         (open-writing s.mode (asked.Reserve key n) writing) h.found.is h.found.same
-        ∙ room-asked current s.cut.bytes d (asked.Reserve key n) (each_of kind) n h.table None
-        (λ u. Reply Done (changed d h.found.object (with_table h.found.object.value u))) l.denotes (asks n d h)
-        (a h.len h.table h.bytes h.stands).none))
-
-    elements-shrunk : Fits s.cut new p (each_of kind) → StepsSafely s new key kind (asked.Shrink key) (Ok tt)
-    elements-shrunk a =
-        becomes-so (asked.Shrink key)
-        (λ d l.
-        let h : Held d = held d l in
+        ∙ places-asked n d l h None (a h.len h.table h.bytes h.stands).none))
+    elements-changed Shrink r a =
+        subst (StepsSafely s new key kind (asked.Shrink key)) (sym a.0) (becomes-so (asked.Shrink key) (λ d l h.
         let cut : LiveSet → Table = λ (m : LiveSet). cut_table m (each_of kind) h.len h.table in
-        let f : IsFitted s.cut new p (each_of kind) h.len h.table h.bytes = a h.len h.table h.bytes h.stands in
-        record {
+        let f : IsFitted s.cut new p (each_of kind) h.len h.table h.bytes =
+        a.1 h.len h.table h.bytes h.stands in record {
           value = with_table h.found.object.value (cut (live_of s.cut.bytes));
           next = contents_at kind h.len (cut (live_of s.cut.bytes)) h.bytes;
           moved = table-moved (cut (live_of s.cut.bytes)) h.found.object.value _ h.held;
           change = record { change = f.change; stands = f.stands };
-          outcome =
-              ap (perform d (live d))
-              (shrink-plan d key h.found.object h.found.is _ (storage-said h.found.object.value _ h.held).0)
+          outcome = ap (perform d (live d)) (shrink-plan d key h.found.object h.found.is _ (said h))
               ∙ ap (λ m. (Done, changed d h.found.object (with_table h.found.object.value (cut m))))
               (sym (denotes-live current s.cut.bytes d l.denotes));
-        })
-
-    elements-cleared : Truncates s.cut new p (each_of kind) 0 → StepsSafely s new key kind (asked.Clear key) (Ok tt)
-    elements-cleared a =
-        becomes-so (asked.Clear key)
-        (λ d l.
-        let h : Held d = held d l in
+        }))
+    elements-changed Clear r a =
+        subst (StepsSafely s new key kind (asked.Clear key)) (sym a.0) (becomes-so (asked.Clear key) (λ d l h.
         let r : IsRewritten s.cut new p (each_of kind) 0 h.table (take (each_of kind * 0) h.bytes) =
-        a h.len h.table h.bytes h.stands in
-        record {
+        a.1 h.len h.table h.bytes h.stands in record {
           value = with_items h.found.object.value [];
           next = contents_at kind 0 h.table [];
           moved = none-left h.found.object.value _ h.held;
@@ -314,12 +303,5 @@ module _ {s t : State} (view : s ≡ t) (key : Key) (kind : Kind) (p : Place) (b
             stands = subst (λ n. Stands new.bytes p (each_of kind) 0 h.table (take n h.bytes))
                 (let none : each_of kind * 0 ≡ 0 = omega arith in none) r.stands;
           };
-          outcome = ap (perform d (live d))
-              (clear-plan d key h.found.object h.found.is _ (storage-said h.found.object.value _ h.held).0);
-        })
-
-    pub elements-changed : (change : Change) (r : Result (Unit {0}) Refusal)
-        → ChangesElements change s.cut new p (each_of kind) r → StepsSafely s new key kind (command_of change key) r
-    elements-changed (Reserve n) r a = elements-reserved n r a
-    elements-changed Shrink r a = subst (StepsSafely s new key kind (asked.Shrink key)) (sym a.0) (elements-shrunk a.1)
-    elements-changed Clear r a = subst (StepsSafely s new key kind (asked.Clear key)) (sym a.0) (elements-cleared a.1)
+          outcome = ap (perform d (live d)) (clear-plan d key h.found.object h.found.is _ (said h));
+        }))

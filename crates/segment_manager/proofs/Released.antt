@@ -9,7 +9,7 @@ use Rattle.segment_manager.proofs.Common.{is_object, kind_of, object_at, padded,
 use Rattle.segment_manager.proofs.Common.{HasPairs, ReleasesPairs, numbers_of, HasObject, IsHeadOf, StandsAt, StandsFor}
 use Rattle.segment_manager.proofs.Common.{changed, true}
 use Rattle.segment_manager.proofs.Contained.{good-with, start-place, Shape, contents-shape, value-said}
-use Rattle.segment_manager.proofs.Emptied.{changed-itself, emptied-is, emptied-numbers}
+use Rattle.segment_manager.proofs.Emptied.{IsEmptied, changed-itself, emptied-is, emptied-numbers}
 use Rattle.segment_manager.proofs.Exchanged.{Exchange, between, denotes-container}
 use Rattle.segment_manager.proofs.MapCalls.{HoldsPairs, as_map, holds-pairs}
 use Rattle.segment_manager.proofs.ObjectLists.{all-found, each-true, found-handle, key-found}
@@ -111,41 +111,33 @@ number-contents old h head said k is d o s e =
           (sym (changed-itself d o f (emptied o.value) (emptied-numbers k o.value kind))) s.denotes;
     }
 
--- All blocks of the value of a container are gone and none came, and its 24 bytes say that nothing is in it.
-contents-released : (old new : Cut) (d : Directory) (o : Object) → Denotes current old.bytes d → IsIn d o
-    → value_len o.value ≡ 24 → IsExchanged current old new (value_start o) 24 (value_extents o.value) []
-    → IsValueAt (bytes_of new.bytes) (value_start o) (emptied o.value) → Becomes old new (changed d o (emptied o.value))
-contents-released old new d o k f len change said =
-    let v : Value = emptied o.value in
-    let gone : List Extent = value_extents o.value in
-    let was : IsTrue (is_object current o) =
-    all-found (λ p. IsTrue (is_object current p)) (has_key (ByHandle (handle o.extent))) d.objects o
-    (each-true (is_object current) d.objects k.directory.objects) f.is in
-    let good : IsTrue (is_object current (with_value o v)) =
-    good-with current o v was (emptied-is o.value).kind (emptied-is o.value).len
-    ((emptied-is o.value).good (object-roomy current o was).value) in
-    let x : Exchange o (with_value o v) gone [] =
-    between o (with_value o v) [] gone [] [] (sym (append-nil gone)) (emptied-is o.value).alone in
-    record {
-      place = change.place;
-      denotes =
-          denotes-container current old new d o v gone [] k f x (emptied-is o.value).kind (emptied-is o.value).count len
-          was good change said;
-    }
-
--- The same as a call says it of the container at a place: all that is to be known of a call that releases a kind of
--- value.
-pub container-released : (old new : Cut) (d : Directory) (key : Key) (o : Object) (p : Place) (v : Value)
+-- All blocks of the value of a container are gone and none came, and its 24 bytes say that nothing is in it, as a call
+-- says it of the container at a place: all that is to be known of a call that releases a kind of value.
+container-released : (old new : Cut) (d : Directory) (key : Key) (o : Object) (p : Place) (v : Value)
     → Denotes current old.bytes d → object_at d key ≡ Some o → o.value ≡ v → container_place o ≡ p
     → value_len v ≡ 24 → IsExchanged current old new (place_at p) 24 (value_extents v) []
     → IsValueAt (bytes_of new.bytes) (place_at p) (emptied v) → Becomes old new (changed d o (emptied o.value))
 container-released old new d key o p v k e is at len change said =
-    let start : value_start o ≡ place_at p = start-place o ∙ ap place_at at in
-    contents-released old new d o k (key-found current d key o k.directory e) (ap value_len is ∙ len)
-    (subst (λ from. IsExchanged current old new from 24 (value_extents o.value) []) (sym start)
-    (subst (λ w. IsExchanged current old new (place_at p) 24 (value_extents w) []) (sym is) change))
-    (subst (λ from. IsValueAt (bytes_of new.bytes) from (emptied o.value)) (sym start)
-    (subst (λ w. IsValueAt (bytes_of new.bytes) (place_at p) (emptied w)) (sym is) said))
+    let start : place_at p ≡ value_start o = sym (ap place_at at) ∙ sym (start-place o) in
+    let f : IsIn d o = key-found current d key o k.directory e in
+    let empty : IsEmptied o.value = emptied-is o.value in
+    let was : IsTrue (is_object current o) =
+    all-found (λ p. IsTrue (is_object current p)) (has_key (ByHandle (handle o.extent))) d.objects o
+    (each-true (is_object current) d.objects k.directory.objects) f.is in
+    let good : IsTrue (is_object current (with_value o (emptied o.value))) =
+    good-with current o (emptied o.value) was empty.kind empty.len (empty.good (object-roomy current o was).value) in
+    let gone : List Extent = value_extents o.value in
+    let x : Exchange o (with_value o (emptied o.value)) gone [] =
+    between o (with_value o (emptied o.value)) [] gone [] [] (sym (append-nil gone)) empty.alone in
+    record {
+      place = change.place;
+      denotes = denotes-container current old new d o (emptied o.value) gone [] k f x empty.kind empty.count
+          (ap value_len is ∙ len) was good
+          (subst (λ from. IsExchanged current old new from 24 gone []) start
+          (subst (λ w. IsExchanged current old new (place_at p) 24 (value_extents w) []) (sym is) change))
+          (subst (λ from. IsValueAt (bytes_of new.bytes) from (emptied o.value)) start
+          (subst (λ w. IsValueAt (bytes_of new.bytes) (place_at p) (emptied w)) (sym is) said));
+    }
 
 -- so it is of elements of one length, of a vector of texts, and of a map
 module _ (old new : Cut) (h at : ℕ) (head : Head) (said : IsReadAt old.bytes h head)

@@ -1,12 +1,7 @@
 -- The sizes are what the words of the container say that is found.
-use Rattle.segment_manager.proofs.Common.{exit-is, sym, ap, ◌+◌, arith, bytes_of}
-use Rattle.segment_manager.proofs.AnyStorage.{measures-nothing}
+use Rattle.segment_manager.proofs.Common.{sym, ap, arith, bytes_of}
 use Rattle.segment_manager.proofs.OneLength.{measured, near-front, places-otherwise, places_in, word-room}
 use Rattle.segment_manager.proofs.segment.Segment.measure_kind.Goals as goal
-
-pub returns-in_err-place : goal.returns-in_err-place
-returns-in_err-place g c =
-    rw (exit-is c.from_residual.result _ c.from_residual.ensures.1) (measures-nothing _ _ _ _ c.in_err-place.ensures)
 
 pub overflow_add-place : goal.overflow_add-place
 overflow_add-place g c =

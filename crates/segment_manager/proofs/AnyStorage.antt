@@ -1,11 +1,11 @@
 -- A call on whatever has storage: the kind of the object of the key says which call it is.
 use Rattle.segment_manager.proofs.Common.{◌≡◌, refl, sym, ap, ◌∙◌, ℕ, true, false, Option, Some, None, Result, Ok, Err}
-use Rattle.segment_manager.proofs.Common.{eq-eqb, Kind, ScalarOf, ScalarKind, Refusal, NotFound, WrongKind, code_of}
-use Rattle.segment_manager.proofs.Common.{Key, Command, Answer, Refused, kind_at, container_at, sizes_at, sizes_at_kind}
-use Rattle.segment_manager.proofs.Common.{sizes_of, Value, Numbers, Directory, Object, kind_of, live, object_at}
+use Rattle.segment_manager.proofs.Common.{eq-eqb, Kind, Refusal, NotFound, WrongKind, code_of}
+use Rattle.segment_manager.proofs.Common.{Key, Command, Answer, Refused, kind_at, sizes_at, sizes_at_kind}
+use Rattle.segment_manager.proofs.Common.{sizes_of, Directory, Object, kind_of, live, object_at}
 use Rattle.segment_manager.proofs.Common.{IsMissing, Refuse, perform, Answers, IsStep, IsStepOfKind, State, effect}
-use Rattle.segment_manager.proofs.Common.{has_sizes, has_storage, is_read_only, step, step_of_kind, Mode}
-use Rattle.segment_manager.proofs.{Common.Change, Common.command_of, Refilled.refused-steps, Refilled.said-missing}
+use Rattle.segment_manager.proofs.Common.{has_storage, is_read_only, step, step_of_kind, Mode}
+use Rattle.segment_manager.proofs.{Common.Change, Common.command_of, Refilled.refused-steps}
 use Rattle.segment_manager.proofs.{Refilled.told-some, Steps.step_of_kind-step, Steps.moves-same}
 use Rattle.segment_manager.proofs.{StorageSteps.change-refused, StorageSteps.no-storage}
 
@@ -59,13 +59,6 @@ change-other change s key kind writing h a =
 
 -- ---- sizes
 
--- there is no such container
-pub measures-nothing : (s : State) (key : Key) (kind : Kind) (why : Refusal)
-    → Answers s (λ d. container_at d key kind) (Err why)
-    → Answers s (λ d. sizes_at_kind d key kind) (Err why)
-measures-nothing s key kind why a =
-    record { answers = λ d l. said-missing d key kind (λ o. sizes_of o.value) why (a.answers d l) }
-
 -- the sizes of the object of the key, which is of the kind
 pub sizes-found : (d : Directory) (key : Key) (kind : Kind) (o : Object) → object_at d key ≡ Some o
     → kind_of o.value ≡ kind → sizes_at_kind d key kind ≡ sizes_of o.value
@@ -86,36 +79,3 @@ measures-kind s key kind r a m = record {
       (λ (q : Option Object). elim q as (λ _. Result (ℕ × ℕ) Refusal)
       [ None ↦ Err NotFound | Some o ↦ sizes_of o.value ]) e.is);
 }
-
--- no object has the key
-pub measures-nowhere : (s : State) (key : Key) (why : Refusal) → IsMissing s key why
-    → Answers s (λ d. sizes_at d key) (Err why)
-measures-nowhere s key why m = record {
-  answers = λ d l. ap Err m.is
-      ∙ sym
-      (ap
-      (λ (q : Option Object). elim q as (λ _. Result (ℕ × ℕ) Refusal)
-      [ None ↦ Err NotFound | Some o ↦ sizes_of o.value ]) (m.missing d l));
-}
-
-no-sizes : (v : Value) → has_sizes (kind_of v) ≡ false → sizes_of v ≡ Err WrongKind
-no-sizes (Numbers k zs) h = refl
-no-sizes v h = absurd (cc)
-
--- it is no container
-pub measures-other : (s : State) (key : Key) (kind : Kind) → has_sizes kind ≡ false
-    → Answers s (λ d. kind_at d key) (Ok kind) → Answers s (λ d. sizes_at d key) (Err WrongKind)
-measures-other s key kind h a = record {
-  answers = λ d l.
-      let e : IsOfKindAt d key kind = kind-told d key kind (a.answers d l) in
-      sym (no-sizes e.object.value (ap has_sizes e.kind_is ∙ h))
-      ∙ sym
-      (ap
-      (λ (q : Option Object). elim q as (λ _. Result (ℕ × ℕ) Refusal)
-      [ None ↦ Err NotFound | Some o ↦ sizes_of o.value ]) e.is);
-}
-
--- one that is no array is one
-pub sized : (kind : Kind) → ((k : ScalarKind) → kind ≡ ScalarOf k → ⊥) → has_sizes kind ≡ true
-sized (ScalarOf k) n = absurd (n k refl)
-sized kind n = refl

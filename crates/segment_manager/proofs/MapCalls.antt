@@ -18,7 +18,7 @@ use Rattle.segment_manager.proofs.Steps.{open-writing, perform-new, perform-no_s
 use Rattle.segment_manager.proofs.{Common.live_of, Common.truth_answer, Refilled.HoldsAt, Refilled.finds-no_container}
 use Rattle.segment_manager.proofs.{Refilled.holds-at, MapSteps.put-denotes, Calling.denotes-live, Here.standing}
 use Rattle.segment_manager.proofs.{ObjectLists.key-found, StorageSteps.step_of_kind-reply, Stored.literal-read}
-use Rattle.segment_manager.proofs.{MapBlocks.blocks-in_use, MapBlocks.found-key, Refilled.said-missing}
+use Rattle.segment_manager.proofs.{MapBlocks.blocks-in_use, MapBlocks.found-key}
 use Rattle.segment_manager.proofs.{Refilled.told-some}
 use Rattle.segment_manager.proofs.PairNumbers.{ErasesBy, PutsBy}
 use Rattle.seg_map.specs.declared.places.Place.{Place}
@@ -364,12 +364,3 @@ module _ (s : State) (key : Key) (k v : ScalarKind) (p : Place) (b : IsSegment s
     map-erased x t good each =
         does (λ d l. let h : Holds d = map_in d l in erase-moves x good l h t (pair_at int_lt h.pairs x) refl
         (each h.pairs h.map))
-
--- why there is no such map is why nothing is said of one
-pub tells-nothing : {A : Type 0} (s : State) (key : Key) (k v : ScalarKind) (say : List NumberPair → A) (why : Refusal)
-    → Answers s (λ d. map_at d key k v) (Err why)
-    → Answers s (λ d. told_of_map d key k v say) (Err why)
-tells-nothing s key k v say why a = record {
-  answers = λ d l. said-missing d key (Map k v) (λ o. told_of say o.value) why
-      (nowhere-if (container_at d key (Map k v)) why (a.answers d l));
-}

@@ -1,7 +1,7 @@
 -- A walk over the pairs of the object of a key, of whatever kinds they are: what each call of it answers, and that none
 -- is left out.
 use Rattle.segment_manager.proofs.Common.{◌≡◌, refl, sym, ap, subst, ◌∙◌, ℕ, zero, suc, ◌+◌, ℤ, Bool, true, ◌&&◌}
-use Rattle.segment_manager.proofs.Common.{Option, Some, None, Result, Ok, Err, List, [], ◌∷◌, ◌++◌, slice_get, arith}
+use Rattle.segment_manager.proofs.Common.{Option, Some, None, Result, Ok, List, [], ◌∷◌, ◌++◌, slice_get, arith}
 use Rattle.segment_manager.proofs.Common.{IsTrue, int_lt, option_map, list_all, eq-eqb, current, Node, ObjectRole}
 use Rattle.segment_manager.proofs.Common.{serves, Map, ScalarKind, Refusal, ScalarValue, code_of, is_kind_of, is_value}
 use Rattle.segment_manager.proofs.Common.{lowest, same_kind, size_of, Key, kind_of_scalar, value_of_scalar, is_rising}
@@ -102,22 +102,6 @@ module _ (s : State) (key : Key) (k v : ScalarKind) (is : IsMap s key k v) where
         seen-if k v o (pair_from (lowest k) (pairs_at d key)) h
         (a.answers d l ∙ told-of-them d key k v (map-known d l) (pair_from (lowest k)))
         ∙ ap (option_map (item_of_kinds k v)) (starts d key k v (map-known d l) s.cut.bytes l.denotes);
-  }
-
-  pub next-seen : (z : ℤ) (o : Option (ScalarValue × ScalarValue)) → AreOfKinds k v (Ok o)
-      → Answers s (λ d. told_of_map d key k v (pair_above z)) (numbers_read value_of_scalar value_of_scalar (Ok o))
-      → Answers s (λ d. option_map (item_of_kinds k v) (pair_above z (pairs_at d key))) (option_map item_seen o)
-  next-seen z o h a = record {
-    answers = λ d l. seen-if k v o (pair_above z (pairs_at d key)) h
-        (a.answers d l ∙ told-of-them d key k v (map-known d l) (pair_above z));
-  }
-
-  -- it is a map of the kinds, so no call on it is refused
-  pub not-refused : {A B : Type 0} (say : List NumberPair → A) (why : Refusal) (about : Directory → B) (answer : B)
-      → Answers s (λ d. told_of_map d key k v say) (Err why) → Answers s about answer
-  not-refused {A} say why about answer a = record {
-    answers = λ d l. let never : (let r : Result A Refusal = Err why in r) ≡ Ok (say (pairs_at d key)) = a.answers d l
-        ∙ told-of-them d key k v (map-known d l) say in absurd (cc);
   }
 
 -- the same by the least value, whose kind is that of the keys

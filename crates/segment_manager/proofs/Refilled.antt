@@ -166,20 +166,6 @@ holds-at d key kind p e =
     (λ o f g. let h : Ok p ≡ placed o = e
     ∙ told-some d key kind placed o true f g in record { object = o; is = f; same = g; at = cc })
 
--- why there is no such container is why nothing is told of one
-pub said-missing : {A : Type 0} (d : Directory) (key : Key) (kind : Kind) (say : Object → Result A Refusal)
-    (why : Refusal)
-    → Err why ≡ container_at d key kind → Err why ≡ told_if d key kind say
-said-missing {A} d key kind say why e =
-    by-kind d key kind
-    (λ f. as-err (same_Err why NotFound (e ∙ told-none d key kind placed f)) ∙ sym (told-none d key kind say f))
-    (λ o f g. as-err (same_Err why WrongKind (e ∙ told-some d key kind placed o false f g))
-    ∙ sym (told-some d key kind say o false f g))
-    (λ o f g. not-Err (container_place o) why (sym (e ∙ told-some d key kind placed o true f g)))
-  where
-    as-err : {x y : Refusal} → x ≡ y → (let r : Result A Refusal = Err x in r) ≡ Err y
-    as-err f = ap Err f
-
 -- and why every call for the kind is refused
 pub finds-no_container : (s : State) (key : Key) (kind : Kind) (c : Command) (r : Refusal) → IsOpenFor s.mode c
     → Answers s (λ d. container_at d key kind) (Err r) → IsStepOfKind s s key kind c (Refused r)

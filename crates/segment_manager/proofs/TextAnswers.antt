@@ -1,14 +1,14 @@
 -- What the calls of seg_vector ensure of the text at the place that was found, as the steps of the calls on the
 -- object's string.
-use Rattle.segment_manager.proofs.Common.{◌++◌, ◌<◌, Bool, Err, IsTrue, List, None, Ok, Option, Result, Some, [], ap}
-use Rattle.segment_manager.proofs.Common.{arith, false, get_or, if◌then◌else◌, length, map, nat_abs, nat_le, nat_lt}
+use Rattle.segment_manager.proofs.Common.{◌++◌, ◌<◌, Err, IsTrue, List, None, Ok, Option, Result, Some, [], ap}
+use Rattle.segment_manager.proofs.Common.{arith, false, get_or, length, map, nat_abs, nat_le, nat_lt}
 use Rattle.segment_manager.proofs.Common.{pos, refl, slice_get, subst, suc, sym, true, zero, ℕ, ◌∙◌, ◌∷◌, ◌≡◌, and_from}
 use Rattle.segment_manager.proofs.Common.{le-leb, lt-ltb, slice_get-get_or, slice_get-map, slice_get_past, option_map}
 use Rattle.segment_manager.proofs.Common.{slice_set, Cut, Table, Append, Assign, Get, Quoted, Set, literal_of, is_value}
-use Rattle.segment_manager.proofs.Common.{same_kind, Key, Text, U8, Refusal, NotFound, OutOfRange, WrongKind}
+use Rattle.segment_manager.proofs.Common.{Key, Text, U8, Refusal, NotFound, OutOfRange}
 use Rattle.segment_manager.proofs.Common.{AssignsText, IsSomeText, IsTextGrown, IsTextNow, capacity_for_text, Place}
-use Rattle.segment_manager.proofs.Common.{Done, Element, Refused, are_bytes, bytes_at, container_at, container_place}
-use Rattle.segment_manager.proofs.Common.{place_of_kind, Bytes, Object, Value, kind_of, object_at, live, Reply, perform}
+use Rattle.segment_manager.proofs.Common.{Done, Element, Refused, are_bytes, bytes_at, container_at}
+use Rattle.segment_manager.proofs.Common.{Bytes, Object, Value, kind_of, live, Reply, perform}
 use Rattle.segment_manager.proofs.Common.{Answers, IsSegment, IsStepOfKind, State, changed, is_read_only, Command}
 use Rattle.segment_manager.proofs.ContentPlans.{append-plan, byte-plan, set_byte-plan, text-plan}
 use Rattle.segment_manager.proofs.ItemSteps.{HoldsItems, ListedGrown, ListedNow, Listing, changes-safely, grows-safely}
@@ -101,26 +101,6 @@ reads-bytes s key p out found reads = record {
       (λ (r : Option Object). elim r as (λ _. Result (List ℕ) Refusal)
       [ None ↦ Err NotFound | Some o ↦ text_bytes o.value ]) h.is);
 }
-
-no-text : (v : Value) → same_kind Text (kind_of v) ≡ false → text_bytes v ≡ Err WrongKind
-no-text (Bytes bs t) e = absurd (cc)
-no-text v e = refl
-
-no-text-if : (o : Object) (why : Refusal) (t : Bool) → same_kind Text (kind_of o.value) ≡ t
-    → Err why ≡ (if t then Ok (container_place o) else Err WrongKind) → Err why ≡ text_bytes o.value
-no-text-if o why true e f = absurd (cc)
-no-text-if o why false e f = let same : why ≡ WrongKind = cc in ap Err same ∙ sym (no-text o.value e)
-
-no-bytes-if : (why : Refusal) (r : Option Object)
-    → Err why ≡ elim r as (λ _. Result Place Refusal) [ None ↦ Err NotFound | Some o ↦ place_of_kind o Text ]
-    → Err why ≡ elim r as (λ _. Result (List ℕ) Refusal) [ None ↦ Err NotFound | Some o ↦ text_bytes o.value ]
-no-bytes-if why None e = let same : why ≡ NotFound = cc in ap Err same
-no-bytes-if why (Some o) e = no-text-if o why (same_kind Text (kind_of o.value)) refl e
-
--- why there is no text is why there are no bytes
-pub reads-nothing : (s : State) (key : Key) (why : Refusal) → Answers s (λ d. container_at d key Text) (Err why)
-    → Answers s (λ d. bytes_at d key) (Err why)
-reads-nothing s key why a = record { answers = λ d l. no-bytes-if why (object_at d key) (a.answers d l) }
 
 -- as the view before the call names the segment
 module _ {s t : State} (view : s ≡ t) (key : Key) (p : Place) (b : IsSegment s.cut.bytes)

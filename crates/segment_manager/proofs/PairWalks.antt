@@ -135,8 +135,8 @@ record IsSplitAt (ps : List NumberPair) (i : ℕ) (p : NumberPair) : Type 0 wher
 split-at : (ps : List NumberPair) (i : ℕ) (p : NumberPair) → slice_get ps i ≡ Some p → IsSplitAt ps i p
 split-at [] i p e = absurd (cc)
 split-at (q ∷ qs) zero p e =
-    let one : q ≡ p =
-    cc in record { front = []; back = qs; is = ap (λ (r : NumberPair). r ∷ qs) one; next = first-at qs }
+    let one : q ≡ p = cc in
+    record { front = []; back = qs; is = ap (λ (r : NumberPair). r ∷ qs) one; next = first-at qs }
 split-at (q ∷ qs) (suc i) p e =
     let s = split-at qs i p e in
     record { front = q ∷ s.front; back = s.back; is = ap (λ (ps : List NumberPair). q ∷ ps) s.is; next = s.next }

@@ -3,11 +3,12 @@ use Rattle.segment_manager.proofs.Common.{◌≡◌, refl, sym, ap, ◌∙◌, �
 use Rattle.segment_manager.proofs.Common.{Err, List, if◌then◌else◌, ◌*◌, ◌&&◌, IsTrue, nat_le, option_map, Cut, live_of}
 use Rattle.segment_manager.proofs.Common.{Table, Extent, LiveSet, regrow, Kind, Refusal, NoSpace, NotFound, WrongKind}
 use Rattle.segment_manager.proofs.Common.{ReadOnly, same_kind, Key, Command, is_changing, Place, grown_table, Mode}
-use Rattle.segment_manager.proofs.Common.{same_Some, Answer, Refused, Contents, IsRefilled, container_at, container_place}
-use Rattle.segment_manager.proofs.Common.{contents_of, has_values, Value, Object, Directory, kind_of, live, object_at}
-use Rattle.segment_manager.proofs.Common.{Denotes, perform, with_capacity, Request, RegrownNeed, Refuse, Answers}
-use Rattle.segment_manager.proofs.Common.{IsSegment, IsStep, IsStepOfKind, State, StandsFor, changed, effect, Plan}
-use Rattle.segment_manager.proofs.Common.{is_read_only, step_of_kind, step, arith, le-ltb, lt-ltb, resized, with_array}
+use Rattle.segment_manager.proofs.Common.{same_Some, Answer, Refused, Contents, IsRefilled, container_at}
+use Rattle.segment_manager.proofs.Common.{container_place, contents_of, has_values, Value, Object, Directory, kind_of}
+use Rattle.segment_manager.proofs.Common.{live, object_at, Denotes, perform, with_capacity, Request, RegrownNeed}
+use Rattle.segment_manager.proofs.Common.{Refuse, Answers, IsSegment, IsStep, IsStepOfKind, State, StandsFor, changed}
+use Rattle.segment_manager.proofs.Common.{effect, Plan, is_read_only, step_of_kind, step, arith, le-ltb, lt-ltb}
+use Rattle.segment_manager.proofs.Common.{resized, with_array}
 use Rattle.segment_manager.proofs.{Calling.denotes-live, Contained.contents-changed}
 use Rattle.segment_manager.proofs.Steps.{IsMove, IsOpenFor, by_no_change, by_no_change_of_kind, by_step_of_kind}
 use Rattle.segment_manager.proofs.Steps.{open-writing, step-effect, step_of_kind-found, step_of_kind-not_found}
@@ -89,7 +90,8 @@ refill-moves s new d key c answer next k r e = record {
   after = changed d r.object r.value;
   is = e ∙ r.outcome;
   stands = record {
-    denotes = contents-changed s.cut new d key r.object r.value r.was r.next k.denotes r.is r.held r.holds r.kind r.values r.change;
+    denotes = contents-changed s.cut new d key r.object r.value r.was r.next k.denotes r.is r.held r.holds r.kind
+        r.values r.change;
   };
 }
 

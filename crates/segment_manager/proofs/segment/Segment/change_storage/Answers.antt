@@ -1,13 +1,14 @@
 -- The container of the object of the key is changed as its kind says.
-use Rattle.segment_manager.proofs.Common.{exit-is, ◌≡◌, false, refl, subst, sym, ◌∙◌, Answers, ByHandle, Change, Err, IsStep}
-use Rattle.segment_manager.proofs.Common.{Key, Kind, Located, Refusal, Refused, State, TextsKind, command_of, container_at}
-use Rattle.segment_manager.proofs.Common.{ap, done_answer, has_storage, inl, inr, is_read_only}
+use Rattle.segment_manager.proofs.Common.{exit-is, ◌≡◌, false, refl, subst, sym, ◌∙◌, Answers, ByHandle, Change, Err}
+use Rattle.segment_manager.proofs.Common.{IsStep, Key, Kind, Located, Refusal, Refused, State, TextsKind, command_of}
+use Rattle.segment_manager.proofs.Common.{container_at, ap, done_answer, has_storage, inl, inr, is_read_only}
 use Rattle.segment_manager.proofs.Locating.{enough-by_key, kind-by_key, located-changes}
 use Rattle.segment_manager.proofs.OneLength.{elements-changed, elements-kept, some-elements}
 use Rattle.segment_manager.proofs.{AnyStorage.change-other, AnyStorage.nowhere-steps, KeptContainers.texts-kept}
 use Rattle.segment_manager.proofs.{Refilled.finds-no_container, Released.has_storage-left, Steps.open-writing}
-use Rattle.segment_manager.proofs.{Safely.Answered, Safely.answered, Steps.refuses-read_only, StorageSteps.change-changes}
-use Rattle.segment_manager.proofs.{StorageSteps.change-nowhere, TextListCalls.texts-changed, TextListCalls.texts-standing}
+use Rattle.segment_manager.proofs.{Safely.Answered, Safely.answered, Steps.refuses-read_only}
+use Rattle.segment_manager.proofs.{StorageSteps.change-changes, StorageSteps.change-nowhere}
+use Rattle.segment_manager.proofs.{TextListCalls.texts-changed, TextListCalls.texts-standing}
 use Rattle.segment_manager.specs.{Located.IsLocated, Stored.ChangesElements, Stored.IsElements, Stored.each_of}
 use Rattle.segment_manager.proofs.segment.Segment.change_storage.Goals.{After-change_elements, After-change_texts}
 use Rattle.segment_manager.proofs.segment.Segment.change_storage.Given.{Over}
@@ -40,7 +41,8 @@ elements-said : (g : Over) (c : After-change_elements g)
 elements-said g c =
     subst
     (λ n.
-    ChangesElements c.args.change c.self.inside.heap c.change_elements.new.heap c.in_ok-place-in_default.place n c.change_elements.result)
+    ChangesElements c.args.change c.self.inside.heap c.change_elements.new.heap c.in_ok-place-in_default.place n
+    c.change_elements.result)
     c.element_len.ensures c.change_elements.ensures
 
 elements-done : (g : Over) (c : After-change_elements g)

@@ -28,7 +28,8 @@ pub returns-in_err-byte-in-Text : goal.returns-in_err-byte-in-Text
 returns-in_err-byte-in-Text g c =
     located-replies _ _ _ c.in_ok-object.ensures Text U8 _ _ c.in-Text.is refl
     (rw (exit-is _ _ c.from_residual-in_err-byte-in-Text.ensures.1) (seen-reply _ _ c.self.view_is _ _ _ _
-    (text_got-past c.self.view_is _ _ c.self.invariant c.in_ok-place-in-Text.ensures _ _ c.in_err-byte-in-Text.ensures)))
+    (text_got-past c.self.view_is _ _ c.self.invariant
+    c.in_ok-place-in-Text.ensures _ _ c.in_err-byte-in-Text.ensures)))
 
 pub returns-in_ok-byte-in-Text : goal.returns-in_ok-byte-in-Text
 returns-in_ok-byte-in-Text g c =

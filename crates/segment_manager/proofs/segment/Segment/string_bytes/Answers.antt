@@ -9,5 +9,7 @@ as_bytes-requires g c = text-standing c.self.view_is _ _ c.self.invariant c.in_o
 
 pub returns : goal.returns
 returns g c =
-    subst (λ (t : State). Answers t (λ d. bytes_at d (g.O.Target.key c.args.key.now)) (Ok c.as_bytes.result.now)) c.self.view_is
+    subst
+    (λ (t : State). Answers t (λ d. bytes_at d (g.O.Target.key c.args.key.now))
+    (Ok c.as_bytes.result.now)) c.self.view_is
     (reads-bytes _ _ _ _ (seen-found _ _ c.self.view_is _ Text _ c.in_ok-place.ensures) c.as_bytes.ensures)

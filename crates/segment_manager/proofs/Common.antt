@@ -155,7 +155,7 @@ pub use Rattle.segment_manager.specs.Step.{and_then, changed, effect, element_at
 pub use Rattle.segment_manager.specs.Step.{map_of, pair_of, plan, set, storage_of, texts_of, values_of, with_items}
 pub use Rattle.segment_manager.specs.Step.{with_table}
 unfoldable pub use Rattle.segment_manager.specs.Step.{step, step_of_kind}
-pub use Rattle.segment_manager.specs.Stored.{AnswersSafely, HasEnough, StandsThere, StepsSafely, StepsThere, command_of}
+pub use Rattle.segment_manager.specs.Stored.{AnswersSafely, HasEnough, StepsSafely, command_of}
 pub use Rattle.segment_manager.specs.TextLists.{LeadsOnOfKind}
 pub use Rattle.segment_manager.specs.ToChange.{IsNotToChange}
 pub use Rattle.segment_manager.specs.Walks.{IsMap, first_of, item_of_kinds, item_seen, pairs_at, pairs_of}

@@ -1,17 +1,20 @@
 -- What calls on vectors, strings and maps leave to the last byte.
-use Rattle.segment_manager.proofs.Common.{◌≡◌, sym, ap, subst, ◌∙◌, ℕ, ◌≤◌, ℤ, Bool, true, false, Option, Some, None}
-use Rattle.segment_manager.proofs.Common.{Result, Ok, Err, List, [], MatchOption, int_lt, none-some, Cut, ScalarKind}
-use Rattle.segment_manager.proofs.Common.{TextsKind, Plain, Refusal, NotFound, Key, MapPlace, Erases, IsErased, pair_at}
-use Rattle.segment_manager.proofs.Common.{NumberPair, Place, container_at, sizes_of, Object, Directory, object_at}
-use Rattle.segment_manager.proofs.Common.{HasPlaces, KeepsWhere, map_at, numbers_of, Answers, State, StandsFor}
-use Rattle.segment_manager.proofs.Common.{pairs_of, Change, HasEnough, Reserve}
+use Rattle.segment_manager.proofs.Common.{◌≡◌, sym, ap, subst, ◌∙◌, ℕ, ◌≤◌, ℤ, Bool, Option, Some, None, Result, Ok}
+use Rattle.segment_manager.proofs.Common.{Err, List, [], MatchOption, int_lt, none-some, Cut, ScalarKind, TextsKind}
+use Rattle.segment_manager.proofs.Common.{Plain, Refusal, NotFound, Key, MapPlace, Erases, pair_at, NumberPair, Place}
+use Rattle.segment_manager.proofs.Common.{container_at, sizes_of, Object, Directory, object_at, HasPlaces, KeepsWhere}
+use Rattle.segment_manager.proofs.Common.{map_at, Answers, State, StandsFor, pairs_of, Change, HasEnough, Reserve}
 use Rattle.segment_manager.proofs.{MapCalls.HoldsPairs, MapCalls.holds-pairs, TextsHeld.HoldsTexts}
 use Rattle.segment_manager.proofs.{TextsHeld.holds-texts, PairNumbers.IsScalarOf, PairNumbers.erases-numbers}
+use Rattle.segment_manager.proofs.{ToChange.seen-found}
 use Rattle.segment_manager.specs.{Stored.ChangesTexts, Keeping.LacksPair}
 
 -- the window is as it was, and so is the segment
-pub keeps-cut : (s t : State) (view : s ≡ t) (new : Cut) (P : Directory → Type 0) → ((d : Directory) → StandsFor s.cut.bytes d → P d → new ≡ s.cut) → KeepsWhere t (record s { cut = new }) P
-keeps-cut s t view new P each = subst (λ (u : State). KeepsWhere u (record s { cut = new }) P) view (λ d l has. let e = each d l has in λ j. record s { cut = e j })
+pub keeps-cut : (s t : State) (view : s ≡ t) (new : Cut) (P : Directory → Type 0)
+    → ((d : Directory) → StandsFor s.cut.bytes d → P d → new ≡ s.cut) → KeepsWhere t (record s { cut = new }) P
+keeps-cut s t view new P each =
+    subst (λ (u : State). KeepsWhere u (record s { cut = new }) P) view
+    (λ d l has. let e = each d l has in λ j. record s { cut = e j })
 
 -- ---- places
 
@@ -20,18 +23,31 @@ places_in (Ok (len, capacity)) = capacity
 places_in (Err r) = 0
 
 -- those of the object that the key has
-pub enough-places : (d : Directory) (key : Key) (o : Object) (n len capacity : ℕ) → object_at d key ≡ Some o → sizes_of o.value ≡ Ok (len, capacity) → HasPlaces key n d → n ≤ capacity
+pub enough-places : (d : Directory) (key : Key) (o : Object) (n len capacity : ℕ) → object_at d key ≡ Some o
+    → sizes_of o.value ≡ Ok (len, capacity) → HasPlaces key n d → n ≤ capacity
 enough-places d key o n len capacity is sizes has =
     let same : Ok (has.len, has.capacity) ≡ Ok (len, capacity) =
-    sym has.says ∙ ap (λ (r : Option Object). elim r as (λ _. Result (ℕ × ℕ) Refusal) [ None ↦ Err NotFound | Some p ↦ sizes_of p.value ]) is ∙ sizes in
+    sym has.says
+    ∙ ap
+    (λ (r : Option Object). elim r as (λ _. Result (ℕ × ℕ) Refusal)
+    [ None ↦ Err NotFound | Some p ↦ sizes_of p.value ]) is ∙ sizes in
     subst (λ m. n ≤ m) (ap places_in same) has.enough
 
-pub texts-kept : (s : State) (key : Key) (p : Place) (new : Cut) (change : Change) (r : Result (Unit {0}) Refusal) → Answers s (λ d. container_at d key TextsKind) (Ok p)
-    → ChangesTexts change s.cut new p r → (d : Directory) → StandsFor s.cut.bytes d → HasEnough change key d → new ≡ s.cut
-texts-kept s key p new (Reserve n) r found each d l has =
-    let h : HoldsTexts s.cut.bytes d key p = holds-texts s.cut.bytes d key p l.denotes (found.answers d l) in
-    (each.1 h.texts h.table h.stand (enough-places d key h.object n _ h.table.capacity h.is (ap sizes_of h.value) has)).1
-texts-kept s key p new change r found each d l has = absurd has
+pub texts-kept : {s t : State} (view : s ≡ t) (key : Key) {p : Place}
+    → Answers t (λ d. container_at d key TextsKind) (Ok p) → (new : Cut) (change : Change)
+    (r : Result (Unit {0}) Refusal) → ChangesTexts change s.cut new p r → KeepsWhere t (record s { cut = new })
+    (HasEnough change key)
+texts-kept {s} {t} view key {p} found new change r each =
+    keeps-cut s t view new (HasEnough change key) (λ d l has. same change each d l has)
+  where
+    same : (change : Change) → ChangesTexts change s.cut new p r → (d : Directory) → StandsFor s.cut.bytes d
+        → HasEnough change key d → new ≡ s.cut
+    same (Reserve n) each d l has =
+        let h : HoldsTexts s.cut.bytes d key p =
+        holds-texts s.cut.bytes d key p l.denotes ((seen-found s t view key TextsKind p found).answers d l) in
+        (each.1 h.texts h.table h.stand
+        (enough-places d key h.object n _ h.table.capacity h.is (ap sizes_of h.value) has)).1
+    same change each d l has = absurd has
 
 -- ---- pairs
 
@@ -39,15 +55,19 @@ none-erased : (P : Type 0) (Q : NumberPair → Type 0) (o : Option NumberPair) �
 none-erased P Q None e m = m
 none-erased P Q (Some q) e m = absurd (none-some q (sym e))
 
-pub map-kept : {K V : Type 0} (k v : ScalarKind) (kp : Plain K) (vp : Plain V) (kw : K → ℤ) (vw : V → ℤ) → IsScalarOf k kp kw → IsScalarOf v vp vw
+pub map-kept : {K V : Type 0} {k v : ScalarKind} {kp : Plain K} {vp : Plain V} {kw : K → ℤ} {vw : V → ℤ}
+    → IsScalarOf k kp kw → IsScalarOf v vp vw
     → (s t : State) (view : s ≡ t) (key : Key) (p q : MapPlace) → q ≡ p → Answers t (λ d. map_at d key k v) (Ok p)
-    → (new : Cut) (x : K) (r : Bool) → Erases kp vp s.cut new q.handle q.at x r → KeepsWhere t (record s { cut = new }) (LacksPair key (kw x))
-map-kept k v kp vp kw vw kl vl s t view key p q same found new x r each =
-    let there : Answers s (λ d. map_at d key k v) (Ok p) = subst (λ (u : State). Answers u (λ d. map_at d key k v) (Ok p)) (sym view) found in
-    let erases : Erases (numbers_of k) (numbers_of v) s.cut new p.handle p.at (kw x) r =
-    erases-numbers k v kp vp kw vw kl vl s.cut new p.handle p.at x r (subst (λ (r' : MapPlace). Erases kp vp s.cut new r'.handle r'.at x r) same each) in
+    → (new : Cut) (x : K) (r : Bool) → Erases kp vp s.cut new q.handle q.at x r
+    → KeepsWhere t (record s { cut = new }) (LacksPair key (kw x))
+map-kept {k = k} {v = v} {kp = kp} {vp = vp} {kw = kw} kl vl s t view key p q same found new x r each =
+    let there : Answers s (λ d. map_at d key k v) (Ok q) =
+    subst (λ (q : MapPlace). Answers s (λ d. map_at d key k v) (Ok q)) (sym same)
+    (subst (λ (u : State). Answers u (λ d. map_at d key k v) (Ok p)) (sym view) found) in
     keeps-cut s t view new (LacksPair key (kw x)) (λ d l lacks.
-    let h : HoldsPairs s.cut.bytes d key k v p = holds-pairs s.cut.bytes d key k v p l.denotes (there.answers d l) in
+    let h : HoldsPairs s.cut.bytes d key k v q = holds-pairs s.cut.bytes d key k v q l.denotes (there.answers d l) in
     let pairs : (elim (object_at d key) as (λ _. List NumberPair) [ None ↦ [] | Some o ↦ pairs_of o.value ]) ≡ h.pairs =
-    ap (λ (o : Option Object). elim o as (λ _. List NumberPair) [ None ↦ [] | Some o ↦ pairs_of o.value ]) h.is ∙ ap pairs_of h.known.value in
-    (none-erased ((r ≡ false) × (new ≡ s.cut)) (λ e. (r ≡ true) × IsErased (numbers_of k) (numbers_of v) s.cut new p.handle p.at h.pairs e (kw x)) (pair_at int_lt h.pairs (kw x)) (sym (ap (λ ps. pair_at int_lt ps (kw x)) pairs) ∙ lacks) (erases h.pairs h.map)).1)
+    ap (λ (o : Option Object). elim o as (λ _. List NumberPair) [ None ↦ [] | Some o ↦ pairs_of o.value ]) h.is
+    ∙ ap pairs_of h.known.value in
+    (none-erased _ _ (pair_at int_lt h.pairs (kw x)) (sym (ap (λ ps. pair_at int_lt ps (kw x)) pairs) ∙ lacks)
+    (erases-numbers kl vl s.cut new q.handle q.at x r each h.pairs h.map)).1)

@@ -77,7 +77,6 @@ mod Emptied
 mod Released
 mod Keeping
 mod KeptContainers
-mod StoredCalls
 mod OneLength
 mod Here
 mod AnyKind

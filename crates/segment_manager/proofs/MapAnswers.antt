@@ -13,50 +13,58 @@ use Rattle.segment_manager.proofs.PairNumbers.{IsScalarOf, erases-numbers, finds
 use Rattle.segment_manager.proofs.PairNumbers.{finds-value, puts-numbers, some-map}
 use Rattle.segment_manager.proofs.Safely.{Answered, answered}
 
-module _ {K V : Type 0} {k v : ScalarKind} {kp : Plain K} {vp : Plain V} {kw : K → ℤ} {vw : V → ℤ} (kl : IsScalarOf k kp kw) (vl : IsScalarOf v vp vw)
-    {s t : State} (view : s ≡ t) (key : Key) {p q : Place} (same : q ≡ p) (b : IsSegment s.cut.bytes) (found : Answers t (λ d. map_at d key k v) (Ok p)) where
-  found-there : Answers s (λ d. map_at d key k v) (Ok p)
-  found-there = subst (λ (u : State). Answers u (λ d. map_at d key k v) (Ok p)) (sym view) found
+-- a key that is a value is a number of its kind
+as-value : {T : Type 0} {j : ScalarKind} {tp : Plain T} {w : T → ℤ} → IsScalarOf j tp w → (x : T) → tp.is_value x ≡ true
+    → is_value j (w x) ≡ true
+as-value l x e = sym (l.values x) ∙ e
+
+module _ {K V : Type 0} {k v : ScalarKind} {kp : Plain K} {vp : Plain V} {kw : K → ℤ} {vw : V → ℤ}
+    (kl : IsScalarOf k kp kw) (vl : IsScalarOf v vp vw)
+    {s t : State} (view : s ≡ t) (key : Key) {p q : Place} (same : q ≡ p) (b : IsSegment s.cut.bytes)
+    (found : Answers t (λ d. map_at d key k v) (Ok p)) where
+  found-there : Answers s (λ d. map_at d key k v) (Ok q)
+  found-there =
+      subst (λ (r : Place). Answers s (λ d. map_at d key k v) (Ok r)) (sym same)
+      (subst (λ (u : State). Answers u (λ d. map_at d key k v) (Ok p)) (sym view) found)
 
   -- some map of the types stands there
   pub some-there : IsSomeMap kp vp s.cut.bytes q.handle q.at
-  some-there =
-      subst (λ (r : Place). IsSomeMap kp vp s.cut.bytes r.handle r.at) (sym same)
-      (some-map k v kp vp kw vw kl vl s.cut.bytes p.handle p.at (stands-map s key k v p b found-there))
-
-  -- a key that is a value is a number of its kind
-  as-value : {T : Type 0} (j : ScalarKind) (tp : Plain T) (w : T → ℤ) → IsScalarOf j tp w → (x : T) → tp.is_value x ≡ true → is_value j (w x) ≡ true
-  as-value j tp w l x e = sym (l.values x) ∙ e
+  some-there = some-map kl vl s.cut.bytes q.handle q.at (stands-map s key k v q b found-there)
 
   -- ---- what is read
 
   pub got-there : (x : K) (r : Option V) → kp.is_value x ≡ true → FindsValue kp vp s.cut.bytes q.handle q.at x r
       → IsReplyOfKind t key (Map k v) (Lookup key (literal_of k (kw x))) (value_or_absent v (option_map vw r))
   got-there x r good each =
-      subst (λ (u : State). IsReplyOfKind u key (Map k v) (Lookup key (literal_of k (kw x))) (value_or_absent v (option_map vw r))) view
-      (map-got s key k v p b found-there (kw x) (option_map vw r) (as-value k kp kw kl x good)
-      (finds-value k v kp vp kw vw kl vl s.cut.bytes p.handle p.at x r (subst (λ (r' : Place). FindsValue kp vp s.cut.bytes r'.handle r'.at x r) same each)))
+      subst (λ (u : State). IsReplyOfKind u key (Map k v) (Lookup key (literal_of k (kw x)))
+      (value_or_absent v (option_map vw r))) view
+      (map-got s key k v q b found-there (kw x) (option_map vw r) (as-value kl x good)
+      (finds-value kl vl s.cut.bytes q.handle q.at x r each))
 
-  told-there : {A : Type 0} (say : List NumberPair → A) (answer : A) (F : Place → Type 0) → (F p → (ps : List NumberPair) → IsPairs k v s.cut.bytes p ps → answer ≡ say ps) → F q
-      → Answers t (λ d. told_of_map d key k v say) (Ok answer)
-  told-there say answer F finds each =
-      subst (λ (u : State). Answers u (λ d. told_of_map d key k v say) (Ok answer)) view (map-told s key k v p b found-there say answer (finds (subst F same each)))
+  told-there : (say : List NumberPair → Option (ℤ × ℤ)) (r : Option (K × V))
+      → ((ps : List NumberPair) → IsPairs k v s.cut.bytes q ps → numbers_in kw vw r ≡ say ps)
+      → Answers t (λ d. told_of_map d key k v say) (Ok (numbers_in kw vw r))
+  told-there say r each =
+      subst (λ (u : State). Answers u (λ d. told_of_map d key k v say) (Ok (numbers_in kw vw r))) view
+      (map-told s key k v q b found-there say (numbers_in kw vw r) each)
 
-  pub past-there : (above said : Bool) → said ≡ above → (x : K) (r : Option (K × V)) → FindsItem kp vp s.cut.bytes q.handle q.at above x r
+  pub past-there : (above said : Bool) → said ≡ above → (x : K) (r : Option (K × V))
+      → FindsItem kp vp s.cut.bytes q.handle q.at above x r
       → Answers t (λ d. told_of_map d key k v (pair_past said (kw x))) (Ok (numbers_in kw vw r))
   past-there above said is x r each =
-      subst (λ (b : Bool). Answers t (λ d. told_of_map d key k v (pair_past b (kw x))) (Ok (numbers_in kw vw r))) (sym is)
-      (told-there (pair_past above (kw x)) (numbers_in kw vw r) (λ (c : Place). FindsItem kp vp s.cut.bytes c.handle c.at above x r) (finds-item k v kp vp kw vw kl vl s.cut.bytes p.handle p.at above x r) each)
+      subst (λ (b : Bool). Answers t (λ d. told_of_map d key k v (pair_past b (kw x))) (Ok (numbers_in kw vw r)))
+      (sym is)
+      (told-there (pair_past above (kw x)) r (finds-item kl vl s.cut.bytes q.handle q.at above x r each))
 
-  pub back-there : (reached : Bool) (x : K) (r : Option (K × V)) → FindsItemBefore kp vp s.cut.bytes q.handle q.at reached x r
-      → Answers t (λ d. told_of_map d key k v (λ ps. option_map item_of (last_pair int_lt reached (kw x) ps))) (Ok (numbers_in kw vw r))
-  back-there reached x r each =
-      told-there (λ ps. option_map item_of (last_pair int_lt reached (kw x) ps)) (numbers_in kw vw r) (λ (c : Place). FindsItemBefore kp vp s.cut.bytes c.handle c.at reached x r)
-      (finds-back k v kp vp kw vw kl vl s.cut.bytes p.handle p.at reached x r) each
+  pub back-there : (reached : Bool) (x : K) (r : Option (K × V))
+      → FindsItemBefore kp vp s.cut.bytes q.handle q.at reached x r
+      → Answers t (λ d. told_of_map d key k v (λ ps. option_map item_of (last_pair int_lt reached (kw x) ps)))
+      (Ok (numbers_in kw vw r))
+  back-there reached x r each = told-there _ r (finds-back kl vl s.cut.bytes q.handle q.at reached x r each)
 
-  pub last-there : (r : Option (K × V)) → FindsLastItem kp vp s.cut.bytes q.handle q.at r → Answers t (λ d. told_of_map d key k v pair_at_end) (Ok (numbers_in kw vw r))
-  last-there r each =
-      told-there pair_at_end (numbers_in kw vw r) (λ (c : Place). FindsLastItem kp vp s.cut.bytes c.handle c.at r) (finds-last k v kp vp kw vw kl vl s.cut.bytes p.handle p.at r) each
+  pub last-there : (r : Option (K × V)) → FindsLastItem kp vp s.cut.bytes q.handle q.at r
+      → Answers t (λ d. told_of_map d key k v pair_at_end) (Ok (numbers_in kw vw r))
+  last-there r each = told-there pair_at_end r (finds-last kl vl s.cut.bytes q.handle q.at r each)
 
   -- ---- what is changed
 
@@ -65,14 +73,19 @@ module _ {K V : Type 0} {k v : ScalarKind} {kp : Plain K} {vp : Plain V} {kw : K
     writing-there = subst (λ (u : State). is_read_only u.mode ≡ false) (sym view) writing
 
     -- as the call answers it
-    pub put-there : {E : Type 0} (x : K) (y : V) (r : Result Bool E) (out : Result Bool Refusal) → out ≡ put_result r → kp.is_value x ≡ true → vp.is_value y ≡ true
-        → Puts kp vp s.cut new q.handle q.at x y r → Answered truth_answer s t new key (Map k v) (Put key (literal_of k (kw x)) (literal_of v (vw y))) out
+    pub put-there : {E : Type 0} (x : K) (y : V) (r : Result Bool E) (out : Result Bool Refusal) → out ≡ put_result r
+        → kp.is_value x ≡ true → vp.is_value y ≡ true
+        → Puts kp vp s.cut new q.handle q.at x y r
+        → Answered truth_answer s t new key (Map k v) (Put key (literal_of k (kw x)) (literal_of v (vw y))) out
     put-there x y r out told good fair each =
-        answered s t view b new key (Map k v) _ out (subst (TellsSafely s new key (Map k v) (Put key (literal_of k (kw x)) (literal_of v (vw y)))) (sym told)
-        (map-put s key k v p b found-there new writing-there (kw x) (vw y) r (as-value k kp kw kl x good) (as-value v vp vw vl y fair)
-        (puts-numbers k v kp vp kw vw kl vl s.cut new p.handle p.at x y r (subst (λ (r' : Place). Puts kp vp s.cut new r'.handle r'.at x y r) same each))))
+        answered s t view b new key (Map k v) _ out
+        (subst (TellsSafely s new key (Map k v) (Put key (literal_of k (kw x)) (literal_of v (vw y)))) (sym told)
+        (map-put s key k v q b found-there new writing-there (kw x) (vw y) r (as-value kl x good) (as-value vl y fair)
+        (puts-numbers kl vl s.cut new q.handle q.at x y r each)))
 
-    pub erased-there : (x : K) (r : Bool) → kp.is_value x ≡ true → Erases kp vp s.cut new q.handle q.at x r → Answered truth_answer s t new key (Map k v) (Remove key (literal_of k (kw x))) (Ok r)
+    pub erased-there : (x : K) (r : Bool) → kp.is_value x ≡ true → Erases kp vp s.cut new q.handle q.at x r
+        → Answered truth_answer s t new key (Map k v) (Remove key (literal_of k (kw x))) (Ok r)
     erased-there x r good each =
-        answered s t view b new key (Map k v) _ (Ok r) (map-erased s key k v p b found-there new writing-there (kw x) r (as-value k kp kw kl x good)
-        (erases-numbers k v kp vp kw vw kl vl s.cut new p.handle p.at x r (subst (λ (r' : Place). Erases kp vp s.cut new r'.handle r'.at x r) same each)))
+        answered s t view b new key (Map k v) _ (Ok r)
+        (map-erased s key k v q b found-there new writing-there (kw x) r (as-value kl x good)
+        (erases-numbers kl vl s.cut new q.handle q.at x r each))

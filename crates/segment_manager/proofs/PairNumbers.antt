@@ -5,12 +5,11 @@ use Rattle.segment_manager.proofs.Common.{Option, Some, None, Result, Ok, Err, L
 use Rattle.segment_manager.proofs.Common.{IsTrue, MatchOption, MatchResult, find, int_lt, option_map, AllByRecursion}
 use Rattle.segment_manager.proofs.Common.{length-map, current, Cut, Has, Memory, bytes_of, Node, IsExchanged, LiveSet}
 use Rattle.segment_manager.proofs.Common.{handle, IsTreeOf, place, live_of, serves, ScalarKind, Plain, is_value}
-use Rattle.segment_manager.proofs.Common.{IsChanged}
-use Rattle.segment_manager.proofs.Common.{size_of, spelling, Erases, IsBesideMap, IsErased, IsFull, IsPut, IsPutAgain}
-use Rattle.segment_manager.proofs.Common.{Puts, Releases, is_key, is_rising, node_len, pair_at, put_pair, remove_pair}
-use Rattle.segment_manager.proofs.Common.{IsNumberPairAt, NumberPair, is_number_pair, FindsItem, FindsItemBefore}
-use Rattle.segment_manager.proofs.Common.{FindsLastItem, FindsValue, HoldsMap, IsPairIn, IsSomeMap, first_pair, item_of}
-use Rattle.segment_manager.proofs.Common.{nodes_of_pairs, value_of_pair, numbers_in, numbers_of}
+use Rattle.segment_manager.proofs.Common.{IsChanged, size_of, spelling, Erases, IsBesideMap, IsErased, IsFull, IsPut}
+use Rattle.segment_manager.proofs.Common.{IsPutAgain, Puts, Releases, is_key, is_rising, node_len, pair_at, put_pair}
+use Rattle.segment_manager.proofs.Common.{remove_pair, IsNumberPairAt, NumberPair, is_number_pair, FindsItem}
+use Rattle.segment_manager.proofs.Common.{FindsItemBefore, FindsLastItem, FindsValue, HoldsMap, IsPairIn, IsSomeMap}
+use Rattle.segment_manager.proofs.Common.{first_pair, item_of, nodes_of_pairs, value_of_pair, numbers_in, numbers_of}
 use mathlib.Core.List.{reverse}
 use Rattle.seg_map.specs.{Changing.IsGivenUp, Map.IsPairAt, Map.Pair, Map.is_pair}
 use Rattle.seg_map.specs.Places.{final_pair, is_passed, last_pair}
@@ -25,18 +24,32 @@ pub record IsScalarOf {T : Type 0} (k : ScalarKind) (p : Plain T) (w : T → ℤ
   pub ordered : (x y : T) → p.order x y ≡ int_lt (w x) (w y)
   pub reached : (z : ℤ) → is_value k z ≡ true → (x : T) × (w x ≡ z)
 
+-- what a put does, by the pair of the key that there was or was not, and an erasing
+module _ {K V : Type 0} (kp : Plain K) (vp : Plain V) (old new : Cut) (h at : ℕ) (ps : List (Pair K V)) where
+  abbrev pub PutsBy : {E : Type 0} → K → V → Result Bool E → Option (Pair K V) → Type 0
+  PutsBy x y result o =
+      MatchOption o (MatchResult result (λ b. (b ≡ true) × IsPut kp vp old new h at ps x y) (λ e. IsFull kp vp old new))
+      (λ p. (result ≡ Ok false) × IsPutAgain kp vp old new h at ps p x y)
+
+  abbrev pub ErasesBy : K → Bool → Option (Pair K V) → Type 0
+  ErasesBy x result o =
+      MatchOption o ((result ≡ false) × (new ≡ old)) (λ p. (result ≡ true) × IsErased kp vp old new h at ps p x)
+
 -- ---- lists
 
 -- the first of some that are made of others is made of the first of those
-find-made : {A B : Type 0} (f : A → B) (s : A → Bool) (t : B → Bool) → ((a : A) → t (f a) ≡ s a) → (xs : List A) → find t (map f xs) ≡ option_map f (find s xs)
+find-made : {A B : Type 0} (f : A → B) (s : A → Bool) (t : B → Bool) → ((a : A) → t (f a) ≡ s a) → (xs : List A)
+    → find t (map f xs) ≡ option_map f (find s xs)
 find-made f s t same [] = refl
 find-made {A} {B} f s t same (x ∷ xs) = (λ i. if same x i then Some (f x) else find-made f s t same xs i) ∙ chosen (s x)
   where
-    chosen : (b : Bool) → (if b then Some (f x) else option_map f (find s xs)) ≡ option_map f (if b then Some x else find s xs)
+    chosen : (b : Bool)
+        → (if b then Some (f x) else option_map f (find s xs)) ≡ option_map f (if b then Some x else find s xs)
     chosen true = refl
     chosen false = refl
 
-module _ {K V : Type 0} (k v : ScalarKind) (kp : Plain K) (vp : Plain V) (kw : K → ℤ) (vw : V → ℤ) (kl : IsScalarOf k kp kw) (vl : IsScalarOf v vp vw) where
+module _ {K V : Type 0} {k v : ScalarKind} {kp : Plain K} {vp : Plain V} {kw : K → ℤ} {vw : V → ℤ}
+    (kl : IsScalarOf k kp kw) (vl : IsScalarOf v vp vw) where
   -- a pair of values as one of numbers
   abbrev pub number_pair : Pair K V → NumberPair
   number_pair p = record { key = kw p.key; value = vw p.value; node = p.node }
@@ -48,21 +61,27 @@ module _ {K V : Type 0} (k v : ScalarKind) (kp : Plain K) (vp : Plain V) (kw : K
   numbers-nodes [] = refl
   numbers-nodes (p ∷ ps) = ap (λ (ns : List ℕ). handle p.node ∷ ns) (numbers-nodes ps)
 
-  numbers-extents : (ps : List (Pair K V)) → map (λ (p : NumberPair). p.node) (number_pairs ps) ≡ map (λ (p : Pair K V). p.node) ps
+  numbers-extents : (ps : List (Pair K V))
+      → map (λ (p : NumberPair). p.node) (number_pairs ps) ≡ map (λ (p : Pair K V). p.node) ps
   numbers-extents [] = refl
   numbers-extents (p ∷ ps) = ap (λ xs. p.node ∷ xs) (numbers-extents ps)
 
   -- ---- by key
 
-  numbers-at : (ps : List (Pair K V)) (x : K) → pair_at int_lt (number_pairs ps) (kw x) ≡ option_map number_pair (pair_at kp.order ps x)
-  numbers-at ps x = find-made number_pair (is_key kp.order x) (is_key int_lt (kw x)) (λ p i. not (sym (kl.ordered x p.key) i || sym (kl.ordered p.key x) i)) ps
+  numbers-at : (ps : List (Pair K V)) (x : K)
+      → pair_at int_lt (number_pairs ps) (kw x) ≡ option_map number_pair (pair_at kp.order ps x)
+  numbers-at ps x =
+      find-made number_pair (is_key kp.order x) (is_key int_lt (kw x))
+      (λ p i. not (sym (kl.ordered x p.key) i || sym (kl.ordered p.key x) i)) ps
 
-  numbers-first : (past : Bool) (x : K) (ps : List (Pair K V)) → first_pair int_lt past (kw x) (number_pairs ps) ≡ option_map number_pair (first_pair kp.order past x ps)
+  numbers-first : (past : Bool) (x : K) (ps : List (Pair K V))
+      → first_pair int_lt past (kw x) (number_pairs ps) ≡ option_map number_pair (first_pair kp.order past x ps)
   numbers-first past x ps =
       find-made number_pair (λ p. not (is_passed kp.order past x p)) (λ p. not (is_passed int_lt past (kw x) p))
       (λ p i. not (if past then not (sym (kl.ordered x p.key) i) else sym (kl.ordered p.key x) i)) ps
 
-  numbers-last : (past : Bool) (x : K) (ps : List (Pair K V)) → last_pair int_lt past (kw x) (number_pairs ps) ≡ option_map number_pair (last_pair kp.order past x ps)
+  numbers-last : (past : Bool) (x : K) (ps : List (Pair K V))
+      → last_pair int_lt past (kw x) (number_pairs ps) ≡ option_map number_pair (last_pair kp.order past x ps)
   numbers-last past x ps =
       ap (find (is_passed int_lt past (kw x))) (map_reversed number_pair ps)
       ∙ find-made number_pair (is_passed kp.order past x) (is_passed int_lt past (kw x))
@@ -73,176 +92,218 @@ module _ {K V : Type 0} (k v : ScalarKind) (kp : Plain K) (vp : Plain V) (kw : K
   numbers-rising (p ∷ []) = refl
   numbers-rising (p ∷ q ∷ qs) = λ i. sym (kl.ordered p.key q.key) i && numbers-rising (q ∷ qs) i
 
-  numbers-put : (p : Pair K V) (ps : List (Pair K V)) → put_pair int_lt (number_pair p) (number_pairs ps) ≡ number_pairs (put_pair kp.order p ps)
+  numbers-put : (p : Pair K V) (ps : List (Pair K V))
+      → put_pair int_lt (number_pair p) (number_pairs ps) ≡ number_pairs (put_pair kp.order p ps)
   numbers-put p [] = refl
   numbers-put p (q ∷ qs) =
       (λ i. if sym (kl.ordered p.key q.key) i then number_pair p ∷ number_pair q ∷ number_pairs qs
-      else if sym (kl.ordered q.key p.key) i then number_pair q ∷ numbers-put p qs i else number_pair p ∷ number_pairs qs)
+      else if sym
+      (kl.ordered q.key p.key) i then number_pair q ∷ numbers-put p qs i else number_pair p ∷ number_pairs qs)
       ∙ chosen (kp.order p.key q.key) (kp.order q.key p.key)
     where
-      chosen : (a b : Bool) → (if a then number_pair p ∷ number_pair q ∷ number_pairs qs else if b then number_pair q ∷ number_pairs (put_pair kp.order p qs) else number_pair p ∷ number_pairs qs)
+      chosen : (a b : Bool)
+          → (if a then number_pair p ∷ number_pair q ∷ number_pairs qs else if b then number_pair q ∷ number_pairs
+          (put_pair kp.order p qs) else number_pair p ∷ number_pairs qs)
           ≡ number_pairs (if a then p ∷ q ∷ qs else if b then q ∷ put_pair kp.order p qs else p ∷ qs)
       chosen true b = refl
       chosen false true = refl
       chosen false false = refl
 
-  numbers-removed : (ps : List (Pair K V)) (x : K) → remove_pair int_lt (number_pairs ps) (kw x) ≡ number_pairs (remove_pair kp.order ps x)
+  numbers-removed : (ps : List (Pair K V)) (x : K)
+      → remove_pair int_lt (number_pairs ps) (kw x) ≡ number_pairs (remove_pair kp.order ps x)
   numbers-removed [] x = refl
   numbers-removed (q ∷ qs) x =
-      (λ i. if not (sym (kl.ordered x q.key) i || sym (kl.ordered q.key x) i) then number_pairs qs else number_pair q ∷ numbers-removed qs x i) ∙ chosen (is_key kp.order x q)
+      (λ i. if not
+      (sym (kl.ordered x q.key) i || sym
+      (kl.ordered q.key x) i) then number_pairs qs else number_pair q ∷ numbers-removed qs x i) ∙ chosen
+      (is_key kp.order x q)
     where
-      chosen : (b : Bool) → (if b then number_pairs qs else number_pair q ∷ number_pairs (remove_pair kp.order qs x)) ≡ number_pairs (if b then qs else q ∷ remove_pair kp.order qs x)
+      chosen : (b : Bool)
+          → (if b then number_pairs qs else number_pair q ∷ number_pairs (remove_pair kp.order qs x))
+          ≡ number_pairs (if b then qs else q ∷ remove_pair kp.order qs x)
       chosen true = refl
       chosen false = refl
 
   -- ---- in their blocks
 
   pair-good : (p : Pair K V) → is_number_pair k v (number_pair p) ≡ is_pair kp.SIZE vp.SIZE kp.is_value vp.is_value p
-  pair-good p = λ i. sym (kl.values p.key) i && sym (vl.values p.value) i && serves p.node Node (node_len (sym kl.long i) (sym vl.long i))
+  pair-good p =
+      λ i. sym (kl.values p.key) i && sym (vl.values p.value) i && serves p.node Node
+      (node_len (sym kl.long i) (sym vl.long i))
 
-  pair-same : (m : Memory) (p : Pair K V) → IsPairAt kp.SIZE kp.spelling vp.spelling m p ≡ IsNumberPairAt k v m (number_pair p)
-  pair-same m p = λ i. Has m (handle p.node + 16) (kl.spelled p.key i) × Has m (handle p.node + 16 + kl.long i) (vl.spelled p.value i)
+  pair-same : (m : Memory) (p : Pair K V)
+      → IsPairAt kp.SIZE kp.spelling vp.spelling m p ≡ IsNumberPairAt k v m (number_pair p)
+  pair-same m p =
+      λ i. Has m (handle p.node + 16) (kl.spelled p.key i) × Has m (handle p.node + 16 + kl.long i)
+      (vl.spelled p.value i)
 
-  pairs-same : (m : Memory) (ps : List (Pair K V)) → AllByRecursion (IsPairAt kp.SIZE kp.spelling vp.spelling m) ps ≡ AllByRecursion (IsNumberPairAt k v m) (number_pairs ps)
+  pairs-same : (m : Memory) (ps : List (Pair K V))
+      → AllByRecursion (IsPairAt kp.SIZE kp.spelling vp.spelling m) ps
+      ≡ AllByRecursion (IsNumberPairAt k v m) (number_pairs ps)
   pairs-same m [] = refl
   pairs-same m (p ∷ ps) = λ i. pair-same m p i × pairs-same m ps i
 
-  pairs-in : (l : LiveSet) (h : ℕ) (ps : List (Pair K V)) → AllByRecursion (IsPairIn kp vp l h) ps → AllByRecursion (IsPairIn (numbers_of k) (numbers_of v) l h) (number_pairs ps)
+  pairs-in : (l : LiveSet) (h : ℕ) (ps : List (Pair K V)) → AllByRecursion (IsPairIn kp vp l h) ps
+      → AllByRecursion (IsPairIn (numbers_of k) (numbers_of v) l h) (number_pairs ps)
   pairs-in l h [] a = tt
-  pairs-in l h (p ∷ ps) a = (record { good = pair-good p ∙ a.0.good; listed = a.0.listed; apart = a.0.apart }, pairs-in l h ps a.1)
+  pairs-in l h (p ∷ ps) a =
+      (record { good = pair-good p ∙ a.0.good; listed = a.0.listed; apart = a.0.apart }, pairs-in l h ps a.1)
 
-  in-pairs : (l : LiveSet) (h : ℕ) (ps : List (Pair K V)) → AllByRecursion (IsPairIn (numbers_of k) (numbers_of v) l h) (number_pairs ps) → AllByRecursion (IsPairIn kp vp l h) ps
+  in-pairs : (l : LiveSet) (h : ℕ) (ps : List (Pair K V))
+      → AllByRecursion (IsPairIn (numbers_of k) (numbers_of v) l h) (number_pairs ps)
+      → AllByRecursion (IsPairIn kp vp l h) ps
   in-pairs l h [] a = tt
-  in-pairs l h (p ∷ ps) a = (record { good = sym (pair-good p) ∙ a.0.good; listed = a.0.listed; apart = a.0.apart }, in-pairs l h ps a.1)
+  in-pairs l h (p ∷ ps) a =
+      (record { good = sym (pair-good p) ∙ a.0.good; listed = a.0.listed; apart = a.0.apart }, in-pairs l h ps a.1)
 
   -- ---- maps at a place
 
-  -- a map of values is one of their numbers
-  pub map-numbers : (b : List ℕ) (h at : ℕ) (ps : List (Pair K V)) → HoldsMap kp vp b h at ps → HoldsMap (numbers_of k) (numbers_of v) b h at (number_pairs ps)
-  map-numbers b h at ps s = record {
-    heap = s.heap;
-    map = record {
-      count = s.map.count ∙ sym (length-map ps number_pair);
-      third = s.map.third;
-      tree = subst (IsTreeOf (bytes_of b) (h + at)) (sym (numbers-nodes ps)) s.map.tree;
-      pairs = subst (λ (said : Type 0). said) (pairs-same (bytes_of b) ps) s.map.pairs;
-    };
-    aligned = s.aligned;
-    room = s.room;
-    rising = numbers-rising ps ∙ s.rising;
-    pairs = pairs-in (live_of b) h ps s.pairs;
-  }
-
-  -- and the other way round
-  pub numbers-map : (b : List ℕ) (h at : ℕ) (ps : List (Pair K V)) → HoldsMap (numbers_of k) (numbers_of v) b h at (number_pairs ps) → HoldsMap kp vp b h at ps
-  numbers-map b h at ps s = record {
-    heap = s.heap;
-    map = record {
-      count = s.map.count ∙ length-map ps number_pair;
-      third = s.map.third;
-      tree = subst (IsTreeOf (bytes_of b) (h + at)) (numbers-nodes ps) s.map.tree;
-      pairs = subst (λ (said : Type 0). said) (sym (pairs-same (bytes_of b) ps)) s.map.pairs;
-    };
-    aligned = s.aligned;
-    room = s.room;
-    rising = sym (numbers-rising ps) ∙ s.rising;
-    pairs = in-pairs (live_of b) h ps s.pairs;
-  }
+  -- a map of the numbers
+  abbrev HoldsNumbers : List ℕ → ℕ → ℕ → List NumberPair → Type 0
+  HoldsNumbers b h at qs = HoldsMap (numbers_of k) (numbers_of v) b h at qs
 
   -- pairs of numbers of the kinds are those of values
   reached-pair : (q : NumberPair) → is_number_pair k v q ≡ true → (p : Pair K V) × (number_pair p ≡ q)
   reached-pair q e =
-      let good : IsTrue (is_value k q.key && is_value v q.value) = first (is_value k q.key && is_value v q.value) (serves q.node Node (node_len (size_of k) (size_of v))) e in
+      let good : IsTrue (is_value k q.key && is_value v q.value) =
+      first (is_value k q.key && is_value v q.value) (serves q.node Node (node_len (size_of k) (size_of v))) e in
       let x : (x : K) × (kw x ≡ q.key) = kl.reached q.key (first (is_value k q.key) (is_value v q.value) good) in
       let y : (y : V) × (vw y ≡ q.value) = vl.reached q.value (second (is_value k q.key) (is_value v q.value) good) in
       (record { key = x.0; value = y.0; node = q.node }, λ i. record { key = x.1 i; value = y.1 i; node = q.node })
 
-  reached-pairs : (l : LiveSet) (h : ℕ) (qs : List NumberPair) → AllByRecursion (IsPairIn (numbers_of k) (numbers_of v) l h) qs → (ps : List (Pair K V)) × (number_pairs ps ≡ qs)
+  reached-pairs : (l : LiveSet) (h : ℕ) (qs : List NumberPair)
+      → AllByRecursion (IsPairIn (numbers_of k) (numbers_of v) l h) qs
+      → (ps : List (Pair K V)) × (number_pairs ps ≡ qs)
   reached-pairs l h [] a = ([], refl)
   reached-pairs l h (q ∷ qs) a =
       let one : (p : Pair K V) × (number_pair p ≡ q) = reached-pair q a.0.good in
       let rest : (ps : List (Pair K V)) × (number_pairs ps ≡ qs) = reached-pairs l h qs a.1 in
       (one.0 ∷ rest.0, λ i. one.1 i ∷ rest.1 i)
 
-  -- What is said of each map of values is said of each of numbers.
-  of-values : (b : List ℕ) (h at : ℕ) (P : List NumberPair → Type 0) → ((ps : List (Pair K V)) → HoldsMap kp vp b h at ps → P (number_pairs ps))
-      → (qs : List NumberPair) → HoldsMap (numbers_of k) (numbers_of v) b h at qs → P qs
-  of-values b h at P each qs s =
-      let r : (ps : List (Pair K V)) × (number_pairs ps ≡ qs) = reached-pairs (live_of b) h qs s.pairs in
-      subst P r.1 (each r.0 (numbers-map b h at r.0 (subst (HoldsMap (numbers_of k) (numbers_of v) b h at) (sym r.1) s)))
-
-  -- where one of numbers stands, one of values does
-  pub some-map : (b : List ℕ) (h at : ℕ) → IsSomeMap (numbers_of k) (numbers_of v) b h at → IsSomeMap kp vp b h at
-  some-map b h at s =
-      let r : (ps : List (Pair K V)) × (number_pairs ps ≡ s.0) = reached-pairs (live_of b) h s.0 s.1.pairs in
-      (r.0, numbers-map b h at r.0 (subst (HoldsMap (numbers_of k) (numbers_of v) b h at) (sym r.1) s.1))
-
   -- ---- what is found
 
-  found-value : (o : Option (Pair K V)) → option_map vw (option_map value_of_pair o) ≡ option_map value_of_pair (option_map number_pair o)
+  found-value : (o : Option (Pair K V))
+      → option_map vw (option_map value_of_pair o) ≡ option_map value_of_pair (option_map number_pair o)
   found-value None = refl
   found-value (Some p) = refl
 
-  found-item : (o : Option (Pair K V)) → numbers_in kw vw (option_map item_of o) ≡ option_map item_of (option_map number_pair o)
+  found-item : (o : Option (Pair K V))
+      → numbers_in kw vw (option_map item_of o) ≡ option_map item_of (option_map number_pair o)
   found-item None = refl
   found-item (Some p) = refl
 
-  pub finds-value : (b : List ℕ) (h at : ℕ) (x : K) (r : Option V) → FindsValue kp vp b h at x r → FindsValue (numbers_of k) (numbers_of v) b h at (kw x) (option_map vw r)
-  finds-value b h at x r each =
-      of-values b h at (λ qs. option_map vw r ≡ option_map value_of_pair (pair_at int_lt qs (kw x)))
-      (λ ps s. ap (option_map vw) (each ps s) ∙ found-value (pair_at kp.order ps x) ∙ ap (option_map value_of_pair) (sym (numbers-at ps x)))
+  module _ (b : List ℕ) (h at : ℕ) where
+    -- a map of values is one of their numbers
+    pub map-numbers : (ps : List (Pair K V)) → HoldsMap kp vp b h at ps → HoldsNumbers b h at (number_pairs ps)
+    map-numbers ps s = record {
+      heap = s.heap;
+      map = record {
+        count = s.map.count ∙ sym (length-map ps number_pair);
+        third = s.map.third;
+        tree = subst (IsTreeOf (bytes_of b) (h + at)) (sym (numbers-nodes ps)) s.map.tree;
+        pairs = subst (λ (said : Type 0). said) (pairs-same (bytes_of b) ps) s.map.pairs;
+      };
+      aligned = s.aligned;
+      room = s.room;
+      rising = numbers-rising ps ∙ s.rising;
+      pairs = pairs-in (live_of b) h ps s.pairs;
+    }
 
-  pub finds-item : (b : List ℕ) (h at : ℕ) (past : Bool) (x : K) (r : Option (K × V)) → FindsItem kp vp b h at past x r → FindsItem (numbers_of k) (numbers_of v) b h at past (kw x) (numbers_in kw vw r)
-  finds-item b h at past x r each =
-      of-values b h at (λ qs. numbers_in kw vw r ≡ option_map item_of (first_pair int_lt past (kw x) qs))
-      (λ ps s. ap (numbers_in kw vw) (each ps s) ∙ found-item (first_pair kp.order past x ps) ∙ ap (option_map item_of) (sym (numbers-first past x ps)))
+    -- and the other way round
+    pub numbers-map : (ps : List (Pair K V)) → HoldsNumbers b h at (number_pairs ps) → HoldsMap kp vp b h at ps
+    numbers-map ps s = record {
+      heap = s.heap;
+      map = record {
+        count = s.map.count ∙ length-map ps number_pair;
+        third = s.map.third;
+        tree = subst (IsTreeOf (bytes_of b) (h + at)) (numbers-nodes ps) s.map.tree;
+        pairs = subst (λ (said : Type 0). said) (sym (pairs-same (bytes_of b) ps)) s.map.pairs;
+      };
+      aligned = s.aligned;
+      room = s.room;
+      rising = sym (numbers-rising ps) ∙ s.rising;
+      pairs = in-pairs (live_of b) h ps s.pairs;
+    }
 
-  pub finds-back : (b : List ℕ) (h at : ℕ) (past : Bool) (x : K) (r : Option (K × V)) → FindsItemBefore kp vp b h at past x r → FindsItemBefore (numbers_of k) (numbers_of v) b h at past (kw x) (numbers_in kw vw r)
-  finds-back b h at past x r each =
-      of-values b h at (λ qs. numbers_in kw vw r ≡ option_map item_of (last_pair int_lt past (kw x) qs))
-      (λ ps s. ap (numbers_in kw vw) (each ps s) ∙ found-item (last_pair kp.order past x ps) ∙ ap (option_map item_of) (sym (numbers-last past x ps)))
+    -- the values of a map of numbers
+    reached-map : (qs : List NumberPair) → HoldsNumbers b h at qs
+        → (ps : List (Pair K V)) × ((number_pairs ps ≡ qs) × HoldsMap kp vp b h at ps)
+    reached-map qs s =
+        let r : (ps : List (Pair K V)) × (number_pairs ps ≡ qs) = reached-pairs (live_of b) h qs s.pairs in
+        (r.0, (r.1, numbers-map r.0 (subst (HoldsNumbers b h at) (sym r.1) s)))
 
-  pub finds-last : (b : List ℕ) (h at : ℕ) (r : Option (K × V)) → FindsLastItem kp vp b h at r → FindsLastItem (numbers_of k) (numbers_of v) b h at (numbers_in kw vw r)
-  finds-last b h at r each =
-      of-values b h at (λ qs. numbers_in kw vw r ≡ option_map item_of (final_pair qs))
-      (λ ps s. ap (numbers_in kw vw) (each ps s) ∙ found-item (final_pair ps) ∙ ap (option_map item_of) (sym (last_mapped number_pair None ps)))
+    -- What is said of each map of values is said of each of numbers.
+    of-values : (P : List NumberPair → Type 0)
+        → ((ps : List (Pair K V)) → HoldsMap kp vp b h at ps → P (number_pairs ps))
+        → (qs : List NumberPair) → HoldsNumbers b h at qs → P qs
+    of-values P each qs s = let r = reached-map qs s in subst P r.1.0 (each r.0 r.1.1)
+
+    -- where one of numbers stands, one of values does
+    pub some-map : IsSomeMap (numbers_of k) (numbers_of v) b h at → IsSomeMap kp vp b h at
+    some-map s = let r = reached-map s.0 s.1 in (r.0, r.1.1)
+
+    pub finds-value : (x : K) (r : Option V) → FindsValue kp vp b h at x r
+        → FindsValue (numbers_of k) (numbers_of v) b h at (kw x) (option_map vw r)
+    finds-value x r each =
+        of-values (λ qs. option_map vw r ≡ option_map value_of_pair (pair_at int_lt qs (kw x)))
+        (λ ps s. ap (option_map vw) (each ps s) ∙ found-value (pair_at kp.order ps x)
+        ∙ ap (option_map value_of_pair) (sym (numbers-at ps x)))
+
+    -- a pair that is found, as it is found among the numbers
+    finds : (found : List (Pair K V) → Option (Pair K V)) (numbers-found : List NumberPair → Option NumberPair)
+        → ((ps : List (Pair K V)) → numbers-found (number_pairs ps) ≡ option_map number_pair (found ps))
+        → (r : Option (K × V))
+        → ((ps : List (Pair K V)) → HoldsMap kp vp b h at ps → r ≡ option_map item_of (found ps))
+        → (qs : List NumberPair) → HoldsNumbers b h at qs → numbers_in kw vw r ≡ option_map item_of (numbers-found qs)
+    finds found numbers-found same r each =
+        of-values (λ qs. numbers_in kw vw r ≡ option_map item_of (numbers-found qs))
+        (λ ps s. ap (numbers_in kw vw) (each ps s) ∙ found-item (found ps) ∙ ap (option_map item_of) (sym (same ps)))
+
+    pub finds-item : (past : Bool) (x : K) (r : Option (K × V)) → FindsItem kp vp b h at past x r
+        → FindsItem (numbers_of k) (numbers_of v) b h at past (kw x) (numbers_in kw vw r)
+    finds-item past x = finds (first_pair kp.order past x) (first_pair int_lt past (kw x)) (numbers-first past x)
+
+    pub finds-back : (past : Bool) (x : K) (r : Option (K × V)) → FindsItemBefore kp vp b h at past x r
+        → FindsItemBefore (numbers_of k) (numbers_of v) b h at past (kw x) (numbers_in kw vw r)
+    finds-back past x = finds (last_pair kp.order past x) (last_pair int_lt past (kw x)) (numbers-last past x)
+
+    pub finds-last : (r : Option (K × V)) → FindsLastItem kp vp b h at r
+        → FindsLastItem (numbers_of k) (numbers_of v) b h at (numbers_in kw vw r)
+    finds-last = finds final_pair final_pair (λ ps. last_mapped number_pair None ps)
 
   -- ---- what becomes of them
 
   module _ (old new : Cut) (h at : ℕ) where
-    beside-numbers : (ps : List (Pair K V)) → IsBesideMap old new (h + at) (nodes_of_pairs ps) → IsBesideMap old new (h + at) (nodes_of_pairs (number_pairs ps))
+    beside-numbers : (ps : List (Pair K V)) → IsBesideMap old new (h + at) (nodes_of_pairs ps)
+        → IsBesideMap old new (h + at) (nodes_of_pairs (number_pairs ps))
     beside-numbers ps s = subst (IsBesideMap old new (h + at)) (sym (numbers-nodes ps)) s
 
     put-numbers : (ps : List (Pair K V)) (p : Pair K V) → HoldsMap kp vp new.bytes h at (put_pair kp.order p ps)
-        → HoldsMap (numbers_of k) (numbers_of v) new.bytes h at (put_pair int_lt (number_pair p) (number_pairs ps))
-    put-numbers ps p s = subst (HoldsMap (numbers_of k) (numbers_of v) new.bytes h at) (sym (numbers-put p ps)) (map-numbers new.bytes h at (put_pair kp.order p ps) s)
+        → HoldsNumbers new.bytes h at (put_pair int_lt (number_pair p) (number_pairs ps))
+    put-numbers ps p s =
+        subst (HoldsNumbers new.bytes h at) (sym (numbers-put p ps))
+        (map-numbers new.bytes h at (put_pair kp.order p ps) s)
 
-    put-of : (ps : List (Pair K V)) (x : K) (y : V) → IsPut kp vp old new h at ps x y → IsPut (numbers_of k) (numbers_of v) old new h at (number_pairs ps) (kw x) (vw y)
-    put-of ps x y r = record {
-      extent = r.extent;
-      placed = (λ i. place (live_of old.bytes) (node_len (sym kl.long i) (sym vl.long i)) Node) ∙ r.placed;
-      live = r.live;
-      beside = beside-numbers ps r.beside;
-      map = put-numbers ps (record { key = x; value = y; node = r.extent }) r.map;
-    }
+    -- the place of a new node
+    placed-so : place (live_of old.bytes) (node_len (size_of k) (size_of v)) Node
+        ≡ place (live_of old.bytes) (node_len kp.SIZE vp.SIZE) Node
+    placed-so = λ i. place (live_of old.bytes) (node_len (sym kl.long i) (sym vl.long i)) Node
 
-    full-of : IsFull kp vp old new → IsFull (numbers_of k) (numbers_of v) old new
-    full-of r = record { none = (λ i. place (live_of old.bytes) (node_len (sym kl.long i) (sym vl.long i)) Node) ∙ r.none; same = r.same }
-
-    abbrev PutsOf : {E : Type 0} → List (Pair K V) → K → V → Result Bool E → Option (Pair K V) → Type 0
-    PutsOf ps x y result o =
-        MatchOption o (MatchResult result (λ b. (b ≡ true) × IsPut kp vp old new h at ps x y) (λ e. IsFull kp vp old new))
-        (λ p. (result ≡ Ok false) × IsPutAgain kp vp old new h at ps p x y)
-
-    abbrev PutsNumbers : {E : Type 0} → List NumberPair → ℤ → ℤ → Result Bool E → Option NumberPair → Type 0
-    PutsNumbers qs x y result o =
-        MatchOption o (MatchResult result (λ b. (b ≡ true) × IsPut (numbers_of k) (numbers_of v) old new h at qs x y) (λ e. IsFull (numbers_of k) (numbers_of v) old new))
-        (λ p. (result ≡ Ok false) × IsPutAgain (numbers_of k) (numbers_of v) old new h at qs p x y)
-
-    puts-if : {E : Type 0} (ps : List (Pair K V)) (x : K) (y : V) (result : Result Bool E) (o : Option (Pair K V)) → PutsOf ps x y result o
-        → PutsNumbers (number_pairs ps) (kw x) (vw y) result (option_map number_pair o)
-    puts-if ps x y (Ok b) None r = (r.0, put-of ps x y r.1)
-    puts-if ps x y (Err e) None r = full-of r
+    puts-if : {E : Type 0} (ps : List (Pair K V)) (x : K) (y : V) (result : Result Bool E) (o : Option (Pair K V))
+        → PutsBy kp vp old new h at ps x y result o
+        → PutsBy (numbers_of k) (numbers_of v) old new h at (number_pairs ps) (kw x) (vw y) result
+        (option_map number_pair o)
+    puts-if ps x y (Ok b) None r = (
+      r.0,
+      record {
+        extent = r.1.extent;
+        placed = placed-so ∙ r.1.placed;
+        live = r.1.live;
+        beside = beside-numbers ps r.1.beside;
+        map = put-numbers ps (record { key = x; value = y; node = r.1.extent }) r.1.map;
+      },
+    )
+    puts-if ps x y (Err e) None r = record { none = placed-so ∙ r.none; same = r.same }
     puts-if ps x y result (Some p) r = (
       r.0,
       record {
@@ -254,37 +315,46 @@ module _ {K V : Type 0} (k v : ScalarKind) (kp : Plain K) (vp : Plain V) (kw : K
       },
     )
 
-    pub puts-numbers : {E : Type 0} (x : K) (y : V) (result : Result Bool E) → Puts kp vp old new h at x y result → Puts (numbers_of k) (numbers_of v) old new h at (kw x) (vw y) result
+    pub puts-numbers : {E : Type 0} (x : K) (y : V) (result : Result Bool E) → Puts kp vp old new h at x y result
+        → Puts (numbers_of k) (numbers_of v) old new h at (kw x) (vw y) result
     puts-numbers x y result each =
-        of-values old.bytes h at (λ qs. PutsNumbers qs (kw x) (vw y) result (pair_at int_lt qs (kw x)))
-        (λ ps s. subst (PutsNumbers (number_pairs ps) (kw x) (vw y) result) (sym (numbers-at ps x)) (puts-if ps x y result (pair_at kp.order ps x) (each ps s)))
+        of-values old.bytes h at
+        (λ qs. PutsBy (numbers_of k) (numbers_of v) old new h at qs (kw x) (vw y) result (pair_at int_lt qs (kw x)))
+        (λ ps s.
+        subst (PutsBy (numbers_of k) (numbers_of v) old new h at (number_pairs ps) (kw x) (vw y) result)
+        (sym (numbers-at ps x))
+        (puts-if ps x y result (pair_at kp.order ps x) (each ps s)))
 
-    abbrev ErasesOf : List (Pair K V) → K → Bool → Option (Pair K V) → Type 0
-    ErasesOf ps x result o = MatchOption o ((result ≡ false) × (new ≡ old)) (λ p. (result ≡ true) × IsErased kp vp old new h at ps p x)
-
-    abbrev ErasesNumbers : List NumberPair → ℤ → Bool → Option NumberPair → Type 0
-    ErasesNumbers qs x result o = MatchOption o ((result ≡ false) × (new ≡ old)) (λ p. (result ≡ true) × IsErased (numbers_of k) (numbers_of v) old new h at qs p x)
-
-    erases-if : (ps : List (Pair K V)) (x : K) (result : Bool) (o : Option (Pair K V)) → ErasesOf ps x result o → ErasesNumbers (number_pairs ps) (kw x) result (option_map number_pair o)
+    erases-if : (ps : List (Pair K V)) (x : K) (result : Bool) (o : Option (Pair K V))
+        → ErasesBy kp vp old new h at ps x result o
+        → ErasesBy (numbers_of k) (numbers_of v) old new h at (number_pairs ps) (kw x) result (option_map number_pair o)
     erases-if ps x result None r = r
     erases-if ps x result (Some p) r = (
       r.0,
       record {
         live = r.1.live;
         beside = beside-numbers ps r.1.beside;
-        map = subst (HoldsMap (numbers_of k) (numbers_of v) new.bytes h at) (sym (numbers-removed ps x)) (map-numbers new.bytes h at (remove_pair kp.order ps x) r.1.map);
+        map = subst (HoldsNumbers new.bytes h at) (sym (numbers-removed ps x))
+            (map-numbers new.bytes h at (remove_pair kp.order ps x) r.1.map);
       },
     )
 
-    pub erases-numbers : (x : K) (result : Bool) → Erases kp vp old new h at x result → Erases (numbers_of k) (numbers_of v) old new h at (kw x) result
+    pub erases-numbers : (x : K) (result : Bool) → Erases kp vp old new h at x result
+        → Erases (numbers_of k) (numbers_of v) old new h at (kw x) result
     erases-numbers x result each =
-        of-values old.bytes h at (λ qs. ErasesNumbers qs (kw x) result (pair_at int_lt qs (kw x)))
-        (λ ps s. subst (ErasesNumbers (number_pairs ps) (kw x) result) (sym (numbers-at ps x)) (erases-if ps x result (pair_at kp.order ps x) (each ps s)))
+        of-values old.bytes h at
+        (λ qs. ErasesBy (numbers_of k) (numbers_of v) old new h at qs (kw x) result (pair_at int_lt qs (kw x)))
+        (λ ps s.
+        subst (ErasesBy (numbers_of k) (numbers_of v) old new h at (number_pairs ps) (kw x) result)
+        (sym (numbers-at ps x))
+        (erases-if ps x result (pair_at kp.order ps x) (each ps s)))
 
     pub releases-numbers : Releases kp vp old new h at → Releases (numbers_of k) (numbers_of v) old new h at
     releases-numbers each =
         of-values old.bytes h at (IsGivenUp (numbers_of k) (numbers_of v) old new h at)
         (λ ps s.
         let r : IsGivenUp kp vp old new h at ps = each ps s in
-        let none : List (Pair K V) = [] in
-        record { change = subst (λ xs. IsExchanged current old new (h + at) 24 xs []) (sym (numbers-extents ps)) r.change; empty = map-numbers new.bytes h at none r.empty })
+        let none : List (Pair K V) = [] in record {
+          change = subst (λ xs. IsExchanged current old new (h + at) 24 xs []) (sym (numbers-extents ps)) r.change;
+          empty = map-numbers new.bytes h at none r.empty;
+        })

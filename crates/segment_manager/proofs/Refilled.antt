@@ -3,42 +3,58 @@ use Rattle.segment_manager.proofs.Common.{◌≡◌, refl, sym, ap, ◌∙◌, �
 use Rattle.segment_manager.proofs.Common.{Err, List, if◌then◌else◌, ◌*◌, ◌&&◌, IsTrue, nat_le, option_map, Cut, live_of}
 use Rattle.segment_manager.proofs.Common.{Table, Extent, LiveSet, regrow, Kind, Refusal, NoSpace, NotFound, WrongKind}
 use Rattle.segment_manager.proofs.Common.{ReadOnly, same_kind, Key, Command, is_changing, Place, grown_table, Mode}
-use Rattle.segment_manager.proofs.Common.{Answer, Refused, Contents, IsRefilled, container_at, container_place}
-use Rattle.segment_manager.proofs.Common.{contents_of, has_values, Value, Object, Directory, kind_of, live, object_at}
-use Rattle.segment_manager.proofs.Common.{Denotes, Reply, perform, with_capacity, Request, RegrownNeed, Refuse, Answers}
-use Rattle.segment_manager.proofs.Common.{IsSegment, IsStep, IsStepOfKind, State, StandsFor, changed, effect}
-use Rattle.segment_manager.proofs.Common.{is_read_only, step_of_kind, step}
+use Rattle.segment_manager.proofs.Common.{same_Some, Answer, Refused, Contents, IsRefilled, container_at}
+use Rattle.segment_manager.proofs.Common.{container_place, contents_of, has_values, Value, Object, Directory, kind_of}
+use Rattle.segment_manager.proofs.Common.{live, object_at, Denotes, perform, with_capacity, Request, RegrownNeed}
+use Rattle.segment_manager.proofs.Common.{Refuse, Answers, IsSegment, IsStep, IsStepOfKind, State, StandsFor, changed}
+use Rattle.segment_manager.proofs.Common.{effect, Plan, is_read_only, step_of_kind, step, arith, le-ltb, lt-ltb}
+use Rattle.segment_manager.proofs.Common.{resized, with_array}
 use Rattle.segment_manager.proofs.{Calling.denotes-live, Contained.contents-changed}
 use Rattle.segment_manager.proofs.Steps.{IsMove, IsOpenFor, by_no_change, by_no_change_of_kind, by_step_of_kind}
 use Rattle.segment_manager.proofs.Steps.{open-writing, step-effect, step_of_kind-found, step_of_kind-not_found}
 use Rattle.segment_manager.proofs.Steps.{step_of_kind-other, moves-same}
+use Rattle.std.proofs.lemmas.Bool.{leb-false}
 
--- ---- a plan that asks for room
+-- ---- a plan that asks for a block
 
--- the answer and the directory for the table with the room, or no space
-abbrev pub answered : Directory → Answer → (Table → Directory) → Option Table → Answer × Directory
-answered d a next None = (Refused NoSpace, d)
-answered d a next (Some u) = (a, next u)
+-- what comes of what is made with it, with the blocks beside that; or there is no space
+abbrev pub then_by : {A : Type 0} → (A → LiveSet) → Directory → (A → Plan) → Option A → Answer × Directory
+then_by beside d next None = (Refused NoSpace, d)
+then_by beside d next (Some a) = perform d (beside a) (next a)
 
-abbrev with_extent : ℕ → Extent → Table
-with_extent n x = record { capacity = n; extent = Some x }
+pub asked-met : {A : Type 0} (beside : A → LiveSet) (made : Extent → A) (d : Directory) (l : LiveSet) (next : A → Plan)
+    → ((x : Extent) → resized l x ≡ beside (made x)) → (r : Option Extent)
+    → elim r as (λ _. Answer × Directory)
+    [ None ↦ (Refused NoSpace, d) | Some x ↦ perform d (resized l x) (next (made x)) ]
+    ≡ then_by beside d next (option_map made r)
+asked-met beside made d l next e None = refl
+asked-met beside made d l next e (Some x) = ap (λ (m : LiveSet). perform d m (next (made x))) (e x)
 
-grown-met : (d : Directory) (n : ℕ) (a : Answer) (next : Table → Directory) (r : Option Extent)
-    → elim r as (λ _. Answer × Directory) [ None ↦ (Refused NoSpace, d) | Some x ↦ (a, next (with_extent n x)) ] ≡ answered d a next (option_map (with_extent n) r)
-grown-met d n a next None = refl
-grown-met d n a next (Some x) = refl
+abbrev pub of_places : ℕ → Extent → Table
+of_places n x = record { capacity = n; extent = Some x }
 
-grown-if : (d : Directory) (l : LiveSet) (each n : ℕ) (t : Table) (a : Answer) (next : Table → Directory) (b : Bool)
-    → perform d l (if b then Reply a (next t) else Request (RegrownNeed t.extent (each * n)) (λ x. Reply a (next (with_extent n x))))
-    ≡ answered d a next (if b then Some t else option_map (with_extent n) (regrow l t.extent (each * n)))
-grown-if d l each n t a next true = refl
-grown-if d l each n t a next false = grown-met d n a next (regrow l t.extent (each * n))
+-- a table with so many places or more
+abbrev pub then_room : Directory → LiveSet → Table → (Table → Plan) → Option Table → Answer × Directory
+then_room d l t = then_by (with_array l t) d
 
--- push, insert, reserve, append and assign
-pub grows : (d : Directory) (l : LiveSet) (each n : ℕ) (t : Table) (a : Answer) (next : Table → Directory)
-    → perform d l (with_capacity each n t (λ u. Reply a (next u))) ≡ answered d a next (grown_table l each n t)
+abbrev grown_set : LiveSet → Table → Bool → LiveSet
+grown_set l u b = if b then elim u.extent as (λ _. LiveSet) [ None ↦ l | Some x ↦ resized l x ] else l
+
+room-if : (d : Directory) (l : LiveSet) (each : ℕ) (t : Table) (n : ℕ) (next : Table → Plan) (b : Bool)
+    → nat_le n t.capacity ≡ b
+    → perform d l (if b then next t else Request (RegrownNeed t.extent (each * n)) (λ x. next (of_places n x)))
+    ≡ then_room d l t next (if b then Some t else option_map (of_places n) (regrow l t.extent (each * n)))
+room-if d l each t n next true h =
+    ap (λ (b : Bool). perform d (grown_set l t b) (next t)) (sym (le-ltb t.capacity t.capacity (omega arith)))
+room-if d l each t n next false h =
+    asked-met (with_array l t) (of_places n) d l next
+    (λ x i. grown_set l (of_places n x) (sym (lt-ltb t.capacity n (leb-false n t.capacity h)) i))
+    (regrow l t.extent (each * n))
+
+pub room-grown : (d : Directory) (l : LiveSet) (each : ℕ) (t : Table) (n : ℕ) (next : Table → Plan)
+    → perform d l (with_capacity each n t next) ≡ then_room d l t next (grown_table l each n t)
 unfolding grown_table
-grows d l each n t a next = grown-if d l each n t a next (nat_le n t.capacity)
+room-grown d l each t n next = room-if d l each t n next (nat_le n t.capacity) refl
 
 -- ---- a directory
 
@@ -58,40 +74,81 @@ pub record Refill (old new : Cut) (d : Directory) (key : Key) (c : Command) (ans
   pub outcome : perform d (live d) (effect d c) ≡ (answer, changed d object value)
 
 -- the plan asks for room, where there is some or none
-pub room-asked : (format : ℕ) (b : List ℕ) (d : Directory) (c : Command) (each n : ℕ) (t : Table) (r : Option Table) (answer : Answer) (next : Table → Directory) → Denotes format b d
-    → effect d c ≡ with_capacity each n t (λ u. Reply answer (next u)) → grown_table (live_of b) each n t ≡ r → perform d (live d) (effect d c) ≡ answered d answer next r
-room-asked format b d c each n t r answer next k e g =
-    ap (perform d (live d)) e ∙ grows d (live d) each n t answer next
-    ∙ ap (answered d answer next) (ap (λ l. grown_table l each n t) (sym (denotes-live format b d k)) ∙ g)
+pub room-asked : (format : ℕ) (b : List ℕ) (d : Directory) (c : Command) (each n : ℕ) (t : Table) (r : Option Table)
+    (next : Table → Plan) → Denotes format b d
+    → effect d c ≡ with_capacity each n t next → grown_table (live_of b) each n t ≡ r
+    → perform d (live d) (effect d c) ≡ then_room d (live d) t next r
+room-asked format b d c each n t r next k e g =
+    ap (perform d (live d)) e ∙ room-grown d (live d) each t n next
+    ∙ ap (then_room d (live d) t next) (ap (λ l. grown_table l each n t) (sym (denotes-live format b d k)) ∙ g)
 
 -- the new bytes stand for the directory with the next value
-pub refill-moves : (s : State) (new : Cut) (d : Directory) (key : Key) (c : Command) (answer : Answer) (next : Answer × Directory) → StandsFor s.cut.bytes d → (r : Refill s.cut new d key c answer)
+pub refill-moves : (s : State) (new : Cut) (d : Directory) (key : Key) (c : Command) (answer : Answer)
+    (next : Answer × Directory) → StandsFor s.cut.bytes d → (r : Refill s.cut new d key c answer)
     → next ≡ perform d (live d) (effect d c) → IsMove (record s { cut = new }) answer next
 refill-moves s new d key c answer next k r e = record {
   after = changed d r.object r.value;
   is = e ∙ r.outcome;
   stands = record {
-    denotes = contents-changed s.cut new d key r.object r.value r.was r.next k.denotes r.is r.held r.holds r.kind r.values r.change;
+    denotes = contents-changed s.cut new d key r.object r.value r.was r.next k.denotes r.is r.held r.holds r.kind
+        r.values r.change;
   };
 }
 
--- ---- the call
-
--- the same of a call for objects of one kind
-pub refill-steps_of_kind : (s : State) (new : Cut) (key : Key) (kind : Kind) (c : Command) (answer : Answer) → is_read_only s.mode ≡ false → IsSegment s.cut.bytes
-    → ((d : Directory) → StandsFor s.cut.bytes d → (r : Refill s.cut new d key c answer) × (same_kind kind (kind_of r.object.value) ≡ true)) → IsStepOfKind s (record s { cut = new }) key kind c answer
-refill-steps_of_kind s new key kind c answer writing b each =
-    by_step_of_kind s (record s { cut = new }) key kind c answer (record { mode = refl; place = (each b.0 b.1).0.change.change.place })
-    (λ d k.
-    let r = each d k in
-    refill-moves s new d key c answer (step_of_kind s.mode d key kind c) k r.0
-    (step_of_kind-found s.mode d key kind c r.0.object (open-writing s.mode c writing) r.0.is r.1))
-
 -- a plan that comes to a refusal
-pub refused-steps : (s : State) (c : Command) (r : Refusal) → is_read_only s.mode ≡ false → ((d : Directory) → StandsFor s.cut.bytes d → perform d (live d) (effect d c) ≡ (Refused r, d)) → IsStep s s c (Refused r)
-refused-steps s c r writing each = by_no_change s c (Refused r) (λ d k. step-effect s.mode d c (open-writing s.mode c writing) ∙ each d k)
+pub refused-steps : (s : State) (c : Command) (r : Refusal) → is_read_only s.mode ≡ false
+    → ((d : Directory) → StandsFor s.cut.bytes d → perform d (live d) (effect d c) ≡ (Refused r, d))
+    → IsStep s s c (Refused r)
+refused-steps s c r writing each =
+    by_no_change s c (Refused r) (λ d k. step-effect s.mode d c (open-writing s.mode c writing) ∙ each d k)
 
 -- ---- the search
+
+-- the object of a key: there is none, it is of another kind, or of the kind
+pub by-kind : (d : Directory) (key : Key) (kind : Kind) {P : Type 0} → (object_at d key ≡ None → P)
+    → ((o : Object) → object_at d key ≡ Some o → same_kind kind (kind_of o.value) ≡ false → P)
+    → ((o : Object) → object_at d key ≡ Some o → same_kind kind (kind_of o.value) ≡ true → P) → P
+by-kind d key kind {P} none other of-kind = found (object_at d key) refl
+  where
+    is : (o : Object) (b : Bool) → object_at d key ≡ Some o → same_kind kind (kind_of o.value) ≡ b → P
+    is o true e f = of-kind o e f
+    is o false e f = other o e f
+
+    found : (r : Option Object) → object_at d key ≡ r → P
+    found None e = none e
+    found (Some o) e = is o (same_kind kind (kind_of o.value)) e refl
+
+-- what is told of it if it is of the kind
+abbrev pub told_if : {A : Type 0} → Directory → Key → Kind → (Object → Result A Refusal) → Result A Refusal
+told_if {A} d key kind say = elim (object_at d key) as (λ _. Result A Refusal) [
+  | None ↦ Err NotFound
+  | Some o ↦ if same_kind kind (kind_of o.value) then say o else Err WrongKind
+]
+
+pub told-none : {A : Type 0} (d : Directory) (key : Key) (kind : Kind) (say : Object → Result A Refusal)
+    → object_at d key ≡ None → told_if d key kind say ≡ Err NotFound
+told-none {A} d key kind say e =
+    ap (λ (r : Option Object). elim r as (λ _. Result A Refusal) [
+      | None ↦ Err NotFound
+      | Some o ↦ if same_kind kind (kind_of o.value) then say o else Err WrongKind
+    ]) e
+
+pub told-some : {A : Type 0} (d : Directory) (key : Key) (kind : Kind) (say : Object → Result A Refusal) (o : Object)
+    (b : Bool)
+    → object_at d key ≡ Some o → same_kind kind (kind_of o.value) ≡ b
+    → told_if d key kind say ≡ (if b then say o else Err WrongKind)
+told-some {A} d key kind say o b e f =
+    ap (λ (r : Option Object). elim r as (λ _. Result A Refusal) [
+      | None ↦ Err NotFound
+      | Some o ↦ if same_kind kind (kind_of o.value) then say o else Err WrongKind
+    ]) e
+    ∙ ap (λ (t : Bool). let r : Result A Refusal = if t then say o else Err WrongKind in r) f
+
+pub same_Err : {A : Type 0} (x y : Refusal) → (let r : Result A Refusal = Err x in r) ≡ Err y → x ≡ y
+same_Err x y e = cc
+
+not-Err : {A P : Type 0} (a : A) (x : Refusal) → (let r : Result A Refusal = Ok a in r) ≡ Err x → P
+not-Err a x e = absurd (cc)
 
 -- the object of the key stands at the place, and is of the kind
 pub record HoldsAt (d : Directory) (key : Key) (kind : Kind) (p : Place) : Type 0 where
@@ -100,44 +157,58 @@ pub record HoldsAt (d : Directory) (key : Key) (kind : Kind) (p : Place) : Type 
   pub same : same_kind kind (kind_of object.value) ≡ true
   pub at : container_place object ≡ p
 
-abbrev placed : Kind → Object → Bool → Result Place Refusal
-placed kind o b = if b then Ok (container_place o) else Err WrongKind
+abbrev pub placed : Object → Result Place Refusal
+placed o = Ok (container_place o)
 
-holds-if : (d : Directory) (key : Key) (kind : Kind) (p : Place) (o : Object) (b : Bool) → object_at d key ≡ Some o → same_kind kind (kind_of o.value) ≡ b → Ok p ≡ placed kind o b → HoldsAt d key kind p
-holds-if d key kind p o true e f g = record { object = o; is = e; same = f; at = cc }
-holds-if d key kind p o false e f g = absurd (cc)
+pub holds-at : (d : Directory) (key : Key) (kind : Kind) (p : Place) → Ok p ≡ container_at d key kind
+    → HoldsAt d key kind p
+holds-at d key kind p e =
+    by-kind d key kind (λ f. not-Err p NotFound (e ∙ told-none d key kind placed f))
+    (λ o f g. not-Err p WrongKind (e ∙ told-some d key kind placed o false f g))
+    (λ o f g. let h : Ok p ≡ placed o = e
+    ∙ told-some d key kind placed o true f g in record { object = o; is = f; same = g; at = cc })
 
-holds-of : (d : Directory) (key : Key) (kind : Kind) (p : Place) (r : Option Object) → object_at d key ≡ r
-    → Ok p ≡ elim r as (λ _. Result Place Refusal) [ None ↦ Err NotFound | Some o ↦ if same_kind kind (kind_of o.value) then Ok (container_place o) else Err WrongKind ] → HoldsAt d key kind p
-holds-of d key kind p None e f = absurd (cc)
-holds-of d key kind p (Some o) e f = holds-if d key kind p o (same_kind kind (kind_of o.value)) e refl f
+-- and why every call for the kind is refused
+pub finds-no_container : (s : State) (key : Key) (kind : Kind) (c : Command) (r : Refusal) → IsOpenFor s.mode c
+    → Answers s (λ d. container_at d key kind) (Err r) → IsStepOfKind s s key kind c (Refused r)
+finds-no_container s key kind c r w a =
+    by_no_change_of_kind s key kind c (Refused r) (λ d l.
+    by-kind d key kind
+    (λ f. step_of_kind-not_found s.mode d key kind c w f
+    ∙ (λ i. (Refused (sym (same_Err r NotFound (a.answers d l ∙ told-none d key kind placed f)) i), d)))
+    (λ o f g. step_of_kind-other s.mode d key kind c o w f g
+    ∙ (λ i. (Refused (sym (same_Err r WrongKind (a.answers d l ∙ told-some d key kind placed o false f g)) i), d)))
+    (λ o f g. not-Err (container_place o) r (sym (a.answers d l ∙ told-some d key kind placed o true f g))))
 
-pub holds-at : (d : Directory) (key : Key) (kind : Kind) (p : Place) → Ok p ≡ container_at d key kind → HoldsAt d key kind p
-holds-at d key kind p e = holds-of d key kind p (object_at d key) refl e
+-- ---- the call
 
-missing-if : (mode : Mode) (d : Directory) (key : Key) (kind : Kind) (c : Command) (r : Refusal) (o : Object) (b : Bool) → IsOpenFor mode c → object_at d key ≡ Some o → same_kind kind (kind_of o.value) ≡ b → Err r ≡ placed kind o b
-    → step_of_kind mode d key kind c ≡ (Refused r, d)
-missing-if mode d key kind c r o true w e f g = absurd (cc)
-missing-if mode d key kind c r o false w e f g = let why : WrongKind ≡ r = cc in step_of_kind-other mode d key kind c o w e f ∙ (λ i. (Refused (why i), d))
-
-missing-of : (mode : Mode) (d : Directory) (key : Key) (kind : Kind) (c : Command) (r : Refusal) (q : Option Object) → IsOpenFor mode c → object_at d key ≡ q
-    → Err r ≡ elim q as (λ _. Result Place Refusal) [ None ↦ Err NotFound | Some o ↦ if same_kind kind (kind_of o.value) then Ok (container_place o) else Err WrongKind ]
-    → step_of_kind mode d key kind c ≡ (Refused r, d)
-missing-of mode d key kind c r None w e f = let why : NotFound ≡ r = cc in step_of_kind-not_found mode d key kind c w e ∙ (λ i. (Refused (why i), d))
-missing-of mode d key kind c r (Some o) w e f = missing-if mode d key kind c r o (same_kind kind (kind_of o.value)) w e refl f
-
--- why there is no such container is why every call for the kind is refused
-pub finds-no_container : (s : State) (key : Key) (kind : Kind) (c : Command) (r : Refusal) → IsOpenFor s.mode c → Answers s (λ d. container_at d key kind) (Err r) → IsStepOfKind s s key kind c (Refused r)
-finds-no_container s key kind c r w a = by_no_change_of_kind s key kind c (Refused r) (λ d k. missing-of s.mode d key kind c r (object_at d key) w refl (a.answers d k))
+-- a call for objects of one kind is the step, where the object of the key is changed so
+pub refill-steps_of_kind : (s : State) (new : Cut) (key : Key) (kind : Kind) (p : Place)
+    → Answers s (λ d. container_at d key kind) (Ok p) → (c : Command) (answer : Answer) → is_read_only s.mode ≡ false
+    → IsSegment s.cut.bytes → ((d : Directory) → StandsFor s.cut.bytes d → Refill s.cut new d key c answer)
+    → IsStepOfKind s (record s { cut = new }) key kind c answer
+refill-steps_of_kind s new key kind p found c answer writing b each =
+    by_step_of_kind s (record s { cut = new }) key kind c answer
+    (record { mode = refl; place = (each b.0 b.1).change.change.place })
+    (λ d l.
+    let r : Refill s.cut new d key c answer = each d l in
+    let h : HoldsAt d key kind p = holds-at d key kind p (found.answers d l) in
+    let same : h.object ≡ r.object = same_Some h.object r.object (sym h.is ∙ r.is) in
+    refill-moves s new d key c answer (step_of_kind s.mode d key kind c) l r
+    (step_of_kind-found s.mode d key kind c r.object (open-writing s.mode c writing) r.is
+    (ap (λ (o : Object). same_kind kind (kind_of o.value)) (sym same) ∙ h.same)))
 
 -- ---- two commands with one plan
 
-same-step : (mode : Mode) (d : Directory) (c c' : Command) → is_changing c ≡ is_changing c' → effect d c ≡ effect d c' → step mode d c ≡ step mode d c'
+same-step : (mode : Mode) (d : Directory) (c c' : Command) → is_changing c ≡ is_changing c' → effect d c ≡ effect d c'
+    → step mode d c ≡ step mode d c'
 unfolding step
 same-step mode d c c' e f = λ i. perform d (live d) (if is_read_only mode && e i then Refuse ReadOnly else f i)
 
 -- what is a step of one is a step of the other
-pub same_plan-steps : (old new : State) (c c' : Command) (answer : Answer) → is_changing c ≡ is_changing c' → ((d : Directory) → StandsFor old.cut.bytes d → effect d c ≡ effect d c')
+pub same_plan-steps : (old new : State) (c c' : Command) (answer : Answer) → is_changing c ≡ is_changing c'
+    → ((d : Directory) → StandsFor old.cut.bytes d → effect d c ≡ effect d c')
     → IsStep old new c' answer → IsStep old new c answer
 same_plan-steps old new c c' answer e each =
-    moves-same old new answer (λ d. step old.mode d c') (λ d. step old.mode d c) (λ d l. sym (same-step old.mode d c c' e (each d l)))
+    moves-same old new answer (λ d. step old.mode d c') (λ d. step old.mode d c)
+    (λ d l. sym (same-step old.mode d c c' e (each d l)))

@@ -7,9 +7,11 @@ use Rattle.segment_manager.proofs.Common.{Done, Refused, container_at, container
 use Rattle.segment_manager.proofs.Common.{padded, handle_at, head_len, IsHeadOf, StandsAt, Answers, IsSegment}
 use Rattle.segment_manager.proofs.Common.{IsStepOfKind, State, AnswersSafely, StepsSafely}
 use Rattle.segment_manager.proofs.{Steps.step-segment, Steps.step_of_kind-segment, Here.IsHere, Here.here}
+use Rattle.segment_manager.proofs.{Here.seen-handle}
 
 -- it is refused, and nothing has changed
-pub stays : (s : State) (new : Cut) (key : Key) (kind : Kind) (c : Command) (e why : Refusal) → e ≡ why → new ≡ s.cut → IsStepOfKind s s key kind c (Refused why) → StepsSafely s new key kind c (Err e)
+pub stays : (s : State) (new : Cut) (key : Key) (kind : Kind) (c : Command) (e why : Refusal) → e ≡ why → new ≡ s.cut
+    → IsStepOfKind s s key kind c (Refused why) → StepsSafely s new key kind c (Err e)
 stays s new key kind c e why is same step = record {
   step = subst (λ (r : Refusal). IsStepOfKind s (record s { cut = new }) key kind c (Refused r)) (sym is)
       (subst (λ (x : Cut). IsStepOfKind s (record s { cut = x }) key kind c (Refused why)) (sym same) step);
@@ -42,12 +44,14 @@ seen-refused s t view new (Ok u) e = tt
 seen-refused s t view new (Err w) e = (λ i. record s { cut = e i }) ∙ view
 
 -- a call came to its step, changed nothing where it was refused, and left a segment
-pub record Answered {R : Type 0} (says : Result R Refusal → Answer) (s t : State) (new : Cut) (key : Key) (kind : Kind) (c : Command) (r : Result R Refusal) : Type 0 where
+pub record Answered {R : Type 0} (says : Result R Refusal → Answer) (s t : State) (new : Cut) (key : Key) (kind : Kind)
+    (c : Command) (r : Result R Refusal) : Type 0 where
   pub step : IsStepOfKind t (record s { cut = new }) key kind c (says r)
   pub refused : OnErr r ((record s { cut = new }) ≡ t)
   pub segment : IsSegment new.bytes
 
-pub answered : {R : Type 0} {says : Result R Refusal → Answer} (s t : State) (view : s ≡ t) (b : IsSegment s.cut.bytes) (new : Cut) (key : Key) (kind : Kind) (c : Command) (r : Result R Refusal)
+pub answered : {R : Type 0} {says : Result R Refusal → Answer} (s t : State) (view : s ≡ t) (b : IsSegment s.cut.bytes)
+    (new : Cut) (key : Key) (kind : Kind) (c : Command) (r : Result R Refusal)
     → AnswersSafely says s new key kind c r → Answered says s t new key kind c r
 answered {says = says} s t view b new key kind c r done = record {
   step = subst (λ (u : State). IsStepOfKind u (record s { cut = new }) key kind c (says r)) view done.step;
@@ -69,10 +73,12 @@ pub record Stepped (s t : State) (new : Cut) (c : Command) (answer : Answer) : T
   pub step : IsStep t (record s { cut = new }) c answer
   pub segment : IsSegment new.bytes
 
-pub stepped : (s t : State) (view : s ≡ t) (b : IsSegment s.cut.bytes) (new : Cut) (c : Command) (answer : Answer) → is_read_only t.mode ≡ false
+pub stepped : (s t : State) (view : s ≡ t) (b : IsSegment s.cut.bytes) (new : Cut) (c : Command) (answer : Answer)
+    → is_read_only t.mode ≡ false
     → (is_read_only s.mode ≡ false → IsStep s (record s { cut = new }) c answer) → Stepped s t new c answer
 stepped s t view b new c answer may each =
-    let done : IsStep s (record s { cut = new }) c answer = each (subst (λ (u : State). is_read_only u.mode ≡ false) (sym view) may) in
+    let done : IsStep s (record s { cut = new }) c answer =
+    each (subst (λ (u : State). is_read_only u.mode ≡ false) (sym view) may) in
     record {
       step = subst (λ (u : State). IsStep u (record s { cut = new }) c answer) view done;
       segment = step-segment s (record s { cut = new }) c answer done b;
@@ -81,25 +87,36 @@ stepped s t view b new c answer may each =
 -- ---- the search
 
 -- where the container is of each object that stands at the handle is where that of the key's object is
-pub contains : (s : State) (key : Key) (h : ℕ) (kind : Kind) (r : Result Place Refusal) → Answers s (λ d. handle_at d key) (Some h)
-    → ((o : Object) → StandsAt s.cut.bytes h o → r ≡ place_of_kind o kind) → Answers s (λ d. container_at d key kind) r
-contains s key h kind r a each = record {
-  answers = λ d l.
-      let o : IsHere s.cut.bytes d key h = here s.cut.bytes d key h l.denotes (a.answers d l) in
-      each o.object o.stands
-      ∙ sym (ap (λ (q : Option Object). elim q as (λ _. Result Place Refusal) [ None ↦ Err NotFound | Some o ↦ place_of_kind o kind ]) o.is);
-}
+pub contains : {s t : State} (view : s ≡ t) (key : Key) (kind : Kind) {h : ℕ} {r : Result Place Refusal}
+    → Answers t (λ d. handle_at d key) (Some h) → ((o : Object) → StandsAt s.cut.bytes h o → r ≡ place_of_kind o kind)
+    → Answers t (λ d. container_at d key kind) r
+contains {s} {t} view key kind {h} {r} a each =
+    subst (λ (u : State). Answers u (λ d. container_at d key kind) r) view (record {
+      answers = λ d l.
+          let o : IsHere s.cut.bytes d key h =
+          here s.cut.bytes d key h l.denotes ((seen-handle s t view key (Some h) a).answers d l) in
+          each o.object o.stands
+          ∙ sym
+          (ap
+          (λ (q : Option Object). elim q as (λ _. Result Place Refusal)
+          [ None ↦ Err NotFound | Some o ↦ place_of_kind o kind ]) o.is);
+    })
 
 -- an object of another kind
-pub other-kind : (o : Object) (kind : Kind) (a b : ℕ) (head : Head) → IsHeadOf o head → a ≡ code_of head.kind → b ≡ code_of kind → (a ≡ b → ⊥) → Err WrongKind ≡ place_of_kind o kind
+pub other-kind : (o : Object) (kind : Kind) (a b : ℕ) (head : Head) → IsHeadOf o head → a ≡ code_of head.kind
+    → b ≡ code_of kind → (a ≡ b → ⊥) → Err WrongKind ≡ place_of_kind o kind
 other-kind o kind a b head said e f n =
-    let other : same_kind kind (kind_of o.value) ≡ false = ne_eqb (code_of kind) (code_of (kind_of o.value)) (λ g. n (e ∙ ap code_of said.kind ∙ sym g ∙ sym f)) in
+    let other : same_kind kind (kind_of o.value) ≡ false =
+    ne_eqb (code_of kind) (code_of (kind_of o.value)) (λ g. n (e ∙ ap code_of said.kind ∙ sym g ∙ sym f)) in
     ap (λ (t : Bool). if t then Ok (container_place o) else Err WrongKind) (sym other)
 
 -- and one of the kind, which stands at the handle
-pub of-kind : (o : Object) (kind : Kind) (a b h at : ℕ) (head : Head) → IsHeadOf o head → a ≡ code_of head.kind → b ≡ code_of kind → a ≡ b → h ≡ handle o.extent → at ≡ head_len + padded head.name_len
+pub of-kind : (o : Object) (kind : Kind) (a b h at : ℕ) (head : Head) → IsHeadOf o head → a ≡ code_of head.kind
+    → b ≡ code_of kind → a ≡ b → h ≡ handle o.extent → at ≡ head_len + padded head.name_len
     → Ok (record { handle = h; at = at }) ≡ place_of_kind o kind
 of-kind o kind a b h at head said e f n is there =
-    let same : same_kind kind (kind_of o.value) ≡ true = eq-eqb (code_of kind) (code_of (kind_of o.value)) (sym f ∙ sym n ∙ e ∙ ap code_of said.kind) in
+    let same : same_kind kind (kind_of o.value) ≡ true =
+    eq-eqb (code_of kind) (code_of (kind_of o.value)) (sym f ∙ sym n ∙ e ∙ ap code_of said.kind) in
     let place : at ≡ head_len + padded (length o.name) = there ∙ ap (λ (n : ℕ). head_len + padded n) said.name_len in
-    (λ i. Ok (record { handle = is i; at = place i })) ∙ ap (λ (t : Bool). if t then Ok (container_place o) else Err WrongKind) (sym same)
+    (λ i. Ok (record { handle = is i; at = place i })) ∙ ap
+    (λ (t : Bool). if t then Ok (container_place o) else Err WrongKind) (sym same)

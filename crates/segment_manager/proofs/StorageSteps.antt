@@ -14,9 +14,10 @@ no-storage (Numbers k zs) h = refl
 no-storage (Pairs k v ps) h = refl
 no-storage v h = absurd (cc)
 
-pub change-refused : (change : Change) (d : Directory) (key : Key) (o : Object) → object_at d key ≡ Some o → storage_of o.value ≡ Err WrongKind
+pub change-refused : (change : Change) (d : Directory) (key : Key) (o : Object) → object_at d key ≡ Some o
+    → storage_of o.value ≡ Err WrongKind
     → effect d (command_of change key) ≡ Refuse WrongKind
-change-refused (Reserve n) d key o e f = reserve-plan d key o e n (Err WrongKind) f
+change-refused (Reserve n) d key o e f = reserve-plan d key o e (Err WrongKind) f n
 change-refused Shrink d key o e f = shrink-plan d key o e (Err WrongKind) f
 change-refused Clear d key o e f = clear-plan d key o e (Err WrongKind) f
 
@@ -36,7 +37,8 @@ change-changes Clear key = refl
 -- ---- calls that read
 
 -- a step that leaves the segment is the machine's answer
-pub step_of_kind-reply : (s : State) (key : Key) (kind : Kind) (c : Command) (answer : Answer) → IsStepOfKind s s key kind c answer → IsReplyOfKind s key kind c answer
+pub step_of_kind-reply : (s : State) (key : Key) (kind : Kind) (c : Command) (answer : Answer)
+    → IsStepOfKind s s key kind c answer → IsReplyOfKind s key kind c answer
 step_of_kind-reply s key kind c answer r = record { answers = r.answers }
 
 -- the same in the segment, as its view before the call is named

@@ -1,14 +1,14 @@
 -- What the calls of seg_vector ensure of the text at the place that was found, as the steps of the calls on the
 -- object's string.
-use Rattle.segment_manager.proofs.Common.{◌++◌, ◌<◌, Bool, Err, IsTrue, List, None, Ok, Option, Result, Some, [], ap}
-use Rattle.segment_manager.proofs.Common.{arith, false, get_or, if◌then◌else◌, length, map, nat_abs, nat_le, nat_lt}
+use Rattle.segment_manager.proofs.Common.{◌++◌, ◌<◌, Err, IsTrue, List, None, Ok, Option, Result, Some, [], ap}
+use Rattle.segment_manager.proofs.Common.{arith, false, get_or, length, map, nat_abs, nat_le, nat_lt}
 use Rattle.segment_manager.proofs.Common.{pos, refl, slice_get, subst, suc, sym, true, zero, ℕ, ◌∙◌, ◌∷◌, ◌≡◌, and_from}
 use Rattle.segment_manager.proofs.Common.{le-leb, lt-ltb, slice_get-get_or, slice_get-map, slice_get_past, option_map}
 use Rattle.segment_manager.proofs.Common.{slice_set, Cut, Table, Append, Assign, Get, Quoted, Set, literal_of, is_value}
-use Rattle.segment_manager.proofs.Common.{same_kind, Key, Text, U8, Refusal, NotFound, OutOfRange, WrongKind}
+use Rattle.segment_manager.proofs.Common.{Key, Text, U8, Refusal, NotFound, OutOfRange}
 use Rattle.segment_manager.proofs.Common.{AssignsText, IsSomeText, IsTextGrown, IsTextNow, capacity_for_text, Place}
-use Rattle.segment_manager.proofs.Common.{Done, Element, Refused, are_bytes, bytes_at, container_at, container_place}
-use Rattle.segment_manager.proofs.Common.{place_of_kind, Bytes, Object, Value, kind_of, object_at, live, Reply, perform}
+use Rattle.segment_manager.proofs.Common.{Done, Element, Refused, are_bytes, bytes_at, container_at}
+use Rattle.segment_manager.proofs.Common.{Bytes, Object, Value, kind_of, live, Reply, perform}
 use Rattle.segment_manager.proofs.Common.{Answers, IsSegment, IsStepOfKind, State, changed, is_read_only, Command}
 use Rattle.segment_manager.proofs.ContentPlans.{append-plan, byte-plan, set_byte-plan, text-plan}
 use Rattle.segment_manager.proofs.ItemSteps.{HoldsItems, ListedGrown, ListedNow, Listing, changes-safely, grows-safely}
@@ -24,18 +24,22 @@ use Rattle.segment_manager.specs.{Contents.text_bytes, ToChange.IsToChange}
 -- numbers that are below 256 each
 pub fits-bytes : (bs : List ℕ) → ((k : ℕ) → Fits w8 (get_or bs k 0)) → IsTrue (are_bytes bs)
 fits-bytes [] h = refl
-fits-bytes (b ∷ bs) h = and_from (nat_lt b 256) (are_bytes bs) (lt-ltb b 256 (omega (arith, h 0))) (fits-bytes bs (λ k. h (suc k)))
+fits-bytes (b ∷ bs) h =
+    and_from (nat_lt b 256) (are_bytes bs) (lt-ltb b 256 (omega (arith, h 0))) (fits-bytes bs (λ k. h (suc k)))
 
 are_bytes-append : (bs cs : List ℕ) → IsTrue (are_bytes bs) → IsTrue (are_bytes cs) → IsTrue (are_bytes (bs ++ cs))
 are_bytes-append [] cs h g = g
 are_bytes-append (b ∷ bs) cs h g =
-    and_from (nat_lt b 256) (are_bytes (bs ++ cs)) (first (nat_lt b 256) (are_bytes bs) h) (are_bytes-append bs cs (second (nat_lt b 256) (are_bytes bs) h) g)
+    and_from (nat_lt b 256) (are_bytes (bs ++ cs)) (first (nat_lt b 256) (are_bytes bs) h)
+    (are_bytes-append bs cs (second (nat_lt b 256) (are_bytes bs) h) g)
 
-are_bytes-set : (bs : List ℕ) (i x : ℕ) → IsTrue (are_bytes bs) → IsTrue (nat_lt x 256) → IsTrue (are_bytes (slice_set bs i x))
+are_bytes-set : (bs : List ℕ) (i x : ℕ) → IsTrue (are_bytes bs) → IsTrue (nat_lt x 256)
+    → IsTrue (are_bytes (slice_set bs i x))
 are_bytes-set [] i x h g = refl
 are_bytes-set (b ∷ bs) zero x h g = and_from (nat_lt x 256) (are_bytes bs) g (second (nat_lt b 256) (are_bytes bs) h)
 are_bytes-set (b ∷ bs) (suc i) x h g =
-    and_from (nat_lt b 256) (are_bytes (slice_set bs i x)) (first (nat_lt b 256) (are_bytes bs) h) (are_bytes-set bs i x (second (nat_lt b 256) (are_bytes bs) h) g)
+    and_from (nat_lt b 256) (are_bytes (slice_set bs i x)) (first (nat_lt b 256) (are_bytes bs) h)
+    (are_bytes-set bs i x (second (nat_lt b 256) (are_bytes bs) h) g)
 
 -- one is a value of its kind
 pub byte-value : (x : ℕ) → x < 256 → is_value U8 (pos x) ≡ true
@@ -74,42 +78,33 @@ texts = record {
 }
 
 -- what became of a text, with its bytes below 256
-bytes-now : {old new : Cut} {p : Place} {t u : Table} {bs : List ℕ} → IsTrue (are_bytes bs) → IsTextNow old new p t bs u → ListedNow texts old new p t bs u
+bytes-now : {old new : Cut} {p : Place} {t u : Table} {bs : List ℕ} → IsTrue (are_bytes bs) → IsTextNow old new p t bs u
+    → ListedNow texts old new p t bs u
 bytes-now small r = record { change = r.change; stands = r.text; values = small }
 
-bytes-grown : {old new : Cut} {p : Place} {t : Table} {n : ℕ} {bs : List ℕ} → IsTrue (are_bytes bs) → IsTextGrown old new p t n bs → ListedGrown texts old new p t n bs
+bytes-grown : {old new : Cut} {p : Place} {t : Table} {n : ℕ} {bs : List ℕ} → IsTrue (are_bytes bs)
+    → IsTextGrown old new p t n bs → ListedGrown texts old new p t n bs
 bytes-grown small r = record { table = r.table; grown = r.grown; now = bytes-now small r.now }
 
 -- ---- the calls
 
 -- what is read there are the bytes of the key's text
-pub reads-bytes : (s : State) (key : Key) (p : Place) (out : List ℕ) → Answers s (λ d. container_at d key Text) (Ok p) → ReadsText s.cut.bytes p out → Answers s (λ d. bytes_at d key) (Ok out)
+pub reads-bytes : (s : State) (key : Key) (p : Place) (out : List ℕ) → Answers s (λ d. container_at d key Text) (Ok p)
+    → ReadsText s.cut.bytes p out → Answers s (λ d. bytes_at d key) (Ok out)
 reads-bytes s key p out found reads = record {
   answers = λ d l.
-      let h : HoldsItems texts s.cut.bytes d key p = holds-items texts s.cut.bytes d key p l.denotes (found.answers d l) in
+      let h : HoldsItems texts s.cut.bytes d key p =
+      holds-items texts s.cut.bytes d key p l.denotes (found.answers d l) in
       ap Ok (reads h.items h.table h.stands) ∙ sym (ap text_bytes h.value)
-      ∙ sym (ap (λ (r : Option Object). elim r as (λ _. Result (List ℕ) Refusal) [ None ↦ Err NotFound | Some o ↦ text_bytes o.value ]) h.is);
+      ∙ sym
+      (ap
+      (λ (r : Option Object). elim r as (λ _. Result (List ℕ) Refusal)
+      [ None ↦ Err NotFound | Some o ↦ text_bytes o.value ]) h.is);
 }
 
-no-text : (v : Value) → same_kind Text (kind_of v) ≡ false → text_bytes v ≡ Err WrongKind
-no-text (Bytes bs t) e = absurd (cc)
-no-text v e = refl
-
-no-text-if : (o : Object) (why : Refusal) (t : Bool) → same_kind Text (kind_of o.value) ≡ t → Err why ≡ (if t then Ok (container_place o) else Err WrongKind) → Err why ≡ text_bytes o.value
-no-text-if o why true e f = absurd (cc)
-no-text-if o why false e f = let same : why ≡ WrongKind = cc in ap Err same ∙ sym (no-text o.value e)
-
-no-bytes-if : (why : Refusal) (r : Option Object)
-    → Err why ≡ elim r as (λ _. Result Place Refusal) [ None ↦ Err NotFound | Some o ↦ place_of_kind o Text ] → Err why ≡ elim r as (λ _. Result (List ℕ) Refusal) [ None ↦ Err NotFound | Some o ↦ text_bytes o.value ]
-no-bytes-if why None e = let same : why ≡ NotFound = cc in ap Err same
-no-bytes-if why (Some o) e = no-text-if o why (same_kind Text (kind_of o.value)) refl e
-
--- why there is no text is why there are no bytes
-pub reads-nothing : (s : State) (key : Key) (why : Refusal) → Answers s (λ d. container_at d key Text) (Err why) → Answers s (λ d. bytes_at d key) (Err why)
-reads-nothing s key why a = record { answers = λ d l. no-bytes-if why (object_at d key) (a.answers d l) }
-
 -- as the view before the call names the segment
-module _ {s t : State} (view : s ≡ t) (key : Key) (p : Place) (b : IsSegment s.cut.bytes) (there : Answers t (λ d. container_at d key Text) (Ok p)) where
+module _ {s t : State} (view : s ≡ t) (key : Key) (p : Place) (b : IsSegment s.cut.bytes)
+    (there : Answers t (λ d. container_at d key Text) (Ok p)) where
   there-too : Answers s (λ d. container_at d key Text) (Ok p)
   there-too = seen-found s t view key Text p there
 
@@ -124,45 +119,63 @@ module _ {s t : State} (view : s ≡ t) (key : Key) (p : Place) (b : IsSegment s
   pub text-got : (i x : ℕ) → GetsByte s.cut p i (Ok x) → IsStepOfKind s s key Text (Get key i) (Element U8 (pos x))
   text-got i x a =
       items-stay texts s key p b there-too (Get key i) (Element U8 (pos x)) (open-reading s.mode (Get key i) refl)
-      (λ d den h. ap (perform d (live d)) (byte-plan d key h.object h.items h.table h.is h.value i (Some (pos x)) (byte-got h.items i (Some x) (a h.items h.table h.stands))))
+      (λ d den h. ap (perform d (live d))
+      (byte-plan d key h.object h.items h.table h.is h.value i (Some (pos x))
+      (byte-got h.items i (Some x) (a h.items h.table h.stands))))
 
-  pub text_got-past : (i : ℕ) (e : Refusal) → GetsByte s.cut p i (Err e) → IsStepOfKind s s key Text (Get key i) (Refused e)
+  pub text_got-past : (i : ℕ) (e : Refusal) → GetsByte s.cut p i (Err e)
+      → IsStepOfKind s s key Text (Get key i) (Refused e)
   text_got-past i e a =
-      subst (λ (r : Refusal). IsStepOfKind s s key Text (Get key i) (Refused r)) (sym (a some.items some.table some.stands).refusal)
+      subst (λ (r : Refusal). IsStepOfKind s s key Text (Get key i) (Refused r))
+      (sym (a some.items some.table some.stands).refusal)
       (items-stay texts s key p b there-too (Get key i) (Refused OutOfRange) (open-reading s.mode (Get key i) refl)
       (λ d den h.
-      ap (perform d (live d)) (byte-plan d key h.object h.items h.table h.is h.value i None (byte-got h.items i None (slice_get_past h.items i (a h.items h.table h.stands).outside)))))
+      ap (perform d (live d))
+      (byte-plan d key h.object h.items h.table h.is h.value i None
+      (byte-got h.items i None (slice_get_past h.items i (a h.items h.table h.stands).outside)))))
 
 -- the same, where it may be changed
-module _ {s t : State} (view : s ≡ t) (b : IsSegment s.cut.bytes) {key : Key} {p : Place} (to : IsToChange t key Text p) (new : Cut) where
+module _ {s t : State} (view : s ≡ t) (b : IsSegment s.cut.bytes) {key : Key} {p : Place} (to : IsToChange t key Text p)
+    (new : Cut) where
   found : Answers s (λ d. container_at d key Text) (Ok p)
   found = seen-found s t view key Text p to.at
 
   writing : is_read_only s.mode ≡ false
   writing = subst (λ (u : State). is_read_only u.mode ≡ false) (sym view) to.writing
 
-  seen : (c : Command) (r : Result (Unit {0}) Refusal) → StepsSafely s new key Text c r → Answered done_answer s t new key Text c r
-  seen c r done = answered s t view b new key Text c r done
+  seen : {c : Command} {r : Result (Unit {0}) Refusal} → StepsSafely s new key Text c r
+      → Answered done_answer s t new key Text c r
+  seen done = answered s t view b new key Text _ _ done
 
-  pub text-appended : (more : List ℕ) (r : Result (Unit {0}) Refusal) → ((k : ℕ) → Fits w8 (get_or more k 0)) → AppendsText s.cut new p more r → Answered done_answer s t new key Text (Append key more) r
+  pub text-appended : (more : List ℕ) (r : Result (Unit {0}) Refusal) → ((k : ℕ) → Fits w8 (get_or more k 0))
+      → AppendsText s.cut new p more r → Answered done_answer s t new key Text (Append key more) r
   text-appended more r small a =
-      seen _ r (grows-safely texts s key p b found new writing (Append key more) (λ bs t. capacity_for_text (length (bs ++ more)) t.capacity) (λ bs. bs ++ more) r
+      seen (grows-safely texts s key p b found new writing (Append key more)
+      (λ bs t. capacity_for_text (length (bs ++ more)) t.capacity) (λ bs. bs ++ more) r
       (λ d h. append-plan d key h.object h.items h.table h.is h.value more)
-      (λ d h. so-too _ _ _ r (a h.items h.table h.stands) (λ g. bytes-grown (are_bytes-append h.items more h.values (fits-bytes more small)) g)))
+      (λ d h. so-too _ _ _ r (a h.items h.table h.stands)
+      (λ g. bytes-grown (are_bytes-append h.items more h.values (fits-bytes more small)) g)))
 
-  pub text-assigned : (bytes : List ℕ) (r : Result (Unit {0}) Refusal) → ((k : ℕ) → Fits w8 (get_or bytes k 0)) → AssignsText s.cut new p bytes r → Answered done_answer s t new key Text (Assign key (Quoted bytes ∷ [])) r
+  pub text-assigned : (bytes : List ℕ) (r : Result (Unit {0}) Refusal) → ((k : ℕ) → Fits w8 (get_or bytes k 0))
+      → AssignsText s.cut new p bytes r → Answered done_answer s t new key Text (Assign key (Quoted bytes ∷ [])) r
   text-assigned bytes r small a =
-      seen _ r (grows-safely texts s key p b found new writing (Assign key (Quoted bytes ∷ [])) (λ bs t. length bytes) (λ bs. bytes) r
+      seen (grows-safely texts s key p b found new writing (Assign key (Quoted bytes ∷ [])) (λ bs t. length bytes)
+      (λ bs. bytes) r
       (λ d h. text-plan d key h.object h.items h.table h.is h.value (Quoted bytes ∷ []) bytes refl)
       (λ d h. so-too _ _ _ r (a h.items h.table h.stands) (λ g. bytes-grown (fits-bytes bytes small) g)))
 
-  pub text-set : (i x : ℕ) (r : Result (Unit {0}) Refusal) → IsTrue (nat_lt x 256) → is_value U8 (pos x) ≡ true → SetsByte s.cut new p i x r → Answered done_answer s t new key Text (Set key i (literal_of U8 (pos x))) r
+  pub text-set : (i x : ℕ) (r : Result (Unit {0}) Refusal) → IsTrue (nat_lt x 256) → is_value U8 (pos x) ≡ true
+      → SetsByte s.cut new p i x r → Answered done_answer s t new key Text (Set key i (literal_of U8 (pos x))) r
   text-set i x r small v a =
-      seen _ r (changes-safely texts s key p b found new writing (Set key i (literal_of U8 (pos x))) i (λ bs. slice_set bs i x) r
+      seen (changes-safely texts s key p b found new writing (Set key i (literal_of U8 (pos x))) i
+      (λ bs. slice_set bs i x) r
       (λ d h within.
-      set_byte-plan d key h.object h.items h.table h.is h.value i (literal_of U8 (pos x)) (pos x) (Some (pos (get_or h.items i 0))) (literal-read U8 (pos x) v)
+      set_byte-plan d key h.object h.items h.table h.is h.value i (literal_of U8 (pos x)) (pos x)
+      (Some (pos (get_or h.items i 0))) (literal-read U8 (pos x) v)
       (byte-got h.items i (Some (get_or h.items i 0)) (slice_get-get_or h.items i 0 within))
       ∙ ap (λ bs. Reply Done (changed d h.object (Bytes bs h.table))) (bytes-set h.items i x))
       (λ d h past.
-      set_byte-plan d key h.object h.items h.table h.is h.value i (literal_of U8 (pos x)) (pos x) None (literal-read U8 (pos x) v) (byte-got h.items i None (slice_get_past h.items i past)))
-      (λ d h. so-too _ _ _ r (a h.items h.table h.stands) (λ q. (q.0, bytes-now (are_bytes-set h.items i x h.values small) q.1))))
+      set_byte-plan d key h.object h.items h.table h.is h.value i (literal_of U8 (pos x)) (pos x) None
+      (literal-read U8 (pos x) v) (byte-got h.items i None (slice_get_past h.items i past)))
+      (λ d h. so-too _ _ _ r (a h.items h.table h.stands)
+      (λ q. (q.0, bytes-now (are_bytes-set h.items i x h.values small) q.1))))

@@ -1,45 +1,36 @@
 -- The plans of the commands on a vector of texts, and what they come to.
 use Rattle.segment_manager.proofs.Common.{◌≡◌, refl, sym, ap, ◌∙◌, ℕ, ◌-◌, ◌*◌, Bool, true, false, Option, Some, None}
-use Rattle.segment_manager.proofs.Common.{Result, Ok, Err, List, [], ◌∷◌, length, take, arith, ◌==◌, if◌then◌else◌}
-use Rattle.segment_manager.proofs.Common.{insert, remove, slice_get, slice_set, nat_le, nat_lt, option_map, le-ltb}
-use Rattle.segment_manager.proofs.Common.{lt-ltb, Storage, Extent, LiveSet, place, regrow, resized, Table, cut_table}
-use Rattle.segment_manager.proofs.Common.{no_table, Refusal, NoSpace, OutOfRange, Key, Literal, all_texts, new_array}
-use Rattle.segment_manager.proofs.Common.{one_more, placed_text, placed_texts, with_array, with_text, OwnedText}
-use Rattle.segment_manager.proofs.Common.{capacity_for_one, grown_table, Answer, Done, Refused, TextElement, Texts}
-use Rattle.segment_manager.proofs.Common.{Object, Directory, live, object_at, New, Plan, Refuse, RegrownNeed, Reply}
-use Rattle.segment_manager.proofs.Common.{Request, perform, with, with_capacity, with_owned_text, with_owned_texts}
-use Rattle.segment_manager.proofs.Common.{with_storage, changed, effect, storage_of, texts_of, with_items, with_table}
-use Rattle.std.proofs.lemmas.Bool.{leb-false}
+use Rattle.segment_manager.proofs.Common.{Result, Ok, Err, List, [], ◌∷◌, length, ◌==◌, if◌then◌else◌, insert, remove}
+use Rattle.segment_manager.proofs.Common.{slice_get, slice_set, nat_lt, option_map, Storage, LiveSet, place, resized}
+use Rattle.segment_manager.proofs.Common.{Table, cut_table, no_table, Refusal, NoSpace, OutOfRange, Key, Literal, Place}
+use Rattle.segment_manager.proofs.Common.{all_texts, new_array, one_more, placed_text, placed_texts, with_array}
+use Rattle.segment_manager.proofs.Common.{with_text, OwnedText, capacity_for_one, grown_table, Answer, Done, Refused}
+use Rattle.segment_manager.proofs.Common.{TextElement, Texts, Object, Directory, Value, found_at, live, New, Plan}
+use Rattle.segment_manager.proofs.Common.{Refuse, Reply, Request, perform, with, with_capacity, with_owned_text}
+use Rattle.segment_manager.proofs.Common.{with_owned_texts, with_storage, changed, effect, storage_of, texts_of}
+use Rattle.segment_manager.proofs.Common.{with_items}
 use Rattle.seg_types.specs.Commands as asked
 use Rattle.segment_manager.specs.Step as step
-use Rattle.segment_manager.proofs.{ContentPlans.clear-plan, ContentPlans.reserve-plan, ContentPlans.shrink-plan}
-use Rattle.segment_manager.proofs.{Steps.with-found, TextLists.pushed-last}
+use Rattle.segment_manager.proofs.ContentPlans.{reserve_with, shrink_with}
+use Rattle.segment_manager.proofs.PlacedTexts.{in_block, unplaced}
+use Rattle.segment_manager.proofs.Refilled.{asked-met, of_places, room-grown, then_by, then_room}
+use Rattle.segment_manager.proofs.{Steps.with-found, TextLists.pushed-last, TextLists.removed-last}
+use Rattle.segment_manager.proofs.{TextsHeld.HoldsTexts}
 
 -- ---- what requests come to
 
 -- the block of a text
 abbrev pub then_text : Directory → LiveSet → (OwnedText → Plan) → Option OwnedText → Answer × Directory
-then_text d l next None = (Refused NoSpace, d)
-then_text d l next (Some q) = perform d (with_text l q) (next q)
-
-abbrev unplaced : List ℕ → OwnedText
-unplaced bs = record { bytes = bs; extent = None }
-
-abbrev in_block : List ℕ → Extent → OwnedText
-in_block bs x = record { bytes = bs; extent = Some x }
-
-text-met : (d : Directory) (l : LiveSet) (bs : List ℕ) (next : OwnedText → Plan) (r : Option Extent)
-    → elim r as (λ _. Answer × Directory) [ None ↦ (Refused NoSpace, d) | Some x ↦ perform d (resized l x) (next (in_block bs x)) ] ≡ then_text d l next (option_map (in_block bs) r)
-text-met d l bs next None = refl
-text-met d l bs next (Some x) = refl
+then_text d l = then_by (with_text l) d
 
 text-if : (d : Directory) (l : LiveSet) (bs : List ℕ) (next : OwnedText → Plan) (b : Bool)
     → perform d l (if b then next (unplaced bs) else Request (New Storage (length bs)) (λ x. next (in_block bs x)))
     ≡ then_text d l next (if b then Some (unplaced bs) else option_map (in_block bs) (place l (length bs) Storage))
 text-if d l bs next true = refl
-text-if d l bs next false = text-met d l bs next (place l (length bs) Storage)
+text-if d l bs next false = asked-met (with_text l) (in_block bs) d l next (λ x. refl) (place l (length bs) Storage)
 
-pub text-placed : (d : Directory) (l : LiveSet) (bs : List ℕ) (next : OwnedText → Plan) → perform d l (with_owned_text bs next) ≡ then_text d l next (placed_text l bs)
+pub text-placed : (d : Directory) (l : LiveSet) (bs : List ℕ) (next : OwnedText → Plan)
+    → perform d l (with_owned_text bs next) ≡ then_text d l next (placed_text l bs)
 text-placed d l bs next = text-if d l bs next (length bs == 0)
 
 -- those of several texts
@@ -48,121 +39,102 @@ beside_texts l [] = l
 beside_texts l (q ∷ qs) = beside_texts (with_text l q) qs
 
 abbrev pub then_texts : Directory → LiveSet → (List OwnedText → Plan) → Option (List OwnedText) → Answer × Directory
-then_texts d l next None = (Refused NoSpace, d)
-then_texts d l next (Some qs) = perform d (beside_texts l qs) (next qs)
+then_texts d l = then_by (beside_texts l) d
 
-texts-mapped : (d : Directory) (l : LiveSet) (next : List OwnedText → Plan) (q : OwnedText) (r : Option (List OwnedText))
+texts-mapped : (d : Directory) (l : LiveSet) (next : List OwnedText → Plan) (q : OwnedText)
+    (r : Option (List OwnedText))
     → then_texts d (with_text l q) (λ qs. next (q ∷ qs)) r ≡ then_texts d l next (option_map (λ qs. q ∷ qs) r)
 texts-mapped d l next q None = refl
 texts-mapped d l next q (Some qs) = refl
 
 text-then : (d : Directory) (l : LiveSet) (bss : List (List ℕ)) (next : List OwnedText → Plan) (r : Option OwnedText)
-    → ((q : OwnedText) → perform d (with_text l q) (with_owned_texts bss (λ qs. next (q ∷ qs))) ≡ then_texts d (with_text l q) (λ qs. next (q ∷ qs)) (placed_texts (with_text l q) bss))
+    → ((q : OwnedText)
+    → perform d (with_text l q) (with_owned_texts bss (λ qs. next (q ∷ qs)))
+    ≡ then_texts d (with_text l q) (λ qs. next (q ∷ qs)) (placed_texts (with_text l q) bss))
     → then_text d l (λ q. with_owned_texts bss (λ qs. next (q ∷ qs))) r
-    ≡ then_texts d l next (elim r as (λ _. Option (List OwnedText)) [ None ↦ None | Some q ↦ option_map (λ qs. q ∷ qs) (placed_texts (with_text l q) bss) ])
+    ≡ then_texts d l next
+    (elim r as (λ _. Option (List OwnedText))
+    [ None ↦ None | Some q ↦ option_map (λ qs. q ∷ qs) (placed_texts (with_text l q) bss) ])
 text-then d l bss next None more = refl
 text-then d l bss next (Some q) more = more q ∙ texts-mapped d l next q (placed_texts (with_text l q) bss)
 
-pub texts-placed : (d : Directory) (l : LiveSet) (bss : List (List ℕ)) (next : List OwnedText → Plan) → perform d l (with_owned_texts bss next) ≡ then_texts d l next (placed_texts l bss)
+pub texts-placed : (d : Directory) (l : LiveSet) (bss : List (List ℕ)) (next : List OwnedText → Plan)
+    → perform d l (with_owned_texts bss next) ≡ then_texts d l next (placed_texts l bss)
 texts-placed d l [] next = refl
 texts-placed d l (bs ∷ bss) next =
     text-placed d l bs (λ q. with_owned_texts bss (λ qs. next (q ∷ qs)))
     ∙ text-then d l bss next (placed_text l bs) (λ q. texts-placed d (with_text l q) bss (λ qs. next (q ∷ qs)))
 
 -- a new array
+abbrev pub beside_array : LiveSet → Table → LiveSet
+beside_array l u = elim u.extent as (λ _. LiveSet) [ None ↦ l | Some x ↦ resized l x ]
+
 abbrev pub then_array : Directory → LiveSet → (Table → Plan) → Option Table → Answer × Directory
-then_array d l next None = (Refused NoSpace, d)
-then_array d l next (Some u) = perform d (elim u.extent as (λ _. LiveSet) [ None ↦ l | Some x ↦ resized l x ]) (next u)
-
-abbrev of_places : ℕ → Extent → Table
-of_places n x = record { capacity = n; extent = Some x }
-
-array-met : (d : Directory) (l : LiveSet) (n : ℕ) (next : Table → Plan) (r : Option Extent)
-    → elim r as (λ _. Answer × Directory) [ None ↦ (Refused NoSpace, d) | Some x ↦ perform d (resized l x) (next (of_places n x)) ] ≡ then_array d l next (option_map (of_places n) r)
-array-met d l n next None = refl
-array-met d l n next (Some x) = refl
+then_array d l = then_by (beside_array l) d
 
 array-if : (d : Directory) (l : LiveSet) (n : ℕ) (next : Table → Plan) (b : Bool)
     → perform d l (if b then next no_table else Request (New Storage (16 * n)) (λ x. next (of_places n x)))
     ≡ then_array d l next (if b then Some no_table else option_map (of_places n) (place l (16 * n) Storage))
 array-if d l n next true = refl
-array-if d l n next false = array-met d l n next (place l (16 * n) Storage)
+array-if d l n next false = asked-met (beside_array l) (of_places n) d l next (λ x. refl) (place l (16 * n) Storage)
 
-pub array-placed : (d : Directory) (l : LiveSet) (n : ℕ) (next : Table → Plan) → perform d l (with_storage 16 n next) ≡ then_array d l next (new_array l n)
+pub array-placed : (d : Directory) (l : LiveSet) (n : ℕ) (next : Table → Plan)
+    → perform d l (with_storage 16 n next) ≡ then_array d l next (new_array l n)
 array-placed d l n next = array-if d l n next (n == 0)
-
--- an array with so many places or more
-abbrev pub then_room : Directory → LiveSet → Table → (Table → Plan) → Option Table → Answer × Directory
-then_room d l t next None = (Refused NoSpace, d)
-then_room d l t next (Some u) = perform d (with_array l t u) (next u)
-
-abbrev grown_set : LiveSet → Table → Bool → LiveSet
-grown_set l u b = if b then elim u.extent as (λ _. LiveSet) [ None ↦ l | Some x ↦ resized l x ] else l
-
-room-met : (d : Directory) (l : LiveSet) (t : Table) (n : ℕ) (next : Table → Plan) (r : Option Extent) → nat_lt t.capacity n ≡ true
-    → elim r as (λ _. Answer × Directory) [ None ↦ (Refused NoSpace, d) | Some x ↦ perform d (resized l x) (next (of_places n x)) ] ≡ then_room d l t next (option_map (of_places n) r)
-room-met d l t n next None h = refl
-room-met d l t n next (Some x) h = ap (λ (b : Bool). perform d (grown_set l (of_places n x) b) (next (of_places n x))) (sym h)
-
-room-if : (d : Directory) (l : LiveSet) (t : Table) (n : ℕ) (next : Table → Plan) (b : Bool) → nat_le n t.capacity ≡ b
-    → perform d l (if b then next t else Request (RegrownNeed t.extent (16 * n)) (λ x. next (of_places n x)))
-    ≡ then_room d l t next (if b then Some t else option_map (of_places n) (regrow l t.extent (16 * n)))
-room-if d l t n next true h = ap (λ (b : Bool). perform d (grown_set l t b) (next t)) (sym (le-ltb t.capacity t.capacity (omega arith)))
-room-if d l t n next false h = room-met d l t n next (regrow l t.extent (16 * n)) (lt-ltb t.capacity n (leb-false n t.capacity h))
-
-pub room-grown : (d : Directory) (l : LiveSet) (t : Table) (n : ℕ) (next : Table → Plan) → perform d l (with_capacity 16 n t next) ≡ then_room d l t next (grown_table l 16 n t)
-unfolding grown_table
-room-grown d l t n next = room-if d l t n next (nat_le n t.capacity) refl
 
 -- ---- the array, and then a text
 
-module _ (d : Directory) (l : LiveSet) (ps : List OwnedText) (t : Table) (bs : List ℕ) (next : Table → OwnedText → Plan) where
-  abbrev one_more_plan : Plan
-  one_more_plan = with_capacity 16 (capacity_for_one (length ps) t.capacity) t (λ u. with_owned_text bs (next u))
+abbrev pub one_more_plan : List OwnedText → Table → List ℕ → (Table → OwnedText → Plan) → Plan
+one_more_plan ps t bs next =
+    with_capacity 16 (capacity_for_one (length ps) t.capacity) t (λ u. with_owned_text bs (next u))
 
-  pub one-more-met : (u : Table) (q : OwnedText) → grown_table l 16 (capacity_for_one (length ps) t.capacity) t ≡ Some u → placed_text (with_array l t u) bs ≡ Some q
-      → perform d l one_more_plan ≡ perform d (with_text (with_array l t u) q) (next u q)
+module _ (d : Directory) (l : LiveSet) (ps : List OwnedText) (t : Table) (bs : List ℕ)
+    (next : Table → OwnedText → Plan) where
+  pub one-more-met : (u : Table) (q : OwnedText) → grown_table l 16 (capacity_for_one (length ps) t.capacity) t ≡ Some u
+      → placed_text (with_array l t u) bs ≡ Some q
+      → perform d l (one_more_plan ps t bs next) ≡ perform d (with_text (with_array l t u) q) (next u q)
   one-more-met u q g h =
-      room-grown d l t (capacity_for_one (length ps) t.capacity) (λ u. with_owned_text bs (next u))
+      room-grown d l 16 t (capacity_for_one (length ps) t.capacity) (λ u. with_owned_text bs (next u))
       ∙ ap (then_room d l t (λ u. with_owned_text bs (next u))) g
       ∙ text-placed d (with_array l t u) bs (next u)
       ∙ ap (then_text d (with_array l t u) (next u)) h
 
-  none-if : (r : Option Table) → elim r as (λ _. Option OwnedText) [ None ↦ None | Some u ↦ placed_text (with_array l t u) bs ] ≡ None
+  none-if : (r : Option Table)
+      → elim r as (λ _. Option OwnedText) [ None ↦ None | Some u ↦ placed_text (with_array l t u) bs ] ≡ None
       → then_room d l t (λ u. with_owned_text bs (next u)) r ≡ (Refused NoSpace, d)
   none-if None h = refl
   none-if (Some u) h = text-placed d (with_array l t u) bs (next u) ∙ ap (then_text d (with_array l t u) (next u)) h
 
-  pub one-more-unmet : one_more l ps t bs ≡ None → perform d l one_more_plan ≡ (Refused NoSpace, d)
+  pub one-more-unmet : one_more l ps t bs ≡ None → perform d l (one_more_plan ps t bs next) ≡ (Refused NoSpace, d)
   one-more-unmet h =
-      room-grown d l t (capacity_for_one (length ps) t.capacity) (λ u. with_owned_text bs (next u))
+      room-grown d l 16 t (capacity_for_one (length ps) t.capacity) (λ u. with_owned_text bs (next u))
       ∙ none-if (grown_table l 16 (capacity_for_one (length ps) t.capacity) t) h
 
 -- ---- a new array, and then texts
 
--- the live set beside an array
-abbrev pub beside_array : LiveSet → Table → LiveSet
-beside_array l u = elim u.extent as (λ _. LiveSet) [ None ↦ l | Some x ↦ resized l x ]
+abbrev pub all_plan : List (List ℕ) → (Table → List OwnedText → Plan) → Plan
+all_plan bss next = with_storage 16 (length bss) (λ u. with_owned_texts bss (next u))
 
 module _ (d : Directory) (l : LiveSet) (bss : List (List ℕ)) (next : Table → List OwnedText → Plan) where
-  abbrev pub all_plan : Plan
-  all_plan = with_storage 16 (length bss) (λ u. with_owned_texts bss (next u))
-
-  pub all-met : (u : Table) (qs : List OwnedText) → new_array l (length bss) ≡ Some u → placed_texts (beside_array l u) bss ≡ Some qs
-      → perform d l all_plan ≡ perform d (beside_texts (beside_array l u) qs) (next u qs)
+  pub all-met : (u : Table) (qs : List OwnedText) → new_array l (length bss) ≡ Some u
+      → placed_texts (beside_array l u) bss ≡ Some qs
+      → perform d l (all_plan bss next) ≡ perform d (beside_texts (beside_array l u) qs) (next u qs)
   all-met u qs g h =
       array-placed d l (length bss) (λ u. with_owned_texts bss (next u))
       ∙ ap (then_array d l (λ u. with_owned_texts bss (next u))) g
       ∙ texts-placed d (beside_array l u) bss (next u)
       ∙ ap (then_texts d (beside_array l u) (next u)) h
 
-  all-none-if : (r : Option Table) → elim r as (λ _. Option (List OwnedText)) [ None ↦ None | Some u ↦ placed_texts (beside_array l u) bss ] ≡ None
+  all-none-if : (r : Option Table)
+      → elim r as (λ _. Option (List OwnedText)) [ None ↦ None | Some u ↦ placed_texts (beside_array l u) bss ] ≡ None
       → then_array d l (λ u. with_owned_texts bss (next u)) r ≡ (Refused NoSpace, d)
   all-none-if None h = refl
-  all-none-if (Some u) h = texts-placed d (beside_array l u) bss (next u) ∙ ap (then_texts d (beside_array l u) (next u)) h
+  all-none-if (Some u) h =
+      texts-placed d (beside_array l u) bss (next u) ∙ ap (then_texts d (beside_array l u) (next u)) h
 
-  pub all-unmet : all_texts l bss ≡ None → perform d l all_plan ≡ (Refused NoSpace, d)
-  all-unmet h = array-placed d l (length bss) (λ u. with_owned_texts bss (next u)) ∙ all-none-if (new_array l (length bss)) h
+  pub all-unmet : all_texts l bss ≡ None → perform d l (all_plan bss next) ≡ (Refused NoSpace, d)
+  all-unmet h =
+      array-placed d l (length bss) (λ u. with_owned_texts bss (next u)) ∙ all-none-if (new_array l (length bss)) h
 
 -- ---- the commands
 
@@ -170,73 +142,82 @@ module _ (d : Directory) (l : LiveSet) (bss : List (List ℕ)) (next : Table →
 abbrev pub text_in : Option OwnedText → Result OwnedText Refusal
 text_in r = elim r as (λ _. Result OwnedText Refusal) [ None ↦ Err OutOfRange | Some p ↦ Ok p ]
 
-module _ (d : Directory) (key : Key) (o : Object) (ps : List OwnedText) (t : Table) (e : object_at d key ≡ Some o) (f : o.value ≡ Texts ps t) where
+-- as the calls find the vector
+module _ {b : List ℕ} {d : Directory} {key : Key} {p : Place} (h : HoldsTexts b d key p) where
   abbrev pub texts_after : List OwnedText → Table → Directory
-  texts_after qs u = changed d o (Texts qs u)
+  texts_after qs u = changed d h.object (Texts qs u)
+
+  -- a plan that goes by the object and its value
+  by-texts : (next : Object → Value → Plan)
+      → with (found_at d key) (λ o. next o o.value) ≡ next h.object (Texts h.texts h.table)
+  by-texts next = with-found d key h.object (λ o. next o o.value) h.is ∙ ap (next h.object) h.value
 
   -- one text read
-  pub got-text : (i : ℕ) (r : Option OwnedText) → slice_get ps i ≡ r → effect d (asked.Get key i) ≡ with (text_in r) (λ p. Reply (TextElement p.bytes) d)
-  got-text i r g =
-      with-found d key o (λ o. step.get d o.value i) e ∙ ap (λ v. step.get d v i) f ∙ ap (λ r. with (text_in r) (λ p. Reply (TextElement p.bytes) d)) g
+  pub got-text : (i : ℕ) (r : Option OwnedText) → slice_get h.texts i ≡ r
+      → effect d (asked.Get key i) ≡ with (text_in r) (λ q. Reply (TextElement q.bytes) d)
+  got-text i r g = by-texts (λ o v. step.get d v i) ∙ ap (λ r. with (text_in r) (λ q. Reply (TextElement q.bytes) d)) g
 
   -- another in the place of one
   abbrev pub set_in : ℕ → OwnedText → Plan
-  set_in i q = Reply Done (texts_after (slice_set ps i q) t)
+  set_in i q = Reply Done (texts_after (slice_set h.texts i q) h.table)
 
-  pub set-text : (i : ℕ) (bs : List ℕ) (r : Option OwnedText) → slice_get ps i ≡ r → effect d (asked.Set key i (asked.Quoted bs)) ≡ with (text_in r) (λ old. with_owned_text bs (set_in i))
+  pub set-text : (i : ℕ) (bs : List ℕ) (r : Option OwnedText) → slice_get h.texts i ≡ r
+      → effect d (asked.Set key i (asked.Quoted bs)) ≡ with (text_in r) (λ old. with_owned_text bs (set_in i))
   set-text i bs r g =
-      with-found d key o (λ o. step.set d o o.value i (asked.Quoted bs)) e ∙ ap (λ v. step.set d o v i (asked.Quoted bs)) f
+      by-texts (λ o v. step.set d o v i (asked.Quoted bs))
       ∙ ap (λ r. with (text_in r) (λ old. with_owned_text bs (set_in i))) g
 
   -- one more, among the others or behind the last
   abbrev pub insert_in : ℕ → Table → OwnedText → Plan
-  insert_in i u q = Reply Done (texts_after (insert ps i q) u)
+  insert_in i u q = Reply Done (texts_after (insert h.texts i q) u)
 
   abbrev pub insert_plan : ℕ → List ℕ → Plan
-  insert_plan i bs = with_capacity 16 (capacity_for_one (length ps) t.capacity) t (λ u. with_owned_text bs (insert_in i u))
+  insert_plan i bs = one_more_plan h.texts h.table bs (insert_in i)
 
-  pub push-text : (bs : List ℕ) → effect d (asked.Push key (asked.Quoted bs)) ≡ insert_plan (length ps) bs
+  pub push-text : (bs : List ℕ) → effect d (asked.Push key (asked.Quoted bs)) ≡ insert_plan (length h.texts) bs
   push-text bs =
-      with-found d key o (λ o. step.push d o o.value (asked.Quoted bs)) e ∙ ap (λ v. step.push d o v (asked.Quoted bs)) f
-      ∙ (λ i. with_capacity 16 (capacity_for_one (length ps) t.capacity) t (λ u. with_owned_text bs (λ q. Reply Done (texts_after (sym (pushed-last ps q) i) u))))
+      by-texts (λ o v. step.push d o v (asked.Quoted bs))
+      ∙ (λ i. one_more_plan h.texts h.table bs (λ u q. Reply Done (texts_after (sym (pushed-last h.texts q) i) u)))
 
-  pub insert-text : (i : ℕ) (bs : List ℕ) (b : Bool) → nat_lt (length ps) i ≡ b → effect d (asked.Insert key i (asked.Quoted bs)) ≡ (if b then Refuse OutOfRange else insert_plan i bs)
+  pub insert-text : (i : ℕ) (bs : List ℕ) (b : Bool) → nat_lt (length h.texts) i ≡ b
+      → effect d (asked.Insert key i (asked.Quoted bs)) ≡ (if b then Refuse OutOfRange else insert_plan i bs)
   insert-text i bs b g =
-      with-found d key o (λ o. step.insert_at d o o.value i (asked.Quoted bs)) e ∙ ap (λ v. step.insert_at d o v i (asked.Quoted bs)) f
+      by-texts (λ o v. step.insert_at d o v i (asked.Quoted bs))
       ∙ ap (λ (b : Bool). if b then Refuse OutOfRange else insert_plan i bs) g
 
   -- one less
-  pub erase-text : (i : ℕ) (r : Option OwnedText) → slice_get ps i ≡ r → effect d (asked.Erase key i) ≡ with (text_in r) (λ q. Reply Done (texts_after (remove ps i) t))
+  pub erase-text : (i : ℕ) (r : Option OwnedText) → slice_get h.texts i ≡ r
+      → effect d (asked.Erase key i) ≡ with (text_in r) (λ q. Reply Done (texts_after (remove h.texts i) h.table))
   erase-text i r g =
-      with-found d key o (λ o. step.erase d o o.value i) e ∙ ap (λ v. step.erase d o v i) f
-      ∙ ap (λ r. with (text_in r) (λ q. Reply Done (texts_after (remove ps i) t))) g
+      by-texts (λ o v. step.erase d o v i)
+      ∙ ap (λ r. with (text_in r) (λ q. Reply Done (texts_after (remove h.texts i) h.table))) g
 
   -- the last
-  abbrev pub pop_in : OwnedText → Plan
-  pop_in q = Reply (TextElement q.bytes) (texts_after (take (length ps - 1) ps) t)
-
-  pub pop-text : (r : Option OwnedText) → slice_get ps (length ps - 1) ≡ r → effect d (asked.Pop key) ≡ with (text_in r) pop_in
-  pop-text r g = with-found d key o (λ o. step.pop d o o.value) e ∙ ap (λ v. step.pop d o v) f ∙ ap (λ r. with (text_in r) pop_in) g
+  pub pop-text : (r : Option OwnedText) → slice_get h.texts (length h.texts - 1) ≡ r → effect d (asked.Pop key)
+      ≡ with (text_in r) (λ q. Reply (TextElement q.bytes) (texts_after (remove h.texts (length h.texts - 1)) h.table))
+  pop-text r g =
+      by-texts (λ o v. step.pop d o v)
+      ∙ (λ i. with (text_in (g i)) (λ q.
+      Reply (TextElement q.bytes) (texts_after (sym (removed-last h.texts) i) h.table)))
 
   -- others in the place of all: none, and one or more
-  pub assign-none : effect d (asked.Assign key []) ≡ Reply Done (texts_after [] t)
-  assign-none = with-found d key o (λ o. step.assign d o o.value []) e ∙ ap (λ v. step.assign d o v []) f
+  pub assign-none : effect d (asked.Assign key []) ≡ Reply Done (texts_after [] h.table)
+  assign-none = by-texts (λ o v. step.assign d o v [])
 
-  abbrev assign_in : List (List ℕ) → Plan
-  assign_in bss = with_storage 16 (length bss) (λ u. with_owned_texts bss (λ qs. Reply Done (texts_after qs u)))
+  abbrev pub assign_in : Table → List OwnedText → Plan
+  assign_in u qs = Reply Done (texts_after qs u)
 
-  pub assign-some : (l : Literal) (ls : List Literal) (bss : List (List ℕ)) → texts_of (l ∷ ls) ≡ Ok bss → effect d (asked.Assign key (l ∷ ls)) ≡ assign_in bss
+  pub assign-some : (l : Literal) (ls : List Literal) (bss : List (List ℕ)) → texts_of (l ∷ ls) ≡ Ok bss
+      → effect d (asked.Assign key (l ∷ ls)) ≡ all_plan bss assign_in
   assign-some l ls bss g =
-      with-found d key o (λ o. step.assign d o o.value (l ∷ ls)) e ∙ ap (λ v. step.assign d o v (l ∷ ls)) f ∙ ap (λ r. with r assign_in) g
+      by-texts (λ o v. step.assign d o v (l ∷ ls)) ∙ ap (λ r. with r (λ bss. all_plan bss assign_in)) g
 
   -- places
-  pub reserve-texts : (n : ℕ) → effect d (asked.Reserve key n) ≡ with_capacity 16 n t (λ u. Reply Done (texts_after ps u))
-  reserve-texts n =
-      reserve-plan d key o e n (Ok (16, length ps, t)) (ap storage_of f) ∙ ap (λ v. with_capacity 16 n t (λ u. Reply Done (changed d o (with_table v u)))) f
+  pub reserve-texts : (n : ℕ) → effect d (asked.Reserve key n) ≡ with_capacity 16 n h.table (λ u. assign_in u h.texts)
+  reserve-texts n = by-texts (λ o v. with (storage_of v) (reserve_with d o v n))
 
-  pub shrink-texts : effect d (asked.Shrink key) ≡ Reply Done (texts_after ps (cut_table (live d) 16 (length ps) t))
-  shrink-texts =
-      shrink-plan d key o e (Ok (16, length ps, t)) (ap storage_of f) ∙ ap (λ v. Reply Done (changed d o (with_table v (cut_table (live d) 16 (length ps) t)))) f
+  pub shrink-texts : effect d (asked.Shrink key) ≡ assign_in (cut_table (live d) 16 (length h.texts) h.table) h.texts
+  shrink-texts = by-texts (λ o v. with (storage_of v) (shrink_with d o v))
 
-  pub clear-texts : effect d (asked.Clear key) ≡ Reply Done (texts_after [] t)
-  clear-texts = clear-plan d key o e (Ok (16, length ps, t)) (ap storage_of f) ∙ ap (λ v. Reply Done (changed d o (with_items v []))) f
+  pub clear-texts : effect d (asked.Clear key) ≡ assign_in h.table []
+  clear-texts = by-texts (λ o v. with (storage_of v) (λ s. Reply Done (changed d o (with_items v []))))

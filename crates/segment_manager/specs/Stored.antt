@@ -1,5 +1,5 @@
 -- Containers with storage of their own, at a place: what calls on one answer and leave, whichever key has its object.
-use Rattle.std.specs.Prelude.{◌≡◌, ◌≤◌, ℕ, false, List, Result, Ok, OnErr}
+use Rattle.std.specs.Prelude.{◌≡◌, ◌≤◌, ℕ, List, Result, Ok, OnErr}
 use Rattle.raw_region.specs.Memory.{Cut}
 use Rattle.seg_types.specs.declared.kinds.Kind.{Kind}
 use Rattle.seg_types.specs.declared.refusals.Refusal.{Refusal}
@@ -12,31 +12,14 @@ use Rattle.seg_vector.specs.declared.places.Place.{Place}
 use Rattle.seg_vector.specs.Elements.{Fits, Truncates}
 use Rattle.seg_vector.specs.Standing.{Grows, IsStanding}
 use Rattle.seg_vector.specs.TextsCalls.{ClearsTexts, ReservesNoTexts, ReservesTexts, ShrinksTexts}
-use Rattle.segment_manager.specs.declared.modes.Mode.{Mode}
 use Rattle.segment_manager.specs.declared.storages.Change.{Change}
 use Rattle.segment_manager.specs.declared.storages.Change.TheVariants.{Clear, Reserve, Shrink}
 use Rattle.segment_manager.specs.Answers.{Answer}
-use Rattle.segment_manager.specs.Contents.{container_at, sizes_at_kind}
 use Rattle.segment_manager.specs.Directory.{Directory}
 use Rattle.segment_manager.specs.Keeping.{HasPlaces}
-use Rattle.segment_manager.specs.State.{IsSegment, IsStepOfKind, StandsFor, State, done_answer}
-use Rattle.segment_manager.specs.Step.{is_read_only}
+use Rattle.segment_manager.specs.State.{IsStepOfKind, State, done_answer}
 
--- the container of the object of the key, an object of the kind, stands there
-abbrev pub StandsThere : Cut → Kind → Place → Key → Type 0
-StandsThere c kind p key = (d : Directory) → StandsFor c.bytes d
-    → (let r : Result Place Refusal = Ok p in r) ≡ container_at d key kind
-
--- that of some key does
-abbrev pub HasContainer : Cut → Kind → Place → Type 0
-HasContainer c kind p = IsSegment c.bytes × ((key : Key) × StandsThere c kind p key)
-
--- how many elements it has, and how many places
-abbrev pub TellsSizes : Cut → Kind → Place → ℕ × ℕ → Type 0
-TellsSizes c kind p sizes = (key : Key) → StandsThere c kind p key → (d : Directory) → StandsFor c.bytes d
-    → (let r : Result (ℕ × ℕ) Refusal = Ok sizes in r) ≡ sizes_at_kind d key kind
-
--- A call that changes it is one step of the machine, and where it is refused nothing changes.
+-- A call that changes a container is one step of the machine, and where it is refused nothing changes.
 pub record AnswersSafely {R : Type 0} (says : Result R Refusal → Answer) (s : State) (new : Cut) (key : Key)
     (kind : Kind) (c : Command) (r : Result R Refusal) : Type 0 where
   pub step : IsStepOfKind s (record s { cut = new }) key kind c (says r)
@@ -45,17 +28,6 @@ pub record AnswersSafely {R : Type 0} (says : Result R Refusal → Answer) (s : 
 -- one that answers nothing
 abbrev pub StepsSafely : State → Cut → Key → Kind → Command → Result (Unit {0}) Refusal → Type 0
 StepsSafely = AnswersSafely done_answer
-
--- the same at its place, in a segment that may be changed
-abbrev pub StepsThere : Cut → Cut → Kind → Place → (Key → Command) → Result (Unit {0}) Refusal → Type 0
-StepsThere old new kind p command result =
-    (mode : Mode) (key : Key) → is_read_only mode ≡ false → StandsThere old kind p key
-    → StepsSafely (record { cut = old; mode = mode }) new key kind (command key) result
-
--- nothing changes where this holds of it
-abbrev pub KeepsThere : Cut → Cut → Kind → Place → (Key → Directory → Type 0) → Type 0
-KeepsThere old new kind p holds = (key : Key) → StandsThere old kind p key → (d : Directory) → StandsFor old.bytes d
-    → holds key d → new ≡ old
 
 -- ---- what is done with storage
 

@@ -1,6 +1,6 @@
 //! The elements of objects whose kind is not known before: of scalars, of vectors of scalars, and of strings.
 ghost use Rattle.std.specs.Prelude.{◌≡◌, Ok, OnErr};
-ghost use Rattle.seg_types.specs.declared.kinds.Kind.TheVariants.{Text as TextKind, Vector as VectorOf};
+ghost use Rattle.seg_types.specs.declared.kinds.Kind.TheVariants.{Vector as VectorOf};
 ghost use Rattle.seg_types.specs.Commands.{Get, Set, literal_of};
 ghost use Rattle.seg_types.specs.Values.{kind_of_scalar, value_of_scalar};
 ghost use Rattle.segment_manager.specs.Calls.{elements_at, scalar_reply};
@@ -30,7 +30,11 @@ impl Segment {
         match object.kind {
             Kind::Scalar(kind) => self.get_value(&object, kind, index),
             Kind::Vector(kind) => self.get_in_vector(&object, kind, index),
-            Kind::Text => self.get_in_string(&object, index),
+            Kind::Text => {
+                let place = self.find_container(&object, Kind::Text)?;
+                let byte = SegString { place }.get(&self.heap, index)?;
+                Ok(ScalarValue::U8(byte))
+            }
             _ => Err(Refusal::WrongKind),
         }
     }
@@ -52,16 +56,6 @@ impl Segment {
             };
         }
         Ok(by_kind!(kind, got))
-    }
-
-    /// The same of a string.
-    fn get_in_string<O: Target>(&self, key: &O, index: u64) -> Result<ScalarValue, Refusal>
-        requires { O.stands key.now self.now }
-        ensures { IsReplyOfKind self.now (O.key key.now) TextKind (Get (O.key key.now) index) (scalar_answer result) }
-    {
-        let place = self.find_container(key, Kind::Text)?;
-        let byte = SegString { place }.get(&self.heap, index)?;
-        Ok(ScalarValue::U8(byte))
     }
 
     /// `vec_set` of a value's kind.

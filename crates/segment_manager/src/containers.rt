@@ -21,7 +21,14 @@ impl Segment {
     {
         match key.handle_in(self) {
             None => Err(Refusal::NotFound),
-            Some(handle) => container_in(&self.heap, handle, kind),
+            Some(handle) => {
+                let head = read_head(&self.heap, handle);
+                if head.kind.code() != kind.code() {
+                    return Err(Refusal::WrongKind);
+                }
+                let at = value_at(u64::from(head.name_len));
+                Ok(Place { handle, at })
+            }
         }
     }
 
@@ -36,19 +43,4 @@ impl Segment {
         }
         self.find_container(key, kind)
     }
-}
-
-/// Where the container stands in the block of an object: `WrongKind` where it is of another kind.
-pub(crate) fn container_in(heap: &Heap, handle: u64, kind: Kind) -> Result<Place, Refusal>
-    requires { HasObject heap.now.bytes handle }
-    ensures { (o : Object) → StandsAt heap.now.bytes handle o → result ≡ place_of_kind o kind }
-{
-    let head = read_head(heap, handle);
-    if head.kind.code() != kind.code() {
-        return Err(Refusal::WrongKind);
-    }
-    Ok(Place {
-        handle,
-        at: value_at(u64::from(head.name_len)),
-    })
 }

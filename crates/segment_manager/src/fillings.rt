@@ -104,8 +104,7 @@ impl<T: Scalar> Filling for NewVector<'_, T> {
 
     #[inline(always)]
     fn fill(&self, heap: &mut Heap, place: Place) -> Result<(), Refusal> {
-        let vector = SegVec::<T>::new(heap, place);
-        vector.assign(heap, self.values)
+        SegVec::<T>::new(heap, place).assign(heap, self.values)
     }
 }
 
@@ -128,8 +127,7 @@ impl Filling for NewString<'_> {
     #[inline(always)]
     fn fill(&self, heap: &mut Heap, place: Place) -> Result<(), Refusal> {
         judge(self.bytes);
-        let string = SegString::new(heap, place);
-        string.assign(heap, self.bytes)
+        SegString::new(heap, place).assign(heap, self.bytes)
     }
 }
 
@@ -152,8 +150,7 @@ impl Filling for NewTexts<'_> {
     #[inline(always)]
     fn fill(&self, heap: &mut Heap, place: Place) -> Result<(), Refusal> {
         judge_all(self.texts);
-        let vector = SegTexts::new(heap, place);
-        vector.assign(heap, self.texts)
+        SegTexts::new(heap, place).assign(heap, self.texts)
     }
 }
 

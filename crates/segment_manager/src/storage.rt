@@ -9,9 +9,15 @@ ghost use Rattle.segment_manager.specs.{Keeping.KeepsWhere, State.Answers, State
 ghost use Rattle.segment_manager.specs.ElementLists.{array_length_at, length_at_kind};
 
 use crate::segment::Segment;
-use crate::storages::{Change, change_there, is_stored, sizes};
+use crate::storages::{Change, change_elements, change_texts, element_len};
 use crate::targets::{Target, locate};
 use seg_types::{Kind, Refusal, Scalar};
+use seg_vector::SegTexts;
+
+/// Where the number of elements or pairs stands in a container, a vector, string or map, and behind it that of places.
+const LEN: u64 = 8;
+
+const CAPACITY: u64 = 16;
 
 impl Segment {
     /// How many elements the vector or string of a key has, and how many places; or how many pairs its map has, and 0.
@@ -39,7 +45,11 @@ impl Segment {
         ensures { Answers self.now (λ d. sizes_at_kind d (O.key key.now) kind) result }
     {
         let place = self.find_container(key, kind)?;
-        Ok(sizes(&self.heap, place, kind))
+        let len = self.heap.word(place.handle, place.at + LEN);
+        match kind {
+            Kind::Map(_, _) => Ok((len, 0)),
+            _ => Ok((len, self.heap.word(place.handle, place.at + CAPACITY))),
+        }
     }
 
     /// Gives the vector or string of a key places for `n` elements, where it has fewer.
@@ -103,11 +113,17 @@ impl Segment {
             return Err(Refusal::ReadOnly);
         }
         let object = locate(self, key)?;
-        if !is_stored(object.kind) {
-            return Err(Refusal::WrongKind);
+        match object.kind {
+            Kind::Scalar(_) | Kind::Map(_, _) => Err(Refusal::WrongKind),
+            Kind::Texts => {
+                let place = self.find_container(&object, Kind::Texts)?;
+                change_texts(&mut self.heap, SegTexts { place }, change)
+            }
+            kind => {
+                let place = self.find_container(&object, kind)?;
+                change_elements(&mut self.heap, place, element_len(kind), change)
+            }
         }
-        let place = self.find_container(&object, object.kind)?;
-        change_there(&mut self.heap, place, object.kind, change)
     }
 
     /// How many elements the array of a key has, one scalar or an array of a type.

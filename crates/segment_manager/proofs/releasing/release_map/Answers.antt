@@ -7,10 +7,12 @@ use Rattle.segment_manager.proofs.releasing.release_map.Goals as goal
 pub release-requires : goal.release-requires
 release-requires g c =
     subst (λ (p : Place). IsSomeMap g.K.Plain g.V.Plain c.args.heap.now.bytes p.handle p.at) (sym c.at.ensures)
-    (some-map _ _ _ _ _ _ (of-map g.met.K.Scalar) (of-map g.met.V.Scalar) _ _ _ c.requires)
+    (some-map (of-map g.met.K.Scalar) (of-map g.met.V.Scalar) _ _ _ c.requires)
 
 pub returns : goal.returns
 returns g c = record {
-  each = releases-numbers _ _ _ _ _ _ (of-map g.met.K.Scalar) (of-map g.met.V.Scalar) c.args.heap.now c.release.new.heap _ _
-      (subst (λ (p : Place). Releases g.K.Plain g.V.Plain c.args.heap.now c.release.new.heap p.handle p.at) c.at.ensures c.release.ensures);
+  each = releases-numbers (of-map g.met.K.Scalar) (of-map g.met.V.Scalar) c.args.heap.now c.release.new.heap _ _
+      (subst
+      (λ (p : Place).
+      Releases g.K.Plain g.V.Plain c.args.heap.now c.release.new.heap p.handle p.at) c.at.ensures c.release.ensures);
 }

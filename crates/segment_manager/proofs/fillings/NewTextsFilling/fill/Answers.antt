@@ -5,5 +5,6 @@ use Rattle.segment_manager.proofs.fillings.NewTextsFilling.fill.Goals as goal
 
 pub returns : goal.returns
 returns c =
-    texts-made c.args.heap.now c.new-vector.new.heap c.assign.new.heap c.args.place c.new-vector.ensures.change c.new-vector.result.place (map (λ (text : Bor (List ℕ)). text.now) c.args.self.now.texts.now)
-    c.assign.result c.judge_all.ensures c.new-vector.ensures.place c.new-vector.ensures.texts c.assign.ensures.assigned
+    texts-made c.args.heap.now c.new.new.heap c.assign.new.heap c.args.place c.new.ensures.change c.new.result.place
+    (map (λ (text : Bor (List ℕ)). text.now) c.args.self.now.texts.now)
+    c.assign.result c.judge_all.ensures c.new.ensures.place c.new.ensures.texts c.assign.ensures.assigned

@@ -1,67 +1,132 @@
 -- The container of the object of the key is changed as its kind says.
-use Rattle.segment_manager.proofs.Common.{exit-is, refl, sym, ◌∙◌, Key, ByHandle, command_of, done_answer}
+use Rattle.segment_manager.proofs.Common.{exit-is, ◌≡◌, false, refl, subst, sym, ◌∙◌, Answers, ByHandle, Change, Err}
+use Rattle.segment_manager.proofs.Common.{IsStep, Key, Kind, Located, Refusal, Refused, State, TextsKind, command_of}
+use Rattle.segment_manager.proofs.Common.{container_at, ap, done_answer, has_storage, inl, inr, is_read_only}
 use Rattle.segment_manager.proofs.Locating.{enough-by_key, kind-by_key, located-changes}
-use Rattle.segment_manager.proofs.{AnyStorage.change-other, AnyStorage.nowhere-steps, KeptContainers.keeps-cut}
-use Rattle.segment_manager.proofs.{Refilled.finds-no_container, Steps.open-writing, Steps.refuses-read_only}
-use Rattle.segment_manager.proofs.{Safely.Answered, Safely.answered, StorageSteps.change-changes}
-use Rattle.segment_manager.proofs.{StorageSteps.change-nowhere, StoredCalls.changes-there, StoredCalls.stands-there}
-use Rattle.segment_manager.proofs.segment.Segment.change_storage.{Goals.After-change_there, Given.Over}
+use Rattle.segment_manager.proofs.OneLength.{elements-changed, elements-kept, some-elements}
+use Rattle.segment_manager.proofs.{AnyStorage.change-other, AnyStorage.nowhere-steps, KeptContainers.texts-kept}
+use Rattle.segment_manager.proofs.{Refilled.finds-no_container, Released.has_storage-left, Steps.open-writing}
+use Rattle.segment_manager.proofs.{Safely.Answered, Safely.answered, Steps.refuses-read_only}
+use Rattle.segment_manager.proofs.{StorageSteps.change-changes, StorageSteps.change-nowhere}
+use Rattle.segment_manager.proofs.{TextListCalls.texts-changed, TextListCalls.texts-standing}
+use Rattle.segment_manager.specs.{Located.IsLocated, Stored.ChangesElements, Stored.IsElements, Stored.each_of}
+use Rattle.segment_manager.proofs.segment.Segment.change_storage.Goals.{After-change_elements, After-change_texts}
+use Rattle.segment_manager.proofs.segment.Segment.change_storage.Given.{Over}
 use Rattle.segment_manager.proofs.segment.Segment.change_storage.Goals as goal
 
--- what the call does, in each goal behind it
-done : (g : Over) (c : After-change_there g) → Answered done_answer (record { cut = c.self.inside.heap; mode = c.self.inside.mode })
-    c.args.self.now c.change_there.new.heap (ByHandle c.in_ok-object.object.handle) c.in_ok-object.object.kind
-    (command_of c.args.change (ByHandle c.in_ok-object.object.handle)) c.change_there.result
-done g c =
-    answered _ _ c.self.view_is c.self.invariant _ _ _ _ _ (changes-there _ _ c.self.view_is _ _ _ _ _ (command_of c.args.change) _
-    (sym c.is_read_only.ensures ∙ c.if-is_read_only.false) refl c.in_ok-place.ensures c.change_there.ensures.change)
+-- there is no such container
+not-there : (s : State) (key : Key) (o : Located) (l : IsLocated s key o) (change : Change) (kind : Kind)
+    (why : Refusal)
+    → o.kind ≡ kind → is_read_only s.mode ≡ false → Answers s (λ d. container_at d (ByHandle o.handle) kind) (Err why)
+    → IsStep s s (command_of change key) (Refused why)
+not-there s key o l change kind why is may a =
+    located-changes s key o l change s kind (Refused why) is
+    (finds-no_container s (ByHandle o.handle) kind (command_of change (ByHandle o.handle)) why
+    (open-writing s.mode (command_of change (ByHandle o.handle)) may) a)
+
+-- what the call does with a vector of strings, and with elements of one length, in each goal behind it
+texts-done : (g : Over) (c : After-change_texts g)
+    → Answered done_answer (record { cut = c.self.inside.heap; mode = c.self.inside.mode })
+    c.args.self.now c.change_texts.new.heap (ByHandle c.in_ok-object.object.handle) TextsKind
+    (command_of c.args.change (ByHandle c.in_ok-object.object.handle)) c.change_texts.result
+texts-done g c =
+    answered _ _ c.self.view_is c.self.invariant _ _ _ _ _ (texts-changed c.self.view_is c.self.invariant (record {
+      writing = sym c.is_read_only.ensures ∙ c.if-is_read_only.false;
+      at = c.in_ok-place-in-Texts.ensures;
+    }) _ c.args.change _ c.change_texts.ensures)
+
+elements-said : (g : Over) (c : After-change_elements g)
+    → ChangesElements c.args.change c.self.inside.heap c.change_elements.new.heap c.in_ok-place-in_default.place
+    (each_of c.in_ok-object.object.kind) c.change_elements.result
+elements-said g c =
+    subst
+    (λ n.
+    ChangesElements c.args.change c.self.inside.heap c.change_elements.new.heap c.in_ok-place-in_default.place n
+    c.change_elements.result)
+    c.element_len.ensures c.change_elements.ensures
+
+elements-done : (g : Over) (c : After-change_elements g)
+    → Answered done_answer (record { cut = c.self.inside.heap; mode = c.self.inside.mode })
+    c.args.self.now c.change_elements.new.heap (ByHandle c.in_ok-object.object.handle) c.in_ok-object.object.kind
+    (command_of c.args.change (ByHandle c.in_ok-object.object.handle)) c.change_elements.result
+elements-done g c =
+    answered _ _ c.self.view_is c.self.invariant _ _ _ _ _ (elements-changed c.self.view_is _ _ _ c.self.invariant
+    c.in_ok-place-in_default.ensures
+    (has_storage-left _ c.in_default.not-Scalar c.in_default.not-Map) c.in_default.not-Texts
+    _ (sym c.is_read_only.ensures ∙ c.if-is_read_only.false) c.args.change _ (elements-said g c))
 
 pub returns-then-is_read_only-clause-step : goal.returns-then-is_read_only-clause-step
 returns-then-is_read_only-clause-step g c =
     let key : Key = g.O.Target.key c.args.key.now in
-    refuses-read_only c.args.self.now (command_of c.args.change key) (sym c.is_read_only.ensures ∙ c.if-is_read_only.true)
+    refuses-read_only c.args.self.now (command_of c.args.change key)
+    (sym c.is_read_only.ensures ∙ c.if-is_read_only.true)
     (change-changes c.args.change key)
 
 pub returns-in_err-object-clause-step : goal.returns-in_err-object-clause-step
 returns-in_err-object-clause-step g c =
     rw (exit-is c.from_residual.result _ c.from_residual.ensures.1) (let key : Key = g.O.Target.key c.args.key.now in
     nowhere-steps c.args.self.now key c.in_err-object.field-0.0 (command_of c.args.change key)
-    (sym c.is_read_only.ensures ∙ c.if-is_read_only.false) c.in_err-object.ensures (λ d e. change-nowhere c.args.change d key e))
+    (sym c.is_read_only.ensures
+    ∙ c.if-is_read_only.false) c.in_err-object.ensures (λ d e. change-nowhere c.args.change d key e))
 
-pub returns-then-not-is_stored-clause-step : goal.returns-then-not-is_stored-clause-step
-returns-then-not-is_stored-clause-step g c =
-    let key : Key = g.O.Target.key c.args.key.now in
-    change-other c.args.change c.args.self.now key c.in_ok-object.object.kind (sym c.is_read_only.ensures ∙ c.if-is_read_only.false)
-    (sym c.is_stored.ensures ∙ c.if-not-is_stored.true) (kind-by_key c.args.self.now key c.in_ok-object.object c.in_ok-object.ensures)
+pub returns-in-Scalar-clause-step : goal.returns-in-Scalar-clause-step
+returns-in-Scalar-clause-step g c =
+    change-other c.args.change c.args.self.now _ c.in_ok-object.object.kind
+    (sym c.is_read_only.ensures ∙ c.if-is_read_only.false)
+    (elim c.in-Scalar.is [ inl a ↦ ap has_storage a.1 | inr a ↦ ap has_storage a.2 ])
+    (kind-by_key _ _ _ c.in_ok-object.ensures)
 
-pub returns-in_err-place-clause-step : goal.returns-in_err-place-clause-step
-returns-in_err-place-clause-step g c =
-    rw (exit-is c.from_residual-in_err-place.result _ c.from_residual-in_err-place.ensures.1)
-    (located-changes _ _ _ c.in_ok-object.ensures c.args.change _ c.in_ok-object.object.kind _ refl
-    (finds-no_container _ _ _ (command_of c.args.change _) _ (open-writing _ (command_of c.args.change _) (sym c.is_read_only.ensures ∙ c.if-is_read_only.false)) c.in_err-place.ensures))
+pub change_texts-requires : goal.change_texts-requires
+change_texts-requires g c =
+    texts-standing c.self.view_is
+    (ByHandle c.in_ok-object.object.handle) _ c.self.invariant c.in_ok-place-in-Texts.ensures
 
-pub change_there-requires-clause-there : goal.change_there-requires-clause-there
-change_there-requires-clause-there g c = (
-  c.self.invariant,
-  (
-    ByHandle c.in_ok-object.object.handle,
-    stands-there _ _ c.self.view_is (ByHandle c.in_ok-object.object.handle) c.in_ok-object.object.kind _ _ refl c.in_ok-place.ensures,
-  ),
-)
+pub returns-in_err-place-in-Texts-clause-step : goal.returns-in_err-place-in-Texts-clause-step
+returns-in_err-place-in-Texts-clause-step g c =
+    rw (exit-is c.from_residual-in_err-place-in-Texts.result _ c.from_residual-in_err-place-in-Texts.ensures.1)
+    (not-there _ _ _ c.in_ok-object.ensures c.args.change _ _ c.in-Texts.is
+    (sym c.is_read_only.ensures ∙ c.if-is_read_only.false)
+    c.in_err-place-in-Texts.ensures)
 
 pub invariant_of-self : goal.invariant_of-self
-invariant_of-self g c = (done g (goal.at.invariant_of-self g c).After-change_there).segment
+invariant_of-self g c = (texts-done g (goal.at.invariant_of-self g c).After-change_texts).segment
 
-pub returns-clause-step : goal.returns-clause-step
-returns-clause-step g c =
-    located-changes _ _ _ c.in_ok-object.ensures c.args.change _ c.in_ok-object.object.kind _ refl
-    (done g (goal.at.returns-clause-step g c).After-change_there).step
+pub returns-in_ok-place-in-Texts : goal.returns-in_ok-place-in-Texts
+returns-in_ok-place-in-Texts g c =
+    let done = texts-done g (goal.at.returns-in_ok-place-in-Texts g c).After-change_texts in
+    record {
+      step = located-changes _ _ _ c.in_ok-object.ensures c.args.change _ TextsKind _ c.in-Texts.is done.step;
+      refused = done.refused;
+      enough = enough-by_key _ _ _ c.in_ok-object.ensures c.args.change _
+          (texts-kept c.self.view_is _ c.in_ok-place-in-Texts.ensures _ c.args.change _ c.change_texts.ensures);
+    }
 
-pub returns-clause-refused : goal.returns-clause-refused
-returns-clause-refused g c = (done g (goal.at.returns-clause-refused g c).After-change_there).refused
+pub change_elements-requires : goal.change_elements-requires
+change_elements-requires g c =
+    subst (IsElements c.self.inside.heap.bytes c.in_ok-place-in_default.place) (sym c.element_len.ensures)
+    (some-elements c.self.view_is
+    (ByHandle c.in_ok-object.object.handle) _ _ c.self.invariant c.in_ok-place-in_default.ensures
+    (has_storage-left _ c.in_default.not-Scalar c.in_default.not-Map) c.in_default.not-Texts)
 
-pub returns-clause-enough : goal.returns-clause-enough
-returns-clause-enough g c =
-    enough-by_key _ _ _ c.in_ok-object.ensures c.args.change _ (keeps-cut _ _ c.self.view_is c.change_there.new.heap _
-    (c.change_there.ensures.enough (ByHandle c.in_ok-object.object.handle)
-    (stands-there _ _ c.self.view_is (ByHandle c.in_ok-object.object.handle) c.in_ok-object.object.kind _ _ refl c.in_ok-place.ensures)))
+pub returns-in_err-place-in_default-clause-step : goal.returns-in_err-place-in_default-clause-step
+returns-in_err-place-in_default-clause-step g c =
+    rw (exit-is c.from_residual-in_err-place-in_default.result _ c.from_residual-in_err-place-in_default.ensures.1)
+    (not-there _ _ _ c.in_ok-object.ensures c.args.change _ _ refl
+    (sym c.is_read_only.ensures ∙ c.if-is_read_only.false)
+    c.in_err-place-in_default.ensures)
+
+pub invariant_of-self-in_default : goal.invariant_of-self-in_default
+invariant_of-self-in_default g c =
+    (elements-done g (goal.at.invariant_of-self-in_default g c).After-change_elements).segment
+
+pub returns-in_ok-place-in_default : goal.returns-in_ok-place-in_default
+returns-in_ok-place-in_default g c =
+    let there = (goal.at.returns-in_ok-place-in_default g c).After-change_elements in
+    record {
+      step = located-changes _ _ _ c.in_ok-object.ensures c.args.change _ _ _ refl (elements-done g there).step;
+      refused = (elements-done g there).refused;
+      enough = enough-by_key _ _ _ c.in_ok-object.ensures c.args.change _
+          (elements-kept c.self.view_is _ _ _ c.self.invariant c.in_ok-place-in_default.ensures
+          (has_storage-left _ c.in_default.not-Scalar c.in_default.not-Map) c.in_default.not-Texts _ c.args.change _
+          (elements-said g there));
+    }

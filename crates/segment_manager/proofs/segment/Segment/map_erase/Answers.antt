@@ -17,8 +17,10 @@ erase-requires g c =
 pub returns-in_err-place-clause-step : goal.returns-in_err-place-clause-step
 returns-in_err-place-clause-step g c =
     rw (exit-is c.from_residual.result _ c.from_residual.ensures.1)
-    (let asked : Command = Remove (g.O.Target.key c.args.key.now) (literal_of g.K.Scalar.kind (g.K.Scalar.whole c.args.at)) in
-    finds-no_map _ _ _ _ _ _ (open-writing _ asked (sym c.is_read_only.ensures ∙ c.if-is_read_only.false)) c.in_err-place.ensures)
+    (let asked : Command = Remove (g.O.Target.key c.args.key.now)
+    (literal_of g.K.Scalar.kind (g.K.Scalar.whole c.args.at)) in
+    finds-no_map _ _ _ _ _ _
+    (open-writing _ asked (sym c.is_read_only.ensures ∙ c.if-is_read_only.false)) c.in_err-place.ensures)
 
 pub invariant_of-self : goal.invariant_of-self
 invariant_of-self g c =
@@ -34,6 +36,6 @@ returns g c =
     record {
       step = d.step;
       refused = d.refused;
-      absent = map-kept _ _ _ _ _ _ (of-map g.met.K.Scalar) (of-map g.met.V.Scalar) _ _ c.self.view_is _ _ _ c.at.ensures
+      absent = map-kept (of-map g.met.K.Scalar) (of-map g.met.V.Scalar) _ _ c.self.view_is _ _ _ c.at.ensures
           c.in_ok-place.ensures _ c.args.at c.erase.result c.erase.ensures.erased;
     }

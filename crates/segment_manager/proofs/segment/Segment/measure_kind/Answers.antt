@@ -1,17 +1,32 @@
--- The sizes are those of the container that is found.
-use Rattle.segment_manager.proofs.Common.{exit-is, refl, subst, Ok, sizes_at_kind, Answers, State}
-use Rattle.segment_manager.proofs.{AnyStorage.measures-nothing, StoredCalls.stands-there}
+-- The sizes are what the words of the container say that is found.
+use Rattle.segment_manager.proofs.Common.{sym, ap, arith, bytes_of}
+use Rattle.segment_manager.proofs.OneLength.{measured, near-front, places-otherwise, places_in, word-room}
 use Rattle.segment_manager.proofs.segment.Segment.measure_kind.Goals as goal
 
-pub sizes-requires-clause-there : goal.sizes-requires-clause-there
-sizes-requires-clause-there g c =
-    (c.self.invariant, (g.O.Target.key c.args.key.now, stands-there _ _ c.self.view_is _ _ _ _ refl c.in_ok-place.ensures))
+pub overflow_add-place : goal.overflow_add-place
+overflow_add-place g c =
+    let near =
+    near-front c.self.view_is _ _ _ c.in_ok-place.ensures c.requires.container c.self.invariant in omega (arith, near)
 
-pub returns-in_err-place : goal.returns-in_err-place
-returns-in_err-place g c =
-    rw (exit-is c.from_residual.result _ c.from_residual.ensures.1) (measures-nothing _ _ _ _ c.in_err-place.ensures)
+pub word-len-requires : goal.word-len-requires
+word-len-requires g c =
+    word-room c.self.view_is _ _ _ c.in_ok-place.ensures c.requires.container c.self.invariant 8 (omega arith)
 
-pub returns : goal.returns
-returns g c =
-    subst (λ (t : State). Answers t (λ d. sizes_at_kind d (g.O.Target.key c.args.key.now) c.args.kind) (Ok c.sizes.result)) c.self.view_is
-    (record { answers = c.sizes.ensures (g.O.Target.key c.args.key.now) (stands-there _ _ c.self.view_is _ _ _ _ refl c.in_ok-place.ensures) })
+pub overflow_add-place-in_default : goal.overflow_add-place-in_default
+overflow_add-place-in_default g c =
+    let near =
+    near-front c.self.view_is _ _ _ c.in_ok-place.ensures c.requires.container c.self.invariant in omega (arith, near)
+
+pub word-requires : goal.word-requires
+word-requires g c =
+    word-room c.self.view_is _ _ _ c.in_ok-place.ensures c.requires.container c.self.invariant 16 (omega arith)
+
+pub returns-in-Map : goal.returns-in-Map
+returns-in-Map g c =
+    measured c.self.view_is _ _ _ c.in_ok-place.ensures c.requires.container _ _ c.word-len.ensures
+    (sym (ap (places_in (bytes_of c.self.inside.heap.bytes) _) c.in-Map.is))
+
+pub returns-in_default : goal.returns-in_default
+returns-in_default g c =
+    measured c.self.view_is _ _ _ c.in_ok-place.ensures c.requires.container _ _ c.word-len.ensures
+    (places-otherwise _ c.in_ok-place.place _ c.in_default.not-Map _ c.word.ensures)

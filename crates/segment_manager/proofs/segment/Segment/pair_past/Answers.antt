@@ -1,6 +1,6 @@
 -- The pair is looked for in the map that is found, by the call that the bound says.
-use Rattle.segment_manager.proofs.{Common.exit-is, Common.true, Common.false, MapAnswers.past-there}
-use Rattle.segment_manager.proofs.{MapAnswers.some-there, MapCalls.tells-nothing, ScalarTypes.of-map}
+use Rattle.segment_manager.proofs.{Common.true, Common.false, MapAnswers.past-there}
+use Rattle.segment_manager.proofs.{MapAnswers.some-there, ScalarTypes.of-map}
 use Rattle.segment_manager.proofs.segment.Segment.pair_past.Goals as goal
 
 pub next_after-requires : goal.next_after-requires
@@ -12,10 +12,6 @@ pub first_from-requires : goal.first_from-requires
 first_from-requires g c =
     some-there (of-map g.met.K.Scalar) (of-map g.met.V.Scalar) c.self.view_is _ c.at-map.ensures c.self.invariant
     c.in_ok-place.ensures
-
-pub returns-in_err-place : goal.returns-in_err-place
-returns-in_err-place g c =
-    rw (exit-is _ _ c.from_residual.ensures.1) (tells-nothing _ _ _ _ _ _ c.in_err-place.ensures)
 
 pub returns-then-above : goal.returns-then-above
 returns-then-above g c =

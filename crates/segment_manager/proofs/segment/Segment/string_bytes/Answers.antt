@@ -1,17 +1,15 @@
 -- The bytes are those of the string that is found.
-use Rattle.segment_manager.proofs.Common.{exit-is, subst, Ok, Text, bytes_at, Answers, State}
-use Rattle.segment_manager.proofs.TextAnswers.{reads-bytes, reads-nothing, text-standing}
+use Rattle.segment_manager.proofs.Common.{subst, Ok, Text, bytes_at, Answers, State}
+use Rattle.segment_manager.proofs.TextAnswers.{reads-bytes, text-standing}
 use Rattle.segment_manager.proofs.ToChange.{seen-found}
 use Rattle.segment_manager.proofs.segment.Segment.string_bytes.Goals as goal
 
 pub as_bytes-requires : goal.as_bytes-requires
 as_bytes-requires g c = text-standing c.self.view_is _ _ c.self.invariant c.in_ok-place.ensures
 
-pub returns-in_err-place : goal.returns-in_err-place
-returns-in_err-place g c =
-    rw (exit-is c.from_residual.result _ c.from_residual.ensures.1) (reads-nothing _ _ _ c.in_err-place.ensures)
-
 pub returns : goal.returns
 returns g c =
-    subst (λ (t : State). Answers t (λ d. bytes_at d (g.O.Target.key c.args.key.now)) (Ok c.as_bytes.result.now)) c.self.view_is
+    subst
+    (λ (t : State). Answers t (λ d. bytes_at d (g.O.Target.key c.args.key.now))
+    (Ok c.as_bytes.result.now)) c.self.view_is
     (reads-bytes _ _ _ _ (seen-found _ _ c.self.view_is _ Text _ c.in_ok-place.ensures) c.as_bytes.ensures)

@@ -338,12 +338,6 @@ destroys-anonymous s t view b c h may listed r =
     stepped s t view b c (asked.DestroyPtr h) (Truth true) may (λ writing.
     destroys-object s c h writing b (λ d k. let x = each d k in (x.0, (x.1, r d x.0 k x.1 x.2))))
 
--- an object has the handle
-pub own-object : (s t : State) (view : s ≡ t) (b : IsSegment s.cut.bytes) (h : ℕ) → Answers t (λ d. is_object_at d h) true → HoldsObject s.cut.bytes h
-own-object s t view b h a =
-    let x : IsHere s.cut.bytes b.0 (names.ByHandle h) h = object-here s h (seen-there s t view h a) b.0 b.1 in
-    record { directory = b.0; stands = b.1; object = x.object; is = x.is }
-
 -- no object has the handle
 pub destroys-no_ptr : (s : State) (h : ℕ) → is_read_only s.mode ≡ false → ((d : Directory) → StandsFor s.cut.bytes d → object_at d (names.ByHandle h) ≡ None)
     → IsStep s s (asked.DestroyPtr h) (Refused NotFound)

@@ -1,7 +1,7 @@
 -- What calls on keys leave to the last byte, as the code makes them.
-use Rattle.segment_manager.proofs.Common.{◌≡◌, sym, ap, subst, ◌∙◌, ℕ, ◌<◌, ◌≤◌, true, false, arith, is_some, none-some}
-use Rattle.segment_manager.proofs.Common.{Cut, Key, ByHandle, Index, Entry, Found, IsRoomy, capacity_at, place_of}
-use Rattle.segment_manager.proofs.Common.{is_object_at, Seeks, entries_of, table_of, KeepsWhere, LacksKey, Answers}
+use Rattle.segment_manager.proofs.Common.{◌≡◌, sym, subst, ◌∙◌, ℕ, ◌<◌, ◌≤◌, arith, none-some}
+use Rattle.segment_manager.proofs.Common.{Cut, Key, Index, Entry, Found, IsRoomy, capacity_at, place_of}
+use Rattle.segment_manager.proofs.Common.{Seeks, entries_of, table_of, KeepsWhere, LacksKey}
 use Rattle.segment_manager.proofs.{Common.State, Bridge.lookup-found, Destroys.Ends, HeldIndexes.denotes-index}
 
 -- a look-up that found an entry: an object has the key
@@ -10,10 +10,6 @@ keeps-found s t view new i e at p key q =
     subst (λ (u : State). KeepsWhere u new (LacksKey key)) view (λ d k lacks.
     let there = lookup-found i s.cut d e key k.denotes q at (p (table_of i d) (entries_of i d) (denotes-index i s.cut d k.denotes)) in
     absurd (none-some there.object (sym lacks ∙ there.is)))
-
--- an object that has the handle
-pub keeps-object : (s new : State) (h : ℕ) → Answers s (λ d. is_object_at d h) true → KeepsWhere s new (LacksKey (ByHandle h))
-keeps-object s new h a = λ d k lacks. let e : true ≡ false = a.answers d k ∙ ap is_some lacks in absurd (cc)
 
 -- so many places that are there
 pub keeps-places : (s t : State) (view : s ≡ t) (c : Cut) (i : Index) (n : ℕ) → IsRoomy s.cut c (place_of i) n → KeepsWhere t (record s { cut = c }) (λ d. n ≤ (table_of i d).capacity)

@@ -10,8 +10,8 @@ use Rattle.segment_manager.proofs.Common.{entries_of, table_of, Answers, IsSegme
 use Rattle.segment_manager.proofs.Common.{if◌then◌else◌, Kind, WrongKind, same_kind, Named, Unique, Answer, Number}
 use Rattle.segment_manager.proofs.Common.{kind_of, named_objects, unique_objects, IsBelow, objects_of, Plan, Refuse}
 use Rattle.segment_manager.proofs.Common.{Reply, StandsAt, IsReply, found, Mode, Command, step, Err, Ok, Refusal}
-use Rattle.segment_manager.proofs.Common.{Result, count_of, pair_answer, pair_of_kind, effect, NotFound, Instance}
-use Rattle.segment_manager.proofs.Common.{IsInstance, IsMissing, SaysAt, SaysOf, HasObject}
+use Rattle.segment_manager.proofs.Common.{Result, count_of, pair_answer, pair_of_kind, effect, Instance}
+use Rattle.segment_manager.proofs.Common.{IsInstance, SaysAt, SaysOf, HasObject}
 use Rattle.segment_manager.proofs.Bridge.{IsEntryFor, IsNoEntryFor, lookup-absent, lookup-found, in-handles}
 use Rattle.segment_manager.proofs.Steps.{open-reading, IsOpenFor, step-refuse, step-reply}
 use Rattle.segment_manager.proofs.Here.{IsHere, here, nothing-here, standing}
@@ -73,7 +73,7 @@ object-passes b d h k =
     sym (handle-is-object current d h k.directory) ∙ any-first for_object h 128 (live d).extents (live-rises (live d) k.directory.proper)
     ∙ ap (λ l. passes for_object (extent_at l h)) (sym (denotes-live current b d k))
 
-same-test : (r : Role) → sameb the_type r ObjectRole ≡ same_role r ObjectRole
+pub same-test : (r : Role) → sameb the_type r ObjectRole ≡ same_role r ObjectRole
 same-test ObjectRole = refl
 same-test role = refl
 
@@ -206,14 +206,19 @@ pub num-replies : (s : State) (i : Index) (n : ℕ) → ForIndex s.cut i (λ hs.
 num-replies s i n f = record { answers = λ d k. ap Number (index-counts s i n f d k) ∙ sym (ap (λ (r : Answer × Directory). r.0) (num-step s.mode i d)) }
 
 -- a number below their count is a place
-pub below-count : (s : State) (i : Index) (n : ℕ) → IsSegment s.cut.bytes → IsBelow s (λ d. length (objects_of i d)) n → n < entry_count s.cut (place_of i)
-below-count s i n g b =
+pub below-count : {s t : State} (view : s ≡ t) (i : Index) (n : ℕ) → IsSegment s.cut.bytes
+    → IsBelow t (λ d. length (objects_of i d)) n → n < entry_count s.cut (place_of i)
+below-count {s} view i n g b =
     let stands : IsIndexOf s.cut (place_of i) (table_of i g.0) (entries_of i g.0) = denotes-index i s.cut g.0 g.1.denotes in
-    omega (arith, b.below g.0 g.1, stands.stands.count, handles-length (objects_of i g.0))
+    let below = subst (λ (u : State). IsBelow u (λ d. length (objects_of i d)) n) (sym view) b in
+    omega (arith, below.below g.0 g.1, stands.stands.count, handles-length (objects_of i g.0))
 
 -- and what stands there is an entry of the directory
-pub at-answers : (s : State) (i : Index) (n h : ℕ) → ForIndex s.cut i (λ hs. slice_get hs n ≡ Some h) → Answers s (λ d. slice_get (entries_of i d) n) (Some h)
-at-answers s i n h f = record { answers = λ d k. sym (of-directory s i (λ hs. slice_get hs n ≡ Some h) d k f) }
+pub at-answers : {s t : State} (view : s ≡ t) (i : Index) (n h : ℕ) → ForIndex s.cut i (λ hs. slice_get hs n ≡ Some h)
+    → Answers t (λ d. slice_get (entries_of i d) n) (Some h)
+at-answers {s} view i n h f =
+    subst (λ (u : State). Answers u (λ d. slice_get (entries_of i d) n) (Some h)) view
+    (record { answers = λ d k. sym (of-directory s i (λ hs. slice_get hs n ≡ Some h) d k f) })
 
 -- ---- an index below that number
 
@@ -264,6 +269,3 @@ pub key-says : (s : State) (key : Key) (h : ℕ) (said : Instance) → Answers s
 key-says s key h said a each = record {
   says = λ d k. let o : IsHere s.cut.bytes d key h = here s.cut.bytes d key h k.denotes (a.answers d k) in (o.object, o.is, each o.object o.stands);
 }
-
-pub key-missing : (s : State) (key : Key) → Answers s (λ d. handle_at d key) None → IsMissing s key NotFound
-key-missing s key a = record { is = refl; missing = λ d k. nothing-here d key (a.answers d k) }

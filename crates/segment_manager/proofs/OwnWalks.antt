@@ -5,7 +5,7 @@ use Rattle.segment_manager.proofs.Common.{take, IsTrue, filter, is_some, option_
 use Rattle.segment_manager.proofs.Common.{none-some, same_Some, slice_get_within, length-map, current, Memory, bytes_of}
 use Rattle.segment_manager.proofs.Common.{is_legal_size, Tile, tiles_of, Extent, LiveSet, end_of, handle, is_proper}
 use Rattle.segment_manager.proofs.Common.{proper_from, spans, legal_size, ByHandle, Instance, Object, Directory, live}
-use Rattle.segment_manager.proofs.Common.{object_at, rises_from, IsBelow, is_object_at, IsInstance, SaysAt, SaysOf}
+use Rattle.segment_manager.proofs.Common.{object_at, rises_from, is_object_at, IsInstance, SaysAt, SaysOf}
 use Rattle.segment_manager.proofs.Common.{is_own, is_own_span, own_spans, Answers, IsSegment, State, StandsFor}
 use Rattle.segment_manager.proofs.ObjectLists.{rises-front, rises-rest}
 use Rattle.segment_manager.proofs.Words.{second, first, AllByRecursion-filter, none_more}
@@ -84,8 +84,8 @@ segment-short b g =
     omega (arith, (legal_size l.size legal).high, g.1.denotes.heap.size)
 
 -- and so a number of 64 bits counts its tiles
-pub tile-below : (b : List ℕ) (at : ℕ) → IsSegment b → at < length (tiles_of (bytes_of b) (length b)) → at + 1 ≤ 1073741824
-tile-below b at g l = omega (arith, segment-short b g, tiles-bounded (length b / 32) (bytes_of b) 128 (length b - 16))
+pub tile-few : (b : List ℕ) (at : ℕ) → IsSegment b → at < length (tiles_of (bytes_of b) (length b)) → at + 1 ≤ 1073741824
+tile-few b at g l = omega (arith, segment-short b g, tiles-bounded (length b / 32) (bytes_of b) 128 (length b - 16))
 
 -- ---- one turn of the walk
 
@@ -155,40 +155,6 @@ owner-in [] at span e = absurd (none-some span e)
 owner-in (o ∷ os) zero span e = (o, refl, ap (λ (s : LiveSpan). s.offset) (sym (same_Some (as_used o.extent) span e)))
 owner-in (o ∷ os) (suc at) span e = owner-in os at span e
 
-pub owner : (s : State) (at : ℕ) (span : Span) (d : Directory) → StandsFor s.cut.bytes d → Some (as_span span) ≡ slice_get (own_spans d) at → IsOwner d at span
-owner s at span d k e =
-    let o : (o : Object) × (slice_get d.objects at ≡ Some o) × (span.offset ≡ o.extent.offset) =
-    owner-in d.objects at (as_span span) (ap (λ ss. slice_get ss at) (sym (all-own_spans current d k.denotes.directory)) ∙ sym e) in
-    record { object = o.0; is = o.1; offset = o.2 }
-
--- it is found by its handle
-pub owner-found : (d : Directory) (at : ℕ) (span : Span) (h : ℕ) (s : State) → StandsFor s.cut.bytes d → (o : IsOwner d at span) → h ≡ span.offset + 16 → object_at d (ByHandle h) ≡ Some o.object
-owner-found d at span h s k o e =
-    let own : object_at d (ByHandle (handle o.object.extent)) ≡ Some o.object =
-    all-at (λ (p : Object). object_at d (ByHandle (handle p.extent)) ≡ Some p) d.objects at o.object (each-by_handle 0 d.objects k.denotes.directory.by_offset) o.is in
-    ap (λ n. object_at d (ByHandle n)) (e ∙ ap (λ n. n + 16) o.offset) ∙ own
-
--- ---- what a call of the iterator comes to
-
-module _ (s : State) (at : ℕ) (span : Span) (each : (d : Directory) → StandsFor s.cut.bytes d → Some (as_span span) ≡ slice_get (own_spans d) at) where
-  -- an object has the handle
-  pub owner-here : (h : ℕ) → h ≡ span.offset + 16 → Answers s (λ d. is_object_at d h) true
-  owner-here h e = record { answers = λ d k. sym (ap is_some (owner-found d at span h s k (owner s at span d k (each d k)) e)) }
-
-  -- what is said of it is said of the object at the place
-  pub owner-says : (h : ℕ) (said : Instance) → h ≡ span.offset + 16 → SaysOf s (ByHandle h) said → SaysAt s (λ d. d.objects) at said
-  owner-says h said e f = record {
-    says = λ d k.
-        let o : IsOwner d at span = owner s at span d k (each d k) in
-        let p : (p : Object) × (object_at d (ByHandle h) ≡ Some p) × IsInstance p said = f.says d k in
-        (o.object, o.is, subst (λ (q : Object). IsInstance q said) (same_Some p.0 o.object (sym p.1 ∙ owner-found d at span h s k o e)) p.2);
-  }
-
-  pub owner-below : IsBelow s (λ d. length d.objects) at
-  owner-below = record {
-    below = λ d k. let o : IsOwner d at span = owner s at span d k (each d k) in slice_get_within d.objects at o.object o.is;
-  }
-
 -- ---- how large the numbers are
 
 all-within : (from : ℕ) (xs : List Extent) (to : ℕ) → IsTrue (proper_from from xs to) → AllByRecursion (λ (x : Extent). end_of x ≤ to) xs
@@ -212,14 +178,6 @@ own-within b d k =
     (subst (AllByRecursion (λ (x : Extent). end_of x ≤ (live d).size - 16)) (own-blocks current d k.denotes.directory)
     (AllByRecursion-filter (λ (x : Extent). end_of x ≤ (live d).size - 16) is_own (live d).extents (live-within d k.denotes.directory.proper)))
 
-pub owner-short : (s : State) (at : ℕ) (span : Span) → IsSegment s.cut.bytes → ((d : Directory) → StandsFor s.cut.bytes d → Some (as_span span) ≡ slice_get (own_spans d) at)
-    → span.offset ≤ 1073741824
-owner-short s at span g each =
-    let d : Directory = g.0 in
-    let o : IsOwner d at span = owner s at span d g.1 (each d g.1) in
-    let within : end_of o.object.extent ≤ (live d).size - 16 = all-at (λ (p : Object). end_of p.extent ≤ (live d).size - 16) d.objects at o.object (own-within s.cut.bytes d g.1) o.is in
-    omega (arith, within, o.offset, segment-short s.cut.bytes g, g.1.denotes.heap.size)
-
 -- objects that rise are no more than there are offsets
 rises-few : (n m : ℕ) (os : List Object) → n ≤ m + 1 → IsTrue (rises_from n os) → AllByRecursion (λ (o : Object). end_of o.extent ≤ m) os → n + length os ≤ m + 1
 rises-few n m [] l r a = omega (arith, l)
@@ -242,13 +200,63 @@ counts-own b d k =
 
 -- ---- a call of the iterator
 
-module _ (s : State) (old new : TileWalk) (at : ℕ) (r : Option Span) (h : HasPassed s old at) (g : GoesOnOwn old r new) where
+module _ {s : State} {at : ℕ} {span : Span} (own : IsOwnBlock s at span) where
+  owner : (d : Directory) → StandsFor s.cut.bytes d → IsOwner d at span
+  owner d k =
+      let o : (o : Object) × (slice_get d.objects at ≡ Some o) × (span.offset ≡ o.extent.offset) =
+      owner-in d.objects at (as_span span)
+      (ap (λ ss. slice_get ss at) (sym (all-own_spans current d k.denotes.directory)) ∙ sym (own.stands d k)) in
+      record { object = o.0; is = o.1; offset = o.2 }
+
+  -- it is found by its handle
+  owner-found : (d : Directory) (k : StandsFor s.cut.bytes d) (h : ℕ) → h ≡ span.offset + 16
+      → object_at d (ByHandle h) ≡ Some (owner d k).object
+  owner-found d k h e =
+      let o : IsOwner d at span = owner d k in
+      ap (λ n. object_at d (ByHandle n)) (e ∙ ap (λ n. n + 16) o.offset)
+      ∙ all-at (λ (p : Object). object_at d (ByHandle (handle p.extent)) ≡ Some p) d.objects at o.object
+      (each-by_handle 0 d.objects k.denotes.directory.by_offset) o.is
+
+  -- an object has the handle
+  pub owner-here : (h : ℕ) → h ≡ span.offset + 16 → Answers s (λ d. is_object_at d h) true
+  owner-here h e = record { answers = λ d k. sym (ap is_some (owner-found d k h e)) }
+
+  -- what is said of it is said of the object at the place
+  pub owner-says : (h : ℕ) (said : Instance) → h ≡ span.offset + 16 → SaysOf s (ByHandle h) said
+      → SaysAt s (λ d. d.objects) at said
+  owner-says h said e f = record {
+    says = λ d k.
+        let o : IsOwner d at span = owner d k in
+        let p : (p : Object) × (object_at d (ByHandle h) ≡ Some p) × IsInstance p said = f.says d k in
+        let same : p.0 ≡ o.object = same_Some p.0 o.object (sym p.1 ∙ owner-found d k h e) in
+        (o.object, o.is, subst (λ (q : Object). IsInstance q said) same p.2);
+  }
+
+  -- the place is one of as many as the tags say
+  pub owner-counts : IsSegment s.cut.bytes → at < own_count s.cut.bytes
+  owner-counts g =
+      subst (λ n. at < n) (sym (counts-own s.cut.bytes g.0 g.1))
+      (slice_get_within g.0.objects at (owner g.0 g.1).object (owner g.0 g.1).is)
+
+  -- and so 64 bits count it, and what its block goes from
+  pub owner-few : IsSegment s.cut.bytes → at + 1 ≤ 1073741825
+  owner-few g = omega (arith, owner-counts g, counts-own s.cut.bytes g.0 g.1, objects-few s.cut.bytes g)
+
+  pub owner-short : IsSegment s.cut.bytes → span.offset ≤ 1073741824
+  owner-short g =
+      let d : Directory = g.0 in
+      let o : IsOwner d at span = owner d g.1 in
+      let within = all-at (λ (p : Object). end_of p.extent ≤ (live d).size - 16) d.objects at o.object
+      (own-within s.cut.bytes d g.1) o.is in
+      omega (arith, within, o.offset, segment-short s.cut.bytes g, g.1.denotes.heap.size)
+
+module _ {s : State} {old new : TileWalk} {at : ℕ} {r : Option Span} (h : HasPassed s old at) (g : GoesOnOwn old r new) where
   at-own : (d : Directory) → StandsFor s.cut.bytes d → option_map as_span r ≡ slice_get (own_spans d) at
   at-own d k = g.says d (subst (λ (t : State). StandsFor t.cut.bytes d) (sym h.segment) k) ∙ ap (slice_get (own_spans d)) (sym (h.count.answers d k))
 
   -- a block came
-  pub block-at : (span : Span) → r ≡ Some span → IsOwnBlock s at span
-  block-at span e = record { stands = λ d k. ap (option_map as_span) (sym e) ∙ at-own d k }
+  pub block-at : {span : Span} → r ≡ Some span → IsOwnBlock s at span
+  block-at e = record { stands = λ d k. ap (option_map as_span) (sym e) ∙ at-own d k }
 
   pub none-left : r ≡ None → (d : Directory) → StandsFor s.cut.bytes d → length d.objects ≤ at
   none-left e d k = objects-end s at d k (ap (option_map as_span) (sym e) ∙ at-own d k)

@@ -1,5 +1,5 @@
 -- The object at the entry is read.
-use Rattle.segment_manager.proofs.Common.{sym, subst, length, current, IsBelow, objects_of, SaysAt, State}
+use Rattle.segment_manager.proofs.Common.{subst, current, objects_of, SaysAt, State}
 use Rattle.segment_manager.proofs.{Calling.denotes-heap, KeyCalls.below-count, KeyCalls.segment-index}
 use Rattle.segment_manager.proofs.KeyCalls.{entered-object, entered-says}
 use Rattle.segment_manager.proofs.segment.Segment.entered.Goals as goal
@@ -9,8 +9,7 @@ at-handle-requires-clause-index c = segment-index c.self.inside.heap c.args.inde
 
 pub at-handle-requires-clause-below : goal.at-handle-requires-clause-below
 at-handle-requires-clause-below c =
-    let s : State = record { cut = c.self.inside.heap; mode = c.self.inside.mode } in
-    below-count s c.args.index c.args.i c.self.invariant (subst (λ t. IsBelow t (λ d. length (objects_of c.args.index d)) c.args.i) (sym c.self.view_is) c.requires)
+    below-count c.self.view_is c.args.index c.args.i c.self.invariant c.requires
 
 pub read_instance-requires-clause-heap : goal.read_instance-requires-clause-heap
 read_instance-requires-clause-heap c = denotes-heap current c.self.inside.heap.bytes c.self.invariant.0 c.self.invariant.1.denotes

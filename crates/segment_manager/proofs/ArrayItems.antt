@@ -103,10 +103,10 @@ module _ (r : Refusal) (other : r ≡ OutOfRange → ⊥) where
       (λ x. Reply (Made (handle x)) (with_object e (record { class = class_of key; name = name_of key; value = Numbers k ws; extent = x })))
       long (λ x refused. absurd (other (reason refused))))
 
-  items-same : (d : Directory) (l : LiveSet) (key : Key) (k : ScalarKind) (n : ℕ) (zs : List ℤ) (found : Option Object) → 1 ≤ n → length zs ≡ n
+  items-same : (d : Directory) (l : LiveSet) (key : Key) (k : ScalarKind) {n : ℕ} (zs : List ℤ) (found : Option Object) → 1 ≤ n → length zs ≡ n
       → IsSame (perform d l (from-items d key k n [] found)) (perform d l (from-items d key k n zs found))
-  items-same d l key k n zs (Some o) some long refused = refl
-  items-same d l key k n zs None some long refused =
+  items-same d l key k zs (Some o) some long refused = refl
+  items-same d l key k {n} zs None some long refused =
       let few : nat_lt 0 n ≡ true = lt-ltb 0 n some in
       let enough : nat_lt (length zs) n ≡ false = le-ltb (length zs) n (omega arith) in
       let all : take n zs ≡ zs = take_all n zs (omega arith) in
@@ -119,13 +119,13 @@ module _ (r : Refusal) (other : r ≡ OutOfRange → ⊥) where
   step-same : (mode : Mode) (d : Directory) (key : Key) (k : ScalarKind) (n : ℕ) (zs : List ℤ) → 1 ≤ n → length zs ≡ n
       → IsSame (step mode d (asked.ConstructIt key k n [])) (step mode d (asked.ConstructIt key k n zs))
   unfolding step
-  step-same Write d key k n zs some long refused = items-same d (live d) key k n zs (object_at d key) some long refused
+  step-same Write d key k n zs some long refused = items-same d (live d) key k zs (object_at d key) some long refused
   step-same ReadOnly d key k n zs some long refused = refl
-  step-same CopyOnWrite d key k n zs some long refused = items-same d (live d) key k n zs (object_at d key) some long refused
+  step-same CopyOnWrite d key k n zs some long refused = items-same d (live d) key k zs (object_at d key) some long refused
 
-  refused-array : (old new : State) (key : Key) (k : ScalarKind) (n : ℕ) (zs : List ℤ) → 1 ≤ n → length zs ≡ n
+  refused-array : (old new : State) (key : Key) (k : ScalarKind) {n : ℕ} (zs : List ℤ) → 1 ≤ n → length zs ≡ n
       → IsStep old new (asked.ConstructIt key k n []) (Refused r) → IsStep old new (asked.ConstructIt key k n zs) (Refused r)
-  refused-array old new key k n zs some long h = record {
+  refused-array old new key k {n} zs some long h = record {
     stays = h.stays;
     answers = λ d st. h.answers d st ∙ ap (λ (p : Answer × Directory). p.0) (sym (step-same old.mode d key k n zs some long (h.answers d st)));
     denotes = λ d st. subst (λ (p : Answer × Directory). StandsFor new.cut.bytes p.1) (sym (step-same old.mode d key k n zs some long (h.answers d st))) (h.denotes d st);
@@ -156,18 +156,18 @@ module _ {S A : Type 0} (items : S → List A) {whole : A → ℤ} {old new : St
   abbrev IsTaken : List A → Result ℕ Refusal → Type 0
   IsTaken xs q = MatchResult q (λ h. Yields (YieldsFirst items) w xs t × (length xs ≡ n)) (TakesUntil (YieldsFirst items) n w xs t)
 
-  step-of : (numbers : List ℤ) → map whole (items w) ≡ numbers → 1 ≤ n → (xs : List A) (q : Result ℕ Refusal) → IsTaken xs q → IsStep old new (asked.ConstructIt key k n (map whole xs)) (handle_answer q)
+  step-of : {numbers : List ℤ} → map whole (items w) ≡ numbers → 1 ≤ n → (xs : List A) (q : Result ℕ Refusal) → IsTaken xs q → IsStep old new (asked.ConstructIt key k n (map whole xs)) (handle_answer q)
       → IsStep old new (asked.ConstructIt key k n numbers) (handle_answer q)
-  step-of numbers are some xs (Ok h) taken step =
+  step-of are some xs (Ok h) taken step =
       subst (λ (zs : List ℤ). IsStep old new (asked.ConstructIt key k n zs) (Made h)) (ap (map whole) (taken-all items w t xs taken.0 (taken.1 ∙ sym long)) ∙ are) step
-  step-of numbers are some xs (Err r) taken step =
+  step-of {numbers} are some xs (Err r) taken step =
       let other = enough xs r taken in
       let none : map whole xs ≡ [] = ap (map whole) (early xs r other taken) in
-      refused-array r other old new key k n numbers some (ap length (sym are) ∙ length-map (items w) whole ∙ long)
+      refused-array r other old new key k numbers some (ap length (sym are) ∙ length-map (items w) whole ∙ long)
       (subst (λ (zs : List ℤ). IsStep old new (asked.ConstructIt key k n zs) (Refused r)) none step)
 
   pub array-step : {numbers : List ℤ} → map whole (items w) ≡ numbers → 1 ≤ n → IsStep old new (asked.ConstructIt key k n numbers) (handle_answer result)
-  array-step {numbers} are some = step-of numbers are some takes.items result takes.taken takes.step
+  array-step {numbers} are some = step-of are some takes.items result takes.taken takes.step
 
   refused-of : (xs : List A) (q : Result ℕ Refusal) → IsTaken xs q → IfErr q (KeepsUnasked old new) → KeepsRefused old new q
   refused-of xs (Ok h) taken same = tt

@@ -40,9 +40,9 @@ pub denotes-heap : (format : ℕ) (b : List ℕ) (d : Directory) → Denotes for
 denotes-heap format b d h = subst (LaysOut format b) (sym (denotes-live format b d h)) h.heap
 
 -- without the object whose block was released, one without a key that has no other
-pub denotes-released : (format : ℕ) (old new : Cut) (d : Directory) (o : Object) → Denotes format old.bytes d → IsIn d o → o.class ≡ Anonymous → value_extents o.value ≡ []
+pub denotes-released : {format : ℕ} {old new : Cut} {d : Directory} (o : Object) → Denotes format old.bytes d → IsIn d o → o.class ≡ Anonymous → value_extents o.value ≡ []
     → IsReleased format old new (handle o.extent) → Denotes format new.bytes (without_object d o)
-denotes-released format old new d o k f class alone r =
+denotes-released {format} {old} {new} {d} o k f class alone r =
     let same : released (live_of old.bytes) (handle o.extent) ≡ removing (live d) (extents_of o) =
     ap (λ l. released l (handle o.extent)) (denotes-live format old.bytes d k) ∙ ap (λ xs. removing (live d) (o.extent ∷ xs)) (sym alone) in
-    denotes-without format old new d o k f class (subst (LaysOut format new.bytes) same r.live) (subst (λ (l : LiveSet). Keeps old new l.extents) same r.keeps)
+    denotes-without old new o k f class (subst (LaysOut format new.bytes) same r.live) (subst (λ (l : LiveSet). Keeps old new l.extents) same r.keeps)

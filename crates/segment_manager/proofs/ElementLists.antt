@@ -49,12 +49,12 @@ module _ {A : Type 0} (says : A → Answer) (one : (a b : A) → says a ≡ says
   got-as (Err why) (Some b) e = absurd (some b why (sym e))
 
   module _ (mode : Mode) (d : Directory) (key : Key) (kind : Kind) (i : ℕ) (gets : (v : Value) → same_kind kind (kind_of v) ≡ true → (perform d (live d) (get d v i)).0 ≡ told says (slice_get (items v) i)) (r : Result A Refusal) where
-    item-of : (o : Object) (b : Bool) → object_at d key ≡ Some o → same_kind kind (kind_of o.value) ≡ b
+    item-of : {o : Object} (b : Bool) → object_at d key ≡ Some o → same_kind kind (kind_of o.value) ≡ b
         → answer_of says r ≡ (step_of_kind mode d key kind (asked.Get key i)).0 → got r ≡ slice_get (list_at items d key kind) i
-    item-of o false e g f =
+    item-of {o} false e g f =
         not-got r WrongKind (f ∙ ap (λ (n : Answer × Directory). n.0) (step_of_kind-other mode d key kind (asked.Get key i) o (open-reading mode (asked.Get key i) refl) e g))
         ∙ sym (ap (λ zs. slice_get zs i) (list-of items d key kind o false e g))
-    item-of o true e g f =
+    item-of {o} true e g f =
         got-as r (slice_get (items o.value) i)
         (f ∙ ap (λ (n : Answer × Directory). n.0) (step_of_kind-found mode d key kind (asked.Get key i) o (open-reading mode (asked.Get key i) refl) e g)
         ∙ ap (λ p. (perform d (live d) p).0) (with-found d key o (λ o. get d o.value i) e) ∙ gets o.value g)
@@ -65,7 +65,7 @@ module _ {A : Type 0} (says : A → Answer) (one : (a b : A) → says a ≡ says
     item-at None e f =
         not-got r NotFound (f ∙ ap (λ (n : Answer × Directory). n.0) (step_of_kind-not_found mode d key kind (asked.Get key i) (open-reading mode (asked.Get key i) refl) e))
         ∙ sym (ap (λ zs. slice_get zs i) (none-listed items d key kind e))
-    item-at (Some o) e f = item-of o (same_kind kind (kind_of o.value)) e refl f
+    item-at (Some o) e f = item-of (same_kind kind (kind_of o.value)) e refl f
 
 -- numbers
 number-one : (k : ScalarKind) (a b : ℤ) → Element k a ≡ Element k b → a ≡ b

@@ -16,21 +16,21 @@ pub record StandsAt (os : List Object) (j g : ℕ) : Type 0 where
   pub is : slice_get os j ≡ Some object
   pub handle : g ≡ object.extent.offset + 16
 
-pub stands-at : (os : List Object) (j g : ℕ) → slice_get (handles os) j ≡ Some g → StandsAt os j g
-stands-at [] j g e = absurd (none-some g e)
-stands-at (o ∷ os) zero g e = record { object = o; is = refl; handle = sym (same_Some (handle o.extent) g e) }
-stands-at (o ∷ os) (suc j) g e = let s = stands-at os j g e in record { object = s.object; is = s.is; handle = s.handle }
+pub stands-at : (os : List Object) (j : ℕ) {g : ℕ} → slice_get (handles os) j ≡ Some g → StandsAt os j g
+stands-at [] j {g} e = absurd (none-some g e)
+stands-at (o ∷ os) zero {g} e = record { object = o; is = refl; handle = sym (same_Some (handle o.extent) g e) }
+stands-at (o ∷ os) (suc j) e = let s = stands-at os j e in record { object = s.object; is = s.is; handle = s.handle }
 
-pub at-handle : (os : List Object) (j : ℕ) (o : Object) → slice_get os j ≡ Some o → slice_get (handles os) j ≡ Some (handle o.extent)
-at-handle [] j o e = absurd (none-some o e)
-at-handle (p ∷ ps) zero o e = ap (λ (q : Object). Some (handle q.extent)) (same_Some p o e)
-at-handle (p ∷ ps) (suc j) o e = at-handle ps j o e
+pub at-handle : (os : List Object) (j : ℕ) {o : Object} → slice_get os j ≡ Some o → slice_get (handles os) j ≡ Some (handle o.extent)
+at-handle [] j {o} e = absurd (none-some o e)
+at-handle (p ∷ ps) zero {o} e = ap (λ (q : Object). Some (handle q.extent)) (same_Some p o e)
+at-handle (p ∷ ps) (suc j) e = at-handle ps j e
 
 -- what holds of each holds at each place, and the other way round
-pub all-at : (P : Object → Type 0) (os : List Object) (j : ℕ) (o : Object) → AllByRecursion P os → slice_get os j ≡ Some o → P o
-all-at P [] j o a e = absurd (none-some o e)
-all-at P (p ∷ ps) zero o a e = subst P (same_Some p o e) a.0
-all-at P (p ∷ ps) (suc j) o a e = all-at P ps j o a.1 e
+pub all-at : (P : Object → Type 0) (os : List Object) (j : ℕ) {o : Object} → AllByRecursion P os → slice_get os j ≡ Some o → P o
+all-at P [] j {o} a e = absurd (none-some o e)
+all-at P (p ∷ ps) zero {o} a e = subst P (same_Some p o e) a.0
+all-at P (p ∷ ps) (suc j) a e = all-at P ps j a.1 e
 
 pub at-all : (P : Object → Type 0) (os : List Object) → ((j : ℕ) (o : Object) → slice_get os j ≡ Some o → P o) → AllByRecursion P os
 at-all P [] k = tt
@@ -54,11 +54,11 @@ rises-ascends lt s (o ∷ p ∷ ps) h =
     (below-rest lt s o p ps (first (lt o p) (rises lt (p ∷ ps)) h) (second (lt o p) (rises lt (p ∷ ps)) h), rises-ascends lt s (p ∷ ps) (second (lt o p) (rises lt (p ∷ ps)) h))
 
 -- two places
-pub ascends-at : (R : Object → Object → Type 0) (os : List Object) (i j : ℕ) (o p : Object) → Ascends R os → i < j → slice_get os i ≡ Some o → slice_get os j ≡ Some p → R o p
-ascends-at R [] i j o p a l e f = absurd (none-some o e)
-ascends-at R (q ∷ qs) i zero o p a l e f = absurd (omega (arith, l))
-ascends-at R (q ∷ qs) zero (suc j) o p a l e f = subst (λ r. R r p) (same_Some q o e) (all-at (R q) qs j p a.0 f)
-ascends-at R (q ∷ qs) (suc i) (suc j) o p a l e f = ascends-at R qs i j o p a.1 (omega (arith, l)) e f
+pub ascends-at : (R : Object → Object → Type 0) (os : List Object) (i j : ℕ) {o p : Object} → Ascends R os → i < j → slice_get os i ≡ Some o → slice_get os j ≡ Some p → R o p
+ascends-at R [] i j {o} a l e f = absurd (none-some o e)
+ascends-at R (q ∷ qs) i zero a l e f = absurd (omega (arith, l))
+ascends-at R (q ∷ qs) zero (suc j) {o} {p} a l e f = subst (λ r. R r p) (same_Some q o e) (all-at (R q) qs j a.0 f)
+ascends-at R (q ∷ qs) (suc i) (suc j) a l e f = ascends-at R qs i j a.1 (omega (arith, l)) e f
 
 -- ---- the one with a key
 
@@ -126,10 +126,10 @@ insert-at lt o (p ∷ ps) (suc i) l k =
     ap (λ hs. handle p.extent ∷ hs) (insert-at lt o ps i (omega (arith, l)) (λ j q e. ((λ f. (k (suc j) q e).0 (omega (arith, f))), (λ f. (k (suc j) q e).1 (omega (arith, f))))))
     ∙ sym (ap handles (insert_by-behind lt o p ps ((k 0 p refl).0 (omega arith))))
 
-pub remove-at : (o : Object) (os : List Object) (i : ℕ) → slice_get os i ≡ Some o → ((j : ℕ) (p : Object) → j < i → slice_get os j ≡ Some p → handle o.extent ≢ handle p.extent)
+pub remove-at : {o : Object} (os : List Object) (i : ℕ) → slice_get os i ≡ Some o → ((j : ℕ) (p : Object) → j < i → slice_get os j ≡ Some p → handle o.extent ≢ handle p.extent)
     → remove (handles os) i ≡ handles (remove_object (handle o.extent) os)
-remove-at o [] i e k = absurd (none-some o e)
-remove-at o (p ∷ ps) zero e k = sym (ap handles (remove-here (handle o.extent) p ps (ap (λ (q : Object). handle q.extent) (sym (same_Some p o e)))))
-remove-at o (p ∷ ps) (suc i) e k =
-    ap (λ hs. handle p.extent ∷ hs) (remove-at o ps i e (λ j q l f. k (suc j) q (omega (arith, l)) f))
+remove-at {o} [] i e k = absurd (none-some o e)
+remove-at {o} (p ∷ ps) zero e k = sym (ap handles (remove-here (handle o.extent) p ps (ap (λ (q : Object). handle q.extent) (sym (same_Some p o e)))))
+remove-at {o} (p ∷ ps) (suc i) e k =
+    ap (λ hs. handle p.extent ∷ hs) (remove-at ps i e (λ j q l f. k (suc j) q (omega (arith, l)) f))
     ∙ sym (ap handles (remove-behind (handle o.extent) p ps (k 0 p (omega arith) refl)))

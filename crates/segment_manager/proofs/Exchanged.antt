@@ -46,9 +46,9 @@ between o o' front gone come back e f = record {
 }
 
 -- all that the object has but the gone ones, and the blocks of the other objects
-pub live-kept : (d : Directory) (o o' : Object) (gone come : List Extent) → InPlace d o o' → (x : Exchange o o' gone come)
+pub live-kept : {d : Directory} {o o' : Object} {gone come : List Extent} → InPlace d o o' → (x : Exchange o o' gone come)
     → without_all gone (live d).extents ≡ inserted (o.extent ∷ x.same) (rest d o')
-live-kept d o o' gone come p x =
+live-kept {d} {o} {o'} {gone} p x =
     let r : List Extent = rest d o' in
     let f : IsIn d o = subst (λ (e : Extent). IsFound (handle e) d.objects o) p.extent p.found in
     let e : live d ≡ with_extents d o' (extents_of o) =
@@ -72,7 +72,7 @@ unfolding live
 live-exchanged d o o' gone come p x h =
     let r : List Extent = rest d o' in
     let kept : inserted come (without_all gone (live d).extents) ≡ inserted come (inserted (o.extent ∷ x.same) r) =
-    ap (inserted come) (live-kept d o o' gone come p x) in
+    ap (inserted come) (live-kept p x) in
     let e : exchanged (live d) gone come ≡ of_extents d o' (inserted come (insert o.extent (inserted x.same r))) = ap (of_extents d o') kept in
     let up : Rising 128 (inserted come (insert o.extent (inserted x.same r))) =
     live-rises (of_extents d o' (inserted come (insert o.extent (inserted x.same r)))) (subst (λ l. IsTrue (is_proper l)) e h) in
@@ -86,14 +86,14 @@ live-exchanged d o o' gone come p x h =
 
 -- ---- what stays
 
-but-beside : (m m' : Memory) (from n : ℕ) (x y : Extent) → handle x ≤ from → from + n ≤ end_of x → LiesBeside x y → SameBlockBut m m' from n y → SameBlock m m' y
-but-beside m m' from n x y f g (above h) s = record { payload = record { at = λ k a b. s.payload k a b (inl (omega arith)) }; colour = s.colour }
-but-beside m m' from n x y f g (below h) s = record { payload = record { at = λ k a b. s.payload k a b (inr (omega arith)) }; colour = s.colour }
+but-beside : {m m' : Memory} {from n : ℕ} {x y : Extent} → handle x ≤ from → from + n ≤ end_of x → LiesBeside x y → SameBlockBut m m' from n y → SameBlock m m' y
+but-beside f g (above h) s = record { payload = record { at = λ k a b. s.payload k a b (inl (omega arith)) }; colour = s.colour }
+but-beside f g (below h) s = record { payload = record { at = λ k a b. s.payload k a b (inr (omega arith)) }; colour = s.colour }
 
 pub all-but-beside : (m m' : Memory) (from n : ℕ) (x : Extent) (ys : List Extent) → handle x ≤ from → from + n ≤ end_of x → AllByRecursion (LiesBeside x) ys
     → AllByRecursion (SameBlockBut m m' from n) ys → AllByRecursion (SameBlock m m') ys
 all-but-beside m m' from n x [] f g h s = tt
-all-but-beside m m' from n x (y ∷ ys) f g h s = (but-beside m m' from n x y f g h.0 s.0, all-but-beside m m' from n x ys f g h.1 s.1)
+all-but-beside m m' from n x (y ∷ ys) f g h s = (but-beside f g h.0 s.0, all-but-beside m m' from n x ys f g h.1 s.1)
 
 -- what is said of all blocks that stay is said of the object's own, of those of its value that are the same, and of
 -- those of the others
@@ -102,10 +102,10 @@ pub record Kept (P : Extent → Type 0) (d : Directory) (o o' : Object) (same : 
   pub value : AllByRecursion P same
   pub rest : AllByRecursion P (rest d o')
 
-pub kept-each : (P : Extent → Type 0) (d : Directory) (o o' : Object) (gone come : List Extent) → InPlace d o o' → (x : Exchange o o' gone come)
+pub kept-each : (P : Extent → Type 0) {d : Directory} {o o' : Object} {gone come : List Extent} → InPlace d o o' → (x : Exchange o o' gone come)
     → AllByRecursion P (without_all gone (live d).extents) → Kept P d o o' x.same
-kept-each P d o o' gone come p x blocks =
-    let both = all_of-inserted P (o.extent ∷ x.same) (rest d o') (subst (AllByRecursion P) (live-kept d o o' gone come p x) blocks) in
+kept-each P {d} {o} {o'} p x blocks =
+    let both = all_of-inserted P (o.extent ∷ x.same) (rest d o') (subst (AllByRecursion P) (live-kept p x) blocks) in
     record { own = both.0.0; value = both.0.1; rest = both.1 }
 
 -- the blocks of the other objects lie beside the object's own
@@ -123,17 +123,17 @@ others-beside d o o' p =
 -- What the bytes denote once an object's value has other blocks, whatever its class: a vector or text regrown, cut or
 -- released, texts put or gone, pairs put or removed. In its own block n bytes changed. A block of the value that is
 -- written in is gone, and comes.
-pub denotes-exchanged : (format : ℕ) (old new : Cut) (d : Directory) (o o' : Object) (from n : ℕ) (gone come : List Extent) → Denotes format old.bytes d
+pub denotes-exchanged : {format : ℕ} {old new : Cut} {d : Directory} {o o' : Object} {from n : ℕ} {gone come : List Extent} → Denotes format old.bytes d
     → IsFound (handle o'.extent) d.objects o → IsLike o o' → Exchange o o' gone come → IsTrue (is_object format o') → handle o.extent ≤ from → from + n ≤ end_of o.extent
     → IsExchanged format old new from n gone come → IsObjectAt (bytes_of new.bytes) o' → Denotes format new.bytes (with_changed d o')
-denotes-exchanged format old new d o o' from n gone come k found like x good f g c at =
+denotes-exchanged {format} {old} {new} {d} {o} {o'} {from} {n} {gone} {come} k found like x good f g c at =
     let m : Memory = bytes_of old.bytes in
     let m' : Memory = bytes_of new.bytes in
     let p : InPlace d o o' = record { found = found; extent = like.extent; proper = k.directory.proper } in
     let l : live_of old.bytes ≡ live d = denotes-live format old.bytes d k in
     let laid : LaysOut format new.bytes (exchanged (live d) gone come) = subst (λ (l : LiveSet). LaysOut format new.bytes (exchanged l gone come)) l c.live in
     let blocks : Kept (SameBlockBut m m' from n) d o o' x.same =
-    kept-each (SameBlockBut m m' from n) d o o' gone come p x (subst (λ (l : LiveSet). AllByRecursion (SameBlockBut m m' from n) (without_all gone l.extents)) l c.blocks) in
+    kept-each (SameBlockBut m m' from n) p x (subst (λ (l : LiveSet). AllByRecursion (SameBlockBut m m' from n) (without_all gone l.extents)) l c.blocks) in
     let keeps : Keeps old new (rest d o') = record {
       place = c.place;
       front = c.front;
@@ -145,12 +145,12 @@ denotes-exchanged format old new d o o' from n gone come k found like x good f g
 -- ---- an object with another value
 
 -- Its head and name stay, blocks are exchanged, and in its own block n bytes behind the name changed.
-denotes-held : (format : ℕ) (old new : Cut) (d : Directory) (o : Object) (v : Value) (from n : ℕ) (gone come : List Extent)
+denotes-held : {format : ℕ} (old new : Cut) {d : Directory} (o : Object) (v : Value) (from n : ℕ) (gone come : List Extent)
     → Denotes format old.bytes d → IsIn d o → Exchange o (with_value o v) gone come → kind_of v ≡ kind_of o.value
     → count_of v ≡ count_of o.value → IsTrue (is_object format (with_value o v)) → value_start o ≤ from → from + n ≤ end_of o.extent
     → IsExchanged format old new from n gone come → IsValueAt (bytes_of new.bytes) (value_start o) v
     → Denotes format new.bytes (changed d o v)
-denotes-held format old new d o v from n gone come k found x kind count good low high c at =
+denotes-held {format} old new {d} o v from n gone come k found x kind count good low high c at =
     let o' : Object = with_value o v in
     let m : Memory = bytes_of old.bytes in
     let m' : Memory = bytes_of new.bytes in
@@ -158,11 +158,11 @@ denotes-held format old new d o v from n gone come k found x kind count good low
     let p : InPlace d o o' = record { found = found; extent = refl; proper = k.directory.proper } in
     let l : live_of old.bytes ≡ live d = denotes-live format old.bytes d k in
     let blocks : Kept (SameBlockBut m m' from n) d o o' x.same =
-    kept-each (SameBlockBut m m' from n) d o o' gone come p x
+    kept-each (SameBlockBut m m' from n) p x
     (subst (λ (l : LiveSet). AllByRecursion (SameBlockBut m m' from n) (without_all gone l.extents)) l c.blocks) in
     let s : Same m m' (handle o.extent) (value_start o) =
     record { at = λ i a b. blocks.own.payload i a (omega arith) (inl (omega arith)) } in
-    denotes-exchanged format old new d o o' from n gone come k found like x good (omega arith) high c
+    denotes-exchanged k found like x good (omega arith) high c
     (object-held m m' o v (object-at format old.bytes d (handle o.extent) o k found) kind count s at)
 
 -- So the calls of seg_vector and seg_map change a container of an object: its 24 bytes are written.
@@ -173,14 +173,14 @@ pub denotes-container : (format : ℕ) (old new : Cut) (d : Directory) (o : Obje
 denotes-container format old new d o v gone come k found x kind count len was good c at =
     let roomy : IsRoomy o = object-roomy format o was in
     let fits : 16 + padded (length o.name) + value_len o.value + 16 ≤ o.extent.len = roomy.room in
-    denotes-held format old new d o v (value_start o) 24 gone come k found x kind count good (omega arith) (omega (arith, len)) c at
+    denotes-held old new o v (value_start o) 24 gone come k found x kind count good (omega arith) (omega (arith, len)) c at
 
 -- And so a value is written that has the same blocks.
-pub denotes-rewritten : (old new : Cut) (d : Directory) (o : Object) (v : Value) (from n : ℕ) → Denotes current old.bytes d
+pub denotes-rewritten : {old new : Cut} {d : Directory} (o : Object) (v : Value) {from n : ℕ} → Denotes current old.bytes d
     → IsIn d o → kind_of v ≡ kind_of o.value → count_of v ≡ count_of o.value → value_extents v ≡ value_extents o.value
     → IsTrue (is_object current (with_value o v)) → value_start o ≤ from → from + n ≤ end_of o.extent
     → IsChanged current old new from n → IsValueAt (bytes_of new.bytes) (value_start o) v → Denotes current new.bytes (changed d o v)
-denotes-rewritten old new d o v from n k found kind count extents good low high c at =
+denotes-rewritten {old} {new} {d} o v {from} {n} k found kind count extents good low high c at =
     let l : LiveSet = live_of old.bytes in
     let x : Extent = o.extent in
     let proper : IsTrue (is_proper l) = (denotes-heap current old.bytes d k).proper in
@@ -190,7 +190,7 @@ denotes-rewritten old new d o v from n k found kind count extents good low high 
     let keeps = changed-keeps_block current old new from n (handle x) (from + n - handle x) c room (omega arith) (omega arith) in
     let same : SameSpread (value_extents o.value) (value_extents v) =
     subst (SameSpread (value_extents o.value)) (sym extents) (spread-refl (value_extents o.value)) in
-    denotes-held current old new d o v from n [] [] k found
+    denotes-held old new o v from n [] [] k found
     (record { same = value_extents o.value; was = spread-refl (value_extents o.value); is = same }) kind count good low high
     (record {
       live = c.live;

@@ -40,14 +40,14 @@ use Rattle.seg_types.specs.Commands as asked
 -- ---- begun
 
 -- what the shape says of an object that was begun is what the content says
-pub begun-for : (old new : Cut) (key : names.Key) (content : Content) (s : Shape) (r : Result Begun Refusal) → IsShapeOf content s → Begins old new key s.kind s.count s.len r
+pub begun-for : (old new : Cut) (key : names.Key) {content : Content} {s : Shape} (r : Result Begun Refusal) → IsShapeOf content s → Begins old new key s.kind s.count s.len r
     → Begins old new key (kind_of (bare content)) (count_of (bare content)) (value_len (bare content)) r
-begun-for old new key content s r is g = subst (λ (k : Kind). Begins old new key k (count_of (bare content)) (value_len (bare content)) r) is.kind
+begun-for old new key {content} {s} r is g = subst (λ (k : Kind). Begins old new key k (count_of (bare content)) (value_len (bare content)) r) is.kind
     (subst (λ n. Begins old new key s.kind n (value_len (bare content)) r) is.count (subst (λ n. Begins old new key s.kind s.count n r) is.len g))
 
-pub has-begun : (old new : Cut) (key : names.Key) (content : Content) (s : Shape) (r : Begun) → IsSegment old.bytes → IsShapeOf content s → Begins old new key s.kind s.count s.len (Ok r)
+pub has-begun : (old new : Cut) (key : names.Key) {content : Content} {s : Shape} (r : Begun) → IsSegment old.bytes → IsShapeOf content s → Begins old new key s.kind s.count s.len (Ok r)
     → HasBegun new content r.handle r.at r.entry
-has-begun old new key content s r b is g = (old, (b, (key, begun-for old new key content s (Ok r) is g)))
+has-begun old new key r b is g = (old, (b, (key, begun-for old new key (Ok r) is g)))
 
 -- ---- filled
 
@@ -55,7 +55,7 @@ module _ (content : Content) where
   -- what the end wants of a value that was made, or was refused its blocks
   pub ending : (a m : Cut) (b : IsSegment a.bytes) (key : names.Key) (h at : ℕ) (entry : Option NewEntry) (w : Cut) (r : Result (Unit {0}) Refusal) → IsBegunFor a m key content h at entry
       → MakesValue content m w (record { handle = h; at = at }) r → IsEnding w h entry r
-  ending a m b key h at entry w (Ok u) g r = value-ready content a m b key h at entry w g r
+  ending a m b key h at entry w (Ok u) g r = value-ready content a m b key h at entry g r
   ending a m b key h at entry w (Err why) g r = (a, value-loose content a m b key h at entry w why g r)
 
   -- the value is made, and then the object gets its entry; or all is given back
@@ -72,7 +72,7 @@ module _ (a : Cut) (b : IsSegment a.bytes) (key : names.Key) (content : Content)
   no-space f command say asks c why e d = record {
     step = λ mode writing.
         subst (λ (r : Refusal). IsStep (record { cut = a; mode = mode }) (record { cut = c; mode = mode }) command (Refused r)) (sym e)
-        (makes-nothing (record { cut = a; mode = mode }) c key content command say writing d.place asks d.each);
+        (makes-nothing (record { cut = a; mode = mode }) key content command say writing d.place asks d.each);
     refused = λ t. absurd (false≢true (sym (ap (λ (r : Refusal). is_untouched (Refused r)) e) ∙ t));
   }
 
@@ -83,11 +83,11 @@ module _ (a : Cut) (b : IsSegment a.bytes) (key : names.Key) (content : Content)
   none-found = no-space pair_found (asked.FindOrConstruct key content) found (λ d e. ap (finds d key content) e)
 
   made-now : (entry : Option NewEntry) (m c : Cut) (h at n : ℕ) → IsBegunFor a m key content h at entry → Builds m c h at entry content (let r : Result ℕ Refusal = Ok n in r) → IsMadeNow a c key content n
-  made-now entry m c h at n g r = subst (λ (n : ℕ). IsMadeNow a c key content n) (sym r.is) (value-built content a m b key h at entry r.made c g r.value r.entered)
+  made-now entry m c h at n g r = subst (λ (n : ℕ). IsMadeNow a c key content n) (sym r.is) (value-built content a m b key h at entry c g r.value r.entered)
 
   made-never : (entry : Option NewEntry) (m c : Cut) (h at : ℕ) (why : Refusal) → IsBegunFor a m key content h at entry → Builds m c h at entry content (let r : Result ℕ Refusal = Err why in r)
       → IsMadeNever a c key content
-  made-never entry m c h at why g r = value-not_built content a m b key h at entry r.left c why g r.none r.back
+  made-never entry m c h at why g r = value-not_built content a m b key h at entry c g r.none r.back
 
   -- what was begun is built, or is refused its blocks
   pub construct-built : (entry : Option NewEntry) (m c : Cut) (h at : ℕ) (r : Result ℕ Refusal) → IsBegunFor a m key content h at entry → Builds m c h at entry content r
@@ -96,7 +96,7 @@ module _ (a : Cut) (b : IsSegment a.bytes) (key : names.Key) (content : Content)
       let d : IsMadeNow a c key content n = made-now entry m c h at n g r in
       record {
         step = λ mode writing.
-            makes (record { cut = a; mode = mode }) c key content n (asked.Construct key content) made_handle (Made n) writing d.place
+            makes (record { cut = a; mode = mode }) key content n (asked.Construct key content) made_handle (Made n) writing d.place
             (λ d e. ap (made_for d key content) e) (λ d n. ap Made (sym n.at)) d.each;
         refused = tt;
       }
@@ -108,7 +108,7 @@ module _ (a : Cut) (b : IsSegment a.bytes) (key : names.Key) (content : Content)
       let d : IsMadeNow a c key content n = made-now entry m c h at n g r in
       record {
         step = λ mode writing.
-            makes (record { cut = a; mode = mode }) c key content n (asked.FindOrConstruct key content) found (Found n (count_of (bare content))) writing d.place
+            makes (record { cut = a; mode = mode }) key content n (asked.FindOrConstruct key content) found (Found n (count_of (bare content))) writing d.place
             (λ d e. ap (finds d key content) e) (λ d n. λ j. Found (sym n.at j) (n.count j)) d.each;
         refused = tt;
       }
@@ -119,7 +119,7 @@ module _ (a : Cut) (b : IsSegment a.bytes) (key : names.Key) (content : Content)
   construct-not_begun Exists c t = record {
     step = λ mode writing.
         subst (λ (u : Cut). IsStep (record { cut = a; mode = mode }) (record { cut = u; mode = mode }) (asked.Construct key content) (Refused Exists)) (sym t.same)
-        (constructs-exists (record { cut = a; mode = mode }) key content writing (key-taken a key content c t));
+        (constructs-exists (record { cut = a; mode = mode }) key content writing (key-taken a key content t));
     refused = λ e. t.same;
   }
   construct-not_begun NoSpace c t = none-constructed c NoSpace refl (value-not_begun a key content c t)
@@ -128,7 +128,7 @@ module _ (a : Cut) (b : IsSegment a.bytes) (key : names.Key) (content : Content)
   -- where no object has the key
   pub found-not_begun : (why : Refusal) (c : Cut) → object_at b.0 key ≡ None → IsNotBegun a c key (kind_of (bare content)) (value_len (bare content)) why
       → Constructs a c (asked.FindOrConstruct key content) pair_answer (Err why)
-  found-not_begun Exists c none t = absurd (let o = key-taken a key content c t b.0 b.1 in none-some o.0 (sym none ∙ o.1))
+  found-not_begun Exists c none t = absurd (let o = key-taken a key content t b.0 b.1 in none-some o.0 (sym none ∙ o.1))
   found-not_begun NoSpace c none t = none-found c NoSpace refl (value-not_begun a key content c t)
   found-not_begun why c none t = absurd t
 
@@ -137,7 +137,7 @@ module _ (a : Cut) (b : IsSegment a.bytes) (key : names.Key) (content : Content)
       → FindsOrConstructs a a key content r
   found-all h r there each = record {
     constructs = record {
-      step = λ mode writing. found-there (record { cut = a; mode = mode }) key content h r writing (there mode) each;
+      step = λ mode writing. found-there key content r writing (there mode) each;
       refused = unchanged r;
     };
     found = λ d st has. refl;
@@ -151,19 +151,19 @@ module _ (a : Cut) (b : IsSegment a.bytes) (key : names.Key) (content : Content)
 
 -- a look-up finds no object
 pub no-object : (a : Cut) (b : IsSegment a.bytes) (i : Index) (e : Key) (at : ℕ) (key : names.Key) (name : List ℕ) (kind : Kind) → IsNewKeyOf i e key name kind → IsAbsentAt a i e at → object_at b.0 key ≡ None
-no-object a b i e at key name kind new away = (lookup-absent i a b.0 e key b.1.denotes (key-seeks i e key name kind new) at (away-in i a b.0 e at b.1.denotes away)).none
+no-object a b i e at key name kind new away = (lookup-absent i a e key b.1.denotes (key-seeks i e key name kind new) at (away-in i a e at b.1.denotes away)).none
 
 -- and so nothing is said of one
-pub found-absent : (a c : Cut) (i : Index) (e : Key) (at : ℕ) (key : names.Key) (name : List ℕ) (kind : Kind) (content : Content) (r : Result (ℕ × ℕ) Refusal) → IsNewKeyOf i e key name kind → IsAbsentAt a i e at
+pub found-absent : {a c : Cut} (i : Index) (e : Key) (at : ℕ) (key : names.Key) (name : List ℕ) (kind : Kind) (content : Content) {r : Result (ℕ × ℕ) Refusal} → IsNewKeyOf i e key name kind → IsAbsentAt a i e at
     → Constructs a c (asked.FindOrConstruct key content) pair_answer r → FindsOrConstructs a c key content r
-found-absent a c i e at key name kind content r new away done = record {
+found-absent {a} i e at key name kind content new away done = record {
   constructs = done;
-  found = λ d st has. absurd (none-some has.0 (sym (lookup-absent i a d e key st.denotes (key-seeks i e key name kind new) at (away-in i a d e at st.denotes away)).none ∙ has.1));
+  found = λ d st has. absurd (none-some has.0 (sym (lookup-absent i a e key st.denotes (key-seeks i e key name kind new) at (away-in i a e at st.denotes away)).none ∙ has.1));
 }
 
 -- ---- the segment afterwards, as its view before the call is named
 
-module _ {A : Type 0} (s t : State) (view : s ≡ t) (c : Cut) (command : Command) (answer : Result A Refusal → Answer) (r : Result A Refusal) (done : Constructs s.cut c command answer r) where
+module _ {A : Type 0} {s t : State} (view : s ≡ t) {c : Cut} {command : Command} {answer : Result A Refusal → Answer} {r : Result A Refusal} (done : Constructs s.cut c command answer r) where
   pub made-step : is_read_only t.mode ≡ false → IsStep t (record s { cut = c }) command (answer r)
   made-step writing = subst (λ (u : State). IsStep u (record s { cut = c }) command (answer r)) view (done.step s.mode (ap (λ (u : State). is_read_only u.mode) view ∙ writing))
 
@@ -187,8 +187,8 @@ module _ (old : State) (key : names.Key) (k : ScalarKind) (count : ℕ) (zs : Li
   abbrev c : Command
   c = asked.ConstructIt key k count zs
 
-  plan-of : (d : Directory) (few : Bool) → object_at d key ≡ None → nat_lt (length zs) count ≡ few → effect d c ≡ by-items d key k count zs few
-  plan-of d few e f = ap (from-items d key k count zs) e ∙ ap (by-items d key k count zs) f
+  plan-of : (d : Directory) {few : Bool} → object_at d key ≡ None → nat_lt (length zs) count ≡ few → effect d c ≡ by-items d key k count zs few
+  plan-of d e f = ap (from-items d key k count zs) e ∙ ap (by-items d key k count zs) f
 
   -- an object has the key, and no item is taken
   pub items-exists : ((d : Directory) → StandsFor old.cut.bytes d → (o : Object) × (object_at d key ≡ Some o)) → IsStep old old c (Refused Exists)
@@ -196,21 +196,21 @@ module _ (old : State) (key : names.Key) (k : ScalarKind) (count : ℕ) (zs : Li
       by_no_change old c (Refused Exists) (λ d st. step-refuse old.mode d c Exists (open-writing old.mode c writing) (ap (from-items d key k count zs) (each d st).1))
 
   -- there are enough, and the object is made of them
-  pub items-made : (new : Cut) (h : ℕ) → SamePlace old.cut new → count ≤ length zs
+  pub items-made : {new : Cut} (h : ℕ) → SamePlace old.cut new → count ≤ length zs
       → ((d : Directory) → StandsFor old.cut.bytes d → (object_at d key ≡ None) × IsNewObject new d key (asked.Numbers k (take count zs)) h)
       → IsStep old (record old { cut = new }) c (Made h)
-  items-made new h place enough each =
-      makes old new key (asked.Numbers k (take count zs)) h c made_handle (Made h) writing place (λ d e. plan-of d false e (le-ltb (length zs) count enough)) (λ d n. ap Made (sym n.at)) each
+  items-made h place enough each =
+      makes old key (asked.Numbers k (take count zs)) h c made_handle (Made h) writing place (λ d e. plan-of d e (le-ltb (length zs) count enough)) (λ d n. ap Made (sym n.at)) each
 
   -- there are too few: what was taken is given back
-  pub items-few : (new : Cut) → SamePlace old.cut new → length zs < count
+  pub items-few : {new : Cut} → SamePlace old.cut new → length zs < count
       → ((d : Directory) → StandsFor old.cut.bytes d → (object_at d key ≡ None) × IsMet d key (asked.Numbers k (replicate count (pos 0))) × Denotes current new.bytes d)
       → IsStep old (record old { cut = new }) c (Refused OutOfRange)
-  items-few new place few each =
+  items-few {new} place few each =
       by_step old (record old { cut = new }) c (Refused OutOfRange) (record { mode = refl; place = place }) (λ d st.
       let all = each d st in
       lands (record old { cut = new }) (step old.mode d c) (Refused OutOfRange) d (record {
-        is = step-plan old.mode d c (by-items d key k count zs true) (open-writing old.mode c writing) (plan-of d true all.0 (lt-ltb (length zs) count few))
+        is = step-plan old.mode d c (open-writing old.mode c writing) (plan-of d all.0 (lt-ltb (length zs) count few))
             ∙ all.1.met (λ o e. Reply (Refused OutOfRange) d);
         denotes = all.2;
       }))
@@ -219,14 +219,14 @@ module _ (old : State) (key : names.Key) (k : ScalarKind) (count : ℕ) (zs : Li
       → ((next : Object → Directory → Plan) → perform d (live d) (with_new_object d key (asked.Numbers k (if few then replicate count (pos 0) else take count zs)) next) ≡ (Refused NoSpace, d))
       → step old.mode d c ≡ (Refused NoSpace, d)
   none-if d true e f none =
-      step-plan old.mode d c (by-items d key k count zs true) (open-writing old.mode c writing) (plan-of d true e f) ∙ none (λ o e. Reply (Refused OutOfRange) d)
+      step-plan old.mode d c (open-writing old.mode c writing) (plan-of d e f) ∙ none (λ o e. Reply (Refused OutOfRange) d)
   none-if d false e f none =
-      step-plan old.mode d c (by-items d key k count zs false) (open-writing old.mode c writing) (plan-of d false e f) ∙ none (λ o e. Reply (Made (handle o.extent)) e)
+      step-plan old.mode d c (open-writing old.mode c writing) (plan-of d e f) ∙ none (λ o e. Reply (Made (handle o.extent)) e)
 
   -- a request is refused, and no item is taken
-  pub items-none : (new : Cut) → SamePlace old.cut new → ((d : Directory) → StandsFor old.cut.bytes d → (object_at d key ≡ None) × IsNoObject new d key (asked.Numbers k (asked_for count zs)))
+  pub items-none : {new : Cut} → SamePlace old.cut new → ((d : Directory) → StandsFor old.cut.bytes d → (object_at d key ≡ None) × IsNoObject new d key (asked.Numbers k (asked_for count zs)))
       → IsStep old (record old { cut = new }) c (Refused NoSpace)
-  items-none new place each =
+  items-none {new} place each =
       by_step old (record old { cut = new }) c (Refused NoSpace) (record { mode = refl; place = place }) (λ d st.
       let both : (object_at d key ≡ None) × IsNoObject new d key (asked.Numbers k (asked_for count zs)) = each d st in
       lands (record old { cut = new }) (step old.mode d c) (Refused NoSpace) d
@@ -245,9 +245,9 @@ asked-long count low = ap (λ (b : Bool). length (if b then replicate count (pos
 abbrev numbers_in : ScalarKind → List ℤ → Extent → Object
 numbers_in k zs x = record { class = Anonymous; name = []; value = Numbers k zs; extent = x }
 
-anonymous-met : (a m : Cut) (d : Directory) (k : ScalarKind) (zs : List ℤ) (n h : ℕ) → Denotes current a.bytes d → n ≡ object_len [] (Numbers k zs) → IsAllocated current a m n ObjectRole h
+anonymous-met : {a m : Cut} {d : Directory} (k : ScalarKind) (zs : List ℤ) {n h : ℕ} → Denotes current a.bytes d → n ≡ object_len [] (Numbers k zs) → IsAllocated current a m n ObjectRole h
     → IsMet d names.NoKey (asked.Numbers k zs)
-anonymous-met a m d k zs n h said len took =
+anonymous-met {a} {d} k zs said len took =
     let x : Extent = took.extent in
     let placed : place (live d) (object_len [] (Numbers k zs)) ObjectRole ≡ Some x =
     sym (λ j. place (denotes-live current a.bytes d said j) (len j) ObjectRole) ∙ took.placed in
@@ -272,59 +272,59 @@ module _ (S A : Type 0) (gives : S → Option A → S → Type 0) (whole : A →
   good-items xs e all = let l : length (map whole xs) ≡ count = many xs e in numbers-value k (map whole xs) (omega arith) (omega arith) all
 
   -- the object is made of the items
-  steps-made : (entry : Option NewEntry) (m w c : Cut) (h at : ℕ) → IsBegun s.cut m key (Scalar k) count (size_of k * count) h at entry → (f : Fills gives whole m w k (h + at) count before after (Ok tt)) → LeadsThere w c h entry
+  steps-made : (entry : Option NewEntry) {m w : Cut} (c : Cut) (h at : ℕ) → IsBegun s.cut m key (Scalar k) count (size_of k * count) h at entry → (f : Fills gives whole m w k (h + at) count before after (Ok tt)) → LeadsThere w c h entry
       → IsStep s (record s { cut = c }) (asked.ConstructIt key k count (map whole f.items)) (Made h)
-  steps-made entry m w c h at g f led =
+  steps-made entry {m} {w} c h at g f led =
       let zs : List ℤ = map whole f.items in
       let long : length zs ≡ count = many f.items f.taken.1 in
       let content : Content = asked.Numbers k zs in
       let made : IsMadeValue content m w (record { handle = h; at = at }) =
-      numbers-made k zs m w (record { handle = h; at = at }) (good-items f.items f.taken.1 f.values) (subst (λ n. IsChanged current m w (h + at) (size_of k * n)) (sym (length-map f.items whole)) f.change) f.content in
+      numbers-made k zs (record { handle = h; at = at }) (good-items f.items f.taken.1 f.values) (subst (λ n. IsChanged current m w (h + at) (size_of k * n)) (sym (length-map f.items whole)) f.change) f.content in
       let begun : IsBegunFor s.cut m key content h at entry = subst (λ n. IsBegun s.cut m key (Scalar k) n (size_of k * n) h at entry) (sym long) g in
-      let now : IsMadeNow s.cut c key content h = value-built content s.cut m b key h at entry w c begun made led in
-      items-made s key k count zs writing c h now.place (omega arith)
+      let now : IsMadeNow s.cut c key content h = value-built content s.cut m b key h at entry c begun made led in
+      items-made s key k count zs writing h now.place (omega arith)
       (λ d st.
       let both = now.each d st in (both.0, subst (λ ys. IsNewObject c d key (asked.Numbers k ys) h) (sym (whole-list f.items f.taken.1)) both.1))
 
   -- no object had the key, and the requests for zeros are met
-  begun-met : (entry : Option NewEntry) (m : Cut) (h at : ℕ) → IsBegun s.cut m key (Scalar k) count (size_of k * count) h at entry → (d : Directory) → StandsFor s.cut.bytes d
+  begun-met : (entry : Option NewEntry) (m : Cut) (h at : ℕ) → IsBegun s.cut m key (Scalar k) count (size_of k * count) h at entry → {d : Directory} → StandsFor s.cut.bytes d
       → (object_at d key ≡ None) × IsMet d key (asked.Numbers k (replicate count (pos 0)))
-  begun-met None m h at g d st =
+  begun-met None m h at g {d} st =
       subst (λ (q : names.Key). (object_at d q ≡ None) × IsMet d q (asked.Numbers k (replicate count (pos 0)))) (sym g.is)
-      (no_key-none d.objects, anonymous-met s.cut g.taken d k (replicate count (pos 0)) (room_for [] (size_of k * count)) h st.denotes (equal-len k [] count (pos 0)) g.takes)
-  begun-met (Some e) m h at g d st = (
-    (lookup-absent e.index s.cut d g.entry key st.denotes (key-seeks e.index g.entry key g.name (Scalar k) g.is) e.place (away-in e.index s.cut d g.entry e.place st.denotes g.absent)).none,
-    numbers-met e.index s.cut d g.entry key g.name k (replicate count (pos 0)) st.denotes g.is g.taken (room_for g.name (size_of k * count)) h e.growth.block (equal-len k g.name count (pos 0)) g.requested,
+      (no_key-none d.objects, anonymous-met k (replicate count (pos 0)) st.denotes (equal-len k [] count (pos 0)) g.takes)
+  begun-met (Some e) m h at g st = (
+    (lookup-absent e.index s.cut g.entry key st.denotes (key-seeks e.index g.entry key g.name (Scalar k) g.is) e.place (away-in e.index s.cut g.entry e.place st.denotes g.absent)).none,
+    numbers-met e.index s.cut g.entry key g.name k (replicate count (pos 0)) st.denotes g.is (equal-len k g.name count (pos 0)) g.requested,
   )
 
   -- its blocks are given back
-  steps-few : (entry : Option NewEntry) (why : Refusal) (m w c : Cut) (h at : ℕ) → IsBegun s.cut m key (Scalar k) count (size_of k * count) h at entry → (f : Fills gives whole m w k (h + at) count before after (Err why)) → IsRestored s.cut c
+  steps-few : (entry : Option NewEntry) {why : Refusal} {m w c : Cut} (h at : ℕ) → IsBegun s.cut m key (Scalar k) count (size_of k * count) h at entry → (f : Fills gives whole m w k (h + at) count before after (Err why)) → IsRestored s.cut c
       → IsStep s (record s { cut = c }) (asked.ConstructIt key k count (map whole f.items)) (Refused OutOfRange)
-  steps-few entry why m w c h at g f back =
-      items-few s key k count (map whole f.items) writing c back.keeps.place (let l = length-map f.items whole in let few = f.taken.2 in omega arith)
-      (λ d st. let met = begun-met entry m h at g d st in (met.0, met.1, restored-denotes s.cut c d st.denotes back))
+  steps-few entry {m} {c} h at g f back =
+      items-few s key k count (map whole f.items) writing back.keeps.place (let l = length-map f.items whole in let few = f.taken.2 in omega arith)
+      (λ d st. let met = begun-met entry m h at g st in (met.0, met.1, restored-denotes s.cut c d st.denotes back))
 
   -- ---- what is loose
 
-  most : (filled : Result (Unit {0}) Refusal) (m w : Cut) (from : ℕ) → (f : Fills gives whole m w k from count before after filled) → size_of k * length f.items ≤ size_of k * count
-  most (Ok u) m w from f = let e : size_of k * length f.items ≡ size_of k * count = ap (λ j. size_of k * j) f.taken.1 in omega arith
-  most (Err why) m w from f = mul-le-mul_left (size_of k) (let few = f.taken.2 in omega arith)
+  most : (filled : Result (Unit {0}) Refusal) {m w : Cut} {from : ℕ} → (f : Fills gives whole m w k from count before after filled) → size_of k * length f.items ≤ size_of k * count
+  most (Ok u) f = let e : size_of k * length f.items ≡ size_of k * count = ap (λ j. size_of k * j) f.taken.1 in omega arith
+  most (Err why) f = mul-le-mul_left (size_of k) (let few = f.taken.2 in omega arith)
 
   loose : (entry : Option NewEntry) (filled : Result (Unit {0}) Refusal) (m w : Cut) (h at : ℕ) → IsBegun s.cut m key (Scalar k) count (size_of k * count) h at entry → Fills gives whole m w k (h + at) count before after filled → IsLoose s.cut w h entry
   loose None filled m w h at g f = record {
     len = room_for [] (size_of k * count);
     taken = g.taken;
     takes = g.takes;
-    change = headed-change g.taken m w (Scalar k) Anonymous [] count (size_of k * count) h at (size_of k * length f.items) g.headed f.change (most filled m w (h + at) f);
+    change = headed-change (size_of k * count) g.headed f.change (most filled f);
   }
   loose (Some e) filled m w h at g f =
-      let x = denotes-index e.index s.cut b.0 b.1.denotes in
+      let x = denotes-index e.index s.cut b.1.denotes in
       let away = g.absent (table_of e.index b.0) (entries_of e.index b.0) x in
       record {
         len = room_for g.name (size_of k * count);
         taken = g.taken;
         requested = g.requested;
-        change = headed-change g.taken m w (Scalar k) (class_of_index e.index) g.name count (size_of k * count) h at (size_of k * length f.items) g.headed f.change (most filled m w (h + at) f);
+        change = headed-change (size_of k * count) g.headed f.change (most filled f);
         index = segment-index s.cut e.index b;
         within = subst (λ n. e.place ≤ n) (sym x.stands.count) away.0;
       }
@@ -332,20 +332,20 @@ module _ (S A : Type 0) (gives : S → Option A → S → Type 0) (whole : A →
   -- ---- all together
 
   -- where it is filled an entry may lead to it, and where not all can be given back
-  pub fills-ending : (entry : Option NewEntry) (filled : Result (Unit {0}) Refusal) (m w : Cut) (h at : ℕ) → IsBegun s.cut m key (Scalar k) count (size_of k * count) h at entry → Fills gives whole m w k (h + at) count before after filled
+  pub fills-ending : (entry : Option NewEntry) (filled : Result (Unit {0}) Refusal) {m w : Cut} (h at : ℕ) → IsBegun s.cut m key (Scalar k) count (size_of k * count) h at entry → Fills gives whole m w k (h + at) count before after filled
       → IsEnding w h entry filled
-  fills-ending entry (Ok u) m w h at g f = loose-ready entry s.cut w h (loose entry (Ok u) m w h at g f)
-  fills-ending entry (Err why) m w h at g f = (s.cut, loose entry (Err why) m w h at g f)
+  fills-ending entry (Ok u) {m} {w} h at g f = loose-ready entry s.cut w h (loose entry (Ok u) m w h at g f)
+  fills-ending entry (Err why) {m} {w} h at g f = (s.cut, loose entry (Err why) m w h at g f)
 
   -- it is filled, and then made or given back
   pub takes : (entry : Option NewEntry) (filled : Result (Unit {0}) Refusal) (m w c : Cut) (h at : ℕ) (result : Result ℕ Refusal) → IsBegun s.cut m key (Scalar k) count (size_of k * count) h at entry
       → Fills gives whole m w k (h + at) count before after filled → Ends w c h entry filled result → TakesItems gives whole s (record s { cut = c }) key k count before after result
   takes entry (Ok tt) m w c h at result g f fin =
       subst (λ (r : Result ℕ Refusal). TakesItems gives whole s (record s { cut = c }) key k count before after r) (sym fin.0)
-      (record { items = f.items; step = steps-made entry m w c h at g f fin.1; taken = f.taken; unchanged = tt })
+      (record { items = f.items; step = steps-made entry c h at g f fin.1; taken = f.taken; unchanged = tt })
   takes entry (Err why) m w c h at result g f fin =
       subst (λ (r : Result ℕ Refusal). TakesItems gives whole s (record s { cut = c }) key k count before after r) (sym (fin.0 ∙ ap Err f.taken.0))
-      (record { items = f.items; step = steps-few entry why m w c h at g f (fin.1 s.cut (loose entry (Err why) m w h at g f)); taken = (f.taken.1, f.taken.2); unchanged = tt })
+      (record { items = f.items; step = steps-few entry h at g f (fin.1 s.cut (loose entry (Err why) m w h at g f)); taken = (f.taken.1, f.taken.2); unchanged = tt })
 
 -- ---- it is refused before an item is taken
 
@@ -353,27 +353,27 @@ module _ (S A : Type 0) (gives : S → Option A → S → Type 0) (whole : A →
   pub takes-nothing : is_read_only s.mode ≡ true → TakesItems gives whole s s key k count at at (Err ReadOnly)
   takes-nothing e = record { items = []; step = refuses-read_only s (asked.ConstructIt key k count []) e refl; taken = (refl, refl); unchanged = refl }
 
-  exists-step : (c : Cut) → is_read_only s.mode ≡ false → IsTakenKey s.cut c key (Scalar k) → IsStep s (record s { cut = c }) (asked.ConstructIt key k count []) (Refused Exists)
-  exists-step c writing t =
-      subst (λ (u : Cut). IsStep s (record s { cut = u }) (asked.ConstructIt key k count []) (Refused Exists)) (sym t.same) (items-exists s key k count [] writing (key-taken s.cut key (asked.Numbers k []) c t))
+  exists-step : {c : Cut} → is_read_only s.mode ≡ false → IsTakenKey s.cut c key (Scalar k) → IsStep s (record s { cut = c }) (asked.ConstructIt key k count []) (Refused Exists)
+  exists-step writing t =
+      subst (λ (u : Cut). IsStep s (record s { cut = u }) (asked.ConstructIt key k count []) (Refused Exists)) (sym t.same) (items-exists s key k count [] writing (key-taken s.cut key (asked.Numbers k []) t))
 
   none-step : (c : Cut) → is_read_only s.mode ≡ false → 1 ≤ count → IsNotBegun s.cut c key (Scalar k) (size_of k * count) NoSpace → IsStep s (record s { cut = c }) (asked.ConstructIt key k count []) (Refused NoSpace)
   none-step c writing low t =
       let content : Content = asked.Numbers k (asked_for count []) in
       let never : IsMadeNever s.cut c key content =
       value-not_begun s.cut key content c (subst (λ n. IsNotBegun s.cut c key (Scalar k) (size_of k * n) NoSpace) (sym (asked-long count low)) t) in
-      items-none s key k count [] writing c never.place never.each
+      items-none s key k count [] writing never.place never.each
 
   pub takes-none : (why : Refusal) (c : Cut) → is_read_only s.mode ≡ false → 1 ≤ count → IsNotBegun s.cut c key (Scalar k) (size_of k * count) why → TakesItems gives whole s (record s { cut = c }) key k count at at (Err why)
   takes-none Exists c writing low t =
-      record { items = []; step = exists-step c writing t; taken = (refl, refl); unchanged = ap (λ (u : Cut). let r : State = record s { cut = u } in r) t.same }
+      record { items = []; step = exists-step writing t; taken = (refl, refl); unchanged = ap (λ (u : Cut). let r : State = record s { cut = u } in r) t.same }
   takes-none NoSpace c writing low t = record { items = []; step = none-step c writing low t; taken = (refl, refl); unchanged = tt }
   takes-none why c writing low t = absurd t
 
 -- ---- the same, as the segment is named before the call, and its shape is made for it
 
-module _ (S A : Type 0) (gives : S → Option A → S → Type 0) (whole : A → ℤ) (s t : State) (view : s ≡ t) (b : IsSegment s.cut.bytes) (key : names.Key) (k : ScalarKind) (count : ℕ)
-    (shape : Shape) (same : shape ≡ numbers_shape k count) (writing : is_read_only t.mode ≡ false) (low : 1 ≤ count) (before : S) where
+module _ (S A : Type 0) (gives : S → Option A → S → Type 0) (whole : A → ℤ) {s t : State} (view : s ≡ t) (b : IsSegment s.cut.bytes) (key : names.Key) (k : ScalarKind) (count : ℕ)
+    {shape : Shape} (same : shape ≡ numbers_shape k count) (writing : is_read_only t.mode ≡ false) (low : 1 ≤ count) (before : S) where
   writes : is_read_only s.mode ≡ false
   writes = subst (λ (u : State). is_read_only u.mode ≡ false) (sym view) writing
 
@@ -384,9 +384,9 @@ module _ (S A : Type 0) (gives : S → Option A → S → Type 0) (whole : A →
   pub refused-segment : (why : Refusal) (c : Cut) → IsNotBegun s.cut c key shape.kind shape.len why → IsSegment c.bytes
   refused-segment why c not = step-segment s (record s { cut = c }) _ _ (none-taken why c not).step b
 
-  pub refused-items : (why : Refusal) (c : Cut) (r : Result ℕ Refusal) → r ≡ Err why → IsNotBegun s.cut c key shape.kind shape.len why
+  pub refused-items : {why : Refusal} (c : Cut) {r : Result ℕ Refusal} → r ≡ Err why → IsNotBegun s.cut c key shape.kind shape.len why
       → TakesItems gives whole t (record s { cut = c }) key k count before before r
-  refused-items why c r is not =
+  refused-items {why} c is not =
       subst (λ (q : Result ℕ Refusal). TakesItems gives whole t (record s { cut = c }) key k count before before q) (sym is)
       (subst (λ (u : State). TakesItems gives whole u (record s { cut = c }) key k count before before (Err why)) view (none-taken why c not))
 
@@ -397,9 +397,9 @@ module _ (S A : Type 0) (gives : S → Option A → S → Type 0) (whole : A →
     pub items-room : IsTrue (has_room (live_of m.bytes) h (at + size_of k * count))
     items-room = begun-room entry s.cut m key (Scalar k) count (size_of k * count) h at begun-so
 
-    module _ (w : Cut) (after : S) (filled : Result (Unit {0}) Refusal) (f : Fills gives whole m w k (h + at) count before after filled) where
+    module _ {w : Cut} {after : S} {filled : Result (Unit {0}) Refusal} (f : Fills gives whole m w k (h + at) count before after filled) where
       pub items-ending : IsEnding w h entry filled
-      items-ending = fills-ending S A gives whole s b key k count writes low high before after entry filled m w h at begun-so f
+      items-ending = fills-ending S A gives whole s b key k count writes low high before after entry filled h at begun-so f
 
       module _ (c : Cut) (result : Result ℕ Refusal) (fin : Ends w c h entry filled result) where
         finished : TakesItems gives whole s (record s { cut = c }) key k count before after result

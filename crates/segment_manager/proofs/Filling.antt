@@ -39,9 +39,9 @@ pub record IsFilling {S A : Type 0} (gives : S → Option A → S → Type 0) (c
 
 module _ (S A : Type 0) (gives : S → Option A → S → Type 0) (can : S → Type 0) (whole : A → ℤ) (old : Cut) (k : ScalarKind) (from : ℕ) (before : S) where
   -- and one more
-  pub filling-more : (b c : Cut) (i to : ℕ) (s t : S) → IsFilling gives can whole old b k from i before s → can t → to ≡ from + size_of k * i → IsItemWritten gives whole b c k to s t
+  pub filling-more : {b c : Cut} {i to : ℕ} {s t : S} → IsFilling gives can whole old b k from i before s → can t → to ≡ from + size_of k * i → IsItemWritten gives whole b c k to s t
       → IsFilling gives can whole old c k from (i + 1) before t
-  filling-more b c i to s t f go at w =
+  filling-more {b} {c} {i} {to} {s} {t} f go at w =
       let zs : List ℤ = map whole f.items in
       let bytes : List ℕ = spelling k (whole w.item) in
       let more : map whole (f.items ++ w.item ∷ []) ≡ zs ++ whole w.item ∷ [] = map_push whole f.items w.item in
@@ -50,7 +50,7 @@ module _ (S A : Type 0) (gives : S → Option A → S → Type 0) (can : S → T
       let all : length (spelled k zs) ≡ size_of k * i = spelled-length k zs ∙ ap (λ m. size_of k * m) many in
       let sum : size_of k * i + size_of k ≡ size_of k * (i + 1) = omega arith in
       let change' : IsChanged current b c (from + size_of k * i) (size_of k) = subst (λ p. IsChanged current b c p (size_of k)) at w.change in
-      let front : Has (bytes_of c.bytes) from (spelled k zs) = bytes-stay b c from (from + size_of k * i) (size_of k) (spelled k zs) change' (omega arith) f.content in
+      let front : Has (bytes_of c.bytes) from (spelled k zs) = bytes-stay from (spelled k zs) change' (omega arith) f.content in
       let place : to ≡ from + length (spelled k zs) = omega arith in
       record {
         items = f.items ++ w.item ∷ [];
@@ -58,7 +58,7 @@ module _ (S A : Type 0) (gives : S → Option A → S → Type 0) (can : S → T
         long = length-append f.items (w.item ∷ []) ∙ ap (λ m. m + 1) f.long;
         callable = go;
         values = subst (λ ys. IsTrue (list_all (is_value k) ys)) (sym more) (all-more (is_value k) zs (whole w.item) f.values w.value);
-        change = subst (IsChanged current old c from) sum (changed-trans current old b c from (size_of k * i) (size_of k) f.change change');
+        change = subst (IsChanged current old c from) sum (changed-trans f.change change');
         content = subst (Has (bytes_of c.bytes) from) (flat_map_more (spelling k) [] zs (whole w.item) ∙ ap (spelled k) (sym more))
             (Has-append (bytes_of c.bytes) from (spelled k zs) bytes front (subst (λ p. Has (bytes_of c.bytes) p bytes) place w.content));
       }

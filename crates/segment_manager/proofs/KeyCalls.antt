@@ -68,48 +68,48 @@ abbrev for_object : Extent → Bool
 for_object x = same_role x.role ObjectRole
 
 -- an object has the handle where its block is for one
-pub object-passes : (b : List ℕ) (d : Directory) (h : ℕ) → Denotes current b d → is_object_at d h ≡ passes for_object (extent_at (live_of b) h)
-object-passes b d h k =
-    sym (handle-is-object current d h k.directory) ∙ any-first for_object h 128 (live d).extents (live-rises (live d) k.directory.proper)
+pub object-passes : {b : List ℕ} {d : Directory} (h : ℕ) → Denotes current b d → is_object_at d h ≡ passes for_object (extent_at (live_of b) h)
+object-passes {b} {d} h k =
+    sym (handle-is-object h k.directory) ∙ any-first for_object h 128 (live d).extents (live-rises (live d) k.directory.proper)
     ∙ ap (λ l. passes for_object (extent_at l h)) (sym (denotes-live current b d k))
 
 pub same-test : (r : Role) → sameb the_type r ObjectRole ≡ same_role r ObjectRole
 same-test ObjectRole = refl
 same-test role = refl
 
-of-role : (o : Option Extent) (r : Role) → option_map (λ (x : Extent). x.role) o ≡ Some r → passes for_object o ≡ same_role r ObjectRole
-of-role None r e = absurd (none-some r e)
-of-role (Some x) r e = ap (λ role. same_role role ObjectRole) (same_Some x.role r e)
+of-role : (o : Option Extent) {r : Role} → option_map (λ (x : Extent). x.role) o ≡ Some r → passes for_object o ≡ same_role r ObjectRole
+of-role None {r} e = absurd (none-some r e)
+of-role (Some x) {r} e = ap (λ role. same_role role ObjectRole) (same_Some x.role r e)
 
 -- the answer of the two tests, for a block in use of this role
-pub role-answers : (s : State) (h : ℕ) (r : Role) (b : Bool) → option_map (λ (x : Extent). x.role) (extent_at (live_of s.cut.bytes) h) ≡ Some r → b ≡ sameb the_type r ObjectRole
+pub role-answers : (s : State) (h : ℕ) {r : Role} {b : Bool} → option_map (λ (x : Extent). x.role) (extent_at (live_of s.cut.bytes) h) ≡ Some r → b ≡ sameb the_type r ObjectRole
     → Answers s (λ d. is_object_at d h) b
-role-answers s h r b e f = record {
-  answers = λ d k. f ∙ same-test r ∙ sym (of-role (extent_at (live_of s.cut.bytes) h) r e) ∙ sym (object-passes s.cut.bytes d h k.denotes);
+role-answers s h {r} e f = record {
+  answers = λ d k. f ∙ same-test r ∙ sym (of-role (extent_at (live_of s.cut.bytes) h) e) ∙ sym (object-passes h k.denotes);
 }
 
 -- and where no block is in use
-pub dead-answers : (s : State) (h : ℕ) (b : Bool) → b ≡ is_live_in (live_of s.cut.bytes) h → b ≡ false → Answers s (λ d. is_object_at d h) b
-dead-answers s h b e f = record {
-  answers = λ d k. f ∙ sym (object-passes s.cut.bytes d h k.denotes ∙ ap (passes for_object) (none-first h (live_of s.cut.bytes).extents (sym e ∙ f)));
+pub dead-answers : (s : State) (h : ℕ) {b : Bool} → b ≡ is_live_in (live_of s.cut.bytes) h → b ≡ false → Answers s (λ d. is_object_at d h) b
+dead-answers s h e f = record {
+  answers = λ d k. f ∙ sym (object-passes h k.denotes ∙ ap (passes for_object) (none-first h (live_of s.cut.bytes).extents (sym e ∙ f)));
 }
 
 -- ---- an entry of an index
 
 pub segment-index : (c : Cut) (i : Index) → IsSegment c.bytes → HasIndex c (place_of i)
-segment-index c i s = record { table = table_of i s.0; handles = entries_of i s.0; index = denotes-index i c s.0 s.1.denotes }
+segment-index c i s = record { table = table_of i s.0; handles = entries_of i s.0; index = denotes-index i c s.1.denotes }
 
 -- what an index's call says of each table and handles that stand there
 abbrev pub ForIndex : Cut → Index → (List ℕ → Type 0) → Type 0
 ForIndex c i P = (t : Table) (hs : List ℕ) → IsIndexOf c (place_of i) t hs → P hs
 
-pub of-directory : (s : State) (i : Index) (P : List ℕ → Type 0) (d : Directory) → StandsFor s.cut.bytes d → ForIndex s.cut i P → P (entries_of i d)
-of-directory s i P d k f = f (table_of i d) (entries_of i d) (denotes-index i s.cut d k.denotes)
+pub of-directory : (s : State) (i : Index) (P : List ℕ → Type 0) {d : Directory} → StandsFor s.cut.bytes d → ForIndex s.cut i P → P (entries_of i d)
+of-directory s i P {d} k f = f (table_of i d) (entries_of i d) (denotes-index i s.cut k.denotes)
 
 -- an entry that was found is one of the index
 pub place-below : (c : Cut) (i : Index) (e : Entry) (place : ℕ) → IsSegment c.bytes → ForIndex c i (λ hs. IsPlace (bytes_of c.bytes) e hs (Found place)) → place < entry_count c (place_of i)
 place-below c i e place s f =
-    let stands : IsIndexOf c (place_of i) (table_of i s.0) (entries_of i s.0) = denotes-index i c s.0 s.1.denotes in
+    let stands : IsIndexOf c (place_of i) (table_of i s.0) (entries_of i s.0) = denotes-index i c s.1.denotes in
     let at = f (table_of i s.0) (entries_of i s.0) stands in
     omega (arith, slice_get_within (entries_of i s.0) place at.0 at.1, stands.stands.count)
 
@@ -119,8 +119,8 @@ pub found-answers : (s : State) (i : Index) (e : Entry) (place h : ℕ) → ForI
 found-answers s i e place h f g key q = record {
   answers = λ d k.
       let there : IsEntryFor i d key place =
-      lookup-found i s.cut d e key k.denotes q place (of-directory s i (λ hs. IsPlace (bytes_of s.cut.bytes) e hs (Found place)) d k f) in
-      sym (of-directory s i (λ hs. slice_get hs place ≡ Some h) d k g) ∙ there.leads ∙ sym (ap (option_map (λ (o : Object). handle o.extent)) there.is);
+      lookup-found i s.cut e key k.denotes q place (of-directory s i (λ hs. IsPlace (bytes_of s.cut.bytes) e hs (Found place)) k f) in
+      sym (of-directory s i (λ hs. slice_get hs place ≡ Some h) k g) ∙ there.leads ∙ sym (ap (option_map (λ (o : Object). handle o.extent)) there.is);
 }
 
 -- or no object has the key
@@ -129,7 +129,7 @@ pub absent-answers : (s : State) (i : Index) (e : Entry) (place : ℕ) → ForIn
 absent-answers s i e place f key q = record {
   answers = λ d k.
       let away : IsNoEntryFor i d key place =
-      lookup-absent i s.cut d e key k.denotes q place (of-directory s i (λ hs. IsPlace (bytes_of s.cut.bytes) e hs (Absent place)) d k f) in
+      lookup-absent i s.cut e key k.denotes q place (of-directory s i (λ hs. IsPlace (bytes_of s.cut.bytes) e hs (Absent place)) k f) in
       sym (ap (option_map (λ (o : Object). handle o.extent)) away.none);
 }
 
@@ -140,8 +140,8 @@ handle-if h d None e = refl
 handle-if h d (Some o) e = ap Some (found-handle h d.objects o (record { is = e }))
 
 -- a handle means itself, where it is an object's
-pub handle-answers : (s : State) (h : ℕ) (b : Bool) → Answers s (λ d. is_object_at d h) b → Answers s (λ d. handle_at d (ByHandle h)) (then_some b h)
-handle-answers s h b a = record {
+pub handle-answers : {s : State} (h : ℕ) {b : Bool} → Answers s (λ d. is_object_at d h) b → Answers s (λ d. handle_at d (ByHandle h)) (then_some b h)
+handle-answers h a = record {
   answers = λ d k. ap (λ t. then_some t h) (a.answers d k) ∙ handle-if h d (object_at d (ByHandle h)) refl;
 }
 
@@ -160,8 +160,8 @@ abbrev finds : Directory → Kind → Option Object → Plan
 finds d kind r = elim r as (λ _. Plan) [ None ↦ Reply Absent d | Some o ↦ if same_kind kind (kind_of o.value) then Reply (found o) d else Refuse WrongKind ]
 
 -- nothing has the key
-pub find-absent : (s : State) (key : Key) (kind : Kind) → Answers s (λ d. handle_at d key) None → IsReply s (asked.Find key kind) Absent
-find-absent s key kind a = record {
+pub find-absent : {s : State} (key : Key) (kind : Kind) → Answers s (λ d. handle_at d key) None → IsReply s (asked.Find key kind) Absent
+find-absent {s} key kind a = record {
   answers = λ d k.
       sym (ap (λ (r : Answer × Directory). r.0)
       (step-reply s.mode d (asked.Find key kind) Absent d (open-reading s.mode (asked.Find key kind) refl) (ap (finds d kind) (nothing-here d key (a.answers d k)))));
@@ -178,9 +178,9 @@ pub kind-step : (mode : Mode) (d : Directory) (c : Command) (o : Object) (kind :
 kind-step mode d c o kind may e = kind-if mode d c o (same_kind kind (kind_of o.value)) may e
 
 -- an object has it, of the kind or of another
-pub find-there : (s t : State) (view : s ≡ t) (key : Key) (kind : Kind) (h : ℕ) (r : Result (ℕ × ℕ) Refusal) → Answers t (λ d. handle_at d key) (Some h)
+pub find-there : {s t : State} (view : s ≡ t) (key : Key) (kind : Kind) {h : ℕ} (r : Result (ℕ × ℕ) Refusal) → Answers t (λ d. handle_at d key) (Some h)
     → ((o : Object) → StandsAt s.cut.bytes h o → r ≡ pair_of_kind o kind) → IsReply t (asked.Find key kind) (pair_answer r)
-find-there s t view key kind h r a each = record {
+find-there {t} view key kind {h} r a each = record {
   answers = λ d k.
       let o : IsHere t.cut.bytes d key h = here t.cut.bytes d key h k.denotes (a.answers d k) in
       ap pair_answer (each o.object (subst (λ (u : State). StandsAt u.cut.bytes h o.object) (sym view) o.stands))
@@ -191,7 +191,7 @@ find-there s t view key kind h r a each = record {
 
 -- how many an index has
 pub index-counts : (s : State) (i : Index) (n : ℕ) → ForIndex s.cut i (λ hs. n ≡ length hs) → (d : Directory) → StandsFor s.cut.bytes d → n ≡ length (objects_of i d)
-index-counts s i n f d k = of-directory s i (λ hs. n ≡ length hs) d k f ∙ handles-length (objects_of i d)
+index-counts s i n f d k = of-directory s i (λ hs. n ≡ length hs) k f ∙ handles-length (objects_of i d)
 
 -- the command that asks for it
 abbrev num_command : Index → Command
@@ -206,10 +206,10 @@ pub num-replies : (s : State) (i : Index) (n : ℕ) → ForIndex s.cut i (λ hs.
 num-replies s i n f = record { answers = λ d k. ap Number (index-counts s i n f d k) ∙ sym (ap (λ (r : Answer × Directory). r.0) (num-step s.mode i d)) }
 
 -- a number below their count is a place
-pub below-count : {s t : State} (view : s ≡ t) (i : Index) (n : ℕ) → IsSegment s.cut.bytes
+pub below-count : {s t : State} (view : s ≡ t) (i : Index) {n : ℕ} → IsSegment s.cut.bytes
     → IsBelow t (λ d. length (objects_of i d)) n → n < entry_count s.cut (place_of i)
-below-count {s} view i n g b =
-    let stands : IsIndexOf s.cut (place_of i) (table_of i g.0) (entries_of i g.0) = denotes-index i s.cut g.0 g.1.denotes in
+below-count {s} view i {n} g b =
+    let stands : IsIndexOf s.cut (place_of i) (table_of i g.0) (entries_of i g.0) = denotes-index i s.cut g.1.denotes in
     let below = subst (λ (u : State). IsBelow u (λ d. length (objects_of i d)) n) (sym view) b in
     omega (arith, below.below g.0 g.1, stands.stands.count, handles-length (objects_of i g.0))
 
@@ -218,7 +218,7 @@ pub at-answers : {s t : State} (view : s ≡ t) (i : Index) (n h : ℕ) → ForI
     → Answers t (λ d. slice_get (entries_of i d) n) (Some h)
 at-answers {s} view i n h f =
     subst (λ (u : State). Answers u (λ d. slice_get (entries_of i d) n) (Some h)) view
-    (record { answers = λ d k. sym (of-directory s i (λ hs. slice_get hs n ≡ Some h) d k f) })
+    (record { answers = λ d k. sym (of-directory s i (λ hs. slice_get hs n ≡ Some h) k f) })
 
 -- ---- an index below that number
 
@@ -241,12 +241,12 @@ pub record IsEntered (s : State) (d : Directory) (i : Index) (n h : ℕ) : Type 
   pub is : slice_get (objects_of i d) n ≡ Some object
   pub stands : StandsAt s.cut.bytes h object
 
-pub entered : (s : State) (i : Index) (n h : ℕ) → ForIndex s.cut i (λ hs. slice_get hs n ≡ Some h) → (d : Directory) → StandsFor s.cut.bytes d → IsEntered s d i n h
-entered s i n h f d k =
-    let at : places.StandsAt (objects_of i d) n h = stands-at (objects_of i d) n h (of-directory s i (λ hs. slice_get hs n ≡ Some h) d k f) in
+pub entered : (s : State) (i : Index) (n h : ℕ) → ForIndex s.cut i (λ hs. slice_get hs n ≡ Some h) → {d : Directory} → StandsFor s.cut.bytes d → IsEntered s d i n h
+entered s i n h f {d} k =
+    let at : places.StandsAt (objects_of i d) n h = stands-at (objects_of i d) n (of-directory s i (λ hs. slice_get hs n ≡ Some h) k f) in
     let o = at.object in
     let found : object_at d (ByHandle (handle o.extent)) ≡ Some o =
-    all-at (λ (p : Object). object_at d (ByHandle (handle p.extent)) ≡ Some p) (objects_of i d) n o (in-handles current i d k.denotes.directory) at.is in
+    all-at (λ (p : Object). object_at d (ByHandle (handle p.extent)) ≡ Some p) (objects_of i d) n (in-handles i k.denotes.directory) at.is in
     record {
       object = o;
       is = at.is;
@@ -255,17 +255,17 @@ entered s i n h f d k =
 
 -- some object stands there
 pub entered-object : (s : State) (i : Index) (n h : ℕ) → IsSegment s.cut.bytes → ForIndex s.cut i (λ hs. slice_get hs n ≡ Some h) → HasObject s.cut.bytes h
-entered-object s i n h g f = let o : IsEntered s g.0 i n h = entered s i n h f g.0 g.1 in (o.object, o.stands)
+entered-object s i n h g f = let o : IsEntered s g.0 i n h = entered s i n h f g.1 in (o.object, o.stands)
 
 -- what was read is said of it
 pub entered-says : (s : State) (i : Index) (n h : ℕ) (said : Instance) → ForIndex s.cut i (λ hs. slice_get hs n ≡ Some h) → ((o : Object) → StandsAt s.cut.bytes h o → IsInstance o said)
     → SaysAt s (objects_of i) n said
 entered-says s i n h said f each = record {
-  says = λ d k. let o : IsEntered s d i n h = entered s i n h f d k in (o.object, o.is, each o.object o.stands);
+  says = λ d k. let o : IsEntered s d i n h = entered s i n h f k in (o.object, o.is, each o.object o.stands);
 }
 
 -- the same of the object of a key
-pub key-says : (s : State) (key : Key) (h : ℕ) (said : Instance) → Answers s (λ d. handle_at d key) (Some h) → ((o : Object) → StandsAt s.cut.bytes h o → IsInstance o said) → SaysOf s key said
-key-says s key h said a each = record {
+pub key-says : {s : State} (key : Key) {h : ℕ} (said : Instance) → Answers s (λ d. handle_at d key) (Some h) → ((o : Object) → StandsAt s.cut.bytes h o → IsInstance o said) → SaysOf s key said
+key-says {s} key {h} said a each = record {
   says = λ d k. let o : IsHere s.cut.bytes d key h = here s.cut.bytes d key h k.denotes (a.answers d k) in (o.object, o.is, each o.object o.stands);
 }

@@ -72,13 +72,13 @@ pub data Place (h : ℕ) (p : Object) (ps : List Object) (o : Object) : Type 0 w
   here : h ≡ handle p.extent → p ≡ o → Place h p ps o
   behind : h ≢ handle p.extent → IsFound h ps o → Place h p ps o
 
-place-if : (h : ℕ) (p : Object) (ps : List Object) (o : Object) → (b : Bool) → (h == handle p.extent) ≡ b → cond b (Some p) (find (has_key (ByHandle h)) ps) ≡ Some o → Place h p ps o
-place-if h p ps o true e f = here (eqb-true h (handle p.extent) e) (cc)
-place-if h p ps o false e f = behind (λ g. cc (eq-eqb h (handle p.extent) g)) (record { is = f })
+place-if : (h : ℕ) (p : Object) (ps : List Object) {o : Object} → (b : Bool) → (h == handle p.extent) ≡ b → cond b (Some p) (find (has_key (ByHandle h)) ps) ≡ Some o → Place h p ps o
+place-if h p ps true e f = here (eqb-true h (handle p.extent) e) (cc)
+place-if h p ps false e f = behind (λ g. cc (eq-eqb h (handle p.extent) g)) (record { is = f })
 
 -- an object that is found is the first or stands behind it
 pub found-place : (h : ℕ) (p : Object) (ps : List Object) (o : Object) → IsFound h (p ∷ ps) o → Place h p ps o
-found-place h p ps o f = place-if h p ps o (h == handle p.extent) refl f.is
+found-place h p ps o f = place-if h p ps (h == handle p.extent) refl f.is
 
 -- nothing is found in no list
 pub found-nothing : (h : ℕ) (o : Object) → IsFound h [] o → ⊥
@@ -100,12 +100,12 @@ replace-here o p ps e = ap (λ b. if b then o ∷ ps else p ∷ replace_object o
 pub replace-behind : (o p : Object) (ps : List Object) → handle o.extent ≢ handle p.extent → replace_object o (p ∷ ps) ≡ p ∷ replace_object o ps
 replace-behind o p ps n = ap (λ b. if b then o ∷ ps else p ∷ replace_object o ps) (ne_eqb (handle o.extent) (handle p.extent) n)
 
-remove-place : (n h : ℕ) (p : Object) (ps : List Object) (o : Object) (t : List Extent) → Place h p ps o → Rising n (spread (p ∷ ps) t)
+remove-place : (n : ℕ) {h : ℕ} {p : Object} {ps : List Object} {o : Object} (t : List Extent) → Place h p ps o → Rising n (spread (p ∷ ps) t)
     → (IsFound h ps o → Rising n (spread ps t) → spread ps t ≡ inserted (extents_of o) (spread (remove_object h ps) t))
     → spread (p ∷ ps) t ≡ inserted (extents_of o) (spread (remove_object h (p ∷ ps)) t)
-remove-place n h p ps o t (here e f) r k =
+remove-place n {h} {p} {ps} {o} t (here e f) r k =
     spread-cons p ps t ∙ ap (λ (q : Object). inserted (extents_of q) (spread ps t)) f ∙ ap (λ qs. inserted (extents_of o) (spread qs t)) (sym (remove-here h p ps e))
-remove-place n h p ps o t (behind e f) r k =
+remove-place n {h} {p} {ps} {o} t (behind e f) r k =
     let rest : List Extent = spread (remove_object h ps) t in
     let r1 : Rising n (inserted (extents_of p) (spread ps t)) = subst (Rising n) (spread-cons p ps t) r in
     let below : spread ps t ≡ inserted (extents_of o) rest = k f (rising-inserted n (extents_of p) (spread ps t) r1).0 in
@@ -119,7 +119,7 @@ remove-place n h p ps o t (behind e f) r k =
 pub spread-remove : (n h : ℕ) (os : List Object) (o : Object) (t : List Extent) → IsFound h os o → Rising n (spread os t)
     → spread os t ≡ inserted (extents_of o) (spread (remove_object h os) t)
 spread-remove n h [] o t f r = absurd (found-nothing h o f)
-spread-remove n h (p ∷ ps) o t f r = remove-place n h p ps o t (found-place h p ps o f) r (spread-remove n h ps o t)
+spread-remove n h (p ∷ ps) o t f r = remove-place n t (found-place h p ps o f) r (spread-remove n h ps o t)
 
 -- the live set without these
 abbrev pub removing : LiveSet → List Extent → LiveSet
@@ -147,14 +147,14 @@ live-without d o f h =
 
 -- ---- one changed
 
-change-place : (n : ℕ) (p : Object) (ps : List Object) (o o' : Object) (t : List Extent) → Place (handle o'.extent) p ps o
+change-place : (n : ℕ) {p : Object} {ps : List Object} {o : Object} (o' : Object) (t : List Extent) → Place (handle o'.extent) p ps o
     → Rising n (inserted (extents_of o') (spread (remove_object (handle o'.extent) (p ∷ ps)) t))
     → (IsFound (handle o'.extent) ps o → Rising n (inserted (extents_of o') (spread (remove_object (handle o'.extent) ps) t))
     → spread (replace_object o' ps) t ≡ inserted (extents_of o') (spread (remove_object (handle o'.extent) ps) t))
     → spread (replace_object o' (p ∷ ps)) t ≡ inserted (extents_of o') (spread (remove_object (handle o'.extent) (p ∷ ps)) t)
-change-place n p ps o o' t (here e f) r k =
+change-place n {p} {ps} o' t (here e f) r k =
     ap (λ qs. spread qs t) (replace-here o' p ps e) ∙ spread-cons o' ps t ∙ ap (λ qs. inserted (extents_of o') (spread qs t)) (sym (remove-here (handle o'.extent) p ps e))
-change-place n p ps o o' t (behind e f) r k =
+change-place n {p} {ps} o' t (behind e f) r k =
     let rest : List Extent = spread (remove_object (handle o'.extent) ps) t in
     let r1 : Rising n (inserted (extents_of o') (inserted (extents_of p) rest)) =
     subst (λ xs. Rising n (inserted (extents_of o') xs)) (spread-cons p (remove_object (handle o'.extent) ps) t)
@@ -172,7 +172,7 @@ pub spread-change : (n : ℕ) (os : List Object) (o o' : Object) (t : List Exten
     → Rising n (inserted (extents_of o') (spread (remove_object (handle o'.extent) os) t))
     → spread (replace_object o' os) t ≡ inserted (extents_of o') (spread (remove_object (handle o'.extent) os) t)
 spread-change n [] o o' t f r = absurd (found-nothing (handle o'.extent) o f)
-spread-change n (p ∷ ps) o o' t f r = change-place n p ps o o' t (found-place (handle o'.extent) p ps o f) r (spread-change n ps o o' t)
+spread-change n (p ∷ ps) o o' t f r = change-place n o' t (found-place (handle o'.extent) p ps o f) r (spread-change n ps o o' t)
 
 -- an object in the place of another: the others' extents, and all of its own
 pub live-changed : (d : Directory) (o o' : Object) → IsFound (handle o'.extent) d.objects o → IsTrue (is_proper (adding (live (without_object d o')) (extents_of o')))

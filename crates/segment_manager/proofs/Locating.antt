@@ -16,9 +16,9 @@ use Rattle.segment_manager.proofs.{Here.here, Steps.moves-same}
 -- ---- the object
 
 -- what the head of the object at the handle says is what is located
-pub locates : (s : State) (key : Key) (h : ℕ) (head : Head) → Answers s (λ d. handle_at d key) (Some h) → ((o : Object) → StandsAt s.cut.bytes h o → IsHeadOf o head)
+pub locates : {s : State} (key : Key) {h : ℕ} (head : Head) → Answers s (λ d. handle_at d key) (Some h) → ((o : Object) → StandsAt s.cut.bytes h o → IsHeadOf o head)
     → IsLocated s key (record { handle = h; kind = head.kind; count = head.count })
-locates s key h head a says = record {
+locates {s} key {h} head a says = record {
   at = record {
     answers = λ d k.
         let o : IsHere s.cut.bytes d key h = here s.cut.bytes d key h k.denotes (a.answers d k) in
@@ -28,7 +28,7 @@ locates s key h head a says = record {
   here = record {
     answers = λ d k.
         let o : IsHere s.cut.bytes d key h = here s.cut.bytes d key h k.denotes (a.answers d k) in
-        sym (ap is_some (ap (λ n. object_at d (ByHandle n)) o.stands.at ∙ by-handle current d key o.object k.denotes.directory o.is));
+        sym (ap is_some (ap (λ n. object_at d (ByHandle n)) o.stands.at ∙ by-handle key k.denotes.directory o.is));
   };
 }
 
@@ -38,17 +38,17 @@ pub record IsSaidAt (d : Directory) (key : Key) (o : Located) : Type 0 where
   pub is : object_at d key ≡ Some object
   pub said : o ≡ located object
 
-said-if : (d : Directory) (key : Key) (o : Located) (r : Option Object) → object_at d key ≡ r → Some o ≡ option_map located r → IsSaidAt d key o
-said-if d key o None e f = absurd (cc)
-said-if d key o (Some p) e f = record { object = p; is = e; said = same_Some o (located p) f }
+said-if : (d : Directory) (key : Key) {o : Located} (r : Option Object) → object_at d key ≡ r → Some o ≡ option_map located r → IsSaidAt d key o
+said-if d key None e f = absurd (cc)
+said-if d key {o} (Some p) e f = record { object = p; is = e; said = same_Some o (located p) f }
 
 pub said-at : (s : State) (key : Key) (o : Located) → IsLocated s key o → (d : Directory) → StandsFor s.cut.bytes d → IsSaidAt d key o
-said-at s key o l d k = said-if d key o (object_at d key) refl (l.at.answers d k)
+said-at s key o l d k = said-if d key (object_at d key) refl (l.at.answers d k)
 
 pub same-object : HandlesMeanObjects
 same-object s key o l d k =
     let p : IsSaidAt d key o = said-at s key o l d k in
-    p.is ∙ sym (ap (λ (q : Located). object_at d (ByHandle q.handle)) p.said ∙ by-handle current d key p.object k.denotes.directory p.is)
+    p.is ∙ sym (ap (λ (q : Located). object_at d (ByHandle q.handle)) p.said ∙ by-handle key k.denotes.directory p.is)
 
 -- ---- two keys of one object
 

@@ -27,9 +27,9 @@ nothing-exchanged c from n laid = record {
 -- ---- numbers
 
 -- they are written
-pub numbers-made : (k : ScalarKind) (zs : List ℤ) (old new : Cut) (p : Place) → IsTrue (is_good_value (Numbers k zs)) → IsChanged current old new (place_at p) (size_of k * length zs)
+pub numbers-made : (k : ScalarKind) (zs : List ℤ) {old new : Cut} (p : Place) → IsTrue (is_good_value (Numbers k zs)) → IsChanged current old new (place_at p) (size_of k * length zs)
     → Has (bytes_of new.bytes) (place_at p) (spelled k zs) → IsMadeValue (asked.Numbers k zs) old new p
-numbers-made k zs old new p good change says = record {
+numbers-made k zs {old} {new} p good change says = record {
   empty = new;
   change = change;
   value = Numbers k zs;
@@ -48,15 +48,15 @@ pub equal-made : (k : ScalarKind) (count : ℕ) (z : ℤ) (old new : Cut) (p : P
     → IsChanged current old new (place_at p) (length bytes * count) → Has (bytes_of new.bytes) (place_at p) (repeated count bytes) → IsMadeValue (asked.Numbers k (replicate count z)) old new p
 equal-made k count z old new p bytes low high value spelt change says =
     let size : length bytes ≡ size_of k = ap (λ (bs : List ℕ). length bs) spelt ∙ spelling-length k z in
-    numbers-made k (replicate count z) old new p (equal-good k count z low high value)
+    numbers-made k (replicate count z) p (equal-good k count z low high value)
     (subst (IsChanged current old new (place_at p)) (λ j. size j * sym (length-replicate count z) j) change)
     (subst (Has (bytes_of new.bytes) (place_at p)) (ap (repeated count) spelt ∙ repeated-spelled k count z) says)
 
 -- ---- a map without pairs
 
-no-root : (m : Memory) (o : Option ℕ) (t : Tree) → IsTree (cells_of m) o t → nodes_of t ≡ [] → o ≡ None
-no-root m o leaf k e = k.root
-no-root m o (fork red left n right) k e = absurd (not-empty (nodes_of left) n (nodes_of right) e)
+no-root : (m : Memory) {o : Option ℕ} (t : Tree) → IsTree (cells_of m) o t → nodes_of t ≡ [] → o ≡ None
+no-root m leaf k e = k.root
+no-root m (fork red left n right) k e = absurd (not-empty (nodes_of left) n (nodes_of right) e)
   where
     not-empty : (xs : List ℕ) (n : ℕ) (ys : List ℕ) → xs ++ n ∷ ys ≡ [] → ⊥
     not-empty [] n ys f = cc
@@ -82,7 +82,7 @@ map-there k v kp vp old new p r =
         third = s.map.third;
         tree = record {
           tree = leaf;
-          linked = record { root = no-root (bytes_of new.bytes) (link_at (bytes_of new.bytes) (p.handle + p.at)) s.map.tree.tree s.map.tree.linked s.map.tree.lists; holds = tt };
+          linked = record { root = no-root (bytes_of new.bytes) s.map.tree.tree s.map.tree.linked s.map.tree.lists; holds = tt };
           red_black = record { root = refl; no_red_pair = refl; black = (0, refl) };
           lists = refl;
         };

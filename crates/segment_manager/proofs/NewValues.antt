@@ -42,8 +42,8 @@ no_key-none [] = refl
 no_key-none (o ∷ os) = no_key-none os
 
 -- what a look-up that finds no entry says of each directory
-pub away-in : (i : Index) (a : Cut) (d : Directory) (e : Key) (at : ℕ) → Denotes current a.bytes d → IsAbsentAt a i e at → IsPlace (bytes_of a.bytes) e (entries_of i d) (Absent at)
-away-in i a d e at said away = away (table_of i d) (entries_of i d) (denotes-index i a d said)
+pub away-in : (i : Index) (a : Cut) {d : Directory} (e : Key) (at : ℕ) → Denotes current a.bytes d → IsAbsentAt a i e at → IsPlace (bytes_of a.bytes) e (entries_of i d) (Absent at)
+away-in i a {d} e at said away = away (table_of i d) (entries_of i d) (denotes-index i a said)
 
 -- ---- all directories
 
@@ -75,17 +75,17 @@ module _ (content : Content) where
   module _ (a t m w : Cut) (class : Class) (name : List ℕ) (h at : ℕ) (take : IsAllocated current a t (room_for name long) ObjectRole h) (headed : IsHeaded t m kind class name many h at)
       (r : IsMadeValue content m w (record { handle = h; at = at })) where
     block : IsAllocated current a r.empty (room_for name long) ObjectRole h
-    block = empty-taken a t m r.empty kind class name many long h at take headed r.change
+    block = empty-taken take headed r.change
 
     abbrev own : Object
     own = record { class = class; name = name; value = r.value; extent = block.extent }
 
     both-taken : IsTaken a w (extents_of own)
-    both-taken = made-taken a r.empty w name long h at (value_extents r.value) block headed.start r.storage
+    both-taken = made-taken name block headed.start r.storage
 
     serving : IsTrue (serves block.extent ObjectRole (object_len name r.value))
     serving =
-        subst (λ n. IsTrue (serves block.extent ObjectRole n)) (ap (λ n. head_len + padded (length name) + n) (sym r.len)) (allocated-serves current a r.empty (room_for name long) ObjectRole h block)
+        subst (λ n. IsTrue (serves block.extent ObjectRole n)) (ap (λ n. head_len + padded (length name) + n) (sym r.len)) (allocated-serves block)
 
     made-in : IsTrue (is_object current own) → IsMade a w own
     made-in good =
@@ -94,42 +94,42 @@ module _ (content : Content) where
         record {
           good = good;
           taken = both-taken;
-          at = made-object a t m r.empty w class name long h at r.value (value_extents r.value) block headed' r.change r.storage r.said;
+          at = made-object r.value block headed' r.change r.storage r.said;
         }
 
     placed-at : place (live_of a.bytes) (object_len name (bare content)) ObjectRole ≡ Some block.extent
     placed-at = block.placed
 
     given-in : (d : Directory) → IsGiven d (resized (live_of a.bytes) block.extent) content r.value r.left
-    given-in d = subst (λ l. IsGiven d l content r.value r.left) (sym (placed-next a r.empty (room_for name long) h block)) (r.given d)
+    given-in d = subst (λ l. IsGiven d l content r.value r.left) (sym (placed-next block)) (r.given d)
 
   -- ---- the directory, under a key with an entry
 
-  module _ (a m : Cut) (key : names.Key) (h at : ℕ) (e : NewEntry) (g : IsBegunEntry a m key kind many long h at e) (d : Directory) (said : Denotes current a.bytes d) where
+  module _ {a m : Cut} {key : names.Key} {h at : ℕ} {e : NewEntry} (g : IsBegunEntry a m key kind many long h at e) {d : Directory} (said : Denotes current a.bytes d) where
     absent : object_at d key ≡ None
     absent =
-        (lookup-absent e.index a d g.entry key said (key-seeks e.index g.entry key g.name kind g.is) e.place (away-in e.index a d g.entry e.place said g.absent)).none
+        (lookup-absent e.index a g.entry key said (key-seeks e.index g.entry key g.name kind g.is) e.place (away-in e.index a g.entry e.place said g.absent)).none
 
-    entry-new : (w c : Cut) → IsMadeValue content m w (record { handle = h; at = at }) → IsEntryAdded w c h e → IsNewObject c d key content h
-    entry-new w c r added =
+    entry-new : {w c : Cut} → IsMadeValue content m w (record { handle = h; at = at }) → IsEntryAdded w c h e → IsNewObject c d key content h
+    entry-new {w} {c} r added =
         let b : Cut = g.requested.between in
         let class : Class = class_of_index e.index in
         let took = block b g.taken m w class g.name h at g.requested.takes g.headed r in
         let x : Extent = took.extent in
         let new' : IsNewKeyOf e.index g.entry key g.name (kind_of r.value) = subst (IsNewKeyOf e.index g.entry key g.name) (sym r.is_kind) g.is in
         let object = key-object e.index g.entry key g.name r.value x new' (known-kind (kind_of r.value)) r.good (serving b g.taken m w class g.name h at g.requested.takes g.headed r) in
-        content-entered e.index a d g.entry key g.name kind content said g.is b w c x r.value r.left e.place h e.growth.block g.requested.grows
+        content-entered e.index a d g.entry key g.name kind content said g.is b w c e.place e.growth.block g.requested.grows
         (placed-at b g.taken m w class g.name h at g.requested.takes g.headed r) (given-in b g.taken m w class g.name h at g.requested.takes g.headed r d) r.is_kind r.count
         (made-in b g.taken m w class g.name h at g.requested.takes g.headed r object) took.at
-        (away-in e.index a d g.entry e.place said g.absent) (record { adds = added.adds; live = added.live; keeps = added.keeps })
+        (away-in e.index a g.entry e.place said g.absent) (record { adds = added.adds; live = added.live; keeps = added.keeps })
 
-    entry-denied : (w c : Cut) (why : Refusal) → IsNoValue content m w (record { handle = h; at = at }) why → IsRestored a c → IsNoObject c d key content
-    entry-denied w c why r back =
+    entry-denied : {w c : Cut} {why : Refusal} → IsNoValue content m w (record { handle = h; at = at }) why → IsRestored a c → IsNoObject c d key content
+    entry-denied {c} r back =
         let b : Cut = g.requested.between in
-        let took = empty-taken b g.taken m r.empty kind (class_of_index e.index) g.name many long h at g.requested.takes g.headed r.change in
+        let took = empty-taken g.requested.takes g.headed r.change in
         record {
-          refused = content-denied e.index a d g.entry key g.name kind content said g.is b took.extent e.growth.block g.requested.grows took.placed
-              (subst (λ l. IsDenied d l content) (sym (placed-next b r.empty (room_for g.name long) h took)) (r.denied d));
+          refused = content-denied e.index a d g.entry key g.name kind content said g.is b e.growth.block g.requested.grows took.placed
+              (subst (λ l. IsDenied d l content) (sym (placed-next took)) (r.denied d));
           denotes = restored-denotes a c d said back;
         }
 
@@ -147,8 +147,8 @@ module _ (content : Content) where
         and_from (true && is_kind_of current (kind_of w) && is_good_value w) (serves x ObjectRole (object_len [] w))
         (and_from (true && is_kind_of current (kind_of w)) (is_good_value w) (and_from true (is_kind_of current (kind_of w)) refl known) good) s
 
-    alone-new : (w : Cut) → IsMadeValue content m w (record { handle = h; at = at }) → IsNewObject w d names.NoKey content h
-    alone-new w r =
+    alone-new : {w : Cut} → IsMadeValue content m w (record { handle = h; at = at }) → IsNewObject w d names.NoKey content h
+    alone-new {w} r =
         let took = block a g.taken m w Anonymous [] h at g.takes g.headed r in
         let x : Extent = took.extent in
         let o : Object = alone_in x r.value in
@@ -168,17 +168,17 @@ module _ (content : Content) where
               perform-new d (live d) ObjectRole (object_len [] (bare content)) (alone_plan next) x
               (ap (λ l. place l (object_len [] (bare content)) ObjectRole) (sym same) ∙ placed-at a g.taken m w Anonymous [] h at g.takes g.headed r)
               ∙ there.met (λ w. next (alone_in x w) (with_object d (alone_in x w)));
-          denotes = denotes-with current a w d o said made.good refl (subst (λ l. LaysOut current w.bytes (adding l (extents_of o))) same made.taken.live)
+          denotes = denotes-with a w said made.good refl (subst (λ l. LaysOut current w.bytes (adding l (extents_of o))) same made.taken.live)
               (subst (λ (l : LiveSet). Keeps a w l.extents) same made.taken.keeps) made.at;
         }
 
-    alone-denied : (w c : Cut) (why : Refusal) → IsNoValue content m w (record { handle = h; at = at }) why → IsRestored a c → IsNoObject c d names.NoKey content
-    alone-denied w c why r back =
-        let took = empty-taken a g.taken m r.empty kind Anonymous [] many long h at g.takes g.headed r.change in
+    alone-denied : {w c : Cut} {why : Refusal} → IsNoValue content m w (record { handle = h; at = at }) why → IsRestored a c → IsNoObject c d names.NoKey content
+    alone-denied {w} {c} r back =
+        let took = empty-taken g.takes g.headed r.change in
         let x : Extent = took.extent in
         let same : live_of a.bytes ≡ live d = denotes-live current a.bytes d said in
         let none : IsDenied d (resized (live d) x) content =
-        subst (λ l. IsDenied d (resized l x) content) same (subst (λ l. IsDenied d l content) (sym (placed-next a r.empty (room_for [] long) h took)) (r.denied d)) in
+        subst (λ l. IsDenied d (resized l x) content) same (subst (λ l. IsDenied d l content) (sym (placed-next took)) (r.denied d)) in
         record {
           refused = λ next.
               perform-new d (live d) ObjectRole (object_len [] (bare content)) (alone_plan next) x
@@ -190,45 +190,45 @@ module _ (content : Content) where
   -- ---- an entry is to lead there, or all is given back
 
   module _ (a m : Cut) (b : IsSegment a.bytes) (key : names.Key) (h at : ℕ) where
-    entry-taken : (w : Cut) (e : NewEntry) → (g : IsBegunEntry a m key kind many long h at e) → (r : IsMadeValue content m w (record { handle = h; at = at }))
+    entry-taken : {w : Cut} {e : NewEntry} → (g : IsBegunEntry a m key kind many long h at e) → (r : IsMadeValue content m w (record { handle = h; at = at }))
         → IsTaken g.requested.between w ((block g.requested.between g.taken m w (class_of_index e.index) g.name h at g.requested.takes g.headed r).extent ∷ value_extents r.value)
-    entry-taken w e g r = both-taken g.requested.between g.taken m w (class_of_index e.index) g.name h at g.requested.takes g.headed r
+    entry-taken {w} {e} g r = both-taken g.requested.between g.taken m w (class_of_index e.index) g.name h at g.requested.takes g.headed r
 
     -- what the index wants is there
-    entry-wanted : (w : Cut) (e : NewEntry) → IsBegunEntry a m key kind many long h at e → IsMadeValue content m w (record { handle = h; at = at }) → IsWanted w h e
-    entry-wanted w e g r =
+    entry-wanted : {w : Cut} {e : NewEntry} → IsBegunEntry a m key kind many long h at e → IsMadeValue content m w (record { handle = h; at = at }) → IsWanted w h e
+    entry-wanted {w} {e} g r =
         let i : Index = e.index in
         let mid : Cut = g.requested.between in
         let d : Directory = b.0 in
         let t = table_of i d in
         let hs : List ℕ = entries_of i d in
-        let x : IsIndexOf a (place_of i) t hs = denotes-index i a d b.1.denotes in
+        let x : IsIndexOf a (place_of i) t hs = denotes-index i a b.1.denotes in
         let took = block mid g.taken m w (class_of_index i) g.name h at g.requested.takes g.headed r in
-        let taken = entry-taken w e g r in
+        let taken = entry-taken g r in
         let grown : CanGrow mid (place_of i) e.growth.block = prepared a mid (place_of i) e.growth.block t hs x g.requested.grows (place_behind i) (place_small i) in
         let index : IsIndexOf w (place_of i) t hs =
-        taken-index mid w _ (place_of i) t hs taken (place_behind i) (place_small i) (growth-index i a mid e.growth.block t hs g.requested.grows x) in
+        taken-index w _ taken (place_behind i) (place_small i) (growth-index i mid e.growth.block g.requested.grows x) in
         let away = g.absent t hs x in
         record {
           index = record { table = t; handles = hs; index = index };
           growth = taken-growth mid w _ (place_of i) e.growth.block taken (place_behind i) (place_small i) grown;
           within = subst (λ n. e.place ≤ n) (sym index.stands.count) away.0;
-          aligned = requested-aligned mid r.empty (room_for g.name long) h took;
+          aligned = requested-aligned took;
         }
 
-    pub value-ready : (entry : Option NewEntry) (w : Cut) → IsBegun a m key kind many long h at entry → IsMadeValue content m w (record { handle = h; at = at }) → IsReadyFor w h entry
-    value-ready None w g r = tt
-    value-ready (Some e) w g r = entry-wanted w e g r
+    pub value-ready : (entry : Option NewEntry) {w : Cut} → IsBegun a m key kind many long h at entry → IsMadeValue content m w (record { handle = h; at = at }) → IsReadyFor w h entry
+    value-ready None g r = tt
+    value-ready (Some e) g r = entry-wanted g r
 
     pub value-loose : (entry : Option NewEntry) (w : Cut) (why : Refusal) → IsBegun a m key kind many long h at entry → IsNoValue content m w (record { handle = h; at = at }) why → IsLoose a w h entry
     value-loose None w why g r = record {
       len = room_for [] long;
       taken = w;
-      takes = restored-taken a r.empty w (room_for [] long) ObjectRole h (empty-taken a g.taken m r.empty kind Anonymous [] many long h at g.takes g.headed r.change) r.restored;
+      takes = restored-taken (empty-taken g.takes g.headed r.change) r.restored;
       change = unchanged w (live_of r.empty.bytes) h (room_for [] long) r.restored.laid;
     }
     value-loose (Some e) w why g r =
-        let x = denotes-index e.index a b.0 b.1.denotes in
+        let x = denotes-index e.index a b.1.denotes in
         let away = g.absent (table_of e.index b.0) (entries_of e.index b.0) x in
         let mid : Cut = g.requested.between in
         record {
@@ -237,7 +237,7 @@ module _ (content : Content) where
           requested = record {
             between = mid;
             grows = g.requested.grows;
-            takes = restored-taken mid r.empty w (room_for g.name long) ObjectRole h (empty-taken mid g.taken m r.empty kind (class_of_index e.index) g.name many long h at g.requested.takes g.headed r.change) r.restored;
+            takes = restored-taken (empty-taken g.requested.takes g.headed r.change) r.restored;
           };
           change = unchanged w (live_of r.empty.bytes) h (room_for g.name long) r.restored.laid;
           index = segment-index a e.index b;
@@ -246,66 +246,66 @@ module _ (content : Content) where
 
     -- ---- all directories
 
-    entry-place : (w c : Cut) (e : NewEntry) → IsBegunEntry a m key kind many long h at e → (r : IsMadeValue content m w (record { handle = h; at = at })) → IsEntryAdded w c h e → SamePlace a c
-    entry-place w c e g r added =
+    entry-place : {w c : Cut} {e : NewEntry} → IsBegunEntry a m key kind many long h at e → (r : IsMadeValue content m w (record { handle = h; at = at })) → IsEntryAdded w c h e → SamePlace a c
+    entry-place {w} {c} {e} g r added =
         let i : Index = e.index in
         let mid : Cut = g.requested.between in
-        let q = (entry-wanted w e g r).index in
+        let q = (entry-wanted g r).index in
         SamePlace-trans a mid c (growth-place a mid (place_of i) e.growth.block g.requested.grows)
-        (SamePlace-trans mid w c (entry-taken w e g r).keeps.place (keeps-place w c (place_of i) q.table e.growth.block (added.keeps q.table q.handles q.index)))
+        (SamePlace-trans mid w c (entry-taken g r).keeps.place (keeps-place w c (place_of i) q.table e.growth.block (added.keeps q.table q.handles q.index)))
 
     -- it is made
-    value-made : (w : Cut) (e : NewEntry) (c : Cut) → IsBegunEntry a m key kind many long h at e → IsMadeValue content m w (record { handle = h; at = at }) → IsEntryAdded w c h e → IsMadeNow a c key content h
-    value-made w e c g r added = record {
-      place = entry-place w c e g r added;
-      each = λ d st. (absent a m key h at e g d st.denotes, entry-new a m key h at e g d st.denotes w c r added);
+    value-made : {w : Cut} {e : NewEntry} {c : Cut} → IsBegunEntry a m key kind many long h at e → IsMadeValue content m w (record { handle = h; at = at }) → IsEntryAdded w c h e → IsMadeNow a c key content h
+    value-made g r added = record {
+      place = entry-place g r added;
+      each = λ d st. (absent g st.denotes, entry-new g st.denotes r added);
     }
 
-    value-refused : (w : Cut) (e : NewEntry) (c : Cut) (why : Refusal) → IsBegunEntry a m key kind many long h at e → IsNoValue content m w (record { handle = h; at = at }) why → IsRestored a c → IsMadeNever a c key content
-    value-refused w e c why g r back = record {
+    value-refused : {w : Cut} {e : NewEntry} {c : Cut} {why : Refusal} → IsBegunEntry a m key kind many long h at e → IsNoValue content m w (record { handle = h; at = at }) why → IsRestored a c → IsMadeNever a c key content
+    value-refused g r back = record {
       place = back.keeps.place;
-      each = λ d st. (absent a m key h at e g d st.denotes, entry-denied a m key h at e g d st.denotes w c why r back);
+      each = λ d st. (absent g st.denotes, entry-denied g st.denotes r back);
     }
 
   -- the same of an object without a key
   module _ (a m : Cut) (h at : ℕ) (g : IsBegunAlone a m names.NoKey kind many long h at) where
-    alone-made : (w : Cut) → IsMadeValue content m w (record { handle = h; at = at }) → IsMadeNow a w names.NoKey content h
-    alone-made w r = record {
+    alone-made : {w : Cut} → IsMadeValue content m w (record { handle = h; at = at }) → IsMadeNow a w names.NoKey content h
+    alone-made {w} r = record {
       place = (both-taken a g.taken m w Anonymous [] h at g.takes g.headed r).keeps.place;
-      each = λ d st. (no_key-none d.objects, alone-new a m h at g d st.denotes w r);
+      each = λ d st. (no_key-none d.objects, alone-new a m h at g d st.denotes r);
     }
 
-    alone-refused : (w c : Cut) (why : Refusal) → IsNoValue content m w (record { handle = h; at = at }) why → IsRestored a c → IsMadeNever a c names.NoKey content
-    alone-refused w c why r back = record {
+    alone-refused : {w c : Cut} {why : Refusal} → IsNoValue content m w (record { handle = h; at = at }) why → IsRestored a c → IsMadeNever a c names.NoKey content
+    alone-refused r back = record {
       place = back.keeps.place;
-      each = λ d st. (no_key-none d.objects, alone-denied a m h at g d st.denotes w c why r back);
+      each = λ d st. (no_key-none d.objects, alone-denied a m h at g d st.denotes r back);
     }
 
   -- the same whatever the key
   module _ (a m : Cut) (b : IsSegment a.bytes) (key : names.Key) (h at : ℕ) where
-    pub value-built : (entry : Option NewEntry) (w c : Cut) → IsBegun a m key kind many long h at entry → IsMadeValue content m w (record { handle = h; at = at }) → LeadsThere w c h entry → IsMadeNow a c key content h
-    value-built None w c g r same =
+    pub value-built : (entry : Option NewEntry) {w : Cut} (c : Cut) → IsBegun a m key kind many long h at entry → IsMadeValue content m w (record { handle = h; at = at }) → LeadsThere w c h entry → IsMadeNow a c key content h
+    value-built None c g r same =
         subst (λ (q : names.Key). IsMadeNow a c q content h) (sym g.is)
-        (subst (λ (s : Cut). IsMadeNow a s names.NoKey content h) (sym same) (alone-made a m h at (record { is = refl; taken = g.taken; takes = g.takes; headed = g.headed }) w r))
-    value-built (Some e) w c g r added = value-made a m b key h at w e c g r added
+        (subst (λ (s : Cut). IsMadeNow a s names.NoKey content h) (sym same) (alone-made a m h at (record { is = refl; taken = g.taken; takes = g.takes; headed = g.headed }) r))
+    value-built (Some e) c g r added = value-made a m b key h at g r added
 
-    pub value-not_built : (entry : Option NewEntry) (w c : Cut) (why : Refusal) → IsBegun a m key kind many long h at entry → IsNoValue content m w (record { handle = h; at = at }) why → GivesAllBack w c h entry → IsMadeNever a c key content
-    value-not_built None w c why g r gives =
+    pub value-not_built : (entry : Option NewEntry) {w : Cut} (c : Cut) {why : Refusal} → IsBegun a m key kind many long h at entry → IsNoValue content m w (record { handle = h; at = at }) why → GivesAllBack w c h entry → IsMadeNever a c key content
+    value-not_built None {w} c {why} g r gives =
         let back : IsRestored a c = gives a (value-loose a m b key h at None w why g r) in
-        subst (λ (q : names.Key). IsMadeNever a c q content) (sym g.is) (alone-refused a m h at (record { is = refl; taken = g.taken; takes = g.takes; headed = g.headed }) w c why r back)
-    value-not_built (Some e) w c why g r gives = value-refused a m b key h at w e c why g r (gives a (value-loose a m b key h at (Some e) w why g r))
+        subst (λ (q : names.Key). IsMadeNever a c q content) (sym g.is) (alone-refused a m h at (record { is = refl; taken = g.taken; takes = g.takes; headed = g.headed }) r back)
+    value-not_built (Some e) {w} c {why} g r gives = value-refused a m b key h at g r (gives a (value-loose a m b key h at (Some e) w why g r))
 
 -- ---- it is not begun
 
 module _ (a : Cut) (key : names.Key) (content : Content) where
   -- an object has the key
-  pub key-taken : (c : Cut) → (t : IsTakenKey a c key (kind_of (bare content))) → (d : Directory) → StandsFor a.bytes d → (o : Object) × (object_at d key ≡ Some o)
-  key-taken c t d st =
-      let f = lookup-found t.index a d t.entry key st.denotes (key-seeks t.index t.entry key t.name (kind_of (bare content)) t.is) t.place (t.found (table_of t.index d) (entries_of t.index d) (denotes-index t.index a d st.denotes)) in
+  pub key-taken : {c : Cut} → (t : IsTakenKey a c key (kind_of (bare content))) → (d : Directory) → StandsFor a.bytes d → (o : Object) × (object_at d key ≡ Some o)
+  key-taken t d st =
+      let f = lookup-found t.index a t.entry key st.denotes (key-seeks t.index t.entry key t.name (kind_of (bare content)) t.is) t.place (t.found (table_of t.index d) (entries_of t.index d) (denotes-index t.index a st.denotes)) in
       (f.object, f.is)
 
-  none-alone : (c : Cut) → IsRefused a c (room_for [] (value_len (bare content))) ObjectRole → IsMadeNever a c names.NoKey content
-  none-alone c r = record {
+  none-alone : {c : Cut} → IsRefused a c (room_for [] (value_len (bare content))) ObjectRole → IsMadeNever a c names.NoKey content
+  none-alone r = record {
     place = subst (SamePlace a) (sym r.same) (record { before = refl; after = refl });
     each = λ d st. (
       no_key-none d.objects,
@@ -318,11 +318,11 @@ module _ (a : Cut) (key : names.Key) (content : Content) where
     );
   }
 
-  none-entry : (c : Cut) → IsUnmetEntry a c key (kind_of (bare content)) (value_len (bare content)) → IsMadeNever a c key content
-  none-entry c u = record {
+  none-entry : {c : Cut} → IsUnmetEntry a c key (kind_of (bare content)) (value_len (bare content)) → IsMadeNever a c key content
+  none-entry {c} u = record {
     place = u.unmet.restored.keeps.place;
     each = λ d st. (
-      (lookup-absent u.index a d u.entry key st.denotes (key-seeks u.index u.entry key u.name (kind_of (bare content)) u.is) u.place (away-in u.index a d u.entry u.place st.denotes u.absent)).none,
+      (lookup-absent u.index a u.entry key st.denotes (key-seeks u.index u.entry key u.name (kind_of (bare content)) u.is) u.place (away-in u.index a u.entry u.place st.denotes u.absent)).none,
       record {
         refused = λ next. content-none u.index a d u.entry key u.name (kind_of (bare content)) content st.denotes u.is next (room_for u.name (value_len (bare content))) refl u.unmet.none;
         denotes = restored-denotes a c d st.denotes u.unmet.restored;
@@ -332,5 +332,5 @@ module _ (a : Cut) (key : names.Key) (content : Content) where
 
   -- a block is refused
   pub value-not_begun : (c : Cut) → IsNotBegun a c key (kind_of (bare content)) (value_len (bare content)) NoSpace → IsMadeNever a c key content
-  value-not_begun c (inl r) = subst (λ (q : names.Key). IsMadeNever a c q content) (sym r.0) (none-alone c r.1)
-  value-not_begun c (inr u) = none-entry c u
+  value-not_begun c (inl r) = subst (λ (q : names.Key). IsMadeNever a c q content) (sym r.0) (none-alone r.1)
+  value-not_begun c (inr u) = none-entry u

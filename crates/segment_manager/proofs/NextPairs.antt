@@ -57,22 +57,22 @@ module _ (s : State) (h : ℕ) (k v : ScalarKind) (i : ℕ) where
       ∙ ap (λ (m : ℕ). option_map (item_of_kinds k v) (option_map item_of (slice_get ps m))) more
 
   module _ (x y : ScalarValue) (n : IsNext s h k v (Some (x, y)) i) where
-    pair-there : (d : Directory) → StandsFor s.cut.bytes d → IsPair k v x y (slice_get (pairs_at d (ByHandle h)) i)
-    pair-there d l = pair-if k v x y (slice_get (pairs_at d (ByHandle h)) i) (n d l)
+    pair-there : {d : Directory} → StandsFor s.cut.bytes d → IsPair k v x y (slice_get (pairs_at d (ByHandle h)) i)
+    pair-there {d} l = pair-if k v x y (slice_get (pairs_at d (ByHandle h)) i) (n d l)
 
     -- what is written of it
     pub pair-said : (text : Item → List ℕ) (d : Directory) → StandsFor s.cut.bytes d → text (item_seen (x, y)) ≡ part text d
-    pair-said text d l = let p = pair-there d l in ap text p.same ∙ sym (ap (part_of (λ q. text (item_of_kinds k v (item_of q)))) p.is)
+    pair-said text d l = let p = pair-there l in ap text p.same ∙ sym (ap (part_of (λ q. text (item_of_kinds k v (item_of q)))) p.is)
 
     -- its key is of the kind of the keys
     pub map-of-key : IsMap s (ByHandle h) k v → IsMap s (ByHandle h) (kind_of_scalar x) v
-    map-of-key m = record { answers = λ d l. let p = pair-there d l in let same : kind_of_scalar x ≡ k = ap (λ t. t.0.0) p.same in (λ j. Ok (Map (same j) v)) ∙ m.answers d l }
+    map-of-key m = record { answers = λ d l. let p = pair-there l in let same : kind_of_scalar x ≡ k = ap (λ t. t.0.0) p.same in (λ j. Ok (Map (same j) v)) ∙ m.answers d l }
 
     -- above it comes the one at the next place
     pub next-behind : (o : Option (ScalarValue × ScalarValue))
         → Answers s (λ d. option_map (item_of_kinds (kind_of_scalar x) v) (pair_above (value_of_scalar x) (pairs_at d (ByHandle h)))) (option_map item_seen o) → IsNext s h k v o (i + 1)
     next-behind o a d l =
-        let p = pair-there d l in
+        let p = pair-there l in
         let kinds : kind_of_scalar x ≡ k = ap (λ t. t.0.0) p.same in
         let keys : value_of_scalar x ≡ p.pair.key = ap (λ t. t.0.1) p.same in
         a.answers d l ∙ (λ j. option_map (item_of_kinds (kinds j) v) (pair_above (keys j) (pairs_at d (ByHandle h))))

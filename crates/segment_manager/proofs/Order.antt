@@ -54,14 +54,14 @@ found-each n (z ∷ zs) r = (
 
 -- ---- taking out
 
-others-if : (b : Bool) (x z : Extent) (zs ws : List Extent) → x.offset ≢ z.offset → others (handle x) ws ≡ zs → others (handle x) (if b then x ∷ z ∷ zs else z ∷ ws) ≡ z ∷ zs
-others-if true x z zs ws n e = others-here (handle x) x (z ∷ zs) refl
-others-if false x z zs ws n e = others-past (handle x) z ws (λ f. n (omega (arith, f))) ∙ ap (λ vs. z ∷ vs) e
+others-if : (b : Bool) (x z : Extent) {zs : List Extent} (ws : List Extent) → x.offset ≢ z.offset → others (handle x) ws ≡ zs → others (handle x) (if b then x ∷ z ∷ zs else z ∷ ws) ≡ z ∷ zs
+others-if true x z {zs} ws n e = others-here (handle x) x (z ∷ zs) refl
+others-if false x z ws n e = others-past (handle x) z ws (λ f. n (omega (arith, f))) ∙ ap (λ vs. z ∷ vs) e
 
 -- what was put in is what is taken out
 pub others-insert : (x : Extent) (zs : List Extent) → Differs x zs → others (handle x) (insert x zs) ≡ zs
 others-insert x [] n = others-here (handle x) x [] refl
-others-insert x (z ∷ zs) n = others-if (nat_lt x.offset z.offset) x z zs (insert x zs) n.0 (others-insert x zs n.1)
+others-insert x (z ∷ zs) n = others-if (nat_lt x.offset z.offset) x z (insert x zs) n.0 (others-insert x zs n.1)
 
 -- an extent that begins nowhere else is added as it is resized to
 pub others-none : (h : ℕ) (zs : List Extent) → AllByRecursion (λ (z : Extent). handle z ≢ h) zs → others h zs ≡ zs

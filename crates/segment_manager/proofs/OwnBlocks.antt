@@ -176,8 +176,8 @@ pub table-of : (t : Table) (os : List Object) (lt : Object → Object → Bool) 
 table-of t os lt e = first (is_table Index 8 t) (nat_le (length os) t.capacity) (first (is_table Index 8 t && nat_le (length os) t.capacity) (rises lt os) e)
 
 -- the handle is an object's exactly where a block of it is in use for an object
-pub handle-is-object : (format : ℕ) (d : Directory) (h : ℕ) → IsDirectory format d → list_any (is_object_block h) (live d).extents ≡ is_some (object_at d (ByHandle h))
-handle-is-object format d h k =
+pub handle-is-object : {format : ℕ} {d : Directory} (h : ℕ) → IsDirectory format d → list_any (is_object_block h) (live d).extents ≡ is_some (object_at d (ByHandle h))
+handle-is-object {format} {d} h k =
     any-live (is_object_block h) h d (objects-told format h d.objects k.objects)
     (none-append (is_object_block h) (table_extents d.named) (table_extents d.unique)
     (index-none h 8 d.named.capacity d.named.extent (table-of d.named (named_objects d) by_name k.named))
@@ -290,16 +290,16 @@ objects-taken format [] e = tt
 objects-taken format (o ∷ os) e =
     (object-taken format o (first (is_object format o) (list_all (is_object format) os) e), objects-taken format os (second (is_object format o) (list_all (is_object format) os) e))
 
-tables-none : (format : ℕ) (d : Directory) → IsDirectory format d → NonePasses is_own (tables_of d)
-tables-none format d k = none-own (tables_of d) (λ h.
+tables-none : {format : ℕ} {d : Directory} → IsDirectory format d → NonePasses is_own (tables_of d)
+tables-none {d} k = none-own (tables_of d) (λ h.
     none-append (is_object_block h) (table_extents d.named) (table_extents d.unique)
     (index-none h 8 d.named.capacity d.named.extent (table-of d.named (named_objects d) by_name k.named))
     (index-none h 8 d.unique.capacity d.unique.extent (table-of d.unique (unique_objects d) by_kind k.unique)))
 
 -- the blocks of objects are theirs, in their order
-pub own-blocks : (format : ℕ) (d : Directory) → IsDirectory format d → filter is_own (live d).extents ≡ blocks d.objects
-own-blocks format d k =
-    ap (filter is_own) (live-extents d) ∙ own-spread is_own 0 d.objects (tables_of d) k.by_offset (objects-taken format d.objects k.objects) (tables-none format d k)
+pub own-blocks : {format : ℕ} {d : Directory} → IsDirectory format d → filter is_own (live d).extents ≡ blocks d.objects
+own-blocks {format} {d} k =
+    ap (filter is_own) (live-extents d) ∙ own-spread is_own 0 d.objects (tables_of d) k.by_offset (objects-taken format d.objects k.objects) (tables-none k)
 
 -- ---- among the blocks and gaps
 
@@ -316,15 +316,15 @@ no-gap a b ss =
     filter-append is_own_span (span_between a b) ss
     ∙ ap (λ (gone : List Span). gone ++ filter is_own_span ss) (gap-if (nat_lt a b) (record { offset = a; len = b - a; use_of = None }) refl)
 
-used-if : (b : Bool) (x : Extent) (xs : List Extent) (ss : List Span) → ss ≡ map as_used xs → cond b (as_used x ∷ ss) ss ≡ map as_used (cond b (x ∷ xs) xs)
-used-if true x xs ss e = ap (λ (rest : List Span). as_used x ∷ rest) e
-used-if false x xs ss e = e
+used-if : (b : Bool) (x : Extent) (xs : List Extent) {ss : List Span} → ss ≡ map as_used xs → cond b (as_used x ∷ ss) ss ≡ map as_used (cond b (x ∷ xs) xs)
+used-if true x xs e = ap (λ (rest : List Span). as_used x ∷ rest) e
+used-if false x xs e = e
 
 spans-own : (from : ℕ) (xs : List Extent) (to : ℕ) → filter is_own_span (spans_from from xs to) ≡ map as_used (filter is_own xs)
 spans-own from [] to = gap-if (nat_lt from to) (record { offset = from; len = to - from; use_of = None }) refl
 spans-own from (x ∷ xs) to =
     no-gap from x.offset (as_used x ∷ spans_from (end_of x) xs to)
-    ∙ used-if (is_own x) x (filter is_own xs) (filter is_own_span (spans_from (end_of x) xs to)) (spans-own (end_of x) xs to)
+    ∙ used-if (is_own x) x (filter is_own xs) (spans-own (end_of x) xs to)
 
-pub all-own_spans : (format : ℕ) (d : Directory) → IsDirectory format d → own_spans d ≡ map as_used (blocks d.objects)
-all-own_spans format d k = spans-own 128 (live d).extents ((live d).size - 16) ∙ ap (map as_used) (own-blocks format d k)
+pub all-own_spans : {format : ℕ} {d : Directory} → IsDirectory format d → own_spans d ≡ map as_used (blocks d.objects)
+all-own_spans {d} k = spans-own 128 (live d).extents ((live d).size - 16) ∙ ap (map as_used) (own-blocks k)

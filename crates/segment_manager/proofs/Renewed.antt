@@ -101,8 +101,8 @@ pub record StaysButVersion (m m' : Memory) (d : Directory) : Type 0 where
   pub behind : Same m m' 32 128
   pub blocks : AllByRecursion (SameBlock m m') (live d).extents
 
-header-later : (format : ℕ) (m m' : Memory) (d : Directory) → StaysButVersion m m' d → IsHeader format m d.size → IsHeader current m' d.size
-header-later format m m' d s h = record {
+header-later : {format : ℕ} {m m' : Memory} {d : Directory} → StaysButVersion m m' d → IsHeader format m d.size → IsHeader current m' d.size
+header-later {m} {m'} s h = record {
   magic = Same-word m m' 0 8 0 s.magic (omega arith) (omega arith) ∙ h.magic;
   version = s.version;
   size_word = Same-word m m' 16 24 16 s.size (omega arith) (omega arith) ∙ h.size_word;
@@ -116,9 +116,9 @@ denotes-later format old new d h s l =
     let blocks : OfEach (SameBlock m m') d = of_each (SameBlock m m') d s.blocks in
     record {
       directory = directory-later format d h.directory;
-      header = header-later format m m' d s h.header;
+      header = header-later s h.header;
       heap = l;
-      named = index-stays m m' 32 d.named (named_objects d) by_name h.directory.named (Same-part m m' 32 128 32 56 s.behind (omega arith) (omega arith)) blocks.named h.named;
-      unique = index-stays m m' 56 d.unique (unique_objects d) by_kind h.directory.unique (Same-part m m' 32 128 56 80 s.behind (omega arith) (omega arith)) blocks.unique h.unique;
+      named = index-stays (named_objects d) by_name h.directory.named (Same-part m m' 32 128 32 56 s.behind (omega arith) (omega arith)) blocks.named h.named;
+      unique = index-stays (unique_objects d) by_kind h.directory.unique (Same-part m m' 32 128 56 80 s.behind (omega arith) (omega arith)) blocks.unique h.unique;
       objects = any_objects-same format m m' d.objects h.directory.objects blocks.objects h.objects;
     }

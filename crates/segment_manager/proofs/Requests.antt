@@ -32,8 +32,8 @@ entry-full i d next h =
     entry-of i d next ∙ ap (λ b. if b then next (with_table_of i d (table_of i d)) else grows i d next) (le-ltb (length (objects_of i d)) (table_of i d).capacity h)
 
 -- a new block adds to the live set
-pub placed-added : (l : LiveSet) (n : ℕ) (role : Role) (x : Extent) → IsTrue (is_proper l) → place l n role ≡ Some x → resized l x ≡ added l x
-placed-added l n role x h e =
+pub placed-added : (l : LiveSet) (n : ℕ) (role : Role) {x : Extent} → IsTrue (is_proper l) → place l n role ≡ Some x → resized l x ≡ added l x
+placed-added l n role {x} h e =
     let f : IsFresh 128 x l.extents = rising-insert 128 x l.extents (live-rises (added l x) (placed_is_proper l n role x h e)) in
     resized-fresh l x f.differs
 
@@ -42,13 +42,13 @@ abbrev pub growth_bytes : Index → Directory → ℕ
 growth_bytes i d = 8 * grown_capacity (table_of i d).capacity
 
 -- there is none, and a block for more of them is there
-pub entry-grows : (i : Index) (d : Directory) (next : Directory → Plan) (x : Extent) → IsTrue (is_proper (live d)) → (table_of i d).capacity ≤ length (objects_of i d)
+pub entry-grows : (i : Index) (d : Directory) (next : Directory → Plan) {x : Extent} → IsTrue (is_proper (live d)) → (table_of i d).capacity ≤ length (objects_of i d)
     → place (live d) (growth_bytes i d) IndexRole ≡ Some x
     → perform d (live d) (with_entry d (class_of_index i) next) ≡ perform d (added (live d) x) (next (with_table_of i d (grown_into i d x)))
-entry-grows i d next x h full e =
+entry-grows i d next {x} h full e =
     ap (perform d (live d)) (entry-full i d next full)
     ∙ perform-new d (live d) IndexRole (growth_bytes i d) (λ x. next (with_table_of i d (grown_into i d x))) x e
-    ∙ ap (λ l. perform d l (next (with_table_of i d (grown_into i d x)))) (placed-added (live d) (growth_bytes i d) IndexRole x h e)
+    ∙ ap (λ l. perform d l (next (with_table_of i d (grown_into i d x)))) (placed-added (live d) (growth_bytes i d) IndexRole h e)
 
 -- or it is not
 pub entry-refused : (i : Index) (d : Directory) (next : Directory → Plan) → (table_of i d).capacity ≤ length (objects_of i d) → place (live d) (growth_bytes i d) IndexRole ≡ None

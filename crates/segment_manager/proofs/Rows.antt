@@ -30,19 +30,19 @@ module _ {X : Type 0} (f : X → List ℕ) (n : ℕ) (each : (x : X) → length 
   moved m at to bytes e h = subst (λ a. Has m a bytes) e h
 
   -- each element stands in its place
-  pub Has-element : (m : Memory) (at : ℕ) (xs : List X) (i : ℕ) (x : X) → Has m at (flat_map f xs) → slice_get xs i ≡ Some x → Has m (at + n * i) (f x)
-  Has-element m at [] i x h e = absurd (cc)
-  Has-element m at (y ∷ ys) zero x h e =
+  pub Has-element : (m : Memory) (at : ℕ) (xs : List X) (i : ℕ) {x : X} → Has m at (flat_map f xs) → slice_get xs i ≡ Some x → Has m (at + n * i) (f x)
+  Has-element m at [] i h e = absurd (cc)
+  Has-element m at (y ∷ ys) zero {x} h e =
       let same : y ≡ x = cc in
       subst (λ z. Has m (at + n * 0) (f z)) same (moved m at (at + n * 0) (f y) (omega arith) (Has-front m at (f y) (flat_map f ys) h))
-  Has-element m at (y ∷ ys) (suc i) x h e =
+  Has-element m at (y ∷ ys) (suc i) {x} h e =
       let len : length (f y) ≡ n = each y in
-      moved m (at + length (f y) + n * i) (at + n * suc i) (f x) (omega arith) (Has-element m (at + length (f y)) ys i x (Has-behind m at (f y) (flat_map f ys) h) e)
+      moved m (at + length (f y) + n * i) (at + n * suc i) (f x) (omega arith) (Has-element m (at + length (f y)) ys i (Has-behind m at (f y) (flat_map f ys) h) e)
 
   -- one element is written in its place
-  pub Has-set : (m m' : Memory) (at : ℕ) (xs : List X) (i : ℕ) (x : X) → Has m at (flat_map f xs) → i < length xs → SameBut m m' (at + n * i) n → Has m' (at + n * i) (f x)
+  pub Has-set : {m m' : Memory} (at : ℕ) (xs : List X) (i : ℕ) (x : X) → Has m at (flat_map f xs) → i < length xs → SameBut m m' (at + n * i) n → Has m' (at + n * i) (f x)
       → Has m' at (flat_map f (slice_set xs i x))
-  Has-set m m' at xs i x h l s w =
+  Has-set {m} {m'} at xs i x h l s w =
       let within : n * suc i ≤ n * length xs = mul-le-mul_left n (omega arith) in
       let fits : n * i + length (f x) ≤ length (flat_map f xs) = omega (arith, within, each x, flat-length xs) in
       subst (Has m' at) (flat-set n (λ (y : X). true) f (λ y e. each y) xs i x (all-true xs) l refl)

@@ -40,41 +40,41 @@ asked-keeps d h (Some x) after here k = k x
 
 module _ (d : Directory) (h : ℕ) (here : is_object_at d h ≡ true) where
   -- a plan that leaves the directory, or one of its objects another value, keeps each object
-  perform-keeps : (changing other : Bool) → other ≡ false → (l : LiveSet) (p : Plan) → Leaves d changing other p → is_object_at (perform d l p).1 h ≡ true
-  perform-keeps changing other e l p by_refusal = here
-  perform-keeps changing other e l p by_same = here
-  perform-keeps changing other e l p (by_change o k) = replace-keeps h o d.objects here
-  perform-keeps changing other e l p (by_other k) = absurd (false≢true (sym e))
-  perform-keeps changing other e l p (by_request {need = need} {next = next} k) =
-      asked-keeps d h (met l need) (λ x. perform d (resized l x) (next x)) here (λ x. perform-keeps changing other e (resized l x) (next x) (k x))
+  perform-keeps : (changing : Bool) {other : Bool} → other ≡ false → (l : LiveSet) (p : Plan) → Leaves d changing other p → is_object_at (perform d l p).1 h ≡ true
+  perform-keeps changing e l p by_refusal = here
+  perform-keeps changing e l p by_same = here
+  perform-keeps changing e l p (by_change o k) = replace-keeps h o d.objects here
+  perform-keeps changing e l p (by_other k) = absurd (false≢true (sym e))
+  perform-keeps changing e l p (by_request {need = need} {next = next} k) =
+      asked-keeps d h (met l need) (λ x. perform d (resized l x) (next x)) here (λ x. perform-keeps changing e (resized l x) (next x) (k x))
 
   step-keeps : (mode : Mode) (c : Command) → is_elementwise c ≡ true → is_object_at (step mode d c).1 h ≡ true
   unfolding step
-  step-keeps mode c e = perform-keeps _ _ (ap not e) (live d) (plan mode d c) (plan-leaves mode d c)
+  step-keeps mode c e = perform-keeps _ (ap not e) (live d) (plan mode d c) (plan-leaves mode d c)
 
   step_of_kind-keeps : (mode : Mode) (key : Key) (kind : Kind) (c : Command) → is_elementwise c ≡ true → is_object_at (step_of_kind mode d key kind c).1 h ≡ true
   unfolding step_of_kind
-  step_of_kind-keeps mode key kind c e = perform-keeps _ _ (ap not e) (live d) _ (plan_of_kind-leaves mode d key kind c)
+  step_of_kind-keeps mode key kind c e = perform-keeps _ (ap not e) (live d) _ (plan_of_kind-leaves mode d key kind c)
 
 -- ---- segments
 
 -- what a segment has at a handle is what one of its directories has there
-moved-keeps : {A : Type 0} (old new : State) (answer : A) (next : Directory → A × Directory) → IsSegment old.cut.bytes → Moves old new answer next
+moved-keeps : {A : Type 0} {old new : State} {answer : A} {next : Directory → A × Directory} → IsSegment old.cut.bytes → Moves old new answer next
     → ((d : Directory) (h : ℕ) → is_object_at d h ≡ true → is_object_at (next d).1 h ≡ true) → KeepsObjects old new
-moved-keeps old new answer next g m keeps o is =
+moved-keeps g m keeps o is =
     record {
       answers = λ e k.
           let there = m.denotes g.0 g.1 in
-          sym (object-passes new.cut.bytes e o.handle k.denotes ∙ sym (object-passes new.cut.bytes (next g.0).1 o.handle there.denotes) ∙ keeps g.0 o.handle (sym (is.answers g.0 g.1)));
+          sym (object-passes o.handle k.denotes ∙ sym (object-passes o.handle there.denotes) ∙ keeps g.0 o.handle (sym (is.answers g.0 g.1)));
     }
 
 pub objects_stay : ObjectsStay
 objects_stay = record {
-  any = λ old new c answer g e m. moved-keeps old new answer (λ d. step old.mode d c) g m (λ d h here. step-keeps d h here old.mode c e);
-  of_kind = λ old new key kind c answer g e m. moved-keeps old new answer (λ d. step_of_kind old.mode d key kind c) g m (λ d h here. step_of_kind-keeps d h here old.mode key kind c e);
+  any = λ old new c answer g e m. moved-keeps g m (λ d h here. step-keeps d h here old.mode c e);
+  of_kind = λ old new key kind c answer g e m. moved-keeps g m (λ d h here. step_of_kind-keeps d h here old.mode key kind c e);
 }
 
 -- the same of a call that answers less than the machine
 pub leads_on-stay : (old new : State) (key : Key) (kind : Kind) (c : Command) (why : Option Refusal) → IsSegment old.cut.bytes → is_elementwise c ≡ true → LeadsOnOfKind old new key kind c why → KeepsObjects old new
 leads_on-stay old new key kind c why g e m =
-    moved-keeps old new why (λ d. (refusal_of (step_of_kind old.mode d key kind c).0, (step_of_kind old.mode d key kind c).1)) g m (λ d h here. step_of_kind-keeps d h here old.mode key kind c e)
+    moved-keeps g m (λ d h here. step_of_kind-keeps d h here old.mode key kind c e)

@@ -51,19 +51,19 @@ pub same-objects : (i : Index) (d : Directory) (t : Table) → (with_table_of i 
 same-objects index.Named d t = refl
 same-objects index.Unique d t = refl
 
-pub has-one : (i : Index) (b : List ℕ) (d : Directory) → Denotes current b d → HasOne i (bytes_of b) d
-has-one index.Named b d k = record { is = k.directory.named; at = k.named }
-has-one index.Unique b d k = record { is = k.directory.unique; at = k.unique }
+pub has-one : (i : Index) {b : List ℕ} {d : Directory} → Denotes current b d → HasOne i (bytes_of b) d
+has-one index.Named k = record { is = k.directory.named; at = k.named }
+has-one index.Unique k = record { is = k.directory.unique; at = k.unique }
 
 pub place-high : (i : Index) → place_of i + 24 ≤ 80
 place-high index.Named = omega arith
 place-high index.Unique = omega arith
 
 -- the directory with the object is what the new bytes denote
-pub entered-denotes : (i : Index) (a b c : Cut) (d : Directory) (t : Table) (o : Object) → Denotes current a.bytes d → Keeps a b (live d).extents
+pub entered-denotes : {i : Index} (a : Cut) {b c : Cut} {d : Directory} {t : Table} {o : Object} → Denotes current a.bytes d → Keeps a b (live d).extents
     → IsTrue (is_object current o) → IsObjectAt (bytes_of b.bytes) o → o.class ≡ class_of_index i → object_at d (key_in i o) ≡ None
     → IsEntered i b c d t o → Denotes current c.bytes (with_object (with_table_of i d t) o)
-entered-denotes i a b c d t o k keeps good at class none e =
+entered-denotes {i} a {b} {c} {d} {t} {o} k keeps good at class none e =
     let A : Memory = bytes_of a.bytes in
     let B : Memory = bytes_of b.bytes in
     let C : Memory = bytes_of c.bytes in
@@ -78,27 +78,27 @@ entered-denotes i a b c d t o k keeps good at class none e =
       other_table = blocks-trans A B C _ before.other_table after.other_table;
     } in
     let words : Same A C (place_of (other i)) (place_of (other i) + 24) =
-    other-words i A C (Same-trans A B C 32 (place_of i) (Same-part A B 32 128 32 (place_of i) keeps.behind (omega arith) (omega arith)) e.before)
+    other-words i (Same-trans A B C 32 (place_of i) (Same-part A B 32 128 32 (place_of i) keeps.behind (omega arith) (omega arith)) e.before)
     (Same-trans A B C (place_of i + 24) 128 (Same-part A B 32 128 (place_of i + 24) 128 keeps.behind (omega arith) (omega arith)) e.behind) in
-    let one : HasOne (other i) C d = other-stays i A C d (has-one (other i) a.bytes d k) words all.other_table in
+    let one : HasOne (other i) C d = other-stays i (has-one (other i) k) words all.other_table in
     let own : HasOne i C (with_object (with_table_of i d t) o) =
-    entered-own i C d t o class none (has-one i a.bytes d k).is e.stands.places e.stands.few e.stands.stands in
+    entered-own i d o class none (has-one i k).is e.stands.places e.stands.few e.stands.stands in
     let front : KeepsFront A C = record {
       front = Same-trans A B C 0 24 keeps.front e.front;
       zeros = Same-trans A B C 80 128 (Same-part A B 32 128 80 128 keeps.behind (omega arith) (omega arith)) (Same-part B C (place_of i + 24) 128 80 128 e.behind (omega arith) (omega arith));
     } in
-    denotes-put current a.bytes c.bytes d (with_table_of i d t) o k (same-size i d t) (same-objects i d t) good e.laid front all.objects
-    (has_both i C (with_object (with_table_of i d t) o) own (entered-other i C d t o class one))
-    (any_object-same current B C o good parts.0 at)
+    denotes-put c.bytes (with_table_of i d t) k (same-size i d t) (same-objects i d t) good e.laid front all.objects
+    (has_both i own (entered-other i t o class one))
+    (any_object-same current C good parts.0 at)
 
 -- ---- after `prepare`, the making of an object, and `add`
 
 -- the index had a place left
-pub entered-none : (i : Index) (a b c : Cut) (d : Directory) (o : Object) (at : ℕ) → Denotes current a.bytes d → IsMade a b o
+pub entered-none : (i : Index) (a : Cut) {b : Cut} (c : Cut) {d : Directory} (o : Object) (at : ℕ) → Denotes current a.bytes d → IsMade a b o
     → IsIndexOf b (place_of i) (table_of i d) (entries_of i d) → insert (entries_of i d) at (handle o.extent) ≡ entries_of i (with_object d o)
     → Adds b c (place_of i) (table_of i d) (insert (entries_of i d) at (handle o.extent)) None → LaysOut current c.bytes (live_of b.bytes)
     → AddKeeps b c (place_of i) (table_of i d) None → IsEntered i b c d (table_of i d) o
-entered-none i a b c d o at k m x e adds laid keeps =
+entered-none i a {b} c {d} o at k m x e adds laid keeps =
     let ys : List Extent = extents_of o in
     let same : live_of b.bytes ≡ adding (live d) ys = taken-live a b (extents_of o) m.taken ∙ ap (λ l. adding l ys) (denotes-live current a.bytes d k) in
     let laid' : LaysOut current c.bytes (adding (live d) ys) = subst (LaysOut current c.bytes) same laid in
@@ -118,11 +118,11 @@ abbrev pub grown_into : Index → Directory → Extent → Table
 grown_into i d x = record { capacity = grown_capacity (table_of i d).capacity; extent = Some x }
 
 -- the index grew into a new block
-pub entered-some : (i : Index) (a m b c : Cut) (d : Directory) (o : Object) (at n h : ℕ) → Denotes current a.bytes d → (g : IsAllocated current a m n IndexRole h) → IsMade m b o
+pub entered-some : (i : Index) {a m b : Cut} (c : Cut) {d : Directory} (o : Object) (at : ℕ) {n h : ℕ} → Denotes current a.bytes d → (g : IsAllocated current a m n IndexRole h) → IsMade m b o
     → IsIndexOf b (place_of i) (table_of i d) (entries_of i d) → insert (entries_of i d) at (handle o.extent) ≡ entries_of i (with_object d o)
     → Adds b c (place_of i) (table_of i d) (insert (entries_of i d) at (handle o.extent)) (Some h) → LaysOut current c.bytes (unlinked b (place_of i))
     → AddKeeps b c (place_of i) (table_of i d) (Some h) → IsEntered i b c d (grown_into i d g.extent) o
-entered-some i a m b c d o at n h k g made x e adds laid keeps =
+entered-some i {a} {m} {b} c {d} o at {n} {h} k g made x e adds laid keeps =
     let ys : List Extent = extents_of o in
     let t : Table = grown_into i d g.extent in
     let mid : live_of m.bytes ≡ added (live d) g.extent =
@@ -137,7 +137,7 @@ entered-some i a m b c d o at n h k g made x e adds laid keeps =
     ∙ index-left_out i (with_table_of i d t) ys (live-rises (adding (live (with_table_of i d t)) ys) laid'.proper)
     ∙ ap (λ e. inserted ys (live e).extents) (last-table i d t no_table) in
     let all : others h (unlinked b (place_of i)).extents ≡ inserted ys (live (with_table_of i d no_table)).extents = (λ j. others (g.at j) (left j).extents) ∙ gone in
-    let found : extent_at (live_of b.bytes) h ≡ Some g.extent = taken-found m b (extents_of o) h g.extent made.taken (allocated-found a m n IndexRole h g) in
+    let found : extent_at (live_of b.bytes) h ≡ Some g.extent = taken-found m b (extents_of o) h made.taken (allocated-found g) in
     let places : capacity_at b (place_of i) ≡ (table_of i d).capacity = x.stands.capacity in
     record {
       laid = laid';
@@ -159,26 +159,26 @@ pub record IsTabled (i : Index) (old new : Cut) (d : Directory) (t : Table) : Ty
   pub stands : IsIndexOf new (place_of i) t (entries_of i d)
   pub keeps : KeepsRest old new (place_of i) (live (with_table_of i d no_table)).extents
 
-own-table : (i : Index) (m : Memory) (d : Directory) (t : Table) → IsTrue (is_index t (objects_of i d) (order_of i)) → IsIndexAt m (place_of i) t (entries_of i d)
+own-table : (i : Index) {m : Memory} (d : Directory) {t : Table} → IsTrue (is_index t (objects_of i d) (order_of i)) → IsIndexAt m (place_of i) t (entries_of i d)
     → HasOne i m (with_table_of i d t)
-own-table index.Named m d t a b = record { is = a; at = b }
-own-table index.Unique m d t a b = record { is = a; at = b }
+own-table index.Named d a b = record { is = a; at = b }
+own-table index.Unique d a b = record { is = a; at = b }
 
-other-table : (i : Index) (m : Memory) (d : Directory) (t : Table) → HasOne (other i) m d → HasOne (other i) m (with_table_of i d t)
-other-table index.Named m d t h = record { is = h.is; at = h.at }
-other-table index.Unique m d t h = record { is = h.is; at = h.at }
+other-table : (i : Index) {m : Memory} {d : Directory} (t : Table) → HasOne (other i) m d → HasOne (other i) m (with_table_of i d t)
+other-table index.Named t h = record { is = h.is; at = h.at }
+other-table index.Unique t h = record { is = h.is; at = h.at }
 
 -- the directory with the table is what the new bytes denote
-pub tabled-denotes : (i : Index) (a c : Cut) (d : Directory) (t : Table) → Denotes current a.bytes d → IsTabled i a c d t → Denotes current c.bytes (with_table_of i d t)
-tabled-denotes i a c d t k e =
+pub tabled-denotes : {i : Index} {a c : Cut} {d : Directory} {t : Table} → Denotes current a.bytes d → IsTabled i a c d t → Denotes current c.bytes (with_table_of i d t)
+tabled-denotes {i} {a} {c} {d} {t} k e =
     let A : Memory = bytes_of a.bytes in
     let C : Memory = bytes_of c.bytes in
     let high = place-high i in
     let rest : OfRest i (SameBlock A C) d = of_rest i (SameBlock A C) d e.keeps.blocks in
-    let one : HasOne (other i) C d = other-stays i A C d (has-one (other i) a.bytes d k) (other-words i A C e.keeps.before e.keeps.behind) rest.other_table in
+    let one : HasOne (other i) C d = other-stays i (has-one (other i) k) (other-words i e.keeps.before e.keeps.behind) rest.other_table in
     let few : length (objects_of i d) ≤ t.capacity = omega (arith, e.stands.few, handles-length (objects_of i d)) in
-    let is = index-from t (objects_of i d) (order_of i) e.stands.places few (index-parts (table_of i d) (objects_of i d) (order_of i) (has-one i a.bytes d k).is).2 in
-    let both : HasIndexes C (with_table_of i d t) = has_both i C (with_table_of i d t) (own-table i C d t is e.stands.stands) (other-table i C d t one) in
+    let is = index-from t (objects_of i d) (order_of i) e.stands.places few (index-parts (table_of i d) (objects_of i d) (order_of i) (has-one i k).is).2 in
+    let both : HasIndexes C (with_table_of i d t) = has_both i (own-table i d is e.stands.stands) (other-table i t one) in
     let front : KeepsFront A C = record { front = e.keeps.front; zeros = Same-part A C (place_of i + 24) 128 80 128 e.keeps.behind (omega arith) (omega arith) } in
     record {
       directory = record {
@@ -188,7 +188,7 @@ tabled-denotes i a c d t k e =
         named = both.named;
         unique = both.unique;
       };
-      header = subst (IsHeader current C) (sym (same-size i d t)) (header-same current A C d.size front.front front.zeros k.header);
+      header = subst (IsHeader current C) (sym (same-size i d t)) (header-same front.front front.zeros k.header);
       heap = e.laid;
       named = both.named_at;
       unique = both.unique_at;
@@ -205,9 +205,9 @@ left-link l (Some x) = refl
 abbrev pub places_in : ℕ → Extent → Table
 places_in n x = record { capacity = n; extent = Some x }
 
-pub reserved-tabled : (i : Index) (a c : Cut) (d : Directory) (n : ℕ) → Denotes current a.bytes d → (r : IsReserved a c (place_of i) n) → IsTabled i a c d (places_in n r.extent)
-reserved-tabled i a c d n k r =
-    let x = denotes-index i a d k in
+pub reserved-tabled : (i : Index) {a c : Cut} {d : Directory} {n : ℕ} → Denotes current a.bytes d → (r : IsReserved a c (place_of i) n) → IsTabled i a c d (places_in n r.extent)
+reserved-tabled i {a} {c} {d} {n} k r =
+    let x = denotes-index i a k in
     let now : live_of a.bytes ≡ live d = denotes-live current a.bytes d k in
     let placed : place (live d) (8 * n) IndexRole ≡ Some r.extent = sym (ap (λ l. place l (8 * n) IndexRole) now) ∙ r.placed in
     let moved : without_link (added (live_of a.bytes) r.extent) (link_at (bytes_of a.bytes) (place_of i)) ≡ live (with_table_of i d (places_in n r.extent)) =
@@ -242,8 +242,8 @@ module _ (i : Index) (d : Directory) (n : ℕ) (proper : IsTrue (is_proper (live
   cut-cases : (o : Option Extent) (b : Bool) → (table_of i d).extent ≡ o → (o ≡ None → b ≡ true) → cut_live o b ≡ live (with_table_of i d (cut_to o b))
   cut-cases None true e f = sym (live-same_index i d no_table (sym e))
   cut-cases None false e f = absurd (let g : false ≡ true = f refl in cc)
-  cut-cases (Some y) true e f = live-no_index i d no_table y e refl proper
-  cut-cases (Some y) false e f = live-resized_index i d (cut_to (Some y) false) (shorter (live d) y (8 * n)) y e refl (shorter-offset (live d) y (8 * n)) proper
+  cut-cases (Some y) true e f = live-no_index i d no_table e refl proper
+  cut-cases (Some y) false e f = live-resized_index i d (cut_to (Some y) false) (shorter (live d) y (8 * n)) e refl (shorter-offset (live d) y (8 * n)) proper
 
   pub cut-live : ((table_of i d).extent ≡ None → (n == 0) ≡ true) → with_cut (live d) n (table_of i d) ≡ live (with_table_of i d (cut_table (live d) 8 n (table_of i d)))
   unfolding cut_table
@@ -254,10 +254,10 @@ no-places t n h few e =
     let none : (t.capacity == 0) ≡ true = subst (λ (o : Option Extent). IsTrue (elim o as (λ _. Bool) [ None ↦ t.capacity == 0 | Some x ↦ nat_lt 0 t.capacity && serves x IndexRole (8 * t.capacity) ])) e h in
     let zero : t.capacity ≡ 0 = eqb-true t.capacity 0 none in eq-eqb n 0 (omega (arith, few, zero))
 
-pub shrunk-tabled : (i : Index) (a c : Cut) (d : Directory) → Denotes current a.bytes d → IsShrunk a c (place_of i) (table_of i d) (entries_of i d)
+pub shrunk-tabled : (i : Index) {a c : Cut} {d : Directory} → Denotes current a.bytes d → IsShrunk a c (place_of i) (table_of i d) (entries_of i d)
     → IsTabled i a c d (cut_table (live d) 8 (length (objects_of i d)) (table_of i d))
-shrunk-tabled i a c d k r =
-    let x = denotes-index i a d k in
+shrunk-tabled i {a} {c} {d} k r =
+    let x = denotes-index i a k in
     let now : live_of a.bytes ≡ live d = denotes-live current a.bytes d k in
     let len : length (entries_of i d) ≡ length (objects_of i d) = handles-length (objects_of i d) in
     let laid : LaysOut current c.bytes (with_cut (live d) (length (objects_of i d)) (table_of i d)) =
@@ -301,10 +301,10 @@ record BothAt (m : Memory) (d : Directory) (o : Object) : Type 0 where
   named : IsIndexAt m 32 d.named (handles (objects_of index.Named (without_object d o)))
   unique : IsIndexAt m 56 d.unique (handles (objects_of index.Unique (without_object d o)))
 
-both-at : (i : Index) (m : Memory) (d : Directory) (o : Object) → IsIndexAt m (place_of i) (table_of i d) (entries_of i (without_object d o))
+both-at : (i : Index) {m : Memory} (d : Directory) (o : Object) → IsIndexAt m (place_of i) (table_of i d) (entries_of i (without_object d o))
     → IsIndexAt m (place_of (other i)) (table_of (other i) d) (entries_of (other i) (without_object d o)) → BothAt m d o
-both-at index.Named m d o a b = record { named = a; unique = b }
-both-at index.Unique m d o a b = record { named = b; unique = a }
+both-at index.Named d o a b = record { named = a; unique = b }
+both-at index.Unique d o a b = record { named = b; unique = a }
 
 -- the blocks of both indexes are among the others
 table-in : (i : Index) (P : Extent → Type 0) (d : Directory) (o : Object) → OfEach P (without_object d o) → AllByRecursion P (table_extents (table_of i d))
@@ -312,9 +312,9 @@ table-in index.Named P d o e = e.named
 table-in index.Unique P d o e = e.unique
 
 -- the directory without the object is what the new bytes denote
-pub removed-denotes : (i : Index) (a b c : Cut) (d : Directory) (o : Object) → Denotes current a.bytes d → IsIn d o → o.class ≡ class_of_index i
+pub removed-denotes : {i : Index} {a b c : Cut} {d : Directory} (o : Object) → Denotes current a.bytes d → IsIn d o → o.class ≡ class_of_index i
     → IsLeft i a b (table_of i d) (entries_of i (without_object d o)) → IsGone b c (extents_of o) → Denotes current c.bytes (without_object d o)
-removed-denotes i a b c d o k f class e g =
+removed-denotes {i} {a} {b} {c} {d} o k f class e g =
     let A : Memory = bytes_of a.bytes in
     let B : Memory = bytes_of b.bytes in
     let C : Memory = bytes_of c.bytes in
@@ -331,17 +331,17 @@ removed-denotes i a b c d o k f class e g =
     let before : OfRest i (SameBlock A B) d = of_rest i (SameBlock A B) d (subst (AllByRecursion (SameBlock A B)) beside e.keeps.blocks) in
     let blocks = blocks-trans A B C (flat_map extents_of (remove_object (handle o.extent) d.objects)) (all-less (SameBlock A B) (handle o.extent) d.objects before.objects) after.objects in
     let words : Same A C (place_of (other i)) (place_of (other i) + 24) =
-    other-words i A C (Same-trans A B C 32 (place_of i) e.keeps.before (Same-part B C 32 128 32 (place_of i) g.keeps.behind (omega arith) (omega arith)))
+    other-words i (Same-trans A B C 32 (place_of i) e.keeps.before (Same-part B C 32 128 32 (place_of i) g.keeps.behind (omega arith) (omega arith)))
     (Same-trans A B C (place_of i + 24) 128 e.keeps.behind (Same-part B C 32 128 (place_of i + 24) 128 g.keeps.behind (omega arith) (omega arith))) in
     let one : HasOne (other i) C d =
-    other-stays i A C d (has-one (other i) a.bytes d k) words (blocks-trans A B C (table_extents (table_of (other i) d)) before.other_table (table-in (other i) (SameBlock B C) d o after)) in
+    other-stays i (has-one (other i) k) words (blocks-trans A B C (table_extents (table_of (other i) d)) before.other_table (table-in (other i) (SameBlock B C) d o after)) in
     let own : IsIndexAt C (place_of i) (table_of i d) (entries_of i (without_object d o)) =
-    any_index-same B C (place_of i) (table_of i d) (entries_of i (without_object d o)) e.stands.places e.stands.few (Same-part B C 32 128 (place_of i) (place_of i + 24) g.keeps.behind low (omega arith))
+    any_index-same e.stands.places e.stands.few (Same-part B C 32 128 (place_of i) (place_of i + 24) g.keeps.behind low (omega arith))
     (table-in i (SameBlock B C) d o after) e.stands.stands in
-    let same : entries_of (other i) (without_object d o) ≡ entries_of (other i) d = no-entry-removed (other i) d o f.is (other_class i o class) in
-    let both : BothAt C d o = both-at i C d o own (subst (IsIndexAt C (place_of (other i)) (table_of (other i) d)) (sym same) one.at) in
+    let same : entries_of (other i) (without_object d o) ≡ entries_of (other i) d = no-entry-removed (other i) d f.is (other_class i o class) in
+    let both : BothAt C d o = both-at i d o own (subst (IsIndexAt C (place_of (other i)) (table_of (other i) d)) (sym same) one.at) in
     let front : KeepsFront A C = record {
       front = Same-trans A B C 0 24 e.keeps.front g.keeps.front;
       zeros = Same-trans A B C 80 128 (Same-part A B (place_of i + 24) 128 80 128 e.keeps.behind (omega arith) (omega arith)) (Same-part B C 32 128 80 128 g.keeps.behind (omega arith) (omega arith));
     } in
-    denotes-taken current a.bytes c.bytes d o k f laid front blocks both.named both.unique
+    denotes-taken c.bytes o k f laid front blocks both.named both.unique

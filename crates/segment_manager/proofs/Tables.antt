@@ -153,9 +153,9 @@ live-moved_index i d t x ys e h =
     ap (λ l. without_link l (option_map handle old)) was ∙ leaving d old (inserted ys (insert x xs)) ∙ ap (of_extents d) (exchanged f b ys old x r) ∙ ap (λ l. adding l ys) (sym is)
 
 -- the block of an index is released
-pub live-no_index : (i : Index) (d : Directory) (t : Table) (y : Extent) → (table_of i d).extent ≡ Some y → t.extent ≡ None → IsTrue (is_proper (live d))
+pub live-no_index : (i : Index) (d : Directory) (t : Table) {y : Extent} → (table_of i d).extent ≡ Some y → t.extent ≡ None → IsTrue (is_proper (live d))
     → released (live d) (handle y) ≡ live (with_table_of i d t)
-live-no_index i d t y e g h =
+live-no_index i d t {y} e g h =
     let f : List Extent = (around i d).front in
     let b : List Extent = (around i d).back in
     let was : live d ≡ of_extents d (sorted (f ++ y ∷ b)) = here i d ∙ ap (λ (o : Option Extent). of_extents d (sorted (f ++ (option_to_list o ++ b)))) e in
@@ -164,9 +164,9 @@ live-no_index i d t y e g h =
     ap (λ l. released l (handle y)) was ∙ ap (of_extents d) (middle-dropped f b y r) ∙ sym is
 
 -- it is given another length where it stands
-pub live-resized_index : (i : Index) (d : Directory) (t : Table) (x y : Extent) → (table_of i d).extent ≡ Some y → t.extent ≡ Some x → x.offset ≡ y.offset → IsTrue (is_proper (live d))
+pub live-resized_index : (i : Index) (d : Directory) (t : Table) (x : Extent) {y : Extent} → (table_of i d).extent ≡ Some y → t.extent ≡ Some x → x.offset ≡ y.offset → IsTrue (is_proper (live d))
     → resized (live d) x ≡ live (with_table_of i d t)
-live-resized_index i d t x y e g o h =
+live-resized_index i d t x {y} e g o h =
     let f : List Extent = (around i d).front in
     let b : List Extent = (around i d).back in
     let was : live d ≡ of_extents d (sorted (f ++ y ∷ b)) = here i d ∙ ap (λ (o : Option Extent). of_extents d (sorted (f ++ (option_to_list o ++ b)))) e in

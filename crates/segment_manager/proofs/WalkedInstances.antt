@@ -6,8 +6,8 @@ use Rattle.segment_manager.proofs.Common.{Answers, State, StandsFor}
 use Rattle.segment_manager.specs.Iterating.{names_of}
 
 -- what stands at a place of the list of named objects is the name that is said, and behind the last there is none
-pub name-said : (s : State) (at : ℕ) (said : Instance) → SaysAt s named_objects at said → Answers s (λ d. slice_get (names_of d) at) (Some said.name.now)
-name-said s at said h = record {
+pub name-said : {s : State} {at : ℕ} {said : Instance} → SaysAt s named_objects at said → Answers s (λ d. slice_get (names_of d) at) (Some said.name.now)
+name-said {at} h = record {
   answers = λ d k.
       let one = h.says d k in
       ap (λ (name : List ℕ). Some name) one.2.name ∙ sym (slice_get-map (λ (o : Object). o.name) (named_objects d) at ∙ ap (option_map (λ (o : Object). o.name)) one.1);
@@ -34,5 +34,5 @@ pub names-go_on : {A : Type 0} (seen : A → List ℕ) (name : A) (old new : Wal
 names-go_on seen name old new said f e g = record {
   segment = g.segment;
   place = g.place;
-  says = subst (λ bytes. Answers old.segment (λ d. slice_get (names_of d) old.at) (Some bytes)) (sym f) (name-said old.segment old.at said (subst (λ i. SaysAt old.segment (objects_of i) old.at said) e g.says));
+  says = subst (λ bytes. Answers old.segment (λ d. slice_get (names_of d) old.at) (Some bytes)) (sym f) (name-said (subst (λ i. SaysAt old.segment (objects_of i) old.at said) e g.says));
 }

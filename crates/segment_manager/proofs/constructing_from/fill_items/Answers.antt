@@ -16,7 +16,7 @@ write_item-requires-clause-room g c =
     let size : c.size-size.result ≡ size_of c.args.kind = c.size-size.ensures in
     let below : c.loop-i.i < c.args.count = omega arith in
     subst (λ n. IsTrue (has_room (live_of c.loop-i.heap.bytes) c.args.handle (c.args.at + n * c.loop-i.i + size_of c.args.kind))) (sym size)
-    (room-once_more c.args.heap.now c.loop-i.heap c.args.handle c.args.at (size_of c.args.kind) c.loop-i.i c.args.count below c.requires.room c.loop-i.invariant.change)
+    (room-once_more c.args.handle c.args.at (size_of c.args.kind) c.loop-i.i c.args.count below c.requires.room c.loop-i.invariant.change)
 
 pub write_item-requires-clause-of_kind : goal.write_item-requires-clause-of_kind
 write_item-requires-clause-of_kind g c =
@@ -27,5 +27,4 @@ pub loop-i-preserved : goal.loop-i-preserved
 loop-i-preserved g c =
     let size : c.size-size.result ≡ size_of c.args.kind = c.size-size.ensures in
     let same : c.size-size.result * c.loop-i.i ≡ size_of c.args.kind * c.loop-i.i = ap (λ n. n * c.loop-i.i) size in
-    filling-more _ _ g.I.Iterator.next_gives g.I.Iterator.can_next g.S.Spelling.whole c.args.heap.now c.args.kind (c.args.handle + c.args.at) c.args.items.now c.loop-i.heap c.write_item.new.heap c.loop-i.i
-    (c.args.handle + (c.args.at + c.size-size.result * c.loop-i.i)) c.loop-i.items c.write_item.new.items c.loop-i.invariant c.in_ok-write_item.ensures.ready (omega arith) c.in_ok-write_item.ensures.next
+    filling-more _ _ g.I.Iterator.next_gives g.I.Iterator.can_next g.S.Spelling.whole c.args.heap.now c.args.kind (c.args.handle + c.args.at) c.args.items.now c.loop-i.invariant c.in_ok-write_item.ensures.ready (omega arith) c.in_ok-write_item.ensures.next

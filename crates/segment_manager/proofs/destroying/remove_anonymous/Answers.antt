@@ -6,4 +6,4 @@ pub deallocate-requires : goal.deallocate-requires
 deallocate-requires c = own-still c.args.heap.now c.release_contents.new.heap c.args.object c.release_contents.ensures c.requires
 
 pub returns : goal.returns
-returns c = removes-anonymous c.args.heap.now c.release_contents.new.heap c.args.object c.release_contents.ensures c.deallocate.new.self c.deallocate.ensures.released
+returns c = removes-anonymous c.args.heap.now c.release_contents.new.heap c.args.object c.release_contents.ensures c.deallocate.ensures.released

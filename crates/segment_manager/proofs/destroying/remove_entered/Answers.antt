@@ -4,10 +4,10 @@ use Rattle.segment_manager.proofs.Destroys.{index-still, removes-entry}
 use Rattle.segment_manager.proofs.destroying.remove_entered.Goals as goal
 
 pub at-handle-requires-clause-index : goal.at-handle-requires-clause-index
-at-handle-requires-clause-index c = entry-index c.args.heap.now c.args.index c.args.place c.requires
+at-handle-requires-clause-index c = entry-index c.args.heap.now c.requires
 
 pub at-handle-requires-clause-below : goal.at-handle-requires-clause-below
-at-handle-requires-clause-below c = entry-below c.args.heap.now c.args.index c.args.place c.requires
+at-handle-requires-clause-below c = entry-below c.args.heap.now c.requires
 
 pub release_contents-requires : goal.release_contents-requires
 release_contents-requires c = entry-object c.args.heap.now c.args.index c.args.place c.at-handle.result c.at-handle.ensures c.requires
@@ -26,5 +26,5 @@ deallocate-requires c =
 
 pub returns : goal.returns
 returns c =
-    removes-entry c.args.heap.now c.release_contents.new.heap c.args.index c.args.place c.at-handle.result c.at-handle.ensures c.release_contents.ensures c.remove.new.heap c.deallocate.new.self
+    removes-entry c.args.heap.now c.release_contents.new.heap c.args.index c.args.place c.at-handle.result c.at-handle.ensures c.release_contents.ensures
     (record { removes = c.remove.ensures.index; live = c.remove.ensures.live; keeps = c.remove.ensures.keeps }) c.deallocate.ensures.released

@@ -10,7 +10,7 @@ use Rattle.segment_manager.proofs.KeyCalls.{found-answers, place-below, segment-
 use Rattle.segment_manager.proofs.finding_or_constructing.find_or_construct_entered.Goals as goal
 
 pub lookup-requires : goal.lookup-requires
-lookup-requires g c = record { keys = denotes-keys c.args.index c.args.heap.now c.requires.segment.0 c.args.entry c.requires.segment.1.denotes }
+lookup-requires g c = record { keys = denotes-keys c.args.index c.args.heap.now c.args.entry c.requires.segment.1.denotes }
 
 pub at-requires-clause-index : goal.at-requires-clause-index
 at-requires-clause-index g c = segment-index c.args.heap.now c.args.index c.requires.segment
@@ -22,7 +22,7 @@ pub found_of-requires : goal.found_of-requires
 found_of-requires g c =
     let s : State = record { cut = c.args.heap.now; mode = Write } in
     let key = c.requires.key in
-    has-object s key.0 c.at.result c.requires.segment
+    has-object key.0 c.requires.segment
     (found-answers s c.args.index c.args.entry c.in-Found.place c.at.result c.in-Found.ensures.place c.at.ensures key.0
     (key-seeks c.args.index c.args.entry key.0 c.args.name.now (kind_of (bare (g.F.Filling.content c.args.filling.now))) key.1))
 
@@ -45,7 +45,7 @@ begin_at-requires-clause-short g c = key-short c.args.index c.args.entry c.requi
 pub build-requires-clause-begun : goal.build-requires-clause-begun
 build-requires-clause-begun g c =
     let key : Key = c.requires.key.0 in
-    has-begun c.args.heap.now c.begin_at.new.heap key (g.F.Filling.content c.args.filling.now) c.shape-shape.result c.in_ok-begun.begun
+    has-begun c.args.heap.now c.begin_at.new.heap key c.in_ok-begun.begun
     c.requires.segment c.shape-shape.ensures (c.in_ok-begun.ensures key c.args.entry (subst (IsNewKeyOf c.args.index c.args.entry key
     c.args.name.now) (sym c.shape-shape.ensures.kind) c.requires.key.1) c.in-Absent.ensures.place)
 
@@ -55,10 +55,10 @@ returns-in_err-begun g c =
     let content : Content = g.F.Filling.content c.args.filling.now in
     let is = c.shape-shape.ensures in
     let away = c.in-Absent.ensures.place in
-    found-absent c.args.heap.now c.begin_at.new.heap c.args.index c.args.entry c.in-Absent.place key c.args.name.now (kind_of (bare content)) content (Err c.in_err-begun.field-0.0) n away
+    found-absent c.args.index c.args.entry c.in-Absent.place key c.args.name.now (kind_of (bare content)) content n away
     (found-not_begun c.args.heap.now c.requires.segment key content c.in_err-begun.field-0.0 c.begin_at.new.heap
     (no-object c.args.heap.now c.requires.segment c.args.index c.args.entry c.in-Absent.place key c.args.name.now (kind_of (bare content)) n away)
-    (begun-for c.args.heap.now c.begin_at.new.heap key content c.shape-shape.result (Err c.in_err-begun.field-0.0) is (c.in_err-begun.ensures key c.args.entry (subst (IsNewKeyOf c.args.index c.args.entry key c.args.name.now) (sym is.kind) n) away))))
+    (begun-for c.args.heap.now c.begin_at.new.heap key (Err c.in_err-begun.field-0.0) is (c.in_err-begun.ensures key c.args.entry (subst (IsNewKeyOf c.args.index c.args.entry key c.args.name.now) (sym is.kind) n) away))))
 
 pub returns : goal.returns
 returns g c =
@@ -68,9 +68,9 @@ returns g c =
     let away = c.in-Absent.ensures.place in
     let b = c.in_ok-begun.begun in
     let begun : IsBegunFor c.args.heap.now c.begin_at.new.heap key content b.handle b.at b.entry =
-    begun-for c.args.heap.now c.begin_at.new.heap key content c.shape-shape.result (Ok b) is (c.in_ok-begun.ensures key c.args.entry (subst (IsNewKeyOf c.args.index c.args.entry key c.args.name.now) (sym is.kind) n) away) in
+    begun-for c.args.heap.now c.begin_at.new.heap key (Ok b) is (c.in_ok-begun.ensures key c.args.entry (subst (IsNewKeyOf c.args.index c.args.entry key c.args.name.now) (sym is.kind) n) away) in
     let built : Constructs c.args.heap.now c.build.new.heap (asked.FindOrConstruct key content) pair_answer (with_count c.shape-shape.result.count c.build.result) =
     subst (λ m. Constructs c.args.heap.now c.build.new.heap (asked.FindOrConstruct key content) pair_answer (with_count m c.build.result)) (sym is.count)
     (found-built c.args.heap.now c.requires.segment key content b.entry c.begin_at.new.heap c.build.new.heap b.handle b.at c.build.result begun c.build.ensures) in
     subst (FindsOrConstructs c.args.heap.now c.build.new.heap key content) (sym c.counted.ensures)
-    (found-absent c.args.heap.now c.build.new.heap c.args.index c.args.entry c.in-Absent.place key c.args.name.now (kind_of (bare content)) content (with_count c.shape-shape.result.count c.build.result) n away built)
+    (found-absent c.args.index c.args.entry c.in-Absent.place key c.args.name.now (kind_of (bare content)) content n away built)

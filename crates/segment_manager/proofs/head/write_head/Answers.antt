@@ -27,6 +27,6 @@ returns c =
     let names : word_at (bytes_of c.set_word-2.new.self.bytes) (c.args.handle + 8) ≡ two_halves (length c.args.name.now) (class_code c.args.class) =
     c.set_word-2.ensures.word ∙ ap (two_halves (length c.args.name.now)) (c.from-3.ensures ∙ c.code_of_class.ensures) in
     let w : HasHead c.args.heap.now c.write_name.new.heap c.args.handle c.args.kind c.args.count c.args.class c.args.name.now =
-    head-written c.args.heap.now c.set_word.new.self c.set_word-2.new.self c.write_name.new.heap c.args.handle c.args.kind c.args.count c.args.class c.args.name.now
+    head-written c.write_name.new.heap c.args.handle c.args.kind c.args.count c.args.class c.args.name.now
     c.set_word.ensures.change kinds c.set_word-2.ensures.change names (record { change = c.write_name.ensures.change; content = c.write_name.ensures.name }) in
     record { change = w.change; head = w.head }

@@ -18,11 +18,11 @@ abbrev after : After-set_header_word → State
 after c = record { cut = c.set_header_word.new.self; mode = c.segment.inside.mode }
 
 longer : (c : After-set_header_word) → Resizes (before c) (after c) (λ d. grown d c.args.extra)
-longer c = grows (before c) (after c) c.extend_end.new.self c.args.extra refl c.extend_end.ensures.moved c.set_header_word.ensures.change (c.set_header_word.ensures.word ∙ c.size-size.ensures)
+longer c = grows (before c) (after c) c.args.extra refl c.extend_end.ensures.moved c.set_header_word.ensures.change (c.set_header_word.ensures.word ∙ c.size-size.ensures)
 
 pub invariant_of-segment : goal.invariant_of-segment
 invariant_of-segment c =
-    let p = (goal.at.invariant_of-segment c).After-set_header_word in resized-segment (before p) (after p) (λ d. grown d c.args.extra) (longer p) c.segment.invariant
+    let p = (goal.at.invariant_of-segment c).After-set_header_word in resized-segment (longer p) c.segment.invariant
 
 pub returns : goal.returns
 returns c =

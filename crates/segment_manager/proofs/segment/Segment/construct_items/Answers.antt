@@ -10,13 +10,13 @@ returns-then-is_read_only g c =
 
 pub invariant_of-self : goal.invariant_of-self
 invariant_of-self g c =
-    refused-segment _ _ g.I.Iterator.next_gives g.S.Spelling.whole _ _ c.self.view_is c.self.invariant (new_key_seen c.args.key.now) c.args.kind c.args.count c.numbers.result c.numbers.ensures
+    refused-segment _ _ g.I.Iterator.next_gives g.S.Spelling.whole c.self.view_is c.self.invariant (new_key_seen c.args.key.now) c.args.kind c.args.count c.numbers.ensures
     (sym c.is_read_only.ensures ∙ c.if-is_read_only.false) c.requires.some c.args.items.now c.in_err-begun.field-0.0 c.begin.new.heap c.in_err-begun.ensures
 
 pub returns-in_err-begun : goal.returns-in_err-begun
 returns-in_err-begun g c =
-    refused-items _ _ g.I.Iterator.next_gives g.S.Spelling.whole _ _ c.self.view_is c.self.invariant (new_key_seen c.args.key.now) c.args.kind c.args.count c.numbers.result c.numbers.ensures
-    (sym c.is_read_only.ensures ∙ c.if-is_read_only.false) c.requires.some c.args.items.now c.in_err-begun.field-0.0 c.begin.new.heap _
+    refused-items _ _ g.I.Iterator.next_gives g.S.Spelling.whole c.self.view_is c.self.invariant (new_key_seen c.args.key.now) c.args.kind c.args.count c.numbers.ensures
+    (sym c.is_read_only.ensures ∙ c.if-is_read_only.false) c.requires.some c.args.items.now c.begin.new.heap
     (exit-is c.from_residual.result _ c.from_residual.ensures.1) c.in_err-begun.ensures
 
 pub fill_items-filled-requires-clause-heap : goal.fill_items-filled-requires-clause-heap
@@ -27,23 +27,20 @@ fill_items-filled-requires-clause-heap g c =
 
 pub fill_items-filled-requires-clause-room : goal.fill_items-filled-requires-clause-room
 fill_items-filled-requires-clause-room g c =
-    items-room _ _ g.I.Iterator.next_gives g.S.Spelling.whole _ _ c.self.view_is c.self.invariant (new_key_seen c.args.key.now) c.args.kind c.args.count c.numbers.result c.numbers.ensures
+    items-room _ _ g.I.Iterator.next_gives g.S.Spelling.whole c.self.view_is c.self.invariant (new_key_seen c.args.key.now) c.args.kind c.args.count c.numbers.ensures
     (sym c.is_read_only.ensures ∙ c.if-is_read_only.false) c.requires.some c.args.items.now c.requires.few c.begin.new.heap _ _ c.in_ok-begun.begun.entry c.in_ok-begun.ensures
 
 pub end-requires : goal.end-requires
 end-requires g c =
-    items-ending _ _ g.I.Iterator.next_gives g.S.Spelling.whole _ _ c.self.view_is c.self.invariant (new_key_seen c.args.key.now) c.args.kind c.args.count c.numbers.result c.numbers.ensures
-    (sym c.is_read_only.ensures ∙ c.if-is_read_only.false) c.requires.some c.args.items.now c.requires.few c.begin.new.heap _ _ c.in_ok-begun.begun.entry c.in_ok-begun.ensures
-    c.fill_items-filled.new.heap c.fill_items-filled.new.items c.fill_items-filled.result c.fill_items-filled.ensures
+    items-ending _ _ g.I.Iterator.next_gives g.S.Spelling.whole c.self.view_is c.self.invariant (new_key_seen c.args.key.now) c.args.kind c.args.count c.numbers.ensures
+    (sym c.is_read_only.ensures ∙ c.if-is_read_only.false) c.requires.some c.args.items.now c.requires.few c.begin.new.heap _ _ c.in_ok-begun.begun.entry c.in_ok-begun.ensures c.fill_items-filled.ensures
 
 pub invariant_of-self-2 : goal.invariant_of-self-2
 invariant_of-self-2 g c =
-    items-segment _ _ g.I.Iterator.next_gives g.S.Spelling.whole _ _ c.self.view_is c.self.invariant (new_key_seen c.args.key.now) c.args.kind c.args.count c.numbers.result c.numbers.ensures
-    (sym c.is_read_only.ensures ∙ c.if-is_read_only.false) c.requires.some c.args.items.now c.requires.few c.begin.new.heap _ _ c.in_ok-begun.begun.entry c.in_ok-begun.ensures
-    c.fill_items-filled.new.heap c.fill_items-filled.new.items c.fill_items-filled.result c.fill_items-filled.ensures c.end.new.heap c.end.result c.end.ensures
+    items-segment _ _ g.I.Iterator.next_gives g.S.Spelling.whole c.self.view_is c.self.invariant (new_key_seen c.args.key.now) c.args.kind c.args.count c.numbers.ensures
+    (sym c.is_read_only.ensures ∙ c.if-is_read_only.false) c.requires.some c.args.items.now c.requires.few c.begin.new.heap _ _ c.in_ok-begun.begun.entry c.in_ok-begun.ensures c.fill_items-filled.ensures c.end.new.heap c.end.result c.end.ensures
 
 pub returns : goal.returns
 returns g c =
-    items-taken _ _ g.I.Iterator.next_gives g.S.Spelling.whole _ _ c.self.view_is c.self.invariant (new_key_seen c.args.key.now) c.args.kind c.args.count c.numbers.result c.numbers.ensures
-    (sym c.is_read_only.ensures ∙ c.if-is_read_only.false) c.requires.some c.args.items.now c.requires.few c.begin.new.heap _ _ c.in_ok-begun.begun.entry c.in_ok-begun.ensures
-    c.fill_items-filled.new.heap c.fill_items-filled.new.items c.fill_items-filled.result c.fill_items-filled.ensures c.end.new.heap c.end.result c.end.ensures
+    items-taken _ _ g.I.Iterator.next_gives g.S.Spelling.whole c.self.view_is c.self.invariant (new_key_seen c.args.key.now) c.args.kind c.args.count c.numbers.ensures
+    (sym c.is_read_only.ensures ∙ c.if-is_read_only.false) c.requires.some c.args.items.now c.requires.few c.begin.new.heap _ _ c.in_ok-begun.begun.entry c.in_ok-begun.ensures c.fill_items-filled.ensures c.end.new.heap c.end.result c.end.ensures

@@ -9,7 +9,7 @@ at-handle-requires-clause-index c = segment-index c.self.inside.heap c.args.inde
 
 pub at-handle-requires-clause-below : goal.at-handle-requires-clause-below
 at-handle-requires-clause-below c =
-    below-count c.self.view_is c.args.index c.args.i c.self.invariant c.requires
+    below-count c.self.view_is c.args.index c.self.invariant c.requires
 
 pub read_instance-requires-clause-heap : goal.read_instance-requires-clause-heap
 read_instance-requires-clause-heap c = denotes-heap current c.self.inside.heap.bytes c.self.invariant.0 c.self.invariant.1.denotes

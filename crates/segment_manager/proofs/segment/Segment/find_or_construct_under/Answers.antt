@@ -26,14 +26,14 @@ returns-then-is_read_only-clause-step g c =
 
 pub invariant_of-self : goal.invariant_of-self
 invariant_of-self g c =
-    made-segment _ _ c.self.view_is _ _ _ _ (done g (goal.at.invariant_of-self g c).After-find_or_construct_entered).constructs (sym c.is_read_only.ensures ∙ c.if-is_read_only.false) c.self.invariant
+    made-segment c.self.view_is (done g (goal.at.invariant_of-self g c).After-find_or_construct_entered).constructs (sym c.is_read_only.ensures ∙ c.if-is_read_only.false) c.self.invariant
 
 pub returns-clause-step : goal.returns-clause-step
 returns-clause-step g c =
-    made-step _ _ c.self.view_is _ _ _ _ (done g (goal.at.returns-clause-step g c).After-find_or_construct_entered).constructs (sym c.is_read_only.ensures ∙ c.if-is_read_only.false)
+    made-step c.self.view_is (done g (goal.at.returns-clause-step g c).After-find_or_construct_entered).constructs (sym c.is_read_only.ensures ∙ c.if-is_read_only.false)
 
 pub returns-clause-refused : goal.returns-clause-refused
-returns-clause-refused g c = made-refused _ _ c.self.view_is _ _ _ _ (done g (goal.at.returns-clause-refused g c).After-find_or_construct_entered).constructs
+returns-clause-refused g c = made-refused c.self.view_is (done g (goal.at.returns-clause-refused g c).After-find_or_construct_entered).constructs
 
 pub returns-clause-found : goal.returns-clause-found
 returns-clause-found g c =

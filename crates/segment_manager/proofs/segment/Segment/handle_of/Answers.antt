@@ -16,7 +16,7 @@ pub returns-in-Handle : goal.returns-in-Handle
 returns-in-Handle c =
     subst (λ k. Answers c.args.self.now (λ d. handle_at d (key_seen k)) c.then_some.result) (sym c.in-Handle.is)
     (subst (λ r. Answers c.args.self.now (λ d. handle_at d (ByHandle c.in-Handle.handle)) r) (sym c.then_some.ensures)
-    (handle-answers c.args.self.now c.in-Handle.handle c.belongs.result c.belongs.ensures))
+    (handle-answers c.in-Handle.handle c.belongs.ensures))
 
 pub returns-in-Anonymous : goal.returns-in-Anonymous
 returns-in-Anonymous c = subst (λ k. Answers c.args.self.now (λ d. handle_at d (key_seen k)) None) (sym c.in-Anonymous.is) (anonymous-answers c.args.self.now)

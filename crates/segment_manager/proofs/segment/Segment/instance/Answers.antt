@@ -12,5 +12,5 @@ read_instance-requires-clause-object g c = seen-object _ _ c.self.view_is (g.O.T
 pub returns-in-Some : goal.returns-in-Some
 returns-in-Some g c =
     subst (λ t. SaysOf t (g.O.Target.key c.args.key.now) c.read_instance.result) c.self.view_is
-    (key-says _ (g.O.Target.key c.args.key.now) c.in-Some.handle c.read_instance.result
+    (key-says (g.O.Target.key c.args.key.now) c.read_instance.result
     (seen-handle _ _ c.self.view_is (g.O.Target.key c.args.key.now) _ c.in-Some.ensures) c.read_instance.ensures)

@@ -9,10 +9,10 @@ read_instance-requires-clause-heap c = denotes-heap current c.self.inside.heap.b
 
 pub read_instance-requires-clause-object : goal.read_instance-requires-clause-object
 read_instance-requires-clause-object c =
-    has-own_object _ _ c.self.view_is c.args.handle c.self.invariant c.requires
+    has-own_object c.self.view_is c.args.handle c.self.invariant c.requires
 
 pub returns : goal.returns
 returns c =
     subst (λ t. SaysOf t (ByHandle c.args.handle) c.read_instance.result) c.self.view_is
-    (key-says _ (ByHandle c.args.handle) c.args.handle c.read_instance.result
-    (handle-answers _ c.args.handle true (subst (λ t. Answers t (λ d. is_object_at d c.args.handle) true) (sym c.self.view_is) c.requires)) c.read_instance.ensures)
+    (key-says (ByHandle c.args.handle) c.read_instance.result
+    (handle-answers c.args.handle (subst (λ t. Answers t (λ d. is_object_at d c.args.handle) true) (sym c.self.view_is) c.requires)) c.read_instance.ensures)

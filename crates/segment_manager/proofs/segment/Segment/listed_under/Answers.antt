@@ -4,7 +4,7 @@ use Rattle.segment_manager.proofs.{HeldIndexes.denotes-keys, Destroys.listed-fou
 use Rattle.segment_manager.proofs.segment.Segment.listed_under.Goals as goal
 
 pub lookup-requires : goal.lookup-requires
-lookup-requires c = record { keys = denotes-keys c.args.index c.self.inside.heap c.self.invariant.0 c.args.entry c.self.invariant.1.denotes }
+lookup-requires c = record { keys = denotes-keys c.args.index c.self.inside.heap c.args.entry c.self.invariant.1.denotes }
 
 pub returns-in-Found : goal.returns-in-Found
 returns-in-Found c = λ h each.
@@ -13,4 +13,4 @@ returns-in-Found c = λ h each.
 
 pub returns-in-Absent : goal.returns-in-Absent
 returns-in-Absent c = λ h each.
-    listed-found _ _ c.self.view_is c.args.index c.args.entry h c.in-Absent.field-0 c.in-Absent.ensures.place each
+    listed-found c.self.view_is c.args.index c.args.entry h c.in-Absent.field-0 c.in-Absent.ensures.place each

@@ -5,7 +5,7 @@ use Rattle.segment_manager.proofs.KeyCalls.{absent-answers, found-answers, place
 use Rattle.segment_manager.proofs.segment.Segment.look_up.Goals as goal
 
 pub lookup-requires : goal.lookup-requires
-lookup-requires c = record { keys = denotes-keys c.args.index c.self.inside.heap c.self.invariant.0 c.args.entry c.self.invariant.1.denotes }
+lookup-requires c = record { keys = denotes-keys c.args.index c.self.inside.heap c.args.entry c.self.invariant.1.denotes }
 
 pub at-requires-clause-index : goal.at-requires-clause-index
 at-requires-clause-index c = segment-index c.self.inside.heap c.args.index c.self.invariant

@@ -15,10 +15,10 @@ shrink-requires-2 c = record { index = shrunk-index c.self.inside.heap c.shrink.
 
 pub invariant_of-self : goal.invariant_of-self
 invariant_of-self c =
-    (shrinks _ _ c.self.view_is c.self.invariant c.shrink.new.heap c.shrink-2.new.heap
+    (shrinks c.self.view_is c.self.invariant c.shrink.new.heap c.shrink-2.new.heap
     (sym c.is_read_only.ensures ∙ c.if-is_read_only.false) c.shrink.ensures.shrunk c.shrink-2.ensures.shrunk).segment
 
 pub returns-clause-step : goal.returns-clause-step
 returns-clause-step c =
-    (shrinks _ _ c.self.view_is c.self.invariant c.shrink.new.heap c.shrink-2.new.heap
+    (shrinks c.self.view_is c.self.invariant c.shrink.new.heap c.shrink-2.new.heap
     (sym c.is_read_only.ensures ∙ c.if-is_read_only.false) c.shrink.ensures.shrunk c.shrink-2.ensures.shrunk).step

@@ -26,21 +26,21 @@ pub record HasElements (d : Directory) (key : Key) (k : ScalarKind) : Type 0 whe
   pub is : object_at d key ≡ Some object
   pub elements : elements_of (kind_of object.value) ≡ Ok k
 
-has-if : (d : Directory) (key : Key) {k : ScalarKind} (r : Option Object) → object_at d key ≡ r → Ok k ≡ elements_in r → HasElements d key k
-has-if d key None e f = absurd (cc)
-has-if d key (Some o) e f = record { object = o; is = e; elements = sym f }
+has-if : {d : Directory} {key : Key} {k : ScalarKind} (r : Option Object) → object_at d key ≡ r → Ok k ≡ elements_in r → HasElements d key k
+has-if None e f = absurd (cc)
+has-if (Some o) e f = record { object = o; is = e; elements = sym f }
 
 pub has-elements : (d : Directory) (key : Key) {k : ScalarKind} → Ok k ≡ elements_at d key → HasElements d key k
-has-elements d key e = has-if d key (object_at d key) refl e
+has-elements d key e = has-if (object_at d key) refl e
 
 -- or there are none: no object has the key, or its elements are no scalars
 data HasNone (d : Directory) (key : Key) (r : Refusal) : Type 0 where
   Nowhere : object_at d key ≡ None → NotFound ≡ r → HasNone d key r
   Other : (o : Object) → object_at d key ≡ Some o → elements_of (kind_of o.value) ≡ Err r → HasNone d key r
 
-none-if : (d : Directory) (key : Key) {r : Refusal} (p : Option Object) → object_at d key ≡ p → Err r ≡ elements_in p → HasNone d key r
-none-if d key {r} None e f = let same : NotFound ≡ r = cc in Nowhere e same
-none-if d key (Some o) e f = Other o e (sym f)
+none-if : {d : Directory} {key : Key} {r : Refusal} (p : Option Object) → object_at d key ≡ p → Err r ≡ elements_in p → HasNone d key r
+none-if {r} None e f = let same : NotFound ≡ r = cc in Nowhere e same
+none-if (Some o) e f = Other o e (sym f)
 
 -- the object is of a kind
 elements-told : (d : Directory) (key : Key) (kind : Kind) → IsOfKindAt d key kind → elements_at d key ≡ elements_of kind
@@ -67,7 +67,7 @@ reply_of mode d c q = elim q as (λ _. Answer) [ Err r ↦ Refused r | Ok k ↦ 
 machine-if : (mode : Mode) (d : Directory) (key : Key) (i : ℕ) (q : Result ScalarKind Refusal) → ((o : Object) → object_at d key ≡ Some o → kind_of o.value ≡ TextsKind → ⊥) → elements_at d key ≡ q
     → reply_of mode d (asked.Get key i) q ≡ (step mode d (asked.Get key i)).0
 machine-if mode d key i (Ok k) n e = refl
-machine-if mode d key i (Err r) n e = sym (ap (λ (x : Answer × Directory). x.0) (step-not_read mode i n (none-if d key (object_at d key) refl (sym e))))
+machine-if mode d key i (Err r) n e = sym (ap (λ (x : Answer × Directory). x.0) (step-not_read mode i n (none-if (object_at d key) refl (sym e))))
 
 -- the object of a key is no vector of texts
 abbrev pub HasNoTexts : State → Key → Type 0
@@ -82,11 +82,11 @@ pub any-replies : (s : State) (key : Key) (k : ScalarKind) (c : Command) (answer
 any-replies s key k c answer a r = record { answers = λ d l. r.answers d l ∙ ap (reply_of s.mode d c) (sym (a.answers d l)) }
 
 -- the object of the key says its kind: the answer of that kind is it
-pub of_kind-replies : {s : State} (key : Key) {kind : Kind} {k : ScalarKind} (c : Command) (answer : Answer) → Answers s (λ d. kind_at d key) (Ok kind) → elements_of kind ≡ Ok k → IsReplyOfKind s key kind c answer
+pub of_kind-replies : {s : State} (key : Key) {kind : Kind} {k : ScalarKind} (c : Command) {answer : Answer} → Answers s (λ d. kind_at d key) (Ok kind) → elements_of kind ≡ Ok k → IsReplyOfKind s key kind c answer
     → Answers s (λ d. scalar_reply s.mode d key c) answer
-of_kind-replies {s} key {kind} c answer a f r = record {
+of_kind-replies {s} key {kind} c a f r = record {
   answers = λ d l.
-      let e : IsOfKindAt d key kind = kind-told d key kind (a.answers d l) in
+      let e = kind-told d key kind (a.answers d l) in
       r.answers d l
       ∙ ap (λ (x : Answer × Directory). x.0) (step_of_kind-step s.mode d key kind c e.object e.is (eq-eqb (code_of kind) (code_of (kind_of e.object.value)) (ap code_of (sym e.kind_is))))
       ∙ sym (ap (reply_of s.mode d c) (elements-told d key kind e ∙ f));
@@ -96,7 +96,7 @@ of_kind-replies {s} key {kind} c answer a f r = record {
 pub of_kind-none : (s : State) (key : Key) (kind : Kind) (r : Refusal) (c : Command) → Answers s (λ d. kind_at d key) (Ok kind) → elements_of kind ≡ Err r → Answers s (λ d. scalar_reply s.mode d key c) (Refused r)
 of_kind-none s key kind r c a f = record {
   answers = λ d l.
-      let e : IsOfKindAt d key kind = kind-told d key kind (a.answers d l) in
+      let e = kind-told d key kind (a.answers d l) in
       sym (ap (reply_of s.mode d c) (elements-told d key kind e ∙ f));
 }
 
@@ -111,7 +111,7 @@ other-elements w n v t = refl
 pub located-replies : (s : State) (key : Key) (o : Located) (l : IsLocated s key o) (kind : Kind) (k : ScalarKind) (i : ℕ) (answer : Answer) → o.kind ≡ kind → elements_of kind ≡ Ok k
     → IsReplyOfKind s (ByHandle o.handle) kind (asked.Get (ByHandle o.handle) i) answer → Answers s (λ d. scalar_reply s.mode d key (asked.Get key i)) answer
 located-replies s key o l kind k i answer is f r =
-    of_kind-replies key (asked.Get key i) answer (subst (λ (n : Kind). Answers s (λ d. kind_at d key) (Ok n)) is (kind-by_key s key o l)) f (reply_of_kind-by_key s key o l kind (asked.Get key i) answer r)
+    of_kind-replies key (asked.Get key i) (subst (λ (n : Kind). Answers s (λ d. kind_at d key) (Ok n)) is (kind-by_key s key o l)) f (reply_of_kind-by_key s key o l kind (asked.Get key i) answer r)
 
 -- no object has the key
 pub any-missing : (s : State) (key : Key) (c : Command) (why : Refusal) → IsMissing s key why → Answers s (λ d. scalar_reply s.mode d key c) (Refused why)
@@ -123,7 +123,7 @@ any-missing s key c why m = record { answers = λ d l. ap Refused m.is ∙ sym (
 pub vector-kind : (s : State) (key : Key) (l k : ScalarKind) → Answers s (λ d. kind_at d key) (Ok (VectorKind l)) → Answers s (λ d. elements_at d key) (Ok k) → Answers s (λ d. kind_at d key) (Ok (VectorKind k))
 vector-kind s key l k a b = record {
   answers = λ d w.
-      let both : Ok k ≡ elements_of (VectorKind l) = b.answers d w ∙ elements-told d key (VectorKind l) (kind-told d key (VectorKind l) (a.answers d w)) in
+      let both = b.answers d w ∙ elements-told d key (VectorKind l) (kind-told d key (VectorKind l) (a.answers d w)) in
       let same : k ≡ l = cc in
       ap (λ n. Ok (VectorKind n)) same ∙ a.answers d w;
 }
@@ -160,12 +160,12 @@ set-effect {d} {key} i l e f =
     with-found d key e.object (λ o. set d o o.value i l) e.is ∙ p.1 l ∙ ap (set_with d e.object e.object.value i p.0) f
 
 -- a literal that is read as the value is as good as the value's own
-pub any-literal : {old : State} (new : State) (key : Key) {k : ScalarKind} (i : ℕ) (l : Literal) {z : ℤ} (answer : Answer) → Answers old (λ d. elements_at d key) (Ok k) → value_of_literal k l ≡ Ok z → is_value k z ≡ true
+pub any-literal : {old : State} {new : State} (key : Key) {k : ScalarKind} (i : ℕ) (l : Literal) {z : ℤ} {answer : Answer} → Answers old (λ d. elements_at d key) (Ok k) → value_of_literal k l ≡ Ok z → is_value k z ≡ true
     → IsStep old new (asked.Set key i (literal_of k z)) answer → IsStep old new (asked.Set key i l) answer
-any-literal {old} new key {k} i l {z} answer a f v r =
+any-literal {old} {new} key {k} i l {z} {answer} a f v r =
     same_plan-steps old new (asked.Set key i l) (asked.Set key i (literal_of k z)) answer refl
     (λ d w.
-    let e : HasElements d key k = has-elements d key (a.answers d w) in
+    let e = has-elements d key (a.answers d w) in
     set-effect i l e f ∙ sym (set-effect i (literal_of k z) e (literal-read k z v))) r
 
 -- one that is no value of the kind is refused
@@ -182,6 +182,6 @@ not-both e n f = n (sym e ∙ f)
 -- the object of the key says another kind
 pub kind-no_texts : (s : State) (key : Key) (kind : Kind) → Answers s (λ d. kind_at d key) (Ok kind) → (kind ≡ TextsKind → ⊥) → HasNoTexts s key
 kind-no_texts s key kind a n d l o e =
-    let k : IsOfKindAt d key kind = kind-told d key kind (a.answers d l) in
-    let same : k.object ≡ o = same_Some k.object o (sym k.is ∙ e) in
+    let k = kind-told d key kind (a.answers d l) in
+    let same = same_Some k.object o (sym k.is ∙ e) in
     not-both (ap (λ (p : Object). kind_of p.value) (sym same) ∙ k.kind_is) n

@@ -30,11 +30,11 @@ module _ {S A : Type 0} (items : S → List A) where
   taken-front w t (x ∷ xs) h = h.1 ∙ ap (λ l. x ∷ l) (taken-front h.0 t xs h.2)
 
   -- where as many are taken as there are, all are
-  taken-all : (w t : S) (xs : List A) → Yields (YieldsFirst items) w xs t → length xs ≡ length (items w) → xs ≡ items w
-  taken-all w t xs h long =
+  taken-all : (w t : S) {xs : List A} → Yields (YieldsFirst items) w xs t → length xs ≡ length (items w) → xs ≡ items w
+  taken-all w t {xs} h long =
       let parts = taken-front w t xs h in
       let both : length (items w) ≡ length xs + length (items t) = ap length parts ∙ length-append xs (items t) in
-      let none : items t ≡ [] = no_more (items t) (omega arith) in
+      let none = no_more (items t) (omega arith) in
       sym (parts ∙ ap (λ l. xs ++ l) none ∙ append-nil xs)
 
   -- where no more come, all were taken
@@ -107,10 +107,10 @@ module _ (r : Refusal) (other : r ≡ OutOfRange → ⊥) where
       → IsSame (perform d l (from-items d key k n [] found)) (perform d l (from-items d key k n zs found))
   items-same d l key k zs (Some o) some long refused = refl
   items-same d l key k {n} zs None some long refused =
-      let few : nat_lt 0 n ≡ true = lt-ltb 0 n some in
-      let enough : nat_lt (length zs) n ≡ false = le-ltb (length zs) n (omega arith) in
-      let all : take n zs ≡ zs = take_all n zs (omega arith) in
-      let told : Refused r ≡ (perform d l (by-items d key k n [] true)).0 = refused ∙ ap (λ b. (perform d l (by-items d key k n [] b)).0) few in
+      let few = lt-ltb 0 n some in
+      let enough = le-ltb (length zs) n (omega arith) in
+      let all = take_all n zs (omega arith) in
+      let told = refused ∙ ap (λ b. (perform d l (by-items d key k n [] b)).0) few in
       ap (λ b. perform d l (by-items d key k n zs b)) enough
       ∙ ap (λ ws. perform d l (with_new_object d key (asked.Numbers k ws) (λ o e. Reply (Made (handle o.extent)) e))) all
       ∙ new-same d l key k (replicate n (pos 0)) zs (long ∙ sym (length-replicate n (pos 0))) told
@@ -123,9 +123,9 @@ module _ (r : Refusal) (other : r ≡ OutOfRange → ⊥) where
   step-same ReadOnly d key k n zs some long refused = refl
   step-same CopyOnWrite d key k n zs some long refused = items-same d (live d) key k zs (object_at d key) some long refused
 
-  refused-array : (old new : State) (key : Key) (k : ScalarKind) {n : ℕ} (zs : List ℤ) → 1 ≤ n → length zs ≡ n
+  refused-array : {old new : State} (key : Key) (k : ScalarKind) {n : ℕ} (zs : List ℤ) → 1 ≤ n → length zs ≡ n
       → IsStep old new (asked.ConstructIt key k n []) (Refused r) → IsStep old new (asked.ConstructIt key k n zs) (Refused r)
-  refused-array old new key k {n} zs some long h = record {
+  refused-array {old} {new} key k {n} zs some long h = record {
     stays = h.stays;
     answers = λ d st. h.answers d st ∙ ap (λ (p : Answer × Directory). p.0) (sym (step-same old.mode d key k n zs some long (h.answers d st)));
     denotes = λ d st. subst (λ (p : Answer × Directory). StandsFor new.cut.bytes p.1) (sym (step-same old.mode d key k n zs some long (h.answers d st))) (h.denotes d st);
@@ -136,9 +136,9 @@ module _ (r : Refusal) (other : r ≡ OutOfRange → ⊥) where
 module _ {S A : Type 0} (items : S → List A) {whole : A → ℤ} {old new : State} {key : Key} {k : ScalarKind} {n : ℕ} {w t : S} {result : Result ℕ Refusal}
     (takes : TakesItems (YieldsFirst items) whole old new key k n w t result) (long : length (items w) ≡ n) where
   -- it is refused before an item is taken
-  early : (xs : List A) (r : Refusal) → (r ≡ OutOfRange → ⊥) → TakesUntil (YieldsFirst items) n w xs t r → xs ≡ []
-  early xs OutOfRange other h = absurd (other refl)
-  early xs r other h = h.0
+  early : {xs : List A} (r : Refusal) → (r ≡ OutOfRange → ⊥) → TakesUntil (YieldsFirst items) n w xs t r → xs ≡ []
+  early OutOfRange other h = absurd (other refl)
+  early r other h = h.0
 
   kept : (r : Refusal) → (r ≡ OutOfRange → ⊥) → KeepsUnasked old new r → is_untouched (Refused r) ≡ true → new ≡ old
   kept OutOfRange other h e = absurd (other refl)
@@ -159,11 +159,11 @@ module _ {S A : Type 0} (items : S → List A) {whole : A → ℤ} {old new : St
   step-of : {numbers : List ℤ} → map whole (items w) ≡ numbers → 1 ≤ n → (xs : List A) (q : Result ℕ Refusal) → IsTaken xs q → IsStep old new (asked.ConstructIt key k n (map whole xs)) (handle_answer q)
       → IsStep old new (asked.ConstructIt key k n numbers) (handle_answer q)
   step-of are some xs (Ok h) taken step =
-      subst (λ (zs : List ℤ). IsStep old new (asked.ConstructIt key k n zs) (Made h)) (ap (map whole) (taken-all items w t xs taken.0 (taken.1 ∙ sym long)) ∙ are) step
+      subst (λ (zs : List ℤ). IsStep old new (asked.ConstructIt key k n zs) (Made h)) (ap (map whole) (taken-all items w t taken.0 (taken.1 ∙ sym long)) ∙ are) step
   step-of {numbers} are some xs (Err r) taken step =
       let other = enough xs r taken in
-      let none : map whole xs ≡ [] = ap (map whole) (early xs r other taken) in
-      refused-array r other old new key k numbers some (ap length (sym are) ∙ length-map (items w) whole ∙ long)
+      let none : map whole xs ≡ [] = ap (map whole) (early r other taken) in
+      refused-array r other key k numbers some (ap length (sym are) ∙ length-map (items w) whole ∙ long)
       (subst (λ (zs : List ℤ). IsStep old new (asked.ConstructIt key k n zs) (Refused r)) none step)
 
   pub array-step : {numbers : List ℤ} → map whole (items w) ≡ numbers → 1 ≤ n → IsStep old new (asked.ConstructIt key k n numbers) (handle_answer result)

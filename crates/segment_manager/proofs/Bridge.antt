@@ -111,7 +111,7 @@ module _ (i : Index) (c : Cut) {d : Directory} (e : Key) (key : names.Key) (k : 
   -- the entry of the key
   pub lookup-found : (at : ℕ) → IsPlace (bytes_of c.bytes) e (entries_of i d) (Found at) → IsEntryFor i d key at
   lookup-found at p =
-      let s : StandsAt (objects_of i d) at p.0 = stands-at (objects_of i d) at p.1 in
+      let s = stands-at (objects_of i d) at p.1 in
       let has : has_key key s.object ≡ true = (says-at at s.is).equal (ap (order (bytes_of c.bytes) e) (sym s.handle) ∙ p.2) in
       record {
         object = s.object;
@@ -127,8 +127,8 @@ module _ (i : Index) (c : Cut) {d : Directory} (e : Key) (key : names.Key) (k : 
       (says-at j f).greater ((p.1 (denotes-rises i c e k (sought-rises i e key q)) j (handle o.extent) (at-handle (objects_of i d) j f)).1 l)
 
   -- no entry has the key, and no object
-  pub lookup-absent : (at : ℕ) → IsPlace (bytes_of c.bytes) e (entries_of i d) (Absent at) → IsNoEntryFor i d key at
-  lookup-absent at p = record {
+  pub lookup-absent : {at : ℕ} → IsPlace (bytes_of c.bytes) e (entries_of i d) (Absent at) → IsNoEntryFor i d key at
+  lookup-absent {at} p = record {
     none = none-found (has_key key) (order_of i) (class_of_index i) (sought-key i e key q).other d.objects
         (all_of-ordered (λ o. has_key key o ≡ false) (order_of i) [] (filter (is_class (class_of_index i)) d.objects)
         (at-all (λ o. has_key key o ≡ false) (objects_of i d) (λ j o f. absent-one at j p f (cases_lt j at)))).1;
@@ -149,7 +149,7 @@ place-of i c {d} e key at o k q p h j r f =
 objects-more : (i : Index) (d : Directory) (e : Key) (key : names.Key) (o : Object) → Seeks i e key → has_key key o ≡ true → object_at d key ≡ None
     → objects_of i (with_object d o) ≡ insert_by (order_of i) o (objects_of i d)
 objects-more Named d (Name s) (names.ByName name) o q h n =
-    named-more d o (first (is_class NamedClass o) (same_bytes name o.name) h) (subst (λ bs. object_at d (names.ByName bs) ≡ None) (name-of name o h) n)
+    named-more d o (first (is_class NamedClass o) (same_bytes name o.name) h) (subst (λ bs. object_at d (names.ByName bs) ≡ None) (name-of o h) n)
 objects-more Unique d (Code x) (names.ByKind k) o q h n =
     unique-more d o (first (is_class UniqueClass o) (same_kind k (kind_of o.value)) h)
     (subst (λ code. find (λ (p : Object). is_class UniqueClass p && (code == code_of (kind_of p.value))) d.objects ≡ None) (code-of k o h) n)
@@ -159,7 +159,7 @@ objects-more i d e key o q h n = absurd q
 pub entry-added : (i : Index) (c : Cut) {d : Directory} (e : Key) (key : names.Key) (at : ℕ) (o : Object) → Denotes current c.bytes d → Seeks i e key
     → IsPlace (bytes_of c.bytes) e (entries_of i d) (Absent at) → has_key key o ≡ true → insert (entries_of i d) at (handle o.extent) ≡ entries_of i (with_object d o)
 entry-added i c {d} e key at o k q p h =
-    let away : IsNoEntryFor i d key at = lookup-absent i c e key k q at p in
+    let away = lookup-absent i c e key k q p in
     insert-at (order_of i) o (objects_of i d) at (omega (arith, away.within, handles-length (objects_of i d))) (place-of i c e key at o k q p h)
     ∙ sym (ap handles (objects-more i d e key o q h away.none))
 
@@ -175,11 +175,11 @@ objects-less Unique {d} o h f c = one-removed UniqueClass by_kind by_kind-strict
 handles-differ : {format : ℕ} (i : Index) {d : Directory} (at j : ℕ) {o p : Object} → IsDirectory format d → slice_get (objects_of i d) at ≡ Some o → j < at → slice_get (objects_of i d) j ≡ Some p
     → handle o.extent ≢ handle p.extent
 handles-differ i {d} at j {o} {p} h f l g e =
-    let os : List Object = objects_of i d in
-    let mine : object_at d (names.ByHandle (handle o.extent)) ≡ Some o = all-at (λ (r : Object). object_at d (names.ByHandle (handle r.extent)) ≡ Some r) os at (in-handles i h) f in
-    let other : object_at d (names.ByHandle (handle p.extent)) ≡ Some p = all-at (λ (r : Object). object_at d (names.ByHandle (handle r.extent)) ≡ Some r) os j (in-handles i h) g in
-    let same : o ≡ p = same_Some o p (sym mine ∙ ap (λ n. object_at d (names.ByHandle n)) e ∙ other) in
-    let before : order_of i p o ≡ true = ascends-at (λ o p. order_of i o p ≡ true) os j at (objects-ascend i h) l g f in
+    let os = objects_of i d in
+    let mine = all-at (λ (r : Object). object_at d (names.ByHandle (handle r.extent)) ≡ Some r) os at (in-handles i h) f in
+    let other = all-at (λ (r : Object). object_at d (names.ByHandle (handle r.extent)) ≡ Some r) os j (in-handles i h) g in
+    let same = same_Some o p (sym mine ∙ ap (λ n. object_at d (names.ByHandle n)) e ∙ other) in
+    let before = ascends-at (λ o p. order_of i o p ≡ true) os j at (objects-ascend i h) l g f in
     let itself : order_of i o o ≡ true = subst (λ r. order_of i r o ≡ true) (sym same) before in
     false≢true (sym ((order-strict i).asym o o itself) ∙ itself)
 
@@ -187,7 +187,7 @@ handles-differ i {d} at j {o} {p} h f l g e =
 pub entry-removed : (i : Index) {d : Directory} (at : ℕ) {o : Object} → IsDirectory current d → slice_get (objects_of i d) at ≡ Some o → remove (entries_of i d) at ≡ entries_of i (without_object d o)
 entry-removed i {d} at {o} h e =
     let f : IsIn d o = record { is = all-at (λ (p : Object). object_at d (names.ByHandle (handle p.extent)) ≡ Some p) (objects_of i d) at (in-handles i h) e } in
-    let class : is_class (class_of_index i) o ≡ true = all-at (λ p. is_class (class_of_index i) p ≡ true) (objects_of i d) at (in-class i d) e in
+    let class = all-at (λ p. is_class (class_of_index i) p ≡ true) (objects_of i d) at (in-class i d) e in
     remove-at (objects_of i d) at e (λ j p l g. handles-differ i at j h e l g) ∙ sym (ap handles (objects-less i o h f class))
 
 -- an object of another class goes without an entry

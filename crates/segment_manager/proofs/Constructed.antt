@@ -65,11 +65,11 @@ count-is i d x = x.stands.count ∙ handles-length (objects_of i d)
 pub grows-performs : (i : Index) (a b : Cut) {d : Directory} (g : Option ℕ) (next : Directory → Plan) → Denotes current a.bytes d → (h : IsGrowth a b (place_of i) g)
     → perform d (live d) (with_entry d (class_of_index i) next) ≡ perform d (live_of b.bytes) (next (grown i d a b g h))
 grows-performs i a b {d} None next k h =
-    let x : IsIndexOf a (place_of i) (table_of i d) (entries_of i d) = denotes-index i a k in
+    let x = denotes-index i a k in
     let room : length (objects_of i d) < (table_of i d).capacity = omega (arith, h.0, count-is i d x, x.stands.capacity) in
     ap (perform d (live d)) (entry-room i d next room) ∙ ap (λ l. perform d l (next d)) (sym (denotes-live current a.bytes d k) ∙ ap (λ (c : Cut). live_of c.bytes) (sym h.1))
 grows-performs i a b {d} (Some g) next k h =
-    let x : IsIndexOf a (place_of i) (table_of i d) (entries_of i d) = denotes-index i a k in
+    let x = denotes-index i a k in
     let full : (table_of i d).capacity ≤ length (objects_of i d) = omega (arith, h.0, count-is i d x, x.stands.capacity) in
     let placed : place (live d) (8 * grown_capacity (table_of i d).capacity) IndexRole ≡ Some h.1.extent =
     sym (λ j. place (denotes-live current a.bytes d k j) (8 * grown_capacity (x.stands.capacity j)) IndexRole) ∙ h.1.placed in
@@ -85,7 +85,7 @@ pub grows-keeps : (i : Index) (a b c : Cut) {d : Directory} (g : Option ℕ) →
 grows-keeps i a b c {d} None k h keeps =
     subst (λ (l : LiveSet). Keeps a c l.extents) (denotes-live current a.bytes d k) (subst (λ (x : Cut). Keeps x c (live_of x.bytes).extents) h.1 keeps)
 grows-keeps i a b c {d} (Some g) k h keeps =
-    let front : Keeps b c (live_of a.bytes).extents =
+    let front =
     keeps-front b c h.1.extent (live_of a.bytes) (subst (λ (l : LiveSet). Keeps b c l.extents) (allocated-live current a b (grown_bytes a (place_of i)) IndexRole g h.1) keeps) in
     subst (λ (l : LiveSet). Keeps a c l.extents) (denotes-live current a.bytes d k) (keeps-trans a b c (live_of a.bytes).extents h.1.keeps front)
 
@@ -97,16 +97,16 @@ table_then i d a b None h = table_of i d
 table_then i d a b (Some g) h = grown_into i d h.1.extent
 
 grown-is : (i : Index) (d : Directory) (a b : Cut) (g : Option ℕ) (h : IsGrowth a b (place_of i) g) → grown i d a b g h ≡ with_table_of i d (table_then i d a b g h)
-grown-is i d a b None h = sym (same-table i d)
+grown-is i d a b None h = sym (same-table i)
 grown-is i d a b (Some g) h = refl
 
-entered : (i : Index) (a b : Cut) {c : Cut} (e : Cut) {d : Directory} (o : Object) (at : ℕ) (g : Option ℕ) → Denotes current a.bytes d → (h : IsGrowth a b (place_of i) g) → IsMade b c o
+entered : {i : Index} (a b : Cut) {c : Cut} {e : Cut} {d : Directory} {o : Object} (at : ℕ) (g : Option ℕ) → Denotes current a.bytes d → (h : IsGrowth a b (place_of i) g) → IsMade b c o
     → IsIndexOf c (place_of i) (table_of i d) (entries_of i d) → insert (entries_of i d) at (handle o.extent) ≡ entries_of i (with_object d o)
     → Adds c e (place_of i) (table_of i d) (insert (entries_of i d) at (handle o.extent)) g → LaysOut current e.bytes (grown_live c (place_of i) g)
     → AddKeeps c e (place_of i) (table_of i d) g → IsEntered i c e d (table_then i d a b g h) o
-entered i a b {c} e o at None k h made x same adds laid keeps =
-    entered-none i a e o at k (subst (λ (s : Cut). IsMade s c o) h.1 made) x same adds laid keeps
-entered i a b e o at (Some g) k h made x same adds laid keeps = entered-some i e o at k h.1 made x same adds laid keeps
+entered a b {c} {o} at None k h made x same adds laid keeps =
+    entered-none a at k (subst (λ (s : Cut). IsMade s c o) h.1 made) x same adds laid keeps
+entered a b at (Some g) k h made x same adds laid keeps = entered-some at k h.1 made x same adds laid keeps
 
 -- ---- what the machine does
 
@@ -135,14 +135,14 @@ pub record IsLed (i : Index) (w c : Cut) (at h : ℕ) (g : Option ℕ) : Type 0 
 
 module _ (i : Index) (a : Cut) (d : Directory) (e : Key) (key : names.Key) (name : List ℕ) (kind : Kind) (content : Content) (said : Denotes current a.bytes d) (new : IsNewKeyOf i e key name kind) where
   abbrev plan-of : (next : Object → Directory → Plan) → with_new_object d key content next ≡ with_entry d (class_of_index i) (object_plan i name content next)
-  plan-of next = content-plan i d key content next (key-class i e key name kind new) (key-name i e key name kind new)
+  plan-of next = content-plan i d key content next (key-class i e key name kind new) (key-name i e key kind new)
 
   -- the requests are met
   pub content-met : (b : Cut) {x : Extent} (v : Value) (left : LiveSet) (g : Option ℕ) → (grows : IsGrowth a b (place_of i) g) → place (live_of b.bytes) (object_len name (bare content)) ObjectRole ≡ Some x
       → IsGiven d (resized (live_of b.bytes) x) content v left → (next : Object → Directory → Plan)
       → perform d (live d) (with_new_object d key content next) ≡ perform d left (next (object_of i name v x) (with_object (grown i d a b g grows) (object_of i name v x)))
   content-met b {x} v left g grows placed given next =
-      let then : Directory = grown i d a b g grows in
+      let then = grown i d a b g grows in
       ap (perform d (live d)) (plan-of next)
       ∙ grows-performs i a b g (object_plan i name content next) said grows
       ∙ perform-new d (live_of b.bytes) ObjectRole (object_len name (bare content)) (value_plan i name content next then) x placed
@@ -152,7 +152,7 @@ module _ (i : Index) (a : Cut) (d : Directory) (e : Key) (key : names.Key) (name
   pub content-denied : (b : Cut) {x : Extent} (g : Option ℕ) → (grows : IsGrowth a b (place_of i) g) → place (live_of b.bytes) (object_len name (bare content)) ObjectRole ≡ Some x
       → IsDenied d (resized (live_of b.bytes) x) content → (next : Object → Directory → Plan) → perform d (live d) (with_new_object d key content next) ≡ (Refused NoSpace, d)
   content-denied b {x} g grows placed denied next =
-      let then : Directory = grown i d a b g grows in
+      let then = grown i d a b g grows in
       ap (perform d (live d)) (plan-of next)
       ∙ grows-performs i a b g (object_plan i name content next) said grows
       ∙ perform-new d (live_of b.bytes) ObjectRole (object_len name (bare content)) (value_plan i name content next then) x placed
@@ -172,21 +172,21 @@ module _ (i : Index) (a : Cut) (d : Directory) (e : Key) (key : names.Key) (name
       ∙ perform-no_space d (live_of r.1.bytes) ObjectRole (object_len name (bare content)) (value_plan i name content next (grown i d a r.1 r.0 r.2)) (ap (λ m. place (live_of r.1.bytes) m ObjectRole) (sym len) ∙ r.3)
 
   -- the object is made, and its entry is added
-  pub content-entered : (b w c : Cut) {x : Extent} {v : Value} {left : LiveSet} (at : ℕ) {h : ℕ} (g : Option ℕ) → IsGrowth a b (place_of i) g → place (live_of b.bytes) (object_len name (bare content)) ObjectRole ≡ Some x
+  pub content-entered : (b w : Cut) {c : Cut} {x : Extent} {v : Value} {left : LiveSet} (at : ℕ) {h : ℕ} (g : Option ℕ) → IsGrowth a b (place_of i) g → place (live_of b.bytes) (object_len name (bare content)) ObjectRole ≡ Some x
       → IsGiven d (resized (live_of b.bytes) x) content v left → kind_of v ≡ kind → count_of v ≡ count_of (bare content) → IsMade b w (object_of i name v x) → h ≡ handle x
       → IsPlace (bytes_of a.bytes) e (entries_of i d) (Absent at) → IsLed i w c at h g → IsNewObject c d key content h
-  content-entered b w c {x} {v} {left} at g grows placed given is_kind counts made is away led =
-      let o : Object = object_of i name v x in
+  content-entered b w {c} {x} {v} {left} at g grows placed given is_kind counts made is away led =
+      let o = object_of i name v x in
       let new' : IsNewKeyOf i e key name (kind_of v) = subst (IsNewKeyOf i e key name) (sym is_kind) new in
       let stands = denotes-index i a said in
-      let index : IsIndexOf w (place_of i) (table_of i d) (entries_of i d) =
-      taken-index w (extents_of o) made.taken (place_behind i) (place_small i) (growth-index i b g grows stands) in
-      let same : insert (entries_of i d) at (handle x) ≡ entries_of i (with_object d o) = entry-added i a e key at o said (key-seeks i e key name kind new) away (key-has i e key name v x new') in
+      let index =
+      taken-index (extents_of o) made.taken (place_behind i) (place_small i) (growth-index i g grows stands) in
+      let same = entry-added i a e key at o said (key-seeks i e key name kind new) away (key-has i e key name v x new') in
       let adds : Adds w c (place_of i) (table_of i d) (insert (entries_of i d) at (handle x)) g =
       subst (λ n. Adds w c (place_of i) (table_of i d) (insert (entries_of i d) at n) g) is (led.adds (table_of i d) (entries_of i d) index) in
-      let t : Table = table_then i d a b g grows in
-      let there : IsEntered i w c d t o = entered i a b c o at g said grows made index same adds led.live (led.keeps (table_of i d) (entries_of i d) index) in
-      let none = (lookup-absent i a e key said (key-seeks i e key name kind new) at away).none in
+      let t = table_then i d a b g grows in
+      let there = entered a b at g said grows made index same adds led.live (led.keeps (table_of i d) (entries_of i d) index) in
+      let none = (lookup-absent i a e key said (key-seeks i e key name kind new) away).none in
       record {
         object = o;
         after = with_object (with_table_of i d t) o;
@@ -201,7 +201,7 @@ module _ (i : Index) (a : Cut) (d : Directory) (e : Key) (key : names.Key) (name
 
 -- ---- numbers
 
-module _ (i : Index) (a : Cut) {d : Directory} (e : Key) (key : names.Key) (name : List ℕ) (k : ScalarKind) (zs : List ℤ) (said : Denotes current a.bytes d) (new : IsNewKeyOf i e key name (Scalar k)) where
+module _ (i : Index) {a : Cut} {d : Directory} (e : Key) {key : names.Key} (name : List ℕ) (k : ScalarKind) (zs : List ℤ) (said : Denotes current a.bytes d) (new : IsNewKeyOf i e key name (Scalar k)) where
   -- its requests are met
   pub numbers-met : {m : Cut} {n h : ℕ} {g : Option ℕ} → n ≡ object_len name (Numbers k zs) → IsRequested a m (place_of i) n g h → IsMet d key (asked.Numbers k zs)
   numbers-met {g} len r =

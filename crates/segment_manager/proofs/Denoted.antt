@@ -29,8 +29,8 @@ handles-length (o ∷ os) = ap suc (handles-length os)
 pub index-stays : {m m' : Memory} {at : ℕ} {t : Table} (os : List Object) (lt : Object → Object → Bool) → IsTrue (is_index t os lt) → Same m m' at (at + 24)
     → AllByRecursion (SameBlock m m') (table_extents t) → IsIndexAt m at t (handles os) → IsIndexAt m' at t (handles os)
 index-stays {t} os lt is_there s blocks h =
-    let both : IsTrue (is_table Index 8 t && nat_le (length os) t.capacity) = first (is_table Index 8 t && nat_le (length os) t.capacity) (rises lt os) is_there in
-    let fits : length os ≤ t.capacity = no_more (length os) t.capacity (second (is_table Index 8 t) (nat_le (length os) t.capacity) both) in
+    let both = first (is_table Index 8 t && nat_le (length os) t.capacity) (rises lt os) is_there in
+    let fits = no_more (length os) t.capacity (second (is_table Index 8 t) (nat_le (length os) t.capacity) both) in
     any_index-same (first (is_table Index 8 t) (nat_le (length os) t.capacity) both) (omega (arith, handles-length os)) s blocks h
 
 -- the header and both indexes
@@ -44,8 +44,8 @@ pub frame-stays : {format : ℕ} (old new : Cut) {d : Directory} (xs : List Exte
     → AllByRecursion (SameBlock (bytes_of old.bytes) (bytes_of new.bytes)) (table_extents d.named)
     → AllByRecursion (SameBlock (bytes_of old.bytes) (bytes_of new.bytes)) (table_extents d.unique) → IsFrame format (bytes_of new.bytes) d
 frame-stays old new {d} xs h k n u =
-    let m : Memory = bytes_of old.bytes in
-    let m' : Memory = bytes_of new.bytes in
+    let m = bytes_of old.bytes in
+    let m' = bytes_of new.bytes in
     record {
       header = header-same k.front (Same-part m m' 32 128 80 128 k.behind (omega arith) (omega arith)) h.header;
       named = index-stays (named_objects d) by_name h.directory.named (Same-part m m' 32 128 32 56 k.behind (omega arith) (omega arith)) n h.named;
@@ -57,7 +57,7 @@ frame-stays old new {d} xs h k n u =
 -- an object begins where no extent did
 pub fresh : (d : Directory) (o : Object) → IsTrue (is_proper (adding (live d) (extents_of o))) → Differs o.extent (live d).extents
 fresh d o h =
-    let f : IsFresh 128 o.extent (inserted (value_extents o.value) (live d).extents) =
+    let f =
     rising-insert 128 o.extent (inserted (value_extents o.value) (live d).extents) (live-rises (adding (live d) (extents_of o)) h) in
     (all_of-inserted (λ (y : Extent). o.extent.offset ≢ y.offset) (value_extents o.value) (live d).extents f.differs).1
 
@@ -67,7 +67,7 @@ pub directory-with : {format : ℕ} {d : Directory} (o : Object) → IsDirectory
 directory-with {format} {d} o h is_there c p = record {
   proper = subst (λ l. IsTrue (is_proper l)) (sym (live-put d o p)) p;
   objects = list_all-put (is_object format) o d.objects is_there h.objects;
-  by_offset = put-rises 0 o d.objects (omega arith) (stands_apart o d.objects (of_each (λ (y : Extent). o.extent.offset ≢ y.offset) d (fresh d o p)).objects) h.by_offset;
+  by_offset = put-rises 0 o d.objects (omega arith) (stands_apart o d.objects (of_each (λ (y : Extent). o.extent.offset ≢ y.offset) (fresh d o p)).objects) h.by_offset;
   named = subst (λ os. IsTrue (is_index d.named os by_name)) (sym (ordered-with Named by_name d o (anonymous-named o c))) h.named;
   unique = subst (λ os. IsTrue (is_index d.unique os by_kind)) (sym (ordered-with Unique by_kind d o (anonymous-unique o c))) h.unique;
 }
@@ -76,8 +76,8 @@ directory-with {format} {d} o h is_there c p = record {
 pub denotes-with : {format : ℕ} (old new : Cut) {d : Directory} {o : Object} → Denotes format old.bytes d → IsTrue (is_object format o) → o.class ≡ Anonymous
     → LaysOut format new.bytes (adding (live d) (extents_of o)) → Keeps old new (live d).extents → IsObjectAt (bytes_of new.bytes) o → Denotes format new.bytes (with_object d o)
 denotes-with {format} old new {d} {o} h is_there c l k at =
-    let blocks : OfEach (SameBlock (bytes_of old.bytes) (bytes_of new.bytes)) d = of_each (SameBlock (bytes_of old.bytes) (bytes_of new.bytes)) d k.blocks in
-    let frame : IsFrame format (bytes_of new.bytes) d = frame-stays old new (live d).extents h k blocks.named blocks.unique in
+    let blocks = of_each (SameBlock (bytes_of old.bytes) (bytes_of new.bytes)) k.blocks in
+    let frame = frame-stays old new (live d).extents h k blocks.named blocks.unique in
     record {
       directory = directory-with o h.directory is_there c l.proper;
       header = frame.header;
@@ -105,12 +105,12 @@ directory-without {format} {d} o h f c p = record {
 pub denotes-without : {format : ℕ} (old new : Cut) {d : Directory} (o : Object) → Denotes format old.bytes d → IsIn d o → o.class ≡ Anonymous
     → LaysOut format new.bytes (removing (live d) (extents_of o)) → Keeps old new (removing (live d) (extents_of o)).extents → Denotes format new.bytes (without_object d o)
 denotes-without {format} old new {d} o h f c l k =
-    let same : live (without_object d o) ≡ removing (live d) (extents_of o) = live-without d o f h.directory.proper in
+    let same = live-without d o f h.directory.proper in
     let l' : LaysOut format new.bytes (live (without_object d o)) = subst (LaysOut format new.bytes) (sym same) l in
-    let blocks : OfEach (SameBlock (bytes_of old.bytes) (bytes_of new.bytes)) (without_object d o) =
-    of_each (SameBlock (bytes_of old.bytes) (bytes_of new.bytes)) (without_object d o)
+    let blocks =
+    of_each (SameBlock (bytes_of old.bytes) (bytes_of new.bytes))
     (subst (λ (s : LiveSet). AllByRecursion (SameBlock (bytes_of old.bytes) (bytes_of new.bytes)) s.extents) (sym same) k.blocks) in
-    let frame : IsFrame format (bytes_of new.bytes) d = frame-stays old new (removing (live d) (extents_of o)).extents h k blocks.named blocks.unique in
+    let frame = frame-stays old new (removing (live d) (extents_of o)).extents h k blocks.named blocks.unique in
     record {
       directory = directory-without o h.directory f c l'.proper;
       header = frame.header;
@@ -129,11 +129,11 @@ pub denotes-replaced : (format : ℕ) (old new : Cut) (d : Directory) (o o' : Ob
     → IsTrue (is_object format o') → LaysOut format new.bytes (live (with_changed d o')) → Keeps old new (live (without_object d o')).extents
     → IsObjectAt (bytes_of new.bytes) o' → Denotes format new.bytes (with_changed d o')
 denotes-replaced format old new d o o' h f like is_there l k at =
-    let blocks : OfEach (SameBlock (bytes_of old.bytes) (bytes_of new.bytes)) (without_object d o') =
-    of_each (SameBlock (bytes_of old.bytes) (bytes_of new.bytes)) (without_object d o') k.blocks in
-    let frame : IsFrame format (bytes_of new.bytes) d = frame-stays old new (live (without_object d o')).extents h k blocks.named blocks.unique in
-    let n : SameIndex by_name (named_objects d) (named_objects (with_changed d o')) = ordered-changed Named by_name by_name-face d o o' f like in
-    let u : SameIndex by_kind (unique_objects d) (unique_objects (with_changed d o')) = ordered-changed Unique by_kind by_kind-face d o o' f like in
+    let blocks =
+    of_each (SameBlock (bytes_of old.bytes) (bytes_of new.bytes)) k.blocks in
+    let frame = frame-stays old new (live (without_object d o')).extents h k blocks.named blocks.unique in
+    let n = ordered-changed Named by_name by_name-face d o o' f like in
+    let u = ordered-changed Unique by_kind by_kind-face d o o' f like in
     record {
       directory = record {
         proper = l.proper;
@@ -165,12 +165,12 @@ pub record HasIndexes (m : Memory) (d : Directory) : Type 0 where
   pub unique_at : IsIndexAt m 56 d.unique (handles (unique_objects d))
 
 -- One object more, of any class. The directory e is d, but for the tables of its indexes, which may have grown.
-pub denotes-put : {format : ℕ} {b : List ℕ} (b' : List ℕ) {d : Directory} (e : Directory) {o : Object} → Denotes format b d → e.size ≡ d.size → e.objects ≡ d.objects
+pub denotes-put : {format : ℕ} {b : List ℕ} {b' : List ℕ} {d : Directory} (e : Directory) {o : Object} → Denotes format b d → e.size ≡ d.size → e.objects ≡ d.objects
     → IsTrue (is_object format o) → LaysOut format b' (adding (live e) (extents_of o)) → KeepsFront (bytes_of b) (bytes_of b')
     → AllByRecursion (SameBlock (bytes_of b) (bytes_of b')) (flat_map extents_of d.objects)
     → HasIndexes (bytes_of b') (with_object e o) → IsObjectAt (bytes_of b') o → Denotes format b' (with_object e o)
-denotes-put {format} {b} b' {d} e {o} h s os is_there l k blocks i at =
-    let apart = (of_each (λ (y : Extent). o.extent.offset ≢ y.offset) e (fresh e o l.proper)).objects in
+denotes-put {format} {b} {b'} {d} e {o} h s os is_there l k blocks i at =
+    let apart = (of_each (λ (y : Extent). o.extent.offset ≢ y.offset) (fresh e o l.proper)).objects in
     record {
       directory = record {
         proper = subst (λ (x : LiveSet). IsTrue (is_proper x)) (sym (live-put e o l.proper)) l.proper;
@@ -188,12 +188,12 @@ denotes-put {format} {b} b' {d} e {o} h s os is_there l k blocks i at =
     }
 
 -- One object less, of any class: the indexes are written as those of the others.
-pub denotes-taken : {format : ℕ} {b : List ℕ} (b' : List ℕ) {d : Directory} (o : Object) → Denotes format b d → IsIn d o
+pub denotes-taken : {format : ℕ} {b : List ℕ} {b' : List ℕ} {d : Directory} (o : Object) → Denotes format b d → IsIn d o
     → LaysOut format b' (removing (live d) (extents_of o)) → KeepsFront (bytes_of b) (bytes_of b')
     → AllByRecursion (SameBlock (bytes_of b) (bytes_of b')) (flat_map extents_of (remove_object (handle o.extent) d.objects))
     → IsIndexAt (bytes_of b') 32 d.named (handles (named_objects (without_object d o))) → IsIndexAt (bytes_of b') 56 d.unique (handles (unique_objects (without_object d o)))
     → Denotes format b' (without_object d o)
-denotes-taken {format} {b} b' {d} o h f l k blocks n u =
+denotes-taken {format} {b} {b'} {d} o h f l k blocks n u =
     let l' : LaysOut format b' (live (without_object d o)) = subst (LaysOut format b') (sym (live-without d o f h.directory.proper)) l in
     record {
       directory = directory-less o h.directory f l'.proper;

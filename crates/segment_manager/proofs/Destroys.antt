@@ -34,18 +34,18 @@ use Rattle.seg_index.specs.declared.keys.Lookup.{Lookup}
 -- ---- the object of a handle
 
 -- the handle means itself
-itself : {s : State} (h : ℕ) → Answers s (λ d. is_object_at d h) true → Answers s (λ d. handle_at d (names.ByHandle h)) (Some h)
-itself h a = handle-answers h a
+itself : {s : State} {h : ℕ} → Answers s (λ d. is_object_at d h) true → Answers s (λ d. handle_at d (names.ByHandle h)) (Some h)
+itself {h} a = handle-answers h a
 
-pub object-here : {s : State} (h : ℕ) → Answers s (λ d. is_object_at d h) true → (d : Directory) → StandsFor s.cut.bytes d → IsHere s.cut.bytes d (names.ByHandle h) h
-object-here {s} h a d k = here s.cut.bytes d (names.ByHandle h) h k.denotes ((itself h a).answers d k)
+pub object-here : {s : State} {h : ℕ} → Answers s (λ d. is_object_at d h) true → (d : Directory) → StandsFor s.cut.bytes d → IsHere s.cut.bytes d (names.ByHandle h) h
+object-here {s} {h} a d k = here s.cut.bytes d (names.ByHandle h) h k.denotes ((itself a).answers d k)
 
 -- as the view before the call names the segment
 pub seen-there : {s t : State} (view : s ≡ t) (h : ℕ) → Answers t (λ d. is_object_at d h) true → Answers s (λ d. is_object_at d h) true
 seen-there view h = subst (λ (u : State). Answers u (λ d. is_object_at d h) true) (sym view)
 
 pub has-own_object : {s t : State} (view : s ≡ t) (h : ℕ) → IsSegment s.cut.bytes → Answers t (λ d. is_object_at d h) true → HasObject s.cut.bytes h
-has-own_object view h i a = has-object (names.ByHandle h) i (itself h (seen-there view h a))
+has-own_object view h i a = has-object (names.ByHandle h) i (itself (seen-there view h a))
 
 none-if : (r : Option Object) → false ≡ is_some r → r ≡ None
 none-if None e = refl
@@ -68,22 +68,22 @@ abbrev pub IsNamed : Key → List ℕ → Type 0
 IsNamed (entry.Name bytes) name = bytes.now ≡ name
 IsNamed (entry.Code n) name = ⊥
 
-module _ {s t : State} (view : s ≡ t) (h : ℕ) (head : Head) (a : Answers t (λ d. is_object_at d h) true) (r : IsReadAt s.cut.bytes h head) where
+module _ {s t : State} (view : s ≡ t) {h : ℕ} {head : Head} (a : Answers t (λ d. is_object_at d h) true) (r : IsReadAt s.cut.bytes h head) where
   here-in : (d : Directory) → StandsFor s.cut.bytes d → IsHere s.cut.bytes d (names.ByHandle h) h
-  here-in = object-here h (seen-there view h a)
+  here-in = object-here (seen-there view h a)
 
   -- it has no key
   pub listed-none : head.class ≡ class.Anonymous → IsAnonymousAt t h
   listed-none e =
       subst (λ (u : State). IsAnonymousAt u h) view (λ d k.
-      let o : IsHere s.cut.bytes d (names.ByHandle h) h = here-in d k in
+      let o = here-in d k in
       (o.object, o.is, sym (r o.object o.stands).class ∙ e))
 
   -- it has a name
   pub listed-name : (e : Key) → head.class ≡ class.Named → ((o : Object) → StandsAt s.cut.bytes h o → IsNamed e o.name) → HasEntries t index.Named e h
   listed-name (entry.Name bytes) e n =
       subst (λ (u : State). HasEntries u index.Named (entry.Name bytes) h) view (λ d k.
-      let o : IsHere s.cut.bytes d (names.ByHandle h) h = here-in d k in
+      let o = here-in d k in
       record {
         object = o.object;
         is = o.is;
@@ -98,8 +98,8 @@ module _ {s t : State} (view : s ≡ t) (h : ℕ) (head : Head) (a : Answers t (
   pub listed-kind : {n : ℕ} → head.class ≡ class.Unique → n ≡ code_of head.kind → HasEntries t index.Unique (entry.Code n) h
   listed-kind {n} e f =
       subst (λ (u : State). HasEntries u index.Unique (entry.Code n) h) view (λ d k.
-      let o : IsHere s.cut.bytes d (names.ByHandle h) h = here-in d k in
-      let said : IsHeadOf o.object head = r o.object o.stands in
+      let o = here-in d k in
+      let said = r o.object o.stands in
       record {
         object = o.object;
         is = o.is;
@@ -113,7 +113,7 @@ pub listed-found : {s t : State} (view : s ≡ t) (i : Index) (e : Key) (h at : 
 listed-found {s} view i e h at f each =
     subst (λ (u : State). IsAnonymousAt u h) view (λ d k.
     let x : HasEntry i e d h = subst (λ (u : State). HasEntries u i e h) (sym view) each d k in
-    absurd (none-some x.object (sym (lookup-absent i s.cut e x.key k.denotes x.seeks at (of-directory s i (λ hs. IsPlace (bytes_of s.cut.bytes) e hs (Absent at)) k f)).none ∙ x.found)))
+    absurd (none-some x.object (sym (lookup-absent i s.cut e x.key k.denotes x.seeks (of-directory s i (λ hs. IsPlace (bytes_of s.cut.bytes) e hs (Absent at)) k f)).none ∙ x.found)))
 
 -- ---- an object with an entry
 
@@ -129,20 +129,20 @@ entry-class i d at {o} e =
     (all-ordered (λ p. is_class (class_of_index i) p ≡ true) (class_of_index i) (order_of i) d.objects (of-class (class_of_index i) d.objects)) e)
 
 -- it stands in the heap with the other entries
-pub entry-index : (c : Cut) {i : Index} {at : ℕ} → HoldsEntry c.bytes i at → HasIndex c (place_of i)
-entry-index c {i} x = record { table = table_of i x.directory; handles = entries_of i x.directory; index = denotes-index i c x.stands.denotes }
+pub entry-index : {c : Cut} {i : Index} {at : ℕ} → HoldsEntry c.bytes i at → HasIndex c (place_of i)
+entry-index {c} {i} x = record { table = table_of i x.directory; handles = entries_of i x.directory; index = denotes-index i c x.stands.denotes }
 
 pub entry-below : (c : Cut) {i : Index} {at : ℕ} → HoldsEntry c.bytes i at → at < entry_count c (place_of i)
 entry-below c {i} {at} x =
     let d : Directory = x.directory in
-    let stands : IsIndexOf c (place_of i) (table_of i d) (entries_of i d) = denotes-index i c x.stands.denotes in
+    let stands = denotes-index i c x.stands.denotes in
     omega (arith, slice_get_within (entries_of i d) at (handle x.object.extent) (at-handle (objects_of i d) at x.is), stands.stands.count)
 
 -- a handle that stands at the entry
 abbrev pub LeadsTo : Cut → Index → ℕ → ℕ → Type 0
 LeadsTo c i at h = (t : Table) (hs : List ℕ) → IsIndexOf c (place_of i) t hs → slice_get hs at ≡ Some h
 
-module _ (a : Cut) (i : Index) (at h : ℕ) (leads : LeadsTo a i at h) where
+module _ {a : Cut} (i : Index) (at : ℕ) {h : ℕ} (leads : LeadsTo a i at h) where
   entry-found : {d : Directory} {o : Object} → Denotes current a.bytes d → slice_get (objects_of i d) at ≡ Some o → object_at d (names.ByHandle h) ≡ Some o
   entry-found {d} {o} k e =
       subst (λ g. object_at d (names.ByHandle g) ≡ Some o)
@@ -180,7 +180,7 @@ module _ (a b : Cut) (h : ℕ) (empties : Empties a b h) (d : Directory) (o : Ob
   -- its own block is still in use
   still-live : is_live_in (live_of b.bytes) h ≡ true
   still-live =
-      let at : h ≡ handle o.extent = found-handle h d.objects o (record { is = e }) in
+      let at = found-handle h d.objects o (record { is = e }) in
       (λ j. is_live_in (denotes-live current b.bytes emptied_directory emptied-denotes j) (at j)) ∙ object-live emptied_directory emptied_object emptied-in emptied-denotes.directory.proper
 
   -- an index has the entries that it had
@@ -191,7 +191,7 @@ module _ (a b : Cut) (h : ℕ) (empties : Empties a b h) (d : Directory) (o : Ob
   -- where its own block was released and nothing else, and it has no key
   anonymous-gone : {c : Cut} → o.class ≡ class.Anonymous → IsReleased current b c h → Becomes a c (without_object d o)
   anonymous-gone {c} is r =
-      let at : h ≡ handle o.extent = found-handle h d.objects o (record { is = e }) in
+      let at = found-handle h d.objects o (record { is = e }) in
       record {
         place = SamePlace-trans a b c (empties d o k e).place r.keeps.place;
         denotes = subst (Denotes current c.bytes) (changed-others d o is-in (emptied o.value))
@@ -202,12 +202,12 @@ module _ (a b : Cut) (h : ℕ) (empties : Empties a b h) (d : Directory) (o : Ob
   -- where an entry was removed that it has, and then its own block was released
   entry-gone : {c f : Cut} {i : Index} {at : ℕ} → slice_get (objects_of i d) at ≡ Some o → IsUnlisted i b c at → IsReleased current c f h → Becomes a f (without_object d o)
   entry-gone {c} {f} {i} {at} there u r =
-      let t : Table = table_of i emptied_directory in
-      let own : h ≡ handle o.extent = found-handle h d.objects o (record { is = e }) in
+      let t = table_of i emptied_directory in
+      let own = found-handle h d.objects o (record { is = e }) in
       let released : IsReleased current c f (handle o.extent) = subst (IsReleased current c f) own r in
-      let rest : without_object emptied_directory emptied_object ≡ without_object d o = changed-others d o is-in (emptied o.value) in
-      let before : IsIndexOf b (place_of i) t (entries_of i d) = emptied-index i in
-      let less : remove (entries_of i d) at ≡ entries_of i (without_object emptied_directory emptied_object) =
+      let rest = changed-others d o is-in (emptied o.value) in
+      let before = emptied-index i in
+      let less =
       entry-removed i at k.denotes.directory there ∙ ap (entries_of i) (sym rest) in
       let left : IsLeft i b c t (entries_of i (without_object emptied_directory emptied_object)) = record {
         live = u.live;
@@ -226,7 +226,7 @@ module _ (a b : Cut) (h : ℕ) (empties : Empties a b h) (d : Directory) (o : Ob
 module _ (a b : Cut) (i : Index) (at h : ℕ) (leads : LeadsTo a i at h) (empties : Empties a b h) where
   module _ (x : HoldsEntry a.bytes i at) where
     abbrev held : object_at x.directory (names.ByHandle h) ≡ Some x.object
-    held = entry-found a i at h leads x.stands.denotes x.is
+    held = entry-found i at leads x.stands.denotes x.is
 
     index-there : IsIndexOf b (place_of i) (table_of i (changed x.directory x.object (emptied x.object.value))) (entries_of i x.directory)
     index-there = emptied-index a b h empties x.directory x.object x.stands held i
@@ -245,10 +245,10 @@ module _ (a b : Cut) (i : Index) (at h : ℕ) (leads : LeadsTo a i at h) (emptie
         ap (λ s. is_live_in s h) (lay_out_one current c.bytes (live_of b.bytes) l) ∙ still-live a b h empties x.directory x.object x.stands held
 
   pub removes-entry : {c f : Cut} → IsUnlisted i b c at → IsReleased current c f h → RemovesEntry a f i at
-  removes-entry u r d o k there = entry-gone a b h empties d o k (entry-found a i at h leads k.denotes there) there u r
+  removes-entry u r d o k there = entry-gone a b h empties d o k (entry-found i at leads k.denotes there) there u r
 
 -- and of one without a key
-module _ (a b : Cut) (h : ℕ) (empties : Empties a b h) where
+module _ {a b : Cut} {h : ℕ} (empties : Empties a b h) where
   pub own-still : HoldsObject a.bytes h → is_live_in (live_of b.bytes) h ≡ true
   own-still x = still-live a b h empties x.directory x.object x.stands x.is
 
@@ -261,23 +261,23 @@ module _ (a b : Cut) (h : ℕ) (empties : Empties a b h) where
 abbrev pub Ends : Cut → Index → Key → Lookup → Type 0
 Ends c i e r = (t : Table) (hs : List ℕ) → IsIndexOf c (place_of i) t hs → IsPlace (bytes_of c.bytes) e hs r
 
-found-for : (c : Cut) (i : Index) (e : Key) (key : names.Key) (at : ℕ) {d : Directory} → Denotes current c.bytes d → Seeks i e key → Ends c i e (Found at) → IsEntryFor i d key at
-found-for c i e key at {d} k q p = lookup-found i c e key k q at (p (table_of i d) (entries_of i d) (denotes-index i c k))
+found-for : (c : Cut) {i : Index} (e : Key) {key : names.Key} {at : ℕ} {d : Directory} → Denotes current c.bytes d → Seeks i e key → Ends c i e (Found at) → IsEntryFor i d key at
+found-for c {i} e {key} {at} {d} k q p = lookup-found i c e key k q at (p (table_of i d) (entries_of i d) (denotes-index i c k))
 
 -- the entry that was found is an object's
 pub found-entry : (c : Cut) (b : IsSegment c.bytes) (i : Index) (e : Key) (key : names.Key) (at : ℕ) → Seeks i e key → Ends c i e (Found at) → HoldsEntry c.bytes i at
 found-entry c b i e key at q p =
-    let there : IsEntryFor i b.0 key at = found-for c i e key at b.1.denotes q p in record { directory = b.0; stands = b.1; object = there.object; is = there.stands }
+    let there = found-for c e b.1.denotes q p in record { directory = b.0; stands = b.1; object = there.object; is = there.stands }
 
 -- the look-up found its entry
-pub destroys-entered : {s t : State} (view : s ≡ t) (b : IsSegment s.cut.bytes) (c : Cut) (i : Index) (e : Key) (key : names.Key) (at : ℕ) → is_read_only t.mode ≡ false → Seeks i e key
+pub destroys-entered : {s t : State} (view : s ≡ t) (b : IsSegment s.cut.bytes) {c : Cut} (i : Index) (e : Key) (key : names.Key) (at : ℕ) → is_read_only t.mode ≡ false → Seeks i e key
     → Ends s.cut i e (Found at) → RemovesEntry s.cut c i at → Stepped s t c (asked.Destroy key) (Truth true)
-destroys-entered {s} {t} view b c i e key at may q p r =
+destroys-entered {s} {t} view b {c} i e key at may q p r =
     stepped s t view b c (asked.Destroy key) (Truth true) may (λ writing.
-    by_step s (record s { cut = c }) (asked.Destroy key) (Truth true)
+    by_step (asked.Destroy key)
     (record { mode = refl; place = let x = found-entry s.cut b i e key at q p in (r x.directory x.object x.stands x.is).place }) (λ d k.
-    let there : IsEntryFor i d key at = found-for s.cut i e key at k.denotes q p in
-    lands (record s { cut = c }) (step s.mode d (asked.Destroy key)) (Truth true) (without_object d there.object) (record {
+    let there = found-for s.cut e k.denotes q p in
+    lands (without_object d there.object) (record {
       is = step-reply s.mode d (asked.Destroy key) (Truth true) (without_object d there.object) (open-writing s.mode (asked.Destroy key) writing)
           (ap (λ (r : Option Object). elim r as (λ _. Plan) [ None ↦ Reply (Truth false) d | Some o ↦ Reply (Truth true) (without_object d o) ]) there.is);
       denotes = (r d there.object k there.stands).denotes;
@@ -292,18 +292,18 @@ destroys-none {s} view i e key at may q p =
     (by_no_change s (asked.Destroy key) (Truth false) (λ d k.
     step-reply s.mode d (asked.Destroy key) (Truth false) d (open-writing s.mode (asked.Destroy key) writing)
     (ap (λ (r : Option Object). elim r as (λ _. Plan) [ None ↦ Reply (Truth false) d | Some o ↦ Reply (Truth true) (without_object d o) ])
-    (lookup-absent i s.cut e key k.denotes q at (p (table_of i d) (entries_of i d) (denotes-index i s.cut k.denotes))).none)))
+    (lookup-absent i s.cut e key k.denotes q (p (table_of i d) (entries_of i d) (denotes-index i s.cut k.denotes))).none)))
 
 -- ---- destroying by a handle
 
 -- the object of the handle is gone from each directory
-destroys-object : (s : State) (c : Cut) (h : ℕ) → is_read_only s.mode ≡ false → IsSegment s.cut.bytes
+destroys-object : {s : State} (c : Cut) (h : ℕ) → is_read_only s.mode ≡ false → IsSegment s.cut.bytes
     → ((d : Directory) → StandsFor s.cut.bytes d → (o : Object) × ((object_at d (names.ByHandle h) ≡ Some o) × Becomes s.cut c (without_object d o)))
     → IsStep s (record s { cut = c }) (asked.DestroyPtr h) (Truth true)
-destroys-object s c h writing b each =
-    by_step s (record s { cut = c }) (asked.DestroyPtr h) (Truth true) (record { mode = refl; place = (each b.0 b.1).1.1.place }) (λ d k.
+destroys-object {s} c h writing b each =
+    by_step (asked.DestroyPtr h) (record { mode = refl; place = (each b.0 b.1).1.1.place }) (λ d k.
     let x = each d k in
-    lands (record s { cut = c }) (step s.mode d (asked.DestroyPtr h)) (Truth true) (without_object d x.0) (record {
+    lands (without_object d x.0) (record {
       is = step-reply s.mode d (asked.DestroyPtr h) (Truth true) (without_object d x.0) (open-writing s.mode (asked.DestroyPtr h) writing)
           (with-found d (names.ByHandle h) x.0 (λ o. Reply (Truth true) (without_object d o)) x.1.0);
       denotes = x.1.1.denotes;
@@ -315,33 +315,33 @@ seen-entry view {h} {i} {at} = subst (λ (u : State). IsEntryAt u h i at) (sym v
 
 pub own-entry : {s t : State} (view : s ≡ t) (b : IsSegment s.cut.bytes) {h : ℕ} {i : Index} {at : ℕ} → IsEntryAt t h i at → HoldsEntry s.cut.bytes i at
 own-entry {s} view b {h} {i} {at} listed =
-    let l : IsEntryAt s h i at = seen-entry view listed in
-    let x : HasEntry i l.entry b.0 h = l.leads b.0 b.1 in found-entry s.cut b i l.entry x.key at x.seeks l.found
+    let l = seen-entry view listed in
+    let x = l.leads b.0 b.1 in found-entry s.cut b i l.entry x.key at x.seeks l.found
 
 -- it went with its entry
-pub destroys-ptr : {s t : State} (view : s ≡ t) (b : IsSegment s.cut.bytes) (c : Cut) {h : ℕ} {i : Index} {at : ℕ} → is_read_only t.mode ≡ false → IsEntryAt t h i at
+pub destroys-ptr : {s t : State} (view : s ≡ t) (b : IsSegment s.cut.bytes) {c : Cut} {h : ℕ} {i : Index} {at : ℕ} → is_read_only t.mode ≡ false → IsEntryAt t h i at
     → RemovesEntry s.cut c i at → Stepped s t c (asked.DestroyPtr h) (Truth true)
-destroys-ptr {s} {t} view b c {h} {i} {at} may listed r =
-    let l : IsEntryAt s h i at = seen-entry view listed in
+destroys-ptr {s} {t} view b {c} {h} {i} {at} may listed r =
+    let l = seen-entry view listed in
     stepped s t view b c (asked.DestroyPtr h) (Truth true) may (λ writing.
-    destroys-object s c h writing b (λ d k.
-    let x : HasEntry i l.entry d h = l.leads d k in
-    let there : IsEntryFor i d x.key at = found-for s.cut i l.entry x.key at k.denotes x.seeks l.found in
-    let same : there.object ≡ x.object = same_Some there.object x.object (sym there.is ∙ x.found) in
+    destroys-object c h writing b (λ d k.
+    let x = l.leads d k in
+    let there = found-for s.cut l.entry k.denotes x.seeks l.found in
+    let same = same_Some there.object x.object (sym there.is ∙ x.found) in
     (x.object, (x.is, subst (λ o. Becomes s.cut c (without_object d o)) same (r d there.object k there.stands)))))
 
 -- or it had no key
-pub destroys-anonymous : {s t : State} (view : s ≡ t) (b : IsSegment s.cut.bytes) (c : Cut) (h : ℕ) → is_read_only t.mode ≡ false → IsAnonymousAt t h → RemovesAnonymous s.cut c h
+pub destroys-anonymous : {s t : State} (view : s ≡ t) (b : IsSegment s.cut.bytes) {c : Cut} (h : ℕ) → is_read_only t.mode ≡ false → IsAnonymousAt t h → RemovesAnonymous s.cut c h
     → Stepped s t c (asked.DestroyPtr h) (Truth true)
-destroys-anonymous {s} {t} view b c h may listed r =
+destroys-anonymous {s} {t} view b {c} h may listed r =
     let each : IsAnonymousAt s h = subst (λ (u : State). IsAnonymousAt u h) (sym view) listed in
     stepped s t view b c (asked.DestroyPtr h) (Truth true) may (λ writing.
-    destroys-object s c h writing b (λ d k. let x = each d k in (x.0, (x.1, r d x.0 k x.1 x.2))))
+    destroys-object c h writing b (λ d k. let x = each d k in (x.0, (x.1, r d x.0 k x.1 x.2))))
 
 -- no object has the handle
-pub destroys-no_ptr : (s : State) (h : ℕ) → is_read_only s.mode ≡ false → ((d : Directory) → StandsFor s.cut.bytes d → object_at d (names.ByHandle h) ≡ None)
+pub destroys-no_ptr : {s : State} (h : ℕ) → is_read_only s.mode ≡ false → ((d : Directory) → StandsFor s.cut.bytes d → object_at d (names.ByHandle h) ≡ None)
     → IsStep s s (asked.DestroyPtr h) (Refused NotFound)
-destroys-no_ptr s h writing each =
+destroys-no_ptr {s} h writing each =
     by_no_change s (asked.DestroyPtr h) (Refused NotFound) (λ d k.
     step-refuse s.mode d (asked.DestroyPtr h) NotFound (open-writing s.mode (asked.DestroyPtr h) writing)
     (with-not_found d (names.ByHandle h) (λ o. Reply (Truth true) (without_object d o)) (each d k)))

@@ -97,9 +97,9 @@ module _ {s : State} (key : Key) (k : ScalarKind) (a : Answers s (λ d. kind_at 
   held {d} st = vector-if k (told a d st).object.value (told a d st).kind_is
 
   -- a literal that is read as a value of the kind is as good as the value's own
-  push-read : (new : State) (l : Literal) {z : ℤ} (answer : Answer) → value_of_literal k l ≡ Ok z → is_value k z ≡ true
+  push-read : {new : State} (l : Literal) {z : ℤ} {answer : Answer} → value_of_literal k l ≡ Ok z → is_value k z ≡ true
       → IsStepOfKind s new key (Vector k) (asked.Push key (literal_of k z)) answer → IsStep s new (asked.Push key l) answer
-  push-read new l {z} answer e v r =
+  push-read {new} l {z} {answer} e v r =
       same_plan-steps s new (asked.Push key l) (asked.Push key (literal_of k z)) answer refl
       (λ d st.
       let f = told a d st in
@@ -107,21 +107,21 @@ module _ {s : State} (key : Key) (k : ScalarKind) (a : Answers s (λ d. kind_at 
       push-plan d key f.object k h.numbers h.table f.is h.is l (Ok z) e ∙ sym (push-plan d key f.object k h.numbers h.table f.is h.is (literal_of k z) (Ok z) (literal-read k z v)))
       (of_kind-steps s new key (Vector k) (asked.Push key (literal_of k z)) answer a r)
 
-  insert-read : (new : State) (i : ℕ) (l : Literal) {z : ℤ} (answer : Answer) → value_of_literal k l ≡ Ok z → is_value k z ≡ true
+  insert-read : {new : State} (i : ℕ) (l : Literal) {z : ℤ} {answer : Answer} → value_of_literal k l ≡ Ok z → is_value k z ≡ true
       → IsStepOfKind s new key (Vector k) (asked.Insert key i (literal_of k z)) answer → IsStep s new (asked.Insert key i l) answer
-  insert-read new i l {z} answer e v r =
+  insert-read {new} i l {z} {answer} e v r =
       same_plan-steps s new (asked.Insert key i l) (asked.Insert key i (literal_of k z)) answer refl
       (λ d st.
       let f = told a d st in
       let h = held st in
-      let outside : Bool = nat_lt (length h.numbers) i in
+      let outside = nat_lt (length h.numbers) i in
       insert-plan d key f.object k h.numbers h.table f.is h.is i l (Ok z) outside e refl
       ∙ sym (insert-plan d key f.object k h.numbers h.table f.is h.is i (literal_of k z) (Ok z) outside (literal-read k z v) refl))
       (of_kind-steps s new key (Vector k) (asked.Insert key i (literal_of k z)) answer a r)
 
   -- one that is no value of the kind is refused
-  refused-element : (l : Literal) {why : Refusal} → is_read_only s.mode ≡ false → value_of_literal k l ≡ Err why → IsNoElement s key l why
-  refused-element l {why} writing e = record {
+  refused-element : {l : Literal} {why : Refusal} → is_read_only s.mode ≡ false → value_of_literal k l ≡ Err why → IsNoElement s key l why
+  refused-element {l} {why} writing e = record {
     push = refuses s (asked.Push key l) why writing
         (λ d st. push-plan d key (told a d st).object k (held st).numbers (held st).table (told a d st).is (held st).is l (Err why) e);
     insert = λ i. refuses s (asked.Insert key i l) why writing
@@ -138,7 +138,7 @@ module _ {s : State} {key : Key} {o : Located} (h : IsToChange s key o) {k : Sca
   }
 
   pub no_value-element : {l : Literal} {why : Refusal} → value_of_literal k l ≡ Err why → IsNoElement s key l why
-  no_value-element {l} {why} e = refused-element key k (says-kind h.located is) l h.writing e
+  no_value-element {l} {why} e = refused-element key k (says-kind h.located is) h.writing e
 
 abbrev own : ScalarValue → Literal
 own v = literal_of (kind_of_scalar v) (value_of_scalar v)
@@ -147,12 +147,12 @@ own v = literal_of (kind_of_scalar v) (value_of_scalar v)
 module _ {s : State} {key : Key} {o : Located} (located : IsLocated s key o) {l : Literal} {v : ScalarValue} (e : IsElement s key l v) {new : State} {answer : Answer} where
   pub push-element : IsStepOfKind s new (ByHandle o.handle) (Vector (kind_of_scalar v)) (asked.Push (ByHandle o.handle) (own v)) answer → IsStep s new (asked.Push key l) answer
   push-element r =
-      push-read key (kind_of_scalar v) e.is new l answer e.value e.range
+      push-read key (kind_of_scalar v) e.is l e.value e.range
       (step_of_kind-by_key s key o located new (Vector (kind_of_scalar v)) (asked.Push key (own v)) answer r)
 
   pub insert-element : (i : ℕ) → IsStepOfKind s new (ByHandle o.handle) (Vector (kind_of_scalar v)) (asked.Insert (ByHandle o.handle) i (own v)) answer → IsStep s new (asked.Insert key i l) answer
   insert-element i r =
-      insert-read key (kind_of_scalar v) e.is new i l answer e.value e.range
+      insert-read key (kind_of_scalar v) e.is i l e.value e.range
       (step_of_kind-by_key s key o located new (Vector (kind_of_scalar v)) (asked.Insert key i (own v)) answer r)
 
 -- ---- it is a vector of strings, and the literal no text
@@ -216,7 +216,7 @@ elements-either h (inr e) = elements-told h (ap elements_of e)
 pub set-step : {old new : State} (key : Key) {k : ScalarKind} (i : ℕ) (l : Literal) (v : ScalarValue) {answer : Answer} → Answers old (λ d. elements_at d key) (Ok k) → IsValueOf k (value_of_literal k l) (Ok v)
     → IsStep old new (asked.Set key i (literal_of (kind_of_scalar v) (value_of_scalar v))) answer → IsStep old new (asked.Set key i l) answer
 set-step {old} {new} key {k} i l v {answer} a (same, value, range) h =
-    any-literal new key i l answer a value range
+    any-literal key i l a value range
     (subst (λ j. IsStep old new (asked.Set key i (literal_of j (value_of_scalar v))) answer) same h)
 
 -- a map has none

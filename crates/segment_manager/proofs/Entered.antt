@@ -64,10 +64,10 @@ own-with index.Named d o a b = record { is = a; at = b }
 own-with index.Unique d o a b = record { is = a; at = b }
 
 -- the index with the object, where its bytes say the entries in a table with places enough
-pub entered-own : (i : Index) {m : Memory} (d : Directory) {t : Table} (o : Object) → o.class ≡ class_of_index i → object_at d (key_in i o) ≡ None
+pub entered-own : {i : Index} {m : Memory} (d : Directory) {t : Table} (o : Object) → o.class ≡ class_of_index i → object_at d (key_in i o) ≡ None
     → IsTrue (is_index (table_of i d) (objects_of i d) (order_of i)) → IsTrue (is_table IndexRole 8 t) → length (entries_of i (with_object d o)) ≤ t.capacity
     → IsIndexAt m (place_of i) t (entries_of i (with_object d o)) → HasOne i m (with_object (with_table_of i d t) o)
-entered-own i d {t} o c n h a few at =
+entered-own {i} d {t} o c n h a few at =
     let long = handles-length (objects_of i (with_object d o)) ∙ more-length i d o (has_class i o c) n in
     own-with i d o (more-index i d t o (has_class i o c) n h a (omega (arith, long, few))) at
 
@@ -96,15 +96,15 @@ pub record OfRest (i : Index) (P : Extent → Type 0) (d : Directory) : Type 0 w
   pub objects : AllByRecursion P (flat_map extents_of d.objects)
   pub other_table : AllByRecursion P (table_extents (table_of (other i) d))
 
-pub of_rest : (i : Index) (P : Extent → Type 0) (d : Directory) → AllByRecursion P (live (with_table_of i d no_table)).extents → OfRest i P d
-of_rest index.Named P d h =
-    let e : OfEach P (with_table_of index.Named d no_table) = of_each P (with_table_of index.Named d no_table) h in record { objects = e.objects; other_table = e.unique }
-of_rest index.Unique P d h =
-    let e : OfEach P (with_table_of index.Unique d no_table) = of_each P (with_table_of index.Unique d no_table) h in record { objects = e.objects; other_table = e.named }
+pub of_rest : (i : Index) (P : Extent → Type 0) {d : Directory} → AllByRecursion P (live (with_table_of i d no_table)).extents → OfRest i P d
+of_rest index.Named P {d} h =
+    let e = of_each P h in record { objects = e.objects; other_table = e.unique }
+of_rest index.Unique P {d} h =
+    let e = of_each P h in record { objects = e.objects; other_table = e.named }
 
-pub of_all : (i : Index) (P : Extent → Type 0) (d : Directory) → AllByRecursion P (live d).extents → OfRest i P d
-of_all index.Named P d h = let e : OfEach P d = of_each P d h in record { objects = e.objects; other_table = e.unique }
-of_all index.Unique P d h = let e : OfEach P d = of_each P d h in record { objects = e.objects; other_table = e.named }
+pub of_all : (i : Index) (P : Extent → Type 0) {d : Directory} → AllByRecursion P (live d).extents → OfRest i P d
+of_all index.Named P {d} h = let e = of_each P h in record { objects = e.objects; other_table = e.unique }
+of_all index.Unique P {d} h = let e = of_each P h in record { objects = e.objects; other_table = e.named }
 
 -- the three words of the other index
 pub other-words : (i : Index) {m m' : Memory} → Same m m' 32 (place_of i) → Same m m' (place_of i + 24) 128 → Same m m' (place_of (other i)) (place_of (other i) + 24)

@@ -23,7 +23,7 @@ use Rattle.segment_manager.proofs.Order.{rising-insert, apart-inserted, without_
 -- an extent before those that are put in, or after them
 put-last : (x : Extent) (ys zs : List Extent) → Rising 128 (insert x (inserted ys zs)) → insert x (inserted ys zs) ≡ inserted ys (insert x zs)
 put-last x ys zs r =
-    let f : IsFresh 128 x (inserted ys zs) = rising-insert 128 x (inserted ys zs) r in
+    let f = rising-insert 128 x (inserted ys zs) r in
     insert-inserted x ys zs (all_of-inserted (λ (y : Extent). x.offset ≢ y.offset) ys zs f.differs).0
 
 pub put-first : (x : Extent) (ys zs : List Extent) → Rising 128 (inserted ys (insert x zs)) → inserted ys (insert x zs) ≡ insert x (inserted ys zs)
@@ -49,12 +49,12 @@ between o o' front gone come back e f = record {
 pub live-kept : {d : Directory} {o o' : Object} {gone come : List Extent} → InPlace d o o' → (x : Exchange o o' gone come)
     → without_all gone (live d).extents ≡ inserted (o.extent ∷ x.same) (rest d o')
 live-kept {d} {o} {o'} {gone} p x =
-    let r : List Extent = rest d o' in
+    let r = rest d o' in
     let f : IsIn d o = subst (λ (e : Extent). IsFound (handle e) d.objects o) p.extent p.found in
-    let e : live d ≡ with_extents d o' (extents_of o) =
+    let e =
     live-split d o f p.proper ∙ (λ i. adding (live (record d { objects = remove_object (handle (sym p.extent i)) d.objects })) (extents_of o)) in
-    let up : Rising 128 (insert o.extent (inserted (value_extents o.value) r)) = live-rises (with_extents d o' (extents_of o)) (subst (λ l. IsTrue (is_proper l)) e p.proper) in
-    let parts : inserted (value_extents o.value) r ≡ inserted gone (inserted x.same r) =
+    let up = live-rises (with_extents d o' (extents_of o)) (subst (λ l. IsTrue (is_proper l)) e p.proper) in
+    let parts =
     x.was.same r (rising-insert 128 o.extent (inserted (value_extents o.value) r) up).rest ∙ inserted-append gone x.same r in
     let up' : Rising 128 (insert o.extent (inserted gone (inserted x.same r))) = subst (λ xs. Rising 128 (insert o.extent xs)) parts up in
     let whole : (live d).extents ≡ inserted gone (inserted (o.extent ∷ x.same) r) =
@@ -70,18 +70,18 @@ pub live-exchanged : (d : Directory) (o o' : Object) (gone come : List Extent) �
     → IsTrue (is_proper (exchanged (live d) gone come)) → live (with_changed d o') ≡ exchanged (live d) gone come
 unfolding live
 live-exchanged d o o' gone come p x h =
-    let r : List Extent = rest d o' in
+    let r = rest d o' in
     let kept : inserted come (without_all gone (live d).extents) ≡ inserted come (inserted (o.extent ∷ x.same) r) =
     ap (inserted come) (live-kept p x) in
     let e : exchanged (live d) gone come ≡ of_extents d o' (inserted come (insert o.extent (inserted x.same r))) = ap (of_extents d o') kept in
-    let up : Rising 128 (inserted come (insert o.extent (inserted x.same r))) =
+    let up =
     live-rises (of_extents d o' (inserted come (insert o.extent (inserted x.same r)))) (subst (λ l. IsTrue (is_proper l)) e h) in
-    let front : inserted come (insert o.extent (inserted x.same r)) ≡ insert o.extent (inserted come (inserted x.same r)) = put-first o.extent come (inserted x.same r) up in
+    let front = put-first o.extent come (inserted x.same r) up in
     let inner : Rising 128 (inserted (come ++ x.same) r) =
     subst (Rising 128) (sym (inserted-append come x.same r)) (rising-insert 128 o.extent (inserted come (inserted x.same r)) (subst (Rising 128) front up)).rest in
-    let own : inserted come (insert o.extent (inserted x.same r)) ≡ inserted (extents_of o') r =
+    let own =
     front ∙ ap (insert o.extent) (sym (inserted-append come x.same r) ∙ x.is.same r inner) ∙ (λ i. insert (sym p.extent i) (inserted (value_extents o'.value) r)) in
-    let v : exchanged (live d) gone come ≡ with_extents d o' (extents_of o') = e ∙ ap (of_extents d o') own in
+    let v = e ∙ ap (of_extents d o') own in
     live-changed d o o' p.found (subst (λ l. IsTrue (is_proper l)) v h) ∙ sym v
 
 -- ---- what stays
@@ -112,9 +112,9 @@ kept-each P {d} {o} {o'} p x blocks =
 pub others-beside : (d : Directory) (o o' : Object) → InPlace d o o' → AllByRecursion (LiesBeside o.extent) (rest d o')
 others-beside d o o' p =
     let f : IsIn d o = subst (λ (e : Extent). IsFound (handle e) d.objects o) p.extent p.found in
-    let e : live d ≡ with_extents d o' (extents_of o) =
+    let e =
     live-split d o f p.proper ∙ (λ i. adding (live (record d { objects = remove_object (handle (sym p.extent i)) d.objects })) (extents_of o)) in
-    let alone : IsAlone 128 o.extent (inserted (value_extents o.value) (rest d o')) =
+    let alone =
     spaced-insert 128 o.extent (inserted (value_extents o.value) (rest d o')) (live-spaced (with_extents d o' (extents_of o)) (subst (λ l. IsTrue (is_proper l)) e p.proper)) in
     (all_of-inserted (LiesBeside o.extent) (value_extents o.value) (rest d o') alone.beside).1
 
@@ -127,12 +127,12 @@ pub denotes-exchanged : {format : ℕ} {old new : Cut} {d : Directory} {o o' : O
     → IsFound (handle o'.extent) d.objects o → IsLike o o' → Exchange o o' gone come → IsTrue (is_object format o') → handle o.extent ≤ from → from + n ≤ end_of o.extent
     → IsExchanged format old new from n gone come → IsObjectAt (bytes_of new.bytes) o' → Denotes format new.bytes (with_changed d o')
 denotes-exchanged {format} {old} {new} {d} {o} {o'} {from} {n} {gone} {come} k found like x good f g c at =
-    let m : Memory = bytes_of old.bytes in
-    let m' : Memory = bytes_of new.bytes in
+    let m = bytes_of old.bytes in
+    let m' = bytes_of new.bytes in
     let p : InPlace d o o' = record { found = found; extent = like.extent; proper = k.directory.proper } in
-    let l : live_of old.bytes ≡ live d = denotes-live format old.bytes d k in
+    let l = denotes-live format old.bytes d k in
     let laid : LaysOut format new.bytes (exchanged (live d) gone come) = subst (λ (l : LiveSet). LaysOut format new.bytes (exchanged l gone come)) l c.live in
-    let blocks : Kept (SameBlockBut m m' from n) d o o' x.same =
+    let blocks =
     kept-each (SameBlockBut m m' from n) p x (subst (λ (l : LiveSet). AllByRecursion (SameBlockBut m m' from n) (without_all gone l.extents)) l c.blocks) in
     let keeps : Keeps old new (rest d o') = record {
       place = c.place;
@@ -151,13 +151,13 @@ denotes-held : {format : ℕ} (old new : Cut) {d : Directory} (o : Object) (v : 
     → IsExchanged format old new from n gone come → IsValueAt (bytes_of new.bytes) (value_start o) v
     → Denotes format new.bytes (changed d o v)
 denotes-held {format} old new {d} o v from n gone come k found x kind count good low high c at =
-    let o' : Object = with_value o v in
-    let m : Memory = bytes_of old.bytes in
-    let m' : Memory = bytes_of new.bytes in
+    let o' = with_value o v in
+    let m = bytes_of old.bytes in
+    let m' = bytes_of new.bytes in
     let like : IsLike o o' = record { extent = refl; name = refl; class = refl; kind = kind } in
     let p : InPlace d o o' = record { found = found; extent = refl; proper = k.directory.proper } in
-    let l : live_of old.bytes ≡ live d = denotes-live format old.bytes d k in
-    let blocks : Kept (SameBlockBut m m' from n) d o o' x.same =
+    let l = denotes-live format old.bytes d k in
+    let blocks =
     kept-each (SameBlockBut m m' from n) p x
     (subst (λ (l : LiveSet). AllByRecursion (SameBlockBut m m' from n) (without_all gone l.extents)) l c.blocks) in
     let s : Same m m' (handle o.extent) (value_start o) =
@@ -171,7 +171,7 @@ pub denotes-container : (format : ℕ) (old new : Cut) (d : Directory) (o : Obje
     → IsTrue (is_object format (with_value o v)) → IsExchanged format old new (value_start o) 24 gone come → IsValueAt (bytes_of new.bytes) (value_start o) v
     → Denotes format new.bytes (changed d o v)
 denotes-container format old new d o v gone come k found x kind count len was good c at =
-    let roomy : IsRoomy o = object-roomy format o was in
+    let roomy = object-roomy format o was in
     let fits : 16 + padded (length o.name) + value_len o.value + 16 ≤ o.extent.len = roomy.room in
     denotes-held old new o v (value_start o) 24 gone come k found x kind count good (omega arith) (omega (arith, len)) c at
 
@@ -181,12 +181,12 @@ pub denotes-rewritten : {old new : Cut} {d : Directory} (o : Object) (v : Value)
     → IsTrue (is_object current (with_value o v)) → value_start o ≤ from → from + n ≤ end_of o.extent
     → IsChanged current old new from n → IsValueAt (bytes_of new.bytes) (value_start o) v → Denotes current new.bytes (changed d o v)
 denotes-rewritten {old} {new} {d} o v {from} {n} k found kind count extents good low high c at =
-    let l : LiveSet = live_of old.bytes in
+    let l = live_of old.bytes in
     let x : Extent = o.extent in
     let proper : IsTrue (is_proper l) = (denotes-heap current old.bytes d k).proper in
     let own : extent_at l (handle x) ≡ Some x =
     ap (λ (s : LiveSet). extent_at s (handle x)) (denotes-live current old.bytes d k) ∙ (blocks-in_use d o k.directory.proper found).own in
-    let room : IsTrue (has_room l (handle x) (from + n - handle x)) = found-room l (handle x) (from + n - handle x) x own (omega arith) in
+    let room = found-room l (handle x) (from + n - handle x) x own (omega arith) in
     let keeps = changed-keeps_block current old new from n (handle x) (from + n - handle x) c room (omega arith) (omega arith) in
     let same : SameSpread (value_extents o.value) (value_extents v) =
     subst (SameSpread (value_extents o.value)) (sym extents) (spread-refl (value_extents o.value)) in

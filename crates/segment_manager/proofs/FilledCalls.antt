@@ -55,8 +55,8 @@ module _ (content : Content) where
   -- what the end wants of a value that was made, or was refused its blocks
   pub ending : (a m : Cut) (b : IsSegment a.bytes) (key : names.Key) (h at : ℕ) (entry : Option NewEntry) (w : Cut) (r : Result (Unit {0}) Refusal) → IsBegunFor a m key content h at entry
       → MakesValue content m w (record { handle = h; at = at }) r → IsEnding w h entry r
-  ending a m b key h at entry w (Ok u) g r = value-ready content a m b key h at entry g r
-  ending a m b key h at entry w (Err why) g r = (a, value-loose content a m b key h at entry w why g r)
+  ending a m b key h at entry w (Ok u) g r = value-ready content a b key h at entry g r
+  ending a m b key h at entry w (Err why) g r = (a, value-loose content a b key h at entry w why g r)
 
   -- the value is made, and then the object gets its entry; or all is given back
   pub builds : (m w c : Cut) (h at : ℕ) (entry : Option NewEntry) (filled : Result (Unit {0}) Refusal) (result : Result ℕ Refusal)
@@ -66,78 +66,78 @@ module _ (content : Content) where
 
 -- ---- the steps
 
-module _ (a : Cut) (b : IsSegment a.bytes) (key : names.Key) (content : Content) where
-  no-space : {A : Type 0} (f : A → Answer) (command : Command) (say : Object → Answer) → ((d : Directory) → object_at d key ≡ None → effect d command ≡ with_new_object d key content (λ o e. Reply (say o) e))
+module _ {a : Cut} (b : IsSegment a.bytes) (key : names.Key) (content : Content) where
+  no-space : {A : Type 0} (f : A → Answer) {command : Command} (say : Object → Answer) → ((d : Directory) → object_at d key ≡ None → effect d command ≡ with_new_object d key content (λ o e. Reply (say o) e))
       → (c : Cut) (why : Refusal) → why ≡ NoSpace → IsMadeNever a c key content → Constructs a c command (answer_of f) (Err why)
-  no-space f command say asks c why e d = record {
+  no-space f {command} say asks c why e d = record {
     step = λ mode writing.
         subst (λ (r : Refusal). IsStep (record { cut = a; mode = mode }) (record { cut = c; mode = mode }) command (Refused r)) (sym e)
-        (makes-nothing (record { cut = a; mode = mode }) key content command say writing d.place asks d.each);
+        (makes-nothing command say writing d.place asks d.each);
     refused = λ t. absurd (false≢true (sym (ap (λ (r : Refusal). is_untouched (Refused r)) e) ∙ t));
   }
 
   none-constructed : (c : Cut) (why : Refusal) → why ≡ NoSpace → IsMadeNever a c key content → Constructs a c (asked.Construct key content) handle_answer (Err why)
-  none-constructed = no-space Made (asked.Construct key content) made_handle (λ d e. ap (made_for d key content) e)
+  none-constructed = no-space Made made_handle (λ d e. ap (made_for d key content) e)
 
   none-found : (c : Cut) (why : Refusal) → why ≡ NoSpace → IsMadeNever a c key content → Constructs a c (asked.FindOrConstruct key content) pair_answer (Err why)
-  none-found = no-space pair_found (asked.FindOrConstruct key content) found (λ d e. ap (finds d key content) e)
+  none-found = no-space pair_found found (λ d e. ap (finds d key content) e)
 
-  made-now : (entry : Option NewEntry) (m c : Cut) (h at n : ℕ) → IsBegunFor a m key content h at entry → Builds m c h at entry content (let r : Result ℕ Refusal = Ok n in r) → IsMadeNow a c key content n
-  made-now entry m c h at n g r = subst (λ (n : ℕ). IsMadeNow a c key content n) (sym r.is) (value-built content a m b key h at entry c g r.value r.entered)
+  made-now : (entry : Option NewEntry) (m : Cut) {c : Cut} (h at : ℕ) {n : ℕ} → IsBegunFor a m key content h at entry → Builds m c h at entry content (let r = Ok n in r) → IsMadeNow a c key content n
+  made-now entry m {c} h at {n} g r = subst (λ (n : ℕ). IsMadeNow a c key content n) (sym r.is) (value-built content b h at entry g r.value r.entered)
 
-  made-never : (entry : Option NewEntry) (m c : Cut) (h at : ℕ) (why : Refusal) → IsBegunFor a m key content h at entry → Builds m c h at entry content (let r : Result ℕ Refusal = Err why in r)
+  made-never : (entry : Option NewEntry) (m : Cut) {c : Cut} (h at : ℕ) (why : Refusal) → IsBegunFor a m key content h at entry → Builds m c h at entry content (let r = Err why in r)
       → IsMadeNever a c key content
-  made-never entry m c h at why g r = value-not_built content a m b key h at entry c g r.none r.back
+  made-never entry m h at why g r = value-not_built content b h at entry g r.none r.back
 
   -- what was begun is built, or is refused its blocks
-  pub construct-built : (entry : Option NewEntry) (m c : Cut) (h at : ℕ) (r : Result ℕ Refusal) → IsBegunFor a m key content h at entry → Builds m c h at entry content r
+  pub construct-built : (entry : Option NewEntry) (m : Cut) {c : Cut} (h at : ℕ) (r : Result ℕ Refusal) → IsBegunFor a m key content h at entry → Builds m c h at entry content r
       → Constructs a c (asked.Construct key content) handle_answer r
-  construct-built entry m c h at (Ok n) g r =
-      let d : IsMadeNow a c key content n = made-now entry m c h at n g r in
+  construct-built entry m {c} h at (Ok n) g r =
+      let d = made-now entry m h at g r in
       record {
         step = λ mode writing.
-            makes (record { cut = a; mode = mode }) key content n (asked.Construct key content) made_handle (Made n) writing d.place
+            makes (asked.Construct key content) made_handle writing d.place
             (λ d e. ap (made_for d key content) e) (λ d n. ap Made (sym n.at)) d.each;
         refused = tt;
       }
-  construct-built entry m c h at (Err why) g r = none-constructed c why r.none.refusal (made-never entry m c h at why g r)
+  construct-built entry m {c} h at (Err why) g r = none-constructed c why r.none.refusal (made-never entry m h at why g r)
 
-  pub found-built : (entry : Option NewEntry) (m c : Cut) (h at : ℕ) (r : Result ℕ Refusal) → IsBegunFor a m key content h at entry → Builds m c h at entry content r
+  pub found-built : (entry : Option NewEntry) (m : Cut) {c : Cut} (h at : ℕ) (r : Result ℕ Refusal) → IsBegunFor a m key content h at entry → Builds m c h at entry content r
       → Constructs a c (asked.FindOrConstruct key content) pair_answer (with_count (count_of (bare content)) r)
-  found-built entry m c h at (Ok n) g r =
-      let d : IsMadeNow a c key content n = made-now entry m c h at n g r in
+  found-built entry m {c} h at (Ok n) g r =
+      let d = made-now entry m h at g r in
       record {
         step = λ mode writing.
-            makes (record { cut = a; mode = mode }) key content n (asked.FindOrConstruct key content) found (Found n (count_of (bare content))) writing d.place
+            makes (asked.FindOrConstruct key content) found writing d.place
             (λ d e. ap (finds d key content) e) (λ d n. λ j. Found (sym n.at j) (n.count j)) d.each;
         refused = tt;
       }
-  found-built entry m c h at (Err why) g r = none-found c why r.none.refusal (made-never entry m c h at why g r)
+  found-built entry m {c} h at (Err why) g r = none-found c why r.none.refusal (made-never entry m h at why g r)
 
   -- it is not begun
   pub construct-not_begun : (why : Refusal) (c : Cut) → IsNotBegun a c key (kind_of (bare content)) (value_len (bare content)) why → Constructs a c (asked.Construct key content) handle_answer (Err why)
   construct-not_begun Exists c t = record {
     step = λ mode writing.
         subst (λ (u : Cut). IsStep (record { cut = a; mode = mode }) (record { cut = u; mode = mode }) (asked.Construct key content) (Refused Exists)) (sym t.same)
-        (constructs-exists (record { cut = a; mode = mode }) key content writing (key-taken a key content t));
+        (constructs-exists key content writing (key-taken key content t));
     refused = λ e. t.same;
   }
-  construct-not_begun NoSpace c t = none-constructed c NoSpace refl (value-not_begun a key content c t)
+  construct-not_begun NoSpace c t = none-constructed c NoSpace refl (value-not_begun key content t)
   construct-not_begun why c t = absurd t
 
   -- where no object has the key
-  pub found-not_begun : (why : Refusal) (c : Cut) → object_at b.0 key ≡ None → IsNotBegun a c key (kind_of (bare content)) (value_len (bare content)) why
+  pub found-not_begun : (why : Refusal) {c : Cut} → object_at b.0 key ≡ None → IsNotBegun a c key (kind_of (bare content)) (value_len (bare content)) why
       → Constructs a c (asked.FindOrConstruct key content) pair_answer (Err why)
-  found-not_begun Exists c none t = absurd (let o = key-taken a key content t b.0 b.1 in none-some o.0 (sym none ∙ o.1))
-  found-not_begun NoSpace c none t = none-found c NoSpace refl (value-not_begun a key content c t)
-  found-not_begun why c none t = absurd t
+  found-not_begun Exists none t = absurd (let o = key-taken key content t b.0 b.1 in none-some o.0 (sym none ∙ o.1))
+  found-not_begun NoSpace {c} none t = none-found c NoSpace refl (value-not_begun key content t)
+  found-not_begun why none t = absurd t
 
   -- an object has the key, and stays as it is
-  pub found-all : (h : ℕ) (r : Result (ℕ × ℕ) Refusal) → ((mode : Mode) → Answers (record { cut = a; mode = mode }) (λ d. handle_at d key) (Some h)) → ((o : Object) → StandsAt a.bytes h o → r ≡ pair_of_kind o (kind_of (bare content)))
+  pub found-all : {h : ℕ} {r : Result (ℕ × ℕ) Refusal} → ((mode : Mode) → Answers (record { cut = a; mode = mode }) (λ d. handle_at d key) (Some h)) → ((o : Object) → StandsAt a.bytes h o → r ≡ pair_of_kind o (kind_of (bare content)))
       → FindsOrConstructs a a key content r
-  found-all h r there each = record {
+  found-all {r} there each = record {
     constructs = record {
-      step = λ mode writing. found-there key content r writing (there mode) each;
+      step = λ mode writing. found-there key content writing (there mode) each;
       refused = unchanged r;
     };
     found = λ d st has. refl;
@@ -150,15 +150,15 @@ module _ (a : Cut) (b : IsSegment a.bytes) (key : names.Key) (content : Content)
 -- ---- under an entry
 
 -- a look-up finds no object
-pub no-object : (a : Cut) (b : IsSegment a.bytes) (i : Index) (e : Key) (at : ℕ) (key : names.Key) (name : List ℕ) (kind : Kind) → IsNewKeyOf i e key name kind → IsAbsentAt a i e at → object_at b.0 key ≡ None
-no-object a b i e at key name kind new away = (lookup-absent i a e key b.1.denotes (key-seeks i e key name kind new) at (away-in i a e at b.1.denotes away)).none
+pub no-object : {a : Cut} (b : IsSegment a.bytes) (i : Index) (e : Key) (at : ℕ) (key : names.Key) (name : List ℕ) (kind : Kind) → IsNewKeyOf i e key name kind → IsAbsentAt a i e at → object_at b.0 key ≡ None
+no-object {a} b i e at key name kind new away = (lookup-absent i a e key b.1.denotes (key-seeks i e key name kind new) (away-in i e at b.1.denotes away)).none
 
 -- and so nothing is said of one
-pub found-absent : {a c : Cut} (i : Index) (e : Key) (at : ℕ) (key : names.Key) (name : List ℕ) (kind : Kind) (content : Content) {r : Result (ℕ × ℕ) Refusal} → IsNewKeyOf i e key name kind → IsAbsentAt a i e at
+pub found-absent : {a c : Cut} (i : Index) (e : Key) (at : ℕ) {key : names.Key} (name : List ℕ) (kind : Kind) {content : Content} {r : Result (ℕ × ℕ) Refusal} → IsNewKeyOf i e key name kind → IsAbsentAt a i e at
     → Constructs a c (asked.FindOrConstruct key content) pair_answer r → FindsOrConstructs a c key content r
-found-absent {a} i e at key name kind content new away done = record {
+found-absent {a} i e at {key} name kind new away done = record {
   constructs = done;
-  found = λ d st has. absurd (none-some has.0 (sym (lookup-absent i a e key st.denotes (key-seeks i e key name kind new) at (away-in i a e at st.denotes away)).none ∙ has.1));
+  found = λ d st has. absurd (none-some has.0 (sym (lookup-absent i a e key st.denotes (key-seeks i e key name kind new) (away-in i e at st.denotes away)).none ∙ has.1));
 }
 
 -- ---- the segment afterwards, as its view before the call is named
@@ -200,16 +200,16 @@ module _ (old : State) (key : names.Key) (k : ScalarKind) (count : ℕ) (zs : Li
       → ((d : Directory) → StandsFor old.cut.bytes d → (object_at d key ≡ None) × IsNewObject new d key (asked.Numbers k (take count zs)) h)
       → IsStep old (record old { cut = new }) c (Made h)
   items-made h place enough each =
-      makes old key (asked.Numbers k (take count zs)) h c made_handle (Made h) writing place (λ d e. plan-of d e (le-ltb (length zs) count enough)) (λ d n. ap Made (sym n.at)) each
+      makes c made_handle writing place (λ d e. plan-of d e (le-ltb (length zs) count enough)) (λ d n. ap Made (sym n.at)) each
 
   -- there are too few: what was taken is given back
   pub items-few : {new : Cut} → SamePlace old.cut new → length zs < count
       → ((d : Directory) → StandsFor old.cut.bytes d → (object_at d key ≡ None) × IsMet d key (asked.Numbers k (replicate count (pos 0))) × Denotes current new.bytes d)
       → IsStep old (record old { cut = new }) c (Refused OutOfRange)
   items-few {new} place few each =
-      by_step old (record old { cut = new }) c (Refused OutOfRange) (record { mode = refl; place = place }) (λ d st.
+      by_step c (record { mode = refl; place = place }) (λ d st.
       let all = each d st in
-      lands (record old { cut = new }) (step old.mode d c) (Refused OutOfRange) d (record {
+      lands d (record {
         is = step-plan old.mode d c (open-writing old.mode c writing) (plan-of d all.0 (lt-ltb (length zs) count few))
             ∙ all.1.met (λ o e. Reply (Refused OutOfRange) d);
         denotes = all.2;
@@ -227,9 +227,9 @@ module _ (old : State) (key : names.Key) (k : ScalarKind) (count : ℕ) (zs : Li
   pub items-none : {new : Cut} → SamePlace old.cut new → ((d : Directory) → StandsFor old.cut.bytes d → (object_at d key ≡ None) × IsNoObject new d key (asked.Numbers k (asked_for count zs)))
       → IsStep old (record old { cut = new }) c (Refused NoSpace)
   items-none {new} place each =
-      by_step old (record old { cut = new }) c (Refused NoSpace) (record { mode = refl; place = place }) (λ d st.
-      let both : (object_at d key ≡ None) × IsNoObject new d key (asked.Numbers k (asked_for count zs)) = each d st in
-      lands (record old { cut = new }) (step old.mode d c) (Refused NoSpace) d
+      by_step c (record { mode = refl; place = place }) (λ d st.
+      let both = each d st in
+      lands d
       (record { is = none-if d (nat_lt (length zs) count) both.0 refl both.1.refused; denotes = both.1.denotes }))
 
 -- so many equal numbers need as many bytes as the machine says
@@ -237,8 +237,8 @@ equal-len : (k : ScalarKind) (name : List ℕ) (count : ℕ) (z : ℤ) → room_
 equal-len k name count z = ap (λ m. head_len + padded (length name) + size_of k * m) (sym (length-replicate count z))
 
 -- where no item was taken, zeros are asked for
-asked-long : (count : ℕ) → 1 ≤ count → length (asked_for count []) ≡ count
-asked-long count low = ap (λ (b : Bool). length (if b then replicate count (pos 0) else take count [])) (lt-ltb 0 count low) ∙ length-replicate count (pos 0)
+asked-long : {count : ℕ} → 1 ≤ count → length (asked_for count []) ≡ count
+asked-long {count} low = ap (λ (b : Bool). length (if b then replicate count (pos 0) else take count [])) (lt-ltb 0 count low) ∙ length-replicate count (pos 0)
 
 -- ---- without a key
 
@@ -260,28 +260,28 @@ anonymous-met {a} {d} k zs said len took =
 
 -- ---- the calls
 
-module _ (S A : Type 0) (gives : S → Option A → S → Type 0) (whole : A → ℤ) (s : State) (b : IsSegment s.cut.bytes) (key : names.Key) (k : ScalarKind) (count : ℕ) (writing : is_read_only s.mode ≡ false)
+module _ (S : Type 0) {A : Type 0} (gives : S → Option A → S → Type 0) (whole : A → ℤ) (s : State) (b : IsSegment s.cut.bytes) (key : names.Key) (k : ScalarKind) (count : ℕ) (writing : is_read_only s.mode ≡ false)
     (low : 1 ≤ count) (high : count ≤ 1048576) (before after : S) where
   many : (xs : List A) → length xs ≡ count → length (map whole xs) ≡ count
   many xs e = length-map xs whole ∙ e
 
   whole-list : (xs : List A) → length xs ≡ count → take count (map whole xs) ≡ map whole xs
-  whole-list xs e = let l : length (map whole xs) ≡ count = many xs e in take_all count (map whole xs) (omega arith)
+  whole-list xs e = let l = many xs e in take_all count (map whole xs) (omega arith)
 
   good-items : (xs : List A) → length xs ≡ count → IsTrue (list_all (is_value k) (map whole xs)) → IsTrue (is_good_value (Numbers k (map whole xs)))
-  good-items xs e all = let l : length (map whole xs) ≡ count = many xs e in numbers-value k (map whole xs) (omega arith) (omega arith) all
+  good-items xs e all = let l = many xs e in numbers-value k (map whole xs) (omega arith) (omega arith) all
 
   -- the object is made of the items
   steps-made : (entry : Option NewEntry) {m w : Cut} (c : Cut) (h at : ℕ) → IsBegun s.cut m key (Scalar k) count (size_of k * count) h at entry → (f : Fills gives whole m w k (h + at) count before after (Ok tt)) → LeadsThere w c h entry
       → IsStep s (record s { cut = c }) (asked.ConstructIt key k count (map whole f.items)) (Made h)
   steps-made entry {m} {w} c h at g f led =
-      let zs : List ℤ = map whole f.items in
-      let long : length zs ≡ count = many f.items f.taken.1 in
-      let content : Content = asked.Numbers k zs in
-      let made : IsMadeValue content m w (record { handle = h; at = at }) =
-      numbers-made k zs (record { handle = h; at = at }) (good-items f.items f.taken.1 f.values) (subst (λ n. IsChanged current m w (h + at) (size_of k * n)) (sym (length-map f.items whole)) f.change) f.content in
+      let zs = map whole f.items in
+      let long = many f.items f.taken.1 in
+      let content = asked.Numbers k zs in
+      let made =
+      numbers-made k zs (good-items f.items f.taken.1 f.values) (subst (λ n. IsChanged current m w (h + at) (size_of k * n)) (sym (length-map f.items whole)) f.change) f.content in
       let begun : IsBegunFor s.cut m key content h at entry = subst (λ n. IsBegun s.cut m key (Scalar k) n (size_of k * n) h at entry) (sym long) g in
-      let now : IsMadeNow s.cut c key content h = value-built content s.cut m b key h at entry c begun made led in
+      let now = value-built content b h at entry begun made led in
       items-made s key k count zs writing h now.place (omega arith)
       (λ d st.
       let both = now.each d st in (both.0, subst (λ ys. IsNewObject c d key (asked.Numbers k ys) h) (sym (whole-list f.items f.taken.1)) both.1))
@@ -293,8 +293,8 @@ module _ (S A : Type 0) (gives : S → Option A → S → Type 0) (whole : A →
       subst (λ (q : names.Key). (object_at d q ≡ None) × IsMet d q (asked.Numbers k (replicate count (pos 0)))) (sym g.is)
       (no_key-none d.objects, anonymous-met k (replicate count (pos 0)) st.denotes (equal-len k [] count (pos 0)) g.takes)
   begun-met (Some e) m h at g st = (
-    (lookup-absent e.index s.cut g.entry key st.denotes (key-seeks e.index g.entry key g.name (Scalar k) g.is) e.place (away-in e.index s.cut g.entry e.place st.denotes g.absent)).none,
-    numbers-met e.index s.cut g.entry key g.name k (replicate count (pos 0)) st.denotes g.is (equal-len k g.name count (pos 0)) g.requested,
+    (lookup-absent e.index s.cut g.entry key st.denotes (key-seeks e.index g.entry key g.name (Scalar k) g.is) (away-in e.index g.entry e.place st.denotes g.absent)).none,
+    numbers-met e.index g.entry g.name k (replicate count (pos 0)) st.denotes g.is (equal-len k g.name count (pos 0)) g.requested,
   )
 
   -- its blocks are given back
@@ -325,7 +325,7 @@ module _ (S A : Type 0) (gives : S → Option A → S → Type 0) (whole : A →
         taken = g.taken;
         requested = g.requested;
         change = headed-change (size_of k * count) g.headed f.change (most filled f);
-        index = segment-index s.cut e.index b;
+        index = segment-index e.index b;
         within = subst (λ n. e.place ≤ n) (sym x.stands.count) away.0;
       }
 
@@ -349,19 +349,19 @@ module _ (S A : Type 0) (gives : S → Option A → S → Type 0) (whole : A →
 
 -- ---- it is refused before an item is taken
 
-module _ (S A : Type 0) (gives : S → Option A → S → Type 0) (whole : A → ℤ) (s : State) (key : names.Key) (k : ScalarKind) (count : ℕ) (at : S) where
+module _ (S : Type 0) {A : Type 0} (gives : S → Option A → S → Type 0) (whole : A → ℤ) {s : State} (key : names.Key) (k : ScalarKind) (count : ℕ) (at : S) where
   pub takes-nothing : is_read_only s.mode ≡ true → TakesItems gives whole s s key k count at at (Err ReadOnly)
   takes-nothing e = record { items = []; step = refuses-read_only s (asked.ConstructIt key k count []) e refl; taken = (refl, refl); unchanged = refl }
 
   exists-step : {c : Cut} → is_read_only s.mode ≡ false → IsTakenKey s.cut c key (Scalar k) → IsStep s (record s { cut = c }) (asked.ConstructIt key k count []) (Refused Exists)
   exists-step writing t =
-      subst (λ (u : Cut). IsStep s (record s { cut = u }) (asked.ConstructIt key k count []) (Refused Exists)) (sym t.same) (items-exists s key k count [] writing (key-taken s.cut key (asked.Numbers k []) t))
+      subst (λ (u : Cut). IsStep s (record s { cut = u }) (asked.ConstructIt key k count []) (Refused Exists)) (sym t.same) (items-exists s key k count [] writing (key-taken key (asked.Numbers k []) t))
 
   none-step : (c : Cut) → is_read_only s.mode ≡ false → 1 ≤ count → IsNotBegun s.cut c key (Scalar k) (size_of k * count) NoSpace → IsStep s (record s { cut = c }) (asked.ConstructIt key k count []) (Refused NoSpace)
   none-step c writing low t =
-      let content : Content = asked.Numbers k (asked_for count []) in
-      let never : IsMadeNever s.cut c key content =
-      value-not_begun s.cut key content c (subst (λ n. IsNotBegun s.cut c key (Scalar k) (size_of k * n) NoSpace) (sym (asked-long count low)) t) in
+      let content = asked.Numbers k (asked_for count []) in
+      let never =
+      value-not_begun key content (subst (λ n. IsNotBegun s.cut c key (Scalar k) (size_of k * n) NoSpace) (sym (asked-long low)) t) in
       items-none s key k count [] writing never.place never.each
 
   pub takes-none : (why : Refusal) (c : Cut) → is_read_only s.mode ≡ false → 1 ≤ count → IsNotBegun s.cut c key (Scalar k) (size_of k * count) why → TakesItems gives whole s (record s { cut = c }) key k count at at (Err why)
@@ -372,23 +372,23 @@ module _ (S A : Type 0) (gives : S → Option A → S → Type 0) (whole : A →
 
 -- ---- the same, as the segment is named before the call, and its shape is made for it
 
-module _ (S A : Type 0) (gives : S → Option A → S → Type 0) (whole : A → ℤ) {s t : State} (view : s ≡ t) (b : IsSegment s.cut.bytes) (key : names.Key) (k : ScalarKind) (count : ℕ)
+module _ (S : Type 0) {A : Type 0} (gives : S → Option A → S → Type 0) (whole : A → ℤ) {s t : State} (view : s ≡ t) (b : IsSegment s.cut.bytes) (key : names.Key) (k : ScalarKind) (count : ℕ)
     {shape : Shape} (same : shape ≡ numbers_shape k count) (writing : is_read_only t.mode ≡ false) (low : 1 ≤ count) (before : S) where
   writes : is_read_only s.mode ≡ false
   writes = subst (λ (u : State). is_read_only u.mode ≡ false) (sym view) writing
 
-  none-taken : (why : Refusal) (c : Cut) → IsNotBegun s.cut c key shape.kind shape.len why → TakesItems gives whole s (record s { cut = c }) key k count before before (Err why)
-  none-taken why c not =
-      takes-none S A gives whole s key k count before why c writes low (subst (λ (j : Shape). IsNotBegun s.cut c key j.kind j.len why) same not)
+  none-taken : {why : Refusal} (c : Cut) → IsNotBegun s.cut c key shape.kind shape.len why → TakesItems gives whole s (record s { cut = c }) key k count before before (Err why)
+  none-taken {why} c not =
+      takes-none S gives whole key k count before why c writes low (subst (λ (j : Shape). IsNotBegun s.cut c key j.kind j.len why) same not)
 
   pub refused-segment : (why : Refusal) (c : Cut) → IsNotBegun s.cut c key shape.kind shape.len why → IsSegment c.bytes
-  refused-segment why c not = step-segment s (record s { cut = c }) _ _ (none-taken why c not).step b
+  refused-segment why c not = step-segment s (record s { cut = c }) _ _ (none-taken c not).step b
 
   pub refused-items : {why : Refusal} (c : Cut) {r : Result ℕ Refusal} → r ≡ Err why → IsNotBegun s.cut c key shape.kind shape.len why
       → TakesItems gives whole t (record s { cut = c }) key k count before before r
   refused-items {why} c is not =
       subst (λ (q : Result ℕ Refusal). TakesItems gives whole t (record s { cut = c }) key k count before before q) (sym is)
-      (subst (λ (u : State). TakesItems gives whole u (record s { cut = c }) key k count before before (Err why)) view (none-taken why c not))
+      (subst (λ (u : State). TakesItems gives whole u (record s { cut = c }) key k count before before (Err why)) view (none-taken c not))
 
   module _ (high : count ≤ 1048576) (m : Cut) (h at : ℕ) (entry : Option NewEntry) (begun : IsBegun s.cut m key shape.kind shape.count shape.len h at entry) where
     begun-so : IsBegun s.cut m key (Scalar k) count (size_of k * count) h at entry
@@ -399,11 +399,11 @@ module _ (S A : Type 0) (gives : S → Option A → S → Type 0) (whole : A →
 
     module _ {w : Cut} {after : S} {filled : Result (Unit {0}) Refusal} (f : Fills gives whole m w k (h + at) count before after filled) where
       pub items-ending : IsEnding w h entry filled
-      items-ending = fills-ending S A gives whole s b key k count writes low high before after entry filled h at begun-so f
+      items-ending = fills-ending S gives whole s b key k count writes low high before after entry filled h at begun-so f
 
       module _ (c : Cut) (result : Result ℕ Refusal) (fin : Ends w c h entry filled result) where
         finished : TakesItems gives whole s (record s { cut = c }) key k count before after result
-        finished = takes S A gives whole s b key k count writes low high before after entry filled m w c h at result begun-so f fin
+        finished = takes S gives whole s b key k count writes low high before after entry filled m w c h at result begun-so f fin
 
         pub items-segment : IsSegment c.bytes
         items-segment = step-segment s (record s { cut = c }) _ _ finished.step b

@@ -37,20 +37,20 @@ pub record IsFilling {S A : Type 0} (gives : S → Option A → S → Type 0) (c
   pub change : IsChanged current old now from (size_of k * i)
   pub content : Has (bytes_of now.bytes) from (spelled k (map whole items))
 
-module _ (S A : Type 0) (gives : S → Option A → S → Type 0) (can : S → Type 0) (whole : A → ℤ) (old : Cut) (k : ScalarKind) (from : ℕ) (before : S) where
+module _ (S : Type 0) {A : Type 0} {gives : S → Option A → S → Type 0} {can : S → Type 0} {whole : A → ℤ} {old : Cut} {k : ScalarKind} {from : ℕ} {before : S} where
   -- and one more
   pub filling-more : {b c : Cut} {i to : ℕ} {s t : S} → IsFilling gives can whole old b k from i before s → can t → to ≡ from + size_of k * i → IsItemWritten gives whole b c k to s t
       → IsFilling gives can whole old c k from (i + 1) before t
   filling-more {b} {c} {i} {to} {s} {t} f go at w =
-      let zs : List ℤ = map whole f.items in
-      let bytes : List ℕ = spelling k (whole w.item) in
-      let more : map whole (f.items ++ w.item ∷ []) ≡ zs ++ whole w.item ∷ [] = map_push whole f.items w.item in
-      let many : length zs ≡ i = length-map f.items whole ∙ f.long in
-      let each : length bytes ≡ size_of k = spelling-length k (whole w.item) in
-      let all : length (spelled k zs) ≡ size_of k * i = spelled-length k zs ∙ ap (λ m. size_of k * m) many in
+      let zs = map whole f.items in
+      let bytes = spelling k (whole w.item) in
+      let more = map_push whole f.items w.item in
+      let many = length-map f.items whole ∙ f.long in
+      let each = spelling-length k (whole w.item) in
+      let all = spelled-length k zs ∙ ap (λ m. size_of k * m) many in
       let sum : size_of k * i + size_of k ≡ size_of k * (i + 1) = omega arith in
       let change' : IsChanged current b c (from + size_of k * i) (size_of k) = subst (λ p. IsChanged current b c p (size_of k)) at w.change in
-      let front : Has (bytes_of c.bytes) from (spelled k zs) = bytes-stay from (spelled k zs) change' (omega arith) f.content in
+      let front = bytes-stay from (spelled k zs) change' (omega arith) f.content in
       let place : to ≡ from + length (spelled k zs) = omega arith in
       record {
         items = f.items ++ w.item ∷ [];

@@ -79,8 +79,8 @@ all-known c {d} k =
 key-room : {c : Cut} {d : Directory} (e : Key) {o : Object} → IsKnown c d o → IsTrue (has_room (live d) (handle o.extent) (key_end (bytes_of c.bytes) e (handle o.extent)))
 key-room {c} (Name s) {o} u =
     let room = (object-roomy current o u.good).room in
-    let short : length o.name ≤ 255 = good_name-short current o (good-name current o u.good) in
-    let same : name_len_at (bytes_of c.bytes) (handle o.extent) ≡ length o.name = entry-name_len (bytes_of c.bytes) o short u.at in
+    let short = good_name-short current o (good-name current o u.good) in
+    let same = entry-name_len (bytes_of c.bytes) o short u.at in
     let fits : 16 + name_len_at (bytes_of c.bytes) (handle o.extent) + 16 ≤ o.extent.len = omega (arith, room, same) in
     u.live_block.room (16 + name_len_at (bytes_of c.bytes) (handle o.extent)) (le-leb (16 + name_len_at (bytes_of c.bytes) (handle o.extent) + 16) o.extent.len fits)
 key-room (Code n) {o} u =
@@ -88,8 +88,8 @@ key-room (Code n) {o} u =
     let fits : 16 + 16 ≤ o.extent.len = omega (arith, room) in
     u.live_block.room 16 (le-leb (16 + 16) o.extent.len fits)
 
-pub denotes-keys : (i : Index) (c : Cut) {d : Directory} (e : Key) → Denotes current c.bytes d → HasKeys c (place_of i) e
-denotes-keys i c {d} e k = record {
+pub denotes-keys : (i : Index) {c : Cut} {d : Directory} {e : Key} → Denotes current c.bytes d → HasKeys c (place_of i) e
+denotes-keys i {c} {d} {e} k = record {
   table = table_of i d;
   handles = entries_of i d;
   index = denotes-index i c k;
@@ -126,11 +126,11 @@ two-less i e q a b l = absurd q
 pub denotes-rises : (i : Index) (c : Cut) {d : Directory} (e : Key) → Denotes current c.bytes d → IsSort i e → Rises (bytes_of c.bytes) e (entries_of i d)
 denotes-rises i c {d} e k q = record {
   each = λ x y g h l f f'.
-      let m : Memory = bytes_of c.bytes in
-      let os : List Object = objects_of i d in
-      let o : StandsAt os x g = stands-at os x f in
-      let p : StandsAt os y h = stands-at os y f' in
-      let before : order_of i o.object p.object ≡ true = ascends-at (λ o p. order_of i o p ≡ true) os x y (objects-ascend i k.directory) l o.is p.is in
+      let m = bytes_of c.bytes in
+      let os = objects_of i d in
+      let o = stands-at os x f in
+      let p = stands-at os y f' in
+      let before = ascends-at (λ o p. order_of i o p ≡ true) os x y (objects-ascend i k.directory) l o.is p.is in
       (λ j. order_of_two m e (o.handle j) (p.handle j))
       ∙ two-less i e q (all-at (IsEntry m) os x (entries-in i c k) o.is) (all-at (IsEntry m) os y (entries-in i c k) p.is) before;
 }

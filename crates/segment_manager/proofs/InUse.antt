@@ -40,7 +40,7 @@ own-extents P (o ∷ os) h = (h.0, own-extents P os (AllByRecursion-behind P (va
 
 -- each object's own block is in use
 pub objects-in_use : (d : Directory) → IsTrue (is_proper (live d)) → AllByRecursion (λ (o : Object). IsInUse (live d) o.extent) d.objects
-objects-in_use d h = own-extents (IsInUse (live d)) d.objects (of_each (IsInUse (live d)) d (all-in_use (live d) h)).objects
+objects-in_use d h = own-extents (IsInUse (live d)) d.objects (of_each (IsInUse (live d)) (all-in_use (live d) h)).objects
 
 table-some : (l : LiveSet) (e : Option Extent) → AllByRecursion (IsInUse l) (option_to_list e) → IfSome e (λ x. extent_at l (handle x) ≡ Some x)
 table-some l None h = tt
@@ -48,7 +48,7 @@ table-some l (Some x) h = h.0.found
 
 -- so is the block of each index
 pub named-in_use : (d : Directory) → IsTrue (is_proper (live d)) → IfSome d.named.extent (λ x. extent_at (live d) (handle x) ≡ Some x)
-named-in_use d h = table-some (live d) d.named.extent (of_each (IsInUse (live d)) d (all-in_use (live d) h)).named
+named-in_use d h = table-some (live d) d.named.extent (of_each (IsInUse (live d)) (all-in_use (live d) h)).named
 
 pub unique-in_use : (d : Directory) → IsTrue (is_proper (live d)) → IfSome d.unique.extent (λ x. extent_at (live d) (handle x) ≡ Some x)
-unique-in_use d h = table-some (live d) d.unique.extent (of_each (IsInUse (live d)) d (all-in_use (live d) h)).unique
+unique-in_use d h = table-some (live d) d.unique.extent (of_each (IsInUse (live d)) (all-in_use (live d) h)).unique

@@ -5,8 +5,8 @@ use Rattle.segment_manager.proofs.Common.{Seeks, entries_of, table_of, KeepsWher
 use Rattle.segment_manager.proofs.{Common.State, Bridge.lookup-found, Destroys.Ends, HeldIndexes.denotes-index}
 
 -- a look-up that found an entry: an object has the key
-pub keeps-found : {s t : State} (view : s ≡ t) (new : State) (i : Index) (e : Entry) (at : ℕ) → Ends s.cut i e (Found at) → (key : Key) → Seeks i e key → KeepsWhere t new (LacksKey key)
-keeps-found {s} view new i e at p key q =
+pub keeps-found : {s t : State} (view : s ≡ t) {new : State} (i : Index) (e : Entry) (at : ℕ) → Ends s.cut i e (Found at) → (key : Key) → Seeks i e key → KeepsWhere t new (LacksKey key)
+keeps-found {s} view {new} i e at p key q =
     subst (λ (u : State). KeepsWhere u new (LacksKey key)) view (λ d k lacks.
     let there = lookup-found i s.cut e key k.denotes q at (p (table_of i d) (entries_of i d) (denotes-index i s.cut k.denotes)) in
     absurd (none-some there.object (sym lacks ∙ there.is)))
@@ -19,7 +19,7 @@ keeps-places {s} view {c} i {n} r =
     λ j. record s { cut = r.same (omega (arith, h, x.stands.capacity)) j })
 
 -- and fewer, of which none are kept
-pub keeps-fewer : {s t : State} (view : s ≡ t) (new : State) (i : Index) (n : ℕ) → capacity_at s.cut (place_of i) < n → KeepsWhere t new (λ d. n ≤ (table_of i d).capacity)
-keeps-fewer {s} view new i n l =
+pub keeps-fewer : {s t : State} (view : s ≡ t) {new : State} (i : Index) (n : ℕ) → capacity_at s.cut (place_of i) < n → KeepsWhere t new (λ d. n ≤ (table_of i d).capacity)
+keeps-fewer {s} view {new} i n l =
     subst (λ (u : State). KeepsWhere u new (λ d. n ≤ (table_of i d).capacity)) view (λ d k h.
     let x = denotes-index i s.cut k.denotes in absurd (omega (arith, h, l, x.stands.capacity)))

@@ -34,14 +34,14 @@ pub same-itself : (a : List ℕ) → same_bytes a a ≡ true
 same-itself a = nat_list_eq_equiv.refl a
 
 -- an object of the name
-pub name-of : (name : List ℕ) (q : Object) → has_key (names.ByName name) q ≡ true → name ≡ q.name
-name-of name q e = exact_bytes name q.name ((Equal-is (slice_cmp nat_cmp name q.name)).0 (sym (texts_ties name q.name) ∙ second (is_class NamedClass q) (same_bytes name q.name) e))
+pub name-of : {name : List ℕ} (q : Object) → has_key (names.ByName name) q ≡ true → name ≡ q.name
+name-of {name} q e = exact_bytes name q.name ((Equal-is (slice_cmp nat_cmp name q.name)).0 (sym (texts_ties name q.name) ∙ second (is_class NamedClass q) (same_bytes name q.name) e))
 
 names-other : (name : List ℕ) (o : Object) {r : Ordering} → slice_cmp nat_cmp o.name name ≡ r → is_eq (ordering_reverse r) ≡ false → has_key (names.ByName name) o ≡ false
 names-other name o e f = and_right (is_class NamedClass o) (same_bytes name o.name) (test-of name o.name e ∙ f)
 
 comes : (name : List ℕ) (o q : Object) {r : Ordering} → has_key (names.ByName name) q ≡ true → slice_cmp nat_cmp o.name name ≡ r → by_name q o ≡ is_lt (ordering_reverse r)
-comes name o q h e = ap is_lt (swapped q.name o.name ∙ ap (λ n. ordering_reverse (slice_cmp nat_cmp o.name n)) (sym (name-of name q h)) ∙ ap ordering_reverse e)
+comes name o q h e = ap is_lt (swapped q.name o.name ∙ ap (λ n. ordering_reverse (slice_cmp nat_cmp o.name n)) (sym (name-of q h)) ∙ ap ordering_reverse e)
 
 pub names-say : (name : List ℕ) (o : Object) → is_class NamedClass o ≡ true → Says by_name (has_key (names.ByName name)) o (slice_cmp nat_cmp o.name name)
 names-say name o c = record {
@@ -59,7 +59,7 @@ ordered-name {o} {p} (after e f) = test-of o.name p.name (lt-less (slice_cmp nat
 -- of two names in order at most one is the name
 pub names-apart : (name : List ℕ) (o p : Object) → IsRanked by_name o p → has_key (names.ByName name) o ≡ true → has_key (names.ByName name) p ≡ false
 names-apart name o p r h =
-    and_right (is_class NamedClass p) (same_bytes name p.name) (ap (λ n. same_bytes n p.name) (name-of name o h) ∙ ordered-name r)
+    and_right (is_class NamedClass p) (same_bytes name p.name) (ap (λ n. same_bytes n p.name) (name-of o h) ∙ ordered-name r)
 
 -- an object of another class has no name
 pub names-class : (name : List ℕ) (p : Object) → is_class NamedClass p ≡ false → has_key (names.ByName name) p ≡ false

@@ -35,7 +35,7 @@ pub spread-put : (n : ℕ) (o : Object) (os : List Object) (t : List Extent) →
 spread-put n o [] t h = spread-cons o [] t
 spread-put n o (p ∷ ps) t h =
     let h1 : Rising n (inserted (extents_of o) (inserted (extents_of p) (spread ps t))) = subst (λ xs. Rising n (inserted (extents_of o) xs)) (spread-cons p ps t) h in
-    let a : Apart (extents_of o) (extents_of p) = apart-inserted n (extents_of o) (extents_of p) (spread ps t) h1 in
+    let a = apart-inserted n (extents_of o) (extents_of p) (spread ps t) h1 in
     let h2 : Rising n (inserted (extents_of p) (inserted (extents_of o) (spread ps t))) = subst (Rising n) (inserted-comm (extents_of o) (extents_of p) (spread ps t) a) h1 in
     put-if (nat_lt o.extent.offset p.extent.offset) o p ps (put_object o ps) t a
     (spread-put n o ps t (rising-inserted n (extents_of p) (inserted (extents_of o) (spread ps t)) h2).0)
@@ -72,13 +72,13 @@ pub data Place (h : ℕ) (p : Object) (ps : List Object) (o : Object) : Type 0 w
   here : h ≡ handle p.extent → p ≡ o → Place h p ps o
   behind : h ≢ handle p.extent → IsFound h ps o → Place h p ps o
 
-place-if : (h : ℕ) (p : Object) (ps : List Object) {o : Object} → (b : Bool) → (h == handle p.extent) ≡ b → cond b (Some p) (find (has_key (ByHandle h)) ps) ≡ Some o → Place h p ps o
-place-if h p ps true e f = here (eqb-true h (handle p.extent) e) (cc)
-place-if h p ps false e f = behind (λ g. cc (eq-eqb h (handle p.extent) g)) (record { is = f })
+place-if : {h : ℕ} {p : Object} {ps : List Object} {o : Object} → (b : Bool) → (h == handle p.extent) ≡ b → cond b (Some p) (find (has_key (ByHandle h)) ps) ≡ Some o → Place h p ps o
+place-if {h} {p} true e f = here (eqb-true h (handle p.extent) e) (cc)
+place-if {h} {p} false e f = behind (λ g. cc (eq-eqb h (handle p.extent) g)) (record { is = f })
 
 -- an object that is found is the first or stands behind it
 pub found-place : (h : ℕ) (p : Object) (ps : List Object) (o : Object) → IsFound h (p ∷ ps) o → Place h p ps o
-found-place h p ps o f = place-if h p ps (h == handle p.extent) refl f.is
+found-place h p ps o f = place-if (h == handle p.extent) refl f.is
 
 -- nothing is found in no list
 pub found-nothing : (h : ℕ) (o : Object) → IsFound h [] o → ⊥
@@ -106,9 +106,9 @@ remove-place : (n : ℕ) {h : ℕ} {p : Object} {ps : List Object} {o : Object} 
 remove-place n {h} {p} {ps} {o} t (here e f) r k =
     spread-cons p ps t ∙ ap (λ (q : Object). inserted (extents_of q) (spread ps t)) f ∙ ap (λ qs. inserted (extents_of o) (spread qs t)) (sym (remove-here h p ps e))
 remove-place n {h} {p} {ps} {o} t (behind e f) r k =
-    let rest : List Extent = spread (remove_object h ps) t in
+    let rest = spread (remove_object h ps) t in
     let r1 : Rising n (inserted (extents_of p) (spread ps t)) = subst (Rising n) (spread-cons p ps t) r in
-    let below : spread ps t ≡ inserted (extents_of o) rest = k f (rising-inserted n (extents_of p) (spread ps t) r1).0 in
+    let below = k f (rising-inserted n (extents_of p) (spread ps t) r1).0 in
     let r2 : Rising n (inserted (extents_of p) (inserted (extents_of o) rest)) = subst (λ xs. Rising n (inserted (extents_of p) xs)) below r1 in
     spread-cons p ps t ∙ ap (inserted (extents_of p)) below
     ∙ inserted-comm (extents_of p) (extents_of o) rest (apart-inserted n (extents_of p) (extents_of o) rest r2)
@@ -139,8 +139,8 @@ live-split d o f h =
 -- without an object: all its extents are released
 pub live-without : (d : Directory) (o : Object) → IsIn d o → IsTrue (is_proper (live d)) → live (without_object d o) ≡ removing (live d) (extents_of o)
 live-without d o f h =
-    let whole : live d ≡ adding (live (without_object d o)) (extents_of o) = live-split d o f h in
-    let r : Rising 128 (inserted (extents_of o) (live (without_object d o)).extents) = live-rises (adding (live (without_object d o)) (extents_of o)) (subst (λ l. IsTrue (is_proper l)) whole h) in
+    let whole = live-split d o f h in
+    let r = live-rises (adding (live (without_object d o)) (extents_of o)) (subst (λ l. IsTrue (is_proper l)) whole h) in
     ap (λ (xs : List Extent). let l : LiveSet = record { size = (live (without_object d o)).size; extents = xs } in l)
     (sym (without-inserted 128 (extents_of o) (live (without_object d o)).extents r))
     ∙ ap (λ l. removing l (extents_of o)) (sym whole)
@@ -155,13 +155,13 @@ change-place : (n : ℕ) {p : Object} {ps : List Object} {o : Object} (o' : Obje
 change-place n {p} {ps} o' t (here e f) r k =
     ap (λ qs. spread qs t) (replace-here o' p ps e) ∙ spread-cons o' ps t ∙ ap (λ qs. inserted (extents_of o') (spread qs t)) (sym (remove-here (handle o'.extent) p ps e))
 change-place n {p} {ps} o' t (behind e f) r k =
-    let rest : List Extent = spread (remove_object (handle o'.extent) ps) t in
+    let rest = spread (remove_object (handle o'.extent) ps) t in
     let r1 : Rising n (inserted (extents_of o') (inserted (extents_of p) rest)) =
     subst (λ xs. Rising n (inserted (extents_of o') xs)) (spread-cons p (remove_object (handle o'.extent) ps) t)
     (subst (λ qs. Rising n (inserted (extents_of o') (spread qs t))) (remove-behind (handle o'.extent) p ps e) r) in
-    let a : inserted (extents_of o') (inserted (extents_of p) rest) ≡ inserted (extents_of p) (inserted (extents_of o') rest) =
+    let a =
     inserted-comm (extents_of o') (extents_of p) rest (apart-inserted n (extents_of o') (extents_of p) rest r1) in
-    let below : spread (replace_object o' ps) t ≡ inserted (extents_of o') rest =
+    let below =
     k f (rising-inserted n (extents_of p) (inserted (extents_of o') rest) (subst (Rising n) a r1)).0 in
     ap (λ qs. spread qs t) (replace-behind o' p ps e) ∙ spread-cons p (replace_object o' ps) t ∙ ap (inserted (extents_of p)) below ∙ sym a
     ∙ ap (inserted (extents_of o')) (sym (spread-cons p (remove_object (handle o'.extent) ps) t))
@@ -191,11 +191,11 @@ pub record OfEach (P : Extent → Type 0) (d : Directory) : Type 0 where
   pub unique : AllByRecursion P (table_extents d.unique)
 
 -- what holds of each extent of the live set holds of each of these
-pub of_each : (P : Extent → Type 0) (d : Directory) → AllByRecursion P (live d).extents → OfEach P d
+pub of_each : (P : Extent → Type 0) {d : Directory} → AllByRecursion P (live d).extents → OfEach P d
 unfolding live
-of_each P d h =
-    let all : AllByRecursion P (flat_map extents_of d.objects ++ tables_of d) = all_of-sorted P (flat_map extents_of d.objects ++ tables_of d) h in
-    let tables : AllByRecursion P (tables_of d) = AllByRecursion-behind P (flat_map extents_of d.objects) (tables_of d) all in
+of_each P {d} h =
+    let all = all_of-sorted P (flat_map extents_of d.objects ++ tables_of d) h in
+    let tables = AllByRecursion-behind P (flat_map extents_of d.objects) (tables_of d) all in
     record {
       objects = AllByRecursion-front P (flat_map extents_of d.objects) (tables_of d) all;
       named = AllByRecursion-front P (table_extents d.named) (table_extents d.unique) tables;

@@ -16,18 +16,18 @@ use Rattle.segment_manager.proofs.{Here.here, Steps.moves-same}
 -- ---- the object
 
 -- what the head of the object at the handle says is what is located
-pub locates : {s : State} (key : Key) {h : ℕ} (head : Head) → Answers s (λ d. handle_at d key) (Some h) → ((o : Object) → StandsAt s.cut.bytes h o → IsHeadOf o head)
+pub locates : {s : State} {key : Key} {h : ℕ} {head : Head} → Answers s (λ d. handle_at d key) (Some h) → ((o : Object) → StandsAt s.cut.bytes h o → IsHeadOf o head)
     → IsLocated s key (record { handle = h; kind = head.kind; count = head.count })
-locates {s} key {h} head a says = record {
+locates {s} {key} {h} {head} a says = record {
   at = record {
     answers = λ d k.
-        let o : IsHere s.cut.bytes d key h = here s.cut.bytes d key h k.denotes (a.answers d k) in
-        let said : IsHeadOf o.object head = says o.object o.stands in
+        let o = here s.cut.bytes d key h k.denotes (a.answers d k) in
+        let said = says o.object o.stands in
         (λ i. Some (record { handle = o.stands.at i; kind = said.kind i; count = said.count i })) ∙ sym (ap (option_map located) o.is);
   };
   here = record {
     answers = λ d k.
-        let o : IsHere s.cut.bytes d key h = here s.cut.bytes d key h k.denotes (a.answers d k) in
+        let o = here s.cut.bytes d key h k.denotes (a.answers d k) in
         sym (ap is_some (ap (λ n. object_at d (ByHandle n)) o.stands.at ∙ by-handle key k.denotes.directory o.is));
   };
 }
@@ -38,16 +38,16 @@ pub record IsSaidAt (d : Directory) (key : Key) (o : Located) : Type 0 where
   pub is : object_at d key ≡ Some object
   pub said : o ≡ located object
 
-said-if : (d : Directory) (key : Key) {o : Located} (r : Option Object) → object_at d key ≡ r → Some o ≡ option_map located r → IsSaidAt d key o
-said-if d key None e f = absurd (cc)
-said-if d key {o} (Some p) e f = record { object = p; is = e; said = same_Some o (located p) f }
+said-if : {d : Directory} {key : Key} {o : Located} (r : Option Object) → object_at d key ≡ r → Some o ≡ option_map located r → IsSaidAt d key o
+said-if None e f = absurd (cc)
+said-if {o} (Some p) e f = record { object = p; is = e; said = same_Some o (located p) f }
 
 pub said-at : (s : State) (key : Key) (o : Located) → IsLocated s key o → (d : Directory) → StandsFor s.cut.bytes d → IsSaidAt d key o
-said-at s key o l d k = said-if d key (object_at d key) refl (l.at.answers d k)
+said-at s key o l d k = said-if (object_at d key) refl (l.at.answers d k)
 
 pub same-object : HandlesMeanObjects
 same-object s key o l d k =
-    let p : IsSaidAt d key o = said-at s key o l d k in
+    let p = said-at s key o l d k in
     p.is ∙ sym (ap (λ (q : Located). object_at d (ByHandle q.handle)) p.said ∙ by-handle key k.denotes.directory p.is)
 
 -- ---- two keys of one object
@@ -105,7 +105,7 @@ module _ (old : State) (key : Key) (o : Located) (l : IsLocated old key o) where
   pub kind-by_key : Answers old (λ d. kind_at d key) (Ok o.kind)
   kind-by_key = record {
     answers = λ d k.
-        let p : IsSaidAt d key o = said-at old key o l d k in
+        let p = said-at old key o l d k in
         ap (λ (q : Located). Ok q.kind) p.said ∙ sym (ap (λ (r : Option Object). elim r as (λ _. Result Kind Refusal) [ None ↦ Err NotFound | Some q ↦ Ok (kind_of q.value) ]) p.is);
   }
 
@@ -141,8 +141,8 @@ module _ (old : State) (key : Key) (o : Located) (l : IsLocated old key o) where
       (told-by_key (λ d q. elim q as (λ _. Result (ℕ × ℕ) Refusal) [ None ↦ Err NotFound | Some p ↦ sizes_of_kind p kind ]) r m)
 
   -- what is left as it is where there are so many places
-  places-by_key : (new : State) (n : ℕ) → KeepsWhere old new (HasPlaces (ByHandle o.handle) n) → KeepsWhere old new (HasPlaces key n)
-  places-by_key new n m = λ d k p. m d k (record {
+  places-by_key : {new : State} (n : ℕ) → KeepsWhere old new (HasPlaces (ByHandle o.handle) n) → KeepsWhere old new (HasPlaces key n)
+  places-by_key n m = λ d k p. m d k (record {
     len = p.len;
     capacity = p.capacity;
     says = ap (λ (r : Option Object). elim r as (λ _. Result (ℕ × ℕ) Refusal) [ None ↦ Err NotFound | Some q ↦ sizes_of q.value ]) (same d k) ∙ p.says;
@@ -160,6 +160,6 @@ module _ (old : State) (key : Key) (o : Located) (l : IsLocated old key o) where
 
   pub enough-by_key : (change : Change) (new : State) → KeepsWhere old new (HasEnough change (ByHandle o.handle))
       → KeepsWhere old new (HasEnough change key)
-  enough-by_key (Reserve n) new m = places-by_key new n m
+  enough-by_key (Reserve n) new m = places-by_key n m
   enough-by_key Shrink new m = λ d k e. absurd e
   enough-by_key Clear new m = λ d k e. absurd e

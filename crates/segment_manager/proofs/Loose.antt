@@ -51,10 +51,10 @@ back-again : {a b c : Cut} {n : ℕ} {role : Role} {h : ℕ} → IsAllocated cur
 back-again {a} {b} {c} {n} {role} {h} took gone = let r = taken-back a b c n h role took gone in record { laid = r.laid; keeps = r.keeps }
 
 -- what an index took to grow into goes back, after what was taken behind it
-growth-back : (a : Cut) {b c : Cut} (e : Cut) (at : ℕ) (g : Option ℕ) → IsGrowth a b at g → IsRestored b c → GivesBack c e g → IsRestored a e
-growth-back a {c} e at None grows r back =
+growth-back : {a : Cut} {b c : Cut} {e : Cut} (at : ℕ) (g : Option ℕ) → IsGrowth a b at g → IsRestored b c → GivesBack c e g → IsRestored a e
+growth-back {a} {c} at None grows r back =
     subst (IsRestored a) (sym back) (subst (λ (s : Cut). IsRestored s c) grows.1 r)
-growth-back a e at (Some h) grows r back =
+growth-back at (Some h) grows r back =
     back-again (restored-taken grows.1 r) back
 
 -- the object's block is in use, with an entry to come or without
@@ -84,7 +84,7 @@ loose-held {old} {new} {e} l gone =
     (sym (lay_out_one current new.bytes (live_of mid.bytes) (object-back l gone).laid))
     (growth-held old mid (place_of e.index) e.growth.block l.requested.grows)
 
-pub entry-back : {old now mid : Cut} (new : Cut) {h : ℕ} {e : NewEntry} → IsLooseEntry old now h e → IsReleased current now mid h → GivesBack mid new e.growth.block → IsRestored old new
-entry-back {old} new {e} l gone back =
-    growth-back old new (place_of e.index) e.growth.block l.requested.grows
+pub entry-back : {old now mid : Cut} {new : Cut} {h : ℕ} {e : NewEntry} → IsLooseEntry old now h e → IsReleased current now mid h → GivesBack mid new e.growth.block → IsRestored old new
+entry-back {old} {e} l gone back =
+    growth-back (place_of e.index) e.growth.block l.requested.grows
     (object-back l gone) back

@@ -69,8 +69,8 @@ pub record StaysBut (a b c : Cut) (x : Extent) (from n : ℕ) : Type 0 where
   pub own : SameBlockBut (bytes_of b.bytes) (bytes_of c.bytes) from n x
   pub others : AllByRecursion (SameBlockBut (bytes_of b.bytes) (bytes_of c.bytes) from n) (live_of a.bytes).extents
 
-pub stays-but : (a : Cut) {b c : Cut} (x : Extent) {from n : ℕ} {come : List Extent} → IsTaken a b (x ∷ []) → IsExchanged current b c from n [] come → StaysBut a b c x from n
-stays-but a {b} {c} x {from} {n} m r =
+pub stays-but : {a : Cut} {b c : Cut} {x : Extent} {from n : ℕ} {come : List Extent} → IsTaken a b (x ∷ []) → IsExchanged current b c from n [] come → StaysBut a b c x from n
+stays-but {a} {b} {c} {x} {from} {n} m r =
     let both = all_of-insert (SameBlockBut (bytes_of b.bytes) (bytes_of c.bytes) from n) x (live_of a.bytes).extents
     (subst (λ (s : LiveSet). AllByRecursion (SameBlockBut (bytes_of b.bytes) (bytes_of c.bytes) from n) s.extents) (taken-live a b (x ∷ []) m) r.blocks) in
     record { own = both.0; others = both.1 }
@@ -78,17 +78,17 @@ stays-but a {b} {c} x {from} {n} m r =
 -- a block was taken; then n of its bytes are written, and more blocks are taken
 pub taken-more : (a : Cut) {b c : Cut} (x : Extent) {from n : ℕ} {come : List Extent} → IsTaken a b (x ∷ []) → handle x ≤ from → from + n ≤ end_of x → IsExchanged current b c from n [] come → IsTaken a c (x ∷ come)
 taken-more a {b} {c} x {from} {n} {come} m low high r =
-    let A : Memory = bytes_of a.bytes in
-    let B : Memory = bytes_of b.bytes in
-    let C : Memory = bytes_of c.bytes in
-    let l : LiveSet = live_of a.bytes in
+    let A = bytes_of a.bytes in
+    let B = bytes_of b.bytes in
+    let C = bytes_of c.bytes in
+    let l = live_of a.bytes in
     let e : exchanged (live_of b.bytes) [] come ≡ with_live l (inserted come (insert x l.extents)) =
     ap (λ (s : LiveSet). exchanged s [] come) (taken-live a b (x ∷ []) m) in
     let laid : LaysOut current c.bytes (with_live l (inserted come (insert x l.extents))) = subst (LaysOut current c.bytes) e r.live in
-    let up : Rising 128 (inserted come (insert x l.extents)) = live-rises (with_live l (inserted come (insert x l.extents))) laid.proper in
-    let order : inserted come (insert x l.extents) ≡ insert x (inserted come l.extents) = put-first x come l.extents up in
-    let alone : IsAlone 128 x l.extents = spaced-insert 128 x l.extents (live-spaced (added l x) m.live.proper) in
-    let but : StaysBut a b c x from n = stays-but a x m r in
+    let up = live-rises (with_live l (inserted come (insert x l.extents))) laid.proper in
+    let order = put-first x come l.extents up in
+    let alone = spaced-insert 128 x l.extents (live-spaced (added l x) m.live.proper) in
+    let but = stays-but m r in
     record {
       live = subst (λ xs. LaysOut current c.bytes (with_live l xs)) order laid;
       keeps = record {
@@ -102,20 +102,20 @@ taken-more a {b} {c} x {from} {n} {come} m low high r =
 -- a block that was placed is the next of a live set
 pub placed-next : {a b : Cut} {n h : ℕ} → (t : IsAllocated current a b n ObjectRole h) → resized (live_of a.bytes) t.extent ≡ live_of b.bytes
 placed-next {a} {b} {n} {h} t =
-    let f : IsFresh 128 t.extent (live_of a.bytes).extents = rising-insert 128 t.extent (live_of a.bytes).extents (live-rises (added (live_of a.bytes) t.extent) t.live.proper) in
+    let f = rising-insert 128 t.extent (live_of a.bytes).extents (live-rises (added (live_of a.bytes) t.extent) t.live.proper) in
     resized-fresh (live_of a.bytes) t.extent f.differs ∙ sym (allocated-live current a b n ObjectRole h t)
 
 -- ---- the object
 
-changed-wider : {a b : Cut} {from m : ℕ} (n : ℕ) → m ≤ n → IsChanged current a b from m → IsChanged current a b from n
-changed-wider {a} {b} {from} {m} n l c = record { place = c.place; live = c.live; rest = SameBut-wider (bytes_of a.bytes) (bytes_of b.bytes) from m from n c.rest (omega arith) (omega arith) }
+changed-wider : {a b : Cut} {from m : ℕ} {n : ℕ} → m ≤ n → IsChanged current a b from m → IsChanged current a b from n
+changed-wider {a} {b} {from} {m} {n} l c = record { place = c.place; live = c.live; rest = SameBut-wider (bytes_of a.bytes) (bytes_of b.bytes) from m from n c.rest (omega arith) (omega arith) }
 
 -- what was written behind the head stands in the payload
 pub headed-change : {a b c : Cut} {kind : Kind} {class : Class} {name : List ℕ} {count : ℕ} (body : ℕ) {h at n : ℕ} → IsHeaded a b kind class name count h at → IsChanged current b c (h + at) n → n ≤ body
     → IsChanged current a c h (room_for name body)
 headed-change {b} {c} {name} body {h} {at} {n} hd change l =
     let start : at ≡ 16 + padded (length name) = hd.start in
-    changed-wider (room_for name body) (omega arith)
+    changed-wider (omega arith)
     (changed-trans hd.change (subst (λ p. IsChanged current b c (h + p) n) start change))
 
 -- the block was taken, its head written, and then the n bytes behind it
@@ -129,18 +129,18 @@ pub record IsInside (x : Extent) (from n : ℕ) : Type 0 where
   pub low : handle x ≤ from
   pub high : from + n ≤ end_of x
 
-pub inside : {a e : Cut} (name : List ℕ) (n : ℕ) {h at : ℕ} → (t : IsAllocated current a e (room_for name n) ObjectRole h) → at ≡ 16 + padded (length name) → IsInside t.extent (h + at) n
-inside name n {h} t start =
-    let long : ℕ = room_for name n in
+pub inside : {a e : Cut} (name : List ℕ) {n : ℕ} {h at : ℕ} → (t : IsAllocated current a e (room_for name n) ObjectRole h) → at ≡ 16 + padded (length name) → IsInside t.extent (h + at) n
+inside name {n} {h} t start =
+    let long = room_for name n in
     let x : Extent = t.extent in
     let is : h ≡ handle x = t.at in
-    let fits : long + 16 ≤ x.len = no_more (long + 16) x.len (second (same_role x.role ObjectRole) (holds x long) (allocated-serves t)) in
+    let fits = no_more (long + 16) x.len (second (same_role x.role ObjectRole) (holds x long) (allocated-serves t)) in
     record { low = omega arith; high = omega arith }
 
 pub made-taken : {a e w : Cut} (name : List ℕ) {n h at : ℕ} {come : List Extent} → (t : IsAllocated current a e (room_for name n) ObjectRole h) → at ≡ 16 + padded (length name)
     → IsExchanged current e w (h + at) n [] come → IsTaken a w (t.extent ∷ come)
 made-taken {a} name {n} {h} {at} t start r =
-    let i : IsInside t.extent (h + at) n = inside name n t start in
+    let i = inside name t start in
     taken-more a t.extent (requested-taken t) i.low i.high r
 
 -- a head with its name, and a value behind it
@@ -160,14 +160,14 @@ pub made-object : {a t m e w : Cut} {class : Class} {name : List ℕ} {n h at : 
     → IsHeaded t m (kind_of v) class name (count_of v) h at → IsChanged current m e (h + at) n → IsExchanged current e w (h + at) n [] come → IsValueAt (bytes_of w.bytes) (h + at) v
     → IsObjectAt (bytes_of w.bytes) (record { class = class; name = name; value = v; extent = took.extent })
 made-object {a} {m} {e} {w} {name} {n} {h} {at} v took headed change storage says =
-    let M : Memory = bytes_of m.bytes in
-    let E : Memory = bytes_of e.bytes in
-    let W : Memory = bytes_of w.bytes in
+    let M = bytes_of m.bytes in
+    let E = bytes_of e.bytes in
+    let W = bytes_of w.bytes in
     let x : Extent = took.extent in
     let is : h ≡ handle x = took.at in
-    let i : IsInside x (h + at) n = inside name n took headed.start in
+    let i = inside name took headed.start in
     let high = i.high in
-    let but : StaysBut a e w x (h + at) n = stays-but a x (requested-taken took) storage in
-    let front : Same M E h (h + at) = SameBut-Same M E (h + at) n h (h + at) change.rest (inl (omega arith)) in
+    let but = stays-but (requested-taken took) storage in
+    let front = SameBut-Same M E (h + at) n h (h + at) change.rest (inl (omega arith)) in
     let back : Same E W h (h + at) = record { at = λ k f g. but.own.payload k (omega arith) (omega arith) (inl g) } in
     headed-object v x is headed.start headed.head (Same-trans M E W h (h + at) front back) says

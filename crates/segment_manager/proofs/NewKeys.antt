@@ -25,7 +25,7 @@ numbers-value k zs low high all =
 
 pub equal-good : (k : ScalarKind) (n : ℕ) (z : ℤ) → 1 ≤ n → n ≤ 1048576 → IsTrue (is_value k z) → IsTrue (is_good_value (Numbers k (replicate n z)))
 equal-good k n z low high h =
-    let long : length (replicate n z) ≡ n = length-replicate n z in
+    let long = length-replicate n z in
     numbers-value k (replicate n z) (omega (arith, long)) (omega (arith, long)) (all-replicate (is_value k) n z h)
 
 -- the names that keys hold are those of the format
@@ -44,10 +44,10 @@ key-class Named (Name s) (names.ByName n) name kind h = refl
 key-class Unique (Code c) (names.ByKind u) name kind h = refl
 key-class i e key name kind h = absurd h
 
-pub key-name : (i : Index) (e : Key) (key : names.Key) (name : List ℕ) (kind : Kind) → IsNewKeyOf i e key name kind → name_of key ≡ name
-key-name Named (Name s) (names.ByName n) name kind h = sym h.1
-key-name Unique (Code c) (names.ByKind u) name kind h = sym h.1
-key-name i e key name kind h = absurd h
+pub key-name : (i : Index) (e : Key) (key : names.Key) {name : List ℕ} (kind : Kind) → IsNewKeyOf i e key name kind → name_of key ≡ name
+key-name Named (Name s) (names.ByName n) kind h = sym h.1
+key-name Unique (Code c) (names.ByKind u) kind h = sym h.1
+key-name i e key kind h = absurd h
 
 pub key-seeks : (i : Index) (e : Key) (key : names.Key) (name : List ℕ) (kind : Kind) → IsNewKeyOf i e key name kind → Seeks i e key
 key-seeks Named (Name s) (names.ByName n) name kind h = h.0
@@ -81,7 +81,7 @@ key-good_name i e key name v x h = absurd h
 pub key-object : (i : Index) (e : Key) (key : names.Key) (name : List ℕ) (v : Value) (x : Extent) → IsNewKeyOf i e key name (kind_of v) → IsTrue (is_kind_of current (kind_of v)) → IsTrue (is_good_value v)
     → IsTrue (serves x ObjectRole (object_len name v)) → IsTrue (is_object current (object_of i name v x))
 key-object i e key name v x h kind good s =
-    let o : Object = object_of i name v x in
+    let o = object_of i name v x in
     and_from (has_good_name current o && is_kind_of current (kind_of v) && is_good_value v) (serves x ObjectRole (object_len name v))
     (and_from (has_good_name current o && is_kind_of current (kind_of v)) (is_good_value v)
     (and_from (has_good_name current o) (is_kind_of current (kind_of v)) (key-good_name i e key name v x h) kind) good) s

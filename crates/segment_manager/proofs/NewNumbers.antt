@@ -15,8 +15,8 @@ all-stay m from n [] = tt
 all-stay m from n (x ∷ xs) = (record { payload = λ k f g h. refl; colour = refl }, all-stay m from n xs)
 
 -- no block is taken
-nothing-exchanged : (c : Cut) (from n : ℕ) → LaysOut current c.bytes (live_of c.bytes) → IsExchanged current c c from n [] []
-nothing-exchanged c from n laid = record {
+nothing-exchanged : {c : Cut} {from n : ℕ} → LaysOut current c.bytes (live_of c.bytes) → IsExchanged current c c from n [] []
+nothing-exchanged {c} {from} {n} laid = record {
   live = laid;
   place = record { before = refl; after = refl };
   front = record { at = λ i a b. refl };
@@ -27,9 +27,9 @@ nothing-exchanged c from n laid = record {
 -- ---- numbers
 
 -- they are written
-pub numbers-made : (k : ScalarKind) (zs : List ℤ) {old new : Cut} (p : Place) → IsTrue (is_good_value (Numbers k zs)) → IsChanged current old new (place_at p) (size_of k * length zs)
+pub numbers-made : (k : ScalarKind) (zs : List ℤ) {old new : Cut} {p : Place} → IsTrue (is_good_value (Numbers k zs)) → IsChanged current old new (place_at p) (size_of k * length zs)
     → Has (bytes_of new.bytes) (place_at p) (spelled k zs) → IsMadeValue (asked.Numbers k zs) old new p
-numbers-made k zs {old} {new} p good change says = record {
+numbers-made k zs {old} {new} good change says = record {
   empty = new;
   change = change;
   value = Numbers k zs;
@@ -39,7 +39,7 @@ numbers-made k zs {old} {new} p good change says = record {
   good = good;
   left = live_of new.bytes;
   given = λ d. record { met = λ next. refl };
-  storage = nothing-exchanged new (place_at p) (size_of k * length zs) (laid-heap new.bytes (live_of old.bytes) change.live);
+  storage = nothing-exchanged (laid-heap new.bytes (live_of old.bytes) change.live);
   said = says;
 }
 
@@ -48,7 +48,7 @@ pub equal-made : (k : ScalarKind) (count : ℕ) (z : ℤ) (old new : Cut) (p : P
     → IsChanged current old new (place_at p) (length bytes * count) → Has (bytes_of new.bytes) (place_at p) (repeated count bytes) → IsMadeValue (asked.Numbers k (replicate count z)) old new p
 equal-made k count z old new p bytes low high value spelt change says =
     let size : length bytes ≡ size_of k = ap (λ (bs : List ℕ). length bs) spelt ∙ spelling-length k z in
-    numbers-made k (replicate count z) p (equal-good k count z low high value)
+    numbers-made k (replicate count z) (equal-good k count z low high value)
     (subst (IsChanged current old new (place_at p)) (λ j. size j * sym (length-replicate count z) j) change)
     (subst (Has (bytes_of new.bytes) (place_at p)) (ap (repeated count) spelt ∙ repeated-spelled k count z) says)
 
@@ -63,8 +63,8 @@ no-root m (fork red left n right) k e = absurd (not-empty (nodes_of left) n (nod
     not-empty (x ∷ xs) n ys f = cc
 
 -- it is one of any types
-map-there : {K V : Type 0} (k v : ScalarKind) (kp : Plain K) (vp : Plain V) (old new : Cut) (p : Place) → IsNew kp vp old new p.handle p.at → IsMadeValue (asked.NoPairs k v) old new p
-map-there k v kp vp old new p r =
+map-there : {K V : Type 0} (k v : ScalarKind) (kp : Plain K) (vp : Plain V) {old new : Cut} {p : Place} → IsNew kp vp old new p.handle p.at → IsMadeValue (asked.NoPairs k v) old new p
+map-there k v kp vp {new} r =
     let s = r.map in
     record {
       empty = new;
@@ -76,7 +76,7 @@ map-there k v kp vp old new p r =
       good = refl;
       left = live_of new.bytes;
       given = λ d. record { met = λ next. refl };
-      storage = nothing-exchanged new (place_at p) 24 s.heap;
+      storage = nothing-exchanged s.heap;
       said = record {
         count = s.map.count;
         third = s.map.third;
@@ -93,4 +93,4 @@ map-there k v kp vp old new p r =
 -- at a place that is another word for it
 pub map-made : {K V : Type 0} (k v : ScalarKind) (kp : Plain K) (vp : Plain V) (old new : Cut) (p : Place) (q : MapPlace) → q.handle ≡ p.handle → q.at ≡ p.at → IsNew kp vp old new q.handle q.at
     → IsMadeValue (asked.NoPairs k v) old new p
-map-made k v kp vp old new p q e f r = map-there k v kp vp old new p (subst (λ h. IsNew kp vp old new h p.at) e (subst (λ a. IsNew kp vp old new q.handle a) f r))
+map-made k v kp vp old new p q e f r = map-there k v kp vp (subst (λ h. IsNew kp vp old new h p.at) e (subst (λ a. IsNew kp vp old new q.handle a) f r))

@@ -28,13 +28,13 @@ use Rattle.seg_types.specs.Names as names
 
 -- ---- places
 
-growth-place : (a b : Cut) (at : ℕ) (g : Option ℕ) → IsGrowth a b at g → SamePlace a b
-growth-place a b at None h = subst (SamePlace a) (sym h.1) (record { before = refl; after = refl })
-growth-place a b at (Some g) h = h.1.keeps.place
+growth-place : {a b : Cut} (at : ℕ) (g : Option ℕ) → IsGrowth a b at g → SamePlace a b
+growth-place {a} at None h = subst (SamePlace a) (sym h.1) (record { before = refl; after = refl })
+growth-place at (Some g) h = h.1.keeps.place
 
-keeps-place : (a b : Cut) (at : ℕ) (t : Table) (g : Option ℕ) → AddKeeps a b at t g → SamePlace a b
-keeps-place a b at t None k = k.place
-keeps-place a b at t (Some g) k = k.place
+keeps-place : {a b : Cut} (at : ℕ) (t : Table) (g : Option ℕ) → AddKeeps a b at t g → SamePlace a b
+keeps-place at t None k = k.place
+keeps-place at t (Some g) k = k.place
 
 -- no object has no key
 pub no_key-none : (os : List Object) → find (has_key names.NoKey) os ≡ None
@@ -42,8 +42,8 @@ no_key-none [] = refl
 no_key-none (o ∷ os) = no_key-none os
 
 -- what a look-up that finds no entry says of each directory
-pub away-in : (i : Index) (a : Cut) {d : Directory} (e : Key) (at : ℕ) → Denotes current a.bytes d → IsAbsentAt a i e at → IsPlace (bytes_of a.bytes) e (entries_of i d) (Absent at)
-away-in i a {d} e at said away = away (table_of i d) (entries_of i d) (denotes-index i a said)
+pub away-in : (i : Index) {a : Cut} {d : Directory} (e : Key) (at : ℕ) → Denotes current a.bytes d → IsAbsentAt a i e at → IsPlace (bytes_of a.bytes) e (entries_of i d) (Absent at)
+away-in i {a} {d} e at said away = away (table_of i d) (entries_of i d) (denotes-index i a said)
 
 -- ---- all directories
 
@@ -57,8 +57,8 @@ pub record IsMadeNever (a c : Cut) (key : names.Key) (content : Content) : Type 
   pub place : SamePlace a c
   pub each : (d : Directory) → StandsFor a.bytes d → (object_at d key ≡ None) × IsNoObject c d key content
 
-unchanged : (w : Cut) (l : LiveSet) (from n : ℕ) → LaysOut current w.bytes l → IsChanged current w w from n
-unchanged w l from n laid = record { place = record { before = refl; after = refl }; live = laid-heap w.bytes l laid; rest = record { at = λ k h. refl } }
+unchanged : {w : Cut} (l : LiveSet) {from n : ℕ} → LaysOut current w.bytes l → IsChanged current w w from n
+unchanged {w} l laid = record { place = record { before = refl; after = refl }; live = laid-heap w.bytes l laid; rest = record { at = λ k h. refl } }
 
 module _ (content : Content) where
   abbrev kind : Kind
@@ -100,28 +100,28 @@ module _ (content : Content) where
     placed-at : place (live_of a.bytes) (object_len name (bare content)) ObjectRole ≡ Some block.extent
     placed-at = block.placed
 
-    given-in : (d : Directory) → IsGiven d (resized (live_of a.bytes) block.extent) content r.value r.left
-    given-in d = subst (λ l. IsGiven d l content r.value r.left) (sym (placed-next block)) (r.given d)
+    given-in : {d : Directory} → IsGiven d (resized (live_of a.bytes) block.extent) content r.value r.left
+    given-in {d} = subst (λ l. IsGiven d l content r.value r.left) (sym (placed-next block)) (r.given d)
 
   -- ---- the directory, under a key with an entry
 
   module _ {a m : Cut} {key : names.Key} {h at : ℕ} {e : NewEntry} (g : IsBegunEntry a m key kind many long h at e) {d : Directory} (said : Denotes current a.bytes d) where
     absent : object_at d key ≡ None
     absent =
-        (lookup-absent e.index a g.entry key said (key-seeks e.index g.entry key g.name kind g.is) e.place (away-in e.index a g.entry e.place said g.absent)).none
+        (lookup-absent e.index a g.entry key said (key-seeks e.index g.entry key g.name kind g.is) (away-in e.index g.entry e.place said g.absent)).none
 
     entry-new : {w c : Cut} → IsMadeValue content m w (record { handle = h; at = at }) → IsEntryAdded w c h e → IsNewObject c d key content h
     entry-new {w} {c} r added =
         let b : Cut = g.requested.between in
-        let class : Class = class_of_index e.index in
+        let class = class_of_index e.index in
         let took = block b g.taken m w class g.name h at g.requested.takes g.headed r in
         let x : Extent = took.extent in
         let new' : IsNewKeyOf e.index g.entry key g.name (kind_of r.value) = subst (IsNewKeyOf e.index g.entry key g.name) (sym r.is_kind) g.is in
         let object = key-object e.index g.entry key g.name r.value x new' (known-kind (kind_of r.value)) r.good (serving b g.taken m w class g.name h at g.requested.takes g.headed r) in
-        content-entered e.index a d g.entry key g.name kind content said g.is b w c e.place e.growth.block g.requested.grows
-        (placed-at b g.taken m w class g.name h at g.requested.takes g.headed r) (given-in b g.taken m w class g.name h at g.requested.takes g.headed r d) r.is_kind r.count
+        content-entered e.index a d g.entry key g.name kind content said g.is b w e.place e.growth.block g.requested.grows
+        (placed-at b g.taken m w class g.name h at g.requested.takes g.headed r) (given-in b g.taken m w class g.name h at g.requested.takes g.headed r) r.is_kind r.count
         (made-in b g.taken m w class g.name h at g.requested.takes g.headed r object) took.at
-        (away-in e.index a g.entry e.place said g.absent) (record { adds = added.adds; live = added.live; keeps = added.keeps })
+        (away-in e.index g.entry e.place said g.absent) (record { adds = added.adds; live = added.live; keeps = added.keeps })
 
     entry-denied : {w c : Cut} {why : Refusal} → IsNoValue content m w (record { handle = h; at = at }) why → IsRestored a c → IsNoObject c d key content
     entry-denied {c} r back =
@@ -151,13 +151,13 @@ module _ (content : Content) where
     alone-new {w} r =
         let took = block a g.taken m w Anonymous [] h at g.takes g.headed r in
         let x : Extent = took.extent in
-        let o : Object = alone_in x r.value in
-        let same : live_of a.bytes ≡ live d = denotes-live current a.bytes d said in
-        let made : IsMade a w o =
+        let o = alone_in x r.value in
+        let same = denotes-live current a.bytes d said in
+        let made =
         made-in a g.taken m w Anonymous [] h at g.takes g.headed r
         (alone-good x r.value (known-kind (kind_of r.value)) r.good (serving a g.taken m w Anonymous [] h at g.takes g.headed r)) in
         let there : IsGiven d (resized (live d) x) content r.value r.left =
-        subst (λ l. IsGiven d (resized l x) content r.value r.left) same (given-in a g.taken m w Anonymous [] h at g.takes g.headed r d) in
+        subst (λ l. IsGiven d (resized l x) content r.value r.left) same (given-in a g.taken m w Anonymous [] h at g.takes g.headed r) in
         record {
           object = o;
           after = with_object d o;
@@ -176,7 +176,7 @@ module _ (content : Content) where
     alone-denied {w} {c} r back =
         let took = empty-taken g.takes g.headed r.change in
         let x : Extent = took.extent in
-        let same : live_of a.bytes ≡ live d = denotes-live current a.bytes d said in
+        let same = denotes-live current a.bytes d said in
         let none : IsDenied d (resized (live d) x) content =
         subst (λ l. IsDenied d (resized l x) content) same (subst (λ l. IsDenied d l content) (sym (placed-next took)) (r.denied d)) in
         record {
@@ -189,7 +189,7 @@ module _ (content : Content) where
 
   -- ---- an entry is to lead there, or all is given back
 
-  module _ (a m : Cut) (b : IsSegment a.bytes) (key : names.Key) (h at : ℕ) where
+  module _ (a : Cut) {m : Cut} (b : IsSegment a.bytes) (key : names.Key) (h at : ℕ) where
     entry-taken : {w : Cut} {e : NewEntry} → (g : IsBegunEntry a m key kind many long h at e) → (r : IsMadeValue content m w (record { handle = h; at = at }))
         → IsTaken g.requested.between w ((block g.requested.between g.taken m w (class_of_index e.index) g.name h at g.requested.takes g.headed r).extent ∷ value_extents r.value)
     entry-taken {w} {e} g r = both-taken g.requested.between g.taken m w (class_of_index e.index) g.name h at g.requested.takes g.headed r
@@ -201,13 +201,13 @@ module _ (content : Content) where
         let mid : Cut = g.requested.between in
         let d : Directory = b.0 in
         let t = table_of i d in
-        let hs : List ℕ = entries_of i d in
-        let x : IsIndexOf a (place_of i) t hs = denotes-index i a b.1.denotes in
+        let hs = entries_of i d in
+        let x = denotes-index i a b.1.denotes in
         let took = block mid g.taken m w (class_of_index i) g.name h at g.requested.takes g.headed r in
         let taken = entry-taken g r in
-        let grown : CanGrow mid (place_of i) e.growth.block = prepared a mid (place_of i) e.growth.block t hs x g.requested.grows (place_behind i) (place_small i) in
+        let grown = prepared a mid (place_of i) e.growth.block t hs x g.requested.grows (place_behind i) (place_small i) in
         let index : IsIndexOf w (place_of i) t hs =
-        taken-index w _ taken (place_behind i) (place_small i) (growth-index i mid e.growth.block g.requested.grows x) in
+        taken-index _ taken (place_behind i) (place_small i) (growth-index i e.growth.block g.requested.grows x) in
         let away = g.absent t hs x in
         record {
           index = record { table = t; handles = hs; index = index };
@@ -225,7 +225,7 @@ module _ (content : Content) where
       len = room_for [] long;
       taken = w;
       takes = restored-taken (empty-taken g.takes g.headed r.change) r.restored;
-      change = unchanged w (live_of r.empty.bytes) h (room_for [] long) r.restored.laid;
+      change = unchanged (live_of r.empty.bytes) r.restored.laid;
     }
     value-loose (Some e) w why g r =
         let x = denotes-index e.index a b.1.denotes in
@@ -239,8 +239,8 @@ module _ (content : Content) where
             grows = g.requested.grows;
             takes = restored-taken (empty-taken g.requested.takes g.headed r.change) r.restored;
           };
-          change = unchanged w (live_of r.empty.bytes) h (room_for g.name long) r.restored.laid;
-          index = segment-index a e.index b;
+          change = unchanged (live_of r.empty.bytes) r.restored.laid;
+          index = segment-index e.index b;
           within = subst (λ n. e.place ≤ n) (sym x.stands.count) away.0;
         }
 
@@ -251,8 +251,8 @@ module _ (content : Content) where
         let i : Index = e.index in
         let mid : Cut = g.requested.between in
         let q = (entry-wanted g r).index in
-        SamePlace-trans a mid c (growth-place a mid (place_of i) e.growth.block g.requested.grows)
-        (SamePlace-trans mid w c (entry-taken g r).keeps.place (keeps-place w c (place_of i) q.table e.growth.block (added.keeps q.table q.handles q.index)))
+        SamePlace-trans a mid c (growth-place (place_of i) e.growth.block g.requested.grows)
+        (SamePlace-trans mid w c (entry-taken g r).keeps.place (keeps-place (place_of i) q.table e.growth.block (added.keeps q.table q.handles q.index)))
 
     -- it is made
     value-made : {w : Cut} {e : NewEntry} {c : Cut} → IsBegunEntry a m key kind many long h at e → IsMadeValue content m w (record { handle = h; at = at }) → IsEntryAdded w c h e → IsMadeNow a c key content h
@@ -268,7 +268,7 @@ module _ (content : Content) where
     }
 
   -- the same of an object without a key
-  module _ (a m : Cut) (h at : ℕ) (g : IsBegunAlone a m names.NoKey kind many long h at) where
+  module _ {a m : Cut} (h at : ℕ) (g : IsBegunAlone a m names.NoKey kind many long h at) where
     alone-made : {w : Cut} → IsMadeValue content m w (record { handle = h; at = at }) → IsMadeNow a w names.NoKey content h
     alone-made {w} r = record {
       place = (both-taken a g.taken m w Anonymous [] h at g.takes g.headed r).keeps.place;
@@ -282,22 +282,22 @@ module _ (content : Content) where
     }
 
   -- the same whatever the key
-  module _ (a m : Cut) (b : IsSegment a.bytes) (key : names.Key) (h at : ℕ) where
-    pub value-built : (entry : Option NewEntry) {w : Cut} (c : Cut) → IsBegun a m key kind many long h at entry → IsMadeValue content m w (record { handle = h; at = at }) → LeadsThere w c h entry → IsMadeNow a c key content h
-    value-built None c g r same =
+  module _ {a m : Cut} (b : IsSegment a.bytes) {key : names.Key} (h at : ℕ) where
+    pub value-built : (entry : Option NewEntry) {w : Cut} {c : Cut} → IsBegun a m key kind many long h at entry → IsMadeValue content m w (record { handle = h; at = at }) → LeadsThere w c h entry → IsMadeNow a c key content h
+    value-built None {c} g r same =
         subst (λ (q : names.Key). IsMadeNow a c q content h) (sym g.is)
-        (subst (λ (s : Cut). IsMadeNow a s names.NoKey content h) (sym same) (alone-made a m h at (record { is = refl; taken = g.taken; takes = g.takes; headed = g.headed }) r))
-    value-built (Some e) c g r added = value-made a m b key h at g r added
+        (subst (λ (s : Cut). IsMadeNow a s names.NoKey content h) (sym same) (alone-made h at (record { is = refl; taken = g.taken; takes = g.takes; headed = g.headed }) r))
+    value-built (Some e) g r added = value-made a b key h at g r added
 
-    pub value-not_built : (entry : Option NewEntry) {w : Cut} (c : Cut) {why : Refusal} → IsBegun a m key kind many long h at entry → IsNoValue content m w (record { handle = h; at = at }) why → GivesAllBack w c h entry → IsMadeNever a c key content
-    value-not_built None {w} c {why} g r gives =
-        let back : IsRestored a c = gives a (value-loose a m b key h at None w why g r) in
-        subst (λ (q : names.Key). IsMadeNever a c q content) (sym g.is) (alone-refused a m h at (record { is = refl; taken = g.taken; takes = g.takes; headed = g.headed }) r back)
-    value-not_built (Some e) {w} c {why} g r gives = value-refused a m b key h at g r (gives a (value-loose a m b key h at (Some e) w why g r))
+    pub value-not_built : (entry : Option NewEntry) {w : Cut} {c : Cut} {why : Refusal} → IsBegun a m key kind many long h at entry → IsNoValue content m w (record { handle = h; at = at }) why → GivesAllBack w c h entry → IsMadeNever a c key content
+    value-not_built None {w} {c} {why} g r gives =
+        let back = gives a (value-loose a b key h at None w why g r) in
+        subst (λ (q : names.Key). IsMadeNever a c q content) (sym g.is) (alone-refused h at (record { is = refl; taken = g.taken; takes = g.takes; headed = g.headed }) r back)
+    value-not_built (Some e) {w} {why} g r gives = value-refused a b key h at g r (gives a (value-loose a b key h at (Some e) w why g r))
 
 -- ---- it is not begun
 
-module _ (a : Cut) (key : names.Key) (content : Content) where
+module _ {a : Cut} (key : names.Key) (content : Content) where
   -- an object has the key
   pub key-taken : {c : Cut} → (t : IsTakenKey a c key (kind_of (bare content))) → (d : Directory) → StandsFor a.bytes d → (o : Object) × (object_at d key ≡ Some o)
   key-taken t d st =
@@ -322,7 +322,7 @@ module _ (a : Cut) (key : names.Key) (content : Content) where
   none-entry {c} u = record {
     place = u.unmet.restored.keeps.place;
     each = λ d st. (
-      (lookup-absent u.index a u.entry key st.denotes (key-seeks u.index u.entry key u.name (kind_of (bare content)) u.is) u.place (away-in u.index a u.entry u.place st.denotes u.absent)).none,
+      (lookup-absent u.index a u.entry key st.denotes (key-seeks u.index u.entry key u.name (kind_of (bare content)) u.is) (away-in u.index u.entry u.place st.denotes u.absent)).none,
       record {
         refused = λ next. content-none u.index a d u.entry key u.name (kind_of (bare content)) content st.denotes u.is next (room_for u.name (value_len (bare content))) refl u.unmet.none;
         denotes = restored-denotes a c d st.denotes u.unmet.restored;
@@ -331,6 +331,6 @@ module _ (a : Cut) (key : names.Key) (content : Content) where
   }
 
   -- a block is refused
-  pub value-not_begun : (c : Cut) → IsNotBegun a c key (kind_of (bare content)) (value_len (bare content)) NoSpace → IsMadeNever a c key content
-  value-not_begun c (inl r) = subst (λ (q : names.Key). IsMadeNever a c q content) (sym r.0) (none-alone r.1)
-  value-not_begun c (inr u) = none-entry u
+  pub value-not_begun : {c : Cut} → IsNotBegun a c key (kind_of (bare content)) (value_len (bare content)) NoSpace → IsMadeNever a c key content
+  value-not_begun {c} (inl r) = subst (λ (q : names.Key). IsMadeNever a c q content) (sym r.0) (none-alone r.1)
+  value-not_begun (inr u) = none-entry u

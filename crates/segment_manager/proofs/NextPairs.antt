@@ -17,9 +17,9 @@ record IsPair (k v : ScalarKind) (x y : ScalarValue) (r : Option NumberPair) : T
   is : r ≡ Some pair
   same : item_seen (x, y) ≡ item_of_kinds k v (item_of pair)
 
-pair-if : (k v : ScalarKind) (x y : ScalarValue) (r : Option NumberPair) → Some (item_seen (x, y)) ≡ option_map (item_of_kinds k v) (option_map item_of r) → IsPair k v x y r
-pair-if k v x y None e = absurd (cc)
-pair-if k v x y (Some p) e = let same : item_seen (x, y) ≡ item_of_kinds k v (item_of p) = cc in record { pair = p; is = refl; same = same }
+pair-if : {k v : ScalarKind} {x y : ScalarValue} (r : Option NumberPair) → Some (item_seen (x, y)) ≡ option_map (item_of_kinds k v) (option_map item_of r) → IsPair k v x y r
+pair-if None e = absurd (cc)
+pair-if {k} {v} {x} {y} (Some p) e = let same : item_seen (x, y) ≡ item_of_kinds k v (item_of p) = cc in record { pair = p; is = refl; same = same }
 
 -- there is none
 none-if : (k v : ScalarKind) (r : Option NumberPair) → None ≡ option_map (item_of_kinds k v) (option_map item_of r) → r ≡ None
@@ -51,14 +51,14 @@ module _ (s : State) (h : ℕ) (k v : ScalarKind) (i : ℕ) where
 
   pub next-none : IsNext s h k v None i → IsNext s h k v None (i + 1)
   next-none n d l =
-      let ps : List NumberPair = pairs_at d (ByHandle h) in
+      let ps = pairs_at d (ByHandle h) in
       let more : suc i ≡ i + 1 = omega arith in
       ap (λ (r : Option NumberPair). option_map (item_of_kinds k v) (option_map item_of r)) (sym (none-behind ps i (none-if k v (slice_get ps i) (n d l))))
       ∙ ap (λ (m : ℕ). option_map (item_of_kinds k v) (option_map item_of (slice_get ps m))) more
 
   module _ (x y : ScalarValue) (n : IsNext s h k v (Some (x, y)) i) where
     pair-there : {d : Directory} → StandsFor s.cut.bytes d → IsPair k v x y (slice_get (pairs_at d (ByHandle h)) i)
-    pair-there {d} l = pair-if k v x y (slice_get (pairs_at d (ByHandle h)) i) (n d l)
+    pair-there {d} l = pair-if (slice_get (pairs_at d (ByHandle h)) i) (n d l)
 
     -- what is written of it
     pub pair-said : (text : Item → List ℕ) (d : Directory) → StandsFor s.cut.bytes d → text (item_seen (x, y)) ≡ part text d

@@ -24,7 +24,7 @@ sorted-append (x ∷ xs) ys = ap (insert x) (sorted-append xs ys)
 pub all_of-sorted : (P : Extent → Type 0) (xs : List Extent) → AllByRecursion P (sorted xs) → AllByRecursion P xs
 all_of-sorted P [] h = tt
 all_of-sorted P (x ∷ xs) h =
-    let both : P x × AllByRecursion P (sorted xs) = all_of-insert P x (sorted xs) h in
+    let both = all_of-insert P x (sorted xs) h in
     (both.0, all_of-sorted P xs both.1)
 
 -- what holds of each holds of each of the sorted list

@@ -137,7 +137,7 @@ all_owned-none h (p ∷ ps) e =
 nodes-none : (h : ℕ) (k v : ScalarKind) (ps : List NumberPair) → IsTrue (list_all (is_number_pair k v) ps) → NonePasses (is_object_block h) (map (λ (p : NumberPair). p.node) ps)
 nodes-none h k v [] e = tt
 nodes-none h k v (p ∷ ps) e =
-    let node : IsTrue (serves p.node Node (node_len (size_of k) (size_of v))) =
+    let node =
     second (is_value k p.key && is_value v p.value) (serves p.node Node (node_len (size_of k) (size_of v))) (first (is_number_pair k v p) (list_all (is_number_pair k v) ps) e) in
     (not-object h p.node 11 (first (same_role p.node.role Node) (holds p.node (node_len (size_of k) (size_of v))) node), nodes-none h k v ps (second (is_number_pair k v p) (list_all (is_number_pair k v) ps) e))
 
@@ -158,9 +158,9 @@ value-none h (Texts ps t) e =
 
 pub object-told : (format h : ℕ) (o : Object) → IsTrue (is_object format o) → IsTold (is_object_block h) h o
 object-told format h o e =
-    let serving : Bool = serves o.extent ObjectRole (object_len o.name o.value) in
-    let before : Bool = has_good_name format o && is_kind_of format (kind_of o.value) in
-    let role : IsTrue (same_role o.extent.role ObjectRole) =
+    let serving = serves o.extent ObjectRole (object_len o.name o.value) in
+    let before = has_good_name format o && is_kind_of format (kind_of o.value) in
+    let role =
     first (same_role o.extent.role ObjectRole) (holds o.extent (object_len o.name o.value)) (second (before && is_good_value o.value) serving e) in
     record {
       own = ap (λ b. (handle o.extent == h) && b) role ∙ and_same (handle o.extent == h) ∙ eq-swap (handle o.extent) h;
@@ -255,9 +255,9 @@ own-spread : (p : Extent → Bool) (n : ℕ) (os : List Object) (t : List Extent
     → filter p (spread os t) ≡ blocks os
 own-spread p n [] t r a h = filter-none p (sorted t) (all-sorted (λ x. p x ≡ false) t h)
 own-spread p n (o ∷ os) t r a h =
-    let rest : filter p (spread os t) ≡ blocks os = own-spread p (o.extent.offset + 1) os t (rises-rest n o os r) a.1 h in
-    let values : filter p (inserted (value_extents o.value) (spread os t)) ≡ blocks os = filter-skips p (value_extents o.value) (spread os t) a.0.value ∙ rest in
-    let behind : AllByRecursion (λ (z : Extent). o.extent.offset < z.offset) (blocks os) =
+    let rest = own-spread p (o.extent.offset + 1) os t (rises-rest n o os r) a.1 h in
+    let values = filter-skips p (value_extents o.value) (spread os t) a.0.value ∙ rest in
+    let behind =
     behind-blocks o.extent.offset os (rises-above (o.extent.offset + 1) os (rises-rest n o os r)) in
     ap (filter p) (spread-cons o os t)
     ∙ filter-front p o.extent (inserted (value_extents o.value) (spread os t)) a.0.own

@@ -160,7 +160,7 @@ owner-in (o ∷ os) (suc at) e = owner-in os at e
 all-within : (from : ℕ) (xs : List Extent) (to : ℕ) → IsTrue (proper_from from xs to) → AllByRecursion (λ (x : Extent). end_of x ≤ to) xs
 all-within from [] to p = tt
 all-within from (x ∷ xs) to p =
-    let f : IsFirst from x xs to = proper_from-IsFirst from x xs to p in
+    let f = proper_from-IsFirst from x xs to p in
     (proper_from-reaches (end_of x) xs to f.rest, all-within (end_of x) xs to f.rest)
 
 all-blocks : (P : Extent → Type 0) (os : List Object) → AllByRecursion P (blocks os) → AllByRecursion (λ (o : Object). P o.extent) os
@@ -182,8 +182,8 @@ own-within {d} k =
 rises-few : (n m : ℕ) (os : List Object) → n ≤ m + 1 → IsTrue (rises_from n os) → AllByRecursion (λ (o : Object). end_of o.extent ≤ m) os → n + length os ≤ m + 1
 rises-few n m [] l r a = omega (arith, l)
 rises-few n m (o ∷ os) l r a =
-    let front : n ≤ o.extent.offset = rises-front n o os r in
-    let rest : o.extent.offset + 1 + length os ≤ m + 1 = rises-few (o.extent.offset + 1) m os (omega (arith, a.0)) (rises-rest n o os r) a.1 in
+    let front = rises-front n o os r in
+    let rest = rises-few (o.extent.offset + 1) m os (omega (arith, a.0)) (rises-rest n o os r) a.1 in
     omega (arith, front, rest)
 
 pub objects-few : (b : List ℕ) (g : IsSegment b) → length g.0.objects ≤ 1073741825
@@ -203,7 +203,7 @@ counts-own {b} {d} k =
 module _ {s : State} {at : ℕ} {span : Span} (own : IsOwnBlock s at span) where
   owner : {d : Directory} → StandsFor s.cut.bytes d → IsOwner d at span
   owner {d} k =
-      let o : (o : Object) × (slice_get d.objects at ≡ Some o) × (span.offset ≡ o.extent.offset) =
+      let o =
       owner-in d.objects at
       (ap (λ ss. slice_get ss at) (sym (all-own_spans k.denotes.directory)) ∙ sym (own.stands d k)) in
       record { object = o.0; is = o.1; offset = o.2 }
@@ -212,7 +212,7 @@ module _ {s : State} {at : ℕ} {span : Span} (own : IsOwnBlock s at span) where
   owner-found : {d : Directory} (k : StandsFor s.cut.bytes d) {h : ℕ} → h ≡ span.offset + 16
       → object_at d (ByHandle h) ≡ Some (owner k).object
   owner-found {d} k e =
-      let o : IsOwner d at span = owner k in
+      let o = owner k in
       ap (λ n. object_at d (ByHandle n)) (e ∙ ap (λ n. n + 16) o.offset)
       ∙ all-at (λ (p : Object). object_at d (ByHandle (handle p.extent)) ≡ Some p) d.objects at
       (each-by_handle 0 d.objects k.denotes.directory.by_offset) o.is
@@ -226,9 +226,9 @@ module _ {s : State} {at : ℕ} {span : Span} (own : IsOwnBlock s at span) where
       → SaysAt s (λ d. d.objects) at said
   owner-says h {said} e f = record {
     says = λ d k.
-        let o : IsOwner d at span = owner k in
-        let p : (p : Object) × (object_at d (ByHandle h) ≡ Some p) × IsInstance p said = f.says d k in
-        let same : p.0 ≡ o.object = same_Some p.0 o.object (sym p.1 ∙ owner-found k e) in
+        let o = owner k in
+        let p = f.says d k in
+        let same = same_Some p.0 o.object (sym p.1 ∙ owner-found k e) in
         (o.object, o.is, subst (λ (q : Object). IsInstance q said) same p.2);
   }
 
@@ -245,7 +245,7 @@ module _ {s : State} {at : ℕ} {span : Span} (own : IsOwnBlock s at span) where
   pub owner-short : IsSegment s.cut.bytes → span.offset ≤ 1073741824
   owner-short g =
       let d : Directory = g.0 in
-      let o : IsOwner d at span = owner g.1 in
+      let o = owner g.1 in
       let within = all-at (λ (p : Object). end_of p.extent ≤ (live d).size - 16) d.objects at
       (own-within g.1) o.is in
       omega (arith, within, o.offset, segment-short s.cut.bytes g, g.1.denotes.heap.size)

@@ -17,15 +17,15 @@ pub record IsSplit (part : ℕ → List ℕ) (i n : ℕ) : Type 0 where
   pub more : List ℕ
   pub parts : parts_until part n ≡ parts_until part i ++ (part i ++ more)
 
-split-if : (part : ℕ → List ℕ) (i n : ℕ) (b : Bool) → nat_lt i n ≡ b → i < suc n → (i < n → IsSplit part i n) → IsSplit part i (suc n)
-split-if part i n true e h k =
+split-if : {part : ℕ → List ℕ} {i n : ℕ} (b : Bool) → nat_lt i n ≡ b → i < suc n → (i < n → IsSplit part i n) → IsSplit part i (suc n)
+split-if {part} {i} {n} true e h k =
     let s = k (ltb-true i n e) in
     record {
       more = s.more ++ part n;
       parts = ap (λ l. l ++ part n) s.parts ∙ append_assoc (parts_until part i) (part i ++ s.more) (part n)
           ∙ ap (λ l. parts_until part i ++ l) (append_assoc (part i) s.more (part n));
     }
-split-if part i n false e h k =
+split-if {part} {i} {n} false e h k =
     let below = ltb-false i n e in
     let same : n ≡ i = omega arith in
     record {
@@ -35,7 +35,7 @@ split-if part i n false e h k =
 
 pub split : (part : ℕ → List ℕ) (i n : ℕ) → i < n → IsSplit part i n
 split part i zero h = absurd (omega arith)
-split part i (suc n) h = split-if part i n (nat_lt i n) refl h (split part i n)
+split part i (suc n) h = split-if (nat_lt i n) refl h (split part i n)
 
 -- the same parts make the same text
 pub parts-same : (f g : ℕ → List ℕ) (n : ℕ) → ((i : ℕ) → f i ≡ g i) → parts_until f n ≡ parts_until g n
@@ -48,8 +48,8 @@ taken f xs i None e =
     let h = none_more xs i e in
     ap (flat_map f) (take_all (i + 1) xs (omega arith) ∙ sym (take_all i xs h)) ∙ sym (append-nil (flat_map f (take i xs)))
 taken f xs i (Some x) e =
-    let within : i < length xs = slice_get_within xs i x e in
-    let one : take (i + 1) xs ≡ take i xs ++ x ∷ [] = take_more xs i x within ∙ ap (λ t. take i xs ++ t ∷ []) (get_or_from_slice_get xs i x x e) in
+    let within = slice_get_within xs i x e in
+    let one = take_more xs i x within ∙ ap (λ t. take i xs ++ t ∷ []) (get_or_from_slice_get xs i x x e) in
     ap (flat_map f) one ∙ flat_map-append f (take i xs) (x ∷ []) ∙ ap (λ l. flat_map f (take i xs) ++ l) (append-nil (f x))
 
 -- a part for each element of a list
@@ -72,7 +72,7 @@ module _ (part : ℕ → List ℕ) (old mid new : Took) (i : ℕ) (before : Writ
   pub part-told : {B F : Type 0} (y : B) → Writes {E = F} mid new (Ok y) (part i) → Writes old new well (parts_until part (i + 1))
   part-told {B} {F} y w =
       let more : suc i ≡ i + 1 = omega arith in
-      let one : Result B F = Ok y in
+      let one = Ok y in
       subst (λ m. Writes old new well (parts_until part m)) more
       (record { ok = (writes-then old mid new 0 one (parts_until part i) (part i) before w).ok; err = tt; counted = omega (arith, before.counted, w.counted) })
 

@@ -31,7 +31,7 @@ pub lent : (c : Cut) (h n : ℕ) {p : List ℕ} → IsHeap current c.bytes → I
 lent c h n {p} heap has e =
     let r = room_block c h n heap has in let b = r.block in
     let enough = r.enough in let o = b.at in let ends = b.inside in let size = b.size in
-    let is : p ≡ part c.bytes h (b.tile.len - 16) = e ∙ block_payload c h b in
+    let is = e ∙ block_payload c h b in
     let long : length p ≡ b.tile.len - 16 = ap (λ (l : List ℕ). length l) is ∙ length-part c.bytes h (b.tile.len - 16) (omega arith) in
     record {
       long = omega arith;
@@ -62,7 +62,7 @@ word-stays {a} {b} at c f =
 -- bytes stay where others behind them change
 pub bytes-stay : {a b : Cut} (at : ℕ) {from n : ℕ} (bytes : List ℕ) → IsChanged current a b from n → at + length bytes ≤ from → Has (bytes_of a.bytes) at bytes → Has (bytes_of b.bytes) at bytes
 bytes-stay {a} {b} at {from} {n} bytes c f h =
-    let s : Same (bytes_of a.bytes) (bytes_of b.bytes) at from = SameBut-Same (bytes_of a.bytes) (bytes_of b.bytes) from n at from c.rest (inl (omega arith)) in
+    let s = SameBut-Same (bytes_of a.bytes) (bytes_of b.bytes) from n at from c.rest (inl (omega arith)) in
     Has-same (bytes_of a.bytes) (bytes_of b.bytes) at from at bytes s (omega arith) f h
 
 -- ---- the same bytes several times
@@ -89,12 +89,12 @@ pub record Repeats (a b : Cut) (from i : ℕ) (bytes : List ℕ) : Type 0 where
 pub repeats-more : {a b c : Cut} (h at : ℕ) {i : ℕ} {bytes : List ℕ} → Repeats a b (h + at) i bytes → IsChanged current b c (h + (at + length bytes * i)) (length bytes)
     → Has (bytes_of c.bytes) (h + (at + length bytes * i)) bytes → Repeats a c (h + at) (i + 1) bytes
 repeats-more {a} {b} {c} h at {i} {bytes} r s w =
-    let n : ℕ = length bytes in
-    let long : length (repeated i bytes) ≡ n * i = repeated-length i bytes in
+    let n = length bytes in
+    let long = repeated-length i bytes in
     let to : h + (at + n * i) ≡ h + at + n * i = omega arith in
     let sum : n * i + n ≡ n * (i + 1) = omega arith in
     let s' : IsChanged current b c (h + at + n * i) n = subst (λ from. IsChanged current b c from n) to s in
-    let front : Has (bytes_of c.bytes) (h + at) (repeated i bytes) = bytes-stay (h + at) (repeated i bytes) s' (omega arith) r.content in
+    let front = bytes-stay (h + at) (repeated i bytes) s' (omega arith) r.content in
     record {
       change = subst (λ k. IsChanged current a c (h + at) k) sum (changed-trans r.change s');
       content = subst (Has (bytes_of c.bytes) (h + at)) (repeated-more i bytes)
@@ -112,10 +112,10 @@ pub record HasName (a c : Cut) (h : ℕ) (name : List ℕ) : Type 0 where
   pub change : IsChanged current a c (h + 16) (padded (length name))
   pub content : Has (bytes_of c.bytes) (h + 16) (padded_name name)
 
-pub name-written : {a b c : Cut} (h : ℕ) (name : List ℕ) {zeros : List ℕ} → zeros ≡ replicate (padded (length name) - length name) 0 → IsChanged current a b (h + 16) (length name) → Has (bytes_of b.bytes) (h + 16) name
+pub name-written : {a b c : Cut} {h : ℕ} {name : List ℕ} {zeros : List ℕ} → zeros ≡ replicate (padded (length name) - length name) 0 → IsChanged current a b (h + 16) (length name) → Has (bytes_of b.bytes) (h + 16) name
     → IsChanged current b c (h + (16 + length name)) (length zeros) → Has (bytes_of c.bytes) (h + (16 + length name)) zeros → HasName a c h name
-name-written {a} {b} {c} h name {zeros} e s w t v =
-    let len : ℕ = length name in
+name-written {a} {b} {c} {h} {name} {zeros} e s w t v =
+    let len = length name in
     let long : length zeros ≡ padded len - len = ap (λ (l : List ℕ). length l) e ∙ length-replicate (padded len - len) 0 in
     let to : h + (16 + len) ≡ h + 16 + len = omega arith in
     let sum : len + length zeros ≡ padded len = omega arith in
@@ -133,13 +133,13 @@ pub record HasHead (a d : Cut) (h : ℕ) (kind : Kind) (count : ℕ) (class : Cl
   pub change : IsChanged current a d h (16 + padded (length name))
   pub head : IsHeadAt (bytes_of d.bytes) h kind count class name
 
-pub head-written : {a b c : Cut} (d : Cut) (h : ℕ) (kind : Kind) (count : ℕ) (class : Class) (name : List ℕ) → IsChanged current a b (h + 0) 8 → word_at (bytes_of b.bytes) (h + 0) ≡ two_halves (code_of kind) count
+pub head-written : {a b c : Cut} {d : Cut} {h : ℕ} {kind : Kind} {count : ℕ} {class : Class} {name : List ℕ} → IsChanged current a b (h + 0) 8 → word_at (bytes_of b.bytes) (h + 0) ≡ two_halves (code_of kind) count
     → IsChanged current b c (h + 8) 8 → word_at (bytes_of c.bytes) (h + 8) ≡ two_halves (length name) (class_code class)
     → HasName c d h name → HasHead a d h kind count class name
-head-written {a} {b} {c} d h kind count class name p v q w n =
+head-written {a} {b} {c} {h} {name} p v q w n =
     let at : h + 0 ≡ h = omega arith in
     let two : h + 8 + 8 ≡ h + 16 = omega arith in
-    let front : IsChanged current a c h 16 = changed-trans (subst (λ from. IsChanged current a b from 8) at p) q in
+    let front = changed-trans (subst (λ from. IsChanged current a b from 8) at p) q in
     record {
       change = changed-trans front n.change;
       head = record {

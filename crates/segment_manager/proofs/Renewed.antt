@@ -48,7 +48,7 @@ printable-text name h =
     let sizes = and_parts (nat_le 1 (length name)) (nat_le (length name) 63) parts.0 in
     let few = leb-true (length name) 63 sizes.1 in
     let ascii = printable-ascii name parts.1 in
-    let calm : list_all (λ c. not (is_control c)) name ≡ true = all-weaker is_printable (λ c. not (is_control c)) name printable-no_control parts.1 in
+    let calm = all-weaker is_printable (λ c. not (is_control c)) name printable-no_control parts.1 in
     and_from (nat_le 1 (length name) && nat_le (length name) 255 && is_utf8 name) (list_all (λ c. not (is_control c)) (chars name))
     (and_from (nat_le 1 (length name) && nat_le (length name) 255) (is_utf8 name)
     (and_from (nat_le 1 (length name)) (nat_le (length name) 255) sizes.0 (le-leb (length name) 255 (omega arith)))
@@ -111,9 +111,9 @@ header-later {m} {m'} s h = record {
 
 pub denotes-later : (format : ℕ) (old new : List ℕ) (d : Directory) → Denotes format old d → StaysButVersion (bytes_of old) (bytes_of new) d → LaysOut current new (live d) → Denotes current new d
 denotes-later format old new d h s l =
-    let m : Memory = bytes_of old in
-    let m' : Memory = bytes_of new in
-    let blocks : OfEach (SameBlock m m') d = of_each (SameBlock m m') d s.blocks in
+    let m = bytes_of old in
+    let m' = bytes_of new in
+    let blocks = of_each (SameBlock m m') s.blocks in
     record {
       directory = directory-later format d h.directory;
       header = header-later s h.header;

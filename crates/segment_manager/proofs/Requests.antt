@@ -25,7 +25,7 @@ grows i d next = with_new_index (grown_capacity (table_of i d).capacity) (λ t. 
 pub entry-room : (i : Index) (d : Directory) (next : Directory → Plan) → length (objects_of i d) < (table_of i d).capacity → with_entry d (class_of_index i) next ≡ next d
 entry-room i d next h =
     entry-of i d next ∙ ap (λ b. if b then next (with_table_of i d (table_of i d)) else grows i d next) (lt-ltb (length (objects_of i d)) (table_of i d).capacity h)
-    ∙ ap next (same-table i d)
+    ∙ ap next (same-table i)
 
 entry-full : (i : Index) (d : Directory) (next : Directory → Plan) → (table_of i d).capacity ≤ length (objects_of i d) → with_entry d (class_of_index i) next ≡ grows i d next
 entry-full i d next h =
@@ -34,7 +34,7 @@ entry-full i d next h =
 -- a new block adds to the live set
 pub placed-added : (l : LiveSet) (n : ℕ) (role : Role) {x : Extent} → IsTrue (is_proper l) → place l n role ≡ Some x → resized l x ≡ added l x
 placed-added l n role {x} h e =
-    let f : IsFresh 128 x l.extents = rising-insert 128 x l.extents (live-rises (added l x) (placed_is_proper l n role x h e)) in
+    let f = rising-insert 128 x l.extents (live-rises (added l x) (placed_is_proper l n role x h e)) in
     resized-fresh l x f.differs
 
 -- the bytes that a full index asks for

@@ -45,7 +45,7 @@ module _ (old mid new : Cut) (n : ℕ) (moved : HasEndMoved current old mid n) (
   denotes-resized {d} h =
       let all : AllByRecursion (SameBlock (bytes_of old.bytes) (bytes_of new.bytes)) (live d).extents =
       subst (λ (l : LiveSet). AllByRecursion (SameBlock (bytes_of old.bytes) (bytes_of new.bytes)) l.extents) (denotes-live current old.bytes d h) blocks in
-      let each : OfEach (SameBlock (bytes_of old.bytes) (bytes_of new.bytes)) d = of_each (SameBlock (bytes_of old.bytes) (bytes_of new.bytes)) d all in
+      let each = of_each (SameBlock (bytes_of old.bytes) (bytes_of new.bytes)) all in
       record {
         directory = record {
           proper = (laid h).proper;
@@ -77,9 +77,9 @@ module _ (old mid new : Cut) (n : ℕ) (moved : HasEndMoved current old mid n) (
 pub stands-size : {b : List ℕ} {d : Directory} → StandsFor b d → d.size ≡ length b
 stands-size {d} h = sym (h.denotes.heap.size ∙ live-size d)
 
-pub resizes : (old new : State) {mid : Cut} {n : ℕ} (next : Directory → Directory) → new.mode ≡ old.mode → HasEndMoved current old.cut mid n → IsChanged current mid new.cut 16 8
+pub resizes : {old new : State} {mid : Cut} {n : ℕ} {next : Directory → Directory} → new.mode ≡ old.mode → HasEndMoved current old.cut mid n → IsChanged current mid new.cut 16 8
     → word_at (bytes_of new.cut.bytes) 16 ≡ n → ((d : Directory) → StandsFor old.cut.bytes d → record d { size = n } ≡ next d) → Resizes old new next
-resizes old new {mid} {n} next mode moved change word is = record {
+resizes {old} {new} {mid} {n} mode moved change word is = record {
   mode = mode;
   place = place-resized old.cut mid new.cut n moved change word;
   blocks = blocks old.cut mid new.cut n moved change word;
@@ -87,17 +87,17 @@ resizes old new {mid} {n} next mode moved change word is = record {
 }
 
 -- with so many bytes more
-pub grows : (old new : State) {mid : Cut} (extra : ℕ) → new.mode ≡ old.mode → HasEndMoved current old.cut mid (length old.cut.bytes + extra) → IsChanged current mid new.cut 16 8
+pub grows : {old new : State} {mid : Cut} (extra : ℕ) → new.mode ≡ old.mode → HasEndMoved current old.cut mid (length old.cut.bytes + extra) → IsChanged current mid new.cut 16 8
     → word_at (bytes_of new.cut.bytes) 16 ≡ length mid.bytes → Resizes old new (λ d. grown d extra)
-grows old new extra mode moved change word =
-    resizes old new (λ d. grown d extra) mode moved change (word ∙ moved.live.size)
+grows extra mode moved change word =
+    resizes mode moved change (word ∙ moved.live.size)
     (λ d h. ap (λ n. let e : Directory = record d { size = n + extra } in e) (sym (stands-size h)))
 
 -- as far as the last extent
-pub shrinks : (old new : State) {mid : Cut} → new.mode ≡ old.mode → HasEndMoved current old.cut mid (least_size (live_of old.cut.bytes)) → IsChanged current mid new.cut 16 8
+pub shrinks : {old new : State} {mid : Cut} → new.mode ≡ old.mode → HasEndMoved current old.cut mid (least_size (live_of old.cut.bytes)) → IsChanged current mid new.cut 16 8
     → word_at (bytes_of new.cut.bytes) 16 ≡ length mid.bytes → Resizes old new (λ d. shrunk d)
-shrinks old new mode moved change word =
-    resizes old new (λ d. shrunk d) mode moved change (word ∙ moved.live.size)
+shrinks {old} mode moved change word =
+    resizes mode moved change (word ∙ moved.live.size)
     (λ d h. ap (λ (l : LiveSet). let e : Directory = record d { size = least_size l } in e) (denotes-live current old.cut.bytes d h.denotes))
 
 -- and it is still a segment
@@ -107,5 +107,5 @@ resized-segment {next} r s = (next s.0, r.denotes s.0 s.1)
 -- ---- what the call of the heap needs
 
 -- the size is that of each directory
-pub fits-small : (b : List ℕ) (extra : ℕ) → IsSegment b → ((d : Directory) → StandsFor b d → d.size + extra ≤ 1073741824) → length b + extra ≤ 1073741824
-fits-small b extra s h = let l = h s.0 s.1 in let e = stands-size s.1 in omega arith
+pub fits-small : {b : List ℕ} (extra : ℕ) → IsSegment b → ((d : Directory) → StandsFor b d → d.size + extra ≤ 1073741824) → length b + extra ≤ 1073741824
+fits-small extra s h = let l = h s.0 s.1 in let e = stands-size s.1 in omega arith

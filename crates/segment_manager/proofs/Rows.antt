@@ -20,7 +20,7 @@ all-true : {X : Type 0} (xs : List X) → IsTrue (list_all (λ (x : X). true) xs
 all-true [] = refl
 all-true (x ∷ xs) = all-true xs
 
-module _ {X : Type 0} (f : X → List ℕ) (n : ℕ) (each : (x : X) → length (f x) ≡ n) where
+module _ {X : Type 0} (f : X → List ℕ) {n : ℕ} (each : (x : X) → length (f x) ≡ n) where
   pub flat-length : (xs : List X) → length (flat_map f xs) ≡ n * length xs
   flat-length [] = omega arith
   flat-length (x ∷ xs) = omega (arith, length-append (f x) (flat_map f xs), each x, flat-length xs)
@@ -36,7 +36,7 @@ module _ {X : Type 0} (f : X → List ℕ) (n : ℕ) (each : (x : X) → length 
       let same : y ≡ x = cc in
       subst (λ z. Has m (at + n * 0) (f z)) same (moved m at (at + n * 0) (f y) (omega arith) (Has-front m at (f y) (flat_map f ys) h))
   Has-element m at (y ∷ ys) (suc i) {x} h e =
-      let len : length (f y) ≡ n = each y in
+      let len = each y in
       moved m (at + length (f y) + n * i) (at + n * suc i) (f x) (omega arith) (Has-element m (at + length (f y)) ys i (Has-behind m at (f y) (flat_map f ys) h) e)
 
   -- one element is written in its place

@@ -23,7 +23,7 @@ replaced : (h : ℕ) (o p : Object) (ps : List Object) (b : Bool) → (handle o.
     → (is_some (find (has_key (ByHandle h)) ps) ≡ true → is_some (find (has_key (ByHandle h)) (replace_object o ps)) ≡ true)
     → is_some (find (has_key (ByHandle h)) (p ∷ ps)) ≡ true → is_some (find (has_key (ByHandle h)) (if b then o ∷ ps else p ∷ replace_object o ps)) ≡ true
 replaced h o p ps true e k f =
-    let same : handle o.extent ≡ handle p.extent = eqb-true (handle o.extent) (handle p.extent) e in
+    let same = eqb-true (handle o.extent) (handle p.extent) e in
     subst (λ n. is_some (cond (h == n) (Some o) (find (has_key (ByHandle h)) ps)) ≡ true) (sym same) (first-as (h == handle p.extent) p o _ f)
 replaced h o p ps false e k f = either (h == handle p.extent) p _ _ k f
 

@@ -86,11 +86,11 @@ numbers-good o k zs good e =
     let v : IsTrue (is_good_value (Numbers k zs)) = subst (λ v. IsTrue (is_good_value v)) e (object-roomy current o good).value in
     second _ (list_all (is_value k) zs) v
 
-element-of : {b : List ℕ} (d : Directory) (key : Key) (k : ScalarKind) (i : ℕ) (p : Place) {o : Object} → object_at d key ≡ Some o → StandsAt b p.handle o → Ok p.at ≡ place_in o k i
+element-of : {b : List ℕ} {d : Directory} {key : Key} {k : ScalarKind} {i : ℕ} {p : Place} {o : Object} → object_at d key ≡ Some o → StandsAt b p.handle o → Ok p.at ≡ place_in o k i
     → ElementAt b d key k i p
-element-of d key k i p {o} e s f =
+element-of {k} {i} {o} e s f =
     let parts = placed-if (same_kind (Scalar k) (kind_of o.value)) (nat_lt i (count_of o.value)) (element_at k o.name i) f in
-    let n : (zs : List ℤ) × (o.value ≡ Numbers k zs) = numbers-only k o.value parts.0 in
+    let n = numbers-only k o.value parts.0 in
     let many : count_of o.value ≡ length n.0 = ap count_of n.1 in
     let below : i < length n.0 = let l = ltb-true i (count_of o.value) parts.1 in omega arith in
     let there = slice_get-get_or n.0 i (pos 0) below in
@@ -106,21 +106,21 @@ element-of d key k i p {o} e s f =
       in_range = all-at (is_value k) n.0 i (numbers-good o k n.0 s.good n.1) there;
     }
 
-found-if : {b : List ℕ} {d : Directory} (key : Key) (k : ScalarKind) (i : ℕ) {p : Place} {o : Object} (q : Result ℕ Refusal) → Denotes current b d → object_at d key ≡ Some o → place_in o k i ≡ q
+found-if : {b : List ℕ} {d : Directory} {key : Key} {k : ScalarKind} {i : ℕ} {p : Place} {o : Object} (q : Result ℕ Refusal) → Denotes current b d → object_at d key ≡ Some o → place_in o k i ≡ q
     → Ok p ≡ in_object o q → ElementAt b d key k i p
-found-if {b} {d} key k i {p} {o} (Ok at) h e f g =
+found-if {b} {d} {key} {p} {o} (Ok at) h e f g =
     let same : p ≡ record { handle = handle o.extent; at = at } = cc in
-    element-of d key k i p e (subst (λ (x : Place). StandsAt b x.handle o) (sym same) (standing b d key o h e)) (ap (λ (x : Place). Ok x.at) same ∙ sym f)
-found-if key k i (Err r) h e f g = absurd (cc)
+    element-of e (subst (λ (x : Place). StandsAt b x.handle o) (sym same) (standing b d key o h e)) (ap (λ (x : Place). Ok x.at) same ∙ sym f)
+found-if (Err r) h e f g = absurd (cc)
 
-element-if : {b : List ℕ} {d : Directory} (key : Key) (k : ScalarKind) (i : ℕ) {p : Place} (r : Option Object) → Denotes current b d → object_at d key ≡ r
+element-if : {b : List ℕ} {d : Directory} {key : Key} {k : ScalarKind} {i : ℕ} {p : Place} (r : Option Object) → Denotes current b d → object_at d key ≡ r
     → Ok p ≡ in_any k i r → ElementAt b d key k i p
-element-if key k i None h e f = absurd (cc)
-element-if key k i (Some o) h e f = found-if key k i (place_in o k i) h e refl f
+element-if None h e f = absurd (cc)
+element-if {k} {i} (Some o) h e f = found-if (place_in o k i) h e refl f
 
 -- the place of an element is that of one
-pub element-found : {b : List ℕ} {d : Directory} (key : Key) (k : ScalarKind) (i : ℕ) {p : Place} → Denotes current b d → Ok p ≡ place_at d key k i → ElementAt b d key k i p
-element-found {d} key k i h e = element-if key k i (object_at d key) h refl e
+pub element-found : {b : List ℕ} {d : Directory} {key : Key} {k : ScalarKind} {i : ℕ} {p : Place} → Denotes current b d → Ok p ≡ place_at d key k i → ElementAt b d key k i p
+element-found {d} {key} h e = element-if (object_at d key) h refl e
 
 -- ---- no such element
 
@@ -136,13 +136,13 @@ within-if o k i {r} (Err q) e f =
     let same : r ≡ q = cc in
     lacks-if o k i (element_at k o.name i) (same_kind (Scalar k) (kind_of o.value)) (nat_lt i (count_of o.value)) refl refl (ap Err same ∙ sym e)
 
-missing-if : (d : Directory) (key : Key) (k : ScalarKind) (i : ℕ) {r : Refusal} (p : Option Object) → object_at d key ≡ p
+missing-if : {d : Directory} {key : Key} {k : ScalarKind} {i : ℕ} {r : Refusal} (p : Option Object) → object_at d key ≡ p
     → Err r ≡ in_any k i p → Missing d key k i r
-missing-if d key k i None e f = Nowhere e (cc)
-missing-if d key k i (Some o) e f = Within o e (within-if o k i (place_in o k i) refl f)
+missing-if None e f = Nowhere e (cc)
+missing-if {k} {i} (Some o) e f = Within o e (within-if o k i (place_in o k i) refl f)
 
-pub element-missing : (d : Directory) (key : Key) (k : ScalarKind) (i : ℕ) {r : Refusal} → Err r ≡ place_at d key k i → Missing d key k i r
-element-missing d key k i e = missing-if d key k i (object_at d key) refl e
+pub element-missing : {d : Directory} {key : Key} {k : ScalarKind} {i : ℕ} {r : Refusal} → Err r ≡ place_at d key k i → Missing d key k i r
+element-missing {d} {key} e = missing-if (object_at d key) refl e
 
 -- ---- its bytes
 
@@ -158,14 +158,14 @@ module _ (b : List ℕ) (d : Directory) (key : Key) (k : ScalarKind) (i : ℕ) (
   pub element-read : read (bytes_of b) (p.handle + p.at) (size_of k) ≡ spelling k e.number
   element-read =
       let at : p.handle + p.at ≡ p.handle + (16 + padded (length e.object.name)) + size_of k * i = let f = e.at in omega arith in
-      let h : Has (bytes_of b) (p.handle + (16 + padded (length e.object.name)) + size_of k * i) (spelling k e.number) =
-      Has-element (spelling k) (size_of k) (spelling-length k) (bytes_of b) (p.handle + (16 + padded (length e.object.name))) e.numbers i numbers-stand e.there in
+      let h =
+      Has-element (spelling k) (spelling-length k) (bytes_of b) (p.handle + (16 + padded (length e.object.name))) e.numbers i numbers-stand e.there in
       (λ j. read (bytes_of b) (at j) (sym (spelling-length k e.number) j)) ∙ h
 
   -- its block has the room for it
   pub element-room : IsTrue (has_room (live_of b) p.handle (p.at + size_of k))
   element-room =
-      let below : i < length e.numbers = slice_get_within e.numbers i e.number e.there in
+      let below = slice_get_within e.numbers i e.number e.there in
       let long : value_len e.object.value ≡ size_of k * length e.numbers = ap value_len e.value in
       let fits : size_of k * (i + 1) ≤ size_of k * length e.numbers = mul-le-mul_left (size_of k) (omega arith) in
       standing-room b p.handle (p.at + size_of k) e.object e.stands (let f = e.at in omega arith)
@@ -174,11 +174,11 @@ module _ (b : List ℕ) (d : Directory) (key : Key) (k : ScalarKind) (i : ℕ) (
 
 -- the place in each object that stands at the handle is the place of the key, and why there is none in each is why the
 -- key has none
-pub places : {s : State} (key : Key) {h : ℕ} (k : ScalarKind) (i : ℕ) (r : Result ℕ Refusal) → Answers s (λ d. handle_at d key) (Some h) → ((o : Object) → StandsAt s.cut.bytes h o → r ≡ place_in o k i)
+pub places : {s : State} (key : Key) {h : ℕ} (k : ScalarKind) (i : ℕ) {r : Result ℕ Refusal} → Answers s (λ d. handle_at d key) (Some h) → ((o : Object) → StandsAt s.cut.bytes h o → r ≡ place_in o k i)
     → Answers s (λ d. place_at d key k i) (placed h r)
-places {s} key {h} k i r a each = record {
+places {s} key {h} k i {r} a each = record {
   answers = λ d l.
-      let o : IsHere s.cut.bytes d key h = here s.cut.bytes d key h l.denotes (a.answers d l) in
+      let o = here s.cut.bytes d key h l.denotes (a.answers d l) in
       ap (λ (n : ℕ). placed n r) o.stands.at ∙ ap (in_object o.object) (each o.object o.stands) ∙ sym (ap (in_any k i) o.is);
 }
 
@@ -215,7 +215,7 @@ lacking : (mode : Mode) (d : Directory) (key : Key) (k : ScalarKind) (i : ℕ) (
     → step_of_kind mode d key (Scalar k) c ≡ (Refused r, d)
 lacking mode d key k i r c {o} may past e (Other s f) = step_of_kind-other mode d key (Scalar k) c o may e s ∙ (λ j. (Refused (sym f j), d))
 lacking mode d key k i r c {o} may past e (Past s t f) =
-    let n : (zs : List ℤ) × (o.value ≡ Numbers k zs) = numbers-only k o.value s in
+    let n = numbers-only k o.value s in
     let many : count_of o.value ≡ length n.0 = ap count_of n.1 in
     let behind : length n.0 ≤ i = let l = ltb-false i (count_of o.value) t in omega arith in
     step_of_kind-found mode d key (Scalar k) c o may e s ∙ ap (perform d (live d)) (past n.0 n.1 (slice_get_past n.0 i behind)) ∙ (λ j. (Refused (sym f j), d))
@@ -228,14 +228,14 @@ missing-steps mode {d} {key} {k} {i} {r} c may past (Within o e l) = lacking mod
 
 -- ---- the call
 
-module _ (t : State) (key : Key) {l k : ScalarKind} (kinds : l ≡ k) (i : ℕ) where
+module _ {t : State} (key : Key) {l k : ScalarKind} (kinds : l ≡ k) (i : ℕ) where
   -- where no element is found, the step says why
   pub replies-missing : {r : Refusal} → Answers t (λ d. place_at d key l i) (Err r) → IsReplyOfKind t key (Scalar k) (asked.Get key i) (Refused r)
   replies-missing {r} a = record {
     answers = λ d l.
         sym (ap (λ (n : Answer × Directory). n.0)
         (missing-steps t.mode (asked.Get key i) (open-reading t.mode (asked.Get key i) refl) (λ o zs e f. get-effect d key k zs i None e f)
-        (element-missing d key k i ((subst (λ (m : ScalarKind). Answers t (λ d. place_at d key m i) (Err r)) kinds a).answers d l))));
+        (element-missing ((subst (λ (m : ScalarKind). Answers t (λ d. place_at d key m i) (Err r)) kinds a).answers d l))));
   }
 
   -- one is found, as the view before the call names the segment
@@ -249,15 +249,15 @@ module _ (t : State) (key : Key) {l k : ScalarKind} (kinds : l ≡ k) (i : ℕ) 
     pub place-room : IsSegment s.cut.bytes → IsTrue (has_room (live_of s.cut.bytes) p.handle (p.at + n))
     place-room b =
         subst (λ m. IsTrue (has_room (live_of s.cut.bytes) p.handle (p.at + m))) (sym long)
-        (element-room s.cut.bytes b.0 key k i p (element-found key k i b.1.denotes (seen-place.answers b.0 b.1)))
+        (element-room s.cut.bytes b.0 key k i p (element-found b.1.denotes (seen-place.answers b.0 b.1)))
 
     -- what its bytes are read as is the step's answer
-    pub replies-found : (answer : Answer) {bytes : List ℕ} → bytes ≡ read (bytes_of s.cut.bytes) (p.handle + p.at) n → ((z : ℤ) → IsTrue (is_value k z) → bytes ≡ spelling k z → answer ≡ Element k z)
+    pub replies-found : {answer : Answer} {bytes : List ℕ} → bytes ≡ read (bytes_of s.cut.bytes) (p.handle + p.at) n → ((z : ℤ) → IsTrue (is_value k z) → bytes ≡ spelling k z → answer ≡ Element k z)
         → IsReplyOfKind t key (Scalar k) (asked.Get key i) answer
-    replies-found answer are reads =
+    replies-found {answer} are reads =
         subst (λ (u : State). IsReplyOfKind u key (Scalar k) (asked.Get key i) answer) view (record {
           answers = λ d l.
-              let e : ElementAt s.cut.bytes d key k i p = element-found key k i l.denotes (seen-place.answers d l) in
+              let e = element-found l.denotes (seen-place.answers d l) in
               reads e.number e.in_range (are ∙ ap (read (bytes_of s.cut.bytes) (p.handle + p.at)) long ∙ element-read s.cut.bytes d key k i p e)
               ∙ sym (ap (λ (n : Answer × Directory). n.0) (got s.mode s.cut.bytes d key k i p e));
         })
@@ -304,12 +304,12 @@ numbers-object : (o : Object) (k : ScalarKind) (zs new : List ℤ) → IsTrue (i
     → IsTrue (is_object current (with_value o (Numbers k new)))
 numbers-object o k zs new h e many all =
     let h1 : IsTrue (is_object current (with_value o (Numbers k zs))) = subst (λ v. IsTrue (is_object current (with_value o v))) e h in
-    let named : Bool = has_good_name current o in
+    let named = has_good_name current o in
     let serving : ℕ → Bool = λ n. serves o.extent ObjectRole (16 + padded (length o.name) + size_of k * n) in
     let counted : ℕ → Bool = λ n. nat_le 1 n && nat_le n 1048576 in
-    let before : Bool = named && true && (counted (length zs) && list_all (is_value k) zs) in
-    let front : IsTrue (named && true) = first (named && true) (counted (length zs) && list_all (is_value k) zs) (first before (serving (length zs)) h1) in
-    let value : IsTrue (counted (length zs) && list_all (is_value k) zs) = second (named && true) (counted (length zs) && list_all (is_value k) zs) (first before (serving (length zs)) h1) in
+    let before = named && true && (counted (length zs) && list_all (is_value k) zs) in
+    let front = first (named && true) (counted (length zs) && list_all (is_value k) zs) (first before (serving (length zs)) h1) in
+    let value = second (named && true) (counted (length zs) && list_all (is_value k) zs) (first before (serving (length zs)) h1) in
     let count : IsTrue (counted (length new)) = subst (λ n. IsTrue (counted n)) (sym many) (first (counted (length zs)) (list_all (is_value k) zs) value) in
     let room : IsTrue (serving (length new)) = subst (λ n. IsTrue (serving n)) (sym many) (second before (serving (length zs)) h1) in
     and_from (named && true && (counted (length new) && list_all (is_value k) new)) (serving (length new))
@@ -341,10 +341,10 @@ module _ (old new : Cut) (d : Directory) (key : Key) (k : ScalarKind) (i : ℕ) 
   written : (z : ℤ) → SameBut (bytes_of old.bytes) (bytes_of new.bytes) (p.handle + p.at) (size_of k) → Has (bytes_of new.bytes) (p.handle + p.at) (spelling k z)
       → IsValueAt (bytes_of new.bytes) (value_start e.object) (Numbers k (set e.numbers i z))
   written z s w =
-      let m : Memory = bytes_of old.bytes in
-      let m' : Memory = bytes_of new.bytes in
+      let m = bytes_of old.bytes in
+      let m' = bytes_of new.bytes in
       let was : Has m (value_start e.object) (spelled k e.numbers) = subst (λ a. Has m a (spelled k e.numbers)) (sym start) (numbers-stand old.bytes d key k i p e) in
-      Has-set (spelling k) (size_of k) (spelling-length k) (value_start e.object) e.numbers i z was below
+      Has-set (spelling k) (spelling-length k) (value_start e.object) e.numbers i z was below
       (subst (λ a. SameBut m m' a (size_of k)) spot s) (subst (λ a. Has m' a (spelling k z)) spot w)
 
   -- the bytes denote the directory with the new number
@@ -352,8 +352,8 @@ module _ (old new : Cut) (d : Directory) (key : Key) (k : ScalarKind) (i : ℕ) 
       → Denotes current new.bytes (with_changed d (with_number z))
   denotes-number z h v c w =
       let o : Object = e.object in
-      let f : IsIn d o = key-found current d key o h.directory e.is in
-      let roomy : IsRoomy o = object-roomy current o e.stands.good in
+      let f = key-found current d key o h.directory e.is in
+      let roomy = object-roomy current o e.stands.good in
       let room : 16 + padded (length o.name) + value_len o.value + 16 ≤ o.extent.len = roomy.room in
       let long : value_len o.value ≡ size_of k * length e.numbers = ap value_len e.value in
       let l = below in
@@ -380,22 +380,22 @@ stores-nothing {s} key k i z {r} writing v a =
     by_no_change_of_kind s key (Scalar k) (asked.Set key i (literal_of k z)) (Refused r)
     (λ d l.
     missing-steps s.mode (asked.Set key i (literal_of k z)) (open-writing s.mode (asked.Set key i (literal_of k z)) writing)
-    (λ o zs e f. set-effect d key k zs i (literal_of k z) None e f (literal-read k z v)) (element-missing d key k i (a.answers d l)))
+    (λ o zs e f. set-effect d key k zs i (literal_of k z) None e f (literal-read k z v)) (element-missing (a.answers d l)))
 
 -- a spelling was written at the place: the call is the step
-pub stores-number : {s t : State} (view : s ≡ t) (b : IsSegment s.cut.bytes) {new : Cut} (key : Key) (k : ScalarKind) (i : ℕ) {p : Place} (z : ℤ) {bytes : List ℕ} → is_read_only t.mode ≡ false → is_value k z ≡ true
+pub stores-number : {s t : State} (view : s ≡ t) (b : IsSegment s.cut.bytes) {new : Cut} {key : Key} (k : ScalarKind) (i : ℕ) {p : Place} (z : ℤ) {bytes : List ℕ} → is_read_only t.mode ≡ false → is_value k z ≡ true
     → bytes ≡ spelling k z → Answers t (λ d. place_at d key k i) (Ok p) → IsChanged current s.cut new (p.handle + p.at) (length bytes) → Has (bytes_of new.bytes) (p.handle + p.at) bytes
     → Answered done_answer s t new key (Scalar k) (asked.Set key i (literal_of k z)) (Ok tt)
-stores-number {s} {t} view b {new} key k i {p} z may v f there c w =
+stores-number {s} {t} view b {new} {key} k i {p} z may v f there c w =
     let writing : is_read_only s.mode ≡ false = subst (λ (u : State). is_read_only u.mode ≡ false) (sym view) may in
     let a : Answers s (λ d. place_at d key k i) (Ok p) = subst (λ (u : State). Answers u (λ d. place_at d key k i) (Ok p)) (sym view) there in
     let c' : IsChanged current s.cut new (p.handle + p.at) (size_of k) = subst (λ n. IsChanged current s.cut new (p.handle + p.at) n) (ap (λ (bs : List ℕ). length bs) f ∙ spelling-length k z) c in
     answered s t view b new key (Scalar k) (asked.Set key i (literal_of k z)) (Ok tt)
     (done-so (by_step_of_kind s (record s { cut = new }) key (Scalar k) (asked.Set key i (literal_of k z)) Done (record { mode = refl; place = c.place })
     (λ d l.
-    let e : ElementAt s.cut.bytes d key k i p = element-found key k i l.denotes (a.answers d l) in
-    let o' : Object = with_value e.object (Numbers k (set e.numbers i z)) in
-    lands (record s { cut = new }) (step_of_kind s.mode d key (Scalar k) (asked.Set key i (literal_of k z))) Done (with_changed d o')
+    let e = element-found l.denotes (a.answers d l) in
+    let o' = with_value e.object (Numbers k (set e.numbers i z)) in
+    lands (with_changed d o')
     (record {
       is = stored s.mode (literal_of k z) e writing (literal-read k z v);
       denotes = denotes-number s.cut new d key k i p e z l.denotes v c' (subst (Has (bytes_of new.bytes) (p.handle + p.at)) f w);

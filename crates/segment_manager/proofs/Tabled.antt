@@ -64,47 +64,47 @@ pub entered-denotes : {i : Index} (a : Cut) {b c : Cut} {d : Directory} {t : Tab
     → IsTrue (is_object current o) → IsObjectAt (bytes_of b.bytes) o → o.class ≡ class_of_index i → object_at d (key_in i o) ≡ None
     → IsEntered i b c d t o → Denotes current c.bytes (with_object (with_table_of i d t) o)
 entered-denotes {i} a {b} {c} {d} {t} {o} k keeps good at class none e =
-    let A : Memory = bytes_of a.bytes in
-    let B : Memory = bytes_of b.bytes in
-    let C : Memory = bytes_of c.bytes in
+    let A = bytes_of a.bytes in
+    let B = bytes_of b.bytes in
+    let C = bytes_of c.bytes in
     let low = place_behind i in
     let high = place-high i in
-    let before : OfRest i (SameBlock A B) d = of_all i (SameBlock A B) d keeps.blocks in
-    let parts : AllByRecursion (SameBlock B C) (extents_of o) × AllByRecursion (SameBlock B C) (live (with_table_of i d no_table)).extents =
+    let before = of_all i (SameBlock A B) keeps.blocks in
+    let parts =
     all_of-inserted (SameBlock B C) (extents_of o) (live (with_table_of i d no_table)).extents e.blocks in
-    let after : OfRest i (SameBlock B C) d = of_rest i (SameBlock B C) d parts.1 in
+    let after = of_rest i (SameBlock B C) parts.1 in
     let all : OfRest i (SameBlock A C) d = record {
       objects = blocks-trans A B C (flat_map extents_of d.objects) before.objects after.objects;
       other_table = blocks-trans A B C _ before.other_table after.other_table;
     } in
-    let words : Same A C (place_of (other i)) (place_of (other i) + 24) =
+    let words =
     other-words i (Same-trans A B C 32 (place_of i) (Same-part A B 32 128 32 (place_of i) keeps.behind (omega arith) (omega arith)) e.before)
     (Same-trans A B C (place_of i + 24) 128 (Same-part A B 32 128 (place_of i + 24) 128 keeps.behind (omega arith) (omega arith)) e.behind) in
-    let one : HasOne (other i) C d = other-stays i (has-one (other i) k) words all.other_table in
-    let own : HasOne i C (with_object (with_table_of i d t) o) =
-    entered-own i d o class none (has-one i k).is e.stands.places e.stands.few e.stands.stands in
+    let one = other-stays i (has-one (other i) k) words all.other_table in
+    let own =
+    entered-own d o class none (has-one i k).is e.stands.places e.stands.few e.stands.stands in
     let front : KeepsFront A C = record {
       front = Same-trans A B C 0 24 keeps.front e.front;
       zeros = Same-trans A B C 80 128 (Same-part A B 32 128 80 128 keeps.behind (omega arith) (omega arith)) (Same-part B C (place_of i + 24) 128 80 128 e.behind (omega arith) (omega arith));
     } in
-    denotes-put c.bytes (with_table_of i d t) k (same-size i d t) (same-objects i d t) good e.laid front all.objects
+    denotes-put (with_table_of i d t) k (same-size i d t) (same-objects i d t) good e.laid front all.objects
     (has_both i own (entered-other i t o class one))
-    (any_object-same current C good parts.0 at)
+    (any_object-same current good parts.0 at)
 
 -- ---- after `prepare`, the making of an object, and `add`
 
 -- the index had a place left
-pub entered-none : (i : Index) (a : Cut) {b : Cut} (c : Cut) {d : Directory} (o : Object) (at : ℕ) → Denotes current a.bytes d → IsMade a b o
+pub entered-none : {i : Index} (a : Cut) {b : Cut} {c : Cut} {d : Directory} {o : Object} (at : ℕ) → Denotes current a.bytes d → IsMade a b o
     → IsIndexOf b (place_of i) (table_of i d) (entries_of i d) → insert (entries_of i d) at (handle o.extent) ≡ entries_of i (with_object d o)
     → Adds b c (place_of i) (table_of i d) (insert (entries_of i d) at (handle o.extent)) None → LaysOut current c.bytes (live_of b.bytes)
     → AddKeeps b c (place_of i) (table_of i d) None → IsEntered i b c d (table_of i d) o
-entered-none i a {b} c {d} o at k m x e adds laid keeps =
-    let ys : List Extent = extents_of o in
-    let same : live_of b.bytes ≡ adding (live d) ys = taken-live a b (extents_of o) m.taken ∙ ap (λ l. adding l ys) (denotes-live current a.bytes d k) in
+entered-none {i} a {b} {c} {d} {o} at k m x e adds laid keeps =
+    let ys = extents_of o in
+    let same = taken-live a b (extents_of o) m.taken ∙ ap (λ l. adding l ys) (denotes-live current a.bytes d k) in
     let laid' : LaysOut current c.bytes (adding (live d) ys) = subst (LaysOut current c.bytes) same laid in
     let gone = ap (λ (l : LiveSet). beside_table (table_of i d) l.extents) same ∙ index-left_out i d ys (live-rises (adding (live d) ys) laid'.proper) in
     record {
-      laid = subst (λ e. LaysOut current c.bytes (adding (live e) ys)) (sym (same-table i d)) laid';
+      laid = subst (λ e. LaysOut current c.bytes (adding (live e) ys)) (sym (same-table i)) laid';
       blocks = subst (AllByRecursion (SameBlock (bytes_of b.bytes) (bytes_of c.bytes))) gone keeps.blocks;
       place = keeps.place;
       front = keeps.front;
@@ -118,26 +118,26 @@ abbrev pub grown_into : Index → Directory → Extent → Table
 grown_into i d x = record { capacity = grown_capacity (table_of i d).capacity; extent = Some x }
 
 -- the index grew into a new block
-pub entered-some : (i : Index) {a m b : Cut} (c : Cut) {d : Directory} (o : Object) (at : ℕ) {n h : ℕ} → Denotes current a.bytes d → (g : IsAllocated current a m n IndexRole h) → IsMade m b o
+pub entered-some : {i : Index} {a m b : Cut} {c : Cut} {d : Directory} {o : Object} (at : ℕ) {n h : ℕ} → Denotes current a.bytes d → (g : IsAllocated current a m n IndexRole h) → IsMade m b o
     → IsIndexOf b (place_of i) (table_of i d) (entries_of i d) → insert (entries_of i d) at (handle o.extent) ≡ entries_of i (with_object d o)
     → Adds b c (place_of i) (table_of i d) (insert (entries_of i d) at (handle o.extent)) (Some h) → LaysOut current c.bytes (unlinked b (place_of i))
     → AddKeeps b c (place_of i) (table_of i d) (Some h) → IsEntered i b c d (grown_into i d g.extent) o
-entered-some i {a} {m} {b} c {d} o at {n} {h} k g made x e adds laid keeps =
-    let ys : List Extent = extents_of o in
-    let t : Table = grown_into i d g.extent in
-    let mid : live_of m.bytes ≡ added (live d) g.extent =
+entered-some {i} {a} {m} {b} {c} {d} {o} at {n} {h} k g made x e adds laid keeps =
+    let ys = extents_of o in
+    let t = grown_into i d g.extent in
+    let mid =
     allocated-live current a m n IndexRole h g ∙ ap (λ l. added l g.extent) (denotes-live current a.bytes d k) in
-    let same : live_of b.bytes ≡ adding (added (live d) g.extent) ys = taken-live m b (extents_of o) made.taken ∙ ap (λ l. adding l ys) mid in
+    let same = taken-live m b (extents_of o) made.taken ∙ ap (λ l. adding l ys) mid in
     let proper : IsTrue (is_proper (adding (added (live d) g.extent) ys)) = subst (λ l. IsTrue (is_proper (adding l ys))) mid made.taken.live.proper in
     let left : unlinked b (place_of i) ≡ adding (live (with_table_of i d t)) ys =
     (λ j. without_link (same j) (x.stands.link j)) ∙ live-moved_index i d t g.extent ys refl proper in
     let laid' : LaysOut current c.bytes (adding (live (with_table_of i d t)) ys) = subst (LaysOut current c.bytes) left laid in
     let gone : others (handle g.extent) (inserted ys (live (with_table_of i d t)).extents) ≡ inserted ys (live (with_table_of i d no_table)).extents =
-    ap (λ (u : Table). left_out u.extent (inserted ys (live (with_table_of i d t)).extents)) (sym (table-of i d t))
+    ap (λ (u : Table). left_out u.extent (inserted ys (live (with_table_of i d t)).extents)) (sym (table-of i d))
     ∙ index-left_out i (with_table_of i d t) ys (live-rises (adding (live (with_table_of i d t)) ys) laid'.proper)
     ∙ ap (λ e. inserted ys (live e).extents) (last-table i d t no_table) in
     let all : others h (unlinked b (place_of i)).extents ≡ inserted ys (live (with_table_of i d no_table)).extents = (λ j. others (g.at j) (left j).extents) ∙ gone in
-    let found : extent_at (live_of b.bytes) h ≡ Some g.extent = taken-found m b (extents_of o) h made.taken (allocated-found g) in
+    let found = taken-found m b (extents_of o) h made.taken (allocated-found g) in
     let places : capacity_at b (place_of i) ≡ (table_of i d).capacity = x.stands.capacity in
     record {
       laid = laid';
@@ -171,14 +171,14 @@ other-table index.Unique t h = record { is = h.is; at = h.at }
 -- the directory with the table is what the new bytes denote
 pub tabled-denotes : {i : Index} {a c : Cut} {d : Directory} {t : Table} → Denotes current a.bytes d → IsTabled i a c d t → Denotes current c.bytes (with_table_of i d t)
 tabled-denotes {i} {a} {c} {d} {t} k e =
-    let A : Memory = bytes_of a.bytes in
-    let C : Memory = bytes_of c.bytes in
+    let A = bytes_of a.bytes in
+    let C = bytes_of c.bytes in
     let high = place-high i in
-    let rest : OfRest i (SameBlock A C) d = of_rest i (SameBlock A C) d e.keeps.blocks in
-    let one : HasOne (other i) C d = other-stays i (has-one (other i) k) (other-words i e.keeps.before e.keeps.behind) rest.other_table in
+    let rest = of_rest i (SameBlock A C) e.keeps.blocks in
+    let one = other-stays i (has-one (other i) k) (other-words i e.keeps.before e.keeps.behind) rest.other_table in
     let few : length (objects_of i d) ≤ t.capacity = omega (arith, e.stands.few, handles-length (objects_of i d)) in
     let is = index-from t (objects_of i d) (order_of i) e.stands.places few (index-parts (table_of i d) (objects_of i d) (order_of i) (has-one i k).is).2 in
-    let both : HasIndexes C (with_table_of i d t) = has_both i (own-table i d is e.stands.stands) (other-table i t one) in
+    let both = has_both i (own-table i d is e.stands.stands) (other-table i t one) in
     let front : KeepsFront A C = record { front = e.keeps.front; zeros = Same-part A C (place_of i + 24) 128 80 128 e.keeps.behind (omega arith) (omega arith) } in
     record {
       directory = record {
@@ -205,10 +205,10 @@ left-link l (Some x) = refl
 abbrev pub places_in : ℕ → Extent → Table
 places_in n x = record { capacity = n; extent = Some x }
 
-pub reserved-tabled : (i : Index) {a c : Cut} {d : Directory} {n : ℕ} → Denotes current a.bytes d → (r : IsReserved a c (place_of i) n) → IsTabled i a c d (places_in n r.extent)
-reserved-tabled i {a} {c} {d} {n} k r =
+pub reserved-tabled : {i : Index} {a c : Cut} {d : Directory} {n : ℕ} → Denotes current a.bytes d → (r : IsReserved a c (place_of i) n) → IsTabled i a c d (places_in n r.extent)
+reserved-tabled {i} {a} {c} {d} {n} k r =
     let x = denotes-index i a k in
-    let now : live_of a.bytes ≡ live d = denotes-live current a.bytes d k in
+    let now = denotes-live current a.bytes d k in
     let placed : place (live d) (8 * n) IndexRole ≡ Some r.extent = sym (ap (λ l. place l (8 * n) IndexRole) now) ∙ r.placed in
     let moved : without_link (added (live_of a.bytes) r.extent) (link_at (bytes_of a.bytes) (place_of i)) ≡ live (with_table_of i d (places_in n r.extent)) =
     (λ j. without_link (added (now j) r.extent) (x.stands.link j))
@@ -252,14 +252,14 @@ module _ (i : Index) (d : Directory) (n : ℕ) (proper : IsTrue (is_proper (live
 no-places : (t : Table) (n : ℕ) → IsTrue (is_table IndexRole 8 t) → n ≤ t.capacity → t.extent ≡ None → (n == 0) ≡ true
 no-places t n h few e =
     let none : (t.capacity == 0) ≡ true = subst (λ (o : Option Extent). IsTrue (elim o as (λ _. Bool) [ None ↦ t.capacity == 0 | Some x ↦ nat_lt 0 t.capacity && serves x IndexRole (8 * t.capacity) ])) e h in
-    let zero : t.capacity ≡ 0 = eqb-true t.capacity 0 none in eq-eqb n 0 (omega (arith, few, zero))
+    let zero = eqb-true t.capacity 0 none in eq-eqb n 0 (omega (arith, few, zero))
 
-pub shrunk-tabled : (i : Index) {a c : Cut} {d : Directory} → Denotes current a.bytes d → IsShrunk a c (place_of i) (table_of i d) (entries_of i d)
+pub shrunk-tabled : {i : Index} {a c : Cut} {d : Directory} → Denotes current a.bytes d → IsShrunk a c (place_of i) (table_of i d) (entries_of i d)
     → IsTabled i a c d (cut_table (live d) 8 (length (objects_of i d)) (table_of i d))
-shrunk-tabled i {a} {c} {d} k r =
+shrunk-tabled {i} {a} {c} {d} k r =
     let x = denotes-index i a k in
-    let now : live_of a.bytes ≡ live d = denotes-live current a.bytes d k in
-    let len : length (entries_of i d) ≡ length (objects_of i d) = handles-length (objects_of i d) in
+    let now = denotes-live current a.bytes d k in
+    let len = handles-length (objects_of i d) in
     let laid : LaysOut current c.bytes (with_cut (live d) (length (objects_of i d)) (table_of i d)) =
     subst (LaysOut current c.bytes) (λ j. with_cut (now j) (len j) (table_of i d)) r.live in
     record {
@@ -301,10 +301,10 @@ record BothAt (m : Memory) (d : Directory) (o : Object) : Type 0 where
   named : IsIndexAt m 32 d.named (handles (objects_of index.Named (without_object d o)))
   unique : IsIndexAt m 56 d.unique (handles (objects_of index.Unique (without_object d o)))
 
-both-at : (i : Index) {m : Memory} (d : Directory) (o : Object) → IsIndexAt m (place_of i) (table_of i d) (entries_of i (without_object d o))
+both-at : (i : Index) {m : Memory} {d : Directory} (o : Object) → IsIndexAt m (place_of i) (table_of i d) (entries_of i (without_object d o))
     → IsIndexAt m (place_of (other i)) (table_of (other i) d) (entries_of (other i) (without_object d o)) → BothAt m d o
-both-at index.Named d o a b = record { named = a; unique = b }
-both-at index.Unique d o a b = record { named = b; unique = a }
+both-at index.Named o a b = record { named = a; unique = b }
+both-at index.Unique o a b = record { named = b; unique = a }
 
 -- the blocks of both indexes are among the others
 table-in : (i : Index) (P : Extent → Type 0) (d : Directory) (o : Object) → OfEach P (without_object d o) → AllByRecursion P (table_extents (table_of i d))
@@ -315,33 +315,33 @@ table-in index.Unique P d o e = e.unique
 pub removed-denotes : {i : Index} {a b c : Cut} {d : Directory} (o : Object) → Denotes current a.bytes d → IsIn d o → o.class ≡ class_of_index i
     → IsLeft i a b (table_of i d) (entries_of i (without_object d o)) → IsGone b c (extents_of o) → Denotes current c.bytes (without_object d o)
 removed-denotes {i} {a} {b} {c} {d} o k f class e g =
-    let A : Memory = bytes_of a.bytes in
-    let B : Memory = bytes_of b.bytes in
-    let C : Memory = bytes_of c.bytes in
+    let A = bytes_of a.bytes in
+    let B = bytes_of b.bytes in
+    let C = bytes_of c.bytes in
     let low = place_behind i in
     let high = place-high i in
-    let now : live_of a.bytes ≡ live d = denotes-live current a.bytes d k in
-    let mid : live_of b.bytes ≡ live d = lay_out_one current b.bytes (live_of a.bytes) e.live ∙ now in
+    let now = denotes-live current a.bytes d k in
+    let mid = lay_out_one current b.bytes (live_of a.bytes) e.live ∙ now in
     let laid : LaysOut current c.bytes (removing (live d) (extents_of o)) = subst (λ l. LaysOut current c.bytes (removing l (extents_of o))) mid g.live in
     let others : removing (live_of b.bytes) (extents_of o) ≡ live (without_object d o) =
     ap (λ l. removing l (extents_of o)) mid ∙ sym (live-without d o f k.directory.proper) in
-    let after : OfEach (SameBlock B C) (without_object d o) = of_each (SameBlock B C) (without_object d o) (subst (λ (l : LiveSet). AllByRecursion (SameBlock B C) l.extents) others g.keeps.blocks) in
+    let after = of_each (SameBlock B C) (subst (λ (l : LiveSet). AllByRecursion (SameBlock B C) l.extents) others g.keeps.blocks) in
     let beside : beside_table (table_of i d) (live_of a.bytes).extents ≡ (live (with_table_of i d no_table)).extents =
     ap (λ (l : LiveSet). beside_table (table_of i d) l.extents) now ∙ index-left_out i d [] (live-rises (live d) k.directory.proper) in
-    let before : OfRest i (SameBlock A B) d = of_rest i (SameBlock A B) d (subst (AllByRecursion (SameBlock A B)) beside e.keeps.blocks) in
+    let before = of_rest i (SameBlock A B) (subst (AllByRecursion (SameBlock A B)) beside e.keeps.blocks) in
     let blocks = blocks-trans A B C (flat_map extents_of (remove_object (handle o.extent) d.objects)) (all-less (SameBlock A B) (handle o.extent) d.objects before.objects) after.objects in
-    let words : Same A C (place_of (other i)) (place_of (other i) + 24) =
+    let words =
     other-words i (Same-trans A B C 32 (place_of i) e.keeps.before (Same-part B C 32 128 32 (place_of i) g.keeps.behind (omega arith) (omega arith)))
     (Same-trans A B C (place_of i + 24) 128 e.keeps.behind (Same-part B C 32 128 (place_of i + 24) 128 g.keeps.behind (omega arith) (omega arith))) in
-    let one : HasOne (other i) C d =
+    let one =
     other-stays i (has-one (other i) k) words (blocks-trans A B C (table_extents (table_of (other i) d)) before.other_table (table-in (other i) (SameBlock B C) d o after)) in
-    let own : IsIndexAt C (place_of i) (table_of i d) (entries_of i (without_object d o)) =
+    let own =
     any_index-same e.stands.places e.stands.few (Same-part B C 32 128 (place_of i) (place_of i + 24) g.keeps.behind low (omega arith))
     (table-in i (SameBlock B C) d o after) e.stands.stands in
-    let same : entries_of (other i) (without_object d o) ≡ entries_of (other i) d = no-entry-removed (other i) d f.is (other_class i o class) in
-    let both : BothAt C d o = both-at i d o own (subst (IsIndexAt C (place_of (other i)) (table_of (other i) d)) (sym same) one.at) in
+    let same = no-entry-removed (other i) d f.is (other_class i o class) in
+    let both = both-at i o own (subst (IsIndexAt C (place_of (other i)) (table_of (other i) d)) (sym same) one.at) in
     let front : KeepsFront A C = record {
       front = Same-trans A B C 0 24 e.keeps.front g.keeps.front;
       zeros = Same-trans A B C 80 128 (Same-part A B (place_of i + 24) 128 80 128 e.keeps.behind (omega arith) (omega arith)) (Same-part B C 32 128 80 128 g.keeps.behind (omega arith) (omega arith));
     } in
-    denotes-taken c.bytes o k f laid front blocks both.named both.unique
+    denotes-taken o k f laid front blocks both.named both.unique

@@ -36,7 +36,7 @@ has_handle h x = handle x == h
 -- the block that a request took is found
 pub allocated-found : {old new : Cut} {n : ℕ} {role : Role} {h : ℕ} → (a : IsAllocated current old new n role h) → extent_at (live_of new.bytes) h ≡ Some a.extent
 allocated-found {old} {new} {h} a =
-    let f : IsFresh 128 a.extent (live_of old.bytes).extents = rising-insert 128 a.extent (live_of old.bytes).extents (live-rises (added (live_of old.bytes) a.extent) a.live.proper) in
+    let f = rising-insert 128 a.extent (live_of old.bytes).extents (live-rises (added (live_of old.bytes) a.extent) a.live.proper) in
     ap (λ (l : LiveSet). find (has_handle h) l.extents) (lay_out_one current new.bytes (added (live_of old.bytes) a.extent) a.live)
     ∙ ap (λ g. find (has_handle g) (insert a.extent (live_of old.bytes).extents)) a.at ∙ found-new a.extent (live_of old.bytes).extents f.differs
 
@@ -52,8 +52,8 @@ taken-found old new xs h {x} m e =
     ∙ found-inserted h x xs zs (found-none h x xs zs (live-rises (adding (live_of old.bytes) xs) m.live.proper) e) e
 
 -- an index stays
-pub taken-index : {old : Cut} (new : Cut) (xs : List Extent) {at : ℕ} {t : Table} {hs : List ℕ} → IsTaken old new xs → 32 ≤ at → at + 24 ≤ 128 → IsIndexOf old at t hs → IsIndexOf new at t hs
-taken-index {old} new xs {at} {t} {hs} m low high i =
+pub taken-index : {old : Cut} {new : Cut} (xs : List Extent) {at : ℕ} {t : Table} {hs : List ℕ} → IsTaken old new xs → 32 ≤ at → at + 24 ≤ 128 → IsIndexOf old at t hs → IsIndexOf new at t hs
+taken-index {old} {new} xs {at} {t} {hs} m low high i =
     stays old new at t hs i
     (Around-kept old new at t (live_of old.bytes).extents (laid-heap new.bytes (adding (live_of old.bytes) xs) m.live)
     (Same-part (bytes_of old.bytes) (bytes_of new.bytes) 32 128 at (at + 24) m.keeps.behind low high) m.keeps.blocks
@@ -102,9 +102,9 @@ request-unmet a b c d at n (Some h) heap grows refused back restored =
 
 -- ---- an index while an object is made
 
-pub growth-index : (i : Index) {a : Cut} (b : Cut) (g : Option ℕ) {t : Table} {hs : List ℕ} → IsGrowth a b (place_of i) g → IsIndexOf a (place_of i) t hs → IsIndexOf b (place_of i) t hs
-growth-index i b None {t} {hs} g x = subst (λ (c : Cut). IsIndexOf c (place_of i) t hs) (sym g.1) x
-growth-index i b (Some h) g x = taken-index b _ (requested-taken g.1) (place_behind i) (place_small i) x
+pub growth-index : (i : Index) {a : Cut} {b : Cut} (g : Option ℕ) {t : Table} {hs : List ℕ} → IsGrowth a b (place_of i) g → IsIndexOf a (place_of i) t hs → IsIndexOf b (place_of i) t hs
+growth-index i None {t} {hs} g x = subst (λ (c : Cut). IsIndexOf c (place_of i) t hs) (sym g.1) x
+growth-index i (Some h) g x = taken-index _ (requested-taken g.1) (place_behind i) (place_small i) x
 
 -- the block is requested, and written where it was asked for
 pub written-taken : {a m b : Cut} {n h : ℕ} → IsAllocated current a m n ObjectRole h → IsChanged current m b h n → IsAllocated current a b n ObjectRole h
@@ -123,11 +123,11 @@ pub record IsReady (i : Index) (c : Cut) (t : Table) (hs : List ℕ) (g : Option
 pub ready : (i : Index) {a m b : Cut} {n h : ℕ} {g : Option ℕ} {t : Table} {hs : List ℕ} → IsIndexOf a (place_of i) t hs → (r : IsRequested a m (place_of i) n g h)
     → IsChanged current m b h n → IsReady i b t hs g
 ready i {a} {b} {n} {h} {g} {t} {hs} x r change =
-    let mid : IsIndexOf r.between (place_of i) t hs = growth-index i r.between g r.grows x in
-    let took : IsAllocated current r.between b n ObjectRole h = written-taken r.takes change in
-    let can : CanGrow r.between (place_of i) g = prepared a r.between (place_of i) g t hs x r.grows (place_behind i) (place_small i) in
+    let mid = growth-index i g r.grows x in
+    let took = written-taken r.takes change in
+    let can = prepared a r.between (place_of i) g t hs x r.grows (place_behind i) (place_small i) in
     record {
-      index = taken-index b _ (requested-taken took) (place_behind i) (place_small i) mid;
+      index = taken-index _ (requested-taken took) (place_behind i) (place_small i) mid;
       growth = taken-growth r.between b _ (place_of i) g (requested-taken took) (place_behind i) (place_small i) can;
     }
 
@@ -141,7 +141,7 @@ requested-aligned {a} {b} {n} {h} take =
 -- a block that was taken is taken still
 pub restored-taken : {a m w : Cut} {n : ℕ} {role : Role} {h : ℕ} → IsAllocated current a m n role h → IsRestored m w → IsAllocated current a w n role h
 restored-taken {a} {m} {w} {n} {role} {h} t r =
-    let is : live_of m.bytes ≡ added (live_of a.bytes) t.extent = allocated-live current a m n role h t in
+    let is = allocated-live current a m n role h t in
     let kept : Keeps m w (added (live_of a.bytes) t.extent).extents = subst (λ (l : LiveSet). Keeps m w l.extents) is r.keeps in
     let each = all_of-insert (SameBlock (bytes_of m.bytes) (bytes_of w.bytes)) t.extent (live_of a.bytes).extents kept.blocks in
     let colour = each.0.colour in

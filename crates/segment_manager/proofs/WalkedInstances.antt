@@ -13,8 +13,8 @@ name-said {at} h = record {
       ap (λ (name : List ℕ). Some name) one.2.name ∙ sym (slice_get-map (λ (o : Object). o.name) (named_objects d) at ∙ ap (option_map (λ (o : Object). o.name)) one.1);
 }
 
-pub name-past : (s : State) (at : ℕ) → ((d : Directory) → StandsFor s.cut.bytes d → length (named_objects d) ≤ at) → Answers s (λ d. slice_get (names_of d) at) None
-name-past s at h = record {
+pub name-past : {s : State} (at : ℕ) → ((d : Directory) → StandsFor s.cut.bytes d → length (named_objects d) ≤ at) → Answers s (λ d. slice_get (names_of d) at) None
+name-past at h = record {
   answers = λ d k. sym (slice_get-map (λ (o : Object). o.name) (named_objects d) at ∙ ap (option_map (λ (o : Object). o.name)) (slice_get_past (named_objects d) at (h d k)));
 }
 
@@ -26,12 +26,12 @@ pub names-end : {A : Type 0} (seen : A → List ℕ) (old new : Walk) → old.in
 names-end seen old new e g = record {
   segment = g.segment;
   place = g.place;
-  says = name-past old.segment old.at (λ d k. subst (λ i. length (objects_of i d) ≤ old.at) e (g.says d k));
+  says = name-past old.at (λ d k. subst (λ i. length (objects_of i d) ≤ old.at) e (g.says d k));
 }
 
-pub names-go_on : {A : Type 0} (seen : A → List ℕ) (name : A) (old new : Walk) (said : Instance) → seen name ≡ said.name.now → old.index ≡ Named → GoesOn old (Some said) new
+pub names-go_on : {A : Type 0} {seen : A → List ℕ} {name : A} (old new : Walk) (said : Instance) → seen name ≡ said.name.now → old.index ≡ Named → GoesOn old (Some said) new
     → GoesOnNames seen (names_walk old) (Some name) (names_walk new)
-names-go_on seen name old new said f e g = record {
+names-go_on old new said f e g = record {
   segment = g.segment;
   place = g.place;
   says = subst (λ bytes. Answers old.segment (λ d. slice_get (names_of d) old.at) (Some bytes)) (sym f) (name-said (subst (λ i. SaysAt old.segment (objects_of i) old.at said) e g.says));

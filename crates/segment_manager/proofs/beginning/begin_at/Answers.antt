@@ -20,7 +20,7 @@ returns-in_default c =
 
 pub write_head-requires-clause-room : goal.write_head-requires-clause-room
 write_head-requires-clause-room c =
-    let n : ℕ = room_for c.args.name.now c.args.shape.len in
+    let n = room_for c.args.name.now c.args.shape.len in
     let e : c.value_at-at.result + c.args.shape.len ≡ n = ap (λ m. m + c.args.shape.len) c.value_at-at.ensures in
     let r = meant e c.in-Ok.ensures in
     allocated-room current r.between c.request.new.heap n ObjectRole c.in-Ok.requested.handle (16 + padded (length c.args.name.now)) r.takes (omega arith)

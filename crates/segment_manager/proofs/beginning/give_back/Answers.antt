@@ -15,7 +15,7 @@ pub returns-in-Some : goal.returns-in-Some
 returns-in-Some c =
     λ old loose.
     let l : IsLooseEntry old c.args.heap.now c.args.handle c.in-Some.new = subst (IsLoose old c.args.heap.now c.args.handle) c.in-Some.is loose in
-    entry-back c.give_back.new.heap l c.deallocate.ensures.released c.give_back.ensures.change
+    entry-back l c.deallocate.ensures.released c.give_back.ensures.change
 
 pub returns-in_default : goal.returns-in_default
 returns-in_default c =

@@ -7,14 +7,14 @@ pub fill-filled-requires-clause-heap : goal.fill-filled-requires-clause-heap
 fill-filled-requires-clause-heap g c =
     let b = c.args.begun in
     let q = c.requires.begun in
-    let content : Content = g.F.Filling.content c.args.filling.now in
+    let content = g.F.Filling.content c.args.filling.now in
     begun-heap b.entry q.0 c.args.heap.now q.1.1.0 (kind_of (bare content)) (count_of (bare content)) (value_len (bare content)) b.handle b.at q.1.1.1
 
 pub fill-filled-requires-clause-room : goal.fill-filled-requires-clause-room
 fill-filled-requires-clause-room g c =
     let b = c.args.begun in
     let q = c.requires.begun in
-    let content : Content = g.F.Filling.content c.args.filling.now in
+    let content = g.F.Filling.content c.args.filling.now in
     begun-room b.entry q.0 c.args.heap.now q.1.1.0 (kind_of (bare content)) (count_of (bare content)) (value_len (bare content)) b.handle b.at q.1.1.1
 
 pub end-requires : goal.end-requires

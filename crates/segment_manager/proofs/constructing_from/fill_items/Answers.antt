@@ -27,4 +27,4 @@ pub loop-i-preserved : goal.loop-i-preserved
 loop-i-preserved g c =
     let size : c.size-size.result ≡ size_of c.args.kind = c.size-size.ensures in
     let same : c.size-size.result * c.loop-i.i ≡ size_of c.args.kind * c.loop-i.i = ap (λ n. n * c.loop-i.i) size in
-    filling-more _ _ g.I.Iterator.next_gives g.I.Iterator.can_next g.S.Spelling.whole c.args.heap.now c.args.kind (c.args.handle + c.args.at) c.args.items.now c.loop-i.invariant c.in_ok-write_item.ensures.ready (omega arith) c.in_ok-write_item.ensures.next
+    filling-more _ c.loop-i.invariant c.in_ok-write_item.ensures.ready (omega arith) c.in_ok-write_item.ensures.next

@@ -3,7 +3,7 @@ use Rattle.segment_manager.proofs.Destroys.{own-still, removes-anonymous}
 use Rattle.segment_manager.proofs.destroying.remove_anonymous.Goals as goal
 
 pub deallocate-requires : goal.deallocate-requires
-deallocate-requires c = own-still c.args.heap.now c.release_contents.new.heap c.args.object c.release_contents.ensures c.requires
+deallocate-requires c = own-still c.release_contents.ensures c.requires
 
 pub returns : goal.returns
-returns c = removes-anonymous c.args.heap.now c.release_contents.new.heap c.args.object c.release_contents.ensures c.deallocate.ensures.released
+returns c = removes-anonymous c.release_contents.ensures c.deallocate.ensures.released

@@ -4,13 +4,13 @@ use Rattle.segment_manager.proofs.Destroys.{index-still, removes-entry}
 use Rattle.segment_manager.proofs.destroying.remove_entered.Goals as goal
 
 pub at-handle-requires-clause-index : goal.at-handle-requires-clause-index
-at-handle-requires-clause-index c = entry-index c.args.heap.now c.requires
+at-handle-requires-clause-index c = entry-index c.requires
 
 pub at-handle-requires-clause-below : goal.at-handle-requires-clause-below
 at-handle-requires-clause-below c = entry-below c.args.heap.now c.requires
 
 pub release_contents-requires : goal.release_contents-requires
-release_contents-requires c = entry-object c.args.heap.now c.args.index c.args.place c.at-handle.result c.at-handle.ensures c.requires
+release_contents-requires c = entry-object c.args.index c.args.place c.at-handle.ensures c.requires
 
 pub remove-requires-clause-index : goal.remove-requires-clause-index
 remove-requires-clause-index c =

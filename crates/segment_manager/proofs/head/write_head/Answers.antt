@@ -15,18 +15,18 @@ set_word-requires-2 c =
 
 pub write_name-requires-clause-room : goal.write_name-requires-clause-room
 write_name-requires-clause-room c =
-    let n : ℕ = 16 + padded (length c.args.name.now) in
-    let room : IsTrue (has_room (live_of c.set_word.new.self.bytes) c.args.handle n) =
+    let n = 16 + padded (length c.args.name.now) in
+    let room =
     changed-room current c.args.heap.now c.set_word.new.self (c.args.handle + 0) 8 c.args.handle n c.set_word.ensures.change c.requires.room in
     changed-room current c.set_word.new.self c.set_word-2.new.self (c.args.handle + 8) 8 c.args.handle n c.set_word-2.ensures.change room
 
 pub returns : goal.returns
 returns c =
-    let kinds : word_at (bytes_of c.set_word.new.self.bytes) (c.args.handle + 0) ≡ two_halves (code_of c.args.kind) c.args.count =
+    let kinds =
     c.set_word.ensures.word ∙ (λ i. two_halves ((c.from.ensures ∙ c.code.ensures) i) (c.from-2.ensures i)) in
-    let names : word_at (bytes_of c.set_word-2.new.self.bytes) (c.args.handle + 8) ≡ two_halves (length c.args.name.now) (class_code c.args.class) =
+    let names =
     c.set_word-2.ensures.word ∙ ap (two_halves (length c.args.name.now)) (c.from-3.ensures ∙ c.code_of_class.ensures) in
-    let w : HasHead c.args.heap.now c.write_name.new.heap c.args.handle c.args.kind c.args.count c.args.class c.args.name.now =
-    head-written c.write_name.new.heap c.args.handle c.args.kind c.args.count c.args.class c.args.name.now
+    let w =
+    head-written
     c.set_word.ensures.change kinds c.set_word-2.ensures.change names (record { change = c.write_name.ensures.change; content = c.write_name.ensures.name }) in
     record { change = w.change; head = w.head }

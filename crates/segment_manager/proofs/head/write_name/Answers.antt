@@ -10,19 +10,19 @@ write-requires c = room-less (live_of c.args.heap.now.bytes) c.args.handle (16 +
 
 pub write-requires-2 : goal.write-requires-2
 write-requires-2 c =
-    let n : ℕ = length c.args.name.now in
+    let n = length c.args.name.now in
     let e : c.padded.result - n ≡ padded n - n = ap (λ (k : ℕ). k - n) c.padded.ensures in
     let long : length (take {A = ℕ} (c.padded.result - n) (replicate 8 0)) ≡ padded n - n = ap (λ (l : List ℕ). length l) (zeros-taken n e) ∙ length-replicate (padded n - n) 0 in
     let sum : 16 + padded n ≡ 16 + n + length (take {A = ℕ} (c.padded.result - n) (replicate 8 0)) = omega arith in
-    let room : IsTrue (has_room (live_of c.write.new.self.bytes) c.args.handle (16 + padded n)) =
+    let room =
     changed-room current c.args.heap.now c.write.new.self (c.args.handle + 16) n c.args.handle (16 + padded n) c.write.ensures.change c.requires.room in
     subst (λ k. IsTrue (has_room (live_of c.write.new.self.bytes) c.args.handle k)) sum room
 
 pub returns : goal.returns
 returns c =
-    let n : ℕ = length c.args.name.now in
+    let n = length c.args.name.now in
     let e : c.padded.result - n ≡ padded n - n = ap (λ (k : ℕ). k - n) c.padded.ensures in
-    let w : HasName c.args.heap.now c.write-2.new.self c.args.handle c.args.name.now =
-    name-written c.args.handle c.args.name.now (zeros-taken n e)
+    let w =
+    name-written (zeros-taken n e)
     c.write.ensures.change c.write.ensures.content c.write-2.ensures.change c.write-2.ensures.content in
     record { change = w.change; name = w.content }

@@ -11,5 +11,5 @@ pub returns-in-Some : goal.returns-in-Some
 returns-in-Some g c =
     let o : Object = record { handle = c.in-Some.handle; kind = c.read_head-head.result.kind; count = c.read_head-head.result.count } in
     subst (λ t. IsLocated t (g.O.Target.key c.args.key.now) o) c.segment.view_is
-    (locates (g.O.Target.key c.args.key.now) c.read_head-head.result
+    (locates
     (seen-handle _ _ c.segment.view_is (g.O.Target.key c.args.key.now) _ c.in-Some.ensures) c.read_head-head.ensures)

@@ -22,5 +22,5 @@ returns-clause-steps c =
     let old = c.self.inside.instances in
     let new = c.next.new.self in
     subst (λ (t : NameWalk). GoesOnNames bytes t (Some c.in_ok-said.said.name) (names_walk new)) c.self.view_is
-    (names-go_on bytes c.in_ok-said.said.name old new c.in_ok-said.said refl c.self.invariant
+    (names-go_on old new c.in_ok-said.said refl c.self.invariant
     (subst (λ (r : Option Instance). GoesOn old r new) c.in_ok-said.was c.next.ensures.steps))

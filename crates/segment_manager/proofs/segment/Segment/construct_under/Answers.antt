@@ -15,7 +15,7 @@ done g c =
     let b = c.in_ok-begun.begun in
     subst (λ (key : Key). Constructs c.self.inside.heap c.build.new.heap (Construct key content) handle_answer c.build.result)
     (c.key_for-key.ensures.key ∙ ap (g.D.Destination.key c.args.key.now) c.shape-shape.ensures.kind)
-    (construct-built c.self.inside.heap c.self.invariant (new_key_seen c.key_for-key.result) content b.entry c.begin.new.heap c.build.new.heap b.handle b.at c.build.result
+    (construct-built c.self.invariant (new_key_seen c.key_for-key.result) content b.entry c.begin.new.heap b.handle b.at c.build.result
     (begun-for c.self.inside.heap c.begin.new.heap _ (Ok b) c.shape-shape.ensures c.in_ok-begun.ensures) c.build.ensures)
 
 -- or where it is not begun
@@ -26,7 +26,7 @@ none g c =
     let content = g.F.Filling.content c.args.filling.now in
     subst (λ (key : Key). Constructs c.self.inside.heap c.begin.new.heap (Construct key content) handle_answer (Err c.in_err-begun.field-0.0))
     (c.key_for-key.ensures.key ∙ ap (g.D.Destination.key c.args.key.now) c.shape-shape.ensures.kind)
-    (construct-not_begun c.self.inside.heap c.self.invariant (new_key_seen c.key_for-key.result) content c.in_err-begun.field-0.0 c.begin.new.heap
+    (construct-not_begun c.self.invariant (new_key_seen c.key_for-key.result) content c.in_err-begun.field-0.0 c.begin.new.heap
     (begun-for c.self.inside.heap c.begin.new.heap _ (Err c.in_err-begun.field-0.0) c.shape-shape.ensures c.in_err-begun.ensures))
 
 pub returns-then-is_read_only-clause-step : goal.returns-then-is_read_only-clause-step

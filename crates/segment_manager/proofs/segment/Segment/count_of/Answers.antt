@@ -11,4 +11,4 @@ pub returns-clause-count : goal.returns-clause-count
 returns-clause-count c =
     let s : State = record { cut = c.self.inside.heap; mode = c.self.inside.mode } in
     subst (λ t. Answers t (λ d. length (objects_of c.args.index d)) c.len.result) c.self.view_is
-    (record { answers = index-counts s c.args.index c.len.result c.len.ensures.len })
+    (record { answers = index-counts s c.args.index c.len.ensures.len })

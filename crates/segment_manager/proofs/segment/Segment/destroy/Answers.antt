@@ -12,7 +12,7 @@ returns-then-is_read_only-clause-step c =
 
 pub lookup-requires : goal.lookup-requires
 lookup-requires c = record {
-  keys = denotes-keys c.entry_of-index.result.0 c.self.inside.heap c.entry_of-index.result.1
+  keys = denotes-keys c.entry_of-index.result.0
       c.self.invariant.1.denotes;
 }
 
@@ -23,21 +23,21 @@ remove_entered-requires c =
 
 pub invariant_of-self : goal.invariant_of-self
 invariant_of-self c =
-    (destroys-entered c.self.view_is c.self.invariant c.remove_entered.new.heap c.entry_of-index.result.0
+    (destroys-entered c.self.view_is c.self.invariant c.entry_of-index.result.0
     c.entry_of-index.result.1 (index_key_seen c.args.key.now) c.in-Found.place
     (sym c.is_read_only.ensures ∙ c.if-is_read_only.false) c.entry_of-index.ensures.seeks c.in-Found.ensures.place
     c.remove_entered.ensures).segment
 
 pub returns-in-Found-clause-step : goal.returns-in-Found-clause-step
 returns-in-Found-clause-step c =
-    (destroys-entered c.self.view_is c.self.invariant c.remove_entered.new.heap c.entry_of-index.result.0
+    (destroys-entered c.self.view_is c.self.invariant c.entry_of-index.result.0
     c.entry_of-index.result.1 (index_key_seen c.args.key.now) c.in-Found.place
     (sym c.is_read_only.ensures ∙ c.if-is_read_only.false) c.entry_of-index.ensures.seeks c.in-Found.ensures.place
     c.remove_entered.ensures).step
 
 pub returns-in-Found-clause-absent : goal.returns-in-Found-clause-absent
 returns-in-Found-clause-absent c =
-    keeps-found c.self.view_is _ c.entry_of-index.result.0 c.entry_of-index.result.1 c.in-Found.place
+    keeps-found c.self.view_is c.entry_of-index.result.0 c.entry_of-index.result.1 c.in-Found.place
     c.in-Found.ensures.place (index_key_seen c.args.key.now) c.entry_of-index.ensures.seeks
 
 pub returns-in-Absent-clause-step : goal.returns-in-Absent-clause-step

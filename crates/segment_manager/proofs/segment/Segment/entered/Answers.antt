@@ -5,7 +5,7 @@ use Rattle.segment_manager.proofs.KeyCalls.{entered-object, entered-says}
 use Rattle.segment_manager.proofs.segment.Segment.entered.Goals as goal
 
 pub at-handle-requires-clause-index : goal.at-handle-requires-clause-index
-at-handle-requires-clause-index c = segment-index c.self.inside.heap c.args.index c.self.invariant
+at-handle-requires-clause-index c = segment-index c.args.index c.self.invariant
 
 pub at-handle-requires-clause-below : goal.at-handle-requires-clause-below
 at-handle-requires-clause-below c =
@@ -23,4 +23,4 @@ pub returns : goal.returns
 returns c =
     let s : State = record { cut = c.self.inside.heap; mode = c.self.inside.mode } in
     subst (λ t. SaysAt t (objects_of c.args.index) c.args.i c.read_instance.result) c.self.view_is
-    (entered-says s c.args.index c.args.i c.at-handle.result c.read_instance.result c.at-handle.ensures c.read_instance.ensures)
+    (entered-says c.args.index c.at-handle.ensures c.read_instance.ensures)

@@ -19,4 +19,4 @@ returns-in-Handle c =
     (handle-answers c.in-Handle.handle c.belongs.ensures))
 
 pub returns-in-Anonymous : goal.returns-in-Anonymous
-returns-in-Anonymous c = subst (λ k. Answers c.args.self.now (λ d. handle_at d (key_seen k)) None) (sym c.in-Anonymous.is) (anonymous-answers c.args.self.now)
+returns-in-Anonymous c = subst (λ k. Answers c.args.self.now (λ d. handle_at d (key_seen k)) None) (sym c.in-Anonymous.is) (anonymous-answers)

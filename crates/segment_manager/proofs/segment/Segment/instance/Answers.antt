@@ -12,5 +12,5 @@ read_instance-requires-clause-object g c = seen-object _ _ c.self.view_is (g.O.T
 pub returns-in-Some : goal.returns-in-Some
 returns-in-Some g c =
     subst (λ t. SaysOf t (g.O.Target.key c.args.key.now) c.read_instance.result) c.self.view_is
-    (key-says (g.O.Target.key c.args.key.now) c.read_instance.result
+    (key-says
     (seen-handle _ _ c.self.view_is (g.O.Target.key c.args.key.now) _ c.in-Some.ensures) c.read_instance.ensures)

@@ -14,5 +14,5 @@ read_instance-requires-clause-object c =
 pub returns : goal.returns
 returns c =
     subst (λ t. SaysOf t (ByHandle c.args.handle) c.read_instance.result) c.self.view_is
-    (key-says (ByHandle c.args.handle) c.read_instance.result
+    (key-says
     (handle-answers c.args.handle (subst (λ t. Answers t (λ d. is_object_at d c.args.handle) true) (sym c.self.view_is) c.requires)) c.read_instance.ensures)

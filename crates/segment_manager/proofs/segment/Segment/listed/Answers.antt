@@ -15,15 +15,15 @@ read_name-requires-clause-object c = has-own_object c.self.view_is c.args.handle
 
 pub returns-in-Anonymous : goal.returns-in-Anonymous
 returns-in-Anonymous c =
-    listed-none c.self.view_is c.args.handle c.read_head-head.result c.requires c.read_head-head.ensures c.in-Anonymous.is
+    listed-none c.self.view_is c.requires c.read_head-head.ensures c.in-Anonymous.is
 
 pub returns-in-Named : goal.returns-in-Named
 returns-in-Named c =
     c.listed_under.ensures c.args.handle
-    (listed-name c.self.view_is c.args.handle c.read_head-head.result c.requires c.read_head-head.ensures
+    (listed-name c.self.view_is c.requires c.read_head-head.ensures
     (entry.Name c.read_name.result) c.in-Named.is c.read_name.ensures)
 
 pub returns-in-Unique : goal.returns-in-Unique
 returns-in-Unique c =
     c.listed_under-in-Unique.ensures c.args.handle
-    (listed-kind c.self.view_is c.args.handle c.read_head-head.result c.requires c.read_head-head.ensures c.in-Unique.is c.code.ensures)
+    (listed-kind c.self.view_is c.requires c.read_head-head.ensures c.in-Unique.is c.code.ensures)

@@ -4,7 +4,7 @@ use Rattle.segment_manager.proofs.{HeldIndexes.denotes-keys, Destroys.listed-fou
 use Rattle.segment_manager.proofs.segment.Segment.listed_under.Goals as goal
 
 pub lookup-requires : goal.lookup-requires
-lookup-requires c = record { keys = denotes-keys c.args.index c.self.inside.heap c.args.entry c.self.invariant.1.denotes }
+lookup-requires c = record { keys = denotes-keys c.args.index c.self.invariant.1.denotes }
 
 pub returns-in-Found : goal.returns-in-Found
 returns-in-Found c = λ h each.

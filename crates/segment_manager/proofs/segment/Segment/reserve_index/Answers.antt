@@ -9,7 +9,7 @@ pub returns-then-is_read_only-clause-step : goal.returns-then-is_read_only-claus
 returns-then-is_read_only-clause-step c = refuses-read_only c.args.self.now (reserve_of c.args.index c.args.n) (sym c.is_read_only.ensures ∙ c.if-is_read_only.true) (reserve-changes c.args.index c.args.n)
 
 pub reserve-requires : goal.reserve-requires
-reserve-requires c = record { index = segment-index c.self.inside.heap c.args.index c.self.invariant }
+reserve-requires c = record { index = segment-index c.args.index c.self.invariant }
 
 pub invariant_of-self : goal.invariant_of-self
 invariant_of-self c =
@@ -33,5 +33,5 @@ pub returns-clause-enough : goal.returns-clause-enough
 returns-clause-enough c =
     elim c.match-reserve.branch [
       | in-Ok w ↦ keeps-places c.self.view_is c.args.index w.in-Ok.ensures.reserved
-      | in-Err w ↦ keeps-fewer c.self.view_is _ c.args.index c.args.n w.in-Err.ensures.reserved.0
+      | in-Err w ↦ keeps-fewer c.self.view_is c.args.index c.args.n w.in-Err.ensures.reserved.0
     ]

@@ -49,6 +49,6 @@ pub returns-clause-goes : goal.returns-clause-goes
 returns-clause-goes c =
     let w = c.self.inside in
     let segment : IsSegment w.segment.now.cut.bytes = subst IsSegment c.as_bytes.ensures.bytes c.as_bytes.ensures.denotes in
-    let below : w.at < own_count w.segment.now.cut.bytes =
+    let below =
     owner-counts (block-at c.self.invariant c.next_own.ensures c.in_ok-block.was) segment in
     search rules

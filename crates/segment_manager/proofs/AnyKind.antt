@@ -176,12 +176,9 @@ any-no_value s key k i l r a writing f =
 
 -- ---- objects of other kinds than texts
 
-not-both : {a b : Kind} → a ≡ b → (b ≡ TextsKind → ⊥) → a ≡ TextsKind → ⊥
-not-both e n f = n (sym e ∙ f)
-
 -- the object of the key says another kind
 pub kind-no_texts : (s : State) (key : Key) (kind : Kind) → Answers s (λ d. kind_at d key) (Ok kind) → (kind ≡ TextsKind → ⊥) → HasNoTexts s key
 kind-no_texts s key kind a n d l o e =
     let k = kind-told d key kind (a.answers d l) in
     let same = same_Some k.object o (sym k.is ∙ e) in
-    not-both (ap (λ (p : Object). kind_of p.value) (sym same) ∙ k.kind_is) n
+    λ f. n (sym (ap (λ (p : Object). kind_of p.value) (sym same) ∙ k.kind_is) ∙ f)

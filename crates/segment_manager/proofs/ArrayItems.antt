@@ -92,16 +92,13 @@ module _ (r : Refusal) (other : r ≡ OutOfRange → ⊥) where
       ap (λ n. perform d l (Request (New ObjectRole n) g)) (ap (λ n. head_len + padded (length (name_of key)) + size_of k * n) long)
       ∙ request-same d l (New ObjectRole (object_len (name_of key) (Numbers k zs))) f g h refused
 
-  reason : Refused r ≡ Refused OutOfRange → r ≡ OutOfRange
-  reason e = cc
-
   new-same : (d : Directory) (l : LiveSet) (key : Key) (k : ScalarKind) (zs ws : List ℤ) → length ws ≡ length zs
       → IsSame (perform d l (with_new_object d key (asked.Numbers k zs) (λ o e. Reply (Refused OutOfRange) d)))
       (perform d l (with_new_object d key (asked.Numbers k ws) (λ o e. Reply (Made (handle o.extent)) e)))
   new-same d l key k zs ws long =
       entry-same d l (class_of key) _ _ (λ e m. object-same d m key k zs ws (λ x. Reply (Refused OutOfRange) d)
       (λ x. Reply (Made (handle x)) (with_object e (record { class = class_of key; name = name_of key; value = Numbers k ws; extent = x })))
-      long (λ x refused. absurd (other (reason refused))))
+      long (λ x refused. absurd (other (cc))))
 
   items-same : (d : Directory) (l : LiveSet) (key : Key) (k : ScalarKind) {n : ℕ} (zs : List ℤ) (found : Option Object) → 1 ≤ n → length zs ≡ n
       → IsSame (perform d l (from-items d key k n [] found)) (perform d l (from-items d key k n zs found))

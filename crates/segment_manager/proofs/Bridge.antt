@@ -20,7 +20,7 @@ use Rattle.segment_manager.proofs.{ObjectLists.all-found, ObjectLists.rises-rest
 use Rattle.segment_manager.proofs.{Ranks.found-filter, Ranks.ordered-pairwise, Faces.ordered-without}
 use Rattle.segment_manager.proofs.{Indexes.index-parts, Indexes.named-more, Indexes.rises-above, Indexes.unique-more}
 use Rattle.segment_manager.proofs.{Indexes.one-removed, Indexes.by_name-strict, Indexes.by_kind-strict}
-use Rattle.segment_manager.proofs.{KeyOrder.names-apart, KeyOrder.names-class, KeyOrder.names-say, EntryPlaces.StandsAt}
+use Rattle.segment_manager.proofs.{KeyOrder.names-apart, KeyOrder.names-class, KeyOrder.names-say}
 use Rattle.seg_index.specs.declared.keys.Key.{Key}
 use Rattle.seg_index.specs.Lookups.{order}
 use Rattle.seg_types.specs.Names as names

@@ -1,16 +1,16 @@
 -- What the bytes denote after one object is added, removed or changed, also where its index is written too.
-use Rattle.segment_manager.proofs.Common.{◌≡◌, refl, sym, ap, subst, ◌∙◌, ℕ, suc, ◌+◌, ◌≤◌, ◌≢◌, Bool, ◌&&◌, List, []}
-use Rattle.segment_manager.proofs.Common.{◌∷◌, length, arith, IsTrue, nat_le, AllByRecursion, Memory, Cut, Same}
-use Rattle.segment_manager.proofs.Common.{bytes_of, Extent, LiveSet, handle, is_proper, LaysOut, SameBlock, Keeps}
-use Rattle.segment_manager.proofs.Common.{Table, is_table, Anonymous, IsIndexAt, Object, Directory, IsDirectory, live}
+use Rattle.segment_manager.proofs.Common.{◌≡◌, refl, sym, ap, subst, ◌∙◌, ℕ, suc, ◌+◌, ◌≢◌, Bool, ◌&&◌, List, [], ◌∷◌}
+use Rattle.segment_manager.proofs.Common.{length, arith, IsTrue, nat_le, AllByRecursion, Memory, Cut, Same, bytes_of}
+use Rattle.segment_manager.proofs.Common.{Extent, LiveSet, handle, is_proper, LaysOut, SameBlock, Keeps, Table}
+use Rattle.segment_manager.proofs.Common.{is_table, Anonymous, IsIndexAt, Object, Directory, IsDirectory, live}
 use Rattle.segment_manager.proofs.Common.{extents_of, value_extents, table_extents, is_object, is_index, rises}
 use Rattle.segment_manager.proofs.Common.{remove_object, with_object, with_changed, without_object, named_objects}
 use Rattle.segment_manager.proofs.Common.{unique_objects, by_name, by_kind, Denotes, IsObjectAt, IsHeader, handles}
 use Rattle.segment_manager.proofs.Common.{Same-part, flat_map, list_all, rises_from}
-use Rattle.segment_manager.proofs.Order.{Differs, IsFresh, inserted, live-rises, rising-insert, all_of-inserted}
-use Rattle.segment_manager.proofs.Live.{adding, removing, OfEach, of_each, IsFound, IsIn, live-put, live-without}
-use Rattle.segment_manager.proofs.Faces.{IsLike, SameIndex, replace-rises, anonymous-named, anonymous-unique}
-use Rattle.segment_manager.proofs.Faces.{ordered-with, ordered-without, ordered-changed, by_name-face, by_kind-face}
+use Rattle.segment_manager.proofs.Order.{Differs, inserted, live-rises, rising-insert, all_of-inserted}
+use Rattle.segment_manager.proofs.Live.{adding, removing, of_each, IsFound, IsIn, live-put, live-without}
+use Rattle.segment_manager.proofs.Faces.{IsLike, replace-rises, anonymous-named, anonymous-unique, ordered-with}
+use Rattle.segment_manager.proofs.Faces.{ordered-without, ordered-changed, by_name-face, by_kind-face}
 use Rattle.segment_manager.proofs.ObjectLists.{all-put, all-remove, all-replace, list_all-put, list_all-remove}
 use Rattle.segment_manager.proofs.ObjectLists.{list_all-replace, stands_apart, put-rises, remove-rises}
 use Rattle.segment_manager.proofs.Words.{first, second, no_more}

@@ -3,13 +3,13 @@ use Rattle.segment_manager.proofs.Common.{◌≡◌, refl, sym, ap, subst, ◌�
 use Rattle.segment_manager.proofs.Common.{List, is_some, none-some, bytes_of, current, handle, Class, class_code}
 use Rattle.segment_manager.proofs.Common.{code_of, Index, Absent, IsPlace, Head, Object, Directory, is_class, kind_of}
 use Rattle.segment_manager.proofs.Common.{object_at, handle_at, is_object_at, HasEntries, HasEntry, IsAnonymousAt}
-use Rattle.segment_manager.proofs.Common.{Answers, IsSegment, State, StandsFor, HasObject, IsHeadOf, StandsAt, ◌<◌, []}
-use Rattle.segment_manager.proofs.Common.{◌∷◌, arith, remove, slice_get, same_Some, slice_get_within, Cut}
-use Rattle.segment_manager.proofs.Common.{SamePlace-trans, IsReleased, LaysOut, is_live_in, live_of, Table, lay_out_one}
-use Rattle.segment_manager.proofs.Common.{NotFound, Found, KeepsRest, beside_table, HasIndex, IsIndexOf, entry_count}
-use Rattle.segment_manager.proofs.Common.{place_of, Refused, Truth, Denotes, Becomes, Empties, HoldsObject, emptied}
-use Rattle.segment_manager.proofs.Common.{without_object, Seeks, class_of_index, entries_of, objects_of, order_of}
-use Rattle.segment_manager.proofs.Common.{table_of, Plan, Reply, IsStep, changed, is_read_only, step}
+use Rattle.segment_manager.proofs.Common.{Answers, IsSegment, State, StandsFor, HasObject, StandsAt, ◌<◌, [], ◌∷◌}
+use Rattle.segment_manager.proofs.Common.{arith, remove, slice_get, same_Some, slice_get_within, Cut, SamePlace-trans}
+use Rattle.segment_manager.proofs.Common.{IsReleased, LaysOut, is_live_in, live_of, Table, lay_out_one, NotFound, Found}
+use Rattle.segment_manager.proofs.Common.{KeepsRest, beside_table, HasIndex, IsIndexOf, entry_count, place_of, Refused}
+use Rattle.segment_manager.proofs.Common.{Truth, Denotes, Becomes, Empties, HoldsObject, emptied, without_object, Seeks}
+use Rattle.segment_manager.proofs.Common.{class_of_index, entries_of, objects_of, order_of, table_of, Plan, Reply}
+use Rattle.segment_manager.proofs.Common.{IsStep, changed, is_read_only}
 use Rattle.segment_manager.proofs.Bridge.{lookup-absent, own-kind, own-name, IsEntryFor, entry-removed, in-handles}
 use Rattle.segment_manager.proofs.Here.{IsHere, IsReadAt, has-object, here}
 use Rattle.segment_manager.proofs.KeyCalls.{ForIndex, handle-answers, of-directory}
@@ -161,7 +161,8 @@ pub record IsUnlisted (i : Index) (old new : Cut) (at : ℕ) : Type 0 where
 -- ---- once its contents are released
 
 -- an object of a handle, and the directory with its value emptied, which the bytes denote then
-module _ (a b : Cut) (h : ℕ) (empties : Empties a b h) (d : Directory) (o : Object) (k : StandsFor a.bytes d) (e : object_at d (names.ByHandle h) ≡ Some o) where
+module _ {a b : Cut} (h : ℕ) (empties : Empties a b h) {d : Directory} {o : Object} (k : StandsFor a.bytes d)
+    (e : object_at d (names.ByHandle h) ≡ Some o) where
   abbrev emptied_object : Object
   emptied_object = with_value o (emptied o.value)
 
@@ -178,7 +179,7 @@ module _ (a b : Cut) (h : ℕ) (empties : Empties a b h) (d : Directory) (o : Ob
   emptied-denotes = (empties d o k e).denotes
 
   -- its own block is still in use
-  still-live : is_live_in (live_of b.bytes) h ≡ true
+  pub still-live : is_live_in (live_of b.bytes) h ≡ true
   still-live =
       let at = found-handle h d.objects o (record { is = e }) in
       (λ j. is_live_in (denotes-live current b.bytes emptied_directory emptied-denotes j) (at j)) ∙ object-live emptied_directory emptied_object emptied-in emptied-denotes.directory.proper
@@ -189,7 +190,7 @@ module _ (a b : Cut) (h : ℕ) (empties : Empties a b h) (d : Directory) (o : Ob
       subst (IsIndexOf b (place_of i) (table_of i emptied_directory)) (changed-entries d o is-in i (emptied o.value) (emptied-is o.value).kind) (denotes-index i b emptied-denotes)
 
   -- where its own block was released and nothing else, and it has no key
-  anonymous-gone : {c : Cut} → o.class ≡ class.Anonymous → IsReleased current b c h → Becomes a c (without_object d o)
+  pub anonymous-gone : {c : Cut} → o.class ≡ class.Anonymous → IsReleased current b c h → Becomes a c (without_object d o)
   anonymous-gone {c} is r =
       let at = found-handle h d.objects o (record { is = e }) in
       record {
@@ -223,37 +224,30 @@ module _ (a b : Cut) (h : ℕ) (empties : Empties a b h) (d : Directory) (o : Ob
       }
 
 -- the same of the object that an entry leads to
-module _ (a b : Cut) (i : Index) (at h : ℕ) (leads : LeadsTo a i at h) (empties : Empties a b h) where
+module _ {a b : Cut} {i : Index} {at h : ℕ} (leads : LeadsTo a i at h) (empties : Empties a b h) where
   module _ (x : HoldsEntry a.bytes i at) where
     abbrev held : object_at x.directory (names.ByHandle h) ≡ Some x.object
     held = entry-found i at leads x.stands.denotes x.is
 
-    index-there : IsIndexOf b (place_of i) (table_of i (changed x.directory x.object (emptied x.object.value))) (entries_of i x.directory)
-    index-there = emptied-index a b h empties x.directory x.object x.stands held i
-
     pub index-still : HasIndex b (place_of i)
-    index-still = record { table = table_of i (changed x.directory x.object (emptied x.object.value)); handles = entries_of i x.directory; index = index-there }
+    index-still = record {
+      table = table_of i (changed x.directory x.object (emptied x.object.value));
+      handles = entries_of i x.directory;
+      index = emptied-index h empties x.stands held i;
+    }
 
     pub below-still : at < entry_count b (place_of i)
     below-still =
-        let d : Directory = x.directory in
-        omega (arith, slice_get_within (entries_of i d) at (handle x.object.extent) (at-handle (objects_of i d) at x.is), index-there.stands.count)
+        let within = slice_get_within (entries_of i x.directory) at (handle x.object.extent) (at-handle (objects_of i x.directory) at x.is) in
+        omega (arith, within, (emptied-index h empties x.stands held i).stands.count)
 
     -- its block is in use, also where the entry is removed
     pub block-still : (c : Cut) → LaysOut current c.bytes (live_of b.bytes) → is_live_in (live_of c.bytes) h ≡ true
     block-still c l =
-        ap (λ s. is_live_in s h) (lay_out_one current c.bytes (live_of b.bytes) l) ∙ still-live a b h empties x.directory x.object x.stands held
+        ap (λ s. is_live_in s h) (lay_out_one current c.bytes (live_of b.bytes) l) ∙ still-live h empties x.stands held
 
   pub removes-entry : {c f : Cut} → IsUnlisted i b c at → IsReleased current c f h → RemovesEntry a f i at
-  removes-entry u r d o k there = entry-gone a b h empties d o k (entry-found i at leads k.denotes there) there u r
-
--- and of one without a key
-module _ {a b : Cut} {h : ℕ} (empties : Empties a b h) where
-  pub own-still : HoldsObject a.bytes h → is_live_in (live_of b.bytes) h ≡ true
-  own-still x = still-live a b h empties x.directory x.object x.stands x.is
-
-  pub removes-anonymous : {c : Cut} → IsReleased current b c h → RemovesAnonymous a c h
-  removes-anonymous r d o k e class = anonymous-gone a b h empties d o k e class r
+  removes-entry u r d o k there = entry-gone h empties k (entry-found i at leads k.denotes there) there u r
 
 -- ---- destroying by a key with an entry
 

@@ -1,7 +1,7 @@
 -- Commands on elements by literals: which call is the step of the command, by the kind of the object.
-use Rattle.segment_manager.proofs.Common.{◌≡◌, refl, sym, ap, subst, ◌∙◌, ◌⊎◌, inl, inr, ℕ, ℤ, Bool, true, false}
-use Rattle.segment_manager.proofs.Common.{Option, Some, None, Result, Ok, Err, List, length, nat_lt, Table, Kind}
-use Rattle.segment_manager.proofs.Common.{MapKind, Scalar, TextsKind, Vector, ScalarKind, Refusal, NotFound, WrongKind}
+use Rattle.segment_manager.proofs.Common.{◌≡◌, refl, sym, ap, subst, ◌∙◌, ◌⊎◌, inl, inr, ℕ, ℤ, true, false, Option}
+use Rattle.segment_manager.proofs.Common.{Some, None, Result, Ok, Err, List, length, nat_lt, Table, Kind, MapKind}
+use Rattle.segment_manager.proofs.Common.{Scalar, TextsKind, Vector, ScalarKind, Refusal, NotFound, WrongKind}
 use Rattle.segment_manager.proofs.Common.{ScalarValue, is_value, Key, ByHandle, Literal, Quoted, literal_of}
 use Rattle.segment_manager.proofs.Common.{value_of_literal, kind_of_scalar, value_of_scalar, OwnedText, Located, Answer}
 use Rattle.segment_manager.proofs.Common.{Refused, elements_at, elements_of, kind_at, IsChangeable, IsToChange}

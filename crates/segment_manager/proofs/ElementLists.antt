@@ -97,12 +97,6 @@ pub array-read : (mode : Mode) (d : Directory) (key : Key) (k : ScalarKind) (i :
 array-read mode d key k i r f = item-at (Element k) (number-one k) (number-some k) numbers_in mode d key (ScalarOf k) i (array-gets d k i) r (object_at d key) refl f
 
 -- texts
-text-one : (a b : List ℕ) → TextElement a ≡ TextElement b → a ≡ b
-text-one a b e = cc
-
-text-some : (a : List ℕ) (why : Refusal) → TextElement a ≡ Refused why → ⊥
-text-some a why e = absurd (cc)
-
 got-map : (ps : List OwnedText) (i : ℕ) → slice_get (map (λ (p : OwnedText). p.bytes) ps) i ≡ option_map (λ (p : OwnedText). p.bytes) (slice_get ps i)
 got-map [] i = refl
 got-map (p ∷ ps) zero = refl
@@ -120,7 +114,7 @@ texts-gets d i v e =
 
 pub text-read : (mode : Mode) (d : Directory) (key : Key) (i : ℕ) (r : Result (List ℕ) Refusal)
     → answer_of TextElement r ≡ (step_of_kind mode d key TextsKind (asked.Get key i)).0 → got r ≡ slice_get (texts_at d key) i
-text-read mode d key i r f = item-at TextElement text-one text-some texts_in mode d key TextsKind i (texts-gets d i) r (object_at d key) refl f
+text-read mode d key i r f = item-at TextElement (λ a b e. cc) (λ a why e. absurd (cc)) texts_in mode d key TextsKind i (texts-gets d i) r (object_at d key) refl f
 
 -- ---- how many
 

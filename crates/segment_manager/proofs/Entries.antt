@@ -4,11 +4,8 @@ use Rattle.segment_manager.proofs.Faces.{IsLike, ordered-with, ordered-without, 
 use Rattle.segment_manager.proofs.Indexes.{named-more, one-less, unique-more, one-removed, by_name-strict}
 use Rattle.segment_manager.proofs.Indexes.{by_kind-strict}
 use Rattle.segment_manager.proofs.{Common.by_name, Common.by_kind, Faces.by_kind-face, Live.IsFound, Live.IsIn}
-use Rattle.segment_manager.specs.Entries.{IndexesFollowObjects, KeepsEntries, PutsOneEntry, RemovesOneEntry}
+use Rattle.segment_manager.specs.Entries.{IndexesFollowObjects, KeepsEntries, RemovesOneEntry}
 use Rattle.seg_types.specs.declared.kinds.Class.TheVariants.{Named, Unique}
-
-puts-entry : (d : Directory) (o : Object) → PutsOneEntry d o
-puts-entry d o = record { named = named-more d o; not_named = ordered-with Named by_name d o; unique = unique-more d o; not_unique = ordered-with Unique by_kind d o }
 
 removes-entry : {format : ℕ} {d : Directory} {o : Object} → IsDirectory format d → IsIn d o → RemovesOneEntry d o
 removes-entry {d} {o} is f = record {
@@ -25,7 +22,12 @@ keeps-entries {d} o {p} f like = record { named = (ordered-changed Named by_name
 
 pub follows : IndexesFollowObjects
 follows = record {
-  puts = puts-entry;
+  puts = λ d o. record {
+    named = named-more d o;
+    not_named = ordered-with Named by_name d o;
+    unique = unique-more d o;
+    not_unique = ordered-with Unique by_kind d o;
+  };
   removes = λ format d o is e. removes-entry is (record { is = e });
   changes = λ d o p e h. keeps-entries o (record { is = (λ i. object_at d (ByHandle (handle (h.extent i)))) ∙ e }) (record { extent = h.extent; name = h.name; class = h.class; kind = h.kind });
 }

@@ -5,18 +5,17 @@ use Rattle.segment_manager.proofs.Common.{exchanged, SameBlockBut, IsExchanged, 
 use Rattle.segment_manager.proofs.Common.{is_proper, LaysOut, SameBlock, Keeps, live_of, Value, Object, Directory, live}
 use Rattle.segment_manager.proofs.Common.{extents_of, padded, count_of, kind_of, value_len, value_extents, is_object}
 use Rattle.segment_manager.proofs.Common.{remove_object, with_changed, without_object, Denotes, IsObjectAt, IsValueAt}
-use Rattle.segment_manager.proofs.Common.{changed, IsAlone, SameSpread, inserted-append, live-spaced, middle-first}
-use Rattle.segment_manager.proofs.Common.{spaced-insert, ◌-◌, current, Some, IsChanged, extent_at, has_room}
+use Rattle.segment_manager.proofs.Common.{changed, SameSpread, inserted-append, live-spaced, middle-first}
+use Rattle.segment_manager.proofs.Common.{spaced-insert, ◌-◌, current, Some, IsChanged, extent_at}
 use Rattle.best_fit.proofs.Laws.{changed-keeps_block, found-room, spread-refl, written-but, LiesBeside, above, below}
 use Rattle.best_fit.specs.Fit.{insert}
 use Rattle.segment_manager.proofs.{Calling.denotes-heap, Calling.denotes-live, Calling.object-at}
-use Rattle.segment_manager.proofs.{MapBlocks.blocks-in_use, Denoted.denotes-replaced, Faces.IsLike, Frame.IsRoomy}
-use Rattle.segment_manager.proofs.{Frame.object-roomy, Live.adding, Live.IsFound, Live.IsIn, Live.live-split}
-use Rattle.segment_manager.proofs.{Live.live-changed, Regrown.InPlace, Regrown.differs-flip, Regrown.rest}
-use Rattle.segment_manager.proofs.{Regrown.with_extents, Rewritten.object-held, Rewritten.value_start}
-use Rattle.segment_manager.proofs.{Rewritten.with_value}
-use Rattle.segment_manager.proofs.Order.{Rising, IsFresh, inserted, insert-inserted, all_of-inserted, live-rises}
-use Rattle.segment_manager.proofs.Order.{rising-insert, apart-inserted, without_all, without-inserted}
+use Rattle.segment_manager.proofs.{MapBlocks.blocks-in_use, Denoted.denotes-replaced, Faces.IsLike, Frame.object-roomy}
+use Rattle.segment_manager.proofs.{Live.adding, Live.IsFound, Live.IsIn, Live.live-split, Live.live-changed}
+use Rattle.segment_manager.proofs.{Regrown.InPlace, Regrown.differs-flip, Regrown.rest, Regrown.with_extents}
+use Rattle.segment_manager.proofs.{Rewritten.object-held, Rewritten.value_start, Rewritten.with_value}
+use Rattle.segment_manager.proofs.Order.{Rising, inserted, insert-inserted, all_of-inserted, live-rises, rising-insert}
+use Rattle.segment_manager.proofs.Order.{apart-inserted, without_all, without-inserted}
 
 -- ---- extents among others
 

@@ -11,10 +11,9 @@ use Rattle.segment_manager.proofs.Common.{◌≤◌, ℤ, Bool, [], length, map,
 use Rattle.segment_manager.proofs.Common.{mul-le-mul_left, IsTrue, pos, take, nat_lt, list_all, lt-ltb, le-ltb}
 use Rattle.segment_manager.proofs.Common.{length-map, length-replicate, take_all, SamePlace, current, ObjectRole}
 use Rattle.segment_manager.proofs.Common.{Extent, handle, place, resized, IsAllocated, IsChanged, Scalar, ScalarKind}
-use Rattle.segment_manager.proofs.Common.{Anonymous, OutOfRange, ReadOnly, is_value, size_of, IsBegun}
-use Rattle.segment_manager.proofs.Common.{IsLoose, IsTakenKey, LeadsThere, Denotes, Numbers}
-use Rattle.segment_manager.proofs.Common.{is_good_value, live, object_len, padded, with_object, IsMadeValue}
-use Rattle.segment_manager.proofs.Common.{class_of_index, entries_of, table_of, TakesItems, head_len, IsRestored}
+use Rattle.segment_manager.proofs.Common.{Anonymous, OutOfRange, ReadOnly, is_value, size_of, IsBegun, IsLoose}
+use Rattle.segment_manager.proofs.Common.{IsTakenKey, LeadsThere, Denotes, Numbers, is_good_value, live, object_len}
+use Rattle.segment_manager.proofs.Common.{padded, with_object, entries_of, table_of, TakesItems, head_len, IsRestored}
 use Rattle.segment_manager.proofs.Common.{room_for, StandsFor, step, Plan, perform, has_room, live_of}
 use Rattle.segment_manager.proofs.FoundOrMade.{constructs-exists, finds, found-there, made_for, made_handle, makes}
 use Rattle.segment_manager.proofs.NewValues.{IsMadeNever, IsMadeNow, away-in, key-taken, value-built, value-loose}

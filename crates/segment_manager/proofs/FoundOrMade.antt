@@ -3,10 +3,10 @@ use Rattle.segment_manager.proofs.Common.{◌≡◌, refl, sym, ap, ◌∙◌, �
 use Rattle.segment_manager.proofs.Common.{Cut, SamePlace, handle, Refusal, NoSpace, WrongKind, Exists, same_kind, Key}
 use Rattle.segment_manager.proofs.Common.{Content, Answer, Refused, Made, Object, Directory, kind_of, object_at}
 use Rattle.segment_manager.proofs.Common.{handle_at, pair_answer, Plan, Refuse, Reply, bare, with_new_object, StandsAt}
-use Rattle.segment_manager.proofs.Common.{pair_of_kind, Answers, IsStep, StandsFor, State, found, is_read_only, step}
+use Rattle.segment_manager.proofs.Common.{pair_of_kind, Answers, IsStep, StandsFor, State, found, is_read_only}
 use Rattle.segment_manager.proofs.Constructed.{IsNewObject, IsNoObject}
 use Rattle.segment_manager.proofs.Steps.{by_no_change, by_step, lands, open-writing, step-plan, step-refuse}
-use Rattle.segment_manager.proofs.{Common.Command, Common.effect, Here.IsHere, Here.here, KeyCalls.kind-step}
+use Rattle.segment_manager.proofs.{Common.Command, Common.effect, Here.here, KeyCalls.kind-step}
 use Rattle.seg_types.specs.Commands as asked
 
 -- ---- an object that is constructed

@@ -15,7 +15,7 @@ use Rattle.segment_manager.proofs.{ObjectLists.each-true, Indexes.by_kind-strict
 use Rattle.segment_manager.proofs.{Indexes.index-parts, Ranks.IsStrict, Ranks.all-ordered}
 use Rattle.segment_manager.proofs.Heads.{entries_say_objects, entry-name_len, good-name, good_name-short}
 use Rattle.segment_manager.proofs.InUse.{IsInUse, all-both, all-each, named-in_use, objects-in_use, unique-in_use}
-use Rattle.segment_manager.proofs.EntryPlaces.{Ascends, StandsAt, all-at, ascends-at, rises-ascends, stands-at}
+use Rattle.segment_manager.proofs.EntryPlaces.{Ascends, all-at, ascends-at, rises-ascends, stands-at}
 
 -- ---- an index of a directory
 

@@ -5,7 +5,7 @@ use Rattle.segment_manager.proofs.Common.{NotFound, Key, Object, Directory, has_
 use Rattle.segment_manager.proofs.Common.{Denotes, handle_at, HasObject, StandsAt, Answers, IsSegment, State, Head}
 use Rattle.segment_manager.proofs.Calling.{denotes-live, object-at, object-room}
 use Rattle.segment_manager.proofs.ObjectLists.{all-found, each-true, key-found}
-use Rattle.segment_manager.proofs.{Common.IsHeadOf, Frame.IsRoomy, Frame.object-roomy, Live.IsIn}
+use Rattle.segment_manager.proofs.{Common.IsHeadOf, Frame.object-roomy}
 use Rattle.segment_manager.specs.Calls.{told_at}
 
 -- ---- the object of a key
@@ -43,13 +43,10 @@ here-if {b} {d} {key} {h} (Some o) k e f =
 pub here : (b : List ℕ) (d : Directory) (key : Key) (h : ℕ) → Denotes current b d → Some h ≡ handle_at d key → IsHere b d key h
 here b d key h k e = here-if (object_at d key) k refl e
 
-nothing-if : (r : Option Object) → None ≡ option_map (λ (o : Object). handle o.extent) r → r ≡ None
+-- no object has the key
+pub nothing-if : (r : Option Object) → None ≡ option_map (λ (o : Object). handle o.extent) r → r ≡ None
 nothing-if None e = refl
 nothing-if (Some o) e = absurd (cc)
-
--- no object has the key
-pub nothing-here : (d : Directory) (key : Key) → None ≡ handle_at d key → object_at d key ≡ None
-nothing-here d key e = nothing-if (object_at d key) e
 
 -- some object stands at the handle that was found
 pub has-object : {s : State} (key : Key) {h : ℕ} → IsSegment s.cut.bytes → Answers s (λ d. handle_at d key) (Some h) → HasObject s.cut.bytes h

@@ -10,11 +10,11 @@ use Rattle.segment_manager.proofs.Common.{entries_of, table_of, Answers, IsSegme
 use Rattle.segment_manager.proofs.Common.{if◌then◌else◌, Kind, WrongKind, same_kind, Named, Unique, Answer, Number}
 use Rattle.segment_manager.proofs.Common.{kind_of, named_objects, unique_objects, IsBelow, objects_of, Plan, Refuse}
 use Rattle.segment_manager.proofs.Common.{Reply, StandsAt, IsReply, found, Mode, Command, step, Err, Ok, Refusal}
-use Rattle.segment_manager.proofs.Common.{Result, count_of, pair_answer, pair_of_kind, effect, Instance}
-use Rattle.segment_manager.proofs.Common.{IsInstance, SaysAt, SaysOf, HasObject}
-use Rattle.segment_manager.proofs.Bridge.{IsEntryFor, IsNoEntryFor, lookup-absent, lookup-found, in-handles}
+use Rattle.segment_manager.proofs.Common.{Result, count_of, pair_answer, pair_of_kind, effect, Instance, IsInstance}
+use Rattle.segment_manager.proofs.Common.{SaysAt, SaysOf, HasObject}
+use Rattle.segment_manager.proofs.Bridge.{lookup-absent, lookup-found, in-handles}
 use Rattle.segment_manager.proofs.Steps.{open-reading, IsOpenFor, step-refuse, step-reply}
-use Rattle.segment_manager.proofs.Here.{IsHere, here, nothing-here, standing}
+use Rattle.segment_manager.proofs.Here.{here, nothing-if, standing}
 use Rattle.segment_manager.proofs.EntryPlaces as places
 use Rattle.segment_manager.proofs.{Calling.denotes-live, OwnBlocks.handle-is-object, OwnBlocks.or-none}
 use Rattle.segment_manager.proofs.{HeldIndexes.denotes-index, ObjectLists.found-handle, Order.Rising, Order.live-rises}
@@ -164,7 +164,7 @@ pub find-absent : {s : State} (key : Key) (kind : Kind) → Answers s (λ d. han
 find-absent {s} key kind a = record {
   answers = λ d k.
       sym (ap (λ (r : Answer × Directory). r.0)
-      (step-reply s.mode d (asked.Find key kind) Absent d (open-reading s.mode (asked.Find key kind) refl) (ap (finds d kind) (nothing-here d key (a.answers d k)))));
+      (step-reply s.mode d (asked.Find key kind) Absent d (open-reading s.mode (asked.Find key kind) refl) (ap (finds d kind) (nothing-if (object_at d key) (a.answers d k)))));
 }
 
 -- A command that asks of which kind an object is: it is found, or of another kind.

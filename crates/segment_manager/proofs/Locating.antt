@@ -1,8 +1,8 @@
 -- An object that was located: it is that of the key, and what a command does under its handle it does under the key.
 use Rattle.segment_manager.proofs.Common.{◌≡◌, refl, sym, ap, subst, ◌∙◌, ℕ, ◌&&◌, Option, Some, None, Result, Ok, Err}
-use Rattle.segment_manager.proofs.Common.{if◌then◌else◌, is_some, option_map, same_Some, current, Kind, Refusal}
-use Rattle.segment_manager.proofs.Common.{NotFound, ReadOnly, WrongKind, same_kind, Key, ByHandle, Command, is_changing}
-use Rattle.segment_manager.proofs.Common.{Head, Change, Clear, Reserve, Shrink, Located, Answer, kind_at, sizes_at}
+use Rattle.segment_manager.proofs.Common.{if◌then◌else◌, is_some, option_map, same_Some, Kind, Refusal, NotFound}
+use Rattle.segment_manager.proofs.Common.{ReadOnly, WrongKind, same_kind, Key, ByHandle, Command, is_changing, Head}
+use Rattle.segment_manager.proofs.Common.{Change, Clear, Reserve, Shrink, Located, Answer, kind_at, sizes_at}
 use Rattle.segment_manager.proofs.Common.{sizes_at_kind, sizes_of, sizes_of_kind, Object, Directory, kind_of, live}
 use Rattle.segment_manager.proofs.Common.{object_at, handle_at, HasPlaces, KeepsWhere, IsLocated, Plan, Refuse, perform}
 use Rattle.segment_manager.proofs.Common.{with, IsHeadOf, StandsAt, Answers, IsReplyOfKind, IsStep, IsStepOfKind, State}
@@ -10,8 +10,8 @@ use Rattle.segment_manager.proofs.Common.{StandsFor, effect, is_read_only, step,
 use Rattle.segment_manager.specs.Laws.{HandlesMeanObjects, KeysMeanObjects, KeysOfKindMeanObjects, at_key}
 use Rattle.segment_manager.specs.Located.{located}
 use Rattle.seg_types.specs.Commands as asked
-use Rattle.segment_manager.proofs.{AnyStorage.measures-kind, AnyStorage.of_kind-steps, Bridge.by-handle, Here.IsHere}
-use Rattle.segment_manager.proofs.{Here.here, Steps.moves-same}
+use Rattle.segment_manager.proofs.{AnyStorage.measures-kind, AnyStorage.of_kind-steps, Bridge.by-handle, Here.here}
+use Rattle.segment_manager.proofs.{Steps.moves-same}
 
 -- ---- the object
 

@@ -2,11 +2,11 @@
 use Rattle.segment_manager.proofs.Common.{◌∙◌, sym, subst, ℕ, ◌+◌, ◌≤◌, Some, None, Option, List, [], arith, IfSome}
 use Rattle.segment_manager.proofs.Common.{IsTrue, Cut, current, ObjectRole, LiveSet, IsAllocated, IsHeap, IsReleased}
 use Rattle.segment_manager.proofs.Common.{has_room, is_live_in, live_of, allocated-is_live, allocated-room}
-use Rattle.segment_manager.proofs.Common.{changed-room, lay_out_one, Kind, Class, Anonymous, Key, GivesBack, place_of}
-use Rattle.segment_manager.proofs.Common.{NewEntry, IsBegun, IsHeaded, IsLoose, IsLooseAlone, IsLooseEntry, IsReadyFor}
-use Rattle.segment_manager.proofs.Common.{IsWanted, class_of_index, IsRestored, room_for, Role, IndexRole, IsGrowth}
+use Rattle.segment_manager.proofs.Common.{changed-room, lay_out_one, Kind, Class, Key, GivesBack, place_of, NewEntry}
+use Rattle.segment_manager.proofs.Common.{IsBegun, IsHeaded, IsLoose, IsLooseAlone, IsLooseEntry, IsReadyFor, IsWanted}
+use Rattle.segment_manager.proofs.Common.{IsRestored, room_for, Role, IsGrowth}
 use Rattle.segment_manager.proofs.Taking.{growth-held, ready, requested-aligned, restored-taken, written-taken}
-use Rattle.segment_manager.proofs.{Common.grown_bytes, Pieces.changed-heap}
+use Rattle.segment_manager.proofs.{Pieces.changed-heap}
 use Rattle.best_fit.proofs.Laws.{taken-back}
 
 -- ---- begun: the value has room behind the head

@@ -10,15 +10,14 @@ use Rattle.segment_manager.proofs.Common.{LaysOut, live_of, Table, no_table, sam
 use Rattle.segment_manager.proofs.Common.{Class, Kind, NoSpace, class_code, code_of, grown_table, Answer, Refused}
 use Rattle.segment_manager.proofs.Common.{IsHeaded, IsObjectAt, IsValueAt, padded_name, two_halves, Value, Directory}
 use Rattle.segment_manager.proofs.Common.{count_of, kind_of, padded, Plan, New, Request, perform, with_storage}
-use Rattle.segment_manager.proofs.Common.{IsHeadAt, room_for, IsAlone, live-spaced, spaced-insert}
+use Rattle.segment_manager.proofs.Common.{IsHeadAt, room_for, live-spaced, spaced-insert}
 use Rattle.raw_region.proofs.Laws.{SameBut-wider}
 use Rattle.best_fit.specs.Fit.{insert}
 use Rattle.segment_manager.proofs.{Exchanged.all-but-beside, Exchanged.put-first, Frame.padded_name-length}
 use Rattle.segment_manager.proofs.{Taking.IsTaken, Taking.requested-taken, Taking.taken-live}
-use Rattle.segment_manager.proofs.{NewBlocks.allocated-serves}
-use Rattle.segment_manager.proofs.{NewBlocks.changed-trans, Taking.written-taken, Words.second, Words.no_more}
-use Rattle.segment_manager.proofs.Order.{IsFresh, Rising, all_of-insert, inserted, live-rises, resized-fresh}
-use Rattle.segment_manager.proofs.Order.{rising-insert}
+use Rattle.segment_manager.proofs.{NewBlocks.allocated-serves, NewBlocks.changed-trans, Taking.written-taken}
+use Rattle.segment_manager.proofs.{Words.second, Words.no_more}
+use Rattle.segment_manager.proofs.Order.{all_of-insert, inserted, live-rises, resized-fresh, rising-insert}
 
 -- ---- storage that is asked for
 

@@ -1,10 +1,10 @@
 -- Numbers as the value of a new object, and a map without pairs: they ask for no block but the object's own.
-use Rattle.segment_manager.proofs.Common.{◌≡◌, refl, sym, ap, subst, ◌∙◌, ℕ, ◌+◌, ◌*◌, ◌≤◌, ◌∷◌, ◌++◌, ℤ, Option, None}
-use Rattle.segment_manager.proofs.Common.{List, [], length, replicate, IsTrue, AllByRecursion, length-replicate}
-use Rattle.segment_manager.proofs.Common.{current, Cut, Has, Memory, bytes_of, link_at, Tree, fork, leaf, nodes_of}
-use Rattle.segment_manager.proofs.Common.{IsExchanged, SameBlockBut, Extent, cells_of, IsChanged, LaysOut, live_of}
-use Rattle.segment_manager.proofs.Common.{laid-heap, ScalarKind, Plain, is_value, size_of, spelling, MapPlace, Place}
-use Rattle.segment_manager.proofs.Common.{place_at, spelled, Numbers, Pairs, is_good_value, IsMadeValue, repeated}
+use Rattle.segment_manager.proofs.Common.{◌≡◌, refl, sym, ap, subst, ◌∙◌, ℕ, ◌*◌, ◌≤◌, ◌∷◌, ◌++◌, ℤ, Option, None, List}
+use Rattle.segment_manager.proofs.Common.{[], length, replicate, IsTrue, AllByRecursion, length-replicate, current, Cut}
+use Rattle.segment_manager.proofs.Common.{Has, Memory, bytes_of, Tree, fork, leaf, nodes_of, IsExchanged, SameBlockBut}
+use Rattle.segment_manager.proofs.Common.{Extent, cells_of, IsChanged, LaysOut, live_of, laid-heap, ScalarKind, Plain}
+use Rattle.segment_manager.proofs.Common.{is_value, size_of, spelling, MapPlace, Place, place_at, spelled, Numbers}
+use Rattle.segment_manager.proofs.Common.{Pairs, is_good_value, IsMadeValue, repeated}
 use Rattle.link_tree.specs.Tree.{IsTree}
 use Rattle.seg_types.specs.Commands as asked
 use Rattle.seg_map.specs.Changing.{IsNew}

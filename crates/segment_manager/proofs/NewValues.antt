@@ -5,10 +5,10 @@ use Rattle.segment_manager.proofs.Common.{Option, List, [], ◌∷◌, length, I
 use Rattle.segment_manager.proofs.Common.{SamePlace, bytes_of, SamePlace-trans, ObjectRole, Extent, LiveSet, added}
 use Rattle.segment_manager.proofs.Common.{place, resized, IsAllocated, IsChanged, IsRefused, Keeps, LaysOut, live_of}
 use Rattle.segment_manager.proofs.Common.{Table, serves, laid-heap, Class, Anonymous, Kind, Refusal, NoSpace}
-use Rattle.segment_manager.proofs.Common.{is_kind_of, Content, Index, Absent, IsIndexOf, place_of, AddKeeps, CanGrow}
-use Rattle.segment_manager.proofs.Common.{IsGrowth, IsPlace, prepared, NewEntry, IsAbsentAt, IsBegun, IsBegunAlone}
-use Rattle.segment_manager.proofs.Common.{IsBegunEntry, IsHeaded, IsLoose, IsNotBegun, IsReadyFor, IsTakenKey, IsWanted}
-use Rattle.segment_manager.proofs.Common.{LeadsThere, Denotes, Value, Object, Directory, count_of, extents_of, has_key}
+use Rattle.segment_manager.proofs.Common.{is_kind_of, Content, Index, Absent, IsIndexOf, place_of, AddKeeps, IsGrowth}
+use Rattle.segment_manager.proofs.Common.{IsPlace, prepared, NewEntry, IsAbsentAt, IsBegun, IsBegunAlone, IsBegunEntry}
+use Rattle.segment_manager.proofs.Common.{IsHeaded, IsLoose, IsNotBegun, IsReadyFor, IsTakenKey, IsWanted, LeadsThere}
+use Rattle.segment_manager.proofs.Common.{Denotes, Value, Object, Directory, count_of, extents_of, has_key}
 use Rattle.segment_manager.proofs.Common.{is_good_value, is_object, kind_of, live, object_at, object_len, padded}
 use Rattle.segment_manager.proofs.Common.{value_extents, value_len, with_object, IsDenied, IsGiven, IsMadeValue}
 use Rattle.segment_manager.proofs.Common.{IsNoValue, class_of_index, entries_of, table_of, head_len, IsNewKeyOf}

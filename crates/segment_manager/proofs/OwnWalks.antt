@@ -5,8 +5,8 @@ use Rattle.segment_manager.proofs.Common.{take, IsTrue, filter, is_some, option_
 use Rattle.segment_manager.proofs.Common.{none-some, same_Some, slice_get_within, length-map, current, Memory, bytes_of}
 use Rattle.segment_manager.proofs.Common.{is_legal_size, Tile, tiles_of, Extent, LiveSet, end_of, handle, is_proper}
 use Rattle.segment_manager.proofs.Common.{proper_from, spans, legal_size, ByHandle, Instance, Object, Directory, live}
-use Rattle.segment_manager.proofs.Common.{object_at, rises_from, is_object_at, IsInstance, SaysAt, SaysOf}
-use Rattle.segment_manager.proofs.Common.{is_own, is_own_span, own_spans, Answers, IsSegment, State, StandsFor}
+use Rattle.segment_manager.proofs.Common.{object_at, rises_from, is_object_at, IsInstance, SaysAt, SaysOf, is_own}
+use Rattle.segment_manager.proofs.Common.{is_own_span, own_spans, Answers, IsSegment, State, StandsFor}
 use Rattle.segment_manager.proofs.ObjectLists.{rises-front, rises-rest}
 use Rattle.segment_manager.proofs.Words.{second, first, AllByRecursion-filter, none_more}
 use Rattle.segment_manager.proofs.OwnBlocks.{all-own_spans, as_used, blocks, own-blocks}
@@ -14,7 +14,7 @@ use Rattle.segment_manager.proofs.{Bridge.each-by_handle, Calling.denotes-live, 
 use Rattle.std.proofs.Common.{add-one}
 use Rattle.block_tags.specs.Tiles.{tile_at, tiles_from}
 use Rattle.best_fit.specs.Extents.{Span as LiveSpan}
-use Rattle.best_fit.proofs.Laws.{IsFirst, proper_from-IsFirst, proper_from-reaches}
+use Rattle.best_fit.proofs.Laws.{proper_from-IsFirst, proper_from-reaches}
 use Rattle.segment_manager.specs.declared.tiles.Span.{Span}
 use Rattle.segment_manager.specs.{Calls.as_span, Iterating.GoesOnOwn, Iterating.GoesOnTiles, Iterating.HasPassed}
 use Rattle.segment_manager.specs.{Iterating.IsOwnBlock, Iterating.TileWalk, Iterating.own_before, Iterating.own_count}
@@ -190,13 +190,10 @@ pub objects-few : (b : List ℕ) (g : IsSegment b) → length g.0.objects ≤ 10
 objects-few b g =
     omega (arith, rises-few 0 ((live g.0).size - 16) g.0.objects (omega arith) g.1.denotes.directory.by_offset (own-within g.1), segment-short b g, g.1.denotes.heap.size)
 
-length-blocks : (os : List Object) → length (blocks os) ≡ length os
-length-blocks os = length-map os (λ o. o.extent)
-
 -- how many objects there are, as the tags say
 pub counts-own : {b : List ℕ} {d : Directory} → StandsFor b d → own_count b ≡ length d.objects
 counts-own {b} {d} k =
-    ap (λ (l : LiveSet). length (filter is_own l.extents)) (denotes-live current b d k.denotes) ∙ ap length (own-blocks k.denotes.directory) ∙ length-blocks d.objects
+    ap (λ (l : LiveSet). length (filter is_own l.extents)) (denotes-live current b d k.denotes) ∙ ap length (own-blocks k.denotes.directory) ∙ length-map d.objects (λ o. o.extent)
 
 -- ---- a call of the iterator
 

@@ -1,11 +1,11 @@
 -- The payload of a block, as it is lent and as contracts count its room, and an object written there piece by piece: the
 -- words of its head, its name, its elements.
 use Rattle.segment_manager.proofs.Common.{◌≡◌, sym, ap, subst, ◌∙◌, ℕ, ◌+◌, ◌-◌, ◌≤◌, inl, List, length, arith, IsTrue}
-use Rattle.segment_manager.proofs.Common.{Cut, Has, Same, bytes_of, part, read, word_at, current, LiveSet, IsChanged}
-use Rattle.segment_manager.proofs.Common.{IsHeap, LaysOut, has_room, is_live_in, live_of, Has-same, Same-word}
-use Rattle.segment_manager.proofs.Common.{SameBut-Same, changed-live, room_block, ◌*◌, ◌<◌, ◌++◌, replicate, take}
-use Rattle.segment_manager.proofs.Common.{mul-le-mul_left, length-replicate, Kind, Class, class_code, code_of, padded}
-use Rattle.segment_manager.proofs.Common.{padded_name, two_halves, IsHeadAt, repeated, changed-room}
+use Rattle.segment_manager.proofs.Common.{Cut, Has, bytes_of, part, read, word_at, current, LiveSet, IsChanged, IsHeap}
+use Rattle.segment_manager.proofs.Common.{LaysOut, has_room, is_live_in, live_of, Has-same, Same-word, SameBut-Same}
+use Rattle.segment_manager.proofs.Common.{changed-live, room_block, ◌*◌, ◌<◌, ◌++◌, replicate, take, mul-le-mul_left}
+use Rattle.segment_manager.proofs.Common.{length-replicate, Kind, Class, class_code, code_of, padded, padded_name}
+use Rattle.segment_manager.proofs.Common.{two_halves, IsHeadAt, repeated, changed-room}
 use Rattle.segment_manager.proofs.{NewBlocks.changed-trans, Rows.repeated-length, Rows.repeated-more}
 use Rattle.best_fit.specs.Heap.{payload_at}
 use Rattle.raw_region.proofs.Laws.{length-part, part-part, read-part}

@@ -12,8 +12,7 @@ use Rattle.std.specs.Str.{IsAscii}
 use Rattle.std.proofs.lemmas.Bool.{and_left, or_from, not_from_false}
 use Rattle.std.proofs.lemmas.Str.{IsUtf8-from_ascii, chars-IsAscii, is_utf8-from_IsUtf8}
 use Rattle.seg_types.specs.declared.kinds.Class.TheVariants.{Named}
-use Rattle.segment_manager.proofs.{Codes.known-kind, Denoted.index-stays, Frame.any_objects-same, Live.OfEach}
-use Rattle.segment_manager.proofs.{Live.of_each}
+use Rattle.segment_manager.proofs.{Codes.known-kind, Denoted.index-stays, Frame.any_objects-same, Live.of_each}
 
 -- ---- names and kinds
 

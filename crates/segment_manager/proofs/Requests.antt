@@ -6,7 +6,7 @@ use Rattle.segment_manager.proofs.Common.{Directory, live, class_of_index, objec
 use Rattle.segment_manager.proofs.Common.{perform, with_entry, with_new_index, with_place}
 use Rattle.seg_index.specs.declared.index.Index.TheVariants as index
 use Rattle.segment_manager.proofs.{Tabled.grown_into, Steps.perform-new, Steps.perform-no_space, Tables.same-table}
-use Rattle.segment_manager.proofs.Order.{IsFresh, live-rises, resized-fresh, rising-insert}
+use Rattle.segment_manager.proofs.Order.{live-rises, resized-fresh, rising-insert}
 
 -- ---- a place in an index
 

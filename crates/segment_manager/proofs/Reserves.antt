@@ -2,10 +2,10 @@
 use Rattle.segment_manager.proofs.Common.{◌≡◌, refl, sym, ap, subst, ◌∙◌, ℕ, ◌*◌, ◌<◌, ◌≤◌, ◌⊎◌, inl, inr, true, false}
 use Rattle.segment_manager.proofs.Common.{List, length, arith, if◌then◌else◌, nat_le, cases_lt, le-leb, lt-leb, Cut}
 use Rattle.segment_manager.proofs.Common.{current, SamePlace-trans, IndexRole, place, IsRefused, Table, cut_table}
-use Rattle.segment_manager.proofs.Common.{NoSpace, is_changing, Index, IsReserved, IsRoomy, IsShrunk, HasIndex}
-use Rattle.segment_manager.proofs.Common.{IsIndexOf, capacity_at, place_of, Done, Refused, Denotes, Directory, live}
-use Rattle.segment_manager.proofs.Common.{entries_of, objects_of, reserve_of, table_of, with_table_of, Plan, New, Reply}
-use Rattle.segment_manager.proofs.Common.{Request, IsSegment, IsStep, State, effect, is_read_only, step, Bool}
+use Rattle.segment_manager.proofs.Common.{NoSpace, is_changing, Index, IsRoomy, IsShrunk, HasIndex, IsIndexOf}
+use Rattle.segment_manager.proofs.Common.{capacity_at, place_of, Done, Refused, Denotes, Directory, live, entries_of}
+use Rattle.segment_manager.proofs.Common.{objects_of, reserve_of, table_of, with_table_of, Plan, New, Reply, Request}
+use Rattle.segment_manager.proofs.Common.{IsSegment, IsStep, State, effect, is_read_only, Bool}
 use Rattle.segment_manager.proofs.Tabled.{places_in, reserved-tabled, shrunk-tabled, tabled-denotes}
 use Rattle.segment_manager.proofs.Safely.{Stepped, stepped}
 use Rattle.segment_manager.proofs.Steps.{by_no_change, by_step, lands, open-writing, perform-new, perform-no_space}

@@ -7,7 +7,7 @@ use Rattle.segment_manager.proofs.Common.{IsHeader, Resizes, grown, shrunk, IsSe
 use Rattle.best_fit.specs.Ends.{EndsAt, HasEndMoved, least_size, of_size}
 use Rattle.best_fit.proofs.Laws.{changed-header_blocks, ends-then}
 use Rattle.segment_manager.proofs.{Calling.denotes-live, Denoted.index-stays, Frame.any_objects-same}
-use Rattle.segment_manager.proofs.Live.{OfEach, live-size, of_each}
+use Rattle.segment_manager.proofs.Live.{live-size, of_each}
 
 -- the live set of a directory of another size
 live-of_size : (d : Directory) (n : ℕ) → of_size (live d) n ≡ live (record d { size = n })

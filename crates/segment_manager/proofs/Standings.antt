@@ -1,8 +1,8 @@
 -- What is known of an object that stands in its block.
 use Rattle.segment_manager.proofs.Common.{◌≡◌, ap, ◌∙◌, ℕ, ◌+◌, ◌-◌, ◌*◌, ◌/◌, ◌%◌, ◌≤◌, List, length, replicate, arith}
-use Rattle.segment_manager.proofs.Common.{IsTrue, current, bytes_of, word_at, read, Has, handle, live_of, has_room}
+use Rattle.segment_manager.proofs.Common.{IsTrue, current, bytes_of, word_at, read, handle, live_of, has_room}
 use Rattle.segment_manager.proofs.Common.{class_code, code_of, Object, count_of, kind_of, object_len, padded, value_len}
-use Rattle.segment_manager.proofs.Common.{IsEntry, StandsAt}
+use Rattle.segment_manager.proofs.Common.{StandsAt}
 use Rattle.best_fit.proofs.Laws.{room-less}
 use Rattle.segment_manager.proofs.Heads.{Has-front, good-name, good_name-short, object-entry}
 

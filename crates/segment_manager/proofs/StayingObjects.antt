@@ -3,8 +3,8 @@ use Rattle.segment_manager.proofs.Common.{◌≡◌, refl, sym, ap, not, subst, 
 use Rattle.segment_manager.proofs.Common.{None, List, [], ◌∷◌, if◌then◌else◌, is_some, find, cond, eqb-true, false≢true}
 use Rattle.segment_manager.proofs.Common.{Extent, LiveSet, handle, resized, Refusal, NoSpace, Kind, Key, ByHandle}
 use Rattle.segment_manager.proofs.Common.{Command, Mode, Object, Directory, has_key, live, replace_object, Answer}
-use Rattle.segment_manager.proofs.Common.{Refused, refusal_of, is_object_at, Plan, met, perform, is_elementwise}
-use Rattle.segment_manager.proofs.Common.{IsSegment, Moves, State, plan, step, step_of_kind, LeadsOnOfKind}
+use Rattle.segment_manager.proofs.Common.{Refused, is_object_at, Plan, met, perform, is_elementwise, IsSegment, Moves}
+use Rattle.segment_manager.proofs.Common.{State, plan, step, step_of_kind, LeadsOnOfKind}
 use Rattle.segment_manager.proofs.Refusals.{Leaves, by_change, by_other, by_refusal, by_request, by_same, plan-leaves}
 use Rattle.segment_manager.proofs.{KeyCalls.object-passes, Refusals.plan_of_kind-leaves}
 use Rattle.segment_manager.specs.Staying.{KeepsObjects, ObjectsStay}

@@ -8,22 +8,20 @@ use Rattle.segment_manager.proofs.Common.{NotFound, WrongKind, OutOfRange, is_va
 use Rattle.segment_manager.proofs.Common.{spelled, Numbers, Object, Directory, count_of, is_good_value, is_object}
 use Rattle.segment_manager.proofs.Common.{kind_of, object_at, padded, value_len, Denotes, IsValueAt, handle_at}
 use Rattle.segment_manager.proofs.Common.{StandsAt, Answers, State, MatchOption, slice_set, eq-eqb, false≢true}
-use Rattle.segment_manager.proofs.Common.{ltb-false, slice_get_past, code_of, Literal}
-use Rattle.segment_manager.proofs.Common.{value_of_literal, Mode, Answer, Element, Refused, Done, live, perform, Refuse}
-use Rattle.segment_manager.proofs.Common.{Reply, with, IsReplyOfKind, IsSegment, answer_of, step_of_kind}
-use Rattle.segment_manager.proofs.Common.{effect, get, set as set_element, changed, Command, done_answer, ◌&&◌, nat_le}
-use Rattle.segment_manager.proofs.Common.{and_from, Cut}
-use Rattle.segment_manager.proofs.Common.{Memory, SameBut, ObjectRole, IsChanged, serves, BoolKind, literal_of}
-use Rattle.segment_manager.proofs.Common.{has_good_name, value_extents, with_changed, IsStepOfKind, is_read_only}
-use Rattle.segment_manager.proofs.Common.{and_then, map, values_of}
-use Rattle.segment_manager.proofs.Here.{IsHere, here, standing}
+use Rattle.segment_manager.proofs.Common.{ltb-false, slice_get_past, code_of, Literal, value_of_literal, Mode, Answer}
+use Rattle.segment_manager.proofs.Common.{Element, Refused, Done, live, perform, Refuse, Reply, with, IsReplyOfKind}
+use Rattle.segment_manager.proofs.Common.{IsSegment, answer_of, step_of_kind, effect, get, set as set_element, changed}
+use Rattle.segment_manager.proofs.Common.{Command, done_answer, ◌&&◌, nat_le, and_from, Cut, SameBut, ObjectRole}
+use Rattle.segment_manager.proofs.Common.{IsChanged, serves, BoolKind, literal_of, has_good_name, value_extents}
+use Rattle.segment_manager.proofs.Common.{with_changed, IsStepOfKind, is_read_only, and_then, map, values_of}
+use Rattle.segment_manager.proofs.Here.{here, standing}
 use Rattle.segment_manager.proofs.Steps.{open-reading, step_of_kind-found, step_of_kind-not_found, step_of_kind-other}
 use Rattle.segment_manager.proofs.Steps.{with-found, IsOpenFor, by_no_change_of_kind, by_step_of_kind, lands}
 use Rattle.segment_manager.proofs.Safely.{Answered, answered, done-so}
-use Rattle.segment_manager.proofs.{Blocks.spelling-length, Codes.numbers-only, Frame.object-roomy, Frame.IsRoomy}
-use Rattle.segment_manager.proofs.{Rows.Has-element, Rows.Has-set, Standings.standing-room, Words.first, Words.second}
-use Rattle.segment_manager.proofs.{Steps.open-writing, ContentPlans.of_slice, Live.IsIn, ObjectLists.key-found}
-use Rattle.segment_manager.proofs.{Exchanged.denotes-rewritten, Rewritten.value_start, Rewritten.with_value}
+use Rattle.segment_manager.proofs.{Blocks.spelling-length, Codes.numbers-only, Frame.object-roomy, Rows.Has-element}
+use Rattle.segment_manager.proofs.{Rows.Has-set, Standings.standing-room, Words.first, Words.second, Steps.open-writing}
+use Rattle.segment_manager.proofs.{ContentPlans.of_slice, ObjectLists.key-found, Exchanged.denotes-rewritten}
+use Rattle.segment_manager.proofs.{Rewritten.value_start, Rewritten.with_value}
 use Rattle.seg_vector.specs.declared.places.Place.{Place}
 use Rattle.segment_manager.specs.Standing.{element_at, place_at, place_in}
 use Rattle.std.specs.Option.{ok_or}

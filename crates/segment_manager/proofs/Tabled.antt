@@ -12,7 +12,7 @@ use Rattle.segment_manager.proofs.Common.{◌||◌, option_map, nat_le, nat_lt, 
 use Rattle.segment_manager.proofs.Common.{resized, cut_table, is_table, serves, placed_is_proper, IsReserved, IsShrunk}
 use Rattle.segment_manager.proofs.Common.{KeepsRest, IsIndexAt, link_at, IsHeader, is_index, rises_from, objects_of}
 use Rattle.segment_manager.proofs.Common.{order_of, ◌∷◌, lay_out_one, handles, remove_object, table_extents}
-use Rattle.segment_manager.proofs.Denoted.{KeepsFront, denotes-put, HasIndexes, denotes-taken}
+use Rattle.segment_manager.proofs.Denoted.{KeepsFront, denotes-put, denotes-taken}
 use Rattle.segment_manager.proofs.Taking.{IsMade, allocated-found, taken-found, taken-live}
 use Rattle.segment_manager.proofs.Order.{all_of-inserted, inserted, live-rises}
 use Rattle.segment_manager.proofs.Entered.{HasOne, OfRest, entered-other, entered-own, has_both, key_in, of_all}

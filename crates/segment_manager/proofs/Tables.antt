@@ -9,9 +9,9 @@ use Rattle.best_fit.specs.{Fit.insert, Table.table_link}
 use Rattle.best_fit.proofs.Laws.{insert-comm}
 use Rattle.seg_index.specs.declared.index.Index.TheVariants as index
 use Rattle.segment_manager.proofs.{Words.AllByRecursion-front, Words.AllByRecursion-behind, Order.Differs, Order.Rising}
-use Rattle.segment_manager.proofs.{Order.IsFresh, Order.inserted, Order.insert-inserted, Order.sorted-append}
-use Rattle.segment_manager.proofs.{Order.all_of-sorted, Order.live-rises, Order.rising-insert, Order.rising-inserted}
-use Rattle.segment_manager.proofs.{Order.apart-inserted, Order.others-insert, Live.adding, Regrown.differs-flip}
+use Rattle.segment_manager.proofs.{Order.inserted, Order.insert-inserted, Order.sorted-append, Order.all_of-sorted}
+use Rattle.segment_manager.proofs.{Order.live-rises, Order.rising-insert, Order.rising-inserted, Order.apart-inserted}
+use Rattle.segment_manager.proofs.{Order.others-insert, Live.adding, Regrown.differs-flip}
 
 -- ---- one extent in a list
 

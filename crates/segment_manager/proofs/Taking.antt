@@ -9,7 +9,7 @@ use Rattle.segment_manager.proofs.Common.{laid-heap, room_block, Index, CanGrow,
 use Rattle.segment_manager.proofs.Common.{IsIndexOf, place_of, prepared, IsRequested, IsRestored, IsUnmet, ◌≤◌, Bool}
 use Rattle.segment_manager.proofs.Common.{[], ◌∷◌, find, Same-part, Same-word, Same-link, Extent, handle, extent_at}
 use Rattle.segment_manager.proofs.Common.{lay_out_one, grown_capacity, Object, extents_of, is_object, IsObjectAt}
-use Rattle.segment_manager.proofs.Order.{all_of-insert, IsFresh, live-rises, rising-insert}
+use Rattle.segment_manager.proofs.Order.{all_of-insert, live-rises, rising-insert}
 use Rattle.segment_manager.proofs.{Live.adding}
 use Rattle.best_fit.proofs.Laws.{block_aligned, still_allocated-block, found-inserted, found-new, found-none}
 use Rattle.seg_index.proofs.Laws.{place_behind, place_small, Around-kept, stays}

@@ -1,5 +1,5 @@
 -- The value is made at its place, and then its object is entered or given back.
-use Rattle.segment_manager.proofs.Common.{Content, count_of, kind_of, value_len, bare}
+use Rattle.segment_manager.proofs.Common.{count_of, kind_of, value_len, bare}
 use Rattle.segment_manager.proofs.{FilledCalls.builds, FilledCalls.ending, Loose.begun-heap, Loose.begun-room}
 use Rattle.segment_manager.proofs.constructing.build.Goals as goal
 

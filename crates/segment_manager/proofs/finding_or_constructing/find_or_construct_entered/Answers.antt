@@ -1,7 +1,7 @@
 -- An object is found under the entry, or made with one, or a block is refused.
-use Rattle.segment_manager.proofs.Common.{exit-is, ◌≡◌, sym, subst, Ok, Err, Key, Content, Write, Object}
-use Rattle.segment_manager.proofs.Common.{kind_of, Constructs, FindsOrConstructs, IsBegunFor, with_count, pair_answer}
-use Rattle.segment_manager.proofs.Common.{IsNewKeyOf, bare, StandsAt, pair_of_kind, State}
+use Rattle.segment_manager.proofs.Common.{exit-is, ◌≡◌, sym, subst, Ok, Err, Key, Write, Object, kind_of, Constructs}
+use Rattle.segment_manager.proofs.Common.{FindsOrConstructs, with_count, pair_answer, IsNewKeyOf, bare, StandsAt}
+use Rattle.segment_manager.proofs.Common.{pair_of_kind, State}
 use Rattle.seg_types.specs.Commands as asked
 use Rattle.segment_manager.proofs.FilledCalls.{begun-for, found-absent, found-all, found-built, found-not_begun}
 use Rattle.segment_manager.proofs.FilledCalls.{has-begun, no-object}

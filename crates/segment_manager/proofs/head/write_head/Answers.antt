@@ -1,8 +1,8 @@
 -- Two words and the name, one after another.
-use Rattle.segment_manager.proofs.Common.{◌≡◌, ◌+◌, ◌∙◌, ap, arith, length, ℕ, IsTrue, current, bytes_of, word_at}
-use Rattle.segment_manager.proofs.Common.{has_room, live_of, changed-room, class_code, code_of, padded, two_halves}
+use Rattle.segment_manager.proofs.Common.{◌+◌, ◌∙◌, ap, arith, length, current, live_of, changed-room, padded}
+use Rattle.segment_manager.proofs.Common.{two_halves}
 use Rattle.best_fit.proofs.Laws.{room-less}
-use Rattle.segment_manager.proofs.Pieces.{HasHead, head-written}
+use Rattle.segment_manager.proofs.Pieces.{head-written}
 use Rattle.segment_manager.proofs.head.write_head.Goals as goal
 
 pub set_word-requires : goal.set_word-requires

@@ -2,7 +2,7 @@
 use Rattle.segment_manager.proofs.Common.{◌≡◌, ◌+◌, ◌-◌, ◌∙◌, ap, subst, arith, length, take, replicate, List, ℕ}
 use Rattle.segment_manager.proofs.Common.{IsTrue, length-replicate, current, has_room, live_of, changed-room, padded}
 use Rattle.best_fit.proofs.Laws.{room-less}
-use Rattle.segment_manager.proofs.Pieces.{HasName, name-written, zeros-taken}
+use Rattle.segment_manager.proofs.Pieces.{name-written, zeros-taken}
 use Rattle.segment_manager.proofs.head.write_name.Goals as goal
 
 pub write-requires : goal.write-requires

@@ -1,5 +1,5 @@
 -- The handle means itself.
-use Rattle.segment_manager.proofs.{Common.true, KeyCalls.handle-answers}
+use Rattle.segment_manager.proofs.{KeyCalls.handle-answers}
 use Rattle.segment_manager.proofs.targets.ObjectTarget.handle_in.Goals as goal
 
 pub returns : goal.returns

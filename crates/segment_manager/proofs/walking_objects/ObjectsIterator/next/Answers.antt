@@ -1,6 +1,6 @@
 -- The next block of an object is that of the next object. A segment has few, as many as the tags say.
-use Rattle.segment_manager.proofs.Common.{refl, sym, subst, ◌+◌, ◌<◌, Some, None, rules, arith, IsSegment}
-use Rattle.segment_manager.specs.Iterating.{GoesOnObjects, ObjectWalk, own_count}
+use Rattle.segment_manager.proofs.Common.{refl, sym, subst, ◌+◌, Some, None, rules, arith, IsSegment}
+use Rattle.segment_manager.specs.Iterating.{GoesOnObjects, ObjectWalk}
 use Rattle.segment_manager.proofs.OwnWalks.{block-at, none-left, owner-counts, owner-few, owner-here, owner-says}
 use Rattle.segment_manager.proofs.OwnWalks.{owner-short}
 use Rattle.segment_manager.proofs.walking_objects.ObjectsIterator.next.Goals as goal

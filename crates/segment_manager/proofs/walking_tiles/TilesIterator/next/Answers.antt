@@ -1,5 +1,5 @@
 -- A segment has few tiles.
-use Rattle.segment_manager.proofs.Common.{sym, subst, ◌∙◌, rules, ◌+◌, ◌<◌, ◌≤◌, length, bytes_of, tiles_of, IsSegment}
+use Rattle.segment_manager.proofs.Common.{sym, subst, ◌∙◌, rules, ◌<◌, length, bytes_of, tiles_of, IsSegment}
 use Rattle.segment_manager.proofs.{Common.slice_get_within, OwnWalks.tile-few}
 use Rattle.segment_manager.proofs.walking_tiles.TilesIterator.next.Goals as goal
 

@@ -42,13 +42,6 @@ begin_at-requires-clause-index g c = segment-index c.args.index c.requires.segme
 pub begin_at-requires-clause-short : goal.begin_at-requires-clause-short
 begin_at-requires-clause-short g c = key-short c.args.index c.args.entry c.requires.key.0 c.args.name.now (kind_of (bare (g.F.Filling.content c.args.filling.now))) c.requires.key.1
 
-pub build-requires-clause-begun : goal.build-requires-clause-begun
-build-requires-clause-begun g c =
-    let key : Key = c.requires.key.0 in
-    has-begun c.args.heap.now c.begin_at.new.heap key c.in_ok-begun.begun
-    c.requires.segment c.shape-shape.ensures (c.in_ok-begun.ensures key c.args.entry (subst (IsNewKeyOf c.args.index c.args.entry key
-    c.args.name.now) (sym c.shape-shape.ensures.kind) c.requires.key.1) c.in-Absent.ensures.place)
-
 pub returns-in_err-begun : goal.returns-in_err-begun
 returns-in_err-begun g c =
     rw (exit-is c.from_residual.result _ c.from_residual.ensures.1) (λ key n.

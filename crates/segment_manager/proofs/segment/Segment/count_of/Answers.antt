@@ -3,10 +3,6 @@ use Rattle.segment_manager.proofs.Common.{◌≡◌, subst, length, entry_count,
 use Rattle.segment_manager.proofs.KeyCalls.{index-counts}
 use Rattle.segment_manager.proofs.segment.Segment.count_of.Goals as goal
 
-pub returns-clause-word : goal.returns-clause-word
-returns-clause-word c =
-    subst (λ (t : State). c.len.result ≡ entry_count t.cut (place_of c.args.index)) c.self.view_is c.len.ensures.word
-
 pub returns-clause-count : goal.returns-clause-count
 returns-clause-count c =
     let s : State = record { cut = c.self.inside.heap; mode = c.self.inside.mode } in

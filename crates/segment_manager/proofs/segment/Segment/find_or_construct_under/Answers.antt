@@ -16,10 +16,6 @@ done g c =
     (c.find_or_construct_entered.ensures (index_key_seen c.entry_for-key.result)
     (c.entry_of-index.ensures.new _ (subst (IsOfKind (index_key_seen c.entry_for-key.result)) c.shape.ensures.kind c.entry_for-key.ensures.kind)))
 
-pub find_or_construct_entered-requires-clause-key : goal.find_or_construct_entered-requires-clause-key
-find_or_construct_entered-requires-clause-key g c =
-    (index_key_seen c.entry_for-key.result, c.entry_of-index.ensures.new _ (subst (IsOfKind (index_key_seen c.entry_for-key.result)) c.shape.ensures.kind c.entry_for-key.ensures.kind))
-
 pub returns-then-is_read_only-clause-step : goal.returns-then-is_read_only-clause-step
 returns-then-is_read_only-clause-step g c =
     refuses-read_only _ _ (sym c.is_read_only.ensures ∙ c.if-is_read_only.true) refl
@@ -27,13 +23,6 @@ returns-then-is_read_only-clause-step g c =
 pub invariant_of-self : goal.invariant_of-self
 invariant_of-self g c =
     made-segment c.self.view_is (done g (goal.at.invariant_of-self g c).After-find_or_construct_entered).constructs (sym c.is_read_only.ensures ∙ c.if-is_read_only.false) c.self.invariant
-
-pub returns-clause-step : goal.returns-clause-step
-returns-clause-step g c =
-    made-step c.self.view_is (done g (goal.at.returns-clause-step g c).After-find_or_construct_entered).constructs (sym c.is_read_only.ensures ∙ c.if-is_read_only.false)
-
-pub returns-clause-refused : goal.returns-clause-refused
-returns-clause-refused g c = made-refused c.self.view_is (done g (goal.at.returns-clause-refused g c).After-find_or_construct_entered).constructs
 
 pub returns-clause-found : goal.returns-clause-found
 returns-clause-found g c =

@@ -28,10 +28,3 @@ returns-clause-step c =
       | in-Err w ↦ rw w.result-is (reserves-none c.self.view_is c.self.invariant c.args.index c.args.n
           (sym c.is_read_only.ensures ∙ c.if-is_read_only.false) w.in-Err.ensures.reserved.0 w.in-Err.ensures.reserved.1).step
     ]
-
-pub returns-clause-enough : goal.returns-clause-enough
-returns-clause-enough c =
-    elim c.match-reserve.branch [
-      | in-Ok w ↦ keeps-places c.self.view_is c.args.index w.in-Ok.ensures.reserved
-      | in-Err w ↦ keeps-fewer c.self.view_is c.args.index c.args.n w.in-Err.ensures.reserved.0
-    ]

@@ -1,12 +1,15 @@
 mod Common
 mod Denoted
 mod Destroys
+mod OwnEntries
 mod FilledCalls
+mod ItemCalls
 mod KeyCalls
 mod OwnBlocks
 mod Pieces
 mod Refusals
 mod Stored
+mod Written
 mod Tabled
 mod Taking
 mod Unchanged

@@ -1,10 +1,10 @@
 -- An object is found under the entry, or made with one, or a block is refused.
-use Rattle.segment_manager.proofs.Common.{exit-is, ◌≡◌, sym, subst, Ok, Err, Key, Write, Object, kind_of, Constructs}
+use Rattle.segment_manager.proofs.Common.{exit-is, ◌≡◌, sym, subst, Ok, Err, Write, Object, kind_of, Constructs}
 use Rattle.segment_manager.proofs.Common.{FindsOrConstructs, with_count, pair_answer, IsNewKeyOf, bare, StandsAt}
 use Rattle.segment_manager.proofs.Common.{pair_of_kind, State}
 use Rattle.seg_types.specs.Commands as asked
 use Rattle.segment_manager.proofs.FilledCalls.{begun-for, found-absent, found-all, found-built, found-not_begun}
-use Rattle.segment_manager.proofs.FilledCalls.{has-begun, no-object}
+use Rattle.segment_manager.proofs.FilledCalls.{no-object}
 use Rattle.segment_manager.proofs.{Here.has-object, HeldIndexes.denotes-keys, NewKeys.key-seeks, NewKeys.key-short}
 use Rattle.segment_manager.proofs.KeyCalls.{found-answers, place-below, segment-index}
 use Rattle.segment_manager.proofs.finding_or_constructing.find_or_construct_entered.Goals as goal

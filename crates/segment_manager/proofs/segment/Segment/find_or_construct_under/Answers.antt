@@ -1,6 +1,6 @@
 -- The call on the heap, under the key that the object gets, as one on the segment.
 use Rattle.segment_manager.proofs.Common.{refl, sym, ap, subst, ◌∙◌, Key, FindsOrConstructs, IsOfKind, bare, index_key_seen, kind_of}
-use Rattle.segment_manager.proofs.FilledCalls.{made-refused, made-segment, made-step}
+use Rattle.segment_manager.proofs.FilledCalls.{made-segment}
 use Rattle.segment_manager.proofs.{KeptContainers.keeps-cut, Steps.refuses-read_only}
 use Rattle.segment_manager.specs.Keeping.{HasKey}
 use Rattle.segment_manager.proofs.segment.Segment.find_or_construct_under.{Goals.After-find_or_construct_entered, Given.Over}

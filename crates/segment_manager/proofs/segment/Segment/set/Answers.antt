@@ -1,7 +1,7 @@
 -- The bytes that spell the value are written at the place that is found.
 use Rattle.segment_manager.proofs.Common.{exit-is, refl, sym, ap, subst, ◌∙◌, length, List, ℕ, Ok, Err, Answers}
 use Rattle.segment_manager.proofs.{Blocks.spelling-length, Stored.place-room, Steps.refuses_of_kind-read_only}
-use Rattle.segment_manager.proofs.{Stored.stores-nothing, Stored.stores-number}
+use Rattle.segment_manager.proofs.{Written.stores-nothing, Written.stores-number}
 use Rattle.segment_manager.specs.Standing.{place_at}
 use Rattle.segment_manager.proofs.segment.Segment.set.Goals as goal
 

@@ -5,9 +5,8 @@ use Rattle.segment_manager.proofs.Common.{NoSpace, Command, Content, Index, NewE
 use Rattle.segment_manager.proofs.Common.{is_untouched, Begins, IsAbsentAt, IsNotBegun, Object, Directory, count_of}
 use Rattle.segment_manager.proofs.Common.{kind_of, object_at, value_len, Constructs, FindsOrConstructs, IsBegunFor}
 use Rattle.segment_manager.proofs.Common.{MakesValue, with_count, handle_at, pair_answer, IsNewKeyOf, bare, StandsAt}
-use Rattle.segment_manager.proofs.Common.{pair_of_kind, Answers, IsSegment, IsStep, KeepsRefused, State, answer_of}
-use Rattle.segment_manager.proofs.Common.{handle_answer, is_read_only, Reply, effect, found, with_new_object, handle}
-use Rattle.segment_manager.proofs.Common.{place, step}
+use Rattle.segment_manager.proofs.Common.{pair_of_kind, Answers, IsSegment, IsStep, State, answer_of, handle_answer}
+use Rattle.segment_manager.proofs.Common.{is_read_only, Reply, effect, found, with_new_object, handle, place, step}
 use Rattle.segment_manager.proofs.FoundOrMade.{constructs-exists, finds, found-there, made_for, made_handle, makes}
 use Rattle.segment_manager.proofs.NewValues.{IsMadeNever, IsMadeNow, away-in, key-taken, value-built, value-loose}
 use Rattle.segment_manager.proofs.NewValues.{value-not_begun, value-not_built, value-ready}
@@ -153,14 +152,5 @@ module _ {A : Type 0} {s t : State} (view : s ≡ t) {c : Cut} {command : Comman
   pub made-step : is_read_only t.mode ≡ false → IsStep t (record s { cut = c }) command (answer r)
   made-step writing = subst (λ (u : State). IsStep u (record s { cut = c }) command (answer r)) view (done.step s.mode (ap (λ (u : State). is_read_only u.mode) view ∙ writing))
 
-  pub made-refused : KeepsRefused t (record s { cut = c }) r
-  made-refused = subst (λ (u : State). KeepsRefused u (record s { cut = c }) r) view (kept r done.refused)
-    where
-      kept : (r : Result A Refusal) → IfErr r (λ why. is_untouched (Refused why) ≡ true → c ≡ s.cut) → KeepsRefused s (record s { cut = c }) r
-      kept (Ok v) e = tt
-      kept (Err why) e = λ t. let same = e t in λ j. record s { cut = same j }
-
   pub made-segment : is_read_only t.mode ≡ false → IsSegment s.cut.bytes → IsSegment c.bytes
   made-segment writing b = step-segment s (record s { cut = c }) command (answer r) (done.step s.mode (ap (λ (u : State). is_read_only u.mode) view ∙ writing)) b
-
--- ---- the steps

@@ -17,8 +17,13 @@ removes-entry {d} {o} is f = record {
   not_unique = ordered-without Unique by_kind d o f;
 }
 
-keeps-entries : {d : Directory} (o : Object) {p : Object} → IsFound (handle p.extent) d.objects o → IsLike o p → KeepsEntries d p
-keeps-entries {d} o {p} f like = record { named = (ordered-changed Named by_name by_name-face d o p f like).entries; unique = (ordered-changed Unique by_kind by_kind-face d o p f like).entries }
+keeps-entries : {d : Directory} (o : Object) {p : Object} → IsFound (handle p.extent) d.objects o → IsLike o p
+    → KeepsEntries d p
+keeps-entries {d} o {p} f like =
+    record {
+      named = (ordered-changed Named by_name by_name-face d o p f like).entries;
+      unique = (ordered-changed Unique by_kind by_kind-face d o p f like).entries;
+    }
 
 pub follows : IndexesFollowObjects
 follows = record {
@@ -29,5 +34,7 @@ follows = record {
     not_unique = ordered-with Unique by_kind d o;
   };
   removes = λ format d o is e. removes-entry is (record { is = e });
-  changes = λ d o p e h. keeps-entries o (record { is = (λ i. object_at d (ByHandle (handle (h.extent i)))) ∙ e }) (record { extent = h.extent; name = h.name; class = h.class; kind = h.kind });
+  changes =
+      λ d o p e h. keeps-entries o (record { is = (λ i. object_at d (ByHandle (handle (h.extent i)))) ∙ e })
+      (record { extent = h.extent; name = h.name; class = h.class; kind = h.kind });
 }

@@ -25,57 +25,73 @@ use Rattle.seg_types.specs.Commands as asked
 -- ---- begun
 
 -- what the shape says of an object that was begun is what the content says
-pub begun-for : (old new : Cut) (key : names.Key) {content : Content} {s : Shape} (r : Result Begun Refusal) → IsShapeOf content s → Begins old new key s.kind s.count s.len r
+pub begun-for : (old new : Cut) (key : names.Key) {content : Content} {s : Shape} (r : Result Begun Refusal)
+    → IsShapeOf content s → Begins old new key s.kind s.count s.len r
     → Begins old new key (kind_of (bare content)) (count_of (bare content)) (value_len (bare content)) r
-begun-for old new key {content} {s} r is g = subst (λ (k : Kind). Begins old new key k (count_of (bare content)) (value_len (bare content)) r) is.kind
-    (subst (λ n. Begins old new key s.kind n (value_len (bare content)) r) is.count (subst (λ n. Begins old new key s.kind s.count n r) is.len g))
+begun-for old new key {content} {s} r is g =
+    subst (λ (k : Kind). Begins old new key k (count_of (bare content)) (value_len (bare content)) r) is.kind
+    (subst (λ n. Begins old new key s.kind n (value_len (bare content)) r) is.count
+    (subst (λ n. Begins old new key s.kind s.count n r) is.len g))
 
-pub has-begun : (old new : Cut) (key : names.Key) {content : Content} {s : Shape} (r : Begun) → IsSegment old.bytes → IsShapeOf content s → Begins old new key s.kind s.count s.len (Ok r)
-    → HasBegun new content r.handle r.at r.entry
+pub has-begun : (old new : Cut) (key : names.Key) {content : Content} {s : Shape} (r : Begun) → IsSegment old.bytes
+    → IsShapeOf content s → Begins old new key s.kind s.count s.len (Ok r) → HasBegun new content r.handle r.at r.entry
 has-begun old new key r b is g = (old, (b, (key, begun-for old new key (Ok r) is g)))
 
 -- ---- filled
 
 module _ (content : Content) where
   -- what the end wants of a value that was made, or was refused its blocks
-  pub ending : (a m : Cut) (b : IsSegment a.bytes) (key : names.Key) (h at : ℕ) (entry : Option NewEntry) (w : Cut) (r : Result (Unit {0}) Refusal) → IsBegunFor a m key content h at entry
+  pub ending : (a m : Cut) (b : IsSegment a.bytes) (key : names.Key) (h at : ℕ) (entry : Option NewEntry) (w : Cut)
+      (r : Result (Unit {0}) Refusal) → IsBegunFor a m key content h at entry
       → MakesValue content m w (record { handle = h; at = at }) r → IsEnding w h entry r
   ending a m b key h at entry w (Ok u) g r = value-ready content a b key h at entry g r
   ending a m b key h at entry w (Err why) g r = (a, value-loose content a b key h at entry w why g r)
 
   -- the value is made, and then the object gets its entry; or all is given back
-  pub builds : (m w c : Cut) (h at : ℕ) (entry : Option NewEntry) (filled : Result (Unit {0}) Refusal) (result : Result ℕ Refusal)
-      → MakesValue content m w (record { handle = h; at = at }) filled → Ends w c h entry filled result → Builds m c h at entry content result
-  builds m w c h at entry (Ok u) result made e = subst (Builds m c h at entry content) (sym e.0) (record { made = w; value = made; is = refl; entered = e.1 })
-  builds m w c h at entry (Err why) result made e = subst (Builds m c h at entry content) (sym e.0) (record { left = w; none = made; back = e.1 })
+  pub builds : (m w c : Cut) (h at : ℕ) (entry : Option NewEntry) (filled : Result (Unit {0}) Refusal)
+      (result : Result ℕ Refusal) → MakesValue content m w (record { handle = h; at = at }) filled
+      → Ends w c h entry filled result → Builds m c h at entry content result
+  builds m w c h at entry (Ok u) result made e =
+      subst (Builds m c h at entry content) (sym e.0) (record { made = w; value = made; is = refl; entered = e.1 })
+  builds m w c h at entry (Err why) result made e =
+      subst (Builds m c h at entry content) (sym e.0) (record { left = w; none = made; back = e.1 })
 
 -- ---- the steps
 
 module _ {a : Cut} (b : IsSegment a.bytes) (key : names.Key) (content : Content) where
-  no-space : {A : Type 0} (f : A → Answer) {command : Command} (say : Object → Answer) → ((d : Directory) → object_at d key ≡ None → effect d command ≡ with_new_object d key content (λ o e. Reply (say o) e))
-      → (c : Cut) (why : Refusal) → why ≡ NoSpace → IsMadeNever a c key content → Constructs a c command (answer_of f) (Err why)
+  no-space : {A : Type 0} (f : A → Answer) {command : Command} (say : Object → Answer)
+      → ((d : Directory) → object_at d key ≡ None
+      → effect d command ≡ with_new_object d key content (λ o e. Reply (say o) e)) → (c : Cut) (why : Refusal)
+      → why ≡ NoSpace → IsMadeNever a c key content → Constructs a c command (answer_of f) (Err why)
   no-space f {command} say asks c why e d = record {
     step = λ mode writing.
-        subst (λ (r : Refusal). IsStep (record { cut = a; mode = mode }) (record { cut = c; mode = mode }) command (Refused r)) (sym e)
+        subst (λ (r : Refusal). IsStep (record { cut = a; mode = mode }) (record { cut = c; mode = mode }) command
+        (Refused r)) (sym e)
         (makes-nothing command say writing d.place asks d.each);
     refused = λ t. absurd (false≢true (sym (ap (λ (r : Refusal). is_untouched (Refused r)) e) ∙ t));
   }
 
-  none-constructed : (c : Cut) (why : Refusal) → why ≡ NoSpace → IsMadeNever a c key content → Constructs a c (asked.Construct key content) handle_answer (Err why)
+  none-constructed : (c : Cut) (why : Refusal) → why ≡ NoSpace → IsMadeNever a c key content
+      → Constructs a c (asked.Construct key content) handle_answer (Err why)
   none-constructed = no-space Made made_handle (λ d e. ap (made_for d key content) e)
 
-  none-found : (c : Cut) (why : Refusal) → why ≡ NoSpace → IsMadeNever a c key content → Constructs a c (asked.FindOrConstruct key content) pair_answer (Err why)
+  none-found : (c : Cut) (why : Refusal) → why ≡ NoSpace → IsMadeNever a c key content
+      → Constructs a c (asked.FindOrConstruct key content) pair_answer (Err why)
   none-found = no-space pair_found found (λ d e. ap (finds d key content) e)
 
-  made-now : (entry : Option NewEntry) (m : Cut) {c : Cut} (h at : ℕ) {n : ℕ} → IsBegunFor a m key content h at entry → Builds m c h at entry content (let r = Ok n in r) → IsMadeNow a c key content n
-  made-now entry m {c} h at {n} g r = subst (λ (n : ℕ). IsMadeNow a c key content n) (sym r.is) (value-built content b h at entry g r.value r.entered)
+  made-now : (entry : Option NewEntry) (m : Cut) {c : Cut} (h at : ℕ) {n : ℕ} → IsBegunFor a m key content h at entry
+      → Builds m c h at entry content (let r = Ok n in r) → IsMadeNow a c key content n
+  made-now entry m {c} h at {n} g r =
+      subst (λ (n : ℕ). IsMadeNow a c key content n) (sym r.is) (value-built content b h at entry g r.value r.entered)
 
-  made-never : (entry : Option NewEntry) (m : Cut) {c : Cut} (h at : ℕ) (why : Refusal) → IsBegunFor a m key content h at entry → Builds m c h at entry content (let r = Err why in r)
+  made-never : (entry : Option NewEntry) (m : Cut) {c : Cut} (h at : ℕ) (why : Refusal)
+      → IsBegunFor a m key content h at entry → Builds m c h at entry content (let r = Err why in r)
       → IsMadeNever a c key content
   made-never entry m h at why g r = value-not_built content b h at entry g r.none r.back
 
   -- what was begun is built, or is refused its blocks
-  pub construct-built : (entry : Option NewEntry) (m : Cut) {c : Cut} (h at : ℕ) (r : Result ℕ Refusal) → IsBegunFor a m key content h at entry → Builds m c h at entry content r
+  pub construct-built : (entry : Option NewEntry) (m : Cut) {c : Cut} (h at : ℕ) (r : Result ℕ Refusal)
+      → IsBegunFor a m key content h at entry → Builds m c h at entry content r
       → Constructs a c (asked.Construct key content) handle_answer r
   construct-built entry m {c} h at (Ok n) g r =
       let d = made-now entry m h at g r in
@@ -85,9 +101,11 @@ module _ {a : Cut} (b : IsSegment a.bytes) (key : names.Key) (content : Content)
             (λ d e. ap (made_for d key content) e) (λ d n. ap Made (sym n.at)) d.each;
         refused = tt;
       }
-  construct-built entry m {c} h at (Err why) g r = none-constructed c why r.none.refusal (made-never entry m h at why g r)
+  construct-built entry m {c} h at (Err why) g r =
+      none-constructed c why r.none.refusal (made-never entry m h at why g r)
 
-  pub found-built : (entry : Option NewEntry) (m : Cut) {c : Cut} (h at : ℕ) (r : Result ℕ Refusal) → IsBegunFor a m key content h at entry → Builds m c h at entry content r
+  pub found-built : (entry : Option NewEntry) (m : Cut) {c : Cut} (h at : ℕ) (r : Result ℕ Refusal)
+      → IsBegunFor a m key content h at entry → Builds m c h at entry content r
       → Constructs a c (asked.FindOrConstruct key content) pair_answer (with_count (count_of (bare content)) r)
   found-built entry m {c} h at (Ok n) g r =
       let d = made-now entry m h at g r in
@@ -100,10 +118,13 @@ module _ {a : Cut} (b : IsSegment a.bytes) (key : names.Key) (content : Content)
   found-built entry m {c} h at (Err why) g r = none-found c why r.none.refusal (made-never entry m h at why g r)
 
   -- it is not begun
-  pub construct-not_begun : (why : Refusal) (c : Cut) → IsNotBegun a c key (kind_of (bare content)) (value_len (bare content)) why → Constructs a c (asked.Construct key content) handle_answer (Err why)
+  pub construct-not_begun : (why : Refusal) (c : Cut)
+      → IsNotBegun a c key (kind_of (bare content)) (value_len (bare content)) why
+      → Constructs a c (asked.Construct key content) handle_answer (Err why)
   construct-not_begun Exists c t = record {
     step = λ mode writing.
-        subst (λ (u : Cut). IsStep (record { cut = a; mode = mode }) (record { cut = u; mode = mode }) (asked.Construct key content) (Refused Exists)) (sym t.same)
+        subst (λ (u : Cut). IsStep (record { cut = a; mode = mode }) (record { cut = u; mode = mode })
+        (asked.Construct key content) (Refused Exists)) (sym t.same)
         (constructs-exists key content writing (key-taken key content t));
     refused = λ e. t.same;
   }
@@ -111,14 +132,17 @@ module _ {a : Cut} (b : IsSegment a.bytes) (key : names.Key) (content : Content)
   construct-not_begun why c t = absurd t
 
   -- where no object has the key
-  pub found-not_begun : (why : Refusal) {c : Cut} → object_at b.0 key ≡ None → IsNotBegun a c key (kind_of (bare content)) (value_len (bare content)) why
+  pub found-not_begun : (why : Refusal) {c : Cut} → object_at b.0 key ≡ None
+      → IsNotBegun a c key (kind_of (bare content)) (value_len (bare content)) why
       → Constructs a c (asked.FindOrConstruct key content) pair_answer (Err why)
   found-not_begun Exists none t = absurd (let o = key-taken key content t b.0 b.1 in none-some o.0 (sym none ∙ o.1))
   found-not_begun NoSpace {c} none t = none-found c NoSpace refl (value-not_begun key content t)
   found-not_begun why none t = absurd t
 
   -- an object has the key, and stays as it is
-  pub found-all : {h : ℕ} {r : Result (ℕ × ℕ) Refusal} → ((mode : Mode) → Answers (record { cut = a; mode = mode }) (λ d. handle_at d key) (Some h)) → ((o : Object) → StandsAt a.bytes h o → r ≡ pair_of_kind o (kind_of (bare content)))
+  pub found-all : {h : ℕ} {r : Result (ℕ × ℕ) Refusal}
+      → ((mode : Mode) → Answers (record { cut = a; mode = mode }) (λ d. handle_at d key) (Some h))
+      → ((o : Object) → StandsAt a.bytes h o → r ≡ pair_of_kind o (kind_of (bare content)))
       → FindsOrConstructs a a key content r
   found-all {r} there each = record {
     constructs = record {
@@ -135,22 +159,33 @@ module _ {a : Cut} (b : IsSegment a.bytes) (key : names.Key) (content : Content)
 -- ---- under an entry
 
 -- a look-up finds no object
-pub no-object : {a : Cut} (b : IsSegment a.bytes) (i : Index) (e : Key) (at : ℕ) (key : names.Key) (name : List ℕ) (kind : Kind) → IsNewKeyOf i e key name kind → IsAbsentAt a i e at → object_at b.0 key ≡ None
-no-object {a} b i e at key name kind new away = (lookup-absent i a e key b.1.denotes (key-seeks i e key name kind new) (away-in i e at b.1.denotes away)).none
+pub no-object : {a : Cut} (b : IsSegment a.bytes) (i : Index) (e : Key) (at : ℕ) (key : names.Key) (name : List ℕ)
+    (kind : Kind) → IsNewKeyOf i e key name kind → IsAbsentAt a i e at → object_at b.0 key ≡ None
+no-object {a} b i e at key name kind new away =
+    (lookup-absent i a e key b.1.denotes (key-seeks i e key name kind new) (away-in i e at b.1.denotes away)).none
 
 -- and so nothing is said of one
-pub found-absent : {a c : Cut} (i : Index) (e : Key) (at : ℕ) {key : names.Key} (name : List ℕ) (kind : Kind) {content : Content} {r : Result (ℕ × ℕ) Refusal} → IsNewKeyOf i e key name kind → IsAbsentAt a i e at
+pub found-absent : {a c : Cut} (i : Index) (e : Key) (at : ℕ) {key : names.Key} (name : List ℕ) (kind : Kind)
+    {content : Content} {r : Result (ℕ × ℕ) Refusal} → IsNewKeyOf i e key name kind → IsAbsentAt a i e at
     → Constructs a c (asked.FindOrConstruct key content) pair_answer r → FindsOrConstructs a c key content r
 found-absent {a} i e at {key} name kind new away done = record {
   constructs = done;
-  found = λ d st has. absurd (none-some has.0 (sym (lookup-absent i a e key st.denotes (key-seeks i e key name kind new) (away-in i e at st.denotes away)).none ∙ has.1));
+  found =
+      λ d st has. absurd (none-some has.0
+      (sym (lookup-absent i a e key st.denotes (key-seeks i e key name kind new) (away-in i e at st.denotes away)).none
+      ∙ has.1));
 }
 
 -- ---- the segment afterwards, as its view before the call is named
 
-module _ {A : Type 0} {s t : State} (view : s ≡ t) {c : Cut} {command : Command} {answer : Result A Refusal → Answer} {r : Result A Refusal} (done : Constructs s.cut c command answer r) where
+module _ {A : Type 0} {s t : State} (view : s ≡ t) {c : Cut} {command : Command} {answer : Result A Refusal → Answer}
+    {r : Result A Refusal} (done : Constructs s.cut c command answer r) where
   pub made-step : is_read_only t.mode ≡ false → IsStep t (record s { cut = c }) command (answer r)
-  made-step writing = subst (λ (u : State). IsStep u (record s { cut = c }) command (answer r)) view (done.step s.mode (ap (λ (u : State). is_read_only u.mode) view ∙ writing))
+  made-step writing =
+      subst (λ (u : State). IsStep u (record s { cut = c }) command (answer r)) view
+      (done.step s.mode (ap (λ (u : State). is_read_only u.mode) view ∙ writing))
 
   pub made-segment : is_read_only t.mode ≡ false → IsSegment s.cut.bytes → IsSegment c.bytes
-  made-segment writing b = step-segment s (record s { cut = c }) command (answer r) (done.step s.mode (ap (λ (u : State). is_read_only u.mode) view ∙ writing)) b
+  made-segment writing b =
+      step-segment s (record s { cut = c }) command (answer r)
+      (done.step s.mode (ap (λ (u : State). is_read_only u.mode) view ∙ writing)) b

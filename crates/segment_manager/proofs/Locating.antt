@@ -16,14 +16,16 @@ use Rattle.segment_manager.proofs.{Steps.moves-same}
 -- ---- the object
 
 -- what the head of the object at the handle says is what is located
-pub locates : {s : State} {key : Key} {h : ℕ} {head : Head} → Answers s (λ d. handle_at d key) (Some h) → ((o : Object) → StandsAt s.cut.bytes h o → IsHeadOf o head)
+pub locates : {s : State} {key : Key} {h : ℕ} {head : Head} → Answers s (λ d. handle_at d key) (Some h)
+    → ((o : Object) → StandsAt s.cut.bytes h o → IsHeadOf o head)
     → IsLocated s key (record { handle = h; kind = head.kind; count = head.count })
 locates {s} {key} {h} {head} a says = record {
   at = record {
     answers = λ d k.
         let o = here s.cut.bytes d key h k.denotes (a.answers d k) in
         let said = says o.object o.stands in
-        (λ i. Some (record { handle = o.stands.at i; kind = said.kind i; count = said.count i })) ∙ sym (ap (option_map located) o.is);
+        (λ i. Some (record { handle = o.stands.at i; kind = said.kind i; count = said.count i }))
+        ∙ sym (ap (option_map located) o.is);
   };
   here = record {
     answers = λ d k.
@@ -38,11 +40,13 @@ pub record IsSaidAt (d : Directory) (key : Key) (o : Located) : Type 0 where
   pub is : object_at d key ≡ Some object
   pub said : o ≡ located object
 
-said-if : {d : Directory} {key : Key} {o : Located} (r : Option Object) → object_at d key ≡ r → Some o ≡ option_map located r → IsSaidAt d key o
+said-if : {d : Directory} {key : Key} {o : Located} (r : Option Object) → object_at d key ≡ r
+    → Some o ≡ option_map located r → IsSaidAt d key o
 said-if None e f = absurd (cc)
 said-if {o} (Some p) e f = record { object = p; is = e; said = same_Some o (located p) f }
 
-pub said-at : (s : State) (key : Key) (o : Located) → IsLocated s key o → (d : Directory) → StandsFor s.cut.bytes d → IsSaidAt d key o
+pub said-at : (s : State) (key : Key) (o : Located) → IsLocated s key o → (d : Directory) → StandsFor s.cut.bytes d
+    → IsSaidAt d key o
 said-at s key o l d k = said-if (object_at d key) refl (l.at.answers d k)
 
 pub same-object : HandlesMeanObjects
@@ -55,7 +59,8 @@ same-object s key o l d k =
 abbrev going_on : (Object → Plan) → Option Object → Plan
 going_on next r = with (elim r as (λ _. Result Object Refusal) [ None ↦ Err NotFound | Some o ↦ Ok o ]) next
 
-effect-same : (d : Directory) (key other : Key) (c : Command) → object_at d key ≡ object_at d other → effect d (at_key key c) ≡ effect d (at_key other c)
+effect-same : (d : Directory) (key other : Key) (c : Command) → object_at d key ≡ object_at d other
+    → effect d (at_key key c) ≡ effect d (at_key other c)
 effect-same d key other (asked.Show old) e = ap (going_on _) e
 effect-same d key other (asked.Info old) e = ap (going_on _) e
 effect-same d key other (asked.Get old i) e = ap (going_on _) e
@@ -80,7 +85,9 @@ changing-same key other c = refl
 
 pub keys-same : KeysMeanObjects
 unfolding step
-keys-same mode d key other c e = λ i. perform d (live d) (if is_read_only mode && changing-same key other c i then Refuse ReadOnly else effect-same d key other c e i)
+keys-same mode d key other c e =
+    λ i. perform d (live d) (if is_read_only mode && changing-same key other c i then Refuse ReadOnly else effect-same d
+    key other c e i)
 
 pub keys_of_kind-same : KeysOfKindMeanObjects
 unfolding step_of_kind
@@ -96,56 +103,80 @@ module _ (old : State) (key : Key) (o : Located) (l : IsLocated old key o) where
 
   -- it is located by its handle too
   pub located-here : IsLocated old (ByHandle o.handle) o
-  located-here = record { at = record { answers = λ d k. l.at.answers d k ∙ sym (ap (option_map located) (same d k)) }; here = l.here }
+  located-here = record {
+    at = record { answers = λ d k. l.at.answers d k ∙ sym (ap (option_map located) (same d k)) };
+    here = l.here;
+  }
 
   -- what is said of the object
-  pub told-by_key : {A : Type 0} (say : Directory → Option Object → A) (r : A) → Answers old (λ d. say d (object_at d (ByHandle o.handle))) r → Answers old (λ d. say d (object_at d key)) r
+  pub told-by_key : {A : Type 0} (say : Directory → Option Object → A) (r : A)
+      → Answers old (λ d. say d (object_at d (ByHandle o.handle))) r → Answers old (λ d. say d (object_at d key)) r
   told-by_key say r a = record { answers = λ d k. a.answers d k ∙ ap (say d) (same d k) }
 
   pub kind-by_key : Answers old (λ d. kind_at d key) (Ok o.kind)
   kind-by_key = record {
     answers = λ d k.
         let p = said-at old key o l d k in
-        ap (λ (q : Located). Ok q.kind) p.said ∙ sym (ap (λ (r : Option Object). elim r as (λ _. Result Kind Refusal) [ None ↦ Err NotFound | Some q ↦ Ok (kind_of q.value) ]) p.is);
+        ap (λ (q : Located). Ok q.kind) p.said
+        ∙ sym (ap (λ (r : Option Object).
+        elim r as (λ _. Result Kind Refusal) [ None ↦ Err NotFound | Some q ↦ Ok (kind_of q.value) ]) p.is);
   }
 
-  pub step-same : (c : Command) (d : Directory) → StandsFor old.cut.bytes d → step old.mode d (at_key (ByHandle o.handle) c) ≡ step old.mode d (at_key key c)
+  pub step-same : (c : Command) (d : Directory) → StandsFor old.cut.bytes d
+      → step old.mode d (at_key (ByHandle o.handle) c) ≡ step old.mode d (at_key key c)
   step-same c d k = keys-same old.mode d (ByHandle o.handle) key c (same d k)
 
-  pub step-by_key : (new : State) (c : Command) (answer : Answer) → IsStep old new (at_key (ByHandle o.handle) c) answer → IsStep old new (at_key key c) answer
+  pub step-by_key : (new : State) (c : Command) (answer : Answer) → IsStep old new (at_key (ByHandle o.handle) c) answer
+      → IsStep old new (at_key key c) answer
   step-by_key new c answer m =
-      moves-same old new answer (λ d. step old.mode d (at_key (ByHandle o.handle) c)) (λ d. step old.mode d (at_key key c))
+      moves-same old new answer (λ d. step old.mode d (at_key (ByHandle o.handle) c))
+      (λ d. step old.mode d (at_key key c))
       (step-same c) m
 
-  pub step_of_kind-by_key : (new : State) (kind : Kind) (c : Command) (answer : Answer) → IsStepOfKind old new (ByHandle o.handle) kind (at_key (ByHandle o.handle) c) answer
+  pub step_of_kind-by_key : (new : State) (kind : Kind) (c : Command) (answer : Answer)
+      → IsStepOfKind old new (ByHandle o.handle) kind (at_key (ByHandle o.handle) c) answer
       → IsStepOfKind old new key kind (at_key key c) answer
   step_of_kind-by_key new kind c answer m =
-      moves-same old new answer (λ d. step_of_kind old.mode d (ByHandle o.handle) kind (at_key (ByHandle o.handle) c)) (λ d. step_of_kind old.mode d key kind (at_key key c))
+      moves-same old new answer (λ d. step_of_kind old.mode d (ByHandle o.handle) kind (at_key (ByHandle o.handle) c))
+      (λ d. step_of_kind old.mode d key kind (at_key key c))
       (λ d k. keys_of_kind-same old.mode d (ByHandle o.handle) key kind c (same d k)) m
 
-  pub reply_of_kind-by_key : (kind : Kind) (c : Command) (answer : Answer) → IsReplyOfKind old (ByHandle o.handle) kind (at_key (ByHandle o.handle) c) answer → IsReplyOfKind old key kind (at_key key c) answer
+  pub reply_of_kind-by_key : (kind : Kind) (c : Command) (answer : Answer)
+      → IsReplyOfKind old (ByHandle o.handle) kind (at_key (ByHandle o.handle) c) answer
+      → IsReplyOfKind old key kind (at_key key c) answer
   reply_of_kind-by_key kind c answer a = record {
-    answers = λ d k. a.answers d k ∙ ap (λ (n : Answer × Directory). n.0) (keys_of_kind-same old.mode d (ByHandle o.handle) key kind c (same d k));
+    answers =
+        λ d k. a.answers d k ∙ ap (λ (n : Answer × Directory). n.0)
+        (keys_of_kind-same old.mode d (ByHandle o.handle) key kind c (same d k));
   }
 
   -- ---- it says of which kind it is
 
-  pub located-steps : (new : State) (kind : Kind) (c : Command) (answer : Answer) → o.kind ≡ kind → IsStepOfKind old new (ByHandle o.handle) kind (at_key (ByHandle o.handle) c) answer
+  pub located-steps : (new : State) (kind : Kind) (c : Command) (answer : Answer) → o.kind ≡ kind
+      → IsStepOfKind old new (ByHandle o.handle) kind (at_key (ByHandle o.handle) c) answer
       → IsStep old new (at_key key c) answer
   located-steps new kind c answer is m =
-      of_kind-steps old new key kind (at_key key c) answer (subst (λ (n : Kind). Answers old (λ d. kind_at d key) (Ok n)) is kind-by_key) (step_of_kind-by_key new kind c answer m)
+      of_kind-steps old new key kind (at_key key c) answer
+      (subst (λ (n : Kind). Answers old (λ d. kind_at d key) (Ok n)) is kind-by_key)
+      (step_of_kind-by_key new kind c answer m)
 
-  pub located-measures : (kind : Kind) (r : Result (ℕ × ℕ) Refusal) → o.kind ≡ kind → Answers old (λ d. sizes_at_kind d (ByHandle o.handle) kind) r → Answers old (λ d. sizes_at d key) r
+  pub located-measures : (kind : Kind) (r : Result (ℕ × ℕ) Refusal) → o.kind ≡ kind
+      → Answers old (λ d. sizes_at_kind d (ByHandle o.handle) kind) r → Answers old (λ d. sizes_at d key) r
   located-measures kind r is m =
       measures-kind old key kind r (subst (λ (n : Kind). Answers old (λ d. kind_at d key) (Ok n)) is kind-by_key)
-      (told-by_key (λ d q. elim q as (λ _. Result (ℕ × ℕ) Refusal) [ None ↦ Err NotFound | Some p ↦ sizes_of_kind p kind ]) r m)
+      (told-by_key (λ d q. elim q as (λ _. Result
+      (ℕ × ℕ) Refusal) [ None ↦ Err NotFound | Some p ↦ sizes_of_kind p kind ]) r m)
 
   -- what is left as it is where there are so many places
-  places-by_key : {new : State} (n : ℕ) → KeepsWhere old new (HasPlaces (ByHandle o.handle) n) → KeepsWhere old new (HasPlaces key n)
+  places-by_key : {new : State} (n : ℕ) → KeepsWhere old new (HasPlaces (ByHandle o.handle) n)
+      → KeepsWhere old new (HasPlaces key n)
   places-by_key n m = λ d k p. m d k (record {
     len = p.len;
     capacity = p.capacity;
-    says = ap (λ (r : Option Object). elim r as (λ _. Result (ℕ × ℕ) Refusal) [ None ↦ Err NotFound | Some q ↦ sizes_of q.value ]) (same d k) ∙ p.says;
+    says =
+        ap (λ (r : Option Object).
+        elim r as (λ _. Result (ℕ × ℕ) Refusal) [ None ↦ Err NotFound | Some q ↦ sizes_of q.value ]) (same d k)
+        ∙ p.says;
     enough = p.enough;
   })
 

@@ -15,7 +15,8 @@ all-stay m from n [] = tt
 all-stay m from n (x ∷ xs) = (record { payload = λ k f g h. refl; colour = refl }, all-stay m from n xs)
 
 -- no block is taken
-nothing-exchanged : {c : Cut} {from n : ℕ} → LaysOut current c.bytes (live_of c.bytes) → IsExchanged current c c from n [] []
+nothing-exchanged : {c : Cut} {from n : ℕ} → LaysOut current c.bytes (live_of c.bytes)
+    → IsExchanged current c c from n [] []
 nothing-exchanged {c} {from} {n} laid = record {
   live = laid;
   place = record { before = refl; after = refl };
@@ -27,7 +28,8 @@ nothing-exchanged {c} {from} {n} laid = record {
 -- ---- numbers
 
 -- they are written
-pub numbers-made : (k : ScalarKind) (zs : List ℤ) {old new : Cut} {p : Place} → IsTrue (is_good_value (Numbers k zs)) → IsChanged current old new (place_at p) (size_of k * length zs)
+pub numbers-made : (k : ScalarKind) (zs : List ℤ) {old new : Cut} {p : Place} → IsTrue (is_good_value (Numbers k zs))
+    → IsChanged current old new (place_at p) (size_of k * length zs)
     → Has (bytes_of new.bytes) (place_at p) (spelled k zs) → IsMadeValue (asked.Numbers k zs) old new p
 numbers-made k zs {old} {new} good change says = record {
   empty = new;
@@ -44,8 +46,11 @@ numbers-made k zs {old} {new} good change says = record {
 }
 
 -- the spelling of one number, so many times
-pub equal-made : (k : ScalarKind) (count : ℕ) (z : ℤ) (old new : Cut) (p : Place) (bytes : List ℕ) → 1 ≤ count → count ≤ 1048576 → IsTrue (is_value k z) → bytes ≡ spelling k z
-    → IsChanged current old new (place_at p) (length bytes * count) → Has (bytes_of new.bytes) (place_at p) (repeated count bytes) → IsMadeValue (asked.Numbers k (replicate count z)) old new p
+pub equal-made : (k : ScalarKind) (count : ℕ) (z : ℤ) (old new : Cut) (p : Place) (bytes : List ℕ) → 1 ≤ count
+    → count ≤ 1048576 → IsTrue (is_value k z) → bytes ≡ spelling k z
+    → IsChanged current old new (place_at p) (length bytes * count)
+    → Has (bytes_of new.bytes) (place_at p) (repeated count bytes)
+    → IsMadeValue (asked.Numbers k (replicate count z)) old new p
 equal-made k count z old new p bytes low high value spelt change says =
     let size : length bytes ≡ size_of k = ap (λ (bs : List ℕ). length bs) spelt ∙ spelling-length k z in
     numbers-made k (replicate count z) (equal-good k count z low high value)
@@ -63,7 +68,8 @@ no-root m (fork red left n right) k e = absurd (not-empty (nodes_of left) n (nod
     not-empty (x ∷ xs) n ys f = cc
 
 -- it is one of any types
-map-there : {K V : Type 0} (k v : ScalarKind) (kp : Plain K) (vp : Plain V) {old new : Cut} {p : Place} → IsNew kp vp old new p.handle p.at → IsMadeValue (asked.NoPairs k v) old new p
+map-there : {K V : Type 0} (k v : ScalarKind) (kp : Plain K) (vp : Plain V) {old new : Cut} {p : Place}
+    → IsNew kp vp old new p.handle p.at → IsMadeValue (asked.NoPairs k v) old new p
 map-there k v kp vp {new} r =
     let s = r.map in
     record {
@@ -82,7 +88,10 @@ map-there k v kp vp {new} r =
         third = s.map.third;
         tree = record {
           tree = leaf;
-          linked = record { root = no-root (bytes_of new.bytes) s.map.tree.tree s.map.tree.linked s.map.tree.lists; holds = tt };
+          linked = record {
+            root = no-root (bytes_of new.bytes) s.map.tree.tree s.map.tree.linked s.map.tree.lists;
+            holds = tt;
+          };
           red_black = record { root = refl; no_red_pair = refl; black = (0, refl) };
           lists = refl;
         };
@@ -91,6 +100,8 @@ map-there k v kp vp {new} r =
     }
 
 -- at a place that is another word for it
-pub map-made : {K V : Type 0} (k v : ScalarKind) (kp : Plain K) (vp : Plain V) (old new : Cut) (p : Place) (q : MapPlace) → q.handle ≡ p.handle → q.at ≡ p.at → IsNew kp vp old new q.handle q.at
+pub map-made : {K V : Type 0} (k v : ScalarKind) (kp : Plain K) (vp : Plain V) (old new : Cut) (p : Place)
+    (q : MapPlace) → q.handle ≡ p.handle → q.at ≡ p.at → IsNew kp vp old new q.handle q.at
     → IsMadeValue (asked.NoPairs k v) old new p
-map-made k v kp vp old new p q e f r = map-there k v kp vp (subst (λ h. IsNew kp vp old new h p.at) e (subst (λ a. IsNew kp vp old new q.handle a) f r))
+map-made k v kp vp old new p q e f r =
+    map-there k v kp vp (subst (λ h. IsNew kp vp old new h p.at) e (subst (λ a. IsNew kp vp old new q.handle a) f r))

@@ -42,7 +42,8 @@ no_key-none [] = refl
 no_key-none (o ∷ os) = no_key-none os
 
 -- what a look-up that finds no entry says of each directory
-pub away-in : (i : Index) {a : Cut} {d : Directory} (e : Key) (at : ℕ) → Denotes current a.bytes d → IsAbsentAt a i e at → IsPlace (bytes_of a.bytes) e (entries_of i d) (Absent at)
+pub away-in : (i : Index) {a : Cut} {d : Directory} (e : Key) (at : ℕ) → Denotes current a.bytes d → IsAbsentAt a i e at
+    → IsPlace (bytes_of a.bytes) e (entries_of i d) (Absent at)
 away-in i {a} {d} e at said away = away (table_of i d) (entries_of i d) (denotes-index i a said)
 
 -- ---- all directories
@@ -58,7 +59,12 @@ pub record IsMadeNever (a c : Cut) (key : names.Key) (content : Content) : Type 
   pub each : (d : Directory) → StandsFor a.bytes d → (object_at d key ≡ None) × IsNoObject c d key content
 
 unchanged : {w : Cut} (l : LiveSet) {from n : ℕ} → LaysOut current w.bytes l → IsChanged current w w from n
-unchanged {w} l laid = record { place = record { before = refl; after = refl }; live = laid-heap w.bytes l laid; rest = record { at = λ k h. refl } }
+unchanged {w} l laid =
+    record {
+      place = record { before = refl; after = refl };
+      live = laid-heap w.bytes l laid;
+      rest = record { at = λ k h. refl };
+    }
 
 module _ (content : Content) where
   abbrev kind : Kind
@@ -72,7 +78,9 @@ module _ (content : Content) where
 
   -- ---- the value in its object's block
 
-  module _ (a t m w : Cut) (class : Class) (name : List ℕ) (h at : ℕ) (take : IsAllocated current a t (room_for name long) ObjectRole h) (headed : IsHeaded t m kind class name many h at)
+  module _ (a t m w : Cut) (class : Class) (name : List ℕ) (h at : ℕ)
+      (take : IsAllocated current a t (room_for name long) ObjectRole h)
+      (headed : IsHeaded t m kind class name many h at)
       (r : IsMadeValue content m w (record { handle = h; at = at })) where
     block : IsAllocated current a r.empty (room_for name long) ObjectRole h
     block = empty-taken take headed r.change
@@ -85,12 +93,14 @@ module _ (content : Content) where
 
     serving : IsTrue (serves block.extent ObjectRole (object_len name r.value))
     serving =
-        subst (λ n. IsTrue (serves block.extent ObjectRole n)) (ap (λ n. head_len + padded (length name) + n) (sym r.len)) (allocated-serves block)
+        subst (λ n. IsTrue (serves block.extent ObjectRole n))
+        (ap (λ n. head_len + padded (length name) + n) (sym r.len)) (allocated-serves block)
 
     made-in : IsTrue (is_object current own) → IsMade a w own
     made-in good =
         let headed' : IsHeaded t m (kind_of r.value) class name (count_of r.value) h at =
-        subst (λ n. IsHeaded t m (kind_of r.value) class name n h at) (sym r.count) (subst (λ k. IsHeaded t m k class name many h at) (sym r.is_kind) headed) in
+        subst (λ n. IsHeaded t m (kind_of r.value) class name n h at) (sym r.count)
+        (subst (λ k. IsHeaded t m k class name many h at) (sym r.is_kind) headed) in
         record {
           good = good;
           taken = both-taken;
@@ -105,59 +115,76 @@ module _ (content : Content) where
 
   -- ---- the directory, under a key with an entry
 
-  module _ {a m : Cut} {key : names.Key} {h at : ℕ} {e : NewEntry} (g : IsBegunEntry a m key kind many long h at e) {d : Directory} (said : Denotes current a.bytes d) where
+  module _ {a m : Cut} {key : names.Key} {h at : ℕ} {e : NewEntry} (g : IsBegunEntry a m key kind many long h at e)
+      {d : Directory} (said : Denotes current a.bytes d) where
     absent : object_at d key ≡ None
     absent =
-        (lookup-absent e.index a g.entry key said (key-seeks e.index g.entry key g.name kind g.is) (away-in e.index g.entry e.place said g.absent)).none
+        (lookup-absent e.index a g.entry key said (key-seeks e.index g.entry key g.name kind g.is)
+        (away-in e.index g.entry e.place said g.absent)).none
 
-    entry-new : {w c : Cut} → IsMadeValue content m w (record { handle = h; at = at }) → IsEntryAdded w c h e → IsNewObject c d key content h
+    entry-new : {w c : Cut} → IsMadeValue content m w (record { handle = h; at = at }) → IsEntryAdded w c h e
+        → IsNewObject c d key content h
     entry-new {w} {c} r added =
         let b : Cut = g.requested.between in
         let class = class_of_index e.index in
         let took = block b g.taken m w class g.name h at g.requested.takes g.headed r in
         let x : Extent = took.extent in
-        let new' : IsNewKeyOf e.index g.entry key g.name (kind_of r.value) = subst (IsNewKeyOf e.index g.entry key g.name) (sym r.is_kind) g.is in
-        let object = key-object e.index g.entry key g.name r.value x new' (known-kind (kind_of r.value)) r.good (serving b g.taken m w class g.name h at g.requested.takes g.headed r) in
-        content-entered e.index a d g.entry key g.name kind content said g.is b w e.place e.growth.block g.requested.grows
-        (placed-at b g.taken m w class g.name h at g.requested.takes g.headed r) (given-in b g.taken m w class g.name h at g.requested.takes g.headed r) r.is_kind r.count
+        let new' : IsNewKeyOf e.index g.entry key g.name (kind_of r.value) =
+        subst (IsNewKeyOf e.index g.entry key g.name) (sym r.is_kind) g.is in
+        let object =
+        key-object e.index g.entry key g.name r.value x new' (known-kind (kind_of r.value)) r.good
+        (serving b g.taken m w class g.name h at g.requested.takes g.headed r) in
+        content-entered e.index a d g.entry key g.name kind content said g.is b w e.place e.growth.block
+        g.requested.grows
+        (placed-at b g.taken m w class g.name h at g.requested.takes g.headed r)
+        (given-in b g.taken m w class g.name h at g.requested.takes g.headed r) r.is_kind r.count
         (made-in b g.taken m w class g.name h at g.requested.takes g.headed r object) took.at
-        (away-in e.index g.entry e.place said g.absent) (record { adds = added.adds; live = added.live; keeps = added.keeps })
+        (away-in e.index g.entry e.place said g.absent)
+        (record { adds = added.adds; live = added.live; keeps = added.keeps })
 
-    entry-denied : {w c : Cut} {why : Refusal} → IsNoValue content m w (record { handle = h; at = at }) why → IsRestored a c → IsNoObject c d key content
+    entry-denied : {w c : Cut} {why : Refusal} → IsNoValue content m w (record { handle = h; at = at }) why
+        → IsRestored a c → IsNoObject c d key content
     entry-denied {c} r back =
         let b : Cut = g.requested.between in
         let took = empty-taken g.requested.takes g.headed r.change in
         record {
-          refused = content-denied e.index a d g.entry key g.name kind content said g.is b e.growth.block g.requested.grows took.placed
+          refused =
+              content-denied e.index a d g.entry key g.name kind content said g.is b e.growth.block g.requested.grows
+              took.placed
               (subst (λ l. IsDenied d l content) (sym (placed-next took)) (r.denied d));
           denotes = restored-denotes a c d said back;
         }
 
   -- ---- without one
 
-  module _ (a m : Cut) (h at : ℕ) (g : IsBegunAlone a m names.NoKey kind many long h at) (d : Directory) (said : Denotes current a.bytes d) where
+  module _ (a m : Cut) (h at : ℕ) (g : IsBegunAlone a m names.NoKey kind many long h at) (d : Directory)
+      (said : Denotes current a.bytes d) where
     abbrev alone_in : Extent → Value → Object
     alone_in x w = record { class = Anonymous; name = []; value = w; extent = x }
 
     abbrev alone_plan : (Object → Directory → Plan) → Extent → Plan
     alone_plan next x = with_value content (λ w. next (alone_in x w) (with_object d (alone_in x w)))
 
-    alone-good : (x : Extent) (w : Value) → IsTrue (is_kind_of current (kind_of w)) → IsTrue (is_good_value w) → IsTrue (serves x ObjectRole (object_len [] w)) → IsTrue (is_object current (alone_in x w))
+    alone-good : (x : Extent) (w : Value) → IsTrue (is_kind_of current (kind_of w)) → IsTrue (is_good_value w)
+        → IsTrue (serves x ObjectRole (object_len [] w)) → IsTrue (is_object current (alone_in x w))
     alone-good x w known good s =
         and_from (true && is_kind_of current (kind_of w) && is_good_value w) (serves x ObjectRole (object_len [] w))
-        (and_from (true && is_kind_of current (kind_of w)) (is_good_value w) (and_from true (is_kind_of current (kind_of w)) refl known) good) s
+        (and_from (true && is_kind_of current (kind_of w)) (is_good_value w)
+        (and_from true (is_kind_of current (kind_of w)) refl known) good) s
 
-    alone-new : {w : Cut} → IsMadeValue content m w (record { handle = h; at = at }) → IsNewObject w d names.NoKey content h
+    alone-new : {w : Cut} → IsMadeValue content m w (record { handle = h; at = at })
+        → IsNewObject w d names.NoKey content h
     alone-new {w} r =
         let took = block a g.taken m w Anonymous [] h at g.takes g.headed r in
         let x : Extent = took.extent in
         let o = alone_in x r.value in
         let same = denotes-live current a.bytes d said in
-        let made =
-        made-in a g.taken m w Anonymous [] h at g.takes g.headed r
-        (alone-good x r.value (known-kind (kind_of r.value)) r.good (serving a g.taken m w Anonymous [] h at g.takes g.headed r)) in
+        let made = made-in a g.taken m w Anonymous [] h at g.takes g.headed r
+        (alone-good x r.value (known-kind (kind_of r.value)) r.good
+        (serving a g.taken m w Anonymous [] h at g.takes g.headed r)) in
         let there : IsGiven d (resized (live d) x) content r.value r.left =
-        subst (λ l. IsGiven d (resized l x) content r.value r.left) same (given-in a g.taken m w Anonymous [] h at g.takes g.headed r) in
+        subst (λ l. IsGiven d (resized l x) content r.value r.left) same
+        (given-in a g.taken m w Anonymous [] h at g.takes g.headed r) in
         record {
           object = o;
           after = with_object d o;
@@ -166,19 +193,24 @@ module _ (content : Content) where
           count = r.count;
           met = λ next.
               perform-new d (live d) ObjectRole (object_len [] (bare content)) (alone_plan next) x
-              (ap (λ l. place l (object_len [] (bare content)) ObjectRole) (sym same) ∙ placed-at a g.taken m w Anonymous [] h at g.takes g.headed r)
+              (ap (λ l. place l (object_len [] (bare content)) ObjectRole) (sym same)
+              ∙ placed-at a g.taken m w Anonymous [] h at g.takes g.headed r)
               ∙ there.met (λ w. next (alone_in x w) (with_object d (alone_in x w)));
-          denotes = denotes-with a w said made.good refl (subst (λ l. LaysOut current w.bytes (adding l (extents_of o))) same made.taken.live)
+          denotes =
+              denotes-with a w said made.good refl
+              (subst (λ l. LaysOut current w.bytes (adding l (extents_of o))) same made.taken.live)
               (subst (λ (l : LiveSet). Keeps a w l.extents) same made.taken.keeps) made.at;
         }
 
-    alone-denied : {w c : Cut} {why : Refusal} → IsNoValue content m w (record { handle = h; at = at }) why → IsRestored a c → IsNoObject c d names.NoKey content
+    alone-denied : {w c : Cut} {why : Refusal} → IsNoValue content m w (record { handle = h; at = at }) why
+        → IsRestored a c → IsNoObject c d names.NoKey content
     alone-denied {w} {c} r back =
         let took = empty-taken g.takes g.headed r.change in
         let x : Extent = took.extent in
         let same = denotes-live current a.bytes d said in
         let none : IsDenied d (resized (live d) x) content =
-        subst (λ l. IsDenied d (resized l x) content) same (subst (λ l. IsDenied d l content) (sym (placed-next took)) (r.denied d)) in
+        subst (λ l. IsDenied d (resized l x) content) same
+        (subst (λ l. IsDenied d l content) (sym (placed-next took)) (r.denied d)) in
         record {
           refused = λ next.
               perform-new d (live d) ObjectRole (object_len [] (bare content)) (alone_plan next) x
@@ -190,12 +222,17 @@ module _ (content : Content) where
   -- ---- an entry is to lead there, or all is given back
 
   module _ (a : Cut) {m : Cut} (b : IsSegment a.bytes) (key : names.Key) (h at : ℕ) where
-    entry-taken : {w : Cut} {e : NewEntry} → (g : IsBegunEntry a m key kind many long h at e) → (r : IsMadeValue content m w (record { handle = h; at = at }))
-        → IsTaken g.requested.between w ((block g.requested.between g.taken m w (class_of_index e.index) g.name h at g.requested.takes g.headed r).extent ∷ value_extents r.value)
-    entry-taken {w} {e} g r = both-taken g.requested.between g.taken m w (class_of_index e.index) g.name h at g.requested.takes g.headed r
+    entry-taken : {w : Cut} {e : NewEntry} → (g : IsBegunEntry a m key kind many long h at e)
+        → (r : IsMadeValue content m w (record { handle = h; at = at }))
+        → IsTaken g.requested.between w
+        ((block g.requested.between g.taken m w (class_of_index e.index) g.name h at g.requested.takes g.headed
+        r).extent ∷ value_extents r.value)
+    entry-taken {w} {e} g r =
+        both-taken g.requested.between g.taken m w (class_of_index e.index) g.name h at g.requested.takes g.headed r
 
     -- what the index wants is there
-    entry-wanted : {w : Cut} {e : NewEntry} → IsBegunEntry a m key kind many long h at e → IsMadeValue content m w (record { handle = h; at = at }) → IsWanted w h e
+    entry-wanted : {w : Cut} {e : NewEntry} → IsBegunEntry a m key kind many long h at e
+        → IsMadeValue content m w (record { handle = h; at = at }) → IsWanted w h e
     entry-wanted {w} {e} g r =
         let i : Index = e.index in
         let mid : Cut = g.requested.between in
@@ -205,7 +242,8 @@ module _ (content : Content) where
         let x = denotes-index i a b.1.denotes in
         let took = block mid g.taken m w (class_of_index i) g.name h at g.requested.takes g.headed r in
         let taken = entry-taken g r in
-        let grown = prepared a mid (place_of i) e.growth.block t hs x g.requested.grows (place_behind i) (place_small i) in
+        let grown =
+        prepared a mid (place_of i) e.growth.block t hs x g.requested.grows (place_behind i) (place_small i) in
         let index : IsIndexOf w (place_of i) t hs =
         taken-index _ taken (place_behind i) (place_small i) (growth-index i e.growth.block g.requested.grows x) in
         let away = g.absent t hs x in
@@ -216,11 +254,13 @@ module _ (content : Content) where
           aligned = requested-aligned took;
         }
 
-    pub value-ready : (entry : Option NewEntry) {w : Cut} → IsBegun a m key kind many long h at entry → IsMadeValue content m w (record { handle = h; at = at }) → IsReadyFor w h entry
+    pub value-ready : (entry : Option NewEntry) {w : Cut} → IsBegun a m key kind many long h at entry
+        → IsMadeValue content m w (record { handle = h; at = at }) → IsReadyFor w h entry
     value-ready None g r = tt
     value-ready (Some e) g r = entry-wanted g r
 
-    pub value-loose : (entry : Option NewEntry) (w : Cut) (why : Refusal) → IsBegun a m key kind many long h at entry → IsNoValue content m w (record { handle = h; at = at }) why → IsLoose a w h entry
+    pub value-loose : (entry : Option NewEntry) (w : Cut) (why : Refusal) → IsBegun a m key kind many long h at entry
+        → IsNoValue content m w (record { handle = h; at = at }) why → IsLoose a w h entry
     value-loose None w why g r = record {
       len = room_for [] long;
       taken = w;
@@ -246,22 +286,26 @@ module _ (content : Content) where
 
     -- ---- all directories
 
-    entry-place : {w c : Cut} {e : NewEntry} → IsBegunEntry a m key kind many long h at e → (r : IsMadeValue content m w (record { handle = h; at = at })) → IsEntryAdded w c h e → SamePlace a c
+    entry-place : {w c : Cut} {e : NewEntry} → IsBegunEntry a m key kind many long h at e
+        → (r : IsMadeValue content m w (record { handle = h; at = at })) → IsEntryAdded w c h e → SamePlace a c
     entry-place {w} {c} {e} g r added =
         let i : Index = e.index in
         let mid : Cut = g.requested.between in
         let q = (entry-wanted g r).index in
         SamePlace-trans a mid c (growth-place (place_of i) e.growth.block g.requested.grows)
-        (SamePlace-trans mid w c (entry-taken g r).keeps.place (keeps-place (place_of i) q.table e.growth.block (added.keeps q.table q.handles q.index)))
+        (SamePlace-trans mid w c (entry-taken g r).keeps.place
+        (keeps-place (place_of i) q.table e.growth.block (added.keeps q.table q.handles q.index)))
 
     -- it is made
-    value-made : {w : Cut} {e : NewEntry} {c : Cut} → IsBegunEntry a m key kind many long h at e → IsMadeValue content m w (record { handle = h; at = at }) → IsEntryAdded w c h e → IsMadeNow a c key content h
+    value-made : {w : Cut} {e : NewEntry} {c : Cut} → IsBegunEntry a m key kind many long h at e
+        → IsMadeValue content m w (record { handle = h; at = at }) → IsEntryAdded w c h e → IsMadeNow a c key content h
     value-made g r added = record {
       place = entry-place g r added;
       each = λ d st. (absent g st.denotes, entry-new g st.denotes r added);
     }
 
-    value-refused : {w : Cut} {e : NewEntry} {c : Cut} {why : Refusal} → IsBegunEntry a m key kind many long h at e → IsNoValue content m w (record { handle = h; at = at }) why → IsRestored a c → IsMadeNever a c key content
+    value-refused : {w : Cut} {e : NewEntry} {c : Cut} {why : Refusal} → IsBegunEntry a m key kind many long h at e
+        → IsNoValue content m w (record { handle = h; at = at }) why → IsRestored a c → IsMadeNever a c key content
     value-refused g r back = record {
       place = back.keeps.place;
       each = λ d st. (absent g st.denotes, entry-denied g st.denotes r back);
@@ -269,13 +313,15 @@ module _ (content : Content) where
 
   -- the same of an object without a key
   module _ {a m : Cut} (h at : ℕ) (g : IsBegunAlone a m names.NoKey kind many long h at) where
-    alone-made : {w : Cut} → IsMadeValue content m w (record { handle = h; at = at }) → IsMadeNow a w names.NoKey content h
+    alone-made : {w : Cut} → IsMadeValue content m w (record { handle = h; at = at })
+        → IsMadeNow a w names.NoKey content h
     alone-made {w} r = record {
       place = (both-taken a g.taken m w Anonymous [] h at g.takes g.headed r).keeps.place;
       each = λ d st. (no_key-none d.objects, alone-new a m h at g d st.denotes r);
     }
 
-    alone-refused : {w c : Cut} {why : Refusal} → IsNoValue content m w (record { handle = h; at = at }) why → IsRestored a c → IsMadeNever a c names.NoKey content
+    alone-refused : {w c : Cut} {why : Refusal} → IsNoValue content m w (record { handle = h; at = at }) why
+        → IsRestored a c → IsMadeNever a c names.NoKey content
     alone-refused r back = record {
       place = back.keeps.place;
       each = λ d st. (no_key-none d.objects, alone-denied a m h at g d st.denotes r back);
@@ -283,54 +329,76 @@ module _ (content : Content) where
 
   -- the same whatever the key
   module _ {a m : Cut} (b : IsSegment a.bytes) {key : names.Key} (h at : ℕ) where
-    pub value-built : (entry : Option NewEntry) {w : Cut} {c : Cut} → IsBegun a m key kind many long h at entry → IsMadeValue content m w (record { handle = h; at = at }) → LeadsThere w c h entry → IsMadeNow a c key content h
+    pub value-built : (entry : Option NewEntry) {w : Cut} {c : Cut} → IsBegun a m key kind many long h at entry
+        → IsMadeValue content m w (record { handle = h; at = at }) → LeadsThere w c h entry
+        → IsMadeNow a c key content h
     value-built None {c} g r same =
         subst (λ (q : names.Key). IsMadeNow a c q content h) (sym g.is)
-        (subst (λ (s : Cut). IsMadeNow a s names.NoKey content h) (sym same) (alone-made h at (record { is = refl; taken = g.taken; takes = g.takes; headed = g.headed }) r))
+        (subst (λ (s : Cut). IsMadeNow a s names.NoKey content h) (sym same)
+        (alone-made h at (record { is = refl; taken = g.taken; takes = g.takes; headed = g.headed }) r))
     value-built (Some e) g r added = value-made a b key h at g r added
 
-    pub value-not_built : (entry : Option NewEntry) {w : Cut} {c : Cut} {why : Refusal} → IsBegun a m key kind many long h at entry → IsNoValue content m w (record { handle = h; at = at }) why → GivesAllBack w c h entry → IsMadeNever a c key content
+    pub value-not_built : (entry : Option NewEntry) {w : Cut} {c : Cut} {why : Refusal}
+        → IsBegun a m key kind many long h at entry → IsNoValue content m w (record { handle = h; at = at }) why
+        → GivesAllBack w c h entry → IsMadeNever a c key content
     value-not_built None {w} {c} {why} g r gives =
         let back = gives a (value-loose a b key h at None w why g r) in
-        subst (λ (q : names.Key). IsMadeNever a c q content) (sym g.is) (alone-refused h at (record { is = refl; taken = g.taken; takes = g.takes; headed = g.headed }) r back)
-    value-not_built (Some e) {w} {why} g r gives = value-refused a b key h at g r (gives a (value-loose a b key h at (Some e) w why g r))
+        subst (λ (q : names.Key). IsMadeNever a c q content) (sym g.is)
+        (alone-refused h at (record { is = refl; taken = g.taken; takes = g.takes; headed = g.headed }) r back)
+    value-not_built (Some e) {w} {why} g r gives =
+        value-refused a b key h at g r (gives a (value-loose a b key h at (Some e) w why g r))
 
 -- ---- it is not begun
 
 module _ {a : Cut} (key : names.Key) (content : Content) where
   -- an object has the key
-  pub key-taken : {c : Cut} → (t : IsTakenKey a c key (kind_of (bare content))) → (d : Directory) → StandsFor a.bytes d → (o : Object) × (object_at d key ≡ Some o)
+  pub key-taken : {c : Cut} → (t : IsTakenKey a c key (kind_of (bare content))) → (d : Directory) → StandsFor a.bytes d
+      → (o : Object) × (object_at d key ≡ Some o)
   key-taken t d st =
-      let f = lookup-found t.index a t.entry key st.denotes (key-seeks t.index t.entry key t.name (kind_of (bare content)) t.is) t.place (t.found (table_of t.index d) (entries_of t.index d) (denotes-index t.index a st.denotes)) in
+      let f =
+      lookup-found t.index a t.entry key st.denotes
+      (key-seeks t.index t.entry key t.name (kind_of (bare content)) t.is) t.place
+      (t.found (table_of t.index d) (entries_of t.index d) (denotes-index t.index a st.denotes)) in
       (f.object, f.is)
 
-  none-alone : {c : Cut} → IsRefused a c (room_for [] (value_len (bare content))) ObjectRole → IsMadeNever a c names.NoKey content
+  none-alone : {c : Cut} → IsRefused a c (room_for [] (value_len (bare content))) ObjectRole
+      → IsMadeNever a c names.NoKey content
   none-alone r = record {
     place = subst (SamePlace a) (sym r.same) (record { before = refl; after = refl });
     each = λ d st. (
       no_key-none d.objects,
       record {
         refused = λ next.
-            perform-no_space d (live d) ObjectRole (object_len [] (bare content)) (λ x. with_value content (λ w. let o : Object = record { class = Anonymous; name = []; value = w; extent = x } in next o (with_object d o)))
-            (ap (λ l. place l (object_len [] (bare content)) ObjectRole) (sym (denotes-live current a.bytes d st.denotes)) ∙ r.none);
+            perform-no_space d (live d) ObjectRole (object_len [] (bare content))
+            (λ x. with_value content
+            (λ w. let o : Object = record { class = Anonymous; name = []; value = w; extent = x } in
+            next o (with_object d o)))
+            (ap (λ l. place l (object_len [] (bare content)) ObjectRole)
+            (sym (denotes-live current a.bytes d st.denotes)) ∙ r.none);
         denotes = subst (λ (u : Cut). Denotes current u.bytes d) (sym r.same) st.denotes;
       },
     );
   }
 
-  none-entry : {c : Cut} → IsUnmetEntry a c key (kind_of (bare content)) (value_len (bare content)) → IsMadeNever a c key content
+  none-entry : {c : Cut} → IsUnmetEntry a c key (kind_of (bare content)) (value_len (bare content))
+      → IsMadeNever a c key content
   none-entry {c} u = record {
     place = u.unmet.restored.keeps.place;
     each = λ d st. (
-      (lookup-absent u.index a u.entry key st.denotes (key-seeks u.index u.entry key u.name (kind_of (bare content)) u.is) (away-in u.index u.entry u.place st.denotes u.absent)).none,
+      (lookup-absent u.index a u.entry key st.denotes
+          (key-seeks u.index u.entry key u.name (kind_of (bare content)) u.is)
+          (away-in u.index u.entry u.place st.denotes u.absent)).none,
       record {
-        refused = λ next. content-none u.index a d u.entry key u.name (kind_of (bare content)) content st.denotes u.is next (room_for u.name (value_len (bare content))) refl u.unmet.none;
+        refused =
+            λ next. content-none u.index a d u.entry key u.name (kind_of (bare content)) content st.denotes u.is next
+            (room_for u.name (value_len (bare content))) refl u.unmet.none;
         denotes = restored-denotes a c d st.denotes u.unmet.restored;
       },
     );
   }
 
   -- a block is refused
-  pub value-not_begun : {c : Cut} → IsNotBegun a c key (kind_of (bare content)) (value_len (bare content)) NoSpace → IsMadeNever a c key content
+  pub value-not_begun : {c : Cut} → IsNotBegun a c key (kind_of (bare content)) (value_len (bare content)) NoSpace
+      → IsMadeNever a c key content
   value-not_begun {c} (inl r) = subst (λ (q : names.Key). IsMadeNever a c q content) (sym r.0) (none-alone r.1)
   value-not_begun (inr u) = none-entry u

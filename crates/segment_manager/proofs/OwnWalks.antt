@@ -23,42 +23,53 @@ use Rattle.segment_manager.specs.{Iterating.IsOwnBlock, Iterating.TileWalk, Iter
 
 -- ---- a list, and those of it that pass
 
-past-one : {X : Type 0} (b : Bool) (x : X) (ys zs : List X) → length ys ≡ length zs → length (cond b (x ∷ ys) ys) ≡ length (cond b (x ∷ zs) zs)
+past-one : {X : Type 0} (b : Bool) (x : X) (ys zs : List X) → length ys ≡ length zs
+    → length (cond b (x ∷ ys) ys) ≡ length (cond b (x ∷ zs) zs)
 past-one true x ys zs e = ap suc e
 past-one false x ys zs e = e
 
 -- one that does not pass
-pub none-more : {X : Type 0} (p : X → Bool) (xs : List X) (i : ℕ) {x : X} → slice_get xs i ≡ Some x → p x ≡ false → length (filter p (take (suc i) xs)) ≡ length (filter p (take i xs))
+pub none-more : {X : Type 0} (p : X → Bool) (xs : List X) (i : ℕ) {x : X} → slice_get xs i ≡ Some x → p x ≡ false
+    → length (filter p (take (suc i) xs)) ≡ length (filter p (take i xs))
 none-more p [] i {x} e f = absurd (none-some x e)
 none-more p (y ∷ ys) zero {x} e f = ap (λ b. length (cond b (y ∷ []) [])) (ap p (same_Some y x e) ∙ f)
-none-more p (y ∷ ys) (suc i) e f = past-one (p y) y (filter p (take (suc i) ys)) (filter p (take i ys)) (none-more p ys i e f)
+none-more p (y ∷ ys) (suc i) e f =
+    past-one (p y) y (filter p (take (suc i) ys)) (filter p (take i ys)) (none-more p ys i e f)
 
-one-behind : {X : Type 0} (b : Bool) (x : X) (ys zs : List X) → length ys ≡ suc (length zs) → length (cond b (x ∷ ys) ys) ≡ suc (length (cond b (x ∷ zs) zs))
+one-behind : {X : Type 0} (b : Bool) (x : X) (ys zs : List X) → length ys ≡ suc (length zs)
+    → length (cond b (x ∷ ys) ys) ≡ suc (length (cond b (x ∷ zs) zs))
 one-behind true x ys zs e = ap suc e
 one-behind false x ys zs e = e
 
 -- one that passes
-pub one-more : {X : Type 0} (p : X → Bool) (xs : List X) (i : ℕ) {x : X} → slice_get xs i ≡ Some x → p x ≡ true → length (filter p (take (suc i) xs)) ≡ suc (length (filter p (take i xs)))
+pub one-more : {X : Type 0} (p : X → Bool) (xs : List X) (i : ℕ) {x : X} → slice_get xs i ≡ Some x → p x ≡ true
+    → length (filter p (take (suc i) xs)) ≡ suc (length (filter p (take i xs)))
 one-more p [] i {x} e f = absurd (none-some x e)
 one-more p (y ∷ ys) zero {x} e f = ap (λ b. length (cond b (y ∷ []) [])) (ap p (same_Some y x e) ∙ f)
-one-more p (y ∷ ys) (suc i) e f = one-behind (p y) y (filter p (take (suc i) ys)) (filter p (take i ys)) (one-more p ys i e f)
+one-more p (y ∷ ys) (suc i) e f =
+    one-behind (p y) y (filter p (take (suc i) ys)) (filter p (take i ys)) (one-more p ys i e f)
 
-there-if : {X : Type 0} (b : Bool) (y : X) {x : X} (ys zs : List X) → slice_get ys (length zs) ≡ Some x → slice_get (cond b (y ∷ ys) ys) (length (cond b (y ∷ zs) zs)) ≡ Some x
+there-if : {X : Type 0} (b : Bool) (y : X) {x : X} (ys zs : List X) → slice_get ys (length zs) ≡ Some x
+    → slice_get (cond b (y ∷ ys) ys) (length (cond b (y ∷ zs) zs)) ≡ Some x
 there-if true y ys zs e = e
 there-if false y ys zs e = e
 
 -- it stands behind as many as passed before it
-pub passes-there : {X : Type 0} (p : X → Bool) (xs : List X) (i : ℕ) {x : X} → slice_get xs i ≡ Some x → p x ≡ true → slice_get (filter p xs) (length (filter p (take i xs))) ≡ Some x
+pub passes-there : {X : Type 0} (p : X → Bool) (xs : List X) (i : ℕ) {x : X} → slice_get xs i ≡ Some x → p x ≡ true
+    → slice_get (filter p xs) (length (filter p (take i xs))) ≡ Some x
 passes-there p [] i {x} e f = absurd (none-some x e)
-passes-there p (y ∷ ys) zero {x} e f = ap (λ b. slice_get (cond b (y ∷ filter p ys) (filter p ys)) 0) (ap p (same_Some y x e) ∙ f) ∙ e
+passes-there p (y ∷ ys) zero {x} e f =
+    ap (λ b. slice_get (cond b (y ∷ filter p ys) (filter p ys)) 0) (ap p (same_Some y x e) ∙ f) ∙ e
 passes-there p (y ∷ ys) (suc i) e f = there-if (p y) y (filter p ys) (filter p (take i ys)) (passes-there p ys i e f)
 
-end-if : {X : Type 0} (b : Bool) (y : X) (ys zs : List X) → slice_get ys (length zs) ≡ None → slice_get (cond b (y ∷ ys) ys) (length (cond b (y ∷ zs) zs)) ≡ None
+end-if : {X : Type 0} (b : Bool) (y : X) (ys zs : List X) → slice_get ys (length zs) ≡ None
+    → slice_get (cond b (y ∷ ys) ys) (length (cond b (y ∷ zs) zs)) ≡ None
 end-if true y ys zs e = e
 end-if false y ys zs e = e
 
 -- none stands there where all were passed
-pub passes-none : {X : Type 0} (p : X → Bool) (xs : List X) (i : ℕ) → slice_get xs i ≡ None → slice_get (filter p xs) (length (filter p (take i xs))) ≡ None
+pub passes-none : {X : Type 0} (p : X → Bool) (xs : List X) (i : ℕ) → slice_get xs i ≡ None
+    → slice_get (filter p xs) (length (filter p (take i xs))) ≡ None
 passes-none p [] i e = refl
 passes-none p (y ∷ ys) zero e = absurd (none-some y (sym e))
 passes-none p (y ∷ ys) (suc i) e = end-if (p y) y (filter p ys) (filter p (take i ys)) (passes-none p ys i e)
@@ -66,7 +77,11 @@ passes-none p (y ∷ ys) (suc i) e = end-if (p y) y (filter p ys) (filter p (tak
 -- ---- how many tiles
 
 tile-more : (b : Bool) (m : Memory) (at end n : ℕ) → length (tiles_from n m (at + (tile_at m at).len) end) ≤ n
-    → length (elim b as (λ _. List Tile) [ false ↦ [] | true ↦ tile_at m at ∷ tiles_from n m (at + (tile_at m at).len) end ]) ≤ suc n
+    → length (elim b as (λ _. List Tile) [
+      | false ↦ []
+      | true ↦ tile_at m at ∷ tiles_from n m (at + (tile_at m at).len)
+          end
+    ]) ≤ suc n
 tile-more false m at end n l = omega arith
 tile-more true m at end n l = omega arith
 
@@ -80,11 +95,13 @@ pub segment-short : (b : List ℕ) → IsSegment b → length b ≤ 1073741824
 unfolding is_proper
 segment-short b g =
     let l = live g.0 in
-    let legal : IsTrue (is_legal_size l.size) = first (is_legal_size l.size) (proper_from 128 l.extents _) g.1.denotes.directory.proper in
+    let legal : IsTrue (is_legal_size l.size) =
+    first (is_legal_size l.size) (proper_from 128 l.extents _) g.1.denotes.directory.proper in
     omega (arith, (legal_size l.size legal).high, g.1.denotes.heap.size)
 
 -- and so a number of 64 bits counts its tiles
-pub tile-few : (b : List ℕ) (at : ℕ) → IsSegment b → at < length (tiles_of (bytes_of b) (length b)) → at + 1 ≤ 1073741824
+pub tile-few : (b : List ℕ) (at : ℕ) → IsSegment b → at < length (tiles_of (bytes_of b) (length b))
+    → at + 1 ≤ 1073741824
 tile-few b at g l = omega (arith, segment-short b g, tiles-bounded (length b / 32) (bytes_of b) 128 (length b - 16))
 
 -- ---- one turn of the walk
@@ -108,7 +125,8 @@ module _ {old cur : TileWalk} (new : TileWalk) (s : IsStill old cur) where
   }
 
   -- up to one of an object
-  pub own-found : {span : Span} → GoesOnTiles cur (Some span) new → is_own_span (as_span span) ≡ true → GoesOnOwn old (Some span) new
+  pub own-found : {span : Span} → GoesOnTiles cur (Some span) new → is_own_span (as_span span) ≡ true
+      → GoesOnOwn old (Some span) new
   own-found g e = record {
     segment = g.segment ∙ s.segment;
     says = λ d k.
@@ -138,11 +156,12 @@ none-mapped f (x ∷ xs) zero e = absurd (none-some (f x) (sym e))
 none-mapped f (x ∷ xs) (suc i) e = none-mapped f xs i e
 
 -- all objects came
-pub objects-end : (s : State) (at : ℕ) {d : Directory} → StandsFor s.cut.bytes d → None ≡ slice_get (own_spans d) at → length d.objects ≤ at
+pub objects-end : (s : State) (at : ℕ) {d : Directory} → StandsFor s.cut.bytes d → None ≡ slice_get (own_spans d) at
+    → length d.objects ≤ at
 objects-end s at {d} k e =
-    none_more d.objects at
-    (none-mapped (λ (o : Object). o.extent) d.objects at
-    (none-mapped as_used (blocks d.objects) at (ap (λ ss. slice_get ss at) (sym (all-own_spans k.denotes.directory)) ∙ sym e)))
+    none_more d.objects at (none-mapped (λ (o : Object). o.extent) d.objects at
+    (none-mapped as_used (blocks d.objects) at
+    (ap (λ ss. slice_get ss at) (sym (all-own_spans k.denotes.directory)) ∙ sym e)))
 
 -- the object whose block stands at a place among those of objects
 pub record IsOwner (d : Directory) (at : ℕ) (span : Span) : Type 0 where
@@ -150,36 +169,45 @@ pub record IsOwner (d : Directory) (at : ℕ) (span : Span) : Type 0 where
   pub is : slice_get d.objects at ≡ Some object
   pub offset : span.offset ≡ object.extent.offset
 
-owner-in : (os : List Object) (at : ℕ) {span : LiveSpan} → slice_get (map as_used (blocks os)) at ≡ Some span → (o : Object) × (slice_get os at ≡ Some o) × (span.offset ≡ o.extent.offset)
+owner-in : (os : List Object) (at : ℕ) {span : LiveSpan} → slice_get (map as_used (blocks os)) at ≡ Some span
+    → (o : Object) × (slice_get os at ≡ Some o) × (span.offset ≡ o.extent.offset)
 owner-in [] at {span} e = absurd (none-some span e)
 owner-in (o ∷ os) zero {span} e = (o, refl, ap (λ (s : LiveSpan). s.offset) (sym (same_Some (as_used o.extent) span e)))
 owner-in (o ∷ os) (suc at) e = owner-in os at e
 
 -- ---- how large the numbers are
 
-all-within : (from : ℕ) (xs : List Extent) (to : ℕ) → IsTrue (proper_from from xs to) → AllByRecursion (λ (x : Extent). end_of x ≤ to) xs
+all-within : (from : ℕ) (xs : List Extent) (to : ℕ) → IsTrue (proper_from from xs to)
+    → AllByRecursion (λ (x : Extent). end_of x ≤ to) xs
 all-within from [] to p = tt
 all-within from (x ∷ xs) to p =
     let f = proper_from-IsFirst from x xs to p in
     (proper_from-reaches (end_of x) xs to f.rest, all-within (end_of x) xs to f.rest)
 
-all-blocks : (P : Extent → Type 0) (os : List Object) → AllByRecursion P (blocks os) → AllByRecursion (λ (o : Object). P o.extent) os
+all-blocks : (P : Extent → Type 0) (os : List Object) → AllByRecursion P (blocks os)
+    → AllByRecursion (λ (o : Object). P o.extent) os
 all-blocks P [] h = tt
 all-blocks P (o ∷ os) h = (h.0, all-blocks P os h.1)
 
-live-within : (d : Directory) → IsTrue (is_proper (live d)) → AllByRecursion (λ (x : Extent). end_of x ≤ (live d).size - 16) (live d).extents
+live-within : (d : Directory) → IsTrue (is_proper (live d))
+    → AllByRecursion (λ (x : Extent). end_of x ≤ (live d).size - 16) (live d).extents
 unfolding is_proper
-live-within d h = all-within 128 (live d).extents ((live d).size - 16) (second (is_legal_size (live d).size) (proper_from 128 (live d).extents ((live d).size - 16)) h)
+live-within d h =
+    all-within 128 (live d).extents ((live d).size - 16)
+    (second (is_legal_size (live d).size) (proper_from 128 (live d).extents ((live d).size - 16)) h)
 
 -- the blocks of objects lie within the segment
-own-within : {b : List ℕ} {d : Directory} → StandsFor b d → AllByRecursion (λ (o : Object). end_of o.extent ≤ (live d).size - 16) d.objects
+own-within : {b : List ℕ} {d : Directory} → StandsFor b d
+    → AllByRecursion (λ (o : Object). end_of o.extent ≤ (live d).size - 16) d.objects
 own-within {d} k =
     all-blocks (λ (x : Extent). end_of x ≤ (live d).size - 16) d.objects
     (subst (AllByRecursion (λ (x : Extent). end_of x ≤ (live d).size - 16)) (own-blocks k.denotes.directory)
-    (AllByRecursion-filter (λ (x : Extent). end_of x ≤ (live d).size - 16) is_own (live d).extents (live-within d k.denotes.directory.proper)))
+    (AllByRecursion-filter (λ (x : Extent). end_of x ≤ (live d).size - 16) is_own (live d).extents
+    (live-within d k.denotes.directory.proper)))
 
 -- objects that rise are no more than there are offsets
-rises-few : (n m : ℕ) (os : List Object) → n ≤ m + 1 → IsTrue (rises_from n os) → AllByRecursion (λ (o : Object). end_of o.extent ≤ m) os → n + length os ≤ m + 1
+rises-few : (n m : ℕ) (os : List Object) → n ≤ m + 1 → IsTrue (rises_from n os)
+    → AllByRecursion (λ (o : Object). end_of o.extent ≤ m) os → n + length os ≤ m + 1
 rises-few n m [] l r a = omega (arith, l)
 rises-few n m (o ∷ os) l r a =
     let front = rises-front n o os r in
@@ -188,20 +216,26 @@ rises-few n m (o ∷ os) l r a =
 
 pub objects-few : (b : List ℕ) (g : IsSegment b) → length g.0.objects ≤ 1073741825
 objects-few b g =
-    omega (arith, rises-few 0 ((live g.0).size - 16) g.0.objects (omega arith) g.1.denotes.directory.by_offset (own-within g.1), segment-short b g, g.1.denotes.heap.size)
+    omega (
+      arith,
+      rises-few 0 ((live g.0).size - 16) g.0.objects (omega arith) g.1.denotes.directory.by_offset
+          (own-within g.1),
+      segment-short b g,
+      g.1.denotes.heap.size,
+    )
 
 -- how many objects there are, as the tags say
 pub counts-own : {b : List ℕ} {d : Directory} → StandsFor b d → own_count b ≡ length d.objects
 counts-own {b} {d} k =
-    ap (λ (l : LiveSet). length (filter is_own l.extents)) (denotes-live current b d k.denotes) ∙ ap length (own-blocks k.denotes.directory) ∙ length-map d.objects (λ o. o.extent)
+    ap (λ (l : LiveSet). length (filter is_own l.extents)) (denotes-live current b d k.denotes)
+    ∙ ap length (own-blocks k.denotes.directory) ∙ length-map d.objects (λ o. o.extent)
 
 -- ---- a call of the iterator
 
 module _ {s : State} {at : ℕ} {span : Span} (own : IsOwnBlock s at span) where
   owner : {d : Directory} → StandsFor s.cut.bytes d → IsOwner d at span
   owner {d} k =
-      let o =
-      owner-in d.objects at
+      let o = owner-in d.objects at
       (ap (λ ss. slice_get ss at) (sym (all-own_spans k.denotes.directory)) ∙ sym (own.stands d k)) in
       record { object = o.0; is = o.1; offset = o.2 }
 
@@ -232,8 +266,7 @@ module _ {s : State} {at : ℕ} {span : Span} (own : IsOwnBlock s at span) where
   -- the place is one of as many as the tags say
   pub owner-counts : IsSegment s.cut.bytes → at < own_count s.cut.bytes
   owner-counts g =
-      subst (λ n. at < n) (sym (counts-own g.1))
-      (slice_get_within g.0.objects at (owner g.1).object (owner g.1).is)
+      subst (λ n. at < n) (sym (counts-own g.1)) (slice_get_within g.0.objects at (owner g.1).object (owner g.1).is)
 
   -- and so 64 bits count it, and what its block goes from
   pub owner-few : IsSegment s.cut.bytes → at + 1 ≤ 1073741825
@@ -243,13 +276,15 @@ module _ {s : State} {at : ℕ} {span : Span} (own : IsOwnBlock s at span) where
   owner-short g =
       let d : Directory = g.0 in
       let o = owner g.1 in
-      let within = all-at (λ (p : Object). end_of p.extent ≤ (live d).size - 16) d.objects at
-      (own-within g.1) o.is in
+      let within = all-at (λ (p : Object). end_of p.extent ≤ (live d).size - 16) d.objects at (own-within g.1) o.is in
       omega (arith, within, o.offset, segment-short s.cut.bytes g, g.1.denotes.heap.size)
 
-module _ {s : State} {old new : TileWalk} {at : ℕ} {r : Option Span} (h : HasPassed s old at) (g : GoesOnOwn old r new) where
+module _ {s : State} {old new : TileWalk} {at : ℕ} {r : Option Span} (h : HasPassed s old at)
+    (g : GoesOnOwn old r new) where
   at-own : {d : Directory} → StandsFor s.cut.bytes d → option_map as_span r ≡ slice_get (own_spans d) at
-  at-own {d} k = g.says d (subst (λ (t : State). StandsFor t.cut.bytes d) (sym h.segment) k) ∙ ap (slice_get (own_spans d)) (sym (h.count.answers d k))
+  at-own {d} k =
+      g.says d (subst (λ (t : State). StandsFor t.cut.bytes d) (sym h.segment) k)
+      ∙ ap (slice_get (own_spans d)) (sym (h.count.answers d k))
 
   -- a block came
   pub block-at : {span : Span} → r ≡ Some span → IsOwnBlock s at span

@@ -9,4 +9,5 @@ pub begin_at-requires-clause-index : goal.begin_at-requires-clause-index
 begin_at-requires-clause-index c = segment-index c.args.index c.requires.segment
 
 pub begin_at-requires-clause-short : goal.begin_at-requires-clause-short
-begin_at-requires-clause-short c = key-short c.args.index c.args.entry c.requires.key.0 c.args.name.now c.args.shape.kind c.requires.key.1
+begin_at-requires-clause-short c =
+    key-short c.args.index c.args.entry c.requires.key.0 c.args.name.now c.args.shape.kind c.requires.key.1

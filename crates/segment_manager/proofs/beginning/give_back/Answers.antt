@@ -8,17 +8,20 @@ deallocate-requires c = loose-live c.args.entry c.requires.0 c.args.heap.now c.a
 
 pub give_back-requires : goal.give_back-requires
 give_back-requires c =
-    let l : IsLooseEntry c.requires.0 c.args.heap.now c.args.handle c.in-Some.new = subst (IsLoose c.requires.0 c.args.heap.now c.args.handle) c.in-Some.is c.requires.1 in
+    let l : IsLooseEntry c.requires.0 c.args.heap.now c.args.handle c.in-Some.new =
+    subst (IsLoose c.requires.0 c.args.heap.now c.args.handle) c.in-Some.is c.requires.1 in
     record { held = loose-held l c.deallocate.ensures.released }
 
 pub returns-in-Some : goal.returns-in-Some
 returns-in-Some c =
     λ old loose.
-    let l : IsLooseEntry old c.args.heap.now c.args.handle c.in-Some.new = subst (IsLoose old c.args.heap.now c.args.handle) c.in-Some.is loose in
+    let l : IsLooseEntry old c.args.heap.now c.args.handle c.in-Some.new =
+    subst (IsLoose old c.args.heap.now c.args.handle) c.in-Some.is loose in
     entry-back l c.deallocate.ensures.released c.give_back.ensures.change
 
 pub returns-in_default : goal.returns-in_default
 returns-in_default c =
     λ old loose.
-    let l : IsLooseAlone old c.args.heap.now c.args.handle = subst (IsLoose old c.args.heap.now c.args.handle) c.in_default.is loose in
+    let l : IsLooseAlone old c.args.heap.now c.args.handle =
+    subst (IsLoose old c.args.heap.now c.args.handle) c.in_default.is loose in
     alone-back l c.deallocate.ensures.released

@@ -8,20 +8,26 @@ pub overflow_add-at : goal.overflow_add-at
 overflow_add-at g c =
     let size : c.size-size.result ≡ size_of c.args.kind = c.size-size.ensures in
     let below : c.loop-i.i < c.args.count = omega arith in
-    let small = next-small c.args.heap.now c.args.handle c.args.at (size_of c.args.kind) c.loop-i.i c.args.count c.requires.heap c.requires.room below in
+    let small =
+    next-small c.args.heap.now c.args.handle c.args.at
+    (size_of c.args.kind) c.loop-i.i c.args.count c.requires.heap c.requires.room below in
     subst (λ n. Fits w64 (c.args.at + n * c.loop-i.i)) (sym size) (omega arith)
 
 pub write_item-requires-clause-room : goal.write_item-requires-clause-room
 write_item-requires-clause-room g c =
     let size : c.size-size.result ≡ size_of c.args.kind = c.size-size.ensures in
     let below : c.loop-i.i < c.args.count = omega arith in
-    subst (λ n. IsTrue (has_room (live_of c.loop-i.heap.bytes) c.args.handle (c.args.at + n * c.loop-i.i + size_of c.args.kind))) (sym size)
-    (room-once_more c.args.handle c.args.at (size_of c.args.kind) c.loop-i.i c.args.count below c.requires.room c.loop-i.invariant.change)
+    subst (λ n. IsTrue (has_room (live_of c.loop-i.heap.bytes) c.args.handle
+    (c.args.at + n * c.loop-i.i + size_of c.args.kind))) (sym size)
+    (room-once_more c.args.handle c.args.at
+    (size_of c.args.kind) c.loop-i.i c.args.count below c.requires.room c.loop-i.invariant.change)
 
 pub write_item-requires-clause-of_kind : goal.write_item-requires-clause-of_kind
 write_item-requires-clause-of_kind g c =
     λ item after step.
-    last-holds g.I.Iterator.next_gives (λ item. g.S.Spelling.kind item ≡ c.args.kind) c.args.items.now c.loop-i.items after c.loop-i.invariant.items item c.requires.of_kind c.loop-i.invariant.ran step
+    last-holds g.I.Iterator.next_gives
+    (λ item. g.S.Spelling.kind item ≡ c.args.kind) c.args.items.now c.loop-i.items after c.loop-i.invariant.items item
+    c.requires.of_kind c.loop-i.invariant.ran step
 
 pub loop-i-preserved : goal.loop-i-preserved
 loop-i-preserved g c =

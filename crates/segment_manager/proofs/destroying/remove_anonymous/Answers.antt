@@ -6,4 +6,5 @@ pub deallocate-requires : goal.deallocate-requires
 deallocate-requires c = let x = c.requires in still-live c.args.object c.release_contents.ensures x.stands x.is
 
 pub returns : goal.returns
-returns c = λ d o k e class. anonymous-gone c.args.object c.release_contents.ensures k e class c.deallocate.ensures.released
+returns c =
+    λ d o k e class. anonymous-gone c.args.object c.release_contents.ensures k e class c.deallocate.ensures.released

@@ -19,9 +19,11 @@ pub remove-requires-clause-below : goal.remove-requires-clause-below
 remove-requires-clause-below c = below-still c.at-handle.ensures c.release_contents.ensures c.requires
 
 pub deallocate-requires : goal.deallocate-requires
-deallocate-requires c = block-still c.at-handle.ensures c.release_contents.ensures c.requires c.remove.new.heap c.remove.ensures.live
+deallocate-requires c =
+    block-still c.at-handle.ensures c.release_contents.ensures c.requires c.remove.new.heap c.remove.ensures.live
 
 pub returns : goal.returns
 returns c =
     removes-entry c.at-handle.ensures c.release_contents.ensures
-    (record { removes = c.remove.ensures.index; live = c.remove.ensures.live; keeps = c.remove.ensures.keeps }) c.deallocate.ensures.released
+    (record { removes = c.remove.ensures.index; live = c.remove.ensures.live; keeps = c.remove.ensures.keeps })
+    c.deallocate.ensures.released

@@ -16,7 +16,8 @@ pub at-requires-clause-index : goal.at-requires-clause-index
 at-requires-clause-index g c = segment-index c.args.index c.requires.segment
 
 pub at-requires-clause-below : goal.at-requires-clause-below
-at-requires-clause-below g c = place-below c.args.index c.args.entry c.in-Found.place c.requires.segment c.in-Found.ensures.place
+at-requires-clause-below g c =
+    place-below c.args.index c.args.entry c.in-Found.place c.requires.segment c.in-Found.ensures.place
 
 pub found_of-requires : goal.found_of-requires
 found_of-requires g c =
@@ -24,23 +25,27 @@ found_of-requires g c =
     let key = c.requires.key in
     has-object key.0 c.requires.segment
     (found-answers s c.args.index c.args.entry c.in-Found.place c.in-Found.ensures.place c.at.ensures key.0
-    (key-seeks c.args.index c.args.entry key.0 c.args.name.now (kind_of (bare (g.F.Filling.content c.args.filling.now))) key.1))
+    (key-seeks c.args.index c.args.entry key.0 c.args.name.now
+    (kind_of (bare (g.F.Filling.content c.args.filling.now))) key.1))
 
 pub returns-in-Found : goal.returns-in-Found
 returns-in-Found g c =
     λ key n.
     let content = g.F.Filling.content c.args.filling.now in
-    found-all c.requires.segment key content
-    (λ mode.
+    found-all c.requires.segment key content (λ mode.
     let s : State = record { cut = c.args.heap.now; mode = mode } in
-    found-answers s c.args.index c.args.entry c.in-Found.place c.in-Found.ensures.place c.at.ensures key (key-seeks c.args.index c.args.entry key c.args.name.now (kind_of (bare content)) n))
-    (subst (λ k. (o : Object) → StandsAt c.args.heap.now.bytes c.at.result o → c.found_of.result ≡ pair_of_kind o k) c.shape-shape.ensures.kind c.found_of.ensures)
+    found-answers s c.args.index c.args.entry c.in-Found.place c.in-Found.ensures.place c.at.ensures key
+    (key-seeks c.args.index c.args.entry key c.args.name.now (kind_of (bare content)) n))
+    (subst (λ k. (o : Object) → StandsAt c.args.heap.now.bytes c.at.result o → c.found_of.result ≡ pair_of_kind o k)
+    c.shape-shape.ensures.kind c.found_of.ensures)
 
 pub begin_at-requires-clause-index : goal.begin_at-requires-clause-index
 begin_at-requires-clause-index g c = segment-index c.args.index c.requires.segment
 
 pub begin_at-requires-clause-short : goal.begin_at-requires-clause-short
-begin_at-requires-clause-short g c = key-short c.args.index c.args.entry c.requires.key.0 c.args.name.now (kind_of (bare (g.F.Filling.content c.args.filling.now))) c.requires.key.1
+begin_at-requires-clause-short g c =
+    key-short c.args.index c.args.entry c.requires.key.0 c.args.name.now
+    (kind_of (bare (g.F.Filling.content c.args.filling.now))) c.requires.key.1
 
 pub returns-in_err-begun : goal.returns-in_err-begun
 returns-in_err-begun g c =
@@ -50,8 +55,11 @@ returns-in_err-begun g c =
     let away = c.in-Absent.ensures.place in
     found-absent c.args.index c.args.entry c.in-Absent.place c.args.name.now (kind_of (bare content)) n away
     (found-not_begun c.requires.segment key content c.in_err-begun.field-0.0
-    (no-object c.requires.segment c.args.index c.args.entry c.in-Absent.place key c.args.name.now (kind_of (bare content)) n away)
-    (begun-for c.args.heap.now c.begin_at.new.heap key (Err c.in_err-begun.field-0.0) is (c.in_err-begun.ensures key c.args.entry (subst (IsNewKeyOf c.args.index c.args.entry key c.args.name.now) (sym is.kind) n) away))))
+    (no-object c.requires.segment c.args.index c.args.entry c.in-Absent.place key c.args.name.now
+    (kind_of (bare content)) n away)
+    (begun-for c.args.heap.now c.begin_at.new.heap key (Err c.in_err-begun.field-0.0) is
+    (c.in_err-begun.ensures key c.args.entry
+    (subst (IsNewKeyOf c.args.index c.args.entry key c.args.name.now) (sym is.kind) n) away))))
 
 pub returns : goal.returns
 returns g c =
@@ -61,9 +69,14 @@ returns g c =
     let away = c.in-Absent.ensures.place in
     let b = c.in_ok-begun.begun in
     let begun =
-    begun-for c.args.heap.now c.begin_at.new.heap key (Ok b) is (c.in_ok-begun.ensures key c.args.entry (subst (IsNewKeyOf c.args.index c.args.entry key c.args.name.now) (sym is.kind) n) away) in
-    let built : Constructs c.args.heap.now c.build.new.heap (asked.FindOrConstruct key content) pair_answer (with_count c.shape-shape.result.count c.build.result) =
-    subst (λ m. Constructs c.args.heap.now c.build.new.heap (asked.FindOrConstruct key content) pair_answer (with_count m c.build.result)) (sym is.count)
-    (found-built c.requires.segment key content b.entry c.begin_at.new.heap b.handle b.at c.build.result begun c.build.ensures) in
+    begun-for c.args.heap.now c.begin_at.new.heap key (Ok b) is
+    (c.in_ok-begun.ensures key c.args.entry
+    (subst (IsNewKeyOf c.args.index c.args.entry key c.args.name.now) (sym is.kind) n) away) in
+    let built : Constructs c.args.heap.now c.build.new.heap (asked.FindOrConstruct key content) pair_answer
+    (with_count c.shape-shape.result.count c.build.result) =
+    subst (λ m. Constructs c.args.heap.now c.build.new.heap (asked.FindOrConstruct key content) pair_answer
+    (with_count m c.build.result)) (sym is.count)
+    (found-built c.requires.segment key content b.entry c.begin_at.new.heap b.handle b.at c.build.result begun
+    c.build.ensures) in
     subst (FindsOrConstructs c.args.heap.now c.build.new.heap key content) (sym c.counted.ensures)
     (found-absent c.args.index c.args.entry c.in-Absent.place c.args.name.now (kind_of (bare content)) n away built)

@@ -15,7 +15,8 @@ returns-in_err-said-clause-steps c =
     let none = names-end bytes old new c.self.invariant
     (subst (λ (r : Option Instance). GoesOn old r new) c.in_err-said.was c.next.ensures.steps) in
     subst (λ (t : NameWalk). GoesOnNames bytes t c.from_residual.result (names_walk new)) c.self.view_is
-    (subst (λ (r : Option (Bor (List ℕ))). GoesOnNames bytes (names_walk old) r (names_walk new)) (sym c.from_residual.ensures) none)
+    (subst (λ (r : Option (Bor (List ℕ))). GoesOnNames bytes (names_walk old) r (names_walk new))
+    (sym c.from_residual.ensures) none)
 
 pub returns-clause-steps : goal.returns-clause-steps
 returns-clause-steps c =

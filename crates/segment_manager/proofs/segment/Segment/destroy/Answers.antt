@@ -12,8 +12,7 @@ returns-then-is_read_only-clause-step c =
 
 pub lookup-requires : goal.lookup-requires
 lookup-requires c = record {
-  keys = denotes-keys c.entry_of-index.result.0
-      c.self.invariant.1.denotes;
+  keys = denotes-keys c.entry_of-index.result.0 c.self.invariant.1.denotes;
 }
 
 pub remove_entered-requires : goal.remove_entered-requires

@@ -8,11 +8,11 @@ pub at-handle-requires-clause-index : goal.at-handle-requires-clause-index
 at-handle-requires-clause-index c = segment-index c.args.index c.self.invariant
 
 pub at-handle-requires-clause-below : goal.at-handle-requires-clause-below
-at-handle-requires-clause-below c =
-    below-count c.self.view_is c.args.index c.self.invariant c.requires
+at-handle-requires-clause-below c = below-count c.self.view_is c.args.index c.self.invariant c.requires
 
 pub read_instance-requires-clause-heap : goal.read_instance-requires-clause-heap
-read_instance-requires-clause-heap c = denotes-heap current c.self.inside.heap.bytes c.self.invariant.0 c.self.invariant.1.denotes
+read_instance-requires-clause-heap c =
+    denotes-heap current c.self.inside.heap.bytes c.self.invariant.0 c.self.invariant.1.denotes
 
 pub read_instance-requires-clause-object : goal.read_instance-requires-clause-object
 read_instance-requires-clause-object c =

@@ -5,7 +5,8 @@ use Rattle.segment_manager.proofs.segment.Segment.handle_of.Goals as goal
 
 pub returns-in-Name : goal.returns-in-Name
 returns-in-Name c =
-    subst (λ k. Answers c.args.self.now (λ d. handle_at d (key_seen k)) c.look_up.result) (sym c.in-Name.is) (c.look_up.ensures (ByName c.in-Name.name.bytes.now) c.as_bytes.ensures.bytes)
+    subst (λ k. Answers c.args.self.now (λ d. handle_at d (key_seen k)) c.look_up.result) (sym c.in-Name.is)
+    (c.look_up.ensures (ByName c.in-Name.name.bytes.now) c.as_bytes.ensures.bytes)
 
 pub returns-in-Unique : goal.returns-in-Unique
 returns-in-Unique c =
@@ -19,4 +20,6 @@ returns-in-Handle c =
     (handle-answers c.in-Handle.handle c.belongs.ensures))
 
 pub returns-in-Anonymous : goal.returns-in-Anonymous
-returns-in-Anonymous c = subst (λ k. Answers c.args.self.now (λ d. handle_at d (key_seen k)) None) (sym c.in-Anonymous.is) (anonymous-answers)
+returns-in-Anonymous c =
+    subst (λ k. Answers c.args.self.now (λ d. handle_at d (key_seen k)) None) (sym c.in-Anonymous.is)
+    (anonymous-answers)

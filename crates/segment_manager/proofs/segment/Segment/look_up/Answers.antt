@@ -11,7 +11,8 @@ pub at-requires-clause-index : goal.at-requires-clause-index
 at-requires-clause-index c = segment-index c.args.index c.self.invariant
 
 pub at-requires-clause-below : goal.at-requires-clause-below
-at-requires-clause-below c = place-below c.args.index c.args.entry c.in-Found.place c.self.invariant c.in-Found.ensures.place
+at-requires-clause-below c =
+    place-below c.args.index c.args.entry c.in-Found.place c.self.invariant c.in-Found.ensures.place
 
 pub returns-in-Found : goal.returns-in-Found
 returns-in-Found c = λ key q.
@@ -20,4 +21,5 @@ returns-in-Found c = λ key q.
 
 pub returns-in-Absent : goal.returns-in-Absent
 returns-in-Absent c = λ key q.
-    subst (λ t. Answers t (λ d. handle_at d key) None) c.self.view_is (absent-answers c.args.index c.args.entry c.in-Absent.field-0 c.in-Absent.ensures.place key q)
+    subst (λ t. Answers t (λ d. handle_at d key) None) c.self.view_is
+    (absent-answers c.args.index c.args.entry c.in-Absent.field-0 c.in-Absent.ensures.place key q)

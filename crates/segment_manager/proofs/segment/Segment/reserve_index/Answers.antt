@@ -6,7 +6,9 @@ use Rattle.segment_manager.proofs.segment.Segment.reserve_index.Goals.{in-Ok, in
 use Rattle.segment_manager.proofs.segment.Segment.reserve_index.Goals as goal
 
 pub returns-then-is_read_only-clause-step : goal.returns-then-is_read_only-clause-step
-returns-then-is_read_only-clause-step c = refuses-read_only c.args.self.now (reserve_of c.args.index c.args.n) (sym c.is_read_only.ensures ∙ c.if-is_read_only.true) (reserve-changes c.args.index c.args.n)
+returns-then-is_read_only-clause-step c =
+    refuses-read_only c.args.self.now (reserve_of c.args.index c.args.n)
+    (sym c.is_read_only.ensures ∙ c.if-is_read_only.true) (reserve-changes c.args.index c.args.n)
 
 pub reserve-requires : goal.reserve-requires
 reserve-requires c = record { index = segment-index c.args.index c.self.invariant }
@@ -17,7 +19,8 @@ invariant_of-self c =
       | in-Ok w ↦ (reserves c.self.view_is c.self.invariant c.args.index
           (sym c.is_read_only.ensures ∙ c.if-is_read_only.false) w.in-Ok.ensures.reserved).segment
       | in-Err w ↦ (reserves-none c.self.view_is c.self.invariant c.args.index c.args.n
-          (sym c.is_read_only.ensures ∙ c.if-is_read_only.false) w.in-Err.ensures.reserved.0 w.in-Err.ensures.reserved.1).segment
+          (sym c.is_read_only.ensures ∙ c.if-is_read_only.false) w.in-Err.ensures.reserved.0
+          w.in-Err.ensures.reserved.1).segment
     ]
 
 pub returns-clause-step : goal.returns-clause-step
@@ -26,5 +29,6 @@ returns-clause-step c =
       | in-Ok w ↦ rw w.result-is (reserves c.self.view_is c.self.invariant c.args.index
           (sym c.is_read_only.ensures ∙ c.if-is_read_only.false) w.in-Ok.ensures.reserved).step
       | in-Err w ↦ rw w.result-is (reserves-none c.self.view_is c.self.invariant c.args.index c.args.n
-          (sym c.is_read_only.ensures ∙ c.if-is_read_only.false) w.in-Err.ensures.reserved.0 w.in-Err.ensures.reserved.1).step
+          (sym c.is_read_only.ensures ∙ c.if-is_read_only.false) w.in-Err.ensures.reserved.0
+          w.in-Err.ensures.reserved.1).step
     ]

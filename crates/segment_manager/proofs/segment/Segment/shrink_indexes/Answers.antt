@@ -5,7 +5,8 @@ use Rattle.seg_types.specs.Commands.{ShrinkIndexes}
 use Rattle.segment_manager.proofs.segment.Segment.shrink_indexes.Goals as goal
 
 pub returns-then-is_read_only-clause-step : goal.returns-then-is_read_only-clause-step
-returns-then-is_read_only-clause-step c = refuses-read_only c.args.self.now ShrinkIndexes (sym c.is_read_only.ensures ∙ c.if-is_read_only.true) refl
+returns-then-is_read_only-clause-step c =
+    refuses-read_only c.args.self.now ShrinkIndexes (sym c.is_read_only.ensures ∙ c.if-is_read_only.true) refl
 
 pub shrink-requires : goal.shrink-requires
 shrink-requires c = record { index = segment-index Named c.self.invariant }

@@ -41,14 +41,16 @@ returns-clause-steps c =
     let goes : GoesOnObjects old (Some c.instance_here.result) new = record {
       segment = refl;
       place = refl;
-      says = owner-says (block-at c.self.invariant c.next_own.ensures c.in_ok-block.was) (c.in_ok-block.block.offset + 16) refl c.instance_here.ensures;
+      says =
+          owner-says (block-at c.self.invariant c.next_own.ensures c.in_ok-block.was)
+          (c.in_ok-block.block.offset + 16) refl c.instance_here.ensures;
     } in
     subst (λ (t : ObjectWalk). GoesOnObjects t (Some c.instance_here.result) new) c.self.view_is goes
 
 pub returns-clause-goes : goal.returns-clause-goes
 returns-clause-goes c =
     let w = c.self.inside in
-    let segment : IsSegment w.segment.now.cut.bytes = subst IsSegment c.as_bytes.ensures.bytes c.as_bytes.ensures.denotes in
-    let below =
-    owner-counts (block-at c.self.invariant c.next_own.ensures c.in_ok-block.was) segment in
+    let segment : IsSegment w.segment.now.cut.bytes =
+    subst IsSegment c.as_bytes.ensures.bytes c.as_bytes.ensures.denotes in
+    let below = owner-counts (block-at c.self.invariant c.next_own.ensures c.in_ok-block.was) segment in
     search rules

@@ -119,8 +119,7 @@ pub of_kind-none : (s : State) (key : Key) (kind : Kind) (r : Refusal) (c : Comm
     → Answers s (λ d. scalar_reply s.mode d key c) (Refused r)
 of_kind-none s key kind r c a f = record {
   answers = λ d l.
-      let e = kind-told d key kind (a.answers d l) in
-      sym (ap (reply_of s.mode d c) (elements-told d key kind e ∙ f));
+      sym (ap (reply_of s.mode d c) (elements-told d key kind (kind-told d key kind (a.answers d l)) ∙ f));
 }
 
 -- neither scalars nor a vector of them nor a string
@@ -227,5 +226,4 @@ pub kind-no_texts : (s : State) (key : Key) (kind : Kind) → Answers s (λ d. k
     → (kind ≡ TextsKind → ⊥) → HasNoTexts s key
 kind-no_texts s key kind a n d l o e =
     let k = kind-told d key kind (a.answers d l) in
-    let same = same_Some k.object o (sym k.is ∙ e) in
-    λ f. n (sym (ap (λ (p : Object). kind_of p.value) (sym same) ∙ k.kind_is) ∙ f)
+    λ f. n (sym (ap (λ (p : Object). kind_of p.value) (sym (same_Some k.object o (sym k.is ∙ e))) ∙ k.kind_is) ∙ f)

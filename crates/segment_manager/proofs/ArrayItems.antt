@@ -34,14 +34,11 @@ module _ {S A : Type 0} (items : S → List A) where
   taken-all w t {xs} h long =
       let parts = taken-front w t xs h in
       let both : length (items w) ≡ length xs + length (items t) = ap length parts ∙ length-append xs (items t) in
-      let none = no_more (items t) (omega arith) in
-      sym (parts ∙ ap (λ l. xs ++ l) none ∙ append-nil xs)
+      sym (parts ∙ ap (λ l. xs ++ l) (no_more (items t) (omega arith)) ∙ append-nil xs)
 
   -- where no more come, all were taken
   taken-until : (w t : S) (xs : List A) → YieldsThen (YieldsFirst items) w xs None t → length xs ≡ length (items w)
-  taken-until w t xs h =
-      let parts = taken-front w h.0 xs h.1 in
-      ap length (sym (parts ∙ ap (λ l. xs ++ l) h.2.0 ∙ append-nil xs))
+  taken-until w t xs h = ap length (sym ((taken-front w h.0 xs h.1) ∙ ap (λ l. xs ++ l) h.2.0 ∙ append-nil xs))
 
 -- what the plan is where there are too few items, or enough
 abbrev pub by-items : Directory → Key → ScalarKind → ℕ → List ℤ → Bool → Plan
@@ -116,12 +113,10 @@ module _ (r : Refusal) (other : r ≡ OutOfRange → ⊥) where
   items-same d l key k zs (Some o) some long refused = refl
   items-same d l key k {n} zs None some long refused =
       let few = lt-ltb 0 n some in
-      let enough = le-ltb (length zs) n (omega arith) in
-      let all = take_all n zs (omega arith) in
       let told = refused ∙ ap (λ b. (perform d l (by-items d key k n [] b)).0) few in
-      ap (λ b. perform d l (by-items d key k n zs b)) enough
+      ap (λ b. perform d l (by-items d key k n zs b)) (le-ltb (length zs) n (omega arith))
       ∙ ap (λ ws. perform d l (with_new_object d key (asked.Numbers k ws)
-      (λ o e. Reply (Made (handle o.extent)) e))) all
+      (λ o e. Reply (Made (handle o.extent)) e))) (take_all n zs (omega arith))
       ∙ new-same d l key k (replicate n (pos 0)) zs (long ∙ sym (length-replicate n (pos 0))) told
       ∙ ap (λ b. perform d l (by-items d key k n [] b)) (sym few)
 

@@ -131,13 +131,11 @@ module _ (i : Index) (c : Cut) {d : Directory} (e : Key) (key : names.Key) (k : 
   pub lookup-found : (at : ℕ) → IsPlace (bytes_of c.bytes) e (entries_of i d) (Found at) → IsEntryFor i d key at
   lookup-found at p =
       let s = stands-at (objects_of i d) at p.1 in
-      let has : has_key key s.object ≡ true =
-      (says-at at s.is).equal (ap (order (bytes_of c.bytes) e) (sym s.handle) ∙ p.2) in
       record {
         object = s.object;
-        is =
-            all-at (λ o. has_key key o ≡ true → object_at d key ≡ Some o) (objects_of i d) at
-            (in-found k.directory (sought-key i e key q)) s.is has;
+        is = all-at (λ o. has_key key o ≡ true → object_at d key ≡ Some o) (objects_of i d) at
+            (in-found k.directory (sought-key i e key q)) s.is
+            ((says-at at s.is).equal (ap (order (bytes_of c.bytes) e) (sym s.handle) ∙ p.2));
         stands = s.is;
         leads = at-handle (objects_of i d) at s.is;
       }
@@ -224,13 +222,12 @@ pub entry-removed : (i : Index) {d : Directory} (at : ℕ) {o : Object} → IsDi
     → slice_get (objects_of i d) at ≡ Some o → remove (entries_of i d) at ≡ entries_of i (without_object d o)
 entry-removed i {d} at {o} h e =
     let f : IsIn d o = record {
-      is =
-          all-at (λ (p : Object). object_at d (names.ByHandle (handle p.extent)) ≡ Some p) (objects_of i d) at
+      is = all-at (λ (p : Object). object_at d (names.ByHandle (handle p.extent)) ≡ Some p) (objects_of i d) at
           (in-handles i h) e;
     } in
-    let class = all-at (λ p. is_class (class_of_index i) p ≡ true) (objects_of i d) at (in-class i d) e in
     remove-at (objects_of i d) at e (λ j p l g. handles-differ i at j h e l g)
-    ∙ sym (ap handles (objects-less i o h f class))
+    ∙ sym (ap handles (objects-less i o h f
+    (all-at (λ p. is_class (class_of_index i) p ≡ true) (objects_of i d) at (in-class i d) e)))
 
 -- an object of another class goes without an entry
 pub no-entry-removed : (i : Index) (d : Directory) {o : Object}

@@ -81,10 +81,9 @@ grows-performs i a b {d} (Some g) next k h =
     let x = denotes-index i a k in
     let full : (table_of i d).capacity ≤ length (objects_of i d) =
     omega (arith, h.0, count-is i d x, x.stands.capacity) in
-    let placed : place (live d) (8 * grown_capacity (table_of i d).capacity) IndexRole ≡ Some h.1.extent =
-    sym (λ j. place (denotes-live current a.bytes d k j) (8 * grown_capacity (x.stands.capacity j)) IndexRole)
-    ∙ h.1.placed in
-    entry-grows i d next k.directory.proper full placed
+    entry-grows i d next k.directory.proper full
+    (sym (λ j. place (denotes-live current a.bytes d k j) (8 * grown_capacity (x.stands.capacity j)) IndexRole)
+    ∙ h.1.placed)
     ∙ ap (λ l. perform d l (next (with_table_of i d (grown_into i d h.1.extent))))
     (ap (λ l. added l h.1.extent) (sym (denotes-live current a.bytes d k))
     ∙ sym (allocated-live current a b (grown_bytes a (place_of i)) IndexRole g h.1))
@@ -104,12 +103,11 @@ grows-keeps i a b c {d} None k h keeps =
     subst (λ (l : LiveSet). Keeps a c l.extents) (denotes-live current a.bytes d k)
     (subst (λ (x : Cut). Keeps x c (live_of x.bytes).extents) h.1 keeps)
 grows-keeps i a b c {d} (Some g) k h keeps =
-    let front =
-    keeps-front b c h.1.extent (live_of a.bytes)
-    (subst (λ (l : LiveSet). Keeps b c l.extents)
-    (allocated-live current a b (grown_bytes a (place_of i)) IndexRole g h.1) keeps) in
     subst (λ (l : LiveSet). Keeps a c l.extents) (denotes-live current a.bytes d k)
-    (keeps-trans a b c (live_of a.bytes).extents h.1.keeps front)
+    (keeps-trans a b c (live_of a.bytes).extents h.1.keeps
+    (keeps-front b c h.1.extent (live_of a.bytes)
+    (subst (λ (l : LiveSet). Keeps b c l.extents)
+    (allocated-live current a b (grown_bytes a (place_of i)) IndexRole g h.1) keeps)))
 
 -- ---- the entry is there
 
@@ -219,29 +217,23 @@ module _ (i : Index) (a : Cut) (d : Directory) (e : Key) (key : names.Key) (name
   content-entered b w {c} {x} {v} {left} at g grows placed given is_kind counts made is away led =
       let o = object_of i name v x in
       let new' : IsNewKeyOf i e key name (kind_of v) = subst (IsNewKeyOf i e key name) (sym is_kind) new in
-      let stands = denotes-index i a said in
-      let index =
-      taken-index (extents_of o) made.taken (place_behind i) (place_small i) (growth-index i g grows stands) in
-      let same =
-      entry-added i a e key at o said (key-seeks i e key name kind new) away (key-has i e key name v x new') in
-      let adds : Adds w c (place_of i) (table_of i d) (insert (entries_of i d) at (handle x)) g =
-      subst (λ n. Adds w c (place_of i) (table_of i d) (insert (entries_of i d) at n) g) is
-      (led.adds (table_of i d) (entries_of i d) index) in
-      let t = table_then i d a b g grows in
-      let there =
-      entered a b at g said grows made index same adds led.live (led.keeps (table_of i d) (entries_of i d) index) in
+      let index = taken-index (extents_of o) made.taken (place_behind i) (place_small i)
+      (growth-index i g grows (denotes-index i a said)) in
+      let there = entered a b at g said grows made index
+      (entry-added i a e key at o said (key-seeks i e key name kind new) away (key-has i e key name v x new'))
+      (subst (λ n. Adds w c (place_of i) (table_of i d) (insert (entries_of i d) at n) g) is
+      (led.adds (table_of i d) (entries_of i d) index)) led.live (led.keeps (table_of i d) (entries_of i d) index) in
       let none = (lookup-absent i a e key said (key-seeks i e key name kind new) away).none in
       record {
         object = o;
-        after = with_object (with_table_of i d t) o;
+        after = with_object (with_table_of i d (table_then i d a b g grows)) o;
         left = left;
         at = is;
         count = counts;
         met = λ next.
             content-met b v left g grows placed given next
             ∙ ap (λ dir. perform d left (next o (with_object dir o))) (grown-is i d a b g grows);
-        denotes =
-            entered-denotes a said (grows-keeps i a b w g said grows made.taken.keeps) made.good made.at refl
+        denotes = entered-denotes a said (grows-keeps i a b w g said grows made.taken.keeps) made.good made.at refl
             (key-own i e key name v d x new' none) there;
       }
 

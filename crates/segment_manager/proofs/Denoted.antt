@@ -65,10 +65,9 @@ frame-stays old new {d} xs h k n u =
 pub fresh : (d : Directory) (o : Object) → IsTrue (is_proper (adding (live d) (extents_of o)))
     → Differs o.extent (live d).extents
 fresh d o h =
-    let f =
-    rising-insert 128 o.extent (inserted (value_extents o.value) (live d).extents)
-    (live-rises (adding (live d) (extents_of o)) h) in
-    (all_of-inserted (λ (y : Extent). o.extent.offset ≢ y.offset) (value_extents o.value) (live d).extents f.differs).1
+    (all_of-inserted (λ (y : Extent). o.extent.offset ≢ y.offset) (value_extents o.value) (live d).extents
+    (rising-insert 128 o.extent (inserted (value_extents o.value) (live d).extents)
+    (live-rises (adding (live d) (extents_of o)) h)).differs).1
 
 -- a directory with an anonymous object more
 pub directory-with : {format : ℕ} {d : Directory} (o : Object) → IsDirectory format d → IsTrue (is_object format o)

@@ -53,12 +53,10 @@ entry-index {c} {i} x =
 pub entry-below : (c : Cut) {i : Index} {at : ℕ} → HoldsEntry c.bytes i at → at < entry_count c (place_of i)
 entry-below c {i} {at} x =
     let d : Directory = x.directory in
-    let stands = denotes-index i c x.stands.denotes in
     omega (
       arith,
-      slice_get_within (entries_of i d) at (handle x.object.extent)
-          (at-handle (objects_of i d) at x.is),
-      stands.stands.count,
+      slice_get_within (entries_of i d) at (handle x.object.extent) (at-handle (objects_of i d) at x.is),
+      (denotes-index i c x.stands.denotes).stands.count,
     )
 
 -- a handle that stands at the entry
@@ -128,12 +126,11 @@ module _ {a b : Cut} (h : ℕ) (empties : Empties a b h) {d : Directory} {o : Ob
   pub anonymous-gone : {c : Cut} → o.class ≡ class.Anonymous → IsReleased current b c h
       → Becomes a c (without_object d o)
   anonymous-gone {c} is r =
-      let at = found-handle h d.objects o (record { is = e }) in
       record {
         place = SamePlace-trans a b c (empties d o k e).place r.keeps.place;
         denotes = subst (Denotes current c.bytes) (changed-others d o is-in (emptied o.value))
             (denotes-released emptied_object emptied-denotes emptied-in is (emptied-is o.value).alone
-            (subst (IsReleased current b c) at r));
+            (subst (IsReleased current b c) (found-handle h d.objects o (record { is = e })) r));
       }
 
   -- where an entry was removed that it has, and then its own block was released
@@ -141,8 +138,8 @@ module _ {a b : Cut} (h : ℕ) (empties : Empties a b h) {d : Directory} {o : Ob
       → IsReleased current c f h → Becomes a f (without_object d o)
   entry-gone {c} {f} {i} {at} there u r =
       let t = table_of i emptied_directory in
-      let own = found-handle h d.objects o (record { is = e }) in
-      let released : IsReleased current c f (handle o.extent) = subst (IsReleased current c f) own r in
+      let released : IsReleased current c f (handle o.extent) =
+      subst (IsReleased current c f) (found-handle h d.objects o (record { is = e })) r in
       let rest = changed-others d o is-in (emptied o.value) in
       let before = emptied-index i in
       let less = entry-removed i at k.denotes.directory there ∙ ap (entries_of i) (sym rest) in
@@ -153,8 +150,7 @@ module _ {a b : Cut} (h : ℕ) (empties : Empties a b h) {d : Directory} {o : Ob
       } in
       let none : IsGone c f (o.extent ∷ []) = record { live = released.live; keeps = released.keeps } in
       record {
-        place =
-            SamePlace-trans a b f (empties d o k e).place
+        place = SamePlace-trans a b f (empties d o k e).place
             (SamePlace-trans b c f (u.keeps t (entries_of i d) before).place r.keeps.place);
         denotes = subst (Denotes current f.bytes) rest
             (removed-denotes emptied_object emptied-denotes emptied-in (entry-class i d at there) left
@@ -176,10 +172,12 @@ module _ {a b : Cut} {i : Index} {at h : ℕ} (leads : LeadsTo a i at h) (emptie
 
     pub below-still : at < entry_count b (place_of i)
     below-still =
-        let within =
-        slice_get_within (entries_of i x.directory) at (handle x.object.extent)
-        (at-handle (objects_of i x.directory) at x.is) in
-        omega (arith, within, (emptied-index h empties x.stands held i).stands.count)
+        omega (
+          arith,
+          (slice_get_within (entries_of i x.directory) at (handle x.object.extent)
+              (at-handle (objects_of i x.directory) at x.is)),
+          (emptied-index h empties x.stands held i).stands.count,
+        )
 
     -- its block is in use, also where the entry is removed
     pub block-still : (c : Cut) → LaysOut current c.bytes (live_of b.bytes) → is_live_in (live_of c.bytes) h ≡ true

@@ -52,20 +52,15 @@ pub live-kept : {d : Directory} {o o' : Object} {gone come : List Extent} → In
     → (x : Exchange o o' gone come) → without_all gone (live d).extents ≡ inserted (o.extent ∷ x.same) (rest d o')
 live-kept {d} {o} {o'} {gone} p x =
     let r = rest d o' in
-    let f : IsIn d o = subst (λ (e : Extent). IsFound (handle e) d.objects o) p.extent p.found in
-    let e =
-    live-split d o f p.proper
+    let e = live-split d o (subst (λ (e : Extent). IsFound (handle e) d.objects o) p.extent p.found) p.proper
     ∙ (λ i. adding (live (record d { objects = remove_object (handle (sym p.extent i)) d.objects })) (extents_of o)) in
     let up = live-rises (with_extents d o' (extents_of o)) (subst (λ l. IsTrue (is_proper l)) e p.proper) in
-    let parts =
-    x.was.same r (rising-insert 128 o.extent (inserted (value_extents o.value) r) up).rest
+    let parts = x.was.same r (rising-insert 128 o.extent (inserted (value_extents o.value) r) up).rest
     ∙ inserted-append gone x.same r in
     let up' : Rising 128 (insert o.extent (inserted gone (inserted x.same r))) =
     subst (λ xs. Rising 128 (insert o.extent xs)) parts up in
-    let whole : (live d).extents ≡ inserted gone (inserted (o.extent ∷ x.same) r) =
-    ap (λ (l : LiveSet). l.extents) e ∙ ap (insert o.extent) parts ∙ put-last o.extent gone (inserted x.same r) up' in
-    ap (without_all gone) whole
-    ∙ without-inserted 128 gone (inserted (o.extent ∷ x.same) r)
+    ap (without_all gone) (ap (λ (l : LiveSet). l.extents) e ∙ ap (insert o.extent) parts
+    ∙ put-last o.extent gone (inserted x.same r) up') ∙ without-inserted 128 gone (inserted (o.extent ∷ x.same) r)
     (subst (Rising 128) (put-last o.extent gone (inserted x.same r) up') up')
 
 abbrev of_extents : Directory → Object → List Extent → LiveSet
@@ -78,19 +73,14 @@ pub live-exchanged : (d : Directory) (o o' : Object) (gone come : List Extent) �
 unfolding live
 live-exchanged d o o' gone come p x h =
     let r = rest d o' in
-    let kept : inserted come (without_all gone (live d).extents) ≡ inserted come (inserted (o.extent ∷ x.same) r) =
-    ap (inserted come) (live-kept p x) in
     let e : exchanged (live d) gone come ≡ of_extents d o' (inserted come (insert o.extent (inserted x.same r))) =
-    ap (of_extents d o') kept in
-    let up =
-    live-rises (of_extents d o' (inserted come (insert o.extent (inserted x.same r))))
+    ap (of_extents d o') (ap (inserted come) (live-kept p x)) in
+    let up = live-rises (of_extents d o' (inserted come (insert o.extent (inserted x.same r))))
     (subst (λ l. IsTrue (is_proper l)) e h) in
     let front = put-first o.extent come (inserted x.same r) up in
-    let inner : Rising 128 (inserted (come ++ x.same) r) =
-    subst (Rising 128) (sym (inserted-append come x.same r))
+    let inner : Rising 128 (inserted (come ++ x.same) r) = subst (Rising 128) (sym (inserted-append come x.same r))
     (rising-insert 128 o.extent (inserted come (inserted x.same r)) (subst (Rising 128) front up)).rest in
-    let own =
-    front ∙ ap (insert o.extent) (sym (inserted-append come x.same r) ∙ x.is.same r inner)
+    let own = front ∙ ap (insert o.extent) (sym (inserted-append come x.same r) ∙ x.is.same r inner)
     ∙ (λ i. insert (sym p.extent i) (inserted (value_extents o'.value) r)) in
     let v = e ∙ ap (of_extents d o') own in
     live-changed d o o' p.found (subst (λ l. IsTrue (is_proper l)) v h) ∙ sym v
@@ -130,12 +120,9 @@ kept-each P {d} {o} {o'} p x blocks =
 -- the blocks of the other objects lie beside the object's own
 pub others-beside : (d : Directory) (o o' : Object) → InPlace d o o' → AllByRecursion (LiesBeside o.extent) (rest d o')
 others-beside d o o' p =
-    let f : IsIn d o = subst (λ (e : Extent). IsFound (handle e) d.objects o) p.extent p.found in
-    let e =
-    live-split d o f p.proper
+    let e = live-split d o (subst (λ (e : Extent). IsFound (handle e) d.objects o) p.extent p.found) p.proper
     ∙ (λ i. adding (live (record d { objects = remove_object (handle (sym p.extent i)) d.objects })) (extents_of o)) in
-    let alone =
-    spaced-insert 128 o.extent (inserted (value_extents o.value) (rest d o'))
+    let alone = spaced-insert 128 o.extent (inserted (value_extents o.value) (rest d o'))
     (live-spaced (with_extents d o' (extents_of o)) (subst (λ l. IsTrue (is_proper l)) e p.proper)) in
     (all_of-inserted (LiesBeside o.extent) (value_extents o.value) (rest d o') alone.beside).1
 
@@ -197,8 +184,7 @@ pub denotes-container : (format : ℕ) (old new : Cut) (d : Directory) (o : Obje
     → IsTrue (is_object format (with_value o v)) → IsExchanged format old new (value_start o) 24 gone come
     → IsValueAt (bytes_of new.bytes) (value_start o) v → Denotes format new.bytes (changed d o v)
 denotes-container format old new d o v gone come k found x kind count len was good c at =
-    let roomy = object-roomy format o was in
-    let fits : 16 + padded (length o.name) + value_len o.value + 16 ≤ o.extent.len = roomy.room in
+    let fits : 16 + padded (length o.name) + value_len o.value + 16 ≤ o.extent.len = (object-roomy format o was).room in
     denotes-held old new o v (value_start o) 24 gone come k found x kind count good (omega arith)
     (omega (arith, len)) c at
 
@@ -215,15 +201,14 @@ denotes-rewritten {old} {new} {d} o v {from} {n} k found kind count extents good
     let own : extent_at l (handle x) ≡ Some x =
     ap (λ (s : LiveSet). extent_at s (handle x)) (denotes-live current old.bytes d k)
     ∙ (blocks-in_use d o k.directory.proper found).own in
-    let room = found-room l (handle x) (from + n - handle x) x own (omega arith) in
     let keeps =
-    changed-keeps_block current old new from n (handle x) (from + n - handle x) c room (omega arith) (omega arith) in
+    changed-keeps_block current old new from n (handle x) (from + n - handle x) c
+    (found-room l (handle x) (from + n - handle x) x own (omega arith)) (omega arith) (omega arith) in
     let same : SameSpread (value_extents o.value) (value_extents v) =
     subst (SameSpread (value_extents o.value)) (sym extents) (spread-refl (value_extents o.value)) in
     denotes-held old new o v from n [] [] k found
     (record { same = value_extents o.value; was = spread-refl (value_extents o.value); is = same }) kind count good
-    low high
-    (record {
+    low high (record {
       live = c.live;
       place = c.place;
       front = keeps.front;

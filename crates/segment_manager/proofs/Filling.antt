@@ -54,9 +54,8 @@ module _ (S : Type 0) {A : Type 0} {gives : S → Option A → S → Type 0} {ca
       let zs = map whole f.items in
       let bytes = spelling k (whole w.item) in
       let more = map_push whole f.items w.item in
-      let many = length-map f.items whole ∙ f.long in
       let each = spelling-length k (whole w.item) in
-      let all = spelled-length k zs ∙ ap (λ m. size_of k * m) many in
+      let all = spelled-length k zs ∙ ap (λ m. size_of k * m) (length-map f.items whole ∙ f.long) in
       let sum : size_of k * i + size_of k ≡ size_of k * (i + 1) = omega arith in
       let change' : IsChanged current b c (from + size_of k * i) (size_of k) =
       subst (λ p. IsChanged current b c p (size_of k)) at w.change in
@@ -67,12 +66,10 @@ module _ (S : Type 0) {A : Type 0} {gives : S → Option A → S → Type 0} {ca
         ran = yields-more gives before s t f.items w.item f.ran w.step;
         long = length-append f.items (w.item ∷ []) ∙ ap (λ m. m + 1) f.long;
         callable = go;
-        values =
-            subst (λ ys. IsTrue (list_all (is_value k) ys)) (sym more)
+        values = subst (λ ys. IsTrue (list_all (is_value k) ys)) (sym more)
             (all-more (is_value k) zs (whole w.item) f.values w.value);
         change = subst (IsChanged current old c from) sum (changed-trans f.change change');
-        content =
-            subst (Has (bytes_of c.bytes) from)
+        content = subst (Has (bytes_of c.bytes) from)
             (flat_map_more (spelling k) [] zs (whole w.item) ∙ ap (spelled k) (sym more))
             (Has-append (bytes_of c.bytes) from (spelled k zs) bytes front
             (subst (λ p. Has (bytes_of c.bytes) p bytes) place w.content));

@@ -98,14 +98,12 @@ key-room : {c : Cut} {d : Directory} (e : Key) {o : Object} → IsKnown c d o
     → IsTrue (has_room (live d) (handle o.extent) (key_end (bytes_of c.bytes) e (handle o.extent)))
 key-room {c} (Name s) {o} u =
     let room = (object-roomy current o u.good).room in
-    let short = good_name-short current o (good-name current o u.good) in
-    let same = entry-name_len (bytes_of c.bytes) o short u.at in
+    let same = entry-name_len (bytes_of c.bytes) o (good_name-short current o (good-name current o u.good)) u.at in
     let fits : 16 + name_len_at (bytes_of c.bytes) (handle o.extent) + 16 ≤ o.extent.len = omega (arith, room, same) in
     u.live_block.room (16 + name_len_at (bytes_of c.bytes) (handle o.extent))
     (le-leb (16 + name_len_at (bytes_of c.bytes) (handle o.extent) + 16) o.extent.len fits)
 key-room (Code n) {o} u =
-    let room = (object-roomy current o u.good).room in
-    let fits : 16 + 16 ≤ o.extent.len = omega (arith, room) in
+    let fits : 16 + 16 ≤ o.extent.len = omega (arith, ((object-roomy current o u.good).room)) in
     u.live_block.room 16 (le-leb (16 + 16) o.extent.len fits)
 
 pub denotes-keys : (i : Index) {c : Cut} {d : Directory} {e : Key} → Denotes current c.bytes d

@@ -15,17 +15,14 @@ pub standing : (b : List ℕ) (d : Directory) (key : Key) (o : Object) → Denot
     → StandsAt b (handle o.extent) o
 standing b d key o k e =
     let f = key-found current d key o k.directory e in
-    let good =
-    all-found (λ p. IsTrue (is_object current p)) (has_key key) d.objects o
+    let good = all-found (λ p. IsTrue (is_object current p)) (has_key key) d.objects o
     (each-true (is_object current) d.objects k.directory.objects) e in
-    let roomy = object-roomy current o good in
     let n = object_len o.name o.value in
     record {
       at = refl;
       good = good;
-      room =
-          subst (λ l. IsTrue (has_room l (handle o.extent) n)) (sym (denotes-live current b d k))
-          (object-room d o n f k.directory.proper (le-leb (n + 16) o.extent.len roomy.room));
+      room = subst (λ l. IsTrue (has_room l (handle o.extent) n)) (sym (denotes-live current b d k))
+          (object-room d o n f k.directory.proper (le-leb (n + 16) o.extent.len (object-roomy current o good).room));
       said = object-at current b d (handle o.extent) o k f;
     }
 

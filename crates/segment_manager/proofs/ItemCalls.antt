@@ -115,15 +115,13 @@ anonymous-met : {a m : Cut} {d : Directory} (k : ScalarKind) (zs : List ℤ) {n 
     → IsMet d names.NoKey (asked.Numbers k zs)
 anonymous-met {a} {d} k zs said len took =
     let x : Extent = took.extent in
-    let placed : place (live d) (object_len [] (Numbers k zs)) ObjectRole ≡ Some x =
-    sym (λ j. place (denotes-live current a.bytes d said j) (len j) ObjectRole) ∙ took.placed in
     record {
       object = numbers_in k zs x;
       after = with_object d (numbers_in k zs x);
       left = resized (live d) x;
-      met =
-          λ next. perform-new d (live d) ObjectRole (object_len [] (Numbers k zs))
-          (λ y. next (numbers_in k zs y) (with_object d (numbers_in k zs y))) x placed;
+      met = λ next. perform-new d (live d) ObjectRole (object_len [] (Numbers k zs))
+          (λ y. next (numbers_in k zs y) (with_object d (numbers_in k zs y))) x
+          (sym (λ j. place (denotes-live current a.bytes d said j) (len j) ObjectRole) ∙ took.placed);
     }
 
 -- ---- the calls
@@ -149,14 +147,11 @@ module _ (S : Type 0) {A : Type 0} (gives : S → Option A → S → Type 0) (wh
   steps-made entry {m} {w} c h at g f led =
       let zs = map whole f.items in
       let long = many f.items f.taken.1 in
-      let content = asked.Numbers k zs in
-      let made =
-      numbers-made k zs (good-items f.items f.taken.1 f.values)
+      let made = numbers-made k zs (good-items f.items f.taken.1 f.values)
       (subst (λ n. IsChanged current m w (h + at) (size_of k * n)) (sym (length-map f.items whole)) f.change)
       f.content in
-      let begun : IsBegunFor s.cut m key content h at entry =
-      subst (λ n. IsBegun s.cut m key (Scalar k) n (size_of k * n) h at entry) (sym long) g in
-      let now = value-built content b h at entry begun made led in
+      let now = value-built (asked.Numbers k zs) b h at entry
+      (subst (λ n. IsBegun s.cut m key (Scalar k) n (size_of k * n) h at entry) (sym long) g) made led in
       items-made s key k count zs writing h now.place (omega arith) (λ d st.
       let both = now.each d st in
       (both.0, subst (λ ys. IsNewObject c d key (asked.Numbers k ys) h) (sym (whole-list f.items f.taken.1)) both.1))
@@ -268,9 +263,7 @@ module _ (S : Type 0) {A : Type 0} (gives : S → Option A → S → Type 0) (wh
       → IsNotBegun s.cut c key (Scalar k) (size_of k * count) NoSpace
       → IsStep s (record s { cut = c }) (asked.ConstructIt key k count []) (Refused NoSpace)
   none-step c writing low t =
-      let content = asked.Numbers k (asked_for count []) in
-      let never =
-      value-not_begun key content
+      let never = value-not_begun key (asked.Numbers k (asked_for count []))
       (subst (λ n. IsNotBegun s.cut c key (Scalar k) (size_of k * n) NoSpace) (sym (asked-long low)) t) in
       items-none s key k count [] writing never.place never.each
 

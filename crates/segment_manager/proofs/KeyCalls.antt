@@ -150,10 +150,9 @@ pub absent-answers : {s : State} (i : Index) (e : Entry) (place : ℕ)
     → Answers s (λ d. handle_at d key) None
 absent-answers {s} i e place f key q = record {
   answers = λ d k.
-      let away =
-      lookup-absent i s.cut e key k.denotes q
-      (of-directory s i (λ hs. IsPlace (bytes_of s.cut.bytes) e hs (Absent place)) k f) in
-      sym (ap (option_map (λ (o : Object). handle o.extent)) away.none);
+      sym (ap (option_map (λ (o : Object). handle o.extent))
+      (lookup-absent i s.cut e key k.denotes q
+      (of-directory s i (λ hs. IsPlace (bytes_of s.cut.bytes) e hs (Absent place)) k f)).none);
 }
 
 -- ---- any key
@@ -299,15 +298,13 @@ pub entered : (s : State) {i : Index} {n h : ℕ} → ForIndex s.cut i (λ hs. s
 entered s {i} {n} {h} f {d} k =
     let at = stands-at (objects_of i d) n (of-directory s i (λ hs. slice_get hs n ≡ Some h) k f) in
     let o = at.object in
-    let found =
-    all-at (λ (p : Object). object_at d (ByHandle (handle p.extent)) ≡ Some p) (objects_of i d) n
-    (in-handles i k.denotes.directory) at.is in
     record {
       object = o;
       is = at.is;
-      stands =
-          subst (λ x. StandsAt s.cut.bytes x o) (sym at.handle)
-          (standing s.cut.bytes d (ByHandle (handle o.extent)) o k.denotes found);
+      stands = subst (λ x. StandsAt s.cut.bytes x o) (sym at.handle)
+          (standing s.cut.bytes d (ByHandle (handle o.extent)) o k.denotes
+          (all-at (λ (p : Object). object_at d (ByHandle (handle p.extent)) ≡ Some p) (objects_of i d) n
+          (in-handles i k.denotes.directory) at.is));
     }
 
 -- some object stands there

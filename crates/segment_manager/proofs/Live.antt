@@ -44,10 +44,9 @@ spread-put n o (p ∷ ps) t h =
     let h1 : Rising n (inserted (extents_of o) (inserted (extents_of p) (spread ps t))) =
     subst (λ xs. Rising n (inserted (extents_of o) xs)) (spread-cons p ps t) h in
     let a = apart-inserted n (extents_of o) (extents_of p) (spread ps t) h1 in
-    let h2 : Rising n (inserted (extents_of p) (inserted (extents_of o) (spread ps t))) =
-    subst (Rising n) (inserted-comm (extents_of o) (extents_of p) (spread ps t) a) h1 in
     put-if (nat_lt o.extent.offset p.extent.offset) o p ps (put_object o ps) t a
-    (spread-put n o ps t (rising-inserted n (extents_of p) (inserted (extents_of o) (spread ps t)) h2).0)
+    (spread-put n o ps t (rising-inserted n (extents_of p) (inserted (extents_of o) (spread ps t))
+    (subst (Rising n) (inserted-comm (extents_of o) (extents_of p) (spread ps t) a) h1)).0)
 
 -- a live set with these extents more
 abbrev pub adding : LiveSet → List Extent → LiveSet
@@ -127,10 +126,9 @@ remove-place n {h} {p} {ps} {o} t (behind e f) r k =
     let rest = spread (remove_object h ps) t in
     let r1 : Rising n (inserted (extents_of p) (spread ps t)) = subst (Rising n) (spread-cons p ps t) r in
     let below = k f (rising-inserted n (extents_of p) (spread ps t) r1).0 in
-    let r2 : Rising n (inserted (extents_of p) (inserted (extents_of o) rest)) =
-    subst (λ xs. Rising n (inserted (extents_of p) xs)) below r1 in
     spread-cons p ps t ∙ ap (inserted (extents_of p)) below
-    ∙ inserted-comm (extents_of p) (extents_of o) rest (apart-inserted n (extents_of p) (extents_of o) rest r2)
+    ∙ inserted-comm (extents_of p) (extents_of o) rest
+    (apart-inserted n (extents_of p) (extents_of o) rest (subst (λ xs. Rising n (inserted (extents_of p) xs)) below r1))
     ∙ ap (inserted (extents_of o)) (sym (spread-cons p (remove_object h ps) t))
     ∙ ap (λ qs. inserted (extents_of o) (spread qs t)) (sym (remove-behind h p ps e))
 
@@ -161,10 +159,9 @@ pub live-without : (d : Directory) (o : Object) → IsIn d o → IsTrue (is_prop
     → live (without_object d o) ≡ removing (live d) (extents_of o)
 live-without d o f h =
     let whole = live-split d o f h in
-    let r =
-    live-rises (adding (live (without_object d o)) (extents_of o)) (subst (λ l. IsTrue (is_proper l)) whole h) in
     ap (λ (xs : List Extent). let l : LiveSet = record { size = (live (without_object d o)).size; extents = xs } in l)
-    (sym (without-inserted 128 (extents_of o) (live (without_object d o)).extents r))
+    (sym (without-inserted 128 (extents_of o) (live (without_object d o)).extents
+    (live-rises (adding (live (without_object d o)) (extents_of o)) (subst (λ l. IsTrue (is_proper l)) whole h))))
     ∙ ap (λ l. removing l (extents_of o)) (sym whole)
 
 -- ---- one changed

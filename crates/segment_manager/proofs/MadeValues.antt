@@ -107,23 +107,18 @@ taken-more a {b} {c} x {from} {n} {come} m low high r =
     let B = bytes_of b.bytes in
     let C = bytes_of c.bytes in
     let l = live_of a.bytes in
-    let e : exchanged (live_of b.bytes) [] come ≡ with_live l (inserted come (insert x l.extents)) =
-    ap (λ (s : LiveSet). exchanged s [] come) (taken-live a b (x ∷ []) m) in
     let laid : LaysOut current c.bytes (with_live l (inserted come (insert x l.extents))) =
-    subst (LaysOut current c.bytes) e r.live in
+    subst (LaysOut current c.bytes) (ap (λ (s : LiveSet). exchanged s [] come) (taken-live a b (x ∷ []) m)) r.live in
     let up = live-rises (with_live l (inserted come (insert x l.extents))) laid.proper in
-    let order = put-first x come l.extents up in
     let alone = spaced-insert 128 x l.extents (live-spaced (added l x) m.live.proper) in
-    let but = stays-but m r in
     record {
-      live = subst (λ xs. LaysOut current c.bytes (with_live l xs)) order laid;
+      live = subst (λ xs. LaysOut current c.bytes (with_live l xs)) (put-first x come l.extents up) laid;
       keeps = record {
         place = SamePlace-trans a b c m.keeps.place r.place;
         front = Same-trans A B C 0 24 m.keeps.front r.front;
         behind = Same-trans A B C 32 128 m.keeps.behind r.behind;
-        blocks =
-            blocks-trans A B C l.extents m.keeps.blocks
-            (all-but-beside B C from n x l.extents low high alone.beside but.others);
+        blocks = blocks-trans A B C l.extents m.keeps.blocks
+            (all-but-beside B C from n x l.extents low high alone.beside (stays-but m r).others);
       };
     }
 
@@ -151,8 +146,7 @@ pub headed-change : {a b c : Cut} {kind : Kind} {class : Class} {name : List ℕ
     → IsHeaded a b kind class name count h at → IsChanged current b c (h + at) n → n ≤ body
     → IsChanged current a c h (room_for name body)
 headed-change {b} {c} {name} body {h} {at} {n} hd change l =
-    let start : at ≡ 16 + padded (length name) = hd.start in
-    changed-wider (omega arith) (changed-trans hd.change (subst (λ p. IsChanged current b c (h + p) n) start change))
+    changed-wider (omega arith) (changed-trans hd.change (subst (λ p. IsChanged current b c (h + p) n) hd.start change))
 
 -- the block was taken, its head written, and then the n bytes behind it
 pub empty-taken : {a t m e : Cut} {kind : Kind} {class : Class} {name : List ℕ} {count n h at : ℕ}
@@ -187,17 +181,14 @@ headed-object : {m m' : Memory} {h at : ℕ} {class : Class} {name : List ℕ} (
     → at ≡ 16 + padded (length name) → IsHeadAt m h (kind_of v) (count_of v) class name → Same m m' h (h + at)
     → IsValueAt m' (h + at) v → IsObjectAt m' (record { class = class; name = name; value = v; extent = x })
 headed-object {m} {m'} {h} {at} {class} {name} v x is start head s w =
-    let long = padded_name-length name in
     record {
-      kind_count =
-          subst (λ g. word_at m' g ≡ two_halves (code_of (kind_of v)) (count_of v)) is
+      kind_count = subst (λ g. word_at m' g ≡ two_halves (code_of (kind_of v)) (count_of v)) is
           (Same-word m m' h (h + at) h s (omega arith) (omega arith) ∙ head.kind_count);
-      name_class =
-          subst (λ g. word_at m' (g + 8) ≡ two_halves (length name) (class_code class)) is
+      name_class = subst (λ g. word_at m' (g + 8) ≡ two_halves (length name) (class_code class)) is
           (Same-word m m' h (h + at) (h + 8) s (omega arith) (omega arith) ∙ head.name_class);
-      name =
-          subst (λ g. Has m' (g + 16) (padded_name name)) is
-          (Has-same m m' h (h + at) (h + 16) (padded_name name) s (omega arith) (omega (arith, long)) head.name);
+      name = subst (λ g. Has m' (g + 16) (padded_name name)) is
+          (Has-same m m' h (h + at) (h + 16) (padded_name name) s (omega arith)
+          (omega (arith, (padded_name-length name))) head.name);
       value = subst (λ p. IsValueAt m' p v) (omega arith) w;
     }
 
@@ -211,11 +202,8 @@ made-object {a} {m} {e} {w} {name} {n} {h} {at} v took headed change storage say
     let M = bytes_of m.bytes in
     let E = bytes_of e.bytes in
     let W = bytes_of w.bytes in
-    let x : Extent = took.extent in
-    let is : h ≡ handle x = took.at in
-    let i = inside name took headed.start in
-    let high = i.high in
+    let high = (inside name took headed.start).high in
     let but = stays-but (requested-taken took) storage in
     let front = SameBut-Same M E (h + at) n h (h + at) change.rest (inl (omega arith)) in
     let back : Same E W h (h + at) = record { at = λ k f g. but.own.payload k (omega arith) (omega arith) (inl g) } in
-    headed-object v x is headed.start headed.head (Same-trans M E W h (h + at) front back) says
+    headed-object v took.extent took.at headed.start headed.head (Same-trans M E W h (h + at) front back) says

@@ -128,30 +128,25 @@ module _ (content : Content) where
         let b : Cut = g.requested.between in
         let class = class_of_index e.index in
         let took = block b g.taken m w class g.name h at g.requested.takes g.headed r in
-        let x : Extent = took.extent in
-        let new' : IsNewKeyOf e.index g.entry key g.name (kind_of r.value) =
-        subst (IsNewKeyOf e.index g.entry key g.name) (sym r.is_kind) g.is in
-        let object =
-        key-object e.index g.entry key g.name r.value x new' (known-kind (kind_of r.value)) r.good
-        (serving b g.taken m w class g.name h at g.requested.takes g.headed r) in
         content-entered e.index a d g.entry key g.name kind content said g.is b w e.place e.growth.block
-        g.requested.grows
-        (placed-at b g.taken m w class g.name h at g.requested.takes g.headed r)
+        g.requested.grows (placed-at b g.taken m w class g.name h at g.requested.takes g.headed r)
         (given-in b g.taken m w class g.name h at g.requested.takes g.headed r) r.is_kind r.count
-        (made-in b g.taken m w class g.name h at g.requested.takes g.headed r object) took.at
+        (made-in b g.taken m w class g.name h at g.requested.takes g.headed r
+        (key-object e.index g.entry key g.name r.value took.extent
+        (subst (IsNewKeyOf e.index g.entry key g.name) (sym r.is_kind) g.is) (known-kind (kind_of r.value)) r.good
+        (serving b g.taken m w class g.name h at g.requested.takes g.headed r))) took.at
         (away-in e.index g.entry e.place said g.absent)
         (record { adds = added.adds; live = added.live; keeps = added.keeps })
 
     entry-denied : {w c : Cut} {why : Refusal} → IsNoValue content m w (record { handle = h; at = at }) why
         → IsRestored a c → IsNoObject c d key content
     entry-denied {c} r back =
-        let b : Cut = g.requested.between in
         let took = empty-taken g.requested.takes g.headed r.change in
         record {
           refused =
-              content-denied e.index a d g.entry key g.name kind content said g.is b e.growth.block g.requested.grows
-              took.placed
-              (subst (λ l. IsDenied d l content) (sym (placed-next took)) (r.denied d));
+              content-denied e.index a d g.entry key g.name kind content said g.is g.requested.between e.growth.block
+              g.requested.grows
+              took.placed (subst (λ l. IsDenied d l content) (sym (placed-next took)) (r.denied d));
           denotes = restored-denotes a c d said back;
         }
 
@@ -182,9 +177,6 @@ module _ (content : Content) where
         let made = made-in a g.taken m w Anonymous [] h at g.takes g.headed r
         (alone-good x r.value (known-kind (kind_of r.value)) r.good
         (serving a g.taken m w Anonymous [] h at g.takes g.headed r)) in
-        let there : IsGiven d (resized (live d) x) content r.value r.left =
-        subst (λ l. IsGiven d (resized l x) content r.value r.left) same
-        (given-in a g.taken m w Anonymous [] h at g.takes g.headed r) in
         record {
           object = o;
           after = with_object d o;
@@ -195,9 +187,10 @@ module _ (content : Content) where
               perform-new d (live d) ObjectRole (object_len [] (bare content)) (alone_plan next) x
               (ap (λ l. place l (object_len [] (bare content)) ObjectRole) (sym same)
               ∙ placed-at a g.taken m w Anonymous [] h at g.takes g.headed r)
-              ∙ there.met (λ w. next (alone_in x w) (with_object d (alone_in x w)));
-          denotes =
-              denotes-with a w said made.good refl
+              ∙ (subst (λ l. IsGiven d (resized l x) content r.value r.left) same
+              (given-in a g.taken m w Anonymous [] h at g.takes g.headed r)).met
+              (λ w. next (alone_in x w) (with_object d (alone_in x w)));
+          denotes = denotes-with a w said made.good refl
               (subst (λ l. LaysOut current w.bytes (adding l (extents_of o))) same made.taken.live)
               (subst (λ (l : LiveSet). Keeps a w l.extents) same made.taken.keeps) made.at;
         }
@@ -208,14 +201,13 @@ module _ (content : Content) where
         let took = empty-taken g.takes g.headed r.change in
         let x : Extent = took.extent in
         let same = denotes-live current a.bytes d said in
-        let none : IsDenied d (resized (live d) x) content =
-        subst (λ l. IsDenied d (resized l x) content) same
-        (subst (λ l. IsDenied d l content) (sym (placed-next took)) (r.denied d)) in
         record {
           refused = λ next.
               perform-new d (live d) ObjectRole (object_len [] (bare content)) (alone_plan next) x
               (ap (λ l. place l (object_len [] (bare content)) ObjectRole) (sym same) ∙ took.placed)
-              ∙ none (λ w. next (alone_in x w) (with_object d (alone_in x w)));
+              ∙ (subst (λ l. IsDenied d (resized l x) content) same
+              (subst (λ l. IsDenied d l content) (sym (placed-next took)) (r.denied d)))
+              (λ w. next (alone_in x w) (with_object d (alone_in x w)));
           denotes = restored-denotes a c d said back;
         }
 
@@ -246,11 +238,10 @@ module _ (content : Content) where
         prepared a mid (place_of i) e.growth.block t hs x g.requested.grows (place_behind i) (place_small i) in
         let index : IsIndexOf w (place_of i) t hs =
         taken-index _ taken (place_behind i) (place_small i) (growth-index i e.growth.block g.requested.grows x) in
-        let away = g.absent t hs x in
         record {
           index = record { table = t; handles = hs; index = index };
           growth = taken-growth mid w _ (place_of i) e.growth.block taken (place_behind i) (place_small i) grown;
-          within = subst (λ n. e.place ≤ n) (sym index.stands.count) away.0;
+          within = subst (λ n. e.place ≤ n) (sym index.stands.count) (g.absent t hs x).0;
           aligned = requested-aligned took;
         }
 
@@ -270,12 +261,11 @@ module _ (content : Content) where
     value-loose (Some e) w why g r =
         let x = denotes-index e.index a b.1.denotes in
         let away = g.absent (table_of e.index b.0) (entries_of e.index b.0) x in
-        let mid : Cut = g.requested.between in
         record {
           len = room_for g.name long;
           taken = w;
           requested = record {
-            between = mid;
+            between = g.requested.between;
             grows = g.requested.grows;
             takes = restored-taken (empty-taken g.requested.takes g.headed r.change) r.restored;
           };

@@ -80,9 +80,7 @@ module _ (s : State) (h : ℕ) (k v : ScalarKind) (i : ℕ) where
     -- its key is of the kind of the keys
     pub map-of-key : IsMap s (ByHandle h) k v → IsMap s (ByHandle h) (kind_of_scalar x) v
     map-of-key m = record {
-      answers =
-          λ d l. let p = pair-there l in let same : kind_of_scalar x ≡ k = ap (λ t. t.0.0) p.same in
-          (λ j. Ok (Map (same j) v)) ∙ m.answers d l;
+      answers = λ d l. (λ j. Ok (Map ((ap (λ t. t.0.0) (pair-there l).same) j) v)) ∙ m.answers d l;
     }
 
     -- above it comes the one at the next place

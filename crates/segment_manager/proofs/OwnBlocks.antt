@@ -307,8 +307,7 @@ own-spread p n (o ∷ os) t r a h =
     ap (filter p) (spread-cons o os t)
     ∙ filter-front p o.extent (inserted (value_extents o.value) (spread os t)) a.0.own
     (of-filter (λ (z : Extent). o.extent.offset < z.offset) p (inserted (value_extents o.value) (spread os t))
-    (let back : blocks os ≡ filter p (inserted (value_extents o.value) (spread os t)) = sym values in
-    subst (AllByRecursion (λ (z : Extent). o.extent.offset < z.offset)) back behind))
+    (subst (AllByRecursion (λ (z : Extent). o.extent.offset < z.offset)) (sym values) behind))
     ∙ ap (λ (xs : List Extent). o.extent ∷ xs) values
 
 -- ---- by the roles

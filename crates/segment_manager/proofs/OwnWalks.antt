@@ -210,9 +210,8 @@ rises-few : (n m : ℕ) (os : List Object) → n ≤ m + 1 → IsTrue (rises_fro
     → AllByRecursion (λ (o : Object). end_of o.extent ≤ m) os → n + length os ≤ m + 1
 rises-few n m [] l r a = omega (arith, l)
 rises-few n m (o ∷ os) l r a =
-    let front = rises-front n o os r in
     let rest = rises-few (o.extent.offset + 1) m os (omega (arith, a.0)) (rises-rest n o os r) a.1 in
-    omega (arith, front, rest)
+    omega (arith, (rises-front n o os r), rest)
 
 pub objects-few : (b : List ℕ) (g : IsSegment b) → length g.0.objects ≤ 1073741825
 objects-few b g =

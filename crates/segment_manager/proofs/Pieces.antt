@@ -157,12 +157,10 @@ pub head-written : {a b c : Cut} {d : Cut} {h : ℕ} {kind : Kind} {count : ℕ}
 head-written {a} {b} {c} {h} {name} p v q w n =
     let at : h + 0 ≡ h = omega arith in
     let two : h + 8 + 8 ≡ h + 16 = omega arith in
-    let front = changed-trans (subst (λ from. IsChanged current a b from 8) at p) q in
     record {
-      change = changed-trans front n.change;
+      change = changed-trans (changed-trans (subst (λ from. IsChanged current a b from 8) at p) q) n.change;
       head = record {
-        kind_count =
-            word-stays h n.change (omega arith) ∙ word-stays h q (omega arith)
+        kind_count = word-stays h n.change (omega arith) ∙ word-stays h q (omega arith)
             ∙ ap (word_at (bytes_of b.bytes)) (sym at) ∙ v;
         name_class = word-stays (h + 8) n.change (omega arith) ∙ w;
         name = n.content;

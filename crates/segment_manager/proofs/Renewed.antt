@@ -75,8 +75,7 @@ four-weaker : (a b c d x y : Bool) → (IsTrue a → IsTrue x) → IsTrue y → 
 four-weaker a b c d x y f k h =
     let three = and_parts (a && b && c) d h in
     let two = and_parts (a && b) c three.0 in
-    let one = and_parts a b two.0 in
-    and_from (x && y && c) d (and_from (x && y) c (and_from x y (f one.0) k) two.1) three.1
+    and_from (x && y && c) d (and_from (x && y) c (and_from x y (f (and_parts a b two.0).0) k) two.1) three.1
 
 object-later : (format : ℕ) (o : Object) → IsTrue (is_object format o) → IsTrue (is_object current o)
 object-later format o h =

@@ -40,8 +40,7 @@ entry-full i d next h =
 pub placed-added : (l : LiveSet) (n : ℕ) (role : Role) {x : Extent} → IsTrue (is_proper l) → place l n role ≡ Some x
     → resized l x ≡ added l x
 placed-added l n role {x} h e =
-    let f = rising-insert 128 x l.extents (live-rises (added l x) (placed_is_proper l n role x h e)) in
-    resized-fresh l x f.differs
+    resized-fresh l x (rising-insert 128 x l.extents (live-rises (added l x) (placed_is_proper l n role x h e))).differs
 
 -- the bytes that a full index asks for
 abbrev pub growth_bytes : Index → Directory → ℕ

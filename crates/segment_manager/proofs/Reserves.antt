@@ -87,17 +87,18 @@ pub shrinks : {s t : State} (view : s ≡ t) (g : IsSegment s.cut.bytes) {b c : 
     → Shrinks index.Named s.cut b → Shrinks index.Unique b c → Stepped s t c asked.ShrinkIndexes Done
 shrinks {s} {t} view g {b} {c} may n u =
     let k0 = g.1.denotes in
-    let first = n (table_of index.Named g.0) (entries_of index.Named g.0) (denotes-index index.Named s.cut k0) in
     let e0 = shrunk index.Named g.0 in
-    let second =
-    u (table_of index.Unique e0) (entries_of index.Unique e0)
-    (denotes-index index.Unique b (shrunk-denotes index.Named k0 n)) in
     stepped s t view g c asked.ShrinkIndexes Done may (λ writing.
-    by_step asked.ShrinkIndexes
-    (record { mode = refl; place = SamePlace-trans s.cut b c first.keeps.place second.keeps.place }) (λ d k.
+    by_step asked.ShrinkIndexes (record {
+      mode = refl;
+      place =
+          SamePlace-trans s.cut b c
+          (n (table_of index.Named g.0) (entries_of index.Named g.0) (denotes-index index.Named s.cut k0)).keeps.place
+          (u (table_of index.Unique e0) (entries_of index.Unique e0)
+          (denotes-index index.Unique b (shrunk-denotes index.Named k0 n))).keeps.place;
+    }) (λ d k.
     lands (shrunk index.Unique (shrunk index.Named d)) (record {
-      is =
-          step-reply s.mode d asked.ShrinkIndexes Done (shrunk_indexes d)
+      is = step-reply s.mode d asked.ShrinkIndexes Done (shrunk_indexes d)
           (open-writing s.mode asked.ShrinkIndexes writing) refl;
       denotes = shrunk-denotes index.Unique (shrunk-denotes index.Named k.denotes n) u;
     })))

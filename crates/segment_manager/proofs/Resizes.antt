@@ -50,10 +50,10 @@ module _ (old mid new : Cut) (n : ℕ) (moved : HasEndMoved current old mid n) (
   pub denotes-resized : {d : Directory} → Denotes current old.bytes d
       → Denotes current new.bytes (record d { size = n })
   denotes-resized {d} h =
-      let all : AllByRecursion (SameBlock (bytes_of old.bytes) (bytes_of new.bytes)) (live d).extents =
-      subst (λ (l : LiveSet). AllByRecursion (SameBlock (bytes_of old.bytes) (bytes_of new.bytes)) l.extents)
-      (denotes-live current old.bytes d h) blocks in
-      let each = of_each (SameBlock (bytes_of old.bytes) (bytes_of new.bytes)) all in
+      let each =
+      of_each (SameBlock (bytes_of old.bytes) (bytes_of new.bytes))
+      (subst (λ (l : LiveSet). AllByRecursion (SameBlock (bytes_of old.bytes) (bytes_of new.bytes)) l.extents)
+      (denotes-live current old.bytes d h) blocks) in
       record {
         directory = record {
           proper = (laid h).proper;
@@ -70,8 +70,7 @@ module _ (old mid new : Cut) (n : ℕ) (moved : HasEndMoved current old mid n) (
         unique = index-stays (unique_objects d) by_kind h.directory.unique
             (Same-part (bytes_of old.bytes) (bytes_of new.bytes) 32 128 56 80 behind (omega arith) (omega arith))
             each.unique h.unique;
-        objects =
-            any_objects-same current (bytes_of old.bytes)
+        objects = any_objects-same current (bytes_of old.bytes)
             (bytes_of new.bytes) d.objects h.directory.objects each.objects h.objects;
       }
 

@@ -19,8 +19,7 @@ pub record HeadWords (b : List ℕ) (h : ℕ) (o : Object) : Type 0 where
 
 pub head-words : {b : List ℕ} {h : ℕ} {o : Object} → StandsAt b h o → HeadWords b h o
 head-words {b} {h} {o} s =
-    let short = standing-short b h o s in
-    let e = object-entry (bytes_of b) o short s.said in
+    let e = object-entry (bytes_of b) o (standing-short b h o s) s.said in
     let behind : word_at (bytes_of b) (handle o.extent + 8) ≡ length o.name + 4294967296 * class_code o.class =
     s.said.name_class in
     let len : word_at (bytes_of b) (handle o.extent + 8) % 4294967296 ≡ length o.name = omega arith in
@@ -40,7 +39,6 @@ standing-room b h n o s l = room-less (live_of b) h (object_len o.name o.value) 
 pub standing-name : {b : List ℕ} {h : ℕ} {o : Object} → StandsAt b h o
     → read (bytes_of b) (h + 16) (length o.name) ≡ o.name
 standing-name {b} {o} s =
-    let name =
-    Has-front (bytes_of b) (handle o.extent + 16) o.name
-    (replicate (padded (length o.name) - length o.name) 0) s.said.name in
-    ap (λ a. read (bytes_of b) (a + 16) (length o.name)) s.at ∙ name
+    ap (λ a. read (bytes_of b) (a + 16) (length o.name)) s.at
+    ∙ (Has-front (bytes_of b) (handle o.extent + 16) o.name
+    (replicate (padded (length o.name) - length o.name) 0) s.said.name)

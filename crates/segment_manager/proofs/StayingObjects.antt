@@ -75,8 +75,7 @@ moved-keeps : {A : Type 0} {old new : State} {answer : A} {next : Directory → 
 moved-keeps g m keeps o is =
     record {
       answers = λ e k.
-          let there = m.denotes g.0 g.1 in
-          sym (object-passes o.handle k.denotes ∙ sym (object-passes o.handle there.denotes)
+          sym (object-passes o.handle k.denotes ∙ sym (object-passes o.handle (m.denotes g.0 g.1).denotes)
           ∙ keeps g.0 o.handle (sym (is.answers g.0 g.1)));
     }
 

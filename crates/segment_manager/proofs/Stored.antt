@@ -79,9 +79,7 @@ all-at t (y ∷ ys) (suc i) h e = all-at t ys i (second (t y) (list_all t ys) h)
 pub numbers-good : (o : Object) (k : ScalarKind) (zs : List ℤ) → IsTrue (is_object current o) → o.value ≡ Numbers k zs
     → IsTrue (list_all (is_value k) zs)
 numbers-good o k zs good e =
-    let v : IsTrue (is_good_value (Numbers k zs)) =
-    subst (λ v. IsTrue (is_good_value v)) e (object-roomy current o good).value in
-    second _ (list_all (is_value k) zs) v
+    second _ (list_all (is_value k) zs) (subst (λ v. IsTrue (is_good_value v)) e (object-roomy current o good).value)
 
 element-of : {b : List ℕ} {d : Directory} {key : Key} {k : ScalarKind} {i : ℕ} {p : Place} {o : Object}
     → object_at d key ≡ Some o → StandsAt b p.handle o → Ok p.at ≡ place_in o k i → ElementAt b d key k i p
@@ -167,10 +165,9 @@ module _ (b : List ℕ) (d : Directory) (key : Key) (k : ScalarKind) (i : ℕ) (
   element-read =
       let at : p.handle + p.at ≡ p.handle + (16 + padded (length e.object.name)) + size_of k * i = let f = e.at in
       omega arith in
-      let h =
-      Has-element (spelling k) (spelling-length k) (bytes_of b)
-      (p.handle + (16 + padded (length e.object.name))) e.numbers i numbers-stand e.there in
-      (λ j. read (bytes_of b) (at j) (sym (spelling-length k e.number) j)) ∙ h
+      (λ j. read (bytes_of b) (at j) (sym (spelling-length k e.number) j))
+      ∙ (Has-element (spelling k) (spelling-length k) (bytes_of b)
+      (p.handle + (16 + padded (length e.object.name))) e.numbers i numbers-stand e.there)
 
   -- its block has the room for it
   pub element-room : IsTrue (has_room (live_of b) p.handle (p.at + size_of k))
@@ -321,6 +318,5 @@ pub literals-read : (k : ScalarKind) (zs : List ℤ) → IsTrue (list_all (is_va
     → values_of k (map (literal_of k) zs) ≡ Ok zs
 literals-read k [] h = refl
 literals-read k (z ∷ zs) h =
-    let one = literal-read k z (first (is_value k z) (list_all (is_value k) zs) h) in
     let rest = literals-read k zs (second (is_value k z) (list_all (is_value k) zs) h) in
-    λ i. and_then (one i) (rest i)
+    λ i. and_then ((literal-read k z (first (is_value k z) (list_all (is_value k) zs) h)) i) (rest i)

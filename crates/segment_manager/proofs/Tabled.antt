@@ -78,21 +78,18 @@ entered-denotes {i} a {b} {c} {d} {t} {o} k keeps good at class none e =
       objects = blocks-trans A B C (flat_map extents_of d.objects) before.objects after.objects;
       other_table = blocks-trans A B C _ before.other_table after.other_table;
     } in
-    let words =
-    other-words i (Same-trans A B C 32 (place_of i)
+    let one = other-stays i (has-one (other i) k) (other-words i (Same-trans A B C 32 (place_of i)
     (Same-part A B 32 128 32 (place_of i) keeps.behind (omega arith) (omega arith)) e.before)
     (Same-trans A B C (place_of i + 24) 128
-    (Same-part A B 32 128 (place_of i + 24) 128 keeps.behind (omega arith) (omega arith)) e.behind) in
-    let one = other-stays i (has-one (other i) k) words all.other_table in
-    let own = entered-own d o class none (has-one i k).is e.stands.places e.stands.few e.stands.stands in
+    (Same-part A B 32 128 (place_of i + 24) 128 keeps.behind (omega arith) (omega arith)) e.behind)) all.other_table in
     let front : KeepsFront A C = record {
       front = Same-trans A B C 0 24 keeps.front e.front;
-      zeros =
-          Same-trans A B C 80 128 (Same-part A B 32 128 80 128 keeps.behind (omega arith) (omega arith))
+      zeros = Same-trans A B C 80 128 (Same-part A B 32 128 80 128 keeps.behind (omega arith) (omega arith))
           (Same-part B C (place_of i + 24) 128 80 128 e.behind (omega arith) (omega arith));
     } in
     denotes-put (with_table_of i d t) k (same-size i d t) (same-objects i d t) good e.laid front all.objects
-    (has_both i own (entered-other i t o class one)) (any_object-same current good parts.0 at)
+    (has_both i (entered-own d o class none (has-one i k).is e.stands.places e.stands.few e.stands.stands)
+    (entered-other i t o class one)) (any_object-same current good parts.0 at)
 
 -- ---- after `prepare`, the making of an object, and `add`
 
@@ -137,22 +134,18 @@ entered-some {i} {a} {m} {b} {c} {d} {o} at {n} {h} k g made x e adds laid keeps
     let t = grown_into i d g.extent in
     let mid =
     allocated-live current a m n IndexRole h g ∙ ap (λ l. added l g.extent) (denotes-live current a.bytes d k) in
-    let same = taken-live m b (extents_of o) made.taken ∙ ap (λ l. adding l ys) mid in
-    let proper : IsTrue (is_proper (adding (added (live d) g.extent) ys)) =
-    subst (λ l. IsTrue (is_proper (adding l ys))) mid made.taken.live.proper in
     let left : unlinked b (place_of i) ≡ adding (live (with_table_of i d t)) ys =
-    (λ j. without_link (same j) (x.stands.link j)) ∙ live-moved_index i d t g.extent ys refl proper in
+    (λ j. without_link ((taken-live m b (extents_of o) made.taken ∙ ap (λ l. adding l ys) mid) j) (x.stands.link j))
+    ∙ live-moved_index i d t g.extent ys refl
+    (subst (λ l. IsTrue (is_proper (adding l ys))) mid made.taken.live.proper) in
     let laid' : LaysOut current c.bytes (adding (live (with_table_of i d t)) ys) =
     subst (LaysOut current c.bytes) left laid in
-    let gone : others (handle g.extent) (inserted ys (live (with_table_of i d t)).extents) ≡ inserted ys
-    (live (with_table_of i d no_table)).extents =
-    ap (λ (u : Table). left_out u.extent (inserted ys (live (with_table_of i d t)).extents)) (sym (table-of i d))
-    ∙ index-left_out i (with_table_of i d t) ys (live-rises (adding (live (with_table_of i d t)) ys) laid'.proper)
-    ∙ ap (λ e. inserted ys (live e).extents) (last-table i d t no_table) in
     let all : others h (unlinked b (place_of i)).extents ≡ inserted ys (live (with_table_of i d no_table)).extents =
-    (λ j. others (g.at j) (left j).extents) ∙ gone in
+    (λ j. others (g.at j) (left j).extents)
+    ∙ (ap (λ (u : Table). left_out u.extent (inserted ys (live (with_table_of i d t)).extents)) (sym (table-of i d))
+    ∙ index-left_out i (with_table_of i d t) ys (live-rises (adding (live (with_table_of i d t)) ys) laid'.proper)
+    ∙ ap (λ e. inserted ys (live e).extents) (last-table i d t no_table)) in
     let found = taken-found m b (extents_of o) h made.taken (allocated-found g) in
-    let places : capacity_at b (place_of i) ≡ (table_of i d).capacity = x.stands.capacity in
     record {
       laid = laid';
       blocks = subst (AllByRecursion (SameBlock (bytes_of b.bytes) (bytes_of c.bytes))) all keeps.blocks;
@@ -160,13 +153,11 @@ entered-some {i} {a} {m} {b} {c} {d} {o} at {n} {h} k g made x e adds laid keeps
       front = keeps.front;
       before = keeps.before;
       behind = keeps.behind;
-      stands = subst (IsIndexOf c (place_of i) t) e
-          (subst (λ (y : Option Extent). IsIndexOf c (place_of i)
+      stands = subst (IsIndexOf c (place_of i) t) e (subst (λ (y : Option Extent). IsIndexOf c (place_of i)
           (record { capacity = grown_capacity (table_of i d).capacity; extent = y })
-          (insert (entries_of i d) at (handle o.extent))) found
-          (subst (λ (n : ℕ). IsIndexOf c (place_of i)
+          (insert (entries_of i d) at (handle o.extent))) found (subst (λ (n : ℕ). IsIndexOf c (place_of i)
           (record { capacity = grown_capacity n; extent = extent_at (live_of b.bytes) h })
-          (insert (entries_of i d) at (handle o.extent))) places adds));
+          (insert (entries_of i d) at (handle o.extent))) x.stands.capacity adds));
     }
 
 -- ---- an index has another table
@@ -237,13 +228,11 @@ pub reserved-tabled : {i : Index} {a c : Cut} {d : Directory} {n : ℕ} → Deno
 reserved-tabled {i} {a} {c} {d} {n} k r =
     let x = denotes-index i a k in
     let now = denotes-live current a.bytes d k in
-    let placed : place (live d) (8 * n) IndexRole ≡ Some r.extent =
-    sym (ap (λ l. place l (8 * n) IndexRole) now) ∙ r.placed in
     let moved : without_link (added (live_of a.bytes) r.extent) (link_at (bytes_of a.bytes) (place_of i)) ≡ live
-    (with_table_of i d (places_in n r.extent)) =
-    (λ j. without_link (added (now j) r.extent) (x.stands.link j))
+    (with_table_of i d (places_in n r.extent)) = (λ j. without_link (added (now j) r.extent) (x.stands.link j))
     ∙ live-moved_index i d (places_in n r.extent) r.extent [] refl
-    (placed_is_proper (live d) (8 * n) IndexRole r.extent k.directory.proper placed) in
+    (placed_is_proper (live d) (8 * n) IndexRole r.extent k.directory.proper
+    (sym (ap (λ l. place l (8 * n) IndexRole) now) ∙ r.placed)) in
     let left : (unlinked a (place_of i)).extents ≡ (live (with_table_of i d no_table)).extents =
     (λ j. (without_link (now j) (x.stands.link j)).extents) ∙ left-link (live d) (table_of i d).extent
     ∙ index-left_out i d [] (live-rises (live d) k.directory.proper) in
@@ -293,14 +282,17 @@ module _ (i : Index) (d : Directory) (n : ℕ) (proper : IsTrue (is_proper (live
 
 no-places : (t : Table) (n : ℕ) → IsTrue (is_table IndexRole 8 t) → n ≤ t.capacity → t.extent ≡ None → (n == 0) ≡ true
 no-places t n h few e =
-    let none : (t.capacity == 0) ≡ true =
-    subst (λ (o : Option Extent). IsTrue
-    (elim o as (λ _. Bool) [
-      | None ↦ t.capacity == 0
-      | Some x ↦ nat_lt 0 t.capacity && serves x IndexRole
-          (8 * t.capacity)
-    ])) e h in
-    let zero = eqb-true t.capacity 0 none in eq-eqb n 0 (omega (arith, few, zero))
+    eq-eqb n 0 (omega (
+      arith,
+      few,
+      (eqb-true t.capacity 0 (subst
+          (λ (o : Option Extent). IsTrue
+          (elim o as (λ _. Bool) [
+            | None ↦ t.capacity == 0
+            | Some x ↦ nat_lt 0 t.capacity && serves x IndexRole
+                (8 * t.capacity)
+          ])) e h)),
+    ))
 
 pub shrunk-tabled : {i : Index} {a c : Cut} {d : Directory} → Denotes current a.bytes d
     → IsShrunk a c (place_of i) (table_of i d) (entries_of i d)
@@ -389,32 +381,25 @@ removed-denotes {i} {a} {b} {c} {d} o k f class e g =
     ap (λ l. removing l (extents_of o)) mid ∙ sym (live-without d o f k.directory.proper) in
     let after =
     of_each (SameBlock B C) (subst (λ (l : LiveSet). AllByRecursion (SameBlock B C) l.extents) others g.keeps.blocks) in
-    let beside : beside_table (table_of i d) (live_of a.bytes).extents ≡ (live (with_table_of i d no_table)).extents =
-    ap (λ (l : LiveSet). beside_table (table_of i d) l.extents) now
-    ∙ index-left_out i d [] (live-rises (live d) k.directory.proper) in
-    let before = of_rest i (SameBlock A B) (subst (AllByRecursion (SameBlock A B)) beside e.keeps.blocks) in
-    let blocks =
-    blocks-trans A B C (flat_map extents_of (remove_object (handle o.extent) d.objects))
+    let before = of_rest i (SameBlock A B) (subst (AllByRecursion (SameBlock A B))
+    (ap (λ (l : LiveSet). beside_table (table_of i d) l.extents) now
+    ∙ index-left_out i d [] (live-rises (live d) k.directory.proper)) e.keeps.blocks) in
+    let blocks = blocks-trans A B C (flat_map extents_of (remove_object (handle o.extent) d.objects))
     (all-less (SameBlock A B) (handle o.extent) d.objects before.objects) after.objects in
-    let words =
-    other-words i (Same-trans A B C 32 (place_of i) e.keeps.before
+    let one = other-stays i (has-one (other i) k) (other-words i (Same-trans A B C 32 (place_of i) e.keeps.before
     (Same-part B C 32 128 32 (place_of i) g.keeps.behind (omega arith) (omega arith)))
     (Same-trans A B C (place_of i + 24) 128 e.keeps.behind
-    (Same-part B C 32 128 (place_of i + 24) 128 g.keeps.behind (omega arith) (omega arith))) in
-    let one =
-    other-stays i (has-one (other i) k) words
+    (Same-part B C 32 128 (place_of i + 24) 128 g.keeps.behind (omega arith) (omega arith))))
     (blocks-trans A B C (table_extents (table_of (other i) d)) before.other_table
     (table-in (other i) (SameBlock B C) d o after)) in
-    let own =
-    any_index-same e.stands.places e.stands.few
+    let both = both-at i o (any_index-same e.stands.places e.stands.few
     (Same-part B C 32 128 (place_of i) (place_of i + 24) g.keeps.behind low (omega arith))
-    (table-in i (SameBlock B C) d o after) e.stands.stands in
-    let same = no-entry-removed (other i) d f.is (other_class i o class) in
-    let both = both-at i o own (subst (IsIndexAt C (place_of (other i)) (table_of (other i) d)) (sym same) one.at) in
+    (table-in i (SameBlock B C) d o after) e.stands.stands)
+    (subst (IsIndexAt C (place_of (other i)) (table_of (other i) d))
+    (sym (no-entry-removed (other i) d f.is (other_class i o class))) one.at) in
     let front : KeepsFront A C = record {
       front = Same-trans A B C 0 24 e.keeps.front g.keeps.front;
-      zeros =
-          Same-trans A B C 80 128 (Same-part A B (place_of i + 24) 128 80 128 e.keeps.behind (omega arith)
+      zeros = Same-trans A B C 80 128 (Same-part A B (place_of i + 24) 128 80 128 e.keeps.behind (omega arith)
           (omega arith)) (Same-part B C 32 128 80 128 g.keeps.behind (omega arith) (omega arith));
     } in
     denotes-taken o k f laid front blocks both.named both.unique

@@ -71,11 +71,10 @@ exchanged : (front back ys : List Extent) (old : Option Extent) (x : Extent)
     → left_out old (inserted ys (insert x (sorted (front ++ (option_to_list old ++ back))))) ≡ inserted ys
     (sorted (front ++ x ∷ back))
 exchanged front back ys None x h =
-    let f =
-    rising-insert 128 x (sorted (front ++ back)) (rising-inserted 128 ys (insert x (sorted (front ++ back))) h).0 in
-    let d =
-    AllByRecursion-front (λ (z : Extent). x.offset ≢ z.offset) front back
-    (all_of-sorted (λ (z : Extent). x.offset ≢ z.offset) (front ++ back) f.differs) in
+    let d = AllByRecursion-front (λ (z : Extent). x.offset ≢ z.offset) front back
+    (all_of-sorted (λ (z : Extent). x.offset ≢ z.offset) (front ++ back)
+    (rising-insert 128 x (sorted (front ++ back))
+    (rising-inserted 128 ys (insert x (sorted (front ++ back))) h).0).differs) in
     ap (inserted ys) (sym (sorted-middle front back x d))
 exchanged front back ys (Some y) x h =
     let b = sorted (front ++ back) in

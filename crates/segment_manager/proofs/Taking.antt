@@ -37,13 +37,12 @@ has_handle h x = handle x == h
 pub allocated-found : {old new : Cut} {n : ℕ} {role : Role} {h : ℕ} → (a : IsAllocated current old new n role h)
     → extent_at (live_of new.bytes) h ≡ Some a.extent
 allocated-found {old} {new} {h} a =
-    let f =
-    rising-insert 128 a.extent (live_of old.bytes).extents
-    (live-rises (added (live_of old.bytes) a.extent) a.live.proper) in
     ap (λ (l : LiveSet). find (has_handle h) l.extents)
     (lay_out_one current new.bytes (added (live_of old.bytes) a.extent) a.live)
     ∙ ap (λ g. find (has_handle g) (insert a.extent (live_of old.bytes).extents)) a.at
-    ∙ found-new a.extent (live_of old.bytes).extents f.differs
+    ∙ found-new a.extent (live_of old.bytes).extents
+    (rising-insert 128 a.extent (live_of old.bytes).extents
+    (live-rises (added (live_of old.bytes) a.extent) a.live.proper)).differs
 
 -- ---- after blocks are taken
 
@@ -74,11 +73,14 @@ taken-index {old} {new} xs {at} {t} {hs} m low high i =
 pub taken-growth : (old new : Cut) (xs : List Extent) (at : ℕ) (g : Option ℕ) → IsTaken old new xs → 32 ≤ at
     → at + 24 ≤ 128 → CanGrow old at g → CanGrow new at g
 taken-growth old new xs at None m low high c =
-    let a =
-    Same-word (bytes_of old.bytes) (bytes_of new.bytes) 32 128 (at + 8) m.keeps.behind (omega arith) (omega arith) in
-    let b =
-    Same-word (bytes_of old.bytes) (bytes_of new.bytes) 32 128 (at + 16) m.keeps.behind (omega arith) (omega arith) in
-    omega (arith, a, b, c)
+    omega (
+      arith,
+      (Same-word (bytes_of old.bytes) (bytes_of new.bytes) 32 128 (at + 8) m.keeps.behind (omega arith)
+          (omega arith)),
+      (Same-word (bytes_of old.bytes) (bytes_of new.bytes) 32 128 (at + 16) m.keeps.behind (omega arith)
+          (omega arith)),
+      c,
+    )
 taken-growth old new xs at (Some h) m low high c =
     let cap =
     Same-word (bytes_of old.bytes) (bytes_of new.bytes) 32 128 (at + 16) m.keeps.behind (omega arith) (omega arith) in
@@ -147,11 +149,10 @@ pub record IsReady (i : Index) (c : Cut) (t : Table) (hs : List ℕ) (g : Option
 pub ready : (i : Index) {a m b : Cut} {n h : ℕ} {g : Option ℕ} {t : Table} {hs : List ℕ} → IsIndexOf a (place_of i) t hs
     → (r : IsRequested a m (place_of i) n g h) → IsChanged current m b h n → IsReady i b t hs g
 ready i {a} {b} {n} {h} {g} {t} {hs} x r change =
-    let mid = growth-index i g r.grows x in
     let took = written-taken r.takes change in
     let can = prepared a r.between (place_of i) g t hs x r.grows (place_behind i) (place_small i) in
     record {
-      index = taken-index _ (requested-taken took) (place_behind i) (place_small i) mid;
+      index = taken-index _ (requested-taken took) (place_behind i) (place_small i) (growth-index i g r.grows x);
       growth = taken-growth r.between b _ (place_of i) g (requested-taken took) (place_behind i) (place_small i) can;
     }
 

@@ -42,17 +42,14 @@ numbers-object o k zs new h e many all =
     let serving : ℕ → Bool = λ n. serves o.extent ObjectRole (16 + padded (length o.name) + size_of k * n) in
     let counted : ℕ → Bool = λ n. nat_le 1 n && nat_le n 1048576 in
     let before = named && true && (counted (length zs) && list_all (is_value k) zs) in
-    let front =
-    first (named && true) (counted (length zs) && list_all (is_value k) zs) (first before (serving (length zs)) h1) in
     let value =
     second (named && true) (counted (length zs) && list_all (is_value k) zs) (first before (serving (length zs)) h1) in
-    let count : IsTrue (counted (length new)) =
-    subst (λ n. IsTrue (counted n)) (sym many) (first (counted (length zs)) (list_all (is_value k) zs) value) in
-    let room : IsTrue (serving (length new)) =
-    subst (λ n. IsTrue (serving n)) (sym many) (second before (serving (length zs)) h1) in
     and_from (named && true && (counted (length new) && list_all (is_value k) new)) (serving (length new))
-    (and_from (named && true) (counted (length new) && list_all (is_value k) new) front
-    (and_from (counted (length new)) (list_all (is_value k) new) count all)) room
+    (and_from (named && true) (counted (length new) && list_all (is_value k) new)
+    (first (named && true) (counted (length zs) && list_all (is_value k) zs) (first before (serving (length zs)) h1))
+    (and_from (counted (length new)) (list_all (is_value k) new)
+    (subst (λ n. IsTrue (counted n)) (sym many) (first (counted (length zs)) (list_all (is_value k) zs) value)) all))
+    (subst (λ n. IsTrue (serving n)) (sym many) (second before (serving (length zs)) h1))
 
 -- ---- the element is written
 
@@ -84,9 +81,8 @@ module _ (old new : Cut) (d : Directory) (key : Key) (k : ScalarKind) (i : ℕ) 
   written z s w =
       let m = bytes_of old.bytes in
       let m' = bytes_of new.bytes in
-      let was : Has m (value_start e.object) (spelled k e.numbers) =
-      subst (λ a. Has m a (spelled k e.numbers)) (sym start) (numbers-stand old.bytes d key k i p e) in
-      Has-set (spelling k) (spelling-length k) (value_start e.object) e.numbers i z was below
+      Has-set (spelling k) (spelling-length k) (value_start e.object) e.numbers i z
+      (subst (λ a. Has m a (spelled k e.numbers)) (sym start) (numbers-stand old.bytes d key k i p e)) below
       (subst (λ a. SameBut m m' a (size_of k)) spot s) (subst (λ a. Has m' a (spelling k z)) spot w)
 
   -- the bytes denote the directory with the new number
@@ -139,21 +135,16 @@ pub stores-number : {s t : State} (view : s ≡ t) (b : IsSegment s.cut.bytes) {
     → IsChanged current s.cut new (p.handle + p.at) (length bytes) → Has (bytes_of new.bytes) (p.handle + p.at) bytes
     → Answered done_answer s t new key (Scalar k) (asked.Set key i (literal_of k z)) (Ok tt)
 stores-number {s} {t} view b {new} {key} k i {p} z may v f there c w =
-    let writing : is_read_only s.mode ≡ false = subst (λ (u : State). is_read_only u.mode ≡ false) (sym view) may in
-    let a : Answers s (λ d. place_at d key k i) (Ok p) =
-    subst (λ (u : State). Answers u (λ d. place_at d key k i) (Ok p)) (sym view) there in
-    let c' : IsChanged current s.cut new (p.handle + p.at) (size_of k) =
-    subst (λ n. IsChanged current s.cut new (p.handle + p.at) n)
-    (ap (λ (bs : List ℕ). length bs) f ∙ spelling-length k z) c in
     answered s t view b new key (Scalar k) (asked.Set key i (literal_of k z)) (Ok tt)
     (done-so (by_step_of_kind s (record s { cut = new }) key (Scalar k) (asked.Set key i (literal_of k z)) Done
-    (record { mode = refl; place = c.place })
-    (λ d l.
-    let e = element-found l.denotes (a.answers d l) in
-    let o' = with_value e.object (Numbers k (set e.numbers i z)) in
-    lands (with_changed d o') (record {
-      is = stored s.mode (literal_of k z) e writing (literal-read k z v);
-      denotes =
-          denotes-number s.cut new d key k i p e z l.denotes v c'
+    (record { mode = refl; place = c.place }) (λ d l.
+    let e = element-found l.denotes ((subst (λ (u : State). Answers u (λ d. place_at d key k i) (Ok p))
+    (sym view) there).answers d l) in
+    lands (with_changed d (with_value e.object (Numbers k (set e.numbers i z)))) (record {
+      is = stored s.mode (literal_of k z) e (subst (λ (u : State). is_read_only u.mode ≡ false) (sym view) may)
+          (literal-read k z v);
+      denotes = denotes-number s.cut new d key k i p e z l.denotes v
+          (subst (λ n. IsChanged current s.cut new (p.handle + p.at) n)
+          (ap (λ (bs : List ℕ). length bs) f ∙ spelling-length k z) c)
           (subst (Has (bytes_of new.bytes) (p.handle + p.at)) f w);
     }))))

@@ -7,8 +7,6 @@ use Rattle.segment_manager.proofs.beginning.begin_at.Goals as goal
 pub returns-in_default : goal.returns-in_default
 returns-in_default c =
     λ key entry n away.
-    let e : c.value_at-at.result + c.args.shape.len ≡ room_for c.args.name.now c.args.shape.len =
-    ap (λ m. m + c.args.shape.len) c.value_at-at.ensures in
     inr (record {
       index = c.args.index;
       entry = entry;
@@ -17,14 +15,14 @@ returns-in_default c =
       place = c.args.place;
       absent = away;
       unmet =
-          subst (λ (m : ℕ). IsUnmet c.args.heap.now c.request.new.heap (place_of c.args.index) m) e
+          subst (λ (m : ℕ). IsUnmet c.args.heap.now c.request.new.heap (place_of c.args.index) m)
+          (ap (λ m. m + c.args.shape.len) c.value_at-at.ensures)
           c.in_default.ensures;
     })
 
 pub write_head-requires-clause-room : goal.write_head-requires-clause-room
 write_head-requires-clause-room c =
     let n = room_for c.args.name.now c.args.shape.len in
-    let e : c.value_at-at.result + c.args.shape.len ≡ n = ap (λ m. m + c.args.shape.len) c.value_at-at.ensures in
-    let r = meant e c.in-Ok.ensures in
+    let r = meant (ap (λ m. m + c.args.shape.len) c.value_at-at.ensures) c.in-Ok.ensures in
     allocated-room current r.between c.request.new.heap n ObjectRole c.in-Ok.requested.handle
     (16 + padded (length c.args.name.now)) r.takes (omega arith)

@@ -15,13 +15,10 @@ give_back-requires c =
 pub returns-in-Some : goal.returns-in-Some
 returns-in-Some c =
     λ old loose.
-    let l : IsLooseEntry old c.args.heap.now c.args.handle c.in-Some.new =
-    subst (IsLoose old c.args.heap.now c.args.handle) c.in-Some.is loose in
-    entry-back l c.deallocate.ensures.released c.give_back.ensures.change
+    entry-back (subst (IsLoose old c.args.heap.now c.args.handle) c.in-Some.is loose) c.deallocate.ensures.released
+    c.give_back.ensures.change
 
 pub returns-in_default : goal.returns-in_default
 returns-in_default c =
     λ old loose.
-    let l : IsLooseAlone old c.args.heap.now c.args.handle =
-    subst (IsLoose old c.args.heap.now c.args.handle) c.in_default.is loose in
-    alone-back l c.deallocate.ensures.released
+    alone-back (subst (IsLoose old c.args.heap.now c.args.handle) c.in_default.is loose) c.deallocate.ensures.released

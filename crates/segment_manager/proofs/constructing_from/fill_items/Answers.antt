@@ -6,19 +6,16 @@ use Rattle.segment_manager.proofs.constructing_from.fill_items.Goals as goal
 
 pub overflow_add-at : goal.overflow_add-at
 overflow_add-at g c =
-    let size : c.size-size.result ≡ size_of c.args.kind = c.size-size.ensures in
     let below : c.loop-i.i < c.args.count = omega arith in
-    let small =
-    next-small c.args.heap.now c.args.handle c.args.at
+    let small = next-small c.args.heap.now c.args.handle c.args.at
     (size_of c.args.kind) c.loop-i.i c.args.count c.requires.heap c.requires.room below in
-    subst (λ n. Fits w64 (c.args.at + n * c.loop-i.i)) (sym size) (omega arith)
+    subst (λ n. Fits w64 (c.args.at + n * c.loop-i.i)) (sym c.size-size.ensures) (omega arith)
 
 pub write_item-requires-clause-room : goal.write_item-requires-clause-room
 write_item-requires-clause-room g c =
-    let size : c.size-size.result ≡ size_of c.args.kind = c.size-size.ensures in
     let below : c.loop-i.i < c.args.count = omega arith in
     subst (λ n. IsTrue (has_room (live_of c.loop-i.heap.bytes) c.args.handle
-    (c.args.at + n * c.loop-i.i + size_of c.args.kind))) (sym size)
+    (c.args.at + n * c.loop-i.i + size_of c.args.kind))) (sym c.size-size.ensures)
     (room-once_more c.args.handle c.args.at
     (size_of c.args.kind) c.loop-i.i c.args.count below c.requires.room c.loop-i.invariant.change)
 

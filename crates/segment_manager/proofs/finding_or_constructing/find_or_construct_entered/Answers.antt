@@ -68,15 +68,11 @@ returns g c =
     let is = c.shape-shape.ensures in
     let away = c.in-Absent.ensures.place in
     let b = c.in_ok-begun.begun in
-    let begun =
-    begun-for c.args.heap.now c.begin_at.new.heap key (Ok b) is
-    (c.in_ok-begun.ensures key c.args.entry
-    (subst (IsNewKeyOf c.args.index c.args.entry key c.args.name.now) (sym is.kind) n) away) in
-    let built : Constructs c.args.heap.now c.build.new.heap (asked.FindOrConstruct key content) pair_answer
-    (with_count c.shape-shape.result.count c.build.result) =
-    subst (λ m. Constructs c.args.heap.now c.build.new.heap (asked.FindOrConstruct key content) pair_answer
-    (with_count m c.build.result)) (sym is.count)
-    (found-built c.requires.segment key content b.entry c.begin_at.new.heap b.handle b.at c.build.result begun
-    c.build.ensures) in
     subst (FindsOrConstructs c.args.heap.now c.build.new.heap key content) (sym c.counted.ensures)
-    (found-absent c.args.index c.args.entry c.in-Absent.place c.args.name.now (kind_of (bare content)) n away built)
+    (found-absent c.args.index c.args.entry c.in-Absent.place c.args.name.now (kind_of (bare content)) n away
+    (subst (λ m. Constructs c.args.heap.now c.build.new.heap (asked.FindOrConstruct key content) pair_answer
+    (with_count m c.build.result)) (sym is.count)
+    (found-built c.requires.segment key content b.entry c.begin_at.new.heap b.handle b.at c.build.result
+    (begun-for c.args.heap.now c.begin_at.new.heap key (Ok b) is
+    (c.in_ok-begun.ensures key c.args.entry
+    (subst (IsNewKeyOf c.args.index c.args.entry key c.args.name.now) (sym is.kind) n) away)) c.build.ensures)))

@@ -16,11 +16,9 @@ block-payload-requires c =
 pub slice_bounds-result-end : goal.slice_bounds-result-end
 slice_bounds-result-end c =
     let o : Object = c.requires.object.0 in
-    let w = head-words c.requires.object.1 in
     let same : c.word-len.result % 4294967296 ≡ length o.name =
-    ap (λ (x : ℕ). x % 4294967296) c.word-len.ensures ∙ w.name_len in
-    let l =
-    lent c.args.heap.now c.args.handle (16 + length o.name) c.requires.heap
+    ap (λ (x : ℕ). x % 4294967296) c.word-len.ensures ∙ (head-words c.requires.object.1).name_len in
+    let l = lent c.args.heap.now c.args.handle (16 + length o.name) c.requires.heap
     (standing-room c.args.heap.now.bytes c.args.handle (16 + length o.name) o c.requires.object.1 (omega arith))
     c.block-payload.ensures in
     let long = l.long in
@@ -28,11 +26,9 @@ slice_bounds-result-end c =
 
 pub returns : goal.returns
 returns c = λ o s.
-    let w = head-words s in
     let same : c.word-len.result % 4294967296 ≡ length o.name =
-    ap (λ (x : ℕ). x % 4294967296) c.word-len.ensures ∙ w.name_len in
-    let l =
-    lent c.args.heap.now c.args.handle (16 + length o.name) c.requires.heap
+    ap (λ (x : ℕ). x % 4294967296) c.word-len.ensures ∙ (head-words s).name_len in
+    let l = lent c.args.heap.now c.args.handle (16 + length o.name) c.requires.heap
     (standing-room c.args.heap.now.bytes c.args.handle (16 + length o.name) o s (omega arith))
     c.block-payload.ensures in
     let e : 16 + c.word-len.result % 4294967296 - 16 ≡ length o.name = omega arith in

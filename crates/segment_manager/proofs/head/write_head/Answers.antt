@@ -20,19 +20,17 @@ set_word-requires-2 c =
 pub write_name-requires-clause-room : goal.write_name-requires-clause-room
 write_name-requires-clause-room c =
     let n = 16 + padded (length c.args.name.now) in
-    let room =
-    changed-room current c.args.heap.now c.set_word.new.self
-    (c.args.handle + 0) 8 c.args.handle n c.set_word.ensures.change c.requires.room in
     changed-room current c.set_word.new.self c.set_word-2.new.self
-    (c.args.handle + 8) 8 c.args.handle n c.set_word-2.ensures.change room
+    (c.args.handle + 8) 8 c.args.handle n c.set_word-2.ensures.change
+    (changed-room current c.args.heap.now c.set_word.new.self
+    (c.args.handle + 0) 8 c.args.handle n c.set_word.ensures.change c.requires.room)
 
 pub returns : goal.returns
 returns c =
     let kinds =
     c.set_word.ensures.word ∙ (λ i. two_halves ((c.from.ensures ∙ c.code.ensures) i) (c.from-2.ensures i)) in
-    let names =
-    c.set_word-2.ensures.word ∙ ap (two_halves (length c.args.name.now)) (c.from-3.ensures ∙ c.code_of_class.ensures) in
     let w = head-written
-    c.set_word.ensures.change kinds c.set_word-2.ensures.change names
+    c.set_word.ensures.change kinds c.set_word-2.ensures.change
+    (c.set_word-2.ensures.word ∙ ap (two_halves (length c.args.name.now)) (c.from-3.ensures ∙ c.code_of_class.ensures))
     (record { change = c.write_name.ensures.change; content = c.write_name.ensures.name }) in
     record { change = w.change; head = w.head }

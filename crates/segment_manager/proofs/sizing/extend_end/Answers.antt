@@ -6,10 +6,9 @@ use Rattle.segment_manager.proofs.sizing.extend_end.Goals.{After-set_header_word
 
 pub extend_end-requires-clause-small : goal.extend_end-requires-clause-small
 extend_end-requires-clause-small c =
-    let small : (d : Directory) → StandsFor c.segment.inside.heap.bytes d → d.size + c.args.extra ≤ 1073741824 =
-    subst (λ (s : State). (d : Directory) → StandsFor s.cut.bytes d → d.size + c.args.extra ≤ 1073741824)
-    (sym c.segment.view_is) c.requires.small in
-    fits-small c.args.extra c.segment.invariant small
+    fits-small c.args.extra c.segment.invariant
+    (subst (λ (s : State). (d : Directory) → StandsFor s.cut.bytes d → d.size + c.args.extra ≤ 1073741824)
+    (sym c.segment.view_is) c.requires.small)
 
 -- the segment before and after
 abbrev before : After-set_header_word → State

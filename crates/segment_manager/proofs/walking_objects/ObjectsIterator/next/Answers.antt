@@ -8,14 +8,12 @@ use Rattle.segment_manager.proofs.walking_objects.ObjectsIterator.next.Goals as 
 pub overflow_add-self : goal.overflow_add-self
 overflow_add-self c =
     let segment : IsSegment _ = subst IsSegment c.as_bytes.ensures.bytes c.as_bytes.ensures.denotes in
-    let few = owner-few (block-at c.self.invariant c.next_own.ensures c.in_ok-block.was) segment in
-    omega (arith, few)
+    omega (arith, (owner-few (block-at c.self.invariant c.next_own.ensures c.in_ok-block.was) segment))
 
 pub overflow_add-block : goal.overflow_add-block
 overflow_add-block c =
     let segment : IsSegment _ = subst IsSegment c.as_bytes.ensures.bytes c.as_bytes.ensures.denotes in
-    let short = owner-short (block-at c.self.invariant c.next_own.ensures c.in_ok-block.was) segment in
-    omega (arith, short)
+    omega (arith, (owner-short (block-at c.self.invariant c.next_own.ensures c.in_ok-block.was) segment))
 
 pub instance_here-requires : goal.instance_here-requires
 instance_here-requires c =

@@ -106,9 +106,7 @@ pub of_kind-replies : {s : State} (key : Key) {kind : Kind} {k : ScalarKind} (c 
 of_kind-replies {s} key {kind} c a f r = record {
   answers = λ d l.
       let e = kind-told d key kind (a.answers d l) in
-      r.answers d l
-      ∙ ap (λ (x : Answer × Directory). x.0)
-      (step_of_kind-step s.mode d key kind c e.object e.is
+      r.answers d l ∙ ap (λ (x : Answer × Directory). x.0) (step_of_kind-step s.mode d key kind c e.object e.is
       (eq-eqb (code_of kind) (code_of (kind_of e.object.value)) (ap code_of (sym e.kind_is))))
       ∙ sym (ap (reply_of s.mode d c) (elements-told d key kind e ∙ f));
 }
@@ -171,8 +169,7 @@ pub scalar-kind : (s : State) (key : Key) (kind : Kind) (k : ScalarKind) → Ans
     → Answers s (λ d. elements_at d key) (Ok k) → (kind ≡ TextKind → ⊥) → ((l : ScalarKind) → kind ≡ VectorKind l → ⊥)
     → Answers s (λ d. kind_at d key) (Ok (ScalarOf k))
 scalar-kind s key kind k a b t v = record {
-  answers =
-      λ d w. ap Ok (left-kind kind
+  answers = λ d w. ap Ok (left-kind kind
       (b.answers d w ∙ elements-told d key kind (kind-told d key kind (a.answers d w))) t v) ∙ a.answers d w;
 }
 

@@ -133,11 +133,9 @@ module _ (r : Refusal) (other : r ≡ OutOfRange → ⊥) where
       → IsStep old new (asked.ConstructIt key k n zs) (Refused r)
   refused-array {old} {new} key k {n} zs some long h = record {
     stays = h.stays;
-    answers =
-        λ d st. h.answers d st ∙ ap (λ (p : Answer × Directory). p.0)
+    answers = λ d st. h.answers d st ∙ ap (λ (p : Answer × Directory). p.0)
         (sym (step-same old.mode d key k n zs some long (h.answers d st)));
-    denotes =
-        λ d st. subst (λ (p : Answer × Directory). StandsFor new.cut.bytes p.1)
+    denotes = λ d st. subst (λ (p : Answer × Directory). StandsFor new.cut.bytes p.1)
         (sym (step-same old.mode d key k n zs some long (h.answers d st))) (h.denotes d st);
   }
 

@@ -92,8 +92,7 @@ each-by_handle n (p ∷ ps) h = (
       (λ (o : Object). find (has_key (names.ByHandle (handle o.extent))) ps ≡ Some o)
       (λ (o : Object). find (has_key (names.ByHandle (handle o.extent))) (p ∷ ps) ≡ Some o) (λ o above e.
       cond-false (handle o.extent == handle p.extent) (Some p) (find (has_key (names.ByHandle (handle o.extent))) ps)
-      (ne_eqb (handle o.extent) (handle p.extent) (λ f. omega (arith, above, f)))
-      ∙ e)
+      (ne_eqb (handle o.extent) (handle p.extent) (λ f. omega (arith, above, f))) ∙ e)
       ps (rises-above (p.extent.offset + 1) ps (rises-rest n p ps h))
       (each-by_handle (p.extent.offset + 1) ps (rises-rest n p ps h)),
 )
@@ -190,8 +189,7 @@ pub entry-added : (i : Index) (c : Cut) {d : Directory} (e : Key) (key : names.K
 entry-added i c {d} e key at o k q p h =
     let away = lookup-absent i c e key k q p in
     insert-at (order_of i) o (objects_of i d) at (omega (arith, away.within, handles-length (objects_of i d)))
-    (place-of i c e key at o k q p h)
-    ∙ sym (ap handles (objects-more i d e key o q h away.none))
+    (place-of i c e key at o k q p h) ∙ sym (ap handles (objects-more i d e key o q h away.none))
 
 -- ---- one entry less
 
@@ -225,8 +223,7 @@ entry-removed i {d} at {o} h e =
       is = all-at (λ (p : Object). object_at d (names.ByHandle (handle p.extent)) ≡ Some p) (objects_of i d) at
           (in-handles i h) e;
     } in
-    remove-at (objects_of i d) at e (λ j p l g. handles-differ i at j h e l g)
-    ∙ sym (ap handles (objects-less i o h f
+    remove-at (objects_of i d) at e (λ j p l g. handles-differ i at j h e l g) ∙ sym (ap handles (objects-less i o h f
     (all-at (λ p. is_class (class_of_index i) p ≡ true) (objects_of i d) at (in-class i d) e)))
 
 -- an object of another class goes without an entry
@@ -243,24 +240,21 @@ own-key : {format : ℕ} {i : Index} {d : Directory} {key : names.Key} {o : Obje
     → has_key key o ≡ true → object_at d key ≡ Some o
 own-key {i} {d} {key} {o} h k f c t =
     found-filter (λ r. has_key key r ≡ true → object_at d key ≡ Some r) (class_of_index i) (handle o.extent) d.objects o
-    (record { is = f }) c
-    (own-found (has_key key) (order_of i) (class_of_index i) k.other k.apart d.objects
+    (record { is = f }) c (own-found (has_key key) (order_of i) (class_of_index i) k.other k.apart d.objects
     (ordered-pairwise (class_of_index i) (order_of i) (order-strict i) d.objects
-    (index-parts (table_of i d) (objects_of i d) (order_of i) (directory-index i h)).2))
-    t
+    (index-parts (table_of i d) (objects_of i d) (order_of i) (directory-index i h)).2)) t
 
--- a named object is the one of its name
-pub own-name : {format : ℕ} {d : Directory} {o : Object} → IsDirectory format d
-    → object_at d (names.ByHandle (handle o.extent)) ≡ Some o → is_class NamedClass o ≡ true
-    → object_at d (names.ByName o.name) ≡ Some o
-own-name {o} h f c =
-    own-key h (name-key o.name) f c (and_from (is_class NamedClass o) (same_bytes o.name o.name) c (same-itself o.name))
+module _ {format : ℕ} {d : Directory} {o : Object} (h : IsDirectory format d)
+    (f : object_at d (names.ByHandle (handle o.extent)) ≡ Some o) where
+  -- a named object is the one of its name
+  pub own-name : is_class NamedClass o ≡ true → object_at d (names.ByName o.name) ≡ Some o
+  own-name c =
+      own-key h (name-key o.name) f c
+      (and_from (is_class NamedClass o) (same_bytes o.name o.name) c (same-itself o.name))
 
--- a unique object is the one of its kind
-pub own-kind : {format : ℕ} {d : Directory} {o : Object} → IsDirectory format d
-    → object_at d (names.ByHandle (handle o.extent)) ≡ Some o → is_class UniqueClass o ≡ true
-    → object_at d (names.ByKind (kind_of o.value)) ≡ Some o
-own-kind {o} h f c =
-    own-key h (kind-of-key (kind_of o.value)) f c
-    (and_from (is_class UniqueClass o) (same_kind (kind_of o.value) (kind_of o.value)) c
-    (eq-eqb (code_of (kind_of o.value)) (code_of (kind_of o.value)) refl))
+  -- a unique object is the one of its kind
+  pub own-kind : is_class UniqueClass o ≡ true → object_at d (names.ByKind (kind_of o.value)) ≡ Some o
+  own-kind c =
+      own-key h (kind-of-key (kind_of o.value)) f c
+      (and_from (is_class UniqueClass o) (same_kind (kind_of o.value) (kind_of o.value)) c
+      (eq-eqb (code_of (kind_of o.value)) (code_of (kind_of o.value)) refl))

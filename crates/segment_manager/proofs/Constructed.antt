@@ -74,8 +74,7 @@ grows-performs i a b {d} None next k h =
     let x = denotes-index i a k in
     let room : length (objects_of i d) < (table_of i d).capacity =
     omega (arith, h.0, count-is i d x, x.stands.capacity) in
-    ap (perform d (live d)) (entry-room i d next room)
-    ∙ ap (λ l. perform d l (next d))
+    ap (perform d (live d)) (entry-room i d next room) ∙ ap (λ l. perform d l (next d))
     (sym (denotes-live current a.bytes d k) ∙ ap (λ (c : Cut). live_of c.bytes) (sym h.1))
 grows-performs i a b {d} (Some g) next k h =
     let x = denotes-index i a k in
@@ -83,8 +82,7 @@ grows-performs i a b {d} (Some g) next k h =
     omega (arith, h.0, count-is i d x, x.stands.capacity) in
     entry-grows i d next k.directory.proper full
     (sym (λ j. place (denotes-live current a.bytes d k j) (8 * grown_capacity (x.stands.capacity j)) IndexRole)
-    ∙ h.1.placed)
-    ∙ ap (λ l. perform d l (next (with_table_of i d (grown_into i d h.1.extent))))
+    ∙ h.1.placed) ∙ ap (λ l. perform d l (next (with_table_of i d (grown_into i d h.1.extent))))
     (ap (λ l. added l h.1.extent) (sym (denotes-live current a.bytes d k))
     ∙ sym (allocated-live current a b (grown_bytes a (place_of i)) IndexRole g h.1))
 
@@ -104,8 +102,7 @@ grows-keeps i a b c {d} None k h keeps =
     (subst (λ (x : Cut). Keeps x c (live_of x.bytes).extents) h.1 keeps)
 grows-keeps i a b c {d} (Some g) k h keeps =
     subst (λ (l : LiveSet). Keeps a c l.extents) (denotes-live current a.bytes d k)
-    (keeps-trans a b c (live_of a.bytes).extents h.1.keeps
-    (keeps-front b c h.1.extent (live_of a.bytes)
+    (keeps-trans a b c (live_of a.bytes).extents h.1.keeps (keeps-front b c h.1.extent (live_of a.bytes)
     (subst (λ (l : LiveSet). Keeps b c l.extents)
     (allocated-live current a b (grown_bytes a (place_of i)) IndexRole g h.1) keeps)))
 
@@ -250,8 +247,7 @@ module _ (i : Index) {a : Cut} {d : Directory} (e : Key) {key : names.Key} (name
         object = object_of i name (Numbers k zs) x;
         after = with_object (grown i d a r.between g r.grows) (object_of i name (Numbers k zs) x);
         left = resized (live_of r.between.bytes) x;
-        met =
-            content-met i a d e key name (Scalar k) (asked.Numbers k zs) said new r.between (Numbers k zs)
+        met = content-met i a d e key name (Scalar k) (asked.Numbers k zs) said new r.between (Numbers k zs)
             (resized (live_of r.between.bytes) x) g r.grows
             (ap (λ j. place (live_of r.between.bytes) j ObjectRole) (sym len) ∙ r.takes.placed)
             (record { met = λ next. refl });

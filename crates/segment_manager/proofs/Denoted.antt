@@ -51,11 +51,9 @@ frame-stays old new {d} xs h k n u =
     let m' = bytes_of new.bytes in
     record {
       header = header-same k.front (Same-part m m' 32 128 80 128 k.behind (omega arith) (omega arith)) h.header;
-      named =
-          index-stays (named_objects d) by_name h.directory.named
+      named = index-stays (named_objects d) by_name h.directory.named
           (Same-part m m' 32 128 32 56 k.behind (omega arith) (omega arith)) n h.named;
-      unique =
-          index-stays (unique_objects d) by_kind h.directory.unique
+      unique = index-stays (unique_objects d) by_kind h.directory.unique
           (Same-part m m' 32 128 56 80 k.behind (omega arith) (omega arith)) u h.unique;
     }
 
@@ -75,15 +73,12 @@ pub directory-with : {format : ℕ} {d : Directory} (o : Object) → IsDirectory
 directory-with {format} {d} o h is_there c p = record {
   proper = subst (λ l. IsTrue (is_proper l)) (sym (live-put d o p)) p;
   objects = list_all-put (is_object format) o d.objects is_there h.objects;
-  by_offset =
-      put-rises 0 o d.objects (omega arith)
+  by_offset = put-rises 0 o d.objects (omega arith)
       (stands_apart o d.objects (of_each (λ (y : Extent). o.extent.offset ≢ y.offset) (fresh d o p)).objects)
       h.by_offset;
-  named =
-      subst (λ os. IsTrue (is_index d.named os by_name))
+  named = subst (λ os. IsTrue (is_index d.named os by_name))
       (sym (ordered-with Named by_name d o (anonymous-named o c))) h.named;
-  unique =
-      subst (λ os. IsTrue (is_index d.unique os by_kind))
+  unique = subst (λ os. IsTrue (is_index d.unique os by_kind))
       (sym (ordered-with Unique by_kind d o (anonymous-unique o c))) h.unique;
 }
 
@@ -98,14 +93,11 @@ denotes-with {format} old new {d} {o} h is_there c l k at =
       directory = directory-with o h.directory is_there c l.proper;
       header = frame.header;
       heap = subst (LaysOut format new.bytes) (sym (live-put d o l.proper)) l;
-      named =
-          subst (λ os. IsIndexAt (bytes_of new.bytes) 32 d.named (handles os))
+      named = subst (λ os. IsIndexAt (bytes_of new.bytes) 32 d.named (handles os))
           (sym (ordered-with Named by_name d o (anonymous-named o c))) frame.named;
-      unique =
-          subst (λ os. IsIndexAt (bytes_of new.bytes) 56 d.unique (handles os))
+      unique = subst (λ os. IsIndexAt (bytes_of new.bytes) 56 d.unique (handles os))
           (sym (ordered-with Unique by_kind d o (anonymous-unique o c))) frame.unique;
-      objects = all-put (IsObjectAt (bytes_of new.bytes)) o d.objects at
-          (any_objects-same format (bytes_of old.bytes)
+      objects = all-put (IsObjectAt (bytes_of new.bytes)) o d.objects at (any_objects-same format (bytes_of old.bytes)
           (bytes_of new.bytes) d.objects h.directory.objects blocks.objects h.objects);
     }
 
@@ -118,11 +110,9 @@ directory-without {format} {d} o h f c p = record {
   proper = p;
   objects = list_all-remove (is_object format) (handle o.extent) d.objects h.objects;
   by_offset = remove-rises 0 (handle o.extent) d.objects h.by_offset;
-  named =
-      subst (λ os. IsTrue (is_index d.named os by_name))
+  named = subst (λ os. IsTrue (is_index d.named os by_name))
       (sym (ordered-without Named by_name d o f (anonymous-named o c))) h.named;
-  unique =
-      subst (λ os. IsTrue (is_index d.unique os by_kind))
+  unique = subst (λ os. IsTrue (is_index d.unique os by_kind))
       (sym (ordered-without Unique by_kind d o f (anonymous-unique o c))) h.unique;
 }
 
@@ -141,11 +131,9 @@ denotes-without {format} old new {d} o h f c l k =
       directory = directory-without o h.directory f c l'.proper;
       header = frame.header;
       heap = l';
-      named =
-          subst (λ os. IsIndexAt (bytes_of new.bytes) 32 d.named (handles os))
+      named = subst (λ os. IsIndexAt (bytes_of new.bytes) 32 d.named (handles os))
           (sym (ordered-without Named by_name d o f (anonymous-named o c))) frame.named;
-      unique =
-          subst (λ os. IsIndexAt (bytes_of new.bytes) 56 d.unique (handles os))
+      unique = subst (λ os. IsIndexAt (bytes_of new.bytes) 56 d.unique (handles os))
           (sym (ordered-without Unique by_kind d o f (anonymous-unique o c))) frame.unique;
       objects =
           any_objects-same format (bytes_of old.bytes) (bytes_of new.bytes) (remove_object (handle o.extent) d.objects)
@@ -207,11 +195,9 @@ denotes-put {format} {b} {b'} {d} e {o} h s os is_there l k blocks i at =
     record {
       directory = record {
         proper = subst (λ (x : LiveSet). IsTrue (is_proper x)) (sym (live-put e o l.proper)) l.proper;
-        objects =
-            list_all-put (is_object format) o e.objects is_there
+        objects = list_all-put (is_object format) o e.objects is_there
             (subst (λ ps. IsTrue (list_all (is_object format) ps)) (sym os) h.directory.objects);
-        by_offset =
-            put-rises 0 o e.objects (omega arith) (stands_apart o e.objects apart)
+        by_offset = put-rises 0 o e.objects (omega arith) (stands_apart o e.objects apart)
             (subst (λ ps. IsTrue (rises_from 0 ps)) (sym os) h.directory.by_offset);
         named = i.named;
         unique = i.unique;

@@ -67,8 +67,7 @@ module _ {a : Cut} (i : Index) (at : ℕ) {h : ℕ} (leads : LeadsTo a i at h) w
   entry-found : {d : Directory} {o : Object} → Denotes current a.bytes d → slice_get (objects_of i d) at ≡ Some o
       → object_at d (names.ByHandle h) ≡ Some o
   entry-found {d} {o} k e =
-      subst (λ g. object_at d (names.ByHandle g) ≡ Some o)
-      (sym (same_Some h (handle o.extent)
+      subst (λ g. object_at d (names.ByHandle g) ≡ Some o) (sym (same_Some h (handle o.extent)
       (sym (leads (table_of i d) (entries_of i d) (denotes-index i a k)) ∙ at-handle (objects_of i d) at e)))
       (all-at (λ (p : Object). object_at d (names.ByHandle (handle p.extent)) ≡ Some p) (objects_of i d) at
       (in-handles i k.directory) e)
@@ -211,18 +210,15 @@ pub destroys-entered : {s t : State} (view : s ≡ t) (b : IsSegment s.cut.bytes
     → RemovesEntry s.cut c i at → Stepped s t c (asked.Destroy key) (Truth true)
 destroys-entered {s} {t} view b {c} i e key at may q p r =
     stepped s t view b c (asked.Destroy key) (Truth true) may (λ writing.
-    by_step (asked.Destroy key)
-    (record {
+    by_step (asked.Destroy key) (record {
       mode = refl;
       place = let x = found-entry s.cut b i e key at q p in
           (r x.directory x.object x.stands x.is).place;
     }) (λ d k.
     let there = found-for s.cut e k.denotes q p in
     lands (without_object d there.object) (record {
-      is =
-          step-reply s.mode d (asked.Destroy key) (Truth true) (without_object d there.object)
-          (open-writing s.mode (asked.Destroy key) writing)
-          (ap (λ (r : Option Object).
+      is = step-reply s.mode d (asked.Destroy key) (Truth true) (without_object d there.object)
+          (open-writing s.mode (asked.Destroy key) writing) (ap (λ (r : Option Object).
           elim r as (λ _. Plan) [ None ↦ Reply (Truth false) d | Some o ↦ Reply (Truth true) (without_object d o) ])
           there.is);
       denotes = (r d there.object k there.stands).denotes;
@@ -253,35 +249,33 @@ destroys-object {s} c h writing b each =
     by_step (asked.DestroyPtr h) (record { mode = refl; place = (each b.0 b.1).1.1.place }) (λ d k.
     let x = each d k in
     lands (without_object d x.0) (record {
-      is =
-          step-reply s.mode d (asked.DestroyPtr h) (Truth true) (without_object d x.0)
+      is = step-reply s.mode d (asked.DestroyPtr h) (Truth true) (without_object d x.0)
           (open-writing s.mode (asked.DestroyPtr h) writing)
           (with-found d (names.ByHandle h) x.0 (λ o. Reply (Truth true) (without_object d o)) x.1.0);
       denotes = x.1.1.denotes;
     }))
 
--- the entry of the object is found
-seen-entry : {s t : State} (view : s ≡ t) {h : ℕ} {i : Index} {at : ℕ} → IsEntryAt t h i at → IsEntryAt s h i at
-seen-entry view {h} {i} {at} = subst (λ (u : State). IsEntryAt u h i at) (sym view)
+module _ {s t : State} (view : s ≡ t) {h : ℕ} {i : Index} {at : ℕ} where
+  -- the entry of the object is found
+  seen-entry : IsEntryAt t h i at → IsEntryAt s h i at
+  seen-entry = subst (λ (u : State). IsEntryAt u h i at) (sym view)
 
-pub own-entry : {s t : State} (view : s ≡ t) (b : IsSegment s.cut.bytes) {h : ℕ} {i : Index} {at : ℕ}
-    → IsEntryAt t h i at → HoldsEntry s.cut.bytes i at
-own-entry {s} view b {h} {i} {at} listed =
-    let l = seen-entry view listed in
-    let x = l.leads b.0 b.1 in found-entry s.cut b i l.entry x.key at x.seeks l.found
+  pub own-entry : (b : IsSegment s.cut.bytes) → IsEntryAt t h i at → HoldsEntry s.cut.bytes i at
+  own-entry b listed =
+      let l = seen-entry listed in
+      let x = l.leads b.0 b.1 in found-entry s.cut b i l.entry x.key at x.seeks l.found
 
--- it went with its entry
-pub destroys-ptr : {s t : State} (view : s ≡ t) (b : IsSegment s.cut.bytes) {c : Cut} {h : ℕ} {i : Index} {at : ℕ}
-    → is_read_only t.mode ≡ false → IsEntryAt t h i at → RemovesEntry s.cut c i at
-    → Stepped s t c (asked.DestroyPtr h) (Truth true)
-destroys-ptr {s} {t} view b {c} {h} {i} {at} may listed r =
-    let l = seen-entry view listed in
-    stepped s t view b c (asked.DestroyPtr h) (Truth true) may (λ writing.
-    destroys-object c h writing b (λ d k.
-    let x = l.leads d k in
-    let there = found-for s.cut l.entry k.denotes x.seeks l.found in
-    let same = same_Some there.object x.object (sym there.is ∙ x.found) in
-    (x.object, (x.is, subst (λ o. Becomes s.cut c (without_object d o)) same (r d there.object k there.stands)))))
+  -- it went with its entry
+  pub destroys-ptr : (b : IsSegment s.cut.bytes) {c : Cut} → is_read_only t.mode ≡ false → IsEntryAt t h i at
+      → RemovesEntry s.cut c i at → Stepped s t c (asked.DestroyPtr h) (Truth true)
+  destroys-ptr b {c} may listed r =
+      let l = seen-entry listed in
+      stepped s t view b c (asked.DestroyPtr h) (Truth true) may (λ writing.
+      destroys-object c h writing b (λ d k.
+      let x = l.leads d k in
+      let there = found-for s.cut l.entry k.denotes x.seeks l.found in
+      let same = same_Some there.object x.object (sym there.is ∙ x.found) in
+      (x.object, (x.is, subst (λ o. Becomes s.cut c (without_object d o)) same (r d there.object k there.stands)))))
 
 -- or it had no key
 pub destroys-anonymous : {s t : State} (view : s ≡ t) (b : IsSegment s.cut.bytes) {c : Cut} (h : ℕ)

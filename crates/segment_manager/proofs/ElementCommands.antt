@@ -53,8 +53,7 @@ module _ {s : State} {key : Key} {why : Refusal} (h : IsUnchangeable s key why) 
   pub unchangeable-element : (l : Literal) → IsNoElement s key l why
   unchangeable-element l = record {
     push = h.refuses (asked.Push key l) refl (λ d n. with-not_found d key (λ o. step.push d o o.value l) n);
-    insert =
-        λ i. h.refuses (asked.Insert key i l) refl
+    insert = λ i. h.refuses (asked.Insert key i l) refl
         (λ d n. with-not_found d key (λ o. step.insert_at d o o.value i l) n);
   }
 
@@ -91,11 +90,9 @@ module _ {s : State} {key : Key} {o : Located} (h : IsToChange s key o)
 
   pub no_vector-element : (l : Literal) → IsNoElement s key l WrongKind
   no_vector-element l = record {
-    push =
-        refuses s (asked.Push key l) WrongKind h.writing
+    push = refuses s (asked.Push key l) WrongKind h.writing
         (λ d st. push-other d key (there st).object (there st).is (none st) l);
-    insert =
-        λ i. refuses s (asked.Insert key i l) WrongKind h.writing
+    insert = λ i. refuses s (asked.Insert key i l) WrongKind h.writing
         (λ d st. insert-other d key (there st).object (there st).is (none st) i l);
   }
 
@@ -136,8 +133,7 @@ module _ {s : State} (key : Key) (k : ScalarKind) (a : Answers s (λ d. kind_at 
       let outside = nat_lt (length h.numbers) i in
       insert-plan d key f.object k h.numbers h.table f.is h.is i l (Ok z) outside e refl
       ∙ sym (insert-plan d key f.object k h.numbers h.table f.is h.is i (literal_of k z) (Ok z) outside
-      (literal-read k z v) refl))
-      (of_kind-steps s new key (Vector k) (asked.Insert key i (literal_of k z)) answer a r)
+      (literal-read k z v) refl)) (of_kind-steps s new key (Vector k) (asked.Insert key i (literal_of k z)) answer a r)
 
   -- one that is no value of the kind is refused
   refused-element : {l : Literal} {why : Refusal} → is_read_only s.mode ≡ false → value_of_literal k l ≡ Err why
@@ -187,20 +183,18 @@ module _ {s : State} {key : Key} {o : Located} (located : IsLocated s key o) {l 
 abbrev pub NoText : Literal → Type 0
 NoText l = (bs : List ℕ) → l ≡ Quoted bs → ⊥
 
-not_pushed : (d : Directory) (o : Object) (ps : List OwnedText) (t : Table) (l : Literal) → NoText l
-    → step.push d o (Texts ps t) l ≡ Refuse WrongKind
-not_pushed d o ps t (Quoted bs) n = absurd (n bs refl)
-not_pushed d o ps t l n = refl
+module _ (d : Directory) (o : Object) (ps : List OwnedText) (t : Table) where
+  not_pushed : (l : Literal) → NoText l → step.push d o (Texts ps t) l ≡ Refuse WrongKind
+  not_pushed (Quoted bs) n = absurd (n bs refl)
+  not_pushed l n = refl
 
-not_inserted : (d : Directory) (o : Object) (ps : List OwnedText) (t : Table) (i : ℕ) (l : Literal) → NoText l
-    → step.insert_at d o (Texts ps t) i l ≡ Refuse WrongKind
-not_inserted d o ps t i (Quoted bs) n = absurd (n bs refl)
-not_inserted d o ps t i l n = refl
+  not_inserted : (i : ℕ) (l : Literal) → NoText l → step.insert_at d o (Texts ps t) i l ≡ Refuse WrongKind
+  not_inserted i (Quoted bs) n = absurd (n bs refl)
+  not_inserted i l n = refl
 
-not_set : (d : Directory) (o : Object) (ps : List OwnedText) (t : Table) (i : ℕ) (l : Literal) → NoText l
-    → step.set d o (Texts ps t) i l ≡ Refuse WrongKind
-not_set d o ps t i (Quoted bs) n = absurd (n bs refl)
-not_set d o ps t i l n = refl
+  not_set : (i : ℕ) (l : Literal) → NoText l → step.set d o (Texts ps t) i l ≡ Refuse WrongKind
+  not_set i (Quoted bs) n = absurd (n bs refl)
+  not_set i l n = refl
 
 module _ {s : State} {key : Key} (h : IsChangeable s key TextsKind) {l : Literal} (n : NoText l) where
   found : {d : Directory} → StandsFor s.cut.bytes d → IsOfKindAt d key TextsKind
@@ -225,8 +219,7 @@ module _ {s : State} {key : Key} (h : IsChangeable s key TextsKind) {l : Literal
     insert = λ i. refuses s (asked.Insert key i l) WrongKind h.writing (λ d st.
         let o : Object = (found st).object in
         with-found d key o (λ o. step.insert_at d o o.value i l) (found st).is
-        ∙ ap (λ v. step.insert_at d o v i l) (owned st).is
-        ∙ not_inserted d o (owned st).texts (owned st).table i l n);
+        ∙ ap (λ v. step.insert_at d o v i l) (owned st).is ∙ not_inserted d o (owned st).texts (owned st).table i l n);
   }
 
 -- ---- an element of scalars that is set
@@ -265,7 +258,6 @@ no_map_set d o v i l k m e = absurd (cc)
 pub set-map : {s : State} {key : Key} {k m : ScalarKind} (i : ℕ) (l : Literal) → IsChangeable s key (MapKind k m)
     → IsStep s s (asked.Set key i l) (Refused WrongKind)
 set-map {s} {key} {k} {m} i l h =
-    refuses s (asked.Set key i l) WrongKind h.writing
-    (λ d st. let f = told h.is d st in
+    refuses s (asked.Set key i l) WrongKind h.writing (λ d st. let f = told h.is d st in
     with-found d key f.object (λ o. step.set d o o.value i l) f.is
     ∙ no_map_set d f.object f.object.value i l k m f.kind_is)

@@ -54,8 +54,7 @@ module _ {A : Type 0} (says : A → Answer) (one : (a b : A) → says a ≡ says
   got-as (Err why) (Some b) e = absurd (some b why (sym e))
 
   module _ (mode : Mode) (d : Directory) (key : Key) (kind : Kind) (i : ℕ)
-      (gets : (v : Value) → same_kind kind (kind_of v) ≡ true
-      → (perform d (live d) (get d v i)).0 ≡ told says (slice_get (items v) i)) (r : Result A Refusal) where
+      (gets : (v : Value) → same_kind kind (kind_of v) ≡ true → (perform d (live d) (get d v i)).0 ≡ told says (slice_get (items v) i)) (r : Result A Refusal) where
     item-of : {o : Object} (b : Bool) → object_at d key ≡ Some o → same_kind kind (kind_of o.value) ≡ b
         → answer_of says r ≡ (step_of_kind mode d key kind (asked.Get key i)).0
         → got r ≡ slice_get (list_at items d key kind) i
@@ -64,8 +63,7 @@ module _ {A : Type 0} (says : A → Answer) (one : (a b : A) → says a ≡ says
         (step_of_kind-other mode d key kind (asked.Get key i) o (open-reading mode (asked.Get key i) refl) e g))
         ∙ sym (ap (λ zs. slice_get zs i) (list-of items d key kind o false e g))
     item-of {o} true e g f =
-        got-as r (slice_get (items o.value) i)
-        (f ∙ ap (λ (n : Answer × Directory). n.0)
+        got-as r (slice_get (items o.value) i) (f ∙ ap (λ (n : Answer × Directory). n.0)
         (step_of_kind-found mode d key kind (asked.Get key i) o (open-reading mode (asked.Get key i) refl) e g)
         ∙ ap (λ p. (perform d (live d) p).0) (with-found d key o (λ o. get d o.value i) e) ∙ gets o.value g)
         ∙ sym (ap (λ zs. slice_get zs i) (list-of items d key kind o true e g))
@@ -137,8 +135,7 @@ texts-gets : (d : Directory) (i : ℕ) (v : Value) → same_kind TextsKind (kind
 texts-gets d i v e =
     let is = texts-only v e in
     ap (λ w. (perform d (live d) (get d w i)).0) is.1.1 ∙ text-told d (slice_get is.0 i)
-    ∙ ap (told TextElement) (sym (got-map is.0 i))
-    ∙ sym (ap (λ w. told TextElement (slice_get (texts_in w) i)) is.1.1)
+    ∙ ap (told TextElement) (sym (got-map is.0 i)) ∙ sym (ap (λ w. told TextElement (slice_get (texts_in w) i)) is.1.1)
 
 pub text-read : (mode : Mode) (d : Directory) (key : Key) (i : ℕ) (r : Result (List ℕ) Refusal)
     → answer_of TextElement r ≡ (step_of_kind mode d key TextsKind (asked.Get key i)).0
@@ -154,8 +151,7 @@ abbrev of_kind_at : {A : Type 0} → (Value → Result A Refusal) → Directory 
 of_kind_at say d key kind =
     elim (object_at d key) [
       | None ↦ Err NotFound
-      | Some o ↦ if same_kind kind
-          (kind_of o.value) then say o.value else Err WrongKind
+      | Some o ↦ if same_kind kind (kind_of o.value) then say o.value else Err WrongKind
     ]
 
 module _ {A : Type 0} (items : Value → List A) (say : Value → Result ℕ Refusal) (d : Directory) (key : Key)

@@ -34,7 +34,6 @@ follows = record {
     not_unique = ordered-with Unique by_kind d o;
   };
   removes = λ format d o is e. removes-entry is (record { is = e });
-  changes =
-      λ d o p e h. keeps-entries o (record { is = (λ i. object_at d (ByHandle (handle (h.extent i)))) ∙ e })
+  changes = λ d o p e h. keeps-entries o (record { is = (λ i. object_at d (ByHandle (handle (h.extent i)))) ∙ e })
       (record { extent = h.extent; name = h.name; class = h.class; kind = h.kind });
 }

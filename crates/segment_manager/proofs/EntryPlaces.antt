@@ -60,8 +60,7 @@ pub rises-ascends : (lt : Object → Object → Bool) → IsStrict lt → (os : 
 rises-ascends lt s [] h = tt
 rises-ascends lt s (o ∷ []) h = (tt, tt)
 rises-ascends lt s (o ∷ p ∷ ps) h = (
-  below-rest lt s o p ps (first (lt o p) (rises lt (p ∷ ps)) h)
-      (second (lt o p) (rises lt (p ∷ ps)) h),
+  below-rest lt s o p ps (first (lt o p) (rises lt (p ∷ ps)) h) (second (lt o p) (rises lt (p ∷ ps)) h),
   rises-ascends lt s (p ∷ ps) (second (lt o p) (rises lt (p ∷ ps)) h),
 )
 
@@ -147,8 +146,7 @@ insert-at lt o [] zero l k = refl
 insert-at lt o [] (suc i) l k = absurd (omega (arith, l))
 insert-at lt o (p ∷ ps) zero l k = sym (ap handles (insert_by-front lt o p ps ((k 0 p refl).1 (omega arith))))
 insert-at lt o (p ∷ ps) (suc i) l k =
-    ap (λ hs. handle p.extent ∷ hs)
-    (insert-at lt o ps i (omega (arith, l))
+    ap (λ hs. handle p.extent ∷ hs) (insert-at lt o ps i (omega (arith, l))
     (λ j q e. ((λ f. (k (suc j) q e).0 (omega (arith, f))), (λ f. (k (suc j) q e).1 (omega (arith, f))))))
     ∙ sym (ap handles (insert_by-behind lt o p ps ((k 0 p refl).0 (omega arith))))
 

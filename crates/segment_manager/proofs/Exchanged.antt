@@ -143,8 +143,7 @@ denotes-exchanged {format} {old} {new} {d} {o} {o'} {from} {n} {gone} {come} k f
     let l = denotes-live format old.bytes d k in
     let laid : LaysOut format new.bytes (exchanged (live d) gone come) =
     subst (λ (l : LiveSet). LaysOut format new.bytes (exchanged l gone come)) l c.live in
-    let blocks =
-    kept-each (SameBlockBut m m' from n) p x
+    let blocks = kept-each (SameBlockBut m m' from n) p x
     (subst (λ (l : LiveSet). AllByRecursion (SameBlockBut m m' from n) (without_all gone l.extents)) l c.blocks) in
     let keeps : Keeps old new (rest d o') = record {
       place = c.place;
@@ -201,8 +200,7 @@ denotes-rewritten {old} {new} {d} o v {from} {n} k found kind count extents good
     let own : extent_at l (handle x) ≡ Some x =
     ap (λ (s : LiveSet). extent_at s (handle x)) (denotes-live current old.bytes d k)
     ∙ (blocks-in_use d o k.directory.proper found).own in
-    let keeps =
-    changed-keeps_block current old new from n (handle x) (from + n - handle x) c
+    let keeps = changed-keeps_block current old new from n (handle x) (from + n - handle x) c
     (found-room l (handle x) (from + n - handle x) x own (omega arith)) (omega arith) (omega arith) in
     let same : SameSpread (value_extents o.value) (value_extents v) =
     subst (SameSpread (value_extents o.value)) (sym extents) (spread-refl (value_extents o.value)) in

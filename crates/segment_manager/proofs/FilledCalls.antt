@@ -66,8 +66,7 @@ module _ {a : Cut} (b : IsSegment a.bytes) (key : names.Key) (content : Content)
   no-space f {command} say asks c why e d = record {
     step = λ mode writing.
         subst (λ (r : Refusal). IsStep (record { cut = a; mode = mode }) (record { cut = c; mode = mode }) command
-        (Refused r)) (sym e)
-        (makes-nothing command say writing d.place asks d.each);
+        (Refused r)) (sym e) (makes-nothing command say writing d.place asks d.each);
     refused = λ t. absurd (false≢true (sym (ap (λ (r : Refusal). is_untouched (Refused r)) e) ∙ t));
   }
 
@@ -79,43 +78,40 @@ module _ {a : Cut} (b : IsSegment a.bytes) (key : names.Key) (content : Content)
       → Constructs a c (asked.FindOrConstruct key content) pair_answer (Err why)
   none-found = no-space pair_found found (λ d e. ap (finds d key content) e)
 
-  made-now : (entry : Option NewEntry) (m : Cut) {c : Cut} (h at : ℕ) {n : ℕ} → IsBegunFor a m key content h at entry
-      → Builds m c h at entry content (let r = Ok n in r) → IsMadeNow a c key content n
-  made-now entry m {c} h at {n} g r =
-      subst (λ (n : ℕ). IsMadeNow a c key content n) (sym r.is) (value-built content b h at entry g r.value r.entered)
+  module _ (entry : Option NewEntry) (m : Cut) {c : Cut} (h at : ℕ) where
+    made-now : {n : ℕ} → IsBegunFor a m key content h at entry → Builds m c h at entry content (let r = Ok n in r)
+        → IsMadeNow a c key content n
+    made-now {n} g r =
+        subst (λ (n : ℕ). IsMadeNow a c key content n) (sym r.is) (value-built content b h at entry g r.value r.entered)
 
-  made-never : (entry : Option NewEntry) (m : Cut) {c : Cut} (h at : ℕ) (why : Refusal)
-      → IsBegunFor a m key content h at entry → Builds m c h at entry content (let r = Err why in r)
-      → IsMadeNever a c key content
-  made-never entry m h at why g r = value-not_built content b h at entry g r.none r.back
+    made-never : (why : Refusal) → IsBegunFor a m key content h at entry
+        → Builds m c h at entry content (let r = Err why in r) → IsMadeNever a c key content
+    made-never why g r = value-not_built content b h at entry g r.none r.back
 
-  -- what was begun is built, or is refused its blocks
-  pub construct-built : (entry : Option NewEntry) (m : Cut) {c : Cut} (h at : ℕ) (r : Result ℕ Refusal)
-      → IsBegunFor a m key content h at entry → Builds m c h at entry content r
-      → Constructs a c (asked.Construct key content) handle_answer r
-  construct-built entry m {c} h at (Ok n) g r =
-      let d = made-now entry m h at g r in
-      record {
-        step = λ mode writing.
-            makes (asked.Construct key content) made_handle writing d.place
-            (λ d e. ap (made_for d key content) e) (λ d n. ap Made (sym n.at)) d.each;
-        refused = tt;
-      }
-  construct-built entry m {c} h at (Err why) g r =
-      none-constructed c why r.none.refusal (made-never entry m h at why g r)
+    -- what was begun is built, or is refused its blocks
+    pub construct-built : (r : Result ℕ Refusal) → IsBegunFor a m key content h at entry
+        → Builds m c h at entry content r → Constructs a c (asked.Construct key content) handle_answer r
+    construct-built (Ok n) g r =
+        let d = made-now g r in
+        record {
+          step = λ mode writing.
+              makes (asked.Construct key content) made_handle writing d.place
+              (λ d e. ap (made_for d key content) e) (λ d n. ap Made (sym n.at)) d.each;
+          refused = tt;
+        }
+    construct-built (Err why) g r = none-constructed c why r.none.refusal (made-never why g r)
 
-  pub found-built : (entry : Option NewEntry) (m : Cut) {c : Cut} (h at : ℕ) (r : Result ℕ Refusal)
-      → IsBegunFor a m key content h at entry → Builds m c h at entry content r
-      → Constructs a c (asked.FindOrConstruct key content) pair_answer (with_count (count_of (bare content)) r)
-  found-built entry m {c} h at (Ok n) g r =
-      let d = made-now entry m h at g r in
-      record {
-        step = λ mode writing.
-            makes (asked.FindOrConstruct key content) found writing d.place
-            (λ d e. ap (finds d key content) e) (λ d n. λ j. Found (sym n.at j) (n.count j)) d.each;
-        refused = tt;
-      }
-  found-built entry m {c} h at (Err why) g r = none-found c why r.none.refusal (made-never entry m h at why g r)
+    pub found-built : (r : Result ℕ Refusal) → IsBegunFor a m key content h at entry → Builds m c h at entry content r
+        → Constructs a c (asked.FindOrConstruct key content) pair_answer (with_count (count_of (bare content)) r)
+    found-built (Ok n) g r =
+        let d = made-now g r in
+        record {
+          step = λ mode writing.
+              makes (asked.FindOrConstruct key content) found writing d.place
+              (λ d e. ap (finds d key content) e) (λ d n. λ j. Found (sym n.at j) (n.count j)) d.each;
+          refused = tt;
+        }
+    found-built (Err why) g r = none-found c why r.none.refusal (made-never why g r)
 
   -- it is not begun
   pub construct-not_begun : (why : Refusal) (c : Cut)
@@ -170,8 +166,7 @@ pub found-absent : {a c : Cut} (i : Index) (e : Key) (at : ℕ) {key : names.Key
     → Constructs a c (asked.FindOrConstruct key content) pair_answer r → FindsOrConstructs a c key content r
 found-absent {a} i e at {key} name kind new away done = record {
   constructs = done;
-  found =
-      λ d st has. absurd (none-some has.0
+  found = λ d st has. absurd (none-some has.0
       (sym (lookup-absent i a e key st.denotes (key-seeks i e key name kind new) (away-in i e at st.denotes away)).none
       ∙ has.1));
 }

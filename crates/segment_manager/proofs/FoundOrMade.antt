@@ -16,39 +16,37 @@ abbrev pub made_for : Directory → Key → Content → Option Object → Plan
 made_for d key content r =
     elim r as (λ _. Plan) [
       | Some o ↦ Refuse Exists
-      | None ↦ with_new_object d key content
-          (λ o e. Reply (Made (handle o.extent)) e)
+      | None ↦ with_new_object d key content (λ o e. Reply (Made (handle o.extent)) e)
     ]
 
--- A command asks for a new object where no object has the key, and says this of it: it is made.
-pub makes : {old : State} {new : Cut} {key : Key} {content : Content} {h : ℕ} (c : Command) (say : Object
-    → Answer) {answer : Answer} → is_read_only old.mode ≡ false → SamePlace old.cut new
-    → ((d : Directory) → object_at d key ≡ None → effect d c ≡ with_new_object d key content (λ o e. Reply (say o) e))
-    → ((d : Directory) → (n : IsNewObject new d key content h) → say n.object ≡ answer)
-    → ((d : Directory) → StandsFor old.cut.bytes d → (object_at d key ≡ None) × IsNewObject new d key content h)
-    → IsStep old (record old { cut = new }) c answer
-makes {old} {new} {key} {content} {h} c say writing place asks said each =
-    by_step c (record { mode = refl; place = place }) (λ d k.
-    let n : IsNewObject new d key content h = (each d k).1 in
-    lands n.after (record {
-      is = step-plan old.mode d c (open-writing old.mode c writing) (asks d (each d k).0)
-          ∙ n.met (λ o e. Reply (say o) e) ∙ ap (λ (a : Answer). (a, n.after)) (said d n);
-      denotes = n.denotes;
-    }))
+module _ {old : State} {new : Cut} {key : Key} {content : Content} (c : Command) (say : Object → Answer)
+    (writing : is_read_only old.mode ≡ false) (place : SamePlace old.cut new)
+    (asks : ((d : Directory) → object_at d key ≡ None → effect d c ≡ with_new_object d key content (λ o e. Reply (say o) e))) where
+  -- A command asks for a new object where no object has the key, and says this of it: it is made.
+  pub makes : {h : ℕ} {answer : Answer}
+      → ((d : Directory) → (n : IsNewObject new d key content h) → say n.object ≡ answer)
+      → ((d : Directory) → StandsFor old.cut.bytes d → (object_at d key ≡ None) × IsNewObject new d key content h)
+      → IsStep old (record old { cut = new }) c answer
+  makes {h} said each =
+      by_step c (record { mode = refl; place = place }) (λ d k.
+      let n : IsNewObject new d key content h = (each d k).1 in
+      lands n.after (record {
+        is = step-plan old.mode d c (open-writing old.mode c writing) (asks d (each d k).0)
+            ∙ n.met (λ o e. Reply (say o) e) ∙ ap (λ (a : Answer). (a, n.after)) (said d n);
+        denotes = n.denotes;
+      }))
 
--- or a request is refused
-pub makes-nothing : {old : State} {new : Cut} {key : Key} {content : Content} (c : Command) (say : Object → Answer)
-    → is_read_only old.mode ≡ false → SamePlace old.cut new
-    → ((d : Directory) → object_at d key ≡ None → effect d c ≡ with_new_object d key content (λ o e. Reply (say o) e))
-    → ((d : Directory) → StandsFor old.cut.bytes d → (object_at d key ≡ None) × IsNoObject new d key content)
-    → IsStep old (record old { cut = new }) c (Refused NoSpace)
-makes-nothing {old} {new} c say writing place asks each =
-    by_step c (record { mode = refl; place = place }) (λ d k.
-    lands d (record {
-      is = step-plan old.mode d c (open-writing old.mode c writing) (asks d (each d k).0)
-          ∙ (each d k).1.refused (λ o e. Reply (say o) e);
-      denotes = (each d k).1.denotes;
-    }))
+  -- or a request is refused
+  pub makes-nothing : ((d : Directory) → StandsFor old.cut.bytes d
+      → (object_at d key ≡ None) × IsNoObject new d key content)
+      → IsStep old (record old { cut = new }) c (Refused NoSpace)
+  makes-nothing each =
+      by_step c (record { mode = refl; place = place }) (λ d k.
+      lands d (record {
+        is = step-plan old.mode d c (open-writing old.mode c writing) (asks d (each d k).0)
+            ∙ (each d k).1.refused (λ o e. Reply (say o) e);
+        denotes = (each d k).1.denotes;
+      }))
 
 abbrev pub made_handle : Object → Answer
 made_handle o = Made (handle o.extent)

@@ -30,16 +30,14 @@ code-small k = omega arith
 text-short : (name : List ℕ) → IsTrue (is_text_name name) → length name ≤ 255
 unfolding is_text_name
 text-short name h =
-    let three =
-    and_parts (nat_le 1 (length name) && nat_le (length name) 255 && is_utf8 name)
+    let three = and_parts (nat_le 1 (length name) && nat_le (length name) 255 && is_utf8 name)
     (list_all (λ c. not (is_control c)) (chars name)) h in
     let two = and_parts (nat_le 1 (length name) && nat_le (length name) 255) (is_utf8 name) three.0 in
     leb-true (length name) 255 (and_parts (nat_le 1 (length name)) (nat_le (length name) 255) two.0).1
 
 printable-short : (name : List ℕ) → IsTrue (is_printable_name name) → length name ≤ 255
 printable-short name h =
-    let two =
-    and_parts (nat_le 1 (length name) && nat_le (length name) 63)
+    let two = and_parts (nat_le 1 (length name) && nat_le (length name) 63)
     (list_all (λ c. nat_le 0x20 c && nat_le c 0x7E) name) h in
     let l = leb-true (length name) 63 (and_parts (nat_le 1 (length name)) (nat_le (length name) 63) two.0).1 in
     omega arith

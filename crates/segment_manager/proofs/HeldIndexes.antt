@@ -69,8 +69,7 @@ denotes-index i c {d} k = record {
   stands = stands-in i c k;
   places = (index-parts (table_of i d) (objects_of i d) (order_of i) (directory-index i k.directory)).0;
   few = entries-few i k.directory;
-  held =
-      subst (λ l. IfSome (table_of i d).extent (λ x. extent_at l (handle x) ≡ Some x))
+  held = subst (λ l. IfSome (table_of i d).extent (λ x. extent_at l (handle x) ≡ Some x))
       (sym (denotes-live current c.bytes d k)) (in_use-some i k.directory);
   whole = all-handles (λ h. h % 16 ≡ 0) (objects_of i d) (all-in (λ (o : Object). handle o.extent % 16 ≡ 0) i d
       (all-each (λ (o : Object). IsInUse (live d) o.extent) (λ (o : Object). handle o.extent % 16 ≡ 0)
@@ -115,8 +114,7 @@ denotes-keys i {c} {d} {e} k = record {
   keys = all-handles (HasKey c e) (objects_of i d) (all-in (λ (o : Object). HasKey c e (handle o.extent)) i d
       (all-each (IsKnown c d) (λ (o : Object). HasKey c e (handle o.extent)) (λ o u. record {
         heap = denotes-heap current c.bytes d k;
-        room =
-            subst (λ l. IsTrue (has_room l (handle o.extent) (key_end (bytes_of c.bytes) e (handle o.extent))))
+        room = subst (λ l. IsTrue (has_room l (handle o.extent) (key_end (bytes_of c.bytes) e (handle o.extent))))
             (sym (denotes-live current c.bytes d k)) (key-room e u);
       }) d.objects (all-known c k)));
 }

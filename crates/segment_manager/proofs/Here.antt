@@ -66,8 +66,7 @@ pub tells : {A : Type 0} {s : State} (key : Key) {h : ℕ} (say : Object → A) 
 tells {A} {s} key {h} say a each = record {
   answers = λ d k.
       let o = here s.cut.bytes d key h k.denotes (a.answers d k) in
-      ap Ok (each o.object o.stands)
-      ∙ sym (ap (λ (r : Option Object).
+      ap Ok (each o.object o.stands) ∙ sym (ap (λ (r : Option Object).
       elim r as (λ _. Result A Refusal) [ None ↦ Err NotFound | Some p ↦ Ok (say p) ]) o.is);
 }
 

@@ -31,14 +31,11 @@ pub record IsInUse (l : LiveSet) (x : Extent) : Type 0 where
 
 all-in_use : (l : LiveSet) → IsTrue (is_proper l) → AllByRecursion (IsInUse l) l.extents
 all-in_use l h =
-    all-both (IsFoundIn l.extents) IsSound (IsInUse l)
-    (λ x f s. record {
+    all-both (IsFoundIn l.extents) IsSound (IsInUse l) (λ x f s. record {
       found = f;
       room = λ n k. found-room l (handle x) n x f (no_more (n + 16) x.len k);
-      whole =
-          omega (arith, s.aligned);
-    })
-    l.extents (found-each 128 l.extents (live-rises l h)) (live-sound l h)
+      whole = omega (arith, s.aligned);
+    }) l.extents (found-each 128 l.extents (live-rises l h)) (live-sound l h)
 
 -- the block of each object itself
 own-extents : (P : Extent → Type 0) (os : List Object) → AllByRecursion P (flat_map extents_of os)

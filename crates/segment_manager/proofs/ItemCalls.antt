@@ -1,7 +1,7 @@
 -- Calls that construct an object of numbers from items, as the code makes them.
 use Rattle.segment_manager.proofs.Common.{◌≡◌, refl, sym, ap, subst, ◌∙◌, ℕ, true, false, Some, None, Option, Ok, Err}
 use Rattle.segment_manager.proofs.Common.{Result, List, Cut, Refusal, Exists, NoSpace, Command, NewEntry, Made, Refused}
-use Rattle.segment_manager.proofs.Common.{IsNotBegun, Object, Directory, object_at, IsBegunFor, IsSegment, IsStep}
+use Rattle.segment_manager.proofs.Common.{IsNotBegun, Object, Directory, object_at, IsSegment, IsStep}
 use Rattle.segment_manager.proofs.Common.{State, is_read_only, Reply, effect, with_new_object, ◌+◌, ◌*◌, ◌≤◌, ℤ, Bool}
 use Rattle.segment_manager.proofs.Common.{[], length, map, replicate, arith, ◌<◌, if◌then◌else◌, mul-le-mul_left}
 use Rattle.segment_manager.proofs.Common.{IsTrue, pos, take, nat_lt, list_all, lt-ltb, le-ltb, length-map}
@@ -44,8 +44,7 @@ module _ (old : State) (key : names.Key) (k : ScalarKind) (count : ℕ) (zs : Li
   pub items-exists : ((d : Directory) → StandsFor old.cut.bytes d → (o : Object) × (object_at d key ≡ Some o))
       → IsStep old old c (Refused Exists)
   items-exists each =
-      by_no_change old c (Refused Exists)
-      (λ d st. step-refuse old.mode d c Exists (open-writing old.mode c writing)
+      by_no_change old c (Refused Exists) (λ d st. step-refuse old.mode d c Exists (open-writing old.mode c writing)
       (ap (from-items d key k count zs) (each d st).1))
 
   -- there are enough, and the object is made of them
@@ -233,8 +232,7 @@ module _ (S : Type 0) {A : Type 0} (gives : S → Option A → S → Type 0) (wh
       (record { items = f.items; step = steps-made entry c h at g f fin.1; taken = f.taken; unchanged = tt })
   takes entry (Err why) m w c h at result g f fin =
       subst (λ (r : Result ℕ Refusal). TakesItems gives whole s (record s { cut = c }) key k count before after r)
-      (sym (fin.0 ∙ ap Err f.taken.0))
-      (record {
+      (sym (fin.0 ∙ ap Err f.taken.0)) (record {
         items = f.items;
         step = steps-few entry h at g f (fin.1 s.cut (loose entry (Err why) m w h at g f));
         taken = (f.taken.1, f.taken.2);

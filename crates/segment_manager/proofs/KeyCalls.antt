@@ -42,8 +42,7 @@ none-behind : (t : Extent → Bool) (h n : ℕ) (xs : List Extent) → h < n + 1
 none-behind t h n [] l r = refl
 none-behind t h n (x ∷ xs) l r =
     ap (λ b. (b && t x) || list_any (λ (x : Extent). (handle x == h) && t x) xs)
-    (ne_eqb (handle x) h (λ e. omega (arith, r.0, e)))
-    ∙ none-behind t h (x.offset + 1) xs (omega (arith, r.0)) r.1
+    (ne_eqb (handle x) h (λ e. omega (arith, r.0, e))) ∙ none-behind t h (x.offset + 1) xs (omega (arith, r.0)) r.1
 
 any-first-if : (t : Extent → Bool) (h : ℕ) (x : Extent) (xs : List Extent) (b : Bool) → (handle x == h) ≡ b
     → Rising (x.offset + 1) xs → list_any (λ (x : Extent). (handle x == h) && t x) xs ≡ passes t (first_of h xs)
@@ -103,8 +102,7 @@ role-answers {s} h {r} e f = record {
 pub dead-answers : {s : State} (h : ℕ) {b : Bool} → b ≡ is_live_in (live_of s.cut.bytes) h → b ≡ false
     → Answers s (λ d. is_object_at d h) b
 dead-answers {s} h e f = record {
-  answers =
-      λ d k. f ∙ sym (object-passes h k.denotes
+  answers = λ d k. f ∙ sym (object-passes h k.denotes
       ∙ ap (passes for_object) (none-first h (live_of s.cut.bytes).extents (sym e ∙ f)));
 }
 
@@ -137,8 +135,7 @@ pub found-answers : (s : State) (i : Index) (e : Entry) (place : ℕ) {h : ℕ}
     → Answers s (λ d. handle_at d key) (Some h)
 found-answers s i e place {h} f g key q = record {
   answers = λ d k.
-      let there =
-      lookup-found i s.cut e key k.denotes q place
+      let there = lookup-found i s.cut e key k.denotes q place
       (of-directory s i (λ hs. IsPlace (bytes_of s.cut.bytes) e hs (Found place)) k f) in
       sym (of-directory s i (λ hs. slice_get hs place ≡ Some h) k g) ∙ there.leads
       ∙ sym (ap (option_map (λ (o : Object). handle o.extent)) there.is);
@@ -150,8 +147,7 @@ pub absent-answers : {s : State} (i : Index) (e : Entry) (place : ℕ)
     → Answers s (λ d. handle_at d key) None
 absent-answers {s} i e place f key q = record {
   answers = λ d k.
-      sym (ap (option_map (λ (o : Object). handle o.extent))
-      (lookup-absent i s.cut e key k.denotes q
+      sym (ap (option_map (λ (o : Object). handle o.extent)) (lookup-absent i s.cut e key k.denotes q
       (of-directory s i (λ hs. IsPlace (bytes_of s.cut.bytes) e hs (Absent place)) k f)).none);
 }
 
@@ -186,8 +182,7 @@ abbrev finds : Directory → Kind → Option Object → Plan
 finds d kind r =
     elim r as (λ _. Plan) [
       | None ↦ Reply Absent d
-      | Some o ↦ if same_kind kind (kind_of o.value) then Reply
-          (found o) d else Refuse WrongKind
+      | Some o ↦ if same_kind kind (kind_of o.value) then Reply (found o) d else Refuse WrongKind
     ]
 
 -- nothing has the key

@@ -111,16 +111,13 @@ pub kinds-say : (k : Kind) (o : Object) → is_class UniqueClass o ≡ true
 kinds-say k o c =
     let two = compares (code_of (kind_of o.value)) (code_of k) in
     record {
-      equal =
-          λ e. and_from (is_class UniqueClass o) (same_kind k (kind_of o.value)) c
+      equal = λ e. and_from (is_class UniqueClass o) (same_kind k (kind_of o.value)) c
           (eq-eqb (code_of k) (code_of (kind_of o.value)) (sym (two.same e)));
       less = λ e. kinds-other k o (λ f. omega (arith, two.less e, f));
       greater = λ e. kinds-other k o (λ f. omega (arith, two.greater e, f));
-      behind =
-          λ q h e. le-ltb (code_of (kind_of q.value)) (code_of (kind_of o.value))
+      behind = λ q h e. le-ltb (code_of (kind_of q.value)) (code_of (kind_of o.value))
           (omega (arith, two.less e, code-of k q h));
-      ahead =
-          λ q h e. lt-ltb (code_of (kind_of q.value)) (code_of (kind_of o.value))
+      ahead = λ q h e. lt-ltb (code_of (kind_of q.value)) (code_of (kind_of o.value))
           (omega (arith, two.greater e, code-of k q h));
     }
 

@@ -126,8 +126,7 @@ remove-place n {h} {p} {ps} {o} t (behind e f) r k =
     let rest = spread (remove_object h ps) t in
     let r1 : Rising n (inserted (extents_of p) (spread ps t)) = subst (Rising n) (spread-cons p ps t) r in
     let below = k f (rising-inserted n (extents_of p) (spread ps t) r1).0 in
-    spread-cons p ps t ∙ ap (inserted (extents_of p)) below
-    ∙ inserted-comm (extents_of p) (extents_of o) rest
+    spread-cons p ps t ∙ ap (inserted (extents_of p)) below ∙ inserted-comm (extents_of p) (extents_of o) rest
     (apart-inserted n (extents_of p) (extents_of o) rest (subst (λ xs. Rising n (inserted (extents_of p) xs)) below r1))
     ∙ ap (inserted (extents_of o)) (sym (spread-cons p (remove_object h ps) t))
     ∙ ap (λ qs. inserted (extents_of o) (spread qs t)) (sym (remove-behind h p ps e))

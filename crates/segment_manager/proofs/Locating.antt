@@ -117,8 +117,7 @@ module _ (old : State) (key : Key) (o : Located) (l : IsLocated old key o) where
   kind-by_key = record {
     answers = λ d k.
         let p = said-at old key o l d k in
-        ap (λ (q : Located). Ok q.kind) p.said
-        ∙ sym (ap (λ (r : Option Object).
+        ap (λ (q : Located). Ok q.kind) p.said ∙ sym (ap (λ (r : Option Object).
         elim r as (λ _. Result Kind Refusal) [ None ↦ Err NotFound | Some q ↦ Ok (kind_of q.value) ]) p.is);
   }
 
@@ -130,8 +129,7 @@ module _ (old : State) (key : Key) (o : Located) (l : IsLocated old key o) where
       → IsStep old new (at_key key c) answer
   step-by_key new c answer m =
       moves-same old new answer (λ d. step old.mode d (at_key (ByHandle o.handle) c))
-      (λ d. step old.mode d (at_key key c))
-      (step-same c) m
+      (λ d. step old.mode d (at_key key c)) (step-same c) m
 
   pub step_of_kind-by_key : (new : State) (kind : Kind) (c : Command) (answer : Answer)
       → IsStepOfKind old new (ByHandle o.handle) kind (at_key (ByHandle o.handle) c) answer
@@ -145,8 +143,7 @@ module _ (old : State) (key : Key) (o : Located) (l : IsLocated old key o) where
       → IsReplyOfKind old (ByHandle o.handle) kind (at_key (ByHandle o.handle) c) answer
       → IsReplyOfKind old key kind (at_key key c) answer
   reply_of_kind-by_key kind c answer a = record {
-    answers =
-        λ d k. a.answers d k ∙ ap (λ (n : Answer × Directory). n.0)
+    answers = λ d k. a.answers d k ∙ ap (λ (n : Answer × Directory). n.0)
         (keys_of_kind-same old.mode d (ByHandle o.handle) key kind c (same d k));
   }
 
@@ -173,8 +170,7 @@ module _ (old : State) (key : Key) (o : Located) (l : IsLocated old key o) where
   places-by_key n m = λ d k p. m d k (record {
     len = p.len;
     capacity = p.capacity;
-    says =
-        ap (λ (r : Option Object).
+    says = ap (λ (r : Option Object).
         elim r as (λ _. Result (ℕ × ℕ) Refusal) [ None ↦ Err NotFound | Some q ↦ sizes_of q.value ]) (same d k)
         ∙ p.says;
     enough = p.enough;

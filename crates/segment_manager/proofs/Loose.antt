@@ -24,8 +24,7 @@ begun-room None a m key kind count body h at g =
     headed-room body g.headed
     (allocated-room current a g.taken (room_for [] body) ObjectRole h (room_for [] body) g.takes (omega arith))
 begun-room (Some e) a m key kind count body h at g =
-    headed-room body g.headed
-    (allocated-room current g.requested.between g.taken (room_for g.name body) ObjectRole h
+    headed-room body g.headed (allocated-room current g.requested.between g.taken (room_for g.name body) ObjectRole h
     (room_for g.name body) g.requested.takes (omega arith))
 
 pub begun-heap : (entry : Option NewEntry) (a m : Cut) (key : Key) (kind : Kind) (count body h at : ℕ)
@@ -82,18 +81,18 @@ pub alone-back : {old now new : Cut} {h : ℕ} → IsLooseAlone old now h → Is
     → IsRestored old new
 alone-back l gone = back-again (alone-taken l) gone
 
--- once it is given back, what the index took is in use still
-object-back : {old now new : Cut} {h : ℕ} {e : NewEntry} → (l : IsLooseEntry old now h e) → IsReleased current now new h
-    → IsRestored l.requested.between new
-object-back l gone = back-again (entry-taken l) gone
+module _ {old now new : Cut} {h : ℕ} {e : NewEntry} (l : IsLooseEntry old now h e)
+    (gone : IsReleased current now new h) where
+  -- once it is given back, what the index took is in use still
+  object-back : IsRestored l.requested.between new
+  object-back = back-again (entry-taken l) gone
 
-pub loose-held : {old now new : Cut} {h : ℕ} {e : NewEntry} → IsLooseEntry old now h e → IsReleased current now new h
-    → IfSome e.growth.block (λ g. IsTrue (is_live_in (live_of new.bytes) g))
-loose-held {old} {new} {e} l gone =
-    let mid : Cut = l.requested.between in
-    subst (λ (s : LiveSet). IfSome e.growth.block (λ g. IsTrue (is_live_in s g)))
-    (sym (lay_out_one current new.bytes (live_of mid.bytes) (object-back l gone).laid))
-    (growth-held old mid (place_of e.index) e.growth.block l.requested.grows)
+  pub loose-held : IfSome e.growth.block (λ g. IsTrue (is_live_in (live_of new.bytes) g))
+  loose-held =
+      let mid : Cut = l.requested.between in
+      subst (λ (s : LiveSet). IfSome e.growth.block (λ g. IsTrue (is_live_in s g)))
+      (sym (lay_out_one current new.bytes (live_of mid.bytes) (object-back).laid))
+      (growth-held old mid (place_of e.index) e.growth.block l.requested.grows)
 
 pub entry-back : {old now mid : Cut} {new : Cut} {h : ℕ} {e : NewEntry} → IsLooseEntry old now h e
     → IsReleased current now mid h → GivesBack mid new e.growth.block → IsRestored old new

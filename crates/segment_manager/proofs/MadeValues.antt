@@ -126,8 +126,7 @@ taken-more a {b} {c} x {from} {n} {come} m low high r =
 pub placed-next : {a b : Cut} {n h : ℕ} → (t : IsAllocated current a b n ObjectRole h)
     → resized (live_of a.bytes) t.extent ≡ live_of b.bytes
 placed-next {a} {b} {n} {h} t =
-    let f =
-    rising-insert 128 t.extent (live_of a.bytes).extents
+    let f = rising-insert 128 t.extent (live_of a.bytes).extents
     (live-rises (added (live_of a.bytes) t.extent) t.live.proper) in
     resized-fresh (live_of a.bytes) t.extent f.differs ∙ sym (allocated-live current a b n ObjectRole h t)
 
@@ -159,22 +158,21 @@ pub record IsInside (x : Extent) (from n : ℕ) : Type 0 where
   pub low : handle x ≤ from
   pub high : from + n ≤ end_of x
 
-pub inside : {a e : Cut} (name : List ℕ) {n : ℕ} {h at : ℕ}
-    → (t : IsAllocated current a e (room_for name n) ObjectRole h) → at ≡ 16 + padded (length name)
-    → IsInside t.extent (h + at) n
-inside name {n} {h} t start =
-    let long = room_for name n in
-    let x : Extent = t.extent in
-    let is : h ≡ handle x = t.at in
-    let fits = no_more (long + 16) x.len (second (same_role x.role ObjectRole) (holds x long) (allocated-serves t)) in
-    record { low = omega arith; high = omega arith }
+module _ {a e : Cut} (name : List ℕ) {n h at : ℕ} (t : IsAllocated current a e (room_for name n) ObjectRole h)
+    (start : at ≡ 16 + padded (length name)) where
+  pub inside : IsInside t.extent (h + at) n
+  inside =
+      let long = room_for name n in
+      let x : Extent = t.extent in
+      let is : h ≡ handle x = t.at in
+      let fits = no_more (long + 16) x.len (second (same_role x.role ObjectRole) (holds x long) (allocated-serves t)) in
+      record { low = omega arith; high = omega arith }
 
-pub made-taken : {a e w : Cut} (name : List ℕ) {n h at : ℕ} {come : List Extent}
-    → (t : IsAllocated current a e (room_for name n) ObjectRole h) → at ≡ 16 + padded (length name)
-    → IsExchanged current e w (h + at) n [] come → IsTaken a w (t.extent ∷ come)
-made-taken {a} name {n} {h} {at} t start r =
-    let i = inside name t start in
-    taken-more a t.extent (requested-taken t) i.low i.high r
+  pub made-taken : {w : Cut} {come : List Extent} → IsExchanged current e w (h + at) n [] come
+      → IsTaken a w (t.extent ∷ come)
+  made-taken r =
+      let i = inside in
+      taken-more a t.extent (requested-taken t) i.low i.high r
 
 -- a head with its name, and a value behind it
 headed-object : {m m' : Memory} {h at : ℕ} {class : Class} {name : List ℕ} (v : Value) (x : Extent) → h ≡ handle x

@@ -145,8 +145,7 @@ module _ (content : Content) where
         record {
           refused =
               content-denied e.index a d g.entry key g.name kind content said g.is g.requested.between e.growth.block
-              g.requested.grows
-              took.placed (subst (λ l. IsDenied d l content) (sym (placed-next took)) (r.denied d));
+              g.requested.grows took.placed (subst (λ l. IsDenied d l content) (sym (placed-next took)) (r.denied d));
           denotes = restored-denotes a c d said back;
         }
 
@@ -276,30 +275,31 @@ module _ (content : Content) where
 
     -- ---- all directories
 
-    entry-place : {w c : Cut} {e : NewEntry} → IsBegunEntry a m key kind many long h at e
-        → (r : IsMadeValue content m w (record { handle = h; at = at })) → IsEntryAdded w c h e → SamePlace a c
-    entry-place {w} {c} {e} g r added =
-        let i : Index = e.index in
-        let mid : Cut = g.requested.between in
-        let q = (entry-wanted g r).index in
-        SamePlace-trans a mid c (growth-place (place_of i) e.growth.block g.requested.grows)
-        (SamePlace-trans mid w c (entry-taken g r).keeps.place
-        (keeps-place (place_of i) q.table e.growth.block (added.keeps q.table q.handles q.index)))
+    module _ {w c : Cut} {e : NewEntry} (g : IsBegunEntry a m key kind many long h at e) where
+      entry-place : (r : IsMadeValue content m w (record { handle = h; at = at })) → IsEntryAdded w c h e
+          → SamePlace a c
+      entry-place r added =
+          let i : Index = e.index in
+          let mid : Cut = g.requested.between in
+          let q = (entry-wanted g r).index in
+          SamePlace-trans a mid c (growth-place (place_of i) e.growth.block g.requested.grows)
+          (SamePlace-trans mid w c (entry-taken g r).keeps.place
+          (keeps-place (place_of i) q.table e.growth.block (added.keeps q.table q.handles q.index)))
 
-    -- it is made
-    value-made : {w : Cut} {e : NewEntry} {c : Cut} → IsBegunEntry a m key kind many long h at e
-        → IsMadeValue content m w (record { handle = h; at = at }) → IsEntryAdded w c h e → IsMadeNow a c key content h
-    value-made g r added = record {
-      place = entry-place g r added;
-      each = λ d st. (absent g st.denotes, entry-new g st.denotes r added);
-    }
+      -- it is made
+      value-made : IsMadeValue content m w (record { handle = h; at = at }) → IsEntryAdded w c h e
+          → IsMadeNow a c key content h
+      value-made r added = record {
+        place = entry-place r added;
+        each = λ d st. (absent g st.denotes, entry-new g st.denotes r added);
+      }
 
-    value-refused : {w : Cut} {e : NewEntry} {c : Cut} {why : Refusal} → IsBegunEntry a m key kind many long h at e
-        → IsNoValue content m w (record { handle = h; at = at }) why → IsRestored a c → IsMadeNever a c key content
-    value-refused g r back = record {
-      place = back.keeps.place;
-      each = λ d st. (absent g st.denotes, entry-denied g st.denotes r back);
-    }
+      value-refused : {why : Refusal} → IsNoValue content m w (record { handle = h; at = at }) why → IsRestored a c
+          → IsMadeNever a c key content
+      value-refused r back = record {
+        place = back.keeps.place;
+        each = λ d st. (absent g st.denotes, entry-denied g st.denotes r back);
+      }
 
   -- the same of an object without a key
   module _ {a m : Cut} (h at : ℕ) (g : IsBegunAlone a m names.NoKey kind many long h at) where
@@ -345,8 +345,7 @@ module _ {a : Cut} (key : names.Key) (content : Content) where
   pub key-taken : {c : Cut} → (t : IsTakenKey a c key (kind_of (bare content))) → (d : Directory) → StandsFor a.bytes d
       → (o : Object) × (object_at d key ≡ Some o)
   key-taken t d st =
-      let f =
-      lookup-found t.index a t.entry key st.denotes
+      let f = lookup-found t.index a t.entry key st.denotes
       (key-seeks t.index t.entry key t.name (kind_of (bare content)) t.is) t.place
       (t.found (table_of t.index d) (entries_of t.index d) (denotes-index t.index a st.denotes)) in
       (f.object, f.is)
@@ -359,11 +358,9 @@ module _ {a : Cut} (key : names.Key) (content : Content) where
       no_key-none d.objects,
       record {
         refused = λ next.
-            perform-no_space d (live d) ObjectRole (object_len [] (bare content))
-            (λ x. with_value content
+            perform-no_space d (live d) ObjectRole (object_len [] (bare content)) (λ x. with_value content
             (λ w. let o : Object = record { class = Anonymous; name = []; value = w; extent = x } in
-            next o (with_object d o)))
-            (ap (λ l. place l (object_len [] (bare content)) ObjectRole)
+            next o (with_object d o))) (ap (λ l. place l (object_len [] (bare content)) ObjectRole)
             (sym (denotes-live current a.bytes d st.denotes)) ∙ r.none);
         denotes = subst (λ (u : Cut). Denotes current u.bytes d) (sym r.same) st.denotes;
       },

@@ -156,10 +156,10 @@ nodes-none : (h : ℕ) (k v : ScalarKind) (ps : List NumberPair) → IsTrue (lis
     → NonePasses (is_object_block h) (map (λ (p : NumberPair). p.node) ps)
 nodes-none h k v [] e = tt
 nodes-none h k v (p ∷ ps) e =
-    let node =
-    second (is_value k p.key && is_value v p.value) (serves p.node Node (node_len (size_of k) (size_of v)))
+    let node = second (is_value k p.key && is_value v p.value) (serves p.node Node (node_len (size_of k) (size_of v)))
     (first (is_number_pair k v p) (list_all (is_number_pair k v) ps) e) in (
-      not-object h p.node 11 (first (same_role p.node.role Node) (holds p.node (node_len (size_of k) (size_of v))) node),
+      not-object h p.node 11 (first (same_role p.node.role Node)
+          (holds p.node (node_len (size_of k) (size_of v))) node),
       nodes-none h k v ps (second (is_number_pair k v p) (list_all (is_number_pair k v) ps) e),
     )
 
@@ -170,14 +170,12 @@ value-none h (Elements k zs t) e =
     (second (nat_le (length zs) t.capacity) (is_table Storage (size_of k) t)
     (first (nat_le (length zs) t.capacity && is_table Storage (size_of k) t) (list_all (is_value k) zs) e))
 value-none h (Bytes bs t) e =
-    storage-none h 1 t.capacity t.extent
-    (second (nat_le (length bs) t.capacity) (is_table Storage 1 t)
+    storage-none h 1 t.capacity t.extent (second (nat_le (length bs) t.capacity) (is_table Storage 1 t)
     (first (nat_le (length bs) t.capacity && is_table Storage 1 t) (list_all (λ b. nat_lt b 256) bs) e))
 value-none h (Pairs k v ps) e = nodes-none h k v ps (second (is_rising int_lt ps) (list_all (is_number_pair k v) ps) e)
 value-none h (Texts ps t) e =
     none-append (is_object_block h) (table_extents t) (flat_map (λ (p : OwnedText). option_to_list p.extent) ps)
-    (storage-none h 16 t.capacity t.extent
-    (second (nat_le (length ps) t.capacity) (is_table Storage 16 t)
+    (storage-none h 16 t.capacity t.extent (second (nat_le (length ps) t.capacity) (is_table Storage 16 t)
     (first (nat_le (length ps) t.capacity && is_table Storage 16 t) (list_all is_owned_text ps) e)))
     (all_owned-none h ps (second (nat_le (length ps) t.capacity && is_table Storage 16 t)
     (list_all is_owned_text ps) e))
@@ -186,13 +184,11 @@ pub object-told : (format h : ℕ) (o : Object) → IsTrue (is_object format o) 
 object-told format h o e =
     let serving = serves o.extent ObjectRole (object_len o.name o.value) in
     let before = has_good_name format o && is_kind_of format (kind_of o.value) in
-    let role =
-    first (same_role o.extent.role ObjectRole) (holds o.extent (object_len o.name o.value))
+    let role = first (same_role o.extent.role ObjectRole) (holds o.extent (object_len o.name o.value))
     (second (before && is_good_value o.value) serving e) in
     record {
       own = ap (λ b. (handle o.extent == h) && b) role ∙ and_same (handle o.extent == h) ∙ eq-swap (handle o.extent) h;
-      value =
-          value-none h o.value (second before (is_good_value o.value)
+      value = value-none h o.value (second before (is_good_value o.value)
           (first (before && is_good_value o.value) serving e));
     }
 
@@ -363,8 +359,7 @@ gap-if false s e = refl
 
 no-gap : (a b : ℕ) (ss : List Span) → filter is_own_span (span_between a b ++ ss) ≡ filter is_own_span ss
 no-gap a b ss =
-    filter-append is_own_span (span_between a b) ss
-    ∙ ap (λ (gone : List Span). gone ++ filter is_own_span ss)
+    filter-append is_own_span (span_between a b) ss ∙ ap (λ (gone : List Span). gone ++ filter is_own_span ss)
     (gap-if (nat_lt a b) (record { offset = a; len = b - a; use_of = None }) refl)
 
 used-if : (b : Bool) (x : Extent) (xs : List Extent) {ss : List Span} → ss ≡ map as_used xs

@@ -79,8 +79,7 @@ module _ {s t : State} (view : s ≡ t) {h : ℕ} {head : Head} (a : Answers t (
         is = o.is;
         key = names.ByName o.object.name;
         seeks = n o.object o.stands;
-        found =
-            own-name k.denotes.directory (by-own_handle d o.stands.at o.is)
+        found = own-name k.denotes.directory (by-own_handle d o.stands.at o.is)
             (own-class o.object (sym (r o.object o.stands).class ∙ e) refl);
       })
   listed-name (entry.Code n) e m =
@@ -99,8 +98,7 @@ module _ {s t : State} (view : s ≡ t) {h : ℕ} {head : Head} (a : Answers t (
         is = o.is;
         key = names.ByKind (kind_of o.object.value);
         seeks = f ∙ ap code_of said.kind;
-        found =
-            own-kind k.denotes.directory (by-own_handle d o.stands.at o.is)
+        found = own-kind k.denotes.directory (by-own_handle d o.stands.at o.is)
             (own-class o.object (sym said.class ∙ e) refl);
       })
 
@@ -110,6 +108,5 @@ pub listed-found : {s t : State} (view : s ≡ t) (i : Index) (e : Key) (h at : 
 listed-found {s} view i e h at f each =
     subst (λ (u : State). IsAnonymousAt u h) view (λ d k.
     let x : HasEntry i e d h = subst (λ (u : State). HasEntries u i e h) (sym view) each d k in
-    absurd (none-some x.object
-    (sym (lookup-absent i s.cut e x.key k.denotes x.seeks
+    absurd (none-some x.object (sym (lookup-absent i s.cut e x.key k.denotes x.seeks
     (of-directory s i (λ hs. IsPlace (bytes_of s.cut.bytes) e hs (Absent at)) k f)).none ∙ x.found)))

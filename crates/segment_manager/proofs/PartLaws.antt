@@ -82,12 +82,10 @@ module _ (part : ℕ → List ℕ) (old mid new : Took) (i : ℕ) (before : Writ
   part-told {B} {F} y w =
       let more : suc i ≡ i + 1 = omega arith in
       let one = Ok y in
-      subst (λ m. Writes old new well (parts_until part m)) more
-      (record {
+      subst (λ m. Writes old new well (parts_until part m)) more (record {
         ok = (writes-then old mid new 0 one (parts_until part i) (part i) before w).ok;
         err = tt;
-        counted =
-            omega (arith, before.counted, w.counted);
+        counted = omega (arith, before.counted, w.counted);
       })
 
   -- the writer failed in a part

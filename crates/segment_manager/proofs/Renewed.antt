@@ -124,11 +124,9 @@ denotes-later format old new d h s l =
       directory = directory-later format d h.directory;
       header = header-later s h.header;
       heap = l;
-      named =
-          index-stays (named_objects d) by_name h.directory.named
+      named = index-stays (named_objects d) by_name h.directory.named
           (Same-part m m' 32 128 32 56 s.behind (omega arith) (omega arith)) blocks.named h.named;
-      unique =
-          index-stays (unique_objects d) by_kind h.directory.unique
+      unique = index-stays (unique_objects d) by_kind h.directory.unique
           (Same-part m m' 32 128 56 80 s.behind (omega arith) (omega arith)) blocks.unique h.unique;
       objects = any_objects-same format m m' d.objects h.directory.objects blocks.objects h.objects;
     }

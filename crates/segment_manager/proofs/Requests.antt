@@ -27,8 +27,7 @@ pub entry-room : (i : Index) (d : Directory) (next : Directory → Plan)
     → length (objects_of i d) < (table_of i d).capacity → with_entry d (class_of_index i) next ≡ next d
 entry-room i d next h =
     entry-of i d next ∙ ap (λ b. if b then next (with_table_of i d (table_of i d)) else grows i d next)
-    (lt-ltb (length (objects_of i d)) (table_of i d).capacity h)
-    ∙ ap next (same-table i)
+    (lt-ltb (length (objects_of i d)) (table_of i d).capacity h) ∙ ap next (same-table i)
 
 entry-full : (i : Index) (d : Directory) (next : Directory → Plan) → (table_of i d).capacity ≤ length (objects_of i d)
     → with_entry d (class_of_index i) next ≡ grows i d next

@@ -46,8 +46,7 @@ reserves {s} {t} view b {c} i {n} may r =
         let x = denotes-index i s.cut k.denotes in
         let t = r.reserved h in
         lands (with_table_of i d (places_in n t.extent)) (record {
-          is =
-              step-plan s.mode d (reserve_of i n) (open-writing s.mode (reserve_of i n) writing)
+          is = step-plan s.mode d (reserve_of i n) (open-writing s.mode (reserve_of i n) writing)
               (reserve-effect i d n (lt-leb n (table_of i d).capacity (omega (arith, h, x.stands.capacity))))
               ∙ perform-new d (live d) IndexRole (8 * n) (λ y. Reply Done (with_table_of i d (places_in n y))) t.extent
               (sym (ap (λ l. place l (8 * n) IndexRole) (denotes-live current s.cut.bytes d k.denotes)) ∙ t.placed);
@@ -91,8 +90,7 @@ shrinks {s} {t} view g {b} {c} may n u =
     stepped s t view g c asked.ShrinkIndexes Done may (λ writing.
     by_step asked.ShrinkIndexes (record {
       mode = refl;
-      place =
-          SamePlace-trans s.cut b c
+      place = SamePlace-trans s.cut b c
           (n (table_of index.Named g.0) (entries_of index.Named g.0) (denotes-index index.Named s.cut k0)).keeps.place
           (u (table_of index.Unique e0) (entries_of index.Unique e0)
           (denotes-index index.Unique b (shrunk-denotes index.Named k0 n))).keeps.place;

@@ -50,8 +50,7 @@ module _ (old mid new : Cut) (n : ℕ) (moved : HasEndMoved current old mid n) (
   pub denotes-resized : {d : Directory} → Denotes current old.bytes d
       → Denotes current new.bytes (record d { size = n })
   denotes-resized {d} h =
-      let each =
-      of_each (SameBlock (bytes_of old.bytes) (bytes_of new.bytes))
+      let each = of_each (SameBlock (bytes_of old.bytes) (bytes_of new.bytes))
       (subst (λ (l : LiveSet). AllByRecursion (SameBlock (bytes_of old.bytes) (bytes_of new.bytes)) l.extents)
       (denotes-live current old.bytes d h) blocks) in
       record {
@@ -95,8 +94,7 @@ resizes {old} {new} {mid} {n} mode moved change word is = record {
   mode = mode;
   place = place-resized old.cut mid new.cut n moved change word;
   blocks = blocks old.cut mid new.cut n moved change word;
-  denotes =
-      λ d h. subst (StandsFor new.cut.bytes) (is d h)
+  denotes = λ d h. subst (StandsFor new.cut.bytes) (is d h)
       (record { denotes = denotes-resized old.cut mid new.cut n moved change word h.denotes });
 }
 

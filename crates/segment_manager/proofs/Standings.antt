@@ -39,6 +39,5 @@ standing-room b h n o s l = room-less (live_of b) h (object_len o.name o.value) 
 pub standing-name : {b : List ℕ} {h : ℕ} {o : Object} → StandsAt b h o
     → read (bytes_of b) (h + 16) (length o.name) ≡ o.name
 standing-name {b} {o} s =
-    ap (λ a. read (bytes_of b) (a + 16) (length o.name)) s.at
-    ∙ (Has-front (bytes_of b) (handle o.extent + 16) o.name
+    ap (λ a. read (bytes_of b) (a + 16) (length o.name)) s.at ∙ (Has-front (bytes_of b) (handle o.extent + 16) o.name
     (replicate (padded (length o.name) - length o.name) 0) s.said.name)

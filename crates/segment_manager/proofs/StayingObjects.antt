@@ -82,8 +82,7 @@ moved-keeps g m keeps o is =
 pub objects_stay : ObjectsStay
 objects_stay = record {
   any = λ old new c answer g e m. moved-keeps g m (λ d h here. step-keeps d h here old.mode c e);
-  of_kind =
-      λ old new key kind c answer g e m. moved-keeps g m
+  of_kind = λ old new key kind c answer g e m. moved-keeps g m
       (λ d h here. step_of_kind-keeps d h here old.mode key kind c e);
 }
 

@@ -81,45 +81,44 @@ pub numbers-good : (o : Object) (k : ScalarKind) (zs : List ℤ) → IsTrue (is_
 numbers-good o k zs good e =
     second _ (list_all (is_value k) zs) (subst (λ v. IsTrue (is_good_value v)) e (object-roomy current o good).value)
 
-element-of : {b : List ℕ} {d : Directory} {key : Key} {k : ScalarKind} {i : ℕ} {p : Place} {o : Object}
-    → object_at d key ≡ Some o → StandsAt b p.handle o → Ok p.at ≡ place_in o k i → ElementAt b d key k i p
-element-of {k} {i} {o} e s f =
-    let parts =
-    placed-if (same_kind (Scalar k) (kind_of o.value)) (nat_lt i (count_of o.value)) (element_at k o.name i) f in
-    let n = numbers-only k o.value parts.0 in
-    let many : count_of o.value ≡ length n.0 = ap count_of n.1 in
-    let below : i < length n.0 = let l = ltb-true i (count_of o.value) parts.1 in omega arith in
-    let there = slice_get-get_or n.0 i (pos 0) below in
-    record {
-      object = o;
-      is = e;
-      stands = s;
-      numbers = n.0;
-      value = n.1;
-      at = parts.2;
-      number = get_or n.0 i (pos 0);
-      there = there;
-      in_range = all-at (is_value k) n.0 i (numbers-good o k n.0 s.good n.1) there;
-    }
+module _ {b : List ℕ} {d : Directory} {key : Key} {k : ScalarKind} {i : ℕ} {p : Place} where
+  element-of : {o : Object} → object_at d key ≡ Some o → StandsAt b p.handle o → Ok p.at ≡ place_in o k i
+      → ElementAt b d key k i p
+  element-of {o} e s f =
+      let parts =
+      placed-if (same_kind (Scalar k) (kind_of o.value)) (nat_lt i (count_of o.value)) (element_at k o.name i) f in
+      let n = numbers-only k o.value parts.0 in
+      let many : count_of o.value ≡ length n.0 = ap count_of n.1 in
+      let below : i < length n.0 = let l = ltb-true i (count_of o.value) parts.1 in omega arith in
+      let there = slice_get-get_or n.0 i (pos 0) below in
+      record {
+        object = o;
+        is = e;
+        stands = s;
+        numbers = n.0;
+        value = n.1;
+        at = parts.2;
+        number = get_or n.0 i (pos 0);
+        there = there;
+        in_range = all-at (is_value k) n.0 i (numbers-good o k n.0 s.good n.1) there;
+      }
 
-found-if : {b : List ℕ} {d : Directory} {key : Key} {k : ScalarKind} {i : ℕ} {p : Place} {o : Object}
-    (q : Result ℕ Refusal) → Denotes current b d → object_at d key ≡ Some o → place_in o k i ≡ q → Ok p ≡ in_object o q
-    → ElementAt b d key k i p
-found-if {b} {d} {key} {p} {o} (Ok at) h e f g =
-    let same : p ≡ record { handle = handle o.extent; at = at } = cc in
-    element-of e (subst (λ (x : Place). StandsAt b x.handle o) (sym same) (standing b d key o h e))
-    (ap (λ (x : Place). Ok x.at) same ∙ sym f)
-found-if (Err r) h e f g = absurd (cc)
+  found-if : {o : Object} (q : Result ℕ Refusal) → Denotes current b d → object_at d key ≡ Some o → place_in o k i ≡ q
+      → Ok p ≡ in_object o q → ElementAt b d key k i p
+  found-if {o} (Ok at) h e f g =
+      let same : p ≡ record { handle = handle o.extent; at = at } = cc in
+      element-of e (subst (λ (x : Place). StandsAt b x.handle o) (sym same) (standing b d key o h e))
+      (ap (λ (x : Place). Ok x.at) same ∙ sym f)
+  found-if (Err r) h e f g = absurd (cc)
 
-element-if : {b : List ℕ} {d : Directory} {key : Key} {k : ScalarKind} {i : ℕ} {p : Place} (r : Option Object)
-    → Denotes current b d → object_at d key ≡ r → Ok p ≡ in_any k i r → ElementAt b d key k i p
-element-if None h e f = absurd (cc)
-element-if {k} {i} (Some o) h e f = found-if (place_in o k i) h e refl f
+  element-if : (r : Option Object) → Denotes current b d → object_at d key ≡ r → Ok p ≡ in_any k i r
+      → ElementAt b d key k i p
+  element-if None h e f = absurd (cc)
+  element-if (Some o) h e f = found-if (place_in o k i) h e refl f
 
--- the place of an element is that of one
-pub element-found : {b : List ℕ} {d : Directory} {key : Key} {k : ScalarKind} {i : ℕ} {p : Place} → Denotes current b d
-    → Ok p ≡ place_at d key k i → ElementAt b d key k i p
-element-found {d} {key} h e = element-if (object_at d key) h refl e
+  -- the place of an element is that of one
+  pub element-found : Denotes current b d → Ok p ≡ place_at d key k i → ElementAt b d key k i p
+  element-found h e = element-if (object_at d key) h refl e
 
 -- ---- no such element
 
@@ -222,8 +221,7 @@ got : (mode : Mode) (b : List ℕ) (d : Directory) (key : Key) (k : ScalarKind) 
     → (e : ElementAt b d key k i p) → step_of_kind mode d key (Scalar k) (asked.Get key i) ≡ (Element k e.number, d)
 got mode b d key k i p e =
     step_of_kind-found mode d key (Scalar k) (asked.Get key i) e.object (open-reading mode (asked.Get key i) refl) e.is
-    (element-kind e)
-    ∙ ap (perform d (live d)) (get-effect d key k e.numbers i (Some e.number) e.is e.value e.there)
+    (element-kind e) ∙ ap (perform d (live d)) (get-effect d key k e.numbers i (Some e.number) e.is e.value e.there)
 
 -- or it is refused, for the reason why there is none
 lacking : (mode : Mode) (d : Directory) (key : Key) (k : ScalarKind) (i : ℕ) (r : Refusal) (c : Command) {o : Object}

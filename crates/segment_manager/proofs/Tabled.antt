@@ -4,7 +4,7 @@ use Rattle.segment_manager.proofs.Common.{IsTrue, flat_map, insert, AllByRecursi
 use Rattle.segment_manager.proofs.Common.{bytes_of, current, Same-part, Same-trans, IndexRole, Extent, LiveSet, handle}
 use Rattle.segment_manager.proofs.Common.{is_proper, added, others, IsAllocated, Keeps, LaysOut, SameBlock, extent_at}
 use Rattle.segment_manager.proofs.Common.{live_of, Table, no_table, allocated-live, blocks-trans, Index, AddKeeps, Adds}
-use Rattle.segment_manager.proofs.Common.{beside_table, unlinked, without_link, IsIndexOf, capacity_at, place_of}
+use Rattle.segment_manager.proofs.Common.{beside_table, unlinked, without_link, IsIndexOf, place_of}
 use Rattle.segment_manager.proofs.Common.{grown_capacity, Object, Directory, extents_of, is_object, live, object_at}
 use Rattle.segment_manager.proofs.Common.{with_object, Denotes, IsObjectAt, class_of_index, entries_of, table_of}
 use Rattle.segment_manager.proofs.Common.{with_table_of, ◌*◌, Bool, true, false, ◌&&◌, ◌==◌, [], length, if◌then◌else◌}
@@ -104,8 +104,7 @@ entered-none {i} a {b} {c} {d} {o} at k m x e adds laid keeps =
     let ys = extents_of o in
     let same = taken-live a b (extents_of o) m.taken ∙ ap (λ l. adding l ys) (denotes-live current a.bytes d k) in
     let laid' : LaysOut current c.bytes (adding (live d) ys) = subst (LaysOut current c.bytes) same laid in
-    let gone =
-    ap (λ (l : LiveSet). beside_table (table_of i d) l.extents) same
+    let gone = ap (λ (l : LiveSet). beside_table (table_of i d) l.extents) same
     ∙ index-left_out i d ys (live-rises (adding (live d) ys) laid'.proper) in
     record {
       laid = subst (λ e. LaysOut current c.bytes (adding (live e) ys)) (sym (same-table i)) laid';
@@ -188,8 +187,7 @@ tabled-denotes {i} {a} {c} {d} {t} k e =
     let rest = of_rest i (SameBlock A C) e.keeps.blocks in
     let one = other-stays i (has-one (other i) k) (other-words i e.keeps.before e.keeps.behind) rest.other_table in
     let few : length (objects_of i d) ≤ t.capacity = omega (arith, e.stands.few, handles-length (objects_of i d)) in
-    let is =
-    index-from t (objects_of i d) (order_of i) e.stands.places few
+    let is = index-from t (objects_of i d) (order_of i) e.stands.places few
     (index-parts (table_of i d) (objects_of i d) (order_of i) (has-one i k).is).2 in
     let both = has_both i (own-table i d is e.stands.stands) (other-table i t one) in
     let front : KeepsFront A C = record {
@@ -208,8 +206,7 @@ tabled-denotes {i} {a} {c} {d} {t} k e =
       heap = e.laid;
       named = both.named_at;
       unique = both.unique_at;
-      objects =
-          subst (AllByRecursion (IsObjectAt C)) (sym (same-objects i d t))
+      objects = subst (AllByRecursion (IsObjectAt C)) (sym (same-objects i d t))
           (any_objects-same current A C d.objects k.directory.objects rest.objects k.objects);
     }
 
@@ -259,8 +256,7 @@ module _ (i : Index) (d : Directory) (n : ℕ) (proper : IsTrue (is_proper (live
   cut_live o b =
       elim o as (λ _. LiveSet) [
         | None ↦ live d
-        | Some x ↦ if b then released (live d) (handle x) else resized (live d)
-            (shorter (live d) x (8 * n))
+        | Some x ↦ if b then released (live d) (handle x) else resized (live d) (shorter (live d) x (8 * n))
       ]
 
   abbrev cut_to : Option Extent → Bool → Table
@@ -285,13 +281,10 @@ no-places t n h few e =
     eq-eqb n 0 (omega (
       arith,
       few,
-      (eqb-true t.capacity 0 (subst
-          (λ (o : Option Extent). IsTrue
-          (elim o as (λ _. Bool) [
-            | None ↦ t.capacity == 0
-            | Some x ↦ nat_lt 0 t.capacity && serves x IndexRole
-                (8 * t.capacity)
-          ])) e h)),
+      (eqb-true t.capacity 0 (subst (λ (o : Option Extent). IsTrue (elim o as (λ _. Bool) [
+        | None ↦ t.capacity == 0
+        | Some x ↦ nat_lt 0 t.capacity && serves x IndexRole (8 * t.capacity)
+      ])) e h)),
     ))
 
 pub shrunk-tabled : {i : Index} {a c : Cut} {d : Directory} → Denotes current a.bytes d
@@ -304,14 +297,11 @@ shrunk-tabled {i} {a} {c} {d} k r =
     let laid : LaysOut current c.bytes (with_cut (live d) (length (objects_of i d)) (table_of i d)) =
     subst (LaysOut current c.bytes) (λ j. with_cut (now j) (len j) (table_of i d)) r.live in
     record {
-      laid = subst (LaysOut current c.bytes)
-          (cut-live i d (length (objects_of i d)) k.directory.proper
+      laid = subst (LaysOut current c.bytes) (cut-live i d (length (objects_of i d)) k.directory.proper
           (no-places (table_of i d) (length (objects_of i d)) x.places (omega (arith, x.few, len)))) laid;
-      stands =
-          subst (λ (t : Table). IsIndexOf c (place_of i) t (entries_of i d))
+      stands = subst (λ (t : Table). IsIndexOf c (place_of i) t (entries_of i d))
           (λ j. cut_table (now j) 8 (len j) (table_of i d)) r.index;
-      keeps = subst (KeepsRest a c (place_of i))
-          (ap (λ (l : LiveSet). beside_table (table_of i d) l.extents) now
+      keeps = subst (KeepsRest a c (place_of i)) (ap (λ (l : LiveSet). beside_table (table_of i d) l.extents) now
           ∙ index-left_out i d [] (live-rises (live d) k.directory.proper)) r.keeps;
     }
 

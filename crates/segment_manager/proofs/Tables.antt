@@ -72,8 +72,7 @@ exchanged : (front back ys : List Extent) (old : Option Extent) (x : Extent)
     (sorted (front ++ x ∷ back))
 exchanged front back ys None x h =
     let d = AllByRecursion-front (λ (z : Extent). x.offset ≢ z.offset) front back
-    (all_of-sorted (λ (z : Extent). x.offset ≢ z.offset) (front ++ back)
-    (rising-insert 128 x (sorted (front ++ back))
+    (all_of-sorted (λ (z : Extent). x.offset ≢ z.offset) (front ++ back) (rising-insert 128 x (sorted (front ++ back))
     (rising-inserted 128 ys (insert x (sorted (front ++ back))) h).0).differs) in
     ap (inserted ys) (sym (sorted-middle front back x d))
 exchanged front back ys (Some y) x h =
@@ -107,8 +106,7 @@ around index.Named d = record { front = flat_map extents_of d.objects; back = ta
 around index.Unique d = record {
   front = flat_map extents_of d.objects ++ table_extents d.named;
   back = [];
-  all =
-      λ t. ap (λ ts. sorted (flat_map extents_of d.objects ++ (table_extents d.named ++ ts)))
+  all = λ t. ap (λ ts. sorted (flat_map extents_of d.objects ++ (table_extents d.named ++ ts)))
       (sym (append-nil (table_extents t)))
       ∙ ap sorted (sym (append_assoc (flat_map extents_of d.objects) (table_extents d.named) (table_extents t ++ [])));
 }

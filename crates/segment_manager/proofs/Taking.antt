@@ -40,8 +40,7 @@ allocated-found {old} {new} {h} a =
     ap (λ (l : LiveSet). find (has_handle h) l.extents)
     (lay_out_one current new.bytes (added (live_of old.bytes) a.extent) a.live)
     ∙ ap (λ g. find (has_handle g) (insert a.extent (live_of old.bytes).extents)) a.at
-    ∙ found-new a.extent (live_of old.bytes).extents
-    (rising-insert 128 a.extent (live_of old.bytes).extents
+    ∙ found-new a.extent (live_of old.bytes).extents (rising-insert 128 a.extent (live_of old.bytes).extents
     (live-rises (added (live_of old.bytes) a.extent) a.live.proper)).differs
 
 -- ---- after blocks are taken
@@ -77,8 +76,7 @@ taken-growth old new xs at None m low high c =
       arith,
       (Same-word (bytes_of old.bytes) (bytes_of new.bytes) 32 128 (at + 8) m.keeps.behind (omega arith)
           (omega arith)),
-      (Same-word (bytes_of old.bytes) (bytes_of new.bytes) 32 128 (at + 16) m.keeps.behind (omega arith)
-          (omega arith)),
+      (Same-word (bytes_of old.bytes) (bytes_of new.bytes) 32 128 (at + 16) m.keeps.behind (omega arith) (omega arith)),
       c,
     )
 taken-growth old new xs at (Some h) m low high c =
@@ -117,8 +115,7 @@ request-unmet a b c d at n None heap grows refused back restored = record {
   none = inr (None, b, grows, refused.none);
 }
 request-unmet a b c d at n (Some h) heap grows refused back restored =
-    let both =
-    restored a (grown_bytes a at)
+    let both = restored a (grown_bytes a at)
     (subst (λ (x : Cut). IsAllocated current a x (grown_bytes a at) IndexRole h) (sym refused.same) grows.1) in
     record { restored = record { laid = both.0; keeps = both.1 }; none = inr (Some h, b, grows, refused.none) }
 

@@ -11,16 +11,14 @@ pub name-said : {s : State} {at : ℕ} {said : Instance} → SaysAt s named_obje
 name-said {at} h = record {
   answers = λ d k.
       let one = h.says d k in
-      ap (λ (name : List ℕ). Some name) one.2.name
-      ∙ sym (slice_get-map (λ (o : Object). o.name) (named_objects d) at
+      ap (λ (name : List ℕ). Some name) one.2.name ∙ sym (slice_get-map (λ (o : Object). o.name) (named_objects d) at
       ∙ ap (option_map (λ (o : Object). o.name)) one.1);
 }
 
 pub name-past : {s : State} (at : ℕ) → ((d : Directory) → StandsFor s.cut.bytes d → length (named_objects d) ≤ at)
     → Answers s (λ d. slice_get (names_of d) at) None
 name-past at h = record {
-  answers =
-      λ d k. sym (slice_get-map (λ (o : Object). o.name) (named_objects d) at
+  answers = λ d k. sym (slice_get-map (λ (o : Object). o.name) (named_objects d) at
       ∙ ap (option_map (λ (o : Object). o.name)) (slice_get_past (named_objects d) at (h d k)));
 }
 
@@ -42,7 +40,6 @@ pub names-go_on : {A : Type 0} {seen : A → List ℕ} {name : A} (old new : Wal
 names-go_on old new said f e g = record {
   segment = g.segment;
   place = g.place;
-  says =
-      subst (λ bytes. Answers old.segment (λ d. slice_get (names_of d) old.at) (Some bytes)) (sym f)
+  says = subst (λ bytes. Answers old.segment (λ d. slice_get (names_of d) old.at) (Some bytes)) (sym f)
       (name-said (subst (λ i. SaysAt old.segment (objects_of i) old.at said) e g.says));
 }

@@ -1,5 +1,5 @@
 -- The blocks are requested and the head is written.
-use Rattle.segment_manager.proofs.Common.{◌≡◌, ap, subst, ℕ, ◌+◌, inr, length, arith, current, ObjectRole}
+use Rattle.segment_manager.proofs.Common.{ap, subst, ℕ, ◌+◌, inr, length, arith, current, ObjectRole}
 use Rattle.segment_manager.proofs.Common.{allocated-room, place_of, padded, IsUnmet, room_for}
 use Rattle.segment_manager.proofs.Taking.{meant}
 use Rattle.segment_manager.proofs.beginning.begin_at.Goals as goal
@@ -14,10 +14,8 @@ returns-in_default c =
       is = n;
       place = c.args.place;
       absent = away;
-      unmet =
-          subst (λ (m : ℕ). IsUnmet c.args.heap.now c.request.new.heap (place_of c.args.index) m)
-          (ap (λ m. m + c.args.shape.len) c.value_at-at.ensures)
-          c.in_default.ensures;
+      unmet = subst (λ (m : ℕ). IsUnmet c.args.heap.now c.request.new.heap (place_of c.args.index) m)
+          (ap (λ m. m + c.args.shape.len) c.value_at-at.ensures) c.in_default.ensures;
     })
 
 pub write_head-requires-clause-room : goal.write_head-requires-clause-room

@@ -1,5 +1,5 @@
 -- The object's block goes back first, and then what its index took.
-use Rattle.segment_manager.proofs.Common.{subst, IsLoose, IsLooseAlone, IsLooseEntry}
+use Rattle.segment_manager.proofs.Common.{subst, IsLoose, IsLooseEntry}
 use Rattle.segment_manager.proofs.Loose.{alone-back, entry-back, loose-held, loose-live}
 use Rattle.segment_manager.proofs.beginning.give_back.Goals as goal
 

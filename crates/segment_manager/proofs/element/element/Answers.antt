@@ -14,15 +14,13 @@ overflow_add-result c =
 
 pub slice_bounds-result-end : goal.slice_bounds-result-end
 slice_bounds-result-end c =
-    let long =
-    (lent c.args.heap.now c.args.handle
+    let long = (lent c.args.heap.now c.args.handle
     (c.args.at + c.args.size) c.requires.heap c.requires.room c.block-payload.ensures).long in
     let fits : c.args.at + c.args.size ≤ length c.block-payload.result.now = omega arith in omega arith
 
 pub returns-clause-bytes : goal.returns-clause-bytes
 returns-clause-bytes c =
-    let l =
-    lent c.args.heap.now c.args.handle
+    let l = lent c.args.heap.now c.args.handle
     (c.args.at + c.args.size) c.requires.heap c.requires.room c.block-payload.ensures in
     let e : c.args.at + c.args.size - c.args.at ≡ c.args.size = omega arith in
     ap (λ (k : ℕ). part c.block-payload.result.now c.args.at k) e ∙ l.content c.args.at c.args.size (omega arith)

@@ -6,16 +6,14 @@ use Rattle.segment_manager.proofs.element.write_elements.Goals as goal
 pub overflow_mul-len : goal.overflow_mul-len
 overflow_mul-len c =
     let below : c.loop-i.i < c.args.count = omega arith in
-    let small =
-    next-small c.args.heap.now c.args.handle c.args.at
+    let small = next-small c.args.heap.now c.args.handle c.args.at
     (length c.args.bytes.now) c.loop-i.i c.args.count c.requires.heap c.requires.room below in
     omega arith
 
 pub overflow_add-at : goal.overflow_add-at
 overflow_add-at c =
     let below : c.loop-i.i < c.args.count = omega arith in
-    let small =
-    next-small c.args.heap.now c.args.handle c.args.at
+    let small = next-small c.args.heap.now c.args.handle c.args.at
     (length c.args.bytes.now) c.loop-i.i c.args.count c.requires.heap c.requires.room below in
     omega arith
 

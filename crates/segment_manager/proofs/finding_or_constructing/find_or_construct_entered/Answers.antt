@@ -73,6 +73,5 @@ returns g c =
     (subst (λ m. Constructs c.args.heap.now c.build.new.heap (asked.FindOrConstruct key content) pair_answer
     (with_count m c.build.result)) (sym is.count)
     (found-built c.requires.segment key content b.entry c.begin_at.new.heap b.handle b.at c.build.result
-    (begun-for c.args.heap.now c.begin_at.new.heap key (Ok b) is
-    (c.in_ok-begun.ensures key c.args.entry
+    (begun-for c.args.heap.now c.begin_at.new.heap key (Ok b) is (c.in_ok-begun.ensures key c.args.entry
     (subst (IsNewKeyOf c.args.index c.args.entry key c.args.name.now) (sym is.kind) n) away)) c.build.ensures)))

@@ -29,8 +29,7 @@ pub returns : goal.returns
 returns c =
     let kinds =
     c.set_word.ensures.word ∙ (λ i. two_halves ((c.from.ensures ∙ c.code.ensures) i) (c.from-2.ensures i)) in
-    let w = head-written
-    c.set_word.ensures.change kinds c.set_word-2.ensures.change
+    let w = head-written c.set_word.ensures.change kinds c.set_word-2.ensures.change
     (c.set_word-2.ensures.word ∙ ap (two_halves (length c.args.name.now)) (c.from-3.ensures ∙ c.code_of_class.ensures))
     (record { change = c.write_name.ensures.change; content = c.write_name.ensures.name }) in
     record { change = w.change; head = w.head }

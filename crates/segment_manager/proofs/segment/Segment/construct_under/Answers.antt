@@ -8,9 +8,10 @@ use Rattle.segment_manager.proofs.segment.Segment.construct_under.{Goals.After-b
 use Rattle.segment_manager.proofs.segment.Segment.construct_under.Goals as goal
 
 -- what the call does, under the key of the object's kind
-done : (g : Over) (c : After-build g) → Constructs c.self.inside.heap c.build.new.heap (Construct (g.D.Destination.key
-    c.args.key.now (kind_of (bare (g.F.Filling.content c.args.filling.now)))) (g.F.Filling.content c.args.filling.now))
-    handle_answer c.build.result
+done : (g : Over) (c : After-build g)
+    → Constructs c.self.inside.heap c.build.new.heap
+    (Construct (g.D.Destination.key c.args.key.now (kind_of (bare (g.F.Filling.content c.args.filling.now))))
+    (g.F.Filling.content c.args.filling.now)) handle_answer c.build.result
 done g c =
     let content = g.F.Filling.content c.args.filling.now in
     let b = c.in_ok-begun.begun in
@@ -23,9 +24,10 @@ done g c =
     c.build.ensures)
 
 -- or where it is not begun
-none : (g : Over) (c : In_err-begun g) → Constructs c.self.inside.heap c.begin.new.heap (Construct (g.D.Destination.key
-    c.args.key.now (kind_of (bare (g.F.Filling.content c.args.filling.now)))) (g.F.Filling.content c.args.filling.now))
-    handle_answer (Err c.in_err-begun.field-0.0)
+none : (g : Over) (c : In_err-begun g)
+    → Constructs c.self.inside.heap c.begin.new.heap
+    (Construct (g.D.Destination.key c.args.key.now (kind_of (bare (g.F.Filling.content c.args.filling.now))))
+    (g.F.Filling.content c.args.filling.now)) handle_answer (Err c.in_err-begun.field-0.0)
 none g c =
     let content = g.F.Filling.content c.args.filling.now in
     subst (λ (key : Key). Constructs c.self.inside.heap c.begin.new.heap (Construct key content) handle_answer

@@ -12,8 +12,7 @@ pub returns-in_err-at : goal.returns-in_err-at
 returns-in_err-at g c =
     rw (exit-is c.from_residual.result _ c.from_residual.ensures.1)
     (subst (λ t. Answers t (λ d. place_at d (g.O.Target.key c.args.key.now) c.args.kind c.args.index)
-    (Err c.in_err-at.field-0.0)) c.self.view_is
-    (places (g.O.Target.key c.args.key.now) c.args.kind c.args.index
+    (Err c.in_err-at.field-0.0)) c.self.view_is (places (g.O.Target.key c.args.key.now) c.args.kind c.args.index
     (seen-handle _ _ c.self.view_is (g.O.Target.key c.args.key.now) _ c.in-Some.ensures) c.in_err-at.ensures))
 
 pub returns : goal.returns

@@ -17,8 +17,7 @@ done g c =
     subst (λ (key : Key). FindsOrConstructs c.self.inside.heap c.find_or_construct_entered.new.heap key
     (g.F.Filling.content c.args.filling.now) c.find_or_construct_entered.result)
     (c.entry_for-key.ensures.key ∙ ap (g.D.Destination.key c.args.key.now) c.shape.ensures.kind)
-    (c.find_or_construct_entered.ensures (index_key_seen c.entry_for-key.result)
-    (c.entry_of-index.ensures.new _
+    (c.find_or_construct_entered.ensures (index_key_seen c.entry_for-key.result) (c.entry_of-index.ensures.new _
     (subst (IsOfKind (index_key_seen c.entry_for-key.result)) c.shape.ensures.kind c.entry_for-key.ensures.kind)))
 
 pub returns-then-is_read_only-clause-step : goal.returns-then-is_read_only-clause-step

@@ -11,8 +11,7 @@ returns-in-Found c = λ h each.
     subst (λ t. IsListed t h (Some (record { index = c.args.index; place = c.in-Found.place }))) c.self.view_is
     (record {
       entry = c.args.entry;
-      leads =
-          subst (λ t. HasEntries t c.args.index c.args.entry h) (sym c.self.view_is) each;
+      leads = subst (λ t. HasEntries t c.args.index c.args.entry h) (sym c.self.view_is) each;
       found = c.in-Found.ensures.place;
     })
 

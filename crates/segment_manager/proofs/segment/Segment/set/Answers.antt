@@ -22,8 +22,7 @@ pub write-requires-2 : goal.write-requires-2
 write-requires-2 g c =
     place-room (g.O.Target.key c.args.key.now) c.kind.ensures c.args.index c.self.view_is
     (ap (λ (bs : List ℕ). length bs) (c.write.ensures.bytes ∙ g.met.T.Scalar.spelled c.args.value)
-    ∙ spelling-length g.T.Scalar.kind (g.T.Scalar.whole c.args.value))
-    c.in_ok-target.ensures c.self.invariant
+    ∙ spelling-length g.T.Scalar.kind (g.T.Scalar.whole c.args.value)) c.in_ok-target.ensures c.self.invariant
 
 pub invariant_of-self : goal.invariant_of-self
 invariant_of-self g c =

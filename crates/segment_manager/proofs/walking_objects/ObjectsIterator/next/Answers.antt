@@ -39,8 +39,7 @@ returns-clause-steps c =
     let goes : GoesOnObjects old (Some c.instance_here.result) new = record {
       segment = refl;
       place = refl;
-      says =
-          owner-says (block-at c.self.invariant c.next_own.ensures c.in_ok-block.was)
+      says = owner-says (block-at c.self.invariant c.next_own.ensures c.in_ok-block.was)
           (c.in_ok-block.block.offset + 16) refl c.instance_here.ensures;
     } in
     subst (λ (t : ObjectWalk). GoesOnObjects t (Some c.instance_here.result) new) c.self.view_is goes

@@ -17,7 +17,7 @@ use Rattle.segment_manager.proofs.EntryPlaces.{IsPlaceOf, all-at, all_of-ordered
 use Rattle.segment_manager.proofs.EntryPlaces.{insert-at, none-found, of-class, own-found, remove-at, stands-at}
 use Rattle.segment_manager.proofs.{Denoted.handles-length, Words.first, InUse.all-both, Live.IsIn}
 use Rattle.segment_manager.proofs.{ObjectLists.all-found, ObjectLists.rises-rest, Ranks.IsRanked, Ranks.all-ordered}
-use Rattle.segment_manager.proofs.{Ranks.found-filter, Ranks.ordered-pairwise, Faces.ordered-without}
+use Rattle.segment_manager.proofs.{RankedPairs.found-filter, RankedPairs.ordered-pairwise, Faces.ordered-without}
 use Rattle.segment_manager.proofs.{Indexes.index-parts, Indexes.named-more, Indexes.rises-above, Indexes.unique-more}
 use Rattle.segment_manager.proofs.{Indexes.one-removed, Indexes.by_name-strict, Indexes.by_kind-strict}
 use Rattle.segment_manager.proofs.{KeyOrder.names-apart, KeyOrder.names-class, KeyOrder.names-say}

@@ -14,7 +14,7 @@ use Rattle.segment_manager.proofs.Emptied.{changed-entries, changed-in, changed-
 use Rattle.segment_manager.proofs.Steps.{by_no_change, by_step, lands, open-writing, step-refuse, step-reply}
 use Rattle.segment_manager.proofs.Calling.{denotes-live, denotes-released, object-live}
 use Rattle.segment_manager.proofs.EntryPlaces.{all-at, at-handle, of-class}
-use Rattle.segment_manager.proofs.Tabled.{IsGone, IsLeft, removed-denotes}
+use Rattle.segment_manager.proofs.OtherTables.{IsGone, IsLeft, removed-denotes}
 use Rattle.segment_manager.proofs.{Bridge.lookup-found, Steps.with-found, Steps.with-not_found, Safely.Stepped}
 use Rattle.segment_manager.proofs.{Safely.stepped, ObjectLists.found-handle, ObjectLists.key-found}
 use Rattle.segment_manager.proofs.{HeldIndexes.denotes-index, Live.IsIn, Ranks.all-ordered, Rewritten.with_value}

@@ -8,7 +8,7 @@ use Rattle.segment_manager.proofs.Common.{handles, class_of_index, entries_of, o
 use Rattle.segment_manager.proofs.Common.{with_table_of, by_name, by_kind, NamedClass, UniqueClass}
 use Rattle.segment_manager.proofs.Indexes.{named-more, unique-more, ordered-more, new-name, new-kind, by_name-strict}
 use Rattle.segment_manager.proofs.{Denoted.HasIndexes, Denoted.handles-length, Denoted.index-stays, Live.of_each}
-use Rattle.segment_manager.proofs.{Ranks.insert_by-length, Faces.ordered-with, Indexes.by_kind-strict}
+use Rattle.segment_manager.proofs.{RankedPairs.insert_by-length, Faces.ordered-with, Indexes.by_kind-strict}
 use Rattle.seg_index.specs.declared.index.Index.TheVariants as index
 
 -- ---- one of the two, and the other

@@ -5,7 +5,7 @@ use Rattle.segment_manager.proofs.Common.{fold, insert, remove, slice_get, AllBy
 use Rattle.segment_manager.proofs.Common.{none-some, same_Some, handle, Class, Object, insert_by, is_class}
 use Rattle.segment_manager.proofs.Common.{remove_object, rises, handles}
 use Rattle.segment_manager.proofs.{Words.first, Words.second, Live.remove-here, Live.remove-behind, Ranks.IsRanked}
-use Rattle.segment_manager.proofs.{Ranks.IsStrict, Ranks.Pairwise, Ranks.all_of-insert_by, Ranks.insert_by-behind}
+use Rattle.segment_manager.proofs.{Ranks.IsStrict, RankedPairs.Pairwise, Ranks.all_of-insert_by, Ranks.insert_by-behind}
 use Rattle.segment_manager.proofs.{Ranks.insert_by-front, Ranks.ranked-sym, InUse.all-both, InUse.all-each}
 
 -- ---- which stands at a place

@@ -8,8 +8,9 @@ use Rattle.segment_manager.proofs.Common.{MakesValue, with_count, handle_at, pai
 use Rattle.segment_manager.proofs.Common.{pair_of_kind, Answers, IsSegment, IsStep, State, answer_of, handle_answer}
 use Rattle.segment_manager.proofs.Common.{is_read_only, Reply, effect, found, with_new_object, handle, place, step}
 use Rattle.segment_manager.proofs.FoundOrMade.{constructs-exists, finds, found-there, made_for, made_handle, makes}
-use Rattle.segment_manager.proofs.NewValues.{IsMadeNever, IsMadeNow, away-in, key-taken, value-built, value-loose}
-use Rattle.segment_manager.proofs.NewValues.{value-not_begun, value-not_built, value-ready}
+use Rattle.segment_manager.proofs.NewValues.{IsMadeNever, IsMadeNow, away-in, value-built, value-loose, value-not_built}
+use Rattle.segment_manager.proofs.NewValues.{value-ready}
+use Rattle.segment_manager.proofs.NotBegun.{key-taken, value-not_begun}
 use Rattle.segment_manager.proofs.Steps.{step-segment}
 use Rattle.segment_manager.proofs.{FoundOrMade.makes-nothing, Bridge.lookup-absent, NewKeys.key-seeks}
 use Rattle.segment_manager.specs.Begun.{Ends, IsEnding}

@@ -1,18 +1,19 @@
 -- Calls that construct an object of numbers from items, as the code makes them.
 use Rattle.segment_manager.proofs.Common.{◌≡◌, refl, sym, ap, subst, ◌∙◌, ℕ, true, false, Some, None, Option, Ok, Err}
 use Rattle.segment_manager.proofs.Common.{Result, List, Cut, Refusal, Exists, NoSpace, Command, NewEntry, Made, Refused}
-use Rattle.segment_manager.proofs.Common.{IsNotBegun, Object, Directory, object_at, IsSegment, IsStep}
-use Rattle.segment_manager.proofs.Common.{State, is_read_only, Reply, effect, with_new_object, ◌+◌, ◌*◌, ◌≤◌, ℤ, Bool}
-use Rattle.segment_manager.proofs.Common.{[], length, map, replicate, arith, ◌<◌, if◌then◌else◌, mul-le-mul_left}
-use Rattle.segment_manager.proofs.Common.{IsTrue, pos, take, nat_lt, list_all, lt-ltb, le-ltb, length-map}
-use Rattle.segment_manager.proofs.Common.{length-replicate, take_all, SamePlace, current, ObjectRole, Extent, handle}
-use Rattle.segment_manager.proofs.Common.{place, resized, IsAllocated, IsChanged, Scalar, ScalarKind, Anonymous}
-use Rattle.segment_manager.proofs.Common.{OutOfRange, ReadOnly, is_value, size_of, IsBegun, IsLoose, IsTakenKey}
-use Rattle.segment_manager.proofs.Common.{LeadsThere, Denotes, Numbers, is_good_value, live, object_len, padded}
-use Rattle.segment_manager.proofs.Common.{with_object, entries_of, table_of, TakesItems, head_len, IsRestored, room_for}
-use Rattle.segment_manager.proofs.Common.{StandsFor, step, Plan, perform, has_room, live_of}
+use Rattle.segment_manager.proofs.Common.{IsNotBegun, Object, Directory, object_at, IsSegment, IsStep, State}
+use Rattle.segment_manager.proofs.Common.{is_read_only, Reply, effect, with_new_object, ◌+◌, ◌*◌, ◌≤◌, ℤ, Bool, []}
+use Rattle.segment_manager.proofs.Common.{length, map, replicate, arith, ◌<◌, if◌then◌else◌, mul-le-mul_left, IsTrue}
+use Rattle.segment_manager.proofs.Common.{pos, take, nat_lt, list_all, lt-ltb, le-ltb, length-map, length-replicate}
+use Rattle.segment_manager.proofs.Common.{take_all, SamePlace, current, ObjectRole, Extent, handle, place, resized}
+use Rattle.segment_manager.proofs.Common.{IsAllocated, IsChanged, Scalar, ScalarKind, Anonymous, OutOfRange, ReadOnly}
+use Rattle.segment_manager.proofs.Common.{is_value, size_of, IsBegun, IsLoose, IsTakenKey, LeadsThere, Denotes, Numbers}
+use Rattle.segment_manager.proofs.Common.{is_good_value, live, object_len, padded, with_object, entries_of, table_of}
+use Rattle.segment_manager.proofs.Common.{TakesItems, head_len, IsRestored, room_for, StandsFor, step, Plan, perform}
+use Rattle.segment_manager.proofs.Common.{has_room, live_of}
 use Rattle.segment_manager.proofs.FoundOrMade.{made_handle, makes}
-use Rattle.segment_manager.proofs.NewValues.{away-in, key-taken, value-built, value-not_begun, no_key-none}
+use Rattle.segment_manager.proofs.NewValues.{away-in, value-built, no_key-none}
+use Rattle.segment_manager.proofs.NotBegun.{key-taken, value-not_begun}
 use Rattle.segment_manager.proofs.Steps.{step-segment, perform-new, refuses-read_only, by_no_change, by_step, lands}
 use Rattle.segment_manager.proofs.Steps.{open-writing, step-plan, step-refuse}
 use Rattle.segment_manager.proofs.Constructed.{IsMet, IsNewObject, numbers-met, restored-denotes, IsNoObject}

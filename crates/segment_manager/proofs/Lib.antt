@@ -6,11 +6,13 @@ mod FilledCalls
 mod ItemCalls
 mod KeyCalls
 mod OwnBlocks
+mod OwnSpans
 mod Pieces
 mod Refusals
 mod Stored
 mod Written
 mod Tabled
+mod OtherTables
 mod Taking
 mod Unchanged
 mod Words
@@ -24,6 +26,7 @@ mod ObjectLists
 mod Calling
 mod Steps
 mod Ranks
+mod RankedPairs
 mod Indexes
 mod Entries
 mod Regrown
@@ -74,6 +77,7 @@ mod TextsHeld
 mod TextMoves
 mod TextListCalls
 mod NewValues
+mod NotBegun
 mod NewTexts
 mod Whole
 mod Emptied

@@ -1,28 +1,28 @@
 -- An object made under a key whose value takes blocks of its own, whatever it is, as a step of the machine: its
 -- requests are met in order, or one is refused and all is given back.
-use Rattle.segment_manager.proofs.Common.{◌≡◌, refl, sym, ap, subst, ◌∙◌, ℕ, ◌+◌, ◌≤◌, true, ◌&&◌, inl, inr, Some, None}
-use Rattle.segment_manager.proofs.Common.{Option, List, [], ◌∷◌, length, IsTrue, find, and_from, current, Cut}
-use Rattle.segment_manager.proofs.Common.{SamePlace, bytes_of, SamePlace-trans, ObjectRole, Extent, LiveSet, added}
-use Rattle.segment_manager.proofs.Common.{place, resized, IsAllocated, IsChanged, IsRefused, Keeps, LaysOut, live_of}
-use Rattle.segment_manager.proofs.Common.{Table, serves, laid-heap, Class, Anonymous, Kind, Refusal, NoSpace}
-use Rattle.segment_manager.proofs.Common.{is_kind_of, Content, Index, Absent, IsIndexOf, place_of, AddKeeps, IsGrowth}
-use Rattle.segment_manager.proofs.Common.{IsPlace, prepared, NewEntry, IsAbsentAt, IsBegun, IsBegunAlone, IsBegunEntry}
-use Rattle.segment_manager.proofs.Common.{IsHeaded, IsLoose, IsNotBegun, IsReadyFor, IsTakenKey, IsWanted, LeadsThere}
-use Rattle.segment_manager.proofs.Common.{Denotes, Value, Object, Directory, count_of, extents_of, has_key}
-use Rattle.segment_manager.proofs.Common.{is_good_value, is_object, kind_of, live, object_at, object_len, padded}
-use Rattle.segment_manager.proofs.Common.{value_extents, value_len, with_object, IsDenied, IsGiven, IsMadeValue}
-use Rattle.segment_manager.proofs.Common.{IsNoValue, class_of_index, entries_of, table_of, head_len, IsNewKeyOf}
-use Rattle.segment_manager.proofs.Common.{IsRestored, Plan, bare, with_value, room_for, IsSegment, StandsFor}
+use Rattle.segment_manager.proofs.Common.{◌≡◌, refl, sym, ap, subst, ◌∙◌, ℕ, ◌+◌, ◌≤◌, true, ◌&&◌, Some, None, Option}
+use Rattle.segment_manager.proofs.Common.{List, [], ◌∷◌, length, IsTrue, find, and_from, current, Cut, SamePlace}
+use Rattle.segment_manager.proofs.Common.{bytes_of, SamePlace-trans, ObjectRole, Extent, LiveSet, added, place, resized}
+use Rattle.segment_manager.proofs.Common.{IsAllocated, IsChanged, Keeps, LaysOut, live_of, Table, serves, laid-heap}
+use Rattle.segment_manager.proofs.Common.{Class, Anonymous, Kind, Refusal, is_kind_of, Content, Index, Absent}
+use Rattle.segment_manager.proofs.Common.{IsIndexOf, place_of, AddKeeps, IsGrowth, IsPlace, prepared, NewEntry}
+use Rattle.segment_manager.proofs.Common.{IsAbsentAt, IsBegun, IsBegunAlone, IsBegunEntry, IsHeaded, IsLoose}
+use Rattle.segment_manager.proofs.Common.{IsReadyFor, IsWanted, LeadsThere, Denotes, Value, Object, Directory, count_of}
+use Rattle.segment_manager.proofs.Common.{extents_of, has_key, is_good_value, is_object, kind_of, live, object_at}
+use Rattle.segment_manager.proofs.Common.{object_len, padded, value_extents, value_len, with_object, IsDenied, IsGiven}
+use Rattle.segment_manager.proofs.Common.{IsMadeValue, IsNoValue, class_of_index, entries_of, table_of, head_len}
+use Rattle.segment_manager.proofs.Common.{IsNewKeyOf, IsRestored, Plan, bare, with_value, room_for, IsSegment}
+use Rattle.segment_manager.proofs.Common.{StandsFor}
 use Rattle.segment_manager.proofs.Taking.{IsMade, IsTaken, taken-growth, taken-index, growth-index, requested-aligned}
 use Rattle.segment_manager.proofs.Taking.{restored-taken}
 use Rattle.segment_manager.proofs.MadeValues.{empty-taken, made-object, made-taken, placed-next}
-use Rattle.segment_manager.proofs.Constructed.{IsNewObject, IsNoObject, content-denied, content-entered, content-none}
-use Rattle.segment_manager.proofs.{Codes.known-kind, Bridge.lookup-absent, Bridge.lookup-found, Calling.denotes-live}
-use Rattle.segment_manager.proofs.{Denoted.denotes-with, HeldIndexes.denotes-index, KeyCalls.segment-index, Live.adding}
+use Rattle.segment_manager.proofs.Constructed.{IsNewObject, IsNoObject, content-denied, content-entered}
+use Rattle.segment_manager.proofs.{Codes.known-kind, Bridge.lookup-absent, Calling.denotes-live, Denoted.denotes-with}
+use Rattle.segment_manager.proofs.{HeldIndexes.denotes-index, KeyCalls.segment-index, Live.adding}
 use Rattle.segment_manager.proofs.{NewBlocks.allocated-serves, NewKeys.key-object, NewKeys.key-seeks, Steps.perform-new}
-use Rattle.segment_manager.proofs.{Steps.perform-no_space, Constructed.restored-denotes}
+use Rattle.segment_manager.proofs.{Constructed.restored-denotes}
 use Rattle.seg_index.specs.declared.keys.Key.{Key}
-use Rattle.segment_manager.specs.Begun.{GivesAllBack, IsEntryAdded, IsUnmetEntry}
+use Rattle.segment_manager.specs.Begun.{GivesAllBack, IsEntryAdded}
 use Rattle.seg_index.proofs.Laws.{place_behind, place_small}
 use Rattle.seg_types.specs.Names as names
 
@@ -337,55 +337,3 @@ module _ (content : Content) where
         (alone-refused h at (record { is = refl; taken = g.taken; takes = g.takes; headed = g.headed }) r back)
     value-not_built (Some e) {w} {why} g r gives =
         value-refused a b key h at g r (gives a (value-loose a b key h at (Some e) w why g r))
-
--- ---- it is not begun
-
-module _ {a : Cut} (key : names.Key) (content : Content) where
-  -- an object has the key
-  pub key-taken : {c : Cut} → (t : IsTakenKey a c key (kind_of (bare content))) → (d : Directory) → StandsFor a.bytes d
-      → (o : Object) × (object_at d key ≡ Some o)
-  key-taken t d st =
-      let f = lookup-found t.index a t.entry key st.denotes
-      (key-seeks t.index t.entry key t.name (kind_of (bare content)) t.is) t.place
-      (t.found (table_of t.index d) (entries_of t.index d) (denotes-index t.index a st.denotes)) in
-      (f.object, f.is)
-
-  none-alone : {c : Cut} → IsRefused a c (room_for [] (value_len (bare content))) ObjectRole
-      → IsMadeNever a c names.NoKey content
-  none-alone r = record {
-    place = subst (SamePlace a) (sym r.same) (record { before = refl; after = refl });
-    each = λ d st. (
-      no_key-none d.objects,
-      record {
-        refused = λ next.
-            perform-no_space d (live d) ObjectRole (object_len [] (bare content)) (λ x. with_value content
-            (λ w. let o : Object = record { class = Anonymous; name = []; value = w; extent = x } in
-            next o (with_object d o))) (ap (λ l. place l (object_len [] (bare content)) ObjectRole)
-            (sym (denotes-live current a.bytes d st.denotes)) ∙ r.none);
-        denotes = subst (λ (u : Cut). Denotes current u.bytes d) (sym r.same) st.denotes;
-      },
-    );
-  }
-
-  none-entry : {c : Cut} → IsUnmetEntry a c key (kind_of (bare content)) (value_len (bare content))
-      → IsMadeNever a c key content
-  none-entry {c} u = record {
-    place = u.unmet.restored.keeps.place;
-    each = λ d st. (
-      (lookup-absent u.index a u.entry key st.denotes
-          (key-seeks u.index u.entry key u.name (kind_of (bare content)) u.is)
-          (away-in u.index u.entry u.place st.denotes u.absent)).none,
-      record {
-        refused =
-            λ next. content-none u.index a d u.entry key u.name (kind_of (bare content)) content st.denotes u.is next
-            (room_for u.name (value_len (bare content))) refl u.unmet.none;
-        denotes = restored-denotes a c d st.denotes u.unmet.restored;
-      },
-    );
-  }
-
-  -- a block is refused
-  pub value-not_begun : {c : Cut} → IsNotBegun a c key (kind_of (bare content)) (value_len (bare content)) NoSpace
-      → IsMadeNever a c key content
-  value-not_begun {c} (inl r) = subst (λ (q : names.Key). IsMadeNever a c q content) (sym r.0) (none-alone r.1)
-  value-not_begun (inr u) = none-entry u

@@ -9,7 +9,7 @@ use Rattle.segment_manager.proofs.Common.{object_at, rises_from, is_object_at, I
 use Rattle.segment_manager.proofs.Common.{is_own_span, own_spans, Answers, IsSegment, State, StandsFor}
 use Rattle.segment_manager.proofs.ObjectLists.{rises-front, rises-rest}
 use Rattle.segment_manager.proofs.Words.{second, first, AllByRecursion-filter, none_more}
-use Rattle.segment_manager.proofs.OwnBlocks.{all-own_spans, as_used, blocks, own-blocks}
+use Rattle.segment_manager.proofs.OwnSpans.{all-own_spans, as_used, blocks, own-blocks}
 use Rattle.segment_manager.proofs.{Bridge.each-by_handle, Calling.denotes-live, EntryPlaces.all-at}
 use Rattle.std.proofs.Common.{add-one}
 use Rattle.block_tags.specs.Tiles.{tile_at, tiles_from}

@@ -6,7 +6,7 @@ use Rattle.segment_manager.proofs.Common.{NoSpace, is_changing, Index, IsRoomy, 
 use Rattle.segment_manager.proofs.Common.{capacity_at, place_of, Done, Refused, Denotes, Directory, live, entries_of}
 use Rattle.segment_manager.proofs.Common.{objects_of, reserve_of, table_of, with_table_of, Plan, New, Reply, Request}
 use Rattle.segment_manager.proofs.Common.{IsSegment, IsStep, State, effect, is_read_only, Bool}
-use Rattle.segment_manager.proofs.Tabled.{places_in, reserved-tabled, shrunk-tabled, tabled-denotes}
+use Rattle.segment_manager.proofs.OtherTables.{places_in, reserved-tabled, shrunk-tabled, tabled-denotes}
 use Rattle.segment_manager.proofs.Safely.{Stepped, stepped}
 use Rattle.segment_manager.proofs.Steps.{by_no_change, by_step, lands, open-writing, perform-new, perform-no_space}
 use Rattle.segment_manager.proofs.{Calling.denotes-live, HeldIndexes.denotes-index, Steps.step-plan, Steps.step-reply}

@@ -54,7 +54,8 @@ module _ {A : Type 0} (says : A → Answer) (one : (a b : A) → says a ≡ says
   got-as (Err why) (Some b) e = absurd (some b why (sym e))
 
   module _ (mode : Mode) (d : Directory) (key : Key) (kind : Kind) (i : ℕ)
-      (gets : (v : Value) → same_kind kind (kind_of v) ≡ true → (perform d (live d) (get d v i)).0 ≡ told says (slice_get (items v) i)) (r : Result A Refusal) where
+      (gets : (v : Value) → same_kind kind (kind_of v) ≡ true
+      → (perform d (live d) (get d v i)).0 ≡ told says (slice_get (items v) i)) (r : Result A Refusal) where
     item-of : {o : Object} (b : Bool) → object_at d key ≡ Some o → same_kind kind (kind_of o.value) ≡ b
         → answer_of says r ≡ (step_of_kind mode d key kind (asked.Get key i)).0
         → got r ≡ slice_get (list_at items d key kind) i

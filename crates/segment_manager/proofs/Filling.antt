@@ -34,8 +34,8 @@ all-more t (y ∷ ys) z h e =
 
 -- ---- so many items were written
 
-pub record IsFilling {S A : Type 0} (gives : S → Option A → S → Type 0) (can : S → Type 0) (whole : A → ℤ) (old now : Cut)
-    (k : ScalarKind) (from i : ℕ) (before at : S) : Type 0 where
+pub record IsFilling {S A : Type 0} (gives : S → Option A → S → Type 0) (can : S → Type 0) (whole : A → ℤ)
+    (old now : Cut) (k : ScalarKind) (from i : ℕ) (before at : S) : Type 0 where
   pub items : List A
   pub ran : Yields gives before items at
   pub long : length items ≡ i

@@ -21,7 +21,8 @@ made_for d key content r =
 
 module _ {old : State} {new : Cut} {key : Key} {content : Content} (c : Command) (say : Object → Answer)
     (writing : is_read_only old.mode ≡ false) (place : SamePlace old.cut new)
-    (asks : ((d : Directory) → object_at d key ≡ None → effect d c ≡ with_new_object d key content (λ o e. Reply (say o) e))) where
+    (asks : ((d : Directory) → object_at d key ≡ None
+    → effect d c ≡ with_new_object d key content (λ o e. Reply (say o) e))) where
   -- A command asks for a new object where no object has the key, and says this of it: it is made.
   pub makes : {h : ℕ} {answer : Answer}
       → ((d : Directory) → (n : IsNewObject new d key content h) → say n.object ≡ answer)

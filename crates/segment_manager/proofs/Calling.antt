@@ -10,23 +10,29 @@ use Rattle.segment_manager.proofs.{Live.live-split, Live.removing, ObjectLists.a
 -- ---- objects are live blocks
 
 -- the block of an object passes a test that its extent passes
-pub any-object : (d : Directory) (o : Object) (t : Extent → Bool) → IsIn d o → IsTrue (is_proper (live d)) → t o.extent ≡ true → list_any t (live d).extents ≡ true
+pub any-object : (d : Directory) (o : Object) (t : Extent → Bool) → IsIn d o → IsTrue (is_proper (live d))
+    → t o.extent ≡ true → list_any t (live d).extents ≡ true
 any-object d o t f p h =
     ap (λ (l : LiveSet). list_any t l.extents) (live-split d o f p)
     ∙ list_any-insert t o.extent (inserted (value_extents o.value) (live (without_object d o)).extents) h
 
 -- the block of an object is in use
-pub object-live : (d : Directory) (o : Object) → IsIn d o → IsTrue (is_proper (live d)) → is_live_in (live d) (handle o.extent) ≡ true
-object-live d o f p = any-object d o (λ (x : Extent). handle x == handle o.extent) f p (eq-eqb (handle o.extent) (handle o.extent) refl)
+pub object-live : (d : Directory) (o : Object) → IsIn d o → IsTrue (is_proper (live d))
+    → is_live_in (live d) (handle o.extent) ≡ true
+object-live d o f p =
+    any-object d o (λ (x : Extent). handle x == handle o.extent) f p (eq-eqb (handle o.extent) (handle o.extent) refl)
 
 -- it has the room that its extent has
-pub object-room : (d : Directory) (o : Object) (n : ℕ) → IsIn d o → IsTrue (is_proper (live d)) → holds o.extent n ≡ true → has_room (live d) (handle o.extent) n ≡ true
+pub object-room : (d : Directory) (o : Object) (n : ℕ) → IsIn d o → IsTrue (is_proper (live d))
+    → holds o.extent n ≡ true → has_room (live d) (handle o.extent) n ≡ true
 object-room d o n f p h =
     any-object d o (λ (x : Extent). (handle x == handle o.extent) && holds x n) f p
-    (and_from (handle o.extent == handle o.extent) (holds o.extent n) (eq-eqb (handle o.extent) (handle o.extent) refl) h)
+    (and_from (handle o.extent == handle o.extent) (holds o.extent n)
+    (eq-eqb (handle o.extent) (handle o.extent) refl) h)
 
 -- the bytes say an object that is found
-pub object-at : (format : ℕ) (b : List ℕ) (d : Directory) (h : ℕ) (o : Object) → Denotes format b d → IsFound h d.objects o → IsObjectAt (bytes_of b) o
+pub object-at : (format : ℕ) (b : List ℕ) (d : Directory) (h : ℕ) (o : Object) → Denotes format b d
+    → IsFound h d.objects o → IsObjectAt (bytes_of b) o
 object-at format b d h o k f = all-found (IsObjectAt (bytes_of b)) (has_key (ByHandle h)) d.objects o k.objects f.is
 
 -- ---- what the bytes denote after the heap's calls
@@ -40,9 +46,12 @@ pub denotes-heap : (format : ℕ) (b : List ℕ) (d : Directory) → Denotes for
 denotes-heap format b d h = subst (LaysOut format b) (sym (denotes-live format b d h)) h.heap
 
 -- without the object whose block was released, one without a key that has no other
-pub denotes-released : (format : ℕ) (old new : Cut) (d : Directory) (o : Object) → Denotes format old.bytes d → IsIn d o → o.class ≡ Anonymous → value_extents o.value ≡ []
-    → IsReleased format old new (handle o.extent) → Denotes format new.bytes (without_object d o)
-denotes-released format old new d o k f class alone r =
+pub denotes-released : {format : ℕ} {old new : Cut} {d : Directory} (o : Object) → Denotes format old.bytes d → IsIn d o
+    → o.class ≡ Anonymous → value_extents o.value ≡ [] → IsReleased format old new (handle o.extent)
+    → Denotes format new.bytes (without_object d o)
+denotes-released {format} {old} {new} {d} o k f class alone r =
     let same : released (live_of old.bytes) (handle o.extent) ≡ removing (live d) (extents_of o) =
-    ap (λ l. released l (handle o.extent)) (denotes-live format old.bytes d k) ∙ ap (λ xs. removing (live d) (o.extent ∷ xs)) (sym alone) in
-    denotes-without format old new d o k f class (subst (LaysOut format new.bytes) same r.live) (subst (λ (l : LiveSet). Keeps old new l.extents) same r.keeps)
+    ap (λ l. released l (handle o.extent)) (denotes-live format old.bytes d k)
+    ∙ ap (λ xs. removing (live d) (o.extent ∷ xs)) (sym alone) in
+    denotes-without old new o k f class (subst (LaysOut format new.bytes) same r.live)
+    (subst (λ (l : LiveSet). Keeps old new l.extents) same r.keeps)

@@ -33,7 +33,8 @@ numbers-if k (Numbers l zs) e = (zs, λ i. Numbers (same-scalar l k (sym e) i) z
 numbers-if k v e = let small = scalar-small k in absurd (omega arith)
 
 -- what is of the kind of a scalar is numbers of it
-pub numbers-only : (k : ScalarKind) (v : Value) → same_kind (Scalar k) (kind_of v) ≡ true → (zs : List ℤ) × (v ≡ Numbers k zs)
+pub numbers-only : (k : ScalarKind) (v : Value) → same_kind (Scalar k) (kind_of v) ≡ true
+    → (zs : List ℤ) × (v ≡ Numbers k zs)
 numbers-only k v e = numbers-if k v (eqb-true (scalar_code k) (code_of (kind_of v)) e)
 
 -- a format that has vectors of strings is written: it has all kinds

@@ -1,23 +1,20 @@
 -- The object of a handle and its own entry, and what it is to destroy an object.
 use Rattle.segment_manager.proofs.Common.{◌≡◌, refl, sym, ap, subst, ◌∙◌, ℕ, true, false, ◌==◌, Some, None, Option}
-use Rattle.segment_manager.proofs.Common.{List, is_some, none-some, bytes_of, current, handle, Class, class_code}
-use Rattle.segment_manager.proofs.Common.{code_of, Index, Absent, IsPlace, Head, Object, Directory, is_class, kind_of}
-use Rattle.segment_manager.proofs.Common.{object_at, handle_at, is_object_at, HasEntries, HasEntry, IsAnonymousAt}
-use Rattle.segment_manager.proofs.Common.{Answers, IsSegment, State, StandsFor, HasObject, IsHeadOf, StandsAt, ◌<◌, []}
-use Rattle.segment_manager.proofs.Common.{◌∷◌, arith, remove, slice_get, same_Some, slice_get_within, Cut}
-use Rattle.segment_manager.proofs.Common.{SamePlace-trans, IsReleased, LaysOut, is_live_in, live_of, Table, lay_out_one}
-use Rattle.segment_manager.proofs.Common.{NotFound, Found, KeepsRest, beside_table, HasIndex, IsIndexOf, entry_count}
-use Rattle.segment_manager.proofs.Common.{place_of, Refused, Truth, Denotes, Becomes, Empties, HoldsObject, emptied}
-use Rattle.segment_manager.proofs.Common.{without_object, Seeks, class_of_index, entries_of, objects_of, order_of}
-use Rattle.segment_manager.proofs.Common.{table_of, Plan, Reply, IsStep, changed, is_read_only, step}
-use Rattle.segment_manager.proofs.Bridge.{lookup-absent, own-kind, own-name, IsEntryFor, entry-removed, in-handles}
-use Rattle.segment_manager.proofs.Here.{IsHere, IsReadAt, has-object, here}
-use Rattle.segment_manager.proofs.KeyCalls.{ForIndex, handle-answers, of-directory}
+use Rattle.segment_manager.proofs.Common.{List, bytes_of, current, handle, Class, class_code, Index, Absent, IsPlace}
+use Rattle.segment_manager.proofs.Common.{Object, Directory, is_class, object_at, IsAnonymousAt, IsSegment, State}
+use Rattle.segment_manager.proofs.Common.{StandsFor, ◌<◌, [], ◌∷◌, arith, remove, slice_get, same_Some}
+use Rattle.segment_manager.proofs.Common.{slice_get_within, Cut, SamePlace-trans, IsReleased, LaysOut, is_live_in}
+use Rattle.segment_manager.proofs.Common.{live_of, Table, lay_out_one, NotFound, Found, KeepsRest, beside_table}
+use Rattle.segment_manager.proofs.Common.{HasIndex, IsIndexOf, entry_count, place_of, Refused, Truth, Denotes, Becomes}
+use Rattle.segment_manager.proofs.Common.{Empties, HoldsObject, emptied, without_object, Seeks, class_of_index}
+use Rattle.segment_manager.proofs.Common.{entries_of, objects_of, order_of, table_of, Plan, Reply, IsStep, changed}
+use Rattle.segment_manager.proofs.Common.{is_read_only}
+use Rattle.segment_manager.proofs.Bridge.{lookup-absent, IsEntryFor, entry-removed, in-handles}
 use Rattle.segment_manager.proofs.Emptied.{changed-entries, changed-in, changed-others, emptied-is}
 use Rattle.segment_manager.proofs.Steps.{by_no_change, by_step, lands, open-writing, step-refuse, step-reply}
 use Rattle.segment_manager.proofs.Calling.{denotes-live, denotes-released, object-live}
 use Rattle.segment_manager.proofs.EntryPlaces.{all-at, at-handle, of-class}
-use Rattle.segment_manager.proofs.Tabled.{IsGone, IsLeft, removed-denotes}
+use Rattle.segment_manager.proofs.OtherTables.{IsGone, IsLeft, removed-denotes}
 use Rattle.segment_manager.proofs.{Bridge.lookup-found, Steps.with-found, Steps.with-not_found, Safely.Stepped}
 use Rattle.segment_manager.proofs.{Safely.stepped, ObjectLists.found-handle, ObjectLists.key-found}
 use Rattle.segment_manager.proofs.{HeldIndexes.denotes-index, Live.IsIn, Ranks.all-ordered, Rewritten.with_value}
@@ -26,94 +23,9 @@ use Rattle.seg_types.specs.Names as names
 use Rattle.seg_types.specs.Commands as asked
 use Rattle.seg_index.specs.declared.index.Index.TheVariants as index
 use Rattle.seg_index.specs.declared.keys.Key.{Key}
-use Rattle.seg_index.specs.declared.keys.Key.TheVariants as entry
 use Rattle.segment_manager.specs.Listed.{IsEntryAt}
 use Rattle.segment_manager.specs.Destroyed.{HoldsEntry, RemovesAnonymous, RemovesEntry}
 use Rattle.seg_index.specs.declared.keys.Lookup.{Lookup}
-
--- ---- the object of a handle
-
--- the handle means itself
-itself : (s : State) (h : ℕ) → Answers s (λ d. is_object_at d h) true → Answers s (λ d. handle_at d (names.ByHandle h)) (Some h)
-itself s h a = handle-answers s h true a
-
-pub object-here : (s : State) (h : ℕ) → Answers s (λ d. is_object_at d h) true → (d : Directory) → StandsFor s.cut.bytes d → IsHere s.cut.bytes d (names.ByHandle h) h
-object-here s h a d k = here s.cut.bytes d (names.ByHandle h) h k.denotes ((itself s h a).answers d k)
-
--- as the view before the call names the segment
-pub seen-there : (s t : State) (view : s ≡ t) (h : ℕ) → Answers t (λ d. is_object_at d h) true → Answers s (λ d. is_object_at d h) true
-seen-there s t view h = subst (λ (u : State). Answers u (λ d. is_object_at d h) true) (sym view)
-
-pub has-own_object : (s t : State) (view : s ≡ t) (h : ℕ) → IsSegment s.cut.bytes → Answers t (λ d. is_object_at d h) true → HasObject s.cut.bytes h
-has-own_object s t view h i a = has-object s (names.ByHandle h) h i (itself s h (seen-there s t view h a))
-
-none-if : (r : Option Object) → false ≡ is_some r → r ≡ None
-none-if None e = refl
-none-if (Some o) e = absurd (cc)
-
--- or no object has it
-pub no-object : (s : State) (h : ℕ) → Answers s (λ d. is_object_at d h) false → (d : Directory) → StandsFor s.cut.bytes d → object_at d (names.ByHandle h) ≡ None
-no-object s h a d k = none-if (object_at d (names.ByHandle h)) (a.answers d k)
-
--- ---- what its head says of its entry
-
-own-class : (c : Class) (o : Object) → o.class ≡ c → (class_code c == class_code c) ≡ true → is_class c o ≡ true
-own-class c o e f = ap (λ b. class_code c == class_code b) e ∙ f
-
-by-own_handle : (d : Directory) (h : ℕ) (o : Object) → h ≡ handle o.extent → object_at d (names.ByHandle h) ≡ Some o → object_at d (names.ByHandle (handle o.extent)) ≡ Some o
-by-own_handle d h o e f = subst (λ g. object_at d (names.ByHandle g) ≡ Some o) e f
-
--- the entry is looked up by this name
-abbrev pub IsNamed : Key → List ℕ → Type 0
-IsNamed (entry.Name bytes) name = bytes.now ≡ name
-IsNamed (entry.Code n) name = ⊥
-
-module _ (s t : State) (view : s ≡ t) (h : ℕ) (head : Head) (a : Answers t (λ d. is_object_at d h) true) (r : IsReadAt s.cut.bytes h head) where
-  here-in : (d : Directory) → StandsFor s.cut.bytes d → IsHere s.cut.bytes d (names.ByHandle h) h
-  here-in = object-here s h (seen-there s t view h a)
-
-  -- it has no key
-  pub listed-none : head.class ≡ class.Anonymous → IsAnonymousAt t h
-  listed-none e =
-      subst (λ (u : State). IsAnonymousAt u h) view (λ d k.
-      let o : IsHere s.cut.bytes d (names.ByHandle h) h = here-in d k in
-      (o.object, o.is, sym (r o.object o.stands).class ∙ e))
-
-  -- it has a name
-  pub listed-name : (e : Key) → head.class ≡ class.Named → ((o : Object) → StandsAt s.cut.bytes h o → IsNamed e o.name) → HasEntries t index.Named e h
-  listed-name (entry.Name bytes) e n =
-      subst (λ (u : State). HasEntries u index.Named (entry.Name bytes) h) view (λ d k.
-      let o : IsHere s.cut.bytes d (names.ByHandle h) h = here-in d k in
-      record {
-        object = o.object;
-        is = o.is;
-        key = names.ByName o.object.name;
-        seeks = n o.object o.stands;
-        found = own-name current d o.object k.denotes.directory (by-own_handle d h o.object o.stands.at o.is) (own-class class.Named o.object (sym (r o.object o.stands).class ∙ e) refl);
-      })
-  listed-name (entry.Code n) e m =
-      subst (λ (u : State). HasEntries u index.Named (entry.Code n) h) view (λ d k. absurd (m (here-in d k).object (here-in d k).stands))
-
-  -- it is the only one of its kind
-  pub listed-kind : (n : ℕ) → head.class ≡ class.Unique → n ≡ code_of head.kind → HasEntries t index.Unique (entry.Code n) h
-  listed-kind n e f =
-      subst (λ (u : State). HasEntries u index.Unique (entry.Code n) h) view (λ d k.
-      let o : IsHere s.cut.bytes d (names.ByHandle h) h = here-in d k in
-      let said : IsHeadOf o.object head = r o.object o.stands in
-      record {
-        object = o.object;
-        is = o.is;
-        key = names.ByKind (kind_of o.object.value);
-        seeks = f ∙ ap code_of said.kind;
-        found = own-kind current d o.object k.denotes.directory (by-own_handle d h o.object o.stands.at o.is) (own-class class.Unique o.object (sym said.class ∙ e) refl);
-      })
-
--- an entry that an object has is found
-pub listed-found : (s t : State) (view : s ≡ t) (i : Index) (e : Key) (h at : ℕ) → ForIndex s.cut i (λ hs. IsPlace (bytes_of s.cut.bytes) e hs (Absent at)) → HasEntries t i e h → IsAnonymousAt t h
-listed-found s t view i e h at f each =
-    subst (λ (u : State). IsAnonymousAt u h) view (λ d k.
-    let x : HasEntry i e d h = subst (λ (u : State). HasEntries u i e h) (sym view) each d k in
-    absurd (none-some x.object (sym (lookup-absent i s.cut d e x.key k.denotes x.seeks at (of-directory s i (λ hs. IsPlace (bytes_of s.cut.bytes) e hs (Absent at)) d k f)).none ∙ x.found)))
 
 -- ---- an object with an entry
 
@@ -122,46 +34,65 @@ class-is index.Named class.Named e = refl
 class-is index.Unique class.Unique e = refl
 class-is i c e = absurd (cc)
 
-entry-class : (i : Index) (d : Directory) (at : ℕ) (o : Object) → slice_get (objects_of i d) at ≡ Some o → o.class ≡ class_of_index i
-entry-class i d at o e =
-    class-is i o.class
-    (all-at (λ p. is_class (class_of_index i) p ≡ true) (objects_of i d) at o
-    (all-ordered (λ p. is_class (class_of_index i) p ≡ true) (class_of_index i) (order_of i) d.objects (of-class (class_of_index i) d.objects)) e)
+entry-class : (i : Index) (d : Directory) (at : ℕ) {o : Object} → slice_get (objects_of i d) at ≡ Some o
+    → o.class ≡ class_of_index i
+entry-class i d at {o} e =
+    class-is i o.class (all-at (λ p. is_class (class_of_index i) p ≡ true) (objects_of i d) at
+    (all-ordered (λ p. is_class (class_of_index i) p ≡ true) (class_of_index i) (order_of i) d.objects
+    (of-class (class_of_index i) d.objects)) e)
 
 -- it stands in the heap with the other entries
-pub entry-index : (c : Cut) (i : Index) (at : ℕ) → HoldsEntry c.bytes i at → HasIndex c (place_of i)
-entry-index c i at x = record { table = table_of i x.directory; handles = entries_of i x.directory; index = denotes-index i c x.directory x.stands.denotes }
+pub entry-index : {c : Cut} {i : Index} {at : ℕ} → HoldsEntry c.bytes i at → HasIndex c (place_of i)
+entry-index {c} {i} x =
+    record {
+      table = table_of i x.directory;
+      handles = entries_of i x.directory;
+      index = denotes-index i c x.stands.denotes;
+    }
 
-pub entry-below : (c : Cut) (i : Index) (at : ℕ) → HoldsEntry c.bytes i at → at < entry_count c (place_of i)
-entry-below c i at x =
+pub entry-below : (c : Cut) {i : Index} {at : ℕ} → HoldsEntry c.bytes i at → at < entry_count c (place_of i)
+entry-below c {i} {at} x =
     let d : Directory = x.directory in
-    let stands : IsIndexOf c (place_of i) (table_of i d) (entries_of i d) = denotes-index i c d x.stands.denotes in
-    omega (arith, slice_get_within (entries_of i d) at (handle x.object.extent) (at-handle (objects_of i d) at x.object x.is), stands.stands.count)
+    omega (
+      arith,
+      slice_get_within (entries_of i d) at (handle x.object.extent) (at-handle (objects_of i d) at x.is),
+      (denotes-index i c x.stands.denotes).stands.count,
+    )
 
 -- a handle that stands at the entry
 abbrev pub LeadsTo : Cut → Index → ℕ → ℕ → Type 0
 LeadsTo c i at h = (t : Table) (hs : List ℕ) → IsIndexOf c (place_of i) t hs → slice_get hs at ≡ Some h
 
-module _ (a : Cut) (i : Index) (at h : ℕ) (leads : LeadsTo a i at h) where
-  entry-found : (d : Directory) (o : Object) → Denotes current a.bytes d → slice_get (objects_of i d) at ≡ Some o → object_at d (names.ByHandle h) ≡ Some o
-  entry-found d o k e =
-      subst (λ g. object_at d (names.ByHandle g) ≡ Some o)
-      (sym (same_Some h (handle o.extent) (sym (leads (table_of i d) (entries_of i d) (denotes-index i a d k)) ∙ at-handle (objects_of i d) at o e)))
-      (all-at (λ (p : Object). object_at d (names.ByHandle (handle p.extent)) ≡ Some p) (objects_of i d) at o (in-handles current i d k.directory) e)
+module _ {a : Cut} (i : Index) (at : ℕ) {h : ℕ} (leads : LeadsTo a i at h) where
+  entry-found : {d : Directory} {o : Object} → Denotes current a.bytes d → slice_get (objects_of i d) at ≡ Some o
+      → object_at d (names.ByHandle h) ≡ Some o
+  entry-found {d} {o} k e =
+      subst (λ g. object_at d (names.ByHandle g) ≡ Some o) (sym (same_Some h (handle o.extent)
+      (sym (leads (table_of i d) (entries_of i d) (denotes-index i a k)) ∙ at-handle (objects_of i d) at e)))
+      (all-at (λ (p : Object). object_at d (names.ByHandle (handle p.extent)) ≡ Some p) (objects_of i d) at
+      (in-handles i k.directory) e)
 
   pub entry-object : HoldsEntry a.bytes i at → HoldsObject a.bytes h
-  entry-object x = record { directory = x.directory; stands = x.stands; object = x.object; is = entry-found x.directory x.object x.stands.denotes x.is }
+  entry-object x = record {
+    directory = x.directory;
+    stands = x.stands;
+    object = x.object;
+    is = entry-found x.stands.denotes x.is;
+  }
 
 -- The entry at a place was removed. Its block stays, and so does all else.
 pub record IsUnlisted (i : Index) (old new : Cut) (at : ℕ) : Type 0 where
-  pub removes : (t : Table) (hs : List ℕ) → IsIndexOf old (place_of i) t hs → IsIndexOf new (place_of i) t (remove hs at)
+  pub removes : (t : Table) (hs : List ℕ) → IsIndexOf old (place_of i) t hs
+      → IsIndexOf new (place_of i) t (remove hs at)
   pub live : LaysOut current new.bytes (live_of old.bytes)
-  pub keeps : (t : Table) (hs : List ℕ) → IsIndexOf old (place_of i) t hs → KeepsRest old new (place_of i) (beside_table t (live_of old.bytes).extents)
+  pub keeps : (t : Table) (hs : List ℕ) → IsIndexOf old (place_of i) t hs
+      → KeepsRest old new (place_of i) (beside_table t (live_of old.bytes).extents)
 
 -- ---- once its contents are released
 
 -- an object of a handle, and the directory with its value emptied, which the bytes denote then
-module _ (a b : Cut) (h : ℕ) (empties : Empties a b h) (d : Directory) (o : Object) (k : StandsFor a.bytes d) (e : object_at d (names.ByHandle h) ≡ Some o) where
+module _ {a b : Cut} (h : ℕ) (empties : Empties a b h) {d : Directory} {o : Object} (k : StandsFor a.bytes d)
+    (e : object_at d (names.ByHandle h) ≡ Some o) where
   abbrev emptied_object : Object
   emptied_object = with_value o (emptied o.value)
 
@@ -178,37 +109,39 @@ module _ (a b : Cut) (h : ℕ) (empties : Empties a b h) (d : Directory) (o : Ob
   emptied-denotes = (empties d o k e).denotes
 
   -- its own block is still in use
-  still-live : is_live_in (live_of b.bytes) h ≡ true
+  pub still-live : is_live_in (live_of b.bytes) h ≡ true
   still-live =
-      let at : h ≡ handle o.extent = found-handle h d.objects o (record { is = e }) in
-      (λ j. is_live_in (denotes-live current b.bytes emptied_directory emptied-denotes j) (at j)) ∙ object-live emptied_directory emptied_object emptied-in emptied-denotes.directory.proper
+      let at = found-handle h d.objects o (record { is = e }) in
+      (λ j. is_live_in (denotes-live current b.bytes emptied_directory emptied-denotes j) (at j))
+      ∙ object-live emptied_directory emptied_object emptied-in emptied-denotes.directory.proper
 
   -- an index has the entries that it had
   emptied-index : (i : Index) → IsIndexOf b (place_of i) (table_of i emptied_directory) (entries_of i d)
   emptied-index i =
-      subst (IsIndexOf b (place_of i) (table_of i emptied_directory)) (changed-entries d o is-in i (emptied o.value) (emptied-is o.value).kind) (denotes-index i b emptied_directory emptied-denotes)
+      subst (IsIndexOf b (place_of i) (table_of i emptied_directory))
+      (changed-entries d o is-in i (emptied o.value) (emptied-is o.value).kind) (denotes-index i b emptied-denotes)
 
   -- where its own block was released and nothing else, and it has no key
-  anonymous-gone : (c : Cut) → o.class ≡ class.Anonymous → IsReleased current b c h → Becomes a c (without_object d o)
-  anonymous-gone c is r =
-      let at : h ≡ handle o.extent = found-handle h d.objects o (record { is = e }) in
+  pub anonymous-gone : {c : Cut} → o.class ≡ class.Anonymous → IsReleased current b c h
+      → Becomes a c (without_object d o)
+  anonymous-gone {c} is r =
       record {
         place = SamePlace-trans a b c (empties d o k e).place r.keeps.place;
         denotes = subst (Denotes current c.bytes) (changed-others d o is-in (emptied o.value))
-            (denotes-released current b c emptied_directory emptied_object emptied-denotes emptied-in is (emptied-is o.value).alone
-            (subst (IsReleased current b c) at r));
+            (denotes-released emptied_object emptied-denotes emptied-in is (emptied-is o.value).alone
+            (subst (IsReleased current b c) (found-handle h d.objects o (record { is = e })) r));
       }
 
   -- where an entry was removed that it has, and then its own block was released
-  entry-gone : (c f : Cut) (i : Index) (at : ℕ) → slice_get (objects_of i d) at ≡ Some o → IsUnlisted i b c at → IsReleased current c f h → Becomes a f (without_object d o)
-  entry-gone c f i at there u r =
-      let t : Table = table_of i emptied_directory in
-      let own : h ≡ handle o.extent = found-handle h d.objects o (record { is = e }) in
-      let released : IsReleased current c f (handle o.extent) = subst (IsReleased current c f) own r in
-      let rest : without_object emptied_directory emptied_object ≡ without_object d o = changed-others d o is-in (emptied o.value) in
-      let before : IsIndexOf b (place_of i) t (entries_of i d) = emptied-index i in
-      let less : remove (entries_of i d) at ≡ entries_of i (without_object emptied_directory emptied_object) =
-      entry-removed i d at o k.denotes.directory there ∙ ap (entries_of i) (sym rest) in
+  entry-gone : {c f : Cut} {i : Index} {at : ℕ} → slice_get (objects_of i d) at ≡ Some o → IsUnlisted i b c at
+      → IsReleased current c f h → Becomes a f (without_object d o)
+  entry-gone {c} {f} {i} {at} there u r =
+      let t = table_of i emptied_directory in
+      let released : IsReleased current c f (handle o.extent) =
+      subst (IsReleased current c f) (found-handle h d.objects o (record { is = e })) r in
+      let rest = changed-others d o is-in (emptied o.value) in
+      let before = emptied-index i in
+      let less = entry-removed i at k.denotes.directory there ∙ ap (entries_of i) (sym rest) in
       let left : IsLeft i b c t (entries_of i (without_object emptied_directory emptied_object)) = record {
         live = u.live;
         stands = subst (IsIndexOf c (place_of i) t) less (u.removes t (entries_of i d) before);
@@ -216,44 +149,42 @@ module _ (a b : Cut) (h : ℕ) (empties : Empties a b h) (d : Directory) (o : Ob
       } in
       let none : IsGone c f (o.extent ∷ []) = record { live = released.live; keeps = released.keeps } in
       record {
-        place = SamePlace-trans a b f (empties d o k e).place (SamePlace-trans b c f (u.keeps t (entries_of i d) before).place r.keeps.place);
+        place = SamePlace-trans a b f (empties d o k e).place
+            (SamePlace-trans b c f (u.keeps t (entries_of i d) before).place r.keeps.place);
         denotes = subst (Denotes current f.bytes) rest
-            (removed-denotes i b c f emptied_directory emptied_object emptied-denotes emptied-in (entry-class i d at o there) left
+            (removed-denotes emptied_object emptied-denotes emptied-in (entry-class i d at there) left
             (subst (IsGone c f) (ap (λ xs. o.extent ∷ xs) (sym (emptied-is o.value).alone)) none));
       }
 
 -- the same of the object that an entry leads to
-module _ (a b : Cut) (i : Index) (at h : ℕ) (leads : LeadsTo a i at h) (empties : Empties a b h) where
+module _ {a b : Cut} {i : Index} {at h : ℕ} (leads : LeadsTo a i at h) (empties : Empties a b h) where
   module _ (x : HoldsEntry a.bytes i at) where
     abbrev held : object_at x.directory (names.ByHandle h) ≡ Some x.object
-    held = entry-found a i at h leads x.directory x.object x.stands.denotes x.is
-
-    index-there : IsIndexOf b (place_of i) (table_of i (changed x.directory x.object (emptied x.object.value))) (entries_of i x.directory)
-    index-there = emptied-index a b h empties x.directory x.object x.stands held i
+    held = entry-found i at leads x.stands.denotes x.is
 
     pub index-still : HasIndex b (place_of i)
-    index-still = record { table = table_of i (changed x.directory x.object (emptied x.object.value)); handles = entries_of i x.directory; index = index-there }
+    index-still = record {
+      table = table_of i (changed x.directory x.object (emptied x.object.value));
+      handles = entries_of i x.directory;
+      index = emptied-index h empties x.stands held i;
+    }
 
     pub below-still : at < entry_count b (place_of i)
     below-still =
-        let d : Directory = x.directory in
-        omega (arith, slice_get_within (entries_of i d) at (handle x.object.extent) (at-handle (objects_of i d) at x.object x.is), index-there.stands.count)
+        omega (
+          arith,
+          (slice_get_within (entries_of i x.directory) at (handle x.object.extent)
+              (at-handle (objects_of i x.directory) at x.is)),
+          (emptied-index h empties x.stands held i).stands.count,
+        )
 
     -- its block is in use, also where the entry is removed
     pub block-still : (c : Cut) → LaysOut current c.bytes (live_of b.bytes) → is_live_in (live_of c.bytes) h ≡ true
     block-still c l =
-        ap (λ s. is_live_in s h) (lay_out_one current c.bytes (live_of b.bytes) l) ∙ still-live a b h empties x.directory x.object x.stands held
+        ap (λ s. is_live_in s h) (lay_out_one current c.bytes (live_of b.bytes) l) ∙ still-live h empties x.stands held
 
-  pub removes-entry : (c f : Cut) → IsUnlisted i b c at → IsReleased current c f h → RemovesEntry a f i at
-  removes-entry c f u r d o k there = entry-gone a b h empties d o k (entry-found a i at h leads d o k.denotes there) c f i at there u r
-
--- and of one without a key
-module _ (a b : Cut) (h : ℕ) (empties : Empties a b h) where
-  pub own-still : HoldsObject a.bytes h → is_live_in (live_of b.bytes) h ≡ true
-  own-still x = still-live a b h empties x.directory x.object x.stands x.is
-
-  pub removes-anonymous : (c : Cut) → IsReleased current b c h → RemovesAnonymous a c h
-  removes-anonymous c r d o k e class = anonymous-gone a b h empties d o k e c class r
+  pub removes-entry : {c f : Cut} → IsUnlisted i b c at → IsReleased current c f h → RemovesEntry a f i at
+  removes-entry u r d o k there = entry-gone h empties k (entry-found i at leads k.denotes there) there u r
 
 -- ---- destroying by a key with an entry
 
@@ -261,93 +192,105 @@ module _ (a b : Cut) (h : ℕ) (empties : Empties a b h) where
 abbrev pub Ends : Cut → Index → Key → Lookup → Type 0
 Ends c i e r = (t : Table) (hs : List ℕ) → IsIndexOf c (place_of i) t hs → IsPlace (bytes_of c.bytes) e hs r
 
-found-for : (c : Cut) (i : Index) (e : Key) (key : names.Key) (at : ℕ) (d : Directory) → Denotes current c.bytes d → Seeks i e key → Ends c i e (Found at) → IsEntryFor i d key at
-found-for c i e key at d k q p = lookup-found i c d e key k q at (p (table_of i d) (entries_of i d) (denotes-index i c d k))
+found-for : (c : Cut) {i : Index} (e : Key) {key : names.Key} {at : ℕ} {d : Directory} → Denotes current c.bytes d
+    → Seeks i e key → Ends c i e (Found at) → IsEntryFor i d key at
+found-for c {i} e {key} {at} {d} k q p =
+    lookup-found i c e key k q at (p (table_of i d) (entries_of i d) (denotes-index i c k))
 
 -- the entry that was found is an object's
-pub found-entry : (c : Cut) (b : IsSegment c.bytes) (i : Index) (e : Key) (key : names.Key) (at : ℕ) → Seeks i e key → Ends c i e (Found at) → HoldsEntry c.bytes i at
+pub found-entry : (c : Cut) (b : IsSegment c.bytes) (i : Index) (e : Key) (key : names.Key) (at : ℕ) → Seeks i e key
+    → Ends c i e (Found at) → HoldsEntry c.bytes i at
 found-entry c b i e key at q p =
-    let there : IsEntryFor i b.0 key at = found-for c i e key at b.0 b.1.denotes q p in record { directory = b.0; stands = b.1; object = there.object; is = there.stands }
+    let there = found-for c e b.1.denotes q p in
+    record { directory = b.0; stands = b.1; object = there.object; is = there.stands }
 
 -- the look-up found its entry
-pub destroys-entered : (s t : State) (view : s ≡ t) (b : IsSegment s.cut.bytes) (c : Cut) (i : Index) (e : Key) (key : names.Key) (at : ℕ) → is_read_only t.mode ≡ false → Seeks i e key
-    → Ends s.cut i e (Found at) → RemovesEntry s.cut c i at → Stepped s t c (asked.Destroy key) (Truth true)
-destroys-entered s t view b c i e key at may q p r =
+pub destroys-entered : {s t : State} (view : s ≡ t) (b : IsSegment s.cut.bytes) {c : Cut} (i : Index) (e : Key)
+    (key : names.Key) (at : ℕ) → is_read_only t.mode ≡ false → Seeks i e key → Ends s.cut i e (Found at)
+    → RemovesEntry s.cut c i at → Stepped s t c (asked.Destroy key) (Truth true)
+destroys-entered {s} {t} view b {c} i e key at may q p r =
     stepped s t view b c (asked.Destroy key) (Truth true) may (λ writing.
-    by_step s (record s { cut = c }) (asked.Destroy key) (Truth true)
-    (record { mode = refl; place = let x = found-entry s.cut b i e key at q p in (r x.directory x.object x.stands x.is).place }) (λ d k.
-    let there : IsEntryFor i d key at = found-for s.cut i e key at d k.denotes q p in
-    lands (record s { cut = c }) (step s.mode d (asked.Destroy key)) (Truth true) (without_object d there.object) (record {
-      is = step-reply s.mode d (asked.Destroy key) (Truth true) (without_object d there.object) (open-writing s.mode (asked.Destroy key) writing)
-          (ap (λ (r : Option Object). elim r as (λ _. Plan) [ None ↦ Reply (Truth false) d | Some o ↦ Reply (Truth true) (without_object d o) ]) there.is);
+    by_step (asked.Destroy key) (record {
+      mode = refl;
+      place = let x = found-entry s.cut b i e key at q p in
+          (r x.directory x.object x.stands x.is).place;
+    }) (λ d k.
+    let there = found-for s.cut e k.denotes q p in
+    lands (without_object d there.object) (record {
+      is = step-reply s.mode d (asked.Destroy key) (Truth true) (without_object d there.object)
+          (open-writing s.mode (asked.Destroy key) writing) (ap (λ (r : Option Object).
+          elim r as (λ _. Plan) [ None ↦ Reply (Truth false) d | Some o ↦ Reply (Truth true) (without_object d o) ])
+          there.is);
       denotes = (r d there.object k there.stands).denotes;
     })))
 
 -- or there is none
-pub destroys-none : (s t : State) (view : s ≡ t) (i : Index) (e : Key) (key : names.Key) (at : ℕ) → is_read_only t.mode ≡ false → Seeks i e key → Ends s.cut i e (Absent at)
+pub destroys-none : {s t : State} (view : s ≡ t) (i : Index) (e : Key) (key : names.Key) (at : ℕ)
+    → is_read_only t.mode ≡ false → Seeks i e key → Ends s.cut i e (Absent at)
     → IsStep t t (asked.Destroy key) (Truth false)
-destroys-none s t view i e key at may q p =
+destroys-none {s} view i e key at may q p =
     let writing : is_read_only s.mode ≡ false = subst (λ (u : State). is_read_only u.mode ≡ false) (sym view) may in
     subst (λ (u : State). IsStep u u (asked.Destroy key) (Truth false)) view
     (by_no_change s (asked.Destroy key) (Truth false) (λ d k.
     step-reply s.mode d (asked.Destroy key) (Truth false) d (open-writing s.mode (asked.Destroy key) writing)
-    (ap (λ (r : Option Object). elim r as (λ _. Plan) [ None ↦ Reply (Truth false) d | Some o ↦ Reply (Truth true) (without_object d o) ])
-    (lookup-absent i s.cut d e key k.denotes q at (p (table_of i d) (entries_of i d) (denotes-index i s.cut d k.denotes))).none)))
+    (ap (λ (r : Option Object).
+    elim r as (λ _. Plan) [ None ↦ Reply (Truth false) d | Some o ↦ Reply (Truth true) (without_object d o) ])
+    (lookup-absent i s.cut e key k.denotes q
+    (p (table_of i d) (entries_of i d) (denotes-index i s.cut k.denotes))).none)))
 
 -- ---- destroying by a handle
 
 -- the object of the handle is gone from each directory
-destroys-object : (s : State) (c : Cut) (h : ℕ) → is_read_only s.mode ≡ false → IsSegment s.cut.bytes
-    → ((d : Directory) → StandsFor s.cut.bytes d → (o : Object) × ((object_at d (names.ByHandle h) ≡ Some o) × Becomes s.cut c (without_object d o)))
+destroys-object : {s : State} (c : Cut) (h : ℕ) → is_read_only s.mode ≡ false → IsSegment s.cut.bytes
+    → ((d : Directory) → StandsFor s.cut.bytes d
+    → (o : Object) × ((object_at d (names.ByHandle h) ≡ Some o) × Becomes s.cut c (without_object d o)))
     → IsStep s (record s { cut = c }) (asked.DestroyPtr h) (Truth true)
-destroys-object s c h writing b each =
-    by_step s (record s { cut = c }) (asked.DestroyPtr h) (Truth true) (record { mode = refl; place = (each b.0 b.1).1.1.place }) (λ d k.
+destroys-object {s} c h writing b each =
+    by_step (asked.DestroyPtr h) (record { mode = refl; place = (each b.0 b.1).1.1.place }) (λ d k.
     let x = each d k in
-    lands (record s { cut = c }) (step s.mode d (asked.DestroyPtr h)) (Truth true) (without_object d x.0) (record {
-      is = step-reply s.mode d (asked.DestroyPtr h) (Truth true) (without_object d x.0) (open-writing s.mode (asked.DestroyPtr h) writing)
+    lands (without_object d x.0) (record {
+      is = step-reply s.mode d (asked.DestroyPtr h) (Truth true) (without_object d x.0)
+          (open-writing s.mode (asked.DestroyPtr h) writing)
           (with-found d (names.ByHandle h) x.0 (λ o. Reply (Truth true) (without_object d o)) x.1.0);
       denotes = x.1.1.denotes;
     }))
 
--- the entry of the object is found
-seen-entry : (s t : State) (view : s ≡ t) (h : ℕ) (i : Index) (at : ℕ) → IsEntryAt t h i at → IsEntryAt s h i at
-seen-entry s t view h i at = subst (λ (u : State). IsEntryAt u h i at) (sym view)
+module _ {s t : State} (view : s ≡ t) {h : ℕ} {i : Index} {at : ℕ} where
+  -- the entry of the object is found
+  seen-entry : IsEntryAt t h i at → IsEntryAt s h i at
+  seen-entry = subst (λ (u : State). IsEntryAt u h i at) (sym view)
 
-pub own-entry : (s t : State) (view : s ≡ t) (b : IsSegment s.cut.bytes) (h : ℕ) (i : Index) (at : ℕ) → IsEntryAt t h i at → HoldsEntry s.cut.bytes i at
-own-entry s t view b h i at listed =
-    let l : IsEntryAt s h i at = seen-entry s t view h i at listed in
-    let x : HasEntry i l.entry b.0 h = l.leads b.0 b.1 in found-entry s.cut b i l.entry x.key at x.seeks l.found
+  pub own-entry : (b : IsSegment s.cut.bytes) → IsEntryAt t h i at → HoldsEntry s.cut.bytes i at
+  own-entry b listed =
+      let l = seen-entry listed in
+      let x = l.leads b.0 b.1 in found-entry s.cut b i l.entry x.key at x.seeks l.found
 
--- it went with its entry
-pub destroys-ptr : (s t : State) (view : s ≡ t) (b : IsSegment s.cut.bytes) (c : Cut) (h : ℕ) (i : Index) (at : ℕ) → is_read_only t.mode ≡ false → IsEntryAt t h i at
-    → RemovesEntry s.cut c i at → Stepped s t c (asked.DestroyPtr h) (Truth true)
-destroys-ptr s t view b c h i at may listed r =
-    let l : IsEntryAt s h i at = seen-entry s t view h i at listed in
-    stepped s t view b c (asked.DestroyPtr h) (Truth true) may (λ writing.
-    destroys-object s c h writing b (λ d k.
-    let x : HasEntry i l.entry d h = l.leads d k in
-    let there : IsEntryFor i d x.key at = found-for s.cut i l.entry x.key at d k.denotes x.seeks l.found in
-    let same : there.object ≡ x.object = same_Some there.object x.object (sym there.is ∙ x.found) in
-    (x.object, (x.is, subst (λ o. Becomes s.cut c (without_object d o)) same (r d there.object k there.stands)))))
+  -- it went with its entry
+  pub destroys-ptr : (b : IsSegment s.cut.bytes) {c : Cut} → is_read_only t.mode ≡ false → IsEntryAt t h i at
+      → RemovesEntry s.cut c i at → Stepped s t c (asked.DestroyPtr h) (Truth true)
+  destroys-ptr b {c} may listed r =
+      let l = seen-entry listed in
+      stepped s t view b c (asked.DestroyPtr h) (Truth true) may (λ writing.
+      destroys-object c h writing b (λ d k.
+      let x = l.leads d k in
+      let there = found-for s.cut l.entry k.denotes x.seeks l.found in
+      let same = same_Some there.object x.object (sym there.is ∙ x.found) in
+      (x.object, (x.is, subst (λ o. Becomes s.cut c (without_object d o)) same (r d there.object k there.stands)))))
 
 -- or it had no key
-pub destroys-anonymous : (s t : State) (view : s ≡ t) (b : IsSegment s.cut.bytes) (c : Cut) (h : ℕ) → is_read_only t.mode ≡ false → IsAnonymousAt t h → RemovesAnonymous s.cut c h
+pub destroys-anonymous : {s t : State} (view : s ≡ t) (b : IsSegment s.cut.bytes) {c : Cut} (h : ℕ)
+    → is_read_only t.mode ≡ false → IsAnonymousAt t h → RemovesAnonymous s.cut c h
     → Stepped s t c (asked.DestroyPtr h) (Truth true)
-destroys-anonymous s t view b c h may listed r =
+destroys-anonymous {s} {t} view b {c} h may listed r =
     let each : IsAnonymousAt s h = subst (λ (u : State). IsAnonymousAt u h) (sym view) listed in
     stepped s t view b c (asked.DestroyPtr h) (Truth true) may (λ writing.
-    destroys-object s c h writing b (λ d k. let x = each d k in (x.0, (x.1, r d x.0 k x.1 x.2))))
-
--- an object has the handle
-pub own-object : (s t : State) (view : s ≡ t) (b : IsSegment s.cut.bytes) (h : ℕ) → Answers t (λ d. is_object_at d h) true → HoldsObject s.cut.bytes h
-own-object s t view b h a =
-    let x : IsHere s.cut.bytes b.0 (names.ByHandle h) h = object-here s h (seen-there s t view h a) b.0 b.1 in
-    record { directory = b.0; stands = b.1; object = x.object; is = x.is }
+    destroys-object c h writing b (λ d k. let x = each d k in (x.0, (x.1, r d x.0 k x.1 x.2))))
 
 -- no object has the handle
-pub destroys-no_ptr : (s : State) (h : ℕ) → is_read_only s.mode ≡ false → ((d : Directory) → StandsFor s.cut.bytes d → object_at d (names.ByHandle h) ≡ None)
+pub destroys-no_ptr : {s : State} (h : ℕ) → is_read_only s.mode ≡ false
+    → ((d : Directory) → StandsFor s.cut.bytes d → object_at d (names.ByHandle h) ≡ None)
     → IsStep s s (asked.DestroyPtr h) (Refused NotFound)
-destroys-no_ptr s h writing each =
+destroys-no_ptr {s} h writing each =
     by_no_change s (asked.DestroyPtr h) (Refused NotFound) (λ d k.
     step-refuse s.mode d (asked.DestroyPtr h) NotFound (open-writing s.mode (asked.DestroyPtr h) writing)
     (with-not_found d (names.ByHandle h) (λ o. Reply (Truth true) (without_object d o)) (each d k)))

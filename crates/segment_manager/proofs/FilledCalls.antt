@@ -5,30 +5,16 @@ use Rattle.segment_manager.proofs.Common.{NoSpace, Command, Content, Index, NewE
 use Rattle.segment_manager.proofs.Common.{is_untouched, Begins, IsAbsentAt, IsNotBegun, Object, Directory, count_of}
 use Rattle.segment_manager.proofs.Common.{kind_of, object_at, value_len, Constructs, FindsOrConstructs, IsBegunFor}
 use Rattle.segment_manager.proofs.Common.{MakesValue, with_count, handle_at, pair_answer, IsNewKeyOf, bare, StandsAt}
-use Rattle.segment_manager.proofs.Common.{pair_of_kind, Answers, IsSegment, IsStep, KeepsRefused, State, answer_of}
-use Rattle.segment_manager.proofs.Common.{handle_answer, is_read_only, Reply, effect, found, with_new_object, ◌+◌, ◌*◌}
-use Rattle.segment_manager.proofs.Common.{◌≤◌, ℤ, Bool, [], length, map, replicate, arith, ◌<◌, if◌then◌else◌}
-use Rattle.segment_manager.proofs.Common.{mul-le-mul_left, IsTrue, pos, take, nat_lt, list_all, lt-ltb, le-ltb}
-use Rattle.segment_manager.proofs.Common.{length-map, length-replicate, take_all, SamePlace, current, ObjectRole}
-use Rattle.segment_manager.proofs.Common.{Extent, handle, place, resized, IsAllocated, IsChanged, Scalar, ScalarKind}
-use Rattle.segment_manager.proofs.Common.{Anonymous, OutOfRange, ReadOnly, is_value, size_of, IsBegun}
-use Rattle.segment_manager.proofs.Common.{IsLoose, IsTakenKey, LeadsThere, Denotes, Numbers}
-use Rattle.segment_manager.proofs.Common.{is_good_value, live, object_len, padded, with_object, IsMadeValue}
-use Rattle.segment_manager.proofs.Common.{class_of_index, entries_of, table_of, TakesItems, head_len, IsRestored}
-use Rattle.segment_manager.proofs.Common.{room_for, StandsFor, step, Plan, perform, has_room, live_of}
+use Rattle.segment_manager.proofs.Common.{pair_of_kind, Answers, IsSegment, IsStep, State, answer_of, handle_answer}
+use Rattle.segment_manager.proofs.Common.{is_read_only, Reply, effect, found, with_new_object, handle, place, step}
 use Rattle.segment_manager.proofs.FoundOrMade.{constructs-exists, finds, found-there, made_for, made_handle, makes}
-use Rattle.segment_manager.proofs.NewValues.{IsMadeNever, IsMadeNow, away-in, key-taken, value-built, value-loose}
-use Rattle.segment_manager.proofs.NewValues.{value-not_begun, value-not_built, value-ready, no_key-none}
-use Rattle.segment_manager.proofs.Steps.{step-segment, perform-new, refuses-read_only, by_no_change, by_step, lands}
-use Rattle.segment_manager.proofs.Steps.{open-writing, step-plan, step-refuse}
-use Rattle.segment_manager.proofs.Constructed.{IsMet, IsNewObject, numbers-met, restored-denotes, IsNoObject}
+use Rattle.segment_manager.proofs.NewValues.{IsMadeNever, IsMadeNow, away-in, value-built, value-loose, value-not_built}
+use Rattle.segment_manager.proofs.NewValues.{value-ready}
+use Rattle.segment_manager.proofs.NotBegun.{key-taken, value-not_begun}
+use Rattle.segment_manager.proofs.Steps.{step-segment}
 use Rattle.segment_manager.proofs.{FoundOrMade.makes-nothing, Bridge.lookup-absent, NewKeys.key-seeks}
-use Rattle.segment_manager.proofs.{NewKeys.numbers-value, ArrayItems.by-items, ArrayItems.from-items}
-use Rattle.segment_manager.proofs.{Calling.denotes-live, HeldIndexes.denotes-index, KeyCalls.segment-index}
-use Rattle.segment_manager.proofs.{Loose.begun-room, Loose.loose-ready, MadeValues.headed-change}
-use Rattle.segment_manager.proofs.{NewNumbers.numbers-made}
-use Rattle.segment_manager.specs.Begun.{Ends, IsEnding, Fills}
-use Rattle.segment_manager.specs.Filled.{HasBegun, Builds, IsShapeOf, numbers_shape}
+use Rattle.segment_manager.specs.Begun.{Ends, IsEnding}
+use Rattle.segment_manager.specs.Filled.{HasBegun, Builds, IsShapeOf}
 use Rattle.segment_manager.specs.Found.{pair_found}
 use Rattle.segment_manager.specs.Answers.{Found}
 use Rattle.seg_index.specs.declared.keys.Key.{Key}
@@ -40,104 +26,124 @@ use Rattle.seg_types.specs.Commands as asked
 -- ---- begun
 
 -- what the shape says of an object that was begun is what the content says
-pub begun-for : (old new : Cut) (key : names.Key) (content : Content) (s : Shape) (r : Result Begun Refusal) → IsShapeOf content s → Begins old new key s.kind s.count s.len r
+pub begun-for : (old new : Cut) (key : names.Key) {content : Content} {s : Shape} (r : Result Begun Refusal)
+    → IsShapeOf content s → Begins old new key s.kind s.count s.len r
     → Begins old new key (kind_of (bare content)) (count_of (bare content)) (value_len (bare content)) r
-begun-for old new key content s r is g = subst (λ (k : Kind). Begins old new key k (count_of (bare content)) (value_len (bare content)) r) is.kind
-    (subst (λ n. Begins old new key s.kind n (value_len (bare content)) r) is.count (subst (λ n. Begins old new key s.kind s.count n r) is.len g))
+begun-for old new key {content} {s} r is g =
+    subst (λ (k : Kind). Begins old new key k (count_of (bare content)) (value_len (bare content)) r) is.kind
+    (subst (λ n. Begins old new key s.kind n (value_len (bare content)) r) is.count
+    (subst (λ n. Begins old new key s.kind s.count n r) is.len g))
 
-pub has-begun : (old new : Cut) (key : names.Key) (content : Content) (s : Shape) (r : Begun) → IsSegment old.bytes → IsShapeOf content s → Begins old new key s.kind s.count s.len (Ok r)
-    → HasBegun new content r.handle r.at r.entry
-has-begun old new key content s r b is g = (old, (b, (key, begun-for old new key content s (Ok r) is g)))
+pub has-begun : (old new : Cut) (key : names.Key) {content : Content} {s : Shape} (r : Begun) → IsSegment old.bytes
+    → IsShapeOf content s → Begins old new key s.kind s.count s.len (Ok r) → HasBegun new content r.handle r.at r.entry
+has-begun old new key r b is g = (old, (b, (key, begun-for old new key (Ok r) is g)))
 
 -- ---- filled
 
 module _ (content : Content) where
   -- what the end wants of a value that was made, or was refused its blocks
-  pub ending : (a m : Cut) (b : IsSegment a.bytes) (key : names.Key) (h at : ℕ) (entry : Option NewEntry) (w : Cut) (r : Result (Unit {0}) Refusal) → IsBegunFor a m key content h at entry
+  pub ending : (a m : Cut) (b : IsSegment a.bytes) (key : names.Key) (h at : ℕ) (entry : Option NewEntry) (w : Cut)
+      (r : Result (Unit {0}) Refusal) → IsBegunFor a m key content h at entry
       → MakesValue content m w (record { handle = h; at = at }) r → IsEnding w h entry r
-  ending a m b key h at entry w (Ok u) g r = value-ready content a m b key h at entry w g r
-  ending a m b key h at entry w (Err why) g r = (a, value-loose content a m b key h at entry w why g r)
+  ending a m b key h at entry w (Ok u) g r = value-ready content a b key h at entry g r
+  ending a m b key h at entry w (Err why) g r = (a, value-loose content a b key h at entry w why g r)
 
   -- the value is made, and then the object gets its entry; or all is given back
-  pub builds : (m w c : Cut) (h at : ℕ) (entry : Option NewEntry) (filled : Result (Unit {0}) Refusal) (result : Result ℕ Refusal)
-      → MakesValue content m w (record { handle = h; at = at }) filled → Ends w c h entry filled result → Builds m c h at entry content result
-  builds m w c h at entry (Ok u) result made e = subst (Builds m c h at entry content) (sym e.0) (record { made = w; value = made; is = refl; entered = e.1 })
-  builds m w c h at entry (Err why) result made e = subst (Builds m c h at entry content) (sym e.0) (record { left = w; none = made; back = e.1 })
+  pub builds : (m w c : Cut) (h at : ℕ) (entry : Option NewEntry) (filled : Result (Unit {0}) Refusal)
+      (result : Result ℕ Refusal) → MakesValue content m w (record { handle = h; at = at }) filled
+      → Ends w c h entry filled result → Builds m c h at entry content result
+  builds m w c h at entry (Ok u) result made e =
+      subst (Builds m c h at entry content) (sym e.0) (record { made = w; value = made; is = refl; entered = e.1 })
+  builds m w c h at entry (Err why) result made e =
+      subst (Builds m c h at entry content) (sym e.0) (record { left = w; none = made; back = e.1 })
 
 -- ---- the steps
 
-module _ (a : Cut) (b : IsSegment a.bytes) (key : names.Key) (content : Content) where
-  no-space : {A : Type 0} (f : A → Answer) (command : Command) (say : Object → Answer) → ((d : Directory) → object_at d key ≡ None → effect d command ≡ with_new_object d key content (λ o e. Reply (say o) e))
-      → (c : Cut) (why : Refusal) → why ≡ NoSpace → IsMadeNever a c key content → Constructs a c command (answer_of f) (Err why)
-  no-space f command say asks c why e d = record {
+module _ {a : Cut} (b : IsSegment a.bytes) (key : names.Key) (content : Content) where
+  no-space : {A : Type 0} (f : A → Answer) {command : Command} (say : Object → Answer)
+      → ((d : Directory) → object_at d key ≡ None
+      → effect d command ≡ with_new_object d key content (λ o e. Reply (say o) e)) → (c : Cut) (why : Refusal)
+      → why ≡ NoSpace → IsMadeNever a c key content → Constructs a c command (answer_of f) (Err why)
+  no-space f {command} say asks c why e d = record {
     step = λ mode writing.
-        subst (λ (r : Refusal). IsStep (record { cut = a; mode = mode }) (record { cut = c; mode = mode }) command (Refused r)) (sym e)
-        (makes-nothing (record { cut = a; mode = mode }) c key content command say writing d.place asks d.each);
+        subst (λ (r : Refusal). IsStep (record { cut = a; mode = mode }) (record { cut = c; mode = mode }) command
+        (Refused r)) (sym e) (makes-nothing command say writing d.place asks d.each);
     refused = λ t. absurd (false≢true (sym (ap (λ (r : Refusal). is_untouched (Refused r)) e) ∙ t));
   }
 
-  none-constructed : (c : Cut) (why : Refusal) → why ≡ NoSpace → IsMadeNever a c key content → Constructs a c (asked.Construct key content) handle_answer (Err why)
-  none-constructed = no-space Made (asked.Construct key content) made_handle (λ d e. ap (made_for d key content) e)
+  none-constructed : (c : Cut) (why : Refusal) → why ≡ NoSpace → IsMadeNever a c key content
+      → Constructs a c (asked.Construct key content) handle_answer (Err why)
+  none-constructed = no-space Made made_handle (λ d e. ap (made_for d key content) e)
 
-  none-found : (c : Cut) (why : Refusal) → why ≡ NoSpace → IsMadeNever a c key content → Constructs a c (asked.FindOrConstruct key content) pair_answer (Err why)
-  none-found = no-space pair_found (asked.FindOrConstruct key content) found (λ d e. ap (finds d key content) e)
+  none-found : (c : Cut) (why : Refusal) → why ≡ NoSpace → IsMadeNever a c key content
+      → Constructs a c (asked.FindOrConstruct key content) pair_answer (Err why)
+  none-found = no-space pair_found found (λ d e. ap (finds d key content) e)
 
-  made-now : (entry : Option NewEntry) (m c : Cut) (h at n : ℕ) → IsBegunFor a m key content h at entry → Builds m c h at entry content (let r : Result ℕ Refusal = Ok n in r) → IsMadeNow a c key content n
-  made-now entry m c h at n g r = subst (λ (n : ℕ). IsMadeNow a c key content n) (sym r.is) (value-built content a m b key h at entry r.made c g r.value r.entered)
+  module _ (entry : Option NewEntry) (m : Cut) {c : Cut} (h at : ℕ) where
+    made-now : {n : ℕ} → IsBegunFor a m key content h at entry → Builds m c h at entry content (let r = Ok n in r)
+        → IsMadeNow a c key content n
+    made-now {n} g r =
+        subst (λ (n : ℕ). IsMadeNow a c key content n) (sym r.is) (value-built content b h at entry g r.value r.entered)
 
-  made-never : (entry : Option NewEntry) (m c : Cut) (h at : ℕ) (why : Refusal) → IsBegunFor a m key content h at entry → Builds m c h at entry content (let r : Result ℕ Refusal = Err why in r)
-      → IsMadeNever a c key content
-  made-never entry m c h at why g r = value-not_built content a m b key h at entry r.left c why g r.none r.back
+    made-never : (why : Refusal) → IsBegunFor a m key content h at entry
+        → Builds m c h at entry content (let r = Err why in r) → IsMadeNever a c key content
+    made-never why g r = value-not_built content b h at entry g r.none r.back
 
-  -- what was begun is built, or is refused its blocks
-  pub construct-built : (entry : Option NewEntry) (m c : Cut) (h at : ℕ) (r : Result ℕ Refusal) → IsBegunFor a m key content h at entry → Builds m c h at entry content r
-      → Constructs a c (asked.Construct key content) handle_answer r
-  construct-built entry m c h at (Ok n) g r =
-      let d : IsMadeNow a c key content n = made-now entry m c h at n g r in
-      record {
-        step = λ mode writing.
-            makes (record { cut = a; mode = mode }) c key content n (asked.Construct key content) made_handle (Made n) writing d.place
-            (λ d e. ap (made_for d key content) e) (λ d n. ap Made (sym n.at)) d.each;
-        refused = tt;
-      }
-  construct-built entry m c h at (Err why) g r = none-constructed c why r.none.refusal (made-never entry m c h at why g r)
+    -- what was begun is built, or is refused its blocks
+    pub construct-built : (r : Result ℕ Refusal) → IsBegunFor a m key content h at entry
+        → Builds m c h at entry content r → Constructs a c (asked.Construct key content) handle_answer r
+    construct-built (Ok n) g r =
+        let d = made-now g r in
+        record {
+          step = λ mode writing.
+              makes (asked.Construct key content) made_handle writing d.place
+              (λ d e. ap (made_for d key content) e) (λ d n. ap Made (sym n.at)) d.each;
+          refused = tt;
+        }
+    construct-built (Err why) g r = none-constructed c why r.none.refusal (made-never why g r)
 
-  pub found-built : (entry : Option NewEntry) (m c : Cut) (h at : ℕ) (r : Result ℕ Refusal) → IsBegunFor a m key content h at entry → Builds m c h at entry content r
-      → Constructs a c (asked.FindOrConstruct key content) pair_answer (with_count (count_of (bare content)) r)
-  found-built entry m c h at (Ok n) g r =
-      let d : IsMadeNow a c key content n = made-now entry m c h at n g r in
-      record {
-        step = λ mode writing.
-            makes (record { cut = a; mode = mode }) c key content n (asked.FindOrConstruct key content) found (Found n (count_of (bare content))) writing d.place
-            (λ d e. ap (finds d key content) e) (λ d n. λ j. Found (sym n.at j) (n.count j)) d.each;
-        refused = tt;
-      }
-  found-built entry m c h at (Err why) g r = none-found c why r.none.refusal (made-never entry m c h at why g r)
+    pub found-built : (r : Result ℕ Refusal) → IsBegunFor a m key content h at entry → Builds m c h at entry content r
+        → Constructs a c (asked.FindOrConstruct key content) pair_answer (with_count (count_of (bare content)) r)
+    found-built (Ok n) g r =
+        let d = made-now g r in
+        record {
+          step = λ mode writing.
+              makes (asked.FindOrConstruct key content) found writing d.place
+              (λ d e. ap (finds d key content) e) (λ d n. λ j. Found (sym n.at j) (n.count j)) d.each;
+          refused = tt;
+        }
+    found-built (Err why) g r = none-found c why r.none.refusal (made-never why g r)
 
   -- it is not begun
-  pub construct-not_begun : (why : Refusal) (c : Cut) → IsNotBegun a c key (kind_of (bare content)) (value_len (bare content)) why → Constructs a c (asked.Construct key content) handle_answer (Err why)
+  pub construct-not_begun : (why : Refusal) (c : Cut)
+      → IsNotBegun a c key (kind_of (bare content)) (value_len (bare content)) why
+      → Constructs a c (asked.Construct key content) handle_answer (Err why)
   construct-not_begun Exists c t = record {
     step = λ mode writing.
-        subst (λ (u : Cut). IsStep (record { cut = a; mode = mode }) (record { cut = u; mode = mode }) (asked.Construct key content) (Refused Exists)) (sym t.same)
-        (constructs-exists (record { cut = a; mode = mode }) key content writing (key-taken a key content c t));
+        subst (λ (u : Cut). IsStep (record { cut = a; mode = mode }) (record { cut = u; mode = mode })
+        (asked.Construct key content) (Refused Exists)) (sym t.same)
+        (constructs-exists key content writing (key-taken key content t));
     refused = λ e. t.same;
   }
-  construct-not_begun NoSpace c t = none-constructed c NoSpace refl (value-not_begun a key content c t)
+  construct-not_begun NoSpace c t = none-constructed c NoSpace refl (value-not_begun key content t)
   construct-not_begun why c t = absurd t
 
   -- where no object has the key
-  pub found-not_begun : (why : Refusal) (c : Cut) → object_at b.0 key ≡ None → IsNotBegun a c key (kind_of (bare content)) (value_len (bare content)) why
+  pub found-not_begun : (why : Refusal) {c : Cut} → object_at b.0 key ≡ None
+      → IsNotBegun a c key (kind_of (bare content)) (value_len (bare content)) why
       → Constructs a c (asked.FindOrConstruct key content) pair_answer (Err why)
-  found-not_begun Exists c none t = absurd (let o = key-taken a key content c t b.0 b.1 in none-some o.0 (sym none ∙ o.1))
-  found-not_begun NoSpace c none t = none-found c NoSpace refl (value-not_begun a key content c t)
-  found-not_begun why c none t = absurd t
+  found-not_begun Exists none t = absurd (let o = key-taken key content t b.0 b.1 in none-some o.0 (sym none ∙ o.1))
+  found-not_begun NoSpace {c} none t = none-found c NoSpace refl (value-not_begun key content t)
+  found-not_begun why none t = absurd t
 
   -- an object has the key, and stays as it is
-  pub found-all : (h : ℕ) (r : Result (ℕ × ℕ) Refusal) → ((mode : Mode) → Answers (record { cut = a; mode = mode }) (λ d. handle_at d key) (Some h)) → ((o : Object) → StandsAt a.bytes h o → r ≡ pair_of_kind o (kind_of (bare content)))
+  pub found-all : {h : ℕ} {r : Result (ℕ × ℕ) Refusal}
+      → ((mode : Mode) → Answers (record { cut = a; mode = mode }) (λ d. handle_at d key) (Some h))
+      → ((o : Object) → StandsAt a.bytes h o → r ≡ pair_of_kind o (kind_of (bare content)))
       → FindsOrConstructs a a key content r
-  found-all h r there each = record {
+  found-all {r} there each = record {
     constructs = record {
-      step = λ mode writing. found-there (record { cut = a; mode = mode }) key content h r writing (there mode) each;
+      step = λ mode writing. found-there key content writing (there mode) each;
       refused = unchanged r;
     };
     found = λ d st has. refl;
@@ -150,263 +156,32 @@ module _ (a : Cut) (b : IsSegment a.bytes) (key : names.Key) (content : Content)
 -- ---- under an entry
 
 -- a look-up finds no object
-pub no-object : (a : Cut) (b : IsSegment a.bytes) (i : Index) (e : Key) (at : ℕ) (key : names.Key) (name : List ℕ) (kind : Kind) → IsNewKeyOf i e key name kind → IsAbsentAt a i e at → object_at b.0 key ≡ None
-no-object a b i e at key name kind new away = (lookup-absent i a b.0 e key b.1.denotes (key-seeks i e key name kind new) at (away-in i a b.0 e at b.1.denotes away)).none
+pub no-object : {a : Cut} (b : IsSegment a.bytes) (i : Index) (e : Key) (at : ℕ) (key : names.Key) (name : List ℕ)
+    (kind : Kind) → IsNewKeyOf i e key name kind → IsAbsentAt a i e at → object_at b.0 key ≡ None
+no-object {a} b i e at key name kind new away =
+    (lookup-absent i a e key b.1.denotes (key-seeks i e key name kind new) (away-in i e at b.1.denotes away)).none
 
 -- and so nothing is said of one
-pub found-absent : (a c : Cut) (i : Index) (e : Key) (at : ℕ) (key : names.Key) (name : List ℕ) (kind : Kind) (content : Content) (r : Result (ℕ × ℕ) Refusal) → IsNewKeyOf i e key name kind → IsAbsentAt a i e at
+pub found-absent : {a c : Cut} (i : Index) (e : Key) (at : ℕ) {key : names.Key} (name : List ℕ) (kind : Kind)
+    {content : Content} {r : Result (ℕ × ℕ) Refusal} → IsNewKeyOf i e key name kind → IsAbsentAt a i e at
     → Constructs a c (asked.FindOrConstruct key content) pair_answer r → FindsOrConstructs a c key content r
-found-absent a c i e at key name kind content r new away done = record {
+found-absent {a} i e at {key} name kind new away done = record {
   constructs = done;
-  found = λ d st has. absurd (none-some has.0 (sym (lookup-absent i a d e key st.denotes (key-seeks i e key name kind new) at (away-in i a d e at st.denotes away)).none ∙ has.1));
+  found = λ d st has. absurd (none-some has.0
+      (sym (lookup-absent i a e key st.denotes (key-seeks i e key name kind new) (away-in i e at st.denotes away)).none
+      ∙ has.1));
 }
 
 -- ---- the segment afterwards, as its view before the call is named
 
-module _ {A : Type 0} (s t : State) (view : s ≡ t) (c : Cut) (command : Command) (answer : Result A Refusal → Answer) (r : Result A Refusal) (done : Constructs s.cut c command answer r) where
+module _ {A : Type 0} {s t : State} (view : s ≡ t) {c : Cut} {command : Command} {answer : Result A Refusal → Answer}
+    {r : Result A Refusal} (done : Constructs s.cut c command answer r) where
   pub made-step : is_read_only t.mode ≡ false → IsStep t (record s { cut = c }) command (answer r)
-  made-step writing = subst (λ (u : State). IsStep u (record s { cut = c }) command (answer r)) view (done.step s.mode (ap (λ (u : State). is_read_only u.mode) view ∙ writing))
-
-  pub made-refused : KeepsRefused t (record s { cut = c }) r
-  made-refused = subst (λ (u : State). KeepsRefused u (record s { cut = c }) r) view (kept r done.refused)
-    where
-      kept : (r : Result A Refusal) → IfErr r (λ why. is_untouched (Refused why) ≡ true → c ≡ s.cut) → KeepsRefused s (record s { cut = c }) r
-      kept (Ok v) e = tt
-      kept (Err why) e = λ t. let same = e t in λ j. record s { cut = same j }
+  made-step writing =
+      subst (λ (u : State). IsStep u (record s { cut = c }) command (answer r)) view
+      (done.step s.mode (ap (λ (u : State). is_read_only u.mode) view ∙ writing))
 
   pub made-segment : is_read_only t.mode ≡ false → IsSegment s.cut.bytes → IsSegment c.bytes
-  made-segment writing b = step-segment s (record s { cut = c }) command (answer r) (done.step s.mode (ap (λ (u : State). is_read_only u.mode) view ∙ writing)) b
-
--- ---- the steps
-
--- the numbers that the machine asks blocks for: those that are taken, or as many zeros where there are too few
-abbrev pub asked_for : ℕ → List ℤ → List ℤ
-asked_for count zs = if nat_lt (length zs) count then replicate count (pos 0) else take count zs
-
-module _ (old : State) (key : names.Key) (k : ScalarKind) (count : ℕ) (zs : List ℤ) (writing : is_read_only old.mode ≡ false) where
-  abbrev c : Command
-  c = asked.ConstructIt key k count zs
-
-  plan-of : (d : Directory) (few : Bool) → object_at d key ≡ None → nat_lt (length zs) count ≡ few → effect d c ≡ by-items d key k count zs few
-  plan-of d few e f = ap (from-items d key k count zs) e ∙ ap (by-items d key k count zs) f
-
-  -- an object has the key, and no item is taken
-  pub items-exists : ((d : Directory) → StandsFor old.cut.bytes d → (o : Object) × (object_at d key ≡ Some o)) → IsStep old old c (Refused Exists)
-  items-exists each =
-      by_no_change old c (Refused Exists) (λ d st. step-refuse old.mode d c Exists (open-writing old.mode c writing) (ap (from-items d key k count zs) (each d st).1))
-
-  -- there are enough, and the object is made of them
-  pub items-made : (new : Cut) (h : ℕ) → SamePlace old.cut new → count ≤ length zs
-      → ((d : Directory) → StandsFor old.cut.bytes d → (object_at d key ≡ None) × IsNewObject new d key (asked.Numbers k (take count zs)) h)
-      → IsStep old (record old { cut = new }) c (Made h)
-  items-made new h place enough each =
-      makes old new key (asked.Numbers k (take count zs)) h c made_handle (Made h) writing place (λ d e. plan-of d false e (le-ltb (length zs) count enough)) (λ d n. ap Made (sym n.at)) each
-
-  -- there are too few: what was taken is given back
-  pub items-few : (new : Cut) → SamePlace old.cut new → length zs < count
-      → ((d : Directory) → StandsFor old.cut.bytes d → (object_at d key ≡ None) × IsMet d key (asked.Numbers k (replicate count (pos 0))) × Denotes current new.bytes d)
-      → IsStep old (record old { cut = new }) c (Refused OutOfRange)
-  items-few new place few each =
-      by_step old (record old { cut = new }) c (Refused OutOfRange) (record { mode = refl; place = place }) (λ d st.
-      let all = each d st in
-      lands (record old { cut = new }) (step old.mode d c) (Refused OutOfRange) d (record {
-        is = step-plan old.mode d c (by-items d key k count zs true) (open-writing old.mode c writing) (plan-of d true all.0 (lt-ltb (length zs) count few))
-            ∙ all.1.met (λ o e. Reply (Refused OutOfRange) d);
-        denotes = all.2;
-      }))
-
-  none-if : (d : Directory) (few : Bool) → object_at d key ≡ None → nat_lt (length zs) count ≡ few
-      → ((next : Object → Directory → Plan) → perform d (live d) (with_new_object d key (asked.Numbers k (if few then replicate count (pos 0) else take count zs)) next) ≡ (Refused NoSpace, d))
-      → step old.mode d c ≡ (Refused NoSpace, d)
-  none-if d true e f none =
-      step-plan old.mode d c (by-items d key k count zs true) (open-writing old.mode c writing) (plan-of d true e f) ∙ none (λ o e. Reply (Refused OutOfRange) d)
-  none-if d false e f none =
-      step-plan old.mode d c (by-items d key k count zs false) (open-writing old.mode c writing) (plan-of d false e f) ∙ none (λ o e. Reply (Made (handle o.extent)) e)
-
-  -- a request is refused, and no item is taken
-  pub items-none : (new : Cut) → SamePlace old.cut new → ((d : Directory) → StandsFor old.cut.bytes d → (object_at d key ≡ None) × IsNoObject new d key (asked.Numbers k (asked_for count zs)))
-      → IsStep old (record old { cut = new }) c (Refused NoSpace)
-  items-none new place each =
-      by_step old (record old { cut = new }) c (Refused NoSpace) (record { mode = refl; place = place }) (λ d st.
-      let both : (object_at d key ≡ None) × IsNoObject new d key (asked.Numbers k (asked_for count zs)) = each d st in
-      lands (record old { cut = new }) (step old.mode d c) (Refused NoSpace) d
-      (record { is = none-if d (nat_lt (length zs) count) both.0 refl both.1.refused; denotes = both.1.denotes }))
-
--- so many equal numbers need as many bytes as the machine says
-equal-len : (k : ScalarKind) (name : List ℕ) (count : ℕ) (z : ℤ) → room_for name (size_of k * count) ≡ object_len name (Numbers k (replicate count z))
-equal-len k name count z = ap (λ m. head_len + padded (length name) + size_of k * m) (sym (length-replicate count z))
-
--- where no item was taken, zeros are asked for
-asked-long : (count : ℕ) → 1 ≤ count → length (asked_for count []) ≡ count
-asked-long count low = ap (λ (b : Bool). length (if b then replicate count (pos 0) else take count [])) (lt-ltb 0 count low) ∙ length-replicate count (pos 0)
-
--- ---- without a key
-
-abbrev numbers_in : ScalarKind → List ℤ → Extent → Object
-numbers_in k zs x = record { class = Anonymous; name = []; value = Numbers k zs; extent = x }
-
-anonymous-met : (a m : Cut) (d : Directory) (k : ScalarKind) (zs : List ℤ) (n h : ℕ) → Denotes current a.bytes d → n ≡ object_len [] (Numbers k zs) → IsAllocated current a m n ObjectRole h
-    → IsMet d names.NoKey (asked.Numbers k zs)
-anonymous-met a m d k zs n h said len took =
-    let x : Extent = took.extent in
-    let placed : place (live d) (object_len [] (Numbers k zs)) ObjectRole ≡ Some x =
-    sym (λ j. place (denotes-live current a.bytes d said j) (len j) ObjectRole) ∙ took.placed in
-    record {
-      object = numbers_in k zs x;
-      after = with_object d (numbers_in k zs x);
-      left = resized (live d) x;
-      met = λ next. perform-new d (live d) ObjectRole (object_len [] (Numbers k zs)) (λ y. next (numbers_in k zs y) (with_object d (numbers_in k zs y))) x placed;
-    }
-
--- ---- the calls
-
-module _ (S A : Type 0) (gives : S → Option A → S → Type 0) (whole : A → ℤ) (s : State) (b : IsSegment s.cut.bytes) (key : names.Key) (k : ScalarKind) (count : ℕ) (writing : is_read_only s.mode ≡ false)
-    (low : 1 ≤ count) (high : count ≤ 1048576) (before after : S) where
-  many : (xs : List A) → length xs ≡ count → length (map whole xs) ≡ count
-  many xs e = length-map xs whole ∙ e
-
-  whole-list : (xs : List A) → length xs ≡ count → take count (map whole xs) ≡ map whole xs
-  whole-list xs e = let l : length (map whole xs) ≡ count = many xs e in take_all count (map whole xs) (omega arith)
-
-  good-items : (xs : List A) → length xs ≡ count → IsTrue (list_all (is_value k) (map whole xs)) → IsTrue (is_good_value (Numbers k (map whole xs)))
-  good-items xs e all = let l : length (map whole xs) ≡ count = many xs e in numbers-value k (map whole xs) (omega arith) (omega arith) all
-
-  -- the object is made of the items
-  steps-made : (entry : Option NewEntry) (m w c : Cut) (h at : ℕ) → IsBegun s.cut m key (Scalar k) count (size_of k * count) h at entry → (f : Fills gives whole m w k (h + at) count before after (Ok tt)) → LeadsThere w c h entry
-      → IsStep s (record s { cut = c }) (asked.ConstructIt key k count (map whole f.items)) (Made h)
-  steps-made entry m w c h at g f led =
-      let zs : List ℤ = map whole f.items in
-      let long : length zs ≡ count = many f.items f.taken.1 in
-      let content : Content = asked.Numbers k zs in
-      let made : IsMadeValue content m w (record { handle = h; at = at }) =
-      numbers-made k zs m w (record { handle = h; at = at }) (good-items f.items f.taken.1 f.values) (subst (λ n. IsChanged current m w (h + at) (size_of k * n)) (sym (length-map f.items whole)) f.change) f.content in
-      let begun : IsBegunFor s.cut m key content h at entry = subst (λ n. IsBegun s.cut m key (Scalar k) n (size_of k * n) h at entry) (sym long) g in
-      let now : IsMadeNow s.cut c key content h = value-built content s.cut m b key h at entry w c begun made led in
-      items-made s key k count zs writing c h now.place (omega arith)
-      (λ d st.
-      let both = now.each d st in (both.0, subst (λ ys. IsNewObject c d key (asked.Numbers k ys) h) (sym (whole-list f.items f.taken.1)) both.1))
-
-  -- no object had the key, and the requests for zeros are met
-  begun-met : (entry : Option NewEntry) (m : Cut) (h at : ℕ) → IsBegun s.cut m key (Scalar k) count (size_of k * count) h at entry → (d : Directory) → StandsFor s.cut.bytes d
-      → (object_at d key ≡ None) × IsMet d key (asked.Numbers k (replicate count (pos 0)))
-  begun-met None m h at g d st =
-      subst (λ (q : names.Key). (object_at d q ≡ None) × IsMet d q (asked.Numbers k (replicate count (pos 0)))) (sym g.is)
-      (no_key-none d.objects, anonymous-met s.cut g.taken d k (replicate count (pos 0)) (room_for [] (size_of k * count)) h st.denotes (equal-len k [] count (pos 0)) g.takes)
-  begun-met (Some e) m h at g d st = (
-    (lookup-absent e.index s.cut d g.entry key st.denotes (key-seeks e.index g.entry key g.name (Scalar k) g.is) e.place (away-in e.index s.cut d g.entry e.place st.denotes g.absent)).none,
-    numbers-met e.index s.cut d g.entry key g.name k (replicate count (pos 0)) st.denotes g.is g.taken (room_for g.name (size_of k * count)) h e.growth.block (equal-len k g.name count (pos 0)) g.requested,
-  )
-
-  -- its blocks are given back
-  steps-few : (entry : Option NewEntry) (why : Refusal) (m w c : Cut) (h at : ℕ) → IsBegun s.cut m key (Scalar k) count (size_of k * count) h at entry → (f : Fills gives whole m w k (h + at) count before after (Err why)) → IsRestored s.cut c
-      → IsStep s (record s { cut = c }) (asked.ConstructIt key k count (map whole f.items)) (Refused OutOfRange)
-  steps-few entry why m w c h at g f back =
-      items-few s key k count (map whole f.items) writing c back.keeps.place (let l = length-map f.items whole in let few = f.taken.2 in omega arith)
-      (λ d st. let met = begun-met entry m h at g d st in (met.0, met.1, restored-denotes s.cut c d st.denotes back))
-
-  -- ---- what is loose
-
-  most : (filled : Result (Unit {0}) Refusal) (m w : Cut) (from : ℕ) → (f : Fills gives whole m w k from count before after filled) → size_of k * length f.items ≤ size_of k * count
-  most (Ok u) m w from f = let e : size_of k * length f.items ≡ size_of k * count = ap (λ j. size_of k * j) f.taken.1 in omega arith
-  most (Err why) m w from f = mul-le-mul_left (size_of k) (let few = f.taken.2 in omega arith)
-
-  loose : (entry : Option NewEntry) (filled : Result (Unit {0}) Refusal) (m w : Cut) (h at : ℕ) → IsBegun s.cut m key (Scalar k) count (size_of k * count) h at entry → Fills gives whole m w k (h + at) count before after filled → IsLoose s.cut w h entry
-  loose None filled m w h at g f = record {
-    len = room_for [] (size_of k * count);
-    taken = g.taken;
-    takes = g.takes;
-    change = headed-change g.taken m w (Scalar k) Anonymous [] count (size_of k * count) h at (size_of k * length f.items) g.headed f.change (most filled m w (h + at) f);
-  }
-  loose (Some e) filled m w h at g f =
-      let x = denotes-index e.index s.cut b.0 b.1.denotes in
-      let away = g.absent (table_of e.index b.0) (entries_of e.index b.0) x in
-      record {
-        len = room_for g.name (size_of k * count);
-        taken = g.taken;
-        requested = g.requested;
-        change = headed-change g.taken m w (Scalar k) (class_of_index e.index) g.name count (size_of k * count) h at (size_of k * length f.items) g.headed f.change (most filled m w (h + at) f);
-        index = segment-index s.cut e.index b;
-        within = subst (λ n. e.place ≤ n) (sym x.stands.count) away.0;
-      }
-
-  -- ---- all together
-
-  -- where it is filled an entry may lead to it, and where not all can be given back
-  pub fills-ending : (entry : Option NewEntry) (filled : Result (Unit {0}) Refusal) (m w : Cut) (h at : ℕ) → IsBegun s.cut m key (Scalar k) count (size_of k * count) h at entry → Fills gives whole m w k (h + at) count before after filled
-      → IsEnding w h entry filled
-  fills-ending entry (Ok u) m w h at g f = loose-ready entry s.cut w h (loose entry (Ok u) m w h at g f)
-  fills-ending entry (Err why) m w h at g f = (s.cut, loose entry (Err why) m w h at g f)
-
-  -- it is filled, and then made or given back
-  pub takes : (entry : Option NewEntry) (filled : Result (Unit {0}) Refusal) (m w c : Cut) (h at : ℕ) (result : Result ℕ Refusal) → IsBegun s.cut m key (Scalar k) count (size_of k * count) h at entry
-      → Fills gives whole m w k (h + at) count before after filled → Ends w c h entry filled result → TakesItems gives whole s (record s { cut = c }) key k count before after result
-  takes entry (Ok tt) m w c h at result g f fin =
-      subst (λ (r : Result ℕ Refusal). TakesItems gives whole s (record s { cut = c }) key k count before after r) (sym fin.0)
-      (record { items = f.items; step = steps-made entry m w c h at g f fin.1; taken = f.taken; unchanged = tt })
-  takes entry (Err why) m w c h at result g f fin =
-      subst (λ (r : Result ℕ Refusal). TakesItems gives whole s (record s { cut = c }) key k count before after r) (sym (fin.0 ∙ ap Err f.taken.0))
-      (record { items = f.items; step = steps-few entry why m w c h at g f (fin.1 s.cut (loose entry (Err why) m w h at g f)); taken = (f.taken.1, f.taken.2); unchanged = tt })
-
--- ---- it is refused before an item is taken
-
-module _ (S A : Type 0) (gives : S → Option A → S → Type 0) (whole : A → ℤ) (s : State) (key : names.Key) (k : ScalarKind) (count : ℕ) (at : S) where
-  pub takes-nothing : is_read_only s.mode ≡ true → TakesItems gives whole s s key k count at at (Err ReadOnly)
-  takes-nothing e = record { items = []; step = refuses-read_only s (asked.ConstructIt key k count []) e refl; taken = (refl, refl); unchanged = refl }
-
-  exists-step : (c : Cut) → is_read_only s.mode ≡ false → IsTakenKey s.cut c key (Scalar k) → IsStep s (record s { cut = c }) (asked.ConstructIt key k count []) (Refused Exists)
-  exists-step c writing t =
-      subst (λ (u : Cut). IsStep s (record s { cut = u }) (asked.ConstructIt key k count []) (Refused Exists)) (sym t.same) (items-exists s key k count [] writing (key-taken s.cut key (asked.Numbers k []) c t))
-
-  none-step : (c : Cut) → is_read_only s.mode ≡ false → 1 ≤ count → IsNotBegun s.cut c key (Scalar k) (size_of k * count) NoSpace → IsStep s (record s { cut = c }) (asked.ConstructIt key k count []) (Refused NoSpace)
-  none-step c writing low t =
-      let content : Content = asked.Numbers k (asked_for count []) in
-      let never : IsMadeNever s.cut c key content =
-      value-not_begun s.cut key content c (subst (λ n. IsNotBegun s.cut c key (Scalar k) (size_of k * n) NoSpace) (sym (asked-long count low)) t) in
-      items-none s key k count [] writing c never.place never.each
-
-  pub takes-none : (why : Refusal) (c : Cut) → is_read_only s.mode ≡ false → 1 ≤ count → IsNotBegun s.cut c key (Scalar k) (size_of k * count) why → TakesItems gives whole s (record s { cut = c }) key k count at at (Err why)
-  takes-none Exists c writing low t =
-      record { items = []; step = exists-step c writing t; taken = (refl, refl); unchanged = ap (λ (u : Cut). let r : State = record s { cut = u } in r) t.same }
-  takes-none NoSpace c writing low t = record { items = []; step = none-step c writing low t; taken = (refl, refl); unchanged = tt }
-  takes-none why c writing low t = absurd t
-
--- ---- the same, as the segment is named before the call, and its shape is made for it
-
-module _ (S A : Type 0) (gives : S → Option A → S → Type 0) (whole : A → ℤ) (s t : State) (view : s ≡ t) (b : IsSegment s.cut.bytes) (key : names.Key) (k : ScalarKind) (count : ℕ)
-    (shape : Shape) (same : shape ≡ numbers_shape k count) (writing : is_read_only t.mode ≡ false) (low : 1 ≤ count) (before : S) where
-  writes : is_read_only s.mode ≡ false
-  writes = subst (λ (u : State). is_read_only u.mode ≡ false) (sym view) writing
-
-  none-taken : (why : Refusal) (c : Cut) → IsNotBegun s.cut c key shape.kind shape.len why → TakesItems gives whole s (record s { cut = c }) key k count before before (Err why)
-  none-taken why c not =
-      takes-none S A gives whole s key k count before why c writes low (subst (λ (j : Shape). IsNotBegun s.cut c key j.kind j.len why) same not)
-
-  pub refused-segment : (why : Refusal) (c : Cut) → IsNotBegun s.cut c key shape.kind shape.len why → IsSegment c.bytes
-  refused-segment why c not = step-segment s (record s { cut = c }) _ _ (none-taken why c not).step b
-
-  pub refused-items : (why : Refusal) (c : Cut) (r : Result ℕ Refusal) → r ≡ Err why → IsNotBegun s.cut c key shape.kind shape.len why
-      → TakesItems gives whole t (record s { cut = c }) key k count before before r
-  refused-items why c r is not =
-      subst (λ (q : Result ℕ Refusal). TakesItems gives whole t (record s { cut = c }) key k count before before q) (sym is)
-      (subst (λ (u : State). TakesItems gives whole u (record s { cut = c }) key k count before before (Err why)) view (none-taken why c not))
-
-  module _ (high : count ≤ 1048576) (m : Cut) (h at : ℕ) (entry : Option NewEntry) (begun : IsBegun s.cut m key shape.kind shape.count shape.len h at entry) where
-    begun-so : IsBegun s.cut m key (Scalar k) count (size_of k * count) h at entry
-    begun-so = subst (λ (j : Shape). IsBegun s.cut m key j.kind j.count j.len h at entry) same begun
-
-    pub items-room : IsTrue (has_room (live_of m.bytes) h (at + size_of k * count))
-    items-room = begun-room entry s.cut m key (Scalar k) count (size_of k * count) h at begun-so
-
-    module _ (w : Cut) (after : S) (filled : Result (Unit {0}) Refusal) (f : Fills gives whole m w k (h + at) count before after filled) where
-      pub items-ending : IsEnding w h entry filled
-      items-ending = fills-ending S A gives whole s b key k count writes low high before after entry filled m w h at begun-so f
-
-      module _ (c : Cut) (result : Result ℕ Refusal) (fin : Ends w c h entry filled result) where
-        finished : TakesItems gives whole s (record s { cut = c }) key k count before after result
-        finished = takes S A gives whole s b key k count writes low high before after entry filled m w c h at result begun-so f fin
-
-        pub items-segment : IsSegment c.bytes
-        items-segment = step-segment s (record s { cut = c }) _ _ finished.step b
-
-        pub items-taken : TakesItems gives whole t (record s { cut = c }) key k count before after result
-        items-taken = subst (λ (u : State). TakesItems gives whole u (record s { cut = c }) key k count before after result) view finished
+  made-segment writing b =
+      step-segment s (record s { cut = c }) command (answer r)
+      (done.step s.mode (ap (λ (u : State). is_read_only u.mode) view ∙ writing)) b

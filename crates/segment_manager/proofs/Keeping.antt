@@ -1,29 +1,13 @@
 -- What calls on keys leave to the last byte, as the code makes them.
-use Rattle.segment_manager.proofs.Common.{◌≡◌, sym, ap, subst, ◌∙◌, ℕ, ◌<◌, ◌≤◌, true, false, arith, is_some, none-some}
-use Rattle.segment_manager.proofs.Common.{Cut, Key, ByHandle, Index, Entry, Found, IsRoomy, capacity_at, place_of}
-use Rattle.segment_manager.proofs.Common.{is_object_at, Seeks, entries_of, table_of, KeepsWhere, LacksKey, Answers}
+use Rattle.segment_manager.proofs.Common.{◌≡◌, sym, subst, ◌∙◌, ℕ, none-some, Key, Index, Entry, Found, Seeks}
+use Rattle.segment_manager.proofs.Common.{entries_of, table_of, KeepsWhere, LacksKey}
 use Rattle.segment_manager.proofs.{Common.State, Bridge.lookup-found, Destroys.Ends, HeldIndexes.denotes-index}
 
 -- a look-up that found an entry: an object has the key
-pub keeps-found : (s t : State) (view : s ≡ t) (new : State) (i : Index) (e : Entry) (at : ℕ) → Ends s.cut i e (Found at) → (key : Key) → Seeks i e key → KeepsWhere t new (LacksKey key)
-keeps-found s t view new i e at p key q =
+pub keeps-found : {s t : State} (view : s ≡ t) {new : State} (i : Index) (e : Entry) (at : ℕ)
+    → Ends s.cut i e (Found at) → (key : Key) → Seeks i e key → KeepsWhere t new (LacksKey key)
+keeps-found {s} view {new} i e at p key q =
     subst (λ (u : State). KeepsWhere u new (LacksKey key)) view (λ d k lacks.
-    let there = lookup-found i s.cut d e key k.denotes q at (p (table_of i d) (entries_of i d) (denotes-index i s.cut d k.denotes)) in
+    let there =
+    lookup-found i s.cut e key k.denotes q at (p (table_of i d) (entries_of i d) (denotes-index i s.cut k.denotes)) in
     absurd (none-some there.object (sym lacks ∙ there.is)))
-
--- an object that has the handle
-pub keeps-object : (s new : State) (h : ℕ) → Answers s (λ d. is_object_at d h) true → KeepsWhere s new (LacksKey (ByHandle h))
-keeps-object s new h a = λ d k lacks. let e : true ≡ false = a.answers d k ∙ ap is_some lacks in absurd (cc)
-
--- so many places that are there
-pub keeps-places : (s t : State) (view : s ≡ t) (c : Cut) (i : Index) (n : ℕ) → IsRoomy s.cut c (place_of i) n → KeepsWhere t (record s { cut = c }) (λ d. n ≤ (table_of i d).capacity)
-keeps-places s t view c i n r =
-    subst (λ (u : State). KeepsWhere u (record s { cut = c }) (λ d. n ≤ (table_of i d).capacity)) view (λ d k h.
-    let x = denotes-index i s.cut d k.denotes in
-    λ j. record s { cut = r.same (omega (arith, h, x.stands.capacity)) j })
-
--- and fewer, of which none are kept
-pub keeps-fewer : (s t : State) (view : s ≡ t) (new : State) (i : Index) (n : ℕ) → capacity_at s.cut (place_of i) < n → KeepsWhere t new (λ d. n ≤ (table_of i d).capacity)
-keeps-fewer s t view new i n l =
-    subst (λ (u : State). KeepsWhere u new (λ d. n ≤ (table_of i d).capacity)) view (λ d k h.
-    let x = denotes-index i s.cut d k.denotes in absurd (omega (arith, h, l, x.stands.capacity)))

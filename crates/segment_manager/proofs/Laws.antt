@@ -12,8 +12,10 @@ unfoldable pub use Rattle.segment_manager.proofs.Live.{tables_of}
 pub use Rattle.segment_manager.proofs.Order.{live-rises}
 -- objects put in by an order: which come first, that the whole list rises, and what holds of each
 pub use Rattle.segment_manager.proofs.Ranks.{IsRanked, IsStrict, after, all-insert_by, all-ordered, all_of-insert_by}
-pub use Rattle.segment_manager.proofs.Ranks.{before, insert_by-rises, ranked-sym, rises-pairwise, rises-tail}
-unfoldable pub use Rattle.segment_manager.proofs.Ranks.{AllRanked, Pairwise}
+pub use Rattle.segment_manager.proofs.Ranks.{before, ranked-sym}
+pub use Rattle.segment_manager.proofs.RankedPairs.{insert_by-rises, rises-pairwise, rises-tail}
+unfoldable pub use Rattle.segment_manager.proofs.Ranks.{AllRanked}
+unfoldable pub use Rattle.segment_manager.proofs.RankedPairs.{Pairwise}
 -- the two indexes of a directory: each is its objects of a class by a strict order, and has a table with the places
 pub use Rattle.segment_manager.proofs.Indexes.{by_kind-strict, by_name-strict, index-parts}
 unfoldable pub use Rattle.segment_manager.proofs.Faces.{ordered}

@@ -1,13 +1,18 @@
 mod Common
 mod Denoted
 mod Destroys
+mod OwnEntries
 mod FilledCalls
+mod ItemCalls
 mod KeyCalls
 mod OwnBlocks
+mod OwnSpans
 mod Pieces
 mod Refusals
 mod Stored
+mod Written
 mod Tabled
+mod OtherTables
 mod Taking
 mod Unchanged
 mod Words
@@ -21,6 +26,7 @@ mod ObjectLists
 mod Calling
 mod Steps
 mod Ranks
+mod RankedPairs
 mod Indexes
 mod Entries
 mod Regrown
@@ -71,6 +77,7 @@ mod TextsHeld
 mod TextMoves
 mod TextListCalls
 mod NewValues
+mod NotBegun
 mod NewTexts
 mod Whole
 mod Emptied

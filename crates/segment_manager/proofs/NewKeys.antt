@@ -18,14 +18,17 @@ all-replicate t zero z h = refl
 all-replicate t (suc n) z h = and_from (t z) (list_all t (replicate n z)) h (all-replicate t n z h)
 
 -- as many numbers of the kind as an object may have
-pub numbers-value : (k : ScalarKind) (zs : List ℤ) → 1 ≤ length zs → length zs ≤ 1048576 → IsTrue (list_all (is_value k) zs) → IsTrue (is_good_value (Numbers k zs))
+pub numbers-value : (k : ScalarKind) (zs : List ℤ) → 1 ≤ length zs → length zs ≤ 1048576
+    → IsTrue (list_all (is_value k) zs) → IsTrue (is_good_value (Numbers k zs))
 numbers-value k zs low high all =
     and_from (nat_le 1 (length zs) && nat_le (length zs) 1048576) (list_all (is_value k) zs)
-    (and_from (nat_le 1 (length zs)) (nat_le (length zs) 1048576) (le-leb 1 (length zs) low) (le-leb (length zs) 1048576 high)) all
+    (and_from (nat_le 1 (length zs)) (nat_le (length zs) 1048576) (le-leb 1 (length zs) low)
+    (le-leb (length zs) 1048576 high)) all
 
-pub equal-good : (k : ScalarKind) (n : ℕ) (z : ℤ) → 1 ≤ n → n ≤ 1048576 → IsTrue (is_value k z) → IsTrue (is_good_value (Numbers k (replicate n z)))
+pub equal-good : (k : ScalarKind) (n : ℕ) (z : ℤ) → 1 ≤ n → n ≤ 1048576 → IsTrue (is_value k z)
+    → IsTrue (is_good_value (Numbers k (replicate n z)))
 equal-good k n z low high h =
-    let long : length (replicate n z) ≡ n = length-replicate n z in
+    let long = length-replicate n z in
     numbers-value k (replicate n z) (omega (arith, long)) (omega (arith, long)) (all-replicate (is_value k) n z h)
 
 -- the names that keys hold are those of the format
@@ -39,49 +42,62 @@ text-is_name name h = h
 abbrev pub object_of : Index → List ℕ → Value → Extent → Object
 object_of i name v x = record { class = class_of_index i; name = name; value = v; extent = x }
 
-pub key-class : (i : Index) (e : Key) (key : names.Key) (name : List ℕ) (kind : Kind) → IsNewKeyOf i e key name kind → class_of key ≡ class_of_index i
+pub key-class : (i : Index) (e : Key) (key : names.Key) (name : List ℕ) (kind : Kind) → IsNewKeyOf i e key name kind
+    → class_of key ≡ class_of_index i
 key-class Named (Name s) (names.ByName n) name kind h = refl
 key-class Unique (Code c) (names.ByKind u) name kind h = refl
 key-class i e key name kind h = absurd h
 
-pub key-name : (i : Index) (e : Key) (key : names.Key) (name : List ℕ) (kind : Kind) → IsNewKeyOf i e key name kind → name_of key ≡ name
-key-name Named (Name s) (names.ByName n) name kind h = sym h.1
-key-name Unique (Code c) (names.ByKind u) name kind h = sym h.1
-key-name i e key name kind h = absurd h
+pub key-name : (i : Index) (e : Key) (key : names.Key) {name : List ℕ} (kind : Kind) → IsNewKeyOf i e key name kind
+    → name_of key ≡ name
+key-name Named (Name s) (names.ByName n) kind h = sym h.1
+key-name Unique (Code c) (names.ByKind u) kind h = sym h.1
+key-name i e key kind h = absurd h
 
-pub key-seeks : (i : Index) (e : Key) (key : names.Key) (name : List ℕ) (kind : Kind) → IsNewKeyOf i e key name kind → Seeks i e key
+pub key-seeks : (i : Index) (e : Key) (key : names.Key) (name : List ℕ) (kind : Kind) → IsNewKeyOf i e key name kind
+    → Seeks i e key
 key-seeks Named (Name s) (names.ByName n) name kind h = h.0
 key-seeks Unique (Code c) (names.ByKind u) name kind h = h.0
 key-seeks i e key name kind h = absurd h
 
 -- its name is short
-pub key-short : (i : Index) (e : Key) (key : names.Key) (name : List ℕ) (kind : Kind) → IsNewKeyOf i e key name kind → length name ≤ 255
-key-short Named (Name s) (names.ByName n) name kind h = name-short current name (subst (λ bs. IsTrue (is_name current bs)) (sym h.1) h.2)
-key-short Unique (Code c) (names.ByKind u) name kind h = let l : length name ≡ 0 = ap (λ (bs : List ℕ). length bs) h.1 in omega arith
+pub key-short : (i : Index) (e : Key) (key : names.Key) (name : List ℕ) (kind : Kind) → IsNewKeyOf i e key name kind
+    → length name ≤ 255
+key-short Named (Name s) (names.ByName n) name kind h =
+    name-short current name (subst (λ bs. IsTrue (is_name current bs)) (sym h.1) h.2)
+key-short Unique (Code c) (names.ByKind u) name kind h =
+    let l : length name ≡ 0 = ap (λ (bs : List ℕ). length bs) h.1 in omega arith
 key-short i e key name kind h = absurd h
 
 -- an object with the key
-pub key-has : (i : Index) (e : Key) (key : names.Key) (name : List ℕ) (v : Value) (x : Extent) → IsNewKeyOf i e key name (kind_of v) → has_key key (object_of i name v x) ≡ true
+pub key-has : (i : Index) (e : Key) (key : names.Key) (name : List ℕ) (v : Value) (x : Extent)
+    → IsNewKeyOf i e key name (kind_of v) → has_key key (object_of i name v x) ≡ true
 key-has Named (Name s) (names.ByName n) name v x h = ap (same_bytes n) h.1 ∙ same-itself n
 key-has Unique (Code c) (names.ByKind u) name v x h = eq-eqb (code_of u) (code_of (kind_of v)) (ap code_of h.2)
 key-has i e key name v x h = absurd h
 
-pub key-own : (i : Index) (e : Key) (key : names.Key) (name : List ℕ) (v : Value) (d : Directory) (x : Extent) → IsNewKeyOf i e key name (kind_of v) → object_at d key ≡ None
+pub key-own : (i : Index) (e : Key) (key : names.Key) (name : List ℕ) (v : Value) (d : Directory) (x : Extent)
+    → IsNewKeyOf i e key name (kind_of v) → object_at d key ≡ None
     → object_at d (key_in i (object_of i name v x)) ≡ None
 key-own Named (Name s) (names.ByName n) name v d x h none = ap (λ bs. object_at d (names.ByName bs)) h.1 ∙ none
-key-own Unique (Code c) (names.ByKind u) name v d x h none = ap (λ (w : Kind). object_at d (names.ByKind w)) (sym h.2) ∙ none
+key-own Unique (Code c) (names.ByKind u) name v d x h none =
+    ap (λ (w : Kind). object_at d (names.ByKind w)) (sym h.2) ∙ none
 key-own i e key name v d x h none = absurd h
 
-key-good_name : (i : Index) (e : Key) (key : names.Key) (name : List ℕ) (v : Value) (x : Extent) → IsNewKeyOf i e key name (kind_of v) → IsTrue (has_good_name current (object_of i name v x))
+key-good_name : (i : Index) (e : Key) (key : names.Key) (name : List ℕ) (v : Value) (x : Extent)
+    → IsNewKeyOf i e key name (kind_of v) → IsTrue (has_good_name current (object_of i name v x))
 key-good_name Named (Name s) (names.ByName n) name v x h = subst (λ bs. IsTrue (is_name current bs)) (sym h.1) h.2
 key-good_name Unique (Code c) (names.ByKind u) name v x h = ap (λ (bs : List ℕ). length bs == 0) h.1
 key-good_name i e key name v x h = absurd h
 
 -- a good value in a block with room for it
-pub key-object : (i : Index) (e : Key) (key : names.Key) (name : List ℕ) (v : Value) (x : Extent) → IsNewKeyOf i e key name (kind_of v) → IsTrue (is_kind_of current (kind_of v)) → IsTrue (is_good_value v)
+pub key-object : (i : Index) (e : Key) (key : names.Key) (name : List ℕ) (v : Value) (x : Extent)
+    → IsNewKeyOf i e key name (kind_of v) → IsTrue (is_kind_of current (kind_of v)) → IsTrue (is_good_value v)
     → IsTrue (serves x ObjectRole (object_len name v)) → IsTrue (is_object current (object_of i name v x))
 key-object i e key name v x h kind good s =
-    let o : Object = object_of i name v x in
-    and_from (has_good_name current o && is_kind_of current (kind_of v) && is_good_value v) (serves x ObjectRole (object_len name v))
+    let o = object_of i name v x in
+    and_from (has_good_name current o && is_kind_of current (kind_of v) && is_good_value v)
+    (serves x ObjectRole (object_len name v))
     (and_from (has_good_name current o && is_kind_of current (kind_of v)) (is_good_value v)
-    (and_from (has_good_name current o) (is_kind_of current (kind_of v)) (key-good_name i e key name v x h) kind) good) s
+    (and_from (has_good_name current o) (is_kind_of current (kind_of v))
+    (key-good_name i e key name v x h) kind) good) s

@@ -1,10 +1,10 @@
 -- Numbers as the value of a new object, and a map without pairs: they ask for no block but the object's own.
-use Rattle.segment_manager.proofs.Common.{◌≡◌, refl, sym, ap, subst, ◌∙◌, ℕ, ◌+◌, ◌*◌, ◌≤◌, ◌∷◌, ◌++◌, ℤ, Option, None}
-use Rattle.segment_manager.proofs.Common.{List, [], length, replicate, IsTrue, AllByRecursion, length-replicate}
-use Rattle.segment_manager.proofs.Common.{current, Cut, Has, Memory, bytes_of, link_at, Tree, fork, leaf, nodes_of}
-use Rattle.segment_manager.proofs.Common.{IsExchanged, SameBlockBut, Extent, cells_of, IsChanged, LaysOut, live_of}
-use Rattle.segment_manager.proofs.Common.{laid-heap, ScalarKind, Plain, is_value, size_of, spelling, MapPlace, Place}
-use Rattle.segment_manager.proofs.Common.{place_at, spelled, Numbers, Pairs, is_good_value, IsMadeValue, repeated}
+use Rattle.segment_manager.proofs.Common.{◌≡◌, refl, sym, ap, subst, ◌∙◌, ℕ, ◌*◌, ◌≤◌, ◌∷◌, ◌++◌, ℤ, Option, None, List}
+use Rattle.segment_manager.proofs.Common.{[], length, replicate, IsTrue, AllByRecursion, length-replicate, current, Cut}
+use Rattle.segment_manager.proofs.Common.{Has, Memory, bytes_of, Tree, fork, leaf, nodes_of, IsExchanged, SameBlockBut}
+use Rattle.segment_manager.proofs.Common.{Extent, cells_of, IsChanged, LaysOut, live_of, laid-heap, ScalarKind, Plain}
+use Rattle.segment_manager.proofs.Common.{is_value, size_of, spelling, MapPlace, Place, place_at, spelled, Numbers}
+use Rattle.segment_manager.proofs.Common.{Pairs, is_good_value, IsMadeValue, repeated}
 use Rattle.link_tree.specs.Tree.{IsTree}
 use Rattle.seg_types.specs.Commands as asked
 use Rattle.seg_map.specs.Changing.{IsNew}
@@ -15,8 +15,9 @@ all-stay m from n [] = tt
 all-stay m from n (x ∷ xs) = (record { payload = λ k f g h. refl; colour = refl }, all-stay m from n xs)
 
 -- no block is taken
-nothing-exchanged : (c : Cut) (from n : ℕ) → LaysOut current c.bytes (live_of c.bytes) → IsExchanged current c c from n [] []
-nothing-exchanged c from n laid = record {
+nothing-exchanged : {c : Cut} {from n : ℕ} → LaysOut current c.bytes (live_of c.bytes)
+    → IsExchanged current c c from n [] []
+nothing-exchanged {c} {from} {n} laid = record {
   live = laid;
   place = record { before = refl; after = refl };
   front = record { at = λ i a b. refl };
@@ -27,9 +28,10 @@ nothing-exchanged c from n laid = record {
 -- ---- numbers
 
 -- they are written
-pub numbers-made : (k : ScalarKind) (zs : List ℤ) (old new : Cut) (p : Place) → IsTrue (is_good_value (Numbers k zs)) → IsChanged current old new (place_at p) (size_of k * length zs)
+pub numbers-made : (k : ScalarKind) (zs : List ℤ) {old new : Cut} {p : Place} → IsTrue (is_good_value (Numbers k zs))
+    → IsChanged current old new (place_at p) (size_of k * length zs)
     → Has (bytes_of new.bytes) (place_at p) (spelled k zs) → IsMadeValue (asked.Numbers k zs) old new p
-numbers-made k zs old new p good change says = record {
+numbers-made k zs {old} {new} good change says = record {
   empty = new;
   change = change;
   value = Numbers k zs;
@@ -39,32 +41,36 @@ numbers-made k zs old new p good change says = record {
   good = good;
   left = live_of new.bytes;
   given = λ d. record { met = λ next. refl };
-  storage = nothing-exchanged new (place_at p) (size_of k * length zs) (laid-heap new.bytes (live_of old.bytes) change.live);
+  storage = nothing-exchanged (laid-heap new.bytes (live_of old.bytes) change.live);
   said = says;
 }
 
 -- the spelling of one number, so many times
-pub equal-made : (k : ScalarKind) (count : ℕ) (z : ℤ) (old new : Cut) (p : Place) (bytes : List ℕ) → 1 ≤ count → count ≤ 1048576 → IsTrue (is_value k z) → bytes ≡ spelling k z
-    → IsChanged current old new (place_at p) (length bytes * count) → Has (bytes_of new.bytes) (place_at p) (repeated count bytes) → IsMadeValue (asked.Numbers k (replicate count z)) old new p
+pub equal-made : (k : ScalarKind) (count : ℕ) (z : ℤ) (old new : Cut) (p : Place) (bytes : List ℕ) → 1 ≤ count
+    → count ≤ 1048576 → IsTrue (is_value k z) → bytes ≡ spelling k z
+    → IsChanged current old new (place_at p) (length bytes * count)
+    → Has (bytes_of new.bytes) (place_at p) (repeated count bytes)
+    → IsMadeValue (asked.Numbers k (replicate count z)) old new p
 equal-made k count z old new p bytes low high value spelt change says =
     let size : length bytes ≡ size_of k = ap (λ (bs : List ℕ). length bs) spelt ∙ spelling-length k z in
-    numbers-made k (replicate count z) old new p (equal-good k count z low high value)
+    numbers-made k (replicate count z) (equal-good k count z low high value)
     (subst (IsChanged current old new (place_at p)) (λ j. size j * sym (length-replicate count z) j) change)
     (subst (Has (bytes_of new.bytes) (place_at p)) (ap (repeated count) spelt ∙ repeated-spelled k count z) says)
 
 -- ---- a map without pairs
 
-no-root : (m : Memory) (o : Option ℕ) (t : Tree) → IsTree (cells_of m) o t → nodes_of t ≡ [] → o ≡ None
-no-root m o leaf k e = k.root
-no-root m o (fork red left n right) k e = absurd (not-empty (nodes_of left) n (nodes_of right) e)
+no-root : (m : Memory) {o : Option ℕ} (t : Tree) → IsTree (cells_of m) o t → nodes_of t ≡ [] → o ≡ None
+no-root m leaf k e = k.root
+no-root m (fork red left n right) k e = absurd (not-empty (nodes_of left) n (nodes_of right) e)
   where
     not-empty : (xs : List ℕ) (n : ℕ) (ys : List ℕ) → xs ++ n ∷ ys ≡ [] → ⊥
     not-empty [] n ys f = cc
     not-empty (x ∷ xs) n ys f = cc
 
 -- it is one of any types
-map-there : {K V : Type 0} (k v : ScalarKind) (kp : Plain K) (vp : Plain V) (old new : Cut) (p : Place) → IsNew kp vp old new p.handle p.at → IsMadeValue (asked.NoPairs k v) old new p
-map-there k v kp vp old new p r =
+map-there : {K V : Type 0} (k v : ScalarKind) (kp : Plain K) (vp : Plain V) {old new : Cut} {p : Place}
+    → IsNew kp vp old new p.handle p.at → IsMadeValue (asked.NoPairs k v) old new p
+map-there k v kp vp {new} r =
     let s = r.map in
     record {
       empty = new;
@@ -76,13 +82,16 @@ map-there k v kp vp old new p r =
       good = refl;
       left = live_of new.bytes;
       given = λ d. record { met = λ next. refl };
-      storage = nothing-exchanged new (place_at p) 24 s.heap;
+      storage = nothing-exchanged s.heap;
       said = record {
         count = s.map.count;
         third = s.map.third;
         tree = record {
           tree = leaf;
-          linked = record { root = no-root (bytes_of new.bytes) (link_at (bytes_of new.bytes) (p.handle + p.at)) s.map.tree.tree s.map.tree.linked s.map.tree.lists; holds = tt };
+          linked = record {
+            root = no-root (bytes_of new.bytes) s.map.tree.tree s.map.tree.linked s.map.tree.lists;
+            holds = tt;
+          };
           red_black = record { root = refl; no_red_pair = refl; black = (0, refl) };
           lists = refl;
         };
@@ -91,6 +100,8 @@ map-there k v kp vp old new p r =
     }
 
 -- at a place that is another word for it
-pub map-made : {K V : Type 0} (k v : ScalarKind) (kp : Plain K) (vp : Plain V) (old new : Cut) (p : Place) (q : MapPlace) → q.handle ≡ p.handle → q.at ≡ p.at → IsNew kp vp old new q.handle q.at
+pub map-made : {K V : Type 0} (k v : ScalarKind) (kp : Plain K) (vp : Plain V) (old new : Cut) (p : Place)
+    (q : MapPlace) → q.handle ≡ p.handle → q.at ≡ p.at → IsNew kp vp old new q.handle q.at
     → IsMadeValue (asked.NoPairs k v) old new p
-map-made k v kp vp old new p q e f r = map-there k v kp vp old new p (subst (λ h. IsNew kp vp old new h p.at) e (subst (λ a. IsNew kp vp old new q.handle a) f r))
+map-made k v kp vp old new p q e f r =
+    map-there k v kp vp (subst (λ h. IsNew kp vp old new h p.at) e (subst (λ a. IsNew kp vp old new q.handle a) f r))

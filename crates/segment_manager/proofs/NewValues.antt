@@ -1,40 +1,40 @@
 -- An object made under a key whose value takes blocks of its own, whatever it is, as a step of the machine: its
 -- requests are met in order, or one is refused and all is given back.
-use Rattle.segment_manager.proofs.Common.{◌≡◌, refl, sym, ap, subst, ◌∙◌, ℕ, ◌+◌, ◌≤◌, true, ◌&&◌, inl, inr, Some, None}
-use Rattle.segment_manager.proofs.Common.{Option, List, [], ◌∷◌, length, IsTrue, find, and_from, current, Cut}
-use Rattle.segment_manager.proofs.Common.{SamePlace, bytes_of, SamePlace-trans, ObjectRole, Extent, LiveSet, added}
-use Rattle.segment_manager.proofs.Common.{place, resized, IsAllocated, IsChanged, IsRefused, Keeps, LaysOut, live_of}
-use Rattle.segment_manager.proofs.Common.{Table, serves, laid-heap, Class, Anonymous, Kind, Refusal, NoSpace}
-use Rattle.segment_manager.proofs.Common.{is_kind_of, Content, Index, Absent, IsIndexOf, place_of, AddKeeps, CanGrow}
-use Rattle.segment_manager.proofs.Common.{IsGrowth, IsPlace, prepared, NewEntry, IsAbsentAt, IsBegun, IsBegunAlone}
-use Rattle.segment_manager.proofs.Common.{IsBegunEntry, IsHeaded, IsLoose, IsNotBegun, IsReadyFor, IsTakenKey, IsWanted}
-use Rattle.segment_manager.proofs.Common.{LeadsThere, Denotes, Value, Object, Directory, count_of, extents_of, has_key}
-use Rattle.segment_manager.proofs.Common.{is_good_value, is_object, kind_of, live, object_at, object_len, padded}
-use Rattle.segment_manager.proofs.Common.{value_extents, value_len, with_object, IsDenied, IsGiven, IsMadeValue}
-use Rattle.segment_manager.proofs.Common.{IsNoValue, class_of_index, entries_of, table_of, head_len, IsNewKeyOf}
-use Rattle.segment_manager.proofs.Common.{IsRestored, Plan, bare, with_value, room_for, IsSegment, StandsFor}
+use Rattle.segment_manager.proofs.Common.{◌≡◌, refl, sym, ap, subst, ◌∙◌, ℕ, ◌+◌, ◌≤◌, true, ◌&&◌, Some, None, Option}
+use Rattle.segment_manager.proofs.Common.{List, [], ◌∷◌, length, IsTrue, find, and_from, current, Cut, SamePlace}
+use Rattle.segment_manager.proofs.Common.{bytes_of, SamePlace-trans, ObjectRole, Extent, LiveSet, added, place, resized}
+use Rattle.segment_manager.proofs.Common.{IsAllocated, IsChanged, Keeps, LaysOut, live_of, Table, serves, laid-heap}
+use Rattle.segment_manager.proofs.Common.{Class, Anonymous, Kind, Refusal, is_kind_of, Content, Index, Absent}
+use Rattle.segment_manager.proofs.Common.{IsIndexOf, place_of, AddKeeps, IsGrowth, IsPlace, prepared, NewEntry}
+use Rattle.segment_manager.proofs.Common.{IsAbsentAt, IsBegun, IsBegunAlone, IsBegunEntry, IsHeaded, IsLoose}
+use Rattle.segment_manager.proofs.Common.{IsReadyFor, IsWanted, LeadsThere, Denotes, Value, Object, Directory, count_of}
+use Rattle.segment_manager.proofs.Common.{extents_of, has_key, is_good_value, is_object, kind_of, live, object_at}
+use Rattle.segment_manager.proofs.Common.{object_len, padded, value_extents, value_len, with_object, IsDenied, IsGiven}
+use Rattle.segment_manager.proofs.Common.{IsMadeValue, IsNoValue, class_of_index, entries_of, table_of, head_len}
+use Rattle.segment_manager.proofs.Common.{IsNewKeyOf, IsRestored, Plan, bare, with_value, room_for, IsSegment}
+use Rattle.segment_manager.proofs.Common.{StandsFor}
 use Rattle.segment_manager.proofs.Taking.{IsMade, IsTaken, taken-growth, taken-index, growth-index, requested-aligned}
 use Rattle.segment_manager.proofs.Taking.{restored-taken}
 use Rattle.segment_manager.proofs.MadeValues.{empty-taken, made-object, made-taken, placed-next}
-use Rattle.segment_manager.proofs.Constructed.{IsNewObject, IsNoObject, content-denied, content-entered, content-none}
-use Rattle.segment_manager.proofs.{Codes.known-kind, Bridge.lookup-absent, Bridge.lookup-found, Calling.denotes-live}
-use Rattle.segment_manager.proofs.{Denoted.denotes-with, HeldIndexes.denotes-index, KeyCalls.segment-index, Live.adding}
+use Rattle.segment_manager.proofs.Constructed.{IsNewObject, IsNoObject, content-denied, content-entered}
+use Rattle.segment_manager.proofs.{Codes.known-kind, Bridge.lookup-absent, Calling.denotes-live, Denoted.denotes-with}
+use Rattle.segment_manager.proofs.{HeldIndexes.denotes-index, KeyCalls.segment-index, Live.adding}
 use Rattle.segment_manager.proofs.{NewBlocks.allocated-serves, NewKeys.key-object, NewKeys.key-seeks, Steps.perform-new}
-use Rattle.segment_manager.proofs.{Steps.perform-no_space, Constructed.restored-denotes}
+use Rattle.segment_manager.proofs.{Constructed.restored-denotes}
 use Rattle.seg_index.specs.declared.keys.Key.{Key}
-use Rattle.segment_manager.specs.Begun.{GivesAllBack, IsEntryAdded, IsUnmetEntry}
+use Rattle.segment_manager.specs.Begun.{GivesAllBack, IsEntryAdded}
 use Rattle.seg_index.proofs.Laws.{place_behind, place_small}
 use Rattle.seg_types.specs.Names as names
 
 -- ---- places
 
-growth-place : (a b : Cut) (at : ℕ) (g : Option ℕ) → IsGrowth a b at g → SamePlace a b
-growth-place a b at None h = subst (SamePlace a) (sym h.1) (record { before = refl; after = refl })
-growth-place a b at (Some g) h = h.1.keeps.place
+growth-place : {a b : Cut} (at : ℕ) (g : Option ℕ) → IsGrowth a b at g → SamePlace a b
+growth-place {a} at None h = subst (SamePlace a) (sym h.1) (record { before = refl; after = refl })
+growth-place at (Some g) h = h.1.keeps.place
 
-keeps-place : (a b : Cut) (at : ℕ) (t : Table) (g : Option ℕ) → AddKeeps a b at t g → SamePlace a b
-keeps-place a b at t None k = k.place
-keeps-place a b at t (Some g) k = k.place
+keeps-place : {a b : Cut} (at : ℕ) (t : Table) (g : Option ℕ) → AddKeeps a b at t g → SamePlace a b
+keeps-place at t None k = k.place
+keeps-place at t (Some g) k = k.place
 
 -- no object has no key
 pub no_key-none : (os : List Object) → find (has_key names.NoKey) os ≡ None
@@ -42,8 +42,9 @@ no_key-none [] = refl
 no_key-none (o ∷ os) = no_key-none os
 
 -- what a look-up that finds no entry says of each directory
-pub away-in : (i : Index) (a : Cut) (d : Directory) (e : Key) (at : ℕ) → Denotes current a.bytes d → IsAbsentAt a i e at → IsPlace (bytes_of a.bytes) e (entries_of i d) (Absent at)
-away-in i a d e at said away = away (table_of i d) (entries_of i d) (denotes-index i a d said)
+pub away-in : (i : Index) {a : Cut} {d : Directory} (e : Key) (at : ℕ) → Denotes current a.bytes d → IsAbsentAt a i e at
+    → IsPlace (bytes_of a.bytes) e (entries_of i d) (Absent at)
+away-in i {a} {d} e at said away = away (table_of i d) (entries_of i d) (denotes-index i a said)
 
 -- ---- all directories
 
@@ -57,8 +58,13 @@ pub record IsMadeNever (a c : Cut) (key : names.Key) (content : Content) : Type 
   pub place : SamePlace a c
   pub each : (d : Directory) → StandsFor a.bytes d → (object_at d key ≡ None) × IsNoObject c d key content
 
-unchanged : (w : Cut) (l : LiveSet) (from n : ℕ) → LaysOut current w.bytes l → IsChanged current w w from n
-unchanged w l from n laid = record { place = record { before = refl; after = refl }; live = laid-heap w.bytes l laid; rest = record { at = λ k h. refl } }
+unchanged : {w : Cut} (l : LiveSet) {from n : ℕ} → LaysOut current w.bytes l → IsChanged current w w from n
+unchanged {w} l laid =
+    record {
+      place = record { before = refl; after = refl };
+      live = laid-heap w.bytes l laid;
+      rest = record { at = λ k h. refl };
+    }
 
 module _ (content : Content) where
   abbrev kind : Kind
@@ -72,92 +78,104 @@ module _ (content : Content) where
 
   -- ---- the value in its object's block
 
-  module _ (a t m w : Cut) (class : Class) (name : List ℕ) (h at : ℕ) (take : IsAllocated current a t (room_for name long) ObjectRole h) (headed : IsHeaded t m kind class name many h at)
+  module _ (a t m w : Cut) (class : Class) (name : List ℕ) (h at : ℕ)
+      (take : IsAllocated current a t (room_for name long) ObjectRole h)
+      (headed : IsHeaded t m kind class name many h at)
       (r : IsMadeValue content m w (record { handle = h; at = at })) where
     block : IsAllocated current a r.empty (room_for name long) ObjectRole h
-    block = empty-taken a t m r.empty kind class name many long h at take headed r.change
+    block = empty-taken take headed r.change
 
     abbrev own : Object
     own = record { class = class; name = name; value = r.value; extent = block.extent }
 
     both-taken : IsTaken a w (extents_of own)
-    both-taken = made-taken a r.empty w name long h at (value_extents r.value) block headed.start r.storage
+    both-taken = made-taken name block headed.start r.storage
 
     serving : IsTrue (serves block.extent ObjectRole (object_len name r.value))
     serving =
-        subst (λ n. IsTrue (serves block.extent ObjectRole n)) (ap (λ n. head_len + padded (length name) + n) (sym r.len)) (allocated-serves current a r.empty (room_for name long) ObjectRole h block)
+        subst (λ n. IsTrue (serves block.extent ObjectRole n))
+        (ap (λ n. head_len + padded (length name) + n) (sym r.len)) (allocated-serves block)
 
     made-in : IsTrue (is_object current own) → IsMade a w own
     made-in good =
         let headed' : IsHeaded t m (kind_of r.value) class name (count_of r.value) h at =
-        subst (λ n. IsHeaded t m (kind_of r.value) class name n h at) (sym r.count) (subst (λ k. IsHeaded t m k class name many h at) (sym r.is_kind) headed) in
+        subst (λ n. IsHeaded t m (kind_of r.value) class name n h at) (sym r.count)
+        (subst (λ k. IsHeaded t m k class name many h at) (sym r.is_kind) headed) in
         record {
           good = good;
           taken = both-taken;
-          at = made-object a t m r.empty w class name long h at r.value (value_extents r.value) block headed' r.change r.storage r.said;
+          at = made-object r.value block headed' r.change r.storage r.said;
         }
 
     placed-at : place (live_of a.bytes) (object_len name (bare content)) ObjectRole ≡ Some block.extent
     placed-at = block.placed
 
-    given-in : (d : Directory) → IsGiven d (resized (live_of a.bytes) block.extent) content r.value r.left
-    given-in d = subst (λ l. IsGiven d l content r.value r.left) (sym (placed-next a r.empty (room_for name long) h block)) (r.given d)
+    given-in : {d : Directory} → IsGiven d (resized (live_of a.bytes) block.extent) content r.value r.left
+    given-in {d} = subst (λ l. IsGiven d l content r.value r.left) (sym (placed-next block)) (r.given d)
 
   -- ---- the directory, under a key with an entry
 
-  module _ (a m : Cut) (key : names.Key) (h at : ℕ) (e : NewEntry) (g : IsBegunEntry a m key kind many long h at e) (d : Directory) (said : Denotes current a.bytes d) where
+  module _ {a m : Cut} {key : names.Key} {h at : ℕ} {e : NewEntry} (g : IsBegunEntry a m key kind many long h at e)
+      {d : Directory} (said : Denotes current a.bytes d) where
     absent : object_at d key ≡ None
     absent =
-        (lookup-absent e.index a d g.entry key said (key-seeks e.index g.entry key g.name kind g.is) e.place (away-in e.index a d g.entry e.place said g.absent)).none
+        (lookup-absent e.index a g.entry key said (key-seeks e.index g.entry key g.name kind g.is)
+        (away-in e.index g.entry e.place said g.absent)).none
 
-    entry-new : (w c : Cut) → IsMadeValue content m w (record { handle = h; at = at }) → IsEntryAdded w c h e → IsNewObject c d key content h
-    entry-new w c r added =
+    entry-new : {w c : Cut} → IsMadeValue content m w (record { handle = h; at = at }) → IsEntryAdded w c h e
+        → IsNewObject c d key content h
+    entry-new {w} {c} r added =
         let b : Cut = g.requested.between in
-        let class : Class = class_of_index e.index in
+        let class = class_of_index e.index in
         let took = block b g.taken m w class g.name h at g.requested.takes g.headed r in
-        let x : Extent = took.extent in
-        let new' : IsNewKeyOf e.index g.entry key g.name (kind_of r.value) = subst (IsNewKeyOf e.index g.entry key g.name) (sym r.is_kind) g.is in
-        let object = key-object e.index g.entry key g.name r.value x new' (known-kind (kind_of r.value)) r.good (serving b g.taken m w class g.name h at g.requested.takes g.headed r) in
-        content-entered e.index a d g.entry key g.name kind content said g.is b w c x r.value r.left e.place h e.growth.block g.requested.grows
-        (placed-at b g.taken m w class g.name h at g.requested.takes g.headed r) (given-in b g.taken m w class g.name h at g.requested.takes g.headed r d) r.is_kind r.count
-        (made-in b g.taken m w class g.name h at g.requested.takes g.headed r object) took.at
-        (away-in e.index a d g.entry e.place said g.absent) (record { adds = added.adds; live = added.live; keeps = added.keeps })
+        content-entered e.index a d g.entry key g.name kind content said g.is b w e.place e.growth.block
+        g.requested.grows (placed-at b g.taken m w class g.name h at g.requested.takes g.headed r)
+        (given-in b g.taken m w class g.name h at g.requested.takes g.headed r) r.is_kind r.count
+        (made-in b g.taken m w class g.name h at g.requested.takes g.headed r
+        (key-object e.index g.entry key g.name r.value took.extent
+        (subst (IsNewKeyOf e.index g.entry key g.name) (sym r.is_kind) g.is) (known-kind (kind_of r.value)) r.good
+        (serving b g.taken m w class g.name h at g.requested.takes g.headed r))) took.at
+        (away-in e.index g.entry e.place said g.absent)
+        (record { adds = added.adds; live = added.live; keeps = added.keeps })
 
-    entry-denied : (w c : Cut) (why : Refusal) → IsNoValue content m w (record { handle = h; at = at }) why → IsRestored a c → IsNoObject c d key content
-    entry-denied w c why r back =
-        let b : Cut = g.requested.between in
-        let took = empty-taken b g.taken m r.empty kind (class_of_index e.index) g.name many long h at g.requested.takes g.headed r.change in
+    entry-denied : {w c : Cut} {why : Refusal} → IsNoValue content m w (record { handle = h; at = at }) why
+        → IsRestored a c → IsNoObject c d key content
+    entry-denied {c} r back =
+        let took = empty-taken g.requested.takes g.headed r.change in
         record {
-          refused = content-denied e.index a d g.entry key g.name kind content said g.is b took.extent e.growth.block g.requested.grows took.placed
-              (subst (λ l. IsDenied d l content) (sym (placed-next b r.empty (room_for g.name long) h took)) (r.denied d));
+          refused =
+              content-denied e.index a d g.entry key g.name kind content said g.is g.requested.between e.growth.block
+              g.requested.grows took.placed (subst (λ l. IsDenied d l content) (sym (placed-next took)) (r.denied d));
           denotes = restored-denotes a c d said back;
         }
 
   -- ---- without one
 
-  module _ (a m : Cut) (h at : ℕ) (g : IsBegunAlone a m names.NoKey kind many long h at) (d : Directory) (said : Denotes current a.bytes d) where
+  module _ (a m : Cut) (h at : ℕ) (g : IsBegunAlone a m names.NoKey kind many long h at) (d : Directory)
+      (said : Denotes current a.bytes d) where
     abbrev alone_in : Extent → Value → Object
     alone_in x w = record { class = Anonymous; name = []; value = w; extent = x }
 
     abbrev alone_plan : (Object → Directory → Plan) → Extent → Plan
     alone_plan next x = with_value content (λ w. next (alone_in x w) (with_object d (alone_in x w)))
 
-    alone-good : (x : Extent) (w : Value) → IsTrue (is_kind_of current (kind_of w)) → IsTrue (is_good_value w) → IsTrue (serves x ObjectRole (object_len [] w)) → IsTrue (is_object current (alone_in x w))
+    alone-good : (x : Extent) (w : Value) → IsTrue (is_kind_of current (kind_of w)) → IsTrue (is_good_value w)
+        → IsTrue (serves x ObjectRole (object_len [] w)) → IsTrue (is_object current (alone_in x w))
     alone-good x w known good s =
         and_from (true && is_kind_of current (kind_of w) && is_good_value w) (serves x ObjectRole (object_len [] w))
-        (and_from (true && is_kind_of current (kind_of w)) (is_good_value w) (and_from true (is_kind_of current (kind_of w)) refl known) good) s
+        (and_from (true && is_kind_of current (kind_of w)) (is_good_value w)
+        (and_from true (is_kind_of current (kind_of w)) refl known) good) s
 
-    alone-new : (w : Cut) → IsMadeValue content m w (record { handle = h; at = at }) → IsNewObject w d names.NoKey content h
-    alone-new w r =
+    alone-new : {w : Cut} → IsMadeValue content m w (record { handle = h; at = at })
+        → IsNewObject w d names.NoKey content h
+    alone-new {w} r =
         let took = block a g.taken m w Anonymous [] h at g.takes g.headed r in
         let x : Extent = took.extent in
-        let o : Object = alone_in x r.value in
-        let same : live_of a.bytes ≡ live d = denotes-live current a.bytes d said in
-        let made : IsMade a w o =
-        made-in a g.taken m w Anonymous [] h at g.takes g.headed r
-        (alone-good x r.value (known-kind (kind_of r.value)) r.good (serving a g.taken m w Anonymous [] h at g.takes g.headed r)) in
-        let there : IsGiven d (resized (live d) x) content r.value r.left =
-        subst (λ l. IsGiven d (resized l x) content r.value r.left) same (given-in a g.taken m w Anonymous [] h at g.takes g.headed r d) in
+        let o = alone_in x r.value in
+        let same = denotes-live current a.bytes d said in
+        let made = made-in a g.taken m w Anonymous [] h at g.takes g.headed r
+        (alone-good x r.value (known-kind (kind_of r.value)) r.good
+        (serving a g.taken m w Anonymous [] h at g.takes g.headed r)) in
         record {
           object = o;
           after = with_object d o;
@@ -166,171 +184,156 @@ module _ (content : Content) where
           count = r.count;
           met = λ next.
               perform-new d (live d) ObjectRole (object_len [] (bare content)) (alone_plan next) x
-              (ap (λ l. place l (object_len [] (bare content)) ObjectRole) (sym same) ∙ placed-at a g.taken m w Anonymous [] h at g.takes g.headed r)
-              ∙ there.met (λ w. next (alone_in x w) (with_object d (alone_in x w)));
-          denotes = denotes-with current a w d o said made.good refl (subst (λ l. LaysOut current w.bytes (adding l (extents_of o))) same made.taken.live)
+              (ap (λ l. place l (object_len [] (bare content)) ObjectRole) (sym same)
+              ∙ placed-at a g.taken m w Anonymous [] h at g.takes g.headed r)
+              ∙ (subst (λ l. IsGiven d (resized l x) content r.value r.left) same
+              (given-in a g.taken m w Anonymous [] h at g.takes g.headed r)).met
+              (λ w. next (alone_in x w) (with_object d (alone_in x w)));
+          denotes = denotes-with a w said made.good refl
+              (subst (λ l. LaysOut current w.bytes (adding l (extents_of o))) same made.taken.live)
               (subst (λ (l : LiveSet). Keeps a w l.extents) same made.taken.keeps) made.at;
         }
 
-    alone-denied : (w c : Cut) (why : Refusal) → IsNoValue content m w (record { handle = h; at = at }) why → IsRestored a c → IsNoObject c d names.NoKey content
-    alone-denied w c why r back =
-        let took = empty-taken a g.taken m r.empty kind Anonymous [] many long h at g.takes g.headed r.change in
+    alone-denied : {w c : Cut} {why : Refusal} → IsNoValue content m w (record { handle = h; at = at }) why
+        → IsRestored a c → IsNoObject c d names.NoKey content
+    alone-denied {w} {c} r back =
+        let took = empty-taken g.takes g.headed r.change in
         let x : Extent = took.extent in
-        let same : live_of a.bytes ≡ live d = denotes-live current a.bytes d said in
-        let none : IsDenied d (resized (live d) x) content =
-        subst (λ l. IsDenied d (resized l x) content) same (subst (λ l. IsDenied d l content) (sym (placed-next a r.empty (room_for [] long) h took)) (r.denied d)) in
+        let same = denotes-live current a.bytes d said in
         record {
           refused = λ next.
               perform-new d (live d) ObjectRole (object_len [] (bare content)) (alone_plan next) x
               (ap (λ l. place l (object_len [] (bare content)) ObjectRole) (sym same) ∙ took.placed)
-              ∙ none (λ w. next (alone_in x w) (with_object d (alone_in x w)));
+              ∙ (subst (λ l. IsDenied d (resized l x) content) same
+              (subst (λ l. IsDenied d l content) (sym (placed-next took)) (r.denied d)))
+              (λ w. next (alone_in x w) (with_object d (alone_in x w)));
           denotes = restored-denotes a c d said back;
         }
 
   -- ---- an entry is to lead there, or all is given back
 
-  module _ (a m : Cut) (b : IsSegment a.bytes) (key : names.Key) (h at : ℕ) where
-    entry-taken : (w : Cut) (e : NewEntry) → (g : IsBegunEntry a m key kind many long h at e) → (r : IsMadeValue content m w (record { handle = h; at = at }))
-        → IsTaken g.requested.between w ((block g.requested.between g.taken m w (class_of_index e.index) g.name h at g.requested.takes g.headed r).extent ∷ value_extents r.value)
-    entry-taken w e g r = both-taken g.requested.between g.taken m w (class_of_index e.index) g.name h at g.requested.takes g.headed r
+  module _ (a : Cut) {m : Cut} (b : IsSegment a.bytes) (key : names.Key) (h at : ℕ) where
+    entry-taken : {w : Cut} {e : NewEntry} → (g : IsBegunEntry a m key kind many long h at e)
+        → (r : IsMadeValue content m w (record { handle = h; at = at }))
+        → IsTaken g.requested.between w
+        ((block g.requested.between g.taken m w (class_of_index e.index) g.name h at g.requested.takes g.headed
+        r).extent ∷ value_extents r.value)
+    entry-taken {w} {e} g r =
+        both-taken g.requested.between g.taken m w (class_of_index e.index) g.name h at g.requested.takes g.headed r
 
     -- what the index wants is there
-    entry-wanted : (w : Cut) (e : NewEntry) → IsBegunEntry a m key kind many long h at e → IsMadeValue content m w (record { handle = h; at = at }) → IsWanted w h e
-    entry-wanted w e g r =
+    entry-wanted : {w : Cut} {e : NewEntry} → IsBegunEntry a m key kind many long h at e
+        → IsMadeValue content m w (record { handle = h; at = at }) → IsWanted w h e
+    entry-wanted {w} {e} g r =
         let i : Index = e.index in
         let mid : Cut = g.requested.between in
         let d : Directory = b.0 in
         let t = table_of i d in
-        let hs : List ℕ = entries_of i d in
-        let x : IsIndexOf a (place_of i) t hs = denotes-index i a d b.1.denotes in
+        let hs = entries_of i d in
+        let x = denotes-index i a b.1.denotes in
         let took = block mid g.taken m w (class_of_index i) g.name h at g.requested.takes g.headed r in
-        let taken = entry-taken w e g r in
-        let grown : CanGrow mid (place_of i) e.growth.block = prepared a mid (place_of i) e.growth.block t hs x g.requested.grows (place_behind i) (place_small i) in
+        let taken = entry-taken g r in
+        let grown =
+        prepared a mid (place_of i) e.growth.block t hs x g.requested.grows (place_behind i) (place_small i) in
         let index : IsIndexOf w (place_of i) t hs =
-        taken-index mid w _ (place_of i) t hs taken (place_behind i) (place_small i) (growth-index i a mid e.growth.block t hs g.requested.grows x) in
-        let away = g.absent t hs x in
+        taken-index _ taken (place_behind i) (place_small i) (growth-index i e.growth.block g.requested.grows x) in
         record {
           index = record { table = t; handles = hs; index = index };
           growth = taken-growth mid w _ (place_of i) e.growth.block taken (place_behind i) (place_small i) grown;
-          within = subst (λ n. e.place ≤ n) (sym index.stands.count) away.0;
-          aligned = requested-aligned mid r.empty (room_for g.name long) h took;
+          within = subst (λ n. e.place ≤ n) (sym index.stands.count) (g.absent t hs x).0;
+          aligned = requested-aligned took;
         }
 
-    pub value-ready : (entry : Option NewEntry) (w : Cut) → IsBegun a m key kind many long h at entry → IsMadeValue content m w (record { handle = h; at = at }) → IsReadyFor w h entry
-    value-ready None w g r = tt
-    value-ready (Some e) w g r = entry-wanted w e g r
+    pub value-ready : (entry : Option NewEntry) {w : Cut} → IsBegun a m key kind many long h at entry
+        → IsMadeValue content m w (record { handle = h; at = at }) → IsReadyFor w h entry
+    value-ready None g r = tt
+    value-ready (Some e) g r = entry-wanted g r
 
-    pub value-loose : (entry : Option NewEntry) (w : Cut) (why : Refusal) → IsBegun a m key kind many long h at entry → IsNoValue content m w (record { handle = h; at = at }) why → IsLoose a w h entry
+    pub value-loose : (entry : Option NewEntry) (w : Cut) (why : Refusal) → IsBegun a m key kind many long h at entry
+        → IsNoValue content m w (record { handle = h; at = at }) why → IsLoose a w h entry
     value-loose None w why g r = record {
       len = room_for [] long;
       taken = w;
-      takes = restored-taken a r.empty w (room_for [] long) ObjectRole h (empty-taken a g.taken m r.empty kind Anonymous [] many long h at g.takes g.headed r.change) r.restored;
-      change = unchanged w (live_of r.empty.bytes) h (room_for [] long) r.restored.laid;
+      takes = restored-taken (empty-taken g.takes g.headed r.change) r.restored;
+      change = unchanged (live_of r.empty.bytes) r.restored.laid;
     }
     value-loose (Some e) w why g r =
-        let x = denotes-index e.index a b.0 b.1.denotes in
+        let x = denotes-index e.index a b.1.denotes in
         let away = g.absent (table_of e.index b.0) (entries_of e.index b.0) x in
-        let mid : Cut = g.requested.between in
         record {
           len = room_for g.name long;
           taken = w;
           requested = record {
-            between = mid;
+            between = g.requested.between;
             grows = g.requested.grows;
-            takes = restored-taken mid r.empty w (room_for g.name long) ObjectRole h (empty-taken mid g.taken m r.empty kind (class_of_index e.index) g.name many long h at g.requested.takes g.headed r.change) r.restored;
+            takes = restored-taken (empty-taken g.requested.takes g.headed r.change) r.restored;
           };
-          change = unchanged w (live_of r.empty.bytes) h (room_for g.name long) r.restored.laid;
-          index = segment-index a e.index b;
+          change = unchanged (live_of r.empty.bytes) r.restored.laid;
+          index = segment-index e.index b;
           within = subst (λ n. e.place ≤ n) (sym x.stands.count) away.0;
         }
 
     -- ---- all directories
 
-    entry-place : (w c : Cut) (e : NewEntry) → IsBegunEntry a m key kind many long h at e → (r : IsMadeValue content m w (record { handle = h; at = at })) → IsEntryAdded w c h e → SamePlace a c
-    entry-place w c e g r added =
-        let i : Index = e.index in
-        let mid : Cut = g.requested.between in
-        let q = (entry-wanted w e g r).index in
-        SamePlace-trans a mid c (growth-place a mid (place_of i) e.growth.block g.requested.grows)
-        (SamePlace-trans mid w c (entry-taken w e g r).keeps.place (keeps-place w c (place_of i) q.table e.growth.block (added.keeps q.table q.handles q.index)))
+    module _ {w c : Cut} {e : NewEntry} (g : IsBegunEntry a m key kind many long h at e) where
+      entry-place : (r : IsMadeValue content m w (record { handle = h; at = at })) → IsEntryAdded w c h e
+          → SamePlace a c
+      entry-place r added =
+          let i : Index = e.index in
+          let mid : Cut = g.requested.between in
+          let q = (entry-wanted g r).index in
+          SamePlace-trans a mid c (growth-place (place_of i) e.growth.block g.requested.grows)
+          (SamePlace-trans mid w c (entry-taken g r).keeps.place
+          (keeps-place (place_of i) q.table e.growth.block (added.keeps q.table q.handles q.index)))
 
-    -- it is made
-    value-made : (w : Cut) (e : NewEntry) (c : Cut) → IsBegunEntry a m key kind many long h at e → IsMadeValue content m w (record { handle = h; at = at }) → IsEntryAdded w c h e → IsMadeNow a c key content h
-    value-made w e c g r added = record {
-      place = entry-place w c e g r added;
-      each = λ d st. (absent a m key h at e g d st.denotes, entry-new a m key h at e g d st.denotes w c r added);
-    }
+      -- it is made
+      value-made : IsMadeValue content m w (record { handle = h; at = at }) → IsEntryAdded w c h e
+          → IsMadeNow a c key content h
+      value-made r added = record {
+        place = entry-place r added;
+        each = λ d st. (absent g st.denotes, entry-new g st.denotes r added);
+      }
 
-    value-refused : (w : Cut) (e : NewEntry) (c : Cut) (why : Refusal) → IsBegunEntry a m key kind many long h at e → IsNoValue content m w (record { handle = h; at = at }) why → IsRestored a c → IsMadeNever a c key content
-    value-refused w e c why g r back = record {
-      place = back.keeps.place;
-      each = λ d st. (absent a m key h at e g d st.denotes, entry-denied a m key h at e g d st.denotes w c why r back);
-    }
+      value-refused : {why : Refusal} → IsNoValue content m w (record { handle = h; at = at }) why → IsRestored a c
+          → IsMadeNever a c key content
+      value-refused r back = record {
+        place = back.keeps.place;
+        each = λ d st. (absent g st.denotes, entry-denied g st.denotes r back);
+      }
 
   -- the same of an object without a key
-  module _ (a m : Cut) (h at : ℕ) (g : IsBegunAlone a m names.NoKey kind many long h at) where
-    alone-made : (w : Cut) → IsMadeValue content m w (record { handle = h; at = at }) → IsMadeNow a w names.NoKey content h
-    alone-made w r = record {
+  module _ {a m : Cut} (h at : ℕ) (g : IsBegunAlone a m names.NoKey kind many long h at) where
+    alone-made : {w : Cut} → IsMadeValue content m w (record { handle = h; at = at })
+        → IsMadeNow a w names.NoKey content h
+    alone-made {w} r = record {
       place = (both-taken a g.taken m w Anonymous [] h at g.takes g.headed r).keeps.place;
-      each = λ d st. (no_key-none d.objects, alone-new a m h at g d st.denotes w r);
+      each = λ d st. (no_key-none d.objects, alone-new a m h at g d st.denotes r);
     }
 
-    alone-refused : (w c : Cut) (why : Refusal) → IsNoValue content m w (record { handle = h; at = at }) why → IsRestored a c → IsMadeNever a c names.NoKey content
-    alone-refused w c why r back = record {
+    alone-refused : {w c : Cut} {why : Refusal} → IsNoValue content m w (record { handle = h; at = at }) why
+        → IsRestored a c → IsMadeNever a c names.NoKey content
+    alone-refused r back = record {
       place = back.keeps.place;
-      each = λ d st. (no_key-none d.objects, alone-denied a m h at g d st.denotes w c why r back);
+      each = λ d st. (no_key-none d.objects, alone-denied a m h at g d st.denotes r back);
     }
 
   -- the same whatever the key
-  module _ (a m : Cut) (b : IsSegment a.bytes) (key : names.Key) (h at : ℕ) where
-    pub value-built : (entry : Option NewEntry) (w c : Cut) → IsBegun a m key kind many long h at entry → IsMadeValue content m w (record { handle = h; at = at }) → LeadsThere w c h entry → IsMadeNow a c key content h
-    value-built None w c g r same =
+  module _ {a m : Cut} (b : IsSegment a.bytes) {key : names.Key} (h at : ℕ) where
+    pub value-built : (entry : Option NewEntry) {w : Cut} {c : Cut} → IsBegun a m key kind many long h at entry
+        → IsMadeValue content m w (record { handle = h; at = at }) → LeadsThere w c h entry
+        → IsMadeNow a c key content h
+    value-built None {c} g r same =
         subst (λ (q : names.Key). IsMadeNow a c q content h) (sym g.is)
-        (subst (λ (s : Cut). IsMadeNow a s names.NoKey content h) (sym same) (alone-made a m h at (record { is = refl; taken = g.taken; takes = g.takes; headed = g.headed }) w r))
-    value-built (Some e) w c g r added = value-made a m b key h at w e c g r added
+        (subst (λ (s : Cut). IsMadeNow a s names.NoKey content h) (sym same)
+        (alone-made h at (record { is = refl; taken = g.taken; takes = g.takes; headed = g.headed }) r))
+    value-built (Some e) g r added = value-made a b key h at g r added
 
-    pub value-not_built : (entry : Option NewEntry) (w c : Cut) (why : Refusal) → IsBegun a m key kind many long h at entry → IsNoValue content m w (record { handle = h; at = at }) why → GivesAllBack w c h entry → IsMadeNever a c key content
-    value-not_built None w c why g r gives =
-        let back : IsRestored a c = gives a (value-loose a m b key h at None w why g r) in
-        subst (λ (q : names.Key). IsMadeNever a c q content) (sym g.is) (alone-refused a m h at (record { is = refl; taken = g.taken; takes = g.takes; headed = g.headed }) w c why r back)
-    value-not_built (Some e) w c why g r gives = value-refused a m b key h at w e c why g r (gives a (value-loose a m b key h at (Some e) w why g r))
-
--- ---- it is not begun
-
-module _ (a : Cut) (key : names.Key) (content : Content) where
-  -- an object has the key
-  pub key-taken : (c : Cut) → (t : IsTakenKey a c key (kind_of (bare content))) → (d : Directory) → StandsFor a.bytes d → (o : Object) × (object_at d key ≡ Some o)
-  key-taken c t d st =
-      let f = lookup-found t.index a d t.entry key st.denotes (key-seeks t.index t.entry key t.name (kind_of (bare content)) t.is) t.place (t.found (table_of t.index d) (entries_of t.index d) (denotes-index t.index a d st.denotes)) in
-      (f.object, f.is)
-
-  none-alone : (c : Cut) → IsRefused a c (room_for [] (value_len (bare content))) ObjectRole → IsMadeNever a c names.NoKey content
-  none-alone c r = record {
-    place = subst (SamePlace a) (sym r.same) (record { before = refl; after = refl });
-    each = λ d st. (
-      no_key-none d.objects,
-      record {
-        refused = λ next.
-            perform-no_space d (live d) ObjectRole (object_len [] (bare content)) (λ x. with_value content (λ w. let o : Object = record { class = Anonymous; name = []; value = w; extent = x } in next o (with_object d o)))
-            (ap (λ l. place l (object_len [] (bare content)) ObjectRole) (sym (denotes-live current a.bytes d st.denotes)) ∙ r.none);
-        denotes = subst (λ (u : Cut). Denotes current u.bytes d) (sym r.same) st.denotes;
-      },
-    );
-  }
-
-  none-entry : (c : Cut) → IsUnmetEntry a c key (kind_of (bare content)) (value_len (bare content)) → IsMadeNever a c key content
-  none-entry c u = record {
-    place = u.unmet.restored.keeps.place;
-    each = λ d st. (
-      (lookup-absent u.index a d u.entry key st.denotes (key-seeks u.index u.entry key u.name (kind_of (bare content)) u.is) u.place (away-in u.index a d u.entry u.place st.denotes u.absent)).none,
-      record {
-        refused = λ next. content-none u.index a d u.entry key u.name (kind_of (bare content)) content st.denotes u.is next (room_for u.name (value_len (bare content))) refl u.unmet.none;
-        denotes = restored-denotes a c d st.denotes u.unmet.restored;
-      },
-    );
-  }
-
-  -- a block is refused
-  pub value-not_begun : (c : Cut) → IsNotBegun a c key (kind_of (bare content)) (value_len (bare content)) NoSpace → IsMadeNever a c key content
-  value-not_begun c (inl r) = subst (λ (q : names.Key). IsMadeNever a c q content) (sym r.0) (none-alone c r.1)
-  value-not_begun c (inr u) = none-entry c u
+    pub value-not_built : (entry : Option NewEntry) {w : Cut} {c : Cut} {why : Refusal}
+        → IsBegun a m key kind many long h at entry → IsNoValue content m w (record { handle = h; at = at }) why
+        → GivesAllBack w c h entry → IsMadeNever a c key content
+    value-not_built None {w} {c} {why} g r gives =
+        let back = gives a (value-loose a b key h at None w why g r) in
+        subst (λ (q : names.Key). IsMadeNever a c q content) (sym g.is)
+        (alone-refused h at (record { is = refl; taken = g.taken; takes = g.takes; headed = g.headed }) r back)
+    value-not_built (Some e) {w} {why} g r gives =
+        value-refused a b key h at g r (gives a (value-loose a b key h at (Some e) w why g r))

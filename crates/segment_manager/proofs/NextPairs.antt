@@ -9,7 +9,8 @@ use Rattle.segment_manager.specs.{Parts.part_of, Walks.Item}
 -- the next pair is the one at a place
 abbrev pub IsNext : State → ℕ → ScalarKind → ScalarKind → Option (ScalarValue × ScalarValue) → ℕ → Type 0
 IsNext s h k v o i =
-    (d : Directory) → StandsFor s.cut.bytes d → option_map item_seen o ≡ option_map (item_of_kinds k v) (option_map item_of (slice_get (pairs_at d (ByHandle h)) i))
+    (d : Directory) → StandsFor s.cut.bytes d → option_map item_seen o ≡ option_map (item_of_kinds k v)
+    (option_map item_of (slice_get (pairs_at d (ByHandle h)) i))
 
 -- there is one
 record IsPair (k v : ScalarKind) (x y : ScalarValue) (r : Option NumberPair) : Type 0 where
@@ -17,12 +18,15 @@ record IsPair (k v : ScalarKind) (x y : ScalarValue) (r : Option NumberPair) : T
   is : r ≡ Some pair
   same : item_seen (x, y) ≡ item_of_kinds k v (item_of pair)
 
-pair-if : (k v : ScalarKind) (x y : ScalarValue) (r : Option NumberPair) → Some (item_seen (x, y)) ≡ option_map (item_of_kinds k v) (option_map item_of r) → IsPair k v x y r
-pair-if k v x y None e = absurd (cc)
-pair-if k v x y (Some p) e = let same : item_seen (x, y) ≡ item_of_kinds k v (item_of p) = cc in record { pair = p; is = refl; same = same }
+pair-if : {k v : ScalarKind} {x y : ScalarValue} (r : Option NumberPair)
+    → Some (item_seen (x, y)) ≡ option_map (item_of_kinds k v) (option_map item_of r) → IsPair k v x y r
+pair-if None e = absurd (cc)
+pair-if {k} {v} {x} {y} (Some p) e =
+    let same : item_seen (x, y) ≡ item_of_kinds k v (item_of p) = cc in record { pair = p; is = refl; same = same }
 
 -- there is none
-none-if : (k v : ScalarKind) (r : Option NumberPair) → None ≡ option_map (item_of_kinds k v) (option_map item_of r) → r ≡ None
+none-if : (k v : ScalarKind) (r : Option NumberPair) → None ≡ option_map (item_of_kinds k v) (option_map item_of r)
+    → r ≡ None
 none-if k v None e = refl
 none-if k v (Some p) e = absurd (cc)
 
@@ -38,41 +42,53 @@ none-behind (p ∷ ps) (suc i) e = none-behind ps i e
 
 -- the first stands at the first place
 pub next-first : (s : State) (h : ℕ) (k v : ScalarKind) (o : Option (ScalarValue × ScalarValue))
-    → Answers s (λ d. option_map (item_of_kinds k v) (option_map item_of (first_of (pairs_at d (ByHandle h))))) (option_map item_seen o) → IsNext s h k v o 0
-next-first s h k v o a d l = a.answers d l ∙ ap (λ (r : Option NumberPair). option_map (item_of_kinds k v) (option_map item_of r)) (sym (first-at (pairs_at d (ByHandle h))))
+    → Answers s (λ d. option_map (item_of_kinds k v) (option_map item_of (first_of (pairs_at d (ByHandle h)))))
+    (option_map item_seen o) → IsNext s h k v o 0
+next-first s h k v o a d l =
+    a.answers d l ∙ ap (λ (r : Option NumberPair). option_map (item_of_kinds k v) (option_map item_of r))
+    (sym (first-at (pairs_at d (ByHandle h))))
 
 module _ (s : State) (h : ℕ) (k v : ScalarKind) (i : ℕ) where
   abbrev part : (Item → List ℕ) → Directory → List ℕ
   part text d = part_of (λ p. text (item_of_kinds k v (item_of p))) (slice_get (pairs_at d (ByHandle h)) i)
 
   -- nothing is written where there is none, and then there is none behind
-  pub none-text : IsNext s h k v None i → (text : Item → List ℕ) (d : Directory) → StandsFor s.cut.bytes d → [] ≡ part text d
-  none-text n text d l = ap (part_of (λ p. text (item_of_kinds k v (item_of p)))) (sym (none-if k v (slice_get (pairs_at d (ByHandle h)) i) (n d l)))
+  pub none-text : IsNext s h k v None i → (text : Item → List ℕ) (d : Directory) → StandsFor s.cut.bytes d
+      → [] ≡ part text d
+  none-text n text d l =
+      ap (part_of (λ p. text (item_of_kinds k v (item_of p))))
+      (sym (none-if k v (slice_get (pairs_at d (ByHandle h)) i) (n d l)))
 
   pub next-none : IsNext s h k v None i → IsNext s h k v None (i + 1)
   next-none n d l =
-      let ps : List NumberPair = pairs_at d (ByHandle h) in
+      let ps = pairs_at d (ByHandle h) in
       let more : suc i ≡ i + 1 = omega arith in
-      ap (λ (r : Option NumberPair). option_map (item_of_kinds k v) (option_map item_of r)) (sym (none-behind ps i (none-if k v (slice_get ps i) (n d l))))
+      ap (λ (r : Option NumberPair). option_map (item_of_kinds k v) (option_map item_of r))
+      (sym (none-behind ps i (none-if k v (slice_get ps i) (n d l))))
       ∙ ap (λ (m : ℕ). option_map (item_of_kinds k v) (option_map item_of (slice_get ps m))) more
 
   module _ (x y : ScalarValue) (n : IsNext s h k v (Some (x, y)) i) where
-    pair-there : (d : Directory) → StandsFor s.cut.bytes d → IsPair k v x y (slice_get (pairs_at d (ByHandle h)) i)
-    pair-there d l = pair-if k v x y (slice_get (pairs_at d (ByHandle h)) i) (n d l)
+    pair-there : {d : Directory} → StandsFor s.cut.bytes d → IsPair k v x y (slice_get (pairs_at d (ByHandle h)) i)
+    pair-there {d} l = pair-if (slice_get (pairs_at d (ByHandle h)) i) (n d l)
 
     -- what is written of it
-    pub pair-said : (text : Item → List ℕ) (d : Directory) → StandsFor s.cut.bytes d → text (item_seen (x, y)) ≡ part text d
-    pair-said text d l = let p = pair-there d l in ap text p.same ∙ sym (ap (part_of (λ q. text (item_of_kinds k v (item_of q)))) p.is)
+    pub pair-said : (text : Item → List ℕ) (d : Directory) → StandsFor s.cut.bytes d
+        → text (item_seen (x, y)) ≡ part text d
+    pair-said text d l =
+        let p = pair-there l in ap text p.same ∙ sym (ap (part_of (λ q. text (item_of_kinds k v (item_of q)))) p.is)
 
     -- its key is of the kind of the keys
     pub map-of-key : IsMap s (ByHandle h) k v → IsMap s (ByHandle h) (kind_of_scalar x) v
-    map-of-key m = record { answers = λ d l. let p = pair-there d l in let same : kind_of_scalar x ≡ k = ap (λ t. t.0.0) p.same in (λ j. Ok (Map (same j) v)) ∙ m.answers d l }
+    map-of-key m = record {
+      answers = λ d l. (λ j. Ok (Map ((ap (λ t. t.0.0) (pair-there l).same) j) v)) ∙ m.answers d l;
+    }
 
     -- above it comes the one at the next place
     pub next-behind : (o : Option (ScalarValue × ScalarValue))
-        → Answers s (λ d. option_map (item_of_kinds (kind_of_scalar x) v) (pair_above (value_of_scalar x) (pairs_at d (ByHandle h)))) (option_map item_seen o) → IsNext s h k v o (i + 1)
+        → Answers s (λ d. option_map (item_of_kinds (kind_of_scalar x) v)
+        (pair_above (value_of_scalar x) (pairs_at d (ByHandle h)))) (option_map item_seen o) → IsNext s h k v o (i + 1)
     next-behind o a d l =
-        let p = pair-there d l in
+        let p = pair-there l in
         let kinds : kind_of_scalar x ≡ k = ap (λ t. t.0.0) p.same in
         let keys : value_of_scalar x ≡ p.pair.key = ap (λ t. t.0.1) p.same in
         a.answers d l ∙ (λ j. option_map (item_of_kinds (kinds j) v) (pair_above (keys j) (pairs_at d (ByHandle h))))

@@ -12,14 +12,16 @@ use Rattle.std.specs.Str.{IsAscii}
 use Rattle.std.proofs.lemmas.Bool.{and_left, or_from, not_from_false}
 use Rattle.std.proofs.lemmas.Str.{IsUtf8-from_ascii, chars-IsAscii, is_utf8-from_IsUtf8}
 use Rattle.seg_types.specs.declared.kinds.Class.TheVariants.{Named}
-use Rattle.segment_manager.proofs.{Codes.known-kind, Denoted.index-stays, Frame.any_objects-same, Live.OfEach}
-use Rattle.segment_manager.proofs.{Live.of_each}
+use Rattle.segment_manager.proofs.{Codes.known-kind, Denoted.index-stays, Frame.any_objects-same, Live.of_each}
 
 -- ---- names and kinds
 
-all-weaker : {A : Type 0} (p q : A → Bool) (xs : List A) → ((x : A) → IsTrue (p x) → IsTrue (q x)) → IsTrue (list_all p xs) → IsTrue (list_all q xs)
+all-weaker : {A : Type 0} (p q : A → Bool) (xs : List A) → ((x : A) → IsTrue (p x) → IsTrue (q x))
+    → IsTrue (list_all p xs) → IsTrue (list_all q xs)
 all-weaker p q [] f h = refl
-all-weaker p q (x ∷ xs) f h = let parts = and_parts (p x) (list_all p xs) h in and_from (q x) (list_all q xs) (f x parts.0) (all-weaker p q xs f parts.1)
+all-weaker p q (x ∷ xs) f h =
+    let parts = and_parts (p x) (list_all p xs) h in
+    and_from (q x) (list_all q xs) (f x parts.0) (all-weaker p q xs f parts.1)
 
 abbrev is_printable : ℕ → Bool
 is_printable c = nat_le 0x20 c && nat_le c 0x7E
@@ -37,8 +39,7 @@ printable-no_control c h =
     let parts = and_parts (nat_le 0x20 c) (nat_le c 0x7E) h in
     let low = leb-true 0x20 c parts.0 in
     let high = leb-true c 0x7E parts.1 in
-    not_from_false (is_control c)
-    (or_from (nat_lt c 0x20) (nat_le 0x7F c && nat_le c 0x9F) (le-ltb c 0x20 low)
+    not_from_false (is_control c) (or_from (nat_lt c 0x20) (nat_le 0x7F c && nat_le c 0x9F) (le-ltb c 0x20 low)
     (and_left (nat_le 0x7F c) (nat_le c 0x9F) (lt-leb 0x7F c (omega arith))))
 
 printable-text : (name : List ℕ) → IsTrue (is_printable_name name) → IsTrue (is_text_name name)
@@ -48,8 +49,9 @@ printable-text name h =
     let sizes = and_parts (nat_le 1 (length name)) (nat_le (length name) 63) parts.0 in
     let few = leb-true (length name) 63 sizes.1 in
     let ascii = printable-ascii name parts.1 in
-    let calm : list_all (λ c. not (is_control c)) name ≡ true = all-weaker is_printable (λ c. not (is_control c)) name printable-no_control parts.1 in
-    and_from (nat_le 1 (length name) && nat_le (length name) 255 && is_utf8 name) (list_all (λ c. not (is_control c)) (chars name))
+    let calm = all-weaker is_printable (λ c. not (is_control c)) name printable-no_control parts.1 in
+    and_from (nat_le 1 (length name) && nat_le (length name) 255 && is_utf8 name)
+    (list_all (λ c. not (is_control c)) (chars name))
     (and_from (nat_le 1 (length name) && nat_le (length name) 255) (is_utf8 name)
     (and_from (nat_le 1 (length name)) (nat_le (length name) 255) sizes.0 (le-leb (length name) 255 (omega arith)))
     (is_utf8-from_IsUtf8 name (IsUtf8-from_ascii name ascii)))
@@ -68,18 +70,20 @@ if-weaker : (p a b c : Bool) → (IsTrue a → IsTrue b) → IsTrue (if p then a
 if-weaker true a b c f h = f h
 if-weaker false a b c f h = h
 
-four-weaker : (a b c d x y : Bool) → (IsTrue a → IsTrue x) → IsTrue y → IsTrue (a && b && c && d) → IsTrue (x && y && c && d)
+four-weaker : (a b c d x y : Bool) → (IsTrue a → IsTrue x) → IsTrue y → IsTrue (a && b && c && d)
+    → IsTrue (x && y && c && d)
 four-weaker a b c d x y f k h =
     let three = and_parts (a && b && c) d h in
     let two = and_parts (a && b) c three.0 in
-    let one = and_parts a b two.0 in
-    and_from (x && y && c) d (and_from (x && y) c (and_from x y (f one.0) k) two.1) three.1
+    and_from (x && y && c) d (and_from (x && y) c (and_from x y (f (and_parts a b two.0).0) k) two.1) three.1
 
 object-later : (format : ℕ) (o : Object) → IsTrue (is_object format o) → IsTrue (is_object current o)
 object-later format o h =
-    four-weaker (has_good_name format o) (is_kind_of format (kind_of o.value)) (is_good_value o.value) (serves o.extent ObjectRole (object_len o.name o.value))
+    four-weaker (has_good_name format o) (is_kind_of format (kind_of o.value)) (is_good_value o.value)
+    (serves o.extent ObjectRole (object_len o.name o.value))
     (has_good_name current o) (is_kind_of current (kind_of o.value))
-    (if-weaker (is_class Named o) (is_name format o.name) (is_name current o.name) (length o.name == 0) (name-later format o.name)) (known-kind (kind_of o.value)) h
+    (if-weaker (is_class Named o) (is_name format o.name) (is_name current o.name) (length o.name == 0)
+    (name-later format o.name)) (known-kind (kind_of o.value)) h
 
 -- a directory of any format is one of the current
 pub directory-later : (format : ℕ) (d : Directory) → IsDirectory format d → IsDirectory current d
@@ -101,24 +105,28 @@ pub record StaysButVersion (m m' : Memory) (d : Directory) : Type 0 where
   pub behind : Same m m' 32 128
   pub blocks : AllByRecursion (SameBlock m m') (live d).extents
 
-header-later : (format : ℕ) (m m' : Memory) (d : Directory) → StaysButVersion m m' d → IsHeader format m d.size → IsHeader current m' d.size
-header-later format m m' d s h = record {
+header-later : {format : ℕ} {m m' : Memory} {d : Directory} → StaysButVersion m m' d → IsHeader format m d.size
+    → IsHeader current m' d.size
+header-later {m} {m'} s h = record {
   magic = Same-word m m' 0 8 0 s.magic (omega arith) (omega arith) ∙ h.magic;
   version = s.version;
   size_word = Same-word m m' 16 24 16 s.size (omega arith) (omega arith) ∙ h.size_word;
   zeros = record { at = λ k a b. s.behind.at k (omega arith) (omega arith) ∙ h.zeros.at k a b };
 }
 
-pub denotes-later : (format : ℕ) (old new : List ℕ) (d : Directory) → Denotes format old d → StaysButVersion (bytes_of old) (bytes_of new) d → LaysOut current new (live d) → Denotes current new d
+pub denotes-later : (format : ℕ) (old new : List ℕ) (d : Directory) → Denotes format old d
+    → StaysButVersion (bytes_of old) (bytes_of new) d → LaysOut current new (live d) → Denotes current new d
 denotes-later format old new d h s l =
-    let m : Memory = bytes_of old in
-    let m' : Memory = bytes_of new in
-    let blocks : OfEach (SameBlock m m') d = of_each (SameBlock m m') d s.blocks in
+    let m = bytes_of old in
+    let m' = bytes_of new in
+    let blocks = of_each (SameBlock m m') s.blocks in
     record {
       directory = directory-later format d h.directory;
-      header = header-later format m m' d s h.header;
+      header = header-later s h.header;
       heap = l;
-      named = index-stays m m' 32 d.named (named_objects d) by_name h.directory.named (Same-part m m' 32 128 32 56 s.behind (omega arith) (omega arith)) blocks.named h.named;
-      unique = index-stays m m' 56 d.unique (unique_objects d) by_kind h.directory.unique (Same-part m m' 32 128 56 80 s.behind (omega arith) (omega arith)) blocks.unique h.unique;
+      named = index-stays (named_objects d) by_name h.directory.named
+          (Same-part m m' 32 128 32 56 s.behind (omega arith) (omega arith)) blocks.named h.named;
+      unique = index-stays (unique_objects d) by_kind h.directory.unique
+          (Same-part m m' 32 128 56 80 s.behind (omega arith) (omega arith)) blocks.unique h.unique;
       objects = any_objects-same format m m' d.objects h.directory.objects blocks.objects h.objects;
     }

@@ -12,7 +12,9 @@ use Rattle.std.proofs.Math.Seq.{drop-append_seam}
 
 -- the second of two
 pub Has-behind : (m : Memory) (at : ℕ) (xs ys : List ℕ) → Has m at (xs ++ ys) → Has m (at + length xs) ys
-Has-behind m at xs ys h = subst (Has m (at + length xs)) (drop-append_seam xs ys) (Has-drop m at (length xs) (xs ++ ys) (omega (arith, length-append xs ys)) h)
+Has-behind m at xs ys h =
+    subst (Has m (at + length xs)) (drop-append_seam xs ys)
+    (Has-drop m at (length xs) (xs ++ ys) (omega (arith, length-append xs ys)) h)
 
 -- ---- elements of n bytes each
 
@@ -20,7 +22,7 @@ all-true : {X : Type 0} (xs : List X) → IsTrue (list_all (λ (x : X). true) xs
 all-true [] = refl
 all-true (x ∷ xs) = all-true xs
 
-module _ {X : Type 0} (f : X → List ℕ) (n : ℕ) (each : (x : X) → length (f x) ≡ n) where
+module _ {X : Type 0} (f : X → List ℕ) {n : ℕ} (each : (x : X) → length (f x) ≡ n) where
   pub flat-length : (xs : List X) → length (flat_map f xs) ≡ n * length xs
   flat-length [] = omega arith
   flat-length (x ∷ xs) = omega (arith, length-append (f x) (flat_map f xs), each x, flat-length xs)
@@ -30,19 +32,22 @@ module _ {X : Type 0} (f : X → List ℕ) (n : ℕ) (each : (x : X) → length 
   moved m at to bytes e h = subst (λ a. Has m a bytes) e h
 
   -- each element stands in its place
-  pub Has-element : (m : Memory) (at : ℕ) (xs : List X) (i : ℕ) (x : X) → Has m at (flat_map f xs) → slice_get xs i ≡ Some x → Has m (at + n * i) (f x)
-  Has-element m at [] i x h e = absurd (cc)
-  Has-element m at (y ∷ ys) zero x h e =
+  pub Has-element : (m : Memory) (at : ℕ) (xs : List X) (i : ℕ) {x : X} → Has m at (flat_map f xs)
+      → slice_get xs i ≡ Some x → Has m (at + n * i) (f x)
+  Has-element m at [] i h e = absurd (cc)
+  Has-element m at (y ∷ ys) zero {x} h e =
       let same : y ≡ x = cc in
-      subst (λ z. Has m (at + n * 0) (f z)) same (moved m at (at + n * 0) (f y) (omega arith) (Has-front m at (f y) (flat_map f ys) h))
-  Has-element m at (y ∷ ys) (suc i) x h e =
-      let len : length (f y) ≡ n = each y in
-      moved m (at + length (f y) + n * i) (at + n * suc i) (f x) (omega arith) (Has-element m (at + length (f y)) ys i x (Has-behind m at (f y) (flat_map f ys) h) e)
+      subst (λ z. Has m (at + n * 0) (f z)) same
+      (moved m at (at + n * 0) (f y) (omega arith) (Has-front m at (f y) (flat_map f ys) h))
+  Has-element m at (y ∷ ys) (suc i) {x} h e =
+      let len = each y in
+      moved m (at + length (f y) + n * i) (at + n * suc i) (f x) (omega arith)
+      (Has-element m (at + length (f y)) ys i (Has-behind m at (f y) (flat_map f ys) h) e)
 
   -- one element is written in its place
-  pub Has-set : (m m' : Memory) (at : ℕ) (xs : List X) (i : ℕ) (x : X) → Has m at (flat_map f xs) → i < length xs → SameBut m m' (at + n * i) n → Has m' (at + n * i) (f x)
-      → Has m' at (flat_map f (slice_set xs i x))
-  Has-set m m' at xs i x h l s w =
+  pub Has-set : {m m' : Memory} (at : ℕ) (xs : List X) (i : ℕ) (x : X) → Has m at (flat_map f xs) → i < length xs
+      → SameBut m m' (at + n * i) n → Has m' (at + n * i) (f x) → Has m' at (flat_map f (slice_set xs i x))
+  Has-set {m} {m'} at xs i x h l s w =
       let within : n * suc i ≤ n * length xs = mul-le-mul_left n (omega arith) in
       let fits : n * i + length (f x) ≤ length (flat_map f xs) = omega (arith, within, each x, flat-length xs) in
       subst (Has m' at) (flat-set n (λ (y : X). true) f (λ y e. each y) xs i x (all-true xs) l refl)
@@ -57,7 +62,8 @@ repeated-length (suc n) bytes = omega (arith, length-append bytes (repeated n by
 -- once more
 pub repeated-more : (n : ℕ) (bytes : List ℕ) → repeated n bytes ++ bytes ≡ repeated (n + 1) bytes
 repeated-more n bytes =
-    flat_map_more (λ (each : List ℕ). each) [] (replicate n bytes) bytes ∙ ap (flat_map (λ (each : List ℕ). each)) (replicate_more n bytes)
+    flat_map_more (λ (each : List ℕ). each) [] (replicate n bytes) bytes
+    ∙ ap (flat_map (λ (each : List ℕ). each)) (replicate_more n bytes)
 
 -- they spell equal numbers
 pub repeated-spelled : (k : ScalarKind) (n : ℕ) (z : ℤ) → repeated n (spelling k z) ≡ spelled k (replicate n z)

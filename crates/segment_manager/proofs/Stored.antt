@@ -8,22 +8,15 @@ use Rattle.segment_manager.proofs.Common.{NotFound, WrongKind, OutOfRange, is_va
 use Rattle.segment_manager.proofs.Common.{spelled, Numbers, Object, Directory, count_of, is_good_value, is_object}
 use Rattle.segment_manager.proofs.Common.{kind_of, object_at, padded, value_len, Denotes, IsValueAt, handle_at}
 use Rattle.segment_manager.proofs.Common.{StandsAt, Answers, State, MatchOption, slice_set, eq-eqb, false≢true}
-use Rattle.segment_manager.proofs.Common.{ltb-false, slice_get_past, code_of, Literal}
-use Rattle.segment_manager.proofs.Common.{value_of_literal, Mode, Answer, Element, Refused, Done, live, perform, Refuse}
-use Rattle.segment_manager.proofs.Common.{Reply, with, IsReplyOfKind, IsSegment, answer_of, step_of_kind}
-use Rattle.segment_manager.proofs.Common.{effect, get, set as set_element, changed, Command, done_answer, ◌&&◌, nat_le}
-use Rattle.segment_manager.proofs.Common.{and_from, Cut}
-use Rattle.segment_manager.proofs.Common.{Memory, SameBut, ObjectRole, IsChanged, serves, BoolKind, literal_of}
-use Rattle.segment_manager.proofs.Common.{has_good_name, value_extents, with_changed, IsStepOfKind, is_read_only}
-use Rattle.segment_manager.proofs.Common.{and_then, map, values_of}
-use Rattle.segment_manager.proofs.Here.{IsHere, here, standing}
+use Rattle.segment_manager.proofs.Common.{ltb-false, slice_get_past, code_of, Literal, value_of_literal, Mode, Answer}
+use Rattle.segment_manager.proofs.Common.{Element, Refused, Done, live, perform, Refuse, Reply, with, IsReplyOfKind}
+use Rattle.segment_manager.proofs.Common.{IsSegment, answer_of, step_of_kind, effect, get, set as set_element, changed}
+use Rattle.segment_manager.proofs.Common.{Command, BoolKind, literal_of, and_then, map, values_of}
+use Rattle.segment_manager.proofs.Here.{here, standing}
 use Rattle.segment_manager.proofs.Steps.{open-reading, step_of_kind-found, step_of_kind-not_found, step_of_kind-other}
-use Rattle.segment_manager.proofs.Steps.{with-found, IsOpenFor, by_no_change_of_kind, by_step_of_kind, lands}
-use Rattle.segment_manager.proofs.Safely.{Answered, answered, done-so}
-use Rattle.segment_manager.proofs.{Blocks.spelling-length, Codes.numbers-only, Frame.object-roomy, Frame.IsRoomy}
-use Rattle.segment_manager.proofs.{Rows.Has-element, Rows.Has-set, Standings.standing-room, Words.first, Words.second}
-use Rattle.segment_manager.proofs.{Steps.open-writing, ContentPlans.of_slice, Live.IsIn, ObjectLists.key-found}
-use Rattle.segment_manager.proofs.{Exchanged.denotes-rewritten, Rewritten.value_start, Rewritten.with_value}
+use Rattle.segment_manager.proofs.Steps.{with-found, IsOpenFor}
+use Rattle.segment_manager.proofs.{Blocks.spelling-length, Codes.numbers-only, Frame.object-roomy, Rows.Has-element}
+use Rattle.segment_manager.proofs.{Standings.standing-room, Words.first, Words.second, ContentPlans.of_slice}
 use Rattle.seg_vector.specs.declared.places.Place.{Place}
 use Rattle.segment_manager.specs.Standing.{element_at, place_at, place_in}
 use Rattle.std.specs.Option.{ok_or}
@@ -31,8 +24,7 @@ use Rattle.byteorder.specs.Endian.{little_number}
 use Rattle.seg_types.specs.Kinds.{is_spelling, value_of}
 use Rattle.seg_types.proofs.Laws.{all_spell_one}
 use Rattle.seg_types.specs.Commands as asked
-use Rattle.std.proofs.Common.{negsuc, set}
-use Rattle.std.proofs.lemmas.List.{length-set}
+use Rattle.std.proofs.Common.{negsuc}
 
 -- ---- an element
 
@@ -47,20 +39,23 @@ abbrev in_any : ScalarKind → ℕ → Option Object → Result Place Refusal
 in_any k i r = elim r as (λ _. Result Place Refusal) [ None ↦ Err NotFound | Some o ↦ in_object o (place_in o k i) ]
 
 -- there it stands, or the reason why it does not
-placed-if : (s t : Bool) (at n : ℕ) → Ok at ≡ (if s then (if t then Ok n else Err OutOfRange) else Err WrongKind) → (s ≡ true) × (t ≡ true) × (at ≡ n)
-placed-if true true at n e = (refl, refl, cc)
-placed-if true false at n e = absurd (cc)
-placed-if false t at n e = absurd (cc)
+placed-if : (s t : Bool) {at : ℕ} (n : ℕ) → Ok at ≡ (if s then (if t then Ok n else Err OutOfRange) else Err WrongKind)
+    → (s ≡ true) × (t ≡ true) × (at ≡ n)
+placed-if true true n e = (refl, refl, cc)
+placed-if true false n e = absurd (cc)
+placed-if false t n e = absurd (cc)
 
 pub data Lacks (o : Object) (k : ScalarKind) (i : ℕ) (r : Refusal) : Type 0 where
   Other : same_kind (Scalar k) (kind_of o.value) ≡ false → r ≡ WrongKind → Lacks o k i r
-  Past : same_kind (Scalar k) (kind_of o.value) ≡ true → nat_lt i (count_of o.value) ≡ false → r ≡ OutOfRange → Lacks o k i r
+  Past : same_kind (Scalar k) (kind_of o.value) ≡ true → nat_lt i (count_of o.value) ≡ false → r ≡ OutOfRange
+      → Lacks o k i r
 
-lacks-if : (o : Object) (k : ScalarKind) (i n : ℕ) (r : Refusal) (s t : Bool) → same_kind (Scalar k) (kind_of o.value) ≡ s → nat_lt i (count_of o.value) ≡ t
+lacks-if : (o : Object) (k : ScalarKind) (i n : ℕ) {r : Refusal} (s t : Bool)
+    → same_kind (Scalar k) (kind_of o.value) ≡ s → nat_lt i (count_of o.value) ≡ t
     → Err r ≡ (if s then (if t then Ok n else Err OutOfRange) else Err WrongKind) → Lacks o k i r
-lacks-if o k i n r true true e f g = absurd (cc)
-lacks-if o k i n r true false e f g = Past e f (cc)
-lacks-if o k i n r false t e f g = Other e (cc)
+lacks-if o k i n true true e f g = absurd (cc)
+lacks-if o k i n true false e f g = Past e f (cc)
+lacks-if o k i n false t e f g = Other e (cc)
 
 -- an element of the object of a key, where it stands, and its number
 pub record ElementAt (b : List ℕ) (d : Directory) (key : Key) (k : ScalarKind) (i : ℕ) (p : Place) : Type 0 where
@@ -75,52 +70,55 @@ pub record ElementAt (b : List ℕ) (d : Directory) (key : Key) (k : ScalarKind)
   pub in_range : IsTrue (is_value k number)
 
 -- what holds of all holds of the one at an index
-all-at : (t : ℤ → Bool) (zs : List ℤ) (i : ℕ) (z : ℤ) → IsTrue (list_all t zs) → slice_get zs i ≡ Some z → IsTrue (t z)
-all-at t [] i z h e = absurd (cc)
-all-at t (y ∷ ys) zero z h e = let same : y ≡ z = cc in subst (λ x. IsTrue (t x)) same (first (t y) (list_all t ys) h)
-all-at t (y ∷ ys) (suc i) z h e = all-at t ys i z (second (t y) (list_all t ys) h) e
+all-at : (t : ℤ → Bool) (zs : List ℤ) (i : ℕ) {z : ℤ} → IsTrue (list_all t zs) → slice_get zs i ≡ Some z → IsTrue (t z)
+all-at t [] i h e = absurd (cc)
+all-at t (y ∷ ys) zero {z} h e = let same : y ≡ z = cc in subst (λ x. IsTrue (t x)) same (first (t y) (list_all t ys) h)
+all-at t (y ∷ ys) (suc i) h e = all-at t ys i (second (t y) (list_all t ys) h) e
 
 -- the numbers of an object are values of their kind
-pub numbers-good : (o : Object) (k : ScalarKind) (zs : List ℤ) → IsTrue (is_object current o) → o.value ≡ Numbers k zs → IsTrue (list_all (is_value k) zs)
+pub numbers-good : (o : Object) (k : ScalarKind) (zs : List ℤ) → IsTrue (is_object current o) → o.value ≡ Numbers k zs
+    → IsTrue (list_all (is_value k) zs)
 numbers-good o k zs good e =
-    let v : IsTrue (is_good_value (Numbers k zs)) = subst (λ v. IsTrue (is_good_value v)) e (object-roomy current o good).value in
-    second _ (list_all (is_value k) zs) v
+    second _ (list_all (is_value k) zs) (subst (λ v. IsTrue (is_good_value v)) e (object-roomy current o good).value)
 
-element-of : (b : List ℕ) (d : Directory) (key : Key) (k : ScalarKind) (i : ℕ) (p : Place) (o : Object) → object_at d key ≡ Some o → StandsAt b p.handle o → Ok p.at ≡ place_in o k i
-    → ElementAt b d key k i p
-element-of b d key k i p o e s f =
-    let parts = placed-if (same_kind (Scalar k) (kind_of o.value)) (nat_lt i (count_of o.value)) p.at (element_at k o.name i) f in
-    let n : (zs : List ℤ) × (o.value ≡ Numbers k zs) = numbers-only k o.value parts.0 in
-    let many : count_of o.value ≡ length n.0 = ap count_of n.1 in
-    let below : i < length n.0 = let l = ltb-true i (count_of o.value) parts.1 in omega arith in
-    let there = slice_get-get_or n.0 i (pos 0) below in
-    record {
-      object = o;
-      is = e;
-      stands = s;
-      numbers = n.0;
-      value = n.1;
-      at = parts.2;
-      number = get_or n.0 i (pos 0);
-      there = there;
-      in_range = all-at (is_value k) n.0 i (get_or n.0 i (pos 0)) (numbers-good o k n.0 s.good n.1) there;
-    }
+module _ {b : List ℕ} {d : Directory} {key : Key} {k : ScalarKind} {i : ℕ} {p : Place} where
+  element-of : {o : Object} → object_at d key ≡ Some o → StandsAt b p.handle o → Ok p.at ≡ place_in o k i
+      → ElementAt b d key k i p
+  element-of {o} e s f =
+      let parts =
+      placed-if (same_kind (Scalar k) (kind_of o.value)) (nat_lt i (count_of o.value)) (element_at k o.name i) f in
+      let n = numbers-only k o.value parts.0 in
+      let many : count_of o.value ≡ length n.0 = ap count_of n.1 in
+      let below : i < length n.0 = let l = ltb-true i (count_of o.value) parts.1 in omega arith in
+      let there = slice_get-get_or n.0 i (pos 0) below in
+      record {
+        object = o;
+        is = e;
+        stands = s;
+        numbers = n.0;
+        value = n.1;
+        at = parts.2;
+        number = get_or n.0 i (pos 0);
+        there = there;
+        in_range = all-at (is_value k) n.0 i (numbers-good o k n.0 s.good n.1) there;
+      }
 
-found-if : (b : List ℕ) (d : Directory) (key : Key) (k : ScalarKind) (i : ℕ) (p : Place) (o : Object) (q : Result ℕ Refusal) → Denotes current b d → object_at d key ≡ Some o → place_in o k i ≡ q
-    → Ok p ≡ in_object o q → ElementAt b d key k i p
-found-if b d key k i p o (Ok at) h e f g =
-    let same : p ≡ record { handle = handle o.extent; at = at } = cc in
-    element-of b d key k i p o e (subst (λ (x : Place). StandsAt b x.handle o) (sym same) (standing b d key o h e)) (ap (λ (x : Place). Ok x.at) same ∙ sym f)
-found-if b d key k i p o (Err r) h e f g = absurd (cc)
+  found-if : {o : Object} (q : Result ℕ Refusal) → Denotes current b d → object_at d key ≡ Some o → place_in o k i ≡ q
+      → Ok p ≡ in_object o q → ElementAt b d key k i p
+  found-if {o} (Ok at) h e f g =
+      let same : p ≡ record { handle = handle o.extent; at = at } = cc in
+      element-of e (subst (λ (x : Place). StandsAt b x.handle o) (sym same) (standing b d key o h e))
+      (ap (λ (x : Place). Ok x.at) same ∙ sym f)
+  found-if (Err r) h e f g = absurd (cc)
 
-element-if : (b : List ℕ) (d : Directory) (key : Key) (k : ScalarKind) (i : ℕ) (p : Place) (r : Option Object) → Denotes current b d → object_at d key ≡ r
-    → Ok p ≡ in_any k i r → ElementAt b d key k i p
-element-if b d key k i p None h e f = absurd (cc)
-element-if b d key k i p (Some o) h e f = found-if b d key k i p o (place_in o k i) h e refl f
+  element-if : (r : Option Object) → Denotes current b d → object_at d key ≡ r → Ok p ≡ in_any k i r
+      → ElementAt b d key k i p
+  element-if None h e f = absurd (cc)
+  element-if (Some o) h e f = found-if (place_in o k i) h e refl f
 
--- the place of an element is that of one
-pub element-found : (b : List ℕ) (d : Directory) (key : Key) (k : ScalarKind) (i : ℕ) (p : Place) → Denotes current b d → Ok p ≡ place_at d key k i → ElementAt b d key k i p
-element-found b d key k i p h e = element-if b d key k i p (object_at d key) h refl e
+  -- the place of an element is that of one
+  pub element-found : Denotes current b d → Ok p ≡ place_at d key k i → ElementAt b d key k i p
+  element-found h e = element-if (object_at d key) h refl e
 
 -- ---- no such element
 
@@ -129,43 +127,51 @@ pub data Missing (d : Directory) (key : Key) (k : ScalarKind) (i : ℕ) (r : Ref
   Nowhere : object_at d key ≡ None → r ≡ NotFound → Missing d key k i r
   Within : (o : Object) → object_at d key ≡ Some o → Lacks o k i r → Missing d key k i r
 
-within-if : (o : Object) (k : ScalarKind) (i : ℕ) (r : Refusal) (q : Result ℕ Refusal) → place_in o k i ≡ q
+within-if : (o : Object) (k : ScalarKind) (i : ℕ) {r : Refusal} (q : Result ℕ Refusal) → place_in o k i ≡ q
     → Err r ≡ in_object o q → Lacks o k i r
-within-if o k i r (Ok at) e f = absurd (cc)
-within-if o k i r (Err q) e f =
+within-if o k i (Ok at) e f = absurd (cc)
+within-if o k i {r} (Err q) e f =
     let same : r ≡ q = cc in
-    lacks-if o k i (element_at k o.name i) r (same_kind (Scalar k) (kind_of o.value)) (nat_lt i (count_of o.value)) refl refl (ap Err same ∙ sym e)
+    lacks-if o k i (element_at k o.name i) (same_kind (Scalar k) (kind_of o.value))
+    (nat_lt i (count_of o.value)) refl refl (ap Err same ∙ sym e)
 
-missing-if : (d : Directory) (key : Key) (k : ScalarKind) (i : ℕ) (r : Refusal) (p : Option Object) → object_at d key ≡ p
-    → Err r ≡ in_any k i p → Missing d key k i r
-missing-if d key k i r None e f = Nowhere e (cc)
-missing-if d key k i r (Some o) e f = Within o e (within-if o k i r (place_in o k i) refl f)
+missing-if : {d : Directory} {key : Key} {k : ScalarKind} {i : ℕ} {r : Refusal} (p : Option Object)
+    → object_at d key ≡ p → Err r ≡ in_any k i p → Missing d key k i r
+missing-if None e f = Nowhere e (cc)
+missing-if {k} {i} (Some o) e f = Within o e (within-if o k i (place_in o k i) refl f)
 
-pub element-missing : (d : Directory) (key : Key) (k : ScalarKind) (i : ℕ) (r : Refusal) → Err r ≡ place_at d key k i → Missing d key k i r
-element-missing d key k i r e = missing-if d key k i r (object_at d key) refl e
+pub element-missing : {d : Directory} {key : Key} {k : ScalarKind} {i : ℕ} {r : Refusal} → Err r ≡ place_at d key k i
+    → Missing d key k i r
+element-missing {d} {key} e = missing-if (object_at d key) refl e
 
 -- ---- its bytes
 
-module _ (b : List ℕ) (d : Directory) (key : Key) (k : ScalarKind) (i : ℕ) (p : Place) (e : ElementAt b d key k i p) where
+module _ (b : List ℕ) (d : Directory) (key : Key) (k : ScalarKind) (i : ℕ) (p : Place)
+    (e : ElementAt b d key k i p) where
   -- all numbers stand behind the head and the name
   pub numbers-stand : Has (bytes_of b) (p.handle + (16 + padded (length e.object.name))) (spelled k e.numbers)
   numbers-stand =
-      let at : handle e.object.extent + 16 + padded (length e.object.name) ≡ p.handle + (16 + padded (length e.object.name)) = let s = e.stands.at in omega arith in
+      let at : handle e.object.extent + 16 + padded
+      (length e.object.name) ≡ p.handle + (16 + padded (length e.object.name)) =
+      let s = e.stands.at in
+      omega arith in
       subst (λ a. Has (bytes_of b) a (spelled k e.numbers)) at
-      (subst (λ v. IsValueAt (bytes_of b) (handle e.object.extent + 16 + padded (length e.object.name)) v) e.value e.stands.said.value)
+      (subst (λ v. IsValueAt (bytes_of b) (handle e.object.extent + 16 + padded (length e.object.name)) v) e.value
+      e.stands.said.value)
 
   -- an element stands in its place
   pub element-read : read (bytes_of b) (p.handle + p.at) (size_of k) ≡ spelling k e.number
   element-read =
-      let at : p.handle + p.at ≡ p.handle + (16 + padded (length e.object.name)) + size_of k * i = let f = e.at in omega arith in
-      let h : Has (bytes_of b) (p.handle + (16 + padded (length e.object.name)) + size_of k * i) (spelling k e.number) =
-      Has-element (spelling k) (size_of k) (spelling-length k) (bytes_of b) (p.handle + (16 + padded (length e.object.name))) e.numbers i e.number numbers-stand e.there in
-      (λ j. read (bytes_of b) (at j) (sym (spelling-length k e.number) j)) ∙ h
+      let at : p.handle + p.at ≡ p.handle + (16 + padded (length e.object.name)) + size_of k * i = let f = e.at in
+      omega arith in
+      (λ j. read (bytes_of b) (at j) (sym (spelling-length k e.number) j))
+      ∙ (Has-element (spelling k) (spelling-length k) (bytes_of b)
+      (p.handle + (16 + padded (length e.object.name))) e.numbers i numbers-stand e.there)
 
   -- its block has the room for it
   pub element-room : IsTrue (has_room (live_of b) p.handle (p.at + size_of k))
   element-room =
-      let below : i < length e.numbers = slice_get_within e.numbers i e.number e.there in
+      let below = slice_get_within e.numbers i e.number e.there in
       let long : value_len e.object.value ≡ size_of k * length e.numbers = ap value_len e.value in
       let fits : size_of k * (i + 1) ≤ size_of k * length e.numbers = mul-le-mul_left (size_of k) (omega arith) in
       standing-room b p.handle (p.at + size_of k) e.object e.stands (let f = e.at in omega arith)
@@ -174,72 +180,90 @@ module _ (b : List ℕ) (d : Directory) (key : Key) (k : ScalarKind) (i : ℕ) (
 
 -- the place in each object that stands at the handle is the place of the key, and why there is none in each is why the
 -- key has none
-pub places : (s : State) (key : Key) (h : ℕ) (k : ScalarKind) (i : ℕ) (r : Result ℕ Refusal) → Answers s (λ d. handle_at d key) (Some h) → ((o : Object) → StandsAt s.cut.bytes h o → r ≡ place_in o k i)
+pub places : {s : State} (key : Key) {h : ℕ} (k : ScalarKind) (i : ℕ) {r : Result ℕ Refusal}
+    → Answers s (λ d. handle_at d key) (Some h) → ((o : Object) → StandsAt s.cut.bytes h o → r ≡ place_in o k i)
     → Answers s (λ d. place_at d key k i) (placed h r)
-places s key h k i r a each = record {
+places {s} key {h} k i {r} a each = record {
   answers = λ d l.
-      let o : IsHere s.cut.bytes d key h = here s.cut.bytes d key h l.denotes (a.answers d l) in
-      ap (λ (n : ℕ). placed n r) o.stands.at ∙ ap (in_object o.object) (each o.object o.stands) ∙ sym (ap (in_any k i) o.is);
+      let o = here s.cut.bytes d key h l.denotes (a.answers d l) in
+      ap (λ (n : ℕ). placed n r) o.stands.at ∙ ap (in_object o.object) (each o.object o.stands)
+      ∙ sym (ap (in_any k i) o.is);
 }
 
 -- ---- what the plans are
 
 -- reading in an object of numbers, and writing
-get-effect : (d : Directory) (key : Key) (o : Object) (k : ScalarKind) (zs : List ℤ) (i : ℕ) (r : Option ℤ) → object_at d key ≡ Some o → o.value ≡ Numbers k zs → slice_get zs i ≡ r
+get-effect : (d : Directory) (key : Key) {o : Object} (k : ScalarKind) (zs : List ℤ) (i : ℕ) (r : Option ℤ)
+    → object_at d key ≡ Some o → o.value ≡ Numbers k zs → slice_get zs i ≡ r
     → effect d (asked.Get key i) ≡ with (of_slice r) (λ z. Reply (Element k z) d)
-get-effect d key o k zs i r e f g =
-    with-found d key o (λ o. get d o.value i) e ∙ ap (λ v. get d v i) f ∙ ap (λ (r : Option ℤ). with (of_slice r) (λ z. Reply (Element k z) d)) g
+get-effect d key {o} k zs i r e f g =
+    with-found d key o (λ o. get d o.value i) e ∙ ap (λ v. get d v i) f
+    ∙ ap (λ (r : Option ℤ). with (of_slice r) (λ z. Reply (Element k z) d)) g
 
-pub set-effect : (d : Directory) (key : Key) (o : Object) (k : ScalarKind) (zs : List ℤ) (i : ℕ) (l : Literal) (z : ℤ) (r : Option ℤ) → object_at d key ≡ Some o → o.value ≡ Numbers k zs
-    → value_of_literal k l ≡ Ok z → slice_get zs i ≡ r → effect d (asked.Set key i l) ≡ with (of_slice r) (λ old. Reply Done (changed d o (Numbers k (slice_set zs i z))))
-set-effect d key o k zs i l z r e f g h =
+pub set-effect : (d : Directory) (key : Key) {o : Object} (k : ScalarKind) (zs : List ℤ) (i : ℕ) (l : Literal) {z : ℤ}
+    (r : Option ℤ) → object_at d key ≡ Some o → o.value ≡ Numbers k zs → value_of_literal k l ≡ Ok z
+    → slice_get zs i ≡ r → effect d (asked.Set key i l) ≡ with (of_slice r)
+    (λ old. Reply Done (changed d o (Numbers k (slice_set zs i z))))
+set-effect d key {o} k zs i l {z} r e f g h =
     with-found d key o (λ o. set_element d o o.value i l) e ∙ ap (λ v. set_element d o v i l) f
     ∙ (λ j. with (g j) (λ z. with (of_slice (h j)) (λ old. Reply Done (changed d o (Numbers k (slice_set zs i z))))))
 
 -- ---- what the step is
 
 -- the object of an element is of its kind
-pub element-kind : (b : List ℕ) (d : Directory) (key : Key) (k : ScalarKind) (i : ℕ) (p : Place) → (e : ElementAt b d key k i p) → same_kind (Scalar k) (kind_of e.object.value) ≡ true
-element-kind b d key k i p e = ap (λ v. same_kind (Scalar k) (kind_of v)) e.value ∙ eq-eqb (code_of (Scalar k)) (code_of (Scalar k)) refl
+pub element-kind : {b : List ℕ} {d : Directory} {key : Key} {k : ScalarKind} {i : ℕ} {p : Place}
+    → (e : ElementAt b d key k i p) → same_kind (Scalar k) (kind_of e.object.value) ≡ true
+element-kind {k} e =
+    ap (λ v. same_kind (Scalar k) (kind_of v)) e.value ∙ eq-eqb (code_of (Scalar k)) (code_of (Scalar k)) refl
 
 -- an element is answered
-got : (mode : Mode) (b : List ℕ) (d : Directory) (key : Key) (k : ScalarKind) (i : ℕ) (p : Place) → (e : ElementAt b d key k i p)
-    → step_of_kind mode d key (Scalar k) (asked.Get key i) ≡ (Element k e.number, d)
+got : (mode : Mode) (b : List ℕ) (d : Directory) (key : Key) (k : ScalarKind) (i : ℕ) (p : Place)
+    → (e : ElementAt b d key k i p) → step_of_kind mode d key (Scalar k) (asked.Get key i) ≡ (Element k e.number, d)
 got mode b d key k i p e =
-    step_of_kind-found mode d key (Scalar k) (asked.Get key i) e.object (open-reading mode (asked.Get key i) refl) e.is (element-kind b d key k i p e)
-    ∙ ap (perform d (live d)) (get-effect d key e.object k e.numbers i (Some e.number) e.is e.value e.there)
+    step_of_kind-found mode d key (Scalar k) (asked.Get key i) e.object (open-reading mode (asked.Get key i) refl) e.is
+    (element-kind e) ∙ ap (perform d (live d)) (get-effect d key k e.numbers i (Some e.number) e.is e.value e.there)
 
 -- or it is refused, for the reason why there is none
-lacking : (mode : Mode) (d : Directory) (key : Key) (k : ScalarKind) (i : ℕ) (r : Refusal) (c : Command) (o : Object) → IsOpenFor mode c
-    → ((zs : List ℤ) → o.value ≡ Numbers k zs → slice_get zs i ≡ None → effect d c ≡ Refuse OutOfRange) → object_at d key ≡ Some o → Lacks o k i r
+lacking : (mode : Mode) (d : Directory) (key : Key) (k : ScalarKind) (i : ℕ) (r : Refusal) (c : Command) {o : Object}
+    → IsOpenFor mode c → ((zs : List ℤ) → o.value ≡ Numbers k zs → slice_get zs i ≡ None
+    → effect d c ≡ Refuse OutOfRange) → object_at d key ≡ Some o → Lacks o k i r
     → step_of_kind mode d key (Scalar k) c ≡ (Refused r, d)
-lacking mode d key k i r c o may past e (Other s f) = step_of_kind-other mode d key (Scalar k) c o may e s ∙ (λ j. (Refused (sym f j), d))
-lacking mode d key k i r c o may past e (Past s t f) =
-    let n : (zs : List ℤ) × (o.value ≡ Numbers k zs) = numbers-only k o.value s in
+lacking mode d key k i r c {o} may past e (Other s f) =
+    step_of_kind-other mode d key (Scalar k) c o may e s ∙ (λ j. (Refused (sym f j), d))
+lacking mode d key k i r c {o} may past e (Past s t f) =
+    let n = numbers-only k o.value s in
     let many : count_of o.value ≡ length n.0 = ap count_of n.1 in
     let behind : length n.0 ≤ i = let l = ltb-false i (count_of o.value) t in omega arith in
-    step_of_kind-found mode d key (Scalar k) c o may e s ∙ ap (perform d (live d)) (past n.0 n.1 (slice_get_past n.0 i behind)) ∙ (λ j. (Refused (sym f j), d))
+    step_of_kind-found mode d key (Scalar k) c o may e s
+    ∙ ap (perform d (live d)) (past n.0 n.1 (slice_get_past n.0 i behind)) ∙ (λ j. (Refused (sym f j), d))
 
-pub missing-steps : (mode : Mode) (d : Directory) (key : Key) (k : ScalarKind) (i : ℕ) (r : Refusal) (c : Command) → IsOpenFor mode c
-    → ((o : Object) (zs : List ℤ) → object_at d key ≡ Some o → o.value ≡ Numbers k zs → slice_get zs i ≡ None → effect d c ≡ Refuse OutOfRange) → Missing d key k i r
+pub missing-steps : (mode : Mode) {d : Directory} {key : Key} {k : ScalarKind} {i : ℕ} {r : Refusal} (c : Command)
+    → IsOpenFor mode c → ((o : Object) (zs : List ℤ) → object_at d key ≡ Some o → o.value ≡ Numbers k zs
+    → slice_get zs i ≡ None → effect d c ≡ Refuse OutOfRange) → Missing d key k i r
     → step_of_kind mode d key (Scalar k) c ≡ (Refused r, d)
-missing-steps mode d key k i r c may past (Nowhere e f) = step_of_kind-not_found mode d key (Scalar k) c may e ∙ (λ j. (Refused (sym f j), d))
-missing-steps mode d key k i r c may past (Within o e l) = lacking mode d key k i r c o may (λ zs. past o zs e) e l
+missing-steps mode {d} {key} {k} c may past (Nowhere e f) =
+    step_of_kind-not_found mode d key (Scalar k) c may e ∙ (λ j. (Refused (sym f j), d))
+missing-steps mode {d} {key} {k} {i} {r} c may past (Within o e l) =
+    lacking mode d key k i r c may (λ zs. past o zs e) e l
 
 -- ---- the call
 
-module _ (t : State) (key : Key) {l k : ScalarKind} (kinds : l ≡ k) (i : ℕ) where
+module _ {t : State} (key : Key) {l k : ScalarKind} (kinds : l ≡ k) (i : ℕ) where
   -- where no element is found, the step says why
-  pub replies-missing : (r : Refusal) → Answers t (λ d. place_at d key l i) (Err r) → IsReplyOfKind t key (Scalar k) (asked.Get key i) (Refused r)
-  replies-missing r a = record {
+  pub replies-missing : {r : Refusal} → Answers t (λ d. place_at d key l i) (Err r)
+      → IsReplyOfKind t key (Scalar k) (asked.Get key i) (Refused r)
+  replies-missing {r} a = record {
     answers = λ d l.
         sym (ap (λ (n : Answer × Directory). n.0)
-        (missing-steps t.mode d key k i r (asked.Get key i) (open-reading t.mode (asked.Get key i) refl) (λ o zs e f. get-effect d key o k zs i None e f)
-        (element-missing d key k i r ((subst (λ (m : ScalarKind). Answers t (λ d. place_at d key m i) (Err r)) kinds a).answers d l))));
+        (missing-steps t.mode (asked.Get key i) (open-reading t.mode (asked.Get key i) refl)
+        (λ o zs e f. get-effect d key k zs i None e f)
+        (element-missing ((subst (λ (m : ScalarKind). Answers t (λ d. place_at d key m i) (Err r)) kinds a).answers
+        d l))));
   }
 
   -- one is found, as the view before the call names the segment
-  module _ (s : State) (view : s ≡ t) (p : Place) (n : ℕ) (long : n ≡ size_of k) (there : Answers t (λ d. place_at d key l i) (Ok p)) where
+  module _ {s : State} (view : s ≡ t) {p : Place} {n : ℕ} (long : n ≡ size_of k)
+      (there : Answers t (λ d. place_at d key l i) (Ok p)) where
     pub seen-place : Answers s (λ d. place_at d key k i) (Ok p)
     seen-place =
         subst (λ (m : ScalarKind). Answers s (λ d. place_at d key m i) (Ok p)) kinds
@@ -249,30 +273,33 @@ module _ (t : State) (key : Key) {l k : ScalarKind} (kinds : l ≡ k) (i : ℕ) 
     pub place-room : IsSegment s.cut.bytes → IsTrue (has_room (live_of s.cut.bytes) p.handle (p.at + n))
     place-room b =
         subst (λ m. IsTrue (has_room (live_of s.cut.bytes) p.handle (p.at + m))) (sym long)
-        (element-room s.cut.bytes b.0 key k i p (element-found s.cut.bytes b.0 key k i p b.1.denotes (seen-place.answers b.0 b.1)))
+        (element-room s.cut.bytes b.0 key k i p (element-found b.1.denotes (seen-place.answers b.0 b.1)))
 
     -- what its bytes are read as is the step's answer
-    pub replies-found : (answer : Answer) (bytes : List ℕ) → bytes ≡ read (bytes_of s.cut.bytes) (p.handle + p.at) n → ((z : ℤ) → IsTrue (is_value k z) → bytes ≡ spelling k z → answer ≡ Element k z)
+    pub replies-found : {answer : Answer} {bytes : List ℕ} → bytes ≡ read (bytes_of s.cut.bytes) (p.handle + p.at) n
+        → ((z : ℤ) → IsTrue (is_value k z) → bytes ≡ spelling k z → answer ≡ Element k z)
         → IsReplyOfKind t key (Scalar k) (asked.Get key i) answer
-    replies-found answer bytes are reads =
+    replies-found {answer} are reads =
         subst (λ (u : State). IsReplyOfKind u key (Scalar k) (asked.Get key i) answer) view (record {
           answers = λ d l.
-              let e : ElementAt s.cut.bytes d key k i p = element-found s.cut.bytes d key k i p l.denotes (seen-place.answers d l) in
-              reads e.number e.in_range (are ∙ ap (read (bytes_of s.cut.bytes) (p.handle + p.at)) long ∙ element-read s.cut.bytes d key k i p e)
+              let e = element-found l.denotes (seen-place.answers d l) in
+              reads e.number e.in_range
+              (are ∙ ap (read (bytes_of s.cut.bytes) (p.handle + p.at)) long ∙ element-read s.cut.bytes d key k i p e)
               ∙ sym (ap (λ (n : Answer × Directory). n.0) (got s.mode s.cut.bytes d key k i p e));
         })
 
 -- ---- what is read
 
 -- a value of a type whose number is the one that the bytes spell
-pub number-answer : {T : Type 0} (k : ScalarKind) (z : ℤ) (whole : T → ℤ) (bytes : List ℕ) (q : Option T) (r : Result T Refusal) → r ≡ ok_or q WrongKind → IsTrue (is_value k z) → bytes ≡ spelling k z
-    → MatchOption q (is_spelling k bytes ≡ false) (λ x. (is_spelling k bytes ≡ true) × (whole x ≡ value_of k (little_number (size_of k) bytes)))
-    → answer_of (λ x. Element k (whole x)) r ≡ Element k z
-number-answer k z whole bytes None r f v e h =
-    absurd (false≢true (sym h ∙ ap (is_spelling k) e ∙ (all_spell_one k z v).is_one))
-number-answer k z whole bytes (Some x) r f v e h =
+pub number-answer : {T : Type 0} (k : ScalarKind) (z : ℤ) (whole : T
+    → ℤ) {bytes : List ℕ} (q : Option T) {r : Result T Refusal} → r ≡ ok_or q WrongKind → IsTrue (is_value k z)
+    → bytes ≡ spelling k z → MatchOption q (is_spelling k bytes ≡ false) (λ x. (is_spelling k bytes ≡ true)
+    × (whole x ≡ value_of k (little_number (size_of k) bytes))) → answer_of (λ x. Element k (whole x)) r ≡ Element k z
+number-answer k z whole None f v e h = absurd (false≢true (sym h ∙ ap (is_spelling k) e ∙ (all_spell_one k z v).is_one))
+number-answer k z whole (Some x) f v e h =
     ap (answer_of (λ x. Element k (whole x))) f
-    ∙ ap (Element k) (h.1 ∙ ap (λ (bs : List ℕ). value_of k (little_number (size_of k) bs)) e ∙ (all_spell_one k z v).reads)
+    ∙ ap (Element k) (h.1 ∙ ap (λ (bs : List ℕ). value_of k (little_number (size_of k) bs)) e
+    ∙ (all_spell_one k z v).reads)
 
 -- ---- the literal of a value
 
@@ -285,118 +312,9 @@ literal-read BoolKind (negsuc n) h = absurd (cc)
 literal-read k z h = ap (λ (b : Bool). let r : Result ℤ Refusal = if b then Ok z else Err OutOfRange in r) h
 
 -- the literals of values are read as them
-pub literals-read : (k : ScalarKind) (zs : List ℤ) → IsTrue (list_all (is_value k) zs) → values_of k (map (literal_of k) zs) ≡ Ok zs
+pub literals-read : (k : ScalarKind) (zs : List ℤ) → IsTrue (list_all (is_value k) zs)
+    → values_of k (map (literal_of k) zs) ≡ Ok zs
 literals-read k [] h = refl
 literals-read k (z ∷ zs) h =
-    let one = literal-read k z (first (is_value k z) (list_all (is_value k) zs) h) in
     let rest = literals-read k zs (second (is_value k z) (list_all (is_value k) zs) h) in
-    λ i. and_then (one i) (rest i)
-
--- ---- the numbers with another among them
-
-list_all-set : (t : ℤ → Bool) (zs : List ℤ) (i : ℕ) (z : ℤ) → IsTrue (list_all t zs) → IsTrue (t z) → IsTrue (list_all t (set zs i z))
-list_all-set t [] i z h v = h
-list_all-set t (y ∷ ys) zero z h v = and_from (t z) (list_all t ys) v (second (t y) (list_all t ys) h)
-list_all-set t (y ∷ ys) (suc i) z h v = and_from (t y) (list_all t (set ys i z)) (first (t y) (list_all t ys) h) (list_all-set t ys i z (second (t y) (list_all t ys) h) v)
-
--- as many values make the object another
-numbers-object : (o : Object) (k : ScalarKind) (zs new : List ℤ) → IsTrue (is_object current o) → o.value ≡ Numbers k zs → length new ≡ length zs → IsTrue (list_all (is_value k) new)
-    → IsTrue (is_object current (with_value o (Numbers k new)))
-numbers-object o k zs new h e many all =
-    let h1 : IsTrue (is_object current (with_value o (Numbers k zs))) = subst (λ v. IsTrue (is_object current (with_value o v))) e h in
-    let named : Bool = has_good_name current o in
-    let serving : ℕ → Bool = λ n. serves o.extent ObjectRole (16 + padded (length o.name) + size_of k * n) in
-    let counted : ℕ → Bool = λ n. nat_le 1 n && nat_le n 1048576 in
-    let before : Bool = named && true && (counted (length zs) && list_all (is_value k) zs) in
-    let front : IsTrue (named && true) = first (named && true) (counted (length zs) && list_all (is_value k) zs) (first before (serving (length zs)) h1) in
-    let value : IsTrue (counted (length zs) && list_all (is_value k) zs) = second (named && true) (counted (length zs) && list_all (is_value k) zs) (first before (serving (length zs)) h1) in
-    let count : IsTrue (counted (length new)) = subst (λ n. IsTrue (counted n)) (sym many) (first (counted (length zs)) (list_all (is_value k) zs) value) in
-    let room : IsTrue (serving (length new)) = subst (λ n. IsTrue (serving n)) (sym many) (second before (serving (length zs)) h1) in
-    and_from (named && true && (counted (length new) && list_all (is_value k) new)) (serving (length new))
-    (and_from (named && true) (counted (length new) && list_all (is_value k) new) front (and_from (counted (length new)) (list_all (is_value k) new) count all)) room
-
--- ---- the element is written
-
-module _ (old new : Cut) (d : Directory) (key : Key) (k : ScalarKind) (i : ℕ) (p : Place) (e : ElementAt old.bytes d key k i p) where
-  -- the object with the new number
-  abbrev pub with_number : ℤ → Object
-  with_number z = with_value e.object (Numbers k (set e.numbers i z))
-
-  -- where its numbers stand, and where the one does
-  start : value_start e.object ≡ p.handle + (16 + padded (length e.object.name))
-  start = let s = e.stands.at in omega arith
-
-  spot : p.handle + p.at ≡ value_start e.object + size_of k * i
-  spot = let s = e.stands.at in let f = e.at in omega arith
-
-  below : i < length e.numbers
-  below = slice_get_within e.numbers i e.number e.there
-
-  good : (z : ℤ) → IsTrue (is_value k z) → IsTrue (is_object current (with_number z))
-  good z v =
-      numbers-object e.object k e.numbers (set e.numbers i z) e.stands.good e.value (length-set e.numbers i z)
-      (list_all-set (is_value k) e.numbers i z (numbers-good e.object k e.numbers e.stands.good e.value) v)
-
-  -- the numbers stand there
-  written : (z : ℤ) → SameBut (bytes_of old.bytes) (bytes_of new.bytes) (p.handle + p.at) (size_of k) → Has (bytes_of new.bytes) (p.handle + p.at) (spelling k z)
-      → IsValueAt (bytes_of new.bytes) (value_start e.object) (Numbers k (set e.numbers i z))
-  written z s w =
-      let m : Memory = bytes_of old.bytes in
-      let m' : Memory = bytes_of new.bytes in
-      let was : Has m (value_start e.object) (spelled k e.numbers) = subst (λ a. Has m a (spelled k e.numbers)) (sym start) (numbers-stand old.bytes d key k i p e) in
-      Has-set (spelling k) (size_of k) (spelling-length k) m m' (value_start e.object) e.numbers i z was below
-      (subst (λ a. SameBut m m' a (size_of k)) spot s) (subst (λ a. Has m' a (spelling k z)) spot w)
-
-  -- the bytes denote the directory with the new number
-  pub denotes-number : (z : ℤ) → Denotes current old.bytes d → IsTrue (is_value k z) → IsChanged current old new (p.handle + p.at) (size_of k) → Has (bytes_of new.bytes) (p.handle + p.at) (spelling k z)
-      → Denotes current new.bytes (with_changed d (with_number z))
-  denotes-number z h v c w =
-      let o : Object = e.object in
-      let f : IsIn d o = key-found current d key o h.directory e.is in
-      let roomy : IsRoomy o = object-roomy current o e.stands.good in
-      let room : 16 + padded (length o.name) + value_len o.value + 16 ≤ o.extent.len = roomy.room in
-      let long : value_len o.value ≡ size_of k * length e.numbers = ap value_len e.value in
-      let l = below in
-      let fits : size_of k * (i + 1) ≤ size_of k * length e.numbers = mul-le-mul_left (size_of k) (omega arith) in
-      let at = spot in
-      denotes-rewritten old new d o (Numbers k (set e.numbers i z)) (p.handle + p.at) (size_of k) h f (ap kind_of (sym e.value))
-      (length-set e.numbers i z ∙ ap count_of (sym e.value)) (ap value_extents (sym e.value)) (good z v) (omega arith) (omega arith) c (written z c.rest w)
-
--- ---- what the step is
-
--- an element is set
-stored : (mode : Mode) (b : List ℕ) (d : Directory) (key : Key) (k : ScalarKind) (i : ℕ) (p : Place) (l : Literal) (z : ℤ) → (e : ElementAt b d key k i p) → is_read_only mode ≡ false → value_of_literal k l ≡ Ok z
-    → step_of_kind mode d key (Scalar k) (asked.Set key i l) ≡ (Done, with_changed d (with_value e.object (Numbers k (set e.numbers i z))))
-stored mode b d key k i p l z e writing f =
-    step_of_kind-found mode d key (Scalar k) (asked.Set key i l) e.object (open-writing mode (asked.Set key i l) writing) e.is (element-kind b d key k i p e)
-    ∙ ap (perform d (live d)) (set-effect d key e.object k e.numbers i l z (Some e.number) e.is e.value f e.there)
-
--- ---- the call
-
--- where no element is found, the step says why
-pub stores-nothing : (s : State) (key : Key) (k : ScalarKind) (i : ℕ) (z : ℤ) (r : Refusal) → is_read_only s.mode ≡ false → is_value k z ≡ true → Answers s (λ d. place_at d key k i) (Err r)
-    → IsStepOfKind s s key (Scalar k) (asked.Set key i (literal_of k z)) (Refused r)
-stores-nothing s key k i z r writing v a =
-    by_no_change_of_kind s key (Scalar k) (asked.Set key i (literal_of k z)) (Refused r)
-    (λ d l.
-    missing-steps s.mode d key k i r (asked.Set key i (literal_of k z)) (open-writing s.mode (asked.Set key i (literal_of k z)) writing)
-    (λ o zs e f. set-effect d key o k zs i (literal_of k z) z None e f (literal-read k z v)) (element-missing d key k i r (a.answers d l)))
-
--- a spelling was written at the place: the call is the step
-pub stores-number : (s t : State) (view : s ≡ t) (b : IsSegment s.cut.bytes) (new : Cut) (key : Key) (k : ScalarKind) (i : ℕ) (p : Place) (z : ℤ) (bytes : List ℕ) → is_read_only t.mode ≡ false → is_value k z ≡ true
-    → bytes ≡ spelling k z → Answers t (λ d. place_at d key k i) (Ok p) → IsChanged current s.cut new (p.handle + p.at) (length bytes) → Has (bytes_of new.bytes) (p.handle + p.at) bytes
-    → Answered done_answer s t new key (Scalar k) (asked.Set key i (literal_of k z)) (Ok tt)
-stores-number s t view b new key k i p z bytes may v f there c w =
-    let writing : is_read_only s.mode ≡ false = subst (λ (u : State). is_read_only u.mode ≡ false) (sym view) may in
-    let a : Answers s (λ d. place_at d key k i) (Ok p) = subst (λ (u : State). Answers u (λ d. place_at d key k i) (Ok p)) (sym view) there in
-    let c' : IsChanged current s.cut new (p.handle + p.at) (size_of k) = subst (λ n. IsChanged current s.cut new (p.handle + p.at) n) (ap (λ (bs : List ℕ). length bs) f ∙ spelling-length k z) c in
-    answered s t view b new key (Scalar k) (asked.Set key i (literal_of k z)) (Ok tt)
-    (done-so (by_step_of_kind s (record s { cut = new }) key (Scalar k) (asked.Set key i (literal_of k z)) Done (record { mode = refl; place = c.place })
-    (λ d l.
-    let e : ElementAt s.cut.bytes d key k i p = element-found s.cut.bytes d key k i p l.denotes (a.answers d l) in
-    let o' : Object = with_value e.object (Numbers k (set e.numbers i z)) in
-    lands (record s { cut = new }) (step_of_kind s.mode d key (Scalar k) (asked.Set key i (literal_of k z))) Done (with_changed d o')
-    (record {
-      is = stored s.mode s.cut.bytes d key k i p (literal_of k z) z e writing (literal-read k z v);
-      denotes = denotes-number s.cut new d key k i p e z l.denotes v c' (subst (Has (bytes_of new.bytes) (p.handle + p.at)) f w);
-    }))))
+    λ i. and_then ((literal-read k z (first (is_value k z) (list_all (is_value k) zs) h)) i) (rest i)

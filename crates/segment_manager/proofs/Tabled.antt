@@ -1,34 +1,24 @@
 -- What the bytes denote after an index has an entry more or less, or another capacity.
 use Rattle.segment_manager.proofs.Common.{◌≡◌, refl, sym, ap, subst, ◌∙◌, ℕ, ◌+◌, ◌≤◌, Some, None, Option, List, arith}
-use Rattle.segment_manager.proofs.Common.{IsTrue, flat_map, insert, AllByRecursion, Cut, Memory, Same, SamePlace}
-use Rattle.segment_manager.proofs.Common.{bytes_of, current, Same-part, Same-trans, IndexRole, Extent, LiveSet, handle}
-use Rattle.segment_manager.proofs.Common.{is_proper, added, others, IsAllocated, Keeps, LaysOut, SameBlock, extent_at}
-use Rattle.segment_manager.proofs.Common.{live_of, Table, no_table, allocated-live, blocks-trans, Index, AddKeeps, Adds}
-use Rattle.segment_manager.proofs.Common.{beside_table, unlinked, without_link, IsIndexOf, capacity_at, place_of}
-use Rattle.segment_manager.proofs.Common.{grown_capacity, Object, Directory, extents_of, is_object, live, object_at}
-use Rattle.segment_manager.proofs.Common.{with_object, Denotes, IsObjectAt, class_of_index, entries_of, table_of}
-use Rattle.segment_manager.proofs.Common.{with_table_of, ◌*◌, Bool, true, false, ◌&&◌, ◌==◌, [], length, if◌then◌else◌}
-use Rattle.segment_manager.proofs.Common.{◌||◌, option_map, nat_le, nat_lt, list_all, eq-eqb, eqb-true, place, released}
-use Rattle.segment_manager.proofs.Common.{resized, cut_table, is_table, serves, placed_is_proper, IsReserved, IsShrunk}
-use Rattle.segment_manager.proofs.Common.{KeepsRest, IsIndexAt, link_at, IsHeader, is_index, rises_from, objects_of}
-use Rattle.segment_manager.proofs.Common.{order_of, ◌∷◌, lay_out_one, handles, remove_object, table_extents}
-use Rattle.segment_manager.proofs.Denoted.{KeepsFront, denotes-put, HasIndexes, denotes-taken}
+use Rattle.segment_manager.proofs.Common.{IsTrue, flat_map, insert, AllByRecursion, Cut, Same, SamePlace, bytes_of}
+use Rattle.segment_manager.proofs.Common.{current, Same-part, Same-trans, IndexRole, Extent, LiveSet, handle, is_proper}
+use Rattle.segment_manager.proofs.Common.{added, others, IsAllocated, Keeps, LaysOut, SameBlock, extent_at, live_of}
+use Rattle.segment_manager.proofs.Common.{Table, no_table, allocated-live, blocks-trans, Index, AddKeeps, Adds}
+use Rattle.segment_manager.proofs.Common.{beside_table, unlinked, without_link, IsIndexOf, place_of, grown_capacity}
+use Rattle.segment_manager.proofs.Common.{Object, Directory, extents_of, is_object, live, object_at, with_object}
+use Rattle.segment_manager.proofs.Common.{Denotes, IsObjectAt, class_of_index, entries_of, table_of, with_table_of}
+use Rattle.segment_manager.proofs.Common.{place}
+use Rattle.segment_manager.proofs.Denoted.{KeepsFront, denotes-put}
 use Rattle.segment_manager.proofs.Taking.{IsMade, allocated-found, taken-found, taken-live}
 use Rattle.segment_manager.proofs.Order.{all_of-inserted, inserted, live-rises}
 use Rattle.segment_manager.proofs.Entered.{HasOne, OfRest, entered-other, entered-own, has_both, key_in, of_all}
-use Rattle.segment_manager.proofs.Entered.{of_rest, other, other-stays, other-words, other_class}
+use Rattle.segment_manager.proofs.Entered.{of_rest, other, other-stays, other-words}
 use Rattle.segment_manager.proofs.Tables.{index-left_out, last-table, left_out, live-moved_index, same-table, table-of}
-use Rattle.segment_manager.proofs.Tables.{live-no_index, live-resized_index, live-same_index}
-use Rattle.segment_manager.proofs.Frame.{any_object-same, header-same, any_objects-same, any_index-same}
-use Rattle.segment_manager.proofs.Live.{adding, IsIn, OfEach, live-without, of_each, removing}
-use Rattle.segment_manager.proofs.Words.{AllByRecursion-append, AllByRecursion-behind, AllByRecursion-front}
-use Rattle.segment_manager.proofs.{Common.without_object, Calling.denotes-live, HeldIndexes.denotes-index}
-use Rattle.segment_manager.proofs.{Denoted.handles-length, Indexes.index-from, Indexes.index-parts}
-use Rattle.segment_manager.proofs.{Bridge.no-entry-removed}
+use Rattle.segment_manager.proofs.Frame.{any_object-same}
+use Rattle.segment_manager.proofs.Live.{adding}
+use Rattle.segment_manager.proofs.{Calling.denotes-live}
 use Rattle.seg_index.proofs.Laws.{place_behind}
 use Rattle.seg_index.specs.declared.index.Index.TheVariants as index
-use Rattle.best_fit.specs.Fit.{gap_after, room, shorter}
-use Rattle.seg_index.specs.Capacities.{with_cut}
 
 -- ---- the bytes once the entry is there
 
@@ -36,7 +26,8 @@ use Rattle.seg_index.specs.Capacities.{with_cut}
 -- was made before, and of all that the directory had, nothing changed.
 pub record IsEntered (i : Index) (old new : Cut) (d : Directory) (t : Table) (o : Object) : Type 0 where
   pub laid : LaysOut current new.bytes (adding (live (with_table_of i d t)) (extents_of o))
-  pub blocks : AllByRecursion (SameBlock (bytes_of old.bytes) (bytes_of new.bytes)) (inserted (extents_of o) (live (with_table_of i d no_table)).extents)
+  pub blocks : AllByRecursion (SameBlock (bytes_of old.bytes) (bytes_of new.bytes))
+      (inserted (extents_of o) (live (with_table_of i d no_table)).extents)
   pub place : SamePlace old new
   pub front : Same (bytes_of old.bytes) (bytes_of new.bytes) 0 24
   pub before : Same (bytes_of old.bytes) (bytes_of new.bytes) 32 (place_of i)
@@ -51,60 +42,62 @@ pub same-objects : (i : Index) (d : Directory) (t : Table) → (with_table_of i 
 same-objects index.Named d t = refl
 same-objects index.Unique d t = refl
 
-pub has-one : (i : Index) (b : List ℕ) (d : Directory) → Denotes current b d → HasOne i (bytes_of b) d
-has-one index.Named b d k = record { is = k.directory.named; at = k.named }
-has-one index.Unique b d k = record { is = k.directory.unique; at = k.unique }
+pub has-one : (i : Index) {b : List ℕ} {d : Directory} → Denotes current b d → HasOne i (bytes_of b) d
+has-one index.Named k = record { is = k.directory.named; at = k.named }
+has-one index.Unique k = record { is = k.directory.unique; at = k.unique }
 
 pub place-high : (i : Index) → place_of i + 24 ≤ 80
 place-high index.Named = omega arith
 place-high index.Unique = omega arith
 
 -- the directory with the object is what the new bytes denote
-pub entered-denotes : (i : Index) (a b c : Cut) (d : Directory) (t : Table) (o : Object) → Denotes current a.bytes d → Keeps a b (live d).extents
-    → IsTrue (is_object current o) → IsObjectAt (bytes_of b.bytes) o → o.class ≡ class_of_index i → object_at d (key_in i o) ≡ None
+pub entered-denotes : {i : Index} (a : Cut) {b c : Cut} {d : Directory} {t : Table} {o : Object}
+    → Denotes current a.bytes d → Keeps a b (live d).extents → IsTrue (is_object current o)
+    → IsObjectAt (bytes_of b.bytes) o → o.class ≡ class_of_index i → object_at d (key_in i o) ≡ None
     → IsEntered i b c d t o → Denotes current c.bytes (with_object (with_table_of i d t) o)
-entered-denotes i a b c d t o k keeps good at class none e =
-    let A : Memory = bytes_of a.bytes in
-    let B : Memory = bytes_of b.bytes in
-    let C : Memory = bytes_of c.bytes in
+entered-denotes {i} a {b} {c} {d} {t} {o} k keeps good at class none e =
+    let A = bytes_of a.bytes in
+    let B = bytes_of b.bytes in
+    let C = bytes_of c.bytes in
     let low = place_behind i in
     let high = place-high i in
-    let before : OfRest i (SameBlock A B) d = of_all i (SameBlock A B) d keeps.blocks in
-    let parts : AllByRecursion (SameBlock B C) (extents_of o) × AllByRecursion (SameBlock B C) (live (with_table_of i d no_table)).extents =
-    all_of-inserted (SameBlock B C) (extents_of o) (live (with_table_of i d no_table)).extents e.blocks in
-    let after : OfRest i (SameBlock B C) d = of_rest i (SameBlock B C) d parts.1 in
+    let before = of_all i (SameBlock A B) keeps.blocks in
+    let parts = all_of-inserted (SameBlock B C) (extents_of o) (live (with_table_of i d no_table)).extents e.blocks in
+    let after = of_rest i (SameBlock B C) parts.1 in
     let all : OfRest i (SameBlock A C) d = record {
       objects = blocks-trans A B C (flat_map extents_of d.objects) before.objects after.objects;
       other_table = blocks-trans A B C _ before.other_table after.other_table;
     } in
-    let words : Same A C (place_of (other i)) (place_of (other i) + 24) =
-    other-words i A C (Same-trans A B C 32 (place_of i) (Same-part A B 32 128 32 (place_of i) keeps.behind (omega arith) (omega arith)) e.before)
-    (Same-trans A B C (place_of i + 24) 128 (Same-part A B 32 128 (place_of i + 24) 128 keeps.behind (omega arith) (omega arith)) e.behind) in
-    let one : HasOne (other i) C d = other-stays i A C d (has-one (other i) a.bytes d k) words all.other_table in
-    let own : HasOne i C (with_object (with_table_of i d t) o) =
-    entered-own i C d t o class none (has-one i a.bytes d k).is e.stands.places e.stands.few e.stands.stands in
+    let one = other-stays i (has-one (other i) k) (other-words i (Same-trans A B C 32 (place_of i)
+    (Same-part A B 32 128 32 (place_of i) keeps.behind (omega arith) (omega arith)) e.before)
+    (Same-trans A B C (place_of i + 24) 128
+    (Same-part A B 32 128 (place_of i + 24) 128 keeps.behind (omega arith) (omega arith)) e.behind)) all.other_table in
     let front : KeepsFront A C = record {
       front = Same-trans A B C 0 24 keeps.front e.front;
-      zeros = Same-trans A B C 80 128 (Same-part A B 32 128 80 128 keeps.behind (omega arith) (omega arith)) (Same-part B C (place_of i + 24) 128 80 128 e.behind (omega arith) (omega arith));
+      zeros = Same-trans A B C 80 128 (Same-part A B 32 128 80 128 keeps.behind (omega arith) (omega arith))
+          (Same-part B C (place_of i + 24) 128 80 128 e.behind (omega arith) (omega arith));
     } in
-    denotes-put current a.bytes c.bytes d (with_table_of i d t) o k (same-size i d t) (same-objects i d t) good e.laid front all.objects
-    (has_both i C (with_object (with_table_of i d t) o) own (entered-other i C d t o class one))
-    (any_object-same current B C o good parts.0 at)
+    denotes-put (with_table_of i d t) k (same-size i d t) (same-objects i d t) good e.laid front all.objects
+    (has_both i (entered-own d o class none (has-one i k).is e.stands.places e.stands.few e.stands.stands)
+    (entered-other i t o class one)) (any_object-same current good parts.0 at)
 
 -- ---- after `prepare`, the making of an object, and `add`
 
 -- the index had a place left
-pub entered-none : (i : Index) (a b c : Cut) (d : Directory) (o : Object) (at : ℕ) → Denotes current a.bytes d → IsMade a b o
-    → IsIndexOf b (place_of i) (table_of i d) (entries_of i d) → insert (entries_of i d) at (handle o.extent) ≡ entries_of i (with_object d o)
-    → Adds b c (place_of i) (table_of i d) (insert (entries_of i d) at (handle o.extent)) None → LaysOut current c.bytes (live_of b.bytes)
-    → AddKeeps b c (place_of i) (table_of i d) None → IsEntered i b c d (table_of i d) o
-entered-none i a b c d o at k m x e adds laid keeps =
-    let ys : List Extent = extents_of o in
-    let same : live_of b.bytes ≡ adding (live d) ys = taken-live a b (extents_of o) m.taken ∙ ap (λ l. adding l ys) (denotes-live current a.bytes d k) in
+pub entered-none : {i : Index} (a : Cut) {b : Cut} {c : Cut} {d : Directory} {o : Object} (at : ℕ)
+    → Denotes current a.bytes d → IsMade a b o → IsIndexOf b (place_of i) (table_of i d) (entries_of i d)
+    → insert (entries_of i d) at (handle o.extent) ≡ entries_of i (with_object d o)
+    → Adds b c (place_of i) (table_of i d) (insert (entries_of i d) at (handle o.extent)) None
+    → LaysOut current c.bytes (live_of b.bytes) → AddKeeps b c (place_of i) (table_of i d) None
+    → IsEntered i b c d (table_of i d) o
+entered-none {i} a {b} {c} {d} {o} at k m x e adds laid keeps =
+    let ys = extents_of o in
+    let same = taken-live a b (extents_of o) m.taken ∙ ap (λ l. adding l ys) (denotes-live current a.bytes d k) in
     let laid' : LaysOut current c.bytes (adding (live d) ys) = subst (LaysOut current c.bytes) same laid in
-    let gone = ap (λ (l : LiveSet). beside_table (table_of i d) l.extents) same ∙ index-left_out i d ys (live-rises (adding (live d) ys) laid'.proper) in
+    let gone = ap (λ (l : LiveSet). beside_table (table_of i d) l.extents) same
+    ∙ index-left_out i d ys (live-rises (adding (live d) ys) laid'.proper) in
     record {
-      laid = subst (λ e. LaysOut current c.bytes (adding (live e) ys)) (sym (same-table i d)) laid';
+      laid = subst (λ e. LaysOut current c.bytes (adding (live e) ys)) (sym (same-table i)) laid';
       blocks = subst (AllByRecursion (SameBlock (bytes_of b.bytes) (bytes_of c.bytes))) gone keeps.blocks;
       place = keeps.place;
       front = keeps.front;
@@ -118,27 +111,30 @@ abbrev pub grown_into : Index → Directory → Extent → Table
 grown_into i d x = record { capacity = grown_capacity (table_of i d).capacity; extent = Some x }
 
 -- the index grew into a new block
-pub entered-some : (i : Index) (a m b c : Cut) (d : Directory) (o : Object) (at n h : ℕ) → Denotes current a.bytes d → (g : IsAllocated current a m n IndexRole h) → IsMade m b o
-    → IsIndexOf b (place_of i) (table_of i d) (entries_of i d) → insert (entries_of i d) at (handle o.extent) ≡ entries_of i (with_object d o)
-    → Adds b c (place_of i) (table_of i d) (insert (entries_of i d) at (handle o.extent)) (Some h) → LaysOut current c.bytes (unlinked b (place_of i))
-    → AddKeeps b c (place_of i) (table_of i d) (Some h) → IsEntered i b c d (grown_into i d g.extent) o
-entered-some i a m b c d o at n h k g made x e adds laid keeps =
-    let ys : List Extent = extents_of o in
-    let t : Table = grown_into i d g.extent in
-    let mid : live_of m.bytes ≡ added (live d) g.extent =
+pub entered-some : {i : Index} {a m b : Cut} {c : Cut} {d : Directory} {o : Object} (at : ℕ) {n h : ℕ}
+    → Denotes current a.bytes d → (g : IsAllocated current a m n IndexRole h) → IsMade m b o
+    → IsIndexOf b (place_of i) (table_of i d) (entries_of i d)
+    → insert (entries_of i d) at (handle o.extent) ≡ entries_of i (with_object d o)
+    → Adds b c (place_of i) (table_of i d) (insert (entries_of i d) at (handle o.extent)) (Some h)
+    → LaysOut current c.bytes (unlinked b (place_of i)) → AddKeeps b c (place_of i) (table_of i d) (Some h)
+    → IsEntered i b c d (grown_into i d g.extent) o
+entered-some {i} {a} {m} {b} {c} {d} {o} at {n} {h} k g made x e adds laid keeps =
+    let ys = extents_of o in
+    let t = grown_into i d g.extent in
+    let mid =
     allocated-live current a m n IndexRole h g ∙ ap (λ l. added l g.extent) (denotes-live current a.bytes d k) in
-    let same : live_of b.bytes ≡ adding (added (live d) g.extent) ys = taken-live m b (extents_of o) made.taken ∙ ap (λ l. adding l ys) mid in
-    let proper : IsTrue (is_proper (adding (added (live d) g.extent) ys)) = subst (λ l. IsTrue (is_proper (adding l ys))) mid made.taken.live.proper in
     let left : unlinked b (place_of i) ≡ adding (live (with_table_of i d t)) ys =
-    (λ j. without_link (same j) (x.stands.link j)) ∙ live-moved_index i d t g.extent ys refl proper in
-    let laid' : LaysOut current c.bytes (adding (live (with_table_of i d t)) ys) = subst (LaysOut current c.bytes) left laid in
-    let gone : others (handle g.extent) (inserted ys (live (with_table_of i d t)).extents) ≡ inserted ys (live (with_table_of i d no_table)).extents =
-    ap (λ (u : Table). left_out u.extent (inserted ys (live (with_table_of i d t)).extents)) (sym (table-of i d t))
+    (λ j. without_link ((taken-live m b (extents_of o) made.taken ∙ ap (λ l. adding l ys) mid) j) (x.stands.link j))
+    ∙ live-moved_index i d t g.extent ys refl
+    (subst (λ l. IsTrue (is_proper (adding l ys))) mid made.taken.live.proper) in
+    let laid' : LaysOut current c.bytes (adding (live (with_table_of i d t)) ys) =
+    subst (LaysOut current c.bytes) left laid in
+    let all : others h (unlinked b (place_of i)).extents ≡ inserted ys (live (with_table_of i d no_table)).extents =
+    (λ j. others (g.at j) (left j).extents)
+    ∙ (ap (λ (u : Table). left_out u.extent (inserted ys (live (with_table_of i d t)).extents)) (sym (table-of i d))
     ∙ index-left_out i (with_table_of i d t) ys (live-rises (adding (live (with_table_of i d t)) ys) laid'.proper)
-    ∙ ap (λ e. inserted ys (live e).extents) (last-table i d t no_table) in
-    let all : others h (unlinked b (place_of i)).extents ≡ inserted ys (live (with_table_of i d no_table)).extents = (λ j. others (g.at j) (left j).extents) ∙ gone in
-    let found : extent_at (live_of b.bytes) h ≡ Some g.extent = taken-found m b (extents_of o) h g.extent made.taken (allocated-found a m n IndexRole h g) in
-    let places : capacity_at b (place_of i) ≡ (table_of i d).capacity = x.stands.capacity in
+    ∙ ap (λ e. inserted ys (live e).extents) (last-table i d t no_table)) in
+    let found = taken-found m b (extents_of o) h made.taken (allocated-found g) in
     record {
       laid = laid';
       blocks = subst (AllByRecursion (SameBlock (bytes_of b.bytes) (bytes_of c.bytes))) all keeps.blocks;
@@ -146,202 +142,9 @@ entered-some i a m b c d o at n h k g made x e adds laid keeps =
       front = keeps.front;
       before = keeps.before;
       behind = keeps.behind;
-      stands = subst (IsIndexOf c (place_of i) t) e
-          (subst (λ (y : Option Extent). IsIndexOf c (place_of i) (record { capacity = grown_capacity (table_of i d).capacity; extent = y }) (insert (entries_of i d) at (handle o.extent))) found
-          (subst (λ (n : ℕ). IsIndexOf c (place_of i) (record { capacity = grown_capacity n; extent = extent_at (live_of b.bytes) h }) (insert (entries_of i d) at (handle o.extent))) places adds));
+      stands = subst (IsIndexOf c (place_of i) t) e (subst (λ (y : Option Extent). IsIndexOf c (place_of i)
+          (record { capacity = grown_capacity (table_of i d).capacity; extent = y })
+          (insert (entries_of i d) at (handle o.extent))) found (subst (λ (n : ℕ). IsIndexOf c (place_of i)
+          (record { capacity = grown_capacity n; extent = extent_at (live_of b.bytes) h })
+          (insert (entries_of i d) at (handle o.extent))) x.stands.capacity adds));
     }
-
--- ---- an index has another table
-
--- its words and its block say so, and all else stays
-pub record IsTabled (i : Index) (old new : Cut) (d : Directory) (t : Table) : Type 0 where
-  pub laid : LaysOut current new.bytes (live (with_table_of i d t))
-  pub stands : IsIndexOf new (place_of i) t (entries_of i d)
-  pub keeps : KeepsRest old new (place_of i) (live (with_table_of i d no_table)).extents
-
-own-table : (i : Index) (m : Memory) (d : Directory) (t : Table) → IsTrue (is_index t (objects_of i d) (order_of i)) → IsIndexAt m (place_of i) t (entries_of i d)
-    → HasOne i m (with_table_of i d t)
-own-table index.Named m d t a b = record { is = a; at = b }
-own-table index.Unique m d t a b = record { is = a; at = b }
-
-other-table : (i : Index) (m : Memory) (d : Directory) (t : Table) → HasOne (other i) m d → HasOne (other i) m (with_table_of i d t)
-other-table index.Named m d t h = record { is = h.is; at = h.at }
-other-table index.Unique m d t h = record { is = h.is; at = h.at }
-
--- the directory with the table is what the new bytes denote
-pub tabled-denotes : (i : Index) (a c : Cut) (d : Directory) (t : Table) → Denotes current a.bytes d → IsTabled i a c d t → Denotes current c.bytes (with_table_of i d t)
-tabled-denotes i a c d t k e =
-    let A : Memory = bytes_of a.bytes in
-    let C : Memory = bytes_of c.bytes in
-    let high = place-high i in
-    let rest : OfRest i (SameBlock A C) d = of_rest i (SameBlock A C) d e.keeps.blocks in
-    let one : HasOne (other i) C d = other-stays i A C d (has-one (other i) a.bytes d k) (other-words i A C e.keeps.before e.keeps.behind) rest.other_table in
-    let few : length (objects_of i d) ≤ t.capacity = omega (arith, e.stands.few, handles-length (objects_of i d)) in
-    let is = index-from t (objects_of i d) (order_of i) e.stands.places few (index-parts (table_of i d) (objects_of i d) (order_of i) (has-one i a.bytes d k).is).2 in
-    let both : HasIndexes C (with_table_of i d t) = has_both i C (with_table_of i d t) (own-table i C d t is e.stands.stands) (other-table i C d t one) in
-    let front : KeepsFront A C = record { front = e.keeps.front; zeros = Same-part A C (place_of i + 24) 128 80 128 e.keeps.behind (omega arith) (omega arith) } in
-    record {
-      directory = record {
-        proper = e.laid.proper;
-        objects = subst (λ os. IsTrue (list_all (is_object current) os)) (sym (same-objects i d t)) k.directory.objects;
-        by_offset = subst (λ os. IsTrue (rises_from 0 os)) (sym (same-objects i d t)) k.directory.by_offset;
-        named = both.named;
-        unique = both.unique;
-      };
-      header = subst (IsHeader current C) (sym (same-size i d t)) (header-same current A C d.size front.front front.zeros k.header);
-      heap = e.laid;
-      named = both.named_at;
-      unique = both.unique_at;
-      objects = subst (AllByRecursion (IsObjectAt C)) (sym (same-objects i d t)) (any_objects-same current A C d.objects k.directory.objects rest.objects k.objects);
-    }
-
--- ---- reserved
-
-left-link : (l : LiveSet) (o : Option Extent) → (without_link l (option_map handle o)).extents ≡ left_out o l.extents
-left-link l None = refl
-left-link l (Some x) = refl
-
--- the table of so many places in a block
-abbrev pub places_in : ℕ → Extent → Table
-places_in n x = record { capacity = n; extent = Some x }
-
-pub reserved-tabled : (i : Index) (a c : Cut) (d : Directory) (n : ℕ) → Denotes current a.bytes d → (r : IsReserved a c (place_of i) n) → IsTabled i a c d (places_in n r.extent)
-reserved-tabled i a c d n k r =
-    let x = denotes-index i a d k in
-    let now : live_of a.bytes ≡ live d = denotes-live current a.bytes d k in
-    let placed : place (live d) (8 * n) IndexRole ≡ Some r.extent = sym (ap (λ l. place l (8 * n) IndexRole) now) ∙ r.placed in
-    let moved : without_link (added (live_of a.bytes) r.extent) (link_at (bytes_of a.bytes) (place_of i)) ≡ live (with_table_of i d (places_in n r.extent)) =
-    (λ j. without_link (added (now j) r.extent) (x.stands.link j))
-    ∙ live-moved_index i d (places_in n r.extent) r.extent [] refl (placed_is_proper (live d) (8 * n) IndexRole r.extent k.directory.proper placed) in
-    let left : (unlinked a (place_of i)).extents ≡ (live (with_table_of i d no_table)).extents =
-    (λ j. (without_link (now j) (x.stands.link j)).extents) ∙ left-link (live d) (table_of i d).extent ∙ index-left_out i d [] (live-rises (live d) k.directory.proper) in
-    record {
-      laid = subst (LaysOut current c.bytes) moved r.live;
-      stands = r.index (table_of i d) (entries_of i d) x;
-      keeps = subst (KeepsRest a c (place_of i)) left r.keeps;
-    }
-
--- ---- shrunk
-
-if-offset : (b : Bool) (x : Extent) (n : ℕ) → (if b then record x { len = n } else x).offset ≡ x.offset
-if-offset true x n = refl
-if-offset false x n = refl
-
-shorter-offset : (l : LiveSet) (x : Extent) (n : ℕ) → (shorter l x n).offset ≡ x.offset
-unfolding shorter
-shorter-offset l x n = if-offset (nat_lt (room n) x.len && (nat_lt 0 (gap_after l x) || nat_le (room n + 32) x.len)) x (room n)
-
-module _ (i : Index) (d : Directory) (n : ℕ) (proper : IsTrue (is_proper (live d))) where
-  -- the live set and the table, by whether there is a block and any place
-  abbrev cut_live : Option Extent → Bool → LiveSet
-  cut_live o b = elim o as (λ _. LiveSet) [ None ↦ live d | Some x ↦ if b then released (live d) (handle x) else resized (live d) (shorter (live d) x (8 * n)) ]
-
-  abbrev cut_to : Option Extent → Bool → Table
-  cut_to o b = if b then no_table else record { capacity = n; extent = option_map (λ x. shorter (live d) x (8 * n)) o }
-
-  cut-cases : (o : Option Extent) (b : Bool) → (table_of i d).extent ≡ o → (o ≡ None → b ≡ true) → cut_live o b ≡ live (with_table_of i d (cut_to o b))
-  cut-cases None true e f = sym (live-same_index i d no_table (sym e))
-  cut-cases None false e f = absurd (let g : false ≡ true = f refl in cc)
-  cut-cases (Some y) true e f = live-no_index i d no_table y e refl proper
-  cut-cases (Some y) false e f = live-resized_index i d (cut_to (Some y) false) (shorter (live d) y (8 * n)) y e refl (shorter-offset (live d) y (8 * n)) proper
-
-  pub cut-live : ((table_of i d).extent ≡ None → (n == 0) ≡ true) → with_cut (live d) n (table_of i d) ≡ live (with_table_of i d (cut_table (live d) 8 n (table_of i d)))
-  unfolding cut_table
-  cut-live f = cut-cases (table_of i d).extent (n == 0) refl f
-
-no-places : (t : Table) (n : ℕ) → IsTrue (is_table IndexRole 8 t) → n ≤ t.capacity → t.extent ≡ None → (n == 0) ≡ true
-no-places t n h few e =
-    let none : (t.capacity == 0) ≡ true = subst (λ (o : Option Extent). IsTrue (elim o as (λ _. Bool) [ None ↦ t.capacity == 0 | Some x ↦ nat_lt 0 t.capacity && serves x IndexRole (8 * t.capacity) ])) e h in
-    let zero : t.capacity ≡ 0 = eqb-true t.capacity 0 none in eq-eqb n 0 (omega (arith, few, zero))
-
-pub shrunk-tabled : (i : Index) (a c : Cut) (d : Directory) → Denotes current a.bytes d → IsShrunk a c (place_of i) (table_of i d) (entries_of i d)
-    → IsTabled i a c d (cut_table (live d) 8 (length (objects_of i d)) (table_of i d))
-shrunk-tabled i a c d k r =
-    let x = denotes-index i a d k in
-    let now : live_of a.bytes ≡ live d = denotes-live current a.bytes d k in
-    let len : length (entries_of i d) ≡ length (objects_of i d) = handles-length (objects_of i d) in
-    let laid : LaysOut current c.bytes (with_cut (live d) (length (objects_of i d)) (table_of i d)) =
-    subst (LaysOut current c.bytes) (λ j. with_cut (now j) (len j) (table_of i d)) r.live in
-    record {
-      laid = subst (LaysOut current c.bytes)
-          (cut-live i d (length (objects_of i d)) k.directory.proper (no-places (table_of i d) (length (objects_of i d)) x.places (omega (arith, x.few, len)))) laid;
-      stands = subst (λ (t : Table). IsIndexOf c (place_of i) t (entries_of i d)) (λ j. cut_table (now j) 8 (len j) (table_of i d)) r.index;
-      keeps = subst (KeepsRest a c (place_of i))
-          (ap (λ (l : LiveSet). beside_table (table_of i d) l.extents) now ∙ index-left_out i d [] (live-rises (live d) k.directory.proper)) r.keeps;
-    }
-
--- ---- one object's blocks less
-
--- These blocks are no longer in use. Nothing in the others changed.
-pub record IsGone (old new : Cut) (xs : List Extent) : Type 0 where
-  pub live : LaysOut current new.bytes (removing (live_of old.bytes) xs)
-  pub keeps : Keeps old new (removing (live_of old.bytes) xs).extents
-
--- The entries of an index have become these, in the table that it had. Nothing else changed.
-pub record IsLeft (i : Index) (old new : Cut) (t : Table) (hs : List ℕ) : Type 0 where
-  pub live : LaysOut current new.bytes (live_of old.bytes)
-  pub stands : IsIndexOf new (place_of i) t hs
-  pub keeps : KeepsRest old new (place_of i) (beside_table t (live_of old.bytes).extents)
-
-less-if : (P : Extent → Type 0) (b : Bool) (p : Object) (ps qs : List Object) → AllByRecursion P (flat_map extents_of (p ∷ ps)) → AllByRecursion P (flat_map extents_of qs)
-    → AllByRecursion P (flat_map extents_of (if b then ps else p ∷ qs))
-less-if P true p ps qs a k = AllByRecursion-behind P (extents_of p) (flat_map extents_of ps) a
-less-if P false p ps qs a k = AllByRecursion-append P (extents_of p) (flat_map extents_of qs) (AllByRecursion-front P (extents_of p) (flat_map extents_of ps) a) k
-
--- what holds of the blocks of all objects holds of those of the others
-all-less : (P : Extent → Type 0) (h : ℕ) (os : List Object) → AllByRecursion P (flat_map extents_of os) → AllByRecursion P (flat_map extents_of (remove_object h os))
-all-less P h [] a = a
-all-less P h (p ∷ ps) a =
-    less-if P (h == handle p.extent) p ps (remove_object h ps) a (all-less P h ps (AllByRecursion-behind P (extents_of p) (flat_map extents_of ps) a))
-
--- ---- the two indexes then
-
--- of both indexes of a directory, without an object
-record BothAt (m : Memory) (d : Directory) (o : Object) : Type 0 where
-  named : IsIndexAt m 32 d.named (handles (objects_of index.Named (without_object d o)))
-  unique : IsIndexAt m 56 d.unique (handles (objects_of index.Unique (without_object d o)))
-
-both-at : (i : Index) (m : Memory) (d : Directory) (o : Object) → IsIndexAt m (place_of i) (table_of i d) (entries_of i (without_object d o))
-    → IsIndexAt m (place_of (other i)) (table_of (other i) d) (entries_of (other i) (without_object d o)) → BothAt m d o
-both-at index.Named m d o a b = record { named = a; unique = b }
-both-at index.Unique m d o a b = record { named = b; unique = a }
-
--- the blocks of both indexes are among the others
-table-in : (i : Index) (P : Extent → Type 0) (d : Directory) (o : Object) → OfEach P (without_object d o) → AllByRecursion P (table_extents (table_of i d))
-table-in index.Named P d o e = e.named
-table-in index.Unique P d o e = e.unique
-
--- the directory without the object is what the new bytes denote
-pub removed-denotes : (i : Index) (a b c : Cut) (d : Directory) (o : Object) → Denotes current a.bytes d → IsIn d o → o.class ≡ class_of_index i
-    → IsLeft i a b (table_of i d) (entries_of i (without_object d o)) → IsGone b c (extents_of o) → Denotes current c.bytes (without_object d o)
-removed-denotes i a b c d o k f class e g =
-    let A : Memory = bytes_of a.bytes in
-    let B : Memory = bytes_of b.bytes in
-    let C : Memory = bytes_of c.bytes in
-    let low = place_behind i in
-    let high = place-high i in
-    let now : live_of a.bytes ≡ live d = denotes-live current a.bytes d k in
-    let mid : live_of b.bytes ≡ live d = lay_out_one current b.bytes (live_of a.bytes) e.live ∙ now in
-    let laid : LaysOut current c.bytes (removing (live d) (extents_of o)) = subst (λ l. LaysOut current c.bytes (removing l (extents_of o))) mid g.live in
-    let others : removing (live_of b.bytes) (extents_of o) ≡ live (without_object d o) =
-    ap (λ l. removing l (extents_of o)) mid ∙ sym (live-without d o f k.directory.proper) in
-    let after : OfEach (SameBlock B C) (without_object d o) = of_each (SameBlock B C) (without_object d o) (subst (λ (l : LiveSet). AllByRecursion (SameBlock B C) l.extents) others g.keeps.blocks) in
-    let beside : beside_table (table_of i d) (live_of a.bytes).extents ≡ (live (with_table_of i d no_table)).extents =
-    ap (λ (l : LiveSet). beside_table (table_of i d) l.extents) now ∙ index-left_out i d [] (live-rises (live d) k.directory.proper) in
-    let before : OfRest i (SameBlock A B) d = of_rest i (SameBlock A B) d (subst (AllByRecursion (SameBlock A B)) beside e.keeps.blocks) in
-    let blocks = blocks-trans A B C (flat_map extents_of (remove_object (handle o.extent) d.objects)) (all-less (SameBlock A B) (handle o.extent) d.objects before.objects) after.objects in
-    let words : Same A C (place_of (other i)) (place_of (other i) + 24) =
-    other-words i A C (Same-trans A B C 32 (place_of i) e.keeps.before (Same-part B C 32 128 32 (place_of i) g.keeps.behind (omega arith) (omega arith)))
-    (Same-trans A B C (place_of i + 24) 128 e.keeps.behind (Same-part B C 32 128 (place_of i + 24) 128 g.keeps.behind (omega arith) (omega arith))) in
-    let one : HasOne (other i) C d =
-    other-stays i A C d (has-one (other i) a.bytes d k) words (blocks-trans A B C (table_extents (table_of (other i) d)) before.other_table (table-in (other i) (SameBlock B C) d o after)) in
-    let own : IsIndexAt C (place_of i) (table_of i d) (entries_of i (without_object d o)) =
-    any_index-same B C (place_of i) (table_of i d) (entries_of i (without_object d o)) e.stands.places e.stands.few (Same-part B C 32 128 (place_of i) (place_of i + 24) g.keeps.behind low (omega arith))
-    (table-in i (SameBlock B C) d o after) e.stands.stands in
-    let same : entries_of (other i) (without_object d o) ≡ entries_of (other i) d = no-entry-removed (other i) d o f.is (other_class i o class) in
-    let both : BothAt C d o = both-at i C d o own (subst (IsIndexAt C (place_of (other i)) (table_of (other i) d)) (sym same) one.at) in
-    let front : KeepsFront A C = record {
-      front = Same-trans A B C 0 24 e.keeps.front g.keeps.front;
-      zeros = Same-trans A B C 80 128 (Same-part A B (place_of i + 24) 128 80 128 e.keeps.behind (omega arith) (omega arith)) (Same-part B C 32 128 80 128 g.keeps.behind (omega arith) (omega arith));
-    } in
-    denotes-taken current a.bytes c.bytes d o k f laid front blocks both.named both.unique

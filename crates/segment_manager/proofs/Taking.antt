@@ -9,7 +9,7 @@ use Rattle.segment_manager.proofs.Common.{laid-heap, room_block, Index, CanGrow,
 use Rattle.segment_manager.proofs.Common.{IsIndexOf, place_of, prepared, IsRequested, IsRestored, IsUnmet, ◌≤◌, Bool}
 use Rattle.segment_manager.proofs.Common.{[], ◌∷◌, find, Same-part, Same-word, Same-link, Extent, handle, extent_at}
 use Rattle.segment_manager.proofs.Common.{lay_out_one, grown_capacity, Object, extents_of, is_object, IsObjectAt}
-use Rattle.segment_manager.proofs.Order.{all_of-insert, IsFresh, live-rises, rising-insert}
+use Rattle.segment_manager.proofs.Order.{all_of-insert, live-rises, rising-insert}
 use Rattle.segment_manager.proofs.{Live.adding}
 use Rattle.best_fit.proofs.Laws.{block_aligned, still_allocated-block, found-inserted, found-new, found-none}
 use Rattle.seg_index.proofs.Laws.{place_behind, place_small, Around-kept, stays}
@@ -34,116 +34,142 @@ abbrev has_handle : ℕ → Extent → Bool
 has_handle h x = handle x == h
 
 -- the block that a request took is found
-pub allocated-found : (old new : Cut) (n : ℕ) (role : Role) (h : ℕ) → (a : IsAllocated current old new n role h) → extent_at (live_of new.bytes) h ≡ Some a.extent
-allocated-found old new n role h a =
-    let f : IsFresh 128 a.extent (live_of old.bytes).extents = rising-insert 128 a.extent (live_of old.bytes).extents (live-rises (added (live_of old.bytes) a.extent) a.live.proper) in
-    ap (λ (l : LiveSet). find (has_handle h) l.extents) (lay_out_one current new.bytes (added (live_of old.bytes) a.extent) a.live)
-    ∙ ap (λ g. find (has_handle g) (insert a.extent (live_of old.bytes).extents)) a.at ∙ found-new a.extent (live_of old.bytes).extents f.differs
+pub allocated-found : {old new : Cut} {n : ℕ} {role : Role} {h : ℕ} → (a : IsAllocated current old new n role h)
+    → extent_at (live_of new.bytes) h ≡ Some a.extent
+allocated-found {old} {new} {h} a =
+    ap (λ (l : LiveSet). find (has_handle h) l.extents)
+    (lay_out_one current new.bytes (added (live_of old.bytes) a.extent) a.live)
+    ∙ ap (λ g. find (has_handle g) (insert a.extent (live_of old.bytes).extents)) a.at
+    ∙ found-new a.extent (live_of old.bytes).extents (rising-insert 128 a.extent (live_of old.bytes).extents
+    (live-rises (added (live_of old.bytes) a.extent) a.live.proper)).differs
 
 -- ---- after blocks are taken
 
-pub taken-live : (old new : Cut) (xs : List Extent) → IsTaken old new xs → live_of new.bytes ≡ adding (live_of old.bytes) xs
+pub taken-live : (old new : Cut) (xs : List Extent) → IsTaken old new xs
+    → live_of new.bytes ≡ adding (live_of old.bytes) xs
 taken-live old new xs m = lay_out_one current new.bytes (adding (live_of old.bytes) xs) m.live
 
-pub taken-found : (old new : Cut) (xs : List Extent) (h : ℕ) (x : Extent) → IsTaken old new xs → extent_at (live_of old.bytes) h ≡ Some x → extent_at (live_of new.bytes) h ≡ Some x
-taken-found old new xs h x m e =
+pub taken-found : (old new : Cut) (xs : List Extent) (h : ℕ) {x : Extent} → IsTaken old new xs
+    → extent_at (live_of old.bytes) h ≡ Some x → extent_at (live_of new.bytes) h ≡ Some x
+taken-found old new xs h {x} m e =
     let zs : List Extent = (live_of old.bytes).extents in
     ap (λ (l : LiveSet). find (has_handle h) l.extents) (taken-live old new xs m)
     ∙ found-inserted h x xs zs (found-none h x xs zs (live-rises (adding (live_of old.bytes) xs) m.live.proper) e) e
 
 -- an index stays
-pub taken-index : (old new : Cut) (xs : List Extent) (at : ℕ) (t : Table) (hs : List ℕ) → IsTaken old new xs → 32 ≤ at → at + 24 ≤ 128 → IsIndexOf old at t hs → IsIndexOf new at t hs
-taken-index old new xs at t hs m low high i =
+pub taken-index : {old : Cut} {new : Cut} (xs : List Extent) {at : ℕ} {t : Table} {hs : List ℕ} → IsTaken old new xs
+    → 32 ≤ at → at + 24 ≤ 128 → IsIndexOf old at t hs → IsIndexOf new at t hs
+taken-index {old} {new} xs {at} {t} {hs} m low high i =
     stays old new at t hs i
     (Around-kept old new at t (live_of old.bytes).extents (laid-heap new.bytes (adding (live_of old.bytes) xs) m.live)
     (Same-part (bytes_of old.bytes) (bytes_of new.bytes) 32 128 at (at + 24) m.keeps.behind low high) m.keeps.blocks
     (λ x e.
-    let f : extent_at (live_of old.bytes) (handle x) ≡ Some x = subst (λ (s : Option Extent). IfSome s (λ y. extent_at (live_of old.bytes) (handle y) ≡ Some y)) e i.held in
-    (f, taken-found old new xs (handle x) x m f)))
+    let f : extent_at (live_of old.bytes) (handle x) ≡ Some x =
+    subst (λ (s : Option Extent). IfSome s (λ y. extent_at (live_of old.bytes) (handle y) ≡ Some y)) e i.held in
+    (f, taken-found old new xs (handle x) m f)))
 
 -- so does what it grows into
-pub taken-growth : (old new : Cut) (xs : List Extent) (at : ℕ) (g : Option ℕ) → IsTaken old new xs → 32 ≤ at → at + 24 ≤ 128 → CanGrow old at g → CanGrow new at g
+pub taken-growth : (old new : Cut) (xs : List Extent) (at : ℕ) (g : Option ℕ) → IsTaken old new xs → 32 ≤ at
+    → at + 24 ≤ 128 → CanGrow old at g → CanGrow new at g
 taken-growth old new xs at None m low high c =
-    let a = Same-word (bytes_of old.bytes) (bytes_of new.bytes) 32 128 (at + 8) m.keeps.behind (omega arith) (omega arith) in
-    let b = Same-word (bytes_of old.bytes) (bytes_of new.bytes) 32 128 (at + 16) m.keeps.behind (omega arith) (omega arith) in
-    omega (arith, a, b, c)
+    omega (
+      arith,
+      (Same-word (bytes_of old.bytes) (bytes_of new.bytes) 32 128 (at + 8) m.keeps.behind (omega arith)
+          (omega arith)),
+      (Same-word (bytes_of old.bytes) (bytes_of new.bytes) 32 128 (at + 16) m.keeps.behind (omega arith) (omega arith)),
+      c,
+    )
 taken-growth old new xs at (Some h) m low high c =
-    let cap = Same-word (bytes_of old.bytes) (bytes_of new.bytes) 32 128 (at + 16) m.keeps.behind (omega arith) (omega arith) in
+    let cap =
+    Same-word (bytes_of old.bytes) (bytes_of new.bytes) 32 128 (at + 16) m.keeps.behind (omega arith) (omega arith) in
     let link = Same-link (bytes_of old.bytes) (bytes_of new.bytes) 32 128 at m.keeps.behind low (omega arith) in (
-      subst (λ n. IsBlockFor new h (grown_capacity n)) (sym cap) (record { extent = c.0.extent; found = taken-found old new xs h c.0.extent m c.0.found; fits = c.0.fits }),
+      subst (λ n. IsBlockFor new h (grown_capacity n)) (sym cap)
+          (record { extent = c.0.extent; found = taken-found old new xs h m c.0.found; fits = c.0.fits }),
       λ e. c.1 (sym link ∙ e),
     )
 
 -- one block is taken by a request
-pub requested-taken : (old new : Cut) (n : ℕ) (role : Role) (h : ℕ) → (a : IsAllocated current old new n role h) → IsTaken old new (a.extent ∷ [])
-requested-taken old new n role h a = record { live = a.live; keeps = a.keeps }
+pub requested-taken : {old new : Cut} {n : ℕ} {role : Role} {h : ℕ} → (a : IsAllocated current old new n role h)
+    → IsTaken old new (a.extent ∷ [])
+requested-taken a = record { live = a.live; keeps = a.keeps }
 
 -- ---- a request
 
 -- what an index has taken to grow into is in use
-pub growth-held : (a b : Cut) (at : ℕ) (g : Option ℕ) → IsGrowth a b at g → IfSome g (λ h. IsTrue (is_live_in (live_of b.bytes) h))
+pub growth-held : (a b : Cut) (at : ℕ) (g : Option ℕ) → IsGrowth a b at g
+    → IfSome g (λ h. IsTrue (is_live_in (live_of b.bytes) h))
 growth-held a b at None h = tt
 growth-held a b at (Some g) h = allocated-is_live current a b _ IndexRole g h.1
 
-unchanged : (a b : Cut) → IsHeap current a.bytes → b ≡ a → IsRestored a b
-unchanged a b heap e = subst (IsRestored a) (sym e) (record { laid = heap; keeps = keeps-refl a (live_of a.bytes).extents })
+unchanged : {a b : Cut} → IsHeap current a.bytes → b ≡ a → IsRestored a b
+unchanged {a} heap e =
+    subst (IsRestored a) (sym e) (record { laid = heap; keeps = keeps-refl a (live_of a.bytes).extents })
 
 -- what was taken before a refusal is given back
-pub request-unmet : (a b c d : Cut) (at n : ℕ) (g : Option ℕ) → IsHeap current a.bytes → IsGrowth a b at g → IsRefused b c n ObjectRole → GivesBack c d g
-    → IfSome g (λ h. (before : Cut) (n : ℕ) → IsAllocated current before c n IndexRole h → LaysOut current d.bytes (live_of before.bytes) × Keeps before d (live_of before.bytes).extents)
-    → IsUnmet a d at n
+pub request-unmet : (a b c d : Cut) (at n : ℕ) (g : Option ℕ) → IsHeap current a.bytes → IsGrowth a b at g
+    → IsRefused b c n ObjectRole → GivesBack c d g
+    → IfSome g (λ h. (before : Cut) (n : ℕ) → IsAllocated current before c n IndexRole h
+    → LaysOut current d.bytes (live_of before.bytes) × Keeps before d (live_of before.bytes).extents) → IsUnmet a d at n
 request-unmet a b c d at n None heap grows refused back restored = record {
-  restored = unchanged a d heap (back ∙ refused.same ∙ grows.1);
+  restored = unchanged heap (back ∙ refused.same ∙ grows.1);
   none = inr (None, b, grows, refused.none);
 }
 request-unmet a b c d at n (Some h) heap grows refused back restored =
-    let both = restored a (grown_bytes a at) (subst (λ (x : Cut). IsAllocated current a x (grown_bytes a at) IndexRole h) (sym refused.same) grows.1) in
+    let both = restored a (grown_bytes a at)
+    (subst (λ (x : Cut). IsAllocated current a x (grown_bytes a at) IndexRole h) (sym refused.same) grows.1) in
     record { restored = record { laid = both.0; keeps = both.1 }; none = inr (Some h, b, grows, refused.none) }
 
 -- ---- an index while an object is made
 
-pub growth-index : (i : Index) (a b : Cut) (g : Option ℕ) (t : Table) (hs : List ℕ) → IsGrowth a b (place_of i) g → IsIndexOf a (place_of i) t hs → IsIndexOf b (place_of i) t hs
-growth-index i a b None t hs g x = subst (λ (c : Cut). IsIndexOf c (place_of i) t hs) (sym g.1) x
-growth-index i a b (Some h) t hs g x = taken-index a b _ (place_of i) t hs (requested-taken a b _ IndexRole h g.1) (place_behind i) (place_small i) x
+pub growth-index : (i : Index) {a : Cut} {b : Cut} (g : Option ℕ) {t : Table} {hs : List ℕ}
+    → IsGrowth a b (place_of i) g → IsIndexOf a (place_of i) t hs → IsIndexOf b (place_of i) t hs
+growth-index i None {t} {hs} g x = subst (λ (c : Cut). IsIndexOf c (place_of i) t hs) (sym g.1) x
+growth-index i (Some h) g x = taken-index _ (requested-taken g.1) (place_behind i) (place_small i) x
 
 -- the block is requested, and written where it was asked for
-pub written-taken : (a m b : Cut) (n h : ℕ) → IsAllocated current a m n ObjectRole h → IsChanged current m b h n → IsAllocated current a b n ObjectRole h
-written-taken a m b n h take change =
-    still_allocated-block current a m b n ObjectRole h h n n take change (allocated-room current a m n ObjectRole h n take (omega arith)) (omega arith) (omega arith)
+pub written-taken : {a m b : Cut} {n h : ℕ} → IsAllocated current a m n ObjectRole h → IsChanged current m b h n
+    → IsAllocated current a b n ObjectRole h
+written-taken {a} {m} {b} {n} {h} take change =
+    still_allocated-block current a m b n ObjectRole h h n n take change
+    (allocated-room current a m n ObjectRole h n take (omega arith)) (omega arith) (omega arith)
 
 -- the same number of bytes
-pub meant : (a b : Cut) (at m n : ℕ) (g : Option ℕ) (h : ℕ) → m ≡ n → IsRequested a b at m g h → IsRequested a b at n g h
-meant a b at m n g h e r = subst (λ (k : ℕ). IsRequested a b at k g h) e r
+pub meant : {a b : Cut} {at m n : ℕ} {g : Option ℕ} {h : ℕ} → m ≡ n → IsRequested a b at m g h
+    → IsRequested a b at n g h
+meant {a} {b} {at} {g} {h} e r = subst (λ (k : ℕ). IsRequested a b at k g h) e r
 
 -- what `add` wants
 pub record IsReady (i : Index) (c : Cut) (t : Table) (hs : List ℕ) (g : Option ℕ) : Type 0 where
   pub index : IsIndexOf c (place_of i) t hs
   pub growth : CanGrow c (place_of i) g
 
-pub ready : (i : Index) (a m b : Cut) (n h : ℕ) (g : Option ℕ) (t : Table) (hs : List ℕ) → IsIndexOf a (place_of i) t hs → (r : IsRequested a m (place_of i) n g h)
-    → IsChanged current m b h n → IsReady i b t hs g
-ready i a m b n h g t hs x r change =
-    let mid : IsIndexOf r.between (place_of i) t hs = growth-index i a r.between g t hs r.grows x in
-    let took : IsAllocated current r.between b n ObjectRole h = written-taken r.between m b n h r.takes change in
-    let can : CanGrow r.between (place_of i) g = prepared a r.between (place_of i) g t hs x r.grows (place_behind i) (place_small i) in
+pub ready : (i : Index) {a m b : Cut} {n h : ℕ} {g : Option ℕ} {t : Table} {hs : List ℕ} → IsIndexOf a (place_of i) t hs
+    → (r : IsRequested a m (place_of i) n g h) → IsChanged current m b h n → IsReady i b t hs g
+ready i {a} {b} {n} {h} {g} {t} {hs} x r change =
+    let took = written-taken r.takes change in
+    let can = prepared a r.between (place_of i) g t hs x r.grows (place_behind i) (place_small i) in
     record {
-      index = taken-index r.between b _ (place_of i) t hs (requested-taken r.between b n ObjectRole h took) (place_behind i) (place_small i) mid;
-      growth = taken-growth r.between b _ (place_of i) g (requested-taken r.between b n ObjectRole h took) (place_behind i) (place_small i) can;
+      index = taken-index _ (requested-taken took) (place_behind i) (place_small i) (growth-index i g r.grows x);
+      growth = taken-growth r.between b _ (place_of i) g (requested-taken took) (place_behind i) (place_small i) can;
     }
 
 -- the block of a request begins at a multiple of 16
-pub requested-aligned : (a b : Cut) (n h : ℕ) → IsAllocated current a b n ObjectRole h → h % 16 ≡ 0
-requested-aligned a b n h take =
-    block_aligned b h (room_block b h 0 (laid-heap b.bytes (added (live_of a.bytes) take.extent) take.live) (allocated-room current a b n ObjectRole h 0 take (omega arith))).block
+pub requested-aligned : {a b : Cut} {n h : ℕ} → IsAllocated current a b n ObjectRole h → h % 16 ≡ 0
+requested-aligned {a} {b} {n} {h} take =
+    block_aligned b h (room_block b h 0 (laid-heap b.bytes (added (live_of a.bytes) take.extent) take.live)
+    (allocated-room current a b n ObjectRole h 0 take (omega arith))).block
 
 -- ---- blocks as they were
 
 -- a block that was taken is taken still
-pub restored-taken : (a m w : Cut) (n : ℕ) (role : Role) (h : ℕ) → IsAllocated current a m n role h → IsRestored m w → IsAllocated current a w n role h
-restored-taken a m w n role h t r =
-    let is : live_of m.bytes ≡ added (live_of a.bytes) t.extent = allocated-live current a m n role h t in
-    let kept : Keeps m w (added (live_of a.bytes) t.extent).extents = subst (λ (l : LiveSet). Keeps m w l.extents) is r.keeps in
-    let each = all_of-insert (SameBlock (bytes_of m.bytes) (bytes_of w.bytes)) t.extent (live_of a.bytes).extents kept.blocks in
+pub restored-taken : {a m w : Cut} {n : ℕ} {role : Role} {h : ℕ} → IsAllocated current a m n role h → IsRestored m w
+    → IsAllocated current a w n role h
+restored-taken {a} {m} {w} {n} {role} {h} t r =
+    let is = allocated-live current a m n role h t in
+    let kept : Keeps m w (added (live_of a.bytes) t.extent).extents =
+    subst (λ (l : LiveSet). Keeps m w l.extents) is r.keeps in
+    let each =
+    all_of-insert (SameBlock (bytes_of m.bytes) (bytes_of w.bytes)) t.extent (live_of a.bytes).extents kept.blocks in
     let colour = each.0.colour in
     let at = t.at in
     let tag : h - 8 ≡ t.extent.offset + 8 = omega arith in

@@ -7,50 +7,65 @@ use Rattle.segment_manager.proofs.Common.{answer_of, refusal_in}
 use Rattle.segment_manager.proofs.Refusals.{Leaves, by_change, by_other, by_refusal, by_request, by_same, plan-leaves}
 use Rattle.segment_manager.proofs.Refusals.{plan_of_kind-leaves, step-refused}
 
-asked-reads : (d : Directory) (o : Option Extent) (after : Extent → Answer × Directory) → ((x : Extent) → (after x).1 ≡ d)
+asked-reads : {d : Directory} (o : Option Extent) (after : Extent → Answer × Directory)
+    → ((x : Extent) → (after x).1 ≡ d)
     → (elim o as (λ _. Answer × Directory) [ None ↦ (Refused NoSpace, d) | Some x ↦ after x ]).1 ≡ d
-asked-reads d None after k = refl
-asked-reads d (Some x) after k = k x
+asked-reads None after k = refl
+asked-reads (Some x) after k = k x
 
-perform-reads : (d : Directory) (changing other : Bool) → changing ≡ false → (l : LiveSet) (p : Plan) → Leaves d changing other p → (perform d l p).1 ≡ d
-perform-reads d changing other e l p by_refusal = refl
-perform-reads d changing other e l p by_same = refl
-perform-reads d changing other e l p (by_change o k) = absurd (false≢true (sym e))
-perform-reads d changing other e l p (by_other k) = absurd (false≢true (sym e))
-perform-reads d changing other e l p (by_request {need = need} {next = next} k) =
-    asked-reads d (met l need) (λ x. perform d (resized l x) (next x)) (λ x. perform-reads d changing other e (resized l x) (next x) (k x))
+perform-reads : {d : Directory} {changing : Bool} (other : Bool) → changing ≡ false → (l : LiveSet) (p : Plan)
+    → Leaves d changing other p → (perform d l p).1 ≡ d
+perform-reads other e l p by_refusal = refl
+perform-reads other e l p by_same = refl
+perform-reads other e l p (by_change o k) = absurd (false≢true (sym e))
+perform-reads other e l p (by_other k) = absurd (false≢true (sym e))
+perform-reads {d} other e l p (by_request {need = need} {next = next} k) =
+    asked-reads (met l need) (λ x. perform d (resized l x) (next x))
+    (λ x. perform-reads other e (resized l x) (next x) (k x))
 
 -- a command that only reads leaves the directory
 pub step-reads : (mode : Mode) (d : Directory) (c : Command) → is_changing c ≡ false → (step mode d c).1 ≡ d
 unfolding step
-step-reads mode d c e = perform-reads d _ _ e (live d) (plan mode d c) (plan-leaves mode d c)
+step-reads mode d c e = perform-reads _ e (live d) (plan mode d c) (plan-leaves mode d c)
 
 -- the same of a call for objects of one kind
-pub step_of_kind-reads : (mode : Mode) (d : Directory) (key : Key) (kind : Kind) (c : Command) → is_changing c ≡ false → (step_of_kind mode d key kind c).1 ≡ d
+pub step_of_kind-reads : (mode : Mode) (d : Directory) (key : Key) (kind : Kind) (c : Command) → is_changing c ≡ false
+    → (step_of_kind mode d key kind c).1 ≡ d
 unfolding step_of_kind
-step_of_kind-reads mode d key kind c e = perform-reads d _ _ e (live d) _ (plan_of_kind-leaves mode d key kind c)
+step_of_kind-reads mode d key kind c e = perform-reads _ e (live d) _ (plan_of_kind-leaves mode d key kind c)
 
 -- ---- calls that answer less than the machine
 
 -- a step leads on
-pub step-leads : (old new : State) (c : Command) (answer : Answer) → IsStep old new c answer → LeadsOn old new c (refusal_of answer)
-step-leads old new c answer m = record { stays = m.stays; answers = λ d h. ap refusal_of (m.answers d h); denotes = m.denotes }
+pub step-leads : (old new : State) (c : Command) (answer : Answer) → IsStep old new c answer
+    → LeadsOn old new c (refusal_of answer)
+step-leads old new c answer m = record {
+  stays = m.stays;
+  answers = λ d h. ap refusal_of (m.answers d h);
+  denotes = m.denotes;
+}
 
 -- what a result answers is refused where the result is
-refusal_in-answer : {A : Type 0} (f : A → Answer) → ((a : A) → refusal_of (f a) ≡ None) → (result : Result A Refusal) → refusal_of (answer_of f result) ≡ refusal_in result
+refusal_in-answer : {A : Type 0} (f : A → Answer) → ((a : A) → refusal_of (f a) ≡ None) → (result : Result A Refusal)
+    → refusal_of (answer_of f result) ≡ refusal_in result
 refusal_in-answer f none (Ok a) = none a
 refusal_in-answer f none (Err r) = refl
 
 -- so a call of which the whole answer is known leads on
-pub result-leads : {A : Type 0} (f : A → Answer) → ((a : A) → refusal_of (f a) ≡ None) → (old new : State) (c : Command) (result : Result A Refusal) → IsStep old new c (answer_of f result)
+pub result-leads : {A : Type 0} (f : A → Answer) → ((a : A) → refusal_of (f a) ≡ None)
+    → {old new : State} (c : Command) (result : Result A Refusal) → IsStep old new c (answer_of f result)
     → LeadsOn old new c (refusal_in result)
-result-leads f none old new c result m = subst (LeadsOn old new c) (refusal_in-answer f none result) (step-leads old new c (answer_of f result) m)
+result-leads f none {old} {new} c result m =
+    subst (LeadsOn old new c) (refusal_in-answer f none result) (step-leads old new c (answer_of f result) m)
 
 -- an answer that is refused
-refused-is : (r : Refusal) (answer : Answer) → Some r ≡ refusal_of answer → answer ≡ Refused r
-refused-is r (Refused q) e = cc
-refused-is r answer e = cc
+refused-is : {r : Refusal} (answer : Answer) → Some r ≡ refusal_of answer → answer ≡ Refused r
+refused-is (Refused q) e = cc
+refused-is answer e = cc
 
 -- what is refused stays where it is
-pub refused-stays : (old new : State) (c : Command) (r : Refusal) → LeadsOn old new c (Some r) → (d : Directory) → StandsFor old.cut.bytes d → StandsFor new.cut.bytes d
-refused-stays old new c r m d h = subst (StandsFor new.cut.bytes) (step-refused old.mode d c r (refused-is r (step old.mode d c).0 (m.answers d h))) (m.denotes d h)
+pub refused-stays : (old new : State) (c : Command) (r : Refusal) → LeadsOn old new c (Some r) → (d : Directory)
+    → StandsFor old.cut.bytes d → StandsFor new.cut.bytes d
+refused-stays old new c r m d h =
+    subst (StandsFor new.cut.bytes) (step-refused old.mode c r (refused-is (step old.mode d c).0 (m.answers d h)))
+    (m.denotes d h)

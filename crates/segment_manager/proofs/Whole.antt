@@ -9,10 +9,12 @@ use Rattle.std.proofs.lemmas.List.{drop-map}
 
 module _ {T : Type 0} (w : T → ℤ) where
   pub whole-insert : (xs : List T) (i : ℕ) (x : T) → map w (insert xs i x) ≡ insert (map w xs) i (w x)
-  whole-insert xs i x = map-append w (take i xs) (x ∷ drop i xs) ∙ (λ j. sym (take-map w i xs) j ++ w x ∷ sym (drop-map w i xs) j)
+  whole-insert xs i x =
+      map-append w (take i xs) (x ∷ drop i xs) ∙ (λ j. sym (take-map w i xs) j ++ w x ∷ sym (drop-map w i xs) j)
 
   pub whole-remove : (xs : List T) (i : ℕ) → map w (remove xs i) ≡ remove (map w xs) i
-  whole-remove xs i = map-append w (take i xs) (drop (suc i) xs) ∙ (λ j. sym (take-map w i xs) j ++ sym (drop-map w (suc i) xs) j)
+  whole-remove xs i =
+      map-append w (take i xs) (drop (suc i) xs) ∙ (λ j. sym (take-map w i xs) j ++ sym (drop-map w (suc i) xs) j)
 
   pub whole-set : (xs : List T) (i : ℕ) (x : T) → map w (slice_set xs i x) ≡ slice_set (map w xs) i (w x)
   whole-set [] i x = refl
@@ -22,13 +24,15 @@ module _ {T : Type 0} (w : T → ℤ) where
 -- ---- spellings
 
 -- what a type's laws say of its values and their numbers
-pub record IsOfKind {T : Type 0} (k : ScalarKind) (w : T → ℤ) (size : ℕ) (test : T → Bool) (sp : T → List ℕ) : Type 0 where
+pub record IsOfKind {T : Type 0} (k : ScalarKind) (w : T → ℤ) (size : ℕ) (test : T → Bool)
+    (sp : T → List ℕ) : Type 0 where
   pub long : size ≡ size_of k
   pub values : (x : T) → test x ≡ is_value k (w x)
   pub spelled : (x : T) → sp x ≡ spelling k (w x)
   pub reached : (z : ℤ) → is_value k z ≡ true → (x : T) × (w x ≡ z)
 
-module _ {T : Type 0} (k : ScalarKind) (w : T → ℤ) (size : ℕ) (test : T → Bool) (sp : T → List ℕ) (law : IsOfKind k w size test sp) where
+module _ {T : Type 0} (k : ScalarKind) (w : T → ℤ) (size : ℕ) (test : T → Bool) (sp : T → List ℕ)
+    (law : IsOfKind k w size test sp) where
   pub whole-spelled : (xs : List T) → flat_map sp xs ≡ spelled k (map w xs)
   whole-spelled [] = refl
   whole-spelled (x ∷ xs) = λ i. law.spelled x i ++ whole-spelled xs i

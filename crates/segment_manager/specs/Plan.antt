@@ -13,7 +13,7 @@ use Rattle.seg_types.specs.declared.refusals.Refusal.TheVariants.{NoSpace}
 use Rattle.seg_types.specs.Kinds.{size_of}
 use Rattle.seg_types.specs.Names.{Key, ByName, ByKind, ByHandle, NoKey}
 use Rattle.seg_types.specs.Commands as asked
-use Rattle.seg_types.specs.Commands.{Command, Content, Literal, value_of_literal, is_changing}
+use Rattle.seg_types.specs.Commands.{Content}
 use Rattle.seg_vector.specs.Vector.{OwnedText}
 use Rattle.seg_index.specs.Index.{grown_capacity}
 use Rattle.segment_manager.specs.Directory.{Value, Numbers, Elements, Bytes, Pairs, Texts, Object, Directory}

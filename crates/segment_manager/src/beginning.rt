@@ -4,9 +4,9 @@ ghost use Rattle.std.specs.Prelude.{◌≡◌, ◌^◌, ◌<◌, ◌≤◌, leng
 ghost use Rattle.raw_region.specs.Memory.{Cut};
 ghost use Rattle.seg_types.specs.{Keys.new_key_seen, Names.Key as AnyKey, Names.NoKey};
 ghost use Rattle.seg_index.specs.{declared.keys.Key.Key as AnyEntry, Held.HasIndex, Held.place_of};
-ghost use Rattle.segment_manager.specs.Begun.{Begins, BeginsEntry, Ends, GivesAllBack, IsEnding, IsLoose, IsReadyFor};
-ghost use Rattle.segment_manager.specs.{Begun.LeadsThere, Indexed.class_of_index, NewObjects.IsNewKeyOf};
-ghost use Rattle.segment_manager.specs.{NewObjects.IsOfKind, State.IsSegment};
+ghost use Rattle.segment_manager.specs.Begun.{Begins, BeginsEntry, Ends, GivesAllBack, IsEnding, IsLoose};
+ghost use Rattle.segment_manager.specs.{Indexed.class_of_index, NewObjects.IsNewKeyOf, NewObjects.IsOfKind};
+ghost use Rattle.segment_manager.specs.State.{IsSegment};
 
 use crate::fillings::Shape;
 use crate::head::write_head;
@@ -149,21 +149,12 @@ pub(crate) fn end(
             Err(why)
         }
         Ok(()) => {
-            enter(heap, handle, entry);
+            if let Some(new) = entry {
+                new.index
+                    .add(heap, new.place, handle, new.growth, &mut Steps::new());
+            }
             Ok(handle)
         }
-    }
-}
-
-/// Makes the entry that leads to an object, if it is to have one.
-#[inline(always)]
-fn enter(heap: &mut Heap, handle: u64, entry: Option<NewEntry>)
-    requires { IsReadyFor heap.old handle entry }
-    ensures { LeadsThere heap.old heap.new handle entry }
-{
-    if let Some(new) = entry {
-        new.index
-            .add(heap, new.place, handle, new.growth, &mut Steps::new());
     }
 }
 

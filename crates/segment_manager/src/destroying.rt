@@ -1,9 +1,9 @@
 //! Objects destroyed.
 ghost use Rattle.std.specs.Prelude.{◌≡◌, ℕ, OnErr, true, false};
 ghost use Rattle.seg_types.specs.Commands.{Destroy, DestroyPtr};
-ghost use Rattle.seg_types.specs.{Keys.index_key_seen, Names.ByHandle, Names.Key as AnyKey};
-ghost use Rattle.segment_manager.specs.{Answers.Truth, Found.is_object_at, Indexed.Seeks, Keeping.KeepsWhere};
-ghost use Rattle.segment_manager.specs.{Keeping.LacksKey, Listed.HasEntries, Listed.IsListed, Step.is_read_only};
+ghost use Rattle.seg_types.specs.{Keys.index_key_seen, Names.ByHandle};
+ghost use Rattle.segment_manager.specs.{Found.is_object_at, Keeping.KeepsWhere, Keeping.LacksKey};
+ghost use Rattle.segment_manager.specs.Listed.{HasEntries, IsListed};
 ghost use Rattle.segment_manager.specs.Destroyed.{HoldsEntry, HoldsObject, RemovesAnonymous, RemovesEntry};
 ghost use Rattle.segment_manager.specs.State.{Answers, IsStep, gone_answer, truth_answer};
 
@@ -42,23 +42,12 @@ impl Segment {
             return Err(Refusal::ReadOnly);
         }
         let (index, entry, _) = entry_of(key);
-        Ok(self.destroy_entered(index, entry))
-    }
-
-    /// The same under an entry of an index, in a segment that may be changed.
-    fn destroy_entered(&mut self, index: Index, entry: Entry<'_>) -> bool
-        requires writing { is_read_only self.old.mode ≡ false }
-        requires key { (key : AnyKey) × Seeks index entry key }
-        ensures step { (key : AnyKey) → Seeks index entry.entry key
-            → IsStep self.old self.new (Destroy key) (Truth result) }
-        ensures absent { (key : AnyKey) → Seeks index entry.entry key → KeepsWhere self.old self.new (LacksKey key) }
-    {
         match index.lookup(&self.heap, entry, &mut Steps::new()) {
             Lookup::Found(place) => {
                 remove_entered(&mut self.heap, index, place);
-                true
+                Ok(true)
             }
-            Lookup::Absent(_) => false,
+            Lookup::Absent(_) => Ok(false),
         }
     }
 
@@ -78,23 +67,14 @@ impl Segment {
         if self.is_read_only() {
             return Err(Refusal::ReadOnly);
         }
-        if !self.is_object(handle) {
+        if !self.belongs(handle) {
             return Err(Refusal::NotFound);
         }
-        self.destroy_object(handle);
-        Ok(())
-    }
-
-    /// The same where an object has the handle, in a segment that may be changed.
-    fn destroy_object(&mut self, handle: Handle)
-        requires writing { is_read_only self.old.mode ≡ false }
-        requires object { Answers self.old (λ d. is_object_at d handle) true }
-        ensures { IsStep self.old self.new (DestroyPtr handle) (Truth true) }
-    {
         match self.listed(handle) {
             Some(listed) => remove_entered(&mut self.heap, listed.index, listed.place),
             None => remove_anonymous(&mut self.heap, handle),
         }
+        Ok(())
     }
 
     /// Where the entry of the object of a handle stands, or nothing where it has no key.

@@ -4,13 +4,12 @@ ghost use Rattle.seg_types.specs.declared.kinds.{Kind.Kind as AnyKind, Kind.TheV
 ghost use Rattle.seg_types.specs.{Commands.Find, Commands.NumNamed, Commands.NumUnique, Keys.index_key_seen};
 ghost use Rattle.seg_types.specs.{Keys.key_seen, Names.Key as AnyKey};
 ghost use Rattle.segment_manager.specs.{Answers.Number, Denotes.handles, State.Answers, State.IsReply};
-ghost use Rattle.segment_manager.specs.{Indexed.Seeks, Indexed.objects_of, NewObjects.IsNewKeyOf, NewObjects.IsOfKind};
+ghost use Rattle.segment_manager.specs.{Indexed.Seeks, NewObjects.IsNewKeyOf, NewObjects.IsOfKind};
 ghost use Rattle.segment_manager.specs.Directory.{named_objects, unique_objects};
-ghost use Rattle.segment_manager.specs.Found.{IsBelow, found_answer, handle_at, is_object_at};
+ghost use Rattle.segment_manager.specs.Found.{IsBelow, found_answer, handle_at};
 
 use crate::finding_or_constructing::found_of;
 use crate::segment::Segment;
-use block_tags::Role;
 use raw_region::Steps;
 use seg_index::{Index, Key as Entry, Lookup};
 use seg_types::{Handle, IndexKey, Key, Kind, Refusal, Scalar};
@@ -73,25 +72,9 @@ impl Segment {
         match key {
             Key::Name(name) => self.look_up(Index::Named, Entry::Name(name.as_bytes())),
             Key::Unique(kind) => self.look_up(Index::Unique, Entry::Code(kind.code())),
-            Key::Handle(handle) => self.is_object(*handle).then_some(*handle),
+            Key::Handle(handle) => self.belongs(*handle).then_some(*handle),
             Key::Anonymous => None,
         }
-    }
-
-    /// Whether an object has the handle. It is looked for among all blocks, from the nearest way-point on, since it may
-    /// come from outside.
-    pub(crate) fn is_object(&self, handle: Handle) -> bool
-        ensures { Answers self.now (λ d. is_object_at d handle) result }
-    {
-        self.heap.is_live(handle) && self.heap.role(handle) == Role::Object
-    }
-
-    /// The handle of the object with `i` others before it in an index.
-    fn entry_at(&self, index: Index, i: u64) -> Handle
-        requires { IsBelow self.now (λ d. length (objects_of index d)) i }
-        ensures { Answers self.now (λ d. slice_get (handles (objects_of index d)) i) (Some result) }
-    {
-        index.at(&self.heap, i)
     }
 
     /// The handle of the object under an entry of an index, or nothing where there is none.
@@ -133,7 +116,7 @@ pub fn named_at(segment: &Segment, i: u64) -> Handle
     requires { IsBelow segment.now (λ d. length (named_objects d)) i }
     ensures { Answers segment.now (λ d. slice_get (handles (named_objects d)) i) (Some result) }
 {
-    segment.entry_at(Index::Named, i)
+    Index::Named.at(&segment.heap, i)
 }
 
 /// The handle of the unique object that has `i` others before it, in the order of the codes of their kinds. There are
@@ -148,5 +131,5 @@ pub fn unique_at(segment: &Segment, i: u64) -> Handle
     requires { IsBelow segment.now (λ d. length (unique_objects d)) i }
     ensures { Answers segment.now (λ d. slice_get (handles (unique_objects d)) i) (Some result) }
 {
-    segment.entry_at(Index::Unique, i)
+    Index::Unique.at(&segment.heap, i)
 }

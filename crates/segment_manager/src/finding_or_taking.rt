@@ -1,15 +1,15 @@
 //! Objects found, or constructed from the items of an iterator where there are none.
 ghost use Rattle.std.specs.Prelude.{◌≡◌, true, false};
 ghost use Rattle.seg_types.specs.declared.kinds.Kind.TheVariants.{Scalar as ScalarOf};
-ghost use Rattle.segment_manager.specs.{Counted.RefusesCount, Counted.is_count, Items.FindsOrTakes, Items.found_as};
+ghost use Rattle.segment_manager.specs.{Counted.RefusesCount, Counted.is_count, Items.FindsOrTakes};
 
 use crate::constructing_from::OfType;
 use crate::destinations::IndexDestination;
 use crate::fillings::MOST;
 use crate::finding_or_constructing::counted;
 use crate::segment::Segment;
-use crate::targets::{Object, locate};
-use seg_types::{Handle, Kind, Refusal, Scalar, ScalarKind};
+use crate::targets::locate;
+use seg_types::{Handle, Kind, Refusal, Scalar};
 
 impl Segment {
     /// The handle of the scalars of a key, and how many they are. Where no object has the key one is made of the next
@@ -39,9 +39,11 @@ impl Segment {
         if self.is_read_only() {
             return Err(Refusal::ReadOnly);
         }
-        let entry = key.entry_for(Kind::Scalar(T::kind()));
+        let kind = Kind::Scalar(T::kind());
+        let entry = key.entry_for(kind);
         match locate(self, &entry.into_key()) {
-            Ok(object) => scalars_in(object, T::kind()),
+            Ok(object) if kind.code() != object.kind.code() => Err(Refusal::WrongKind),
+            Ok(object) => Ok((object.handle, object.count)),
             Err(_) => {
                 let key = entry.into_new_key();
                 counted(
@@ -51,14 +53,4 @@ impl Segment {
             }
         }
     }
-}
-
-/// The handle of an object and how many scalars it has: `WrongKind` where it is of another kind.
-fn scalars_in(object: Object, kind: ScalarKind) -> Result<(Handle, u32), Refusal>
-    ensures { result ≡ found_as kind object }
-{
-    if Kind::Scalar(kind).code() != object.kind.code() {
-        return Err(Refusal::WrongKind);
-    }
-    Ok((object.handle, object.count))
 }

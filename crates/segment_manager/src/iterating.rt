@@ -86,10 +86,8 @@ impl<'a> Iterator for Names<'a> {
     ghost remaining = { λ w. at_most (entry_count w.segment.cut (place_of Named) - w.at) };
 
     fn next(&mut self) -> Option<&'a [u8]> {
-        match self.instances.next() {
-            None => None,
-            Some(said) => Some(said.name),
-        }
+        let said = self.instances.next()?;
+        Some(said.name)
     }
 
     fn size_hint(&self) -> (usize, Option<usize>)

@@ -12,6 +12,7 @@ use crate::head::{read_head, read_name};
 use crate::segment::Segment;
 use crate::targets::Target;
 use best_fit::Heap;
+use block_tags::Role;
 use seg_index::Index;
 use seg_types::{Class, Handle, Key, Kind, Refusal};
 
@@ -67,13 +68,13 @@ impl Segment {
     }
 
     /// Whether an object of the segment has the handle. It is looked for among all blocks, from the nearest way-point
-    /// on.
+    /// on, since it may come from outside.
     ///
     /// Example: `if segment.belongs(handle)`.
     pub fn belongs(&self, handle: Handle) -> bool
         ensures { Answers self.now (λ d. is_object_at d handle) result }
     {
-        self.is_object(handle)
+        self.heap.is_live(handle) && self.heap.role(handle) == Role::Object
     }
 
     /// How many elements the object of a handle has: as many as it was made with, and 1 where it is a container.
@@ -119,7 +120,10 @@ impl Segment {
     {
         match self.handle_of(key) {
             None => Err(Refusal::NotFound),
-            Some(handle) => Ok(name_at(&self.heap, handle)),
+            Some(handle) => match read_head(&self.heap, handle).class {
+                Class::Named => Ok(Some(read_name(&self.heap, handle))),
+                Class::Anonymous | Class::Unique => Ok(None),
+            },
         }
     }
 
@@ -200,16 +204,4 @@ pub fn unique_instance(segment: &Segment, i: u64) -> Instance<'_>
     ensures { SaysAt segment.now unique_objects i result }
 {
     segment.entered(Index::Unique, i)
-}
-
-/// The name of the object at a handle, or nothing where it is not found by name.
-fn name_at(heap: &Heap, handle: Handle) -> Option<&[u8]>
-    requires heap { IsHeap current heap.now.bytes }
-    requires object { HasObject heap.now.bytes handle }
-    ensures { (o : Object) → StandsAt heap.now.bytes handle o → option_map (λ bytes. bytes.now) result ≡ own_name o }
-{
-    match read_head(heap, handle).class {
-        Class::Named => Some(read_name(heap, handle)),
-        Class::Anonymous | Class::Unique => None,
-    }
 }

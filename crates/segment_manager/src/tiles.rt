@@ -1,8 +1,8 @@
 //! The blocks and gaps of a segment.
 ghost use Rattle.std.specs.Prelude.{◌≡◌, ◌+◌, ℕ, Some, OnErr, OnOk, length, option_map, slice_get};
 ghost use Rattle.raw_region.specs.{Format.current, Memory.bytes_of};
-ghost use Rattle.block_tags.specs.{declared.tile.Role.TheVariants.Object as ObjectRole, Tiles.tiles_of};
-ghost use Rattle.best_fit.specs.{Extents.spans, FreeTree.span, Heap.IsTileOf, Heap.IsZeroed, Table.same_role};
+ghost use Rattle.block_tags.specs.Tiles.{tiles_of};
+ghost use Rattle.best_fit.specs.{Extents.spans, FreeTree.span, Heap.IsTileOf, Heap.IsZeroed};
 ghost use Rattle.seg_types.specs.Commands.{AllDeallocated, Sanity, ZeroFree};
 ghost use Rattle.segment_manager.specs.{Answers.Truth, Directory.live, Iterating.is_own_span};
 ghost use Rattle.segment_manager.specs.Calls.{HasZeroGaps, IsTileOfIndex, as_span};
@@ -41,7 +41,7 @@ impl Span {
     {
         match self.use_of {
             None => false,
-            Some(role) => is_for_object(role),
+            Some(role) => role == Role::Object,
         }
     }
 }
@@ -103,16 +103,6 @@ impl Segment {
         }
         self.heap.zero_free();
         Ok(())
-    }
-}
-
-/// Whether a block of a role is for an object.
-fn is_for_object(role: Role) -> bool
-    ensures { result ≡ same_role role ObjectRole }
-{
-    match role {
-        Role::Object => true,
-        Role::Index | Role::Storage | Role::Node => false,
     }
 }
 

@@ -1,7 +1,6 @@
 //! All objects of a segment, one after another by their offsets: those without a key too.
-ghost use Rattle.std.specs.{Prelude.◌≡◌, Prelude.◌+◌, Prelude.◌-◌, Prelude.◌<◌, Prelude.length, Iterator.at_most};
-ghost use Rattle.segment_manager.specs.{Found.IsBelow, Instances.SaysAt};
-ghost use Rattle.segment_manager.specs.Iterating.{GoesOnObjects, GoesOnOwn, IsOwnBlock, own_count};
+ghost use Rattle.std.specs.{Prelude.◌≡◌, Prelude.◌-◌, Iterator.at_most};
+ghost use Rattle.segment_manager.specs.Iterating.{GoesOnObjects, GoesOnOwn, own_count};
 
 use crate::segment::Segment;
 use crate::telling::Instance;
@@ -41,9 +40,10 @@ impl<'a> Iterator for Objects<'a> {
     fn next(&mut self) -> Option<Instance<'a>> {
         let segment = self.segment;
         let block = next_own(&mut self.tiles)?;
-        let said = segment.object_in(self.at, block);
-        self.at = segment.object_behind(self.at);
-        Some(said)
+        // A block lies within the segment, and 64 bits count its objects, which its bytes say.
+        let _ = segment.as_bytes();
+        self.at += 1;
+        Some(segment.instance_here(block.offset + TAG))
     }
 }
 
@@ -71,25 +71,5 @@ impl Segment {
             tiles: self.tiles(),
             at: 0,
         }
-    }
-
-    /// What the object says of itself that has a block, and `at` others before it. A block lies within the segment,
-    /// which its bytes say.
-    fn object_in(&self, at: u64, block: Span) -> Instance<'_>
-        requires { IsOwnBlock self.now at block }
-        ensures { SaysAt self.now (λ d. d.objects) at result }
-    {
-        let _ = self.as_bytes();
-        self.instance_here(block.offset + TAG)
-    }
-
-    /// The place behind that of an object. No segment has so many that 64 bits do not count them, which its bytes say.
-    fn object_behind(&self, at: u64) -> u64
-        requires { IsBelow self.now (λ d. length d.objects) at }
-        ensures next { result ≡ at + 1 }
-        ensures below { at < own_count self.now.cut.bytes }
-    {
-        let _ = self.as_bytes();
-        at + 1
     }
 }

@@ -1,5 +1,5 @@
 //! The blocks and gaps of a segment, one after another.
-ghost use Rattle.std.specs.{Prelude.◌≡◌, Prelude.◌+◌, Prelude.◌-◌, Prelude.◌<◌, Prelude.length, Iterator.at_most};
+ghost use Rattle.std.specs.{Prelude.◌≡◌, Prelude.◌-◌, Prelude.length, Iterator.at_most};
 ghost use Rattle.raw_region.specs.Memory.{bytes_of};
 ghost use Rattle.block_tags.specs.Tiles.{tiles_of};
 ghost use Rattle.segment_manager.specs.Iterating.{GoesOnTiles};
@@ -41,7 +41,9 @@ impl<'a> Iterator for Tiles<'a> {
     fn next(&mut self) -> Option<Span> {
         let tile = self.tile?;
         let segment = self.segment;
-        self.at = segment.place_behind(self.at);
+        // No segment has so many tiles that 64 bits do not count them, which its bytes say.
+        let _ = segment.as_bytes();
+        self.at += 1;
         self.tile = next_tile(segment, tile);
         Some(Span::of(tile))
     }
@@ -59,15 +61,5 @@ impl Segment {
             tile: self.first_tile(),
             at: 0,
         }
-    }
-
-    /// The place behind that of a tile. No segment has so many tiles that 64 bits do not count them, which its bytes
-    /// say.
-    fn place_behind(&self, at: u64) -> u64
-        requires { at < length (tiles_of (bytes_of self.now.cut.bytes) (length self.now.cut.bytes)) }
-        ensures { result ≡ at + 1 }
-    {
-        let _ = self.as_bytes();
-        at + 1
     }
 }

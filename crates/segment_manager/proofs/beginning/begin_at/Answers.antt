@@ -1,5 +1,5 @@
 -- The blocks are requested and the head is written.
-use Rattle.segment_manager.proofs.Common.{◌≡◌, ap, subst, ℕ, ◌+◌, inr, length, arith, current, ObjectRole}
+use Rattle.segment_manager.proofs.Common.{ap, subst, ℕ, ◌+◌, inr, length, arith, current, ObjectRole}
 use Rattle.segment_manager.proofs.Common.{allocated-room, place_of, padded, IsUnmet, room_for}
 use Rattle.segment_manager.proofs.Taking.{meant}
 use Rattle.segment_manager.proofs.beginning.begin_at.Goals as goal
@@ -7,7 +7,6 @@ use Rattle.segment_manager.proofs.beginning.begin_at.Goals as goal
 pub returns-in_default : goal.returns-in_default
 returns-in_default c =
     λ key entry n away.
-    let e : c.value_at-at.result + c.args.shape.len ≡ room_for c.args.name.now c.args.shape.len = ap (λ m. m + c.args.shape.len) c.value_at-at.ensures in
     inr (record {
       index = c.args.index;
       entry = entry;
@@ -15,12 +14,13 @@ returns-in_default c =
       is = n;
       place = c.args.place;
       absent = away;
-      unmet = subst (λ (m : ℕ). IsUnmet c.args.heap.now c.request.new.heap (place_of c.args.index) m) e c.in_default.ensures;
+      unmet = subst (λ (m : ℕ). IsUnmet c.args.heap.now c.request.new.heap (place_of c.args.index) m)
+          (ap (λ m. m + c.args.shape.len) c.value_at-at.ensures) c.in_default.ensures;
     })
 
 pub write_head-requires-clause-room : goal.write_head-requires-clause-room
 write_head-requires-clause-room c =
-    let n : ℕ = room_for c.args.name.now c.args.shape.len in
-    let e : c.value_at-at.result + c.args.shape.len ≡ n = ap (λ m. m + c.args.shape.len) c.value_at-at.ensures in
-    let r = meant c.args.heap.now c.request.new.heap (place_of c.args.index) _ n c.in-Ok.requested.growth.block c.in-Ok.requested.handle e c.in-Ok.ensures in
-    allocated-room current r.between c.request.new.heap n ObjectRole c.in-Ok.requested.handle (16 + padded (length c.args.name.now)) r.takes (omega arith)
+    let n = room_for c.args.name.now c.args.shape.len in
+    let r = meant (ap (λ m. m + c.args.shape.len) c.value_at-at.ensures) c.in-Ok.ensures in
+    allocated-room current r.between c.request.new.heap n ObjectRole c.in-Ok.requested.handle
+    (16 + padded (length c.args.name.now)) r.takes (omega arith)

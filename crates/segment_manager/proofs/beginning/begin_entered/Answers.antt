@@ -3,10 +3,11 @@ use Rattle.segment_manager.proofs.{HeldIndexes.denotes-keys, KeyCalls.segment-in
 use Rattle.segment_manager.proofs.beginning.begin_entered.Goals as goal
 
 pub lookup-requires : goal.lookup-requires
-lookup-requires c = record { keys = denotes-keys c.args.index c.args.heap.now c.requires.segment.0 c.args.entry c.requires.segment.1.denotes }
+lookup-requires c = record { keys = denotes-keys c.args.index c.requires.segment.1.denotes }
 
 pub begin_at-requires-clause-index : goal.begin_at-requires-clause-index
-begin_at-requires-clause-index c = segment-index c.args.heap.now c.args.index c.requires.segment
+begin_at-requires-clause-index c = segment-index c.args.index c.requires.segment
 
 pub begin_at-requires-clause-short : goal.begin_at-requires-clause-short
-begin_at-requires-clause-short c = key-short c.args.index c.args.entry c.requires.key.0 c.args.name.now c.args.shape.kind c.requires.key.1
+begin_at-requires-clause-short c =
+    key-short c.args.index c.args.entry c.requires.key.0 c.args.name.now c.args.shape.kind c.requires.key.1

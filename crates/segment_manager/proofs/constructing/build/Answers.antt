@@ -1,5 +1,5 @@
 -- The value is made at its place, and then its object is entered or given back.
-use Rattle.segment_manager.proofs.Common.{Content, count_of, kind_of, value_len, bare}
+use Rattle.segment_manager.proofs.Common.{count_of, kind_of, value_len, bare}
 use Rattle.segment_manager.proofs.{FilledCalls.builds, FilledCalls.ending, Loose.begun-heap, Loose.begun-room}
 use Rattle.segment_manager.proofs.constructing.build.Goals as goal
 
@@ -7,23 +7,27 @@ pub fill-filled-requires-clause-heap : goal.fill-filled-requires-clause-heap
 fill-filled-requires-clause-heap g c =
     let b = c.args.begun in
     let q = c.requires.begun in
-    let content : Content = g.F.Filling.content c.args.filling.now in
-    begun-heap b.entry q.0 c.args.heap.now q.1.1.0 (kind_of (bare content)) (count_of (bare content)) (value_len (bare content)) b.handle b.at q.1.1.1
+    let content = g.F.Filling.content c.args.filling.now in
+    begun-heap b.entry q.0 c.args.heap.now q.1.1.0 (kind_of (bare content)) (count_of (bare content))
+    (value_len (bare content)) b.handle b.at q.1.1.1
 
 pub fill-filled-requires-clause-room : goal.fill-filled-requires-clause-room
 fill-filled-requires-clause-room g c =
     let b = c.args.begun in
     let q = c.requires.begun in
-    let content : Content = g.F.Filling.content c.args.filling.now in
-    begun-room b.entry q.0 c.args.heap.now q.1.1.0 (kind_of (bare content)) (count_of (bare content)) (value_len (bare content)) b.handle b.at q.1.1.1
+    let content = g.F.Filling.content c.args.filling.now in
+    begun-room b.entry q.0 c.args.heap.now q.1.1.0 (kind_of (bare content)) (count_of (bare content))
+    (value_len (bare content)) b.handle b.at q.1.1.1
 
 pub end-requires : goal.end-requires
 end-requires g c =
     let b = c.args.begun in
     let q = c.requires.begun in
-    ending (g.F.Filling.content c.args.filling.now) q.0 c.args.heap.now q.1.0 q.1.1.0 b.handle b.at b.entry c.fill-filled.new.heap c.fill-filled.result q.1.1.1 c.fill-filled.ensures
+    ending (g.F.Filling.content c.args.filling.now) q.0 c.args.heap.now q.1.0 q.1.1.0 b.handle b.at b.entry
+    c.fill-filled.new.heap c.fill-filled.result q.1.1.1 c.fill-filled.ensures
 
 pub returns : goal.returns
 returns g c =
     let b = c.args.begun in
-    builds (g.F.Filling.content c.args.filling.now) c.args.heap.now c.fill-filled.new.heap c.end.new.heap b.handle b.at b.entry c.fill-filled.result c.end.result c.fill-filled.ensures c.end.ensures
+    builds (g.F.Filling.content c.args.filling.now) c.args.heap.now c.fill-filled.new.heap c.end.new.heap b.handle b.at
+    b.entry c.fill-filled.result c.end.result c.fill-filled.ensures c.end.ensures

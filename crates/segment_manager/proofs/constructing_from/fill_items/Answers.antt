@@ -6,26 +6,28 @@ use Rattle.segment_manager.proofs.constructing_from.fill_items.Goals as goal
 
 pub overflow_add-at : goal.overflow_add-at
 overflow_add-at g c =
-    let size : c.size-size.result ≡ size_of c.args.kind = c.size-size.ensures in
     let below : c.loop-i.i < c.args.count = omega arith in
-    let small = next-small c.args.heap.now c.args.handle c.args.at (size_of c.args.kind) c.loop-i.i c.args.count c.requires.heap c.requires.room below in
-    subst (λ n. Fits w64 (c.args.at + n * c.loop-i.i)) (sym size) (omega arith)
+    let small = next-small c.args.heap.now c.args.handle c.args.at
+    (size_of c.args.kind) c.loop-i.i c.args.count c.requires.heap c.requires.room below in
+    subst (λ n. Fits w64 (c.args.at + n * c.loop-i.i)) (sym c.size-size.ensures) (omega arith)
 
 pub write_item-requires-clause-room : goal.write_item-requires-clause-room
 write_item-requires-clause-room g c =
-    let size : c.size-size.result ≡ size_of c.args.kind = c.size-size.ensures in
     let below : c.loop-i.i < c.args.count = omega arith in
-    subst (λ n. IsTrue (has_room (live_of c.loop-i.heap.bytes) c.args.handle (c.args.at + n * c.loop-i.i + size_of c.args.kind))) (sym size)
-    (room-once_more c.args.heap.now c.loop-i.heap c.args.handle c.args.at (size_of c.args.kind) c.loop-i.i c.args.count below c.requires.room c.loop-i.invariant.change)
+    subst (λ n. IsTrue (has_room (live_of c.loop-i.heap.bytes) c.args.handle
+    (c.args.at + n * c.loop-i.i + size_of c.args.kind))) (sym c.size-size.ensures)
+    (room-once_more c.args.handle c.args.at
+    (size_of c.args.kind) c.loop-i.i c.args.count below c.requires.room c.loop-i.invariant.change)
 
 pub write_item-requires-clause-of_kind : goal.write_item-requires-clause-of_kind
 write_item-requires-clause-of_kind g c =
     λ item after step.
-    last-holds g.I.Iterator.next_gives (λ item. g.S.Spelling.kind item ≡ c.args.kind) c.args.items.now c.loop-i.items after c.loop-i.invariant.items item c.requires.of_kind c.loop-i.invariant.ran step
+    last-holds g.I.Iterator.next_gives
+    (λ item. g.S.Spelling.kind item ≡ c.args.kind) c.args.items.now c.loop-i.items after c.loop-i.invariant.items item
+    c.requires.of_kind c.loop-i.invariant.ran step
 
 pub loop-i-preserved : goal.loop-i-preserved
 loop-i-preserved g c =
     let size : c.size-size.result ≡ size_of c.args.kind = c.size-size.ensures in
     let same : c.size-size.result * c.loop-i.i ≡ size_of c.args.kind * c.loop-i.i = ap (λ n. n * c.loop-i.i) size in
-    filling-more _ _ g.I.Iterator.next_gives g.I.Iterator.can_next g.S.Spelling.whole c.args.heap.now c.args.kind (c.args.handle + c.args.at) c.args.items.now c.loop-i.heap c.write_item.new.heap c.loop-i.i
-    (c.args.handle + (c.args.at + c.size-size.result * c.loop-i.i)) c.loop-i.items c.write_item.new.items c.loop-i.invariant c.in_ok-write_item.ensures.ready (omega arith) c.in_ok-write_item.ensures.next
+    filling-more _ c.loop-i.invariant c.in_ok-write_item.ensures.ready (omega arith) c.in_ok-write_item.ensures.next

@@ -1,9 +1,10 @@
 -- Once its contents are released its own block is in use.
-use Rattle.segment_manager.proofs.Destroys.{own-still, removes-anonymous}
+use Rattle.segment_manager.proofs.Destroys.{anonymous-gone, still-live}
 use Rattle.segment_manager.proofs.destroying.remove_anonymous.Goals as goal
 
 pub deallocate-requires : goal.deallocate-requires
-deallocate-requires c = own-still c.args.heap.now c.release_contents.new.heap c.args.object c.release_contents.ensures c.requires
+deallocate-requires c = let x = c.requires in still-live c.args.object c.release_contents.ensures x.stands x.is
 
 pub returns : goal.returns
-returns c = removes-anonymous c.args.heap.now c.release_contents.new.heap c.args.object c.release_contents.ensures c.deallocate.new.self c.deallocate.ensures.released
+returns c =
+    λ d o k e class. anonymous-gone c.args.object c.release_contents.ensures k e class c.deallocate.ensures.released

@@ -4,27 +4,26 @@ use Rattle.segment_manager.proofs.Destroys.{index-still, removes-entry}
 use Rattle.segment_manager.proofs.destroying.remove_entered.Goals as goal
 
 pub at-handle-requires-clause-index : goal.at-handle-requires-clause-index
-at-handle-requires-clause-index c = entry-index c.args.heap.now c.args.index c.args.place c.requires
+at-handle-requires-clause-index c = entry-index c.requires
 
 pub at-handle-requires-clause-below : goal.at-handle-requires-clause-below
-at-handle-requires-clause-below c = entry-below c.args.heap.now c.args.index c.args.place c.requires
+at-handle-requires-clause-below c = entry-below c.args.heap.now c.requires
 
 pub release_contents-requires : goal.release_contents-requires
-release_contents-requires c = entry-object c.args.heap.now c.args.index c.args.place c.at-handle.result c.at-handle.ensures c.requires
+release_contents-requires c = entry-object c.args.index c.args.place c.at-handle.ensures c.requires
 
 pub remove-requires-clause-index : goal.remove-requires-clause-index
-remove-requires-clause-index c =
-    index-still c.args.heap.now c.release_contents.new.heap c.args.index c.args.place c.at-handle.result c.at-handle.ensures c.release_contents.ensures c.requires
+remove-requires-clause-index c = index-still c.at-handle.ensures c.release_contents.ensures c.requires
 
 pub remove-requires-clause-below : goal.remove-requires-clause-below
-remove-requires-clause-below c =
-    below-still c.args.heap.now c.release_contents.new.heap c.args.index c.args.place c.at-handle.result c.at-handle.ensures c.release_contents.ensures c.requires
+remove-requires-clause-below c = below-still c.at-handle.ensures c.release_contents.ensures c.requires
 
 pub deallocate-requires : goal.deallocate-requires
 deallocate-requires c =
-    block-still c.args.heap.now c.release_contents.new.heap c.args.index c.args.place c.at-handle.result c.at-handle.ensures c.release_contents.ensures c.requires c.remove.new.heap c.remove.ensures.live
+    block-still c.at-handle.ensures c.release_contents.ensures c.requires c.remove.new.heap c.remove.ensures.live
 
 pub returns : goal.returns
 returns c =
-    removes-entry c.args.heap.now c.release_contents.new.heap c.args.index c.args.place c.at-handle.result c.at-handle.ensures c.release_contents.ensures c.remove.new.heap c.deallocate.new.self
-    (record { removes = c.remove.ensures.index; live = c.remove.ensures.live; keeps = c.remove.ensures.keeps }) c.deallocate.ensures.released
+    removes-entry c.at-handle.ensures c.release_contents.ensures
+    (record { removes = c.remove.ensures.index; live = c.remove.ensures.live; keeps = c.remove.ensures.keeps })
+    c.deallocate.ensures.released

@@ -5,4 +5,6 @@ use Rattle.segment_manager.proofs.Codes.{code-read}
 use Rattle.segment_manager.proofs.head.kind_of_code.Goals as goal
 
 pub returns : goal.returns
-returns c = λ k e. c.unwrap_or.ensures ∙ ap (λ (o : Option Kind). unwrap_or o Text) (c.from_code.ensures ∙ ap kind_of_code e ∙ code-read k)
+returns c =
+    λ k e. c.unwrap_or.ensures
+    ∙ ap (λ (o : Option Kind). unwrap_or o Text) (c.from_code.ensures ∙ ap kind_of_code e ∙ code-read k)

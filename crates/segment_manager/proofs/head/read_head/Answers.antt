@@ -11,9 +11,9 @@ word-second-requires c = standing-room c.args.heap.now.bytes c.args.handle 16 c.
 
 pub returns : goal.returns
 returns c = λ o s.
-    let w = head-words c.args.heap.now.bytes c.args.handle o s in
+    let w = head-words s in
     let at : c.args.handle + 0 ≡ c.args.handle = omega arith in
-    let first : c.word-first.result ≡ word_at (bytes_of c.args.heap.now.bytes) c.args.handle = c.word-first.ensures ∙ ap (word_at (bytes_of c.args.heap.now.bytes)) at in
+    let first = c.word-first.ensures ∙ ap (word_at (bytes_of c.args.heap.now.bytes)) at in
     record {
       kind = c.kind_of_code.ensures (kind_of o.value) (ap (λ (x : ℕ). x % 4294967296) first ∙ w.code);
       count = ap (λ (x : ℕ). x / 4294967296) first ∙ w.count;

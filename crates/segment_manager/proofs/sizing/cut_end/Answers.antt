@@ -12,10 +12,13 @@ abbrev after : After-set_header_word → State
 after c = record { cut = c.set_header_word.new.self; mode = c.segment.inside.mode }
 
 cut : (c : After-set_header_word) → Resizes (before c) (after c) (λ d. shrunk d)
-cut c = shrinks (before c) (after c) c.cut_end.new.self refl c.cut_end.ensures.moved c.set_header_word.ensures.change (c.set_header_word.ensures.word ∙ c.size-size.ensures)
+cut c =
+    shrinks refl c.cut_end.ensures.moved c.set_header_word.ensures.change
+    (c.set_header_word.ensures.word ∙ c.size-size.ensures)
 
 pub invariant_of-segment : goal.invariant_of-segment
-invariant_of-segment c = let p = (goal.at.invariant_of-segment c).After-set_header_word in resized-segment (before p) (after p) (λ d. shrunk d) (cut p) c.segment.invariant
+invariant_of-segment c =
+    let p = (goal.at.invariant_of-segment c).After-set_header_word in resized-segment (cut p) c.segment.invariant
 
 pub returns : goal.returns
 returns c =

@@ -6,9 +6,9 @@ use Rattle.segment_manager.proofs.sizing.extend_end.Goals.{After-set_header_word
 
 pub extend_end-requires-clause-small : goal.extend_end-requires-clause-small
 extend_end-requires-clause-small c =
-    let small : (d : Directory) → StandsFor c.segment.inside.heap.bytes d → d.size + c.args.extra ≤ 1073741824 =
-    subst (λ (s : State). (d : Directory) → StandsFor s.cut.bytes d → d.size + c.args.extra ≤ 1073741824) (sym c.segment.view_is) c.requires.small in
-    fits-small c.segment.inside.heap.bytes c.args.extra c.segment.invariant small
+    fits-small c.args.extra c.segment.invariant
+    (subst (λ (s : State). (d : Directory) → StandsFor s.cut.bytes d → d.size + c.args.extra ≤ 1073741824)
+    (sym c.segment.view_is) c.requires.small)
 
 -- the segment before and after
 abbrev before : After-set_header_word → State
@@ -18,11 +18,13 @@ abbrev after : After-set_header_word → State
 after c = record { cut = c.set_header_word.new.self; mode = c.segment.inside.mode }
 
 longer : (c : After-set_header_word) → Resizes (before c) (after c) (λ d. grown d c.args.extra)
-longer c = grows (before c) (after c) c.extend_end.new.self c.args.extra refl c.extend_end.ensures.moved c.set_header_word.ensures.change (c.set_header_word.ensures.word ∙ c.size-size.ensures)
+longer c =
+    grows c.args.extra refl c.extend_end.ensures.moved c.set_header_word.ensures.change
+    (c.set_header_word.ensures.word ∙ c.size-size.ensures)
 
 pub invariant_of-segment : goal.invariant_of-segment
 invariant_of-segment c =
-    let p = (goal.at.invariant_of-segment c).After-set_header_word in resized-segment (before p) (after p) (λ d. grown d c.args.extra) (longer p) c.segment.invariant
+    let p = (goal.at.invariant_of-segment c).After-set_header_word in resized-segment (longer p) c.segment.invariant
 
 pub returns : goal.returns
 returns c =

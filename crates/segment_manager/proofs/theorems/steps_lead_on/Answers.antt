@@ -6,6 +6,6 @@ use Rattle.segment_manager.proofs.theorems.steps_lead_on.Goals as goal
 pub returns : goal.returns
 returns c = record {
   leads = step-leads;
-  popped = λ old new key result h. result-leads TextElement (λ bytes. refl) old new (Pop key) result h;
+  popped = λ old new key result h. result-leads TextElement (λ bytes. refl) (Pop key) result h;
   refused = refused-stays;
 }

@@ -7,6 +7,7 @@ pub returns : goal.returns
 returns c i e =
     let s : State = record { cut = c.segment.inside.heap; mode = c.segment.inside.mode } in
     let stands : slice_get (tiles_of (bytes_of s.cut.bytes) (length s.cut.bytes)) i ≡ Some c.args.tile =
-    subst (λ (t : State). slice_get (tiles_of (bytes_of t.cut.bytes) (length t.cut.bytes)) i ≡ Some c.args.tile) (sym c.segment.view_is) e in
+    subst (λ (t : State). slice_get (tiles_of (bytes_of t.cut.bytes) (length t.cut.bytes)) i ≡ Some c.args.tile)
+    (sym c.segment.view_is) e in
     subst (λ t. IsTileOfIndex t (i + 1) c.next_tile.result) c.segment.view_is
-    (tile-is s (i + 1) c.next_tile.result (c.next_tile.ensures.tile i stands) (c.next_tile.ensures.span i stands))
+    (tile-is (c.next_tile.ensures.tile i stands) (c.next_tile.ensures.span i stands))

@@ -4,11 +4,16 @@ use Rattle.segment_manager.proofs.walking_objects.next_own.Goals as goal
 
 pub returns-then-is_object : goal.returns-then-is_object
 returns-then-is_object c =
-    own-found c.args.tiles.now c.spans.tiles c.next.new.self c.spans.invariant.2 c.in-Some.span c.in-Some.ensures.steps (sym c.is_object.ensures ∙ c.if-is_object.true)
+    own-found c.next.new.self c.spans.invariant.2 c.in-Some.ensures.steps
+    (sym c.is_object.ensures ∙ c.if-is_object.true)
 
 pub spans-preserved : goal.spans-preserved
-spans-preserved c =
-    (tt, tt, own-past c.args.tiles.now c.spans.tiles c.next.new.self c.spans.invariant.2 c.in-Some.span c.in-Some.ensures.steps (sym c.is_object.ensures ∙ c.if-is_object.false))
+spans-preserved c = (
+  tt,
+  tt,
+  own-past c.next.new.self c.spans.invariant.2 c.in-Some.ensures.steps
+      (sym c.is_object.ensures ∙ c.if-is_object.false),
+)
 
 pub returns : goal.returns
-returns c = own-end c.args.tiles.now c.spans.tiles c.next.new.self c.spans.invariant.2 c.in_default.ensures.steps
+returns c = own-end c.next.new.self c.spans.invariant.2 c.in_default.ensures.steps

@@ -1,19 +1,18 @@
 -- The object at the entry is read.
-use Rattle.segment_manager.proofs.Common.{sym, subst, length, current, IsBelow, objects_of, SaysAt, State}
+use Rattle.segment_manager.proofs.Common.{subst, current, objects_of, SaysAt, State}
 use Rattle.segment_manager.proofs.{Calling.denotes-heap, KeyCalls.below-count, KeyCalls.segment-index}
 use Rattle.segment_manager.proofs.KeyCalls.{entered-object, entered-says}
 use Rattle.segment_manager.proofs.segment.Segment.entered.Goals as goal
 
 pub at-handle-requires-clause-index : goal.at-handle-requires-clause-index
-at-handle-requires-clause-index c = segment-index c.self.inside.heap c.args.index c.self.invariant
+at-handle-requires-clause-index c = segment-index c.args.index c.self.invariant
 
 pub at-handle-requires-clause-below : goal.at-handle-requires-clause-below
-at-handle-requires-clause-below c =
-    let s : State = record { cut = c.self.inside.heap; mode = c.self.inside.mode } in
-    below-count s c.args.index c.args.i c.self.invariant (subst (λ t. IsBelow t (λ d. length (objects_of c.args.index d)) c.args.i) (sym c.self.view_is) c.requires)
+at-handle-requires-clause-below c = below-count c.self.view_is c.args.index c.self.invariant c.requires
 
 pub read_instance-requires-clause-heap : goal.read_instance-requires-clause-heap
-read_instance-requires-clause-heap c = denotes-heap current c.self.inside.heap.bytes c.self.invariant.0 c.self.invariant.1.denotes
+read_instance-requires-clause-heap c =
+    denotes-heap current c.self.inside.heap.bytes c.self.invariant.0 c.self.invariant.1.denotes
 
 pub read_instance-requires-clause-object : goal.read_instance-requires-clause-object
 read_instance-requires-clause-object c =
@@ -24,4 +23,4 @@ pub returns : goal.returns
 returns c =
     let s : State = record { cut = c.self.inside.heap; mode = c.self.inside.mode } in
     subst (λ t. SaysAt t (objects_of c.args.index) c.args.i c.read_instance.result) c.self.view_is
-    (entered-says s c.args.index c.args.i c.at-handle.result c.read_instance.result c.at-handle.ensures c.read_instance.ensures)
+    (entered-says c.args.index c.at-handle.ensures c.read_instance.ensures)

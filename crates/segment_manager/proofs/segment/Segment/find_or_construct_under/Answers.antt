@@ -1,24 +1,24 @@
 -- The call on the heap, under the key that the object gets, as one on the segment.
-use Rattle.segment_manager.proofs.Common.{refl, sym, ap, subst, ◌∙◌, Key, FindsOrConstructs, IsOfKind, bare, index_key_seen, kind_of}
-use Rattle.segment_manager.proofs.FilledCalls.{made-refused, made-segment, made-step}
+use Rattle.segment_manager.proofs.Common.{refl, sym, ap, subst, ◌∙◌, Key, FindsOrConstructs, IsOfKind, bare}
+use Rattle.segment_manager.proofs.Common.{index_key_seen, kind_of}
+use Rattle.segment_manager.proofs.FilledCalls.{made-segment}
 use Rattle.segment_manager.proofs.{KeptContainers.keeps-cut, Steps.refuses-read_only}
 use Rattle.segment_manager.specs.Keeping.{HasKey}
-use Rattle.segment_manager.proofs.segment.Segment.find_or_construct_under.{Goals.After-find_or_construct_entered, Given.Over}
+use Rattle.segment_manager.proofs.segment.Segment.find_or_construct_under.{Goals.After-find_or_construct_entered}
+use Rattle.segment_manager.proofs.segment.Segment.find_or_construct_under.{Given.Over}
 use Rattle.segment_manager.proofs.segment.Segment.find_or_construct_under.Goals as goal
 
 -- what the call does, under the key of the object's kind
-done : (g : Over) (c : After-find_or_construct_entered g) → FindsOrConstructs c.self.inside.heap c.find_or_construct_entered.new.heap
-    (g.D.Destination.key c.args.key.now (kind_of (bare (g.F.Filling.content c.args.filling.now)))) (g.F.Filling.content c.args.filling.now)
-    c.find_or_construct_entered.result
+done : (g : Over) (c : After-find_or_construct_entered g)
+    → FindsOrConstructs c.self.inside.heap c.find_or_construct_entered.new.heap
+    (g.D.Destination.key c.args.key.now (kind_of (bare (g.F.Filling.content c.args.filling.now))))
+    (g.F.Filling.content c.args.filling.now) c.find_or_construct_entered.result
 done g c =
-    subst (λ (key : Key). FindsOrConstructs c.self.inside.heap c.find_or_construct_entered.new.heap key (g.F.Filling.content c.args.filling.now) c.find_or_construct_entered.result)
+    subst (λ (key : Key). FindsOrConstructs c.self.inside.heap c.find_or_construct_entered.new.heap key
+    (g.F.Filling.content c.args.filling.now) c.find_or_construct_entered.result)
     (c.entry_for-key.ensures.key ∙ ap (g.D.Destination.key c.args.key.now) c.shape.ensures.kind)
-    (c.find_or_construct_entered.ensures (index_key_seen c.entry_for-key.result)
-    (c.entry_of-index.ensures.new _ (subst (IsOfKind (index_key_seen c.entry_for-key.result)) c.shape.ensures.kind c.entry_for-key.ensures.kind)))
-
-pub find_or_construct_entered-requires-clause-key : goal.find_or_construct_entered-requires-clause-key
-find_or_construct_entered-requires-clause-key g c =
-    (index_key_seen c.entry_for-key.result, c.entry_of-index.ensures.new _ (subst (IsOfKind (index_key_seen c.entry_for-key.result)) c.shape.ensures.kind c.entry_for-key.ensures.kind))
+    (c.find_or_construct_entered.ensures (index_key_seen c.entry_for-key.result) (c.entry_of-index.ensures.new _
+    (subst (IsOfKind (index_key_seen c.entry_for-key.result)) c.shape.ensures.kind c.entry_for-key.ensures.kind)))
 
 pub returns-then-is_read_only-clause-step : goal.returns-then-is_read_only-clause-step
 returns-then-is_read_only-clause-step g c =
@@ -26,14 +26,8 @@ returns-then-is_read_only-clause-step g c =
 
 pub invariant_of-self : goal.invariant_of-self
 invariant_of-self g c =
-    made-segment _ _ c.self.view_is _ _ _ _ (done g (goal.at.invariant_of-self g c).After-find_or_construct_entered).constructs (sym c.is_read_only.ensures ∙ c.if-is_read_only.false) c.self.invariant
-
-pub returns-clause-step : goal.returns-clause-step
-returns-clause-step g c =
-    made-step _ _ c.self.view_is _ _ _ _ (done g (goal.at.returns-clause-step g c).After-find_or_construct_entered).constructs (sym c.is_read_only.ensures ∙ c.if-is_read_only.false)
-
-pub returns-clause-refused : goal.returns-clause-refused
-returns-clause-refused g c = made-refused _ _ c.self.view_is _ _ _ _ (done g (goal.at.returns-clause-refused g c).After-find_or_construct_entered).constructs
+    made-segment c.self.view_is (done g (goal.at.invariant_of-self g c).After-find_or_construct_entered).constructs
+    (sym c.is_read_only.ensures ∙ c.if-is_read_only.false) c.self.invariant
 
 pub returns-clause-found : goal.returns-clause-found
 returns-clause-found g c =

@@ -5,7 +5,8 @@ use Rattle.segment_manager.proofs.segment.Segment.handle_of.Goals as goal
 
 pub returns-in-Name : goal.returns-in-Name
 returns-in-Name c =
-    subst (λ k. Answers c.args.self.now (λ d. handle_at d (key_seen k)) c.look_up.result) (sym c.in-Name.is) (c.look_up.ensures (ByName c.in-Name.name.bytes.now) c.as_bytes.ensures.bytes)
+    subst (λ k. Answers c.args.self.now (λ d. handle_at d (key_seen k)) c.look_up.result) (sym c.in-Name.is)
+    (c.look_up.ensures (ByName c.in-Name.name.bytes.now) c.as_bytes.ensures.bytes)
 
 pub returns-in-Unique : goal.returns-in-Unique
 returns-in-Unique c =
@@ -16,7 +17,9 @@ pub returns-in-Handle : goal.returns-in-Handle
 returns-in-Handle c =
     subst (λ k. Answers c.args.self.now (λ d. handle_at d (key_seen k)) c.then_some.result) (sym c.in-Handle.is)
     (subst (λ r. Answers c.args.self.now (λ d. handle_at d (ByHandle c.in-Handle.handle)) r) (sym c.then_some.ensures)
-    (handle-answers c.args.self.now c.in-Handle.handle c.is_object.result c.is_object.ensures))
+    (handle-answers c.in-Handle.handle c.belongs.ensures))
 
 pub returns-in-Anonymous : goal.returns-in-Anonymous
-returns-in-Anonymous c = subst (λ k. Answers c.args.self.now (λ d. handle_at d (key_seen k)) None) (sym c.in-Anonymous.is) (anonymous-answers c.args.self.now)
+returns-in-Anonymous c =
+    subst (λ k. Answers c.args.self.now (λ d. handle_at d (key_seen k)) None) (sym c.in-Anonymous.is)
+    (anonymous-answers)

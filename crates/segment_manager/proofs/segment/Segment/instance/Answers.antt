@@ -4,13 +4,14 @@ use Rattle.segment_manager.proofs.{Here.seen-object, KeyCalls.key-says}
 use Rattle.segment_manager.proofs.segment.Segment.instance.Goals as goal
 
 pub read_instance-requires-clause-heap : goal.read_instance-requires-clause-heap
-read_instance-requires-clause-heap g c = denotes-heap current c.self.inside.heap.bytes c.self.invariant.0 c.self.invariant.1.denotes
+read_instance-requires-clause-heap g c =
+    denotes-heap current c.self.inside.heap.bytes c.self.invariant.0 c.self.invariant.1.denotes
 
 pub read_instance-requires-clause-object : goal.read_instance-requires-clause-object
-read_instance-requires-clause-object g c = seen-object _ _ c.self.view_is (g.O.Target.key c.args.key.now) _ c.self.invariant c.in-Some.ensures
+read_instance-requires-clause-object g c =
+    seen-object _ _ c.self.view_is (g.O.Target.key c.args.key.now) _ c.self.invariant c.in-Some.ensures
 
 pub returns-in-Some : goal.returns-in-Some
 returns-in-Some g c =
-    subst (λ t. SaysOf t (g.O.Target.key c.args.key.now) c.read_instance.result) c.self.view_is
-    (key-says _ (g.O.Target.key c.args.key.now) c.in-Some.handle c.read_instance.result
+    subst (λ t. SaysOf t (g.O.Target.key c.args.key.now) c.read_instance.result) c.self.view_is (key-says
     (seen-handle _ _ c.self.view_is (g.O.Target.key c.args.key.now) _ c.in-Some.ensures) c.read_instance.ensures)

@@ -7,5 +7,5 @@ read_head-requires c = seen-object _ _ c.self.view_is (key_seen c.args.key.now) 
 
 pub returns-in-Some : goal.returns-in-Some
 returns-in-Some c =
-    seen-tells _ _ c.self.view_is (key_seen c.args.key.now) _ (λ o. o.class) c.read_head.result.class c.in-Some.ensures
+    seen-tells c.self.view_is (key_seen c.args.key.now) (λ o. o.class) c.in-Some.ensures
     (λ o h. (c.read_head.ensures o h).class)

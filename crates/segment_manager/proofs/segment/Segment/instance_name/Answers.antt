@@ -1,16 +1,30 @@
 -- The name is read behind the head.
-use Rattle.segment_manager.proofs.Common.{ℕ, List, option_map, Bor, current, key_seen}
-use Rattle.segment_manager.specs.Instances.{own_name}
+use Rattle.segment_manager.proofs.Common.{◌≡◌, refl, sym, ap, ◌∙◌, Some, None, inl, inr, Class, Anonymous, UniqueClass}
+use Rattle.segment_manager.proofs.Common.{current, key_seen}
+use Rattle.segment_manager.specs.Instances.{name_in, own_name}
 use Rattle.segment_manager.proofs.{Calling.denotes-heap, Here.seen-object, Here.seen-tells}
 use Rattle.segment_manager.proofs.segment.Segment.instance_name.Goals as goal
 
-pub name_at-requires-clause-heap : goal.name_at-requires-clause-heap
-name_at-requires-clause-heap c = denotes-heap current c.self.inside.heap.bytes c.self.invariant.0 c.self.invariant.1.denotes
+pub read_head-requires : goal.read_head-requires
+read_head-requires c = seen-object _ _ c.self.view_is (key_seen c.args.key.now) _ c.self.invariant c.in-Some.ensures
 
-pub name_at-requires-clause-object : goal.name_at-requires-clause-object
-name_at-requires-clause-object c = seen-object _ _ c.self.view_is (key_seen c.args.key.now) _ c.self.invariant c.in-Some.ensures
+pub read_name-requires-clause-heap : goal.read_name-requires-clause-heap
+read_name-requires-clause-heap c =
+    denotes-heap current c.self.inside.heap.bytes c.self.invariant.0 c.self.invariant.1.denotes
 
-pub returns-in-Some : goal.returns-in-Some
-returns-in-Some c =
-    seen-tells _ _ c.self.view_is (key_seen c.args.key.now) _ own_name (option_map (λ (bytes : Bor (List ℕ)). bytes.now) c.name_at.result)
-    c.in-Some.ensures c.name_at.ensures
+pub read_name-requires-clause-object : goal.read_name-requires-clause-object
+read_name-requires-clause-object c =
+    seen-object _ _ c.self.view_is (key_seen c.args.key.now) _ c.self.invariant c.in-Some.ensures
+
+pub returns-in-Named : goal.returns-in-Named
+returns-in-Named c =
+    seen-tells c.self.view_is (key_seen c.args.key.now) own_name c.in-Some.ensures
+    (λ o h. ap (λ n. Some n) (c.read_name.ensures o h)
+    ∙ ap (λ k. name_in k o.name) (sym c.in-Named.is ∙ (c.read_head.ensures o h).class))
+
+pub returns-in-Anonymous : goal.returns-in-Anonymous
+returns-in-Anonymous c =
+    seen-tells c.self.view_is (key_seen c.args.key.now) own_name c.in-Some.ensures (λ o h.
+    let none : (k : Class) → name_in k o.name ≡ None → c.read_head.result.class ≡ k → None ≡ own_name o =
+    λ k n e. sym n ∙ ap (λ k. name_in k o.name) (sym e ∙ (c.read_head.ensures o h).class) in
+    elim c.in-Anonymous.is [ inl e ↦ none Anonymous refl e | inr e ↦ none UniqueClass refl e ])

@@ -1,30 +1,28 @@
 -- The head says the class, and with it the key.
-use Rattle.segment_manager.proofs.Destroys.{has-own_object, listed-kind, listed-name, listed-none}
+use Rattle.segment_manager.proofs.OwnEntries.{has-own_object, listed-kind, listed-name, listed-none}
 use Rattle.segment_manager.proofs.{Common.current, Calling.denotes-heap}
 use Rattle.seg_index.specs.declared.keys.Key.TheVariants as entry
 use Rattle.segment_manager.proofs.segment.Segment.listed.Goals as goal
 
 pub read_head-head-requires : goal.read_head-head-requires
-read_head-head-requires c = has-own_object _ _ c.self.view_is c.args.handle c.self.invariant c.requires
+read_head-head-requires c = has-own_object c.self.view_is c.args.handle c.self.invariant c.requires
 
 pub read_name-requires-clause-heap : goal.read_name-requires-clause-heap
-read_name-requires-clause-heap c = denotes-heap current c.self.inside.heap.bytes c.self.invariant.0 c.self.invariant.1.denotes
+read_name-requires-clause-heap c =
+    denotes-heap current c.self.inside.heap.bytes c.self.invariant.0 c.self.invariant.1.denotes
 
 pub read_name-requires-clause-object : goal.read_name-requires-clause-object
-read_name-requires-clause-object c = has-own_object _ _ c.self.view_is c.args.handle c.self.invariant c.requires
+read_name-requires-clause-object c = has-own_object c.self.view_is c.args.handle c.self.invariant c.requires
 
 pub returns-in-Anonymous : goal.returns-in-Anonymous
-returns-in-Anonymous c =
-    listed-none _ _ c.self.view_is c.args.handle c.read_head-head.result c.requires c.read_head-head.ensures c.in-Anonymous.is
+returns-in-Anonymous c = listed-none c.self.view_is c.requires c.read_head-head.ensures c.in-Anonymous.is
 
 pub returns-in-Named : goal.returns-in-Named
 returns-in-Named c =
-    c.listed_under.ensures c.args.handle
-    (listed-name _ _ c.self.view_is c.args.handle c.read_head-head.result c.requires c.read_head-head.ensures
+    c.listed_under.ensures c.args.handle (listed-name c.self.view_is c.requires c.read_head-head.ensures
     (entry.Name c.read_name.result) c.in-Named.is c.read_name.ensures)
 
 pub returns-in-Unique : goal.returns-in-Unique
 returns-in-Unique c =
     c.listed_under-in-Unique.ensures c.args.handle
-    (listed-kind _ _ c.self.view_is c.args.handle c.read_head-head.result c.requires c.read_head-head.ensures
-    c.code.result c.in-Unique.is c.code.ensures)
+    (listed-kind c.self.view_is c.requires c.read_head-head.ensures c.in-Unique.is c.code.ensures)

@@ -5,19 +5,21 @@ use Rattle.segment_manager.proofs.KeyCalls.{absent-answers, found-answers, place
 use Rattle.segment_manager.proofs.segment.Segment.look_up.Goals as goal
 
 pub lookup-requires : goal.lookup-requires
-lookup-requires c = record { keys = denotes-keys c.args.index c.self.inside.heap c.self.invariant.0 c.args.entry c.self.invariant.1.denotes }
+lookup-requires c = record { keys = denotes-keys c.args.index c.self.invariant.1.denotes }
 
 pub at-requires-clause-index : goal.at-requires-clause-index
-at-requires-clause-index c = segment-index c.self.inside.heap c.args.index c.self.invariant
+at-requires-clause-index c = segment-index c.args.index c.self.invariant
 
 pub at-requires-clause-below : goal.at-requires-clause-below
-at-requires-clause-below c = place-below c.self.inside.heap c.args.index c.args.entry c.in-Found.place c.self.invariant c.in-Found.ensures.place
+at-requires-clause-below c =
+    place-below c.args.index c.args.entry c.in-Found.place c.self.invariant c.in-Found.ensures.place
 
 pub returns-in-Found : goal.returns-in-Found
 returns-in-Found c = λ key q.
     subst (λ t. Answers t (λ d. handle_at d key) (Some c.at.result)) c.self.view_is
-    (found-answers _ c.args.index c.args.entry c.in-Found.place c.at.result c.in-Found.ensures.place c.at.ensures key q)
+    (found-answers _ c.args.index c.args.entry c.in-Found.place c.in-Found.ensures.place c.at.ensures key q)
 
 pub returns-in-Absent : goal.returns-in-Absent
 returns-in-Absent c = λ key q.
-    subst (λ t. Answers t (λ d. handle_at d key) None) c.self.view_is (absent-answers _ c.args.index c.args.entry c.in-Absent.field-0 c.in-Absent.ensures.place key q)
+    subst (λ t. Answers t (λ d. handle_at d key) None) c.self.view_is
+    (absent-answers c.args.index c.args.entry c.in-Absent.field-0 c.in-Absent.ensures.place key q)

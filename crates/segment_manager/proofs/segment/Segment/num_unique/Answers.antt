@@ -6,4 +6,5 @@ use Rattle.segment_manager.proofs.segment.Segment.num_unique.Goals as goal
 
 pub returns : goal.returns
 returns c =
-    subst (λ t. IsReply t NumUnique (Number c.len.result)) c.self.view_is (num-replies _ Unique c.len.result c.len.ensures.len)
+    subst (λ t. IsReply t NumUnique (Number c.len.result)) c.self.view_is
+    (num-replies Unique c.len.result c.len.ensures.len)

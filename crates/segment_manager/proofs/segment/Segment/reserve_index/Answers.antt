@@ -1,37 +1,34 @@
 -- The places are there, or they are taken, or their block is refused.
 use Rattle.segment_manager.proofs.Reserves.{reserve-changes, reserves, reserves-none}
-use Rattle.segment_manager.proofs.{Common.sym, Common.◌∙◌, Common.reserve_of, Keeping.keeps-fewer, Keeping.keeps-places}
+use Rattle.segment_manager.proofs.{Common.sym, Common.◌∙◌, Common.reserve_of}
 use Rattle.segment_manager.proofs.{KeyCalls.segment-index, Steps.refuses-read_only}
 use Rattle.segment_manager.proofs.segment.Segment.reserve_index.Goals.{in-Ok, in-Err}
 use Rattle.segment_manager.proofs.segment.Segment.reserve_index.Goals as goal
 
 pub returns-then-is_read_only-clause-step : goal.returns-then-is_read_only-clause-step
-returns-then-is_read_only-clause-step c = refuses-read_only c.args.self.now (reserve_of c.args.index c.args.n) (sym c.is_read_only.ensures ∙ c.if-is_read_only.true) (reserve-changes c.args.index c.args.n)
+returns-then-is_read_only-clause-step c =
+    refuses-read_only c.args.self.now (reserve_of c.args.index c.args.n)
+    (sym c.is_read_only.ensures ∙ c.if-is_read_only.true) (reserve-changes c.args.index c.args.n)
 
 pub reserve-requires : goal.reserve-requires
-reserve-requires c = record { index = segment-index c.self.inside.heap c.args.index c.self.invariant }
+reserve-requires c = record { index = segment-index c.args.index c.self.invariant }
 
 pub invariant_of-self : goal.invariant_of-self
 invariant_of-self c =
     elim c.match-reserve.branch [
-      | in-Ok w ↦ (reserves _ _ c.self.view_is c.self.invariant c.reserve.new.heap c.args.index c.args.n
+      | in-Ok w ↦ (reserves c.self.view_is c.self.invariant c.args.index
           (sym c.is_read_only.ensures ∙ c.if-is_read_only.false) w.in-Ok.ensures.reserved).segment
-      | in-Err w ↦ (reserves-none _ _ c.self.view_is c.self.invariant c.reserve.new.heap c.args.index c.args.n
-          (sym c.is_read_only.ensures ∙ c.if-is_read_only.false) w.in-Err.ensures.reserved.0 w.in-Err.ensures.reserved.1).segment
+      | in-Err w ↦ (reserves-none c.self.view_is c.self.invariant c.args.index c.args.n
+          (sym c.is_read_only.ensures ∙ c.if-is_read_only.false) w.in-Err.ensures.reserved.0
+          w.in-Err.ensures.reserved.1).segment
     ]
 
 pub returns-clause-step : goal.returns-clause-step
 returns-clause-step c =
     elim c.match-reserve.branch [
-      | in-Ok w ↦ rw w.result-is (reserves _ _ c.self.view_is c.self.invariant c.reserve.new.heap c.args.index c.args.n
+      | in-Ok w ↦ rw w.result-is (reserves c.self.view_is c.self.invariant c.args.index
           (sym c.is_read_only.ensures ∙ c.if-is_read_only.false) w.in-Ok.ensures.reserved).step
-      | in-Err w ↦ rw w.result-is (reserves-none _ _ c.self.view_is c.self.invariant c.reserve.new.heap c.args.index c.args.n
-          (sym c.is_read_only.ensures ∙ c.if-is_read_only.false) w.in-Err.ensures.reserved.0 w.in-Err.ensures.reserved.1).step
-    ]
-
-pub returns-clause-enough : goal.returns-clause-enough
-returns-clause-enough c =
-    elim c.match-reserve.branch [
-      | in-Ok w ↦ keeps-places _ _ c.self.view_is c.reserve.new.heap c.args.index c.args.n w.in-Ok.ensures.reserved
-      | in-Err w ↦ keeps-fewer _ _ c.self.view_is _ c.args.index c.args.n w.in-Err.ensures.reserved.0
+      | in-Err w ↦ rw w.result-is (reserves-none c.self.view_is c.self.invariant c.args.index c.args.n
+          (sym c.is_read_only.ensures ∙ c.if-is_read_only.false) w.in-Err.ensures.reserved.0
+          w.in-Err.ensures.reserved.1).step
     ]

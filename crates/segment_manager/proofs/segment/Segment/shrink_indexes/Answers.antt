@@ -5,20 +5,21 @@ use Rattle.seg_types.specs.Commands.{ShrinkIndexes}
 use Rattle.segment_manager.proofs.segment.Segment.shrink_indexes.Goals as goal
 
 pub returns-then-is_read_only-clause-step : goal.returns-then-is_read_only-clause-step
-returns-then-is_read_only-clause-step c = refuses-read_only c.args.self.now ShrinkIndexes (sym c.is_read_only.ensures ∙ c.if-is_read_only.true) refl
+returns-then-is_read_only-clause-step c =
+    refuses-read_only c.args.self.now ShrinkIndexes (sym c.is_read_only.ensures ∙ c.if-is_read_only.true) refl
 
 pub shrink-requires : goal.shrink-requires
-shrink-requires c = record { index = segment-index c.self.inside.heap Named c.self.invariant }
+shrink-requires c = record { index = segment-index Named c.self.invariant }
 
 pub shrink-requires-2 : goal.shrink-requires-2
-shrink-requires-2 c = record { index = shrunk-index c.self.inside.heap c.shrink.new.heap c.self.invariant c.shrink.ensures.shrunk }
+shrink-requires-2 c = record { index = shrunk-index c.self.invariant c.shrink.ensures.shrunk }
 
 pub invariant_of-self : goal.invariant_of-self
 invariant_of-self c =
-    (shrinks _ _ c.self.view_is c.self.invariant c.shrink.new.heap c.shrink-2.new.heap
+    (shrinks c.self.view_is c.self.invariant
     (sym c.is_read_only.ensures ∙ c.if-is_read_only.false) c.shrink.ensures.shrunk c.shrink-2.ensures.shrunk).segment
 
 pub returns-clause-step : goal.returns-clause-step
 returns-clause-step c =
-    (shrinks _ _ c.self.view_is c.self.invariant c.shrink.new.heap c.shrink-2.new.heap
+    (shrinks c.self.view_is c.self.invariant
     (sym c.is_read_only.ensures ∙ c.if-is_read_only.false) c.shrink.ensures.shrunk c.shrink-2.ensures.shrunk).step

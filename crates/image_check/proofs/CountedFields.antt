@@ -15,7 +15,7 @@ use Rattle.best_fit.specs.Table.{same_role}
 use Rattle.best_fit.proofs.Laws.{Row}
 use Rattle.seg_types.specs.declared.kinds.ScalarKind.{ScalarKind}
 use Rattle.seg_types.specs.declared.kinds.Kind.{Kind}
-use Rattle.seg_types.specs.declared.kinds.Kind.TheVariants.{Scalar, Text, Vector, Map, Texts}
+use Rattle.seg_types.specs.declared.kinds.Kind.TheVariants.{Scalar, String, Vector, Map, Strings}
 use Rattle.image_check.specs.ObjectTests.{is_use, good_for, payload, index_capacity}
 use Rattle.image_check.specs.Fields.{values, has_storage, Field, field_at, index_field, storage_field, element_offsets, element_fields, root_link, node_fields, counted_fields}
 use Rattle.image_check.specs.Meaning.{LeadsTo, Counts}
@@ -116,7 +116,7 @@ module _ (format : ℕ) (m : Memory) (ts : List Tile) where
   abbrev fields_in : ℕ → Option Tile → List Field
   fields_in n o = elim o [ None ↦ [] | Some t ↦ flat_map (field_at m ts Storage) (element_offsets (payload t) (min n ((t.len - 16) / 16))) ]
 
-  elements-if : (at : ℕ) → Mem (Texts, at) (values format m ts) → (b : Bool) → (word_at m (at + 16) == 0) ≡ b → (o : Option Tile) → (if b then None else good_for ts Storage (link_at m at)) ≡ o
+  elements-if : (at : ℕ) → Mem (Strings, at) (values format m ts) → (b : Bool) → (word_at m (at + 16) == 0) ≡ b → (o : Option Tile) → (if b then None else good_for ts Storage (link_at m at)) ≡ o
       → (f : Field) → Mem f (fields_in (word_at m (at + 8)) o) → Count f
   elements-if at v b e None g f h = absurd h
   elements-if at v true e (Some t) g f h = absurd (cc)
@@ -130,7 +130,7 @@ module _ (format : ℕ) (m : Memory) (ts : List Tile) where
       let place : f.at ≡ payload t + 16 * i.one = w.place ∙ i.is in
       let some : 0 < word_at m (at + 16) = not-none (word_at m (at + 16)) e in
       subst (λ x. Counts format m ts x f.target) (sym place)
-      (Counts.element t i.one (Mem-Contains (values format m ts) (Texts, at) v) some g (omega arith) (room-of t.len (word_at m (at + 8)) i.one low)
+      (Counts.element t i.one (Mem-Contains (values format m ts) (Strings, at) v) some g (omega arith) (room-of t.len (word_at m (at + 8)) i.one low)
       (moved Storage f.at (payload t + 16 * i.one) f.target place w.leads))
     where
       not-none : (n : ℕ) → (n == 0) ≡ false → 0 < n
@@ -141,9 +141,9 @@ module _ (format : ℕ) (m : Memory) (ts : List Tile) where
       room-of len n i l = omega arith
 
   elements-count : (k : Kind) (at : ℕ) → Mem (k, at) (values format m ts) → (f : Field) → Mem f (element_fields m ts (k, at)) → Count f
-  elements-count Texts at v f h = elements-if at v (word_at m (at + 16) == 0) refl (if word_at m (at + 16) == 0 then None else good_for ts Storage (link_at m at)) refl f h
+  elements-count Strings at v f h = elements-if at v (word_at m (at + 16) == 0) refl (if word_at m (at + 16) == 0 then None else good_for ts Storage (link_at m at)) refl f h
   elements-count (Scalar k) at v f h = absurd h
-  elements-count Text at v f h = absurd h
+  elements-count String at v f h = absurd h
   elements-count (Vector k) at v f h = absurd h
   elements-count (Map k q) at v f h = absurd h
 
@@ -167,9 +167,9 @@ module _ (format : ℕ) (m : Memory) (ts : List Tile) where
   roots-linked (Map k q) at v x (inl e) = λ n l. subst (λ y. Counts format m ts y n) (sym e) (Counts.root (Mem-Contains (values format m ts) (Map k q, at) v) (moved Node x at n e l))
   roots-linked (Map k q) at v x (inr h) = absurd h
   roots-linked (Scalar k) at v x h = absurd h
-  roots-linked Text at v x h = absurd h
+  roots-linked String at v x h = absurd h
   roots-linked (Vector k) at v x h = absurd h
-  roots-linked Texts at v x h = absurd h
+  roots-linked Strings at v x h = absurd h
 
   abbrev roots : List ℕ
   roots = flat_map root_link (values format m ts)
@@ -236,7 +236,7 @@ module _ (format : ℕ) (m : Memory) (ts : List Tile) where
       (to-field m ts Storage at n q)
 
   element-in : (at n : ℕ) (t : Tile) (i : ℕ) → 0 < word_at m (at + 16) → good_for ts Storage (link_at m at) ≡ Some t → i < word_at m (at + 8) → 16 * i + 32 ≤ t.len
-      → LeadsTo m ts Storage (payload t + 16 * i) n → Mem (field (payload t + 16 * i) n) (element_fields m ts (Texts, at))
+      → LeadsTo m ts Storage (payload t + 16 * i) n → Mem (field (payload t + 16 * i) n) (element_fields m ts (Strings, at))
   element-in at n t i l g a r q =
       let k : ℕ = min (word_at m (at + 8)) ((t.len - 16) / 16) in
       let there : (if word_at m (at + 16) == 0 then None else good_for ts Storage (link_at m at)) ≡ Some t =
@@ -293,7 +293,7 @@ module _ (format : ℕ) (m : Memory) (ts : List Tile) where
         (mem_right (field x n) two (flat_map (storage_field m ts) (values format m ts))
         (mem_flat_map (storage_field m ts) (k, x) (field x n) (values format m ts) (Contains-Mem (values format m ts) (k, x) c) (storage-in k x n h l q))))
     parts (Counts.element {at = x} {target = n} t i c l g j r q) = of_other Storage refl q (mem_right (field (payload t + 16 * i) n) three (flat_map (element_fields m ts) (values format m ts))
-        (mem_flat_map (element_fields m ts) (Texts, x) (field (payload t + 16 * i) n) (values format m ts) (Contains-Mem (values format m ts) (Texts, x) c) (element-in x n t i l g j r q)))
+        (mem_flat_map (element_fields m ts) (Strings, x) (field (payload t + 16 * i) n) (values format m ts) (Contains-Mem (values format m ts) (Strings, x) c) (element-in x n t i l g j r q)))
     parts (Counts.root {k = k} {v = v} {at = x} {target = n} c l) = of_node (root-in k v x n c l)
     parts (Counts.left {at = x} {n = n} {target = y} c l q) = follow x n n y (inl refl) l q (parts c)
     parts (Counts.right {at = x} {n = n} {target = y} c l q) = follow x n (n + 8) y (inr refl) l q (parts c)

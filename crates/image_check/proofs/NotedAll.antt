@@ -3,7 +3,7 @@ use Rattle.std.proofs.Common.{◌≡◌, refl, sym, subst, ℕ, true, List, arit
 use Rattle.std.specs.Prelude.{Option, None}
 use mathlib.Core.Logic.{inl, inr}
 use Rattle.raw_region.specs.Memory.{bytes_of}
-use Rattle.seg_types.specs.declared.kinds.Kind.TheVariants.{Map, Texts}
+use Rattle.seg_types.specs.declared.kinds.Kind.TheVariants.{Map, Strings}
 use Rattle.image_check.specs.Owners.{Blocks, IsMarkingOf}
 use Rattle.image_check.specs.Passes.{HasTiles, tiles_in}
 use Rattle.image_check.specs.Sharing.{AreValuesNoted}
@@ -40,7 +40,7 @@ whole format b es p1 w1 fs p2 w2 gs p3 w3 x y z = record {
   named = λ p n l. z.keeps n _ (y.keeps n _ (x.named p n l));
   unique = λ p n l. z.keeps n _ (y.keeps n _ (x.unique p n l));
   storage = λ k at v h p n l. z.keeps n _ ((y.noted k at v).storage h p n l);
-  element = λ array i at v p g l r n k. z.keeps n _ ((y.noted Texts at v).element refl array i p g l r n k);
+  element = λ array i at v p g l r n k. z.keeps n _ ((y.noted Strings at v).element refl array i p g l r n k);
   root = λ k v at c n l. z.keeps n _ ((y.noted (Map k v) at c).root k v refl n l);
 }
 

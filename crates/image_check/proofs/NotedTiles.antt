@@ -11,7 +11,7 @@ use Rattle.block_tags.specs.declared.tile.Role.TheVariants.{Object, Index, Stora
 use Rattle.block_tags.specs.declared.tile.Tile.{Tile}
 use Rattle.best_fit.proofs.Laws.{Row, said_row}
 use Rattle.seg_types.specs.declared.kinds.Kind.{Kind}
-use Rattle.seg_types.specs.declared.kinds.Kind.TheVariants.{Scalar, Text, Vector, Map, Texts}
+use Rattle.seg_types.specs.declared.kinds.Kind.TheVariants.{Scalar, String, Vector, Map, Strings}
 use Rattle.seg_index.specs.Keys.{class_at, code_before, count_at, name_before}
 use Rattle.image_check.specs.declared.owners.Owner.{Owner}
 use Rattle.image_check.specs.ObjectTests.{has_name, has_objects, has_padding, is_indexed, is_object_tile, is_use, is_value_in, kind_at, object_tiles, payload, rise_by, targets, value_offset}
@@ -60,10 +60,10 @@ tile-before at (f ∷ front) here back end t a (inr h) = tile-before (at + f.len
 
 room-in : (m : Memory) (kind : Kind) (count at end : ℕ) → IsTrue (has_link kind) → IsTrue (is_value_in m kind count at end) → at + 24 ≤ end
 room-in m (Scalar k) count at end l h = absurd (false≢true l)
-room-in m Text count at end l h = leb-true (at + 24) end (and_parts (count == 1) (nat_le (at + 24) end) h).1
+room-in m String count at end l h = leb-true (at + 24) end (and_parts (count == 1) (nat_le (at + 24) end) h).1
 room-in m (Vector k) count at end l h = leb-true (at + 24) end (and_parts (count == 1) (nat_le (at + 24) end) h).1
 room-in m (Map k v) count at end l h = leb-true (at + 24) end (and_parts (count == 1) (nat_le (at + 24) end) h).1
-room-in m Texts count at end l h = leb-true (at + 24) end (and_parts (count == 1) (nat_le (at + 24) end) h).1
+room-in m Strings count at end l h = leb-true (at + 24) end (and_parts (count == 1) (nat_le (at + 24) end) h).1
 
 abbrev value_fits : Memory → Tile → Option Kind → Bool
 value_fits m t o = elim o [ None ↦ false | Some k ↦ is_value_in m k (count_at m (payload t)) (value_offset m (payload t)) (t.offset + t.len) ]

@@ -10,7 +10,7 @@ use Rattle.block_tags.specs.declared.tile.Role.TheVariants.{Storage, Node}
 use Rattle.block_tags.specs.declared.tile.Tile.{Tile}
 use Rattle.seg_types.specs.declared.kinds.ScalarKind.{ScalarKind}
 use Rattle.seg_types.specs.declared.kinds.Kind.{Kind}
-use Rattle.seg_types.specs.declared.kinds.Kind.TheVariants.{Scalar, Text, Vector, Map, Texts}
+use Rattle.seg_types.specs.declared.kinds.Kind.TheVariants.{Scalar, String, Vector, Map, Strings}
 use Rattle.image_check.specs.ObjectTests.{good_for, payload, tile_of}
 use Rattle.image_check.specs.Fields.{has_storage}
 use Rattle.image_check.specs.Meaning.{Counts}
@@ -103,9 +103,9 @@ module _ (format : ℕ) (b : List ℕ) (at : ℕ) (old : Blocks) (waited : ℕ) 
     noted = record { storage = λ h. absurd (false≢true h); element = λ e. absurd (cc); root = λ x y e. d.noted };
   }
 
-  pub text-value : IsStorageNoted format b at old waited es pending waiting → IsValueGrown format b Text at old waited es pending waiting
+  pub text-value : IsStorageNoted format b at old waited es pending waiting → IsValueGrown format b String at old waited es pending waiting
   text-value d = record {
-    grown = grown-in format b (λ p. p ≡ at) (λ p. (IsTrue (has_link Text) × (p ≡ at)) ⊎ IsInStorage (tiles_in b) p) old waited es pending waiting (λ p e. inl (refl, e)) d.grown;
+    grown = grown-in format b (λ p. p ≡ at) (λ p. (IsTrue (has_link String) × (p ≡ at)) ⊎ IsInStorage (tiles_in b) p) old waited es pending waiting (λ p e. inl (refl, e)) d.grown;
     noted = record { storage = λ h. d.noted; element = λ e. absurd (cc); root = λ x y e. absurd (cc) };
   }
 
@@ -116,9 +116,9 @@ module _ (format : ℕ) (b : List ℕ) (at : ℕ) (old : Blocks) (waited : ℕ) 
   }
 
   module _ (d : IsStorageNoted format b at old waited es pending waiting) (fs : Blocks) (p2 : Option ℕ) (w2 : ℕ) (t : AreTextsNoted format b at es waiting fs p2 w2) where
-    pub array-value : IsValueGrown format b Texts at old waited fs p2 w2
+    pub array-value : IsValueGrown format b Strings at old waited fs p2 w2
     array-value = record {
-      grown = grown-on format b (λ p. p ≡ at) (IsInStorage (tiles_in b)) (λ p. (IsTrue (has_link Texts) × (p ≡ at)) ⊎ IsInStorage (tiles_in b) p) old waited es pending waiting fs p2 w2
+      grown = grown-on format b (λ p. p ≡ at) (IsInStorage (tiles_in b)) (λ p. (IsTrue (has_link Strings) × (p ≡ at)) ⊎ IsInStorage (tiles_in b) p) old waited es pending waiting fs p2 w2
           (λ p e. inl (refl, e)) (λ p h. inr h) d.grown t.grown;
       noted = record { storage = λ h p n l. t.grown.keeps n _ (d.noted p n l); element = λ e. t.noted; root = λ x y e. absurd (cc) };
     }

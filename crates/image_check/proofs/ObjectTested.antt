@@ -4,7 +4,7 @@ use Rattle.std.specs.Prelude.{Option, Some, None, nat_le}
 use Rattle.std.proofs.lemmas.Bool.{and_from, and_parts, leb-true, le-leb}
 use Rattle.raw_region.specs.Memory.{Memory}
 use Rattle.seg_types.specs.declared.kinds.Kind.{Kind}
-use Rattle.seg_types.specs.declared.kinds.Kind.TheVariants.{Scalar, Text, Vector, Map, Texts}
+use Rattle.seg_types.specs.declared.kinds.Kind.TheVariants.{Scalar, String, Vector, Map, Strings}
 use Rattle.seg_types.specs.Kinds.{size_of}
 use Rattle.seg_index.specs.Keys.{count_at}
 use Rattle.image_check.specs.ObjectTests.{are_spellings, has_name, has_padding, is_indexed, is_value_in, kind_at, value_offset}
@@ -23,10 +23,10 @@ and-true false = refl
 -- a value is right where its count and its place are, and it is spelled
 pub value-parts : (m : Memory) (k : Kind) (count at end : ℕ) → is_value_in m k count at end ≡ (is_value_room k count at end && is_spelled m k count at)
 value-parts m (Scalar k) count at end = if-and (nat_le 1 count && nat_le count 1048576 && nat_le (at + size_of k * count) end) (are_spellings m k at count)
-value-parts m Text count at end = sym (and-true ((count == 1) && nat_le (at + 24) end))
+value-parts m String count at end = sym (and-true ((count == 1) && nat_le (at + 24) end))
 value-parts m (Vector k) count at end = sym (and-true ((count == 1) && nat_le (at + 24) end))
 value-parts m (Map k v) count at end = sym (and-true ((count == 1) && nat_le (at + 24) end))
-value-parts m Texts count at end = sym (and-true ((count == 1) && nat_le (at + 24) end))
+value-parts m Strings count at end = sym (and-true ((count == 1) && nat_le (at + 24) end))
 
 -- a value that has room lies behind its start
 pub record HasRoom (start end : ℕ) : Type 0 where
@@ -41,10 +41,10 @@ pub room-said : (k : Kind) (count start end : ℕ) → is_value_room k count sta
 room-said (Scalar k) count start end h =
     let room = leb-true (start + size_of k * count) end (and_parts (nat_le 1 count && nat_le count 1048576) (nat_le (start + size_of k * count) end) h).1 in
     record { behind = omega arith }
-room-said Text count start end h = container-room count start end h
+room-said String count start end h = container-room count start end h
 room-said (Vector k) count start end h = container-room count start end h
 room-said (Map k v) count start end h = container-room count start end h
-room-said Texts count start end h = container-room count start end h
+room-said Strings count start end h = container-room count start end h
 
 -- and has it before a later end
 room-later : (count start end later : ℕ) → ((count == 1) && nat_le (start + 24) end) ≡ true → end ≤ later → ((count == 1) && nat_le (start + 24) later) ≡ true
@@ -58,10 +58,10 @@ room-wider (Scalar k) count start end later h l =
     let p = and_parts (nat_le 1 count && nat_le count 1048576) (nat_le (start + size_of k * count) end) h in
     let room = leb-true (start + size_of k * count) end p.1 in
     and_from (nat_le 1 count && nat_le count 1048576) (nat_le (start + size_of k * count) later) p.0 (le-leb (start + size_of k * count) later (omega arith))
-room-wider Text count start end later h l = room-later count start end later h l
+room-wider String count start end later h l = room-later count start end later h l
 room-wider (Vector k) count start end later h l = room-later count start end later h l
 room-wider (Map k v) count start end later h l = room-later count start end later h l
-room-wider Texts count start end later h l = room-later count start end later h l
+room-wider Strings count start end later h l = room-later count start end later h l
 
 -- ---- an object
 

@@ -8,7 +8,7 @@ use Rattle.block_tags.specs.declared.tile.Role.TheVariants.{Object, Index, Stora
 use Rattle.block_tags.specs.declared.tile.Tile.{Tile}
 use Rattle.best_fit.specs.Table.{same_role}
 use Rattle.seg_types.specs.declared.kinds.Kind.{Kind}
-use Rattle.seg_types.specs.declared.kinds.Kind.TheVariants.{Scalar, Text, Vector, Map, Texts}
+use Rattle.seg_types.specs.declared.kinds.Kind.TheVariants.{Scalar, String, Vector, Map, Strings}
 use Rattle.seg_index.specs.Keys.{count_at}
 use Rattle.image_check.specs.ObjectTests.{has_name, has_padding, is_indexed, is_object_tile, is_use, is_value_in, kind_at, payload, value_offset}
 use Rattle.image_check.specs.Containers.{is_scalar, container_walk_rates}
@@ -21,10 +21,10 @@ held false q h = absurd (false≢true h)
 
 value-room : (m : Memory) (k : Kind) (count at end : ℕ) → is_value_in m k count at end ≡ true → is_scalar k ≡ false → at + 24 ≤ end
 value-room m (Scalar k) count at end h s = absurd (true≢false s)
-value-room m Text count at end h s = leb-true (at + 24) end (and_parts (count == 1) (nat_le (at + 24) end) h).1
+value-room m String count at end h s = leb-true (at + 24) end (and_parts (count == 1) (nat_le (at + 24) end) h).1
 value-room m (Vector k) count at end h s = leb-true (at + 24) end (and_parts (count == 1) (nat_le (at + 24) end) h).1
 value-room m (Map k v) count at end h s = leb-true (at + 24) end (and_parts (count == 1) (nat_le (at + 24) end) h).1
-value-room m Texts count at end h s = leb-true (at + 24) end (and_parts (count == 1) (nat_le (at + 24) end) h).1
+value-room m Strings count at end h s = leb-true (at + 24) end (and_parts (count == 1) (nat_le (at + 24) end) h).1
 
 -- a container lies in its object's tile
 pub container-room : (format : ℕ) (m : Memory) (t : Tile) (k : Kind) → is_object_tile format m t ≡ true → kind_at format m (payload t) ≡ Some k → is_scalar k ≡ false

@@ -13,7 +13,7 @@ use Rattle.best_fit.proofs.Laws.{extents_of as used}
 use Rattle.seg_types.specs.declared.kinds.ScalarKind.{ScalarKind}
 use Rattle.seg_types.specs.declared.kinds.ScalarKind.TheVariants.{U8}
 use Rattle.seg_types.specs.declared.kinds.Kind.{Kind}
-use Rattle.seg_types.specs.declared.kinds.Kind.TheVariants.{Scalar, Text, Vector, Texts as TextsKind}
+use Rattle.seg_types.specs.declared.kinds.Kind.TheVariants.{Scalar, String, Vector, Strings as StringsKind}
 use Rattle.seg_types.specs.Kinds.{size_of, is_value}
 use Rattle.seg_vector.specs.Vector.{spelled, OwnedText, AreTextLinks, IsOwnedText}
 use Rattle.segment_manager.specs.Directory.{Value, Numbers, Elements, Bytes, Texts, kind_of, count_of, value_len, value_extents, is_good_value, has_own_block, is_owned_text}
@@ -107,8 +107,8 @@ all-bytes : (m : Memory) (link : Option ℕ) (n : ℕ) → AreSmall m → IsTrue
 all-bytes m None n s = refl
 all-bytes m (Some block) n s = bytes-small m block n s
 
-pub text-back : (ts : List Tile) (m : Memory) (count at end : ℕ) → AreSmall m → IsTrue (is_value_in m Text count at end) → IsTrue (is_storage_at m ts U8 at)
-    → IsBack ts m at end Text count (Bytes (bytes_at m at) (table_at m ts Storage at))
+pub text-back : (ts : List Tile) (m : Memory) (count at end : ℕ) → AreSmall m → IsTrue (is_value_in m String count at end) → IsTrue (is_storage_at m ts U8 at)
+    → IsBack ts m at end String count (Bytes (bytes_at m at) (table_at m ts Storage at))
 text-back ts m count at end s h c =
     let r = container-room m count at end h in
     let u = unguarded (nat_le (word_at m (at + 8)) (word_at m (at + 16)) && is_table_link ts Storage (link_at m at) (size_of U8) (word_at m (at + 16)))
@@ -220,8 +220,8 @@ links-if ts m (Some block) n x s e h =
     let f : block ≡ handle x = cc in
     (elements-all ts m (handle x) n s (subst (λ a. IsTrue (list_all (is_element_at m ts) (element_offsets a n))) f h)).links
 
-pub texts-back : (ts : List Tile) (m : Memory) (count at end : ℕ) → AreSmall m → IsTrue (is_value_in m TextsKind count at end) → IsTrue (is_array_at m ts at)
-    → IsBack ts m at end TextsKind count (Texts (texts_at m ts at) (table_at m ts Storage at))
+pub texts-back : (ts : List Tile) (m : Memory) (count at end : ℕ) → AreSmall m → IsTrue (is_value_in m StringsKind count at end) → IsTrue (is_array_at m ts at)
+    → IsBack ts m at end StringsKind count (Texts (texts_at m ts at) (table_at m ts Storage at))
 texts-back ts m count at end s h c =
     let r = container-room m count at end h in
     let u = unguarded (nat_le (word_at m (at + 8)) (word_at m (at + 16)) && is_table_link ts Storage (link_at m at) 16 (word_at m (at + 16)))

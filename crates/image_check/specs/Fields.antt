@@ -12,7 +12,7 @@ use Rattle.best_fit.specs.FreeTree.{cells_of}
 use Rattle.seg_types.specs.declared.kinds.ScalarKind.{ScalarKind}
 use Rattle.seg_types.specs.declared.kinds.Kind.{Kind}
 use Rattle.seg_types.specs.declared.kinds.ScalarKind.TheVariants.{U8}
-use Rattle.seg_types.specs.declared.kinds.Kind.TheVariants.{Scalar, Text, Vector, Map, Texts}
+use Rattle.seg_types.specs.declared.kinds.Kind.TheVariants.{Scalar, String, Vector, Map, Strings}
 use Rattle.seg_types.specs.Kinds.{size_of, value_of}
 use Rattle.image_check.specs.EarlyTests.{is_among}
 use Rattle.image_check.specs.ObjectTests.{is_use, tile_of, good_for, leads_to, is_table_link, payload, index_capacity, object_tiles, value_offset, kind_at, are_spellings, rise_by}
@@ -37,10 +37,10 @@ values format m ts = filter_map (λ t. option_map (λ k. (k, value_offset m (pay
 
 abbrev pub has_storage : Kind → Bool
 has_storage (Scalar k) = false
-has_storage Text = true
+has_storage String = true
 has_storage (Vector k) = true
 has_storage (Map k v) = false
-has_storage Texts = true
+has_storage Strings = true
 
 -- the storage link of a vector or text whose capacity is above 0
 abbrev pub storage_field : Memory → List Tile → Kind × ℕ → List Field
@@ -52,7 +52,7 @@ element_offsets at n = map (λ i. at + 16 * i) (range_with_len 0 n)
 
 -- the element links of an array that is reached: of the first length elements, and not more than its payload holds
 abbrev pub element_fields : Memory → List Tile → Kind × ℕ → List Field
-element_fields m ts (Texts, at) = elim (storage_array m ts at) [
+element_fields m ts (Strings, at) = elim (storage_array m ts at) [
   | None ↦ []
   | Some t ↦ flat_map (field_at m ts Storage) (element_offsets (payload t) (min (word_at m (at + 8)) ((t.len - 16) / 16)))
 ]
@@ -146,10 +146,10 @@ is_array_at m ts at =
 
 abbrev pub is_container : Memory → List Tile → Kind × ℕ → Bool
 is_container m ts (Scalar k, at) = true
-is_container m ts (Text, at) = is_storage_at m ts U8 at
+is_container m ts (String, at) = is_storage_at m ts U8 at
 is_container m ts (Vector k, at) = is_storage_at m ts k at
 is_container m ts (Map k v, at) = is_map_at m ts k v at
-is_container m ts (Texts, at) = is_array_at m ts at
+is_container m ts (Strings, at) = is_array_at m ts at
 
 abbrev pub has_containers : ℕ → Memory → List Tile → Bool
 has_containers format m ts = list_all (is_container m ts) (values format m ts)

@@ -13,7 +13,7 @@ use Rattle.image_check.specs.declared.owners.Block.{Block}
 use Rattle.image_check.specs.declared.owners.Owner.{Owner}
 use Rattle.seg_types.specs.declared.kinds.ScalarKind.{ScalarKind}
 use Rattle.seg_types.specs.declared.kinds.Kind.{Kind}
-use Rattle.seg_types.specs.declared.kinds.Kind.TheVariants.{Map, Texts}
+use Rattle.seg_types.specs.declared.kinds.Kind.TheVariants.{Map, Strings}
 use Rattle.image_check.specs.ObjectTests.{tile_of, good_for, payload, index_capacity}
 use Rattle.image_check.specs.Fields.{values, has_storage, needs_owner}
 use Rattle.image_check.specs.Passes.{tiles_in}
@@ -241,7 +241,7 @@ pub record IsWholeMarking (format : ℕ) (m : Memory) (ts : List Tile) (es : Blo
   pub named : 0 < index_capacity m 32 → IsNoted m ts es Index 32 32
   pub unique : 0 < index_capacity m 56 → IsNoted m ts es Index 56 56
   pub storage : (k : Kind) (at : ℕ) → Contains (values format m ts) (k, at) → IsTrue (has_storage k) → 0 < word_at m (at + 16) → IsNoted m ts es Storage at at
-  pub element : (array : Tile) (i at : ℕ) → Contains (values format m ts) (Texts, at) → 0 < word_at m (at + 16) → good_for ts Storage (link_at m at) ≡ Some array
+  pub element : (array : Tile) (i at : ℕ) → Contains (values format m ts) (Strings, at) → 0 < word_at m (at + 16) → good_for ts Storage (link_at m at) ≡ Some array
       → i < word_at m (at + 8) → 16 * i + 32 ≤ array.len → IsNoted m ts es Storage (payload array + 16 * i) (payload array + 16 * i)
   pub root : (k v : ScalarKind) (at : ℕ) → Contains (values format m ts) (Map k v, at) → IsNoted m ts es Node at at
 

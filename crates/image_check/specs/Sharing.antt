@@ -6,7 +6,7 @@ use Rattle.block_tags.specs.declared.tile.Role.TheVariants.{Object, Index, Stora
 use Rattle.block_tags.specs.declared.tile.Tile.{Tile}
 use Rattle.seg_types.specs.declared.kinds.ScalarKind.{ScalarKind}
 use Rattle.seg_types.specs.declared.kinds.Kind.{Kind}
-use Rattle.seg_types.specs.declared.kinds.Kind.TheVariants.{Scalar, Map, Texts}
+use Rattle.seg_types.specs.declared.kinds.Kind.TheVariants.{Scalar, Map, Strings}
 use Rattle.image_check.specs.declared.owners.Owner.{Owner}
 use Rattle.image_check.specs.ObjectTests.{good_for, index_capacity, is_use, kind_at, payload, tile_of, value_offset}
 use Rattle.image_check.specs.Fields.{has_storage, values}
@@ -91,7 +91,7 @@ has_link k = true
 -- the links behind a value are noted, but those of nodes
 pub record IsValueNoted (m : Memory) (ts : List Tile) (kind : Kind) (at : ℕ) (es : Blocks) : Type 0 where
   pub storage : IsTrue (has_storage kind) → 0 < word_at m (at + 16) → IsNoted m ts es Storage at at
-  pub element : kind ≡ Texts → AllElements m ts at (λ p. IsNoted m ts es Storage p p)
+  pub element : kind ≡ Strings → AllElements m ts at (λ p. IsNoted m ts es Storage p p)
   pub root : (k v : ScalarKind) → kind ≡ Map k v → IsNoted m ts es Node at at
 
 -- a value of which no link was noted
@@ -101,7 +101,7 @@ pub record IsValueReady (format : ℕ) (b : List ℕ) (kind : Kind) (at : ℕ) (
   pub aligned : at % 8 ≡ 0
   pub start : IsTrue (has_link kind) → IsStart (tiles_in b) at
   pub fresh : IsTrue (has_link kind) → (n : ℕ) (o : Owner) → owner_at es n ≡ Some o → o.at ≢ at
-  pub elements : kind ≡ Texts → AllElements (bytes_of b) (tiles_in b) at (IsStorageStart format b)
+  pub elements : kind ≡ Strings → AllElements (bytes_of b) (tiles_in b) at (IsStorageStart format b)
 
 pub record IsValueGrown (format : ℕ) (b : List ℕ) (kind : Kind) (at : ℕ) (old : Blocks) (waited : ℕ) (es : Blocks) (pending : Option ℕ) (waiting : ℕ) : Type 0 where
   pub grown : IsGrown format b (λ p. (IsTrue (has_link kind) × (p ≡ at)) ⊎ IsInStorage (tiles_in b) p) old waited es pending waiting

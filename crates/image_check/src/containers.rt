@@ -41,10 +41,10 @@ fn is_right(
 {
     match kind {
         Kind::Scalar(_) => true,
-        Kind::Text => is_storage(window, blocks, visits, ScalarKind::U8, value),
+        Kind::String => is_storage(window, blocks, visits, ScalarKind::U8, value),
         Kind::Vector(element) => is_storage(window, blocks, visits, element, value),
         Kind::Map(key, of) => is_map(window, blocks, visits, key, of, value),
-        Kind::Texts => is_array(window, blocks, visits, value),
+        Kind::Strings => is_array(window, blocks, visits, value),
     }
 }
 

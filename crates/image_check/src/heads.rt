@@ -58,10 +58,10 @@ fn kind_of_code(code: u32) -> Option<Kind>
 fn named_kind(code: u32) -> Option<Kind> {
     match code / 65536 {
         0 => Some(Kind::Scalar(named_scalar(code)?)),
-        1 => Some(Kind::Text),
+        1 => Some(Kind::String),
         2 => Some(Kind::Vector(named_scalar(code % 256)?)),
         3 => Some(Kind::Map(named_scalar(code / 256 % 256)?, named_scalar(code % 256)?)),
-        4 => Some(Kind::Texts),
+        4 => Some(Kind::Strings),
         _ => None,
     }
 }

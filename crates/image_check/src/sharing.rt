@@ -2,7 +2,7 @@
 ghost use Rattle.std.specs.Prelude.{◌≡◌, ◌+◌, ◌*◌, ◌%◌, ◌<◌, ◌≤◌, ◌^◌, ℕ, IsTrue, MatchResult, None, OnOk, Some, not, true, length};
 ghost use Rattle.raw_region.specs.Memory.{bytes_of, word_at};
 ghost use Rattle.image_check.specs.declared.classes.ImageClass.TheVariants.{SharedBlock};
-ghost use Rattle.seg_types.specs.declared.kinds.Kind.TheVariants.{Texts as TextsKind};
+ghost use Rattle.seg_types.specs.declared.kinds.Kind.TheVariants.{Strings as StringsKind};
 ghost use Rattle.image_check.specs.ObjectTests.{has_objects};
 ghost use Rattle.image_check.specs.Fields.{is_shared};
 ghost use Rattle.image_check.specs.Owners.{IsIndexPlace, IsMarkingOf, IsSharedIn, IsUnmarked, IsWholeMarkingOf, debt};
@@ -83,9 +83,9 @@ fn mark_array(
     ghost format: { ℕ }
     requires tiles { HasTiles window.now.bytes }
     requires marking { IsMarkingOf format window.now.bytes None owners.old.blocks.entries owners.old.pending owners.old.waiting }
-    requires ready { IsValueReady format window.now.bytes TextsKind value.at owners.old.blocks.entries }
+    requires ready { IsValueReady format window.now.bytes StringsKind value.at owners.old.blocks.entries }
     ensures noted { MatchResult result
-        (λ done. IsValueGrown format window.now.bytes TextsKind value.at owners.old.blocks.entries owners.old.waiting owners.new.blocks.entries owners.new.pending owners.new.waiting)
+        (λ done. IsValueGrown format window.now.bytes StringsKind value.at owners.old.blocks.entries owners.old.waiting owners.new.blocks.entries owners.new.pending owners.new.waiting)
         (IsSharedIn format window.now.bytes) }
     ensures visits { Pays 3 result visits.old (6 * owners.old.waiting + debt owners.old.blocks.entries) visits.new (6 * owners.new.waiting + debt owners.new.blocks.entries) }
 {
@@ -123,9 +123,9 @@ fn mark_value(
             let owner = Owner { at, root: at };
             mark(owners, Role::Node, owner, value.link(window), visits)
         }
-        Kind::Text => mark_storage(window, owners, value, visits),
+        Kind::String => mark_storage(window, owners, value, visits),
         Kind::Vector(_) => mark_storage(window, owners, value, visits),
-        Kind::Texts => mark_array(window, owners, value, visits),
+        Kind::Strings => mark_array(window, owners, value, visits),
     }
 }
 

@@ -10,7 +10,7 @@ use Rattle.block_tags.specs.declared.tile.Role.TheVariants.{Object, Index, Stora
 use Rattle.block_tags.specs.declared.tile.Tile.{Tile}
 use Rattle.best_fit.specs.Table.{same_role}
 use Rattle.seg_types.specs.declared.kinds.Kind.{Kind}
-use Rattle.seg_types.specs.declared.kinds.Kind.TheVariants.{Map, Texts}
+use Rattle.seg_types.specs.declared.kinds.Kind.TheVariants.{Map, Strings}
 use Rattle.image_check.specs.Fields.{values}
 use Rattle.image_check.specs.Meaning.{Counts, LeadsTo}
 use Rattle.image_check.specs.ObjectTests.{index_capacity, is_use, kind_at, object_tiles, payload, tile_of, value_offset}
@@ -156,7 +156,7 @@ module _ (b : List ℕ) (tiles : HasTiles b) where
   source-of at target (Counts.storage {k} c h s l) =
       inr (inr (from-value k at at target c (FromValue.storage h (record { some = s; is = refl; leads = l }))))
   source-of at target (Counts.element array i c s g low room l) =
-      inr (inr (from-value Texts _ at target c (FromValue.element
+      inr (inr (from-value Strings _ at target c (FromValue.element
       (record {
         array = array;
         number = i;

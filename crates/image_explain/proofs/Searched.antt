@@ -11,7 +11,7 @@ use Rattle.block_tags.specs.declared.tile.Role.TheVariants.{Storage, Node}
 use Rattle.block_tags.specs.declared.tile.Tile.{Tile}
 use Rattle.seg_types.specs.declared.kinds.ScalarKind.{ScalarKind}
 use Rattle.seg_types.specs.declared.kinds.Kind.{Kind}
-use Rattle.seg_types.specs.declared.kinds.Kind.TheVariants.{Scalar, Text, Vector, Map, Texts}
+use Rattle.seg_types.specs.declared.kinds.Kind.TheVariants.{Scalar, String, Vector, Map, Strings}
 use Rattle.image_check.specs.Meaning.{LeadsTo}
 use Rattle.image_check.specs.ObjectTests.{good_for, leads_to, payload, tile_of}
 use Rattle.image_check.specs.Passes.{HasTiles, tiles_in}
@@ -364,21 +364,21 @@ module _ (m : Memory) (ts : List Tile) (value : ℕ) (sought : Sought) where
       (same-searched (Below m ts value) (FromValue m ts value (Map k v)) sought s (λ at d. FromValue.node d)
       (λ at. of-map k v at) h)
 
-  texts-parts : (at : ℕ) → FromValue m ts value Texts at sought.target
+  texts-parts : (at : ℕ) → FromValue m ts value Strings at sought.target
       → IsStorageLink m ts value at sought.target ⊎ FromElements m ts value at sought.target
   texts-parts at (FromValue.storage h s) = inl s
   texts-parts at (FromValue.element e) = inr e
 
-  pub texts-searched : (kind : Kind) (one two s : Search) → kind ≡ Texts → s ≡ both one two
+  pub texts-searched : (kind : Kind) (one two s : Search) → kind ≡ Strings → s ≡ both one two
       → IsSearched (IsStorageLink m ts value) sought one → IsSearched (FromElements m ts value) sought two
       → IsSearched (FromValue m ts value kind) sought s
   texts-searched kind one two s e f p q =
       subst (λ j. IsSearched (FromValue m ts value j) sought s) (sym e)
-      (subst (IsSearched (FromValue m ts value Texts) sought) (sym f)
-      (both-searched (IsStorageLink m ts value) (FromElements m ts value) (FromValue m ts value Texts) sought
+      (subst (IsSearched (FromValue m ts value Strings) sought) (sym f)
+      (both-searched (IsStorageLink m ts value) (FromElements m ts value) (FromValue m ts value Strings) sought
       (λ at s. FromValue.storage refl s) (λ at x. FromValue.element x) texts-parts one two p q))
 
-  of-text : (at : ℕ) → FromValue m ts value Text at sought.target → IsStorageLink m ts value at sought.target
+  of-text : (at : ℕ) → FromValue m ts value String at sought.target → IsStorageLink m ts value at sought.target
   of-text at (FromValue.storage h s) = s
 
   of-vector : (k : ScalarKind) (at : ℕ) → FromValue m ts value (Vector k) at sought.target
@@ -386,12 +386,12 @@ module _ (m : Memory) (ts : List Tile) (value : ℕ) (sought : Sought) where
   of-vector k at (FromValue.storage h s) = s
 
   pub storage-searched : (kind : Kind) (s : Search) → ((k : ScalarKind) → kind ≡ Scalar k → ⊥)
-      → ((k v : ScalarKind) → kind ≡ Map k v → ⊥) → (kind ≡ Texts → ⊥) → IsSearched (IsStorageLink m ts value) sought s
+      → ((k v : ScalarKind) → kind ≡ Map k v → ⊥) → (kind ≡ Strings → ⊥) → IsSearched (IsStorageLink m ts value) sought s
       → IsSearched (FromValue m ts value kind) sought s
   storage-searched (Scalar k) s x y z h = absurd (x k refl)
-  storage-searched Text s x y z h = same-searched (IsStorageLink m ts value) (FromValue m ts value Text) sought s
+  storage-searched String s x y z h = same-searched (IsStorageLink m ts value) (FromValue m ts value String) sought s
       (λ at l. FromValue.storage refl l) of-text h
   storage-searched (Vector k) s x y z h = same-searched (IsStorageLink m ts value) (FromValue m ts value (Vector k))
       sought s (λ at l. FromValue.storage refl l) (of-vector k) h
   storage-searched (Map k v) s x y z h = absurd (y k v refl)
-  storage-searched Texts s x y z h = absurd (z refl)
+  storage-searched Strings s x y z h = absurd (z refl)

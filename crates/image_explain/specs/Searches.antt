@@ -7,7 +7,7 @@ use Rattle.block_tags.specs.declared.tile.Role.TheVariants.{Object, Storage, Nod
 use Rattle.block_tags.specs.declared.tile.Tile.{Tile}
 use Rattle.seg_types.specs.declared.kinds.ScalarKind.{ScalarKind}
 use Rattle.seg_types.specs.declared.kinds.Kind.{Kind}
-use Rattle.seg_types.specs.declared.kinds.Kind.TheVariants.{Map, Texts}
+use Rattle.seg_types.specs.declared.kinds.Kind.TheVariants.{Map, Strings}
 use Rattle.image_check.specs.Fields.{has_storage}
 use Rattle.image_check.specs.Meaning.{LeadsTo}
 use Rattle.image_check.specs.ObjectTests.{good_for, is_use, kind_at, payload, tile_of, value_offset}
@@ -74,7 +74,7 @@ pub record IsStorageLink (m : Memory) (ts : List Tile) (value at target : ℕ) :
 -- a link that counts since a value of this kind stands at an offset
 pub data FromValue (m : Memory) (ts : List Tile) (value : ℕ) : Kind → ℕ → ℕ → Type 0 where
   storage : {k : Kind} {at target : ℕ} → IsTrue (has_storage k) → IsStorageLink m ts value at target → FromValue m ts value k at target
-  element : {at target : ℕ} → FromElements m ts value at target → FromValue m ts value Texts at target
+  element : {at target : ℕ} → FromElements m ts value at target → FromValue m ts value Strings at target
   node : {k v : ScalarKind} {at target : ℕ} → Below m ts value at target → FromValue m ts value (Map k v) at target
 
 -- since a tile is that of an object

@@ -51,10 +51,10 @@ fn is_wrong(image: &[u8], kind: Kind, at: u64) -> bool
 {
     match kind {
         Kind::Scalar(_) => false,
-        Kind::Text => !is_storage(image, ScalarKind::U8, at),
+        Kind::String => !is_storage(image, ScalarKind::U8, at),
         Kind::Vector(element) => !is_storage(image, element, at),
         Kind::Map(key, value) => is_wrong_map(image, key, value, at),
-        Kind::Texts => !is_array(image, at),
+        Kind::Strings => !is_array(image, at),
     }
 }
 

@@ -185,7 +185,7 @@ fn find_in_value(image: &[u8], kind: Kind, at: u64, sought: Sought) -> Search
     }
     match kind {
         Kind::Map(_, _) => find_below(image, at, sought, LEVELS, image.len() as u64).search,
-        Kind::Texts => both(
+        Kind::Strings => both(
             find_storage(image, at, sought),
             find_element(image, at, sought),
         ),

@@ -178,10 +178,10 @@ fn names_have_a_longest(rt: HostRuntime) {
 const KINDS: [(Kind, u32); 6] = [
     (Kind::Scalar(ScalarKind::Bool), 1),
     (Kind::Scalar(ScalarKind::U64), 5),
-    (Kind::Text, 65536),
+    (Kind::String, 65536),
     (Kind::Vector(ScalarKind::I32), 131075),
     (Kind::Map(ScalarKind::U8, ScalarKind::U8), 197122),
-    (Kind::Texts, 262144),
+    (Kind::Strings, 262144),
 ];
 
 #[test]
@@ -193,9 +193,9 @@ fn kinds_have_codes(rt: HostRuntime) {
     for code in [0, 6, 131072, 196608, 197894, 4294967295] {
         holds(&rt, Kind::from_code(code).is_none());
     }
-    holds(&rt, !Kind::Texts.is_of(1));
-    holds(&rt, Kind::Texts.is_of(2));
-    holds(&rt, Kind::Text.is_of(0));
+    holds(&rt, !Kind::Strings.is_of(1));
+    holds(&rt, Kind::Strings.is_of(2));
+    holds(&rt, Kind::String.is_of(0));
 }
 
 /// Numbers, and the values of a kind that they are.
@@ -263,7 +263,7 @@ fn keys_are_printed(rt: HostRuntime) {
     is_printed(
         &rt,
         rt.alloc(),
-        IndexKey::Unique(Kind::Texts),
+        IndexKey::Unique(Kind::Strings),
         "@vec<string>",
     );
 }

@@ -5,7 +5,7 @@ use Rattle.std.specs.List.{list_all}
 use Rattle.seg_types.specs.declared.kinds.ScalarKind.{ScalarKind}
 use Rattle.seg_types.specs.declared.kinds.ScalarKind.TheVariants.{Bool as BoolKind, U8, I32, I64, U64}
 use Rattle.seg_types.specs.declared.kinds.Kind.{Kind}
-use Rattle.seg_types.specs.declared.kinds.Kind.TheVariants.{Scalar, Text, Vector, Map, Texts}
+use Rattle.seg_types.specs.declared.kinds.Kind.TheVariants.{Scalar, String, Vector, Map, Strings}
 use Rattle.seg_types.specs.declared.kinds.Class.{Class}
 use Rattle.seg_types.specs.declared.kinds.Class.TheVariants.{Anonymous, Named, Unique}
 use Rattle.seg_types.specs.Names.{Key, ByName, ByKind, ByHandle, NoKey}
@@ -21,9 +21,9 @@ scalar_text U64 = codes "u64"
 
 abbrev pub kind_text : Kind → List ℕ
 kind_text (Scalar k) = scalar_text k
-kind_text Text = codes "string"
+kind_text String = codes "string"
 kind_text (Vector k) = codes "vec<" ++ scalar_text k ++ codes ">"
-kind_text Texts = codes "vec<string>"
+kind_text Strings = codes "vec<string>"
 kind_text (Map k v) = codes "map<" ++ scalar_text k ++ codes "," ++ scalar_text v ++ codes ">"
 
 abbrev pub class_text : Class → List ℕ

@@ -37,10 +37,10 @@ impl fmt::Display for Kind {
     fn fmt<W: fmt::Write>(&self, f: &mut fmt::Formatter<W>) -> fmt::Result {
         match self {
             Kind::Scalar(kind) => f.write_str(kind.as_str()),
-            Kind::Text => f.write_str("string"),
+            Kind::String => f.write_str("string"),
             Kind::Vector(element) => write!(f, "vec<{element}>"),
             Kind::Map(key, value) => write!(f, "map<{key},{value}>"),
-            Kind::Texts => f.write_str("vec<string>"),
+            Kind::Strings => f.write_str("vec<string>"),
         }
     }
 }

@@ -1,7 +1,7 @@
 -- Neighbours in the map of a key: what the directory says of them, by the kind of the object.
 use Rattle.std.proofs.Common.{◌≡◌, ◌∙◌, refl, sym, ap, subst, ℕ, ℤ, List, Option, None, Some, Result, Ok, Err, option_map}
 use Rattle.seg_types.specs.declared.kinds.Kind.{Kind}
-use Rattle.seg_types.specs.declared.kinds.Kind.TheVariants.{Map, Scalar, Text, Texts, Vector}
+use Rattle.seg_types.specs.declared.kinds.Kind.TheVariants.{Map, Scalar, String, Strings, Vector}
 use Rattle.seg_types.specs.declared.kinds.ScalarKind.{ScalarKind}
 use Rattle.seg_types.specs.declared.refusals.Refusal.{Refusal}
 use Rattle.seg_types.specs.declared.refusals.Refusal.TheVariants.{NotFound, WrongKind}
@@ -38,15 +38,15 @@ no_first : (ps : List NumberPair) (kind : Kind) → NoMap kind → first_in ps k
 no_first ps (Map k v) n = absurd (n k v refl)
 no_first ps (Scalar k) n = refl
 no_first ps (Vector k) n = refl
-no_first ps Text n = refl
-no_first ps Texts n = refl
+no_first ps String n = refl
+no_first ps Strings n = refl
 
 no_next : (ps : List NumberPair) (l : Literal) (kind : Kind) → NoMap kind → next_in ps l kind ≡ Err WrongKind
 no_next ps l (Map k v) n = absurd (n k v refl)
 no_next ps l (Scalar k) n = refl
 no_next ps l (Vector k) n = refl
-no_next ps l Text n = refl
-no_next ps l Texts n = refl
+no_next ps l String n = refl
+no_next ps l Strings n = refl
 
 module _ (s : State) (key : Key) (at value : Value) where
   -- no object has the key

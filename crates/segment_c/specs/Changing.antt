@@ -3,7 +3,7 @@ use Rattle.std.specs.Prelude.{◌≡◌, ◌≤◌, ℕ, ◌∷◌, [], map, OnE
 use Rattle.seg_types.specs.Commands.{Append as AppendTo, Assign, Clear as ClearAll, Erase as EraseAt, Insert}
 use Rattle.seg_types.specs.Commands.{Pop, Push, Quoted, Set, Shrink}
 use Rattle.seg_types.specs.Names.{Key}
-use Rattle.seg_types.specs.declared.kinds.Kind.TheVariants.{Text as TextKind, Texts as TextsKind}
+use Rattle.seg_types.specs.declared.kinds.Kind.TheVariants.{String as StringKind, Strings as StringsKind}
 use Rattle.seg_types.specs.declared.refusals.Refusal.{Refusal}
 use Rattle.segment_c.specs.Calls.{KeepsRefused as KeepsHandle}
 use Rattle.segment_c.specs.declared.changes.Change.{Change}
@@ -16,17 +16,17 @@ use Rattle.segment_manager.specs.TextLists.{LeadsOnOfKind}
 -- which step of the machine it is
 abbrev pub IsChange : Change → Key → State → State → Answer → Type 0
 IsChange (Erase index) key s t answer = IsStep s t (EraseAt key index) answer
-IsChange PopText key s t answer = LeadsOnOfKind s t key TextsKind (Pop key) (refusal_of answer)
+IsChange PopText key s t answer = LeadsOnOfKind s t key StringsKind (Pop key) (refusal_of answer)
 IsChange Trim key s t answer = IsStep s t (Shrink key) answer
 IsChange Clear key s t answer = IsStep s t (ClearAll key) answer
-IsChange (AssignText text) key s t answer = IsStepOfKind s t key TextKind (Assign key (Quoted text.now ∷ [])) answer
-IsChange (Append text) key s t answer = IsStepOfKind s t key TextKind (AppendTo key text.now) answer
-IsChange (SetText index text) key s t answer = IsStepOfKind s t key TextsKind (Set key index (Quoted text.now)) answer
-IsChange (PushText text) key s t answer = IsStepOfKind s t key TextsKind (Push key (Quoted text.now)) answer
+IsChange (AssignText text) key s t answer = IsStepOfKind s t key StringKind (Assign key (Quoted text.now ∷ [])) answer
+IsChange (Append text) key s t answer = IsStepOfKind s t key StringKind (AppendTo key text.now) answer
+IsChange (SetText index text) key s t answer = IsStepOfKind s t key StringsKind (Set key index (Quoted text.now)) answer
+IsChange (PushText text) key s t answer = IsStepOfKind s t key StringsKind (Push key (Quoted text.now)) answer
 IsChange (InsertText index text) key s t answer =
-    IsStepOfKind s t key TextsKind (Insert key index (Quoted text.now)) answer
+    IsStepOfKind s t key StringsKind (Insert key index (Quoted text.now)) answer
 IsChange (AssignTexts texts) key s t answer =
-    IsStepOfKind s t key TextsKind (Assign key (map Quoted (map (λ text. text.now) texts.now))) answer
+    IsStepOfKind s t key StringsKind (Assign key (map Quoted (map (λ text. text.now) texts.now))) answer
 
 -- texts that find no room can leave other bytes in gaps; else what is refused changes nothing: of the states
 abbrev pub LeavesOld : Change → State → State → Result (Unit {0}) Refusal → Type 0

@@ -1,7 +1,7 @@
 -- What the keys and the values that C passes stand for, and by which code they are refused that stand for nothing.
 use Rattle.std.specs.Prelude.{ℕ, ℤ, pos, ◌&&◌, ◌==◌, nat_le, List, length, map, Option, Some, None, if◌then◌else◌}
 use Rattle.seg_types.specs.declared.kinds.Kind.{Kind}
-use Rattle.seg_types.specs.declared.kinds.Kind.TheVariants.{Text}
+use Rattle.seg_types.specs.declared.kinds.Kind.TheVariants.{String}
 use Rattle.seg_types.specs.declared.kinds.ScalarKind.{ScalarKind}
 use Rattle.seg_types.specs.declared.kinds.ScalarKind.TheVariants.{Bool as BoolKind, U8, I32, I64, U64}
 use Rattle.seg_types.specs.Commands.{Literal, Whole, literal_of}
@@ -151,4 +151,4 @@ row_count v = many_of v (scalar_kind_in v.kind)
 
 -- the kind of objects that a code says, where it says one
 unfoldable pub object_kind_in : ℕ → Kind
-object_kind_in code = elim (kind_of_code code) as (λ _. Kind) [ None ↦ Text | Some k ↦ k ]
+object_kind_in code = elim (kind_of_code code) as (λ _. Kind) [ None ↦ String | Some k ↦ k ]

@@ -1,7 +1,7 @@
 -- What the calls read of containers.
 use Rattle.std.specs.Prelude.{◌≡◌, ℕ, ◌≤◌, ℤ, List, length, map, Option, Some, None, Result, Ok, Err, option_map}
 use Rattle.seg_types.specs.declared.kinds.Kind.{Kind}
-use Rattle.seg_types.specs.declared.kinds.Kind.TheVariants.{Map, Scalar, Text, Texts, Vector}
+use Rattle.seg_types.specs.declared.kinds.Kind.TheVariants.{Map, Scalar, String, Strings, Vector}
 use Rattle.seg_types.specs.declared.kinds.ScalarKind.{ScalarKind}
 use Rattle.seg_types.specs.declared.kinds.ScalarKind.TheVariants.{U8}
 use Rattle.seg_types.specs.declared.refusals.Refusal.{Refusal}
@@ -66,9 +66,9 @@ pub record ReadsRange {X : Type 0} (seen : X → ℤ) (kind : ScalarKind) (key :
 abbrev pub vector_kind : Kind → ScalarKind
 vector_kind (Vector k) = k
 vector_kind (Scalar k) = U8
-vector_kind Text = U8
+vector_kind String = U8
 vector_kind (Map k v) = U8
-vector_kind Texts = U8
+vector_kind Strings = U8
 
 abbrev pub vector_kind_at : Directory → Key → ScalarKind
 vector_kind_at d key = elim (kind_at d key) as (λ _. ScalarKind) [ Err r ↦ U8 | Ok kind ↦ vector_kind kind ]
@@ -83,8 +83,8 @@ abbrev pub first_in : List NumberPair → Kind → Result (Option Item) Refusal
 first_in ps (Map k v) = Ok (item_in k v (option_map item_of (first_of ps)))
 first_in ps (Scalar k) = Err WrongKind
 first_in ps (Vector k) = Err WrongKind
-first_in ps Text = Err WrongKind
-first_in ps Texts = Err WrongKind
+first_in ps String = Err WrongKind
+first_in ps Strings = Err WrongKind
 
 -- the pair with the least key of the map of a key
 abbrev pub first_at : Directory → Key → Result (Option Item) Refusal
@@ -98,8 +98,8 @@ abbrev pub next_in : List NumberPair → Literal → Kind → Result (Option Ite
 next_in ps l (Map k v) = above_in ps k v (value_of_literal k l)
 next_in ps l (Scalar k) = Err WrongKind
 next_in ps l (Vector k) = Err WrongKind
-next_in ps l Text = Err WrongKind
-next_in ps l Texts = Err WrongKind
+next_in ps l String = Err WrongKind
+next_in ps l Strings = Err WrongKind
 
 -- the pair with the least key above the one that a literal is
 abbrev pub next_at : Directory → Key → Literal → Result (Option Item) Refusal

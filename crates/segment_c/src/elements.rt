@@ -2,7 +2,7 @@
 ghost use Rattle.std.specs.Prelude.{◌≡◌, ◌≤◌, OnErr};
 ghost use Rattle.seg_types.specs.Commands.{Erase, Get, Insert, Pop, Push, Set};
 ghost use Rattle.seg_types.specs.Keys.{key_seen};
-ghost use Rattle.seg_types.specs.declared.kinds.Kind.TheVariants.{Texts as TextsKind, Vector as VectorOf};
+ghost use Rattle.seg_types.specs.declared.kinds.Kind.TheVariants.{Strings as StringsKind, Vector as VectorOf};
 ghost use Rattle.segment_c.specs.Calls.{Owes};
 ghost use Rattle.segment_c.specs.Codes.{answer_for};
 ghost use Rattle.segment_c.specs.Passed.{element_in, key_of, key_wrong, literal_in, or_else, value_wrong};
@@ -162,7 +162,7 @@ fn element_kind(kind: Kind) -> ScalarKind
 #[unsafe(no_mangle)]
 pub extern "C" fn zx_pop_text(alloc: Global, h: &mut Handle, key: &ObjectKey<'_>) -> u32
     ensures asked { Owes (key_wrong key.now) result h.old.value h.new.value
-        (λ s t. LeadsOnOfKind s t (key_of key.now) TextsKind (Pop (key_of key.now)) (refusal_of (answer_for result Done))) }
+        (λ s t. LeadsOnOfKind s t (key_of key.now) StringsKind (Pop (key_of key.now)) (refusal_of (answer_for result Done))) }
     ensures kept { 1 ≤ result → h.new.value ≡ h.old.value }
 {
     make_change(alloc, h, key, Change::PopText)

@@ -4,7 +4,7 @@ ghost use Rattle.seg_types.specs.Commands.{Bytes, Construct, Elements, Find, Fin
 ghost use Rattle.seg_types.specs.Keys.{key_seen};
 ghost use Rattle.seg_types.specs.Names.{NoKey};
 ghost use Rattle.seg_types.specs.Values.{kind_of_scalar, value_of_scalar};
-ghost use Rattle.seg_types.specs.declared.kinds.Kind.TheVariants.{Map as MapOf, Scalar as ScalarOf, Text as TextKind, Texts as TextsKind, Vector as VectorOf};
+ghost use Rattle.seg_types.specs.declared.kinds.Kind.TheVariants.{Map as MapOf, Scalar as ScalarOf, String as StringKind, Strings as StringsKind, Vector as VectorOf};
 ghost use Rattle.segment_c.specs.Calls.{IsAsked, IsClosed, IsStopped, KeepsRefused, Owes};
 ghost use Rattle.segment_c.specs.Codes.{answer_for};
 ghost use Rattle.segment_c.specs.Destroying.{destroy_command};
@@ -111,12 +111,12 @@ pub extern "C" fn zx_construct_string(
     text: &[u8],
     handle: &mut u64,
 ) -> u32
-    ensures asked { Owes (new_wrong key.now (TextKind)) result h.old.value h.new.value
-        (λ s t. IsStep s t (Construct (new_of key.now (TextKind)) (Bytes text.now)) (answer_for result (Made handle.new))) }
+    ensures asked { Owes (new_wrong key.now (StringKind)) result h.old.value h.new.value
+        (λ s t. IsStep s t (Construct (new_of key.now (StringKind)) (Bytes text.now)) (answer_for result (Made handle.new))) }
     ensures refused { KeepsRefused result h.old.value h.new.value }
     ensures results { 1 ≤ result → handle.new ≡ handle.old }
 {
-    let (which, mut segment) = passed!(enter_new(alloc, h, key, Kind::Text));
+    let (which, mut segment) = passed!(enter_new(alloc, h, key, Kind::String));
     made(segment.construct_string(&which, text), handle, h, segment)
 }
 
@@ -130,14 +130,14 @@ pub extern "C" fn zx_find_or_construct_string(
     handle: &mut u64,
     count_found: &mut u32,
 ) -> u32
-    ensures asked { Owes (entry_wrong key.now (TextKind)) result h.old.value h.new.value
-        (λ s t. IsStep s t (FindOrConstruct (entry_of key.now (TextKind)) (Bytes text.now)) (answer_for result (Found handle.new count_found.new))) }
-    ensures found { IsAsked (entry_wrong key.now (TextKind)) result h.old.value h.new.value
-        (λ s t. KeepsWhere s t (HasKey (entry_of key.now (TextKind)))) }
+    ensures asked { Owes (entry_wrong key.now (StringKind)) result h.old.value h.new.value
+        (λ s t. IsStep s t (FindOrConstruct (entry_of key.now (StringKind)) (Bytes text.now)) (answer_for result (Found handle.new count_found.new))) }
+    ensures found { IsAsked (entry_wrong key.now (StringKind)) result h.old.value h.new.value
+        (λ s t. KeepsWhere s t (HasKey (entry_of key.now (StringKind)))) }
     ensures refused { KeepsRefused result h.old.value h.new.value }
     ensures results { 1 ≤ result → (handle.new ≡ handle.old) × (count_found.new ≡ count_found.old) }
 {
-    let (which, mut segment) = passed!(enter_entry(alloc, h, key, Kind::Text));
+    let (which, mut segment) = passed!(enter_entry(alloc, h, key, Kind::String));
     let answer = segment.find_or_construct_string(&which, text);
     found(answer, handle, count_found, h, segment)
 }
@@ -151,12 +151,12 @@ pub extern "C" fn zx_construct_strings(
     texts: &[&[u8]],
     handle: &mut u64,
 ) -> u32
-    ensures asked { Owes (new_wrong key.now (TextsKind)) result h.old.value h.new.value
-        (λ s t. IsStep s t (Construct (new_of key.now (TextsKind)) (Strings (map (λ text. text.now) texts.now))) (answer_for result (Made handle.new))) }
+    ensures asked { Owes (new_wrong key.now (StringsKind)) result h.old.value h.new.value
+        (λ s t. IsStep s t (Construct (new_of key.now (StringsKind)) (Strings (map (λ text. text.now) texts.now))) (answer_for result (Made handle.new))) }
     ensures refused { KeepsRefused result h.old.value h.new.value }
     ensures results { 1 ≤ result → handle.new ≡ handle.old }
 {
-    let (which, mut segment) = passed!(enter_new(alloc, h, key, Kind::Texts));
+    let (which, mut segment) = passed!(enter_new(alloc, h, key, Kind::Strings));
     made(segment.construct_texts(&which, texts), handle, h, segment)
 }
 
@@ -170,14 +170,14 @@ pub extern "C" fn zx_find_or_construct_strings(
     handle: &mut u64,
     count_found: &mut u32,
 ) -> u32
-    ensures asked { Owes (entry_wrong key.now (TextsKind)) result h.old.value h.new.value
-        (λ s t. IsStep s t (FindOrConstruct (entry_of key.now (TextsKind)) (Strings (map (λ text. text.now) texts.now))) (answer_for result (Found handle.new count_found.new))) }
-    ensures found { IsAsked (entry_wrong key.now (TextsKind)) result h.old.value h.new.value
-        (λ s t. KeepsWhere s t (HasKey (entry_of key.now (TextsKind)))) }
+    ensures asked { Owes (entry_wrong key.now (StringsKind)) result h.old.value h.new.value
+        (λ s t. IsStep s t (FindOrConstruct (entry_of key.now (StringsKind)) (Strings (map (λ text. text.now) texts.now))) (answer_for result (Found handle.new count_found.new))) }
+    ensures found { IsAsked (entry_wrong key.now (StringsKind)) result h.old.value h.new.value
+        (λ s t. KeepsWhere s t (HasKey (entry_of key.now (StringsKind)))) }
     ensures refused { KeepsRefused result h.old.value h.new.value }
     ensures results { 1 ≤ result → (handle.new ≡ handle.old) × (count_found.new ≡ count_found.old) }
 {
-    let (which, mut segment) = passed!(enter_entry(alloc, h, key, Kind::Texts));
+    let (which, mut segment) = passed!(enter_entry(alloc, h, key, Kind::Strings));
     let answer = segment.find_or_construct_texts(&which, texts);
     found(answer, handle, count_found, h, segment)
 }

@@ -1,6 +1,6 @@
 //! What containers have, read.
 ghost use Rattle.std.specs.Prelude.{◌≡◌, ◌≢◌, ◌≤◌};
-ghost use Rattle.seg_types.specs.declared.kinds.Kind.TheVariants.{Texts as TextsKind};
+ghost use Rattle.seg_types.specs.declared.kinds.Kind.TheVariants.{Strings as StringsKind};
 ghost use Rattle.seg_types.specs.Commands.{Get};
 ghost use Rattle.seg_types.specs.Keys.{key_seen};
 ghost use Rattle.segment_c.specs.Calls.{Reads};
@@ -98,7 +98,7 @@ pub extern "C" fn zx_read_text(
 ) -> u32
     ensures told { Reads (key_wrong key.now) result h.old.value h.new.value
         (λ s. (d : Directory) → StandsFor s.cut.bytes d
-        → CopiesAnswer text.old text.new len.new result (step_of_kind s.mode d (key_of key.now) TextsKind (Get (key_of key.now) index)).0) }
+        → CopiesAnswer text.old text.new len.new result (step_of_kind s.mode d (key_of key.now) StringsKind (Get (key_of key.now) index)).0) }
     ensures results { 1 ≤ result → text.new ≡ text.old }
     ensures length { 1 ≤ result → result ≢ 24 → len.new ≡ len.old }
 {
@@ -109,7 +109,7 @@ pub extern "C" fn zx_read_text(
 /// The same of a segment.
 fn read_text(segment: &Segment, key: &Key, index: u64, text: &mut [u8], len: &mut u64) -> u32
     ensures told { (d : Directory) → StandsFor segment.now.cut.bytes d
-        → CopiesAnswer text.old text.new len.new result (step_of_kind segment.now.mode d (key_seen key.now) TextsKind (Get (key_seen key.now) index)).0 }
+        → CopiesAnswer text.old text.new len.new result (step_of_kind segment.now.mode d (key_seen key.now) StringsKind (Get (key_seen key.now) index)).0 }
     ensures kept { 1 ≤ result → text.new ≡ text.old }
     ensures length { 1 ≤ result → result ≢ 24 → len.new ≡ len.old }
 {

@@ -1,6 +1,6 @@
 //! Strings, and vectors of strings.
 ghost use Rattle.std.specs.Prelude.{◌≡◌, ◌≤◌, ◌∷◌, [], map};
-ghost use Rattle.seg_types.specs.declared.kinds.Kind.TheVariants.{Text as TextKind, Texts as TextsKind};
+ghost use Rattle.seg_types.specs.declared.kinds.Kind.TheVariants.{String as StringKind, Strings as StringsKind};
 ghost use Rattle.seg_types.specs.Commands.{Append, Assign, Insert, Push, Quoted, Set};
 ghost use Rattle.segment_c.specs.Calls.{KeepsRefused, Owes};
 ghost use Rattle.segment_c.specs.Codes.{answer_for};
@@ -22,7 +22,7 @@ pub extern "C" fn zx_assign_string(
     text: &[u8],
 ) -> u32
     ensures asked { Owes (key_wrong key.now) result h.old.value h.new.value
-        (λ s t. IsStepOfKind s t (key_of key.now) TextKind (Assign (key_of key.now) (Quoted text.now ∷ [])) (answer_for result Done)) }
+        (λ s t. IsStepOfKind s t (key_of key.now) StringKind (Assign (key_of key.now) (Quoted text.now ∷ [])) (answer_for result Done)) }
     ensures kept { 1 ≤ result → h.new.value ≡ h.old.value }
 {
     make_change(alloc, h, key, Change::AssignText(text))
@@ -32,7 +32,7 @@ pub extern "C" fn zx_assign_string(
 #[unsafe(no_mangle)]
 pub extern "C" fn zx_append(alloc: Global, h: &mut Handle, key: &ObjectKey<'_>, text: &[u8]) -> u32
     ensures asked { Owes (key_wrong key.now) result h.old.value h.new.value
-        (λ s t. IsStepOfKind s t (key_of key.now) TextKind (Append (key_of key.now) text.now) (answer_for result Done)) }
+        (λ s t. IsStepOfKind s t (key_of key.now) StringKind (Append (key_of key.now) text.now) (answer_for result Done)) }
     ensures kept { 1 ≤ result → h.new.value ≡ h.old.value }
 {
     make_change(alloc, h, key, Change::Append(text))
@@ -48,7 +48,7 @@ pub extern "C" fn zx_set_text(
     text: &[u8],
 ) -> u32
     ensures asked { Owes (key_wrong key.now) result h.old.value h.new.value
-        (λ s t. IsStepOfKind s t (key_of key.now) TextsKind (Set (key_of key.now) index (Quoted text.now)) (answer_for result Done)) }
+        (λ s t. IsStepOfKind s t (key_of key.now) StringsKind (Set (key_of key.now) index (Quoted text.now)) (answer_for result Done)) }
     ensures kept { 1 ≤ result → h.new.value ≡ h.old.value }
 {
     make_change(alloc, h, key, Change::SetText(index, text))
@@ -63,7 +63,7 @@ pub extern "C" fn zx_push_text(
     text: &[u8],
 ) -> u32
     ensures asked { Owes (key_wrong key.now) result h.old.value h.new.value
-        (λ s t. IsStepOfKind s t (key_of key.now) TextsKind (Push (key_of key.now) (Quoted text.now)) (answer_for result Done)) }
+        (λ s t. IsStepOfKind s t (key_of key.now) StringsKind (Push (key_of key.now) (Quoted text.now)) (answer_for result Done)) }
     ensures refused { KeepsRefused result h.old.value h.new.value }
 {
     make_change(alloc, h, key, Change::PushText(text))
@@ -79,7 +79,7 @@ pub extern "C" fn zx_insert_text(
     text: &[u8],
 ) -> u32
     ensures asked { Owes (key_wrong key.now) result h.old.value h.new.value
-        (λ s t. IsStepOfKind s t (key_of key.now) TextsKind (Insert (key_of key.now) index (Quoted text.now)) (answer_for result Done)) }
+        (λ s t. IsStepOfKind s t (key_of key.now) StringsKind (Insert (key_of key.now) index (Quoted text.now)) (answer_for result Done)) }
     ensures refused { KeepsRefused result h.old.value h.new.value }
 {
     make_change(alloc, h, key, Change::InsertText(index, text))
@@ -94,7 +94,7 @@ pub extern "C" fn zx_assign_texts(
     texts: &[&[u8]],
 ) -> u32
     ensures asked { Owes (key_wrong key.now) result h.old.value h.new.value
-        (λ s t. IsStepOfKind s t (key_of key.now) TextsKind (Assign (key_of key.now) (map Quoted (map (λ text. text.now) texts.now))) (answer_for result Done)) }
+        (λ s t. IsStepOfKind s t (key_of key.now) StringsKind (Assign (key_of key.now) (map Quoted (map (λ text. text.now) texts.now))) (answer_for result Done)) }
     ensures refused { KeepsRefused result h.old.value h.new.value }
 {
     make_change(alloc, h, key, Change::AssignTexts(texts))

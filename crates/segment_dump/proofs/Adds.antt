@@ -49,11 +49,11 @@ pub map-of : (c : Content) (k w : ScalarKind) → kind_of_content c ≡ kinds.Ma
 map-of (Map l v ps) k w e = let one : l ≡ k = cc in let two : v ≡ w = cc in (ps, (λ i. Map (one i) (two i) ps))
 map-of c k w e = absurd (cc)
 
-pub strings-of : (c : Content) → kind_of_content c ≡ kinds.Texts → (ts : List (List ℕ)) × (c ≡ Strings ts)
+pub strings-of : (c : Content) → kind_of_content c ≡ kinds.Strings → (ts : List (List ℕ)) × (c ≡ Strings ts)
 strings-of (Strings ts) e = (ts, refl)
 strings-of c e = absurd (cc)
 
-pub string-of : (c : Content) → kind_of_content c ≡ kinds.Text → (bs : List ℕ) × (c ≡ String bs)
+pub string-of : (c : Content) → kind_of_content c ≡ kinds.String → (bs : List ℕ) × (c ≡ String bs)
 string-of (String bs) e = (bs, refl)
 string-of c e = absurd (cc)
 
@@ -158,7 +158,7 @@ module _ {E F : Type 0} (old new : State) (h n room : ℕ) (k w : ScalarKind) (t
 -- ---- texts
 
 module _ (old : State) (h n : ℕ) (text room : List ℕ) where
-  text-next : (p : Fill) → IsFillable p kinds.Texts (length room) → n < count_of_content p.content → FillsAt old text p h n → NextText old text p h n (length room)
+  text-next : (p : Fill) → IsFillable p kinds.Strings (length room) → n < count_of_content p.content → FillsAt old text p h n → NextText old text p h n (length room)
   text-next p f l at =
       let q = strings-of p.content f.kind_is in
       let good = subst IsBuildableContent q.1 f.good in
@@ -166,19 +166,19 @@ module _ (old : State) (h n : ℕ) (text room : List ℕ) where
       next-own old text p h n (length room) q.0 q.1 (subst (λ (c : Content). n < count_of_content c) q.1 l) good.1 long f.rest at
 
 module _ {E F : Type 0} (old new : State) (h n : ℕ) (text rest room after : List ℕ) where
-  pub text-unread : (e : E) (result : Result (Unit {0}) F) → Collects text rest room after (Err e) → AddsElement old new h kinds.Texts n text rest (length room) result
+  pub text-unread : (e : E) (result : Result (Unit {0}) F) → Collects text rest room after (Err e) → AddsElement old new h kinds.Strings n text rest (length room) result
   text-unread e result r = record { adds = λ p f l at. let q = text-next old h n text room p f l at in absurd (never-ok e (length q.bytes) (r.collects q.bytes q.after q.good q.counted q.fits q.text_is).0) }
 
   pub text-adds : (len : ℕ) (called : Result (Unit {0}) Refusal) (result : Result (Unit {0}) F) → Collects {E = E} text rest room after (Ok len)
-      → IsStepOfKind old new (ByHandle h) kinds.Texts (asked.Push (ByHandle h) (asked.Quoted (take len after))) (done_answer called) → (called ≡ Ok tt → result ≡ Ok tt) → AddsElement old new h kinds.Texts n text rest (length room) result
+      → IsStepOfKind old new (ByHandle h) kinds.Strings (asked.Push (ByHandle h) (asked.Quoted (take len after))) (done_answer called) → (called ≡ Ok tt → result ≡ Ok tt) → AddsElement old new h kinds.Strings n text rest (length room) result
   text-adds len called result r step ok = record {
     adds = λ p f l at.
         let q = text-next old h n text room p f l at in
         let c = r.collects q.bytes q.after q.good q.counted q.fits q.text_is in
         let is : len ≡ length q.bytes = ok-same {E = E} len (length q.bytes) c.0 in
         let bytes : take len after ≡ q.bytes = ap (λ m. take m after) is ∙ c.1 in
-        let step' : IsStepOfKind old new (ByHandle h) kinds.Texts (asked.Push (ByHandle h) (asked.Quoted q.bytes)) (done_answer called) =
-        subst (λ b. IsStepOfKind old new (ByHandle h) kinds.Texts (asked.Push (ByHandle h) (asked.Quoted b)) (done_answer called)) bytes step in
+        let step' : IsStepOfKind old new (ByHandle h) kinds.Strings (asked.Push (ByHandle h) (asked.Quoted q.bytes)) (done_answer called) =
+        subst (λ b. IsStepOfKind old new (ByHandle h) kinds.Strings (asked.Push (ByHandle h) (asked.Quoted b)) (done_answer called)) bytes step in
         let led = q.leads new (done_answer called) step' in
         (ok (was-done called led.0), subst (λ t. FillsAt new t p h (n + 1)) (sym c.2) led.1);
   }

@@ -127,10 +127,10 @@ ContentReads kind count = Reads content_text (IsContent kind count) Any texts_ne
 -- each element is a line
 abbrev pub IsLined : Kind → Type 0
 IsLined (kinds.Scalar k) = ⊤
-IsLined kinds.Text = ⊥
+IsLined kinds.String = ⊥
 IsLined (kinds.Vector k) = ⊤
 IsLined (kinds.Map k v) = ⊤
-IsLined kinds.Texts = ⊥
+IsLined kinds.Strings = ⊥
 
 lined-by : (c : Content) (kind : Kind) → kind_of_content c ≡ kind → IsLined kind → IsLines (count_of_content c) (content_text c) × (texts_needs c ≡ nothing)
 lined-by (Scalars k zs) kind e h = (element-lines k zs, refl)
@@ -146,7 +146,7 @@ content-lined kind count text o l h = record {
       h.reads r.0.lines a (r.0.are.0, r.0.are.1 ∙ g.many) tt (e ∙ ap (λ t. t ++ a) r.0.whole) ∙ ap (λ n. Some (n, a)) (sym r.1);
 }
 
-string-by : (c : Content) (text : List ℕ) (o : Option (Needs × List ℕ)) (a : List ℕ) → kind_of_content c ≡ kinds.Text → IsSmall (texts_needs c).room → text ≡ content_text c ++ a
+string-by : (c : Content) (text : List ℕ) (o : Option (Needs × List ℕ)) (a : List ℕ) → kind_of_content c ≡ kinds.String → IsSmall (texts_needs c).room → text ≡ content_text c ++ a
     → Reads text_lines IsShort Any (λ bs. only_room (block_room (length bs))) text o → o ≡ Some (texts_needs c, a)
 string-by (String bs) text o a k s e h = h.reads bs a (omega (arith, block-least (length bs))) tt e
 string-by (Scalars k zs) text o a e s f h = absurd (cc)
@@ -154,5 +154,5 @@ string-by (Vector k zs) text o a e s f h = absurd (cc)
 string-by (Map k v ps) text o a e s f h = absurd (cc)
 string-by (Strings ts) text o a e s f h = absurd (cc)
 
-pub content-string : (kind : Kind) (count : ℕ) (text : List ℕ) (o : Option (Needs × List ℕ)) → kind ≡ kinds.Text → Reads text_lines IsShort Any (λ bs. only_room (block_room (length bs))) text o → ContentReads kind count text o
+pub content-string : (kind : Kind) (count : ℕ) (text : List ℕ) (o : Option (Needs × List ℕ)) → kind ≡ kinds.String → Reads text_lines IsShort Any (λ bs. only_room (block_room (length bs))) text o → ContentReads kind count text o
 content-string kind count text o k h = record { reads = λ c a g w e. string-by c text o a (g.kind_is ∙ k) g.small e h }

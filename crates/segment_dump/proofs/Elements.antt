@@ -11,7 +11,7 @@ use Rattle.segment_dump.proofs.Common.{element_part, element_text, length_in, st
 use Rattle.segment_dump.proofs.Common.{content_of, count_of_content, count_at, lines_at, object_count, object_lines}
 use Rattle.segment_dump.proofs.Common.{part_of, parts_until, content_text, element_line, text_lines}
 use Rattle.std.specs.Prelude.{is_some}
-use Rattle.seg_types.specs.declared.kinds.Kind.TheVariants.{Text, Texts as TextsKind, Vector}
+use Rattle.seg_types.specs.declared.kinds.Kind.TheVariants.{String, Strings as StringsKind, Vector}
 use Rattle.seg_types.specs.Commands.{is_changing}
 use Rattle.segment_manager.specs.declared.modes.Mode.{Mode}
 use Rattle.segment_manager.specs.declared.modes.Mode.TheVariants.{ReadOnly, CopyOnWrite}
@@ -114,7 +114,7 @@ text-if d None = refl
 text-if d (Some p) = refl
 
 abbrev for_texts : Directory → Key → ℕ → Value → Plan
-for_texts d key i v = if same_kind TextsKind (kind_of v) then effect d (asked.Get key i) else Refuse WrongKind
+for_texts d key i v = if same_kind StringsKind (kind_of v) then effect d (asked.Get key i) else Refuse WrongKind
 
 read-only : (b : Bool) (p : Plan) → b ≡ false → (if b then Refuse refusal.ReadOnly else p) ≡ p
 read-only true p e = absurd (cc)
@@ -124,7 +124,7 @@ never : (b : Bool) → (b && false) ≡ false
 never true = refl
 never false = refl
 
-asked-step : (mode : Mode) (d : Directory) (key : Key) (i : ℕ) → (step_of_kind mode d key TextsKind (asked.Get key i)).0 ≡ (perform d (live d) (going_on (λ o. for_texts d key i o.value) (object_at d key))).0
+asked-step : (mode : Mode) (d : Directory) (key : Key) (i : ℕ) → (step_of_kind mode d key StringsKind (asked.Get key i)).0 ≡ (perform d (live d) (going_on (λ o. for_texts d key i o.value) (object_at d key))).0
 unfolding step_of_kind
 asked-step mode d key i =
     ap (λ p. (perform d (live d) p).0) (read-only (is_read_only mode && false) (going_on (λ o. for_texts d key i o.value) (object_at d key)) (never (is_read_only mode)))
@@ -169,7 +169,7 @@ record IsBytes (v : Value) : Type 0 where
   table : Table
   is : v ≡ Bytes bytes table
 
-bytes-if : (v : Value) → kind_of v ≡ Text → IsBytes v
+bytes-if : (v : Value) → kind_of v ≡ String → IsBytes v
 bytes-if (Bytes bs t) e = record { bytes = bs; table = t; is = refl }
 bytes-if v e = absurd (cc)
 
@@ -178,7 +178,7 @@ record IsTexts (v : Value) : Type 0 where
   table : Table
   is : v ≡ Texts texts table
 
-texts-if : (v : Value) → kind_of v ≡ TextsKind → IsTexts v
+texts-if : (v : Value) → kind_of v ≡ StringsKind → IsTexts v
 texts-if (Texts ps t) e = record { texts = ps; table = t; is = refl }
 texts-if v e = absurd (cc)
 
@@ -197,7 +197,7 @@ abbrev pub count_of_object : Option Object → ℕ
 count_of_object r = elim r as (λ _. ℕ) [ None ↦ 0 | Some o ↦ object_count o ]
 
 -- a container that is no string has as many as are measured
-measured : (v : Value) → ((k : ScalarKind) → kind_of v ≡ Scalar k → ⊥) → (kind_of v ≡ Text → ⊥) → length_in (sizes_of v) ≡ count_of_content (content_of v)
+measured : (v : Value) → ((k : ScalarKind) → kind_of v ≡ Scalar k → ⊥) → (kind_of v ≡ String → ⊥) → length_in (sizes_of v) ≡ count_of_content (content_of v)
 measured (Numbers k zs) n m = absurd (n k refl)
 measured (Elements k zs t) n m = refl
 measured (Bytes bs t) n m = absurd (m refl)
@@ -219,7 +219,7 @@ module _ (s : State) (o : Located) (l : IsLocated s (ByHandle o.handle) o) where
         c ∙ ap (λ (q : Located). q.count) f.said ∙ ap count_of v.is ∙ sym (ap count_of_object f.is ∙ ap (λ w. count_of_content (content_of w)) v.is);
   }
 
-  pub string-counted : o.kind ≡ Text → Answers s (λ d. count_at d (ByHandle o.handle)) 1
+  pub string-counted : o.kind ≡ String → Answers s (λ d. count_at d (ByHandle o.handle)) 1
   string-counted e = record {
     answers = λ d st.
         let f = said-at s (ByHandle o.handle) o l d st in
@@ -227,7 +227,7 @@ module _ (s : State) (o : Located) (l : IsLocated s (ByHandle o.handle) o) where
         sym (ap count_of_object f.is ∙ ap (λ w. count_of_content (content_of w)) v.is);
   }
 
-  pub others-counted : (n : ℕ) → ((k : ScalarKind) → o.kind ≡ Scalar k → ⊥) → (o.kind ≡ Text → ⊥) → Answers s (λ d. length_in (sizes_at d (ByHandle o.handle))) n
+  pub others-counted : (n : ℕ) → ((k : ScalarKind) → o.kind ≡ Scalar k → ⊥) → (o.kind ≡ String → ⊥) → Answers s (λ d. length_in (sizes_at d (ByHandle o.handle))) n
       → Answers s (λ d. count_at d (ByHandle o.handle)) n
   others-counted n no_scalar no_text a = record {
     answers = λ d st.
@@ -267,7 +267,7 @@ module _ (s : State) (o : Located) (l : IsLocated s (ByHandle o.handle) o) where
         (subst (λ w. IsRow w k v.numbers) (sym v.is) (vector-row k v.numbers v.table))
 
     -- a vector of strings
-    pub strings-said : o.kind ≡ TextsKind → (d : Directory) → StandsFor s.cut.bytes d → parts_until (text_part s.mode d (ByHandle o.handle)) n ≡ lines_at d (ByHandle o.handle)
+    pub strings-said : o.kind ≡ StringsKind → (d : Directory) → StandsFor s.cut.bytes d → parts_until (text_part s.mode d (ByHandle o.handle)) n ≡ lines_at d (ByHandle o.handle)
     strings-said e d st =
         let f = said-at s (ByHandle o.handle) o l d st in
         let v : IsTexts f.object.value = texts-if f.object.value (sym (kind-said d st) ∙ e) in
@@ -275,7 +275,7 @@ module _ (s : State) (o : Located) (l : IsLocated s (ByHandle o.handle) o) where
         ap (parts_until (text_part s.mode d (ByHandle o.handle))) long ∙ texts-lines s.mode d (ByHandle o.handle) f.object v.texts v.table f.is v.is ∙ sym (ap (part_of object_lines) f.is)
 
   -- a string
-  pub string-said : o.kind ≡ Text → (d : Directory) → StandsFor s.cut.bytes d → string_part (bytes_at d (ByHandle o.handle)) ≡ lines_at d (ByHandle o.handle)
+  pub string-said : o.kind ≡ String → (d : Directory) → StandsFor s.cut.bytes d → string_part (bytes_at d (ByHandle o.handle)) ≡ lines_at d (ByHandle o.handle)
   string-said e d st =
       let f = said-at s (ByHandle o.handle) o l d st in
       let v : IsBytes f.object.value = bytes-if f.object.value (sym (kind-said d st) ∙ e) in

@@ -229,7 +229,7 @@ pub record NextText (s : State) (text : List ℕ) (p : Fill) (h n : ℕ) (longes
   pub good : AreBytes bytes
   pub counted : length bytes < 2 ^ 64
   pub fits : length bytes ≤ longest
-  pub leads : (new : State) (answer : Answer) → IsStepOfKind s new (ByHandle h) kinds.Texts (asked.Push (ByHandle h) (asked.Quoted bytes)) answer → (answer ≡ Done) × FillsAt new after p h (n + 1)
+  pub leads : (new : State) (answer : Answer) → IsStepOfKind s new (ByHandle h) kinds.Strings (asked.Push (ByHandle h) (asked.Quoted bytes)) answer → (answer ≡ Done) × FillsAt new after p h (n + 1)
 
 pub texts-rest : (ts : List (List ℕ)) → IsRest (all_needs text_needs ts).room
 texts-rest ts = needs-rest text_needs (λ t. block-rest (length t)) ts

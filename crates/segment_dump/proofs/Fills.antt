@@ -119,9 +119,9 @@ append_plan d more o v = with (text_of v) (λ (bs, t). with_capacity 1 (capacity
 
 pub appended : (d : Directory) (site : Site) (done : List Item) (head : Head) (bs : List ℕ) (t : Table) (rest : ℕ) (more : List ℕ) → IsDirectory current d → IsFilling d site done head (Bytes bs t) rest
     → length (bs ++ more) ≤ t.capacity
-    → StepsTo (step_of_kind Write d (ByHandle head.handle) kinds.Text (asked.Append (ByHandle head.handle) more)) Done (λ e. IsFilling e site done head (Bytes (bs ++ more) t) rest)
+    → StepsTo (step_of_kind Write d (ByHandle head.handle) kinds.String (asked.Append (ByHandle head.handle) more)) Done (λ e. IsFilling e site done head (Bytes (bs ++ more) t) rest)
 appended d site done head bs t rest more i f h =
-    stepped i f kinds.Text (asked.Append (ByHandle head.handle) more) (append_plan d more) (Bytes (bs ++ more) t) refl
+    stepped i f kinds.String (asked.Append (ByHandle head.handle) more) (append_plan d more) (Bytes (bs ++ more) t) refl
     refl
     (text-there (length (bs ++ more)) t (λ u. Reply Done (changed d f.object (Bytes (bs ++ more) u))) h) refl
 
@@ -250,15 +250,15 @@ pub record IsPushed (site : Site) (done : List Item) (head : Head) (ps : List Ow
 
 module _ (d : Directory) (site : Site) (done : List Item) (head : Head) (ps : List OwnedText) (t : Table) (bs : List ℕ) (rest : ℕ) (i : IsDirectory current d) (h : length ps < t.capacity) where
   abbrev TextPushed : Type 0
-  TextPushed = StepsTo (step_of_kind Write d (ByHandle head.handle) kinds.Texts (asked.Push (ByHandle head.handle) (asked.Quoted bs))) Done (IsPushed site done head ps t bs rest)
+  TextPushed = StepsTo (step_of_kind Write d (ByHandle head.handle) kinds.Strings (asked.Push (ByHandle head.handle) (asked.Quoted bs))) Done (IsPushed site done head ps t bs rest)
 
   push-plan : (more : ℕ) (f : IsFilling d site done head (Texts ps t) more)
-      → step_of_kind Write d (ByHandle head.handle) kinds.Texts (asked.Push (ByHandle head.handle) (asked.Quoted bs)) ≡ perform d (live d) (with_owned_text bs (λ p. Reply Done (changed d f.object (Texts (ps ++ p ∷ []) t))))
+      → step_of_kind Write d (ByHandle head.handle) kinds.Strings (asked.Push (ByHandle head.handle) (asked.Quoted bs)) ≡ perform d (live d) (with_owned_text bs (λ p. Reply Done (changed d f.object (Texts (ps ++ p ∷ []) t))))
   push-plan more f =
       let key = ByHandle head.handle in
       let c = asked.Push key (asked.Quoted bs) in
       let here : object_at d key ≡ Some f.object = filled-at d site done head (Texts ps t) more i f in
-      of-kind d key kinds.Texts c f.object here (filled-kind d site done head (Texts ps t) more i f kinds.Texts refl)
+      of-kind d key kinds.Strings c f.object here (filled-kind d site done head (Texts ps t) more i f kinds.Strings refl)
       ∙ ap (perform d (live d))
       (at-object d key f.object (λ o. push d o o.value (asked.Quoted bs)) here ∙ ap (text_plan d f.object bs) f.value_is
       ∙ place-there 16 (length ps) t (λ u. with_owned_text bs (λ p. Reply Done (changed d f.object (Texts (ps ++ p ∷ []) u)))) h)

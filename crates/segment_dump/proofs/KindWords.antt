@@ -2,7 +2,7 @@
 use Rattle.segment_dump.proofs.Common.{◌≡◌, ℕ, true, Some, List, ◌++◌, refl, ◌<◌, length, sym, ap, ◌∙◌, arith, codes}
 use Rattle.segment_dump.proofs.Common.{list_all, current, Kind, Scalar, ScalarKind, U8, I32, I64, U64, kind_text}
 use Rattle.segment_dump.proofs.Common.{scalar_text, whole, kind_named, is_bare}
-use Rattle.seg_types.specs.declared.kinds.Kind.TheVariants.{Text, Vector, Map, Texts}
+use Rattle.seg_types.specs.declared.kinds.Kind.TheVariants.{String, Vector, Map, Strings}
 use Rattle.seg_types.specs.declared.kinds.ScalarKind.TheVariants.{Bool as BoolKind}
 use Rattle.segment_dump.proofs.Codes.{IsWord, Breaks, words-read}
 use Rattle.segment_dump.proofs.Lists.{AllByRecursion-append}
@@ -22,9 +22,9 @@ led-bare lead k end e f = AllByRecursion-append (λ c. is_bare c ≡ true) (lead
 
 pub kind-bare : (k : Kind) → AreBare (kind_text k)
 kind-bare (Scalar k) = scalar-bare k
-kind-bare Text = bare-test (codes "string") refl
+kind-bare String = bare-test (codes "string") refl
 kind-bare (Vector k) = led-bare (codes "vec<") k (codes ">") refl refl
-kind-bare Texts = bare-test (codes "vec<string>") refl
+kind-bare Strings = bare-test (codes "vec<string>") refl
 kind-bare (Map k v) =
     let keys : AreBare (codes "map<" ++ scalar_text k ++ codes ",") = led-bare (codes "map<") k (codes ",") refl refl in
     AllByRecursion-append (λ c. is_bare c ≡ true) (codes "map<" ++ scalar_text k ++ codes "," ++ scalar_text v)
@@ -40,9 +40,9 @@ scalar-long k = omega arith
 
 pub kind-long : (k : Kind) → 0 < length (kind_text k)
 kind-long (Scalar k) = scalar-long k
-kind-long Text = omega arith
+kind-long String = omega arith
 kind-long (Vector k) = omega arith
-kind-long Texts = omega arith
+kind-long Strings = omega arith
 kind-long (Map k v) = omega arith
 
 -- ---- the kind of its word
@@ -63,13 +63,13 @@ kind-named (Scalar U8) = refl
 kind-named (Scalar I32) = refl
 kind-named (Scalar I64) = refl
 kind-named (Scalar U64) = refl
-kind-named Text = refl
+kind-named String = refl
 kind-named (Vector BoolKind) = refl
 kind-named (Vector U8) = refl
 kind-named (Vector I32) = refl
 kind-named (Vector I64) = refl
 kind-named (Vector U64) = refl
-kind-named Texts = refl
+kind-named Strings = refl
 kind-named (Map k v) = map-named k v
 
 -- so it tells the kind

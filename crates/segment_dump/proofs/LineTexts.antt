@@ -47,9 +47,9 @@ scalar-short k = omega arith
 
 pub kind-short : (k : Kind) → length (kind_text k) ≤ 20
 kind-short (kinds.Scalar k) = omega (arith, scalar-short k)
-kind-short kinds.Text = omega arith
+kind-short kinds.String = omega arith
 kind-short (kinds.Vector k) = omega (arith, scalar-short k, length-append (codes "vec<" ++ scalar_text k) (codes ">"), length-append (codes "vec<") (scalar_text k))
-kind-short kinds.Texts = omega arith
+kind-short kinds.Strings = omega arith
 kind-short (kinds.Map k v) =
     omega (
       arith,

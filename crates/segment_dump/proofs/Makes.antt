@@ -38,24 +38,24 @@ name-key Anonymous name kind h = sym h
 
 first-plain : (kind : Kind) (n : ℕ) → IsPlain (first_content kind n)
 first-plain (kinds.Scalar k) n = numbers-plain k (replicate n (pos 0))
-first-plain kinds.Text n = string-plain
+first-plain kinds.String n = string-plain
 first-plain (kinds.Vector k) n = vector-plain k
 first-plain (kinds.Map k v) n = map-plain k v
-first-plain kinds.Texts n = texts-plain
+first-plain kinds.Strings n = texts-plain
 
 first-len : (kind : Kind) (n : ℕ) → value_len (bare (first_content kind n)) ≡ body_len kind n
 first-len (kinds.Scalar k) n = ap (λ m. size_of k * m) (length-replicate n (pos 0))
-first-len kinds.Text n = refl
+first-len kinds.String n = refl
 first-len (kinds.Vector k) n = refl
 first-len (kinds.Map k v) n = refl
-first-len kinds.Texts n = refl
+first-len kinds.Strings n = refl
 
 elements-rest : (kind : Kind) (n : ℕ) → IsRest (elements_room kind n)
 elements-rest (kinds.Scalar k) n = inl refl
-elements-rest kinds.Text n = inl refl
+elements-rest kinds.String n = inl refl
 elements-rest (kinds.Vector k) n = block-rest (size_of k * n)
 elements-rest (kinds.Map k v) n = times-rest (block_room (node_len (size_of k) (size_of v))) n (block-rest (node_len (size_of k) (size_of v)))
-elements-rest kinds.Texts n = block-rest (16 * n)
+elements-rest kinds.Strings n = block-rest (16 * n)
 
 content-rest : (c : Content) → IsRest (texts_needs c).room
 content-rest (Scalars k zs) = inl refl

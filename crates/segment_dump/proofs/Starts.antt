@@ -43,7 +43,7 @@ elements-end old now h kind count text rest room counter e i = record {
 
 -- ---- without places to reserve
 
-begun-by : (c : Content) (p : Fill) (kind : Kind) → c ≡ p.content → kind_of_content c ≡ kind → (kind ≡ kinds.Text → ⊥) → (IsVectorKind kind → ⊥) → (s : State) (text : List ℕ) (h : ℕ)
+begun-by : (c : Content) (p : Fill) (kind : Kind) → c ≡ p.content → kind_of_content c ≡ kind → (kind ≡ kinds.String → ⊥) → (IsVectorKind kind → ⊥) → (s : State) (text : List ℕ) (h : ℕ)
     → StandsFilling s p.site p.done (head_of p h) (bare (first_content (kind_of_content c) (count_of_content c))) (content_need c + p.more) → text ≡ content_text c ++ p.after → FillsAt s text p h 0
 begun-by (Scalars k zs) p kind e q n v s text h st t = record {
   value = Numbers k (replicate (length zs) (pos 0));
@@ -67,7 +67,7 @@ begun-by (Map k w ps) p kind e q n v s text h st t = record {
 }
 begun-by (Strings ts) p kind e q n v s text h st t = absurd (v (subst IsVectorKind q tt))
 
-pub fills-plain : {E : Type 0} (old new : State) (h : ℕ) (kind : Kind) (count : ℕ) (text rest : List ℕ) (room : ℕ) (result : Result (Unit {0}) E) → (kind ≡ kinds.Text → ⊥) → (IsVectorKind kind → ⊥) → FillsElements old new h kind count text rest room result
+pub fills-plain : {E : Type 0} (old new : State) (h : ℕ) (kind : Kind) (count : ℕ) (text rest : List ℕ) (room : ℕ) (result : Result (Unit {0}) E) → (kind ≡ kinds.String → ⊥) → (IsVectorKind kind → ⊥) → FillsElements old new h kind count text rest room result
     → FillsNew old new h kind count text rest room result
 fills-plain old new h kind count text rest room result n v f = record {
   fills = λ p g c b. f.fills p g c (begun-by p.content p kind refl g.kind_is n v old text h b.stands b.text_is);
@@ -140,7 +140,7 @@ module _ {E : Type 0} (old mid : State) (h : ℕ) (kind : Kind) (count : ℕ) (t
   fills-refused new rest why result e = record { fills = λ p g c b. let ok : called ≡ Ok tt = was-done called (reserved-at old mid h kind count text room called v moved p g c b).0 in absurd (cc) }
 
 -- a string has no elements to add
-pub no-element : {E : Type 0} (old new : State) (h : ℕ) (kind : Kind) (n : ℕ) (text rest : List ℕ) (room : ℕ) (result : Result (Unit {0}) E) → kind ≡ kinds.Text → AddsElement old new h kind n text rest room result
+pub no-element : {E : Type 0} (old new : State) (h : ℕ) (kind : Kind) (n : ℕ) (text rest : List ℕ) (room : ℕ) (result : Result (Unit {0}) E) → kind ≡ kinds.String → AddsElement old new h kind n text rest room result
 no-element old new h kind n text rest room result e = record {
   adds = λ p f l a. let q = string-of p.content (f.kind_is ∙ e) in absurd (subst (λ (c : Content). IsPart c n a.value a.left a.need) q.1 a.part);
 }
@@ -150,7 +150,7 @@ as-room {E} old new h kind n text rest room room' result e a = subst (λ m. Adds
 
 -- ---- by kind
 
-pub fills-text : {E : Type 0} (old new : State) (h : ℕ) (kind : Kind) (count : ℕ) (text rest : List ℕ) (room : ℕ) (result : Result (Unit {0}) E) → kind ≡ kinds.Text → FillsNew old new h kinds.Text 1 text rest room result
+pub fills-text : {E : Type 0} (old new : State) (h : ℕ) (kind : Kind) (count : ℕ) (text rest : List ℕ) (room : ℕ) (result : Result (Unit {0}) E) → kind ≡ kinds.String → FillsNew old new h kinds.String 1 text rest room result
     → FillsNew old new h kind count text rest room result
 fills-text old new h kind count text rest room result e f = record {
   fills = λ p g c b.
@@ -158,7 +158,7 @@ fills-text old new h kind count text rest room result e f = record {
       f.fills p (record { kind_is = g.kind_is ∙ e; good = g.good; rest = g.rest; longest = g.longest }) (sym (ap count_of_content q.1)) b;
 }
 
-pub not-vector : (kind : Kind) → ((k : ScalarKind) → kind ≡ kinds.Vector k → ⊥) → (kind ≡ kinds.Texts → ⊥) → IsVectorKind kind → ⊥
+pub not-vector : (kind : Kind) → ((k : ScalarKind) → kind ≡ kinds.Vector k → ⊥) → (kind ≡ kinds.Strings → ⊥) → IsVectorKind kind → ⊥
 not-vector (kinds.Vector k) n m v = n k refl
-not-vector kinds.Texts n m v = m refl
+not-vector kinds.Strings n m v = m refl
 not-vector kind n m v = v

@@ -25,12 +25,12 @@ pub piece-unappended : {E F : Type 0} (old new : State) (h : ℕ) (words : List 
 piece-unappended old new h words e result r = record { appends = λ site done class name front t rest i bs s a w l. absurd (never-ok e bs (r.reads i bs a w)) }
 
 pub piece-appended : {E F : Type 0} (old new : State) (h : ℕ) (words p bytes : List ℕ) (called : Result (Unit {0}) Refusal) (result : Result (Unit {0}) F) → ReadsPiece {E = E} words (Ok p) → bytes ≡ p
-    → IsStepOfKind old new (ByHandle h) kinds.Text (asked.Append (ByHandle h) bytes) (done_answer called) → (called ≡ Ok tt → result ≡ Ok tt) → AppendsPiece old new h words result
+    → IsStepOfKind old new (ByHandle h) kinds.String (asked.Append (ByHandle h) bytes) (done_answer called) → (called ≡ Ok tt → result ≡ Ok tt) → AppendsPiece old new h words result
 piece-appended {E} {F} old new h words p bytes called result r e step ok = record {
   appends = λ site done class name front t rest i bs s a w l.
       let head : Head = record { class = class; name = name; handle = h } in
       let is : bytes ≡ bs = e ∙ ok-same {E = E} p bs (r.reads i bs a w) in
-      let step' : IsStepOfKind old new (ByHandle h) kinds.Text (asked.Append (ByHandle h) bs) (done_answer called) = subst (λ b. IsStepOfKind old new (ByHandle h) kinds.Text (asked.Append (ByHandle h) b) (done_answer called)) is step in
+      let step' : IsStepOfKind old new (ByHandle h) kinds.String (asked.Append (ByHandle h) bs) (done_answer called) = subst (λ b. IsStepOfKind old new (ByHandle h) kinds.String (asked.Append (ByHandle h) b) (done_answer called)) is step in
       let done' = appended s.directory site done head front t rest bs s.stands.denotes.directory s.filling l in
       let u = led-of_kind s.stands s.mode _ _ _ step' done' in
       (ok (was-done called u.given_is), record { directory = u.directory; stands = u.stands; mode = u.mode; filling = u.holds });
@@ -47,7 +47,7 @@ pub record StringAt (s : State) (text : List ℕ) (p : Fill) (h n : ℕ) (bs : L
   pub inside : n ≤ pieces_in (length bs)
 
 pub record InString (old now : State) (h : ℕ) (text rest : List ℕ) (room len counter : ℕ) : Type 0 where
-  pub at : (p : Fill) → IsFillable p kinds.Text room → IsBegun old text p h → (bs : List ℕ) × (p.content ≡ String bs) × (len ≡ length bs) × AreBytes bs × StringAt now rest p h (suc counter) bs
+  pub at : (p : Fill) → IsFillable p kinds.String room → IsBegun old text p h → (bs : List ℕ) × (p.content ≡ String bs) × (len ≡ length bs) × AreBytes bs × StringAt now rest p h (suc counter) bs
 
 no-front : (bs : List ℕ) → front_bytes bs 0 ≡ []
 no-front bs = refl
@@ -65,7 +65,7 @@ record Begun (old : State) (text : List ℕ) (p : Fill) (h : ℕ) : Type 0 where
   stands : StandsFilling old p.site p.done (head_of p h) (Bytes [] no_table) (block_room (1 * length bytes) + p.more)
   lines : text ≡ text_lines bytes ++ p.after
 
-begun : (old : State) (text : List ℕ) (p : Fill) (h room : ℕ) → IsFillable p kinds.Text room → IsBegun old text p h → Begun old text p h
+begun : (old : State) (text : List ℕ) (p : Fill) (h room : ℕ) → IsFillable p kinds.String room → IsBegun old text p h → Begun old text p h
 begun old text p h room f b =
     let q = string-of p.content f.kind_is in
     let good = subst IsBuildableContent q.1 f.good in
@@ -95,7 +95,7 @@ module _ (old mid : State) (h room : ℕ) (text rest words : List ℕ) (len : �
     words_are : words ≡ piece_front bytes 0
     left : PiecesLeft bytes p.after 1 rest
 
-  placed : {E : Type 0} → ReadsLength {E = E} text rest (Ok (words, len)) → (p : Fill) → IsFillable p kinds.Text room → IsBegun old text p h → Placed p
+  placed : {E : Type 0} → ReadsLength {E = E} text rest (Ok (words, len)) → (p : Fill) → IsFillable p kinds.String room → IsBegun old text p h → Placed p
   placed {E} r p f b =
       let g = begun old text p h room f b in
       let bs = g.bytes in
@@ -119,10 +119,10 @@ module _ (old mid : State) (h room : ℕ) (text rest words : List ℕ) (len : �
         left = q.1;
       }
 
-  pub string-refused : {E F : Type 0} (new : State) (rest' : List ℕ) (why : Refusal) (result : Result (Unit {0}) F) → ReadsLength {E = E} text rest (Ok (words, len)) → called ≡ Err why → FillsNew old new h kinds.Text 1 text rest' room result
+  pub string-refused : {E F : Type 0} (new : State) (rest' : List ℕ) (why : Refusal) (result : Result (Unit {0}) F) → ReadsLength {E = E} text rest (Ok (words, len)) → called ≡ Err why → FillsNew old new h kinds.String 1 text rest' room result
   string-refused new rest' why result r e = record { fills = λ p f c b. let ok : called ≡ Ok tt = was-done called (placed r p f b).was in absurd (cc) }
 
-  first-appended : {E F : Type 0} (new : State) (r' : Result (Unit {0}) F) → ReadsLength {E = E} text rest (Ok (words, len)) → AppendsPiece mid new h words r' → (p : Fill) (f : IsFillable p kinds.Text room) (b : IsBegun old text p h)
+  first-appended : {E F : Type 0} (new : State) (r' : Result (Unit {0}) F) → ReadsLength {E = E} text rest (Ok (words, len)) → AppendsPiece mid new h words r' → (p : Fill) (f : IsFillable p kinds.String room) (b : IsBegun old text p h)
       → (r' ≡ Ok tt) × ((bs : List ℕ) × (p.content ≡ String bs) × (len ≡ length bs) × AreBytes bs × StringAt new rest p h 1 bs)
   first-appended {E} {F} new r' r a p f b =
       let g = placed r p f b in
@@ -145,27 +145,27 @@ module _ (old mid : State) (h room : ℕ) (text rest words : List ℕ) (len : �
         ),
       )
 
-  pub string-no_piece : {E F : Type 0} (new : State) (rest' : List ℕ) (e : F) (result : Result (Unit {0}) F) → ReadsLength {E = E} text rest (Ok (words, len)) → AppendsPiece mid new h words (Err e) → FillsNew old new h kinds.Text 1 text rest' room result
+  pub string-no_piece : {E F : Type 0} (new : State) (rest' : List ℕ) (e : F) (result : Result (Unit {0}) F) → ReadsLength {E = E} text rest (Ok (words, len)) → AppendsPiece mid new h words (Err e) → FillsNew old new h kinds.String 1 text rest' room result
   string-no_piece {E} {F} new rest' e result r a = record { fills = λ p f c b. absurd (never-ok {X = Unit {0}} {E = F} e tt (first-appended {E = E} {F = F} new (Err e) r a p f b).0) }
 
   pub string-start : {E F : Type 0} (new : State) (u : Unit {0}) → ReadsLength {E = E} text rest (Ok (words, len)) → AppendsPiece {E = F} mid new h words (Ok u) → InString old new h text rest room len 0
   string-start {E} {F} new u r a = record { at = λ p f b. (first-appended {E = E} {F = F} new (Ok u) r a p f b).1 }
 
-pub string-no_first : {E F : Type 0} (old new : State) (h room : ℕ) (text rest rest' : List ℕ) (e : E) (result : Result (Unit {0}) F) → ReadsLength text rest (Err e) → FillsNew old new h kinds.Text 1 text rest' room result
+pub string-no_first : {E F : Type 0} (old new : State) (h room : ℕ) (text rest rest' : List ℕ) (e : E) (result : Result (Unit {0}) F) → ReadsLength text rest (Err e) → FillsNew old new h kinds.String 1 text rest' room result
 string-no_first old new h room text rest rest' e result r = record {
   fills = λ p f c b. let g = begun old text p h room f b in absurd (never-ok e (piece_front g.bytes 0, length g.bytes) (r.reads g.bytes p.after g.counted g.lines).0);
 }
 
 -- one piece more
 module _ (old now : State) (h room : ℕ) (text rest : List ℕ) (len counter : ℕ) (i : InString old now h text rest room len counter) (l : counter < (len - 1) / 1000) where
-  line-there : {E : Type 0} (rest' : List ℕ) (r : Result (List ℕ) E) → ReadsLine rest rest' r → (p : Fill) (f : IsFillable p kinds.Text room) (b : IsBegun old text p h)
+  line-there : {E : Type 0} (rest' : List ℕ) (r : Result (List ℕ) E) → ReadsLine rest rest' r → (p : Fill) (f : IsFillable p kinds.String room) (b : IsBegun old text p h)
       → (r ≡ Ok (piece_front (i.at p f b).0 (suc counter))) × PiecesLeft (i.at p f b).0 p.after (suc (suc counter)) rest'
   line-there rest' r k p f b = let q = i.at p f b in piece-line q.0 p.after (suc counter) rest rest' r (omega (arith, l, q.2)) q.4.left k
 
-  pub string-no_line : {E F : Type 0} (new : State) (rest' final : List ℕ) (e : E) (result : Result (Unit {0}) F) → ReadsLine rest rest' (Err e) → FillsNew old new h kinds.Text 1 text final room result
+  pub string-no_line : {E F : Type 0} (new : State) (rest' final : List ℕ) (e : E) (result : Result (Unit {0}) F) → ReadsLine rest rest' (Err e) → FillsNew old new h kinds.String 1 text final room result
   string-no_line new rest' final e result k = record { fills = λ p f c b. absurd (never-ok e (piece_front (i.at p f b).0 (suc counter)) (line-there rest' (Err e) k p f b).0) }
 
-  more-appended : {E F : Type 0} (new : State) (rest' words : List ℕ) (r : Result (Unit {0}) F) → ReadsLine {E = E} rest rest' (Ok words) → AppendsPiece now new h words r → (p : Fill) (f : IsFillable p kinds.Text room) (b : IsBegun old text p h)
+  more-appended : {E F : Type 0} (new : State) (rest' words : List ℕ) (r : Result (Unit {0}) F) → ReadsLine {E = E} rest rest' (Ok words) → AppendsPiece now new h words r → (p : Fill) (f : IsFillable p kinds.String room) (b : IsBegun old text p h)
       → (r ≡ Ok tt) × StringAt new rest' p h (suc (suc counter)) (i.at p f b).0
   more-appended {E} {F} new rest' words r k a p f b =
       let q = i.at p f b in
@@ -186,7 +186,7 @@ module _ (old now : State) (h room : ℕ) (text rest : List ℕ) (len counter : 
         },
       )
 
-  pub string-no_more : {E F : Type 0} (new : State) (rest' words final : List ℕ) (e : F) (result : Result (Unit {0}) F) → ReadsLine {E = E} rest rest' (Ok words) → AppendsPiece now new h words (Err e) → FillsNew old new h kinds.Text 1 text final room result
+  pub string-no_more : {E F : Type 0} (new : State) (rest' words final : List ℕ) (e : F) (result : Result (Unit {0}) F) → ReadsLine {E = E} rest rest' (Ok words) → AppendsPiece now new h words (Err e) → FillsNew old new h kinds.String 1 text final room result
   string-no_more {E} {F} new rest' words final e result k a = record { fills = λ p f c b. absurd (never-ok {X = Unit {0}} {E = F} e tt (more-appended {E = E} {F = F} new rest' words (Err e) k a p f b).0) }
 
   pub string-more : {E F : Type 0} (new : State) (rest' words : List ℕ) (u : Unit {0}) → ReadsLine {E = E} rest rest' (Ok words) → AppendsPiece {E = F} now new h words (Ok u) → InString old new h text rest' room len (counter + 1)
@@ -197,7 +197,7 @@ module _ (old now : State) (h room : ℕ) (text rest : List ℕ) (len counter : 
         (q.0, q.1, q.2, q.3, subst (λ n. StringAt new rest' p h n q.0) next (more-appended {E = E} {F = F} new rest' words (Ok u) k a p f b).1);
   }
 
-pub string-end : {F : Type 0} (old now : State) (h room : ℕ) (text rest : List ℕ) (len counter : ℕ) → InString old now h text rest room len counter → (len - 1) / 1000 ≤ counter → FillsNew {E = F} old now h kinds.Text 1 text rest room (Ok tt)
+pub string-end : {F : Type 0} (old now : State) (h room : ℕ) (text rest : List ℕ) (len counter : ℕ) → InString old now h text rest room len counter → (len - 1) / 1000 ≤ counter → FillsNew {E = F} old now h kinds.String 1 text rest room (Ok tt)
 string-end {F} old now h room text rest len counter i l = record {
   fills = λ p f c b.
       let q = i.at p f b in

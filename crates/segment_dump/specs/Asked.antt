@@ -1,6 +1,6 @@
 -- The lines of an object's elements, by what the calls answer that read them.
 use Rattle.std.specs.Prelude.{ℕ, List, [], Result, Ok, Err, slice_get}
-use Rattle.seg_types.specs.declared.kinds.Kind.TheVariants.{Texts as TextsKind}
+use Rattle.seg_types.specs.declared.kinds.Kind.TheVariants.{Strings as StringsKind}
 use Rattle.seg_types.specs.declared.kinds.ScalarKind.{ScalarKind}
 use Rattle.seg_types.specs.declared.refusals.Refusal.{Refusal}
 use Rattle.seg_types.specs.Commands.{Get}
@@ -27,7 +27,7 @@ element_part mode d key i = element_text (step mode d (Get key i)).0
 
 -- the text at an index of a vector of strings
 abbrev pub text_part : Mode → Directory → Key → ℕ → List ℕ
-text_part mode d key i = element_text (step_of_kind mode d key TextsKind (Get key i)).0
+text_part mode d key i = element_text (step_of_kind mode d key StringsKind (Get key i)).0
 
 -- a string
 abbrev pub string_part : Result (List ℕ) Refusal → List ℕ

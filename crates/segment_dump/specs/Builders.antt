@@ -60,10 +60,10 @@ pub record FillsElements {E : Type 0} (old new : State) (h : ℕ) (kind : Kind) 
 -- what an object is made with: zeros, or nothing yet
 abbrev pub first_content : Kind → ℕ → Asked
 first_content (kinds.Scalar k) n = asked.Numbers k (replicate n (pos 0))
-first_content kinds.Text n = asked.Bytes []
+first_content kinds.String n = asked.Bytes []
 first_content (kinds.Vector k) n = asked.Elements k []
 first_content (kinds.Map k v) n = asked.NoPairs k v
-first_content kinds.Texts n = asked.Strings []
+first_content kinds.Strings n = asked.Strings []
 
 -- the bytes that its elements need
 abbrev pub content_need : Content → ℕ
@@ -104,18 +104,18 @@ pub record IsStarted {E : Type 0} (s : State) (site : Site) (done : List Item) (
 -- so many elements an object can have
 abbrev pub IsCountOf : Kind → ℕ → Type 0
 IsCountOf (kinds.Scalar k) n = (1 ≤ n) × (n ≤ 1048576)
-IsCountOf kinds.Text n = Unit {0}
+IsCountOf kinds.String n = Unit {0}
 IsCountOf (kinds.Vector k) n = Unit {0}
 IsCountOf (kinds.Map k v) n = Unit {0}
-IsCountOf kinds.Texts n = Unit {0}
+IsCountOf kinds.Strings n = Unit {0}
 
 -- vectors, whose places are reserved
 abbrev pub IsVectorKind : Kind → Type 0
 IsVectorKind (kinds.Scalar k) = ⊥
-IsVectorKind kinds.Text = ⊥
+IsVectorKind kinds.String = ⊥
 IsVectorKind (kinds.Vector k) = Unit {0}
 IsVectorKind (kinds.Map k v) = ⊥
-IsVectorKind kinds.Texts = Unit {0}
+IsVectorKind kinds.Strings = Unit {0}
 
 -- a class comes next
 pub record ReadsClass {E : Type 0} (text rest : List ℕ) (result : Result Class E) : Type 0 where

@@ -58,9 +58,9 @@ portable d = record {
 abbrev pub kind_of_content : Content → Kind
 kind_of_content (Scalars k zs) = kinds.Scalar k
 kind_of_content (Vector k zs) = kinds.Vector k
-kind_of_content (String bs) = kinds.Text
+kind_of_content (String bs) = kinds.String
 kind_of_content (Map k v ps) = kinds.Map k v
-kind_of_content (Strings ts) = kinds.Texts
+kind_of_content (Strings ts) = kinds.Strings
 
 -- how many scalars, texts or pairs it has; a string is one text
 abbrev pub count_of_content : Content → ℕ

@@ -19,18 +19,18 @@ block_room n = if n == 0 then 0 else room n
 -- the bytes of the value of an object of a kind: the spellings of so many scalars, or the three words of a container
 abbrev pub body_len : Kind → ℕ → ℕ
 body_len (kinds.Scalar k) n = size_of k * n
-body_len kinds.Text n = 24
+body_len kinds.String n = 24
 body_len (kinds.Vector k) n = 24
 body_len (kinds.Map k v) n = 24
-body_len kinds.Texts n = 24
+body_len kinds.Strings n = 24
 
 -- the bytes of its storage or of its nodes, for so many elements
 abbrev pub elements_room : Kind → ℕ → ℕ
 elements_room (kinds.Scalar k) n = 0
-elements_room kinds.Text n = 0
+elements_room kinds.String n = 0
 elements_room (kinds.Vector k) n = block_room (size_of k * n)
 elements_room (kinds.Map k v) n = n * block_room (node_len (size_of k) (size_of v))
-elements_room kinds.Texts n = block_room (16 * n)
+elements_room kinds.Strings n = block_room (16 * n)
 
 -- the block of an object, with its head, its name and its value, and with it that of its elements
 unfoldable pub object_room : ℕ → Kind → ℕ → ℕ

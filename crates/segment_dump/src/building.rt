@@ -215,8 +215,8 @@ fn construct<D: Destination>(
     match shape.kind {
         Kind::Scalar(kind) => construct_scalars(segment, under, kind, shape.count),
         Kind::Vector(kind) => construct_vector(segment, under, kind),
-        Kind::Text => segment.construct_string(under, b""),
-        Kind::Texts => segment.construct_texts(under, &[]),
+        Kind::String => segment.construct_string(under, b""),
+        Kind::Strings => segment.construct_texts(under, &[]),
         Kind::Map(keys, values) => segment.construct_map_of(under, keys, values),
     }
 }

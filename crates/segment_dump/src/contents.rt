@@ -25,7 +25,7 @@ pub fn count_of(segment: &Segment, object: Object) -> u64
 {
     match object.kind {
         Kind::Scalar(_) => u64::from(object.count),
-        Kind::Text => 1,
+        Kind::String => 1,
         _ => length_of(segment, object),
     }
 }
@@ -56,8 +56,8 @@ pub fn put_content<W: Sink>(
     match object.kind {
         Kind::Scalar(_) => put_elements(segment, object, count, out),
         Kind::Vector(_) => put_elements(segment, object, count, out),
-        Kind::Text => put_string(segment, object, out),
-        Kind::Texts => put_strings(segment, object, count, out),
+        Kind::String => put_string(segment, object, out),
+        Kind::Strings => put_strings(segment, object, count, out),
         Kind::Map(keys, values) => put_pairs(segment, object, keys, values, count, out),
     }
 }

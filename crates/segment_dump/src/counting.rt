@@ -76,8 +76,8 @@ fn count_content(text: &[u8], kind: Kind, count: u64) -> Option<(Needs, &[u8])>
         Kind::Scalar(_) => skip(text, count),
         Kind::Vector(_) => skip(text, count),
         Kind::Map(_, _) => skip(text, count),
-        Kind::Text => count_string(text),
-        Kind::Texts => count_texts(text, count),
+        Kind::String => count_string(text),
+        Kind::Strings => count_texts(text, count),
     }
 }
 

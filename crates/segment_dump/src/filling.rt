@@ -1,6 +1,6 @@
 //! Objects filled with what the lines of a dump say.
 ghost use Rattle.std.specs.Prelude.{◌≡◌, ℕ, length, Ok};
-ghost use Rattle.seg_types.specs.declared.kinds.Kind.TheVariants.{Map as MapOf, Scalar as ScalarOf, Texts as TextsKind, Vector as VectorOf};
+ghost use Rattle.seg_types.specs.declared.kinds.Kind.TheVariants.{Map as MapOf, Scalar as ScalarOf, Strings as StringsKind, Vector as VectorOf};
 ghost use Rattle.seg_types.specs.Commands.{Push, Set, literal_of};
 ghost use Rattle.seg_types.specs.Names.{ByHandle};
 ghost use Rattle.seg_types.specs.Values.{kind_of_scalar, value_of_scalar};
@@ -27,9 +27,9 @@ pub fn fill(
     ensures { FillsNew segment.old segment.new handle shape.kind shape.count lines.old lines.new (length room.old) result }
 {
     match shape.kind {
-        Kind::Text => fill_string(segment, handle, lines, scratch),
+        Kind::String => fill_string(segment, handle, lines, scratch),
         Kind::Vector(_) => fill_reserved(segment, handle, shape, lines, room, scratch),
-        Kind::Texts => fill_reserved(segment, handle, shape, lines, room, scratch),
+        Kind::Strings => fill_reserved(segment, handle, shape, lines, room, scratch),
         _ => fill_elements(segment, handle, shape, lines, room, scratch),
     }
 }
@@ -85,8 +85,8 @@ fn add_element(
         Kind::Scalar(kind) => set_next(segment, handle, kind, index, lines),
         Kind::Vector(kind) => push_next(segment, handle, kind, lines),
         Kind::Map(keys, values) => put_next(segment, handle, keys, values, lines),
-        Kind::Texts => push_text(segment, handle, lines, room, scratch),
-        Kind::Text => Err(misfit(lines.at(), DumpFault::BadCount)),
+        Kind::Strings => push_text(segment, handle, lines, room, scratch),
+        Kind::String => Err(misfit(lines.at(), DumpFault::BadCount)),
     }
 }
 

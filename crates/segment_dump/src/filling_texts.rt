@@ -1,6 +1,6 @@
 //! Texts made of the lines of a dump.
 ghost use Rattle.std.specs.Prelude.{◌≡◌, ◌+◌, ◌-◌, ◌/◌, ◌≤◌, ◌++◌, ℕ, length, take, IfOk};
-ghost use Rattle.seg_types.specs.declared.kinds.Kind.TheVariants.{Text as TextKind, Texts as TextsKind};
+ghost use Rattle.seg_types.specs.declared.kinds.Kind.TheVariants.{String as StringKind, Strings as StringsKind};
 ghost use Rattle.segment_dump.specs.Builders.{AddsElement, AppendsPiece, Collects, CopiesPiece, FillsNew, ReadsLength, ReadsPiece};
 
 use crate::building::{Stop, stop_of};
@@ -19,7 +19,7 @@ pub fn fill_string(
     lines: &mut Lines<'_>,
     scratch: &mut Text,
 ) -> Result<(), Stop>
-    ensures { (room : ℕ) → FillsNew segment.old segment.new handle TextKind 1 lines.old lines.new room result }
+    ensures { (room : ℕ) → FillsNew segment.old segment.new handle StringKind 1 lines.old lines.new room result }
 {
     let at = lines.at();
     let (mut words, len) = first_line(lines)?;
@@ -87,7 +87,7 @@ pub fn push_text(
     room: &mut [u8],
     scratch: &mut Text,
 ) -> Result<(), Stop>
-    ensures { (index : ℕ) → AddsElement segment.old segment.new handle TextsKind index lines.old lines.new (length room.old) result }
+    ensures { (index : ℕ) → AddsElement segment.old segment.new handle StringsKind index lines.old lines.new (length room.old) result }
 {
     let at = lines.at();
     let len = collect(lines, room, scratch)?;

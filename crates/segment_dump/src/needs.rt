@@ -58,10 +58,10 @@ fn body_len(kind: Kind, count: u64) -> u64
 {
     match kind {
         Kind::Scalar(kind) => kind.size() * count,
-        Kind::Text => 24,
+        Kind::String => 24,
         Kind::Vector(_) => 24,
         Kind::Map(_, _) => 24,
-        Kind::Texts => 24,
+        Kind::Strings => 24,
     }
 }
 
@@ -81,10 +81,10 @@ fn elements_room(kind: Kind, count: u64) -> u64
 {
     match kind {
         Kind::Scalar(_) => 0,
-        Kind::Text => 0,
+        Kind::String => 0,
         Kind::Vector(kind) => block_room(kind.size() * count),
         Kind::Map(keys, values) => count * node_room(keys, values),
-        Kind::Texts => block_room(16 * count),
+        Kind::Strings => block_room(16 * count),
     }
 }
 

@@ -4,7 +4,7 @@ use Rattle.std.proofs.Common.{◌==◌, replicate, length, nat_lt, slice_index}
 use Rattle.std.specs.Option.{option_map, option_and_then}
 use Rattle.raw_region.specs.Format.{current}
 use Rattle.seg_types.specs.declared.kinds.Kind.{Kind}
-use Rattle.seg_types.specs.declared.kinds.Kind.TheVariants.{Scalar, Text, Vector, Map, Texts}
+use Rattle.seg_types.specs.declared.kinds.Kind.TheVariants.{Scalar, String, Vector, Map, Strings}
 use Rattle.seg_types.specs.declared.kinds.ScalarKind.{ScalarKind}
 use Rattle.seg_types.specs.declared.values.ScalarValue.{ScalarValue}
 use Rattle.seg_types.specs.Names.{Key}
@@ -142,22 +142,22 @@ pub elements_content : (k : ScalarKind) (n : ℕ) (bytes : List ℕ)
 unfolding numbers_at
 elements_content k n bytes = map_then (Elements k) (all (value_for k)) (words bytes)
 
-no_text : (n : ℕ) (w v : Word) (ws : List Word) → content Text n (w ∷ v ∷ ws) ≡ None
+no_text : (n : ℕ) (w v : Word) (ws : List Word) → content String n (w ∷ v ∷ ws) ≡ None
 no_text n (said.Text bs) v ws = refl
 no_text n (Bare bs) v ws = refl
 
-one_text : (n : ℕ) (w : Word) → content Text n (w ∷ []) ≡ option_map Bytes (quoted_of w)
+one_text : (n : ℕ) (w : Word) → content String n (w ∷ []) ≡ option_map Bytes (quoted_of w)
 one_text n (said.Text bs) = refl
 one_text n (Bare bs) = refl
 
 pub text_content : (n : ℕ) (bytes : List ℕ)
-    → option_and_then (content Text n) (words bytes) ≡ option_map Bytes (option_and_then quoted_of (only_word bytes))
+    → option_and_then (content String n) (words bytes) ≡ option_map Bytes (option_and_then quoted_of (only_word bytes))
 text_content n bytes =
-    take_only (content Text n) refl (no_text n) bytes ∙ under _ _ (one_text n) (only_word bytes)
+    take_only (content String n) refl (no_text n) bytes ∙ under _ _ (one_text n) (only_word bytes)
     ∙ map_then Bytes quoted_of (only_word bytes)
 
 pub texts_content : (n : ℕ) (bytes : List ℕ)
-    → option_and_then (content Texts n) (words bytes) ≡ option_map Strings (texts_at bytes)
+    → option_and_then (content Strings n) (words bytes) ≡ option_map Strings (texts_at bytes)
 unfolding texts_at
 texts_content n bytes = map_then Strings (all quoted_of) (words bytes)
 

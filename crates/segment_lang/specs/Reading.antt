@@ -5,7 +5,7 @@ use Rattle.std.specs.Prelude.{slice_index, take, take_while, drop}
 use Rattle.std.specs.Result.{result_ok}
 use Rattle.seg_types.specs.declared.kinds.ScalarKind.{ScalarKind}
 use Rattle.seg_types.specs.declared.kinds.Kind.{Kind}
-use Rattle.seg_types.specs.declared.kinds.Kind.TheVariants.{Scalar, Text, Vector, Map, Texts}
+use Rattle.seg_types.specs.declared.kinds.Kind.TheVariants.{Scalar, String, Vector, Map, Strings}
 use Rattle.seg_types.specs.Kinds.{same_kind}
 use Rattle.seg_types.specs.Names.{Key, ByName, ByKind, ByHandle, NoKey, is_name, is_text_name}
 use Rattle.seg_types.specs.Commands as asked
@@ -91,9 +91,9 @@ quoted_of (word.Text bs) = Some bs
 abbrev pub content : Kind → ℕ → List Word → Option Content
 content (Scalar k) n (v ∷ []) = option_map (λ z. asked.Numbers k (replicate n z)) (value_for k v)
 content (Vector k) n vs = option_map (asked.Elements k) (all (value_for k) vs)
-content Text n (word.Text bs ∷ []) = Some (asked.Bytes bs)
+content String n (word.Text bs ∷ []) = Some (asked.Bytes bs)
 content (Map k v) n [] = Some (asked.NoPairs k v)
-content Texts n ws = option_map asked.Strings (all quoted_of ws)
+content Strings n ws = option_map asked.Strings (all quoted_of ws)
 content k n ws = None
 
 -- what the words behind a command word ask for

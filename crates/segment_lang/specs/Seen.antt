@@ -17,8 +17,8 @@ use Rattle.segment_lang.specs.declared.words.Word.TheVariants.{Bare, Text}
 use Rattle.segment_lang.specs.declared.literals.Literal.{Literal}
 use Rattle.segment_lang.specs.declared.literals.Literal.TheVariants.{Whole, Truth, Quoted}
 use Rattle.segment_lang.specs.declared.commands.Content.{Content}
-use Rattle.segment_lang.specs.declared.commands.Content.TheVariants.{Scalars, Elements, Text as TextContent}
-use Rattle.segment_lang.specs.declared.commands.Content.TheVariants.{Texts as TextsContent, NoPairs}
+use Rattle.segment_lang.specs.declared.commands.Content.TheVariants.{Scalars, Elements, String as StringContent}
+use Rattle.segment_lang.specs.declared.commands.Content.TheVariants.{Strings as StringsContent, NoPairs}
 use Rattle.segment_lang.specs.declared.commands.Command.{Command}
 use Rattle.segment_lang.specs.declared.commands.Command.TheVariants.{Construct, ConstructIt, Find, FindOrConstruct}
 use Rattle.segment_lang.specs.declared.commands.Command.TheVariants.{Destroy, DestroyPtr, Show, Info, Get, Set, Push}
@@ -62,8 +62,8 @@ literals_held ls = map literal_held ls
 abbrev pub content_of : Content → asked.Content
 content_of (Scalars s n) = asked.Numbers (kind_of_scalar s) (replicate n (value_of_scalar s))
 content_of (Elements values) = asked.Elements values.kind values.numbers
-content_of (TextContent t) = asked.Bytes t
-content_of (TextsContent ts) = asked.Strings ts
+content_of (StringContent t) = asked.Bytes t
+content_of (StringsContent ts) = asked.Strings ts
 content_of (NoPairs key value) = asked.NoPairs key value
 
 abbrev pub command_of : Command → asked.Command

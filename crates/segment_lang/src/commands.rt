@@ -21,9 +21,9 @@ pub enum Content<'a> {
     /// The elements of a vector.
     Elements(Values<'a>),
     /// The bytes of a string.
-    Text(Quoted<'a>),
+    String(Quoted<'a>),
     /// The elements of a vector of strings.
-    Texts(Texts<'a>),
+    Strings(Texts<'a>),
     /// A map without pairs.
     NoPairs {
         /// The kind of its keys.

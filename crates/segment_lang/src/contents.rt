@@ -40,7 +40,7 @@ fn read_string(bytes: &[u8]) -> Option<Content<'_>>
 {
     let word = only_word(bytes)?;
     let text = quoted_of(word)?;
-    Some(Content::Text(text))
+    Some(Content::String(text))
 }
 
 /// Any number of texts.
@@ -48,7 +48,7 @@ fn read_strings(bytes: &[u8]) -> Option<Content<'_>>
     ensures { option_map content_of result ≡ option_map Strings (texts_at bytes.now) }
 {
     let texts = read_texts(bytes)?;
-    Some(Content::Texts(texts))
+    Some(Content::Strings(texts))
 }
 
 /// Nothing: a map begins without pairs.
@@ -68,8 +68,8 @@ pub fn read_content(kind: Kind, count: u32, bytes: &[u8]) -> Option<Content<'_>>
     match kind {
         Kind::Scalar(kind) => read_scalar(kind, count, bytes),
         Kind::Vector(kind) => read_vector(kind, bytes),
-        Kind::Text => read_string(bytes),
-        Kind::Texts => read_strings(bytes),
+        Kind::String => read_string(bytes),
+        Kind::Strings => read_strings(bytes),
         Kind::Map(key, value) => read_no_pairs(key, value, bytes),
     }
 }

@@ -207,9 +207,9 @@ pub fn put_kind<S: Sink>(out: &mut S, kind: Kind) -> Result<(), DeviceFault>
 {
     match kind {
         Kind::Scalar(kind) => write_all(out, kind.as_str().as_bytes()),
-        Kind::Text => write_all(out, b"string"),
+        Kind::String => write_all(out, b"string"),
         Kind::Vector(element) => put_vector_kind(out, element),
         Kind::Map(key, value) => put_map_kind(out, key, value),
-        Kind::Texts => write_all(out, b"vec<string>"),
+        Kind::Strings => write_all(out, b"vec<string>"),
     }
 }

@@ -1,7 +1,7 @@
 -- Calls on elements whose kind is what the object says: then the step of the kind is the command's own.
 use Rattle.segment_manager.proofs.Common.{◌≡◌, refl, sym, ap, subst, ◌∙◌, ℕ, ℤ, pos, true, false, Option, Some, None}
 use Rattle.segment_manager.proofs.Common.{Result, Ok, Err, List, map, slice_set, eq-eqb, same_Some, Kind, ScalarOf}
-use Rattle.segment_manager.proofs.Common.{TextKind, VectorKind, TextsKind, ScalarKind, U8, Refusal, NotFound, WrongKind}
+use Rattle.segment_manager.proofs.Common.{StringKind, VectorKind, StringsKind, ScalarKind, U8, Refusal, NotFound, WrongKind}
 use Rattle.segment_manager.proofs.Common.{code_of, is_value, Key, ByHandle, Command, Literal, literal_of}
 use Rattle.segment_manager.proofs.Common.{value_of_literal, Mode, Located, Answer, Done, Refused, elements_at}
 use Rattle.segment_manager.proofs.Common.{elements_of, kind_at, Value, Numbers, Elements, Bytes, Pairs, Texts, Object}
@@ -53,13 +53,13 @@ elements-told d key kind e = ap elements_in e.is ∙ ap elements_of e.kind_is
 
 -- of an object whose elements are no scalars none is read
 not_read : (d : Directory) (v : Value) (i : ℕ) {r : Refusal} → elements_of (kind_of v) ≡ Err r
-    → (kind_of v ≡ TextsKind → ⊥) → get d v i ≡ Refuse r
+    → (kind_of v ≡ StringsKind → ⊥) → get d v i ≡ Refuse r
 not_read d (Pairs k v ps) i {r} e n = let why : WrongKind ≡ r = cc in ap Refuse why
 not_read d (Texts ps t) i e n = absurd (n refl)
 not_read d v i e n = absurd (cc)
 
 step-not_read : (mode : Mode) {d : Directory} {key : Key} (i : ℕ) {r : Refusal}
-    → ((o : Object) → object_at d key ≡ Some o → kind_of o.value ≡ TextsKind → ⊥) → HasNone d key r
+    → ((o : Object) → object_at d key ≡ Some o → kind_of o.value ≡ StringsKind → ⊥) → HasNone d key r
     → step mode d (asked.Get key i) ≡ (Refused r, d)
 step-not_read mode {d} {key} i n (Nowhere e f) =
     step-refuse mode d (asked.Get key i) NotFound (open-reading mode (asked.Get key i) refl)
@@ -72,7 +72,7 @@ abbrev reply_of : Mode → Directory → Command → Result ScalarKind Refusal �
 reply_of mode d c q = elim q as (λ _. Answer) [ Err r ↦ Refused r | Ok k ↦ (step mode d c).0 ]
 
 machine-if : (mode : Mode) (d : Directory) (key : Key) (i : ℕ) (q : Result ScalarKind Refusal)
-    → ((o : Object) → object_at d key ≡ Some o → kind_of o.value ≡ TextsKind → ⊥) → elements_at d key ≡ q
+    → ((o : Object) → object_at d key ≡ Some o → kind_of o.value ≡ StringsKind → ⊥) → elements_at d key ≡ q
     → reply_of mode d (asked.Get key i) q ≡ (step mode d (asked.Get key i)).0
 machine-if mode d key i (Ok k) n e = refl
 machine-if mode d key i (Err r) n e =
@@ -82,7 +82,7 @@ machine-if mode d key i (Err r) n e =
 abbrev pub HasNoTexts : State → Key → Type 0
 HasNoTexts s key =
     (d : Directory) → StandsFor s.cut.bytes d → (o : Object) → object_at d key ≡ Some o
-    → kind_of o.value ≡ TextsKind → ⊥
+    → kind_of o.value ≡ StringsKind → ⊥
 
 -- a call that reads scalars alone answers as the machine where there are no texts
 pub scalars-replies : (s : State) (key : Key) (i : ℕ) (answer : Answer) → HasNoTexts s key
@@ -122,9 +122,9 @@ of_kind-none s key kind r c a f = record {
 
 -- neither scalars nor a vector of them nor a string
 pub other-elements : (kind : Kind) → ((k : ScalarKind) → kind ≡ ScalarOf k → ⊥)
-    → ((k : ScalarKind) → kind ≡ VectorKind k → ⊥) → (kind ≡ TextKind → ⊥) → elements_of kind ≡ Err WrongKind
+    → ((k : ScalarKind) → kind ≡ VectorKind k → ⊥) → (kind ≡ StringKind → ⊥) → elements_of kind ≡ Err WrongKind
 other-elements (ScalarOf k) n v t = absurd (n k refl)
-other-elements TextKind n v t = absurd (t refl)
+other-elements StringKind n v t = absurd (t refl)
 other-elements (VectorKind k) n v t = absurd (v k refl)
 other-elements w n v t = refl
 
@@ -157,16 +157,16 @@ vector-kind s key l k a b = record {
       ap (λ n. Ok (VectorKind n)) same ∙ a.answers d w;
 }
 
-left-kind : (kind : Kind) {k : ScalarKind} → Ok k ≡ elements_of kind → (kind ≡ TextKind → ⊥)
+left-kind : (kind : Kind) {k : ScalarKind} → Ok k ≡ elements_of kind → (kind ≡ StringKind → ⊥)
     → ((l : ScalarKind) → kind ≡ VectorKind l → ⊥) → ScalarOf k ≡ kind
 left-kind (ScalarOf j) {k} e t v = let same : k ≡ j = cc in ap ScalarOf same
-left-kind TextKind e t v = absurd (t refl)
+left-kind StringKind e t v = absurd (t refl)
 left-kind (VectorKind j) e t v = absurd (v j refl)
 left-kind kind e t v = absurd (cc)
 
 -- neither a text nor a vector: scalars
 pub scalar-kind : (s : State) (key : Key) (kind : Kind) (k : ScalarKind) → Answers s (λ d. kind_at d key) (Ok kind)
-    → Answers s (λ d. elements_at d key) (Ok k) → (kind ≡ TextKind → ⊥) → ((l : ScalarKind) → kind ≡ VectorKind l → ⊥)
+    → Answers s (λ d. elements_at d key) (Ok k) → (kind ≡ StringKind → ⊥) → ((l : ScalarKind) → kind ≡ VectorKind l → ⊥)
     → Answers s (λ d. kind_at d key) (Ok (ScalarOf k))
 scalar-kind s key kind k a b t v = record {
   answers = λ d w. ap Ok (left-kind kind
@@ -220,7 +220,7 @@ any-no_value s key k i l r a writing f =
 
 -- the object of the key says another kind
 pub kind-no_texts : (s : State) (key : Key) (kind : Kind) → Answers s (λ d. kind_at d key) (Ok kind)
-    → (kind ≡ TextsKind → ⊥) → HasNoTexts s key
+    → (kind ≡ StringsKind → ⊥) → HasNoTexts s key
 kind-no_texts s key kind a n d l o e =
     let k = kind-told d key kind (a.answers d l) in
     λ f. n (sym (ap (λ (p : Object). kind_of p.value) (sym (same_Some k.object o (sym k.is ∙ e))) ∙ k.kind_is) ∙ f)

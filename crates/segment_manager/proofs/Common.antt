@@ -62,8 +62,8 @@ pub use Rattle.seg_types.specs.declared.keys.IndexKey.{IndexKey}
 pub use Rattle.seg_types.specs.declared.kinds.Class.{Class}
 pub use Rattle.seg_types.specs.declared.kinds.Class.TheVariants.{Anonymous, Named as NamedClass, Unique as UniqueClass}
 pub use Rattle.seg_types.specs.declared.kinds.Kind.{Kind}
-pub use Rattle.seg_types.specs.declared.kinds.Kind.TheVariants.{Map, Map as MapKind, Scalar, Scalar as ScalarOf, Text}
-pub use Rattle.seg_types.specs.declared.kinds.Kind.TheVariants.{Text as TextKind, Texts as TextsKind, Vector}
+pub use Rattle.seg_types.specs.declared.kinds.Kind.TheVariants.{Map, Map as MapKind, Scalar, Scalar as ScalarOf, String}
+pub use Rattle.seg_types.specs.declared.kinds.Kind.TheVariants.{String as StringKind, Strings as StringsKind, Vector}
 pub use Rattle.seg_types.specs.declared.kinds.Kind.TheVariants.{Vector as VectorKind}
 pub use Rattle.seg_types.specs.declared.kinds.ScalarKind.{ScalarKind}
 pub use Rattle.seg_types.specs.declared.kinds.ScalarKind.TheVariants.{Bool as BoolKind, U8}

@@ -1,7 +1,7 @@
 -- Commands on elements by literals: which call is the step of the command, by the kind of the object.
 use Rattle.segment_manager.proofs.Common.{◌≡◌, refl, sym, ap, subst, ◌∙◌, ◌⊎◌, inl, inr, ℕ, ℤ, true, false, Option}
 use Rattle.segment_manager.proofs.Common.{Some, None, Result, Ok, Err, List, length, nat_lt, Table, Kind, MapKind}
-use Rattle.segment_manager.proofs.Common.{Scalar, TextsKind, Vector, ScalarKind, Refusal, NotFound, WrongKind}
+use Rattle.segment_manager.proofs.Common.{Scalar, StringsKind, Vector, ScalarKind, Refusal, NotFound, WrongKind}
 use Rattle.segment_manager.proofs.Common.{ScalarValue, is_value, Key, ByHandle, Literal, Quoted, literal_of}
 use Rattle.segment_manager.proofs.Common.{value_of_literal, kind_of_scalar, value_of_scalar, OwnedText, Located, Answer}
 use Rattle.segment_manager.proofs.Common.{Refused, elements_at, elements_of, kind_at, IsChangeable, IsToChange}
@@ -36,12 +36,12 @@ pub record IsTexts (v : Value) : Type 0 where
   pub table : Table
   pub is : v ≡ Texts texts table
 
-pub texts-if : (v : Value) → kind_of v ≡ TextsKind → IsTexts v
+pub texts-if : (v : Value) → kind_of v ≡ StringsKind → IsTexts v
 texts-if (Texts ps t) e = record { texts = ps; table = t; is = refl }
 texts-if v e = absurd (cc)
 
 -- or of neither
-no_vector-if : (v : Value) → ((k : ScalarKind) → kind_of v ≡ Vector k → ⊥) → (kind_of v ≡ TextsKind → ⊥)
+no_vector-if : (v : Value) → ((k : ScalarKind) → kind_of v ≡ Vector k → ⊥) → (kind_of v ≡ StringsKind → ⊥)
     → is_no_vector v ≡ true
 no_vector-if (Elements k zs t) n m = absurd (n k refl)
 no_vector-if (Texts ps t) n m = absurd (m refl)
@@ -79,7 +79,7 @@ pub told : {s : State} {key : Key} {kind : Kind} → Answers s (λ d. kind_at d 
 told {s} {key} {kind} a d st = kind-told d key kind (a.answers d st)
 
 module _ {s : State} {key : Key} {o : Located} (h : IsToChange s key o)
-    (other : (k : ScalarKind) → o.kind ≡ Vector k → ⊥) (no_texts : o.kind ≡ TextsKind → ⊥) where
+    (other : (k : ScalarKind) → o.kind ≡ Vector k → ⊥) (no_texts : o.kind ≡ StringsKind → ⊥) where
   there : {d : Directory} → StandsFor s.cut.bytes d → IsOfKindAt d key o.kind
   there {d} st = told (says-kind h.located refl) d st
 
@@ -196,8 +196,8 @@ module _ (d : Directory) (o : Object) (ps : List OwnedText) (t : Table) where
   not_set i (Quoted bs) n = absurd (n bs refl)
   not_set i l n = refl
 
-module _ {s : State} {key : Key} (h : IsChangeable s key TextsKind) {l : Literal} (n : NoText l) where
-  found : {d : Directory} → StandsFor s.cut.bytes d → IsOfKindAt d key TextsKind
+module _ {s : State} {key : Key} (h : IsChangeable s key StringsKind) {l : Literal} (n : NoText l) where
+  found : {d : Directory} → StandsFor s.cut.bytes d → IsOfKindAt d key StringsKind
   found {d} st = told h.is d st
 
   owned : {d : Directory} (st : StandsFor s.cut.bytes d) → IsTexts (found st).object.value

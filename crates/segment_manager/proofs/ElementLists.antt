@@ -1,7 +1,7 @@
 -- The elements of the object of a key, one after another: what a reading of one says of the list, and how long it is.
 use Rattle.segment_manager.proofs.Common.{◌≡◌, refl, sym, ap, ◌∙◌, ℕ, zero, suc, ℤ, Bool, true, false, Option, Some}
 use Rattle.segment_manager.proofs.Common.{None, Result, Ok, Err, List, [], ◌∷◌, length, map, if◌then◌else◌, option_map}
-use Rattle.segment_manager.proofs.Common.{slice_get, Kind, ScalarOf, TextsKind, ScalarKind, Refusal, NotFound}
+use Rattle.segment_manager.proofs.Common.{slice_get, Kind, ScalarOf, StringsKind, ScalarKind, Refusal, NotFound}
 use Rattle.segment_manager.proofs.Common.{OutOfRange, WrongKind, same_kind, Key, OwnedText, Mode, Answer, Element}
 use Rattle.segment_manager.proofs.Common.{Refused, TextElement, sizes_of, sizes_of_kind, Value, Object, Directory}
 use Rattle.segment_manager.proofs.Common.{count_of, kind_of, live, object_at, first_size, length_at_kind}
@@ -131,7 +131,7 @@ text-told : (d : Directory) (p : Option OwnedText)
 text-told d None = refl
 text-told d (Some q) = refl
 
-texts-gets : (d : Directory) (i : ℕ) (v : Value) → same_kind TextsKind (kind_of v) ≡ true
+texts-gets : (d : Directory) (i : ℕ) (v : Value) → same_kind StringsKind (kind_of v) ≡ true
     → (perform d (live d) (get d v i)).0 ≡ told TextElement (slice_get (texts_in v) i)
 texts-gets d i v e =
     let is = texts-only v e in
@@ -139,10 +139,10 @@ texts-gets d i v e =
     ∙ ap (told TextElement) (sym (got-map is.0 i)) ∙ sym (ap (λ w. told TextElement (slice_get (texts_in w) i)) is.1.1)
 
 pub text-read : (mode : Mode) (d : Directory) (key : Key) (i : ℕ) (r : Result (List ℕ) Refusal)
-    → answer_of TextElement r ≡ (step_of_kind mode d key TextsKind (asked.Get key i)).0
+    → answer_of TextElement r ≡ (step_of_kind mode d key StringsKind (asked.Get key i)).0
     → got r ≡ slice_get (texts_at d key) i
 text-read mode d key i r f =
-    item-at TextElement (λ a b e. cc) (λ a why e. absurd (cc)) texts_in mode d key TextsKind i (texts-gets d i) r
+    item-at TextElement (λ a b e. cc) (λ a why e. absurd (cc)) texts_in mode d key StringsKind i (texts-gets d i) r
     (object_at d key) refl f
 
 -- ---- how many

@@ -1,6 +1,6 @@
 -- What calls on vectors, strings and maps leave to the last byte.
 use Rattle.segment_manager.proofs.Common.{◌≡◌, sym, ap, subst, ◌∙◌, ℕ, ◌≤◌, ℤ, Bool, Option, Some, None, Result, Ok}
-use Rattle.segment_manager.proofs.Common.{Err, List, [], MatchOption, int_lt, none-some, Cut, ScalarKind, TextsKind}
+use Rattle.segment_manager.proofs.Common.{Err, List, [], MatchOption, int_lt, none-some, Cut, ScalarKind, StringsKind}
 use Rattle.segment_manager.proofs.Common.{Plain, Refusal, NotFound, Key, MapPlace, Erases, pair_at, NumberPair, Place}
 use Rattle.segment_manager.proofs.Common.{container_at, sizes_of, Object, Directory, object_at, HasPlaces, KeepsWhere}
 use Rattle.segment_manager.proofs.Common.{map_at, Answers, State, StandsFor, pairs_of, Change, HasEnough, Reserve}
@@ -34,7 +34,7 @@ enough-places d key o n len capacity is sizes has =
     subst (λ m. n ≤ m) (ap places_in same) has.enough
 
 pub texts-kept : {s t : State} (view : s ≡ t) (key : Key) {p : Place}
-    → Answers t (λ d. container_at d key TextsKind) (Ok p) → (new : Cut) (change : Change)
+    → Answers t (λ d. container_at d key StringsKind) (Ok p) → (new : Cut) (change : Change)
     (r : Result (Unit {0}) Refusal) → ChangesTexts change s.cut new p r → KeepsWhere t (record s { cut = new })
     (HasEnough change key)
 texts-kept {s} {t} view key {p} found new change r each =
@@ -44,7 +44,7 @@ texts-kept {s} {t} view key {p} found new change r each =
         → HasEnough change key d → new ≡ s.cut
     same (Reserve n) each d l has =
         let h : HoldsTexts s.cut.bytes d key p =
-        holds-texts s.cut.bytes d key p l.denotes ((seen-found s t view key TextsKind p found).answers d l) in
+        holds-texts s.cut.bytes d key p l.denotes ((seen-found s t view key StringsKind p found).answers d l) in
         (each.1 h.texts h.table h.stand
         (enough-places d key h.object n _ h.table.capacity h.is (ap sizes_of h.value) has)).1
     same change each d l has = absurd has

@@ -3,7 +3,7 @@
 use Rattle.segment_manager.proofs.Common.{◌≡◌, ap, arith, ℕ, ◌+◌, ◌*◌, ◌∙◌, ◌≤◌, Err, IsTrue, List, None, Ok, Result}
 use Rattle.segment_manager.proofs.Common.{Some, [], false, length, refl, subst, sym, take, true, Cut, Memory, current}
 use Rattle.segment_manager.proofs.Common.{bytes_of, word_at, handle, has_room, live_of, LiveSet, Table, cut_table}
-use Rattle.segment_manager.proofs.Common.{no_table, Kind, MapKind, ScalarKind, TextsKind, Refusal, NoSpace, Key}
+use Rattle.segment_manager.proofs.Common.{no_table, Kind, MapKind, ScalarKind, StringsKind, Refusal, NoSpace, Key}
 use Rattle.segment_manager.proofs.Common.{Command, Stands, place_at, Place, Change, Clear, Reserve, Shrink, Done}
 use Rattle.segment_manager.proofs.Common.{Refused, Contents, IsRefilled, container_at, contents_of, has_values}
 use Rattle.segment_manager.proofs.Common.{sizes_at_kind, sizes_of, Denotes, IsValueAt, Value, Numbers, Elements, Bytes}
@@ -137,7 +137,7 @@ storage-said =
 abbrev contents_at : Kind → ℕ → Table → List ℕ → Contents
 contents_at kind len t bytes = record { each = each_of kind; len = len; table = t; bytes = bytes }
 
-elements-in : (v : Value) → has_storage (kind_of v) ≡ true → (kind_of v ≡ TextsKind → ⊥)
+elements-in : (v : Value) → has_storage (kind_of v) ≡ true → (kind_of v ≡ StringsKind → ⊥)
     → (len : ℕ) × ((t : Table) × ((bytes : List ℕ) × (contents_of v ≡ Some (contents_at (kind_of v) len t bytes))))
 elements-in (Elements k zs t) h n = (_, (_, (_, refl)))
 elements-in (Bytes bs t) h n = (_, (_, (_, refl)))
@@ -158,7 +158,7 @@ pub record HoldsElements (b : List ℕ) (d : Directory) (key : Key) (kind : Kind
   pub values : IsTrue (has_values found.object.value)
 
 pub holds-elements : (b : List ℕ) (d : Directory) (key : Key) (kind : Kind) (p : Place) → Denotes current b d
-    → Ok p ≡ container_at d key kind → has_storage kind ≡ true → (kind ≡ TextsKind → ⊥)
+    → Ok p ≡ container_at d key kind → has_storage kind ≡ true → (kind ≡ StringsKind → ⊥)
     → HoldsElements b d key kind p
 holds-elements b d key kind p den e stored no_texts =
     let h : HoldsAt d key kind p = holds-at d key kind p e in
@@ -182,7 +182,7 @@ holds-elements b d key kind p den e stored no_texts =
 
 module _ {s t : State} (view : s ≡ t) (key : Key) (kind : Kind) (p : Place) (b : IsSegment s.cut.bytes)
     (found : Answers t (λ d. container_at d key kind) (Ok p))
-    (stored : has_storage kind ≡ true) (no_texts : kind ≡ TextsKind → ⊥) where
+    (stored : has_storage kind ≡ true) (no_texts : kind ≡ StringsKind → ⊥) where
   abbrev Held : Directory → Type 0
   Held d = HoldsElements s.cut.bytes d key kind p
 

@@ -1,7 +1,7 @@
 -- What becomes of an object whose contents are released, for each kind of value.
 use Rattle.segment_manager.proofs.Common.{◌≡◌, refl, sym, ap, subst, ◌∙◌, append-nil, ℕ, ◌+◌, Some, Ok, List, []}
 use Rattle.segment_manager.proofs.Common.{length, IsTrue, eq-eqb, same_Some, current, Cut, bytes_of, IsExchanged}
-use Rattle.segment_manager.proofs.Common.{Extent, handle, no_table, Kind, Scalar, Map, TextsKind, ScalarKind, code_of}
+use Rattle.segment_manager.proofs.Common.{Extent, handle, no_table, Kind, Scalar, Map, StringsKind, ScalarKind, code_of}
 use Rattle.segment_manager.proofs.Common.{ByHandle, Key, MapPlace, Place, place_at, IsSomeTexts, IsTextsNow, Head}
 use Rattle.segment_manager.proofs.Common.{container_at, container_place, Denotes, IsValueAt, Becomes, Empties}
 use Rattle.segment_manager.proofs.Common.{HoldsObject, emptied, Value, Pairs, Texts, Object, Directory, has_key}
@@ -71,26 +71,26 @@ module _ {b : List ℕ} {h at : ℕ} {head : Head} (said : IsReadAt b h head)
       found-container d (ByHandle h) kind o (place_behind h at) e (sym (said o there).kind ∙ is)
       (behind-head b h at o head there (said o there) behind)
 
-  read-elements : has_storage head.kind ≡ true → (head.kind ≡ TextsKind → ⊥)
+  read-elements : has_storage head.kind ≡ true → (head.kind ≡ StringsKind → ⊥)
       → HoldsElements b d (ByHandle h) head.kind (place_behind h at)
   read-elements stored no_texts =
       holds-elements b d (ByHandle h) head.kind (place_behind h at) s.denotes
       (read-place head.kind refl) stored no_texts
 
-  read-texts : head.kind ≡ TextsKind → HoldsTexts b d (ByHandle h) (place_behind h at)
-  read-texts is = holds-texts b d (ByHandle h) (place_behind h at) s.denotes (read-place TextsKind is)
+  read-texts : head.kind ≡ StringsKind → HoldsTexts b d (ByHandle h) (place_behind h at)
+  read-texts is = holds-texts b d (ByHandle h) (place_behind h at) s.denotes (read-place StringsKind is)
 
   read-pairs : (k l : ScalarKind) → head.kind ≡ Map k l → HoldsPairs b d (ByHandle h) k l (map_behind h at)
   read-pairs k l is = holds-pairs b d (ByHandle h) k l (map_behind h at) s.denotes (ap as_map (read-place (Map k l) is))
 
 module _ (b : List ℕ) (h at : ℕ) (head : Head) (x : HoldsObject b h) (said : IsReadAt b h head)
     (behind : at ≡ head_len + padded head.name_len) where
-  pub some-elements : has_storage head.kind ≡ true → (head.kind ≡ TextsKind → ⊥)
+  pub some-elements : has_storage head.kind ≡ true → (head.kind ≡ StringsKind → ⊥)
       → IsStanding b (place_behind h at) (each_of head.kind)
   some-elements stored no_texts =
       let e = read-elements said behind x.stands x.is stored no_texts in (e.len, (e.table, (e.bytes, e.stands)))
 
-  pub some-texts : head.kind ≡ TextsKind → IsSomeTexts b (place_behind h at)
+  pub some-texts : head.kind ≡ StringsKind → IsSomeTexts b (place_behind h at)
   some-texts is = let t = read-texts said behind x.stands x.is is in (t.texts, (t.table, t.stand))
 
   pub some-pairs : (k l : ScalarKind) (p : MapPlace) → map_behind h at ≡ p → head.kind ≡ Map k l → HasPairs k l b p
@@ -142,7 +142,7 @@ container-released old new d key o p v k e is at len change said =
 -- so it is of elements of one length, of a vector of texts, and of a map
 module _ (old new : Cut) (h at : ℕ) (head : Head) (said : IsReadAt old.bytes h head)
     (behind : at ≡ head_len + padded head.name_len) where
-  pub elements-contents : has_storage head.kind ≡ true → (head.kind ≡ TextsKind → ⊥)
+  pub elements-contents : has_storage head.kind ≡ true → (head.kind ≡ StringsKind → ⊥)
       → GivesBack old new (place_behind h at) (each_of head.kind) → Empties old new h
   elements-contents stored no_texts released d o s e =
       let x = read-elements said behind s e stored no_texts in
@@ -159,7 +159,7 @@ module _ (old new : Cut) (h at : ℕ) (head : Head) (said : IsReadAt old.bytes h
       (value-said (bytes_of new.bytes) (place_at (place_behind h at)) (emptied p.value) _
       (nothing-left p.value _ x.held) now.stands.words))
 
-  pub texts-contents : head.kind ≡ TextsKind → ReleasesTexts old new (place_behind h at) → Empties old new h
+  pub texts-contents : head.kind ≡ StringsKind → ReleasesTexts old new (place_behind h at) → Empties old new h
   texts-contents is released d o s e =
       let x = read-texts said behind s e is in
       let same : x.object ≡ o = same_Some x.object o (sym x.is ∙ e) in

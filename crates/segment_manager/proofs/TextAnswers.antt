@@ -5,7 +5,7 @@ use Rattle.segment_manager.proofs.Common.{arith, false, get_or, length, map, nat
 use Rattle.segment_manager.proofs.Common.{pos, refl, slice_get, subst, suc, sym, true, zero, ℕ, ◌∙◌, ◌∷◌, ◌≡◌, and_from}
 use Rattle.segment_manager.proofs.Common.{le-leb, lt-ltb, slice_get-get_or, slice_get-map, slice_get_past, option_map}
 use Rattle.segment_manager.proofs.Common.{slice_set, Cut, Table, Append, Assign, Get, Quoted, Set, literal_of, is_value}
-use Rattle.segment_manager.proofs.Common.{Key, Text, U8, Refusal, NotFound, OutOfRange}
+use Rattle.segment_manager.proofs.Common.{Key, String, U8, Refusal, NotFound, OutOfRange}
 use Rattle.segment_manager.proofs.Common.{AssignsText, IsSomeText, IsTextGrown, IsTextNow, capacity_for_text, Place}
 use Rattle.segment_manager.proofs.Common.{Done, Element, Refused, are_bytes, bytes_at, container_at}
 use Rattle.segment_manager.proofs.Common.{Bytes, Object, Value, kind_of, live, Reply, perform}
@@ -60,18 +60,18 @@ byte-got bs i r e = slice_get-map pos bs i ∙ ap (option_map pos) e
 
 -- ---- texts
 
-pub text-if : (v : Value) → Text ≡ kind_of v → (bs : List ℕ) × ((t : Table) × (v ≡ Bytes bs t))
+pub text-if : (v : Value) → String ≡ kind_of v → (bs : List ℕ) × ((t : Table) × (v ≡ Bytes bs t))
 text-if (Bytes bs t) e = (bs, (t, refl))
 text-if v e = absurd (cc)
 
 abbrev pub texts : Listing ℕ
 texts = record {
-  kind = Text;
+  kind = String;
   each = 1;
   spell = λ bs. bs;
   good = are_bytes;
   value = λ bs t. Bytes bs t;
-  only = λ v e g. text-if v (one-kind Text (kind_of v) e);
+  only = λ v e g. text-if v (one-kind String (kind_of v) e);
   of_kind = λ bs t. refl;
   held = λ bs t. refl;
   values = λ bs t. refl;
@@ -89,7 +89,7 @@ bytes-grown small r = record { table = r.table; grown = r.grown; now = bytes-now
 -- ---- the calls
 
 -- what is read there are the bytes of the key's text
-pub reads-bytes : (s : State) (key : Key) (p : Place) (out : List ℕ) → Answers s (λ d. container_at d key Text) (Ok p)
+pub reads-bytes : (s : State) (key : Key) (p : Place) (out : List ℕ) → Answers s (λ d. container_at d key String) (Ok p)
     → ReadsText s.cut.bytes p out → Answers s (λ d. bytes_at d key) (Ok out)
 reads-bytes s key p out found reads = record {
   answers = λ d l.
@@ -104,9 +104,9 @@ reads-bytes s key p out found reads = record {
 
 -- as the view before the call names the segment
 module _ {s t : State} (view : s ≡ t) (key : Key) (p : Place) (b : IsSegment s.cut.bytes)
-    (there : Answers t (λ d. container_at d key Text) (Ok p)) where
-  there-too : Answers s (λ d. container_at d key Text) (Ok p)
-  there-too = seen-found s t view key Text p there
+    (there : Answers t (λ d. container_at d key String) (Ok p)) where
+  there-too : Answers s (λ d. container_at d key String) (Ok p)
+  there-too = seen-found s t view key String p there
 
   abbrev some : HoldsItems texts s.cut.bytes b.0 key p
   some = some-items texts s key p b there-too
@@ -116,7 +116,7 @@ module _ {s t : State} (view : s ≡ t) (key : Key) (p : Place) (b : IsSegment s
   text-standing = (some.items, (some.table, some.stands))
 
   -- one of them
-  pub text-got : (i x : ℕ) → GetsByte s.cut p i (Ok x) → IsStepOfKind s s key Text (Get key i) (Element U8 (pos x))
+  pub text-got : (i x : ℕ) → GetsByte s.cut p i (Ok x) → IsStepOfKind s s key String (Get key i) (Element U8 (pos x))
   text-got i x a =
       items-stay texts s key p b there-too (Get key i) (Element U8 (pos x)) (open-reading s.mode (Get key i) refl)
       (λ d den h. ap (perform d (live d))
@@ -124,9 +124,9 @@ module _ {s t : State} (view : s ≡ t) (key : Key) (p : Place) (b : IsSegment s
       (byte-got h.items i (Some x) (a h.items h.table h.stands))))
 
   pub text_got-past : (i : ℕ) (e : Refusal) → GetsByte s.cut p i (Err e)
-      → IsStepOfKind s s key Text (Get key i) (Refused e)
+      → IsStepOfKind s s key String (Get key i) (Refused e)
   text_got-past i e a =
-      subst (λ (r : Refusal). IsStepOfKind s s key Text (Get key i) (Refused r))
+      subst (λ (r : Refusal). IsStepOfKind s s key String (Get key i) (Refused r))
       (sym (a some.items some.table some.stands).refusal)
       (items-stay texts s key p b there-too (Get key i) (Refused OutOfRange) (open-reading s.mode (Get key i) refl)
       (λ d den h.
@@ -135,20 +135,20 @@ module _ {s t : State} (view : s ≡ t) (key : Key) (p : Place) (b : IsSegment s
       (byte-got h.items i None (slice_get_past h.items i (a h.items h.table h.stands).outside)))))
 
 -- the same, where it may be changed
-module _ {s t : State} (view : s ≡ t) (b : IsSegment s.cut.bytes) {key : Key} {p : Place} (to : IsToChange t key Text p)
+module _ {s t : State} (view : s ≡ t) (b : IsSegment s.cut.bytes) {key : Key} {p : Place} (to : IsToChange t key String p)
     (new : Cut) where
-  found : Answers s (λ d. container_at d key Text) (Ok p)
-  found = seen-found s t view key Text p to.at
+  found : Answers s (λ d. container_at d key String) (Ok p)
+  found = seen-found s t view key String p to.at
 
   writing : is_read_only s.mode ≡ false
   writing = subst (λ (u : State). is_read_only u.mode ≡ false) (sym view) to.writing
 
-  seen : {c : Command} {r : Result (Unit {0}) Refusal} → StepsSafely s new key Text c r
-      → Answered done_answer s t new key Text c r
-  seen done = answered s t view b new key Text _ _ done
+  seen : {c : Command} {r : Result (Unit {0}) Refusal} → StepsSafely s new key String c r
+      → Answered done_answer s t new key String c r
+  seen done = answered s t view b new key String _ _ done
 
   pub text-appended : (more : List ℕ) (r : Result (Unit {0}) Refusal) → ((k : ℕ) → Fits w8 (get_or more k 0))
-      → AppendsText s.cut new p more r → Answered done_answer s t new key Text (Append key more) r
+      → AppendsText s.cut new p more r → Answered done_answer s t new key String (Append key more) r
   text-appended more r small a =
       seen (grows-safely texts s key p b found new writing (Append key more)
       (λ bs t. capacity_for_text (length (bs ++ more)) t.capacity) (λ bs. bs ++ more) r
@@ -157,7 +157,7 @@ module _ {s t : State} (view : s ≡ t) (b : IsSegment s.cut.bytes) {key : Key} 
       (λ g. bytes-grown (are_bytes-append h.items more h.values (fits-bytes more small)) g)))
 
   pub text-assigned : (bytes : List ℕ) (r : Result (Unit {0}) Refusal) → ((k : ℕ) → Fits w8 (get_or bytes k 0))
-      → AssignsText s.cut new p bytes r → Answered done_answer s t new key Text (Assign key (Quoted bytes ∷ [])) r
+      → AssignsText s.cut new p bytes r → Answered done_answer s t new key String (Assign key (Quoted bytes ∷ [])) r
   text-assigned bytes r small a =
       seen (grows-safely texts s key p b found new writing (Assign key (Quoted bytes ∷ [])) (λ bs t. length bytes)
       (λ bs. bytes) r
@@ -165,7 +165,7 @@ module _ {s t : State} (view : s ≡ t) (b : IsSegment s.cut.bytes) {key : Key} 
       (λ d h. so-too _ _ _ r (a h.items h.table h.stands) (λ g. bytes-grown (fits-bytes bytes small) g)))
 
   pub text-set : (i x : ℕ) (r : Result (Unit {0}) Refusal) → IsTrue (nat_lt x 256) → is_value U8 (pos x) ≡ true
-      → SetsByte s.cut new p i x r → Answered done_answer s t new key Text (Set key i (literal_of U8 (pos x))) r
+      → SetsByte s.cut new p i x r → Answered done_answer s t new key String (Set key i (literal_of U8 (pos x))) r
   text-set i x r small v a =
       seen (changes-safely texts s key p b found new writing (Set key i (literal_of U8 (pos x))) i
       (λ bs. slice_set bs i x) r

@@ -6,7 +6,7 @@ use Rattle.segment_manager.proofs.Common.{true, false, Option, Some, None, Resul
 use Rattle.segment_manager.proofs.Common.{append-nil, get_or, arith, IsTrue, insert, option_map, option_to_list, remove}
 use Rattle.segment_manager.proofs.Common.{slice_get, slice_set, list_all, false≢true, le-ltb, lt-ltb, same_Some}
 use Rattle.segment_manager.proofs.Common.{slice_get-get_or, slice_get_past, Bor, current, Cut, LiveSet, live_of, Table}
-use Rattle.segment_manager.proofs.Common.{cut_table, TextsKind, Refusal, NoSpace, OutOfRange, Key, Command, Place}
+use Rattle.segment_manager.proofs.Common.{cut_table, StringsKind, Refusal, NoSpace, OutOfRange, Key, Command, Place}
 use Rattle.segment_manager.proofs.Common.{AreTextsAssigned, AssignsTexts, IsGivenUp, all_texts, one_more, placed_text}
 use Rattle.segment_manager.proofs.Common.{with_array, OwnedText, grown_table, IsOutside, Done, Refused, TextElement}
 use Rattle.segment_manager.proofs.Common.{is_untouched, are_bytes, container_at, Change, Clear, Reserve, Shrink}
@@ -45,16 +45,16 @@ texts-read (bs ∷ bss) =
 
 -- as the view before the call names the segment
 module _ {s t : State} (view : s ≡ t) (key : Key) (p : Place) (b : IsSegment s.cut.bytes)
-    (there : Answers t (λ d. container_at d key TextsKind) (Ok p)) where
-  there-too : Answers s (λ d. container_at d key TextsKind) (Ok p)
-  there-too = seen-found s t view key TextsKind p there
+    (there : Answers t (λ d. container_at d key StringsKind) (Ok p)) where
+  there-too : Answers s (λ d. container_at d key StringsKind) (Ok p)
+  there-too = seen-found s t view key StringsKind p there
 
   -- some texts stand there
   pub texts-standing : IsSomeTexts s.cut.bytes p
   texts-standing = some-texts s key p b there-too
 
   pub text-got : (i : ℕ) (r : Result (Bor (List ℕ)) Refusal) → GetsText s.cut p i r
-      → IsStepOfKind s s key TextsKind (asked.Get key i) (answer_of (λ (x : Bor (List ℕ)). TextElement x.now) r)
+      → IsStepOfKind s s key StringsKind (asked.Get key i) (answer_of (λ (x : Bor (List ℕ)). TextElement x.now) r)
   text-got i (Ok x) a =
       texts-stay s key p b there-too _ _ (open-reading s.mode (asked.Get key i) refl)
       (λ d h.
@@ -68,7 +68,7 @@ module _ {s t : State} (view : s ≡ t) (key : Key) (p : Place) (b : IsSegment s
       read d (Some q) e = ap (λ (bs : List ℕ). (TextElement bs, d)) (same_Some q.bytes x.now e)
   text-got i (Err e) a =
       let h : HoldsTexts s.cut.bytes b.0 key p = texts_in s key p b there-too b.0 b.1 in
-      subst (λ (q : Refusal). IsStepOfKind s s key TextsKind (asked.Get key i) (Refused q))
+      subst (λ (q : Refusal). IsStepOfKind s s key StringsKind (asked.Get key i) (Refused q))
       (sym (a h.texts h.table h.stand).refusal)
       (texts-stay s key p b there-too _ (Refused OutOfRange) (open-reading s.mode (asked.Get key i) refl)
       (λ d h.
@@ -77,9 +77,9 @@ module _ {s t : State} (view : s ≡ t) (key : Key) (p : Place) (b : IsSegment s
 
 -- the same, where they may be changed
 module _ {s t : State} (view : s ≡ t) (b : IsSegment s.cut.bytes) {key : Key} {p : Place}
-    (to : IsToChange t key TextsKind p) (new : Cut) where
-  found : Answers s (λ d. container_at d key TextsKind) (Ok p)
-  found = seen-found s t view key TextsKind p to.at
+    (to : IsToChange t key StringsKind p) (new : Cut) where
+  found : Answers s (λ d. container_at d key StringsKind) (Ok p)
+  found = seen-found s t view key StringsKind p to.at
 
   abbrev Holds : Directory → Type 0
   Holds d = HoldsTexts s.cut.bytes d key p
@@ -96,9 +96,9 @@ module _ {s t : State} (view : s ≡ t) (b : IsSegment s.cut.bytes) {key : Key} 
   writing : is_read_only s.mode ≡ false
   writing = subst (λ (u : State). is_read_only u.mode ≡ false) (sym view) to.writing
 
-  seen : {c : Command} {r : Result (Unit {0}) Refusal} → StepsSafely s new key TextsKind c r
-      → Answered done_answer s t new key TextsKind c r
-  seen done = answered s t view b new key TextsKind _ _ done
+  seen : {c : Command} {r : Result (Unit {0}) Refusal} → StepsSafely s new key StringsKind c r
+      → Answered done_answer s t new key StringsKind c r
+  seen done = answered s t view b new key StringsKind _ _ done
 
   seen-kept : {c : Command} {r : Result (Unit {0}) Refusal} → StepsKeeping s new key c r → Kept s t new key c r
   seen-kept done = kept s t view b new key _ _ done
@@ -106,15 +106,15 @@ module _ {s t : State} (view : s ≡ t) (b : IsSegment s.cut.bytes) {key : Key} 
   -- a call that is done
   does : {c : Command}
       → ((d : Directory) (l : StandsFor s.cut.bytes d) (h : Holds d) → TextsMove s.cut new d key p h c Done)
-      → IsStepOfKind s (record s { cut = new }) key TextsKind c Done
+      → IsStepOfKind s (record s { cut = new }) key StringsKind c Done
   does each = texts-steps s key p b found new _ Done writing each
 
   -- a refusal, and nothing has changed
   turned-down : {c : Command} {e why : Refusal} → e ≡ why → new ≡ s.cut
       → ((d : Directory) (h : Holds d) → perform d heap (effect d c) ≡ (Refused why, d))
-      → StepsSafely s new key TextsKind c (Err e)
+      → StepsSafely s new key StringsKind c (Err e)
   turned-down {c} {e} {why} is same each =
-      stays s new key TextsKind c e why is same
+      stays s new key StringsKind c e why is same
       (texts-stay s key p b found c _ (open-writing s.mode c writing) each)
 
   -- a refusal for want of space, after which the blocks are as they were
@@ -122,7 +122,7 @@ module _ {s t : State} (view : s ≡ t) (b : IsSegment s.cut.bytes) {key : Key} 
       → ((d : Directory) (h : Holds d) → perform d heap (effect d c) ≡ (Refused NoSpace, d))
       → StepsKeeping s new key c (Err e)
   given-up {c} is back each = record {
-    step = subst (λ (r : Refusal). IsStepOfKind s (record s { cut = new }) key TextsKind c (Refused r)) (sym is)
+    step = subst (λ (r : Refusal). IsStepOfKind s (record s { cut = new }) key StringsKind c (Refused r)) (sym is)
         (texts-restored s key p b found new c _ (open-writing s.mode c writing) back each);
     refused = λ h. absurd (false≢true (sym (ap (λ (r : Refusal). is_untouched (Refused r)) is) ∙ h));
   }
@@ -137,7 +137,7 @@ module _ {s t : State} (view : s ≡ t) (b : IsSegment s.cut.bytes) {key : Key} 
       ∙ ap (then_text d heap (set_in h i)) e
 
   pub text-set : (i : ℕ) (bs : List ℕ) (r : Result (Unit {0}) Refusal) → ((k : ℕ) → Fits w8 (get_or bs k 0))
-      → SetsText s.cut new p i bs r → Answered done_answer s t new key TextsKind (asked.Set key i (asked.Quoted bs)) r
+      → SetsText s.cut new p i bs r → Answered done_answer s t new key StringsKind (asked.Set key i (asked.Quoted bs)) r
   text-set i bs (Ok u) small a =
       seen (done-so (does (λ d l h.
       let r : IsTextSet s.cut new p h.texts h.table i bs = a h.texts h.table h.stand in record {
@@ -210,7 +210,7 @@ module _ {s t : State} (view : s ≡ t) (b : IsSegment s.cut.bytes) {key : Key} 
   text-inserted i bs (Err e) small a =
       seen-kept (elim (a some.texts some.table some.stand) [
         | inl o ↦
-            let safe : StepsSafely s new key TextsKind (asked.Insert key i (asked.Quoted bs)) (Err e) =
+            let safe : StepsSafely s new key StringsKind (asked.Insert key i (asked.Quoted bs)) (Err e) =
             turned-down o.refusal o.same (λ d h.
             let q : IsOutside s.cut new (length h.texts + 1) i e =
             pick-outside e (λ w. w.1.refusal) o.refusal (a h.texts h.table h.stand) in
@@ -226,7 +226,7 @@ module _ {s t : State} (view : s ≡ t) (b : IsSegment s.cut.bytes) {key : Key} 
   -- ---- one less
 
   pub text-erased : (i : ℕ) (r : Result (Unit {0}) Refusal) → ErasesText s.cut new p i r
-      → Answered done_answer s t new key TextsKind (asked.Erase key i) r
+      → Answered done_answer s t new key StringsKind (asked.Erase key i) r
   text-erased i (Ok u) a =
       seen (done-so (does (λ d l h.
       let r : IsTextLeftOut s.cut new p h.texts h.table i = a h.texts h.table h.stand in record {
@@ -258,7 +258,7 @@ module _ {s t : State} (view : s ≡ t) (b : IsSegment s.cut.bytes) {key : Key} 
       })) tt
   text-popped (Err e) a =
       let o : IsOutside s.cut new (length some.texts) 0 e = a some.texts some.table some.stand in
-      let safe : StepsSafely s new key TextsKind (asked.Pop key) (Err e) =
+      let safe : StepsSafely s new key StringsKind (asked.Pop key) (Err e) =
       turned-down o.refusal o.same (λ d h.
       let none : length h.texts ≤ length h.texts - 1 = let f = (a h.texts h.table h.stand).outside in omega arith in
       ap (perform d heap) (pop-text h None (slice_get_past h.texts (length h.texts - 1) none))) in
@@ -269,7 +269,7 @@ module _ {s t : State} (view : s ≡ t) (b : IsSegment s.cut.bytes) {key : Key} 
 
   cleared : (c : Command) → ClearsTexts s.cut new p
       → ((d : Directory) (h : Holds d) → effect d c ≡ assign_in h h.table [])
-      → IsStepOfKind s (record s { cut = new }) key TextsKind c Done
+      → IsStepOfKind s (record s { cut = new }) key StringsKind c Done
   cleared c a each =
       does (λ d l h. record {
         texts = [];
@@ -316,7 +316,7 @@ module _ {s t : State} (view : s ≡ t) (b : IsSegment s.cut.bytes) {key : Key} 
 
   -- what is done with them
   pub texts-changed : (change : Change) (r : Result (Unit {0}) Refusal) → ChangesTexts change s.cut new p r
-      → StepsSafely s new key TextsKind (command_of change key) r
+      → StepsSafely s new key StringsKind (command_of change key) r
   texts-changed (Reserve n) (Ok u) a =
       done-so (does (λ d l h.
       let r = a.0 h.texts h.table h.stand in
@@ -325,7 +325,7 @@ module _ {s t : State} (view : s ≡ t) (b : IsSegment s.cut.bytes) {key : Key} 
       let o : IsWithoutFit s.cut new (grown_table heap 16 n some.table) e = a.0 some.texts some.table some.stand in
       turned-down o.refusal o.same (λ d h. reserve-comes h n (a.0 h.texts h.table h.stand).none)
   texts-changed Shrink r a =
-      subst (StepsSafely s new key TextsKind (asked.Shrink key)) (sym a.0) (done-so (does (λ d l h. record {
+      subst (StepsSafely s new key StringsKind (asked.Shrink key)) (sym a.0) (done-so (does (λ d l h. record {
         texts = h.texts;
         table = cut_table heap 16 (length h.texts) h.table;
         move = in-array (a.1 h.texts h.table h.stand);
@@ -334,5 +334,5 @@ module _ {s t : State} (view : s ≡ t) (b : IsSegment s.cut.bytes) {key : Key} 
             (sym (denotes-live current s.cut.bytes d l.denotes));
       })))
   texts-changed Clear r a =
-      subst (StepsSafely s new key TextsKind (asked.Clear key)) (sym a.0)
+      subst (StepsSafely s new key StringsKind (asked.Clear key)) (sym a.0)
       (done-so (cleared (asked.Clear key) a.1 (λ d h. clear-texts h)))

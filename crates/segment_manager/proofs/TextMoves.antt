@@ -2,7 +2,7 @@
 -- directory.
 use Rattle.segment_manager.proofs.Common.{◌≡◌, refl, sym, ap, subst, ◌∙◌, true, false, Option, None, Result, Ok, List}
 use Rattle.segment_manager.proofs.Common.{◌++◌, IfErr, OnErr, option_to_list, AllByRecursion, current, Cut, Extent}
-use Rattle.segment_manager.proofs.Common.{Table, Kind, TextsKind, Refusal, same_kind, Key, Command, Place, IsTextsNow}
+use Rattle.segment_manager.proofs.Common.{Table, Kind, StringsKind, Refusal, same_kind, Key, Command, Place, IsTextsNow}
 use Rattle.segment_manager.proofs.Common.{text_blocks, OwnedText, Answer, Refused, is_untouched, refusal_of, kind_at}
 use Rattle.segment_manager.proofs.Common.{container_at, Value, Texts, Directory, kind_of, perform, Answers, IsSegment}
 use Rattle.segment_manager.proofs.Common.{IsStepOfKind, LeadsOn, State, StandsFor, done_answer, changed, effect}
@@ -72,7 +72,7 @@ pub record TextsMove (old new : Cut) (d : Directory) (key : Key) (p : Place) (h 
   pub outcome : perform d (live_of old.bytes) (effect d c) ≡ (answer, changed d h.object (Texts texts table))
 
 module _ (s : State) (key : Key) (p : Place) (b : IsSegment s.cut.bytes)
-    (found : Answers s (λ d. container_at d key TextsKind) (Ok p)) where
+    (found : Answers s (λ d. container_at d key StringsKind) (Ok p)) where
   abbrev Holds : Directory → Type 0
   Holds d = HoldsTexts s.cut.bytes d key p
 
@@ -81,14 +81,14 @@ module _ (s : State) (key : Key) (p : Place) (b : IsSegment s.cut.bytes)
 
   -- what the step of a call comes to
   abbrev outcome-of : Command → Directory → Answer × Directory
-  outcome-of c d = step_of_kind s.mode d key TextsKind c
+  outcome-of c d = step_of_kind s.mode d key StringsKind c
 
   -- the command's plan, performed
   texts-plan : (d : Directory) (l : StandsFor s.cut.bytes d) (c : Command) → IsOpenFor s.mode c
       → outcome-of c d ≡ perform d (live_of s.cut.bytes) (effect d c)
   texts-plan d l c may =
-      step_of_kind-found s.mode d key TextsKind c (texts_in d l).object may (texts_in d l).is
-      (ap (λ (v : Value). same_kind TextsKind (kind_of v)) (texts_in d l).value)
+      step_of_kind-found s.mode d key StringsKind c (texts_in d l).object may (texts_in d l).is
+      (ap (λ (v : Value). same_kind StringsKind (kind_of v)) (texts_in d l).value)
       ∙ ap (λ (m : LiveSet). perform d m (effect d c)) (sym (denotes-live current s.cut.bytes d l.denotes))
 
   -- the new bytes stand for the directory with the other texts
@@ -106,9 +106,9 @@ module _ (s : State) (key : Key) (p : Place) (b : IsSegment s.cut.bytes)
   -- the call is the step
   pub texts-steps : (new : Cut) (c : Command) (answer : Answer) → is_read_only s.mode ≡ false
       → ((d : Directory) (l : StandsFor s.cut.bytes d) (h : Holds d) → TextsMove s.cut new d key p h c answer)
-      → IsStepOfKind s (record s { cut = new }) key TextsKind c answer
+      → IsStepOfKind s (record s { cut = new }) key StringsKind c answer
   texts-steps new c answer writing each =
-      by_step_of_kind s (record s { cut = new }) key TextsKind c answer
+      by_step_of_kind s (record s { cut = new }) key StringsKind c answer
       (record { mode = refl; place = (each b.0 b.1 (texts_in b.0 b.1)).move.now.change.place })
       (λ d l. texts-move new d l c answer writing (each d l (texts_in d l)))
 
@@ -117,7 +117,7 @@ module _ (s : State) (key : Key) (p : Place) (b : IsSegment s.cut.bytes)
       → is_read_only s.mode ≡ false
       → ((d : Directory) (l : StandsFor s.cut.bytes d) → refusal_of (answer d l) ≡ None)
       → ((d : Directory) (l : StandsFor s.cut.bytes d) → TextsMove s.cut new d key p (texts_in d l) c (answer d l))
-      → LeadsOnOfKind s (record s { cut = new }) key TextsKind c None
+      → LeadsOnOfKind s (record s { cut = new }) key StringsKind c None
   texts-lead-on new c answer writing done each = record {
     stays = record { mode = refl; place = (each b.0 b.1).move.now.change.place };
     answers = λ d l. sym (ap (λ (r : Answer × Directory). refusal_of r.0) (moves d l).is ∙ done d l);
@@ -132,16 +132,16 @@ module _ (s : State) (key : Key) (p : Place) (b : IsSegment s.cut.bytes)
   -- it answers so, and nothing changes
   pub texts-stay : (c : Command) (answer : Answer) → IsOpenFor s.mode c
       → ((d : Directory) (h : Holds d) → perform d (live_of s.cut.bytes) (effect d c) ≡ (answer, d))
-      → IsStepOfKind s s key TextsKind c answer
+      → IsStepOfKind s s key StringsKind c answer
   texts-stay c answer may each =
-      by_no_change_of_kind s key TextsKind c answer (λ d l. texts-plan d l c may ∙ each d (texts_in d l))
+      by_no_change_of_kind s key StringsKind c answer (λ d l. texts-plan d l c may ∙ each d (texts_in d l))
 
   -- it answers so, and all blocks are as they were
   pub texts-restored : (new : Cut) (c : Command) (answer : Answer) → IsOpenFor s.mode c → IsRestored current s.cut new
       → ((d : Directory) (h : Holds d) → perform d (live_of s.cut.bytes) (effect d c) ≡ (answer, d))
-      → IsStepOfKind s (record s { cut = new }) key TextsKind c answer
+      → IsStepOfKind s (record s { cut = new }) key StringsKind c answer
   texts-restored new c answer may back each =
-      by_step_of_kind s (record s { cut = new }) key TextsKind c answer
+      by_step_of_kind s (record s { cut = new }) key StringsKind c answer
       (record { mode = refl; place = back.keeps.place })
       (λ d l. record {
         after = d;
@@ -155,12 +155,12 @@ module _ (s : State) (key : Key) (p : Place) (b : IsSegment s.cut.bytes)
 
 -- its step, and that it changes nothing where it is refused before it asks for one
 pub record StepsKeeping (s : State) (new : Cut) (key : Key) (c : Command) (r : Result (Unit {0}) Refusal) : Type 0 where
-  pub step : IsStepOfKind s (record s { cut = new }) key TextsKind c (done_answer r)
+  pub step : IsStepOfKind s (record s { cut = new }) key StringsKind c (done_answer r)
   pub refused : IfErr r (λ why. is_untouched (Refused why) ≡ true → new ≡ s.cut)
 
 -- as the view before the call names the segment
 pub record Kept (s t : State) (new : Cut) (key : Key) (c : Command) (r : Result (Unit {0}) Refusal) : Type 0 where
-  pub step : IsStepOfKind t (record s { cut = new }) key TextsKind c (done_answer r)
+  pub step : IsStepOfKind t (record s { cut = new }) key StringsKind c (done_answer r)
   pub refused : IfErr r (λ why. is_untouched (Refused why) ≡ true → (record s { cut = new }) ≡ t)
   pub segment : IsSegment new.bytes
 
@@ -168,7 +168,7 @@ pub record Kept (s t : State) (new : Cut) (key : Key) (c : Command) (r : Result 
 pub kept-told : {s t : State} {new : Cut} {key : Key} {c : Command} {r : Result (Unit {0}) Refusal}
     → Kept s t new key c r
     → record {
-      step : IsStepOfKind t (record s { cut = new }) key TextsKind c (done_answer r);
+      step : IsStepOfKind t (record s { cut = new }) key StringsKind c (done_answer r);
       refused : IfErr r (λ why. is_untouched (Refused why) ≡ true → (record s { cut = new }) ≡ t);
     }
 kept-told k = record { step = k.step; refused = k.refused }
@@ -176,12 +176,12 @@ kept-told k = record { step = k.step; refused = k.refused }
 pub kept : (s t : State) (view : s ≡ t) (b : IsSegment s.cut.bytes) (new : Cut) (key : Key) (c : Command)
     (r : Result (Unit {0}) Refusal) → StepsKeeping s new key c r → Kept s t new key c r
 kept s t view b new key c r done = record {
-  step = subst (λ (u : State). IsStepOfKind u (record s { cut = new }) key TextsKind c (done_answer r)) view done.step;
+  step = subst (λ (u : State). IsStepOfKind u (record s { cut = new }) key StringsKind c (done_answer r)) view done.step;
   refused =
       IfErr-weaker r (λ why. is_untouched (Refused why) ≡ true → new ≡ s.cut)
       (λ why. is_untouched (Refused why) ≡ true → (record s { cut = new }) ≡ t)
       (λ why same h. (λ i. record s { cut = same h i }) ∙ view) done.refused;
-  segment = step_of_kind-segment s (record s { cut = new }) key TextsKind c (done_answer r) done.step b;
+  segment = step_of_kind-segment s (record s { cut = new }) key StringsKind c (done_answer r) done.step b;
 }
 
 -- ---- a call that answers nothing
@@ -189,22 +189,22 @@ kept s t view b new key c r done = record {
 -- it leads on, changes nothing where it is refused, and leaves a segment
 pub record Led (s t : State) (new : Cut) (key : Key) (c : Command) (r : Result (Unit {0}) Refusal)
     (why : Option Refusal) : Type 0 where
-  pub step : LeadsOnOfKind t (record s { cut = new }) key TextsKind c why
+  pub step : LeadsOnOfKind t (record s { cut = new }) key StringsKind c why
   pub refused : OnErr r ((record s { cut = new }) ≡ t)
   pub segment : IsSegment new.bytes
 
 pub led : (s t : State) (view : s ≡ t) (b : IsSegment s.cut.bytes) (new : Cut) (key : Key) (c : Command)
     (r : Result (Unit {0}) Refusal) (why : Option Refusal)
-    → LeadsOnOfKind s (record s { cut = new }) key TextsKind c why → OnErr r (new ≡ s.cut) → Led s t new key c r why
+    → LeadsOnOfKind s (record s { cut = new }) key StringsKind c why → OnErr r (new ≡ s.cut) → Led s t new key c r why
 led s t view b new key c r why step same = record {
-  step = subst (λ (u : State). LeadsOnOfKind u (record s { cut = new }) key TextsKind c why) view step;
+  step = subst (λ (u : State). LeadsOnOfKind u (record s { cut = new }) key StringsKind c why) view step;
   refused = seen-refused s t view new r same;
-  segment = ((step_of_kind s.mode b.0 key TextsKind c).1, step.denotes b.0 b.1);
+  segment = ((step_of_kind s.mode b.0 key StringsKind c).1, step.denotes b.0 b.1);
 }
 
 -- what is a step leads on, refused for the reason that it answers
 pub step-leads-on : (old new : State) (key : Key) (c : Command) (answer : Answer)
-    → IsStepOfKind old new key TextsKind c answer → LeadsOnOfKind old new key TextsKind c (refusal_of answer)
+    → IsStepOfKind old new key StringsKind c answer → LeadsOnOfKind old new key StringsKind c (refusal_of answer)
 step-leads-on old new key c answer r =
     record { stays = r.stays; answers = λ d l. ap refusal_of (r.answers d l); denotes = r.denotes }
 

@@ -5,7 +5,7 @@ use Rattle.segment_manager.proofs.Common.{None, Ok, List, [], ◌∷◌, ◌++�
 use Rattle.segment_manager.proofs.Common.{option_to_list, AllByRecursion, list_all, and_from, eq-eqb, eqb-true, le-leb}
 use Rattle.segment_manager.proofs.Common.{lt-ltb, ltb-true, current, Cut, bytes_of, Storage, IsExchanged, Extent}
 use Rattle.segment_manager.proofs.Common.{LiveSet, handle, is_proper, extent_at, live_of, Table, is_table, serves}
-use Rattle.segment_manager.proofs.Common.{TextsKind, same_kind, Key, Place, IsOwnBlock, place_at, AreOthers}
+use Rattle.segment_manager.proofs.Common.{StringsKind, same_kind, Key, Place, IsOwnBlock, place_at, AreOthers}
 use Rattle.segment_manager.proofs.Common.{IsSomeTexts, IsTextsNow, text_blocks, OwnedText, are_bytes, container_at}
 use Rattle.segment_manager.proofs.Common.{container_place, Denotes, IsValueAt, Value, Texts, Object, Directory}
 use Rattle.segment_manager.proofs.Common.{count_of, extents_of, has_own_block, is_good_value, is_object, is_owned_text}
@@ -107,13 +107,13 @@ good-texts b p ps t h s =
 
 -- ---- the object
 
-texts-if : (v : Value) → TextsKind ≡ kind_of v → (ps : List OwnedText) × ((t : Table) × (v ≡ Texts ps t))
+texts-if : (v : Value) → StringsKind ≡ kind_of v → (ps : List OwnedText) × ((t : Table) × (v ≡ Texts ps t))
 texts-if (Texts ps t) e = (ps, (t, refl))
 texts-if v e = absurd (cc)
 
-pub texts-only : (v : Value) → same_kind TextsKind (kind_of v) ≡ true
+pub texts-only : (v : Value) → same_kind StringsKind (kind_of v) ≡ true
     → (ps : List OwnedText) × ((t : Table) × (v ≡ Texts ps t))
-texts-only v e = texts-if v (one-kind TextsKind (kind_of v) e)
+texts-only v e = texts-if v (one-kind StringsKind (kind_of v) e)
 
 -- its blocks are in use, and no two of them and its own are one
 its-blocks : (d : Directory) (o : Object) (ps : List OwnedText) (t : Table) → IsIn d o → IsTrue (is_proper (live d))
@@ -154,9 +154,9 @@ pub record HoldsTexts (b : List ℕ) (d : Directory) (key : Key) (p : Place) : T
 
 -- where the search ended, there it is
 pub holds-texts : (b : List ℕ) (d : Directory) (key : Key) (p : Place) → Denotes current b d
-    → Ok p ≡ container_at d key TextsKind → HoldsTexts b d key p
+    → Ok p ≡ container_at d key StringsKind → HoldsTexts b d key p
 holds-texts b d key p k e =
-    let h : HoldsAt d key TextsKind p = holds-at d key TextsKind p e in
+    let h : HoldsAt d key StringsKind p = holds-at d key StringsKind p e in
     let o : Object = h.object in
     let v : (ps : List OwnedText) × ((t : Table) × (o.value ≡ Texts ps t)) = texts-only o.value h.same in
     let ps : List OwnedText = v.0 in
@@ -199,7 +199,7 @@ holds-texts b d key p k e =
 
 -- so some texts stand there
 pub some-texts : (s : State) (key : Key) (p : Place) → IsSegment s.cut.bytes
-    → Answers s (λ d. container_at d key TextsKind) (Ok p) → IsSomeTexts s.cut.bytes p
+    → Answers s (λ d. container_at d key StringsKind) (Ok p) → IsSomeTexts s.cut.bytes p
 some-texts s key p b a =
     let h : HoldsTexts s.cut.bytes b.0 key p = holds-texts s.cut.bytes b.0 key p b.1.denotes (a.answers b.0 b.1) in
     (h.texts, (h.table, h.stand))

@@ -12,7 +12,7 @@ use Rattle.best_fit.specs.FreeTree.{gap_front, span as span_of}
 use Rattle.seg_types.specs.declared.kinds.ScalarKind.{ScalarKind}
 use Rattle.seg_types.specs.declared.kinds.ScalarKind.TheVariants.{U8}
 use Rattle.seg_types.specs.declared.kinds.Kind.{Kind}
-use Rattle.seg_types.specs.declared.kinds.Kind.TheVariants.{Scalar, Text, Vector, Map, Texts}
+use Rattle.seg_types.specs.declared.kinds.Kind.TheVariants.{Scalar, String, Vector, Map, Strings}
 use Rattle.seg_types.specs.declared.refusals.Refusal.{Refusal}
 use Rattle.seg_types.specs.declared.refusals.Refusal.TheVariants.{NotFound, WrongKind}
 use Rattle.seg_types.specs.Names.{Key}
@@ -66,10 +66,10 @@ kind_at d key = told_at d key (λ (o : Object). kind_of o.value)
 -- the kind of the elements of objects of a kind, and of the object of a key
 abbrev pub elements_of : Kind → Result ScalarKind Refusal
 elements_of (Scalar k) = Ok k
-elements_of Text = Ok U8
+elements_of String = Ok U8
 elements_of (Vector k) = Ok k
 elements_of (Map k v) = Err WrongKind
-elements_of Texts = Err WrongKind
+elements_of Strings = Err WrongKind
 
 abbrev pub elements_at : Directory → Key → Result ScalarKind Refusal
 elements_at d key = elim (object_at d key) [ None ↦ Err NotFound | Some o ↦ elements_of (kind_of o.value) ]

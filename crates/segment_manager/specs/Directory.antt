@@ -12,7 +12,7 @@ use Rattle.best_fit.specs.Table.{Table, no_table, is_table, serves}
 use Rattle.seg_types.specs.declared.kinds.ScalarKind.{ScalarKind}
 use Rattle.seg_types.specs.declared.kinds.Kind.{Kind}
 use Rattle.seg_types.specs.declared.kinds.Class.{Class}
-use Rattle.seg_types.specs.declared.kinds.Kind.TheVariants.{Scalar, Text, Vector, Map, Texts as TextsKind}
+use Rattle.seg_types.specs.declared.kinds.Kind.TheVariants.{Scalar, String, Vector, Map, Strings as StringsKind}
 use Rattle.seg_types.specs.declared.kinds.Class.TheVariants.{Named, Unique}
 use Rattle.seg_types.specs.Kinds.{size_of, is_value, code_of, same_kind, class_code, is_kind_of}
 use Rattle.seg_types.specs.Names.{Key, ByName, ByKind, ByHandle, NoKey, is_name}
@@ -50,9 +50,9 @@ empty size = record { size = size; objects = []; named = no_table; unique = no_t
 abbrev pub kind_of : Value → Kind
 kind_of (Numbers k zs) = Scalar k
 kind_of (Elements k zs t) = Vector k
-kind_of (Bytes bs t) = Text
+kind_of (Bytes bs t) = String
 kind_of (Pairs k v ps) = Map k v
-kind_of (Texts ps t) = TextsKind
+kind_of (Texts ps t) = StringsKind
 
 abbrev pub count_of : Value → ℕ
 count_of (Numbers k zs) = length zs

@@ -1,7 +1,7 @@
 -- The elements of the object of a key, one after another: as many as it has where it is of the kind, and else none.
 use Rattle.std.specs.Prelude.{ℕ, ℤ, Some, None, Result, Ok, Err, List, [], map, if◌then◌else◌}
 use Rattle.seg_types.specs.declared.kinds.Kind.{Kind}
-use Rattle.seg_types.specs.declared.kinds.Kind.TheVariants.{Scalar as ScalarOf, Vector as VectorOf, Texts as TextsKind}
+use Rattle.seg_types.specs.declared.kinds.Kind.TheVariants.{Scalar as ScalarOf, Vector as VectorOf, Strings as StringsKind}
 use Rattle.seg_types.specs.declared.kinds.ScalarKind.{ScalarKind}
 use Rattle.seg_types.specs.declared.refusals.Refusal.{Refusal}
 use Rattle.seg_types.specs.declared.refusals.Refusal.TheVariants.{NotFound, WrongKind}
@@ -41,7 +41,7 @@ abbrev pub vector_at : Directory → Key → ScalarKind → List ℤ
 vector_at d key k = list_at numbers_in d key (VectorOf k)
 
 abbrev pub texts_at : Directory → Key → List (List ℕ)
-texts_at d key = list_at texts_in d key TextsKind
+texts_at d key = list_at texts_in d key StringsKind
 
 -- ---- how many they are
 

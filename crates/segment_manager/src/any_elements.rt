@@ -30,8 +30,8 @@ impl Segment {
         match object.kind {
             Kind::Scalar(kind) => self.get_value(&object, kind, index),
             Kind::Vector(kind) => self.get_in_vector(&object, kind, index),
-            Kind::Text => {
-                let place = self.find_container(&object, Kind::Text)?;
+            Kind::String => {
+                let place = self.find_container(&object, Kind::String)?;
                 let byte = SegString { place }.get(&self.heap, index)?;
                 Ok(ScalarValue::U8(byte))
             }
@@ -103,7 +103,7 @@ pub fn set_any<O: Target>(
 {
     let object = locate(segment, key)?;
     match object.kind {
-        Kind::Text => match value {
+        Kind::String => match value {
             ScalarValue::U8(byte) => segment.string_set(&object, index, byte),
             _ => Err(Refusal::WrongKind),
         },

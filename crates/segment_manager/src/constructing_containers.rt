@@ -1,6 +1,6 @@
 //! Objects that are vectors, strings or maps, constructed.
 ghost use Rattle.std.specs.Prelude.{map};
-ghost use Rattle.seg_types.specs.declared.kinds.Kind.TheVariants.{Map as MapOf, Text as TextKind, Texts as TextsKind};
+ghost use Rattle.seg_types.specs.declared.kinds.Kind.TheVariants.{Map as MapOf, String as StringKind, Strings as StringsKind};
 ghost use Rattle.seg_types.specs.declared.kinds.Kind.TheVariants.{Vector as VectorOf};
 ghost use Rattle.seg_types.specs.Commands.{Bytes, Elements, NoPairs, Strings};
 ghost use Rattle.segment_manager.specs.{Filled.FindsOrMakes, Filled.Makes, Keeping.HasKey, Keeping.KeepsWhere};
@@ -38,8 +38,8 @@ impl Segment {
         key: &D,
         bytes: &[u8],
     ) -> Result<Handle, Refusal>
-        requires kind { D.suits key.now TextKind }
-        ensures step { Makes self.old self.new (D.key key.now TextKind) (Bytes bytes.now) result }
+        requires kind { D.suits key.now StringKind }
+        ensures step { Makes self.old self.new (D.key key.now StringKind) (Bytes bytes.now) result }
         ensures refused { KeepsRefused self.old self.new result }
     {
         self.construct_under(key, &NewString { bytes })
@@ -74,10 +74,10 @@ impl Segment {
         key: &D,
         bytes: &[u8],
     ) -> Result<(Handle, u32), Refusal>
-        requires kind { D.suits key.now TextKind }
-        ensures step { FindsOrMakes self.old self.new (D.key key.now TextKind) (Bytes bytes.now) result }
+        requires kind { D.suits key.now StringKind }
+        ensures step { FindsOrMakes self.old self.new (D.key key.now StringKind) (Bytes bytes.now) result }
         ensures refused { KeepsRefused self.old self.new result }
-        ensures found { KeepsWhere self.old self.new (HasKey (D.key key.now TextKind)) }
+        ensures found { KeepsWhere self.old self.new (HasKey (D.key key.now StringKind)) }
     {
         self.find_or_construct_under(key, &NewString { bytes })
     }
@@ -91,8 +91,8 @@ impl Segment {
         key: &D,
         texts: &[&[u8]],
     ) -> Result<Handle, Refusal>
-        requires kind { D.suits key.now TextsKind }
-        ensures step { Makes self.old self.new (D.key key.now TextsKind)
+        requires kind { D.suits key.now StringsKind }
+        ensures step { Makes self.old self.new (D.key key.now StringsKind)
             (Strings (map (λ text. text.now) texts.now)) result }
         ensures refused { KeepsRefused self.old self.new result }
     {
@@ -109,11 +109,11 @@ impl Segment {
         key: &D,
         texts: &[&[u8]],
     ) -> Result<(Handle, u32), Refusal>
-        requires kind { D.suits key.now TextsKind }
-        ensures step { FindsOrMakes self.old self.new (D.key key.now TextsKind)
+        requires kind { D.suits key.now StringsKind }
+        ensures step { FindsOrMakes self.old self.new (D.key key.now StringsKind)
             (Strings (map (λ text. text.now) texts.now)) result }
         ensures refused { KeepsRefused self.old self.new result }
-        ensures found { KeepsWhere self.old self.new (HasKey (D.key key.now TextsKind)) }
+        ensures found { KeepsWhere self.old self.new (HasKey (D.key key.now StringsKind)) }
     {
         self.find_or_construct_under(key, &NewTexts { texts })
     }

@@ -121,7 +121,7 @@ impl Filling for NewString<'_> {
 
     #[inline(always)]
     fn shape(&self) -> Shape {
-        container(Kind::Text)
+        container(Kind::String)
     }
 
     #[inline(always)]
@@ -144,7 +144,7 @@ impl Filling for NewTexts<'_> {
 
     #[inline(always)]
     fn shape(&self) -> Shape {
-        container(Kind::Texts)
+        container(Kind::Strings)
     }
 
     #[inline(always)]

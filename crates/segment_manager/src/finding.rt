@@ -18,7 +18,7 @@ impl Segment {
     /// The handle of the object of a key, and how many elements it has (1 where it is a container), or nothing where no
     /// object has the key.
     ///
-    /// Example: `let found = segment.find_kind(&Key::Name(name), Kind::Text)?`.
+    /// Example: `let found = segment.find_kind(&Key::Name(name), Kind::String)?`.
     ///
     /// # Errors
     ///

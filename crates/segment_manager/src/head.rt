@@ -86,7 +86,7 @@ fn write_name(heap: &mut Heap, handle: u64, name: &[u8])
 fn kind_of_code(code: u32) -> Kind
     ensures { (k : KindOf) → code ≡ code_of k → result ≡ k }
 {
-    Kind::from_code(code).unwrap_or(Kind::Text)
+    Kind::from_code(code).unwrap_or(Kind::String)
 }
 
 /// The number that names a class in an image.

@@ -24,7 +24,7 @@ pub(crate) fn release_contents(heap: &mut Heap, handle: u64)
     match head.kind {
         Kind::Scalar(_) => {}
         Kind::Map(keys, values) => release_pairs(heap, map_place(place), keys, values),
-        Kind::Texts => SegTexts { place }.release(heap),
+        Kind::Strings => SegTexts { place }.release(heap),
         kind => give_back(heap, place, element_len(kind)),
     }
 }

@@ -1,7 +1,7 @@
 //! The places of vectors and strings of objects, vectors of strings among them: reserved, given back and left empty;
 //! and how many elements containers have.
 ghost use Rattle.std.specs.Prelude.{◌≡◌, OnErr, true};
-ghost use Rattle.seg_types.specs.declared.kinds.Kind.TheVariants.{Map as MapOf, Vector as VectorOf, Texts as TextsKind};
+ghost use Rattle.seg_types.specs.declared.kinds.Kind.TheVariants.{Map as MapOf, Vector as VectorOf, Strings as StringsKind};
 ghost use Rattle.seg_types.specs.Commands.{Clear, Reserve, Shrink};
 ghost use Rattle.segment_manager.specs.Contents.{has_sizes, sizes_at, sizes_at_kind};
 ghost use Rattle.segment_manager.specs.{Keeping.HasPlaces, Stored.HasEnough, Stored.command_of};
@@ -115,8 +115,8 @@ impl Segment {
         let object = locate(self, key)?;
         match object.kind {
             Kind::Scalar(_) | Kind::Map(_, _) => Err(Refusal::WrongKind),
-            Kind::Texts => {
-                let place = self.find_container(&object, Kind::Texts)?;
+            Kind::Strings => {
+                let place = self.find_container(&object, Kind::Strings)?;
                 change_texts(&mut self.heap, SegTexts { place }, change)
             }
             kind => {
@@ -167,9 +167,9 @@ impl Segment {
     /// `NotFound` where no object has the key, `WrongKind` where it is of another kind.
     pub fn texts_len<O: Target>(&self, key: &O) -> Result<u64, Refusal>
         requires { O.stands key.now self.now }
-        ensures { Answers self.now (λ d. length_at_kind d (O.key key.now) TextsKind) result }
+        ensures { Answers self.now (λ d. length_at_kind d (O.key key.now) StringsKind) result }
     {
-        Ok(self.measure_kind(key, Kind::Texts)?.0)
+        Ok(self.measure_kind(key, Kind::Strings)?.0)
     }
 
     /// How many pairs the map of a key has, a map of the types.

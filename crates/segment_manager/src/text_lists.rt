@@ -1,6 +1,6 @@
 //! The texts of objects that are vectors of strings, read and changed.
 ghost use Rattle.std.specs.{Prelude.◌≡◌, Prelude.IsTrue, Prelude.OnErr, Prelude.map, List.list_all};
-ghost use Rattle.seg_types.specs.declared.kinds.Kind.TheVariants.{Texts as TextsKind};
+ghost use Rattle.seg_types.specs.declared.kinds.Kind.TheVariants.{Strings as StringsKind};
 ghost use Rattle.seg_types.specs.Commands.{Assign, Erase, Get, Insert, Pop, Push, Quoted, Set};
 ghost use Rattle.segment_manager.specs.{Answers.TextElement, Contents.are_bytes, TextLists.LeadsOnOfKind};
 ghost use Rattle.segment_manager.specs.State.{IsReplyOfKind, IsStepOfKind, KeepsRefused, answer_of, done_answer};
@@ -22,10 +22,10 @@ impl Segment {
     /// text there.
     pub fn texts_get<O: Target>(&self, key: &O, index: u64) -> Result<&[u8], Refusal>
         requires { O.stands key.now self.now }
-        ensures { IsReplyOfKind self.now (O.key key.now) TextsKind
+        ensures { IsReplyOfKind self.now (O.key key.now) StringsKind
             (Get (O.key key.now) index) (answer_of (λ text. TextElement text.now) result) }
     {
-        let place = self.find_container(key, Kind::Texts)?;
+        let place = self.find_container(key, Kind::Strings)?;
         SegTexts { place }.get(&self.heap, index)
     }
 
@@ -41,11 +41,11 @@ impl Segment {
     /// Nothing changes.
     pub fn texts_set<O: Target>(&mut self, key: &O, index: u64, text: &[u8]) -> Result<(), Refusal>
         requires { O.stands key.now self.old }
-        ensures step { IsStepOfKind self.old self.new (O.key key.now) TextsKind
+        ensures step { IsStepOfKind self.old self.new (O.key key.now) StringsKind
             (Set (O.key key.now) index (Quoted text.now)) (done_answer result) }
         ensures refused { OnErr result (self.new ≡ self.old) }
     {
-        let place = self.find_to_change(key, Kind::Texts)?;
+        let place = self.find_to_change(key, Kind::Strings)?;
         SegTexts { place }.set(&mut self.heap, index, text)
     }
 
@@ -61,11 +61,11 @@ impl Segment {
     /// the text has no fit: all objects and blocks are as they were, but bytes of gaps may differ.
     pub fn texts_push<O: Target>(&mut self, key: &O, text: &[u8]) -> Result<(), Refusal>
         requires { O.stands key.now self.old }
-        ensures step { IsStepOfKind self.old self.new (O.key key.now) TextsKind
+        ensures step { IsStepOfKind self.old self.new (O.key key.now) StringsKind
             (Push (O.key key.now) (Quoted text.now)) (done_answer result) }
         ensures refused { KeepsRefused self.old self.new result }
     {
-        let place = self.find_to_change(key, Kind::Texts)?;
+        let place = self.find_to_change(key, Kind::Strings)?;
         SegTexts { place }.push(&mut self.heap, text)
     }
 
@@ -81,12 +81,12 @@ impl Segment {
     /// and blocks are as they were, but bytes of gaps may differ.
     pub fn texts_assign<O: Target>(&mut self, key: &O, texts: &[&[u8]]) -> Result<(), Refusal>
         requires { O.stands key.now self.old }
-        ensures step { IsStepOfKind self.old self.new (O.key key.now) TextsKind
+        ensures step { IsStepOfKind self.old self.new (O.key key.now) StringsKind
             (Assign (O.key key.now) (map Quoted (map (λ text. text.now) texts.now))) (done_answer result) }
         ensures refused { KeepsRefused self.old self.new result }
     {
         judge_all(texts);
-        let place = self.find_to_change(key, Kind::Texts)?;
+        let place = self.find_to_change(key, Kind::Strings)?;
         SegTexts { place }.assign(&mut self.heap, texts)
     }
 
@@ -100,11 +100,11 @@ impl Segment {
     /// where it is of another kind, `OutOfRange` where it is empty. Nothing changes.
     pub fn texts_pop<O: Target>(&mut self, key: &O) -> Result<(), Refusal>
         requires { O.stands key.now self.old }
-        ensures step { LeadsOnOfKind self.old self.new (O.key key.now) TextsKind (Pop (O.key key.now))
+        ensures step { LeadsOnOfKind self.old self.new (O.key key.now) StringsKind (Pop (O.key key.now))
             (refusal_in result) }
         ensures refused { OnErr result (self.new ≡ self.old) }
     {
-        let place = self.find_to_change(key, Kind::Texts)?;
+        let place = self.find_to_change(key, Kind::Strings)?;
         SegTexts { place }.pop(&mut self.heap)
     }
 
@@ -126,11 +126,11 @@ impl Segment {
         text: &[u8],
     ) -> Result<(), Refusal>
         requires { O.stands key.now self.old }
-        ensures step { IsStepOfKind self.old self.new (O.key key.now) TextsKind
+        ensures step { IsStepOfKind self.old self.new (O.key key.now) StringsKind
             (Insert (O.key key.now) index (Quoted text.now)) (done_answer result) }
         ensures refused { KeepsRefused self.old self.new result }
     {
-        let place = self.find_to_change(key, Kind::Texts)?;
+        let place = self.find_to_change(key, Kind::Strings)?;
         SegTexts { place }.insert(&mut self.heap, index, text)
     }
 
@@ -145,11 +145,11 @@ impl Segment {
     /// where it is of another kind, `OutOfRange` where it has no text there. Nothing changes.
     pub fn texts_erase<O: Target>(&mut self, key: &O, index: u64) -> Result<(), Refusal>
         requires { O.stands key.now self.old }
-        ensures step { IsStepOfKind self.old self.new (O.key key.now) TextsKind
+        ensures step { IsStepOfKind self.old self.new (O.key key.now) StringsKind
             (Erase (O.key key.now) index) (done_answer result) }
         ensures refused { OnErr result (self.new ≡ self.old) }
     {
-        let place = self.find_to_change(key, Kind::Texts)?;
+        let place = self.find_to_change(key, Kind::Strings)?;
         SegTexts { place }.erase(&mut self.heap, index)
     }
 }

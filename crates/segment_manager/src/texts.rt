@@ -1,6 +1,6 @@
 //! The bytes of objects that are strings, read and changed.
 ghost use Rattle.std.specs.Prelude.{◌≡◌, Ok, Err, MatchResult, [], ◌∷◌, OnErr, pos};
-ghost use Rattle.seg_types.specs.declared.kinds.Kind.TheVariants.{Text as TextKind};
+ghost use Rattle.seg_types.specs.declared.kinds.Kind.TheVariants.{String as StringKind};
 ghost use Rattle.seg_types.specs.declared.kinds.ScalarKind.TheVariants.{U8 as ByteKind};
 ghost use Rattle.seg_types.specs.Commands.{Append, Assign, Quoted, Set, literal_of};
 ghost use Rattle.segment_manager.specs.{Contents.bytes_at, State.Answers, State.IsStepOfKind, State.done_answer};
@@ -23,7 +23,7 @@ impl Segment {
         ensures { MatchResult result (λ bytes. Answers self.now (λ d. bytes_at d (O.key key.now)) (Ok bytes.now))
             (λ why. Answers self.now (λ d. bytes_at d (O.key key.now)) (Err why)) }
     {
-        let place = self.find_container(key, Kind::Text)?;
+        let place = self.find_container(key, Kind::String)?;
         Ok(SegString { place }.as_bytes(&self.heap))
     }
 
@@ -37,11 +37,11 @@ impl Segment {
     /// where it is no string, `OutOfRange` where it has no byte there. Nothing changes.
     pub fn string_set<O: Target>(&mut self, key: &O, index: u64, byte: u8) -> Result<(), Refusal>
         requires { O.stands key.now self.old }
-        ensures step { IsStepOfKind self.old self.new (O.key key.now) TextKind
+        ensures step { IsStepOfKind self.old self.new (O.key key.now) StringKind
             (Set (O.key key.now) index (literal_of ByteKind (pos byte))) (done_answer result) }
         ensures refused { OnErr result (self.new ≡ self.old) }
     {
-        let place = self.find_to_change(key, Kind::Text)?;
+        let place = self.find_to_change(key, Kind::String)?;
         SegString { place }.set(&mut self.heap, index, byte)
     }
 
@@ -56,11 +56,11 @@ impl Segment {
     /// where it is no string, `NoSpace` where its storage cannot be regrown. Nothing changes.
     pub fn string_append<O: Target>(&mut self, key: &O, bytes: &[u8]) -> Result<(), Refusal>
         requires { O.stands key.now self.old }
-        ensures step { IsStepOfKind self.old self.new (O.key key.now) TextKind
+        ensures step { IsStepOfKind self.old self.new (O.key key.now) StringKind
             (Append (O.key key.now) bytes.now) (done_answer result) }
         ensures refused { OnErr result (self.new ≡ self.old) }
     {
-        let place = self.find_to_change(key, Kind::Text)?;
+        let place = self.find_to_change(key, Kind::String)?;
         SegString { place }.append(&mut self.heap, bytes)
     }
 
@@ -74,11 +74,11 @@ impl Segment {
     /// where it is no string, `NoSpace` where its storage cannot be regrown. Nothing changes.
     pub fn string_assign<O: Target>(&mut self, key: &O, bytes: &[u8]) -> Result<(), Refusal>
         requires { O.stands key.now self.old }
-        ensures step { IsStepOfKind self.old self.new (O.key key.now) TextKind
+        ensures step { IsStepOfKind self.old self.new (O.key key.now) StringKind
             (Assign (O.key key.now) (Quoted bytes.now ∷ [])) (done_answer result) }
         ensures refused { OnErr result (self.new ≡ self.old) }
     {
-        let place = self.find_to_change(key, Kind::Text)?;
+        let place = self.find_to_change(key, Kind::String)?;
         SegString { place }.assign(&mut self.heap, bytes)
     }
 }

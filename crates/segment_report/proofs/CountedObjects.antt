@@ -9,7 +9,7 @@ use Rattle.std.proofs.lemmas.Option.{slice_get_within}
 use Rattle.best_fit.specs.Extents.{Span, spans}
 use Rattle.seg_types.specs.declared.kinds.ScalarKind.TheVariants.{Bool as BoolKind, U8, I32, I64, U64}
 use Rattle.seg_types.specs.declared.kinds.Kind.{Kind}
-use Rattle.seg_types.specs.declared.kinds.Kind.TheVariants.{Scalar, Text, Vector, Map, Texts}
+use Rattle.seg_types.specs.declared.kinds.Kind.TheVariants.{Scalar, String, Vector, Map, Strings}
 use Rattle.seg_types.specs.declared.kinds.Class.{Class}
 use Rattle.seg_types.specs.declared.kinds.Class.TheVariants.{Anonymous, Named, Unique}
 use Rattle.seg_types.specs.Kinds.{class_code, kinds, same_kind}
@@ -39,8 +39,8 @@ kinds-at f (Scalar U8) = refl
 kinds-at f (Scalar I32) = refl
 kinds-at f (Scalar I64) = refl
 kinds-at f (Scalar U64) = refl
-kinds-at f Text = refl
-kinds-at f Texts = refl
+kinds-at f String = refl
+kinds-at f Strings = refl
 kinds-at f (Vector BoolKind) = refl
 kinds-at f (Vector U8) = refl
 kinds-at f (Vector I32) = refl
@@ -79,8 +79,8 @@ kind-there f (Scalar U8) = refl
 kind-there f (Scalar I32) = refl
 kind-there f (Scalar I64) = refl
 kind-there f (Scalar U64) = refl
-kind-there f Text = refl
-kind-there f Texts = refl
+kind-there f String = refl
+kind-there f Strings = refl
 kind-there f (Vector BoolKind) = refl
 kind-there f (Vector U8) = refl
 kind-there f (Vector I32) = refl

@@ -4,7 +4,7 @@ use Rattle.best_fit.specs.Extents.{Span, spans}
 use Rattle.seg_types.specs.declared.kinds.ScalarKind.{ScalarKind}
 use Rattle.seg_types.specs.declared.kinds.ScalarKind.TheVariants.{Bool as BoolKind, U8, I32, I64, U64}
 use Rattle.seg_types.specs.declared.kinds.Kind.{Kind}
-use Rattle.seg_types.specs.declared.kinds.Kind.TheVariants.{Scalar, Text, Vector, Map, Texts}
+use Rattle.seg_types.specs.declared.kinds.Kind.TheVariants.{Scalar, String, Vector, Map, Strings}
 use Rattle.seg_types.specs.declared.kinds.Class.{Class}
 use Rattle.seg_types.specs.declared.kinds.Class.TheVariants.{Anonymous, Named, Unique}
 use Rattle.seg_types.specs.Kinds.{kinds, same_kind}
@@ -50,8 +50,8 @@ scalar_place U64 = 4
 
 abbrev pub kind_place : Kind → ℕ
 kind_place (Scalar k) = scalar_place k
-kind_place Text = 5
-kind_place Texts = 6
+kind_place String = 5
+kind_place Strings = 6
 kind_place (Vector k) = 7 + scalar_place k
 kind_place (Map k v) = 12 + 5 * scalar_place k + scalar_place v
 

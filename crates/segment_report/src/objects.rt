@@ -35,8 +35,8 @@ fn place_of(kind: Kind) -> usize
 {
     match kind {
         Kind::Scalar(scalar) => scalar_place(scalar),
-        Kind::Text => 5,
-        Kind::Texts => 6,
+        Kind::String => 5,
+        Kind::Strings => 6,
         Kind::Vector(element) => 7 + scalar_place(element),
         Kind::Map(key, value) => 12 + 5 * scalar_place(key) + scalar_place(value),
     }

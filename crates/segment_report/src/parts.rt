@@ -97,7 +97,7 @@ fn put_kind<W: Sink>(out: &mut W, kind: Kind) -> Result<(), DeviceFault>
 {
     match kind {
         Kind::Scalar(kind) => write_all(out, kind.as_str().as_bytes()),
-        Kind::Text => write_all(out, b"string"),
+        Kind::String => write_all(out, b"string"),
         Kind::Vector(kind) => put_slices(out, &[b"vec&lt;", kind.as_str().as_bytes(), b"&gt;"]),
         Kind::Map(key, value) => put_slices(
             out,
@@ -109,7 +109,7 @@ fn put_kind<W: Sink>(out: &mut W, kind: Kind) -> Result<(), DeviceFault>
                 b"&gt;",
             ],
         ),
-        Kind::Texts => write_all(out, b"vec&lt;string&gt;"),
+        Kind::Strings => write_all(out, b"vec&lt;string&gt;"),
     }
 }
 

@@ -3,7 +3,7 @@ use Rattle.std.proofs.Common.{◌≡◌, refl, sym, ap, subst, ◌∙◌, ℕ, �
 use Rattle.std.specs.Prelude.{IsTrue}
 use Rattle.std.specs.List.{list_all}
 use Rattle.best_fit.specs.Table.{Table}
-use Rattle.seg_types.specs.declared.kinds.Kind.TheVariants.{Text, Texts as TextsKind, Vector}
+use Rattle.seg_types.specs.declared.kinds.Kind.TheVariants.{String, Strings as StringsKind, Vector}
 use Rattle.seg_types.specs.declared.kinds.ScalarKind.{ScalarKind}
 use Rattle.seg_types.specs.declared.refusals.Refusal.{Refusal}
 use Rattle.seg_types.specs.declared.refusals.Refusal.TheVariants.{ReadOnly, WrongKind}
@@ -30,7 +30,7 @@ pub record IsText (v : Value) : Type 0 where
   pub table : Table
   pub is : v ≡ Bytes bytes table
 
-pub text-if : (v : Value) → kind_of v ≡ Text → IsText v
+pub text-if : (v : Value) → kind_of v ≡ String → IsText v
 text-if (Numbers l zs) e = absurd (cc)
 text-if (Elements l zs t) e = absurd (cc)
 text-if (Bytes bs t) e = record { bytes = bs; table = t; is = refl }
@@ -38,7 +38,7 @@ text-if (Pairs l m ps) e = absurd (cc)
 text-if (Texts ps t) e = absurd (cc)
 
 -- neither a vector nor a text
-not_assigned : (d : Directory) (o : Object) (v : Value) (ls : List Literal) → ((k : ScalarKind) → kind_of v ≡ Vector k → ⊥) → (kind_of v ≡ Text → ⊥) → (kind_of v ≡ TextsKind → ⊥) → step.assign d o v ls ≡ Refuse WrongKind
+not_assigned : (d : Directory) (o : Object) (v : Value) (ls : List Literal) → ((k : ScalarKind) → kind_of v ≡ Vector k → ⊥) → (kind_of v ≡ String → ⊥) → (kind_of v ≡ StringsKind → ⊥) → step.assign d o v ls ≡ Refuse WrongKind
 not_assigned d o (Numbers k zs) ls n m t = refl
 not_assigned d o (Elements k zs u) ls n m t = absurd (n k refl)
 not_assigned d o (Bytes bs u) ls n m t = absurd (m refl)
@@ -47,7 +47,7 @@ not_assigned d o (Texts ps u) ls n m t = absurd (t refl)
 
 -- ---- neither a vector nor a text
 
-pub assign-neither : {s : State} {key : Key} {o : Located} → IsToChange s key o → ((k : ScalarKind) → o.kind ≡ Vector k → ⊥) → (o.kind ≡ TextsKind → ⊥) → (o.kind ≡ Text → ⊥) → (ls : List Literal)
+pub assign-neither : {s : State} {key : Key} {o : Located} → IsToChange s key o → ((k : ScalarKind) → o.kind ≡ Vector k → ⊥) → (o.kind ≡ StringsKind → ⊥) → (o.kind ≡ String → ⊥) → (ls : List Literal)
     → IsStep s s (asked.Assign key ls) (Refused WrongKind)
 assign-neither {s} {key} {o} h other no_texts no_text ls =
     refuses s (asked.Assign key ls) WrongKind h.writing
@@ -84,21 +84,21 @@ module _ {s : State} {key : Key} {k : ScalarKind} (c : IsChangeable s key (Vecto
 
 -- ---- a text
 
-module _ {s : State} {key : Key} (c : IsChangeable s key Text) where
-  there : (d : Directory) → StandsFor s.cut.bytes d → IsOfKindAt d key Text
+module _ {s : State} {key : Key} (c : IsChangeable s key String) where
+  there : (d : Directory) → StandsFor s.cut.bytes d → IsOfKindAt d key String
   there d st = told c.is d st
 
   spelled : (d : Directory) (st : StandsFor s.cut.bytes d) → IsText (there d st).object.value
   spelled d st = text-if (there d st).object.value (there d st).kind_is
 
-  pub text-read : {new : State} (ls : List Literal) (bs : List ℕ) {answer : Answer} → text_among ls ≡ Ok bs → IsStepOfKind s new key Text (asked.Assign key (asked.Quoted bs ∷ [])) answer → IsStep s new (asked.Assign key ls) answer
+  pub text-read : {new : State} (ls : List Literal) (bs : List ℕ) {answer : Answer} → text_among ls ≡ Ok bs → IsStepOfKind s new key String (asked.Assign key (asked.Quoted bs ∷ [])) answer → IsStep s new (asked.Assign key ls) answer
   text-read {new} ls bs {answer} e r =
       same_plan-steps s new (asked.Assign key ls) (asked.Assign key (asked.Quoted bs ∷ [])) answer refl
       (λ d st.
       let f = there d st in
       let h = spelled d st in
       text-plan d key f.object h.bytes h.table f.is h.is ls bs e ∙ sym (text-plan d key f.object h.bytes h.table f.is h.is (asked.Quoted bs ∷ []) bs refl))
-      (of_kind-steps s new key Text (asked.Assign key (asked.Quoted bs ∷ [])) answer c.is r)
+      (of_kind-steps s new key String (asked.Assign key (asked.Quoted bs ∷ [])) answer c.is r)
 
   pub no_text-refused : (ls : List Literal) {why : Refusal} → text_among ls ≡ Err why → IsStep s s (asked.Assign key ls) (Refused why)
   no_text-refused ls {why} e =
@@ -107,7 +107,7 @@ module _ {s : State} {key : Key} (c : IsChangeable s key Text) where
 
 -- ---- bytes behind those of a text
 
-append-if : (d : Directory) (key : Key) (bs : List ℕ) (o : Object) (v : Value) (b : Bool) → object_at d key ≡ Some o → o.value ≡ v → same_kind Text (kind_of v) ≡ b
+append-if : (d : Directory) (key : Key) (bs : List ℕ) (o : Object) (v : Value) (b : Bool) → object_at d key ≡ Some o → o.value ≡ v → same_kind String (kind_of v) ≡ b
     → (if b then effect d (asked.Append key bs) else Refuse WrongKind) ≡ effect d (asked.Append key bs)
 append-if d key bs o v true e f g = refl
 append-if d key bs o (Numbers k zs) false e f g = sym (append-other d key o bs WrongKind e (ap text_of f))
@@ -117,18 +117,18 @@ append-if d key bs o (Pairs k v ps) false e f g = sym (append-other d key o bs W
 append-if d key bs o (Texts ps t) false e f g = sym (append-other d key o bs WrongKind e (ap text_of f))
 
 abbrev for_text : Directory → Key → List ℕ → Object → Plan
-for_text d key bs o = if same_kind Text (kind_of o.value) then effect d (asked.Append key bs) else Refuse WrongKind
+for_text d key bs o = if same_kind String (kind_of o.value) then effect d (asked.Append key bs) else Refuse WrongKind
 
 append-plan : (d : Directory) (key : Key) (bs : List ℕ) (r : Option Object) → object_at d key ≡ r → with (found_at d key) (for_text d key bs) ≡ effect d (asked.Append key bs)
 append-plan d key bs None e = with-not_found d key (for_text d key bs) e ∙ sym (with-not_found d key _ e)
-append-plan d key bs (Some o) e = with-found d key o (for_text d key bs) e ∙ append-if d key bs o o.value (same_kind Text (kind_of o.value)) e refl refl
+append-plan d key bs (Some o) e = with-found d key o (for_text d key bs) e ∙ append-if d key bs o o.value (same_kind String (kind_of o.value)) e refl refl
 
 -- whatever the kind of the object is, the call for texts does what the command says
-append-same : (mode : Mode) (d : Directory) (key : Key) (bs : List ℕ) → step_of_kind mode d key Text (asked.Append key bs) ≡ step.step mode d (asked.Append key bs)
+append-same : (mode : Mode) (d : Directory) (key : Key) (bs : List ℕ) → step_of_kind mode d key String (asked.Append key bs) ≡ step.step mode d (asked.Append key bs)
 unfolding step.step step_of_kind
 append-same mode d key bs = ap (λ p. perform d (live d) (if is_read_only mode && true then Refuse ReadOnly else p)) (append-plan d key bs (object_at d key) refl)
 
-pub append-steps : (old new : State) (key : Key) (bs : List ℕ) (answer : Answer) → IsStepOfKind old new key Text (asked.Append key bs) answer → IsStep old new (asked.Append key bs) answer
+pub append-steps : (old new : State) (key : Key) (bs : List ℕ) (answer : Answer) → IsStepOfKind old new key String (asked.Append key bs) answer → IsStep old new (asked.Append key bs) answer
 append-steps old new key bs answer r = record {
   stays = r.stays;
   answers = λ d st. r.answers d st ∙ ap (λ (n : Answer × Directory). n.0) (append-same old.mode d key bs);

@@ -9,7 +9,7 @@ use Rattle.std.proofs.lemmas.List.{length-drop, length-replicate}
 use Rattle.seg_types.specs.declared.kinds.ScalarKind.{ScalarKind}
 use Rattle.seg_types.specs.declared.refusals.Refusal.{Refusal}
 use Rattle.seg_types.specs.declared.kinds.Kind.{Kind}
-use Rattle.seg_types.specs.declared.kinds.Kind.TheVariants.{Scalar, Text, Vector, Map, Texts}
+use Rattle.seg_types.specs.declared.kinds.Kind.TheVariants.{Scalar, String, Vector, Map, Strings}
 use Rattle.seg_types.specs.Names.{Key}
 use Rattle.seg_types.specs.Commands as asked
 use Rattle.seg_types.specs.Commands.{Command, Content, Literal, Whole, Truth, Quoted, Reading, Nothing, Asked, UnknownCommand, LineTooLong, BadSyntax}
@@ -131,10 +131,10 @@ counted-holds (Scalar k) (Some n) =
     if-holds IsCounted (nat_le 1 n && nat_le n 1048576) (Scalar k, n)
     (λ e. let both = and_parts (nat_le 1 n) (nat_le n 1048576) e in (leb-true 1 n both.0, leb-true n 1048576 both.1))
 counted-holds (Scalar k) None = tt
-counted-holds Text r = tt
+counted-holds String r = tt
 counted-holds (Vector k) r = tt
 counted-holds (Map k v) r = tt
-counted-holds Texts r = tt
+counted-holds Strings r = tt
 
 kind-holds : (l : Language) (w : List ℕ) (r : Option Kind) → Counts (elim r as (λ _. Option (Kind × ℕ)) [
   | Some k ↦ Some (k, 1)
@@ -159,13 +159,13 @@ content-holds (Scalar k) n (v ∷ []) key h f a =
 content-holds (Scalar k) n (v ∷ w ∷ ws) key h f a = tt
 content-holds (Vector k) n ws key h f a =
     map-where (λ (zs : List ℤ). 2 * length zs ≤ room ws) (IsContent key) (asked.Elements k) (all (value_for k) ws) (values-room k ws) (λ zs r. (omega arith, a))
-content-holds Text n [] key h f a = tt
-content-holds Text n (Bare w ∷ ws) key h f a = tt
-content-holds Text n (word.Text bs ∷ []) key h f a = (omega arith, a)
-content-holds Text n (word.Text bs ∷ w ∷ ws) key h f a = tt
+content-holds String n [] key h f a = tt
+content-holds String n (Bare w ∷ ws) key h f a = tt
+content-holds String n (word.Text bs ∷ []) key h f a = (omega arith, a)
+content-holds String n (word.Text bs ∷ w ∷ ws) key h f a = tt
 content-holds (Map k v) n [] key h f a = a
 content-holds (Map k v) n (w ∷ ws) key h f a = tt
-content-holds Texts n ws key h f a =
+content-holds Strings n ws key h f a =
     map-where (λ (bss : List (List ℕ)). texts_taken bss ≤ room ws) (IsContent key) asked.Strings (all quoted_of ws) (texts-room ws) (λ bss r. (omega arith, a))
 
 -- ---- the forms
@@ -272,10 +272,10 @@ each-meant : (vs : List Word) (k : Kind) (n : ℕ) (key : Key) → IsCount n →
 each-meant vs (Scalar k) n key h a =
     then-all IsMeant (items n k key) (all (value_for k) vs)
     (λ zs. if-holds IsMeant (length zs == n) (asked.ConstructIt key k n zs) (λ e. (h.0, h.1, eqb-true (length zs) n e, a)))
-each-meant vs Text n key h a = tt
+each-meant vs String n key h a = tt
 each-meant vs (Vector k) n key h a = tt
 each-meant vs (Map k v) n key h a = tt
-each-meant vs Texts n key h a = tt
+each-meant vs Strings n key h a = tt
 
 making_each-meant : Meant making_each
 making_each-meant [] room_is = tt

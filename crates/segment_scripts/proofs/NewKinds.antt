@@ -5,7 +5,7 @@ use Rattle.std.proofs.lemmas.Bool.{eqb-true}
 use Rattle.std.proofs.lemmas.List.{length-replicate}
 use Rattle.seg_types.specs.declared.kinds.ScalarKind.{ScalarKind}
 use Rattle.seg_types.specs.declared.kinds.Kind.{Kind}
-use Rattle.seg_types.specs.declared.kinds.Kind.TheVariants.{Map, Scalar, Text, Texts, Vector}
+use Rattle.seg_types.specs.declared.kinds.Kind.TheVariants.{Map, Scalar, String, Strings, Vector}
 use Rattle.seg_types.specs.declared.keys.NewKey.{NewKey}
 use Rattle.seg_types.specs.declared.keys.NewKey.TheVariants as new
 use Rattle.seg_types.specs.declared.keys.IndexKey.{IndexKey}
@@ -77,17 +77,17 @@ module _ (key : IndexKey) (k : ScalarKind) (n : ℕ) (z : ℤ) (h : IsContent (i
 pub elements_kind : (key : NewKey) (k : ScalarKind) (zs : List ℤ) → IsContent (new_key_seen key) (asked.Elements k zs) → IsOfKind (new_key_seen key) (Vector k)
 elements_kind key k zs h = new-of key (Vector k) h.1
 
-pub bytes_kind : (key : NewKey) (bs : List ℕ) → IsContent (new_key_seen key) (asked.Bytes bs) → IsOfKind (new_key_seen key) Text
-bytes_kind key bs h = new-of key Text h.1
+pub bytes_kind : (key : NewKey) (bs : List ℕ) → IsContent (new_key_seen key) (asked.Bytes bs) → IsOfKind (new_key_seen key) String
+bytes_kind key bs h = new-of key String h.1
 
-pub strings_kind : (key : NewKey) (bss : List (List ℕ)) → IsContent (new_key_seen key) (asked.Strings bss) → IsOfKind (new_key_seen key) Texts
-strings_kind key bss h = new-of key Texts h.1
+pub strings_kind : (key : NewKey) (bss : List (List ℕ)) → IsContent (new_key_seen key) (asked.Strings bss) → IsOfKind (new_key_seen key) Strings
+strings_kind key bss h = new-of key Strings h.1
 
 pub index_elements_kind : (key : IndexKey) (k : ScalarKind) (zs : List ℤ) → IsContent (index_key_seen key) (asked.Elements k zs) → IsOfKind (index_key_seen key) (Vector k)
 index_elements_kind key k zs h = entry-of key (Vector k) h.1
 
-pub index_bytes_kind : (key : IndexKey) (bs : List ℕ) → IsContent (index_key_seen key) (asked.Bytes bs) → IsOfKind (index_key_seen key) Text
-index_bytes_kind key bs h = entry-of key Text h.1
+pub index_bytes_kind : (key : IndexKey) (bs : List ℕ) → IsContent (index_key_seen key) (asked.Bytes bs) → IsOfKind (index_key_seen key) String
+index_bytes_kind key bs h = entry-of key String h.1
 
 pub pairs_kind : (key : NewKey) (k v : ScalarKind) → IsContent (new_key_seen key) (asked.NoPairs k v) → IsOfKind (new_key_seen key) (Map k v)
 pairs_kind key k v h = new-of key (Map k v) h
@@ -95,8 +95,8 @@ pairs_kind key k v h = new-of key (Map k v) h
 pub index_pairs_kind : (key : IndexKey) (k v : ScalarKind) → IsContent (index_key_seen key) (asked.NoPairs k v) → IsOfKind (index_key_seen key) (Map k v)
 index_pairs_kind key k v h = entry-of key (Map k v) h
 
-pub index_strings_kind : (key : IndexKey) (bss : List (List ℕ)) → IsContent (index_key_seen key) (asked.Strings bss) → IsOfKind (index_key_seen key) Texts
-index_strings_kind key bss h = entry-of key Texts h.1
+pub index_strings_kind : (key : IndexKey) (bss : List (List ℕ)) → IsContent (index_key_seen key) (asked.Strings bss) → IsOfKind (index_key_seen key) Strings
+index_strings_kind key bss h = entry-of key Strings h.1
 
 -- ---- an array
 

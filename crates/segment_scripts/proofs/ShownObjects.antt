@@ -5,7 +5,7 @@ use Rattle.best_fit.specs.Table.{Table}
 use Rattle.seg_types.specs.declared.kinds.ScalarKind.{ScalarKind}
 use Rattle.seg_map.specs.Numbers.{NumberPair}
 use Rattle.seg_vector.specs.Vector.{OwnedText}
-use Rattle.seg_types.specs.declared.kinds.Kind.TheVariants.{Map, Scalar, Text, Texts as TextsKind, Vector}
+use Rattle.seg_types.specs.declared.kinds.Kind.TheVariants.{Map, Scalar, String, Strings as StringsKind, Vector}
 use Rattle.seg_types.specs.declared.refusals.Refusal.{Refusal}
 use Rattle.seg_types.specs.declared.refusals.Refusal.TheVariants.{NotFound, OutOfRange}
 use Rattle.seg_types.specs.Names.{ByHandle, Key}
@@ -123,11 +123,11 @@ text-part (Some p) = refl
 -- all texts of a vector of them
 shown-texts : (d : Directory) (key : Key) (o : Object) (ps : List OwnedText) (t : Table) → object_at d key ≡ Some o → o.value ≡ Texts ps t → texts_line d key (length ps) ≡ answer_text (Shown o.value)
 shown-texts d key o ps t e f =
-    ap (λ l. kind_text TextsKind ++ (l ++ 0x0A ∷ []))
+    ap (λ l. kind_text StringsKind ++ (l ++ 0x0A ∷ []))
     (parts-same (λ i. element_part (text_at d key i)) (λ i. part_of text_part (slice_get ps i)) (length ps)
     (λ i. ap (λ r. element_part (text_in r i)) e ∙ ap (λ v. element_part (text_of v i)) f ∙ text-part (slice_get ps i))
     ∙ parts-all text_part ps)
-    ∙ sym (line-words (λ (p : OwnedText). quoted_text p.bytes) (kind_text TextsKind) ps)
+    ∙ sym (line-words (λ (p : OwnedText). quoted_text p.bytes) (kind_text StringsKind) ps)
     ∙ ap (λ v. answer_text (Shown v)) (sym f)
 
 -- ---- pairs
@@ -195,7 +195,7 @@ module _ (s : State) (key : Key) (o : Located) (l : IsLocated s key o) where
       (subst (λ w. IsRow w k v.numbers) (sym v.is) (vector-row k v.numbers v.table))
 
   -- a string
-  pub string-said : o.kind ≡ Text → (d : Directory) → StandsFor s.cut.bytes d → string_line (bytes_at d (ByHandle o.handle)) ≡ answer_text (shown_at d key)
+  pub string-said : o.kind ≡ String → (d : Directory) → StandsFor s.cut.bytes d → string_line (bytes_at d (ByHandle o.handle)) ≡ answer_text (shown_at d key)
   string-said e d st =
       let f = said-at s key o l d st in
       let v : IsText f.object.value = text-if f.object.value (sym (kind-said d st) ∙ e) in
@@ -203,7 +203,7 @@ module _ (s : State) (key : Key) (o : Located) (l : IsLocated s key o) where
       ∙ ap (λ w. answer_text (Shown w)) (sym v.is) ∙ ap (λ (r : Option Object). answer_text (shown_of r)) (sym f.is)
 
   -- a vector of strings
-  pub texts-said : (n : ℕ) → o.kind ≡ TextsKind → Answers s (λ d. length_in (sizes_at d (ByHandle o.handle))) n → (d : Directory) → StandsFor s.cut.bytes d → texts_line d (ByHandle o.handle) n ≡ answer_text (shown_at d key)
+  pub texts-said : (n : ℕ) → o.kind ≡ StringsKind → Answers s (λ d. length_in (sizes_at d (ByHandle o.handle))) n → (d : Directory) → StandsFor s.cut.bytes d → texts_line d (ByHandle o.handle) n ≡ answer_text (shown_at d key)
   texts-said n e a d st =
       let f = said-at s key o l d st in
       let v : IsTexts f.object.value = texts-if f.object.value (sym (kind-said d st) ∙ e) in

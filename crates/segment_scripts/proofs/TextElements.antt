@@ -2,7 +2,7 @@
 use Rattle.std.proofs.Common.{◌≡◌, refl, sym, ap, subst, ◌∙◌, ℕ, ◌-◌, ◌≤◌, Bool, true, false, ◌&&◌, if◌then◌else◌, Option, Some, None, Result, Ok, Err, List, ◌∷◌, [], length, map, take, arith}
 use Rattle.std.specs.Prelude.{OnErr, slice_get}
 use Rattle.best_fit.specs.Table.{Table}
-use Rattle.seg_types.specs.declared.kinds.Kind.TheVariants.{Map as MapKind, Scalar, Text, Texts as TextsKind, Vector}
+use Rattle.seg_types.specs.declared.kinds.Kind.TheVariants.{Map as MapKind, Scalar, String, Strings as StringsKind, Vector}
 use Rattle.seg_types.specs.declared.refusals.Refusal.{Refusal}
 use Rattle.seg_types.specs.declared.refusals.Refusal.TheVariants as refusal
 use Rattle.seg_types.specs.declared.refusals.Refusal.TheVariants.{NotFound, OutOfRange, WrongKind}
@@ -77,8 +77,8 @@ text-taken d (Some p) f = refl
 
 -- ---- the vector of strings of a key
 
-module _ (s : State) (key : Key) (a : Answers s (λ d. kind_at d key) (Ok TextsKind)) where
-  abbrev found : (d : Directory) → StandsFor s.cut.bytes d → IsOfKindAt d key TextsKind
+module _ (s : State) (key : Key) (a : Answers s (λ d. kind_at d key) (Ok StringsKind)) where
+  abbrev found : (d : Directory) → StandsFor s.cut.bytes d → IsOfKindAt d key StringsKind
   found d st = told a d st
 
   held : (d : Directory) (st : StandsFor s.cut.bytes d) → IsTexts (found d st).object.value
@@ -91,9 +91,9 @@ module _ (s : State) (key : Key) (a : Answers s (λ d. kind_at d key) (Ok TextsK
       let o : Object = (found d st).object in
       with-found d key o (λ o. step.assign d o o.value ls) (found d st).is ∙ ap (λ v. step.assign d o v ls) (held d st).is ∙ not_assigned d o (held d st).texts (held d st).table ls why e)
 
-  pub assign-texts : (new : State) (ls : List Literal) (bss : List (List ℕ)) (answer : Answer) → texts_of ls ≡ Ok bss → IsStepOfKind s new key TextsKind (asked.Assign key (map Quoted bss)) answer → IsStep s new (asked.Assign key ls) answer
+  pub assign-texts : (new : State) (ls : List Literal) (bss : List (List ℕ)) (answer : Answer) → texts_of ls ≡ Ok bss → IsStepOfKind s new key StringsKind (asked.Assign key (map Quoted bss)) answer → IsStep s new (asked.Assign key ls) answer
   assign-texts new ls bss answer e r =
-      subst (λ ms. IsStep s new (asked.Assign key ms) answer) (sym (texts-back ls bss e)) (of_kind-steps s new key TextsKind (asked.Assign key (map Quoted bss)) answer a r)
+      subst (λ ms. IsStep s new (asked.Assign key ms) answer) (sym (texts-back ls bss e)) (of_kind-steps s new key StringsKind (asked.Assign key (map Quoted bss)) answer a r)
 
   -- ---- a text that is read
 
@@ -132,26 +132,26 @@ no_quoted (CodeQuoted q) n bs e = absurd (n q refl)
 
 -- ---- the text of a key, whatever the kind of its object is
 
-with-if : (d : Directory) (key : Key) (i : ℕ) (o : Object) (v : Value) (b : Bool) → same_kind TextsKind (kind_of v) ≡ b → object_at d key ≡ Some o → o.value ≡ v
+with-if : (d : Directory) (key : Key) (i : ℕ) (o : Object) (v : Value) (b : Bool) → same_kind StringsKind (kind_of v) ≡ b → object_at d key ≡ Some o → o.value ≡ v
     → (perform d (live d) (if b then effect d (asked.Get key i) else Refuse WrongKind)).0 ≡ text_of v i
-with-if d key i o (Numbers k zs) true e f g = let same : Scalar k ≡ TextsKind = kind-same TextsKind (Scalar k) e in absurd (cc)
+with-if d key i o (Numbers k zs) true e f g = let same : Scalar k ≡ StringsKind = kind-same StringsKind (Scalar k) e in absurd (cc)
 with-if d key i o (Numbers k zs) false e f g = refl
-with-if d key i o (Elements k zs t) true e f g = let same : Vector k ≡ TextsKind = kind-same TextsKind (Vector k) e in absurd (cc)
+with-if d key i o (Elements k zs t) true e f g = let same : Vector k ≡ StringsKind = kind-same StringsKind (Vector k) e in absurd (cc)
 with-if d key i o (Elements k zs t) false e f g = refl
-with-if d key i o (Bytes bs t) true e f g = let same : Text ≡ TextsKind = kind-same TextsKind (Text) e in absurd (cc)
+with-if d key i o (Bytes bs t) true e f g = let same : String ≡ StringsKind = kind-same StringsKind (String) e in absurd (cc)
 with-if d key i o (Bytes bs t) false e f g = refl
-with-if d key i o (Pairs k v ps) true e f g = let same : MapKind k v ≡ TextsKind = kind-same TextsKind (MapKind k v) e in absurd (cc)
+with-if d key i o (Pairs k v ps) true e f g = let same : MapKind k v ≡ StringsKind = kind-same StringsKind (MapKind k v) e in absurd (cc)
 with-if d key i o (Pairs k v ps) false e f g = refl
 with-if d key i o (Texts ps t) true e f g =
     ap (λ p. (perform d (live d) p).0) (with-found d key o (λ o. step.get d o.value i) f ∙ ap (λ v. step.get d v i) g) ∙ sym (text-read d (slice_get ps i))
 with-if d key i o (Texts ps t) false e f g = absurd (cc)
 
 abbrev for_texts : Directory → Key → ℕ → Object → Plan
-for_texts d key i o = if same_kind TextsKind (kind_of o.value) then effect d (asked.Get key i) else Refuse WrongKind
+for_texts d key i o = if same_kind StringsKind (kind_of o.value) then effect d (asked.Get key i) else Refuse WrongKind
 
 asked-if : (d : Directory) (key : Key) (i : ℕ) (r : Option Object) → object_at d key ≡ r → (perform d (live d) (with (step.found_at d key) (for_texts d key i))).0 ≡ text_in r i
 asked-if d key i None e = ap (λ p. (perform d (live d) p).0) (with-not_found d key (for_texts d key i) e)
-asked-if d key i (Some o) e = ap (λ p. (perform d (live d) p).0) (with-found d key o (for_texts d key i) e) ∙ with-if d key i o o.value (same_kind TextsKind (kind_of o.value)) refl e refl
+asked-if d key i (Some o) e = ap (λ p. (perform d (live d) p).0) (with-found d key o (for_texts d key i) e) ∙ with-if d key i o o.value (same_kind StringsKind (kind_of o.value)) refl e refl
 
 read-only : (mode : Mode) (b : Bool) (p : Plan) → b ≡ false → (if b then Refuse refusal.ReadOnly else p) ≡ p
 read-only mode true p e = absurd (cc)
@@ -161,24 +161,24 @@ never : (b : Bool) → (b && false) ≡ false
 never true = refl
 never false = refl
 
-asked-step : (mode : Mode) (d : Directory) (key : Key) (i : ℕ) → (step_of_kind mode d key TextsKind (asked.Get key i)).0 ≡ (perform d (live d) (with (step.found_at d key) (for_texts d key i))).0
+asked-step : (mode : Mode) (d : Directory) (key : Key) (i : ℕ) → (step_of_kind mode d key StringsKind (asked.Get key i)).0 ≡ (perform d (live d) (with (step.found_at d key) (for_texts d key i))).0
 unfolding step_of_kind
 asked-step mode d key i = ap (λ p. (perform d (live d) p).0) (read-only mode (is_read_only mode && false) (with (step.found_at d key) (for_texts d key i)) (never (is_read_only mode)))
 
-pub text-asked : (s : State) (key : Key) (i : ℕ) (answer : Answer) → IsReplyOfKind s key TextsKind (asked.Get key i) answer → (d : Directory) → StandsFor s.cut.bytes d → answer ≡ text_at d key i
+pub text-asked : (s : State) (key : Key) (i : ℕ) (answer : Answer) → IsReplyOfKind s key StringsKind (asked.Get key i) answer → (d : Directory) → StandsFor s.cut.bytes d → answer ≡ text_at d key i
 text-asked s key i answer r d st = r.answers d st ∙ asked-step s.mode d key i ∙ asked-if d key i (object_at d key) refl
 
 -- a new text, put there under the handle of the vector
 module _ {s : State} {key : Key} {o : Located} (located : IsLocated s key o) {l : Literal} {bs : List ℕ} (h : IsTextElement s key l bs) {new : State} {answer : Answer} where
-  pub push-text : IsStepOfKind s new (ByHandle o.handle) TextsKind (asked.Push (ByHandle o.handle) (Quoted bs)) answer → IsStep s new (asked.Push key l) answer
+  pub push-text : IsStepOfKind s new (ByHandle o.handle) StringsKind (asked.Push (ByHandle o.handle) (Quoted bs)) answer → IsStep s new (asked.Push key l) answer
   push-text r =
       subst (λ m. IsStep s new (asked.Push key m) answer) (sym h.is)
-      (of_kind-steps s new key TextsKind (asked.Push key (Quoted bs)) answer h.of_kind.is (step_of_kind-by_key s key o located new TextsKind (asked.Push key (Quoted bs)) answer r))
+      (of_kind-steps s new key StringsKind (asked.Push key (Quoted bs)) answer h.of_kind.is (step_of_kind-by_key s key o located new StringsKind (asked.Push key (Quoted bs)) answer r))
 
-  pub insert-text : (i : ℕ) → IsStepOfKind s new (ByHandle o.handle) TextsKind (asked.Insert (ByHandle o.handle) i (Quoted bs)) answer → IsStep s new (asked.Insert key i l) answer
+  pub insert-text : (i : ℕ) → IsStepOfKind s new (ByHandle o.handle) StringsKind (asked.Insert (ByHandle o.handle) i (Quoted bs)) answer → IsStep s new (asked.Insert key i l) answer
   insert-text i r =
       subst (λ m. IsStep s new (asked.Insert key i m) answer) (sym h.is)
-      (of_kind-steps s new key TextsKind (asked.Insert key i (Quoted bs)) answer h.of_kind.is (step_of_kind-by_key s key o located new TextsKind (asked.Insert key i (Quoted bs)) answer r))
+      (of_kind-steps s new key StringsKind (asked.Insert key i (Quoted bs)) answer h.of_kind.is (step_of_kind-by_key s key o located new StringsKind (asked.Insert key i (Quoted bs)) answer r))
 
 -- a literal that takes no more bytes than a line has
 pub quoted-fits : (l : Literal) (bs : List ℕ) → l ≡ Quoted bs → bytes_taken (l ∷ []) ≤ 4097 → length bs ≤ 4096

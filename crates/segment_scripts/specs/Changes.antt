@@ -1,7 +1,7 @@
 -- Elements that a line changes: the kind of the object says which call it is.
 use Rattle.std.specs.Prelude.{◌≡◌, ℕ, ℤ, true, Ok, Err, Result, List, map, IsTrue}
 use Rattle.std.specs.List.{list_all}
-use Rattle.seg_types.specs.declared.kinds.Kind.TheVariants.{Texts}
+use Rattle.seg_types.specs.declared.kinds.Kind.TheVariants.{Strings}
 use Rattle.seg_types.specs.declared.kinds.ScalarKind.{ScalarKind}
 use Rattle.seg_types.specs.declared.refusals.Refusal.{Refusal}
 use Rattle.seg_types.specs.Kinds.{is_value}
@@ -20,7 +20,7 @@ pub use Rattle.segment_manager.proofs.CommandLaws.{IsChangeable, IsElement, IsNo
 
 -- the literal is a text for the vector of strings of the key
 pub record IsTextElement (s : State) (key : Key) (l : Literal) (bs : List ℕ) : Type 0 where
-  pub of_kind : IsChangeable s key Texts
+  pub of_kind : IsChangeable s key Strings
   pub is : l ≡ Quoted bs
 
 abbrev pub IsNewElement : State → Key → Literal → NewElement → Type 0

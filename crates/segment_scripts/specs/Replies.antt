@@ -1,7 +1,7 @@
 -- What a command is answered by a call, and the step of the directory machine that this is.
 use Rattle.std.specs.Prelude.{◌≡◌, ◌≤◌, ℕ, ◌+◌, Bool, true, false, Option, Some, None, List, [], ◌∷◌, length, slice_get, ⊤, IsTrue}
 use Rattle.best_fit.specs.Extents.{spans}
-use Rattle.seg_types.specs.declared.kinds.Kind.TheVariants.{Map, Scalar, Text, Texts as TextsKind, Vector}
+use Rattle.seg_types.specs.declared.kinds.Kind.TheVariants.{Map, Scalar, String, Strings as StringsKind, Vector}
 use Rattle.seg_types.specs.declared.refusals.Refusal.TheVariants.{NotFound, OutOfRange, WrongKind}
 use Rattle.seg_types.specs.Names.{Key}
 use Rattle.seg_types.specs.Commands as asked
@@ -72,9 +72,9 @@ texts_taken (bs ∷ bss) = 1 + length bs + texts_taken bss
 abbrev pub IsContent : Key → Content → Type 0
 IsContent key (asked.Numbers k zs) = (1 ≤ length zs) × (length zs ≤ 1048576) × IsTrue (agrees (Scalar k) key)
 IsContent key (asked.Elements k zs) = (length zs ≤ 2048) × IsTrue (agrees (Vector k) key)
-IsContent key (asked.Bytes bs) = (length bs ≤ 4096) × IsTrue (agrees Text key)
+IsContent key (asked.Bytes bs) = (length bs ≤ 4096) × IsTrue (agrees String key)
 IsContent key (asked.NoPairs k v) = IsTrue (agrees (Map k v) key)
-IsContent key (asked.Strings bss) = (texts_taken bss ≤ 4097) × IsTrue (agrees TextsKind key)
+IsContent key (asked.Strings bss) = (texts_taken bss ≤ 4097) × IsTrue (agrees StringsKind key)
 
 -- how many bytes of a line values take at the least, with one behind each
 abbrev pub bytes_taken : List Literal → ℕ

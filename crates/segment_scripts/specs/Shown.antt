@@ -3,7 +3,7 @@ use Rattle.std.specs.Prelude.{ℕ, List, [], ◌∷◌, ◌++◌, ◌==◌, if�
 use Rattle.seg_types.specs.declared.kinds.Class.{Class}
 use Rattle.seg_types.specs.declared.kinds.Class.TheVariants.{Anonymous, Named, Unique}
 use Rattle.seg_types.specs.declared.kinds.Kind.{Kind}
-use Rattle.seg_types.specs.declared.kinds.Kind.TheVariants.{Scalar, Text, Texts}
+use Rattle.seg_types.specs.declared.kinds.Kind.TheVariants.{Scalar, String, Strings}
 use Rattle.seg_types.specs.declared.refusals.Refusal.{Refusal}
 use Rattle.seg_types.specs.Names.{Key}
 use Rattle.seg_types.specs.Commands.{Get}
@@ -39,7 +39,7 @@ length_in (Err r) = 0
 
 -- a string, where there is one
 abbrev pub string_line : Result (List ℕ) Refusal → List ℕ
-string_line (Ok bs) = line (kind_text Text ∷ quoted_text bs ∷ [])
+string_line (Ok bs) = line (kind_text String ∷ quoted_text bs ∷ [])
 string_line (Err r) = []
 
 -- a number, where there is one
@@ -64,4 +64,4 @@ texts_text d key n = parts_until (λ i. element_part (text_at d key i)) n
 
 -- the kind, them, and the end of the line
 abbrev pub texts_line : Directory → Key → ℕ → List ℕ
-texts_line d key n = kind_text Texts ++ (texts_text d key n ++ 0x0A ∷ [])
+texts_line d key n = kind_text Strings ++ (texts_text d key n ++ 0x0A ∷ [])

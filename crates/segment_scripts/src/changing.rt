@@ -1,6 +1,6 @@
 //! Vectors and strings that a line changes: the kind of the object says which call it is.
 ghost use Rattle.std.specs.Prelude.{◌≡◌, ◌≤◌, ◌∷◌, [], MatchResult, OnErr, length, map};
-ghost use Rattle.seg_types.specs.declared.kinds.Kind.TheVariants.{Text as TextKind, Texts as TextsKind, Vector as VectorOf};
+ghost use Rattle.seg_types.specs.declared.kinds.Kind.TheVariants.{String as StringKind, Strings as StringsKind, Vector as VectorOf};
 ghost use Rattle.seg_types.specs.Commands.{Append, Assign, Clear, Erase, Insert, Literal as AskedLiteral, Push, Quoted as AskedQuoted, Reserve, Shrink, literal_of as literal_for};
 ghost use Rattle.seg_types.specs.Keys.{key_seen};
 ghost use Rattle.seg_types.specs.Names.{ByHandle};
@@ -62,7 +62,7 @@ fn new_element<'a>(
             let value = value_of(element, literal)?;
             Ok((object, NewElement::Scalar(value)))
         }
-        Kind::Texts => match literal {
+        Kind::Strings => match literal {
             Literal::Quoted(text) => Ok((object, NewElement::Text(text))),
             _ => Err(Refusal::WrongKind),
         },
@@ -162,7 +162,7 @@ pub fn erase(segment: &mut Segment, key: &Key, index: u64) -> Result<(), Refusal
     let object = object_to_change(segment, key)?;
     match object.kind {
         Kind::Vector(element) => erase_element(segment, object, element, index),
-        Kind::Texts => segment.texts_erase(&object, index),
+        Kind::Strings => segment.texts_erase(&object, index),
         _ => Err(Refusal::WrongKind),
     }
 }
@@ -207,8 +207,8 @@ pub fn assign(
     let object = object_to_change(segment, key)?;
     match object.kind {
         Kind::Vector(element) => assign_vector(segment, object, element, values, &mut room.rows),
-        Kind::Text => assign_string(segment, object, values, &mut room.text),
-        Kind::Texts => assign_texts(segment, object, values, &mut room.texts),
+        Kind::String => assign_string(segment, object, values, &mut room.text),
+        Kind::Strings => assign_texts(segment, object, values, &mut room.texts),
         _ => Err(Refusal::WrongKind),
     }
 }
@@ -255,7 +255,7 @@ fn assign_string(
     scratch: &mut Text,
 ) -> Result<(), Refusal>
     requires object { IsObject object segment.old }
-    requires of_kind { IsChangeable segment.old (ByHandle object.handle) TextKind }
+    requires of_kind { IsChangeable segment.old (ByHandle object.handle) StringKind }
     requires few { bytes_taken values ≤ 4097 }
     ensures step { IsStep segment.old segment.new (Assign (ByHandle object.handle) values.entry) (done_answer result) }
     ensures refused { OnErr result (segment.new ≡ segment.old) }
@@ -273,7 +273,7 @@ fn assign_texts(
     row: &mut TextRow,
 ) -> Result<(), Refusal>
     requires object { IsObject object segment.old }
-    requires of_kind { IsChangeable segment.old (ByHandle object.handle) TextsKind }
+    requires of_kind { IsChangeable segment.old (ByHandle object.handle) StringsKind }
     requires few { bytes_taken values ≤ 4097 }
     ensures step { IsStep segment.old segment.new (Assign (ByHandle object.handle) values.entry) (done_answer result) }
     ensures refused { KeepsRefused segment.old segment.new result }
@@ -285,7 +285,7 @@ fn assign_texts(
 /// Makes the texts of a row those of the vector of strings.
 fn assign_read(segment: &mut Segment, object: Object, row: &TextRow) -> Result<(), Refusal>
     requires { IsObject object segment.old }
-    ensures step { IsStepOfKind segment.old segment.new (ByHandle object.handle) TextsKind (Assign (ByHandle object.handle) (map AskedQuoted row.now)) (done_answer result) }
+    ensures step { IsStepOfKind segment.old segment.new (ByHandle object.handle) StringsKind (Assign (ByHandle object.handle) (map AskedQuoted row.now)) (done_answer result) }
     ensures refused { KeepsRefused segment.old segment.new result }
 {
     if FEW < row.len() {
@@ -298,7 +298,7 @@ fn assign_read(segment: &mut Segment, object: Object, row: &TextRow) -> Result<(
 #[inline(never)]
 fn assign_many(segment: &mut Segment, object: Object, row: &TextRow) -> Result<(), Refusal>
     requires { IsObject object segment.old }
-    ensures step { IsStepOfKind segment.old segment.new (ByHandle object.handle) TextsKind (Assign (ByHandle object.handle) (map AskedQuoted row.now)) (done_answer result) }
+    ensures step { IsStepOfKind segment.old segment.new (ByHandle object.handle) StringsKind (Assign (ByHandle object.handle) (map AskedQuoted row.now)) (done_answer result) }
     ensures refused { KeepsRefused segment.old segment.new result }
 {
     segment.texts_assign(&object, row.all().as_slice())

@@ -1,7 +1,7 @@
 //! Objects made of what a line writes.
 ghost use Rattle.std.specs.Prelude.{◌≡◌, ◌≤◌, IsTrue, length};
 ghost use Rattle.std.specs.List.{AllByRecursion};
-ghost use Rattle.seg_types.specs.declared.kinds.Kind.TheVariants.{Text as TextKind, Vector as VectorOf};
+ghost use Rattle.seg_types.specs.declared.kinds.Kind.TheVariants.{String as StringKind, Vector as VectorOf};
 ghost use Rattle.seg_types.specs.Commands.{Bytes, Construct, ConstructIt, Elements, FindOrConstruct, Strings};
 ghost use Rattle.seg_types.specs.Keys.{index_key_seen, new_key_seen};
 ghost use Rattle.seg_types.specs.Kinds.{is_value};
@@ -37,8 +37,8 @@ pub fn construct(
     match content {
         Content::Scalars { value, count } => segment.construct_value(key, count, value),
         Content::Elements(values) => construct_vector(segment, key, values, &mut room.rows),
-        Content::Text(text) => segment.construct_string(key, text.bytes(&mut room.text)),
-        Content::Texts(texts) => construct_texts(segment, key, texts, &mut room.texts),
+        Content::String(text) => segment.construct_string(key, text.bytes(&mut room.text)),
+        Content::Strings(texts) => construct_texts(segment, key, texts, &mut room.texts),
         Content::NoPairs {
             key: keys,
             value: values,
@@ -149,8 +149,10 @@ pub fn find_or_construct(
         Content::Elements(values) => {
             find_or_construct_vector(segment, key, values, &mut room.rows)
         }
-        Content::Text(text) => { segment.find_or_construct_string(key, text.bytes(&mut room.text)) }
-        Content::Texts(texts) => find_or_construct_texts(segment, key, texts, &mut room.texts),
+        Content::String(text) => {
+            segment.find_or_construct_string(key, text.bytes(&mut room.text))
+        }
+        Content::Strings(texts) => find_or_construct_texts(segment, key, texts, &mut room.texts),
         Content::NoPairs {
             key: keys,
             value: values,

@@ -1,6 +1,6 @@
 //! The last element of a vector, which is written and taken out.
 ghost use Rattle.std.specs.Prelude.{◌≡◌, ◌-◌, ◌^◌, ◌<◌, OnErr};
-ghost use Rattle.seg_types.specs.declared.kinds.Kind.TheVariants.{Texts as TextsKind, Vector as VectorOf};
+ghost use Rattle.seg_types.specs.declared.kinds.Kind.TheVariants.{Strings as StringsKind, Vector as VectorOf};
 ghost use Rattle.seg_types.specs.Commands.{Pop};
 ghost use Rattle.seg_types.specs.Keys.{key_seen};
 ghost use Rattle.seg_types.specs.Names.{ByHandle};
@@ -36,7 +36,7 @@ pub fn pop<W: Sink>(segment: &mut Segment, key: &Key, out: &mut W) -> Result<(),
                 let answer = element(pop_element(segment, object, kind));
                 put_answer(segment, answer, out)
             }
-            Kind::Texts => pop_text(segment, object, out),
+            Kind::Strings => pop_text(segment, object, out),
             _ => put_refusal_line(out, Refusal::WrongKind),
         },
     }
@@ -47,7 +47,7 @@ pub fn pop<W: Sink>(segment: &mut Segment, key: &Key, out: &mut W) -> Result<(),
 fn pop_text<W: Sink>(segment: &mut Segment, object: Object, out: &mut W) -> Result<(), DeviceFault>
     requires object { IsObject object segment.old }
     requires writer { (W.history out.old).failures < 2 ^ 64 - 1 }
-    requires of_kind { IsChangeable segment.old (ByHandle object.handle) TextsKind }
+    requires of_kind { IsChangeable segment.old (ByHandle object.handle) StringsKind }
     ensures executed { Executes segment.old segment.new (Pop (ByHandle object.handle)) }
     ensures writes { WritesFor (W.history out.old) (W.history out.new) result (StandsFor segment.old.cut.bytes)
         (λ d. answer_text (step segment.old.mode d (Pop (ByHandle object.handle))).0) }

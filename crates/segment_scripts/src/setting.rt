@@ -1,6 +1,6 @@
 //! An element that becomes what a line writes.
 ghost use Rattle.std.specs.Prelude.{◌≡◌, ◌≤◌, ◌∷◌, [], Ok, OnErr, false};
-ghost use Rattle.seg_types.specs.declared.kinds.Kind.TheVariants.{Texts as TextsKind};
+ghost use Rattle.seg_types.specs.declared.kinds.Kind.TheVariants.{Strings as StringsKind};
 ghost use Rattle.seg_types.specs.Commands.{Set, value_of_literal};
 ghost use Rattle.seg_types.specs.Keys.{key_seen};
 ghost use Rattle.seg_types.specs.Names.{ByHandle};
@@ -44,8 +44,8 @@ pub fn set(
         Kind::Scalar(element) | Kind::Vector(element) => {
             set_scalar(segment, object, element, index, literal)
         }
-        Kind::Text => set_scalar(segment, object, ScalarKind::U8, index, literal),
-        Kind::Texts => set_text(segment, object, index, literal, &mut room.text),
+        Kind::String => set_scalar(segment, object, ScalarKind::U8, index, literal),
+        Kind::Strings => set_text(segment, object, index, literal, &mut room.text),
         Kind::Map(_, _) => Err(Refusal::WrongKind),
     }
 }
@@ -78,7 +78,7 @@ fn set_text(
     scratch: &mut Text,
 ) -> Result<(), Refusal>
     requires object { IsObject object segment.old }
-    requires of_kind { IsChangeable segment.old (ByHandle object.handle) TextsKind }
+    requires of_kind { IsChangeable segment.old (ByHandle object.handle) StringsKind }
     requires few { bytes_taken (literal_of literal ∷ []) ≤ 4097 }
     ensures step { IsStep segment.old segment.new (Set (ByHandle object.handle) index (literal_of literal.entry)) (done_answer result) }
     ensures refused { OnErr result (segment.new ≡ segment.old) }

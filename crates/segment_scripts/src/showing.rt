@@ -34,8 +34,8 @@ pub fn put_shown<W: Sink>(segment: &Segment, key: &Key, out: &mut W) -> Result<(
         Ok(object) => match object.kind {
             Kind::Scalar(_) => put_value_line(segment, object, u64::from(object.count), out),
             Kind::Vector(_) => put_value_line(segment, object, length_of(segment, object), out),
-            Kind::Text => put_string_line(segment, object, out),
-            Kind::Texts => put_texts_line(segment, object, length_of(segment, object), out),
+            Kind::String => put_string_line(segment, object, out),
+            Kind::Strings => put_texts_line(segment, object, length_of(segment, object), out),
             Kind::Map(keys, values) => {
                 let count = length_of(segment, object);
                 put_map_line(segment, object, keys, values, count, out)
@@ -71,7 +71,7 @@ fn put_string_line<W: Sink>(
         Ok(bytes) => put_pieces(
             out,
             &[
-                Piece::Kind(Kind::Text),
+                Piece::Kind(Kind::String),
                 Piece::Bytes(b" "),
                 Piece::Text(bytes),
                 Piece::Bytes(b"\n"),
@@ -180,7 +180,7 @@ fn put_texts_line<W: Sink>(
     ensures { WritesFor (W.history out.old) (W.history out.new) result (StandsFor segment.now.cut.bytes)
         (λ d. texts_line d (ByHandle object.handle) count) }
 {
-    put_pieces(out, &[Piece::Kind(Kind::Texts)])?;
+    put_pieces(out, &[Piece::Kind(Kind::Strings)])?;
     put_texts(segment, object, count, out)?;
     put_pieces(out, &[Piece::Bytes(b"\n")])
 }
@@ -235,7 +235,7 @@ pub fn put_got<W: Sink>(
 {
     match locate(segment, key) {
         Ok(object) => match object.kind {
-            Kind::Texts => put_text_at(segment, object, index, out),
+            Kind::Strings => put_text_at(segment, object, index, out),
             _ => put_answer(segment, element(segment.get_any(&object, index)), out),
         },
         Err(why) => put_refusal_line(out, why),

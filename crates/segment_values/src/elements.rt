@@ -32,8 +32,8 @@ pub fn set(segment: &mut Segment, key: &Key, index: u64, value: ScalarValue) -> 
         Kind::Scalar(element) | Kind::Vector(element) => {
             set_scalar(segment, object, element, index, value)
         }
-        Kind::Text => set_scalar(segment, object, ScalarKind::U8, index, value),
-        Kind::Texts => Err(Refusal::WrongKind),
+        Kind::String => set_scalar(segment, object, ScalarKind::U8, index, value),
+        Kind::Strings => Err(Refusal::WrongKind),
         Kind::Map(_, _) => Err(Refusal::WrongKind),
     }
 }

@@ -35,7 +35,7 @@ fn new_element(
             let element = value_as(kind, value)?;
             Ok((object, element))
         }
-        Kind::Texts => Err(Refusal::WrongKind),
+        Kind::Strings => Err(Refusal::WrongKind),
         _ => Err(Refusal::WrongKind),
     }
 }
@@ -111,7 +111,7 @@ pub fn erase(segment: &mut Segment, key: &Key, index: u64) -> Result<(), Refusal
     let object = object_to_change(segment, key)?;
     match object.kind {
         Kind::Vector(element) => erase_element(segment, object, element, index),
-        Kind::Texts => segment.texts_erase(&object, index),
+        Kind::Strings => segment.texts_erase(&object, index),
         _ => Err(Refusal::WrongKind),
     }
 }

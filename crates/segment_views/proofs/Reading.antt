@@ -2,7 +2,7 @@
 use Rattle.std.proofs.Common.{◌≡◌, refl, sym, subst, ◌∙◌, ℕ, ◌≤◌, ℤ, None, Result, Ok, Err, List, length}
 use Rattle.std.specs.Prelude.{slice_get}
 use Rattle.std.proofs.lemmas.Option.{slice_get_past}
-use Rattle.seg_types.specs.declared.kinds.Kind.TheVariants.{Scalar as ScalarOf, Vector as VectorOf, Texts as TextsKind}
+use Rattle.seg_types.specs.declared.kinds.Kind.TheVariants.{Scalar as ScalarOf, Vector as VectorOf, Strings as StringsKind}
 use Rattle.seg_types.specs.declared.kinds.ScalarKind.{ScalarKind}
 use Rattle.seg_types.specs.declared.refusals.Refusal.{Refusal}
 use Rattle.seg_types.specs.Commands.{Get}
@@ -43,7 +43,7 @@ module _ (s : State) (key : Key) (at : ℕ) where
       → Answers s (λ d. slice_get (array_at d key k) at) (element_of whole r)
   array-item k whole r a = record { answers = λ d h. sym (got-mapped whole r) ∙ array-read s.mode d key k at (mapped whole r) (answer-mapped (Element k) whole r ∙ a.answers d h) }
 
-  pub text-item : {A : Type 0} (bytes : A → List ℕ) (r : Result A Refusal) → IsReplyOfKind s key TextsKind (Get key at) (answer_of (λ x. TextElement (bytes x)) r)
+  pub text-item : {A : Type 0} (bytes : A → List ℕ) (r : Result A Refusal) → IsReplyOfKind s key StringsKind (Get key at) (answer_of (λ x. TextElement (bytes x)) r)
       → Answers s (λ d. slice_get (texts_at d key) at) (element_of bytes r)
   text-item bytes r a = record { answers = λ d h. sym (got-mapped bytes r) ∙ text-read s.mode d key at (mapped bytes r) (answer-mapped TextElement bytes r ∙ a.answers d h) }
 

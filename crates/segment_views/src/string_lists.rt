@@ -1,6 +1,6 @@
 //! A vector of strings in a segment that may be changed, looked up once.
 ghost use Rattle.std.specs.Prelude.{◌≡◌, OnErr};
-ghost use Rattle.seg_types.specs.declared.kinds.Kind.TheVariants.{Texts as TextsKind};
+ghost use Rattle.seg_types.specs.declared.kinds.Kind.TheVariants.{Strings as StringsKind};
 ghost use Rattle.seg_types.specs.Commands.{Erase, Get, Insert, Pop, Push, Quoted, Set};
 ghost use Rattle.segment_manager.specs.Answers.{TextElement};
 ghost use Rattle.segment_manager.specs.ElementLists.{length_at_kind};
@@ -19,10 +19,10 @@ pub struct Texts;
 pub type StringsView<'a> = View<'a, Texts>;
 
 impl Content for Texts {
-    ghost kind = { TextsKind };
+    ghost kind = { StringsKind };
 
     fn kind() -> Kind {
-        Kind::Texts
+        Kind::Strings
     }
 }
 
@@ -35,7 +35,7 @@ impl<'a> View<'a, Texts> {
     ///
     /// `OutOfRange` where there is none, `WrongKind` where the object is no vector of strings.
     pub fn get(&self, index: u64) -> Result<&[u8], Refusal>
-        ensures { IsReplyOfKind (segment_of self.now) (key_of self.now) TextsKind (Get (key_of self.now) index) (answer_of (λ text. TextElement text.now) result) }
+        ensures { IsReplyOfKind (segment_of self.now) (key_of self.now) StringsKind (Get (key_of self.now) index) (answer_of (λ text. TextElement text.now) result) }
     {
         self.segment.texts_get(&self.object, index)
     }
@@ -48,7 +48,7 @@ impl<'a> View<'a, Texts> {
     ///
     /// `WrongKind` where the object is no vector of strings.
     pub fn len(&self) -> Result<u64, Refusal>
-        ensures { Answers (segment_of self.now) (λ d. length_at_kind d (key_of self.now) TextsKind) result }
+        ensures { Answers (segment_of self.now) (λ d. length_at_kind d (key_of self.now) StringsKind) result }
     {
         self.segment.texts_len(&self.object)
     }
@@ -70,7 +70,7 @@ impl<'a> View<'a, Texts> {
     /// `OutOfRange` where it has no string there, `NoSpace` where the bytes have no fit. Nothing changes.
     pub fn set(&mut self, index: u64, text: &[u8]) -> Result<(), Refusal>
         ensures same { IsSame self.old self.new }
-        ensures step { IsStepOfKind (segment_of self.old) (segment_of self.new) (key_of self.old) TextsKind (Set (key_of self.old) index (Quoted text.now)) (done_answer result) }
+        ensures step { IsStepOfKind (segment_of self.old) (segment_of self.new) (key_of self.old) StringsKind (Set (key_of self.old) index (Quoted text.now)) (done_answer result) }
         ensures refused { OnErr result (segment_of self.new ≡ segment_of self.old) }
     {
         let _ = self.segment.as_bytes();
@@ -86,7 +86,7 @@ impl<'a> View<'a, Texts> {
     /// does not change.
     pub fn push(&mut self, text: &[u8]) -> Result<(), Refusal>
         ensures same { IsSame self.old self.new }
-        ensures step { IsStepOfKind (segment_of self.old) (segment_of self.new) (key_of self.old) TextsKind (Push (key_of self.old) (Quoted text.now)) (done_answer result) }
+        ensures step { IsStepOfKind (segment_of self.old) (segment_of self.new) (key_of self.old) StringsKind (Push (key_of self.old) (Quoted text.now)) (done_answer result) }
         ensures refused { KeepsRefused (segment_of self.old) (segment_of self.new) result }
     {
         let _ = self.segment.as_bytes();
@@ -102,7 +102,7 @@ impl<'a> View<'a, Texts> {
     /// regrown or the bytes have no fit: what the segment holds does not change.
     pub fn insert(&mut self, index: u64, text: &[u8]) -> Result<(), Refusal>
         ensures same { IsSame self.old self.new }
-        ensures step { IsStepOfKind (segment_of self.old) (segment_of self.new) (key_of self.old) TextsKind (Insert (key_of self.old) index (Quoted text.now)) (done_answer result) }
+        ensures step { IsStepOfKind (segment_of self.old) (segment_of self.new) (key_of self.old) StringsKind (Insert (key_of self.old) index (Quoted text.now)) (done_answer result) }
         ensures refused { KeepsRefused (segment_of self.old) (segment_of self.new) result }
     {
         let _ = self.segment.as_bytes();
@@ -117,7 +117,7 @@ impl<'a> View<'a, Texts> {
     /// `OutOfRange` where it has no string there. Nothing changes.
     pub fn erase(&mut self, index: u64) -> Result<(), Refusal>
         ensures same { IsSame self.old self.new }
-        ensures step { IsStepOfKind (segment_of self.old) (segment_of self.new) (key_of self.old) TextsKind (Erase (key_of self.old) index) (done_answer result) }
+        ensures step { IsStepOfKind (segment_of self.old) (segment_of self.new) (key_of self.old) StringsKind (Erase (key_of self.old) index) (done_answer result) }
         ensures refused { OnErr result (segment_of self.new ≡ segment_of self.old) }
     {
         let _ = self.segment.as_bytes();
@@ -134,7 +134,7 @@ impl<'a> View<'a, Texts> {
     /// `OutOfRange` where it is empty. Nothing changes.
     pub fn pop(&mut self) -> Result<(), Refusal>
         ensures same { IsSame self.old self.new }
-        ensures step { LeadsOnOfKind (segment_of self.old) (segment_of self.new) (key_of self.old) TextsKind (Pop (key_of self.old)) (refusal_in result) }
+        ensures step { LeadsOnOfKind (segment_of self.old) (segment_of self.new) (key_of self.old) StringsKind (Pop (key_of self.old)) (refusal_in result) }
         ensures refused { OnErr result (segment_of self.new ≡ segment_of self.old) }
     {
         let _ = self.segment.as_bytes();

@@ -1,6 +1,6 @@
 //! A string in a segment that may be changed, looked up once.
 ghost use Rattle.std.specs.Prelude.{◌≡◌, Ok, Err, MatchResult, [], ◌∷◌, OnErr, pos};
-ghost use Rattle.seg_types.specs.declared.kinds.Kind.TheVariants.{Text as TextKind};
+ghost use Rattle.seg_types.specs.declared.kinds.Kind.TheVariants.{String as StringKind};
 ghost use Rattle.seg_types.specs.declared.kinds.ScalarKind.TheVariants.{U8 as ByteKind};
 ghost use Rattle.seg_types.specs.Commands.{Append, Assign, Quoted, Set, literal_of};
 ghost use Rattle.segment_manager.specs.Contents.{bytes_at};
@@ -17,10 +17,10 @@ pub struct Text;
 pub type StringView<'a> = View<'a, Text>;
 
 impl Content for Text {
-    ghost kind = { TextKind };
+    ghost kind = { StringKind };
 
     fn kind() -> Kind {
-        Kind::Text
+        Kind::String
     }
 }
 
@@ -46,7 +46,7 @@ impl<'a> View<'a, Text> {
     /// where it has no byte there. Nothing changes.
     pub fn set(&mut self, index: u64, byte: u8) -> Result<(), Refusal>
         ensures same { IsSame self.old self.new }
-        ensures step { IsStepOfKind (segment_of self.old) (segment_of self.new) (key_of self.old) TextKind (Set (key_of self.old) index (literal_of ByteKind (pos byte))) (done_answer result) }
+        ensures step { IsStepOfKind (segment_of self.old) (segment_of self.new) (key_of self.old) StringKind (Set (key_of self.old) index (literal_of ByteKind (pos byte))) (done_answer result) }
         ensures refused { OnErr result (segment_of self.new ≡ segment_of self.old) }
     {
         let _ = self.segment.as_bytes();
@@ -61,7 +61,7 @@ impl<'a> View<'a, Text> {
     /// where its storage cannot be regrown. Nothing changes.
     pub fn append(&mut self, bytes: &[u8]) -> Result<(), Refusal>
         ensures same { IsSame self.old self.new }
-        ensures step { IsStepOfKind (segment_of self.old) (segment_of self.new) (key_of self.old) TextKind (Append (key_of self.old) bytes.now) (done_answer result) }
+        ensures step { IsStepOfKind (segment_of self.old) (segment_of self.new) (key_of self.old) StringKind (Append (key_of self.old) bytes.now) (done_answer result) }
         ensures refused { OnErr result (segment_of self.new ≡ segment_of self.old) }
     {
         let _ = self.segment.as_bytes();
@@ -76,7 +76,7 @@ impl<'a> View<'a, Text> {
     /// where its storage cannot be regrown. Nothing changes.
     pub fn assign(&mut self, bytes: &[u8]) -> Result<(), Refusal>
         ensures same { IsSame self.old self.new }
-        ensures step { IsStepOfKind (segment_of self.old) (segment_of self.new) (key_of self.old) TextKind (Assign (key_of self.old) (Quoted bytes.now ∷ [])) (done_answer result) }
+        ensures step { IsStepOfKind (segment_of self.old) (segment_of self.new) (key_of self.old) StringKind (Assign (key_of self.old) (Quoted bytes.now ∷ [])) (done_answer result) }
         ensures refused { OnErr result (segment_of self.new ≡ segment_of self.old) }
     {
         let _ = self.segment.as_bytes();

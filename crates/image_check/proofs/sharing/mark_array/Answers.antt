@@ -1,5 +1,5 @@
 use Rattle.std.proofs.Common.{refl}
-use Rattle.seg_types.specs.declared.kinds.Kind.TheVariants.{Texts}
+use Rattle.seg_types.specs.declared.kinds.Kind.TheVariants.{Strings}
 use Rattle.image_check.specs.Owners.{IsSharedIn}
 use Rattle.image_check.specs.Sharing.{AreTextsNoted, IsStorageNoted, IsValueGrown}
 use Rattle.image_check.proofs.Following.{map-ok, of-ok}
@@ -9,7 +9,7 @@ use Rattle.image_check.proofs.sharing.mark_array.Goals as goal
 pub mark_storage-requires : goal.mark_storage-requires
 mark_storage-requires g c =
     let ready = c.requires.1.1 in
-    (c.requires.0, (c.requires.1.0, (ready.inside refl, (ready.aligned, storage-may g.format c.args.window.now.bytes Texts c.args.value.at c.args.owners.now.blocks.entries ready refl refl))))
+    (c.requires.0, (c.requires.1.0, (ready.inside refl, (ready.aligned, storage-may g.format c.args.window.now.bytes Strings c.args.value.at c.args.owners.now.blocks.entries ready refl refl))))
 
 pub mark_texts-requires : goal.mark_texts-requires
 mark_texts-requires g c =
@@ -28,5 +28,5 @@ returns-in-Ok-clause-noted g c =
     let n = c.mark_texts.new.owners in
     let done = of-ok (λ done. IsStorageNoted g.format b c.args.value.at o.blocks.entries o.waiting m.blocks.entries m.pending m.waiting) (IsSharedIn g.format b) c.mark_storage.result _ c.in-Ok.is c.mark_storage.ensures.noted in
     map-ok (λ x. AreTextsNoted g.format b c.args.value.at m.blocks.entries m.waiting n.blocks.entries n.pending n.waiting)
-    (λ x. IsValueGrown g.format b Texts c.args.value.at o.blocks.entries o.waiting n.blocks.entries n.pending n.waiting) (IsSharedIn g.format b) c.mark_texts.result
+    (λ x. IsValueGrown g.format b Strings c.args.value.at o.blocks.entries o.waiting n.blocks.entries n.pending n.waiting) (IsSharedIn g.format b) c.mark_texts.result
     (λ x t. array-value g.format b c.args.value.at o.blocks.entries o.waiting m.blocks.entries m.pending m.waiting done n.blocks.entries n.pending n.waiting t) c.mark_texts.ensures.noted

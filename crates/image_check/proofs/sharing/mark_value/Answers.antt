@@ -17,7 +17,7 @@ mark-requires-clause-room g c = few-wait g.format c.args.window.now.bytes None c
 pub mark_storage-requires : goal.mark_storage-requires
 mark_storage-requires g c =
     let ready = c.requires.1.1 in
-    let is = c.in-Text.is in
+    let is = c.in-String.is in
     (c.requires.0, (c.requires.1.0, (ready.inside (ap has_link is), (ready.aligned, storage-may g.format c.args.window.now.bytes c.args.kind c.args.value.at c.args.owners.now.blocks.entries ready (ap has_storage is) (ap has_link is)))))
 
 pub mark_storage-requires-in-Vector : goal.mark_storage-requires-in-Vector
@@ -57,15 +57,15 @@ returns-in-Map-clause-visits g c =
     (root-may g.format b c.in-Map.field-0 c.in-Map.field-1 at o.blocks.entries (subst (λ k. IsValueReady g.format b k at o.blocks.entries) is ready)) (inl (ready.start (ap has_link is), refl)))
     (omega arith) (omega arith) (λ x d. d.less)
 
-pub returns-in-Text-clause-noted : goal.returns-in-Text-clause-noted
-returns-in-Text-clause-noted g c =
+pub returns-in-String-clause-noted : goal.returns-in-String-clause-noted
+returns-in-String-clause-noted g c =
     let b = c.args.window.now.bytes in
     let at = c.args.value.at in
     let o = c.args.owners.now in
     let m = c.mark_storage.new.owners in
     map-ok (λ x. IsStorageNoted g.format b at o.blocks.entries o.waiting m.blocks.entries m.pending m.waiting)
     (λ x. IsValueGrown g.format b c.args.kind at o.blocks.entries o.waiting m.blocks.entries m.pending m.waiting) (IsSharedIn g.format b) c.mark_storage.result
-    (λ x d. subst (λ k. IsValueGrown g.format b k at o.blocks.entries o.waiting m.blocks.entries m.pending m.waiting) (sym c.in-Text.is)
+    (λ x d. subst (λ k. IsValueGrown g.format b k at o.blocks.entries o.waiting m.blocks.entries m.pending m.waiting) (sym c.in-String.is)
     (text-value g.format b at o.blocks.entries o.waiting m.blocks.entries m.pending m.waiting d)) c.mark_storage.ensures.noted
 
 pub returns-in-Vector-clause-noted : goal.returns-in-Vector-clause-noted

@@ -8,12 +8,12 @@ returns-in-Map c =
     let b = c.args.image.now in
     map-searched (bytes_of b) (tiles_in b) c.args.at c.args.sought c.args.kind c.in-Map.field-0 c.in-Map.field-1 c.find_below.result.search c.in-Map.is c.find_below.ensures
 
-pub returns-in-Texts : goal.returns-in-Texts
-returns-in-Texts c =
+pub returns-in-Strings : goal.returns-in-Strings
+returns-in-Strings c =
     let b = c.args.image.now in
-    texts-searched (bytes_of b) (tiles_in b) c.args.at c.args.sought c.args.kind c.find_storage.result c.find_element.result c.both.result c.in-Texts.is c.both.ensures c.find_storage.ensures c.find_element.ensures
+    texts-searched (bytes_of b) (tiles_in b) c.args.at c.args.sought c.args.kind c.find_storage.result c.find_element.result c.both.result c.in-Strings.is c.both.ensures c.find_storage.ensures c.find_element.ensures
 
 pub returns-in_default-kind : goal.returns-in_default-kind
 returns-in_default-kind c =
     let b = c.args.image.now in
-    storage-searched (bytes_of b) (tiles_in b) c.args.at c.args.sought c.args.kind c.find_storage-in_default-kind.result c.in_default.not-Scalar c.in_default-kind.not-Map c.in_default-kind.not-Texts c.find_storage-in_default-kind.ensures
+    storage-searched (bytes_of b) (tiles_in b) c.args.at c.args.sought c.args.kind c.find_storage-in_default-kind.result c.in_default.not-Scalar c.in_default-kind.not-Map c.in_default-kind.not-Strings c.find_storage-in_default-kind.ensures

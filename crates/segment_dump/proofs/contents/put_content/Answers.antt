@@ -21,15 +21,15 @@ returns-in-Vector g c =
     of-same c.put_elements-in-Vector.ensures
     (vector-said c.args.segment.now c.args.object c.requires.object c.args.count c.requires.count c.in-Vector.field-0 c.in-Vector.is)
 
-pub returns-in-Text : goal.returns-in-Text
-returns-in-Text g c =
+pub returns-in-String : goal.returns-in-String
+returns-in-String g c =
     of-same c.put_string.ensures
-    (string-said c.args.segment.now c.args.object c.requires.object c.in-Text.is)
+    (string-said c.args.segment.now c.args.object c.requires.object c.in-String.is)
 
-pub returns-in-Texts : goal.returns-in-Texts
-returns-in-Texts g c =
+pub returns-in-Strings : goal.returns-in-Strings
+returns-in-Strings g c =
     of-same c.put_strings.ensures
-    (strings-said c.args.segment.now c.args.object c.requires.object c.args.count c.requires.count c.in-Texts.is)
+    (strings-said c.args.segment.now c.args.object c.requires.object c.args.count c.requires.count c.in-Strings.is)
 
 pub put_pairs-requires-clause-map : goal.put_pairs-requires-clause-map
 put_pairs-requires-clause-map g c = says-kind c.requires.object c.in-Map.is

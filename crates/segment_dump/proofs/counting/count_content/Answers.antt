@@ -11,5 +11,5 @@ returns-in-Vector c = content-lined c.args.kind c.args.count c.args.text.now (se
 pub returns-in-Map : goal.returns-in-Map
 returns-in-Map c = content-lined c.args.kind c.args.count c.args.text.now (seen c.skip-in-Map.result) (subst IsLined (sym c.in-Map.is) tt) c.skip-in-Map.ensures
 
-pub returns-in-Text : goal.returns-in-Text
-returns-in-Text c = content-string c.args.kind c.args.count c.args.text.now (seen c.count_string.result) c.in-Text.is c.count_string.ensures
+pub returns-in-String : goal.returns-in-String
+returns-in-String c = content-string c.args.kind c.args.count c.args.text.now (seen c.count_string.result) c.in-String.is c.count_string.ensures

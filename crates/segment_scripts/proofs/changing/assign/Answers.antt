@@ -15,22 +15,22 @@ pub assign_vector-requires-clause-of_kind : goal.assign_vector-requires-clause-o
 assign_vector-requires-clause-of_kind c = handle-to-change c.in_ok-object.ensures c.in-Vector.is
 
 pub assign_string-requires-clause-of_kind : goal.assign_string-requires-clause-of_kind
-assign_string-requires-clause-of_kind c = handle-to-change c.in_ok-object.ensures c.in-Text.is
+assign_string-requires-clause-of_kind c = handle-to-change c.in_ok-object.ensures c.in-String.is
 
 pub assign_texts-requires-clause-of_kind : goal.assign_texts-requires-clause-of_kind
-assign_texts-requires-clause-of_kind c = handle-to-change c.in_ok-object.ensures c.in-Texts.is
+assign_texts-requires-clause-of_kind c = handle-to-change c.in_ok-object.ensures c.in-Strings.is
 
 pub returns-in-Vector-clause-step : goal.returns-in-Vector-clause-step
 returns-in-Vector-clause-step c = step-by_key _ _ _ c.in_ok-object.ensures.located _ (Assign (key_seen c.args.key.now) _) _ c.assign_vector.ensures.step
 
-pub returns-in-Text-clause-step : goal.returns-in-Text-clause-step
-returns-in-Text-clause-step c = step-by_key _ _ _ c.in_ok-object.ensures.located _ (Assign (key_seen c.args.key.now) _) _ c.assign_string.ensures.step
+pub returns-in-String-clause-step : goal.returns-in-String-clause-step
+returns-in-String-clause-step c = step-by_key _ _ _ c.in_ok-object.ensures.located _ (Assign (key_seen c.args.key.now) _) _ c.assign_string.ensures.step
 
-pub returns-in-Texts-clause-step : goal.returns-in-Texts-clause-step
-returns-in-Texts-clause-step c = step-by_key _ _ _ c.in_ok-object.ensures.located _ (Assign (key_seen c.args.key.now) _) _ c.assign_texts.ensures.step
+pub returns-in-Strings-clause-step : goal.returns-in-Strings-clause-step
+returns-in-Strings-clause-step c = step-by_key _ _ _ c.in_ok-object.ensures.located _ (Assign (key_seen c.args.key.now) _) _ c.assign_texts.ensures.step
 
 pub returns-in_default : goal.returns-in_default
 returns-in_default c = record {
-  step = assign-neither c.in_ok-object.ensures c.in_default.not-Vector c.in_default.not-Texts c.in_default.not-Text _;
+  step = assign-neither c.in_ok-object.ensures c.in_default.not-Vector c.in_default.not-Strings c.in_default.not-String _;
   refused = λ _. refl;
 }

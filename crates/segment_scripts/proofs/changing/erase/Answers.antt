@@ -13,8 +13,8 @@ returns-in_err-object-clause-step c =
 pub returns-in-Vector-clause-step : goal.returns-in-Vector-clause-step
 returns-in-Vector-clause-step c = located-steps _ _ _ c.in_ok-object.ensures.located _ _ (Erase (key_seen c.args.key.now) _) _ c.in-Vector.is c.erase_element.ensures.step
 
-pub returns-in-Texts-clause-step : goal.returns-in-Texts-clause-step
-returns-in-Texts-clause-step c = located-steps _ _ _ c.in_ok-object.ensures.located _ _ (Erase (key_seen c.args.key.now) _) _ c.in-Texts.is c.texts_erase.ensures.step
+pub returns-in-Strings-clause-step : goal.returns-in-Strings-clause-step
+returns-in-Strings-clause-step c = located-steps _ _ _ c.in_ok-object.ensures.located _ _ (Erase (key_seen c.args.key.now) _) _ c.in-Strings.is c.texts_erase.ensures.step
 
 pub returns-in_default : goal.returns-in_default
-returns-in_default c = record { step = erase-no_vector c.in_ok-object.ensures c.in_default.not-Vector c.in_default.not-Texts _; refused = refl }
+returns-in_default c = record { step = erase-no_vector c.in_ok-object.ensures c.in_default.not-Vector c.in_default.not-Strings _; refused = refl }

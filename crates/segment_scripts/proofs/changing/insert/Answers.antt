@@ -1,5 +1,5 @@
 use Rattle.std.proofs.Common.{subst}
-use Rattle.seg_types.specs.declared.kinds.Kind.TheVariants.{Texts}
+use Rattle.seg_types.specs.declared.kinds.Kind.TheVariants.{Strings}
 use Rattle.seg_types.specs.Commands.{Insert, Quoted}
 use Rattle.seg_types.specs.Keys.{key_seen}
 use Rattle.seg_types.specs.Names.{ByHandle}
@@ -32,5 +32,5 @@ returns-in-Text-clause-step c =
     let s = c.args.segment.now in
     let key = ByHandle c.in_ok-object.object.handle in
     insert-text c.in_ok-object.ensures.0 (subst (IsNewElement s (key_seen c.args.key.now) (literal_of c.args.literal)) c.in-Text.is c.in_ok-object.ensures.1) c.args.index
-    (subst (λ bs. IsStepOfKind s c.texts_insert.new.self key Texts (Insert key c.args.index (Quoted bs))
+    (subst (λ bs. IsStepOfKind s c.texts_insert.new.self key Strings (Insert key c.args.index (Quoted bs))
     (done_answer c.texts_insert.result)) c.bytes.ensures c.texts_insert.ensures.step)

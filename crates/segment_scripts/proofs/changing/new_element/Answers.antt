@@ -15,10 +15,10 @@ returns-in_err-value-in-Vector c = rw (exit-is c.from_residual-in_err-value-in-V
     (no_value-element c.in_ok-object.ensures c.in-Vector.is c.in_err-value-in-Vector.ensures)
 
 pub returns-in-Quoted : goal.returns-in-Quoted
-returns-in-Quoted c = (c.in_ok-object.ensures.located, record { of_kind = to-change c.in_ok-object.ensures c.in-Texts.is; is = rw c.in-Quoted.is refl })
+returns-in-Quoted c = (c.in_ok-object.ensures.located, record { of_kind = to-change c.in_ok-object.ensures c.in-Strings.is; is = rw c.in-Quoted.is refl })
 
 pub returns-in_default-literal : goal.returns-in_default-literal
-returns-in_default-literal c = no_text-element (to-change c.in_ok-object.ensures c.in-Texts.is) (no_quoted c.args.literal c.in_default-literal.not-Quoted)
+returns-in_default-literal c = no_text-element (to-change c.in_ok-object.ensures c.in-Strings.is) (no_quoted c.args.literal c.in_default-literal.not-Quoted)
 
 pub returns-in_default : goal.returns-in_default
-returns-in_default c = no_vector-element c.in_ok-object.ensures c.in_default.not-Vector c.in_default.not-Texts _
+returns-in_default c = no_vector-element c.in_ok-object.ensures c.in_default.not-Vector c.in_default.not-Strings _

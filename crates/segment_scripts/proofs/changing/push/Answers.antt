@@ -1,5 +1,5 @@
 use Rattle.std.proofs.Common.{subst}
-use Rattle.seg_types.specs.declared.kinds.Kind.TheVariants.{Texts}
+use Rattle.seg_types.specs.declared.kinds.Kind.TheVariants.{Strings}
 use Rattle.seg_types.specs.Commands.{Push, Quoted}
 use Rattle.seg_types.specs.Keys.{key_seen}
 use Rattle.seg_types.specs.Names.{ByHandle}
@@ -31,5 +31,5 @@ returns-in-Text-clause-step c =
     let s = c.args.segment.now in
     let key = ByHandle c.in_ok-object.object.handle in
     push-text c.in_ok-object.ensures.0 (subst (IsNewElement s (key_seen c.args.key.now) (literal_of c.args.literal)) c.in-Text.is c.in_ok-object.ensures.1)
-    (subst (λ bs. IsStepOfKind s c.texts_push.new.self key Texts (Push key (Quoted bs))
+    (subst (λ bs. IsStepOfKind s c.texts_push.new.self key Strings (Push key (Quoted bs))
     (done_answer c.texts_push.result)) c.bytes.ensures c.texts_push.ensures.step)

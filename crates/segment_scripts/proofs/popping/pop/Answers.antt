@@ -43,13 +43,13 @@ returns-in-Vector-clause-writes g c =
     (located-steps s key c.in-Ok.object c.in-Ok.ensures.located new (Vector c.in-Vector.kind) (Pop key) (scalar_answer r) c.in-Vector.is c.pop_element.ensures.step) c.element-answer.ensures c.put_answer.ensures
 
 pub pop_text-requires-clause-of_kind : goal.pop_text-requires-clause-of_kind
-pop_text-requires-clause-of_kind g c = handle-to-change c.in-Ok.ensures c.in-Texts.is
+pop_text-requires-clause-of_kind g c = handle-to-change c.in-Ok.ensures c.in-Strings.is
 
-pub returns-in-Texts-clause-executed : goal.returns-in-Texts-clause-executed
-returns-in-Texts-clause-executed g c = executes-by_key c.args.segment.now (key_seen c.args.key.now) c.in-Ok.object c.in-Ok.ensures.located c.pop_text.new.segment (Pop (key_seen c.args.key.now)) c.pop_text.ensures.executed
+pub returns-in-Strings-clause-executed : goal.returns-in-Strings-clause-executed
+returns-in-Strings-clause-executed g c = executes-by_key c.args.segment.now (key_seen c.args.key.now) c.in-Ok.object c.in-Ok.ensures.located c.pop_text.new.segment (Pop (key_seen c.args.key.now)) c.pop_text.ensures.executed
 
-pub returns-in-Texts-clause-writes : goal.returns-in-Texts-clause-writes
-returns-in-Texts-clause-writes g c =
+pub returns-in-Strings-clause-writes : goal.returns-in-Strings-clause-writes
+returns-in-Strings-clause-writes g c =
     let s = c.args.segment.now in
     let key = key_seen c.args.key.now in
     writes_same c.pop_text.ensures.writes
@@ -59,10 +59,10 @@ pub returns-in_default-clause-executed : goal.returns-in_default-clause-executed
 returns-in_default-clause-executed g c =
     let s = c.args.segment.now in
     let key = key_seen c.args.key.now in
-    executes-step s s (Pop key) (Refused WrongKind) (pop-no_vector c.in-Ok.ensures c.in_default.not-Vector c.in_default.not-Texts) (λ _. refl)
+    executes-step s s (Pop key) (Refused WrongKind) (pop-no_vector c.in-Ok.ensures c.in_default.not-Vector c.in_default.not-Strings) (λ _. refl)
 
 pub returns-in_default-clause-writes : goal.returns-in_default-clause-writes
 returns-in_default-clause-writes g c =
     let last = c.put_refusal_line-in_default in
     writes_owed last.ensures
-    (λ d st. ap answer_text ((pop-no_vector c.in-Ok.ensures c.in_default.not-Vector c.in_default.not-Texts).answers d st))
+    (λ d st. ap answer_text ((pop-no_vector c.in-Ok.ensures c.in_default.not-Vector c.in_default.not-Strings).answers d st))

@@ -1,5 +1,5 @@
 use Rattle.std.proofs.Common.{◌∙◌, ap}
-use Rattle.seg_types.specs.declared.kinds.Kind.TheVariants.{Texts}
+use Rattle.seg_types.specs.declared.kinds.Kind.TheVariants.{Strings}
 use Rattle.seg_types.specs.Commands.{Pop}
 use Rattle.seg_types.specs.Names.{ByHandle}
 use Rattle.segment_manager.specs.State.{refusal_in}
@@ -15,7 +15,7 @@ returns-clause-executed g c =
     let s = c.args.segment.now in
     let key = ByHandle c.args.object.handle in
     executes-leading s c.texts_pop.new.self (Pop key) c.texts_pop.result
-    (of_kind-leads_on s c.texts_pop.new.self key Texts (Pop key) (refusal_in c.texts_pop.result) c.requires.of_kind.is c.texts_pop.ensures.step) c.texts_pop.ensures.refused
+    (of_kind-leads_on s c.texts_pop.new.self key Strings (Pop key) (refusal_in c.texts_pop.result) c.requires.of_kind.is c.texts_pop.ensures.step) c.texts_pop.ensures.refused
 
 pub returns-clause-writes : goal.returns-clause-writes
 returns-clause-writes g c =

@@ -15,10 +15,10 @@ set_scalar-requires-in-Scalar-clause-elements c =
     elements-either (handle-to-change c.in_ok-object.ensures refl) c.in-Scalar.is
 
 pub set_scalar-requires-clause-elements : goal.set_scalar-requires-clause-elements
-set_scalar-requires-clause-elements c = elements-told (handle-to-change c.in_ok-object.ensures c.in-Text.is) refl
+set_scalar-requires-clause-elements c = elements-told (handle-to-change c.in_ok-object.ensures c.in-String.is) refl
 
 pub set_text-requires-clause-of_kind : goal.set_text-requires-clause-of_kind
-set_text-requires-clause-of_kind c = handle-to-change c.in_ok-object.ensures c.in-Texts.is
+set_text-requires-clause-of_kind c = handle-to-change c.in_ok-object.ensures c.in-Strings.is
 
 pub returns-in-Map-clause-step : goal.returns-in-Map-clause-step
 returns-in-Map-clause-step c = set-map _ _ (to-change c.in_ok-object.ensures c.in-Map.is)
@@ -26,8 +26,8 @@ returns-in-Map-clause-step c = set-map _ _ (to-change c.in_ok-object.ensures c.i
 pub returns-in-Scalar-clause-step : goal.returns-in-Scalar-clause-step
 returns-in-Scalar-clause-step c = step-by_key _ _ _ c.in_ok-object.ensures.located _ (Set (key_seen c.args.key.now) _ _) _ c.set_scalar-in-Scalar.ensures.step
 
-pub returns-in-Text-clause-step : goal.returns-in-Text-clause-step
-returns-in-Text-clause-step c = step-by_key _ _ _ c.in_ok-object.ensures.located _ (Set (key_seen c.args.key.now) _ _) _ c.set_scalar.ensures.step
+pub returns-in-String-clause-step : goal.returns-in-String-clause-step
+returns-in-String-clause-step c = step-by_key _ _ _ c.in_ok-object.ensures.located _ (Set (key_seen c.args.key.now) _ _) _ c.set_scalar.ensures.step
 
-pub returns-in-Texts-clause-step : goal.returns-in-Texts-clause-step
-returns-in-Texts-clause-step c = step-by_key _ _ _ c.in_ok-object.ensures.located _ (Set (key_seen c.args.key.now) _ _) _ c.set_text.ensures.step
+pub returns-in-Strings-clause-step : goal.returns-in-Strings-clause-step
+returns-in-Strings-clause-step c = step-by_key _ _ _ c.in_ok-object.ensures.located _ (Set (key_seen c.args.key.now) _ _) _ c.set_text.ensures.step

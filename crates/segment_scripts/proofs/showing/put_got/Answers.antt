@@ -10,8 +10,8 @@ use Rattle.segment_scripts.proofs.Owed.{writes_owed, writes_same}
 use Rattle.segment_scripts.proofs.TextElements.{get-missing, get-text}
 use Rattle.segment_scripts.proofs.showing.put_got.Goals as goal
 
-pub returns-in-Texts : goal.returns-in-Texts
-returns-in-Texts g c =
+pub returns-in-Strings : goal.returns-in-Strings
+returns-in-Strings g c =
     let s = c.args.segment.now in
     let key = key_seen c.args.key.now in
     let o = c.in-Ok.object in
@@ -19,7 +19,7 @@ returns-in-Texts g c =
     let l = c.in-Ok.ensures in
     writes_same c.put_text_at.ensures
     (λ d k.
-    ap answer_text (get-text s handle (subst (λ n. Answers s (λ d. kind_at d handle) (Ok n)) c.in-Texts.is (kind-by_key s handle o (located-here s key o l))) c.args.index d k)
+    ap answer_text (get-text s handle (subst (λ n. Answers s (λ d. kind_at d handle) (Ok n)) c.in-Strings.is (kind-by_key s handle o (located-here s key o l))) c.args.index d k)
     ∙ ap (λ n. answer_text n.0) (step-same s key o l (Get key c.args.index) d k))
 
 pub returns-in_default : goal.returns-in_default
@@ -29,7 +29,7 @@ returns-in_default g c =
     let o = c.in-Ok.object in
     let handle = ByHandle o.handle in
     let l = c.in-Ok.ensures in
-    let r = scalars-replies s handle c.args.index (scalar_answer c.get_any.result) (kind-no_texts s handle o.kind (kind-by_key s handle o (located-here s key o l)) c.in_default.not-Texts) c.get_any.ensures in
+    let r = scalars-replies s handle c.args.index (scalar_answer c.get_any.result) (kind-no_texts s handle o.kind (kind-by_key s handle o (located-here s key o l)) c.in_default.not-Strings) c.get_any.ensures in
     writes_same c.put_answer.ensures
     (λ d k. ap answer_text (c.element.ensures d ∙ r.answers d k) ∙ ap (λ n. answer_text n.0) (step-same s key o l (Get key c.args.index) d k))
 

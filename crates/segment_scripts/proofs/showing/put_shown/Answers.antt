@@ -25,17 +25,17 @@ returns-in-Vector g c =
     writes_same c.put_value_line-in-Vector.ensures
     (vector-said s (key_seen c.args.key.now) c.in-Ok.object c.in-Ok.ensures c.in-Vector.field-0 c.length_of.result c.in-Vector.is c.length_of.ensures)
 
-pub returns-in-Text : goal.returns-in-Text
-returns-in-Text g c =
+pub returns-in-String : goal.returns-in-String
+returns-in-String g c =
     let s = c.args.segment.now in
     writes_same c.put_string_line.ensures
-    (string-said s (key_seen c.args.key.now) c.in-Ok.object c.in-Ok.ensures c.in-Text.is)
+    (string-said s (key_seen c.args.key.now) c.in-Ok.object c.in-Ok.ensures c.in-String.is)
 
-pub returns-in-Texts : goal.returns-in-Texts
-returns-in-Texts g c =
+pub returns-in-Strings : goal.returns-in-Strings
+returns-in-Strings g c =
     let s = c.args.segment.now in
     writes_same c.put_texts_line.ensures
-    (texts-said s (key_seen c.args.key.now) c.in-Ok.object c.in-Ok.ensures c.length_of-in-Texts.result c.in-Texts.is c.length_of-in-Texts.ensures)
+    (texts-said s (key_seen c.args.key.now) c.in-Ok.object c.in-Ok.ensures c.length_of-in-Strings.result c.in-Strings.is c.length_of-in-Strings.ensures)
 
 pub put_map_line-requires-clause-map : goal.put_map_line-requires-clause-map
 put_map_line-requires-clause-map g c = says-kind (located-here c.args.segment.now (key_seen c.args.key.now) c.in-Ok.object c.in-Ok.ensures) c.in-Map.is

@@ -14,8 +14,8 @@ pub returns-in_err-element-in-Vector : goal.returns-in_err-element-in-Vector
 returns-in_err-element-in-Vector c = rw (exit-is c.from_residual-in_err-element-in-Vector.ensures.1)
     (no_value-element c.in_ok-object.ensures c.in-Vector.is c.in_err-element-in-Vector.ensures)
 
-pub returns-in-Texts : goal.returns-in-Texts
-returns-in-Texts c = no_text-element (to-change c.in_ok-object.ensures c.in-Texts.is) (seen-no_text c.args.value)
+pub returns-in-Strings : goal.returns-in-Strings
+returns-in-Strings c = no_text-element (to-change c.in_ok-object.ensures c.in-Strings.is) (seen-no_text c.args.value)
 
 pub returns-in_default : goal.returns-in_default
-returns-in_default c = no_vector-element c.in_ok-object.ensures c.in_default.not-Vector c.in_default.not-Texts _
+returns-in_default c = no_vector-element c.in_ok-object.ensures c.in_default.not-Vector c.in_default.not-Strings _

@@ -1,6 +1,6 @@
 -- The container of the object of the key is changed as its kind says.
 use Rattle.segment_manager.proofs.Common.{exit-is, ◌≡◌, false, refl, subst, sym, ◌∙◌, Answers, ByHandle, Change, Err}
-use Rattle.segment_manager.proofs.Common.{IsStep, Key, Kind, Located, Refusal, Refused, State, TextsKind, command_of}
+use Rattle.segment_manager.proofs.Common.{IsStep, Key, Kind, Located, Refusal, Refused, State, StringsKind, command_of}
 use Rattle.segment_manager.proofs.Common.{container_at, ap, done_answer, has_storage, inl, inr, is_read_only}
 use Rattle.segment_manager.proofs.Locating.{enough-by_key, kind-by_key, located-changes}
 use Rattle.segment_manager.proofs.OneLength.{elements-changed, elements-kept, some-elements}
@@ -27,12 +27,12 @@ not-there s key o l change kind why is may a =
 -- what the call does with a vector of strings, and with elements of one length, in each goal behind it
 texts-done : (g : Over) (c : After-change_texts g)
     → Answered done_answer (record { cut = c.self.inside.heap; mode = c.self.inside.mode })
-    c.args.self.now c.change_texts.new.heap (ByHandle c.in_ok-object.object.handle) TextsKind
+    c.args.self.now c.change_texts.new.heap (ByHandle c.in_ok-object.object.handle) StringsKind
     (command_of c.args.change (ByHandle c.in_ok-object.object.handle)) c.change_texts.result
 texts-done g c =
     answered _ _ c.self.view_is c.self.invariant _ _ _ _ _ (texts-changed c.self.view_is c.self.invariant (record {
       writing = sym c.is_read_only.ensures ∙ c.if-is_read_only.false;
-      at = c.in_ok-place-in-Texts.ensures;
+      at = c.in_ok-place-in-Strings.ensures;
     }) _ c.args.change _ c.change_texts.ensures)
 
 elements-said : (g : Over) (c : After-change_elements g)
@@ -52,7 +52,7 @@ elements-done : (g : Over) (c : After-change_elements g)
 elements-done g c =
     answered _ _ c.self.view_is c.self.invariant _ _ _ _ _ (elements-changed c.self.view_is _ _ _ c.self.invariant
     c.in_ok-place-in_default.ensures
-    (has_storage-left _ c.in_default.not-Scalar c.in_default.not-Map) c.in_default.not-Texts
+    (has_storage-left _ c.in_default.not-Scalar c.in_default.not-Map) c.in_default.not-Strings
     _ (sym c.is_read_only.ensures ∙ c.if-is_read_only.false) c.args.change _ (elements-said g c))
 
 pub returns-then-is_read_only-clause-step : goal.returns-then-is_read_only-clause-step
@@ -79,26 +79,26 @@ returns-in-Scalar-clause-step g c =
 pub change_texts-requires : goal.change_texts-requires
 change_texts-requires g c =
     texts-standing c.self.view_is
-    (ByHandle c.in_ok-object.object.handle) _ c.self.invariant c.in_ok-place-in-Texts.ensures
+    (ByHandle c.in_ok-object.object.handle) _ c.self.invariant c.in_ok-place-in-Strings.ensures
 
-pub returns-in_err-place-in-Texts-clause-step : goal.returns-in_err-place-in-Texts-clause-step
-returns-in_err-place-in-Texts-clause-step g c =
-    rw (exit-is c.from_residual-in_err-place-in-Texts.result _ c.from_residual-in_err-place-in-Texts.ensures.1)
-    (not-there _ _ _ c.in_ok-object.ensures c.args.change _ _ c.in-Texts.is
+pub returns-in_err-place-in-Strings-clause-step : goal.returns-in_err-place-in-Strings-clause-step
+returns-in_err-place-in-Strings-clause-step g c =
+    rw (exit-is c.from_residual-in_err-place-in-Strings.result _ c.from_residual-in_err-place-in-Strings.ensures.1)
+    (not-there _ _ _ c.in_ok-object.ensures c.args.change _ _ c.in-Strings.is
     (sym c.is_read_only.ensures ∙ c.if-is_read_only.false)
-    c.in_err-place-in-Texts.ensures)
+    c.in_err-place-in-Strings.ensures)
 
 pub invariant_of-self : goal.invariant_of-self
 invariant_of-self g c = (texts-done g (goal.at.invariant_of-self g c).After-change_texts).segment
 
-pub returns-in_ok-place-in-Texts : goal.returns-in_ok-place-in-Texts
-returns-in_ok-place-in-Texts g c =
-    let done = texts-done g (goal.at.returns-in_ok-place-in-Texts g c).After-change_texts in
+pub returns-in_ok-place-in-Strings : goal.returns-in_ok-place-in-Strings
+returns-in_ok-place-in-Strings g c =
+    let done = texts-done g (goal.at.returns-in_ok-place-in-Strings g c).After-change_texts in
     record {
-      step = located-changes _ _ _ c.in_ok-object.ensures c.args.change _ TextsKind _ c.in-Texts.is done.step;
+      step = located-changes _ _ _ c.in_ok-object.ensures c.args.change _ StringsKind _ c.in-Strings.is done.step;
       refused = done.refused;
       enough = enough-by_key _ _ _ c.in_ok-object.ensures c.args.change _
-          (texts-kept c.self.view_is _ c.in_ok-place-in-Texts.ensures _ c.args.change _ c.change_texts.ensures);
+          (texts-kept c.self.view_is _ c.in_ok-place-in-Strings.ensures _ c.args.change _ c.change_texts.ensures);
     }
 
 pub change_elements-requires : goal.change_elements-requires
@@ -106,7 +106,7 @@ change_elements-requires g c =
     subst (IsElements c.self.inside.heap.bytes c.in_ok-place-in_default.place) (sym c.element_len.ensures)
     (some-elements c.self.view_is
     (ByHandle c.in_ok-object.object.handle) _ _ c.self.invariant c.in_ok-place-in_default.ensures
-    (has_storage-left _ c.in_default.not-Scalar c.in_default.not-Map) c.in_default.not-Texts)
+    (has_storage-left _ c.in_default.not-Scalar c.in_default.not-Map) c.in_default.not-Strings)
 
 pub returns-in_err-place-in_default-clause-step : goal.returns-in_err-place-in_default-clause-step
 returns-in_err-place-in_default-clause-step g c =
@@ -127,6 +127,6 @@ returns-in_ok-place-in_default g c =
       refused = (elements-done g there).refused;
       enough = enough-by_key _ _ _ c.in_ok-object.ensures c.args.change _
           (elements-kept c.self.view_is _ _ _ c.self.invariant c.in_ok-place-in_default.ensures
-          (has_storage-left _ c.in_default.not-Scalar c.in_default.not-Map) c.in_default.not-Texts _ c.args.change _
+          (has_storage-left _ c.in_default.not-Scalar c.in_default.not-Map) c.in_default.not-Strings _ c.args.change _
           (elements-said g there));
     }

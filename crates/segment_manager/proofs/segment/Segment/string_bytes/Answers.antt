@@ -1,5 +1,5 @@
 -- The bytes are those of the string that is found.
-use Rattle.segment_manager.proofs.Common.{subst, Ok, Text, bytes_at, Answers, State}
+use Rattle.segment_manager.proofs.Common.{subst, Ok, String, bytes_at, Answers, State}
 use Rattle.segment_manager.proofs.TextAnswers.{reads-bytes, text-standing}
 use Rattle.segment_manager.proofs.ToChange.{seen-found}
 use Rattle.segment_manager.proofs.segment.Segment.string_bytes.Goals as goal
@@ -12,4 +12,4 @@ returns g c =
     subst
     (λ (t : State). Answers t (λ d. bytes_at d (g.O.Target.key c.args.key.now))
     (Ok c.as_bytes.result.now)) c.self.view_is
-    (reads-bytes _ _ _ _ (seen-found _ _ c.self.view_is _ Text _ c.in_ok-place.ensures) c.as_bytes.ensures)
+    (reads-bytes _ _ _ _ (seen-found _ _ c.self.view_is _ String _ c.in_ok-place.ensures) c.as_bytes.ensures)
